@@ -1,0 +1,2 @@
+pub mod Cidr
+pub mod Prefix

@@ -1,0 +1,13 @@
+-- What a prefix covers and contains (RFC 4632, section 3.1).
+use Rattle.std.specs.Prelude.{ℕ, ◌/◌, ◌==◌, ◌&&◌, nat_le, Bool}
+use Rattle.rt_cidr.specs.declared.address.Addr.{Addr}
+use Rattle.rt_cidr.specs.declared.prefixes.Prefix.{Prefix}
+use Rattle.rt_cidr.specs.Cidr.{size_of}
+
+-- whether the address and the base agree in their first `len` bits
+abbrev pub covers : Prefix → Addr → Bool
+covers p a = (a.0 / size_of p.len) == (p.base / size_of p.len)
+
+-- whether q is no shorter than p, and p covers its base
+abbrev pub contains : Prefix → Prefix → Bool
+contains p q = nat_le p.len q.len && (q.base / size_of p.len) == (p.base / size_of p.len)
