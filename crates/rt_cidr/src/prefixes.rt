@@ -1,18 +1,32 @@
-ghost use Rattle.std.specs.Prelude.{◌≡◌, ◌≤◌, ◌<◌, ◌%◌};
+ghost use Rattle.std.specs.Prelude.{◌≡◌, ◌≤◌, ◌<◌, ◌%◌, ◌+◌, ◌++◌, length, take, drop, OnOk, OnErr};
+ghost use Rattle.std.specs.Io.KnownBytes.{Appends};
+ghost use Rattle.rt_cidr.specs.Output.{AppendsBeginning};
+ghost use Rattle.rt_cidr.specs.Text.{prefix_text};
 ghost use Rattle.rt_cidr.specs.Cidr.{size_of, IsPrefix};
+ghost use Rattle.rt_cidr.specs.Front.{ReadsPair};
 
-use crate::address::Addr;
+use crate::address::{Addr, after_mark, read_address};
+use crate::decimals::{byte_before, octet_before, read_decimal};
+use crate::output::put;
+use std::io::{self, Write};
+use thiserror::Error;
 
 /// Why a text or a pair of numbers is no address or prefix.
-#[derive(Clone, Copy, PartialEq, Eq, Debug)]
+#[derive(Clone, Copy, PartialEq, Eq, Debug, Error)]
 pub enum TextFault {
     /// E3: the text is not of the form.
+    #[error("the text is not of the form")]
     Text,
     /// E4: the length is over 32.
+    #[error("the length is over 32")]
     Length,
     /// E5: a bit of the address past the length is set.
+    #[error("a bit past the length is set")]
     Bits,
 }
+
+/// How many bits an address has, and so the longest length of a prefix.
+const MAX_LEN: u8 = 32;
 
 /// An IPv4 prefix (RFC 4632, section 3.1): a base address and a length of at most 32 bits.
 /// Every bit of the base past the length is zero.
@@ -25,18 +39,35 @@ pub struct Prefix {
 
 impl Prefix {
     ghost use Rattle.rt_cidr.specs.Prefix.{covers, contains};
+    ghost use Rattle.rt_cidr.specs.Reading.{AnswersPair, ReadsPrefix};
 
     /// The prefix of this base and length. Refuses a length over 32 with E4 (`Length`), and then a base with a
     /// bit set past the length with E5 (`Bits`).
     pub fn new(base: u32, len: u8) -> Result<Prefix, TextFault>
+        ensures { AnswersPair base len result }
     {
-        if len > 32 {
+        if len > MAX_LEN {
             return Err(TextFault::Length);
         }
-        if base as u64 % (1u64 << (32 - len)) != 0 {
+        if base as u64 % (1u64 << (MAX_LEN - len)) != 0 {
             return Err(TextFault::Bits);
         }
         Ok(Prefix { base, len })
+    }
+
+    /// The prefix of which this is the text: an address, a slash and the length, a decimal without a leading zero. In
+    /// this order: a text that is not of this form is refused with E3 (`Text`), a length over 32, however long, with E4
+    /// (`Length`), and a bit set past the length with E5 (`Bits`).
+    pub fn parse(text: &[u8]) -> Result<Prefix, TextFault>
+        ensures { ReadsPrefix text.now result }
+    {
+        let Some((base, len)) = read_pair(text) else {
+            return Err(TextFault::Text);
+        };
+        if len > u64::from(MAX_LEN) {
+            return Err(TextFault::Length);
+        }
+        Prefix::new(base, len as u8)
     }
 
     /// The first address that the prefix covers.
@@ -57,7 +88,7 @@ impl Prefix {
     pub fn covers(&self, address: Addr) -> bool
         ensures { result ≡ covers self.now address }
     {
-        let past = 32 - self.len;
+        let past = MAX_LEN - self.len;
         address.0 as u64 >> past == self.base as u64 >> past
     }
 
@@ -66,6 +97,47 @@ impl Prefix {
     pub fn contains(&self, other: &Prefix) -> bool
         ensures { result ≡ contains self.now other.now }
     {
-        self.len <= other.len && self.covers(Addr(other.base))
+        other.len >= self.len && self.covers(Addr(other.base))
     }
+
+    /// Writes the prefix's text into the buffer so that it ends at `end`, and answers where it starts. What stands
+    /// before that and from `end` on stays. It asks for room for the longest text, 18 bytes.
+    pub fn write_before(&self, buf: &mut [u8], end: usize) -> usize
+        requires room { 18 ≤ end }
+        requires within { end ≤ length buf.old }
+        ensures written { drop result buf.new
+            ≡ prefix_text self.now.base self.now.len ++ drop end buf.old }
+        ensures before { take result buf.new ≡ take result buf.old }
+        ensures start { result + length (prefix_text self.now.base self.now.len) ≡ end }
+        ensures short { end ≤ result + 18 }
+    {
+        let len = octet_before(u32::from(self.len), buf, end);
+        let slash = byte_before(b'/', buf, len);
+        Addr(self.base).write_before(buf, slash)
+    }
+
+    /// Writes the prefix's text: its base, a slash and its length. A fault is the writer's, as `put` hands it on; what
+    /// was written is then a beginning of the text.
+    pub fn write_to<W: Write>(&self, w: &mut W) -> Result<(), io::Error>
+        ensures ok { OnOk result (Appends (W.contents w.old) (W.contents w.new)
+            (prefix_text self.now.base self.now.len)) }
+        ensures err { OnErr result (AppendsBeginning (W.contents w.old) (W.contents w.new)
+            (prefix_text self.now.base self.now.len)) }
+    {
+        let mut text = [0; 18];
+        let start = self.write_before(&mut text, 18);
+        put(w, &text[start..])
+    }
+}
+
+/// The address and the length that the whole text gives. A length of 2^32 or more is given as 2^32.
+fn read_pair(text: &[u8]) -> Option<(u32, u64)>
+    ensures { ReadsPair text.now result }
+{
+    let (base, rest) = read_address(text)?;
+    let (len, rest) = read_decimal(after_mark(rest, b'/')?)?;
+    if !rest.is_empty() {
+        return None;
+    }
+    Some((base, len))
 }

@@ -1,0 +1,7 @@
+pub mod Buffers
+pub mod Digits
+pub mod Fronts
+pub mod Nesting
+pub mod OneAnswer
+pub mod Ranges
+pub mod Texts

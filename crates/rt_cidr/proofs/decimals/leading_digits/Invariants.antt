@@ -1,0 +1,13 @@
+use Rattle.std.proofs.Common.{◌≡◌, ◌≤◌, length, take}
+use Rattle.std.specs.Str.Parse.{AllDigits, digits_value}
+use Rattle.rt_cidr.specs.Front.{capped}
+use Rattle.rt_cidr.proofs.decimals.leading_digits.Given as goal
+
+-- the bytes so far are digits, and the value is theirs
+abbrev pub invariant-loop-byte : goal.invariant-loop-byte
+invariant-loop-byte l = record {
+  count : l.len ≡ l.byte-index;
+  within : l.len ≤ length l.text;
+  digits : AllDigits 10 (take l.len l.text);
+  value : l.value ≡ capped (digits_value 10 (take l.len l.text));
+}

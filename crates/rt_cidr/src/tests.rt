@@ -1,0 +1,237 @@
+use super::*;
+use std::alloc::Global;
+use std::io::{self, ErrorKind, Write};
+use std::test::Fail;
+
+/// Takes one byte a call. Once it holds `room` bytes it answers one fault, or else takes nothing, and then goes on.
+#[derive(Drop)]
+struct Narrow {
+    taken: Vec<u8>,
+    room: usize,
+    fault: Option<ErrorKind>,
+    is_over: bool,
+}
+
+impl Narrow {
+    fn new(alloc: Global, room: usize, fault: Option<ErrorKind>) -> Narrow {
+        Narrow {
+            taken: Vec::new(alloc),
+            room,
+            fault,
+            is_over: false,
+        }
+    }
+}
+
+impl Write for Narrow {
+    fn write(&mut self, buf: &[u8]) -> io::Result<usize> {
+        if !self.is_over && self.taken.len() == self.room {
+            self.is_over = true;
+            return match self.fault {
+                Some(kind) => Err(io::Error::from(kind)),
+                None => Ok(0),
+            };
+        }
+        match buf {
+            [first, ..] => {
+                self.taken.push(*first)?;
+                Ok(1)
+            }
+            [] => Ok(0),
+        }
+    }
+
+    fn flush(&mut self) -> io::Result<()> {
+        Ok(())
+    }
+}
+
+#[test]
+fn reads_prefixes_and_writes_them_again(rt: HostRuntime) -> Result<(), Fail> {
+    for (text, base, len) in [
+        ("0.0.0.0/0", 0, 0),
+        ("10.0.0.0/8", 167_772_160, 8),
+        ("192.0.2.128/25", 3_221_226_112, 25),
+        ("255.255.255.255/32", 4_294_967_295, 32),
+        ("0.0.0.1/32", 1, 32),
+    ] {
+        let prefix = Prefix::parse(text.as_bytes())?;
+        assert_eq!(rt; prefix.base(), base, "{text}");
+        assert_eq!(rt; prefix.len(), len, "{text}");
+        assert_eq!(rt; Prefix::new(base, len)?, prefix, "{text}");
+
+        let mut written = Vec::new(rt.alloc());
+        prefix.write_to(&mut written)?;
+        assert_eq!(rt; written.as_slice(), text.as_bytes(), "{text}");
+    }
+    Ok(())
+}
+
+#[test]
+fn refuses_prefixes(rt: HostRuntime) {
+    for (text, fault) in [
+        ("192.0.2.128/24", TextFault::Bits),
+        ("0.0.0.1/31", TextFault::Bits),
+        ("1.1.1.1/0", TextFault::Bits),
+        ("10.0.0.0/33", TextFault::Length),
+        ("10.0.0.1/33", TextFault::Length),
+        ("10.0.0.0/99999999999999999999", TextFault::Length),
+        ("256.0.0.0/33", TextFault::Text),
+        ("10.0.0.0/08", TextFault::Text),
+        ("10.0.0.0/00", TextFault::Text),
+        ("10.0.0.0/", TextFault::Text),
+        ("10.0.0.0", TextFault::Text),
+        ("/8", TextFault::Text),
+        ("10.0.0.0/-1", TextFault::Text),
+        ("+10.0.0.0/8", TextFault::Text),
+        ("", TextFault::Text),
+        (" 10.0.0.0/8", TextFault::Text),
+        ("10.0.0.0/8 ", TextFault::Text),
+        ("10. 0.0.0/8", TextFault::Text),
+        ("10.0.0.0 /8", TextFault::Text),
+        ("10.0.0.0/ 8", TextFault::Text),
+        ("010.0.0.0/8", TextFault::Text),
+        ("10.0.0/8", TextFault::Text),
+        ("10.0.0.0.0/8", TextFault::Text),
+    ] {
+        assert_eq!(rt; Prefix::parse(text.as_bytes()), Err(fault), "{text}");
+    }
+    assert_eq!(rt; Prefix::new(1, 33), Err(TextFault::Length));
+    assert_eq!(rt; Prefix::new(1, 31), Err(TextFault::Bits));
+}
+
+#[test]
+fn reads_addresses_and_writes_them_again(rt: HostRuntime) -> Result<(), Fail> {
+    for (text, address) in [
+        ("0.0.0.0", 0),
+        ("192.0.2.1", 3_221_225_985),
+        ("198.51.100.255", 3_325_256_959),
+        ("255.255.255.255", 4_294_967_295),
+    ] {
+        let read = Addr::parse(text.as_bytes())?;
+        assert_eq!(rt; read, Addr(address), "{text}");
+
+        let mut written = Vec::new(rt.alloc());
+        read.write_to(&mut written)?;
+        assert_eq!(rt; written.as_slice(), text.as_bytes(), "{text}");
+    }
+    for text in [
+        "",
+        "1.2.3",
+        "1.2.3.4.",
+        "1.2.3.04",
+        "1.2.3.256",
+        "1.2.3.4/5",
+        "1..3.4",
+        "a.2.3.4",
+    ] {
+        assert_eq!(rt;
+            Addr::parse(text.as_bytes()),
+            Err(TextFault::Text),
+            "{text}"
+        );
+    }
+    Ok(())
+}
+
+#[test]
+fn reads_and_writes_decimals(rt: HostRuntime) {
+    for (text, number) in [
+        ("0", Some(0)),
+        ("100", Some(100)),
+        ("4294967295", Some(4_294_967_295)),
+        ("4294967296", None),
+        ("42949672950", None),
+        ("18446744073709551617", None),
+        ("", None),
+        ("00", None),
+        ("01", None),
+        ("+1", None),
+        ("1 ", None),
+    ] {
+        assert_eq!(rt; decimal_u32(text.as_bytes()), number, "{text}");
+    }
+
+    let mut line = *b"route..................";
+    let start = decimal_before(18_446_744_073_709_551_615, &mut line, 22);
+    assert_eq!(rt; start, 2);
+    assert_eq!(rt; line.as_slice(), b"ro18446744073709551615.".as_slice());
+}
+
+#[test]
+fn covers_and_contains(rt: HostRuntime) -> Result<(), Fail> {
+    let block = Prefix::parse(b"192.0.2.128/25")?;
+    for (address, is_covered) in [
+        ("192.0.2.127", false),
+        ("192.0.2.128", true),
+        ("192.0.2.255", true),
+        ("192.0.3.0", false),
+    ] {
+        assert_eq!(rt;
+            block.covers(Addr::parse(address.as_bytes())?),
+            is_covered,
+            "{address}"
+        );
+    }
+    for (other, is_contained) in [
+        ("192.0.2.128/25", true),
+        ("192.0.2.128/26", true),
+        ("192.0.2.255/32", true),
+        ("192.0.2.0/24", false),
+        ("192.0.2.0/25", false),
+    ] {
+        assert_eq!(rt;
+            block.contains(&Prefix::parse(other.as_bytes())?),
+            is_contained,
+            "{other}"
+        );
+    }
+    Ok(())
+}
+
+// A `put` that always answers a fault is seen here.
+#[test]
+fn puts_all_one_byte_a_call(rt: HostRuntime) -> Result<(), Fail> {
+    let mut writer = Narrow::new(rt.alloc(), usize::MAX, None);
+    put(&mut writer, b"10.0.0.0/8 via 192.0.2.1")?;
+    put(&mut writer, b"")?;
+    Prefix::new(0, 0)?.write_to(&mut writer)?;
+    Addr(1).write_to(&mut writer)?;
+    assert_eq!(rt;
+        writer.taken.as_slice(),
+        b"10.0.0.0/8 via 192.0.2.10.0.0.0/00.0.0.1".as_slice()
+    );
+    Ok(())
+}
+
+// A fault is handed on at once, whatever its kind, and nothing is tried again.
+#[test]
+fn hands_on_the_writers_fault(rt: HostRuntime) -> Result<(), Fail> {
+    for kind in [
+        ErrorKind::BrokenPipe,
+        ErrorKind::Interrupted,
+        ErrorKind::WouldBlock,
+        ErrorKind::Other,
+    ] {
+        for room in [0, 3] {
+            let mut writer = Narrow::new(rt.alloc(), room, Some(kind));
+            let Err(fault) = put(&mut writer, b"10.0.0.0/8") else {
+                return Err(Fail::from("no fault"));
+            };
+            assert!(rt; fault.kind() == kind);
+            assert_eq!(rt; writer.taken.len(), room);
+        }
+    }
+    Ok(())
+}
+
+#[test]
+fn a_write_of_nothing_is_write_zero(rt: HostRuntime) -> Result<(), Fail> {
+    let mut writer = Narrow::new(rt.alloc(), 3, None);
+    let Err(fault) = Prefix::new(0, 0)?.write_to(&mut writer) else {
+        return Err(Fail::from("no fault"));
+    };
+    assert!(rt; fault.kind() == ErrorKind::WriteZero);
+    assert_eq!(rt; writer.taken.as_slice(), b"0.0".as_slice());
+    Ok(())
+}
