@@ -5,13 +5,25 @@ use rt_cidr::{Addr, Prefix};
 #[derive(Clone, Copy, PartialEq, Eq, Debug)]
 pub enum Cmd {
     /// Put in a route, unless the feed has one of this prefix or as many as its limit allows.
-    Add { prefix: Prefix, pref: u32, hop: Addr },
+    Add {
+        prefix: Prefix,
+        pref: u32,
+        hop: Addr,
+    },
     /// Give the feed's route of this prefix another preference and next hop.
-    Replace { prefix: Prefix, pref: u32, hop: Addr },
+    Replace {
+        prefix: Prefix,
+        pref: u32,
+        hop: Addr,
+    },
     /// Take out the feed's route of this prefix.
-    Withdraw { prefix: Prefix },
+    Withdraw {
+        prefix: Prefix,
+    },
     /// Ask for the best route of the longest prefix that covers the address.
-    Lookup { addr: Addr },
+    Lookup {
+        addr: Addr,
+    },
     /// Ask how many routes there are.
     Dump,
 }

@@ -1,8 +1,19 @@
 //! One IPv4 routing table as a set of routes, its commands and replies, and the journal of all that was answered.
 #![tactic(auto)]
 
+mod book;
 mod commands;
+pub mod laws;
+mod limits;
+mod refused;
 mod routes;
+mod search;
+mod table;
+#[cfg(test)]
+mod tests;
 
+pub use book::Book;
 pub use commands::{Cmd, Entry, Reply};
+pub use limits::{feed_ok, limit_ok};
+pub use refused::Refused;
 pub use routes::Route;

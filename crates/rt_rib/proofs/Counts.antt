@@ -1,0 +1,133 @@
+-- The counts of a table's routes, as routes come and go.
+use Rattle.std.proofs.Common.{◌≡◌, ℕ, ◌+◌, ◌-◌, ◌*◌, ◌<◌, ◌≤◌, cond, eqb, List, [], length, get_or, replicate, refl, sym, ap, ◌∙◌, get_or-set_same, get_or-set_other, inl, inr, arith}
+use Rattle.std.proofs.Math.ListN.{set}
+use Rattle.std.proofs.lemmas.Bool.{cases_eq, eq-eqb, ne_eqb, cond-true, cond-false}
+use Rattle.std.proofs.lemmas.List.Sums.{sum_by-set, sum_by-le, sum_by-insert, sum_by-remove}
+use Rattle.std.proofs.lemmas.List.Edits.{length-insert, length-remove}
+use Rattle.std.proofs.lemmas.List.{get_or_default, get_or-replicate}
+use Rattle.std.specs.List.{All, insert, remove}
+use Rattle.rt_rib.specs.declared.routes.Route.{Route}
+use Rattle.rt_rib.specs.Table.{count_of}
+use Rattle.rt_rib.specs.Book.{IsFeed}
+use Rattle.rt_rib.specs.Kept.{AreCounts}
+
+-- u has one route of the feed more than t, and else as many of each feed
+pub record HasMore (feed : ℕ) (t u : List Route) : Type 0 where
+  pub own : count_of feed u ≡ count_of feed t + 1
+  pub others : (other : ℕ) → (other ≡ feed → ⊥) → count_of other u ≡ count_of other t
+  pub all : length u ≡ length t + 1
+
+-- by the route that makes the difference
+HasMore-from : (feed : ℕ) (r : Route) (t u : List Route) → r.feed ≡ feed → ((other : ℕ) → count_of other u ≡ count_of other t + cond (eqb r.feed other) 1 0) → length u ≡ length t + 1 → HasMore feed t u
+HasMore-from feed r t u same each longer = record {
+  own = let more = each feed in let one : cond (eqb r.feed feed) 1 0 ≡ ◌+◌ 1 0 = cond-true (eqb r.feed feed) 1 0 (eq-eqb r.feed feed same) in omega arith;
+  others = λ other differs. let more = each other in let none : cond (eqb r.feed other) 1 0 ≡ ◌+◌ 0 0 = cond-false (eqb r.feed other) 1 0 (ne_eqb r.feed other (λ e. differs (omega arith))) in omega arith;
+  all = longer;
+}
+
+-- a route that goes in, or comes out
+pub HasMore-insert : (t : List Route) (i : ℕ) (r : Route) → i ≤ length t → HasMore r.feed t (insert t i r)
+HasMore-insert t i r l = HasMore-from r.feed r t (insert t i r) refl (λ other. sum_by-insert (λ s. cond (eqb s.feed other) 1 0) t i r) (length-insert t i r l)
+
+-- and one that comes out
+pub HasMore-remove : (feed : ℕ) (t : List Route) (i : ℕ) (r : Route) → i < length t → (get_or t i r).feed ≡ feed → HasMore feed (remove t i) t
+HasMore-remove feed t i r l same =
+    HasMore-from feed (get_or t i r) (remove t i) t same (λ other. sym (sum_by-remove (λ s. cond (eqb s.feed other) 1 0) t i r l)) (sym (length-remove t i l))
+
+-- two lists with one route of the feed more than a third have as many of each feed
+pub HasMore-both : (feed : ℕ) (t u v : List Route) → HasMore feed t u → HasMore feed t v → (other : ℕ) → count_of other v ≡ count_of other u
+HasMore-both feed t u v m n other = elim (cases_eq other feed) [
+  | inl same ↦ ap (λ f. count_of f v) same ∙ n.own ∙ sym m.own ∙ ap (λ f. count_of f u) (sym same)
+  | inr differs ↦ n.others other differs ∙ sym (m.others other differs)
+]
+
+-- the count of a feed is kept at its number less one
+pub AreCounts-own : (limit : ℕ) (counts : List ℕ) (t : List Route) (feed : ℕ) → AreCounts limit counts t → IsFeed feed → get_or counts (feed - 1) 0 ≡ count_of feed t
+AreCounts-own limit counts t feed h is =
+    let low = is.0 in
+    let high = is.1 in
+    let at : feed - 1 + 1 ≡ feed = omega arith in
+    h.each (feed - 1) (omega arith) ∙ ap (λ f. count_of f t) at
+
+module _ (limit : ℕ) (counts : List ℕ) (t u : List Route) (own : ℕ) (inside : own < 64) (many : length counts ≡ 64) where
+  -- the feed's count raised by one, where it has one route more
+  pub AreCounts-more : AreCounts limit counts t → HasMore (own + 1) t u → get_or counts own 0 < limit → AreCounts limit (set counts own (get_or counts own 0 + 1)) u
+  AreCounts-more h more room = record {
+    each = λ i l. elim (cases_eq i own) [
+      | inl same ↦
+          let now = h.each own inside in
+          let there = get_or-set_same counts own (get_or counts own 0 + 1) 0 (omega arith) in
+          let at = ap (λ k. get_or (set counts own (get_or counts own 0 + 1)) k 0) same in
+          let of = ap (λ k. count_of (k + 1) u) same in
+          at ∙ there ∙ ap (λ n. n + 1) now ∙ sym more.own ∙ sym of
+      | inr other ↦ get_or-set_other counts own i (get_or counts own 0 + 1) 0 other ∙ h.each i l ∙ sym (more.others (i + 1) (λ e. other (omega arith)))
+    ];
+    within = λ i l. elim (cases_eq i own) [
+      | inl same ↦
+          let there = get_or-set_same counts own (get_or counts own 0 + 1) 0 (omega arith) in
+          let at = ap (λ k. get_or (set counts own (get_or counts own 0 + 1)) k 0) same in
+          omega arith
+      | inr other ↦ let there = get_or-set_other counts own i (get_or counts own 0 + 1) 0 other in let low = h.within i l in omega arith
+    ];
+    all = let total = sum_by-set (λ x. x) counts own (get_or counts own 0 + 1) 0 (omega arith) in let before = h.all in let after = more.all in omega arith;
+  }
+
+  -- the feed's count lowered by one, where it has one route less
+  pub AreCounts-less : AreCounts limit counts t → HasMore (own + 1) u t → AreCounts limit (set counts own (get_or counts own 0 - 1)) u
+  AreCounts-less h more = record {
+    each = λ i l. elim (cases_eq i own) [
+      | inl same ↦
+          let now = h.each own inside in
+          let there = get_or-set_same counts own (get_or counts own 0 - 1) 0 (omega arith) in
+          let at = ap (λ k. get_or (set counts own (get_or counts own 0 - 1)) k 0) same in
+          let of = ap (λ k. count_of (k + 1) u) same in
+          let fewer = more.own in
+          let down : get_or counts own 0 - 1 ≡ count_of (own + 1) u = omega arith in
+          at ∙ there ∙ down ∙ sym of
+      | inr other ↦ get_or-set_other counts own i (get_or counts own 0 - 1) 0 other ∙ h.each i l ∙ more.others (i + 1) (λ e. other (omega arith))
+    ];
+    within = λ i l. elim (cases_eq i own) [
+      | inl same ↦
+          let there = get_or-set_same counts own (get_or counts own 0 - 1) 0 (omega arith) in
+          let at = ap (λ k. get_or (set counts own (get_or counts own 0 - 1)) k 0) same in
+          let low = h.within own inside in
+          omega arith
+      | inr other ↦ let there = get_or-set_other counts own i (get_or counts own 0 - 1) 0 other in let low = h.within i l in omega arith
+    ];
+    all =
+        let total = sum_by-set (λ x. x) counts own (get_or counts own 0 - 1) 0 (omega arith) in
+        let before = h.all in
+        let after = more.all in
+        let now = h.each own inside in
+        let fewer = more.own in
+        omega arith;
+  }
+
+-- as many routes of each feed
+pub AreCounts-same : (limit : ℕ) (counts : List ℕ) (t u : List Route) → AreCounts limit counts t → ((feed : ℕ) → count_of feed u ≡ count_of feed t) → length u ≡ length t → AreCounts limit counts u
+AreCounts-same limit counts t u h each all = record {
+  each = λ i l. h.each i l ∙ sym (each (i + 1));
+  within = h.within;
+  all = h.all ∙ sym all;
+}
+
+-- there are at most so many routes as the feeds' limits allow together
+pub AreCounts-length : (limit : ℕ) (counts : List ℕ) (t : List Route) → AreCounts limit counts t → length counts ≡ 64 → length t ≤ 64 * limit
+AreCounts-length limit counts t h many =
+    let low : All (λ x. x ≤ limit) counts = λ k d l. let same = get_or_default counts k d 0 l in let within = h.within k (omega arith) in omega arith in
+    let most = sum_by-le (λ x. x) limit counts low in
+    let product = ap (λ n. n * limit) many in
+    let all = h.all in
+    omega arith
+
+-- each of so many zeros is below any limit
+zero_at : (n i limit : ℕ) → i < n → get_or (replicate n 0) i 0 ≤ limit
+zero_at n i limit l = rw (get_or-replicate {A = ℕ} n i 0 0 l) (omega arith)
+
+-- no routes, and so none of any feed
+pub AreCounts-nil : (limit : ℕ) → AreCounts limit (replicate 64 0) []
+AreCounts-nil limit = record {
+  each = λ i l. get_or-replicate 64 i 0 0 l;
+  within = λ i l. zero_at 64 i limit l;
+  all = refl;
+}

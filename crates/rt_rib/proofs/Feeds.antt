@@ -1,0 +1,208 @@
+-- Each feed's routes stand by themselves.
+use Rattle.std.proofs.Common.{◌≡◌, ℕ, ◌+◌, Bool, true, false, cond, ◌||◌, eqb, leb, inl, inr, List, [], ◌∷◌, refl, ap, ◌∙◌, sym, subst, arith}
+use Rattle.std.specs.Prelude.{if◌then◌else◌, fold}
+use Rattle.std.proofs.lemmas.Bool.{cases_Bool, cond_both, cond-true, cond-false, both_ways, eqb-true, eq-eqb, eqb-false, false_from_ne_true, false≢true}
+use Rattle.std.proofs.lemmas.List.Kept.{AllPairs-filter}
+use Rattle.std.proofs.lemmas.List.Sums.{sum_by-cons}
+use Rattle.std.specs.List.{filter, list_any, count_by}
+use Rattle.rt_cidr.specs.declared.prefixes.Prefix.{Prefix}
+use Rattle.rt_rib.specs.declared.routes.Route.{Route}
+use Rattle.rt_rib.specs.declared.commands.Cmd.{Cmd}
+use Rattle.rt_rib.specs.declared.commands.Cmd.TheVariants.{Add, Replace, Withdraw, Lookup, Dump}
+use Rattle.rt_rib.specs.declared.commands.Entry.{Entry}
+use Rattle.rt_rib.specs.Table.{is_of, has, count_of, put_in, take_out, IsTable}
+use Rattle.rt_rib.specs.Sequential.{reply_of, after}
+use Rattle.rt_rib.specs.Journal.{left}
+use Rattle.rt_rib.specs.Laws.{own, entries_of, is_own, FeedsStandAlone}
+use Rattle.rt_rib.proofs.Order.{is_of-parts}
+use Rattle.rt_rib.proofs.Tables.{Ordered, Apart, IsTable-put_in, IsTable-take_out, IsTable-nil, has-take_out}
+use Rattle.rt_rib.proofs.Journals.{step, IsTable-after}
+use Rattle.rt_rib.proofs.Sets.{filter-keeps, filter-from, put_in_adds, take_out_leaves_others, one_table_of_set}
+
+-- a test that only what passes another one can pass is passed in a list as in what that one keeps
+list_any-kept : {X : Type 0} (p q : X → Bool) → ((x : X) → q x ≡ true → p x ≡ true) → (xs : List X) → list_any q (filter p xs) ≡ list_any q xs
+list_any-kept p q only [] = refl
+list_any-kept p q only (x ∷ xs) =
+    let rest = list_any-kept p q only xs in
+    elim (cases_Bool (p x)) [
+      | inl passes ↦ ap (list_any q) (cond-true (p x) (x ∷ filter p xs) (filter p xs) passes) ∙ ap (λ b. q x || b) rest
+      | inr fails ↦
+          let other : q x ≡ false = false_from_ne_true (q x) (λ e. both_ways (p x) fails (only x e)) in
+          ap (list_any q) (cond-false (p x) (x ∷ filter p xs) (filter p xs) fails) ∙ rest ∙ ap (λ b. b || list_any q xs) (sym other)
+    ]
+
+-- what a filter keeps is counted whole
+count-kept : {X : Type 0} (p : X → Bool) (xs : List X) → count_by p (filter p xs) ≡ count_by p xs
+count-kept p [] = refl
+count-kept {X} p (x ∷ xs) =
+    let rest = count-kept p xs in
+    let one : X → ℕ = λ z. cond (p z) 1 0 in
+    elim (cases_Bool (p x)) [
+      | inl passes ↦
+          ap (count_by p) (cond-true (p x) (x ∷ filter p xs) (filter p xs) passes) ∙ sum_by-cons one x (filter p xs) ∙ ap (λ n. one x + n) rest ∙ sym (sum_by-cons one x xs)
+      | inr fails ↦
+          let none : one x ≡ 0 = cond-false (p x) 1 0 fails in
+          ap (count_by p) (cond-false (p x) (x ∷ filter p xs) (filter p xs) fails) ∙ rest ∙ (let whole = sum_by-cons one x xs in omega arith)
+    ]
+
+-- a feed's route to a prefix is among its own
+is_of-own : (feed : ℕ) (p : Prefix) (r : Route) → is_of feed p r ≡ true → eqb r.feed feed ≡ true
+is_of-own feed p r e = eq-eqb r.feed feed (is_of-parts feed p r e).0
+
+-- whether a feed has a route to a prefix shows in its own routes
+has-own : (feed : ℕ) (p : Prefix) (t : List Route) → has feed p (own feed t) ≡ has feed p t
+has-own feed p t = list_any-kept (λ r. eqb r.feed feed) (is_of feed p) (is_of-own feed p) t
+
+-- and so does how many it has
+count_of-own : (feed : ℕ) (t : List Route) → count_of feed (own feed t) ≡ count_of feed t
+count_of-own feed t = count-kept (λ r. eqb r.feed feed) t
+
+-- a feed's routes are a table
+IsTable-own : (feed : ℕ) (t : List Route) → IsTable t → IsTable (own feed t)
+IsTable-own feed t h = record {
+  ordered = AllPairs-filter Ordered (λ r. eqb r.feed feed) t h.ordered;
+  single = AllPairs-filter Apart (λ r. eqb r.feed feed) t h.single;
+}
+
+module _ (t : List Route) (h : IsTable t) where
+  -- a route of another feed goes in
+  own-put_in_other : (feed : ℕ) (r : Route) → has r.feed r.prefix t ≡ false → (r.feed ≡ feed → ⊥) → own feed (put_in r t) ≡ own feed t
+  own-put_in_other feed r fresh other =
+      let mine = λ (s : Route). eqb s.feed feed in
+      one_table_of_set (own feed (put_in r t)) (own feed t) (IsTable-own feed (put_in r t) (IsTable-put_in r t fresh h)) (IsTable-own feed t h)
+      (λ x. (
+        (λ c.
+            let both = filter-from mine (put_in r t) x c in
+            elim ((put_in_adds r x t).0 both.0) [
+              | inl old ↦ filter-keeps mine t x old both.1
+              | inr same ↦ absurd (other (ap (λ s. s.feed) same ∙ eqb-true x.feed feed both.1))
+            ]),
+        (λ c. let both = filter-from mine t x c in filter-keeps mine (put_in r t) x ((put_in_adds r x t).1 (inl both.0)) both.1),
+      ))
+
+  -- a route of the feed goes in
+  own-put_in : (r : Route) → has r.feed r.prefix t ≡ false → own r.feed (put_in r t) ≡ put_in r (own r.feed t)
+  own-put_in r fresh =
+      let mine = λ (s : Route). eqb s.feed r.feed in
+      let fresh' = has-own r.feed r.prefix t ∙ fresh in
+      one_table_of_set (own r.feed (put_in r t)) (put_in r (own r.feed t)) (IsTable-own r.feed (put_in r t) (IsTable-put_in r t fresh h)) (IsTable-put_in r (own r.feed t) fresh' (IsTable-own r.feed t h))
+      (λ x. (
+        (λ c.
+            let both = filter-from mine (put_in r t) x c in
+            elim ((put_in_adds r x t).0 both.0) [
+              | inl old ↦ (put_in_adds r x (own r.feed t)).1 (inl (filter-keeps mine t x old both.1))
+              | inr same ↦ (put_in_adds r x (own r.feed t)).1 (inr same)
+            ]),
+        (λ c. elim ((put_in_adds r x (own r.feed t)).0 c) [
+          | inl old ↦ let both = filter-from mine t x old in filter-keeps mine (put_in r t) x ((put_in_adds r x t).1 (inl both.0)) both.1
+          | inr same ↦ filter-keeps mine (put_in r t) x ((put_in_adds r x t).1 (inr same)) (eq-eqb x.feed r.feed (ap (λ s. s.feed) (sym same)))
+        ]),
+      ))
+
+  -- a route of another feed goes out
+  own-take_out_other : (feed mover : ℕ) (p : Prefix) → (mover ≡ feed → ⊥) → own feed (take_out mover p t) ≡ own feed t
+  own-take_out_other feed mover p other =
+      let mine = λ (s : Route). eqb s.feed feed in
+      one_table_of_set (own feed (take_out mover p t)) (own feed t) (IsTable-own feed (take_out mover p t) (IsTable-take_out mover p t h)) (IsTable-own feed t h)
+      (λ x. (
+        (λ c. let both = filter-from mine (take_out mover p t) x c in filter-keeps mine t x ((take_out_leaves_others mover p x t).0 both.0).0 both.1),
+        (λ c.
+            let both = filter-from mine t x c in
+            let apart : is_of mover p x ≡ false = false_from_ne_true (is_of mover p x) (λ e. other (sym (is_of-parts mover p x e).0 ∙ eqb-true x.feed feed both.1)) in
+            filter-keeps mine (take_out mover p t) x ((take_out_leaves_others mover p x t).1 (both.0, apart)) both.1),
+      ))
+
+  -- a route of the feed goes out
+  own-take_out : (feed : ℕ) (p : Prefix) → own feed (take_out feed p t) ≡ take_out feed p (own feed t)
+  own-take_out feed p =
+      let mine = λ (s : Route). eqb s.feed feed in
+      one_table_of_set (own feed (take_out feed p t)) (take_out feed p (own feed t)) (IsTable-own feed (take_out feed p t) (IsTable-take_out feed p t h)) (IsTable-take_out feed p (own feed t) (IsTable-own feed t h))
+      (λ x. (
+        (λ c.
+            let both = filter-from mine (take_out feed p t) x c in
+            let out = (take_out_leaves_others feed p x t).0 both.0 in
+            (take_out_leaves_others feed p x (own feed t)).1 (filter-keeps mine t x out.0 both.1, out.1)),
+        (λ c.
+            let out = (take_out_leaves_others feed p x (own feed t)).0 c in
+            let both = filter-from mine t x out.0 in
+            filter-keeps mine (take_out feed p t) x ((take_out_leaves_others feed p x t).1 (both.0, out.1)) both.1),
+      ))
+
+-- another feed's command leaves the feed's routes
+after_other : (limit : ℕ) (t : List Route) (feed mover : ℕ) (cmd : Cmd) → IsTable t → (mover ≡ feed → ⊥) → own feed (after limit t mover cmd) ≡ own feed t
+unfolding after
+after_other limit t feed mover (Add p pref hop) h other =
+    let r : Route = record { prefix = p; feed = mover; pref = pref; hop = hop } in
+    cond_both (has mover p t) t (if leb limit (count_of mover t) then t else put_in r t) (λ u. own feed u ≡ own feed t) (λ there. refl)
+    (λ fresh. cond_both (leb limit (count_of mover t)) t (put_in r t) (λ u. own feed u ≡ own feed t) (λ full. refl) (λ room. own-put_in_other t h feed r fresh other))
+after_other limit t feed mover (Replace p pref hop) h other =
+    let r : Route = record { prefix = p; feed = mover; pref = pref; hop = hop } in
+    cond_both (has mover p t) (put_in r (take_out mover p t)) t (λ u. own feed u ≡ own feed t)
+    (λ there.
+    own-put_in_other (take_out mover p t) (IsTable-take_out mover p t h) feed r (has-take_out mover p t) other
+    ∙ own-take_out_other t h feed mover p other) (λ fresh. refl)
+after_other limit t feed mover (Withdraw p) h other =
+    cond_both (has mover p t) (take_out mover p t) t (λ u. own feed u ≡ own feed t) (λ there. own-take_out_other t h feed mover p other) (λ fresh. refl)
+after_other limit t feed mover (Lookup addr) h other = refl
+after_other limit t feed mover Dump h other = refl
+
+-- the feed's own command does to its routes what it does to all
+after_own : (limit : ℕ) (t : List Route) (feed : ℕ) (cmd : Cmd) → IsTable t → own feed (after limit t feed cmd) ≡ after limit (own feed t) feed cmd
+unfolding after
+after_own limit t feed (Add p pref hop) h =
+    let r : Route = record { prefix = p; feed = feed; pref = pref; hop = hop } in
+    rw (has-own feed p t, count_of-own feed t)
+    (elim (cases_Bool (has feed p t)) [
+      | inl there ↦ rw there
+      | inr fresh ↦ elim (cases_Bool (leb limit (count_of feed t))) [
+        | inl full ↦ rw (fresh, full)
+        | inr room ↦ rw (fresh, room) (own-put_in t h r fresh)
+      ]
+    ])
+after_own limit t feed (Replace p pref hop) h =
+    let r : Route = record { prefix = p; feed = feed; pref = pref; hop = hop } in
+    rw (has-own feed p t)
+    (elim (cases_Bool (has feed p t)) [
+      | inl there ↦ rw there (own-put_in (take_out feed p t) (IsTable-take_out feed p t h) r (has-take_out feed p t) ∙ ap (put_in r) (own-take_out t h feed p))
+      | inr fresh ↦ rw fresh
+    ])
+after_own limit t feed (Withdraw p) h =
+    rw (has-own feed p t) (elim (cases_Bool (has feed p t)) [ inl there ↦ rw there (own-take_out t h feed p) | inr fresh ↦ rw fresh ])
+after_own limit t feed (Lookup addr) h = refl
+after_own limit t feed Dump h = refl
+
+-- and it is answered from them
+reply_own : (limit : ℕ) (t : List Route) (feed : ℕ) (cmd : Cmd) → is_own cmd ≡ true → reply_of limit t feed cmd ≡ reply_of limit (own feed t) feed cmd
+unfolding reply_of
+reply_own limit t feed (Add p pref hop) e = rw (has-own feed p t, count_of-own feed t)
+reply_own limit t feed (Replace p pref hop) e = rw (has-own feed p t)
+reply_own limit t feed (Withdraw p) e = rw (has-own feed p t)
+reply_own limit t feed (Lookup addr) e = absurd (false≢true e)
+reply_own limit t feed Dump e = absurd (false≢true e)
+
+-- so it is over a whole journal, from any table on
+own_fold : (limit feed : ℕ) (t : List Route) (journal : List Entry) → IsTable t → own feed (fold (step limit) t journal) ≡ fold (step limit) (own feed t) (entries_of feed journal)
+own_fold limit feed t [] h = refl
+own_fold limit feed t (e ∷ journal) h =
+    let rest = own_fold limit feed (step limit t e) journal (IsTable-after limit t e.feed e.cmd h) in
+    let others = entries_of feed journal in
+    elim (cases_Bool (eqb e.feed feed)) [
+      | inl same ↦
+          let mine : own feed (step limit t e) ≡ step limit (own feed t) e =
+          subst (λ g. own g (after limit t e.feed e.cmd) ≡ after limit (own g t) e.feed e.cmd) (eqb-true e.feed feed same) (after_own limit t e.feed e.cmd h) in
+          rest ∙ ap (λ u. fold (step limit) u others) mine ∙ ap (fold (step limit) (own feed t)) (sym (cond-true (eqb e.feed feed) (e ∷ others) others same))
+      | inr other ↦
+          rest ∙ ap (λ u. fold (step limit) u others) (after_other limit t feed e.feed e.cmd h (eqb-false e.feed feed other))
+          ∙ ap (fold (step limit) (own feed t)) (sym (cond-false (eqb e.feed feed) (e ∷ others) others other))
+    ]
+
+-- and from the empty one
+own_left : (limit feed : ℕ) (journal : List Entry) → own feed (left limit journal) ≡ left limit (entries_of feed journal)
+unfolding left
+own_left limit feed journal = own_fold limit feed [] journal IsTable-nil
+
+-- both together
+pub feeds_stand_alone : FeedsStandAlone
+feeds_stand_alone limit feed journal cmd =
+    let same = own_left limit feed journal in
+    (same, (λ e. reply_own limit (left limit journal) feed cmd e ∙ ap (λ t. reply_of limit t feed cmd) same))

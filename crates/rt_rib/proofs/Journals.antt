@@ -1,0 +1,96 @@
+-- What a journal leaves is a table, and lawfulness goes entry by entry.
+use Rattle.std.proofs.Common.{◌≡◌, ℕ, List, [], ◌∷◌, ◌++◌, refl, ap, ◌∙◌, subst, inl, inr, ◌⊎◌, append_assoc, leb, arith}
+use Rattle.std.specs.Prelude.{if◌then◌else◌}
+use Rattle.std.proofs.lemmas.Bool.{cond_both}
+use Rattle.std.proofs.lemmas.List.Sums.{fold_push}
+use Rattle.std.specs.List.{fold}
+use Rattle.rt_rib.specs.declared.routes.Route.{Route}
+use Rattle.rt_rib.specs.declared.commands.Cmd.{Cmd}
+use Rattle.rt_rib.specs.declared.commands.Cmd.TheVariants.{Add, Replace, Withdraw, Lookup, Dump}
+use Rattle.rt_rib.specs.declared.commands.Entry.{Entry}
+use Rattle.rt_rib.specs.Table.{IsTable, has, take_out, put_in, count_of}
+use Rattle.rt_rib.specs.Sequential.{after}
+use Rattle.rt_rib.specs.Journal.{left, IsAnswered, IsLawful}
+use Rattle.rt_rib.proofs.Tables.{IsTable-put_in, IsTable-take_out, has-take_out}
+
+-- each command leaves a table
+pub IsTable-after : (limit : ℕ) (t : List Route) (feed : ℕ) (cmd : Cmd) → IsTable t → IsTable (after limit t feed cmd)
+unfolding after
+IsTable-after limit t feed (Add p pref hop) h =
+    let r : Route = record { prefix = p; feed = feed; pref = pref; hop = hop } in
+    cond_both (has feed p t) t (if leb limit (count_of feed t) then t else put_in r t) IsTable (λ there. h)
+    (λ fresh. cond_both (leb limit (count_of feed t)) t (put_in r t) IsTable (λ full. h) (λ room. IsTable-put_in r t fresh h))
+IsTable-after limit t feed (Replace p pref hop) h =
+    let r : Route = record { prefix = p; feed = feed; pref = pref; hop = hop } in
+    cond_both (has feed p t) (put_in r (take_out feed p t)) t IsTable
+    (λ there. IsTable-put_in r (take_out feed p t) (has-take_out feed p t) (IsTable-take_out feed p t h)) (λ fresh. h)
+IsTable-after limit t feed (Withdraw p) h = cond_both (has feed p t) (take_out feed p t) t IsTable (λ there. IsTable-take_out feed p t h) (λ fresh. h)
+IsTable-after limit t feed (Lookup addr) h = h
+IsTable-after limit t feed Dump h = h
+
+-- what an entry's command leaves
+abbrev pub step : ℕ → List Route → Entry → List Route
+step limit t e = after limit t e.feed e.cmd
+
+-- from any table on, a journal leaves a table
+IsTable-fold : (limit : ℕ) (t : List Route) (journal : List Entry) → IsTable t → IsTable (fold (step limit) t journal)
+IsTable-fold limit t [] h = h
+IsTable-fold limit t (e ∷ journal) h = IsTable-fold limit (step limit t e) journal (IsTable-after limit t e.feed e.cmd h)
+
+-- the routes that a journal leaves are a table
+pub IsTable-left : (limit : ℕ) (journal : List Entry) → IsTable (left limit journal)
+unfolding left
+IsTable-left limit journal = IsTable-fold limit [] journal (record { ordered = λ i j d l m. absurd (omega arith); single = λ i j d l m. absurd (omega arith) })
+
+-- one entry more leaves what its command leaves
+pub left-push : (limit : ℕ) (journal : List Entry) (e : Entry) → left limit (journal ++ e ∷ []) ≡ after limit (left limit journal) e.feed e.cmd
+unfolding left
+left-push limit journal e = fold_push (step limit) [] journal e
+
+-- no entry leaves the empty set
+pub left-nil : (limit : ℕ) → left limit [] ≡ []
+unfolding left
+left-nil limit = refl
+
+-- a list with an element is not the empty one
+not_empty : {X : Type 0} (ys : List X) (x : X) (zs : List X) → [] ≡ ys ++ x ∷ zs → ⊥
+not_empty [] x zs e = cc
+not_empty (y ∷ ys) x zs e = cc
+
+-- an element of a list with one more at its end is that one, or stands in the list
+push_parts : {X : Type 0} (xs ys : List X) (e x : X) (zs : List X) → xs ++ e ∷ [] ≡ ys ++ x ∷ zs → ((xs ≡ ys) × (e ≡ x)) ⊎ ((ws : List X) × (xs ≡ ys ++ x ∷ ws))
+push_parts [] [] e x zs h = inl (refl, cc)
+push_parts [] (y ∷ ys) e x zs h = let tail : [] ≡ ys ++ x ∷ zs = cc in absurd (not_empty ys x zs tail)
+push_parts (a ∷ xs) [] e x zs h = let same : a ≡ x = cc in inr (xs, ap (λ z. z ∷ xs) same)
+push_parts (a ∷ xs) (y ∷ ys) e x zs h =
+    let same : a ≡ y = cc in
+    let tail : xs ++ e ∷ [] ≡ ys ++ x ∷ zs = cc in
+    elim (push_parts xs ys e x zs tail) [
+      | inl here ↦ let front = here.0 in inl (cc, here.1)
+      | inr there ↦ let rest = there.1 in inr (there.0, cc)
+    ]
+
+-- a lawful journal goes on with an entry that is so answered
+pub IsLawful-push : (limit : ℕ) (journal : List Entry) (e : Entry) → IsLawful limit journal → IsAnswered limit journal e → IsLawful limit (journal ++ e ∷ [])
+IsLawful-push limit journal e lawful last = record {
+  answered = λ earlier x later h.
+      elim (push_parts journal earlier e x later h) [
+        | inl here ↦ subst (λ z. IsAnswered limit z x) here.0 (subst (λ z. IsAnswered limit journal z) here.1 last)
+        | inr there ↦ lawful.answered earlier x there.0 there.1
+      ];
+}
+
+-- what a lawful journal begins with is lawful, and its last entry is so answered
+pub IsLawful-front : (limit : ℕ) (front back : List Entry) → IsLawful limit (front ++ back) → IsLawful limit front
+IsLawful-front limit front back lawful = record {
+  answered = λ earlier x later h.
+      lawful.answered earlier x (later ++ back) (ap (λ z. z ++ back) h ∙ append_assoc earlier (x ∷ later) back);
+}
+
+-- and its last entry is so answered
+pub IsLawful-last : (limit : ℕ) (journal : List Entry) (e : Entry) → IsLawful limit (journal ++ e ∷ []) → IsAnswered limit journal e
+IsLawful-last limit journal e lawful = lawful.answered journal e [] refl
+
+-- the journal without an entry is lawful
+pub IsLawful-nil : (limit : ℕ) → IsLawful limit []
+IsLawful-nil limit = record { answered = λ earlier x later h. absurd (not_empty earlier x later h) }

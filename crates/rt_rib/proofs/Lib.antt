@@ -1,0 +1,14 @@
+pub mod Order
+pub mod Lists
+pub mod Tables
+pub mod Journals
+pub mod Searches
+pub mod Places
+pub mod Counts
+pub mod Steps
+pub mod Kept
+pub mod Moves
+pub mod LookUps
+pub mod Sets
+pub mod Determined
+pub mod Feeds

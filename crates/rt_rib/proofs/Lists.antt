@@ -1,0 +1,106 @@
+-- What holds of the elements of a list, and of each two of them.
+use Rattle.std.proofs.Common.{◌≡◌, ℕ, zero, suc, ◌<◌, ◌≤◌, Bool, true, false, cond, not, List, [], ◌∷◌, ◌++◌, length, get_or, get_or-take, take, length-take, refl, ap, ◌∙◌, arith}
+use Rattle.std.proofs.lemmas.Bool.{or_parts, or_from, or_left, or_right, and_parts, and_from, cond-true, cond-false}
+use Rattle.std.proofs.lemmas.List.Elements.{All-cons, All-head, All-tail, All-append, All-filter}
+use Rattle.std.proofs.lemmas.List.Kept.{AllPairs-cons}
+use Rattle.std.specs.List.{All, AllPairs, AllWithin, HoldsAt, filter, list_any, list_all}
+
+-- what follows from two facts of each element
+pub All-join : {X : Type 0} (P Q R : X → Type 0) → ((x : X) → P x → Q x → R x) → (xs : List X) → All P xs → All Q xs → All R xs
+All-join P Q R both xs p q = λ k d l. both (get_or xs k d) (p k d l) (q k d l)
+
+-- the element before the others goes with each of them
+pub AllPairs-head : {X : Type 0} (R : X → X → Type 0) (x : X) (xs : List X) → AllPairs R (x ∷ xs) → All (R x) xs
+AllPairs-head R x xs h = λ k d l. h 0 (suc k) d (omega arith) (omega arith)
+
+-- and each two of the others
+pub AllPairs-tail : {X : Type 0} (R : X → X → Type 0) (x : X) (xs : List X) → AllPairs R (x ∷ xs) → AllPairs R xs
+AllPairs-tail R x xs h = λ i j d l m. h (suc i) (suc j) d (omega arith) (omega arith)
+
+-- two lists joined, where each element of the first goes with each of the second
+pub AllPairs-append : {X : Type 0} (R : X → X → Type 0) (xs ys : List X) → AllPairs R xs → AllPairs R ys → All (λ x. All (R x) ys) xs → AllPairs R (xs ++ ys)
+AllPairs-append R [] ys a b c = b
+AllPairs-append R (x ∷ xs) ys a b c =
+    AllPairs-cons R x (xs ++ ys) (All-append (R x) xs ys (AllPairs-head R x xs a) (All-head (λ z. All (R z) ys) x xs c))
+    (AllPairs-append R xs ys (AllPairs-tail R x xs a) b (All-tail (λ z. All (R z) ys) x xs c))
+
+-- the two parts of a list that was joined
+pub AllPairs-right : {X : Type 0} (R : X → X → Type 0) (xs ys : List X) → AllPairs R (xs ++ ys) → AllPairs R ys
+AllPairs-right R [] ys h = h
+AllPairs-right R (x ∷ xs) ys h = AllPairs-right R xs ys (AllPairs-tail R x (xs ++ ys) h)
+
+-- no element passes a test that none of the list passes
+pub list_any-none : {X : Type 0} (p : X → Bool) (xs : List X) → list_any p xs ≡ false → All (λ x. p x ≡ false) xs
+list_any-none p [] e = λ k d l. absurd (omega arith)
+list_any-none p (x ∷ xs) e =
+    let parts = or_parts (p x) (list_any p xs) e in
+    All-cons (λ z. p z ≡ false) x xs parts.0 (list_any-none p xs parts.1)
+
+-- and the other way round
+pub list_any-from_none : {X : Type 0} (p : X → Bool) (xs : List X) → All (λ x. p x ≡ false) xs → list_any p xs ≡ false
+list_any-from_none p [] h = refl
+list_any-from_none p (x ∷ xs) h =
+    or_from (p x) (list_any p xs) (All-head (λ z. p z ≡ false) x xs h) (list_any-from_none p xs (All-tail (λ z. p z ≡ false) x xs h))
+
+-- a test that an element passes is passed in the list
+pub list_any-at : {X : Type 0} (p : X → Bool) (xs : List X) (i : ℕ) (d : X) → i < length xs → p (get_or xs i d) ≡ true → list_any p xs ≡ true
+list_any-at p [] i d l e = absurd (omega arith)
+list_any-at p (x ∷ xs) zero d l e = or_left (p x) (list_any p xs) e
+list_any-at p (x ∷ xs) (suc i) d l e = or_right (p x) (list_any p xs) (list_any-at p xs i d (omega arith) e)
+
+-- the same, whatever stands for an element past the end
+pub list_any-holds : {X : Type 0} (p : X → Bool) (xs : List X) (i : ℕ) → i < length xs → HoldsAt (λ x. p x ≡ true) xs i → list_any p xs ≡ true
+list_any-holds p [] i l h = absurd (omega arith)
+list_any-holds p (x ∷ xs) i l h = list_any-at p (x ∷ xs) i x l (h x)
+
+-- a filter that each element passes, or that none passes
+pub filter-all : {X : Type 0} (p : X → Bool) (xs : List X) → All (λ x. p x ≡ true) xs → filter p xs ≡ xs
+filter-all p [] h = refl
+filter-all p (x ∷ xs) h =
+    cond-true (p x) (x ∷ filter p xs) (filter p xs) (All-head (λ z. p z ≡ true) x xs h) ∙ ap (λ z. x ∷ z) (filter-all p xs (All-tail (λ z. p z ≡ true) x xs h))
+
+-- a filter that none passes
+pub filter-none : {X : Type 0} (p : X → Bool) (xs : List X) → All (λ x. p x ≡ false) xs → filter p xs ≡ []
+filter-none p [] h = refl
+filter-none p (x ∷ xs) h =
+    cond-false (p x) (x ∷ filter p xs) (filter p xs) (All-head (λ z. p z ≡ false) x xs h) ∙ filter-none p xs (All-tail (λ z. p z ≡ false) x xs h)
+
+-- what passes a test goes with what fails it, where each two elements go with each other both ways
+pub AllPairs-split : {X : Type 0} (R : X → X → Type 0) → ((x y : X) → R x y → R y x) → (p : X → Bool) (xs : List X) → AllPairs R xs → All (λ x. All (R x) (filter (λ z. not (p z)) xs)) (filter p xs)
+AllPairs-split R flip p [] h = λ k d l. absurd (omega arith)
+AllPairs-split {X} R flip p (x ∷ xs) h =
+    let q : X → Bool = λ z. not (p z) in
+    let rest = AllPairs-split R flip p xs (AllPairs-tail R x xs h) in
+    let head = AllPairs-head R x xs h in
+    elim (p x) as (λ b. All (λ y. All (R y) (cond (not b) (x ∷ filter q xs) (filter q xs))) (cond b (x ∷ filter p xs) (filter p xs))) [
+      | true ↦ All-cons (λ y. All (R y) (filter q xs)) x (filter p xs) (All-filter q (R x) xs head) rest
+      | false ↦
+          All-join (R x) (λ y. All (R y) (filter q xs)) (λ y. All (R y) (x ∷ filter q xs))
+          (λ y e others. All-cons (R y) x (filter q xs) (flip x y e) others) (filter p xs) (All-filter p (R x) xs head) rest
+    ]
+
+-- a test that each element passes
+pub list_all-from : {X : Type 0} (p : X → Bool) (xs : List X) → All (λ x. p x ≡ true) xs → list_all p xs ≡ true
+list_all-from p [] h = refl
+list_all-from p (x ∷ xs) h = and_from (p x) (list_all p xs) (All-head (λ z. p z ≡ true) x xs h) (list_all-from p xs (All-tail (λ z. p z ≡ true) x xs h))
+
+-- what each element passes, one in the middle does
+pub list_all-middle : {X : Type 0} (p : X → Bool) (xs : List X) (x : X) (ys : List X) → list_all p (xs ++ x ∷ ys) ≡ true → p x ≡ true
+list_all-middle p [] x ys e = (and_parts (p x) (list_all p ys) e).0
+list_all-middle p (z ∷ xs) x ys e = list_all-middle p xs x ys (and_parts (p z) (list_all p (xs ++ x ∷ ys)) e).1
+
+-- what holds before a place holds of all that stands there
+pub All-front : {X : Type 0} (P : X → Type 0) (xs : List X) (i : ℕ) → i ≤ length xs → AllWithin P xs 0 i → All P (take i xs)
+All-front P xs i l h = λ k d inside.
+    let below : k < i = omega (arith, length-take i xs) in
+    rw (get_or-take i xs k d below) (h k d (omega arith) below)
+
+-- what holds of all of a joined list
+pub All-left : {X : Type 0} (P : X → Type 0) (xs ys : List X) → All P (xs ++ ys) → All P xs
+All-left P [] ys h = λ k d l. absurd (omega arith)
+All-left P (x ∷ xs) ys h = All-cons P x xs (All-head P x (xs ++ ys) h) (All-left P xs ys (All-tail P x (xs ++ ys) h))
+
+-- and of what stands behind one element
+pub All-right : {X : Type 0} (P : X → Type 0) (xs : List X) (y : X) (ys : List X) → All P (xs ++ y ∷ ys) → All P ys
+All-right P [] y ys h = All-tail P y ys h
+All-right P (x ∷ xs) y ys h = All-right P xs y ys (All-tail P x (xs ++ y ∷ ys) h)

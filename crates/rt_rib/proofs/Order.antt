@@ -1,0 +1,141 @@
+-- Dump order is strict and total, up to feed and prefix.
+use Rattle.std.proofs.Common.{◌≡◌, ℕ, ◌<◌, Bool, true, false, eqb, ltb, ◌&&◌, ◌⊎◌, inl, inr, sym, arith}
+use Rattle.std.proofs.lemmas.Bool.{ltb-true, ltb-false, eqb-true, eqb-false, lt-ltb, le-ltb, eq-eqb, or_cases, or_parts, or_left, or_right, or_from, and_parts, and_cases, and_from, and_right, both_ways, cases_order, false_from_ne_true}
+use Rattle.rt_cidr.specs.declared.prefixes.Prefix.{Prefix}
+use Rattle.rt_rib.specs.declared.routes.Route.{Route}
+use Rattle.rt_rib.specs.Table.{below_then, is_better, precedes, is_of, same_prefix}
+use Rattle.rt_rib.specs.Search.{is_earlier, is_at}
+
+-- what a test in order says where it holds
+pub below_then-true : (a b : ℕ) (rest : Bool) → below_then a b rest ≡ true → (a < b) ⊎ ((a ≡ b) × (rest ≡ true))
+below_then-true a b rest e =
+    elim (or_cases (ltb a b) (eqb a b && rest) e) [
+      | inl less ↦ inl (ltb-true a b less)
+      | inr same ↦ let parts = and_parts (eqb a b) rest same in inr (eqb-true a b parts.0, parts.1)
+    ]
+
+-- what it says where it fails
+pub below_then-false : (a b : ℕ) (rest : Bool) → below_then a b rest ≡ false → (b < a) ⊎ ((a ≡ b) × (rest ≡ false))
+below_then-false a b rest e =
+    let parts = or_parts (ltb a b) (eqb a b && rest) e in
+    elim (and_cases (eqb a b) rest parts.1) [
+      | inl other ↦ let differ : a ≡ b → ⊥ = eqb-false a b other in let above = ltb-false a b parts.0 in inl (omega arith)
+      | inr fails ↦ elim (cases_order a b) [
+        | inl same ↦ inr (same, fails)
+        | inr (inl less) ↦ absurd (both_ways _ parts.0 (lt-ltb a b less))
+        | inr (inr more) ↦ inl more
+      ]
+    ]
+
+-- it holds where the first is below
+pub below_then-less : (a b : ℕ) (rest : Bool) → a < b → below_then a b rest ≡ true
+below_then-less a b rest h = or_left (ltb a b) (eqb a b && rest) (lt-ltb a b h)
+
+-- it holds where the two are equal and the rest holds
+pub below_then-same : (a b : ℕ) (rest : Bool) → a ≡ b → rest ≡ true → below_then a b rest ≡ true
+below_then-same a b rest h r = or_right (ltb a b) (eqb a b && rest) (and_from (eqb a b) rest (eq-eqb a b h) r)
+
+-- three in order, where the rests are
+pub below_then-trans : (a b c : ℕ) (p q r : Bool) → (p ≡ true → q ≡ true → r ≡ true) → below_then a b p ≡ true → below_then b c q ≡ true → below_then a c r ≡ true
+below_then-trans a b c p q r rest x y =
+    elim (below_then-true a b p x) [
+      | inl less ↦ elim (below_then-true b c q y) [ inl more ↦ below_then-less a c r (omega arith) | inr same ↦ let s = same.0 in below_then-less a c r (omega arith) ]
+      | inr e ↦ elim (below_then-true b c q y) [
+        | inl more ↦ let s = e.0 in below_then-less a c r (omega arith)
+        | inr same ↦ let s = e.0 in let t = same.0 in below_then-same a c r (omega arith) (rest e.1 same.1)
+      ]
+    ]
+
+-- what is better than a better one is better
+is_better-trans : (r s t : Route) → is_better r s ≡ true → is_better s t ≡ true → is_better r t ≡ true
+is_better-trans r s t =
+    below_then-trans r.pref s.pref t.pref (ltb r.feed s.feed) (ltb s.feed t.feed) (ltb r.feed t.feed)
+    (λ x y. let a = ltb-true r.feed s.feed x in let b = ltb-true s.feed t.feed y in lt-ltb r.feed t.feed (omega arith))
+
+-- what precedes r precedes what r precedes
+pub precedes-trans : (r s t : Route) → precedes r s ≡ true → precedes s t ≡ true → precedes r t ≡ true
+precedes-trans r s t =
+    below_then-trans r.prefix.base s.prefix.base t.prefix.base
+    (below_then r.prefix.len s.prefix.len (is_better r s)) (below_then s.prefix.len t.prefix.len (is_better s t)) (below_then r.prefix.len t.prefix.len (is_better r t))
+    (below_then-trans r.prefix.len s.prefix.len t.prefix.len (is_better r s) (is_better s t) (is_better r t) (is_better-trans r s t))
+
+-- of two routes that are not of one feed and prefix one precedes the other
+is_better-other : (r s : Route) → is_better s r ≡ false → (s.feed ≡ r.feed → ⊥) → is_better r s ≡ true
+is_better-other r s e other =
+    elim (below_then-false s.pref r.pref (ltb s.feed r.feed) e) [
+      | inl less ↦ below_then-less r.pref s.pref (ltb r.feed s.feed) less
+      | inr same ↦
+          let p = same.0 in
+          let f = ltb-false s.feed r.feed same.1 in
+          below_then-same r.pref s.pref (ltb r.feed s.feed) (omega arith) (lt-ltb r.feed s.feed (omega arith))
+    ]
+
+-- feed, base and length of a feed's route to a prefix
+pub is_of-parts : (feed : ℕ) (p : Prefix) (r : Route) → is_of feed p r ≡ true → (r.feed ≡ feed) × (r.prefix.base ≡ p.base) × (r.prefix.len ≡ p.len)
+is_of-parts feed p r e =
+    let parts = and_parts (eqb r.feed feed) (same_prefix r.prefix p) e in
+    let both = and_parts (eqb r.prefix.base p.base) (eqb r.prefix.len p.len) parts.1 in
+    (eqb-true r.feed feed parts.0, eqb-true r.prefix.base p.base both.0, eqb-true r.prefix.len p.len both.1)
+
+-- a feed's route to a prefix is of that prefix
+pub is_of-at : (feed : ℕ) (p : Prefix) (r : Route) → is_of feed p r ≡ true → is_at p.base p.len r ≡ true
+is_of-at feed p r e = (and_parts (eqb r.feed feed) (same_prefix r.prefix p) e).1
+
+-- a route of this feed, base and length is the feed's route to the prefix
+pub is_of-from : (feed : ℕ) (p : Prefix) (r : Route) → r.feed ≡ feed → r.prefix.base ≡ p.base → r.prefix.len ≡ p.len → is_of feed p r ≡ true
+is_of-from feed p r f b l =
+    and_from (eqb r.feed feed) (same_prefix r.prefix p) (eq-eqb r.feed feed f)
+    (and_from (eqb r.prefix.base p.base) (eqb r.prefix.len p.len) (eq-eqb r.prefix.base p.base b) (eq-eqb r.prefix.len p.len l))
+
+-- of two routes that are not of one feed and prefix, the one that does not stand behind stands before
+pub precedes-other : (r s : Route) → precedes s r ≡ false → is_of r.feed r.prefix s ≡ false → precedes r s ≡ true
+precedes-other r s e other =
+    elim (below_then-false s.prefix.base r.prefix.base (below_then s.prefix.len r.prefix.len (is_better s r)) e) [
+      | inl less ↦ below_then-less r.prefix.base s.prefix.base (below_then r.prefix.len s.prefix.len (is_better r s)) less
+      | inr base ↦
+          let b : r.prefix.base ≡ s.prefix.base = sym base.0 in
+          below_then-same r.prefix.base s.prefix.base (below_then r.prefix.len s.prefix.len (is_better r s)) b
+          (elim (below_then-false s.prefix.len r.prefix.len (is_better s r) base.1) [
+            | inl less ↦ below_then-less r.prefix.len s.prefix.len (is_better r s) less
+            | inr len ↦
+                below_then-same r.prefix.len s.prefix.len (is_better r s) (sym len.0)
+                (is_better-other r s len.1 (λ f. both_ways (is_of r.feed r.prefix s) other (is_of-from r.feed r.prefix s f base.0 len.0)))
+          ])
+    ]
+
+-- no route is better than itself
+pub is_better-itself : (r : Route) → is_better r r ≡ false
+is_better-itself r = or_from (ltb r.pref r.pref) (eqb r.pref r.pref && ltb r.feed r.feed) (le-ltb r.pref r.pref (omega arith)) (and_right (eqb r.pref r.pref) (ltb r.feed r.feed) (le-ltb r.feed r.feed (omega arith)))
+
+-- no route precedes itself
+pub precedes-itself : (r : Route) → precedes r r ≡ false
+precedes-itself r =
+    let len = or_from (ltb r.prefix.len r.prefix.len) (eqb r.prefix.len r.prefix.len && is_better r r) (le-ltb r.prefix.len r.prefix.len (omega arith)) (and_right (eqb r.prefix.len r.prefix.len) (is_better r r) (is_better-itself r)) in
+    or_from (ltb r.prefix.base r.prefix.base) (eqb r.prefix.base r.prefix.base && below_then r.prefix.len r.prefix.len (is_better r r)) (le-ltb r.prefix.base r.prefix.base (omega arith))
+    (and_right (eqb r.prefix.base r.prefix.base) (below_then r.prefix.len r.prefix.len (is_better r r)) len)
+
+-- where r precedes s, s does not precede r
+pub precedes-flip : (r s : Route) → precedes r s ≡ true → precedes s r ≡ false
+precedes-flip r s e =
+    false_from_ne_true (precedes s r) (λ back. both_ways (precedes r r) (precedes-itself r) (precedes-trans r s r e back))
+
+-- a route before one of an earlier prefix is of an earlier prefix
+pub is_earlier-before : (base len : ℕ) (r s : Route) → precedes r s ≡ true → is_earlier base len s ≡ true → is_earlier base len r ≡ true
+is_earlier-before base len r s =
+    below_then-trans r.prefix.base s.prefix.base base (below_then r.prefix.len s.prefix.len (is_better r s)) (ltb s.prefix.len len) (ltb r.prefix.len len)
+    (λ x y.
+    let less = ltb-true s.prefix.len len y in
+    elim (below_then-true r.prefix.len s.prefix.len (is_better r s) x) [
+      | inl l ↦ lt-ltb r.prefix.len len (omega arith)
+      | inr same ↦ let l = same.0 in lt-ltb r.prefix.len len (omega arith)
+    ])
+
+-- a route of an earlier prefix stands before every route of this one
+pub is_earlier-precedes : (r s : Route) → is_earlier s.prefix.base s.prefix.len r ≡ true → precedes r s ≡ true
+is_earlier-precedes r s e =
+    elim (below_then-true r.prefix.base s.prefix.base (ltb r.prefix.len s.prefix.len) e) [
+      | inl less ↦ below_then-less r.prefix.base s.prefix.base (below_then r.prefix.len s.prefix.len (is_better r s)) less
+      | inr same ↦
+          below_then-same r.prefix.base s.prefix.base (below_then r.prefix.len s.prefix.len (is_better r s)) same.0
+          (below_then-less r.prefix.len s.prefix.len (is_better r s) (ltb-true r.prefix.len s.prefix.len same.1))
+    ]

@@ -1,0 +1,125 @@
+-- Lists of routes as the sets of what they contain.
+use Rattle.std.proofs.Common.{◌≡◌, ℕ, zero, suc, ◌<◌, Bool, true, false, cond, not, ◌⊎◌, inl, inr, List, [], ◌∷◌, length, get_or, refl, ap, ◌∙◌, sym, subst, arith}
+use Rattle.std.proofs.lemmas.Bool.{cases_Bool, cond-true, cond-false, both_ways, not-true, not_from_false}
+use Rattle.std.proofs.lemmas.List.Elements.{All-contains, Contains-append_left, Contains-append_right, Contains-append_cases}
+use Rattle.std.specs.List.{AllPairs, Contains, filter}
+use Rattle.rt_rib.specs.declared.routes.Route.{Route}
+use Rattle.rt_rib.specs.Table.{precedes, is_of}
+use Rattle.rt_rib.specs.Laws.{PutInAdds, TakeOutLeavesOthers, OneTableOfSet}
+use Rattle.rt_rib.proofs.Lists.{AllPairs-head, AllPairs-tail}
+use Rattle.rt_rib.proofs.Order.{precedes-itself, precedes-flip}
+use Rattle.rt_rib.proofs.Tables.{Ordered}
+
+module _ {X : Type 0} where
+  -- a list contains its first element
+  pub Contains-head : (x : X) (xs : List X) → Contains (x ∷ xs) x
+  Contains-head x xs = (0, omega arith, refl)
+
+  -- and what the others contain
+  pub Contains-tail : (y : X) (xs : List X) (x : X) → Contains xs x → Contains (y ∷ xs) x
+  Contains-tail y xs x c = (suc c.0, (let l = c.1 in omega arith), c.2)
+
+  -- what a list contains is its first element, or the others contain it
+  pub Contains-cases : (y : X) (xs : List X) (x : X) → Contains (y ∷ xs) x → (y ≡ x) ⊎ Contains xs x
+  Contains-cases y xs x c = place y xs x c.0 c.1 c.2 where
+    -- by its place
+    place : (y : X) (xs : List X) (x : X) (k : ℕ) → k < length (y ∷ xs) → get_or (y ∷ xs) k x ≡ x → (y ≡ x) ⊎ Contains xs x
+    place y xs x zero l e = inl e
+    place y xs x (suc k) l e = inr (k, omega arith, e)
+
+  -- the empty list contains nothing
+  pub Contains-none : (x : X) → Contains [] x → ⊥
+  Contains-none x c = let l = c.1 in omega arith
+
+  -- a filter keeps what passes
+  pub filter-keeps : (p : X → Bool) (xs : List X) (x : X) → Contains xs x → p x ≡ true → Contains (filter p xs) x
+  filter-keeps p [] x c e = absurd (Contains-none x c)
+  filter-keeps p (y ∷ xs) x c e =
+      elim (Contains-cases y xs x c) [
+        | inl same ↦
+            let passes : p y ≡ true = ap p same ∙ e in
+            subst (λ l. Contains l x) (sym (cond-true (p y) (y ∷ filter p xs) (filter p xs) passes)) (subst (λ z. Contains (z ∷ filter p xs) x) (sym same) (Contains-head x (filter p xs)))
+        | inr later ↦
+            let rest = filter-keeps p xs x later e in
+            elim (p y) as (λ b. Contains (cond b (y ∷ filter p xs) (filter p xs)) x) [ true ↦ Contains-tail y (filter p xs) x rest | false ↦ rest ]
+      ]
+
+  -- what a filter has kept was there, and passes
+  pub filter-from : (p : X → Bool) (xs : List X) (x : X) → Contains (filter p xs) x → Contains xs x × (p x ≡ true)
+  filter-from p [] x c = absurd (Contains-none x c)
+  filter-from p (y ∷ xs) x c =
+      elim (cases_Bool (p y)) [
+        | inl passes ↦
+            elim (Contains-cases y (filter p xs) x (subst (λ l. Contains l x) (cond-true (p y) (y ∷ filter p xs) (filter p xs) passes) c)) [
+              | inl same ↦ (subst (λ z. Contains (z ∷ xs) x) (sym same) (Contains-head x xs), ap p (sym same) ∙ passes)
+              | inr later ↦ let rest = filter-from p xs x later in (Contains-tail y xs x rest.0, rest.1)
+            ]
+        | inr fails ↦
+            let rest = filter-from p xs x (subst (λ l. Contains l x) (cond-false (p y) (y ∷ filter p xs) (filter p xs) fails) c) in
+            (Contains-tail y xs x rest.0, rest.1)
+      ]
+
+-- the set with one route more
+pub put_in_adds : PutInAdds
+put_in_adds r x table =
+    let early = λ (s : Route). precedes s r in
+    let late = λ (s : Route). not (precedes s r) in (
+      (λ c. elim (Contains-append_cases (filter early table) (r ∷ filter late table) x c) [
+        | inl front ↦ inl (filter-from early table x front).0
+        | inr back ↦ elim (Contains-cases r (filter late table) x back) [ inl same ↦ inr same | inr later ↦ inl (filter-from late table x later).0 ]
+      ]),
+      (λ c. elim c [
+        | inl old ↦
+            elim (cases_Bool (precedes x r)) [
+              | inl first ↦ Contains-append_left (filter early table) (r ∷ filter late table) x (filter-keeps early table x old first)
+              | inr after ↦
+                  Contains-append_right (filter early table) (r ∷ filter late table) x
+                  (Contains-tail r (filter late table) x (filter-keeps late table x old (not_from_false (precedes x r) after)))
+            ]
+        | inr same ↦ Contains-append_right (filter early table) (r ∷ filter late table) x (subst (λ z. Contains (z ∷ filter late table) x) (sym same) (Contains-head x (filter late table)))
+      ]),
+    )
+
+-- the set without a feed's route to a prefix
+pub take_out_leaves_others : TakeOutLeavesOthers
+take_out_leaves_others feed prefix x table =
+    let other = λ (s : Route). not (is_of feed prefix s) in (
+      (λ c. let both = filter-from other table x c in (both.0, not-true (is_of feed prefix x) both.1)),
+      (λ c. filter-keeps other table x c.0 (not_from_false (is_of feed prefix x) c.1)),
+    )
+
+-- the first of a table precedes whatever else it contains
+precedes-rest : (x : Route) (t : List Route) (y : Route) → AllPairs Ordered (x ∷ t) → Contains t y → precedes x y ≡ true
+precedes-rest x t y h c = All-contains (Ordered x) t y (AllPairs-head Ordered x t h) c
+
+-- two lists in dump order that contain the same routes
+ordered_once : (t u : List Route) → AllPairs Ordered t → AllPairs Ordered u → ((x : Route) → Contains t x → Contains u x) → ((x : Route) → Contains u x → Contains t x) → t ≡ u
+ordered_once [] [] h k to from = refl
+ordered_once [] (y ∷ u) h k to from = absurd (Contains-none y (from y (Contains-head y u)))
+ordered_once (x ∷ t) [] h k to from = absurd (Contains-none x (to x (Contains-head x t)))
+ordered_once (x ∷ t) (y ∷ u) h k to from =
+    let same : y ≡ x =
+    elim (Contains-cases y u x (to x (Contains-head x t))) [
+      | inl here ↦ here
+      | inr later ↦
+          elim (Contains-cases x t y (from y (Contains-head y u))) [
+            | inl also ↦ sym also
+            | inr behind ↦ absurd (both_ways (precedes x y) (precedes-flip y x (precedes-rest y u x k later)) (precedes-rest x t y h behind))
+          ]
+    ] in
+    let k' : AllPairs Ordered (x ∷ u) = subst (λ z. AllPairs Ordered (z ∷ u)) same k in
+    let rest =
+    ordered_once t u (AllPairs-tail Ordered x t h) (AllPairs-tail Ordered x u k')
+    (λ z c. elim (Contains-cases y u z (to z (Contains-tail x t z c))) [
+      | inl head ↦ absurd (both_ways (precedes x x) (precedes-itself x) (subst (λ w. precedes x w ≡ true) (sym head ∙ same) (precedes-rest x t z h c)))
+      | inr later ↦ later
+    ])
+    (λ z c. elim (Contains-cases x t z (from z (Contains-tail y u z c))) [
+      | inl head ↦ absurd (both_ways (precedes x x) (precedes-itself x) (subst (λ w. precedes x w ≡ true) (sym head) (precedes-rest x u z k' c)))
+      | inr later ↦ later
+    ]) in
+    ap (λ z. x ∷ z) rest ∙ ap (λ z. z ∷ u) (sym same)
+
+-- so a set has one table
+pub one_table_of_set : OneTableOfSet
+one_table_of_set t u h k same = ordered_once t u h.ordered k.ordered (λ x. (same x).0) (λ x. (same x).1)

@@ -1,0 +1,80 @@
+-- What the sequential table says of each command, case by case.
+use Rattle.std.proofs.Common.{◌≡◌, ℕ, ◌<◌, ◌≤◌, Bool, true, false, List, Some, None, Option, refl, sym, ◌∙◌, length}
+use Rattle.std.specs.Prelude.{MatchOption, is_some}
+use Rattle.std.specs.List.{HoldsAt}
+use Rattle.std.proofs.lemmas.Bool.{le-leb, lt-leb}
+use Rattle.rt_cidr.specs.declared.address.Addr.{Addr}
+use Rattle.rt_cidr.specs.declared.prefixes.Prefix.{Prefix}
+use Rattle.rt_rib.specs.declared.routes.Route.{Route}
+use Rattle.rt_rib.specs.declared.commands.Cmd.TheVariants.{Add, Replace, Withdraw, Lookup, Dump}
+use Rattle.rt_rib.specs.declared.commands.Reply.TheVariants.{Added, Exists, Full, Replaced, Withdrawn, Missing, Found, NoRoute, Dumped}
+use Rattle.rt_rib.specs.Table.{has, is_of, count_of, put_in, take_out}
+use Rattle.rt_rib.specs.LookUp.{look_up}
+use Rattle.rt_rib.specs.Sequential.{reply_of, after}
+use Rattle.rt_rib.specs.Kept.{Held, Serves}
+use Rattle.rt_rib.proofs.Lists.{list_any-holds}
+
+-- a limit and routes
+abbrev pub held : ℕ → List Route → Held
+held limit t = record { limit = limit; routes = t }
+
+-- what a search for the feed's route says
+pub has-place : (feed : ℕ) (p : Prefix) (t : List Route) (o : Option ℕ) → MatchOption o (has feed p t ≡ false) (λ i. (i < length t) × HoldsAt (λ r. is_of feed p r ≡ true) t i) → is_some o ≡ has feed p t
+has-place feed p t None none = sym none
+has-place feed p t (Some i) found = sym (list_any-holds (is_of feed p) t i found.0 found.1)
+
+-- the same with what the code asks of the search
+pub has-is : (feed : ℕ) (p : Prefix) (t : List Route) (o : Option ℕ) (b : Bool) → MatchOption o (has feed p t ≡ false) (λ i. (i < length t) × HoldsAt (λ r. is_of feed p r ≡ true) t i) → b ≡ is_some o → has feed p t ≡ b
+has-is feed p t o b search is = sym (is ∙ has-place feed p t o search)
+
+module _ (limit : ℕ) (t : List Route) (r : Route) where
+  -- an add to a feed that has the route
+  pub exists : has r.feed r.prefix t ≡ true → Serves (held limit t) (held limit t) r.feed (Add r.prefix r.pref r.hop) Exists
+  unfolding reply_of after
+  exists there = record { replied = rw there; left = rw there }
+
+  -- an add to a feed with as many routes as its limit
+  pub full : has r.feed r.prefix t ≡ false → limit ≤ count_of r.feed t → Serves (held limit t) (held limit t) r.feed (Add r.prefix r.pref r.hop) Full
+  unfolding reply_of after
+  full fresh many = let at = le-leb limit (count_of r.feed t) many in record { replied = rw (fresh, at); left = rw (fresh, at) }
+
+  -- any other add
+  pub added : has r.feed r.prefix t ≡ false → count_of r.feed t < limit → (u : List Route) → u ≡ put_in r t → Serves (held limit t) (held limit u) r.feed (Add r.prefix r.pref r.hop) Added
+  unfolding reply_of after
+  added fresh room u is = let at = lt-leb limit (count_of r.feed t) room in record { replied = rw (fresh, at); left = rw (is, fresh, at) }
+
+  -- a replacement of no route
+  pub unreplaced : has r.feed r.prefix t ≡ false → Serves (held limit t) (held limit t) r.feed (Replace r.prefix r.pref r.hop) Missing
+  unfolding reply_of after
+  unreplaced fresh = record { replied = rw fresh; left = rw fresh }
+
+  -- a replacement of a route
+  pub replaced : has r.feed r.prefix t ≡ true → (u : List Route) → u ≡ put_in r (take_out r.feed r.prefix t) → Serves (held limit t) (held limit u) r.feed (Replace r.prefix r.pref r.hop) Replaced
+  unfolding reply_of after
+  replaced there u is = record { replied = rw there; left = rw (is, there) }
+
+module _ (limit : ℕ) (t : List Route) (feed : ℕ) where
+  -- a withdrawal of no route
+  pub unwithdrawn : (p : Prefix) → has feed p t ≡ false → Serves (held limit t) (held limit t) feed (Withdraw p) Missing
+  unfolding reply_of after
+  unwithdrawn p fresh = record { replied = rw fresh; left = rw fresh }
+
+  -- a withdrawal of a route
+  pub withdrawn : (p : Prefix) → has feed p t ≡ true → (u : List Route) → u ≡ take_out feed p t → Serves (held limit t) (held limit u) feed (Withdraw p) Withdrawn
+  unfolding reply_of after
+  withdrawn p there u is = record { replied = rw there; left = rw (is, there) }
+
+  -- a look-up of an address that no prefix covers
+  pub unfound : (addr : Addr) → None ≡ look_up addr t → Serves (held limit t) (held limit t) feed (Lookup addr) NoRoute
+  unfolding reply_of after
+  unfound addr is = record { replied = rw (← is); left = refl }
+
+  -- a look-up of any other address
+  pub found : (addr : Addr) (r : Route) → Some r ≡ look_up addr t → Serves (held limit t) (held limit t) feed (Lookup addr) (Found r)
+  unfolding reply_of after
+  found addr r is = record { replied = rw (← is); left = refl }
+
+  -- a dump
+  pub dumped : Serves (held limit t) (held limit t) feed Dump (Dumped (length t))
+  unfolding reply_of after
+  dumped = record { replied = refl; left = refl }

@@ -1,0 +1,99 @@
+-- A route put into a table, or taken out, leaves a table.
+use Rattle.std.proofs.Common.{◌≡◌, ℕ, true, false, not, List, [], ◌∷◌, sym, arith}
+use Rattle.std.proofs.lemmas.Bool.{not-true, both_ways, false_from_ne_true}
+use Rattle.std.proofs.lemmas.List.Elements.{All-cons, All-filter, All-weaker, filter_passes}
+use Rattle.std.proofs.lemmas.List.Kept.{AllPairs-cons, AllPairs-filter}
+use Rattle.std.specs.List.{All, AllPairs, filter}
+use Rattle.rt_cidr.specs.declared.prefixes.Prefix.{Prefix}
+use Rattle.rt_rib.specs.declared.routes.Route.{Route}
+use Rattle.rt_rib.specs.Table.{precedes, is_of, has, put_in, take_out, IsTable}
+use Rattle.rt_rib.proofs.Lists.{AllPairs-append, AllPairs-split, All-join, list_any-none, list_any-from_none}
+use Rattle.rt_rib.proofs.Order.{precedes-trans, precedes-other, is_of-parts, is_of-from}
+
+-- the first stands before the second
+abbrev pub Ordered : Route → Route → Type 0
+Ordered r s = precedes r s ≡ true
+
+-- the first is not the second's feed's route to its prefix
+abbrev pub Apart : Route → Route → Type 0
+Apart r s = is_of s.feed s.prefix r ≡ false
+
+-- of two routes neither is the other's, or both are
+pub Apart-flip : (r s : Route) → Apart r s → Apart s r
+Apart-flip r s e =
+    false_from_ne_true (is_of r.feed r.prefix s) (λ same.
+    let parts = is_of-parts r.feed r.prefix s same in
+    both_ways (is_of s.feed s.prefix r) e (is_of-from s.feed s.prefix r (sym parts.0) (sym parts.1) (sym parts.2)))
+
+module _ (r : Route) (t : List Route) (fresh : has r.feed r.prefix t ≡ false) where
+  -- no route of the table is the new one's
+  others : All (λ s. is_of r.feed r.prefix s ≡ false) t
+  others = list_any-none (is_of r.feed r.prefix) t fresh
+
+  -- what does not precede it
+  abbrev after_it : List Route
+  after_it = filter (λ s. not (precedes s r)) t
+
+  -- what precedes it
+  abbrev before_it : List Route
+  before_it = filter (λ s. precedes s r) t
+
+  -- it precedes what does not precede it
+  behind : All (Ordered r) after_it
+  behind =
+      All-join (λ s. not (precedes s r) ≡ true) (λ s. is_of r.feed r.prefix s ≡ false) (Ordered r)
+      (λ s late other. precedes-other r s (not-true (precedes s r) late) other) after_it
+      (filter_passes (λ s. not (precedes s r)) t) (All-filter (λ s. not (precedes s r)) (λ s. is_of r.feed r.prefix s ≡ false) t others)
+
+  -- what precedes it precedes all that is behind
+  across : All (λ s. All (Ordered s) (r ∷ after_it)) before_it
+  across =
+      All-weaker (λ s. Ordered s r) (λ s. All (Ordered s) (r ∷ after_it))
+      (λ s e. All-cons (Ordered s) r after_it e (All-weaker (Ordered r) (Ordered s) (λ u. precedes-trans s r u e) after_it behind))
+      before_it (filter_passes (λ s. precedes s r) t)
+
+  -- so the order is kept
+  ordered_put_in : AllPairs Ordered t → AllPairs Ordered (put_in r t)
+  ordered_put_in h =
+      AllPairs-append Ordered before_it (r ∷ after_it) (AllPairs-filter Ordered (λ s. precedes s r) t h)
+      (AllPairs-cons Ordered r after_it behind (AllPairs-filter Ordered (λ s. not (precedes s r)) t h)) across
+
+  -- none of those before is of the feed and prefix of one behind
+  apart_across : AllPairs Apart t → All (λ s. All (Apart s) (r ∷ after_it)) before_it
+  apart_across h =
+      All-join (λ s. is_of r.feed r.prefix s ≡ false) (λ s. All (Apart s) after_it) (λ s. All (Apart s) (r ∷ after_it))
+      (λ s e rest. All-cons (Apart s) r after_it e rest) before_it
+      (All-filter (λ s. precedes s r) (λ s. is_of r.feed r.prefix s ≡ false) t others)
+      (AllPairs-split Apart Apart-flip (λ s. precedes s r) t h)
+
+  -- so no two are of one feed and prefix
+  single_put_in : AllPairs Apart t → AllPairs Apart (put_in r t)
+  single_put_in h =
+      AllPairs-append Apart before_it (r ∷ after_it) (AllPairs-filter Apart (λ s. precedes s r) t h)
+      (AllPairs-cons Apart r after_it
+      (All-weaker (λ s. is_of r.feed r.prefix s ≡ false) (Apart r) (λ s. Apart-flip s r) after_it
+      (All-filter (λ s. not (precedes s r)) (λ s. is_of r.feed r.prefix s ≡ false) t others))
+      (AllPairs-filter Apart (λ s. not (precedes s r)) t h))
+      (apart_across h)
+
+  -- a route put in, of a feed that had none to its prefix, leaves a table
+  pub IsTable-put_in : IsTable t → IsTable (put_in r t)
+  IsTable-put_in h = record { ordered = ordered_put_in h.ordered; single = single_put_in h.single }
+
+-- a route taken out leaves a table
+pub IsTable-take_out : (feed : ℕ) (p : Prefix) (t : List Route) → IsTable t → IsTable (take_out feed p t)
+IsTable-take_out feed p t h = record {
+  ordered = AllPairs-filter Ordered (λ r. not (is_of feed p r)) t h.ordered;
+  single = AllPairs-filter Apart (λ r. not (is_of feed p r)) t h.single;
+}
+
+-- no route is left of what was taken out
+pub has-take_out : (feed : ℕ) (p : Prefix) (t : List Route) → has feed p (take_out feed p t) ≡ false
+has-take_out feed p t =
+    list_any-from_none (is_of feed p) (take_out feed p t)
+    (All-weaker (λ r. not (is_of feed p r) ≡ true) (λ r. is_of feed p r ≡ false) (λ r. not-true (is_of feed p r)) (take_out feed p t)
+    (filter_passes (λ r. not (is_of feed p r)) t))
+
+-- no routes are a table
+pub IsTable-nil : IsTable []
+IsTable-nil = record { ordered = λ i j d l m. absurd (omega arith); single = λ i j d l m. absurd (omega arith) }

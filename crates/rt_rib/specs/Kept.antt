@@ -1,0 +1,37 @@
+-- What a table keeps beside its routes, and a book beside its journal.
+use Rattle.std.specs.Prelude.{◌≡◌, ℕ, ◌+◌, ◌<◌, ◌≤◌, List, length, sum, slice_index}
+use Rattle.rt_rib.specs.declared.routes.Route.{Route}
+use Rattle.rt_rib.specs.declared.commands.Cmd.{Cmd}
+use Rattle.rt_rib.specs.declared.commands.Reply.{Reply}
+use Rattle.rt_rib.specs.declared.commands.Entry.{Entry}
+use Rattle.rt_rib.specs.Table.{count_of, IsTable}
+use Rattle.rt_rib.specs.Sequential.{reply_of, after}
+use Rattle.rt_rib.specs.Journal.{left, IsLawful}
+use Rattle.rt_rib.specs.Book.{IsLimit}
+
+-- how many routes a feed may have, and the routes
+pub record Held : Type 0 where
+  pub limit : ℕ
+  pub routes : List Route
+
+-- the sequential table gives this reply to the command, and goes from the old routes to the new ones
+pub record Serves (old new : Held) (feed : ℕ) (cmd : Cmd) (reply : Reply) : Type 0 where
+  pub replied : reply ≡ reply_of old.limit old.routes feed cmd
+  pub left : new ≡ record old { routes = after old.limit old.routes feed cmd }
+
+-- for each feed, how many of the routes are its own: no more than the limit, and there are no others
+pub record AreCounts (limit : ℕ) (counts : List ℕ) (routes : List Route) : Type 0 where
+  pub each : (i : ℕ) → i < 64 → slice_index counts i ≡ count_of (i + 1) routes
+  pub within : (i : ℕ) → i < 64 → slice_index counts i ≤ limit
+  pub all : sum counts ≡ length routes
+
+-- the routes are a table, and the counts are theirs
+pub record IsCounted (limit : ℕ) (counts : List ℕ) (routes : List Route) : Type 0 where
+  pub limited : IsLimit limit
+  pub table : IsTable routes
+  pub counted : AreCounts limit counts routes
+
+-- the journal is lawful, and the routes are what it leaves
+pub record IsKept (held : Held) (journal : List Entry) : Type 0 where
+  pub lawful : IsLawful held.limit journal
+  pub kept : held.routes ≡ left held.limit journal

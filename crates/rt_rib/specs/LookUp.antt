@@ -1,0 +1,23 @@
+-- The look-up as three filters of a set (RFC 1812, section 5.2.4.3): Basic Match, Longest Match, and the vendor's policy.
+use Rattle.std.specs.Prelude.{not, nat_le, List, Option, filter, find}
+use Rattle.std.specs.List.{list_all}
+use Rattle.rt_cidr.specs.declared.address.Addr.{Addr}
+use Rattle.rt_cidr.specs.Prefix.{covers}
+use Rattle.rt_rib.specs.declared.routes.Route.{Route}
+use Rattle.rt_rib.specs.Table.{is_better}
+
+-- the routes whose prefix covers the address
+abbrev pub matching : Addr → List Route → List Route
+matching addr routes = filter (λ r. covers r.prefix addr) routes
+
+-- those of them that no other is longer than
+abbrev pub longest : List Route → List Route
+longest routes = filter (λ r. list_all (λ s. nat_le s.prefix.len r.prefix.len) routes) routes
+
+-- the one of them of least preference, and then of least feed, if there is any
+abbrev pub best : List Route → Option Route
+best routes = find (λ r. list_all (λ s. not (is_better s r)) routes) routes
+
+-- the best of the longest of those that match
+unfoldable pub look_up : Addr → List Route → Option Route
+look_up addr routes = best (longest (matching addr routes))

@@ -1,0 +1,31 @@
+-- The sequential table: what a command of a feed is answered, and which set it leaves.
+use Rattle.std.specs.Prelude.{ℕ, nat_le, if◌then◌else◌, List, length}
+use Rattle.std.specs.Option.{option_map_or}
+use Rattle.rt_rib.specs.declared.routes.Route.{Route}
+use Rattle.rt_rib.specs.declared.commands.Cmd.{Cmd}
+use Rattle.rt_rib.specs.declared.commands.Cmd.TheVariants.{Add, Replace, Withdraw, Lookup, Dump}
+use Rattle.rt_rib.specs.declared.commands.Reply.{Reply}
+use Rattle.rt_rib.specs.declared.commands.Reply.TheVariants.{Added, Exists, Full, Replaced, Withdrawn, Missing, Found, NoRoute, Dumped}
+use Rattle.rt_rib.specs.Table.{has, count_of, put_in, take_out}
+use Rattle.rt_rib.specs.LookUp.{look_up}
+
+-- what the command is answered, where a feed may have so many routes
+unfoldable pub reply_of : ℕ → List Route → ℕ → Cmd → Reply
+reply_of limit table feed (Add prefix pref hop) =
+    if has feed prefix table then Exists else if nat_le limit (count_of feed table) then Full else Added
+reply_of limit table feed (Replace prefix pref hop) = if has feed prefix table then Replaced else Missing
+reply_of limit table feed (Withdraw prefix) = if has feed prefix table then Withdrawn else Missing
+reply_of limit table feed (Lookup addr) = option_map_or Found (look_up addr table) NoRoute
+reply_of limit table feed Dump = Dumped (length table)
+
+-- the set that the command leaves
+unfoldable pub after : ℕ → List Route → ℕ → Cmd → List Route
+after limit table feed (Add prefix pref hop) =
+    if has feed prefix table then table else if nat_le limit (count_of feed table) then table
+    else put_in (record { prefix = prefix; feed = feed; pref = pref; hop = hop }) table
+after limit table feed (Replace prefix pref hop) =
+    if has feed prefix table then put_in (record { prefix = prefix; feed = feed; pref = pref; hop = hop }) (take_out feed prefix table)
+    else table
+after limit table feed (Withdraw prefix) = if has feed prefix table then take_out feed prefix table else table
+after limit table feed (Lookup addr) = table
+after limit table feed Dump = table

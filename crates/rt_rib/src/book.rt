@@ -1,0 +1,84 @@
+ghost use Rattle.std.specs.Prelude.{◌≡◌, [], IfOk, OnErr};
+ghost use Rattle.rt_rib.specs.Book.{IsLimit, IsFeed};
+
+use crate::commands::{Cmd, Entry, Reply};
+use crate::refused::Refused;
+use crate::routes::Route;
+use crate::table::Table;
+use std::alloc::Allocator;
+use std::marker::Model;
+
+/// A routing table with the journal of every command that it answered. Contracts see a book as its limit and its
+/// journal. The journal is lawful: each reply is the sequential table's, in the set of routes that the entries
+/// before it leave. The routes are the set that the whole journal leaves.
+#[derive(Drop)]
+pub struct Book<A: Allocator + Copy> {
+    table: Table<A>,
+    journal: Vec<Entry, A>,
+}
+
+impl<A: Allocator + Copy> Model for Book<A> {
+    ghost use Rattle.rt_rib.specs.Book.{Contents};
+
+    ghost Value = { Contents };
+
+    ghost use Rattle.rt_rib.specs.Kept.{IsKept};
+
+    ghost view = { λ b. record { limit = b.table.limit; journal = b.journal.items } };
+
+    ghost invariant = { λ b. IsKept b.table b.journal.items };
+}
+
+impl<A: Allocator + Copy> Book<A> {
+    ghost use Rattle.rt_rib.specs.Journal.{IsLawful};
+    ghost use Rattle.rt_rib.specs.Table.{IsTable};
+    ghost use Rattle.rt_rib.specs.Book.{table_of, Answers};
+
+    /// An empty book in which each feed may have so many routes. It takes no memory.
+    pub fn new(alloc: A, limit: u32) -> Book<A>
+        requires { IsLimit limit }
+        ensures { result ≡ record { limit = limit; journal = [] } }
+    {
+        Book {
+            table: Table::new(alloc, limit),
+            journal: Vec::new(alloc),
+        }
+    }
+
+    /// Answers a command of the feed and keeps command and reply as one entry at the journal's end. Every command may
+    /// want memory: M1 is `Refused`, and then routes and journal are as they were.
+    pub fn apply(&mut self, feed: u32, cmd: Cmd) -> Result<Reply, Refused>
+        requires { IsFeed feed }
+        ensures ok { IfOk result (λ reply. Answers self.old self.new feed cmd reply) }
+        ensures err { OnErr result (self.new ≡ self.old) }
+    {
+        self.journal.try_reserve(1)?;
+        let reply = self.table.apply(feed, cmd)?;
+        self.journal.push_reserved(Entry { feed, cmd, reply });
+        Ok(reply)
+    }
+
+    /// The routes in dump order: by base, then length, then preference, then feed.
+    pub fn table(&self) -> &[Route]
+        ensures routes { result.now ≡ table_of self.now }
+        ensures table { IsTable result.now }
+        ensures lawful { IsLawful self.now.limit self.now.journal }
+    {
+        self.table.routes()
+    }
+
+    /// A copy of `table` in memory of the allocator. M1: `Refused` where that memory was refused.
+    pub fn routes(&self, alloc: A) -> Result<Vec<Route, A>, Refused>
+        ensures { IfOk result (λ routes. routes.items ≡ table_of self.now) }
+    {
+        Ok(self.table.routes().to_vec(alloc)?)
+    }
+
+    /// Every answered command with its reply, in the order in which they were answered.
+    pub fn journal(&self) -> &[Entry]
+        ensures entries { result.now ≡ self.now.journal }
+        ensures lawful { IsLawful self.now.limit self.now.journal }
+    {
+        self.journal.as_slice()
+    }
+}

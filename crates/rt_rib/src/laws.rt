@@ -1,0 +1,41 @@
+//! What holds of every set of routes and of every journal. Each function is a theorem: calling it makes its clause
+//! known, and it does nothing.
+ghost use Rattle.rt_rib.specs.Laws.{PutInAdds, TakeOutLeavesOthers, OneTableOfSet, LeftByEntry, LawfulByEntry, LawfulIsDetermined, FeedsStandAlone};
+
+/// A table that a route is put into contains that route and what it contained.
+pub fn put_in_adds()
+    ensures { PutInAdds }
+{}
+
+/// A table that a feed's route to a prefix is taken out of contains the others that it contained.
+pub fn take_out_leaves_others()
+    ensures { TakeOutLeavesOthers }
+{}
+
+/// A set of routes is one table: dump order leaves no choice.
+pub fn one_table_of_set()
+    ensures { OneTableOfSet }
+{}
+
+/// What a journal leaves is a table. It is the empty one before the first entry, and each entry leaves what its
+/// command leaves.
+pub fn left_by_entry()
+    ensures { LeftByEntry }
+{}
+
+/// A journal is lawful where it was so before its last entry, and that entry's reply is the sequential table's in the
+/// set that the others leave.
+pub fn lawful_by_entry()
+    ensures { LawfulByEntry }
+{}
+
+/// The sequential table leaves no choice: lawful journals of the same commands are the same.
+pub fn lawful_is_determined()
+    ensures { LawfulIsDetermined }
+{}
+
+/// A feed's routes are those that its own entries alone would leave, and what it is answered to a command on its
+/// routes is what it would be answered from those.
+pub fn feeds_stand_alone()
+    ensures { FeedsStandAlone }
+{}

@@ -1,0 +1,19 @@
+use std::alloc::{AllocError, AllocFailed};
+use thiserror::Error;
+
+/// M1: memory was refused. What was asked has not been done, and nothing has changed.
+#[derive(Clone, Copy, PartialEq, Eq, Debug, Error)]
+#[error("memory was refused")]
+pub struct Refused;
+
+impl From<AllocError> for Refused {
+    fn from(_: AllocError) -> Refused {
+        Refused
+    }
+}
+
+impl<T: Drop> From<AllocFailed<T>> for Refused {
+    fn from(_: AllocFailed<T>) -> Refused {
+        Refused
+    }
+}

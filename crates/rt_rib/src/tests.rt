@@ -1,0 +1,305 @@
+ghost use Rattle.std.specs.Prelude.{◌<◌};
+
+mod plain;
+
+use crate::*;
+use linked_list_allocator::LocalHeap;
+use plain::Plain;
+use rt_cidr::{Addr, Prefix, TextFault};
+use std::alloc::{AllocError, Global};
+use std::test::Fail;
+
+/// The address of four octets.
+fn addr(a: u8, b: u8, c: u8, d: u8) -> Addr {
+    Addr(u32::from_be_bytes([a, b, c, d]))
+}
+
+fn add(prefix: Prefix, pref: u32, feed: u8) -> Cmd {
+    Cmd::Add {
+        prefix,
+        pref,
+        hop: addr(192, 0, 2, feed),
+    }
+}
+
+/// What takes only values that may be moved to another thread, as a lock that lends a book does.
+fn send<T: Send + Drop>(_value: T) {}
+
+#[test]
+fn worked_run(rt: HostRuntime) -> Result<(), Fail> {
+    let wide = Prefix::new(addr(10, 0, 0, 0).0, 8)?;
+    let narrow = Prefix::new(addr(10, 0, 0, 0).0, 16)?;
+    let other = Prefix::new(addr(11, 0, 0, 0).0, 8)?;
+    let inside = addr(10, 0, 0, 1);
+    let route = |prefix: Prefix, feed: u32, pref: u32, hop: u8| Route {
+        prefix,
+        feed,
+        pref,
+        hop: addr(192, 0, 2, hop),
+    };
+    let mut book = Book::new(rt.alloc(), 2);
+    assert_eq!(rt; book.apply(2, add(wide, 5, 2))?, Reply::Added);
+    assert_eq!(rt; book.apply(1, add(wide, 5, 1))?, Reply::Added);
+    assert_eq!(rt;
+        book.apply(3, Cmd::Lookup { addr: inside })?,
+        Reply::Found(route(wide, 1, 5, 1))
+    );
+    let replace = Cmd::Replace {
+        prefix: wide,
+        pref: 4,
+        hop: addr(192, 0, 2, 2),
+    };
+    assert_eq!(rt; book.apply(2, replace)?, Reply::Replaced);
+    assert_eq!(rt;
+        book.apply(3, Cmd::Lookup { addr: inside })?,
+        Reply::Found(route(wide, 2, 4, 2))
+    );
+    assert_eq!(rt;
+        book.apply(3, Cmd::Withdraw { prefix: wide })?,
+        Reply::Missing
+    );
+    assert_eq!(rt; book.apply(1, add(narrow, 9, 1))?, Reply::Added);
+    assert_eq!(rt; book.apply(1, add(other, 1, 1))?, Reply::Full);
+    assert_eq!(rt; book.apply(1, add(narrow, 1, 1))?, Reply::Exists);
+    assert_eq!(rt;
+        book.apply(2, Cmd::Lookup { addr: inside })?,
+        Reply::Found(route(narrow, 1, 9, 1))
+    );
+    assert_eq!(rt; book.apply(64, Cmd::Dump)?, Reply::Dumped(3));
+    assert_eq!(rt; book.journal().len(), 11);
+    let left = [
+        route(wide, 2, 4, 2),
+        route(wide, 1, 5, 1),
+        route(narrow, 1, 9, 1),
+    ];
+    assert_eq!(rt; book.routes(rt.alloc())?.as_slice(), left.as_slice());
+    assert_eq!(rt; book.table(), left.as_slice());
+    send(book);
+    Ok(())
+}
+
+/// Addresses that share few and many leading bits.
+const ADDRESSES: [u32; 6] = [
+    0x0a00_0000,
+    0x0a00_01ff,
+    0x0aff_ffff,
+    0x0b00_0001,
+    0x8000_0001,
+    0,
+];
+
+/// Lengths with the default route and both ends of a byte among them.
+const LENGTHS: [u8; 8] = [0, 1, 8, 9, 16, 24, 31, 32];
+
+/// Numbers by a linear congruence, the same in each run.
+#[derive(Drop)]
+struct Dice(u64);
+
+impl Dice {
+    /// A number below `sides`.
+    fn roll(&mut self, sides: usize) -> usize
+        requires { 0 < sides }
+        ensures { result < sides }
+    {
+        self.0 = self
+            .0
+            .wrapping_mul(6_364_136_223_846_793_005)
+            .wrapping_add(1_442_695_040_888_963_407);
+        (self.0 >> 33) as usize % sides
+    }
+
+    fn addr(&mut self) -> Addr {
+        Addr(ADDRESSES[self.roll(6)])
+    }
+
+    fn prefix(&mut self) -> Result<Prefix, TextFault> {
+        let len = LENGTHS[self.roll(8)].min(32);
+        let past = 32 - len;
+        let base = ((self.addr().0 as u64 >> past) << past) as u32;
+        Prefix::new(base, len)
+    }
+
+    fn cmd(&mut self) -> Result<Cmd, TextFault> {
+        let pref = self.roll(3) as u32;
+        let hop = self.addr();
+        Ok(match self.roll(10) {
+            0..=3 => Cmd::Add {
+                prefix: self.prefix()?,
+                pref,
+                hop,
+            },
+            4..=5 => Cmd::Replace {
+                prefix: self.prefix()?,
+                pref,
+                hop,
+            },
+            6 => Cmd::Withdraw {
+                prefix: self.prefix()?,
+            },
+            7..=8 => Cmd::Lookup { addr: self.addr() },
+            _ => Cmd::Dump,
+        })
+    }
+}
+
+/// The place of each kind of reply in a count.
+fn kind(reply: Reply) -> usize
+    ensures { result < 9 }
+{
+    match reply {
+        Reply::Added => 0,
+        Reply::Exists => 1,
+        Reply::Full => 2,
+        Reply::Replaced => 3,
+        Reply::Withdrawn => 4,
+        Reply::Missing => 5,
+        Reply::Found(_) => 6,
+        Reply::NoRoute => 7,
+        Reply::Dumped(_) => 8,
+    }
+}
+
+#[test]
+fn agrees_with_the_definition(rt: HostRuntime) -> Result<(), Fail> {
+    let feeds = [1u32, 2, 3, 64];
+    for limit in [1u32, 3, 20] {
+        let mut dice = Dice(limit as u64);
+        let mut book = Book::new(rt.alloc(), limit);
+        let mut plain = Plain::new(rt.alloc(), limit);
+        let mut kinds = [false; 9];
+        for step in 0..600u32 {
+            let feed = feeds[dice.roll(4)];
+            let cmd = dice.cmd()?;
+            assert!(rt; feed_ok(feed));
+            let reply = book.apply(feed, cmd)?;
+            assert_eq!(rt; reply, plain.apply(rt.alloc(), feed, cmd)?);
+            assert_eq!(rt;
+                book.journal().last().copied(),
+                Some(Entry { feed, cmd, reply })
+            );
+            kinds[kind(reply)] = true;
+            if step % 8 == 0 {
+                assert_eq!(rt; book.table(), plain.sorted()?.as_slice());
+            }
+        }
+        assert_eq!(rt; book.journal().len(), 600);
+        assert_eq!(rt;
+            book.routes(rt.alloc())?.as_slice(),
+            plain.sorted()?.as_slice()
+        );
+        // Each row of the table was reached; the full one where the limit is below the number of prefixes.
+        assert!(rt;
+            kinds
+                .iter()
+                .enumerate()
+                .all(|(kind, seen)| *seen || kind == 2 && limit == 20)
+        );
+    }
+    Ok(())
+}
+
+/// All the memory of the heap that is left, in blocks.
+fn hog<'a>(alloc: Global, heap: &'a LocalHeap) -> Result<Vec<Vec<u8, &'a LocalHeap>>, AllocError> {
+    let mut blocks = Vec::new(alloc);
+    for size in [1024, 128, 16] {
+        for _ in 0..4096u32 {
+            match Vec::with_capacity(heap, size) {
+                Ok(block) => blocks.push(block)?,
+                Err(_) => break,
+            }
+        }
+    }
+    Ok(blocks)
+}
+
+/// Takes up the room that the journal has left, with at most a hundred entries.
+fn fill(book: &mut Book<&LocalHeap>) {
+    for _ in 0..100u32 {
+        if book.apply(2, Cmd::Dump).is_err() {
+            return;
+        }
+    }
+}
+
+#[test]
+fn refused_memory_changes_nothing(rt: HostRuntime) -> Result<(), Fail> {
+    let wide = Prefix::new(addr(10, 0, 0, 0).0, 8)?;
+    let narrow = Prefix::new(addr(10, 0, 0, 0).0, 16)?;
+    let cmds = [
+        (add(narrow, 2, 1), Reply::Added),
+        (
+            Cmd::Replace {
+                prefix: wide,
+                pref: 1,
+                hop: addr(192, 0, 2, 9),
+            },
+            Reply::Replaced,
+        ),
+        (Cmd::Withdraw { prefix: wide }, Reply::Withdrawn),
+        (
+            Cmd::Lookup {
+                addr: addr(11, 0, 0, 0),
+            },
+            Reply::NoRoute,
+        ),
+        (Cmd::Dump, Reply::Dumped(1)),
+    ];
+    for (cmd, ample) in cmds {
+        let heap = LocalHeap::new(rt.alloc(), 65_536)?;
+        let mut book = Book::new(&heap, 5);
+        assert_eq!(rt; book.apply(1, add(wide, 5, 1)), Ok(Reply::Added));
+        let rest = hog(rt.alloc(), &heap)?;
+        fill(&mut book);
+        let entries = book.journal().len();
+        assert!(rt; entries < 100);
+        assert_eq!(rt; book.apply(1, cmd), Err(Refused));
+        assert_eq!(rt; book.journal().len(), entries);
+        assert_eq!(rt;
+            book.table(),
+            [Route {
+                prefix: wide,
+                feed: 1,
+                pref: 5,
+                hop: addr(192, 0, 2, 1)
+            }]
+            .as_slice()
+        );
+        assert!(rt; book.routes(&heap).is_err());
+        drop(rest);
+        assert_eq!(rt; book.apply(1, cmd), Ok(ample));
+        assert_eq!(rt; book.journal().len(), entries + 1);
+        assert!(rt; book.routes(&heap).is_ok());
+    }
+    Ok(())
+}
+
+#[test]
+fn refused_room_for_a_route_makes_no_entry(rt: HostRuntime) -> Result<(), Fail> {
+    let heap = LocalHeap::new(rt.alloc(), 65_536)?;
+    let mut book = Book::new(&heap, 100);
+    assert_eq!(rt; book.apply(64, Cmd::Dump), Ok(Reply::Dumped(0)));
+    for first in 0..4u8 {
+        let prefix = Prefix::new(addr(first, 0, 0, 0).0, 8)?;
+        assert_eq!(rt; book.apply(1, add(prefix, 1, 1)), Ok(Reply::Added));
+    }
+    let rest = hog(rt.alloc(), &heap)?;
+    // The list of routes is full and the journal is not.
+    let next = Prefix::new(addr(200, 0, 0, 0).0, 8)?;
+    assert_eq!(rt; book.apply(1, add(next, 1, 1)), Err(Refused));
+    assert_eq!(rt; book.journal().len(), 5);
+    assert_eq!(rt; book.apply(1, Cmd::Dump), Ok(Reply::Dumped(4)));
+    drop(rest);
+    assert_eq!(rt; book.apply(1, add(next, 1, 1)), Ok(Reply::Added));
+    assert_eq!(rt; book.journal().len(), 7);
+    Ok(())
+}
+
+#[test]
+fn limits_and_feeds(rt: HostRuntime) {
+    for (limit, fits) in [(0, false), (1, true), (1_000_000, true), (1_000_001, false)] {
+        assert_eq!(rt; limit_ok(limit), fits);
+    }
+    for (feed, fits) in [(0, false), (1, true), (64, true), (65, false)] {
+        assert_eq!(rt; feed_ok(feed), fits);
+    }
+}
