@@ -1,0 +1,45 @@
+-- Cutting a list of bytes at the first one of some value.
+use Rattle.std.proofs.Common.{◌≡◌, ◌≢◌, ℕ, ◌+◌, ◌<◌, List, ◌∷◌, length, take, drop, slice_index_or, All, Option, Some, None, Bor, arith, eqb, refl, add-one, length-take, false}
+use Rattle.std.proofs.lemmas.List.{get_or-take}
+use Rattle.std.proofs.lemmas.Bool.{ne_eqb}
+use Rattle.std.proofs.lemmas.List.Elements.{All-weaker, All-from_get_or}
+use Rattle.std.proofs.lemmas.List.Splits.{slice_split_at, slice_split_none, length-slice_split}
+use Rattle.std.proofs.Math.Seq.{split_at}
+use Rattle.rt_feed.specs.Lines.{CutsAt}
+use Rattle.rt_feed.specs.Grammar.{fields, fields_left}
+
+-- what stands before a place has no mark where none of the places before it has one
+unmarked-take : (text : List ℕ) (mark at : ℕ) → at < length text → ((k : ℕ) → k < at → slice_index_or text k 0 ≢ mark)
+    → All (λ byte. byte ≢ mark) (take at text)
+unmarked-take text mark at here none = All-from_get_or (λ byte. byte ≢ mark) (take at text) 0
+    (λ k short. let below : k < at = omega (arith, length-take at text) in rw get_or-take (none k below))
+
+-- the first place of the mark cuts the text there
+pub cuts_at_first : (text : List ℕ) (mark at : ℕ) → at < length text → slice_index_or text at 0 ≡ mark
+    → ((k : ℕ) → k < at → slice_index_or text k 0 ≢ mark)
+    → (rest : Bor (List ℕ)) → rest.now ≡ drop (at + 1) text → CutsAt mark text (take at text) (Some rest)
+cuts_at_first text mark at here is none rest is_rest = record {
+  unmarked = unmarked-take text mark at here none;
+  joined = rw (is_rest, add-one, ← is) (split_at text at 0 here);
+}
+
+-- a text without the mark is its own first part
+pub cuts_nowhere : (text : List ℕ) (mark : ℕ) → ((k : ℕ) → k < length text → slice_index_or text k 0 ≢ mark) → CutsAt mark text text None
+cuts_nowhere text mark none = record { unmarked = All-from_get_or (λ byte. byte ≢ mark) text 0 none; joined = refl }
+
+-- the fields of a text that is cut at its first space
+pub fields-cut : (text first : List ℕ) (rest : Option (Bor (List ℕ))) → CutsAt 32 text first rest → fields text ≡ first ∷ fields_left rest
+fields-cut text first None cut =
+    rw cut.joined (slice_split_none (λ byte. eqb byte 32) first (All-weaker (λ byte. byte ≢ 32) (λ byte. eqb byte 32 ≡ false) (λ byte ne. ne_eqb byte 32 ne) first cut.unmarked))
+fields-cut text first (Some rest) cut =
+    rw cut.joined (slice_split_at (λ byte. eqb byte 32) first 32 rest.now (All-weaker (λ byte. byte ≢ 32) (λ byte. eqb byte 32 ≡ false) (λ byte ne. ne_eqb byte 32 ne) first cut.unmarked) refl)
+
+-- a text has at least one field
+pub fields-nonempty : (text : List ℕ) → 0 < length (fields text)
+fields-nonempty text = omega (arith, length-slice_split (λ byte. eqb byte 32) text)
+
+-- a text that is cut at a space has more fields than one
+pub fields-more : (parts : List (List ℕ)) (first : List ℕ) (rest : Option (Bor (List ℕ))) (more : Bor (List ℕ))
+    → parts ≡ first ∷ fields_left rest → rest ≡ Some more → length parts ≢ 1
+fields-more parts first rest more cut is one =
+    let count = rw (cut, is) at one in let some = fields-nonempty more.now in omega (arith, count, some)

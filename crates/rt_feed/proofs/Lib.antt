@@ -1,0 +1,5 @@
+pub mod Cutting
+pub mod Telling
+pub mod Printing
+pub mod OneAnswer
+pub mod OneCut

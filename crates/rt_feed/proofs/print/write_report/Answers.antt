@@ -1,0 +1,12 @@
+use Rattle.std.proofs.Common.{[]}
+use Rattle.std.proofs.lemmas.Result.{err_from_is_err_and}
+use Rattle.rt_feed.specs.Printed.{line_text}
+use Rattle.rt_feed.proofs.Printing.{begins_all}
+use Rattle.rt_feed.proofs.print.write_report.Goals as goal
+
+pub returns-in_err-write_line-clause-err : goal.returns-in_err-write_line-clause-err
+returns-in_err-write_line-clause-err g c =
+    let fault = err_from_is_err_and c.from_residual.result c.from_residual.ensures.1 in
+    rw (fault.1, ← c.lines-line-items.ensures.lines)
+    (begins_all _ _ _ [] (line_text c.args.feed) _ c.loop-line.line-index c.line-item.result c.loop-line-test.true c.line-item.is
+    c.loop-line.invariant c.in_err-write_line.ensures.err)

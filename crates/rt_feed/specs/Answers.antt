@@ -1,0 +1,30 @@
+-- The lines of a report: in which order they stand, and whether one of them tells of a refusal or a fault.
+use Rattle.std.specs.Prelude.{◌<◌, Bool, true, false, List, AllPairs}
+use Rattle.std.specs.List.{list_any}
+use Rattle.rt_feed.specs.declared.report.Line.{Line}
+use Rattle.rt_feed.specs.declared.report.Answer.{Answer}
+use Rattle.rt_feed.specs.declared.report.Answer.TheVariants.{Did, Refused, Fault}
+
+-- each line has a smaller number than every later one
+abbrev pub IsRising : List Line → Type 0
+IsRising lines = AllPairs (λ (earlier later : Line). earlier.number < later.number) lines
+
+-- a command was refused for want of memory
+abbrev pub is_refusal : Answer → Bool
+is_refusal (Did reply) = false
+is_refusal Refused = true
+is_refusal (Fault fault) = false
+
+-- a line was faulty
+abbrev pub is_fault : Answer → Bool
+is_fault (Did reply) = false
+is_fault Refused = false
+is_fault (Fault fault) = true
+
+-- some command was refused
+abbrev pub has_refusal : List Line → Bool
+has_refusal lines = list_any (λ (line : Line). is_refusal line.answer) lines
+
+-- some line was faulty
+abbrev pub has_fault : List Line → Bool
+has_fault lines = list_any (λ (line : Line). is_fault line.answer) lines

@@ -1,0 +1,68 @@
+-- The texts that are written: routes, answers, the lines of a report, the table. A printed line ends with LF (10).
+use Rattle.std.specs.Prelude.{ℕ, List, [], ◌∷◌, ◌++◌, length, codes, decimal}
+use Rattle.std.specs.List.{flat_map}
+use Rattle.rt_cidr.specs.Text.{address_text, prefix_text}
+use Rattle.rt_rib.specs.declared.routes.Route.{Route}
+use Rattle.rt_rib.specs.declared.commands.Reply.{Reply}
+use Rattle.rt_rib.specs.declared.commands.Reply.TheVariants.{Added, Exists, Full, Replaced, Withdrawn, Missing, Found, NoRoute, Dumped}
+use Rattle.rt_feed.specs.declared.parse.LineFault.{LineFault}
+use Rattle.rt_feed.specs.declared.parse.LineFault.TheVariants as fault
+use Rattle.rt_feed.specs.declared.report.Line.{Line}
+use Rattle.rt_feed.specs.declared.report.Answer.{Answer}
+use Rattle.rt_feed.specs.declared.report.Answer.TheVariants.{Did, Refused, Fault}
+
+-- `PREFIX feed F pref P via HOP`
+unfoldable pub route_text : Route → List ℕ
+route_text route =
+    prefix_text route.prefix.base route.prefix.len ++ (codes " feed " ++ (decimal route.feed ++
+    (codes " pref " ++ (decimal route.pref ++ (codes " via " ++ address_text route.hop.0)))))
+
+-- the reply to a command
+unfoldable pub reply_text : Reply → List ℕ
+reply_text Added = codes "added"
+reply_text Exists = codes "exists"
+reply_text Full = codes "full"
+reply_text Replaced = codes "replaced"
+reply_text Withdrawn = codes "withdrawn"
+reply_text Missing = codes "missing"
+reply_text (Found route) = codes "route " ++ route_text route
+reply_text NoRoute = codes "no route"
+reply_text (Dumped count) = codes "dumped " ++ decimal count
+
+-- E1 to E8
+unfoldable pub fault_text : LineFault → List ℕ
+fault_text fault.Command = codes "fault E1"
+fault_text fault.FieldCount = codes "fault E2"
+fault_text fault.Text = codes "fault E3"
+fault_text fault.PrefixLength = codes "fault E4"
+fault_text fault.PrefixBits = codes "fault E5"
+fault_text fault.Preference = codes "fault E6"
+fault_text fault.Hop = codes "fault E7"
+fault_text fault.LineLength = codes "fault E8"
+
+-- what a line was answered
+unfoldable pub answer_text : Answer → List ℕ
+answer_text (Did reply) = reply_text reply
+answer_text Refused = codes "refused"
+answer_text (Fault fault) = fault_text fault
+
+-- `FEED:LINE ` and the answer
+unfoldable pub line_text : ℕ → Line → List ℕ
+line_text feed line =
+    decimal feed ++ (codes ":" ++ (decimal line.number ++ (codes " " ++ (answer_text line.answer ++ 10 ∷ []))))
+
+-- a feed's report: its lines in order
+abbrev pub report_text : ℕ → List Line → List ℕ
+report_text feed lines = flat_map (line_text feed) lines
+
+-- a route of the table
+unfoldable pub row_text : Route → List ℕ
+row_text route = route_text route ++ 10 ∷ []
+
+-- the table's first line
+unfoldable pub count_text : ℕ → List ℕ
+count_text count = codes "table " ++ (decimal count ++ 10 ∷ [])
+
+-- the table: `table COUNT`, and then the routes in order
+abbrev pub table_text : List Route → List ℕ
+table_text routes = count_text (length routes) ++ flat_map row_text routes

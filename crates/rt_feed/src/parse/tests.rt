@@ -1,0 +1,97 @@
+use super::*;
+use crate::lines::next_line;
+use std::test::Fail;
+
+#[test]
+fn tells_the_first_fault(rt: HostRuntime) {
+    let faulty: [(&[u8], LineFault); 27] = [
+        (b"frob", LineFault::Command),
+        (b" dump", LineFault::Command),
+        (b"ADD 10.0.0.0/8 1 192.0.2.1", LineFault::Command),
+        (&[b'x'; 128], LineFault::Command),
+        (b"dump x", LineFault::FieldCount),
+        (b"dump ", LineFault::FieldCount),
+        (b"add", LineFault::FieldCount),
+        (b"add 10.0.0.0/8 1", LineFault::FieldCount),
+        (b"add 10.0.0.0/8 1 192.0.2.1 ", LineFault::FieldCount),
+        (b"add  10.0.0.0/8 1 192.0.2.1", LineFault::FieldCount),
+        (b"withdraw", LineFault::FieldCount),
+        (b"withdraw 10.0.0.0/8 ", LineFault::FieldCount),
+        (b"add 010.0.0.0/8 1 192.0.2.1", LineFault::Text),
+        (b"add 10.0.0/8 1 192.0.2.1", LineFault::Text),
+        (b"add 10.0.0.0/08 1 192.0.2.1", LineFault::Text),
+        (b"lookup 1.2.3.4.5", LineFault::Text),
+        (b"lookup 1.2.3.4\r", LineFault::Text),
+        (b"lookup 10.0.0.0/8", LineFault::Text),
+        (b"add 10.0.0.0/33 1 192.0.2.1", LineFault::PrefixLength),
+        (b"add 10.0.0.1/33 x y", LineFault::PrefixLength),
+        (b"add 10.0.0.1/8 1 192.0.2.1", LineFault::PrefixBits),
+        (b"replace 10.0.0.1/8 x y", LineFault::PrefixBits),
+        (
+            b"add 10.0.0.0/8 4294967296 192.0.2.1",
+            LineFault::Preference,
+        ),
+        (b"add 10.0.0.0/8 01 256.0.0.1", LineFault::Preference),
+        (b"add 10.0.0.0/8 4294967295 256.0.0.1", LineFault::Hop),
+        (&[b'x'; 129], LineFault::LineLength),
+        (&[b'#'; 129], LineFault::LineLength),
+    ];
+    for (line, fault) in faulty {
+        assert_eq!(rt; parse_line(line), Err(fault), "at {line:?}");
+    }
+}
+
+#[test]
+fn skips_empty_lines_and_comments(rt: HostRuntime) {
+    let skipped: [&[u8]; 4] = [b"", b"#", b"# note", &[b'#'; 128]];
+    for line in skipped {
+        assert_eq!(rt; parse_line(line), Ok(None), "at {line:?}");
+    }
+}
+
+#[test]
+fn reads_each_command(rt: HostRuntime) -> Result<(), Fail> {
+    let prefix = Prefix::new(167772160, 8)?;
+    let hop = Addr(3221225985);
+    let pref = 4294967295;
+    let commands: [(&[u8], Cmd); 6] = [
+        (
+            b"add 10.0.0.0/8 4294967295 192.0.2.1",
+            Cmd::Add { prefix, pref, hop },
+        ),
+        (
+            b"add 10.0.0.0/8 0 192.0.2.1",
+            Cmd::Add {
+                prefix,
+                pref: 0,
+                hop,
+            },
+        ),
+        (
+            b"replace 10.0.0.0/8 4294967295 192.0.2.1",
+            Cmd::Replace { prefix, pref, hop },
+        ),
+        (b"withdraw 10.0.0.0/8", Cmd::Withdraw { prefix }),
+        (b"lookup 192.0.2.1", Cmd::Lookup { addr: hop }),
+        (b"dump", Cmd::Dump),
+    ];
+    for (line, cmd) in commands {
+        assert_eq!(rt; parse_line(line), Ok(Some(cmd)), "at {line:?}");
+    }
+    Ok(())
+}
+
+#[test]
+fn one_byte_is_no_command(rt: HostRuntime) -> Result<(), Fail> {
+    for byte in 0..=u8::MAX {
+        let text = [byte];
+        let (line, left) = next_line(&text).ok_or("a line is missing")?;
+        let answer = match byte {
+            b'\n' | b'#' => Ok(None),
+            _ => Err(LineFault::Command),
+        };
+        assert!(rt; left.is_empty());
+        assert_eq!(rt; parse_line(line), answer, "at {byte}");
+    }
+    Ok(())
+}

@@ -1,0 +1,235 @@
+use super::*;
+use crate::report::tests::report_of;
+use rt_cidr::{Addr, Prefix, TextFault};
+use std::alloc::Global;
+use std::io::ErrorKind;
+use std::test::Fail;
+
+/// A route of feed 1.
+fn route(prefix: &[u8], pref: u32, hop: &[u8]) -> Result<Route, TextFault> {
+    Ok(Route {
+        prefix: Prefix::parse(prefix)?,
+        feed: 1,
+        pref,
+        hop: Addr::parse(hop)?,
+    })
+}
+
+/// Writes the report as feed 1's, and then the table.
+fn write_both<W: Write>(w: &mut W, report: &Report, routes: &[Route]) -> io::Result<()> {
+    write_report(w, 1, report)?;
+    write_table(w, routes)
+}
+
+/// What that prints.
+fn printed(alloc: Global, answers: &[Answer], routes: &[Route]) -> Result<Vec<u8>, Fail> {
+    let mut out = Vec::new(alloc);
+    write_both(&mut out, &report_of(alloc, answers)?, routes)?;
+    Ok(out)
+}
+
+#[test]
+fn prints_a_route_that_was_found(rt: HostRuntime) -> Result<(), Fail> {
+    let alloc = rt.alloc();
+    let ten = route(b"10.0.0.0/8", 100, b"192.0.2.1")?;
+    let answers = [Answer::Did(Reply::Added), Answer::Did(Reply::Found(ten))];
+    let text = b"1:1 added
+1:2 route 10.0.0.0/8 feed 1 pref 100 via 192.0.2.1
+table 1
+10.0.0.0/8 feed 1 pref 100 via 192.0.2.1
+";
+    assert_eq!(rt;
+        printed(alloc, &answers, &[ten])?.as_slice(),
+        text.as_slice()
+    );
+    Ok(())
+}
+
+#[test]
+fn prints_the_shortest_and_the_longest_prefix(rt: HostRuntime) -> Result<(), Fail> {
+    let alloc = rt.alloc();
+    let default = route(b"0.0.0.0/0", 1, b"192.0.2.1")?;
+    let ten = route(b"10.0.0.0/8", 1, b"192.0.2.2")?;
+    let host = route(b"10.255.255.255/32", 1, b"192.0.2.3")?;
+    let answers = [
+        Answer::Did(Reply::Added),
+        Answer::Did(Reply::Added),
+        Answer::Did(Reply::Added),
+        Answer::Did(Reply::Found(host)),
+        Answer::Did(Reply::Found(ten)),
+        Answer::Did(Reply::Found(default)),
+    ];
+    let text = b"1:1 added
+1:2 added
+1:3 added
+1:4 route 10.255.255.255/32 feed 1 pref 1 via 192.0.2.3
+1:5 route 10.0.0.0/8 feed 1 pref 1 via 192.0.2.2
+1:6 route 0.0.0.0/0 feed 1 pref 1 via 192.0.2.1
+table 3
+0.0.0.0/0 feed 1 pref 1 via 192.0.2.1
+10.0.0.0/8 feed 1 pref 1 via 192.0.2.2
+10.255.255.255/32 feed 1 pref 1 via 192.0.2.3
+";
+    assert_eq!(rt;
+        printed(alloc, &answers, &[default, ten, host])?.as_slice(),
+        text.as_slice()
+    );
+    Ok(())
+}
+
+/// A report with a withdrawal and a count, and the routes that are left.
+fn withdrawing(alloc: Global) -> Result<(Report, [Route; 2]), Fail> {
+    let ten = route(b"10.0.0.0/8", 10, b"192.0.2.1")?;
+    let other = route(b"10.2.0.0/16", 10, b"192.0.2.3")?;
+    let answers = [
+        Answer::Did(Reply::Added),
+        Answer::Did(Reply::Added),
+        Answer::Did(Reply::Added),
+        Answer::Did(Reply::Withdrawn),
+        Answer::Did(Reply::Found(ten)),
+        Answer::Did(Reply::Dumped(2)),
+    ];
+    Ok((report_of(alloc, &answers)?, [ten, other]))
+}
+
+const WITHDRAWING: &[u8] = b"1:1 added
+1:2 added
+1:3 added
+1:4 withdrawn
+1:5 route 10.0.0.0/8 feed 1 pref 10 via 192.0.2.1
+1:6 dumped 2
+table 2
+10.0.0.0/8 feed 1 pref 10 via 192.0.2.1
+10.2.0.0/16 feed 1 pref 10 via 192.0.2.3
+";
+
+#[test]
+fn prints_a_withdrawal_and_a_count(rt: HostRuntime) -> Result<(), Fail> {
+    let alloc = rt.alloc();
+    let (report, routes) = withdrawing(alloc)?;
+    let mut out = Vec::new(alloc);
+    write_both(&mut out, &report, &routes)?;
+    assert_eq!(rt; out.as_slice(), WITHDRAWING);
+    Ok(())
+}
+
+#[test]
+fn prints_every_other_answer(rt: HostRuntime) -> Result<(), Fail> {
+    let alloc = rt.alloc();
+    let answers = [
+        Answer::Did(Reply::Exists),
+        Answer::Did(Reply::Full),
+        Answer::Did(Reply::Replaced),
+        Answer::Did(Reply::Missing),
+        Answer::Did(Reply::NoRoute),
+        Answer::Did(Reply::Dumped(u32::MAX)),
+        Answer::Refused,
+        Answer::Fault(LineFault::Command),
+        Answer::Fault(LineFault::FieldCount),
+        Answer::Fault(LineFault::Text),
+        Answer::Fault(LineFault::PrefixLength),
+        Answer::Fault(LineFault::PrefixBits),
+        Answer::Fault(LineFault::Preference),
+        Answer::Fault(LineFault::Hop),
+        Answer::Fault(LineFault::LineLength),
+    ];
+    let text = b"64:1 exists
+64:2 full
+64:3 replaced
+64:4 missing
+64:5 no route
+64:6 dumped 4294967295
+64:7 refused
+64:8 fault E1
+64:9 fault E2
+64:10 fault E3
+64:11 fault E4
+64:12 fault E5
+64:13 fault E6
+64:14 fault E7
+64:15 fault E8
+";
+    let mut out = Vec::new(alloc);
+    write_report(&mut out, 64, &report_of(alloc, &answers)?)?;
+    assert_eq!(rt; out.as_slice(), text.as_slice());
+    Ok(())
+}
+
+#[test]
+fn prints_an_empty_table(rt: HostRuntime) -> Result<(), Fail> {
+    assert_eq!(rt;
+        printed(rt.alloc(), &[], &[])?.as_slice(),
+        b"table 0\n".as_slice()
+    );
+    Ok(())
+}
+
+/// Takes at most `each` bytes a call and `room` bytes in all, and then fails.
+#[derive(Drop)]
+struct Narrow {
+    taken: Vec<u8>,
+    each: usize,
+    room: usize,
+}
+
+impl Write for Narrow {
+    fn write(&mut self, buf: &[u8]) -> io::Result<usize> {
+        if self.room == 0 {
+            return Err(io::Error::from(ErrorKind::Interrupted));
+        }
+        let count = buf.len().min(self.each).min(self.room);
+        self.taken.extend_from_slice(&buf[..count])?;
+        self.room -= count;
+        Ok(count)
+    }
+
+    fn flush(&mut self) -> io::Result<()> {
+        Ok(())
+    }
+}
+
+#[test]
+fn writes_a_byte_a_call(rt: HostRuntime) -> Result<(), Fail> {
+    let alloc = rt.alloc();
+    let (report, routes) = withdrawing(alloc)?;
+    let mut out = Narrow {
+        taken: Vec::new(alloc),
+        each: 1,
+        room: usize::MAX,
+    };
+    write_both(&mut out, &report, &routes)?;
+    assert_eq!(rt; out.taken.as_slice(), WITHDRAWING);
+    Ok(())
+}
+
+#[test]
+fn stops_at_a_fault_after_each_byte(rt: HostRuntime) -> Result<(), Fail> {
+    let alloc = rt.alloc();
+    let (report, routes) = withdrawing(alloc)?;
+    for room in 0..WITHDRAWING.len() {
+        let mut out = Narrow {
+            taken: Vec::new(alloc),
+            each: 7,
+            room,
+        };
+        assert!(rt; write_both(&mut out, &report, &routes).is_err());
+        assert_eq!(rt; out.taken.as_slice(), &WITHDRAWING[..room]);
+    }
+    Ok(())
+}
+
+#[test]
+fn hands_on_the_writers_fault(rt: HostRuntime) -> Result<(), Fail> {
+    let alloc = rt.alloc();
+    let mut out = Narrow {
+        taken: Vec::new(alloc),
+        each: 1,
+        room: 2,
+    };
+    let report = report_of(alloc, &[Answer::Refused])?;
+    let interrupted = |e: io::Error| e.kind() == ErrorKind::Interrupted;
+    assert!(rt; write_report(&mut out, 1, &report).is_err_and(interrupted));
+    assert_eq!(rt; out.taken.as_slice(), b"1:".as_slice());
+    assert!(rt; write_table(&mut out, &[]).is_err_and(interrupted));
+    Ok(())
+}

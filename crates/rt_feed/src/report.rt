@@ -1,0 +1,157 @@
+//! The answers to a feed's text, line by line.
+ghost use Rattle.std.specs.Prelude.{◌≡◌, ℕ, ◌<◌, List, [], ◌∷◌, ◌++◌, All, OnOk, OnErr};
+
+use crate::parse::LineFault;
+use rt_rib::Reply;
+use std::alloc::{AllocError, Global};
+use std::marker::Model;
+
+/// What a line of a feed's text was answered.
+#[derive(Clone, Copy, PartialEq, Eq, Debug)]
+pub enum Answer {
+    /// The command had this reply.
+    Did(Reply),
+    /// The command was refused for want of memory; nothing was done.
+    Refused,
+    /// The line is no command.
+    Fault(LineFault),
+}
+
+impl Answer {
+    ghost use Rattle.rt_feed.specs.Answers.{is_refusal, is_fault};
+
+    /// Whether a command was refused for want of memory.
+    pub fn is_refusal(&self) -> bool
+        ensures { result ≡ is_refusal self.now }
+    {
+        match self {
+            Answer::Refused => true,
+            Answer::Did(_) | Answer::Fault(_) => false,
+        }
+    }
+
+    /// Whether a line was faulty.
+    pub fn is_fault(&self) -> bool
+        ensures { result ≡ is_fault self.now }
+    {
+        match self {
+            Answer::Fault(_) => true,
+            Answer::Did(_) | Answer::Refused => false,
+        }
+    }
+}
+
+/// One line of a report: the answer to one line of the feed's text.
+#[derive(Clone, Copy, PartialEq, Eq, Debug)]
+pub struct Line {
+    /// The number of the text's line, from 1.
+    pub number: usize,
+    /// What it was answered.
+    pub answer: Answer,
+}
+
+/// The answers to a feed's text, by rising line number. A line that is skipped has none.
+#[derive(Debug, Drop)]
+pub struct Report {
+    lines: Vec<Line>,
+}
+
+impl Model for Report {
+    ghost use Rattle.std.specs.Prelude.{List};
+    ghost use Rattle.rt_feed.specs.declared.report.Line.{Line};
+
+    ghost Value = { List Line };
+
+    ghost use Rattle.rt_feed.specs.Answers.{IsRising};
+
+    ghost view = { λ report. report.lines.items };
+
+    ghost invariant = { λ report. IsRising report.lines.items };
+}
+
+impl Report {
+    ghost use Rattle.rt_feed.specs.Answers.{IsRising, has_refusal, has_fault};
+
+    /// A report without lines.
+    pub fn new(alloc: Global) -> Report
+        ensures { result ≡ [] }
+    {
+        Report {
+            lines: Vec::new(alloc),
+        }
+    }
+
+    /// The lines, by rising number.
+    pub fn lines(&self) -> &[Line]
+        ensures lines { result.now ≡ self.now }
+        ensures rising { IsRising self.now }
+    {
+        &self.lines
+    }
+
+    /// Whether some command was refused for want of memory.
+    pub fn has_refusal(&self) -> bool
+        ensures { result ≡ has_refusal self.now }
+    {
+        self.lines.iter().any(|line| line.answer.is_refusal())
+    }
+
+    /// Whether some line was faulty.
+    pub fn has_fault(&self) -> bool
+        ensures { result ≡ has_fault self.now }
+    {
+        self.lines.iter().any(|line| line.answer.is_fault())
+    }
+
+    /// Puts a line at the end, its number above those of the lines that are there. Refused only for want of memory, and
+    /// then the report is as it was.
+    pub fn push(&mut self, line: Line) -> Result<(), AllocError>
+        requires { All (λ earlier. earlier.number < line.number) self.old }
+        ensures ok { OnOk result (self.new ≡ self.old ++ line ∷ []) }
+        ensures err { OnErr result (self.new ≡ self.old) }
+    {
+        self.lines.push(line)?;
+        Ok(())
+    }
+}
+
+#[cfg(test)]
+pub(crate) mod tests {
+    use super::*;
+    use std::test::Fail;
+
+    /// A report with an answer for each line from the first on.
+    pub(crate) fn report_of(alloc: Global, answers: &[Answer]) -> Result<Report, AllocError> {
+        let mut report = Report::new(alloc);
+        for (i, answer) in answers.iter().enumerate() {
+            report.push(Line {
+                number: i + 1,
+                answer: *answer,
+            })?;
+        }
+        Ok(report)
+    }
+
+    #[test]
+    fn keeps_lines_and_tells_refusals_and_faults(rt: HostRuntime) -> Result<(), Fail> {
+        let did = Answer::Did(Reply::Added);
+        let fault = Answer::Fault(LineFault::Hop);
+        let reports: [(&[Answer], bool, bool); 5] = [
+            (&[], false, false),
+            (&[did], false, false),
+            (&[did, fault], false, true),
+            (&[did, Answer::Refused], true, false),
+            (&[Answer::Refused, did, fault], true, true),
+        ];
+        for (answers, refusal, faulty) in reports {
+            let report = report_of(rt.alloc(), answers)?;
+            assert_eq!(rt; report.lines().len(), answers.len());
+            for (line, answer) in report.lines().iter().zip(answers) {
+                assert_eq!(rt; line.answer, *answer);
+            }
+            assert_eq!(rt; report.has_refusal(), refusal, "in {answers:?}");
+            assert_eq!(rt; report.has_fault(), faulty, "in {answers:?}");
+        }
+        Ok(())
+    }
+}
