@@ -12,3 +12,4 @@ pub mod LookUps
 pub mod Sets
 pub mod Determined
 pub mod Feeds
+pub mod Best

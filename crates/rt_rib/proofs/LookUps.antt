@@ -28,7 +28,7 @@ abbrev pub base_at : Addr → ℕ → ℕ
 base_at addr len = addr.0 / size_of len * size_of len
 
 -- a prefix of this length covers the address just where it has that base
-covers-at : (r : Route) (addr : Addr) (len : ℕ) → covers r.prefix addr ≡ true → r.prefix.len ≡ len → is_at (base_at addr len) len r ≡ true
+pub covers-at : (r : Route) (addr : Addr) (len : ℕ) → covers r.prefix addr ≡ true → r.prefix.len ≡ len → is_at (base_at addr len) len r ≡ true
 covers-at r addr len covered same =
     let quotients : addr.0 / size_of r.prefix.len ≡ r.prefix.base / size_of r.prefix.len = eqb-true (addr.0 / size_of r.prefix.len) (r.prefix.base / size_of r.prefix.len) covered in
     let base = quotient addr.0 r.prefix.base (size_of r.prefix.len) quotients r.prefix.is_prefix.clear in

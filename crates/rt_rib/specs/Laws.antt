@@ -1,12 +1,15 @@
 -- What holds of every set of routes and of every journal.
-use Rattle.std.specs.Prelude.{◌≡◌, ℕ, Bool, true, false, ◌==◌, ◌⊎◌, ◌↔◌, List, [], ◌∷◌, ◌++◌, map, filter}
+use Rattle.std.specs.Prelude.{◌≡◌, ℕ, ◌≤◌, Bool, true, false, Some, None, ◌==◌, ◌⊎◌, ◌↔◌, List, [], ◌∷◌, ◌++◌, map, filter}
 use Rattle.std.specs.List.{Contains}
+use Rattle.rt_cidr.specs.declared.address.Addr.{Addr}
+use Rattle.rt_cidr.specs.Prefix.{covers}
 use Rattle.rt_cidr.specs.declared.prefixes.Prefix.{Prefix}
 use Rattle.rt_rib.specs.declared.routes.Route.{Route}
 use Rattle.rt_rib.specs.declared.commands.Cmd.{Cmd}
 use Rattle.rt_rib.specs.declared.commands.Entry.{Entry}
-use Rattle.rt_rib.specs.Table.{is_of, put_in, take_out, IsTable}
+use Rattle.rt_rib.specs.Table.{is_better, is_of, put_in, take_out, IsTable}
 use Rattle.rt_rib.specs.declared.commands.Cmd.TheVariants.{Add, Replace, Withdraw, Lookup, Dump}
+use Rattle.rt_rib.specs.LookUp.{look_up}
 use Rattle.rt_rib.specs.Sequential.{reply_of, after}
 use Rattle.rt_rib.specs.Journal.{left, IsAnswered, IsLawful}
 
@@ -22,6 +25,19 @@ TakeOutLeavesOthers =
 -- a set has one table
 abbrev pub OneTableOfSet : Type 0
 OneTableOfSet = (t u : List Route) → IsTable t → IsTable u → ((x : Route) → Contains t x ↔ Contains u x) → t ≡ u
+
+-- the set contains the route; its prefix covers the address, as no longer one does, and of those to it none is better
+pub record IsBestMatch (addr : Addr) (table : List Route) (r : Route) : Type 0 where
+  pub contained : Contains table r
+  pub covering : covers r.prefix addr ≡ true
+  pub longest : (s : Route) → Contains table s → covers s.prefix addr ≡ true → s.prefix.len ≤ r.prefix.len
+  pub best : (s : Route) → Contains table s → covers s.prefix addr ≡ true → s.prefix.len ≡ r.prefix.len → is_better s r ≡ false
+
+-- what a look-up finds is the best match, and nothing where no prefix covers the address
+abbrev pub LookUpFindsBest : Type 0
+LookUpFindsBest =
+    (addr : Addr) (table : List Route) → IsTable table → ((r : Route) → (look_up addr table ≡ Some r) ↔ IsBestMatch addr table r)
+    × (((s : Route) → Contains table s → covers s.prefix addr ≡ false) → look_up addr table ≡ None)
 
 -- what a journal leaves is a table; of no entry it is the empty one, and of one entry more what its command leaves
 abbrev pub LeftByEntry : Type 0

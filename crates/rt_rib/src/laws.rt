@@ -1,6 +1,6 @@
 //! What holds of every set of routes and of every journal. Each function is a theorem: calling it makes its clause
 //! known, and it does nothing.
-ghost use Rattle.rt_rib.specs.Laws.{PutInAdds, TakeOutLeavesOthers, OneTableOfSet, LeftByEntry, LawfulByEntry, LawfulIsDetermined, FeedsStandAlone};
+ghost use Rattle.rt_rib.specs.Laws.{PutInAdds, TakeOutLeavesOthers, OneTableOfSet, LookUpFindsBest, LeftByEntry, LawfulByEntry, LawfulIsDetermined, FeedsStandAlone};
 
 /// A table that a route is put into contains that route and what it contained.
 pub fn put_in_adds()
@@ -15,6 +15,12 @@ pub fn take_out_leaves_others()
 /// A set of routes is one table: dump order leaves no choice.
 pub fn one_table_of_set()
     ensures { OneTableOfSet }
+{}
+
+/// A look-up finds a route exactly where it is one of the set whose prefix covers the address, no longer prefix covers
+/// it, and no other route to that prefix is better. It finds none where no prefix covers the address.
+pub fn look_up_finds_best()
+    ensures { LookUpFindsBest }
 {}
 
 /// What a journal leaves is a table. It is the empty one before the first entry, and each entry leaves what its

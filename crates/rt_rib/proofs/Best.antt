@@ -1,0 +1,154 @@
+-- What a look-up finds, in terms of what the set contains.
+use Rattle.std.proofs.Common.{◌≡◌, ◌≤◌, Bool, true, false, not, ltb, leb, inl, inr, List, [], ◌∷◌, get_or, Some, refl, ap, ◌∙◌, sym, subst, arith}
+use Rattle.std.proofs.lemmas.Bool.{cases_Bool, cond-true, cond-false, both_ways, and_parts, not-true, not_from_false, leb-true, le-leb, ltb-false}
+use Rattle.std.proofs.lemmas.List.Elements.{All-contains, Contains-get_or}
+use Rattle.std.specs.List.{AllPairs, Contains, find, list_all}
+use Rattle.rt_cidr.specs.declared.address.Addr.{Addr}
+use Rattle.rt_cidr.specs.Prefix.{covers}
+use Rattle.rt_rib.specs.declared.routes.Route.{Route}
+use Rattle.rt_rib.specs.Table.{is_better, is_of, IsTable}
+use Rattle.rt_rib.specs.LookUp.{matching, longest, best, look_up}
+use Rattle.rt_rib.specs.Laws.{IsBestMatch, LookUpFindsBest}
+use Rattle.rt_rib.proofs.Lists.{AllPairs-head, AllPairs-tail, filter-none, list_all-from}
+use Rattle.rt_rib.proofs.Order.{below_then-false, is_of-from}
+use Rattle.rt_rib.proofs.Tables.{Apart, Apart-flip}
+use Rattle.rt_rib.proofs.Sets.{Contains-head, Contains-tail, Contains-cases, Contains-none, filter-keeps, filter-from}
+use Rattle.rt_rib.proofs.Searches.{is_at-parts}
+use Rattle.rt_rib.proofs.LookUps.{base_at, covers-at}
+
+-- what is contained passes a test that all pass
+list_all-contained : {X : Type 0} (p : X → Bool) (xs : List X) (x : X) → list_all p xs ≡ true → Contains xs x → p x ≡ true
+list_all-contained p [] x e c = absurd (Contains-none x c)
+list_all-contained p (y ∷ xs) x e c =
+    let parts = and_parts (p y) (list_all p xs) e in
+    elim (Contains-cases y xs x c) [ inl here ↦ ap p (sym here) ∙ parts.0 | inr later ↦ list_all-contained p xs x parts.1 later ]
+
+-- and all pass a test that whatever is contained passes
+list_all-from_contained : {X : Type 0} (p : X → Bool) (xs : List X) → ((x : X) → Contains xs x → p x ≡ true) → list_all p xs ≡ true
+list_all-from_contained p xs h = list_all-from p xs (λ k d l. h (get_or xs k d) (Contains-get_or xs k d l))
+
+-- a test that something passes finds something that passes
+find-some : {X : Type 0} (p : X → Bool) (xs : List X) (x : X) → Contains xs x → p x ≡ true → (y : X) × (find p xs ≡ Some y) × Contains xs y × (p y ≡ true)
+find-some p [] x c e = absurd (Contains-none x c)
+find-some p (z ∷ xs) x c e = elim (cases_Bool (p z)) [
+  | inl passes ↦ (z, cond-true (p z) (Some z) (find p xs) passes, Contains-head z xs, passes)
+  | inr fails ↦ elim (Contains-cases z xs x c) [
+    | inl here ↦ absurd (both_ways (p z) fails (ap p here ∙ e))
+    | inr later ↦
+        let rest = find-some p xs x later e in
+        (rest.0, cond-false (p z) (Some z) (find p xs) fails ∙ rest.1, Contains-tail z xs rest.0 rest.2, rest.3)
+  ]
+]
+
+-- what is found is contained, and passes
+find-from : {X : Type 0} (p : X → Bool) (xs : List X) (y : X) → find p xs ≡ Some y → Contains xs y × (p y ≡ true)
+find-from p [] y e = cc
+find-from p (z ∷ xs) y e = elim (cases_Bool (p z)) [
+  | inl passes ↦
+      let found : Some z ≡ Some y = sym (cond-true (p z) (Some z) (find p xs) passes) ∙ e in
+      let same : z ≡ y = cc in
+      (subst (Contains (z ∷ xs)) same (Contains-head z xs), subst (λ x. p x ≡ true) same passes)
+  | inr fails ↦
+      let rest = find-from p xs y (sym (cond-false (p z) (Some z) (find p xs) fails) ∙ e) in
+      (Contains-tail z xs y rest.0, rest.1)
+]
+
+-- a table contains one route of a feed to a prefix
+one_of : (t : List Route) → AllPairs Apart t → (r s : Route) → Contains t r → Contains t s → is_of r.feed r.prefix s ≡ true → s ≡ r
+one_of [] h r s c d e = absurd (Contains-none r c)
+one_of (x ∷ t) h r s c d e =
+    elim (Contains-cases x t r c) [
+      | inl first ↦ elim (Contains-cases x t s d) [
+        | inl also ↦ sym also ∙ first
+        | inr later ↦
+            let apart : Apart r s = subst (λ z. Apart z s) first (All-contains (Apart x) t s (AllPairs-head Apart x t h) later) in
+            absurd (both_ways (is_of r.feed r.prefix s) (Apart-flip r s apart) e)
+      ]
+      | inr behind ↦ elim (Contains-cases x t s d) [
+        | inl also ↦
+            let apart : Apart s r = subst (λ z. Apart z r) also (All-contains (Apart x) t r (AllPairs-head Apart x t h) behind) in
+            absurd (both_ways (is_of r.feed r.prefix s) apart e)
+        | inr later ↦ one_of t (AllPairs-tail Apart x t h) r s behind later e
+      ]
+    ]
+
+-- two routes of which neither is better have one preference and one feed
+even : (r s : Route) → is_better r s ≡ false → is_better s r ≡ false → s.feed ≡ r.feed
+even r s a b =
+    elim (below_then-false r.pref s.pref (ltb r.feed s.feed) a) [
+      | inl less ↦ elim (below_then-false s.pref r.pref (ltb s.feed r.feed) b) [ inl more ↦ omega arith | inr same ↦ let e = same.0 in omega arith ]
+      | inr same ↦ elim (below_then-false s.pref r.pref (ltb s.feed r.feed) b) [
+        | inl more ↦ let e = same.0 in omega arith
+        | inr also ↦ let low = ltb-false r.feed s.feed same.1 in let high = ltb-false s.feed r.feed also.1 in omega arith
+      ]
+    ]
+
+module _ (addr : Addr) (t : List Route) (table : IsTable t) where
+  -- whether the prefix covers the address
+  abbrev covering : Route → Bool
+  covering s = covers s.prefix addr
+
+  -- whether no match is longer
+  abbrev is_long : Route → Bool
+  is_long s = list_all (λ u. leb u.prefix.len s.prefix.len) (matching addr t)
+
+  -- whether none of the longest is better
+  abbrev is_best : Route → Bool
+  is_best s = list_all (λ u. not (is_better u s)) (longest (matching addr t))
+
+  -- one of the longest covers the address, and is as long as any that does
+  known : (s : Route) → Contains (longest (matching addr t)) s → Contains t s × (covering s ≡ true) × ((u : Route) → Contains t u → covering u ≡ true → u.prefix.len ≤ s.prefix.len)
+  known s c =
+      let long = filter-from is_long (matching addr t) s c in
+      let match = filter-from covering t s long.0 in
+      (match.0, match.1, λ u d e. leb-true u.prefix.len s.prefix.len (list_all-contained (λ v. leb v.prefix.len s.prefix.len) (matching addr t) u long.1 (filter-keeps covering t u d e)))
+
+  -- and the other way round
+  is_longest : (s : Route) → Contains t s → covering s ≡ true → ((u : Route) → Contains t u → covering u ≡ true → u.prefix.len ≤ s.prefix.len) → Contains (longest (matching addr t)) s
+  is_longest s c e most =
+      filter-keeps is_long (matching addr t) s (filter-keeps covering t s c e)
+      (list_all-from_contained (λ u. leb u.prefix.len s.prefix.len) (matching addr t) (λ u d.
+      let match = filter-from covering t u d in le-leb u.prefix.len s.prefix.len (most u match.0 match.1)))
+
+  sound : (r : Route) → look_up addr t ≡ Some r → IsBestMatch addr t r
+  unfolding look_up
+  sound r e =
+      let found = find-from is_best (longest (matching addr t)) r e in
+      let facts = known r found.0 in
+      record {
+        contained = facts.0;
+        covering = facts.1;
+        longest = facts.2;
+        best = λ s c d same.
+            not-true (is_better s r) (list_all-contained (λ u. not (is_better u r)) (longest (matching addr t)) s found.1
+            (is_longest s c d (λ u k l. let most = facts.2 u k l in omega arith)));
+      }
+
+  complete : (r : Route) → IsBestMatch addr t r → look_up addr t ≡ Some r
+  unfolding look_up
+  complete r h =
+      let there = is_longest r h.contained h.covering h.longest in
+      let wins : is_best r ≡ true =
+      list_all-from_contained (λ u. not (is_better u r)) (longest (matching addr t)) (λ s c.
+      let facts = known s c in
+      let low = h.longest s facts.0 facts.1 in
+      let high = facts.2 r h.contained h.covering in
+      not_from_false (is_better s r) (h.best s facts.0 facts.1 (omega arith))) in
+      let found = find-some is_best (longest (matching addr t)) r there wins in
+      let s = found.0 in
+      let facts = known s found.2 in
+      let low = h.longest s facts.0 facts.1 in
+      let high = facts.2 r h.contained h.covering in
+      let len : s.prefix.len ≡ r.prefix.len = omega arith in
+      let base = (is_at-parts (base_at addr r.prefix.len) r.prefix.len s (covers-at s addr r.prefix.len facts.1 len)).0 in
+      let own = (is_at-parts (base_at addr r.prefix.len) r.prefix.len r (covers-at r addr r.prefix.len h.covering refl)).0 in
+      let worse = not-true (is_better r s) (list_all-contained (λ u. not (is_better u s)) (longest (matching addr t)) r found.3 there) in
+      let feed = even r s worse (h.best s facts.0 facts.1 len) in
+      found.1 ∙ ap Some (one_of t table.single r s h.contained facts.0 (is_of-from r.feed r.prefix s feed (base ∙ sym own) len))
+
+pub look_up_finds_best : LookUpFindsBest
+unfolding look_up
+look_up_finds_best addr t table = (
+  (λ r. (sound addr t table r, complete addr t table r)),
+  (λ none. ap (λ m. best (longest m)) (filter-none (λ s. covers s.prefix addr) t (λ k d l. none (get_or t k d) (Contains-get_or t k d l)))),
+)
