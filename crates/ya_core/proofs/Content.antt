@@ -1,0 +1,241 @@
+-- Whatever happens, the content holds what each place made, in order, and each entry followed lawfully.
+use Rattle.std.proofs.Common.{◌≡◌, ◌≢◌, ℕ, ◌≤◌, ◌==◌, Bool, true, false, refl, arith, ap, sym, ◌∙◌, subst, ◌⊎◌, inl, inr, if◌then◌else◌, IsTrue, List, [], ◌∷◌, ◌++◌, append_assoc}
+use Rattle.std.proofs.lemmas.Bool.Decides.{nat_tests}
+use Rattle.std.proofs.lemmas.List.{append-nil}
+use Rattle.ya_core.specs.declared.process.Process.{Process}
+use Rattle.ya_core.specs.declared.process.Process.TheVariants.{Idle, Entering, Inside, Leaving}
+use Rattle.ya_core.specs.Steps.{State, next_of, access_of, value_of}
+use Rattle.ya_core.specs.Soundness.{IsSound}
+use Rattle.ya_core.specs.Worlds.{Marked, World, Event, Steps, Appends, opening_world, WorldSteps, WorldAppends, Happens, Runs, IsReached, entries_of, FollowsFrom, IsLawful, is_inside, IsInside, any_entry}
+use Rattle.ya_core.proofs.Level.{or_else}
+use Rattle.ya_core.proofs.Keeping.{keeps, opens, excludes}
+
+-- the entries of a place, each with its mark
+abbrev pub marked : {X : Type 0} → ℕ → List X → List (Marked X)
+marked place [] = []
+marked place (x ∷ xs) = (place, x) ∷ marked place xs
+
+marked-append : {X : Type 0} (place : ℕ) (xs ys : List X) → marked place (xs ++ ys) ≡ marked place xs ++ marked place ys
+marked-append place [] ys = refl
+marked-append place (x ∷ xs) ys = ap (λ zs. (place, x) ∷ zs) (marked-append place xs ys)
+
+-- the entries of a place in two lists, one after the other
+entries_of-append : {X : Type 0} (place : ℕ) (xs ys : List (Marked X)) → entries_of place (xs ++ ys) ≡ entries_of place xs ++ entries_of place ys
+entries_of-append place [] ys = refl
+entries_of-append place (x ∷ xs) ys = cases (x.0 == place) (entries_of-append place xs ys)
+  where
+    cases : (b : Bool) → entries_of place (xs ++ ys) ≡ entries_of place xs ++ entries_of place ys
+        → (if b then x.1 ∷ entries_of place (xs ++ ys) else entries_of place (xs ++ ys)) ≡ (if b then x.1 ∷ entries_of place xs else entries_of place xs) ++ entries_of place ys
+    cases true rest = ap (λ zs. x.1 ∷ zs) rest
+    cases false rest = rest
+
+-- all marked entries are those of their place, and of no other
+entries_of-marked : {X : Type 0} (place : ℕ) (xs : List X) → entries_of place (marked place xs) ≡ xs
+entries_of-marked place [] = refl
+entries_of-marked place (x ∷ xs) = cases (place == place) (grind (arith, nat_tests)) (entries_of-marked place xs)
+  where
+    cases : (b : Bool) → b ≡ true → entries_of place (marked place xs) ≡ xs → (if b then x ∷ entries_of place (marked place xs) else entries_of place (marked place xs)) ≡ x ∷ xs
+    cases true is rest = ap (λ zs. x ∷ zs) rest
+    cases false is rest = cc
+
+entries_of-marked_other : {X : Type 0} (place other : ℕ) (xs : List X) → other ≢ place → entries_of place (marked other xs) ≡ []
+entries_of-marked_other place other [] apart = refl
+entries_of-marked_other place other (x ∷ xs) apart = cases (other == place) (grind (arith, nat_tests)) (entries_of-marked_other place other xs apart)
+  where
+    cases : (b : Bool) → b ≡ false → entries_of place (marked other xs) ≡ [] → (if b then x ∷ entries_of place (marked other xs) else entries_of place (marked other xs)) ≡ []
+    cases false is rest = rest
+    cases true is rest = cc
+
+-- one more entry that may follow all the others
+FollowsFrom-push : {X : Type 0} (ok : List (Marked X) → Marked X → Type 0) (before xs : List (Marked X)) (x : Marked X) → FollowsFrom ok before xs → ok (before ++ xs) x → FollowsFrom ok before (xs ++ x ∷ [])
+FollowsFrom-push ok before [] x is may = (subst (λ ys. ok ys x) (append-nil before) may, tt)
+FollowsFrom-push ok before (y ∷ ys) x is may = (is.0, FollowsFrom-push ok (before ++ y ∷ []) ys x is.1 (subst (λ zs. ok zs x) (sym (append_assoc before (y ∷ []) ys)) may))
+
+-- a process that is inside
+pub is_inside_is : (x : Process) → IsTrue (is_inside x) → x ≡ Inside
+is_inside_is Inside h = refl
+is_inside_is Idle h = absurd cc
+is_inside_is (Entering level point) h = absurd cc
+is_inside_is (Leaving level point) h = absurd cc
+
+-- what holds of every world that is reached
+pub record IsKept {X : Type 0} (levels : ℕ) (ok : List (Marked X) → Marked X → Type 0) (w : World X) : Type 0 where
+  pub sound : IsSound levels w.state
+  pub copies : (p : ℕ) → IsInside w.state p → w.copies p ≡ w.content ++ marked p (w.doing p)
+  pub made : (p : ℕ) → entries_of p w.content ≡ w.made p
+  pub lawful : IsLawful ok w.content
+  pub lawful_copy : (p : ℕ) → IsInside w.state p → IsLawful ok (w.copies p)
+
+-- at the start it holds
+kept_opening : {X : Type 0} (levels : ℕ) (ok : List (Marked X) → Marked X → Type 0) → IsKept levels ok opening_world
+kept_opening levels ok = record { sound = opens levels; copies = λ p h. absurd cc; made = λ p. refl; lawful = tt; lawful_copy = λ p h. absurd cc }
+
+module _ {X : Type 0} (levels : ℕ) (ok : List (Marked X) → Marked X → Type 0) (some : 1 ≤ levels) where
+  -- two places inside are one
+  pub one_inside : (s : State) (p q : ℕ) → IsSound levels s → IsInside s p → IsInside s q → p ≡ q
+  one_inside s p q is hp hq = excludes levels p q s some is (is_inside_is (s.processes p) hp) (is_inside_is (s.processes q) hq)
+
+  module _ (place : ℕ) (old new : World X) (is : IsKept levels ok old) where
+    -- the step of a place that is inside writes its copy over the content
+    kept_release : WorldSteps levels place old new → is_inside (old.state.processes place) ≡ true → IsKept levels ok new
+    kept_release step inside =
+        record {
+          sound = sound;
+          copies = λ q h. absurd (nobody q h);
+          made = made;
+          lawful = subst (IsLawful ok) (sym content) (is.lawful_copy place inside);
+          lawful_copy = λ q h. absurd (nobody q h);
+        }
+      where
+        sound : IsSound levels new.state
+        sound = keeps levels place old.state new.state some is.sound step.state
+
+        content : new.content ≡ old.copies place
+        content = step.content ∙ ap (λ b. if b then old.copies place else old.content) inside
+
+        whole : new.content ≡ old.content ++ marked place (old.doing place)
+        whole = content ∙ is.copies place inside
+
+        out : is_inside (new.state.processes place) ≡ false
+        out =
+            let was = is_inside_is (old.state.processes place) inside in
+            let value = value_of old.state.words (access_of levels place (old.state.processes place)) in
+            ap is_inside (step.state.process ∙ ap (λ x. next_of levels place x value) was)
+
+        nobody : (q : ℕ) → IsInside new.state q → ⊥
+        nobody q h = cases (or_else (λ q. new.state.processes q ≡ old.state.processes q) place step.state.others q)
+          where
+            cases : (q ≡ place) ⊎ (new.state.processes q ≡ old.state.processes q) → ⊥
+            cases (inl one) = let now : is_inside (new.state.processes place) ≡ true = subst (λ p. is_inside (new.state.processes p) ≡ true) one h in cc (out, now)
+            cases (inr same) =
+                let one : q ≡ place = one_inside old.state q place is.sound (ap is_inside (sym same) ∙ h) inside in
+                let now : is_inside (new.state.processes place) ≡ true = subst (λ p. is_inside (new.state.processes p) ≡ true) one h in cc (out, now)
+
+        made : (q : ℕ) → entries_of q new.content ≡ new.made q
+        made q = ap (entries_of q) whole ∙ entries_of-append q old.content (marked place (old.doing place)) ∙ cases (or_else (λ q. new.made q ≡ old.made q) place step.others_made q) (q == place) refl
+          where
+            cases : (q ≡ place) ⊎ (new.made q ≡ old.made q) → (b : Bool) → (q == place) ≡ b → entries_of q old.content ++ entries_of q (marked place (old.doing place)) ≡ new.made q
+            cases either true one =
+                let same : q ≡ place = grind (arith, nat_tests) in
+                subst (λ p. entries_of p old.content ++ entries_of p (marked place (old.doing place)) ≡ new.made p) (sym same)
+                (ap (λ xs. xs ++ entries_of place (marked place (old.doing place))) (is.made place) ∙ ap (λ xs. old.made place ++ xs) (entries_of-marked place (old.doing place))
+                ∙ sym (step.made ∙ ap (λ b. if b then old.made place ++ old.doing place else old.made place) inside))
+            cases (inl same) false other = absurd (grind (arith, nat_tests))
+            cases (inr same) false other =
+                let apart : place ≢ q = grind (arith, nat_tests) in
+                ap (λ xs. entries_of q old.content ++ xs) (entries_of-marked_other q place (old.doing place) apart) ∙ append-nil (entries_of q old.content) ∙ is.made q ∙ sym same
+
+    -- any other step leaves the content; where it wins the root, the copy is the content
+    kept_step : WorldSteps levels place old new → is_inside (old.state.processes place) ≡ false → IsKept levels ok new
+    kept_step step outside =
+        record {
+          sound = keeps levels place old.state new.state some is.sound step.state;
+          copies = λ q h. copies q h (q == place) refl;
+          made = λ q. ap (entries_of q) content ∙ is.made q ∙ sym (made q (q == place) refl);
+          lawful = subst (IsLawful ok) (sym content) is.lawful;
+          lawful_copy = λ q h. lawful_copy q h (q == place) refl;
+        }
+      where
+        content : new.content ≡ old.content
+        content = step.content ∙ ap (λ b. if b then old.copies place else old.content) outside
+
+        made : (q : ℕ) (b : Bool) → (q == place) ≡ b → new.made q ≡ old.made q
+        made q true one =
+            let same : q ≡ place = grind (arith, nat_tests) in
+            subst (λ p. new.made p ≡ old.made p) (sym same) (step.made ∙ ap (λ b. if b then old.made place ++ old.doing place else old.made place) outside)
+        made q false other = step.others_made q (grind (arith, nat_tests))
+
+        copies : (q : ℕ) → IsInside new.state q → (b : Bool) → (q == place) ≡ b → new.copies q ≡ new.content ++ marked q (new.doing q)
+        copies q h true one =
+            let same : q ≡ place = grind (arith, nat_tests) in
+            let now : is_inside (new.state.processes place) ≡ true = subst (λ p. is_inside (new.state.processes p) ≡ true) same h in
+            let copy : new.copies place ≡ old.content = step.copy ∙ ap (λ b. if b then old.content else old.copies place) now in
+            let doing : new.doing place ≡ [] = step.doing ∙ ap (λ b. if b then [] else old.doing place) now in
+            subst (λ p. new.copies p ≡ new.content ++ marked p (new.doing p)) (sym same)
+            (copy ∙ sym content ∙ sym (append-nil new.content) ∙ ap (λ xs. new.content ++ marked place xs) (sym doing))
+        copies q h false other =
+            let apart : q ≢ place = grind (arith, nat_tests) in
+            let was : IsInside old.state q = ap is_inside (sym (step.state.others q apart)) ∙ h in
+            step.others_copy q apart ∙ is.copies q was ∙ ap (λ xs. xs ++ marked q (old.doing q)) (sym content) ∙ ap (λ xs. new.content ++ marked q xs) (sym (step.others_doing q apart))
+
+        lawful_copy : (q : ℕ) → IsInside new.state q → (b : Bool) → (q == place) ≡ b → IsLawful ok (new.copies q)
+        lawful_copy q h true one =
+            let same : q ≡ place = grind (arith, nat_tests) in
+            let now : is_inside (new.state.processes place) ≡ true = subst (λ p. is_inside (new.state.processes p) ≡ true) same h in
+            let copy : new.copies place ≡ old.content = step.copy ∙ ap (λ b. if b then old.content else old.copies place) now in
+            subst (λ p. IsLawful ok (new.copies p)) (sym same) (subst (IsLawful ok) (sym copy) is.lawful)
+        lawful_copy q h false other =
+            let apart : q ≢ place = grind (arith, nat_tests) in
+            subst (IsLawful ok) (sym (step.others_copy q apart)) (is.lawful_copy q (ap is_inside (sym (step.state.others q apart)) ∙ h))
+
+    -- an entry that is appended to a copy
+    kept_append : (entry : X) → WorldAppends ok place entry old new → IsKept levels ok new
+    kept_append entry adds =
+        record {
+          sound = subst (IsSound levels) (sym adds.state) is.sound;
+          copies = λ q h. copies q (subst (λ s. IsInside s q) adds.state h) (q == place) refl;
+          made = λ q. ap (entries_of q) adds.content ∙ is.made q ∙ sym (made q (q == place) refl);
+          lawful = subst (IsLawful ok) (sym adds.content) is.lawful;
+          lawful_copy = λ q h. lawful_copy q (subst (λ s. IsInside s q) adds.state h) (q == place) refl;
+        }
+      where
+        made : (q : ℕ) (b : Bool) → (q == place) ≡ b → new.made q ≡ old.made q
+        made q true one = let same : q ≡ place = grind (arith, nat_tests) in subst (λ p. new.made p ≡ old.made p) (sym same) adds.made
+        made q false other = adds.others_made q (grind (arith, nat_tests))
+
+        copies : (q : ℕ) → IsInside old.state q → (b : Bool) → (q == place) ≡ b → new.copies q ≡ new.content ++ marked q (new.doing q)
+        copies q h true one =
+            let same : q ≡ place = grind (arith, nat_tests) in
+            subst (λ p. new.copies p ≡ new.content ++ marked p (new.doing p)) (sym same)
+            (adds.copy ∙ ap (λ xs. xs ++ (place, entry) ∷ []) (is.copies place adds.inside) ∙ append_assoc old.content (marked place (old.doing place)) ((place, entry) ∷ [])
+            ∙ ap (λ xs. old.content ++ xs) (sym (marked-append place (old.doing place) (entry ∷ []))) ∙ ap (λ xs. xs ++ marked place (old.doing place ++ entry ∷ [])) (sym adds.content)
+            ∙ ap (λ xs. new.content ++ marked place xs) (sym adds.doing))
+        copies q h false other =
+            let apart : q ≢ place = grind (arith, nat_tests) in
+            adds.others_copy q apart ∙ is.copies q h ∙ ap (λ xs. xs ++ marked q (old.doing q)) (sym adds.content) ∙ ap (λ xs. new.content ++ marked q xs) (sym (adds.others_doing q apart))
+
+        lawful_copy : (q : ℕ) → IsInside old.state q → (b : Bool) → (q == place) ≡ b → IsLawful ok (new.copies q)
+        lawful_copy q h true one =
+            let same : q ≡ place = grind (arith, nat_tests) in
+            subst (λ p. IsLawful ok (new.copies p)) (sym same)
+            (subst (IsLawful ok) (sym adds.copy) (FollowsFrom-push ok [] (old.copies place) (place, entry) (is.lawful_copy place adds.inside) adds.may_follow))
+        lawful_copy q h false other = subst (IsLawful ok) (sym (adds.others_copy q (grind (arith, nat_tests)))) (is.lawful_copy q h)
+
+  -- each event keeps it
+  kept_event : (event : Event X) (old new : World X) → IsKept levels ok old → Happens levels ok event old new → IsKept levels ok new
+  kept_event (Steps place) old new is step = cases (is_inside (old.state.processes place)) refl
+    where
+      cases : (b : Bool) → is_inside (old.state.processes place) ≡ b → IsKept levels ok new
+      cases true inside = kept_release place old new is step inside
+      cases false outside = kept_step place old new is step outside
+  kept_event (Appends place entry) old new is adds = kept_append place old new is entry adds
+
+  -- and each run
+  kept_run : (events : List (Event X)) (old new : World X) → IsKept levels ok old → Runs levels ok old events new → IsKept levels ok new
+  kept_run [] old new is run = subst (IsKept levels ok) (sym run) is
+  kept_run (event ∷ events) old new is run = kept_run events run.0 new (kept_event event old run.0 is run.1) run.2
+
+  -- so it holds of every world that is reached
+  pub kept : (events : List (Event X)) (w : World X) → IsReached levels ok events w → IsKept levels ok w
+  kept events w run = kept_run events opening_world w (kept_opening levels ok) run
+
+-- a run whose entries may follow is a run
+pub any_run : {X : Type 0} (levels : ℕ) (ok : List (Marked X) → Marked X → Type 0) (events : List (Event X)) (old new : World X) → Runs levels ok old events new → Runs levels any_entry old events new
+any_run levels ok [] old new run = run
+any_run levels ok (Steps place ∷ events) old new run = (run.0, run.1, any_run levels ok events run.0 new run.2)
+any_run levels ok (Appends place entry ∷ events) old new run = (
+  run.0,
+  record {
+    inside = run.1.inside;
+    may_follow = tt;
+    state = run.1.state;
+    content = run.1.content;
+    copy = run.1.copy;
+    doing = run.1.doing;
+    made = run.1.made;
+    others_copy = run.1.others_copy;
+    others_doing = run.1.others_doing;
+    others_made = run.1.others_made;
+  },
+  any_run levels ok events run.0 new run.2,
+)

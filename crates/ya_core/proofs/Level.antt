@@ -1,0 +1,236 @@
+-- One level: what each kind of step keeps of it. `node` and `side` say where each place competes.
+use Rattle.std.proofs.Common.{◌≡◌, ◌≢◌, ℕ, ◌+◌, ◌-◌, ◌<◌, ◌==◌, Bool, true, false, refl, arith, sym, subst, ◌⊎◌, inl, inr, IsTrue}
+use Rattle.std.proofs.Math.Path.{fun_ext}
+use Rattle.std.proofs.lemmas.Bool.Decides.{nat_tests}
+use Rattle.ya_core.specs.Soundness.{Phase, Away, Named, Announced, Waiting, Holding, Parting, claims, is_past, waits, holds, IsSoundLevel}
+
+-- one who holds or is past claims, and one who holds or waits is past
+pub claims_holds : (x : Phase) → IsTrue (holds x) → IsTrue (claims x)
+claims_holds Holding h = refl
+claims_holds Away h = absurd cc
+claims_holds Named h = absurd cc
+claims_holds Announced h = absurd cc
+claims_holds Waiting h = absurd cc
+claims_holds Parting h = absurd cc
+
+pub is_past_holds : (x : Phase) → IsTrue (holds x) → IsTrue (is_past x)
+is_past_holds Holding h = refl
+is_past_holds Away h = absurd cc
+is_past_holds Named h = absurd cc
+is_past_holds Announced h = absurd cc
+is_past_holds Waiting h = absurd cc
+is_past_holds Parting h = absurd cc
+
+pub claims_is_past : (x : Phase) → IsTrue (is_past x) → IsTrue (claims x)
+claims_is_past Announced h = refl
+claims_is_past Waiting h = refl
+claims_is_past Holding h = refl
+claims_is_past Away h = absurd cc
+claims_is_past Named h = absurd cc
+claims_is_past Parting h = absurd cc
+
+pub is_past_waits : (x : Phase) → IsTrue (waits x) → IsTrue (is_past x)
+is_past_waits Waiting h = refl
+is_past_waits Away h = absurd cc
+is_past_waits Named h = absurd cc
+is_past_waits Announced h = absurd cc
+is_past_waits Holding h = absurd cc
+is_past_waits Parting h = absurd cc
+
+-- a place is the one that stepped, or is as it was
+abbrev pub Same : ℕ → (ℕ → Phase) → (ℕ → Phase) → Type 0
+Same p old new = (q : ℕ) → (q ≡ p) ⊎ (new q ≡ old q)
+
+-- a word C is the one of that side, or is as it was
+abbrev pub SameClaims : ℕ → ℕ → (ℕ → ℕ → ℕ) → (ℕ → ℕ → ℕ) → Type 0
+SameClaims node side old new = (n s : ℕ) → ((n ≡ node) × (s ≡ side)) ⊎ (new n s ≡ old n s)
+
+-- a word is the one of that node or place, or is as it was
+abbrev pub SameWords : ℕ → (ℕ → ℕ) → (ℕ → ℕ) → Type 0
+SameWords at old new = (n : ℕ) → (n ≡ at) ⊎ (new n ≡ old n)
+
+-- what is so for each other place is so, or it is this place
+pub or_else : (A : ℕ → Type 0) (p : ℕ) → ((q : ℕ) → q ≢ p → A q) → (q : ℕ) → (q ≡ p) ⊎ A q
+or_else A p h q = cases (q == p) refl
+  where
+    cases : (b : Bool) → (q == p) ≡ b → (q ≡ p) ⊎ A q
+    cases true is = inl (grind (arith, nat_tests))
+    cases false is = inr (h q (grind (arith, nat_tests)))
+
+-- a level stays sound where its words and phases stay
+pub level_stays : (node side : ℕ → ℕ) (phase phase' : ℕ → Phase) (claim claim' : ℕ → ℕ → ℕ) (turn turn' spin spin' : ℕ → ℕ)
+    → ((q : ℕ) → phase' q ≡ phase q) → ((n s : ℕ) → claim' n s ≡ claim n s) → ((n : ℕ) → turn' n ≡ turn n) → ((q : ℕ) → spin' q ≡ spin q)
+    → IsSoundLevel node side phase claim turn spin → IsSoundLevel node side phase' claim' turn' spin'
+level_stays node side phase phase' claim claim' turn turn' spin spin' phases claims_same turns spins is =
+    subst (λ (f : ℕ → Phase). IsSoundLevel node side f claim' turn' spin') (sym (fun_ext phases))
+    (subst (λ (f : ℕ → ℕ → ℕ). IsSoundLevel node side phase f turn' spin') (sym (fun_ext (λ n. fun_ext (claims_same n))))
+    (subst (λ (f : ℕ → ℕ). IsSoundLevel node side phase claim f spin') (sym (fun_ext turns))
+    (subst (λ (f : ℕ → ℕ). IsSoundLevel node side phase claim turn f) (sym (fun_ext spins)) is)))
+
+module _ (node side : ℕ → ℕ) (phase : ℕ → Phase) (claim : ℕ → ℕ → ℕ) (turn spin : ℕ → ℕ) (is : IsSoundLevel node side phase claim turn spin) where
+  -- at most one place claims a side
+  pub one_a_side : (p q : ℕ) → node p ≡ node q → side p ≡ side q → IsTrue (claims (phase p)) → IsTrue (claims (phase q)) → p ≡ q
+  one_a_side p q nodes sides hp hq = grind (arith, is.claimed p hp, is.claimed q hq)
+
+  -- at most one place below a node holds it
+  pub one_holds : (p q : ℕ) → node p ≡ node q → IsTrue (holds (phase p)) → IsTrue (holds (phase q)) → p ≡ q
+  one_holds p q nodes hp hq = grind (arith, one_a_side p q nodes, is.waiter p q nodes, is.waiter q p (sym nodes), is_past_holds (phase p) hp, is_past_holds (phase q) hq, claims_holds (phase p) hp, claims_holds (phase q) hq)
+
+  -- the three parts of what a word C says
+  claimant_node : (n s p : ℕ) → claim n s ≡ p + 1 → node p ≡ n
+  claimant_node n s p h = (is.claimant n s p h).0
+
+  claimant_side : (n s p : ℕ) → claim n s ≡ p + 1 → side p ≡ s
+  claimant_side n s p h = (is.claimant n s p h).1
+
+  claimant_claims : (n s p : ℕ) → claim n s ≡ p + 1 → IsTrue (claims (phase p))
+  claimant_claims n s p h = (is.claimant n s p h).2
+
+  -- e7: a spin word that becomes 1 lets nobody in
+  pub wakes : (r : ℕ) (spin' : ℕ → ℕ) → spin' r ≡ 1 → SameWords r spin spin' → IsSoundLevel node side phase claim turn spin'
+  wakes r spin' stored others =
+      record {
+        claimed = is.claimed;
+        claimant = is.claimant;
+        below = is.below;
+        announced = is.announced;
+        parting = is.parting;
+        one_of_two = is.one_of_two;
+        waiter = is.waiter;
+        in_range = λ q. grind (arith, others q, is.in_range q);
+        let_in = λ q s nodes sides hq spins hs. grind (arith, others q, is.let_in q s nodes sides);
+      }
+
+  -- x3: a place that is alone on its side, and away, lets in another place below the node; no rival of that one is past
+  pub lets_in : (two : (q : ℕ) → side q < 2) (p r : ℕ) (spin' : ℕ → ℕ) → phase p ≡ Away → node p ≡ node r → r ≢ p → spin' r ≡ 2 → SameWords r spin spin'
+      → ((q : ℕ) → node q ≡ node p → side q ≡ side p → IsTrue (claims (phase q)) → q ≡ p) → IsSoundLevel node side phase claim turn spin'
+  lets_in two p r spin' was below other stored others alone =
+      record {
+        claimed = is.claimed;
+        claimant = is.claimant;
+        below = is.below;
+        announced = is.announced;
+        parting = is.parting;
+        one_of_two = is.one_of_two;
+        waiter = is.waiter;
+        in_range = λ q. grind (arith, others q, is.in_range q);
+        let_in = λ q s nodes sides hq spins hs.
+            grind (arith, others q, is.let_in q s nodes sides, alone q, alone s, two p, two q, two s, is_past_waits (phase q) hq, claims_is_past (phase q), claims_is_past (phase s) hs);
+      }
+
+  module _ (p : ℕ) (phase' : ℕ → Phase) (same : Same p phase phase') where
+    -- e1: a place that is alone on its side claims it
+    pub claims_side : (claim' : ℕ → ℕ → ℕ) → phase' p ≡ Named → claim' (node p) (side p) ≡ p + 1 → SameClaims (node p) (side p) claim claim'
+        → ((q : ℕ) → node q ≡ node p → side q ≡ side p → IsTrue (claims (phase q)) → q ≡ p) → IsSoundLevel node side phase' claim' turn spin
+    claims_side claim' now stored others alone =
+        record {
+          claimed = λ q h. grind (arith, same q, others (node q) (side q), alone q, is.claimed q);
+          claimant = λ n s q h. (
+            grind (arith, same q, others n s, claimant_node n s q),
+            grind (arith, same q, others n s, claimant_side n s q),
+            grind (arith, same q, others n s, claimant_claims n s q),
+          );
+          below = is.below;
+          announced = λ q h. grind (arith, same q, is.announced q);
+          parting = λ q h. grind (arith, same q, is.parting q);
+          one_of_two = λ q r nodes sides hq hr. grind (arith, same q, same r, is.one_of_two q r nodes sides);
+          waiter = λ q r nodes sides hq hr. grind (arith, same q, same r, is.waiter q r nodes sides);
+          in_range = is.in_range;
+          let_in = λ q r nodes sides hq spins hr. grind (arith, same q, same r, is.let_in q r nodes sides);
+        }
+
+    -- e2: the place whose claim stands announces itself, the last to do so at the node
+    pub announces : (two : (q : ℕ) → side q < 2) (turn' : ℕ → ℕ) → phase p ≡ Named → phase' p ≡ Announced → turn' (node p) ≡ p + 1 → SameWords (node p) turn turn' → IsSoundLevel node side phase' claim turn' spin
+    announces two turn' was now stored others =
+        record {
+          claimed = λ q h. grind (arith, same q, is.claimed q);
+          claimant = λ n s q h. (claimant_node n s q h, claimant_side n s q h, grind (arith, same q, claimant_claims n s q h));
+          below = λ n q h. grind (arith, others n, is.below n q);
+          announced = λ q h. grind (arith, same q, others (node q), is.announced q);
+          parting = λ q h. grind (arith, same q, others (node q), is.parting q);
+          one_of_two = λ q r nodes sides hq hr.
+              grind (arith, same q, same r, others (node q), is.one_of_two q r nodes sides, two p, two q, two r, one_a_side p q, one_a_side p r, claims_is_past (phase q), claims_is_past (phase r));
+          waiter = λ q r nodes sides hq hr.
+              grind (arith, same q, same r, others (node q), is.waiter q r nodes sides, two p, two q, two r, one_a_side p q, one_a_side p r, claims_holds (phase q), claims_is_past (phase r));
+          in_range = is.in_range;
+          let_in = λ q r nodes sides hq spins hr.
+              grind (arith, same q, same r, others (node q), is.let_in q r nodes sides, two p, two q, two r, one_a_side p q, one_a_side p r, is_past_waits (phase q), claims_is_past (phase q), claims_is_past (phase r));
+        }
+
+    -- e3: the place that clears its spin word is not let in
+    pub clears : (spin' : ℕ → ℕ) → phase p ≡ Announced → phase' p ≡ Waiting → spin' p ≡ 0 → SameWords p spin spin' → IsSoundLevel node side phase' claim turn spin'
+    clears spin' was now stored others =
+        record {
+          claimed = λ q h. grind (arith, same q, is.claimed q);
+          claimant = λ n s q h. (claimant_node n s q h, claimant_side n s q h, grind (arith, same q, claimant_claims n s q h));
+          below = is.below;
+          announced = λ q h. grind (arith, same q, is.announced q);
+          parting = λ q h. grind (arith, same q, is.parting q);
+          one_of_two = λ q r nodes sides hq hr. grind (arith, same q, same r, is.one_of_two q r nodes sides);
+          waiter = λ q r nodes sides hq hr. grind (arith, same q, same r, is.waiter q r nodes sides);
+          in_range = λ q. grind (arith, others q, is.in_range q);
+          let_in = λ q r nodes sides hq spins hr. grind (arith, same q, same r, others q, is.let_in q r nodes sides);
+        }
+
+    -- e4, e5, e9, e10: a place wins where each rival that is past announced itself last
+    pub wins : phase p ≡ Waiting → phase' p ≡ Holding → ((q : ℕ) → node p ≡ node q → side p ≢ side q → IsTrue (is_past (phase q)) → turn (node p) ≡ q + 1) → IsSoundLevel node side phase' claim turn spin
+    wins was now last =
+        record {
+          claimed = λ q h. grind (arith, same q, is.claimed q);
+          claimant = λ n s q h. (claimant_node n s q h, claimant_side n s q h, grind (arith, same q, claimant_claims n s q h));
+          below = is.below;
+          announced = λ q h. grind (arith, same q, is.announced q);
+          parting = λ q h. grind (arith, same q, is.parting q);
+          one_of_two = λ q r nodes sides hq hr. grind (arith, same q, same r, is.one_of_two q r nodes sides);
+          waiter = λ q r nodes sides hq hr. grind (arith, same q, same r, is.waiter q r nodes sides, last r);
+          in_range = is.in_range;
+          let_in = λ q r nodes sides hq spins hr. grind (arith, same q, same r, is.let_in q r nodes sides);
+        }
+
+    -- x1: the place that holds the node gives up its claim
+    pub gives_up : (claim' : ℕ → ℕ → ℕ) → phase p ≡ Holding → phase' p ≡ Parting → claim' (node p) (side p) ≡ 0 → SameClaims (node p) (side p) claim claim' → IsSoundLevel node side phase' claim' turn spin
+    gives_up claim' was now stored others =
+        record {
+          claimed = λ q h. grind (arith, same q, others (node q) (side q), one_a_side p q, is.claimed q);
+          claimant = λ n s q h. (
+            grind (arith, others n s, claimant_node n s q),
+            grind (arith, others n s, claimant_side n s q),
+            grind (arith, same q, others n s, claimant_node n s q, claimant_side n s q, claimant_claims n s q),
+          );
+          below = is.below;
+          announced = λ q h. grind (arith, same q, is.announced q);
+          parting = λ q h. grind (arith, same q, is.parting q, is.announced q);
+          one_of_two = λ q r nodes sides hq hr. grind (arith, same q, same r, is.one_of_two q r nodes sides);
+          waiter = λ q r nodes sides hq hr. grind (arith, same q, same r, is.waiter q r nodes sides);
+          in_range = is.in_range;
+          let_in = λ q r nodes sides hq spins hr. grind (arith, same q, same r, is.let_in q r nodes sides);
+        }
+
+    -- x2: the place that has seen who announced itself last is away
+    pub goes_away : phase p ≡ Parting → phase' p ≡ Away → IsSoundLevel node side phase' claim turn spin
+    goes_away was now =
+        record {
+          claimed = λ q h. grind (arith, same q, is.claimed q);
+          claimant = λ n s q h. (claimant_node n s q h, claimant_side n s q h, grind (arith, same q, claimant_claims n s q h));
+          below = is.below;
+          announced = λ q h. grind (arith, same q, is.announced q);
+          parting = λ q h. grind (arith, same q, is.parting q);
+          one_of_two = λ q r nodes sides hq hr. grind (arith, same q, same r, is.one_of_two q r nodes sides);
+          waiter = λ q r nodes sides hq hr. grind (arith, same q, same r, is.waiter q r nodes sides);
+          in_range = is.in_range;
+          let_in = λ q r nodes sides hq spins hr. grind (arith, same q, same r, is.let_in q r nodes sides);
+        }
+
+    -- at e4 the rival's side is nil, so nobody opposite claims
+    pub last_unclaimed : (two : (q : ℕ) → side q < 2) → claim (node p) (1 - side p) ≡ 0 → (q : ℕ) → node p ≡ node q → side p ≢ side q → IsTrue (is_past (phase q)) → turn (node p) ≡ q + 1
+    last_unclaimed two nil q nodes sides hq =
+        let other : 1 - side p ≡ side q = omega (arith, two p, two q) in
+        absurd (grind (arith, is.claimed q, claims_is_past (phase q) hq))
+
+    -- at e5 and e9 the place is not the one that announced itself last
+    pub last_other : turn (node p) ≢ p + 1 → IsTrue (is_past (phase p)) → (q : ℕ) → node p ≡ node q → side p ≢ side q → IsTrue (is_past (phase q)) → turn (node p) ≡ q + 1
+    last_other other hp q nodes sides hq = grind (arith, is.one_of_two p q nodes sides)
+
+    -- at e10 the place was let in
+    pub last_let_in : spin p ≡ 2 → IsTrue (waits (phase p)) → (q : ℕ) → node p ≡ node q → side p ≢ side q → IsTrue (is_past (phase q)) → turn (node p) ≡ q + 1
+    last_let_in two hp q nodes sides hq = is.let_in p q nodes sides hp two hq

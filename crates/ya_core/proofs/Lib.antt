@@ -1,0 +1,12 @@
+pub mod Numbers
+pub mod Places
+pub mod Walking
+pub mod Level
+pub mod Phases
+pub mod Acting
+pub mod Keeping
+pub mod Content
+pub mod Outcomes
+pub mod Rows
+pub mod Machining
+pub mod Driving

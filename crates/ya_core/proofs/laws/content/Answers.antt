@@ -1,0 +1,12 @@
+use Rattle.ya_core.specs.Worlds.{any_entry, opening_world}
+use Rattle.ya_core.proofs.Content.{kept, any_run}
+use Rattle.ya_core.proofs.laws.content.Goals as goal
+
+pub returns-clause-kept : goal.returns-clause-kept
+returns-clause-kept g c = λ levels events world some run. (kept levels any_entry some events world run).made
+
+pub returns-clause-any : goal.returns-clause-any
+returns-clause-any g c = λ levels events world run. any_run levels g.K.Accept.ok events opening_world world run
+
+pub returns-clause-lawful : goal.returns-clause-lawful
+returns-clause-lawful g c = λ levels events world some run. (kept levels g.K.Accept.ok some events world run).lawful

@@ -1,0 +1,5 @@
+use Rattle.ya_core.proofs.Keeping.{keeps}
+use Rattle.ya_core.proofs.laws.soundness.Goals as goal
+
+pub returns-clause-kept : goal.returns-clause-kept
+returns-clause-kept c = keeps

@@ -1,0 +1,76 @@
+-- The machine of all processes, and what it tells of each step.
+use Rattle.std.specs.Prelude.{◌≡◌, ℕ, ◌^◌, ◌≤◌, Bool, true, false, List, [], ◌∷◌, length, slice_index_or}
+use Rattle.ya_core.specs.declared.word.Word.{Word}
+use Rattle.ya_core.specs.declared.word.Access.{Access}
+use Rattle.ya_core.specs.declared.word.Access.TheVariants.{Load, Store}
+use Rattle.ya_core.specs.declared.process.Process.{Process}
+use Rattle.ya_core.specs.declared.process.Process.TheVariants.{Idle, Inside}
+use Rattle.ya_core.specs.declared.step.Mark.{Mark}
+use Rattle.ya_core.specs.declared.step.Mark.TheVariants as mark
+use Rattle.ya_core.specs.declared.step.Step.{Step}
+use Rattle.ya_core.specs.Tree.{count_of_words}
+use Rattle.ya_core.specs.Steps.{State, StepsTo, access_of, next_of, value_of}
+use Rattle.ya_core.specs.Row.{row_state, IsSoundRow}
+
+-- the machine as plain data: its words in one flat row, and its processes by place
+pub record Rows : Type 0 where
+  pub levels : ℕ
+  pub words : List ℕ
+  pub processes : List Process
+
+-- the rows of a machine
+abbrev pub rows : ℕ → List ℕ → List Process → Rows
+rows levels words processes = record { levels = levels; words = words; processes = processes }
+
+-- the processes that a list holds, by place
+unfoldable pub processes_of : List Process → ℕ → Process
+processes_of list place = slice_index_or list place Idle
+
+-- the state that the machine shows
+abbrev pub state_of : Rows → State
+state_of m = row_state m.levels m.words (processes_of m.processes)
+
+-- what holds of every machine
+pub record IsMachine (m : Rows) : Type 0 where
+  pub least : 1 ≤ m.levels
+  pub words : length m.words ≡ count_of_words m.levels
+  pub processes : length m.processes ≡ 2 ^ m.levels
+  pub sound : IsSoundRow m.levels m.words (processes_of m.processes)
+
+-- the word of an access, and whether it is a store
+abbrev pub word_of : Access → Word
+word_of (Load word) = word
+word_of (Store word value) = word
+
+abbrev pub is_store : Access → Bool
+is_store (Load word) = false
+is_store (Store word value) = true
+
+-- what a step that leads to the process is marked as: it won the root, or it ended the passage
+abbrev pub mark_of : Process → Mark
+mark_of Idle = mark.Out
+mark_of Inside = mark.Inside
+mark_of _ = mark.Plain
+
+-- what is told of an access by which a process goes on to the next one
+abbrev pub step_by : ℕ → Access → ℕ → Process → Step
+step_by place access value next = record { place = place; word = word_of access; store = is_store access; value = value; mark = mark_of next }
+
+-- what is told of the step of a place
+abbrev pub step_of : ℕ → ℕ → State → Step
+step_of levels place s =
+    let access = access_of levels place (s.processes place) in
+    let value = value_of s.words access in
+    step_by place access value (next_of levels place (s.processes place) value)
+
+-- there is a tree of so many levels
+abbrev pub HasShape : ℕ → Type 0
+HasShape levels = (1 ≤ levels) × (levels ≤ 6)
+
+-- from this state the places that are picked take these steps, one after another
+abbrev pub Replays : ℕ → State → List ℕ → List Step → Type 0
+Replays levels s [] [] = Unit {0}
+Replays levels s (place ∷ picks) (step ∷ steps) =
+    (after : State) × StepsTo levels place s after × (step ≡ step_of levels place s) × Replays levels after picks steps
+Replays levels s [] (step ∷ steps) = ⊥
+Replays levels s (place ∷ picks) [] = ⊥

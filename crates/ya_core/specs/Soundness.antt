@@ -1,0 +1,127 @@
+-- What holds of all words and all processes at every moment: the invariant of the lock.
+use Rattle.std.specs.Prelude.{◌≡◌, ◌≢◌, ℕ, ◌+◌, ◌^◌, ◌<◌, ◌≤◌, ◌==◌, Bool, true, false, nat_lt, if◌then◌else◌, IsTrue, ◌⊎◌}
+use Rattle.ya_core.specs.declared.word.Word.TheVariants.{C, T, P}
+use Rattle.ya_core.specs.declared.process.Entry.{Entry}
+use Rattle.ya_core.specs.declared.process.Entry.TheVariants.{E1, E2, E3, E5, E6, E7}
+use Rattle.ya_core.specs.declared.process.Exit.{Exit}
+use Rattle.ya_core.specs.declared.process.Exit.TheVariants.{X1, X2, X3}
+use Rattle.ya_core.specs.declared.process.Process.{Process}
+use Rattle.ya_core.specs.declared.process.Process.TheVariants.{Idle, Entering, Inside, Leaving}
+use Rattle.ya_core.specs.Tree.{node_of, side_of, AreRivals}
+use Rattle.ya_core.specs.Steps.{State}
+
+-- how far a process has come at one level
+pub data Phase : Type 0 where
+  Away : Phase
+  -- its side of the node names it
+  Named : Phase
+  -- it has also announced itself at the node
+  Announced : Phase
+  -- it has also cleared its spin word, and looks for the rival or waits
+  Waiting : Phase
+  -- it has won the node, and keeps it until it gives up its claim
+  Holding : Phase
+  -- it gave up its claim, and has yet to see who announced itself last
+  Parting : Phase
+
+-- the phase at the level where the process stands, on its way in
+abbrev pub entry_phase : Entry → Phase
+entry_phase E1 = Away
+entry_phase E2 = Named
+entry_phase E3 = Announced
+entry_phase _ = Waiting
+
+-- the same on its way out
+abbrev pub exit_phase : Exit → Phase
+exit_phase X1 = Holding
+exit_phase X2 = Parting
+exit_phase (X3 rival) = Away
+
+-- it holds the levels below the one where it stands, and is away from those above
+abbrev pub phase_at : ℕ → ℕ → Phase → Phase
+phase_at level stands phase = if nat_lt level stands then Holding else (if level == stands then phase else Away)
+
+-- the phase of a process at any level of the tree
+abbrev pub phase_of : ℕ → ℕ → Process → Phase
+phase_of levels level Idle = Away
+phase_of levels level (Entering stands point) = phase_at level stands (entry_phase point)
+phase_of levels level Inside = phase_at level levels Holding
+phase_of levels level (Leaving stands point) = phase_at level stands (exit_phase point)
+
+-- its side of the node names it
+abbrev pub claims : Phase → Bool
+claims Away = false
+claims Parting = false
+claims _ = true
+
+-- it is past its announcement
+abbrev pub is_past : Phase → Bool
+is_past Announced = true
+is_past Waiting = true
+is_past Holding = true
+is_past _ = false
+
+-- it waits
+abbrev pub waits : Phase → Bool
+waits Waiting = true
+waits _ = false
+
+-- it holds the node
+abbrev pub holds : Phase → Bool
+holds Holding = true
+holds _ = false
+
+-- it has still to see who announced itself last
+abbrev pub parts : Phase → Bool
+parts Parting = true
+parts _ = false
+
+-- one level is sound: `node` and `side` say where each place competes there, `phase` how far it has come,
+-- and `claim`, `turn` and `spin` what the words C, T and P of the level hold
+pub record IsSoundLevel (node side : ℕ → ℕ) (phase : ℕ → Phase) (claim : ℕ → ℕ → ℕ) (turn spin : ℕ → ℕ) : Type 0 where
+  -- claim: a word C names the process that claims its side, and is nil where none does
+  pub claimed : (p : ℕ) → IsTrue (claims (phase p)) → claim (node p) (side p) ≡ p + 1
+  pub claimant : (n s p : ℕ) → claim n s ≡ p + 1 → (node p ≡ n) × (side p ≡ s) × IsTrue (claims (phase p))
+  -- turn: a word T names a place below the node, and one of two rivals that are both past; it is not nil where a process is past or parts
+  pub below : (n p : ℕ) → turn n ≡ p + 1 → node p ≡ n
+  pub announced : (p : ℕ) → IsTrue (is_past (phase p)) → turn (node p) ≢ 0
+  pub parting : (p : ℕ) → IsTrue (parts (phase p)) → turn (node p) ≢ 0
+  pub one_of_two : (p q : ℕ) → node p ≡ node q → side p ≢ side q → IsTrue (is_past (phase p)) → IsTrue (is_past (phase q))
+      → (turn (node p) ≡ p + 1) ⊎ (turn (node p) ≡ q + 1)
+  -- waiter: where one holds and its rival is past, the rival announced itself last
+  pub waiter : (p q : ℕ) → node p ≡ node q → side p ≢ side q → IsTrue (holds (phase p)) → IsTrue (is_past (phase q))
+      → turn (node p) ≡ q + 1
+  -- spin: a word P is 0, 1 or 2, and 2 lets its process in only where the rival announced itself last
+  pub in_range : (p : ℕ) → spin p ≤ 2
+  pub let_in : (p q : ℕ) → node p ≡ node q → side p ≢ side q → IsTrue (waits (phase p)) → spin p ≡ 2 → IsTrue (is_past (phase q))
+      → turn (node p) ≡ q + 1
+
+-- the level of a state
+abbrev pub IsSoundAt : ℕ → State → ℕ → Type 0
+IsSoundAt levels s level =
+    IsSoundLevel (node_of level) (side_of level) (λ p. phase_of levels level (s.processes p)) (λ n d. s.words (C level n d))
+    (λ n. s.words (T level n)) (λ p. s.words (P level p))
+
+-- the rival that a point knows is a place on the other side of the node
+abbrev pub EntryIsProper : ℕ → ℕ → Entry → Type 0
+EntryIsProper level place (E5 rival) = AreRivals level place rival
+EntryIsProper level place (E6 rival) = AreRivals level place rival
+EntryIsProper level place (E7 rival) = AreRivals level place rival
+EntryIsProper level place _ = Unit {0}
+
+-- on the way out it is another place below the node
+abbrev pub ExitIsProper : ℕ → ℕ → Exit → Type 0
+ExitIsProper level place (X3 rival) = (node_of level place ≡ node_of level rival) × (rival ≢ place)
+ExitIsProper level place _ = Unit {0}
+
+-- a process that takes part has a place and a level of the tree
+abbrev pub IsProper : ℕ → ℕ → Process → Type 0
+IsProper levels place Idle = Unit {0}
+IsProper levels place (Entering level point) = (place < 2 ^ levels) × (1 ≤ level) × (level ≤ levels) × EntryIsProper level place point
+IsProper levels place Inside = place < 2 ^ levels
+IsProper levels place (Leaving level point) = (place < 2 ^ levels) × (1 ≤ level) × (level ≤ levels) × ExitIsProper level place point
+
+-- the invariant: each process is proper and each level is sound
+pub record IsSound (levels : ℕ) (s : State) : Type 0 where
+  pub proper : (p : ℕ) → IsProper levels p (s.processes p)
+  pub sound : (level : ℕ) → 1 ≤ level → level ≤ levels → IsSoundAt levels s level

@@ -1,0 +1,100 @@
+-- The steps of one process, and what each makes of all words and all processes.
+use Rattle.std.specs.Prelude.{◌≡◌, ◌≢◌, ℕ, ◌+◌, ◌-◌, ◌^◌, ◌<◌, ◌==◌, nat_lt, if◌then◌else◌}
+use Rattle.ya_core.specs.declared.word.Word.{Word}
+use Rattle.ya_core.specs.declared.word.Word.TheVariants.{C, T, P}
+use Rattle.ya_core.specs.declared.word.Access.{Access}
+use Rattle.ya_core.specs.declared.word.Access.TheVariants.{Load, Store}
+use Rattle.ya_core.specs.declared.process.Entry.{Entry}
+use Rattle.ya_core.specs.declared.process.Entry.TheVariants.{E1, E2, E3, E4, E5, E6, E7, E8, E9, E10}
+use Rattle.ya_core.specs.declared.process.Exit.{Exit}
+use Rattle.ya_core.specs.declared.process.Exit.TheVariants.{X1, X2, X3}
+use Rattle.ya_core.specs.declared.process.Process.{Process}
+use Rattle.ya_core.specs.declared.process.Process.TheVariants.{Idle, Entering, Inside, Leaving}
+use Rattle.ya_core.specs.Tree.{node_of, side_of}
+
+-- the access that is due on the way in, at each point of a level
+abbrev pub entry_access : ℕ → ℕ → Entry → Access
+entry_access level place E1 = Store (C level (node_of level place) (side_of level place)) (place + 1)
+entry_access level place E2 = Store (T level (node_of level place)) (place + 1)
+entry_access level place E3 = Store (P level place) 0
+entry_access level place E4 = Load (C level (node_of level place) (1 - side_of level place))
+entry_access level place (E5 rival) = Load (T level (node_of level place))
+entry_access level place (E6 rival) = Load (P level rival)
+entry_access level place (E7 rival) = Store (P level rival) 1
+entry_access level place E8 = Load (P level place)
+entry_access level place E9 = Load (T level (node_of level place))
+entry_access level place E10 = Load (P level place)
+
+-- the access that is due on the way out, at each point of a level
+abbrev pub exit_access : ℕ → ℕ → Exit → Access
+exit_access level place X1 = Store (C level (node_of level place) (side_of level place)) 0
+exit_access level place X2 = Load (T level (node_of level place))
+exit_access level place (X3 rival) = Store (P level rival) 2
+
+-- the access that is due: an idle process begins at the leaves, one that is inside leaves from the root
+abbrev pub access_of : ℕ → ℕ → Process → Access
+access_of levels place Idle = entry_access 1 place E1
+access_of levels place (Entering level point) = entry_access level place point
+access_of levels place Inside = exit_access levels place X1
+access_of levels place (Leaving level point) = exit_access level place point
+
+-- a process that won the level goes on to the next one; from the root it goes inside
+abbrev pub won : ℕ → ℕ → Process
+won levels level = if nat_lt level levels then Entering (level + 1) E1 else Inside
+
+-- a process that left the level goes on to the one below; from the leaves it goes idle
+abbrev pub left : ℕ → Process
+left level = if nat_lt 1 level then Leaving (level - 1) X1 else Idle
+
+-- where each point of the way in leads, by the value that its access loaded
+abbrev pub entry_next : ℕ → ℕ → ℕ → Entry → ℕ → Process
+entry_next levels level place E1 value = Entering level E2
+entry_next levels level place E2 value = Entering level E3
+entry_next levels level place E3 value = Entering level E4
+entry_next levels level place E4 value = if value == 0 then won levels level else Entering level (E5 (value - 1))
+entry_next levels level place (E5 rival) value = if value == place + 1 then Entering level (E6 rival) else won levels level
+entry_next levels level place (E6 rival) value = if value == 0 then Entering level (E7 rival) else Entering level E8
+entry_next levels level place (E7 rival) value = Entering level E8
+entry_next levels level place E8 value = if value == 0 then Entering level E8 else Entering level E9
+entry_next levels level place E9 value = if value == place + 1 then Entering level E10 else won levels level
+entry_next levels level place E10 value = if value == 2 then won levels level else Entering level E10
+
+-- where each point of the way out leads
+abbrev pub exit_next : ℕ → ℕ → Exit → ℕ → Process
+exit_next level place X1 value = Leaving level X2
+exit_next level place X2 value = if value == place + 1 then left level else Leaving level (X3 (value - 1))
+exit_next level place (X3 rival) value = left level
+
+-- the process after its step
+abbrev pub next_of : ℕ → ℕ → Process → ℕ → Process
+next_of levels place Idle value = entry_next levels 1 place E1 value
+next_of levels place (Entering level point) value = entry_next levels level place point value
+next_of levels place Inside value = exit_next levels place X1 value
+next_of levels place (Leaving level point) value = exit_next level place point value
+
+-- all words and all processes
+pub record State : Type 0 where
+  pub words : Word → ℕ
+  pub processes : ℕ → Process
+
+-- at the start every word is 0 and every process is idle
+abbrev pub opening : State
+opening = record { words = λ _. 0; processes = λ _. Idle }
+
+-- the value that an access loads or stores
+abbrev pub value_of : (Word → ℕ) → Access → ℕ
+value_of words (Load word) = words word
+value_of words (Store word value) = value
+
+-- a load changes no word, a store the named one alone
+abbrev pub Accesses : Access → (Word → ℕ) → (Word → ℕ) → Type 0
+Accesses (Load word) old new = (other : Word) → new other ≡ old other
+Accesses (Store word value) old new = (new word ≡ value) × ((other : Word) → other ≢ word → new other ≡ old other)
+
+-- one atomic step of the place: its access happens, it goes on by the value, and all other processes stay
+pub record StepsTo (levels place : ℕ) (old new : State) : Type 0 where
+  pub in_tree : place < 2 ^ levels
+  pub words : Accesses (access_of levels place (old.processes place)) old.words new.words
+  pub process :
+      new.processes place ≡ next_of levels place (old.processes place) (value_of old.words (access_of levels place (old.processes place)))
+  pub others : (other : ℕ) → other ≢ place → new.processes other ≡ old.processes other

@@ -1,0 +1,36 @@
+-- The arbitration tree (Yang and Anderson 1995): where each place competes, and the numbers of the words in one flat row.
+use Rattle.std.specs.Prelude.{◌≡◌, ◌≢◌, ℕ, ◌+◌, ◌-◌, ◌*◌, ◌/◌, ◌%◌, ◌^◌, ◌<◌, ◌≤◌}
+use Rattle.ya_core.specs.declared.word.Word.{Word}
+use Rattle.ya_core.specs.declared.word.Word.TheVariants.{C, T, P}
+
+-- the node of a place at a level; level 1 holds the leaves
+unfoldable pub node_of : ℕ → ℕ → ℕ
+node_of level place = place / 2 ^ level
+
+-- the side of that node on which the place competes, 0 or 1
+unfoldable pub side_of : ℕ → ℕ → ℕ
+side_of level place = place / 2 ^ (level - 1) % 2
+
+-- the two places compete with each other at that level: below one node, on different sides
+abbrev pub AreRivals : ℕ → ℕ → ℕ → Type 0
+AreRivals level p q = (node_of level p ≡ node_of level q) × (side_of level p ≢ side_of level q)
+
+-- the tree of this many levels has the word
+abbrev pub IsWord : ℕ → Word → Type 0
+IsWord levels (C level node side) = (1 ≤ level) × (level ≤ levels) × (node < 2 ^ (levels - level)) × (side < 2)
+IsWord levels (T level node) = (1 ≤ level) × (level ≤ levels) × (node < 2 ^ (levels - level))
+IsWord levels (P level place) = (1 ≤ level) × (level ≤ levels) × (place < 2 ^ levels)
+
+-- how many nodes the levels below have
+abbrev pub nodes_below : ℕ → ℕ → ℕ
+nodes_below levels level = 2 ^ levels - 2 ^ (levels - level + 1)
+
+-- the number of a word: first the words C, by level, node and side, then the words T, then the words P by level and place
+unfoldable pub number_of : ℕ → Word → ℕ
+number_of levels (C level node side) = 2 * (nodes_below levels level + node) + side
+number_of levels (T level node) = 2 * (2 ^ levels - 1) + nodes_below levels level + node
+number_of levels (P level place) = 3 * (2 ^ levels - 1) + (level - 1) * 2 ^ levels + place
+
+-- how many words the tree has
+unfoldable pub count_of_words : ℕ → ℕ
+count_of_words levels = 3 * (2 ^ levels - 1) + levels * 2 ^ levels

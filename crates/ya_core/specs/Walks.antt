@@ -1,0 +1,211 @@
+-- One process that is told what it loaded: which access is due, which values it may find, and where they lead.
+use Rattle.std.specs.Prelude.{◌≡◌, ℕ, ◌+◌, ◌-◌, ◌*◌, ◌^◌, ◌<◌, ◌≤◌, ◌==◌, Bool, true, false, if◌then◌else◌, IsTrue, ◌⊎◌, Option, Some, None, List, [], ◌∷◌}
+use Rattle.ya_core.specs.declared.word.Word.{Word}
+use Rattle.ya_core.specs.declared.word.Word.TheVariants.{C, T, P}
+use Rattle.ya_core.specs.declared.word.Access.{Access}
+use Rattle.ya_core.specs.declared.word.Access.TheVariants.{Load, Store}
+use Rattle.ya_core.specs.declared.process.Entry.{Entry}
+use Rattle.ya_core.specs.declared.process.Entry.TheVariants.{E1, E2, E3, E4, E5, E6, E7, E8, E9, E10}
+use Rattle.ya_core.specs.declared.process.Exit.{Exit}
+use Rattle.ya_core.specs.declared.process.Exit.TheVariants.{X1, X2, X3}
+use Rattle.ya_core.specs.declared.process.Process.{Process}
+use Rattle.ya_core.specs.declared.process.Process.TheVariants.{Idle, Entering, Inside, Leaving}
+use Rattle.ya_core.specs.declared.walker.Op.{Op}
+use Rattle.ya_core.specs.declared.walker.Op.TheVariants as op
+use Rattle.ya_core.specs.Tree.{node_of, side_of, number_of, count_of_words, IsWord}
+use Rattle.ya_core.specs.Steps.{access_of, next_of}
+use Rattle.ya_core.specs.Soundness.{IsProper}
+
+-- a process with its place and tree. `begun` says that it was idle or inside and was told to go on,
+-- and `remote` counts its remote accesses since its entry began
+pub record Walk : Type 0 where
+  pub levels : ℕ
+  pub place : ℕ
+  pub process : Process
+  pub begun : Bool
+  pub remote : ℕ
+
+-- the walk of these parts
+abbrev pub walk : ℕ → ℕ → Process → Bool → ℕ → Walk
+walk levels place process begun remote = record { levels = levels; place = place; process = process; begun = begun; remote = remote }
+
+-- the access that is due; none where the process is idle or inside and was not told to go on
+abbrev pub due_of : ℕ → ℕ → Process → Bool → Option Access
+due_of levels place Idle begun = if begun then Some (access_of levels place Idle) else None
+due_of levels place (Entering level point) begun = Some (access_of levels place (Entering level point))
+due_of levels place Inside begun = if begun then Some (access_of levels place Inside) else None
+due_of levels place (Leaving level point) begun = Some (access_of levels place (Leaving level point))
+
+abbrev pub due : Walk → Option Access
+due w = due_of w.levels w.place w.process w.begun
+
+-- a value that can stand in a word: in C nil or the identifier of a place on that side, in T that of a place below
+-- the node, in P 0, 1 or 2
+abbrev pub CanStand : Word → ℕ → Type 0
+CanStand (C level node side) value = (value ≡ 0) ⊎ ((1 ≤ value) × (node_of level (value - 1) ≡ node) × (side_of level (value - 1) ≡ side))
+CanStand (T level node) value = (1 ≤ value) × (node_of level (value - 1) ≡ node)
+CanStand (P level place) value = value ≤ 2
+
+-- the value may be loaded by the access that is due
+abbrev pub FitsAccess : Option Access → ℕ → Type 0
+FitsAccess None value = ⊥
+FitsAccess (Some (Store word stored)) value = ⊥
+FitsAccess (Some (Load word)) value = CanStand word value
+
+abbrev pub Fits : Walk → ℕ → Type 0
+Fits w value = FitsAccess (due w) value
+
+-- the access that is due is a store
+abbrev pub IsStore : Option Access → Type 0
+IsStore None = ⊥
+IsStore (Some (Store word stored)) = Unit {0}
+IsStore (Some (Load word)) = ⊥
+
+-- a remote access is one of any word but the process's own words P
+abbrev pub cost_of_word : ℕ → Word → ℕ
+cost_of_word place (C level node side) = 1
+cost_of_word place (T level node) = 1
+cost_of_word place (P level owner) = if owner == place then 0 else 1
+
+abbrev pub cost_of : ℕ → Access → ℕ
+cost_of place (Load word) = cost_of_word place word
+cost_of place (Store word value) = cost_of_word place word
+
+-- the walk after its access, which loaded or stored the value
+abbrev pub walk_after : Walk → ℕ → Walk
+walk_after w value =
+    walk w.levels w.place (next_of w.levels w.place w.process value) false
+    (w.remote + cost_of w.place (access_of w.levels w.place w.process))
+
+-- the operation that the walk asks for: its access by the word's number in the flat row
+abbrev pub op_of_access : ℕ → Access → Op
+op_of_access levels (Load word) = op.Load (number_of levels word)
+op_of_access levels (Store word value) = op.Store (number_of levels word) value
+
+abbrev pub op_of_due : ℕ → ℕ → Process → Bool → Op
+op_of_due levels place Idle begun = if begun then op_of_access levels (access_of levels place Idle) else op.Idle
+op_of_due levels place (Entering level point) begun = op_of_access levels (access_of levels place (Entering level point))
+op_of_due levels place Inside begun = if begun then op_of_access levels (access_of levels place Inside) else op.Inside
+op_of_due levels place (Leaving level point) begun = op_of_access levels (access_of levels place (Leaving level point))
+
+abbrev pub op_of : Walk → Op
+op_of w = op_of_due w.levels w.place w.process w.begun
+
+-- how many remote accesses a level can still cost on the way in
+abbrev pub entry_cost : Entry → ℕ
+entry_cost E1 = 7
+entry_cost E2 = 6
+entry_cost E3 = 5
+entry_cost E4 = 5
+entry_cost (E5 rival) = 4
+entry_cost (E6 rival) = 3
+entry_cost (E7 rival) = 2
+entry_cost E8 = 1
+entry_cost E9 = 1
+entry_cost E10 = 0
+
+-- how many points of a level are still ahead on the way out, this one included; each is a remote access
+abbrev pub exit_points : Exit → ℕ
+exit_points X1 = 3
+exit_points X2 = 2
+exit_points (X3 rival) = 1
+
+-- how many remote accesses the walk can still make before it is inside, or idle again
+abbrev pub budget_of : ℕ → Process → Bool → ℕ
+budget_of levels Idle begun = if begun then 7 * levels else 0
+budget_of levels (Entering level point) begun = 7 * (levels - level) + entry_cost point
+budget_of levels Inside begun = if begun then 3 * levels else 0
+budget_of levels (Leaving level point) begun = 3 * (level - 1) + exit_points point
+
+abbrev pub budget : Walk → ℕ
+budget w = budget_of w.levels w.process w.begun
+
+-- how many points of a level are still ahead on the way in, this one included
+abbrev pub entry_points : Entry → ℕ
+entry_points E1 = 10
+entry_points E2 = 9
+entry_points E3 = 8
+entry_points E4 = 7
+entry_points (E5 rival) = 6
+entry_points (E6 rival) = 5
+entry_points (E7 rival) = 4
+entry_points E8 = 3
+entry_points E9 = 2
+entry_points E10 = 1
+
+-- how many points are still ahead before the walk is inside, or idle again
+abbrev pub points_of : ℕ → Process → Bool → ℕ
+points_of levels Idle begun = if begun then 10 * levels else 0
+points_of levels (Entering level point) begun = 10 * (levels - level) + entry_points point
+points_of levels Inside begun = if begun then 3 * levels else 0
+points_of levels (Leaving level point) begun = 3 * (level - 1) + exit_points point
+
+abbrev pub points_ahead : Walk → ℕ
+points_ahead w = points_of w.levels w.process w.begun
+
+-- at these points a process waits: it loads its own spin word, and does so again until another process writes it
+abbrev pub is_waiting : Process → Bool
+is_waiting (Entering level E8) = true
+is_waiting (Entering level E10) = true
+is_waiting _ = false
+
+-- a step takes the walk to a later point or level, but for a load that found a waiting process its own spin word unchanged
+abbrev pub MovesOn : Walk → Walk → Type 0
+MovesOn old new = (points_ahead new < points_ahead old) ⊎ (IsTrue (is_waiting old.process) × (new.process ≡ old.process))
+
+-- at most seven remote accesses a level on the way in, and three a level on the way out
+abbrev pub CountIsKept : ℕ → ℕ → Process → Bool → Type 0
+CountIsKept levels remote Idle true = remote ≡ 0
+CountIsKept levels remote Idle false = remote ≤ 10 * levels
+CountIsKept levels remote (Entering level point) begun = remote + budget_of levels (Entering level point) false ≤ 7 * levels
+CountIsKept levels remote Inside begun = remote ≤ 7 * levels
+CountIsKept levels remote (Leaving level point) begun = remote + budget_of levels (Leaving level point) false ≤ 10 * levels
+
+-- what holds of every walk
+pub record IsWalk (w : Walk) : Type 0 where
+  pub least : 1 ≤ w.levels
+  pub most : w.levels ≤ 6
+  pub in_tree : w.place < 2 ^ w.levels
+  pub proper : IsProper w.levels w.place w.process
+  pub counted : CountIsKept w.levels w.remote w.process w.begun
+
+-- a word that the operation names by its number is one of the tree's words
+abbrev pub OpIsWithin : ℕ → Op → Type 0
+OpIsWithin levels (op.Load number) = number < count_of_words levels
+OpIsWithin levels (op.Store number value) = number < count_of_words levels
+OpIsWithin levels op.Inside = Unit {0}
+OpIsWithin levels op.Idle = Unit {0}
+
+-- the access is of one of the tree's words
+abbrev pub AccessIsWithin : ℕ → Access → Type 0
+AccessIsWithin levels (Load word) = IsWord levels word
+AccessIsWithin levels (Store word stored) = IsWord levels word
+
+-- and so is the one that is due
+abbrev pub DueIsWithin : ℕ → Option Access → Type 0
+DueIsWithin levels None = Unit {0}
+DueIsWithin levels (Some access) = AccessIsWithin levels access
+
+-- an access is due, and a load may find the value
+abbrev pub IsTold : Option Access → ℕ → Type 0
+IsTold None value = ⊥
+IsTold (Some (Load word)) value = CanStand word value
+IsTold (Some (Store word stored)) value = Unit {0}
+
+-- told these values, one after another, the walk goes to the other one
+abbrev pub Goes : Walk → List ℕ → Walk → Type 0
+Goes w [] v = v ≡ w
+Goes w (value ∷ values) v = IsTold (due w) value × Goes (walk_after w value) values v
+
+-- the walk of a place that was idle, or is inside, and was told to go on
+abbrev pub Enters : Walk → Type 0
+Enters w = (w.process ≡ Idle) × (w.begun ≡ true) × (w.remote ≡ 0)
+
+abbrev pub Leaves : Walk → Type 0
+Leaves w = (w.process ≡ Inside) × (w.begun ≡ true)
+
+-- the word is of one of the levels 1 to 6
+abbrev pub LevelIsSmall : Word → Type 0
+LevelIsSmall (C level node side) = (1 ≤ level) × (level ≤ 6)
+LevelIsSmall (T level node) = level ≤ 6
+LevelIsSmall (P level place) = Unit {0}

@@ -1,0 +1,67 @@
+//! What holds of every run of the lock's core, whatever the order in which the places step: laws of the definitions by
+//! which the walker and the machine are specified. Each is a function with an empty body, whose contract is the law.
+
+ghost use Rattle.std.specs.Prelude.{◌≡◌, ℕ, ◌+◌, ◌*◌, ◌^◌, ◌<◌, ◌≤◌, List};
+ghost use Rattle.ya_core.specs.Steps.{State, StepsTo, opening};
+ghost use Rattle.ya_core.specs.Soundness.{IsSound};
+ghost use Rattle.ya_core.specs.Walks.{Walk, IsWalk, Enters, Leaves, Goes};
+ghost use Rattle.ya_core.specs.Worlds.{Marked, World, Event, WorldSteps, WorldAppends};
+ghost use Rattle.ya_core.specs.Worlds.{IsReached, IsInside, IsLawful, any_entry, entries_of};
+
+/// The invariant holds at the start, and each step of any place keeps it, in a tree of any number of levels.
+pub fn soundness()
+    ensures start { (levels : ℕ) → IsSound levels opening }
+    ensures kept { (levels place : ℕ) (old new : State)
+        → 1 ≤ levels → IsSound levels old → StepsTo levels place old new → IsSound levels new }
+{}
+
+/// Any place of the tree may step at any time, and its step has one outcome. The same holds of worlds, where a place that
+/// is inside may append any entry.
+pub fn freedom<X>()
+    ensures may { (levels place : ℕ) (old : State)
+        → place < 2 ^ levels → (new : State) × StepsTo levels place old new }
+    ensures one { (levels place : ℕ) (old new other : State)
+        → StepsTo levels place old new → StepsTo levels place old other → new ≡ other }
+    ensures world { (levels place : ℕ) (old : World X)
+        → place < 2 ^ levels → (new : World X) × WorldSteps levels place old new }
+    ensures append { (place : ℕ) (entry : X) (old : World X)
+        → IsInside old.state place → (new : World X) × WorldAppends any_entry place entry old new }
+{}
+
+/// At most one place is inside, in every world that any list of events leads to, whatever the entries are.
+pub fn exclusion<X>()
+    ensures { (levels : ℕ) (events : List (Event X)) (world : World X)
+        → 1 ≤ levels → IsReached levels any_entry events world
+        → (p q : ℕ) → IsInside world.state p → IsInside world.state q → p ≡ q }
+{}
+
+/// A place makes at most seven remote accesses a level from `begin_entry` until it is inside, and at most three a level
+/// from `begin_exit` until it is idle again, whatever it loads.
+pub fn access_count()
+    ensures way_in { (start end : Walk) (values : List ℕ)
+        → IsWalk start → Enters start → Goes start values end → end.remote ≤ 7 * start.levels }
+    ensures way_out { (start end : Walk) (values : List ℕ)
+        → IsWalk start → Leaves start → Goes start values end
+        → end.remote ≤ start.remote + 3 * start.levels }
+{}
+
+/// Which entry may follow which, for the law of the content.
+pub trait Accept {
+    /// What a place appends.
+    type Entry;
+
+    ghost ok: { List (Marked Self.Entry) → Marked Self.Entry → Type 0 };
+}
+
+/// In every world that any list of events leads to, the entries of each place in the content are those that it made, in
+/// order. Where each entry was acceptable to the copy that it was appended to, each is so to the entries before it; such
+/// a run is a run like any other.
+pub fn content<K: Accept>()
+    ensures kept { (levels : ℕ) (events : List (Event K.Entry)) (world : World K.Entry)
+        → 1 ≤ levels → IsReached levels any_entry events world
+        → (place : ℕ) → entries_of place world.content ≡ world.made place }
+    ensures any { (levels : ℕ) (events : List (Event K.Entry)) (world : World K.Entry)
+        → IsReached levels K.ok events world → IsReached levels any_entry events world }
+    ensures lawful { (levels : ℕ) (events : List (Event K.Entry)) (world : World K.Entry)
+        → 1 ≤ levels → IsReached levels K.ok events world → IsLawful K.ok world.content }
+{}

@@ -1,0 +1,111 @@
+ghost use Rattle.std.specs.Prelude.{◌≡◌, ◌↔◌, ℕ, ◌+◌, ◌-◌, ◌*◌, ◌^◌, ◌<◌, ◌≤◌, IsSome, IfSome};
+ghost use Rattle.ya_core.specs.Tree.{IsWord, number_of, count_of_words, nodes_below};
+
+use crate::word::Word;
+use std::marker::Model;
+
+/// An arbitration tree of 1 to 6 levels: how many places and words it has, and the number of each word in one flat row.
+/// Contracts see it as its number of levels.
+#[derive(Clone, Copy, Debug)]
+pub struct Shape {
+    levels: u32,
+}
+
+impl Model for Shape {
+    ghost Value = { ℕ };
+
+    ghost view = { λ s. s.levels };
+
+    ghost invariant = { λ s. (1 ≤ s.levels) × (s.levels ≤ 6) };
+
+    ghost inverse = { λ n. record { levels = n } };
+}
+
+impl Shape {
+    /// The tree of this many levels, or `None` outside 1 to 6.
+    pub fn new(levels: u32) -> Option<Shape>
+        ensures some { IsSome result ↔ ((1 ≤ levels) × (levels ≤ 6)) }
+        ensures value { IfSome result (λ shape. shape ≡ levels) }
+    {
+        if (1..=6).contains(&levels) {
+            Some(Shape { levels })
+        } else {
+            None
+        }
+    }
+
+    /// How many levels it has, 1 to 6.
+    pub(crate) fn levels(&self) -> u32
+        ensures value { result ≡ self.now }
+        ensures least { 1 ≤ result }
+        ensures most { result ≤ 6 }
+    {
+        self.levels
+    }
+
+    /// How many places it has: two to the power of its levels.
+    pub fn places(&self) -> usize
+        ensures value { result ≡ 2 ^ self.now }
+        ensures least { 2 ≤ result }
+        ensures most { result ≤ 64 }
+    {
+        1 << self.levels
+    }
+
+    /// How many words it has.
+    pub fn words(&self) -> usize
+        ensures { result ≡ count_of_words self.now }
+    {
+        3 * (self.places() - 1) + self.levels as usize * self.places()
+    }
+
+    /// The number of the word C of that side of the node. Levels are counted from 1, nodes and sides from 0.
+    pub fn c(&self, level: u32, node: usize, side: usize) -> usize
+        requires { IsWord self.now (Word.C level node side) }
+        ensures value { result ≡ number_of self.now (Word.C level node side) }
+        ensures within { result < count_of_words self.now }
+    {
+        2 * (self.nodes_below(level) + node) + side
+    }
+
+    /// The number of the word T of the node. Levels are counted from 1, nodes from 0.
+    pub fn t(&self, level: u32, node: usize) -> usize
+        requires { IsWord self.now (Word.T level node) }
+        ensures value { result ≡ number_of self.now (Word.T level node) }
+        ensures within { result < count_of_words self.now }
+    {
+        2 * (self.places() - 1) + self.nodes_below(level) + node
+    }
+
+    /// The number of the word P of the place at the level. Levels are counted from 1, places from 0.
+    pub fn p(&self, level: u32, place: usize) -> usize
+        requires { IsWord self.now (Word.P level place) }
+        ensures value { result ≡ number_of self.now (Word.P level place) }
+        ensures within { result < count_of_words self.now }
+    {
+        3 * (self.places() - 1) + (level as usize - 1) * self.places() + place
+    }
+
+    /// The number of a word.
+    pub(crate) fn number(&self, word: Word) -> usize
+        requires { IsWord self.now word }
+        ensures value { result ≡ number_of self.now word }
+        ensures within { result < count_of_words self.now }
+    {
+        match word {
+            Word::C(level, node, side) => self.c(level, node, side),
+            Word::T(level, node) => self.t(level, node),
+            Word::P(level, place) => self.p(level, place),
+        }
+    }
+
+    /// How many nodes the levels below have.
+    fn nodes_below(&self, level: u32) -> usize
+        requires least { 1 ≤ level }
+        requires most { level ≤ self.now }
+        ensures value { result ≡ nodes_below self.now level }
+        ensures room { result + 2 ^ (self.now - level) ≤ 64 }
+    {
+        self.places() - (1 << (self.levels - level + 1))
+    }
+}

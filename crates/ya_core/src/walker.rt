@@ -1,0 +1,241 @@
+ghost use Rattle.std.specs.Prelude.{◌≡◌, ◌↔◌, ℕ, ◌+◌, ◌-◌, ◌*◌, ◌^◌, ◌<◌, ◌≤◌, true, false, IsTrue, IsFalse};
+ghost use Rattle.ya_core.specs.declared.process.Process.TheVariants.{Idle};
+ghost use Rattle.ya_core.specs.Tree.{node_of, side_of};
+ghost use Rattle.ya_core.specs.Steps.{access_of};
+ghost use Rattle.ya_core.specs.Walks.{IsWalk, walk, op_of, due, Fits, IsStore, CanStand, cost_of, walk_after, budget, MovesOn, OpIsWithin};
+ghost use Rattle.ya_core.specs.Walks.{DueIsWithin, IsTold, LevelIsSmall, due_of};
+
+use crate::process::Process;
+use crate::shape::Shape;
+use crate::word::{Access, Word};
+use std::marker::Model;
+
+/// What a walker asks for.
+#[derive(Clone, Copy, Debug, PartialEq, Eq)]
+pub enum Op {
+    /// A load of the word with this number, whose value `saw` is told.
+    Load(usize),
+    /// A store of this value in the word with this number, after which `done` is called.
+    Store(usize, u64),
+    /// Nothing: the process is inside until `begin_exit`.
+    Inside,
+    /// Nothing: the process is idle until `begin_entry`.
+    Idle,
+}
+
+/// One process of the lock, which is told what it loaded.
+///
+/// ```text
+/// walker.begin_entry();
+/// loop {
+///     match walker.op() {
+///         Op::Load(number) => walker.saw(words[number]),
+///         Op::Store(number, value) => { words[number] = value; walker.done(); }
+///         Op::Inside | Op::Idle => break,
+///     }
+/// }
+/// ```
+///
+/// Contracts see it as a `Walk`: its levels, place and process, whether it was told to go on, and its remote accesses.
+#[derive(Clone, Copy, Debug)]
+pub struct Walker {
+    shape: Shape,
+    place: usize,
+    process: Process,
+    begun: bool,
+    remote: u64,
+}
+
+impl Model for Walker {
+    ghost use Rattle.ya_core.specs.Walks.{Walk, IsWalk, walk};
+
+    ghost Value = { Walk };
+
+    ghost view = { λ w. walk w.shape w.place w.process w.begun w.remote };
+
+    ghost invariant = { λ w. IsWalk (walk w.shape w.place w.process w.begun w.remote) };
+
+    ghost inverse = { λ w. record { shape = w.levels; place = w.place; process = w.process; begun = w.begun; remote = w.remote } };
+}
+
+impl Walker {
+    /// An idle process of that place.
+    pub fn new(shape: Shape, place: usize) -> Walker
+        requires { place < 2 ^ shape }
+        ensures { result ≡ walk shape place Idle false 0 }
+    {
+        Walker {
+            shape,
+            place,
+            process: Process::Idle,
+            begun: false,
+            remote: 0,
+        }
+    }
+
+    /// What the process asks for. The number of a word is below the number of words.
+    pub fn op(&self) -> Op
+        ensures value { result ≡ op_of self.now }
+        ensures within { OpIsWithin self.now.levels result }
+        ensures proper { IsWalk self.now }
+    {
+        match self.due() {
+            Some(Access::Load(word)) => Op::Load(self.shape.number(word)),
+            Some(Access::Store(word, value)) => Op::Store(self.shape.number(word), value),
+            None => self.pause(),
+        }
+    }
+
+    /// Whether the value can stand in the word that is to be loaded: in a word C nil or the identifier of a place on that
+    /// side, in a word T that of a place below the node, in a word P 0, 1 or 2. False where no load is due.
+    pub fn fits(&self, value: u64) -> bool
+        ensures { IsTrue result ↔ Fits self.now value }
+    {
+        match self.due() {
+            Some(Access::Load(word)) => can_stand(word, value),
+            _ => false,
+        }
+    }
+
+    /// Goes on by the value that the load found.
+    pub fn saw(&mut self, value: u64)
+        requires { Fits self.old value }
+        ensures after { self.new ≡ walk_after self.old value }
+        ensures onward { MovesOn self.old self.new }
+        ensures budget { self.new.remote + budget self.new ≤ self.old.remote + budget self.old }
+    {
+        self.go_on(value)
+    }
+
+    /// Goes on after the store. Where it leads is the same for every value.
+    pub fn done(&mut self)
+        requires { IsStore (due self.old) }
+        ensures after { (value : ℕ) → self.new ≡ walk_after self.old value }
+        ensures onward { MovesOn self.old self.new }
+        ensures budget { self.new.remote + budget self.new ≤ self.old.remote + budget self.old }
+    {
+        self.go_on(0)
+    }
+
+    /// Makes the first access of an entry due, and counts remote accesses from 0.
+    pub fn begin_entry(&mut self)
+        requires { op_of self.old ≡ Op.Idle }
+        ensures begun { self.new ≡ record self.old { begun = true; remote = 0 } }
+        ensures budget { budget self.new ≡ 7 * self.new.levels }
+    {
+        (self.begun, self.remote) = (true, 0);
+    }
+
+    /// Makes the first access of an exit due.
+    pub fn begin_exit(&mut self)
+        requires { op_of self.old ≡ Op.Inside }
+        ensures begun { self.new ≡ record self.old { begun = true } }
+        ensures budget { budget self.new ≡ 3 * self.new.levels }
+    {
+        self.begun = true;
+    }
+
+    /// How many remote accesses it has made since `begin_entry`: those of any word but its own words P. At most seven a
+    /// level when it is inside, and at most three a level more when it is idle again.
+    pub fn remote(&self) -> u64
+        ensures value { result ≡ self.now.remote }
+        ensures inside { op_of self.now ≡ Op.Inside → result ≤ 7 * self.now.levels }
+        ensures idle { op_of self.now ≡ Op.Idle → result ≤ 10 * self.now.levels }
+    {
+        self.remote
+    }
+
+    /// The access that is due, if the process was told to go on or is on its way.
+    fn due(&self) -> Option<Access>
+        ensures value { result ≡ due self.now }
+        ensures within { DueIsWithin self.now.levels result }
+        ensures proper { IsWalk self.now }
+    {
+        if is_at_rest(self.process, self.begun) {
+            return None;
+        }
+        Some(self.process.access(self.shape.levels(), self.place))
+    }
+
+    /// What a process asks for that is idle or inside.
+    fn pause(&self) -> Op
+        requires { due self.now ≡ None }
+        ensures { result ≡ op_of self.now }
+    {
+        if matches!(self.process, Process::Inside) {
+            Op::Inside
+        } else {
+            Op::Idle
+        }
+    }
+
+    /// Goes on after the access that is due, which loaded or stored the value.
+    fn go_on(&mut self, value: u64)
+        requires { IsTold (due self.old) value }
+        ensures after { self.new ≡ walk_after self.old value }
+        ensures onward { MovesOn self.old self.new }
+        ensures budget { self.new.remote + budget self.new ≤ self.old.remote + budget self.old }
+    {
+        let levels = self.shape.levels();
+        self.remote += cost(self.process.access(levels, self.place), self.place);
+        self.process = self.process.next(levels, self.place, value);
+        self.begun = false;
+    }
+}
+
+/// Whether the process is idle or inside, and was not told to go on.
+fn is_at_rest(process: Process, begun: bool) -> bool
+    ensures rests { IsTrue result → (levels place : ℕ)
+        → due_of levels place process begun ≡ None }
+    ensures goes { IsFalse result → (levels place : ℕ)
+        → due_of levels place process begun ≡ Some (access_of levels place process) }
+{
+    !begun && matches!(process, Process::Idle | Process::Inside)
+}
+
+/// How many remote accesses it is for the place: one, but for an access of its own words P.
+fn cost(access: Access, place: usize) -> u64
+    ensures value { result ≡ cost_of place access }
+    ensures most { result ≤ 1 }
+{
+    let word = match access {
+        Access::Load(word) | Access::Store(word, _) => word,
+    };
+    match word {
+        Word::P(_, owner) if owner == place => 0,
+        _ => 1,
+    }
+}
+
+/// Whether the value can stand in the word.
+fn can_stand(word: Word, value: u64) -> bool
+    requires { LevelIsSmall word }
+    ensures { IsTrue result ↔ CanStand word value }
+{
+    match word {
+        Word::C(level, node, side) => value == 0
+            || is_below(level, node, value) && is_on_side(level, side, value),
+        Word::T(level, node) => is_below(level, node, value),
+        Word::P(_, _) => value <= 2,
+    }
+}
+
+/// Whether the identifier is that of a place below the node.
+#[tactic(auto, unfolding(crate::specs::Tree::node_of, crate::specs::Tree::side_of))]
+fn is_below(level: u32, node: usize, identifier: u64) -> bool
+    requires { level ≤ 6 }
+    ensures { IsTrue result ↔ ((1 ≤ identifier) × (node_of level (identifier - 1) ≡ node)) }
+{
+    identifier > 0 && (identifier - 1) >> level == node as u64
+}
+
+/// Whether the identifier is that of a place on that side at its node.
+#[tactic(auto, unfolding(crate::specs::Tree::node_of, crate::specs::Tree::side_of))]
+fn is_on_side(level: u32, side: usize, identifier: u64) -> bool
+    requires least { 1 ≤ level }
+    requires most { level ≤ 6 }
+    requires some { 1 ≤ identifier }
+    ensures { IsTrue result ↔ (side_of level (identifier - 1) ≡ side) }
+{
+    ((identifier - 1) >> (level - 1)) % 2 == side as u64
+}
