@@ -1,0 +1,77 @@
+-- The text of a replay: one line for each atomic step, and then who is inside.
+use Rattle.std.specs.Prelude.{◌≡◌, ℕ, ◌+◌, ◌==◌, Bool, true, false, if◌then◌else◌, List, [], ◌∷◌, ◌++◌, fold, codes, decimal, Option, None, Some, Result, Ok, Err}
+use Rattle.std.specs.Option.{option_map_or}
+use Rattle.std.specs.Io.KnownBytes.{Appends}
+use Rattle.rt_cidr.specs.Output.{AppendsBeginning}
+use Rattle.ya_core.specs.declared.word.Word.{Word}
+use Rattle.ya_core.specs.declared.word.Word.TheVariants.{C, T, P}
+use Rattle.ya_core.specs.declared.step.Mark.{Mark}
+use Rattle.ya_core.specs.declared.step.Mark.TheVariants.{Plain, Inside, Out}
+use Rattle.ya_core.specs.declared.step.Step.{Step}
+use Rattle.ya_core.specs.Steps.{opening}
+use Rattle.ya_core.specs.Machines.{Replays}
+use Rattle.rt_app.specs.declared.faults.AppFault.{AppFault}
+use Rattle.rt_app.specs.declared.faults.AppFault.TheVariants.{Run, Replay, Write}
+
+-- `C<level>.<node>.<side>`, `T<level>.<node>` or `P<level>.<place>`
+unfoldable pub word_text : Word → List ℕ
+word_text (C level node side) = codes "C" ++ (decimal level ++ (codes "." ++ (decimal node ++ (codes "." ++ decimal side))))
+word_text (T level node) = codes "T" ++ (decimal level ++ (codes "." ++ decimal node))
+word_text (P level place) = codes "P" ++ (decimal level ++ (codes "." ++ decimal place))
+
+-- what the step brought about, and LF
+unfoldable pub mark_text : Mark → List ℕ
+mark_text Plain = codes "\n"
+mark_text Inside = codes " inside\n"
+mark_text Out = codes " out\n"
+
+-- `:=` for a store, `=` for a load
+unfoldable pub sign_text : Bool → List ℕ
+sign_text true = codes " := "
+sign_text false = codes " = "
+
+-- `NUMBER pPLACE WORD := VALUE` or `NUMBER pPLACE WORD = VALUE`, and the mark
+unfoldable pub step_text : ℕ → Step → List ℕ
+step_text number step =
+    decimal number ++ (codes " p" ++ (decimal step.place ++ (codes " " ++ (word_text step.word ++ (sign_text step.store ++ (decimal step.value ++ mark_text step.mark))))))
+
+-- the lines of these steps, the first of them with this number
+abbrev pub steps_text : ℕ → List Step → List ℕ
+steps_text number [] = []
+steps_text number (step ∷ steps) = step_text number step ++ steps_text (number + 1) steps
+
+-- whether the step won the root
+abbrev pub enters : Mark → Bool
+enters Plain = false
+enters Inside = true
+enters Out = false
+
+-- whether this place is the one that is inside
+abbrev pub is_inside : Option ℕ → ℕ → Bool
+is_inside inside place = option_map_or (λ p. p == place) inside false
+
+-- who is inside after the step: its place, if it won the root; nobody, if it is a later step of the one that was inside
+abbrev pub inside_next : Option ℕ → Step → Option ℕ
+inside_next inside step = if enters step.mark then Some step.place else if is_inside inside step.place then None else inside
+
+-- who is inside after these steps: the last that won the root, unless it made a later step
+abbrev pub inside_after : List Step → Option ℕ
+inside_after steps = fold inside_next None steps
+
+-- `inside pPLACE`, or `inside none`
+unfoldable pub inside_text : Option ℕ → List ℕ
+inside_text None = codes "inside none\n"
+inside_text (Some place) = codes "inside p" ++ (decimal place ++ codes "\n")
+
+-- the text of a replay that made these steps
+abbrev pub replay_text_of : List Step → List ℕ
+replay_text_of steps = steps_text 1 steps ++ inside_text (inside_after steps)
+
+-- what a replay leaves in its writer: the text of the one run that the picks name; nothing where it was refused; a beginning of that text where it could not be written
+abbrev pub LeavesReplay : ℕ → List ℕ → Option (List ℕ) → Option (List ℕ) → Result ℕ AppFault → Type 0
+LeavesReplay levels picks old new (Ok status) =
+    (status ≡ 0) × (steps : List Step) × Replays levels opening picks steps × Appends old new (replay_text_of steps)
+LeavesReplay levels picks old new (Err (Run fault)) = ⊥
+LeavesReplay levels picks old new (Err (Replay fault)) = new ≡ old
+LeavesReplay levels picks old new (Err Write) =
+    (steps : List Step) × Replays levels opening picks steps × AppendsBeginning old new (replay_text_of steps)

@@ -1,0 +1,159 @@
+//! The command line: what the words ask for.
+
+ghost use Rattle.std.specs.Prelude.{◌≤◌, vec_len};
+ghost use Rattle.rt_rib.specs.Book.{IsLimit};
+
+use clap::builder::ValueParser;
+use clap::error::ErrorKind;
+use clap::{Arg, ArgAction, ArgMatches, Command, Error};
+use rt_rib::limit_ok;
+use std::alloc::{AllocError, AllocFailed, Global};
+
+/// How many routes one feed may have, where the command line does not say.
+pub const DEFAULT_LIMIT: u32 = 65_536;
+
+/// What the words of a command line ask for.
+#[derive(Drop)]
+pub enum Request<'a> {
+    /// To run feed files.
+    Run(RunRequest<'a>),
+    /// To show the steps of one schedule of the lock.
+    Replay(ReplayRequest),
+}
+
+/// Which feed files to run.
+#[derive(Drop)]
+pub struct RunRequest<'a> {
+    /// How many routes a feed may have.
+    pub limit: u32,
+    /// The names of the feed files, one.
+    pub files: Vec<&'a str>,
+    pub ghost limited: { IsLimit limit },
+    pub ghost single: { vec_len files ≤ 1 },
+}
+
+/// Which schedule to show.
+#[derive(Drop)]
+pub struct ReplayRequest {
+    /// How many levels the tree has.
+    pub levels: u32,
+    /// The place that takes each step.
+    pub picks: Vec<u32>,
+}
+
+/// Why there is nothing to do.
+#[derive(Drop)]
+pub enum Refusal {
+    /// Help or the version was asked for: its text.
+    Shown(String),
+    /// The words are no command line: the fault's text.
+    Misused(String),
+    /// Memory was refused.
+    Memory,
+}
+
+impl From<AllocError> for Refusal {
+    fn from(_error: AllocError) -> Refusal {
+        Refusal::Memory
+    }
+}
+
+impl<T: Drop> From<AllocFailed<T>> for Refusal {
+    fn from(_error: AllocFailed<T>) -> Refusal {
+        Refusal::Memory
+    }
+}
+
+/// Reads a command line, the program's name first.
+pub fn read<'a>(alloc: Global, words: &'a [String]) -> Result<Request<'a>, Refusal> {
+    let matches = match program(alloc)?.try_get_matches_from(words) {
+        Ok(matches) => matches,
+        Err(error) => return Err(refusal_of(alloc, &error)),
+    };
+    match matches.subcommand() {
+        Some(("replay", asked)) => Ok(Request::Replay(replay_request(alloc, asked)?)),
+        Some((_, asked)) => Ok(Request::Run(run_request(alloc, asked)?)),
+        None => Err(Refusal::Memory),
+    }
+}
+
+fn refusal_of(alloc: Global, error: &Error) -> Refusal {
+    if let ErrorKind::OutOfMemory = error.kind() {
+        return Refusal::Memory;
+    }
+    match error.to_string(alloc) {
+        Ok(text) if error.use_stderr() => Refusal::Misused(text),
+        Ok(text) => Refusal::Shown(text),
+        Err(_) => Refusal::Memory,
+    }
+}
+
+fn program<'a>(alloc: Global) -> Result<Command<'a>, AllocError> {
+    Command::new(alloc, "yarib")
+        .version("0.1.0")
+        .about("One IPv4 routing table, learned from route feeds, whose answers are proved")
+        .subcommand_required(true)
+        .arg_required_else_help(true)
+        .subcommand(run_command(alloc)?)?
+        .subcommand(replay_command(alloc)?)
+}
+
+fn run_command<'a>(alloc: Global) -> Result<Command<'a>, AllocError> {
+    let limit = Arg::new(alloc, "limit")
+        .long("limit")
+        .value_name("K")
+        .value_parser(ValueParser::unsigned(1, 1_000_000))
+        .default_value("65536")
+        .help("How many routes a feed may have, 1 to 1000000");
+    let file = Arg::new(alloc, "file")
+        .value_name("FILE")
+        .required(true)
+        .action(ArgAction::Set)
+        .help("A feed file: one command a line");
+    Command::new(alloc, "run")
+        .about("Run the commands of a feed file and print the replies and the table")
+        .arg(limit)?
+        .arg(file)
+}
+
+fn replay_command<'a>(alloc: Global) -> Result<Command<'a>, AllocError> {
+    let levels = Arg::new(alloc, "levels")
+        .long("levels")
+        .value_name("L")
+        .required(true)
+        .value_parser(ValueParser::unsigned(0, 255))
+        .help("How many levels the tree has, 1 to 6");
+    let picks = Arg::new(alloc, "picks")
+        .value_name("PICK")
+        .num_args(0..)
+        .value_parser(ValueParser::unsigned(0, 255))
+        .help("The place that takes the next step");
+    Command::new(alloc, "replay")
+        .about("Show the atomic steps of the lock for one schedule, one a line")
+        .arg(levels)?
+        .arg(picks)
+}
+
+fn run_request<'a>(alloc: Global, asked: &ArgMatches<'a>) -> Result<RunRequest<'a>, Refusal> {
+    let mut files = Vec::new(alloc);
+    if let Some(name) = asked.get_str("file") {
+        files.push(name)?;
+    }
+    let limit = asked
+        .get_one::<u32>("limit")
+        .filter(|limit| limit_ok(*limit))
+        .unwrap_or(DEFAULT_LIMIT);
+    Ok(RunRequest { limit, files })
+}
+
+fn replay_request(alloc: Global, asked: &ArgMatches<'_>) -> Result<ReplayRequest, Refusal> {
+    let levels = asked.get_one::<u32>("levels").unwrap_or(0);
+    let mut picks = Vec::new(alloc);
+    if let Some(texts) = asked.get_strs("picks") {
+        for text in texts {
+            // The command line has made sure that it is a number.
+            picks.push(text.parse().unwrap_or(u32::MAX))?;
+        }
+    }
+    Ok(ReplayRequest { levels, picks })
+}

@@ -1,0 +1,46 @@
+//! The program `yarib`: feed files in, one reply a command and the sorted table out.
+#![tactic(auto)]
+
+mod command_line;
+mod faults;
+mod program;
+mod replays;
+mod runs;
+
+pub use faults::{AppFault, RunFault};
+pub use program::run_words;
+pub use replays::replay_text;
+use rt_cidr::put;
+pub use runs::run_texts;
+use std::alloc::Global;
+use std::env;
+use std::io::{self, ErrorKind, Write};
+use std::process::ExitCode;
+
+fn main(rt: HostRuntime) -> ExitCode {
+    let alloc = rt.alloc();
+    let (stdout, stderr) = (rt.stdout(), rt.stderr());
+    let (mut out, mut err) = (io::writer(&stdout), io::writer(&stderr));
+    let words = match read_words(&rt, alloc) {
+        Ok(words) => words,
+        Err(fault) => return ExitCode::from(tell_words_fault(&fault, &mut err)),
+    };
+    ExitCode::from(run_words(&rt, alloc, words.as_slice(), &mut out, &mut err))
+}
+
+fn read_words(rt: &HostRuntime, alloc: Global) -> io::Result<Vec<String>> {
+    Ok(env::args(rt)?.collect(alloc)?)
+}
+
+/// Tells why the words could not be read, and gives the status.
+fn tell_words_fault<E: Write>(fault: &io::Error, err: &mut E) -> u8 {
+    let (text, status): (&[u8], u8) = match fault.kind() {
+        ErrorKind::OutOfMemory => (b"yarib: fault F3\n", 5),
+        _ => (b"yarib: arguments are not UTF-8\n", 3),
+    };
+    let _ = put(err, text);
+    status
+}
+
+#[cfg(test)]
+mod tests;

@@ -1,0 +1,239 @@
+ghost use Rattle.std.specs.Prelude.{◌≡◌, vec_len, IfOk};
+
+use crate::faults::{AppFault, RunFault};
+use crate::runs::run_texts;
+use rt_rib::limit_ok;
+use std::alloc::Global;
+use std::test::Fail;
+
+/// A worked run: a feed's text, the limit, and what has to be written with which status.
+struct Row {
+    text: &'static str,
+    limit: u32,
+    output: &'static str,
+    status: u8,
+}
+
+const EVERY_ROUTE: u32 = 65_536;
+
+/// The texts of a run of this one feed.
+pub fn one_text(alloc: Global, text: &[u8]) -> Result<Vec<Vec<u8>>, Fail>
+    ensures { IfOk result (λ texts. vec_len texts ≡ 1) }
+{
+    let mut texts = Vec::new(alloc);
+    texts.push(Vec::from_slice(alloc, text)?)?;
+    Ok(texts)
+}
+
+#[test]
+fn worked_runs(rt: HostRuntime) -> Result<(), Fail> {
+    for row in ROWS.iter() {
+        assert!(rt; limit_ok(row.limit));
+        let texts = one_text(rt.alloc(), row.text.as_bytes())?;
+        let mut out = Vec::new(rt.alloc());
+        let status = run_texts(&rt, rt.alloc(), texts.as_slice(), row.limit, 1, &mut out);
+        assert_eq!(rt; status, Ok(row.status), "of {:?}", row.text);
+        assert_eq!(rt; out.as_slice(), row.output.as_bytes(), "of {:?}", row.text);
+    }
+    Ok(())
+}
+
+#[test]
+fn no_text_is_refused(rt: HostRuntime) {
+    let mut out = Vec::new(rt.alloc());
+    let none = Vec::new(rt.alloc());
+    let status = run_texts(&rt, rt.alloc(), none.as_slice(), 1, 1, &mut out);
+    assert_eq!(rt; status, Err(AppFault::Run(RunFault::NoText)));
+    assert!(rt; out.is_empty());
+}
+
+static ROWS: [Row; 13] = [
+    Row {
+        text: "",
+        limit: EVERY_ROUTE,
+        output: "table 0
+",
+        status: 0,
+    },
+    Row {
+        text: "add 10.0.0.0/8 100 192.0.2.1
+lookup 10.1.2.3
+",
+        limit: EVERY_ROUTE,
+        output: "1:1 added
+1:2 route 10.0.0.0/8 feed 1 pref 100 via 192.0.2.1
+table 1
+10.0.0.0/8 feed 1 pref 100 via 192.0.2.1
+",
+        status: 0,
+    },
+    Row {
+        text: "add 0.0.0.0/0 1 192.0.2.1
+add 10.0.0.0/8 1 192.0.2.2
+add 10.255.255.255/32 1 192.0.2.3
+lookup 10.255.255.255
+lookup 10.255.255.254
+lookup 11.0.0.0
+",
+        limit: EVERY_ROUTE,
+        output: "1:1 added
+1:2 added
+1:3 added
+1:4 route 10.255.255.255/32 feed 1 pref 1 via 192.0.2.3
+1:5 route 10.0.0.0/8 feed 1 pref 1 via 192.0.2.2
+1:6 route 0.0.0.0/0 feed 1 pref 1 via 192.0.2.1
+table 3
+0.0.0.0/0 feed 1 pref 1 via 192.0.2.1
+10.0.0.0/8 feed 1 pref 1 via 192.0.2.2
+10.255.255.255/32 feed 1 pref 1 via 192.0.2.3
+",
+        status: 0,
+    },
+    Row {
+        text: "add 10.0.0.1/8 1 192.0.2.1
+",
+        limit: EVERY_ROUTE,
+        output: "1:1 fault E5
+table 0
+",
+        status: 2,
+    },
+    Row {
+        text: "add 10.0.0.0/33 1 192.0.2.1
+add 010.0.0.0/8 1 192.0.2.1
+add 10.0.0/8 1 192.0.2.1
+add 10.0.0.0/08 1 192.0.2.1
+",
+        limit: EVERY_ROUTE,
+        output: "1:1 fault E4
+1:2 fault E3
+1:3 fault E3
+1:4 fault E3
+table 0
+",
+        status: 2,
+    },
+    Row {
+        text: "add 10.0.0.0/8 1 192.0.2.1
+add 10.0.0.0/8 1 192.0.2.1
+add 11.0.0.0/8 1 192.0.2.1
+",
+        limit: 1,
+        output: "1:1 added
+1:2 exists
+1:3 full
+table 1
+10.0.0.0/8 feed 1 pref 1 via 192.0.2.1
+",
+        status: 0,
+    },
+    Row {
+        text: "replace 10.0.0.0/8 1 192.0.2.1
+withdraw 10.0.0.0/8
+",
+        limit: EVERY_ROUTE,
+        output: "1:1 missing
+1:2 missing
+table 0
+",
+        status: 0,
+    },
+    Row {
+        text: "add 10.0.0.0/8 10 192.0.2.1
+add 10.1.0.0/16 10 192.0.2.2
+add 10.2.0.0/16 10 192.0.2.3
+withdraw 10.1.0.0/16
+lookup 10.1.2.3
+dump
+",
+        limit: EVERY_ROUTE,
+        output: "1:1 added
+1:2 added
+1:3 added
+1:4 withdrawn
+1:5 route 10.0.0.0/8 feed 1 pref 10 via 192.0.2.1
+1:6 dumped 2
+table 2
+10.0.0.0/8 feed 1 pref 10 via 192.0.2.1
+10.2.0.0/16 feed 1 pref 10 via 192.0.2.3
+",
+        status: 0,
+    },
+    Row {
+        text: "add 128.0.0.0/1 1 192.0.2.1
+add 0.0.0.0/1 1 192.0.2.2
+lookup 127.255.255.255
+withdraw 0.0.0.0/1
+add 0.0.0.0/2 1 192.0.2.3
+lookup 64.0.0.0
+",
+        limit: EVERY_ROUTE,
+        output: "1:1 added
+1:2 added
+1:3 route 0.0.0.0/1 feed 1 pref 1 via 192.0.2.2
+1:4 withdrawn
+1:5 added
+1:6 no route
+table 2
+0.0.0.0/2 feed 1 pref 1 via 192.0.2.3
+128.0.0.0/1 feed 1 pref 1 via 192.0.2.1
+",
+        status: 0,
+    },
+    Row {
+        text: "frob
+dump x
+add  10.0.0.0/8 1 192.0.2.1
+lookup 1.2.3.4.5
+add 10.0.0.0/8 4294967296 192.0.2.1
+add 10.0.0.0/8 4294967295 256.0.0.1
+
+# note
+dump
+",
+        limit: EVERY_ROUTE,
+        output: "1:1 fault E1
+1:2 fault E2
+1:3 fault E2
+1:4 fault E3
+1:5 fault E6
+1:6 fault E7
+1:9 dumped 0
+table 0
+",
+        status: 2,
+    },
+    Row {
+        text: "#xxxxxxxxxxxxxxxxxxxxxxxxxxxxxxxxxxxxxxxxxxxxxxxxxxxxxxxxxxxxxxxxxxxxxxxxxxxxxxxxxxxxxxxxxxxxxxxxxxxxxxxxxxxxxxxxxxxxxxxxxxxxxxxx
+dump",
+        limit: EVERY_ROUTE,
+        output: "1:1 fault E8
+1:2 dumped 0
+table 0
+",
+        status: 2,
+    },
+    Row {
+        text: "#xxxxxxxxxxxxxxxxxxxxxxxxxxxxxxxxxxxxxxxxxxxxxxxxxxxxxxxxxxxxxxxxxxxxxxxxxxxxxxxxxxxxxxxxxxxxxxxxxxxxxxxxxxxxxxxxxxxxxxxxxxxxxxx
+dump",
+        limit: EVERY_ROUTE,
+        output: "1:2 dumped 0
+table 0
+",
+        status: 0,
+    },
+    Row {
+        text: "add 10.0.0.0/8 5 192.0.2.1
+replace 10.0.0.0/8 9 192.0.2.2
+lookup 10.255.255.255
+",
+        limit: EVERY_ROUTE,
+        output: "1:1 added
+1:2 replaced
+1:3 route 10.0.0.0/8 feed 1 pref 9 via 192.0.2.2
+table 1
+10.0.0.0/8 feed 1 pref 9 via 192.0.2.2
+",
+        status: 0,
+    },
+];

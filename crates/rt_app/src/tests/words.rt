@@ -1,0 +1,186 @@
+use crate::program::run_words;
+use std::fs;
+use std::io::{self, ErrorKind, Write};
+use std::test::Fail;
+
+/// What a call of the program gave.
+#[derive(Drop)]
+struct Ending {
+    status: u8,
+    out: Vec<u8>,
+    err: Vec<u8>,
+}
+
+fn run(rt: &HostRuntime, words: &[&str]) -> Result<Ending, Fail> {
+    let mut owned = Vec::new(rt.alloc());
+    for word in words {
+        owned.push(String::from_str(rt.alloc(), word)?)?;
+    }
+    let (mut out, mut err) = (Vec::new(rt.alloc()), Vec::new(rt.alloc()));
+    let status = run_words(rt, rt.alloc(), owned.as_slice(), &mut out, &mut err);
+    Ok(Ending { status, out, err })
+}
+
+#[test]
+fn files_are_run(rt: HostRuntime) -> Result<(), Fail> {
+    fs::write(
+        &rt,
+        "good.feed",
+        b"add 10.0.0.0/8 1 192.0.2.1\nadd 11.0.0.0/8 1 192.0.2.1\n",
+    )?;
+    let all = run(&rt, &["yarib", "run", "good.feed"])?;
+    assert_eq!(rt; all.status, 0);
+    assert_eq!(rt;
+        all.out.as_slice(),
+        b"1:1 added
+1:2 added
+table 2
+10.0.0.0/8 feed 1 pref 1 via 192.0.2.1
+11.0.0.0/8 feed 1 pref 1 via 192.0.2.1
+"
+            .as_slice()
+    );
+    assert!(rt; all.err.is_empty());
+    let limited = run(&rt, &["yarib", "run", "--limit", "1", "good.feed"])?;
+    assert_eq!(rt; limited.status, 0);
+    assert_eq!(rt;
+        limited.out.as_slice(),
+        b"1:1 added
+1:2 full
+table 1
+10.0.0.0/8 feed 1 pref 1 via 192.0.2.1
+"
+            .as_slice()
+    );
+    Ok(())
+}
+
+#[test]
+fn a_faulty_line_gives_status_2(rt: HostRuntime) -> Result<(), Fail> {
+    fs::write(&rt, "faulty.feed", b"frob\n")?;
+    let ending = run(&rt, &["yarib", "run", "faulty.feed"])?;
+    assert_eq!(rt; ending.status, 2);
+    assert_eq!(rt;
+        ending.out.as_slice(),
+        b"1:1 fault E1\ntable 0\n".as_slice()
+    );
+    assert!(rt; ending.err.is_empty());
+    Ok(())
+}
+
+#[test]
+fn unreadable_files_give_status_4(rt: HostRuntime) -> Result<(), Fail> {
+    for name in ["nosuchfile", "."] {
+        let ending = run(&rt, &["yarib", "run", name])?;
+        let text = format!(in rt.alloc(); "yarib: cannot read {name}\n")?;
+        assert_eq!(rt; ending.status, 4);
+        assert!(rt; ending.out.is_empty());
+        assert_eq!(rt; ending.err.as_slice(), text.as_bytes());
+    }
+    Ok(())
+}
+
+#[test]
+fn refused_command_lines_give_status_3(rt: HostRuntime) -> Result<(), Fail> {
+    let lines: [&[&str]; 13] = [
+        &["yarib"],
+        &["yarib", "walk"],
+        &["yarib", "run"],
+        &["yarib", "run", "one.feed", "two.feed"],
+        &["yarib", "run", "--limit", "0", "one.feed"],
+        &["yarib", "run", "--limit", "1000001", "one.feed"],
+        &["yarib", "run", "--limit", "x", "one.feed"],
+        &["yarib", "run", "--limit", "1", "--limit", "2", "one.feed"],
+        &["yarib", "run", "--batch", "1", "one.feed"],
+        &["yarib", "replay"],
+        &["yarib", "replay", "--levels", "256"],
+        &["yarib", "replay", "--levels", "1", "256"],
+        &["yarib", "replay", "--levels", "1", "-1"],
+    ];
+    for words in lines {
+        let ending = run(&rt, words)?;
+        assert_eq!(rt; ending.status, 3, "of {words:?}");
+        assert!(rt; ending.out.is_empty(), "of {words:?}");
+        assert!(rt; !ending.err.is_empty(), "of {words:?}");
+    }
+    Ok(())
+}
+
+#[test]
+fn schedules_are_replayed(rt: HostRuntime) -> Result<(), Fail> {
+    let rows: [(&[&str], u8, &str, &str); 7] = [
+        (&["--levels", "1"], 0, "inside none\n", ""),
+        (
+            &["--levels", "1", "0"],
+            0,
+            "1 p0 C1.0.0 := 1\ninside none\n",
+            "",
+        ),
+        (&["--levels", "1", "2"], 3, "", "yarib: fault P1\n"),
+        (
+            &["--levels", "1", "0", "2", "255"],
+            3,
+            "",
+            "yarib: fault P1\n",
+        ),
+        (&["--levels", "7", "200"], 3, "", "yarib: fault P2\n"),
+        (&["--levels", "0", "0"], 3, "", "yarib: fault P2\n"),
+        (
+            &["1", "--levels", "1"],
+            0,
+            "1 p1 C1.0.1 := 2\ninside none\n",
+            "",
+        ),
+    ];
+    for (asked, status, out, err) in rows {
+        let mut words = Vec::from_slice(rt.alloc(), &["yarib", "replay"])?;
+        words.extend_from_slice(asked)?;
+        let ending = run(&rt, words.as_slice())?;
+        assert_eq!(rt; ending.status, status, "of {asked:?}");
+        assert_eq!(rt; ending.out.as_slice(), out.as_bytes(), "of {asked:?}");
+        assert_eq!(rt; ending.err.as_slice(), err.as_bytes(), "of {asked:?}");
+    }
+    Ok(())
+}
+
+#[test]
+fn help_and_version_are_shown(rt: HostRuntime) -> Result<(), Fail> {
+    let version = run(&rt, &["yarib", "--version"])?;
+    assert_eq!(rt; version.status, 0);
+    assert_eq!(rt; version.out.as_slice(), b"yarib 0.1.0\n".as_slice());
+    let help = run(&rt, &["yarib", "--help"])?;
+    assert_eq!(rt; help.status, 0);
+    assert!(rt; !help.out.is_empty());
+    assert!(rt; help.err.is_empty());
+    Ok(())
+}
+
+/// A writer that never takes a byte.
+#[derive(Drop)]
+struct Closed;
+
+impl Write for Closed {
+    fn write(&mut self, _buf: &[u8]) -> io::Result<usize> {
+        Err(io::Error::from(ErrorKind::BrokenPipe))
+    }
+
+    fn flush(&mut self) -> io::Result<()> {
+        Ok(())
+    }
+}
+
+#[test]
+fn closed_outputs(rt: HostRuntime) -> Result<(), Fail> {
+    fs::write(&rt, "empty.feed", b"")?;
+    let mut words = Vec::new(rt.alloc());
+    for word in ["yarib", "run", "empty.feed"] {
+        words.push(String::from_str(rt.alloc(), word)?)?;
+    }
+    let mut err = Vec::new(rt.alloc());
+    let status = run_words(&rt, rt.alloc(), words.as_slice(), &mut Closed, &mut err);
+    assert_eq!(rt; status, 6);
+    assert_eq!(rt; err.as_slice(), b"yarib: cannot write\n".as_slice());
+    let status = run_words(&rt, rt.alloc(), words.as_slice(), &mut Closed, &mut Closed);
+    assert_eq!(rt; status, 6);
+    Ok(())
+}
