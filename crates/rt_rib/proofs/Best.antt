@@ -14,7 +14,7 @@ use Rattle.rt_rib.proofs.Order.{below_then-false, is_of-from}
 use Rattle.rt_rib.proofs.Tables.{Apart, Apart-flip}
 use Rattle.rt_rib.proofs.Sets.{Contains-head, Contains-tail, Contains-cases, Contains-none, filter-keeps, filter-from}
 use Rattle.rt_rib.proofs.Searches.{is_at-parts}
-use Rattle.rt_rib.proofs.LookUps.{base_at, covers-at}
+use Rattle.rt_rib.proofs.Covering.{base_at, covers-at}
 
 -- what is contained passes a test that all pass
 list_all-contained : {X : Type 0} (p : X → Bool) (xs : List X) (x : X) → list_all p xs ≡ true → Contains xs x → p x ≡ true

@@ -8,6 +8,7 @@ pub mod Counts
 pub mod Steps
 pub mod Kept
 pub mod Moves
+pub mod Covering
 pub mod LookUps
 pub mod Sets
 pub mod Determined

@@ -1,9 +1,9 @@
 -- What holds of the elements of a list, and of each two of them.
-use Rattle.std.proofs.Common.{◌≡◌, ℕ, zero, suc, ◌<◌, ◌≤◌, Bool, true, false, cond, not, List, [], ◌∷◌, ◌++◌, length, get_or, get_or-take, take, length-take, refl, ap, ◌∙◌, arith}
-use Rattle.std.proofs.lemmas.Bool.{or_parts, or_from, or_left, or_right, and_parts, and_from, cond-true, cond-false}
+use Rattle.std.proofs.Common.{◌≡◌, ℕ, zero, suc, ◌<◌, Bool, true, false, cond, not, List, [], ◌∷◌, ◌++◌, length, get_or, refl, ap, ◌∙◌, arith}
+use Rattle.std.proofs.lemmas.Bool.{or_parts, or_from, or_left, or_right, and_from, cond-true, cond-false}
 use Rattle.std.proofs.lemmas.List.Elements.{All-cons, All-head, All-tail, All-append, All-filter}
 use Rattle.std.proofs.lemmas.List.Kept.{AllPairs-cons}
-use Rattle.std.specs.List.{All, AllPairs, AllWithin, HoldsAt, filter, list_any, list_all}
+use Rattle.std.specs.List.{All, AllPairs, HoldsAt, filter, list_any, list_all}
 
 -- what follows from two facts of each element
 pub All-join : {X : Type 0} (P Q R : X → Type 0) → ((x : X) → P x → Q x → R x) → (xs : List X) → All P xs → All Q xs → All R xs
@@ -23,11 +23,6 @@ AllPairs-append R [] ys a b c = b
 AllPairs-append R (x ∷ xs) ys a b c =
     AllPairs-cons R x (xs ++ ys) (All-append (R x) xs ys (AllPairs-head R x xs a) (All-head (λ z. All (R z) ys) x xs c))
     (AllPairs-append R xs ys (AllPairs-tail R x xs a) b (All-tail (λ z. All (R z) ys) x xs c))
-
--- the two parts of a list that was joined
-pub AllPairs-right : {X : Type 0} (R : X → X → Type 0) (xs ys : List X) → AllPairs R (xs ++ ys) → AllPairs R ys
-AllPairs-right R [] ys h = h
-AllPairs-right R (x ∷ xs) ys h = AllPairs-right R xs ys (AllPairs-tail R x (xs ++ ys) h)
 
 -- no element passes a test that none of the list passes
 pub list_any-none : {X : Type 0} (p : X → Bool) (xs : List X) → list_any p xs ≡ false → All (λ x. p x ≡ false) xs
@@ -83,24 +78,3 @@ AllPairs-split {X} R flip p (x ∷ xs) h =
 pub list_all-from : {X : Type 0} (p : X → Bool) (xs : List X) → All (λ x. p x ≡ true) xs → list_all p xs ≡ true
 list_all-from p [] h = refl
 list_all-from p (x ∷ xs) h = and_from (p x) (list_all p xs) (All-head (λ z. p z ≡ true) x xs h) (list_all-from p xs (All-tail (λ z. p z ≡ true) x xs h))
-
--- what each element passes, one in the middle does
-pub list_all-middle : {X : Type 0} (p : X → Bool) (xs : List X) (x : X) (ys : List X) → list_all p (xs ++ x ∷ ys) ≡ true → p x ≡ true
-list_all-middle p [] x ys e = (and_parts (p x) (list_all p ys) e).0
-list_all-middle p (z ∷ xs) x ys e = list_all-middle p xs x ys (and_parts (p z) (list_all p (xs ++ x ∷ ys)) e).1
-
--- what holds before a place holds of all that stands there
-pub All-front : {X : Type 0} (P : X → Type 0) (xs : List X) (i : ℕ) → i ≤ length xs → AllWithin P xs 0 i → All P (take i xs)
-All-front P xs i l h = λ k d inside.
-    let below : k < i = omega (arith, length-take i xs) in
-    rw (get_or-take i xs k d below) (h k d (omega arith) below)
-
--- what holds of all of a joined list
-pub All-left : {X : Type 0} (P : X → Type 0) (xs ys : List X) → All P (xs ++ ys) → All P xs
-All-left P [] ys h = λ k d l. absurd (omega arith)
-All-left P (x ∷ xs) ys h = All-cons P x xs (All-head P x (xs ++ ys) h) (All-left P xs ys (All-tail P x (xs ++ ys) h))
-
--- and of what stands behind one element
-pub All-right : {X : Type 0} (P : X → Type 0) (xs : List X) (y : X) (ys : List X) → All P (xs ++ y ∷ ys) → All P ys
-All-right P [] y ys h = All-tail P y ys h
-All-right P (x ∷ xs) y ys h = All-right P xs y ys (All-tail P x (xs ++ y ∷ ys) h)

@@ -129,13 +129,3 @@ is_earlier-before base len r s =
       | inl l ↦ lt-ltb r.prefix.len len (omega arith)
       | inr same ↦ let l = same.0 in lt-ltb r.prefix.len len (omega arith)
     ])
-
--- a route of an earlier prefix stands before every route of this one
-pub is_earlier-precedes : (r s : Route) → is_earlier s.prefix.base s.prefix.len r ≡ true → precedes r s ≡ true
-is_earlier-precedes r s e =
-    elim (below_then-true r.prefix.base s.prefix.base (ltb r.prefix.len s.prefix.len) e) [
-      | inl less ↦ below_then-less r.prefix.base s.prefix.base (below_then r.prefix.len s.prefix.len (is_better r s)) less
-      | inr same ↦
-          below_then-same r.prefix.base s.prefix.base (below_then r.prefix.len s.prefix.len (is_better r s)) same.0
-          (below_then-less r.prefix.len s.prefix.len (is_better r s) (ltb-true r.prefix.len s.prefix.len same.1))
-    ]

@@ -30,10 +30,6 @@ fails_behind test before t table i r read fails = λ k d le within.
     let same : get_or t i d ≡ r = get_or_default t i d r (omega arith) ∙ sym read in
     both_ways (test r) fails (subst (λ z. test z ≡ true) same here))
 
--- a place with no route behind it
-pub fails_past : (test : Route → Bool) (t : List Route) (i : ℕ) → length t ≤ i → AllWithin (λ s. test s ≡ false) t i (length t)
-fails_past test t i past = λ k d le within. absurd (omega arith)
-
 -- the base and the length of a route of the prefix
 pub is_at-parts : (base len : ℕ) (r : Route) → is_at base len r ≡ true → (r.prefix.base ≡ base) × (r.prefix.len ≡ len)
 is_at-parts base len r at =

@@ -1,4 +1,4 @@
-ghost use Rattle.std.specs.Prelude.{◌≡◌, ◌-◌, ◌^◌, ◌<◌, ◌≤◌};
+ghost use Rattle.std.specs.Prelude.{◌≡◌, ◌+◌, ◌-◌, ◌^◌, ◌<◌, ◌≤◌};
 ghost use Rattle.ya_core.specs.Tree.{node_of, side_of};
 ghost use Rattle.ya_core.specs.Steps.{entry_access, exit_access, entry_next, exit_next, won, left};
 ghost use Rattle.ya_core.specs.Steps.{access_of, next_of};
@@ -89,6 +89,21 @@ impl Process {
     }
 }
 
+/// The identifier by which the words name the place. The identifier 0 is nil.
+fn identifier_of(place: usize) -> u64
+    requires { place < 64 }
+    ensures { result ≡ place + 1 }
+{
+    place as u64 + 1
+}
+
+/// The place that the identifier names.
+fn place_of(identifier: u64) -> usize
+    ensures { result ≡ identifier - 1 }
+{
+    (identifier as usize).saturating_sub(1)
+}
+
 /// The word C of the side on which the place competes.
 #[tactic(auto, unfolding(crate::specs::Tree::node_of, crate::specs::Tree::side_of))]
 fn own_claim(level: u32, place: usize) -> Word
@@ -125,7 +140,7 @@ fn entry_access(level: u32, place: usize, point: Entry) -> Access
     requires room { place < 64 }
     ensures { result ≡ entry_access level place point }
 {
-    let identifier = place as u64 + 1;
+    let identifier = identifier_of(place);
     match point {
         Entry::E1 => Access::Store(own_claim(level, place), identifier),
         Entry::E2 => Access::Store(turn(level, place), identifier),
@@ -157,13 +172,13 @@ fn entry_next(levels: u32, level: u32, place: usize, point: Entry, value: u64) -
     requires room { place < 64 }
     ensures { result ≡ entry_next levels level place point value }
 {
-    let identifier = place as u64 + 1;
+    let identifier = identifier_of(place);
     let next = match point {
         Entry::E1 => Entry::E2,
         Entry::E2 => Entry::E3,
         Entry::E3 => Entry::E4,
         Entry::E4 if value == 0 => return won(levels, level),
-        Entry::E4 => Entry::E5(value as usize - 1),
+        Entry::E4 => Entry::E5(place_of(value)),
         Entry::E5(rival) if value == identifier => Entry::E6(rival),
         Entry::E6(rival) if value == 0 => Entry::E7(rival),
         Entry::E6(_) | Entry::E7(_) => Entry::E8,
@@ -183,8 +198,8 @@ fn exit_next(level: u32, place: usize, point: Exit, value: u64) -> Process
 {
     match point {
         Exit::X1 => Process::Leaving(level, Exit::X2),
-        Exit::X2 if value == place as u64 + 1 => left(level),
-        Exit::X2 => Process::Leaving(level, Exit::X3((value as usize).saturating_sub(1))),
+        Exit::X2 if value == identifier_of(place) => left(level),
+        Exit::X2 => Process::Leaving(level, Exit::X3(place_of(value))),
         Exit::X3(_) => left(level),
     }
 }

@@ -21,4 +21,4 @@ loop-len-preserved-else-has_prefix c =
 pub returns : goal.returns
 returns c =
     let none : c.loop-len.len ≡ 0 = omega arith in
-    look_up-none c.args.addr c.args.routes.now (subst (λ n. NoneFrom c.args.addr n c.args.routes.now) none c.loop-len.invariant)
+    look_up-none c.args.addr c.args.routes.now c.requires (subst (λ n. NoneFrom c.args.addr n c.args.routes.now) none c.loop-len.invariant)
