@@ -1,0 +1,108 @@
+// The lock's algorithm in plain C: the same words, steps and order, each access sequentially consistent, and the same
+// backing off between two loads of a spin word. Times passages as the lock's benchmark does, one line each on standard error.
+#include <pthread.h>
+#include <sched.h>
+#include <stdatomic.h>
+#include <stdint.h>
+#include <stdio.h>
+#include <stdlib.h>
+#include <time.h>
+
+#ifndef SPACING
+#define SPACING 8
+#endif
+
+typedef _Atomic uint64_t word;
+
+struct tree {
+    int levels;
+    uint64_t places;
+    word *words;
+    uint64_t count; // what is done inside
+};
+
+static word *at(struct tree *t, uint64_t number) { return &t->words[number * SPACING]; }
+
+static uint64_t before(struct tree *t, int h) { return t->places - (t->places >> (h - 1)); }
+
+static word *c_word(struct tree *t, int h, uint64_t node, uint64_t side) { return at(t, 2 * (before(t, h) + node) + side); }
+
+static word *t_word(struct tree *t, int h, uint64_t node) { return at(t, 2 * (t->places - 1) + before(t, h) + node); }
+
+static word *p_word(struct tree *t, int h, uint64_t place) { return at(t, 3 * (t->places - 1) + (h - 1) * t->places + place); }
+
+// As crossbeam's Backoff: it spins for a while, twice as long each time, and then yields.
+static void snooze(unsigned *step) {
+    if (*step <= 6) {
+        for (unsigned i = 0; i < 1u << *step; i++) __builtin_ia32_pause();
+    } else {
+        sched_yield();
+    }
+    if (*step <= 10) ++*step;
+}
+
+static void enter_level(struct tree *t, int h, uint64_t p) {
+    uint64_t u = p + 1, node = p >> h, side = (p >> (h - 1)) & 1;
+    word *turn = t_word(t, h, node), *mine = p_word(t, h, p);
+    atomic_store(c_word(t, h, node, side), u);
+    atomic_store(turn, u);
+    atomic_store(mine, 0);
+    uint64_t r = atomic_load(c_word(t, h, node, 1 - side));
+    if (r == 0 || atomic_load(turn) != u) return;
+    word *other = p_word(t, h, r - 1);
+    if (atomic_load(other) == 0) atomic_store(other, 1);
+    unsigned step = 0;
+    while (atomic_load(mine) < 1) snooze(&step);
+    if (atomic_load(turn) != u) return;
+    step = 0;
+    while (atomic_load(mine) != 2) snooze(&step);
+}
+
+static void leave_level(struct tree *t, int h, uint64_t p) {
+    uint64_t u = p + 1, node = p >> h, side = (p >> (h - 1)) & 1;
+    atomic_store(c_word(t, h, node, side), 0);
+    uint64_t r = atomic_load(t_word(t, h, node));
+    if (r != u) atomic_store(p_word(t, h, r - 1), 2);
+}
+
+struct job {
+    struct tree *tree;
+    uint64_t place, times;
+};
+
+static void *run(void *arg) {
+    struct job *j = arg;
+    struct tree *t = j->tree;
+    for (uint64_t i = 0; i < j->times; i++) {
+        for (int h = 1; h <= t->levels; h++) enter_level(t, h, j->place);
+        t->count++;
+        for (int h = t->levels; h >= 1; h--) leave_level(t, h, j->place);
+    }
+    return 0;
+}
+
+static void times(int levels, unsigned threads, uint64_t passages) {
+    struct tree t = {.levels = levels, .places = 1ull << levels};
+    uint64_t words = 3 * (t.places - 1) + levels * t.places;
+    t.words = aligned_alloc(64, (words * SPACING + 8) / 8 * 64);
+    for (uint64_t i = 0; i < words * SPACING; i++) atomic_init(&t.words[i], 0);
+    pthread_t id[64];
+    struct job jobs[64];
+    struct timespec a, b;
+    clock_gettime(CLOCK_MONOTONIC, &a);
+    for (unsigned i = 0; i < threads; i++) {
+        jobs[i] = (struct job){&t, i, passages / threads};
+        if (pthread_create(&id[i], 0, run, &jobs[i])) exit(1);
+    }
+    for (unsigned i = 0; i < threads; i++) pthread_join(id[i], 0);
+    clock_gettime(CLOCK_MONOTONIC, &b);
+    if (t.count != passages) fprintf(stderr, "c: %lu of %lu passages\n", t.count, passages);
+    fprintf(stderr, "c%d %u %lu %lu\n", levels, threads, passages,
+            (uint64_t)(b.tv_sec - a.tv_sec) * 1000000000u + b.tv_nsec - a.tv_nsec);
+    free(t.words);
+}
+
+int main(void) {
+    for (int levels = 1; levels <= 6; levels++) times(levels, 1, 1000000);
+    for (unsigned threads = 2; threads <= 64; threads *= threads == 4 ? 4 : threads == 16 ? 4 : 2) times(6, threads, 640000);
+}

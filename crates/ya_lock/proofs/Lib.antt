@@ -1,0 +1,10 @@
+pub mod Words
+pub mod Frames
+pub mod Steps
+pub mod Makings
+pub mod Joinings
+pub mod Deals
+pub mod Heights
+pub mod Releases
+pub mod Meanings
+pub mod Marking

@@ -1,0 +1,141 @@
+-- What follows from the rule.
+use Rattle.std.proofs.Common.{◌≡◌, ℕ, ◌≤◌, Bool, true, false, List, [], ◌∷◌, sym, refl, ap, ◌∙◌, subst, Some}
+use Rattle.std.specs.Prelude as std
+use mathlib.Core.Option.{Option, none, some, some-injective, some-ne-none}
+use Rattle.atomic_table.specs.Table.{State}
+use Rattle.ya_core.specs.declared.process.Process.{Process}
+use Rattle.ya_core.specs.declared.process.Process.TheVariants.{Idle, Inside}
+use Rattle.ya_core.proofs.Keeping.{excludes}
+use Rattle.ya_lock.specs.declared.view.View.{View}
+use Rattle.ya_lock.specs.declared.view.View.TheVariants.{Stranger, Maker, Filler, Dealer, Member, Confirmer, Spent}
+use Rattle.ya_lock.specs.Rule.{words_in, place_of, Picture, Knows, Lies, Fits, Rule}
+use Rattle.ya_core.specs.Worlds.{is_inside}
+use Rattle.ya_lock.specs.Meaning.{IsOf, HasProcess, NoneInside, ShowsCore, OneSeatAPlace, OneInside, LiesHome, IsFresh}
+use Rattle.ya_lock.proofs.Steps.{inside_is, none_true}
+
+module _ {V : Type 0} (since : ℕ → V → V → Type 0) (levels : ℕ) where
+  -- a state of the table
+  abbrev St : Type 0
+  St = State (std.Option V) (View V)
+
+  -- what a seat with a process says of the picture
+  record Shown (x : Picture V) (seat place : ℕ) (process : Process) (value : V) : Type 0 where
+    sits : x.seat_of place ≡ some seat
+    is : x.processes place ≡ process
+    knows : Knows since x.content place (is_inside process) value
+
+  -- by cases of the view
+  shown_by : (s : St) (x : Picture V) (seat place : ℕ) (process : Process) (value : V) (view : View V) → IsOf view place process value → Fits since levels s x seat view → Shown x seat place process value
+  shown_by s x seat place process value Stranger e f = absurd e
+  shown_by s x seat place process value Maker e f = absurd e
+  shown_by s x seat place process value Filler e f = absurd e
+  shown_by s x seat place process value (Dealer first v) e f = absurd e
+  shown_by s x seat place process value (Member p y v) e f = record {
+    sits = ap x.seat_of (sym e.0) ∙ f.1;
+    is = ap x.processes (sym e.0) ∙ (f.2 ∙ e.1);
+    knows = subst (λ (k : ℕ). Knows since x.content k (is_inside process) value) e.0
+        (subst (λ (z : Process). Knows since x.content p (is_inside z) value) e.1 (subst (λ (w : V). Knows since x.content p (is_inside y) w) e.2 f.3));
+  }
+  shown_by s x seat place process value (Confirmer p v other seen) e f = record {
+    sits = ap x.seat_of (sym e.0) ∙ f.1;
+    is = ap x.processes (sym e.0) ∙ (f.2 ∙ e.1);
+    knows = subst (λ (k : ℕ). Knows since x.content k (is_inside process) value) e.0
+        (subst (λ (z : Process). Knows since x.content p (is_inside z) value) e.1 (subst (λ (w : V). Knows since x.content p true w) e.2 f.3));
+  }
+  shown_by s x seat place process value Spent e f = absurd e
+
+  -- so it is wherever the rule holds
+  shown : (s : St) (r : Rule since levels s) (seat place : ℕ) (process : Process) (value : V) → HasProcess s seat place process value → Shown r.0 seat place process value
+  shown s r seat place process value h = shown_by s r.0 seat place process value h.0 h.2 (r.1.fits seat h.0 h.1)
+
+  -- a view that has a place has its process
+  of_place : (view : View V) (place : ℕ) → place_of view ≡ some place → (process : Process) × ((value : V) × IsOf view place process value)
+  of_place Stranger place e = absurd (some-ne-none place (sym e))
+  of_place Maker place e = absurd (some-ne-none place (sym e))
+  of_place Filler place e = absurd (some-ne-none place (sym e))
+  of_place (Dealer first v) place e = absurd (some-ne-none place (sym e))
+  of_place (Member p y v) place e = (y, (v, (some-injective p place e, refl, refl)))
+  of_place (Confirmer p v other seen) place e = (Inside, (v, (some-injective p place e, refl, refl)))
+  of_place Spent place e = absurd (some-ne-none place (sym e))
+
+  -- a place that no view has is idle
+  no_seat : (s : St) (r : Rule since levels s) (place : ℕ) → ((seat : ℕ) (process : Process) (value : V) → ¬ HasProcess s seat place process value) → (o : Option ℕ) → r.0.seat_of place ≡ o → r.0.processes place ≡ Idle
+  no_seat s r place away none e = r.1.absent place e
+  no_seat s r place away (some seat) e =
+      let sits = r.1.seated place seat e in let view = of_place sits.0 place sits.2 in
+      absurd (away seat view.0 view.1.0 (sits.0, sits.1, view.1.1))
+
+  -- the words and the views show a state of the core
+  pub shows_core : (s : St) → Rule since levels s → ShowsCore s levels
+  shows_core s r = (
+    r.0.processes,
+    r.1.sound,
+    (λ seat place process value h. (shown s r seat place process value h).is),
+    (λ place away. no_seat s r place away (r.0.seat_of place) refl),
+  )
+
+  -- two views of one place are those of one seat
+  pub one_seat : (s : St) → Rule since levels s → OneSeatAPlace s
+  one_seat s r one other place x y v w h k = some-injective one other (sym (shown s r one place x v h).sits ∙ (shown s r other place y w k).sits)
+
+  -- two views inside are those of one seat
+  pub one_inside : 1 ≤ levels → (s : St) → Rule since levels s → OneInside s
+  one_inside least s r one other p q v w h k =
+      let a = shown s r one p Inside v h in let b = shown s r other q Inside w k in
+      let same : p ≡ q = excludes levels p q (record { words = words_in levels s.words; processes = r.0.processes }) least r.1.sound a.is b.is in
+      some-injective one other (sym a.sits ∙ (ap r.0.seat_of same ∙ b.sits))
+
+  -- who knows of the content shows that it is there
+  content_of : (content : Option V) (place : ℕ) (value : V) (b : Bool) → Knows since content place b value → (now : V) × (content ≡ some now)
+  content_of content place value true k = (value, k)
+  content_of content place value false k = (k.0, k.1)
+
+  -- a place that is inside has a seat whose view is inside
+  has_seat : (s : St) (r : Rule since levels s) (place : ℕ) → r.0.processes place ≡ Inside → NoneInside s → (o : Option ℕ) → r.0.seat_of place ≡ o → ⊥
+  has_seat s r place is away none e = let both : Inside ≡ Idle = sym is ∙ r.1.absent place e in cc
+  has_seat s r place is away (some seat) e =
+      let sits = r.1.seated place seat e in let view = of_place sits.0 place sits.2 in
+      let x : Process = view.0 in let v : V = view.1.0 in
+      let a = shown s r seat place x v (sits.0, sits.1, view.1.1) in
+      away seat place v (sits.0, sits.1, subst (λ (y : Process). IsOf sits.0 place y v) (sym a.is ∙ is) view.1.1)
+
+  -- the value lies home exactly where no view is inside
+  pub lies_home : (s : St) → Rule since levels s → LiesHome s
+  lies_home s r = (
+    (λ seat place value h. let a = shown s r seat place Inside value h in
+        (subst (λ (c : Option V). Lies since r.0.processes s.homes c) a.knows r.1.lies).1 place (ap is_inside a.is)),
+    (λ seat place process value h away.
+        let a = shown s r seat place process value h in let c = content_of r.0.content place value (is_inside process) a.knows in (
+          c.0,
+          (subst (λ (c : Option V). Lies since r.0.processes s.homes c) c.1 r.1.lies).0
+              (λ k. none_true (is_inside (r.0.processes k)) (λ e. has_seat s r k (inside_is (r.0.processes k) e) away (r.0.seat_of k) refl)),
+        )),
+  )
+
+  -- what lies in the first slot
+  first_home : List (Option (std.Option V)) → Option (std.Option V)
+  first_home [] = none
+  first_home (h ∷ hs) = h
+
+  -- a slot that is home has one value
+  home_is : (a b : V) → ◌≡◌ {A = List (Option (std.Option V))} (some (Some a) ∷ []) (some (Some b) ∷ []) → a ≡ b
+  unfolding first_home
+  home_is a b e = let inner : Some a ≡ Some b = some-injective (Some a) (Some b) (ap first_home e) in cc
+
+  -- a slot that is out has none
+  home_not : (a : V) → ◌≡◌ {A = List (Option (std.Option V))} (none ∷ []) (some (Some a) ∷ []) → ⊥
+  unfolding first_home
+  home_not a e = some-ne-none (Some a) (sym (ap first_home e))
+
+  -- what a place away has seen may have become the value as it is
+  pub is_fresh : (s : St) → Rule since levels s → IsFresh s since
+  is_fresh s r seat place seen now h =
+      let a = shown s r seat place h.0 seen h.2 in
+      let out : is_inside h.0 ≡ false = none_true (is_inside h.0) (λ e. h.1 (inside_is h.0 e)) in
+      let k = subst (λ (b : Bool). Knows since r.0.content place b seen) out a.knows in
+      let lies = subst (λ (c : Option V). Lies since r.0.processes s.homes c) k.1 r.1.lies in (
+        (λ home.
+            let same : s.homes ≡ some (Some k.0) ∷ [] = lies.0 (λ p. none_true (is_inside (r.0.processes p)) (λ e. home_not now (sym (lies.1 p e) ∙ home))) in
+            subst (λ (v : V). since place seen v) (home_is k.0 now (sym same ∙ home)) k.2),
+        (λ one other g. let b = shown s r one other Inside now g in subst (λ (v : V). since place seen v) (some-injective k.0 now (sym k.1 ∙ b.knows)) k.2),
+      )

@@ -1,0 +1,68 @@
+use Rattle.std.proofs.Common.{arith, ◌≡◌, ℕ, ◌-◌, ◌^◌, ◌≤◌, List, sym, ap, ◌∙◌, subst, slice_get, Some}
+use Rattle.atomic_table.specs.Table.{Allows, Splits}
+use Rattle.std.specs.Prelude.{Option}
+use Rattle.atomic_table.specs.Table.{Me}
+use Rattle.std.proofs.lemmas.Nat.{pow_pos}
+use Rattle.ya_core.specs.Walks.{Walk}
+use Rattle.ya_lock.specs.Lock.{IdlePass}
+use Rattle.ya_lock.specs.declared.view.View.{View}
+use Rattle.ya_lock.specs.Rule.{Rule}
+use Rattle.ya_lock.specs.Moves.{dealt, kept, Ends}
+use Rattle.ya_lock.proofs.Makings.{splits, ends}
+use Rattle.ya_lock.proofs.Deals.{one_more}
+use Rattle.ya_lock.proofs.tree_lock.TreeLock.dealt.Goals as goal
+
+pub split_seat-seat-requires : goal.split_seat-seat-requires
+split_seat-seat-requires g c =
+    let i = c.loop-place.invariant in let own = c.self.invariant in let L : ℕ = g.row.L in
+    let places : ℕ = 2 ^ L in
+    let last : c.places-last.result ≡ 2 ^ c.args.shape = c.places-last.ensures.value in
+    let shape : 2 ^ c.args.shape ≡ places = ap (λ (n : ℕ). 2 ^ n) c.requires.0 in
+    let below = c.loop-place-test.true in (
+      i.same ∙ sym c.self.view_is,
+      omega (arith, own.3),
+      subst (λ (key : ℕ). Splits (Rule g.V.Kept.since key) c.loop-place.maker.id c.loop-place.maker.me.0 (kept c.loop-place.maker.me.0) (dealt c.loop-place.maker.me.0)) (sym own.2)
+          (subst (λ (v : View g.row.V.Denot). Splits (Rule g.V.Kept.since L) c.loop-place.maker.id v (kept v) (dealt v)) (sym (ap (λ m. m.0) i.view))
+          (splits g.V.Kept.since g.V.Kept.since_same L c.loop-place.maker.id c.loop-place.place c.args.seen.value (omega arith))),
+    )
+
+pub loop-place-preserved : goal.loop-place-preserved
+loop-place-preserved g c =
+    let i = c.loop-place.invariant in let e = c.split_seat-seat.ensures in let p = c.push_reserved.ensures in let n : ℕ = c.loop-place.place in let w = c.new.ensures in
+    let f : ℕ → IdlePass g.row.V.Denot = λ k. record { lock = c.args.self.now; place = k; seen = c.args.seen.value; remote = 0 } in
+    let x : IdlePass g.row.V.Denot = record { lock = c.split_seat-seat.result.table_id; place = c.new.result.place; seen = c.again.result.value; remote = c.new.result.remote } in
+    let lock : c.split_seat-seat.result.table_id ≡ c.args.self.now = e.3 ∙ i.same in
+    let is : x ≡ f n = λ j. record { lock = lock j; place = (w j).place; seen = c.again.ensures j; remote = (w j).remote } in
+    record {
+      same = e.0 ∙ i.same;
+      view = e.2 ∙ ap (λ (m : Me (Option g.row.V.Denot) (View g.row.V.Denot)). (kept m.0, m.1)) i.view;
+      count = omega (arith, p.len, i.count);
+      made = λ k h. subst (λ (l : List (IdlePass g.row.V.Denot)). slice_get l k ≡ Some (f k)) (sym p.items) (one_more f c.loop-place.passes.items n x (sym c.loop-place.passes.ok.0 ∙ i.count) is i.made k h);
+      capacity = subst (λ (m : ℕ). 2 ^ g.row.L ≤ m) (sym p.capacity) i.capacity;
+    }
+
+pub load-requires : goal.load-requires
+load-requires g c =
+    let i = c.loop-place.invariant in let own = c.self.invariant in let L : ℕ = g.row.L in (
+      i.same ∙ sym c.self.view_is,
+      omega (arith, own.3),
+      subst (λ (key : ℕ). Allows (Rule g.V.Kept.since key) c.self.inside.table.shared.table_id.slots c.loop-place.maker.id c.loop-place.maker.me 0 (λ n. n) (λ n then'. Ends c.loop-place.maker.me.0 c.loop-place.maker.me.1 then')) (sym own.2)
+          (ends g.V.Kept.since g.V.Kept.since_same L c.self.inside.table.shared.table_id.slots c.loop-place.maker.id 0 c.loop-place.place c.args.seen.value c.loop-place.maker.me (ap (λ m. m.0) i.view)),
+    )
+
+pub returns-clause-passes : goal.returns-clause-passes
+returns-clause-passes g c =
+    let i = c.loop-place.invariant in let e = c.load.ensures in let p = c.push_reserved-2.ensures in let n : ℕ = c.loop-place.place in let w = c.new-2.ensures in
+    let L : ℕ = g.row.L in let places : ℕ = 2 ^ L in let count : ℕ = c.places-last.result in
+    let all : count ≡ places = c.places-last.ensures.value ∙ ap (λ (m : ℕ). 2 ^ m) c.requires.0 in
+    let some : 1 ≤ places = pow_pos L in
+    let reached : count - 1 ≤ n = c.loop-place-test.false in
+    let within : n ≤ count - 1 = c.loop-place.auto.place-end in
+    let last : count - 1 ≡ n = omega arith in
+    let f : ℕ → IdlePass g.row.V.Denot = λ k. record { lock = c.args.self.now; place = k; seen = c.args.seen.value; remote = 0 } in
+    let x : IdlePass g.row.V.Denot = record { lock = c.load.new.seat.table_id; place = c.new-2.result.place; seen = c.args.seen.value; remote = c.new-2.result.remote } in
+    let lock : c.load.new.seat.table_id ≡ c.args.self.now = e.0 ∙ i.same in
+    let place : c.new-2.result.place ≡ n = ap (λ (m : Walk). m.place) w ∙ last in
+    let is : x ≡ f n = λ j. record { lock = lock j; place = place j; seen = c.args.seen.value; remote = (w j).remote } in
+    λ k h. subst (λ (l : List (IdlePass g.row.V.Denot)). slice_get l k ≡ Some (f k)) (sym p.items)
+    (one_more f c.loop-place.passes.items n x (sym c.loop-place.passes.ok.0 ∙ i.count) is i.made k (omega arith))

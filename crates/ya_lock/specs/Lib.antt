@@ -1,0 +1,6 @@
+pub mod Rule
+pub mod Moves
+pub mod Lock
+pub mod Lent
+pub mod Meaning
+pub mod Marking

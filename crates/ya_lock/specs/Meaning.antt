@@ -1,0 +1,59 @@
+-- What the rule says of the words, the lent value and the views of all seats, at every moment between two atomic steps.
+use Rattle.std.specs.Prelude.{◌≡◌, ◌≢◌, ℕ, List, [], ◌∷◌, Some}
+use Rattle.std.specs.Prelude as std
+use mathlib.Core.Option.{none, some}
+use lib.ListN.{get_elem?}
+use Rattle.atomic_table.specs.Table.{State}
+use Rattle.ya_core.specs.declared.process.Process.{Process}
+use Rattle.ya_core.specs.declared.process.Process.TheVariants.{Idle, Inside}
+use Rattle.ya_core.specs.Soundness.{IsSound}
+use Rattle.ya_lock.specs.declared.view.View.{View}
+use Rattle.ya_lock.specs.declared.view.View.TheVariants.{Member, Confirmer}
+use Rattle.ya_lock.specs.Rule.{words_in}
+
+module _ {V : Type 0} where
+  -- the view is that of the place's process, which has seen the value or, inside, found it
+  abbrev pub IsOf : View V → ℕ → Process → V → Type 0
+  IsOf (Member place process value) p x v = (place ≡ p) × (process ≡ x) × (value ≡ v)
+  IsOf (Confirmer place value other seen) p x v = (place ≡ p) × (Inside ≡ x) × (value ≡ v)
+  IsOf _ p x v = ⊥
+
+  module _ (s : State (std.Option V) (View V)) where
+    -- the seat has the process of the place
+    abbrev pub HasProcess : ℕ → ℕ → Process → V → Type 0
+    HasProcess seat place process value = (view : View V) × (get_elem? s.views seat ≡ some view) × IsOf view place process value
+
+    -- it has one that isn't inside
+    abbrev pub IsAway : ℕ → ℕ → V → Type 0
+    IsAway seat place value = (process : Process) × (process ≢ Inside) × HasProcess seat place process value
+
+    -- no seat has one that is inside
+    abbrev pub NoneInside : Type 0
+    NoneInside = (seat place : ℕ) (value : V) → ¬ HasProcess seat place Inside value
+
+    -- the invariant of the core holds of the words and of the processes that the views show; a place without a view is idle
+    abbrev pub ShowsCore : ℕ → Type 0
+    ShowsCore levels =
+        (processes : ℕ → Process) × IsSound levels (record { words = words_in levels s.words; processes = processes })
+        × ((seat place : ℕ) (process : Process) (value : V) → HasProcess seat place process value → processes place ≡ process)
+        × ((place : ℕ) → ((seat : ℕ) (process : Process) (value : V) → ¬ HasProcess seat place process value) → processes place ≡ Idle)
+
+    -- two views of one place are those of one seat
+    abbrev pub OneSeatAPlace : Type 0
+    OneSeatAPlace = (one other place : ℕ) (x y : Process) (v w : V) → HasProcess one place x v → HasProcess other place y w → one ≡ other
+
+    -- two views inside are those of one seat
+    abbrev pub OneInside : Type 0
+    OneInside = (one other p q : ℕ) (v w : V) → HasProcess one p Inside v → HasProcess other q Inside w → one ≡ other
+
+    -- once there are processes, the value lies home exactly where none is inside
+    abbrev pub LiesHome : Type 0
+    LiesHome =
+        ((seat place : ℕ) (value : V) → HasProcess seat place Inside value → s.homes ≡ none ∷ [])
+        × ((seat place : ℕ) (process : Process) (value : V) → HasProcess seat place process value → NoneInside → (now : V) × (s.homes ≡ some (Some now) ∷ []))
+
+    -- what a place away has seen may have become, by others, the value that lies home or that the one inside found
+    abbrev pub IsFresh : (ℕ → V → V → Type 0) → Type 0
+    IsFresh since =
+        (seat place : ℕ) (seen now : V) → IsAway seat place seen
+        → ((s.homes ≡ some (Some now) ∷ [] → since place seen now) × ((one other : ℕ) → HasProcess one other Inside now → since place seen now))

@@ -1,0 +1,81 @@
+-- What each atomic step of a seat tells its thread.
+use Rattle.std.specs.Prelude.{◌≡◌, ℕ, ◌+◌, Bool, true, false, List, [], ◌∷◌, Some, None}
+use Rattle.std.specs.Prelude as std
+use Rattle.atomic_table.specs.Table.{Me}
+use Rattle.ya_core.specs.declared.word.Access.{Access}
+use Rattle.ya_core.specs.declared.word.Access.TheVariants.{Load, Store}
+use Rattle.ya_core.specs.declared.process.Process.TheVariants.{Idle, Inside}
+use Rattle.ya_core.specs.Steps.{access_of, next_of}
+use Rattle.ya_core.specs.Walks.{IsTold}
+use Rattle.ya_lock.specs.declared.view.View.{View}
+use Rattle.ya_lock.specs.declared.view.View.TheVariants.{Maker, Filler, Dealer, Member, Confirmer}
+use Rattle.ya_core.specs.Worlds.{is_inside}
+
+-- the slots that a seat has taken, each with its value
+abbrev pub Slots : Type 0 → Type 0
+Slots V = List (ℕ × std.Option V)
+
+-- the number that an access leaves in its word, where it found this one
+abbrev pub left_by : Access → ℕ → ℕ
+left_by (Load word) found = found
+left_by (Store word value) found = value
+
+module _ {V : Type 0} where
+  -- a process that is to leave the inside has put a value in the slot which its place may leave of what it found; every other one has no slot
+  abbrev pub IsReady : (done : ℕ → V → V → Type 0) → Bool → ℕ → V → Slots V → Type 0
+  IsReady done true place value slots = (next : V) × (slots ≡ (0, Some next) ∷ []) × done place value next
+  IsReady done false place value slots = slots ≡ []
+
+  -- the swap that begins to make the passes: the seat is the maker where it found 0
+  abbrev pub Begins : ℕ → Me (std.Option V) (View V) → Type 0
+  Begins found me = (found ≡ 0 → me ≡ (Maker, [])) × (me.1 ≡ [])
+
+  -- the maker takes the empty slot
+  abbrev pub Takes : View V → Me (std.Option V) (View V) → Type 0
+  Takes Maker me = me ≡ (Filler, (0, None) ∷ [])
+  Takes _ me = Unit {0}
+
+  -- it gives the slot home with the value that it put there
+  abbrev pub Gives : View V → Slots V → Me (std.Option V) (View V) → Type 0
+  Gives Filler slots me = (value : V) → slots ≡ (0, Some value) ∷ [] → me ≡ (Dealer 0 value, [])
+  Gives _ slots me = Unit {0}
+
+  -- it deals the pass of its first place, which it keeps no longer
+  abbrev pub dealt : View V → View V
+  dealt (Dealer first value) = Member first Idle value
+  dealt view = view
+
+  -- what it keeps: the places behind that one
+  abbrev pub kept : View V → View V
+  kept (Dealer first value) = Dealer (first + 1) value
+  kept view = view
+
+  -- it becomes the pass of its last place
+  abbrev pub Ends : View V → Slots V → Me (std.Option V) (View V) → Type 0
+  Ends (Dealer first value) slots me = me ≡ (Member first Idle value, slots)
+  Ends _ slots me = Unit {0}
+
+  -- the process inside takes in an idle one
+  abbrev pub joined : View V → View V → View V
+  joined (Member place process value) (Member other process' seen) = Confirmer place value other seen
+  joined view other = view
+
+  module _ (since : ℕ → V → V → Type 0) where
+    -- the step that leaves the inside gives the value of the slot home, the one that goes inside takes the value that lies there, and every other one leaves the slots alone
+    abbrev pub Carries : (before after : Bool) → ℕ → V → Slots V → V → Slots V → Type 0
+    Carries true after place value slots next slots' = (slots ≡ (0, Some next) ∷ []) × (slots' ≡ [])
+    Carries false true place value slots next slots' = since place value next × (slots' ≡ (0, Some next) ∷ [])
+    Carries false false place value slots next slots' = (next ≡ value) × (slots' ≡ slots)
+
+    -- a process takes the step that is due: it finds what can stand there, and goes on as the core says
+    abbrev pub Goes : ℕ → ℕ → View V → Slots V → Me (std.Option V) (View V) → Type 0
+    Goes levels found (Member place process value) slots me =
+        IsTold (Some (access_of levels place process)) found
+        × ((next : V) × (me.0 ≡ Member place (next_of levels place process found) next)
+        × Carries (is_inside process) (is_inside (next_of levels place process found)) place value slots next me.1)
+    Goes levels found _ slots me = Unit {0}
+
+    -- the process inside learns what may have come of the value that the other has seen
+    abbrev pub Learns : View V → Slots V → Me (std.Option V) (View V) → Type 0
+    Learns (Confirmer place value other seen) slots me = since other seen value × (me ≡ (Member place Inside value, slots))
+    Learns _ slots me = Unit {0}

@@ -1,0 +1,91 @@
+-- The rule of the running lock: what its words, the lent value and the views of all seats show between any two atomic steps.
+use Rattle.std.specs.Prelude.{◌≡◌, ◌≢◌, ℕ, ◌+◌, ◌*◌, ◌^◌, ◌<◌, ◌≤◌, Bool, true, false, if◌then◌else◌, List, [], ◌∷◌, length, slice_index, None, Some}
+use Rattle.std.specs.Prelude as std
+use mathlib.Core.Option.{Option, none, some}
+use lib.ListN.{get_elem?}
+use Rattle.atomic_table.specs.Table.{State}
+use Rattle.ya_core.specs.declared.word.Word.{Word}
+use Rattle.ya_core.specs.declared.process.Process.{Process}
+use Rattle.ya_core.specs.declared.process.Process.TheVariants.{Idle, Inside}
+use Rattle.ya_core.specs.Tree.{number_of, count_of_words}
+use Rattle.ya_core.specs.Soundness.{IsSound}
+use Rattle.ya_core.specs.Row.{is_word}
+use Rattle.ya_core.specs.Worlds.{is_inside}
+use Rattle.ya_lock.specs.declared.view.View.{View}
+use Rattle.ya_lock.specs.declared.view.View.TheVariants.{Stranger, Maker, Filler, Dealer, Member, Confirmer, Spent}
+
+-- the words of the tree lie a cache line apart, in the order of their numbers, and behind them lies the making word
+unfoldable pub index_of : ℕ → Word → ℕ
+index_of levels word = 8 * number_of levels word
+
+-- where the making word lies, behind all words of the tree
+unfoldable pub making_index : ℕ → ℕ
+making_index levels = 8 * count_of_words levels
+
+-- what the words of the tree hold
+unfoldable pub words_in : ℕ → List ℕ → Word → ℕ
+words_in levels row word = if is_word levels word then slice_index row (index_of levels word) else 0
+
+-- the place of a view that is a process's
+abbrev pub place_of : {V : Type 0} → View V → Option ℕ
+place_of Stranger = none
+place_of Maker = none
+place_of Filler = none
+place_of (Dealer first value) = none
+place_of (Member place process value) = some place
+place_of (Confirmer place value other seen) = some place
+place_of Spent = none
+
+-- what all seats together show: the seat of each place, where one has its process; each place's process; the seat that makes the passes; and the lent value, once it was given
+pub record Picture (V : Type 0) : Type 0 where
+  pub seat_of : ℕ → Option ℕ
+  pub processes : ℕ → Process
+  pub maker : Option ℕ
+  pub content : Option V
+
+module _ {V : Type 0} (since : ℕ → V → V → Type 0) where
+  -- inside, the value that was found is the content; else the content is what the value may have become since it was seen
+  abbrev pub Knows : Option V → ℕ → Bool → V → Type 0
+  Knows content place true value = content ≡ some value
+  Knows content place false value = (now : V) × (content ≡ some now) × since place value now
+
+  -- the value lies home exactly where no process is inside
+  abbrev pub Lies : (ℕ → Process) → List (Option (std.Option V)) → Option V → Type 0
+  Lies processes homes none = Unit {0}
+  Lies processes homes (some value) =
+      (((place : ℕ) → is_inside (processes place) ≡ false) → homes ≡ some (Some value) ∷ []) × ((place : ℕ) → is_inside (processes place) ≡ true → homes ≡ none ∷ [])
+
+  module _ (levels : ℕ) (s : State (std.Option V) (View V)) (x : Picture V) where
+    -- `new` has begun to make the passes
+    abbrev pub IsBegun : Type 0
+    IsBegun = slice_index s.words (making_index levels) ≢ 0
+
+    -- the view of a seat fits the picture
+    abbrev pub Fits : ℕ → View V → Type 0
+    Fits seat Stranger = Unit {0}
+    Fits seat Maker = IsBegun × (x.maker ≡ some seat) × (x.content ≡ none) × (s.homes ≡ some None ∷ [])
+    Fits seat Filler = IsBegun × (x.maker ≡ some seat) × (x.content ≡ none) × (length s.homes ≡ 1)
+    Fits seat (Dealer first value) =
+        IsBegun × (x.maker ≡ some seat) × (first < 2 ^ levels) × ((place : ℕ) → first ≤ place → (x.seat_of place ≡ none) × Knows x.content place false value)
+    Fits seat (Member place process value) = IsBegun × (x.seat_of place ≡ some seat) × (x.processes place ≡ process) × Knows x.content place (is_inside process) value
+    Fits seat (Confirmer place value other seen) =
+        IsBegun × (x.seat_of place ≡ some seat) × (x.processes place ≡ Inside) × Knows x.content place true value × Knows x.content other false seen
+    Fits seat Spent = IsBegun
+
+    -- the picture is what the words, the value and the views show
+    pub record Obeys : Type 0 where
+      -- making: while the making word is 0 the slot is empty, and before the value was given no seat has a process
+      pub wide : length s.words ≡ making_index levels + 1
+      pub unmade : slice_index s.words (making_index levels) ≡ 0 → (x.content ≡ none) × (s.homes ≡ some None ∷ [])
+      pub before : x.content ≡ none → (place : ℕ) → x.seat_of place ≡ none
+      -- lock: the seat of a place has its process, a place without a seat is idle, and the invariant of the core holds of the words and all processes
+      pub seated : (place seat : ℕ) → x.seat_of place ≡ some seat → (view : View V) × (get_elem? s.views seat ≡ some view) × (place_of view ≡ some place)
+      pub absent : (place : ℕ) → x.seat_of place ≡ none → x.processes place ≡ Idle
+      pub sound : IsSound levels (record { words = words_in levels s.words; processes = x.processes })
+      -- value: it lies home exactly where no process is inside, and each seat knows what its view says
+      pub lies : Lies x.processes s.homes x.content
+      pub fits : (seat : ℕ) (view : View V) → get_elem? s.views seat ≡ some view → Fits seat view
+
+  -- some picture is what the words, the value and the views show
+  abbrev pub Rule : ℕ → State (std.Option V) (View V) → Type 0
+  Rule levels s = (x : Picture V) × Obeys levels s x

@@ -1,0 +1,58 @@
+//! The lent value inside the lock.
+ghost use Rattle.std.specs.Prelude.{◌≡◌};
+ghost use Rattle.std.specs.Borrow.{Lends, sem};
+ghost use Rattle.ya_lock.specs.contracts.guard.Guard.{the_row};
+ghost use Rattle.ya_lock.specs.Lent.{with_value};
+
+use crate::recall::Recall;
+use crate::rule::LockSeat;
+use std::marker::Model;
+use ya_core::Walker;
+
+/// The lent value, while the place of a pass is inside. Spend it by `leave` or `close`. Contracts see its lock, its place,
+/// the value as it was found at the entry and as it is now, and how many remote accesses the entry made.
+pub struct Guard<V> {
+    pub(crate) seat: LockSeat<V>,
+    pub(crate) walker: Walker,
+    pub(crate) place: usize,
+    pub(crate) value: V,
+    pub(crate) found: Recall<V>,
+}
+
+impl<V> Model for Guard<V> {
+    ghost use Rattle.std.specs.Prelude.{◌≡◌, false, [], ◌∷◌, None};
+    ghost use Rattle.ya_core.specs.declared.process.Process.TheVariants as process;
+    ghost use Rattle.ya_lock.specs.Lock.{OpenGuard, HasTree};
+
+    ghost Value = { OpenGuard V };
+
+    ghost use Rattle.ya_lock.specs.declared.view.View.TheVariants.{Member};
+
+    ghost view = { λ g. record { lock = g.seat.table_id; place = g.walker.place; found = g.found.value; value = g.value; remote = g.walker.remote } };
+
+    ghost invariant = { λ g. (g.seat.me ≡ (Member g.walker.place process.Inside g.found.value, (0, None) ∷ [])) × (g.walker.process ≡ process.Inside) × (g.walker.begun ≡ false) × HasTree g.seat.table_id g.walker.levels × (g.place ≡ g.walker.place) };
+}
+
+impl<V> Guard<V> {
+    /// The lent value.
+    pub fn get(&self) -> &V
+        ensures { result.now ≡ self.now.value }
+    {
+        &self.value
+    }
+
+    /// The lent value, to be changed. `leave` says what its place may do to it.
+    pub fn get_mut(&mut self) -> &mut V
+        ensures* writes_back { sem 𝓛 (Lends (the_row V.row) V.row self.entry result (with_value self.old)) }
+        ensures value { result.now ≡ self.old.value }
+    {
+        &mut self.value
+    }
+
+    /// The place that is inside.
+    pub fn place(&self) -> usize
+        ensures { result ≡ self.now.place }
+    {
+        self.place
+    }
+}

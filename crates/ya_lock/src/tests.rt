@@ -1,0 +1,204 @@
+//! Locks at work: values that go in and come out, threads that count, and passes that are confirmed.
+ghost use Rattle.std.specs.Prelude.{◌≡◌, ◌≢◌, ℕ, ◌+◌, ◌^◌, ◌<◌, ◌≤◌, [], ◌∷◌, ◌++◌, length, vec_len, IfOk, All};
+ghost use Rattle.ya_lock.specs.Marking.{Grows, Adds, grows_same, adds_same, grows_by_other};
+
+use crate::{Kept, NoMemory, Pass, TreeLock};
+use std::alloc::Global;
+use std::sync::Wait;
+use std::test::Fail;
+use std::thread;
+use std::thread::Threads;
+
+/// A number that any place may change in any way.
+#[derive(Debug, Drop, PartialEq)]
+struct Number(u64);
+
+impl Kept for Number {
+    ghost since = { λ _ _ _. Unit {0} };
+
+    ghost done = { λ _ _ _. Unit {0} };
+
+    ghost since_same = { λ _ _. tt };
+
+    ghost done_same = { λ _ _. tt };
+
+    ghost since_done = { λ _ _ _ _ _ _ _ _. tt };
+}
+
+/// The places that entered, in order. A place adds marks of its own alone.
+#[derive(Drop)]
+struct Marks {
+    places: Vec<usize>,
+}
+
+impl Kept for Marks {
+    ghost since = { λ place a b. Grows place a.places.items b.places.items };
+
+    ghost done = { λ place a b. Adds place a.places.items b.places.items };
+
+    ghost since_same = { λ place a. grows_same place a.places.items };
+
+    ghost done_same = { λ place a. adds_same place a.places.items };
+
+    ghost since_done = { λ place other a b c ne s d. grows_by_other place other a.places.items b.places.items c.places.items ne s d };
+}
+
+impl Marks {
+    fn new(alloc: Global) -> Marks {
+        Marks {
+            places: Vec::new(alloc),
+        }
+    }
+
+    // Adds a mark, or leaves the list as it is where memory runs out.
+    fn add(&mut self, place: usize)
+        ensures { Adds place self.old.places.items self.new.places.items }
+    {
+        let _ = self.places.push(place);
+    }
+
+    // How many marks the place has made.
+    fn count(&self, place: usize) -> usize {
+        self.places.iter().filter(|p| **p == place).count()
+    }
+}
+
+// A lock and its passes.
+fn made<V: Kept + Drop, const L: u32>(
+    alloc: Global,
+    value: V,
+) -> Result<(TreeLock<V, L>, Vec<Pass<V>>), NoMemory>
+    requires { (1 ≤ L) × (L ≤ 6) }
+    ensures { IfOk result (λ m. (vec_len m.1 ≡ 2 ^ L) × All (λ p. p.lock ≡ m.0) m.1.items) }
+{
+    match TreeLock::new(alloc, value) {
+        Ok((lock, passes)) => Ok((lock, passes)),
+        Err((_, NoMemory)) => Err(NoMemory),
+    }
+}
+
+// Enters as often as that, and makes a mark each time.
+fn mark<R: Wait, const L: u32>(
+    rt: &R,
+    lock: &TreeLock<Marks, L>,
+    pass: Pass<Marks>,
+    times: usize,
+) -> Pass<Marks>
+    requires { pass.lock ≡ lock.now }
+    ensures { result.lock ≡ lock.now }
+{
+    let mut pass = pass;
+    for _ in 0..times {
+        let mut guard = lock.enter(rt, pass);
+        let place = guard.place();
+        guard.get_mut().add(place);
+        pass = lock.leave(guard);
+    }
+    pass
+}
+
+#[test]
+fn lends_the_value(rt: HostRuntime) -> Result<(), Fail> {
+    let (lock, mut passes) = made::<Number, 1>(rt.alloc(), Number(7))?;
+    let Some(pass) = passes.pop() else {
+        return Ok(());
+    };
+    assert_eq!(rt; pass.place(), 1);
+    let mut guard = lock.enter(&rt, pass);
+    assert_eq!(rt; guard.place(), 1);
+    assert_eq!(rt; guard.get().0, 7);
+    *guard.get_mut() = Number(8);
+    let value = lock.close(guard);
+    assert_eq!(rt; value.0, 8);
+    Ok(())
+}
+
+#[test]
+fn hands_back_what_it_refuses(rt: HostRuntime) {
+    match TreeLock::<Number, 6>::new(rt.alloc(), Number(7)) {
+        Ok((_, passes)) => assert_eq!(rt; passes.len(), 64),
+        Err((value, NoMemory)) => assert_eq!(rt; value, Number(7)),
+    }
+}
+
+// Enters with the last pass, confirms all others under its guard, and closes the lock.
+fn settle<R: Wait, const L: u32>(
+    rt: &R,
+    lock: TreeLock<Marks, L>,
+    passes: Vec<Pass<Marks>>,
+) -> Option<Marks>
+    requires { All (λ p. p.lock ≡ lock) passes.items }
+{
+    let mut passes = passes;
+    let pass = passes.pop()?;
+    let mut guard = lock.enter(rt, pass);
+    while let Some(pass) = passes.pop() {
+        guard = lock.confirm(guard, pass);
+    }
+    Some(lock.close(guard))
+}
+
+// The marks of two threads, which make so many each.
+fn by_two<R: Threads + Wait + Sync>(rt: &R, alloc: Global, times: usize) -> Result<Marks, Fail> {
+    let (lock, mut passes) = made::<Marks, 1>(alloc, Marks::new(alloc))?;
+    let second = passes.pop().ok_or("a second pass")?;
+    let first = passes.pop().ok_or("a first pass")?;
+    let shared = &lock;
+    let (first, second) = thread::join(
+        rt,
+        move || mark(rt, shared, first, times),
+        move || mark(rt, shared, second, times),
+    );
+    let guard = lock.enter(rt, first);
+    let guard = lock.confirm(guard, second);
+    Ok(lock.close(guard))
+}
+
+// The marks of a thread for each place, which make so many each.
+fn by_all<R: Threads + Wait + Sync, const L: u32>(
+    rt: &R,
+    alloc: Global,
+    times: usize,
+) -> Result<Marks, Fail>
+    requires { (1 ≤ L) × (L ≤ 6) }
+{
+    let (lock, passes) = made::<Marks, L>(alloc, Marks::new(alloc))?;
+    let shared = &lock;
+    let passes = thread::map_vec(
+        rt,
+        passes,
+        &|pass: Pass<Marks>| -> Pass<Marks>
+            requires { pass.lock ≡ shared.now }
+            ensures { result.lock ≡ shared.entry.now }
+        { mark(rt, shared, pass, times) },
+    )?;
+    Ok(settle(rt, lock, passes).ok_or("a pass")?)
+}
+
+#[test]
+fn two_threads_count(rt: HostRuntime) -> Result<(), Fail> {
+    let marks = by_two(&rt, rt.alloc(), 1_000)?;
+    assert_eq!(rt; marks.places.len(), 2_000);
+    assert_eq!(rt; (marks.count(0), marks.count(1)), (1_000, 1_000));
+    Ok(())
+}
+
+#[test]
+fn eight_threads_count(rt: HostRuntime) -> Result<(), Fail> {
+    let marks = by_all::<_, 3>(&rt, rt.alloc(), 200)?;
+    assert_eq!(rt; marks.places.len(), 1_600);
+    for place in 0..8 {
+        assert_eq!(rt; marks.count(place), 200);
+    }
+    Ok(())
+}
+
+#[test]
+fn an_open_guard_keeps_no_other_pass_from_being_confirmed(rt: HostRuntime) -> Result<(), Fail> {
+    let (lock, passes) = made::<Marks, 1>(rt.alloc(), Marks::new(rt.alloc()))?;
+    let pair = settle(&rt, lock, passes).ok_or("two passes")?;
+    let (lock, passes) = made::<Marks, 4>(rt.alloc(), Marks::new(rt.alloc()))?;
+    let sixteen = settle(&rt, lock, passes).ok_or("sixteen passes")?;
+    assert!(rt; pair.places.is_empty() && sixteen.places.is_empty());
+    Ok(())
+}

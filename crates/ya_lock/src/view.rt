@@ -1,0 +1,21 @@
+//! What a seat knows, for the proofs alone.
+use ya_core::Process;
+
+/// What a seat of the lock's table knows. No value of it is made.
+pub enum View<V> {
+    /// Nothing. A table begins with one such seat.
+    Stranger,
+    /// It is to make the passes. The slot is at home and empty.
+    Maker,
+    /// The same, and it has taken the empty slot.
+    Filler,
+    /// It gave the value home, and is to make the passes of the places from this one on. The value that it gave.
+    Dealer(usize, V),
+    /// A process: its place, where it stands, and the value that it has seen or, inside, that it found.
+    Member(usize, Process, V),
+    /// A process inside which has joined an idle one: its place and the value that it found, then the place of the
+    /// other and the value that the other has seen.
+    Confirmer(usize, V, usize, V),
+    /// It was joined to another seat.
+    Spent,
+}
