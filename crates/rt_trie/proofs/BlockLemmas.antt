@@ -1,0 +1,138 @@
+-- How the blocks of two prefixes lie to each other: in a half, or apart.
+use Rattle.std.proofs.Common.{◌≡◌, ◌≢◌, ℕ, ◌+◌, ◌-◌, ◌*◌, ◌/◌, ◌^◌, ◌<◌, ◌≤◌, ◌⊎◌, inl, inr, ⊎_elim, true, false, refl, subst, ap, ◌∙◌, arith}
+use Rattle.std.proofs.lemmas.Nat.{pow_pos, pow-add, div-add-mod', mod_below, div-mul-add}
+use Rattle.std.specs.Int.{◌∣◌}
+use Rattle.std.proofs.lemmas.Bool.{cases_lt}
+use Rattle.std.proofs.lemmas.Bool.Decides.{eqb_tells, leb_tells}
+use Rattle.std.proofs.Math.Nat.{dvd_trans, dvd-mul_right, dvd-mul_left_of_dvd, dvd-add, dvd-sub, dvd_of_mod-eq-zero, le_of_dvd, mul-div_cancel_left}
+use Rattle.rt_cidr.specs.declared.prefixes.Prefix.{Prefix}
+use Rattle.rt_cidr.specs.declared.address.Addr.{Addr}
+use Rattle.rt_cidr.specs.Cidr.{size_of}
+use Rattle.rt_cidr.specs.Prefix.{covers, contains}
+use Rattle.rt_trie.specs.Blocks.{middle, past}
+use Rattle.rt_trie.proofs.OrderLemmas.{rank}
+
+-- what is at most a number is below it or it
+lt_or_eq : (a b : ℕ) → a ≤ b → (a < b) ⊎ (a ≡ b)
+lt_or_eq a b h = elim (cases_lt a b) [ inl lt ↦ inl lt | inr ge ↦ inr (omega arith) ]
+
+-- a prefix covers some address
+pub size_pos : (len : ℕ) → 0 < size_of len
+size_pos len = pow_pos (32 - len)
+
+-- what is shorter covers twice some number of the blocks of what is longer
+pub size_doubles : (a b : ℕ) → a < b → b ≤ 32 → size_of a ≡ 2 * (size_of b * 2 ^ (b - (a + 1)))
+size_doubles a b h k =
+    let e : 32 - a ≡ 1 + ((32 - b) + (b - (a + 1))) = omega arith in
+    ap (λ n. 2 ^ n) e ∙ pow-add 2 1 ((32 - b) + (b - (a + 1))) ∙ ap (λ n. 2 ^ 1 * n) (pow-add 2 (32 - b) (b - (a + 1)))
+
+-- half of what is shorter is a number of blocks of what is longer
+pub half_size : (a b : ℕ) → a < b → b ≤ 32 → size_of a / 2 ≡ size_of b * 2 ^ (b - (a + 1))
+half_size a b h k = ap (λ n. n / 2) (size_doubles a b h k) ∙ mul-div_cancel_left (size_of b * 2 ^ (b - (a + 1))) (omega arith)
+
+-- the blocks of what is longer fill what is shorter, and its half
+pub size_divides : (a b : ℕ) → a < b → b ≤ 32 → (size_of b ∣ size_of a) × (size_of b ∣ size_of a / 2)
+size_divides a b h k =
+    let d : size_of b ∣ size_of b * 2 ^ (b - (a + 1)) = dvd-mul_right (size_of b) (2 ^ (b - (a + 1))) in
+    (rw (size_doubles a b h k) (dvd-mul_left_of_dvd (size_of b) d 2), rw (half_size a b h k) d)
+
+-- a block that begins before another end of blocks of its size ends by it
+pub block_end : (s b hi : ℕ) → s ∣ b → s ∣ hi → b < hi → b + s ≤ hi
+block_end s b hi p q h =
+    let pos : 0 < hi - b = omega arith in
+    omega (arith, le_of_dvd pos (dvd-sub s q p))
+
+-- an address with the prefix's quotient lies in its block
+pub range_of_cover : (q : Prefix) (a : ℕ) → a / size_of q.len ≡ q.base / size_of q.len → (q.base ≤ a) × (a < past q)
+range_of_cover q a h =
+    let s = size_of q.len in
+    let e = ap (λ n. n * size_of q.len) h in
+    let c = q.is_prefix.clear in
+    let d = div-add-mod' a (size_of q.len) in
+    let f = div-add-mod' q.base (size_of q.len) in
+    let m = mod_below a (size_of q.len) (size_pos q.len) in
+    (omega arith, omega arith)
+
+-- an address in the block has the prefix's quotient
+pub cover_of_range : (q : Prefix) (a : ℕ) → q.base ≤ a → a < past q → a / size_of q.len ≡ q.base / size_of q.len
+cover_of_range q a h k =
+    let f = div-add-mod' q.base (size_of q.len) in
+    let c = q.is_prefix.clear in
+    let r : a - q.base < size_of q.len = omega arith in
+    let e : a ≡ q.base / size_of q.len * size_of q.len + (a - q.base) = omega arith in
+    ap (λ n. n / size_of q.len) e ∙ div-mul-add (q.base / size_of q.len) (size_of q.len) (a - q.base) r
+
+-- the base is a number of blocks of the size of any length from the prefix's own on
+pub base_divides : (q : Prefix) (len : ℕ) → q.len ≤ len → len ≤ 32 → size_of len ∣ q.base
+base_divides q len h k =
+    let d : size_of q.len ∣ q.base = dvd_of_mod-eq-zero (size_of q.len) q.is_prefix.clear in
+    ⊎_elim (λ lt. dvd_trans (size_of len) (size_divides q.len len lt k).0 d)
+    (λ e. subst (λ n. size_of n ∣ q.base) e d) (lt_or_eq q.len len h)
+
+-- what begins in the lower half of a shorter prefix ends in it
+pub lower_half : (q p : Prefix) → q.len < p.len → p.base < middle q → past p ≤ middle q
+lower_half q p h k =
+    let s = p.is_prefix.short in
+    let d = size_divides q.len p.len h s in
+    block_end (size_of p.len) p.base (middle q) (base_divides p p.len (omega arith) s)
+    (dvd-add (size_of p.len) (base_divides q p.len (omega arith) s) d.1) k
+
+-- what begins in the upper half of a shorter prefix ends in it
+pub upper_half : (q p : Prefix) → q.len < p.len → p.base < past q → past p ≤ past q
+upper_half q p h k =
+    let s = p.is_prefix.short in
+    let d = size_divides q.len p.len h s in
+    block_end (size_of p.len) p.base (past q) (base_divides p p.len (omega arith) s)
+    (dvd-add (size_of p.len) (base_divides q p.len (omega arith) s) d.0) k
+
+-- what is no shorter and begins before a prefix ends before it
+pub ends_before : (q p : Prefix) → q.len ≤ p.len → p.base < q.base → past p ≤ q.base
+ends_before q p h k =
+    let s = p.is_prefix.short in
+    block_end (size_of p.len) p.base q.base (base_divides p p.len (omega arith) s) (base_divides q p.len h s) k
+
+-- what `covers` and `contains` say, as ranges
+pub covers_tells : (q : Prefix) (a : Addr)
+    → ((covers q a ≡ true) × (q.base ≤ a.0) × (a.0 < past q)) ⊎ ((covers q a ≡ false) × ((a.0 < q.base) ⊎ (past q ≤ a.0)))
+covers_tells q a =
+    elim (eqb_tells (a.0 / size_of q.len) (q.base / size_of q.len)) [
+      | inl h ↦ let r = range_of_cover q a.0 h.1 in inl (h.0, r.0, r.1)
+      | inr h ↦ inr (
+        h.0,
+        elim (cases_lt a.0 q.base) [
+          | inl lt ↦ inl lt
+          | inr ge ↦ elim (cases_lt a.0 (past q)) [
+            | inl lt ↦ absurd (h.1 (cover_of_range q a.0 ge lt))
+            | inr far ↦ inr far
+          ]
+        ],
+      )
+    ]
+
+pub range_of_covers : (q : Prefix) (a : Addr) → covers q a ≡ true → (q.base ≤ a.0) × (a.0 < past q)
+range_of_covers q a h = elim (covers_tells q a) [ inl r ↦ (r.1, r.2) | inr r ↦ cc ]
+
+pub outside_of_covers : (q : Prefix) (a : Addr) → covers q a ≡ false → (a.0 < q.base) ⊎ (past q ≤ a.0)
+outside_of_covers q a h = elim (covers_tells q a) [ inl r ↦ cc | inr r ↦ r.1 ]
+
+-- `contains` by ranges
+pub contains_tells : (p q : Prefix) → ((contains p q ≡ true) × (p.len ≤ q.len) × (p.base ≤ q.base) × (q.base < past p))
+    ⊎ ((contains p q ≡ false) × ((q.len < p.len) ⊎ ((q.base < p.base) ⊎ (past p ≤ q.base))))
+contains_tells p q =
+    elim (leb_tells p.len q.len) [
+      | inl l ↦ elim (covers_tells p (record { 0 = q.base })) [
+        | inl r ↦ inl (rw l.0 r.0, l.1, r.1, r.2)
+        | inr r ↦ inr (rw l.0 r.0, inr r.1)
+      ]
+      | inr l ↦ inr (rw l.0 refl, inl l.1)
+    ]
+
+-- of two prefixes, one no longer than the other and with its base in its block, and not it
+pub longer_of : (p q : Prefix) → (p.len ≤ q.len) × (p.base ≤ q.base) × (q.base < past p) → rank q ≢ rank p → p.len < q.len
+longer_of p q r n = elim (lt_or_eq p.len q.len r.0) [
+  | inl lt ↦ lt
+  | inr e ↦ elim (cases_lt p.base q.base) [
+    | inl lt ↦ absurd (omega (arith, ends_before q p (omega arith) lt))
+    | inr ge ↦ absurd (n (omega arith))
+  ]
+]

@@ -1,0 +1,147 @@
+-- How many nodes and pairs a lawful link can have, and how a change of the pairs changes their number.
+use Rattle.std.proofs.Common.{◌≡◌, ℕ, ◌+◌, ◌-◌, ◌*◌, ◌^◌, ◌<◌, ◌≤◌, true, false, [], ◌∷◌, length, Option, Some, None, refl, sym, ap, ◌∙◌, arith, length-append, inl, inr}
+use Rattle.std.specs.Prelude.{IfSome, is_some}
+use Rattle.std.proofs.lemmas.Nat.{pow-add, pow_pos}
+use Rattle.std.proofs.Math.Pow.{pow_mono}
+use Rattle.std.proofs.lemmas.Bool.{false≢true}
+use Rattle.rt_cidr.specs.declared.prefixes.Prefix.{Prefix}
+use Rattle.rt_trie.specs.declared.nodes.Link.{Link, Empty, Leaf, Fork', Full'}
+use Rattle.rt_trie.specs.Map.{Pairs, get, put, erase, first, IsBeforeAll, IsOrdered}
+use Rattle.rt_trie.specs.Blocks.{IsWithin}
+use Rattle.rt_trie.specs.Links.{pairs, count, root, IsFilled, IsLawfulBelow, IsLawful}
+use Rattle.rt_trie.proofs.OrderLemmas.{same_tells, before_tells, rank_of_before}
+use Rattle.rt_trie.proofs.PairLemmas.{AllKeys, AllKeys-map, IsOther, IsOther-higher, IsHigher, get-none}
+use Rattle.rt_trie.proofs.LinkLemmas.{filled_first}
+
+-- one more than the nodes that fit below a block, whose prefixes have at least that length: a half has one bit fewer
+abbrev pub room : ℕ → ℕ
+room len = 2 ^ (33 - len)
+
+room_halves : (len : ℕ) → len ≤ 32 → room len ≡ 2 * room (len + 1)
+room_halves len h =
+    let e : 33 - len ≡ 1 + (33 - (len + 1)) = omega arith in
+    ap (λ n. 2 ^ n) e ∙ pow-add 2 1 (33 - (len + 1))
+
+room_mono : (a b : ℕ) → a ≤ b → room b ≤ room a
+room_mono a b h = pow_mono (omega arith)
+
+long_root : (o : Option Prefix) (lo hi len : ℕ) → IfSome o (IsWithin lo hi len) → IfSome o (λ q. len ≤ q.len)
+long_root None lo hi len h = h
+long_root (Some q) lo hi len h = h.long
+
+first_some : {V : Type 0} (xs : Pairs V) (p : Prefix) → first xs ≡ Some p → 1 ≤ length xs
+first_some [] p e = cc
+first_some (x ∷ xs) p e = omega arith
+
+module _ {V A : Type 0} where
+  -- a lawful link has fewer nodes than there is room for
+  pub count_fits : (link : Link V A) (len : ℕ) → IsLawfulBelow link → IfSome (root link) (λ q. len ≤ q.len) → count link + 1 ≤ room len
+  count_fits Empty len h on = pow_pos (33 - len)
+  count_fits (Leaf b) len h on =
+      let s = b.value.prefix.is_prefix.short in
+      omega (arith, room_halves len (omega arith), pow_pos (33 - (len + 1)))
+  count_fits (Fork' p q left right) len h on =
+      let s = q.is_prefix.short in
+      let l = count_fits left (q.len + 1) h.1.0 (long_root (root left) _ _ (q.len + 1) h.0.lower) in
+      let r = count_fits right (q.len + 1) h.2.0 (long_root (root right) _ _ (q.len + 1) h.0.upper) in
+      omega (arith, room_halves q.len s, room_mono len q.len on)
+  count_fits (Full' p q v left right) len h on =
+      let s = q.is_prefix.short in
+      let l = count_fits left (q.len + 1) h.1.0 (long_root (root left) _ _ (q.len + 1) h.0.lower) in
+      let r = count_fits right (q.len + 1) h.2.0 (long_root (root right) _ _ (q.len + 1) h.0.upper) in
+      omega (arith, room_halves q.len s, room_mono len q.len on)
+
+  -- a whole trie has less than 2^33 nodes
+  pub count_small : (link : Link V A) → IsLawful link → count link < 2 ^ 33
+  count_small link h = omega (arith, count_fits link 0 h.0 (any_root (root link)))
+    where
+      any_root : (o : Option Prefix) → IfSome o (λ q. 0 ≤ q.len)
+      any_root None = tt
+      any_root (Some q) = omega arith
+
+  -- there are no more pairs than nodes
+  pub pairs_few : (link : Link V A) → length (pairs link) ≤ count link
+  pairs_few Empty = omega arith
+  pairs_few (Leaf b) = omega arith
+  pairs_few (Fork' p q left right) = omega (arith, pairs_few left, pairs_few right, length-append (pairs left) (pairs right))
+  pairs_few (Full' p q None left right) = omega (arith, pairs_few left, pairs_few right, length-append (pairs left) (pairs right))
+  pairs_few (Full' p q (Some v) left right) = omega (arith, pairs_few left, pairs_few right, length-append (pairs left) (pairs right))
+
+  filled_pairs : (link : Link V A) → IsLawful link → IsFilled link → 1 ≤ length (pairs link)
+  filled_pairs link h f = let i = filled_first link h f in first_some (pairs link) i.0 i.1
+
+  -- a lawful link has at most twice as many nodes as pairs, less one
+  pub nodes_few : (link : Link V A) → IsLawful link → count link ≤ 2 * length (pairs link) - 1
+  nodes_few Empty h = omega arith
+  nodes_few (Leaf b) h = omega arith
+  nodes_few (Fork' p q left right) h =
+      omega (
+        arith,
+        nodes_few left h.0.1,
+        nodes_few right h.0.2,
+        filled_pairs left h.0.1 h.1.0,
+        filled_pairs right h.0.2 h.1.1,
+        length-append (pairs left) (pairs right),
+      )
+  nodes_few (Full' p q None left right) h =
+      omega (
+        arith,
+        nodes_few left h.0.1,
+        nodes_few right h.0.2,
+        filled_pairs left h.0.1 h.1.0,
+        filled_pairs right h.0.2 h.1.1,
+        length-append (pairs left) (pairs right),
+      )
+  nodes_few (Full' p q (Some v) left right) h =
+      omega (arith, nodes_few left h.0.1, nodes_few right h.0.2, length-append (pairs left) (pairs right))
+
+module _ {V : Type 0} where
+  pub AllKeys-higher : (q : Prefix) (xs : Pairs V) → IsBeforeAll q xs → AllKeys (IsHigher q) xs
+  AllKeys-higher q [] h = tt
+  AllKeys-higher q ((x, v) ∷ xs) h = (rank_of_before q x h.0, AllKeys-higher q xs h.1)
+
+  -- a new prefix makes the map one longer, and one that is stored doesn't
+  pub length-put_absent : (m : Pairs V) (p : Prefix) (v : V) → get m p ≡ None → length (put m p v) ≡ length m + 1
+  length-put_absent [] p v h = omega arith
+  length-put_absent ((q, w) ∷ m) p v h = elim (before_tells p q) [
+    | inl b ↦ rw b.0 (omega arith)
+    | inr b ↦ elim (same_tells q p) [
+      | inl s ↦ let e : Some w ≡ None = rw s.0 at h in cc
+      | inr s ↦ let e : get m p ≡ None = rw s.0 at h in rw (b.0, s.0) (omega (arith, length-put_absent m p v e))
+    ]
+  ]
+
+  pub length-put_stored : (m : Pairs V) (p : Prefix) (v w : V) → IsOrdered m → get m p ≡ Some w → length (put m p v) ≡ length m
+  length-put_stored [] p v w o h = cc
+  length-put_stored ((q, u) ∷ m) p v w o h = elim (before_tells p q) [
+    | inl b ↦
+        let n : get m p ≡ None = get-none m p (AllKeys-map (IsHigher q) (IsOther p) m (λ x k. IsOther-higher p x (omega arith)) (AllKeys-higher q m o.0)) in
+        elim (same_tells q p) [
+          | inl s ↦ absurd (omega arith)
+          | inr s ↦ let e : get m p ≡ Some w = rw s.0 at h in cc
+        ]
+    | inr b ↦ elim (same_tells q p) [
+      | inl s ↦ rw (b.0, s.0) refl
+      | inr s ↦ let e : get m p ≡ Some w = rw s.0 at h in rw (b.0, s.0) (omega (arith, length-put_stored m p v w o.1 e))
+    ]
+  ]
+
+  pub length-erase_stored : (m : Pairs V) (p : Prefix) (w : V) → get m p ≡ Some w → length (erase m p) + 1 ≡ length m
+  length-erase_stored [] p w h = cc
+  length-erase_stored ((q, u) ∷ m) p w h = elim (same_tells q p) [
+    | inl s ↦ rw s.0 (omega arith)
+    | inr s ↦ let e : get m p ≡ Some w = rw s.0 at h in rw s.0 (omega (arith, length-erase_stored m p w e))
+  ]
+
+  -- by what the look-up answered
+  pub length-put_known : (m : Pairs V) (p : Prefix) (v : V) (o : Option V) → IsOrdered m → get m p ≡ o → is_some o ≡ true → length (put m p v) ≡ length m
+  length-put_known m p v None h e k = absurd (false≢true k)
+  length-put_known m p v (Some w) h e k = length-put_stored m p v w h e
+
+  pub length-erase_known : (m : Pairs V) (p : Prefix) (o : Option V) → get m p ≡ o → true ≡ is_some o → length (erase m p) + 1 ≡ length m
+  length-erase_known m p None e k = absurd (false≢true (sym k))
+  length-erase_known m p (Some w) e k = length-erase_stored m p w e
+
+pub none_is : {X : Type 0} (o : Option X) → is_some o ≡ false → o ≡ None
+none_is None h = refl
+none_is (Some x) h = absurd (false≢true (sym h))

@@ -1,0 +1,299 @@
+-- What is found on a way down is the map's, and a write there is the map's.
+use Rattle.std.proofs.Common.{◌≡◌, ℕ, zero, suc, ◌+◌, ◌<◌, ◌≤◌, Bool, true, false, cond, [], ◌∷◌, ◌++◌, length, Option, Some, None, inl, inr, refl, sym, ap, ◌∙◌, arith, length-append}
+use Rattle.std.specs.Prelude.{IfSome, IfNone}
+use Rattle.std.proofs.Common.{leb}
+use Rattle.std.specs.Borrow.{MutBor}
+use Rattle.std.specs.Option.{ghost_name_of}
+use borrow.Follows.Closed.{read_of}
+use mathlib.Core.Path.{fun_ext}
+use Rattle.std.proofs.lemmas.Bool.Decides.{leb_tells}
+use Rattle.rt_cidr.specs.declared.prefixes.Prefix.{Prefix}
+use Rattle.rt_trie.specs.declared.nodes.Link.{Link, Empty, Leaf, Fork', Full'}
+use Rattle.rt_trie.specs.Map.{Pairs, same, get, put, IsOrdered}
+use Rattle.rt_trie.specs.Blocks.{IsChild, middle, past}
+use Rattle.rt_trie.specs.Links.{own, pairs, count, root, AreHalves, IsChildLink, IsFilled, IsLawful}
+use Rattle.rt_trie.specs.Descent.{found, written, overwritten}
+use Rattle.rt_trie.proofs.OrderLemmas.{same_tells, before_tells}
+use Rattle.rt_trie.proofs.PairLemmas.{AllKeys, AllKeys-map, IsOther, IsHigher, IsLower, IsOther-higher, IsOther-lower, get-none}
+use Rattle.rt_trie.proofs.NodeLemmas.{AreSides, own_other, upper_higher, lower_lower, rest_other, get-here, get-past, get-lower, get-upper}
+use Rattle.rt_trie.proofs.LinkLemmas.{pairs_within, pairs_ordered}
+use Rattle.rt_trie.proofs.CountLemmas.{AllKeys-higher}
+
+-- so many steps go past every node below
+abbrev pub IsDeep : {V A : Type 0} → ℕ → Link V A → Type 0
+IsDeep d link = IfSome (root link) (λ q. 33 ≤ q.len + d)
+
+-- the list with w in the place of the value at p, if there is one
+abbrev set_value : {V : Type 0} → Pairs V → Prefix → V → Pairs V
+set_value [] p w = []
+set_value ((q, v) ∷ m) p w = (q, cond (same q p) w v) ∷ set_value m p w
+
+module _ {V : Type 0} where
+  set_value-append : (xs ys : Pairs V) (p : Prefix) (w : V) → set_value (xs ++ ys) p w ≡ set_value xs p w ++ set_value ys p w
+  set_value-append [] ys p w = refl
+  set_value-append ((q, v) ∷ xs) ys p w = ap (λ m. (q, cond (same q p) w v) ∷ m) (set_value-append xs ys p w)
+
+  set_value-other : (xs : Pairs V) (p : Prefix) (w : V) → AllKeys (IsOther p) xs → set_value xs p w ≡ xs
+  set_value-other [] p w h = refl
+  set_value-other ((q, v) ∷ xs) p w h = rw h.0 (ap (λ m. (q, v) ∷ m) (set_value-other xs p w h.1))
+
+  -- putting in where something stands
+  put-stored : (m : Pairs V) (p : Prefix) (w v : V) → IsOrdered m → get m p ≡ Some v → put m p w ≡ set_value m p w
+  put-stored [] p w v o h = cc
+  put-stored ((q, u) ∷ m) p w v o h = elim (before_tells p q) [
+    | inl b ↦
+        let n : get m p ≡ None = get-none m p (AllKeys-map (IsHigher q) (IsOther p) m (λ x k. IsOther-higher p x (omega arith)) (AllKeys-higher q m o.0)) in
+        elim (same_tells q p) [
+          | inl s ↦ absurd (omega arith)
+          | inr s ↦ let e : get m p ≡ Some v = rw s.0 at h in cc
+        ]
+    | inr b ↦ elim (same_tells q p) [
+      | inl s ↦
+          let t = q.is_prefix.short in
+          rw (b.0, s.0) (ap (λ x. (q, w) ∷ x) (sym (set_value-other m p w
+          (AllKeys-map (IsHigher q) (IsOther p) m (λ x k. IsOther-higher p x (omega arith)) (AllKeys-higher q m o.0)))))
+      | inr s ↦ let e : get m p ≡ Some v = rw s.0 at h in rw (b.0, s.0) (ap (λ x. (q, u) ∷ x) (put-stored m p w v o.1 e))
+    ]
+  ]
+
+module _ {V : Type 0} where
+  -- a value that is written keeps its place
+  some_kept : (c s : Bool) (v : Option V) (w : V) → cond c (cond s (overwritten v w) v) v ≡ None → v ≡ None
+  some_kept c s None w h = refl
+  some_kept true true (Some y) w h = cc
+  some_kept true false (Some y) w h = h
+  some_kept false s (Some y) w h = h
+
+  own_kept : (c s : Bool) (q : Prefix) (v : Option V) (w : V) → length (own q (cond c (cond s (overwritten v w) v) v)) ≡ length (own q v)
+  own_kept true true q None w = refl
+  own_kept true true q (Some y) w = refl
+  own_kept true false q v w = refl
+  own_kept false s q v w = refl
+
+  -- a write at a node, by where the prefix stands
+  own_here : (q p : Prefix) (v : Option V) (w : V) → same q p ≡ true → set_value (own q v) p w ≡ own q (overwritten v w)
+  own_here q p None w e = refl
+  own_here q p (Some y) w e = rw e refl
+
+  own_there : (q p : Prefix) (v : Option V) (w : V) → same q p ≡ false → set_value (own q v) p w ≡ own q v
+  own_there q p None w e = refl
+  own_there q p (Some y) w e = rw e refl
+
+  module _ (q : Prefix) (v : Option V) (xs ys : Pairs V) (s : AreSides q xs ys) (p : Prefix) (w : V) where
+    set_here : p.len ≤ q.len → set_value (xs ++ ys) p w ≡ xs ++ ys
+    set_here h = set_value-other (xs ++ ys) p w (rest_other q v xs ys s p h)
+
+    set_own : q.len < p.len → set_value (own q v) p w ≡ own q v
+    set_own h = set_value-other (own q v) p w (own_other q v xs ys s p h)
+
+    set_lower : p.base < middle q → set_value (xs ++ ys) p w ≡ set_value xs p w ++ ys
+    set_lower h =
+        set_value-append xs ys p w
+        ∙ ap (λ m. set_value xs p w ++ m) (set_value-other ys p w
+        (AllKeys-map (IsHigher p) (IsOther p) ys (λ x. IsOther-higher p x) (upper_higher q v xs ys s p h)))
+
+    set_upper : middle q ≤ p.base → set_value (xs ++ ys) p w ≡ xs ++ set_value ys p w
+    set_upper h =
+        set_value-append xs ys p w
+        ∙ ap (λ m. m ++ set_value ys p w) (set_value-other xs p w
+        (AllKeys-map (IsLower p) (IsOther p) xs (λ x. IsOther-lower p x) (lower_lower q v xs ys s p h)))
+
+module _ {V A : Type 0} where
+  sides_at : (q : Prefix) (left right : Link V A) → AreHalves q left right → IsLawful left → IsLawful right → AreSides q (pairs left) (pairs right)
+  sides_at q left right h l r = record {
+    lower = pairs_within left q.base (middle q) (q.len + 1) l.0 h.lower;
+    upper = pairs_within right (middle q) (past q) (q.len + 1) r.0 h.upper;
+  }
+
+  deep_lower : (d : ℕ) (q : Prefix) (link : Link V A) → 33 ≤ q.len + suc d → IsChildLink q false link → IsDeep d link
+  deep_lower d q link h c = deeper (root link) c
+    where
+      deeper : (o : Option Prefix) → IfSome o (IsChild q false) → IfSome o (λ x. 33 ≤ x.len + d)
+      deeper None c = tt
+      deeper (Some x) c = omega (arith, c.long)
+
+  deep_upper : (d : ℕ) (q : Prefix) (link : Link V A) → 33 ≤ q.len + suc d → IsChildLink q true link → IsDeep d link
+  deep_upper d q link h c = deeper (root link) c
+    where
+      deeper : (o : Option Prefix) → IfSome o (IsChild q true) → IfSome o (λ x. 33 ≤ x.len + d)
+      deeper None c = tt
+      deeper (Some x) c = omega (arith, c.long)
+
+  -- what is found is the map's
+  pub found_get : (d : ℕ) (link : Link V A) (p : Prefix) → IsLawful link → IsDeep d link → found d link p ≡ get (pairs link) p
+  found_get zero Empty p h deep = refl
+  found_get zero (Leaf b) p h deep = let s = b.value.prefix.is_prefix.short in absurd (omega arith)
+  found_get zero (Fork' x q left right) p h deep = let s = q.is_prefix.short in absurd (omega arith)
+  found_get zero (Full' x q v left right) p h deep = let s = q.is_prefix.short in absurd (omega arith)
+  found_get (suc d) Empty p h deep = refl
+  found_get (suc d) (Leaf b) p h deep = refl
+  found_get (suc d) (Fork' x q left right) p h deep =
+      let s = sides_at q left right h.0.0 h.0.1 h.0.2 in
+      let l = found_get d left p h.0.1 (deep_lower d q left deep h.0.0.lower) in
+      let r = found_get d right p h.0.2 (deep_upper d q right deep h.0.0.upper) in
+      elim (leb_tells p.len q.len) [
+        | inl le ↦ rw le.0 (sym (elim (same_tells q p) [
+          | inl e ↦ get-here q None (pairs left) (pairs right) s p le.1 e.0
+          | inr e ↦ get-past q None (pairs left) (pairs right) s p le.1 e.0
+        ]))
+        | inr gt ↦ elim (leb_tells (suc p.base) (middle q)) [
+          | inl lo ↦ rw (gt.0, lo.0) (l ∙ sym (get-lower q None (pairs left) (pairs right) s p gt.1 lo.1))
+          | inr hi ↦ rw (gt.0, hi.0) (r ∙ sym (get-upper q None (pairs left) (pairs right) s p gt.1 (omega arith)))
+        ]
+      ]
+  found_get (suc d) (Full' x q v left right) p h deep =
+      let s = sides_at q left right h.0.0 h.0.1 h.0.2 in
+      let l = found_get d left p h.0.1 (deep_lower d q left deep h.0.0.lower) in
+      let r = found_get d right p h.0.2 (deep_upper d q right deep h.0.0.upper) in
+      elim (leb_tells p.len q.len) [
+        | inl le ↦ elim (same_tells q p) [
+          | inl e ↦ rw (le.0, e.0) (sym (get-here q v (pairs left) (pairs right) s p le.1 e.0))
+          | inr e ↦ rw (le.0, e.0) (sym (get-past q v (pairs left) (pairs right) s p le.1 e.0))
+        ]
+        | inr gt ↦ elim (leb_tells (suc p.base) (middle q)) [
+          | inl lo ↦ rw (gt.0, lo.0) (l ∙ sym (get-lower q v (pairs left) (pairs right) s p gt.1 lo.1))
+          | inr hi ↦ rw (gt.0, hi.0) (r ∙ sym (get-upper q v (pairs left) (pairs right) s p gt.1 (omega arith)))
+        ]
+      ]
+
+  -- a change that keeps root, nodes, lawfulness and the number of pairs
+  pub record IsKept (old new : Link V A) : Type 0 where
+    pub root_is : root new ≡ root old
+    pub count_is : count new ≡ count old
+    pub lawful : IsLawful new
+    pub len_is : length (pairs new) ≡ length (pairs old)
+
+  kept_same : (link : Link V A) → IsLawful link → IsKept link link
+  kept_same link h = record { root_is = refl; count_is = refl; lawful = h; len_is = refl }
+
+  kept_cond : (c : Bool) (old a b : Link V A) → IsKept old a → IsKept old b → IsKept old (cond c a b)
+  kept_cond true old a b h k = h
+  kept_cond false old a b h k = k
+
+  kept_halves : (q : Prefix) (l r l' r' : Link V A) → AreHalves q l r → IsKept l l' → IsKept r r' → AreHalves q l' r'
+  kept_halves q l r l' r' h i j = record { lower = rw i.root_is h.lower; upper = rw j.root_is h.upper }
+
+  kept_filled : (l l' : Link V A) → IsKept l l' → IsFilled l → IsFilled l'
+  kept_filled l l' i f = rw i.root_is f
+
+  kept_fork : (x : _) (q : Prefix) (l r l' r' : Link V A) → IsLawful (Fork' x q l r) → IsKept l l' → IsKept r r'
+      → IsKept (Fork' x q l r) (Fork' x q l' r')
+  kept_fork x q l r l' r' h i j = record {
+    root_is = refl;
+    count_is = omega (arith, i.count_is, j.count_is);
+    lawful = ((kept_halves q l r l' r' h.0.0 i j, i.lawful, j.lawful), (kept_filled l l' i h.1.0, kept_filled r r' j h.1.1));
+    len_is = omega (arith, i.len_is, j.len_is, length-append (pairs l) (pairs r), length-append (pairs l') (pairs r'));
+  }
+
+  kept_full : (x : _) (q : Prefix) (v v' : Option V) (l r l' r' : Link V A) → IsLawful (Full' x q v l r) → (v' ≡ None → v ≡ None)
+      → length (own q v') ≡ length (own q v) → IsKept l l' → IsKept r r' → IsKept (Full' x q v l r) (Full' x q v' l' r')
+  kept_full x q v v' l r l' r' h n e i j = record {
+    root_is = refl;
+    count_is = omega (arith, i.count_is, j.count_is);
+    lawful = ((kept_halves q l r l' r' h.0.0 i j, i.lawful, j.lawful), needed v v' n h.1);
+    len_is = omega (
+      arith,
+      e,
+      i.len_is,
+      j.len_is,
+      length-append (pairs l) (pairs r),
+      length-append (pairs l') (pairs r'),
+      length-append (own q v) (pairs l ++ pairs r),
+      length-append (own q v') (pairs l' ++ pairs r'),
+    );
+  }
+    where
+      needed : (v v' : Option V) → (v' ≡ None → v ≡ None) → IfNone v (IsFilled l × IsFilled r) → IfNone v' (IsFilled l' × IsFilled r')
+      needed v (Some y) n h = tt
+      needed None None n h = (kept_filled l l' i h.0, kept_filled r r' j h.1)
+      needed (Some y) None n h = absurd (let e : Some y ≡ None = n refl in cc)
+
+  -- a write keeps the link lawful, with its nodes and its pairs
+  pub written_kept : (d : ℕ) (link : Link V A) (p : Prefix) (w : V) → IsLawful link → IsKept link (written d link p w)
+  written_kept zero link p w h = kept_same link h
+  written_kept (suc d) Empty p w h = kept_same Empty h
+  written_kept (suc d) (Leaf b) p w h = record { root_is = refl; count_is = refl; lawful = (tt, tt); len_is = refl }
+  written_kept (suc d) (Fork' x q left right) p w h =
+      let l = written_kept d left p w h.0.1 in
+      let r = written_kept d right p w h.0.2 in
+      let low = leb (suc p.base) (middle q) in
+      kept_fork x q left right _ _ h
+      (kept_cond (leb p.len q.len) left left _ (kept_same left h.0.1) (kept_cond low left (written d left p w) left l (kept_same left h.0.1)))
+      (kept_cond (leb p.len q.len) right right _ (kept_same right h.0.2) (kept_cond low right right (written d right p w) (kept_same right h.0.2) r))
+  written_kept (suc d) (Full' x q v left right) p w h =
+      let l = written_kept d left p w h.0.1 in
+      let r = written_kept d right p w h.0.2 in
+      let low = leb (suc p.base) (middle q) in
+      kept_full x q v _ left right _ _ h (some_kept (leb p.len q.len) (same q p) v w) (own_kept (leb p.len q.len) (same q p) q v w)
+      (kept_cond (leb p.len q.len) left left _ (kept_same left h.0.1) (kept_cond low left (written d left p w) left l (kept_same left h.0.1)))
+      (kept_cond (leb p.len q.len) right right _ (kept_same right h.0.2) (kept_cond low right right (written d right p w) (kept_same right h.0.2) r))
+
+  -- a write is one in the list
+  written_pairs : (d : ℕ) (link : Link V A) (p : Prefix) (w : V) → IsLawful link → IsDeep d link
+      → pairs (written d link p w) ≡ set_value (pairs link) p w
+  written_pairs zero Empty p w h deep = refl
+  written_pairs zero (Leaf b) p w h deep = let s = b.value.prefix.is_prefix.short in absurd (omega arith)
+  written_pairs zero (Fork' x q left right) p w h deep = let s = q.is_prefix.short in absurd (omega arith)
+  written_pairs zero (Full' x q v left right) p w h deep = let s = q.is_prefix.short in absurd (omega arith)
+  written_pairs (suc d) Empty p w h deep = refl
+  written_pairs (suc d) (Leaf b) p w h deep = refl
+  written_pairs (suc d) (Fork' x q left right) p w h deep =
+      let s = sides_at q left right h.0.0 h.0.1 h.0.2 in
+      let l = written_pairs d left p w h.0.1 (deep_lower d q left deep h.0.0.lower) in
+      let r = written_pairs d right p w h.0.2 (deep_upper d q right deep h.0.0.upper) in
+      elim (leb_tells p.len q.len) [
+        | inl le ↦ rw le.0 (sym (set_here q None (pairs left) (pairs right) s p w le.1))
+        | inr gt ↦ elim (leb_tells (suc p.base) (middle q)) [
+          | inl lo ↦ rw (gt.0, lo.0) (ap (λ m. m ++ pairs right) l ∙ sym (set_lower q None (pairs left) (pairs right) s p w lo.1))
+          | inr hi ↦ rw (gt.0, hi.0) (ap (λ m. pairs left ++ m) r
+              ∙ sym (set_upper q None (pairs left) (pairs right) s p w (omega arith)))
+        ]
+      ]
+  written_pairs (suc d) (Full' x q v left right) p w h deep =
+      let s = sides_at q left right h.0.0 h.0.1 h.0.2 in
+      let l = written_pairs d left p w h.0.1 (deep_lower d q left deep h.0.0.lower) in
+      let r = written_pairs d right p w h.0.2 (deep_upper d q right deep h.0.0.upper) in
+      let split = set_value-append (own q v) (pairs left ++ pairs right) p w in
+      elim (leb_tells p.len q.len) [
+        | inl le ↦
+            let rest = set_here q v (pairs left) (pairs right) s p w le.1 in
+            elim (same_tells q p) [
+              | inl e ↦ rw (le.0, e.0) (sym (split ∙ ap (λ m. m ++ set_value (pairs left ++ pairs right) p w) (own_here q p v w e.0)
+                  ∙ ap (λ m. own q (overwritten v w) ++ m) rest))
+              | inr e ↦ rw (le.0, e.0) (sym (split ∙ ap (λ m. m ++ set_value (pairs left ++ pairs right) p w) (own_there q p v w e.0)
+                  ∙ ap (λ m. own q v ++ m) rest))
+            ]
+        | inr gt ↦
+            let mine = set_own q v (pairs left) (pairs right) s p w gt.1 in
+            elim (leb_tells (suc p.base) (middle q)) [
+              | inl lo ↦ rw (gt.0, lo.0) (ap (λ m. own q v ++ (m ++ pairs right)) l
+                  ∙ sym (split ∙ ap (λ m. m ++ set_value (pairs left ++ pairs right) p w) mine
+                  ∙ ap (λ m. own q v ++ m) (set_lower q v (pairs left) (pairs right) s p w lo.1)))
+              | inr hi ↦ rw (gt.0, hi.0) (ap (λ m. own q v ++ (pairs left ++ m)) r
+                  ∙ sym (split ∙ ap (λ m. m ++ set_value (pairs left ++ pairs right) p w) mine
+                  ∙ ap (λ m. own q v ++ m) (set_upper q v (pairs left) (pairs right) s p w (omega arith))))
+            ]
+      ]
+
+  -- 33 steps go past every node
+  all_deep : (link : Link V A) → IsDeep 33 link
+  all_deep link = any (root link)
+    where
+      any : (o : Option Prefix) → IfSome o (λ q. 33 ≤ q.len + 33)
+      any None = tt
+      any (Some q) = omega arith
+
+  pub found_is : (link : Link V A) (p : Prefix) → IsLawful link → found 33 link p ≡ get (pairs link) p
+  found_is link p h = found_get 33 link p h (all_deep link)
+
+  -- a write where a value stands puts it there
+  pub written_is : (link : Link V A) (p : Prefix) (w v : V) → IsLawful link → get (pairs link) p ≡ Some v
+      → pairs (written 33 link p w) ≡ put (pairs link) p w
+  written_is link p w v h e =
+      written_pairs 33 link p w h (all_deep link) ∙ sym (put-stored (pairs link) p w v (pairs_ordered link h.0) e)
+
+-- two readings of what is lent are the same where they agree on each value that can be written
+pub same_readings : {D E : Type 0} (o : Option (MutBor E)) (F G : E → D) (u v : D) → u ≡ v → ((r : MutBor E) → o ≡ Some r → (w : E) → F w ≡ G w)
+    → read_of (ghost_name_of o) F u ≡ read_of (ghost_name_of o) G v
+same_readings None F G u v e h = ap inr e
+same_readings (Some r) F G u v e h = ap (λ f. inl (r.ghost_name, f)) (fun_ext (h r refl))

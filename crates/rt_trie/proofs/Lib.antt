@@ -1,0 +1,12 @@
+pub mod BlockLemmas
+pub mod CountLemmas
+pub mod DescentLemmas
+pub mod InsertLemmas
+pub mod LinkLemmas
+pub mod LongestLemmas
+pub mod NodeLemmas
+pub mod OrderLemmas
+pub mod PairLemmas
+pub mod PartLemmas
+pub mod RemoveLemmas
+pub mod WalkLemmas

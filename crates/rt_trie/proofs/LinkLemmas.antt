@@ -1,0 +1,327 @@
+-- The pairs of a lawful link lie where its root lies, and in order.
+use Rattle.std.proofs.Common.{◌≡◌, ℕ, ◌⊎◌, ◌+◌, ◌<◌, ◌≤◌, [], ◌++◌, Option, Some, None, true, false, inl, inr, refl, sym, subst, ap, ◌∙◌, arith}
+use Rattle.rt_cidr.specs.declared.prefixes.Prefix.{Prefix}
+use Rattle.std.specs.Prelude.{Box, IfNone, IfSome, OnOk, Result, Ok, Err, is_some}
+use Rattle.std.proofs.lemmas.Bool.{false≢true}
+use Rattle.rt_cidr.specs.declared.address.Addr.{Addr}
+use Rattle.rt_cidr.specs.Prefix.{covers}
+use Rattle.rt_trie.specs.declared.nodes.Link.{Link, Empty, Leaf, Fork', Full'}
+use Rattle.rt_trie.specs.declared.nodes.Link.TheVariants.{Fork, Full}
+use Rattle.rt_trie.specs.declared.nodes.LeafNode.{LeafNode}
+use Rattle.rt_trie.specs.declared.nodes.ForkNode.{ForkNode}
+use Rattle.rt_trie.specs.declared.nodes.FullNode.{FullNode}
+use Rattle.rt_trie.specs.Map.{Pairs, same, get, first, after, before, IsOrdered, IsLongest}
+use Rattle.rt_trie.specs.Blocks.{IsWithin, IsChild, StandsAt, middle, past}
+use Rattle.rt_trie.specs.declared.nodes.Place.{Place}
+use Rattle.rt_trie.specs.declared.nodes.Place.TheVariants.{Here, Left, Right, Above, Apart}
+use Rattle.rt_trie.specs.Links.{own, pairs, count, root, AreHalves, IsFilled, IsNeeded, IsLawfulBelow, IsLawful, IsLeafOf, IsForkOf}
+use Rattle.rt_trie.proofs.OrderLemmas.{same_rank, same_tells, rank_of_before, rank_of_not_before}
+use Rattle.rt_trie.proofs.BlockLemmas.{size_pos}
+use Rattle.rt_trie.proofs.NodeLemmas.{AreSides, get-lower, get-upper, get-here, get-past, IsOrdered-node, cover-lower, cover-upper, cover-none, after-lower, after-upper, after-all, after-past}
+use Rattle.rt_trie.proofs.PairLemmas.{AllKeys, AllKeys-append, AllKeys-map, or_else, or_assoc, first-append, last_cover}
+use Rattle.rt_trie.proofs.LongestLemmas.{longest_is}
+
+-- the pairs lie within a block
+abbrev pub AllWithin : {V : Type 0} → ℕ → ℕ → ℕ → Pairs V → Type 0
+AllWithin lo hi len xs = AllKeys (IsWithin lo hi len) xs
+
+-- a half of a prefix lies where the prefix does
+pub within_lower : (lo hi len : ℕ) (q x : Prefix) → IsWithin lo hi len q → IsWithin q.base (middle q) (q.len + 1) x → IsWithin lo hi len x
+within_lower lo hi len q x h k =
+    record { long = omega (arith, h.long, k.long); from = omega (arith, h.from, k.from); to = omega (arith, h.to, k.to) }
+
+pub within_upper : (lo hi len : ℕ) (q x : Prefix) → IsWithin lo hi len q → IsWithin (middle q) (past q) (q.len + 1) x → IsWithin lo hi len x
+within_upper lo hi len q x h k =
+    record { long = omega (arith, h.long, k.long); from = omega (arith, h.from, k.from); to = omega (arith, h.to, k.to) }
+
+module _ {V : Type 0} where
+  -- the pairs of two halves lie where the whole does
+  pub halves_within : (lo hi len : ℕ) (q : Prefix) (xs ys : Pairs V) → IsWithin lo hi len q
+      → AllWithin q.base (middle q) (q.len + 1) xs → AllWithin (middle q) (past q) (q.len + 1) ys → AllWithin lo hi len (xs ++ ys)
+  halves_within lo hi len q xs ys h l r =
+      AllKeys-append (IsWithin lo hi len) xs ys
+      (AllKeys-map (IsWithin q.base (middle q) (q.len + 1)) (IsWithin lo hi len) xs (λ x. within_lower lo hi len q x h) l)
+      (AllKeys-map (IsWithin (middle q) (past q) (q.len + 1)) (IsWithin lo hi len) ys (λ x. within_upper lo hi len q x h) r)
+
+  -- and so with the prefix's own pair
+  pub node_within : (lo hi len : ℕ) (q : Prefix) (v : Option V) (xs ys : Pairs V) → IsWithin lo hi len q
+      → AllWithin q.base (middle q) (q.len + 1) xs → AllWithin (middle q) (past q) (q.len + 1) ys
+      → AllWithin lo hi len (own q v ++ (xs ++ ys))
+  node_within lo hi len q None xs ys h l r = halves_within lo hi len q xs ys h l r
+  node_within lo hi len q (Some v) xs ys h l r = (h, halves_within lo hi len q xs ys h l r)
+
+-- the link holds nothing, or a node within a block
+abbrev pub IsOn : {V A : Type 0} → ℕ → ℕ → ℕ → Link V A → Type 0
+IsOn lo hi len link = IfSome (root link) (IsWithin lo hi len)
+
+module _ {V A : Type 0} where
+  pub pairs_within : (link : Link V A) (lo hi len : ℕ) → IsLawfulBelow link → IsOn lo hi len link → AllWithin lo hi len (pairs link)
+  pairs_within Empty lo hi len h on = tt
+  pairs_within (Leaf b) lo hi len h on = (on, tt)
+  pairs_within (Fork' p q left right) lo hi len h on =
+      node_within lo hi len q None (pairs left) (pairs right) on
+      (pairs_within left q.base (middle q) (q.len + 1) h.1.0 h.0.lower)
+      (pairs_within right (middle q) (past q) (q.len + 1) h.2.0 h.0.upper)
+  pairs_within (Full' p q v left right) lo hi len h on =
+      node_within lo hi len q v (pairs left) (pairs right) on
+      (pairs_within left q.base (middle q) (q.len + 1) h.1.0 h.0.lower)
+      (pairs_within right (middle q) (past q) (q.len + 1) h.2.0 h.0.upper)
+
+-- the link holds a node of this prefix, value and sides, and what stands below it is lawful
+pub record IsNode {V A : Type 0} (link : Link V A) (q : Prefix) (v : Option V) (left right : Link V A) : Type 0 where
+  pub pairs_are : pairs link ≡ own q v ++ (pairs left ++ pairs right)
+  pub root_is : root link ≡ Some q
+  pub count_is : count link ≡ count left + count right + 1
+  pub halves : AreHalves q left right
+  pub left_lawful : IsLawful left
+  pub right_lawful : IsLawful right
+
+module _ {V A : Type 0} where
+  of_fork_at : (b : Box (ForkNode V A) A) → IsLawfulBelow (Fork b) → IsNode (Fork b) b.value.prefix None b.value.left b.value.right
+  of_fork_at b h = record { pairs_are = refl; root_is = refl; count_is = refl; halves = h.0; left_lawful = h.1; right_lawful = h.2 }
+
+  of_full_at : (b : Box (FullNode V A) A) → IsLawfulBelow (Full b) → IsNode (Full b) b.value.prefix b.value.value b.value.left b.value.right
+  of_full_at b h = record { pairs_are = refl; root_is = refl; count_is = refl; halves = h.0; left_lawful = h.1; right_lawful = h.2 }
+
+  pub of_fork : (b : Box (ForkNode V A) A) (n : ForkNode V A) (link : Link V A) → link ≡ Fork b → n ≡ b.value → IsLawfulBelow link
+      → IsNode link n.prefix None n.left n.right
+  of_fork b n link e f h = rw (f, e) (of_fork_at b (subst IsLawfulBelow e h))
+
+  pub of_full : (b : Box (FullNode V A) A) (n : FullNode V A) (link : Link V A) → link ≡ Full b → n ≡ b.value → IsLawfulBelow link
+      → IsNode link n.prefix n.value n.left n.right
+  of_full b n link e f h = rw (f, e) (of_full_at b (subst IsLawfulBelow e h))
+
+  pub sides_of : (link : Link V A) (q : Prefix) (v : Option V) (left right : Link V A) → IsNode link q v left right
+      → AreSides q (pairs left) (pairs right)
+  sides_of link q v left right n = record {
+    lower = pairs_within left q.base (middle q) (q.len + 1) n.left_lawful.0 n.halves.lower;
+    upper = pairs_within right (middle q) (past q) (q.len + 1) n.right_lawful.0 n.halves.upper;
+  }
+
+  -- the look-up goes to one side, or ends here
+  pub node_get-lower : (link : Link V A) (q : Prefix) (v : Option V) (left right : Link V A) (n : IsNode link q v left right) (p : Prefix)
+      → q.len < p.len → p.base < middle q → get (pairs link) p ≡ get (pairs left) p
+  node_get-lower link q v left right n p h k =
+      ap (λ m. get m p) n.pairs_are ∙ get-lower q v (pairs left) (pairs right) (sides_of link q v left right n) p h k
+
+  pub node_get-upper : (link : Link V A) (q : Prefix) (v : Option V) (left right : Link V A) (n : IsNode link q v left right) (p : Prefix)
+      → q.len < p.len → middle q ≤ p.base → get (pairs link) p ≡ get (pairs right) p
+  node_get-upper link q v left right n p h k =
+      ap (λ m. get m p) n.pairs_are ∙ get-upper q v (pairs left) (pairs right) (sides_of link q v left right n) p h k
+
+  pub node_get-here : (link : Link V A) (q : Prefix) (v : Option V) (left right : Link V A) (n : IsNode link q v left right) (p : Prefix)
+      → p.len ≤ q.len → same q p ≡ true → get (pairs link) p ≡ v
+  node_get-here link q v left right n p h k =
+      ap (λ m. get m p) n.pairs_are ∙ get-here q v (pairs left) (pairs right) (sides_of link q v left right n) p h k
+
+  pub node_get-past : (link : Link V A) (q : Prefix) (v : Option V) (left right : Link V A) (n : IsNode link q v left right) (p : Prefix)
+      → p.len ≤ q.len → same q p ≡ false → get (pairs link) p ≡ None
+  node_get-past link q v left right n p h k =
+      ap (λ m. get m p) n.pairs_are ∙ get-past q v (pairs left) (pairs right) (sides_of link q v left right n) p h k
+
+  pub node_get-unstored : (link : Link V A) (q : Prefix) (left right : Link V A) (n : IsNode link q None left right) (p : Prefix)
+      → p.len ≤ q.len → get (pairs link) p ≡ None
+  node_get-unstored link q left right n p h = elim (same_tells q p) [
+    | inl s ↦ node_get-here link q None left right n p h s.0
+    | inr s ↦ node_get-past link q None left right n p h s.0
+  ]
+
+  -- the pairs of a lawful link are in order
+  pub pairs_ordered : (link : Link V A) → IsLawfulBelow link → IsOrdered (pairs link)
+  pairs_ordered Empty h = tt
+  pairs_ordered (Leaf b) h = (tt, tt)
+  pairs_ordered (Fork' p q left right) h =
+      let s : AreSides q (pairs left) (pairs right) = record {
+        lower = pairs_within left q.base (middle q) (q.len + 1) h.1.0 h.0.lower;
+        upper = pairs_within right (middle q) (past q) (q.len + 1) h.2.0 h.0.upper;
+      } in
+      IsOrdered-node q None (pairs left) (pairs right) s (pairs_ordered left h.1.0) (pairs_ordered right h.2.0)
+  pairs_ordered (Full' p q v left right) h =
+      let s : AreSides q (pairs left) (pairs right) = record {
+        lower = pairs_within left q.base (middle q) (q.len + 1) h.1.0 h.0.lower;
+        upper = pairs_within right (middle q) (past q) (q.len + 1) h.2.0 h.0.upper;
+      } in
+      IsOrdered-node q v (pairs left) (pairs right) s (pairs_ordered left h.1.0) (pairs_ordered right h.2.0)
+
+  -- the longest match is looked for on one side, with the node's own pair to fall back on
+  pub node_cover-lower : (link : Link V A) (q : Prefix) (v : Option V) (left right : Link V A) (n : IsNode link q v left right) (a : Addr)
+      → a.0 < middle q → last_cover (pairs link) a ≡ or_else (last_cover (pairs left) a) (last_cover (own q v) a)
+  node_cover-lower link q v left right n a h =
+      ap (λ m. last_cover m a) n.pairs_are ∙ cover-lower q v (pairs left) (pairs right) (sides_of link q v left right n) a h
+
+  pub node_cover-upper : (link : Link V A) (q : Prefix) (v : Option V) (left right : Link V A) (n : IsNode link q v left right) (a : Addr)
+      → middle q ≤ a.0 → last_cover (pairs link) a ≡ or_else (last_cover (pairs right) a) (last_cover (own q v) a)
+  node_cover-upper link q v left right n a h =
+      ap (λ m. last_cover m a) n.pairs_are ∙ cover-upper q v (pairs left) (pairs right) (sides_of link q v left right n) a h
+
+  pub node_cover-none : (link : Link V A) (q : Prefix) (v : Option V) (left right : Link V A) (n : IsNode link q v left right) (a : Addr)
+      → covers q a ≡ false → last_cover (pairs link) a ≡ None
+  node_cover-none link q v left right n a h =
+      ap (λ m. last_cover m a) n.pairs_are ∙ cover-none q v (pairs left) (pairs right) (sides_of link q v left right n) a h
+
+  -- one step down keeps the answer: it is below the new link, or else the node's own pair, or else the best before
+  pub step_lower : (link : Link V A) (q : Prefix) (v : Option V) (left right : Link V A) (n : IsNode link q v left right) (a : Addr)
+      (o best : Option (Prefix × V)) → o ≡ or_else (last_cover (pairs link) a) best → a.0 < middle q
+      → o ≡ or_else (last_cover (pairs left) a) (or_else (last_cover (own q v) a) best)
+  step_lower link q v left right n a o best e h =
+      e ∙ ap (λ x. or_else x best) (node_cover-lower link q v left right n a h)
+      ∙ or_assoc (last_cover (pairs left) a) (last_cover (own q v) a) best
+
+  pub step_upper : (link : Link V A) (q : Prefix) (v : Option V) (left right : Link V A) (n : IsNode link q v left right) (a : Addr)
+      (o best : Option (Prefix × V)) → o ≡ or_else (last_cover (pairs link) a) best → middle q ≤ a.0
+      → o ≡ or_else (last_cover (pairs right) a) (or_else (last_cover (own q v) a) best)
+  step_upper link q v left right n a o best e h =
+      e ∙ ap (λ x. or_else x best) (node_cover-upper link q v left right n a h)
+      ∙ or_assoc (last_cover (pairs right) a) (last_cover (own q v) a) best
+
+  -- where the node does not cover the address, the best so far is the answer
+  pub step_none : (link : Link V A) (q : Prefix) (v : Option V) (left right : Link V A) (n : IsNode link q v left right) (a : Addr)
+      (o best : Option (Prefix × V)) → o ≡ or_else (last_cover (pairs link) a) best → covers q a ≡ false → o ≡ best
+  step_none link q v left right n a o best e h =
+      e ∙ ap (λ x. or_else x best) (node_cover-none link q v left right n a h)
+
+  -- the last pair that covers the address is the longest
+  pub longest_of : (link : Link V A) (a : Addr) (o : Option (Prefix × V)) → IsLawfulBelow link → last_cover (pairs link) a ≡ o
+      → IsLongest (pairs link) a o
+  longest_of link a o h e = subst (λ x. IsLongest (pairs link) a x) e (longest_is (pairs link) a (pairs_ordered link h))
+
+  -- the pairs of a leaf
+  pub of_leaf : (b : Box (LeafNode V) A) (n : LeafNode V) (link : Link V A) → link ≡ Leaf b → n ≡ b.value
+      → pairs link ≡ own n.prefix (Some n.value)
+  of_leaf b n link e f = rw (e, f) refl
+
+  pub of_empty : (link : Link V A) → link ≡ Empty → pairs link ≡ []
+  of_empty link e = rw e refl
+
+  -- a node without a value has both sides
+  pub fork_filled : (b : Box (ForkNode V A) A) (n : ForkNode V A) (link : Link V A) → link ≡ Fork b → n ≡ b.value → IsNeeded link
+      → IsFilled n.left × IsFilled n.right
+  fork_filled b n link e f h = let k : IsFilled b.value.left × IsFilled b.value.right = subst IsNeeded e h in rw f k
+
+  pub full_filled : (b : Box (FullNode V A) A) (n : FullNode V A) (link : Link V A) → link ≡ Full b → n ≡ b.value → IsNeeded link
+      → n.value ≡ None → IsFilled n.left × IsFilled n.right
+  full_filled b n link e f h v =
+      let k : IfNone b.value.value (IsFilled b.value.left × IsFilled b.value.right) = subst IsNeeded e h in
+      let j : IfNone n.value (IsFilled n.left × IsFilled n.right) = rw f k in
+      rw v at j
+
+  -- a lawful link that holds a node has a first pair
+  pub filled_first : (link : Link V A) → IsLawful link → IsFilled link → (p : Prefix) × (first (pairs link) ≡ Some p)
+  filled_first Empty h f = absurd (false≢true f)
+  filled_first (Leaf b) h f = (b.value.prefix, refl)
+  filled_first (Fork' p q left right) h f =
+      let i = filled_first left h.0.1 h.1.0 in
+      (i.0, first-append (pairs left) (pairs right) ∙ ap (λ o. or_else o (first (pairs right))) i.1)
+  filled_first (Full' p q (Some v) left right) h f = (q, refl)
+  filled_first (Full' p q None left right) h f =
+      let i = filled_first left h.0.1 h.1.0 in
+      (i.0, first-append (pairs left) (pairs right) ∙ ap (λ o. or_else o (first (pairs right))) i.1)
+
+  -- the first pair of a node without a value is the first on its left
+  pub first_left : (link : Link V A) (q : Prefix) (left right : Link V A) → IsNode link q None left right → IsFilled left
+      → first (pairs link) ≡ first (pairs left)
+  first_left link q left right n f =
+      let i = filled_first left n.left_lawful f in
+      ap first n.pairs_are ∙ first-append (pairs left) (pairs right) ∙ ap (λ o. or_else o (first (pairs right))) i.1 ∙ sym i.1
+
+pub none_of : {X : Type 0} (o : Option X) → false ≡ is_some o → o ≡ None
+none_of None h = refl
+none_of (Some x) h = absurd (false≢true h)
+
+module _ {V A : Type 0} where
+  -- the least prefix after p, by where p stands as seen from the node
+  pub node_after-lower : (link : Link V A) (q : Prefix) (v : Option V) (left right : Link V A) (n : IsNode link q v left right) (p : Prefix)
+      (r : Place) → StandsAt q p r → (r ≡ Here) ⊎ (r ≡ Left) → after (pairs link) p ≡ or_else (after (pairs left) p) (first (pairs right))
+  node_after-lower link q v left right n p r s e =
+      ap (λ m. after m p) n.pairs_are
+      ∙ elim e [
+        | inl h ↦ let i : p ≡ q = subst (StandsAt q p) h s in here i
+        | inr h ↦ let w : IsWithin q.base (middle q) (q.len + 1) p = subst (StandsAt q p) h s in
+            let t = q.is_prefix.short in
+            after-lower q v (pairs left) (pairs right) (sides_of link q v left right n) p (omega (arith, w.from, w.long))
+            (λ y k. let u = p.is_prefix.short in omega (arith, w.to, k.from, size_pos p.len))
+      ]
+    where
+      here : p ≡ q → after (own q v ++ (pairs left ++ pairs right)) p ≡ or_else (after (pairs left) p) (first (pairs right))
+      here i = rw i (after-lower q v (pairs left) (pairs right) (sides_of link q v left right n) q (omega arith)
+          (λ y k. omega (arith, k.long, k.from)))
+
+  pub node_after-upper : (link : Link V A) (q : Prefix) (v : Option V) (left right : Link V A) (n : IsNode link q v left right) (p : Prefix)
+      (r : Place) → StandsAt q p r → r ≡ Right → after (pairs link) p ≡ after (pairs right) p
+  node_after-upper link q v left right n p r s h =
+      let w : IsWithin (middle q) (past q) (q.len + 1) p = subst (StandsAt q p) h s in
+      ap (λ m. after m p) n.pairs_are
+      ∙ after-upper q v (pairs left) (pairs right) (sides_of link q v left right n) p (omega (arith, w.from, w.long)) w.from
+
+  pub node_after-all : (link : Link V A) (q : Prefix) (v : Option V) (left right : Link V A) (n : IsNode link q v left right) (p : Prefix)
+      → before p q ≡ true → after (pairs link) p ≡ first (pairs link)
+  node_after-all link q v left right n p h =
+      ap (λ m. after m p) n.pairs_are
+      ∙ after-all q v (pairs left) (pairs right) (sides_of link q v left right n) p (rank_of_before p q h) ∙ sym (ap first n.pairs_are)
+
+  pub node_after-none : (link : Link V A) (q : Prefix) (v : Option V) (left right : Link V A) (n : IsNode link q v left right) (p : Prefix)
+      (r : Place) → StandsAt q p r → (r ≡ Above) ⊎ (r ≡ Apart) → before p q ≡ false → after (pairs link) p ≡ None
+  node_after-none link q v left right n p r s e h =
+      ap (λ m. after m p) n.pairs_are
+      ∙ after-past q v (pairs left) (pairs right) (sides_of link q v left right n) p (elim e [
+        | inl i ↦ let w : IsWithin p.base (past p) (p.len + 1) q = subst (StandsAt q p) i s in
+            absurd (omega (arith, rank_of_not_before p q h, w.from, w.long))
+        | inr i ↦ let w : (past q ≤ p.base) ⊎ (past p ≤ q.base) = subst (StandsAt q p) i s in elim w [
+          | inl k ↦ k
+          | inr k ↦ let t = p.is_prefix.short in absurd (omega (arith, rank_of_not_before p q h, size_pos p.len))
+        ]
+      ])
+
+  -- the prefix of a fork, and of a leaf
+  pub fork_prefix : (b : Box (ForkNode V A) A) (n : ForkNode V A) (link : Link V A) (p : Prefix) → link ≡ Fork b → n ≡ b.value → IsForkOf p link
+      → n.prefix ≡ p
+  fork_prefix b n link p e f h = let k : b.value.prefix ≡ p = subst (IsForkOf p) e h in rw f k
+
+  pub leaf_prefix : (b : Box (LeafNode V) A) (n : LeafNode V) (link : Link V A) (p : Prefix) → link ≡ Leaf b → n ≡ b.value → IsLeafOf p link
+      → n.prefix ≡ p
+  leaf_prefix b n link p e f h = let k : b.value.prefix ≡ p = subst (IsLeafOf p) e h in rw f k
+
+-- a fact at `Ok` that another gives
+pub on_ok : {X E : Type 0} (r : Result X E) (P Q : Type 0) → (P → Q) → OnOk r P → OnOk r Q
+on_ok (Ok x) P Q f h = f h
+on_ok (Err e) P Q f h = h
+
+-- nothing is stored at a fork
+pub fork_absent : {V A : Type 0} (link : Link V A) (p : Prefix) → IsLawful link → IsForkOf p link → get (pairs link) p ≡ None
+fork_absent Empty p h f = refl
+fork_absent (Leaf b) p h f = absurd f
+fork_absent (Fork' q prefix left right) p h f =
+    let n : IsNode (Fork' q prefix left right) prefix None left right = record {
+      pairs_are = refl;
+      root_is = refl;
+      count_is = refl;
+      halves = h.0.0;
+      left_lawful = h.0.1;
+      right_lawful = h.0.2;
+    } in
+    node_get-unstored (Fork' q prefix left right) prefix left right n p (omega (arith, ap (λ (x : Prefix). x.len) f))
+fork_absent (Full' q prefix v left right) p h f = absurd f
+
+module _ {V A : Type 0} where
+  -- what stands at a prefix on one side of a node stands there in that side's link
+  pub fork_get-left : (b : Box (ForkNode V A) A) (n : ForkNode V A) (link : Link V A) (p : Prefix) → link ≡ Fork b → n ≡ b.value → IsLawful link
+      → IsChild n.prefix false p → get (pairs link) p ≡ get (pairs n.left) p
+  fork_get-left b n link p e f h c = node_get-lower _ _ _ _ _ (of_fork b n link e f h.0) p (omega (arith, c.long)) (omega (arith, c.to, size_pos p.len))
+
+  pub fork_get-right : (b : Box (ForkNode V A) A) (n : ForkNode V A) (link : Link V A) (p : Prefix) → link ≡ Fork b → n ≡ b.value → IsLawful link
+      → IsChild n.prefix true p → get (pairs link) p ≡ get (pairs n.right) p
+  fork_get-right b n link p e f h c = node_get-upper _ _ _ _ _ (of_fork b n link e f h.0) p (omega (arith, c.long)) c.from
+
+  pub full_get-left : (b : Box (FullNode V A) A) (n : FullNode V A) (link : Link V A) (p : Prefix) → link ≡ Full b → n ≡ b.value → IsLawful link
+      → IsChild n.prefix false p → get (pairs link) p ≡ get (pairs n.left) p
+  full_get-left b n link p e f h c = node_get-lower _ _ _ _ _ (of_full b n link e f h.0) p (omega (arith, c.long)) (omega (arith, c.to, size_pos p.len))
+
+  pub full_get-right : (b : Box (FullNode V A) A) (n : FullNode V A) (link : Link V A) (p : Prefix) → link ≡ Full b → n ≡ b.value → IsLawful link
+      → IsChild n.prefix true p → get (pairs link) p ≡ get (pairs n.right) p
+  full_get-right b n link p e f h c = node_get-upper _ _ _ _ _ (of_full b n link e f h.0) p (omega (arith, c.long)) c.from
+
+  pub full_get-here : (b : Box (FullNode V A) A) (n : FullNode V A) (link : Link V A) (p : Prefix) → link ≡ Full b → n ≡ b.value → IsLawful link
+      → p ≡ n.prefix → get (pairs link) p ≡ n.value
+  full_get-here b n link p e f h i =
+      node_get-here _ _ _ _ _ (of_full b n link e f h.0) p (omega (arith, ap (λ (x : Prefix). x.len) i))
+      (same_rank n.prefix p (sym (ap (λ (x : Prefix). x.base) i)) (sym (ap (λ (x : Prefix). x.len) i)))

@@ -1,0 +1,263 @@
+-- What taking a pair out, and then a node that isn't needed, makes of a link.
+use Rattle.std.proofs.Common.{◌≡◌, ◌⊎◌, ◌+◌, Bool, true, false, [], ◌∷◌, ◌++◌, Option, Some, None, inl, inr, refl, sym, subst, ap, ◌∙◌, arith, append-nil}
+use Rattle.std.specs.Prelude.{Box, IfSome}
+use Rattle.std.proofs.lemmas.Bool.{false≢true}
+use Rattle.rt_cidr.specs.declared.prefixes.Prefix.{Prefix}
+use Rattle.rt_trie.specs.declared.nodes.Link.{Link, Empty, Leaf, Fork', Full'}
+use Rattle.rt_trie.specs.declared.nodes.Link.TheVariants.{Fork, Full}
+use Rattle.rt_trie.specs.declared.nodes.ForkNode.{ForkNode}
+use Rattle.rt_trie.specs.declared.nodes.FullNode.{FullNode}
+use Rattle.rt_trie.specs.Map.{Pairs, same, get, erase}
+use Rattle.rt_trie.specs.declared.nodes.Place.{Place}
+use Rattle.rt_trie.specs.declared.nodes.Place.TheVariants.{Here, Left, Right, Above, Apart}
+use Rattle.rt_trie.proofs.InsertLemmas.{get_above, get_apart}
+use Rattle.rt_trie.specs.Blocks.{StandsAt, IsChild, middle, past}
+use Rattle.rt_trie.specs.Links.{own, pairs, count, root, AreHalves, IsVacant, IsLone, IsLeafOf, IsLawfulBelow, IsLawful}
+use Rattle.rt_trie.specs.Changes.{IsErased, IsSpliced, AreSidesOf}
+use Rattle.rt_trie.proofs.OrderLemmas.{same_tells, same_rank}
+use Rattle.rt_trie.proofs.BlockLemmas.{size_pos}
+use Rattle.rt_trie.proofs.PairLemmas.{AllKeys-map, IsOther, IsHigher, IsLower, IsOther-higher, IsOther-lower, erase-skip, erase-none, erase-front, erase-here}
+use Rattle.rt_trie.proofs.NodeLemmas.{upper_higher, lower_lower, own_other, sides_higher}
+use Rattle.rt_trie.proofs.LinkLemmas.{IsNode, within_lower, within_upper, sides_of, of_fork, of_full, node_get-unstored}
+
+pub if_some_map : (o : Option Prefix) (P Q : Prefix → Type 0) → ((x : Prefix) → P x → Q x) → IfSome o P → IfSome o Q
+if_some_map None P Q f h = h
+if_some_map (Some x) P Q f h = f x h
+
+-- a child of a child on a side is a child there
+child_lower : (parent : Prefix) (upper : Bool) (q x : Prefix) → IsChild parent upper q → IsChild q false x → IsChild parent upper x
+child_lower parent false q x h k = within_lower parent.base (middle parent) (parent.len + 1) q x h k
+child_lower parent true q x h k = within_lower (middle parent) (past parent) (parent.len + 1) q x h k
+
+child_upper : (parent : Prefix) (upper : Bool) (q x : Prefix) → IsChild parent upper q → IsChild q true x → IsChild parent upper x
+child_upper parent false q x h k = within_upper parent.base (middle parent) (parent.len + 1) q x h k
+child_upper parent true q x h k = within_upper (middle parent) (past parent) (parent.len + 1) q x h k
+
+-- what is not there is not taken out
+pub erase-absent : {V : Type 0} (xs : Pairs V) (p : Prefix) → get xs p ≡ None → erase xs p ≡ xs
+erase-absent [] p h = refl
+erase-absent ((q, v) ∷ xs) p h = elim (same_tells q p) [
+  | inl s ↦ let e : Some v ≡ None = rw s.0 at h in cc
+  | inr s ↦ let e : get xs p ≡ None = rw s.0 at h in rw s.0 (ap (λ r. (q, v) ∷ r) (erase-absent xs p e))
+]
+
+module _ {V A : Type 0} where
+  pub vacant_pairs : (link : Link V A) → IsVacant link → pairs link ≡ []
+  vacant_pairs Empty h = refl
+  vacant_pairs (Leaf b) h = absurd (false≢true (sym h))
+  vacant_pairs (Fork' p q left right) h = absurd (false≢true (sym h))
+  vacant_pairs (Full' p q v left right) h = absurd (false≢true (sym h))
+
+  pub vacant_count : (link : Link V A) → IsVacant link → count link ≡ 0
+  vacant_count Empty h = refl
+  vacant_count (Leaf b) h = absurd (false≢true (sym h))
+  vacant_count (Fork' p q left right) h = absurd (false≢true (sym h))
+  vacant_count (Full' p q v left right) h = absurd (false≢true (sym h))
+
+  -- the sides of a node without a value
+  pub sides_apart : (link : Link V A) (q : Prefix) (left right : Link V A) → IsNode link q None left right → IsVacant left ⊎ IsVacant right
+      → AreSidesOf link left right
+  sides_apart link q left right n one = record {
+    pairs_are = n.pairs_are;
+    counted = n.count_is;
+    one = one;
+    left_lawful = n.left_lawful;
+    right_lawful = n.right_lawful;
+    left_stays = λ parent upper h.
+        let c : IsChild parent upper q = rw n.root_is at h in
+        if_some_map (root left) (IsChild q false) (IsChild parent upper) (λ x. child_lower parent upper q x c) n.halves.lower;
+    right_stays = λ parent upper h.
+        let c : IsChild parent upper q = rw n.root_is at h in
+        if_some_map (root right) (IsChild q true) (IsChild parent upper) (λ x. child_upper parent upper q x c) n.halves.upper;
+  }
+
+  pub fork_apart : (b : Box (ForkNode V A) A) (n : ForkNode V A) (link : Link V A) → link ≡ Fork b → n ≡ b.value → IsLawfulBelow link
+      → IsLone link → AreSidesOf link n.left n.right
+  fork_apart b n link e f h k =
+      let one : IsVacant b.value.left ⊎ IsVacant b.value.right = subst IsLone e k in
+      sides_apart link n.prefix n.left n.right (of_fork b n link e f h) (rw f one)
+
+  pub full_apart : (b : Box (FullNode V A) A) (n : FullNode V A) (link : Link V A) → link ≡ Full b → n ≡ b.value → IsLawfulBelow link
+      → IsLone link → AreSidesOf link n.left n.right
+  full_apart b n link e f h k =
+      let one : (b.value.value ≡ None) × (IsVacant b.value.left ⊎ IsVacant b.value.right) = subst IsLone e k in
+      let none : n.value ≡ None = ap (λ (x : FullNode V A). x.value) f ∙ one.0 in
+      sides_apart link n.prefix n.left n.right
+      (subst (λ o. IsNode link n.prefix o n.left n.right) none (of_full b n link e f h)) (rw f one.1)
+
+  -- the side that is left moves up
+  pub splice_right : (old left right : Link V A) → AreSidesOf old left right → IsVacant left → IsSpliced old right
+  splice_right old left right s h = record {
+    pairs_are = sym (s.pairs_are ∙ ap (λ x. x ++ pairs right) (vacant_pairs left h));
+    lawful = s.right_lawful;
+    stays = s.right_stays;
+  }
+
+  pub splice_left : (old left right : Link V A) → AreSidesOf old left right → IsVacant right → IsSpliced old left
+  splice_left old left right s h = record {
+    pairs_are = sym (s.pairs_are ∙ ap (λ x. pairs left ++ x) (vacant_pairs right h) ∙ append-nil (pairs left));
+    lawful = s.left_lawful;
+    stays = s.left_stays;
+  }
+
+  -- where one side is vacant and it isn't the left one, it is the right one
+  pub other_vacant : (left right : Link V A) → IsVacant left ⊎ IsVacant right → ¬ IsVacant left → IsVacant right
+  other_vacant left right one n = elim one [ inl h ↦ absurd (n h) | inr h ↦ h ]
+
+  -- p is taken out on one side
+  erase_left : (old mid : Link V A) (q : Prefix) (w : Option V) (l r k : Link V A) (p : Prefix) → IsNode old q w l r → IsNode mid q w k r
+      → IsChild q false p → IsErased l k p → pairs mid ≡ erase (pairs old) p
+  erase_left old mid q w l r k p n m c i =
+      let s = sides_of old q w l r n in
+      m.pairs_are ∙ sym (ap (λ x. erase x p) n.pairs_are
+      ∙ erase-skip (own q w) (pairs l ++ pairs r) p (own_other q w (pairs l) (pairs r) s p (omega (arith, c.long)))
+      ∙ ap (λ x. own q w ++ x) (erase-front (pairs l) (pairs r) p
+      (AllKeys-map (IsHigher p) (IsOther p) (pairs r) (λ x. IsOther-higher p x)
+      (upper_higher q w (pairs l) (pairs r) s p (omega (arith, c.to, size_pos p.len))))
+      ∙ ap (λ x. x ++ pairs r) (sym i.pairs_are)))
+
+  erase_right : (old mid : Link V A) (q : Prefix) (w : Option V) (l r k : Link V A) (p : Prefix) → IsNode old q w l r → IsNode mid q w l k
+      → IsChild q true p → IsErased r k p → pairs mid ≡ erase (pairs old) p
+  erase_right old mid q w l r k p n m c i =
+      let s = sides_of old q w l r n in
+      m.pairs_are ∙ sym (ap (λ x. erase x p) n.pairs_are
+      ∙ erase-skip (own q w) (pairs l ++ pairs r) p (own_other q w (pairs l) (pairs r) s p (omega (arith, c.long)))
+      ∙ ap (λ x. own q w ++ x) (erase-skip (pairs l) (pairs r) p
+      (AllKeys-map (IsLower p) (IsOther p) (pairs l) (λ x. IsOther-lower p x)
+      (lower_lower q w (pairs l) (pairs r) s p c.from))
+      ∙ ap (λ x. pairs l ++ x) (sym i.pairs_are)))
+
+  -- a node's own value is taken out
+  erase_own : (old mid : Link V A) (q : Prefix) (w : Option V) (l r : Link V A) → IsNode old q w l r → IsNode mid q None l r
+      → pairs mid ≡ erase (pairs old) q
+  erase_own old mid q None l r n m =
+      m.pairs_are ∙ sym (ap (λ x. erase x q) n.pairs_are ∙ erase-none (pairs l ++ pairs r) q
+      (AllKeys-map (IsHigher q) (IsOther q) (pairs l ++ pairs r) (λ x. IsOther-higher q x)
+      (sides_higher q None (pairs l) (pairs r) (sides_of old q None l r n))))
+  erase_own old mid q (Some v) l r n m =
+      m.pairs_are ∙ sym (ap (λ x. erase x q) n.pairs_are ∙ erase-here (pairs l ++ pairs r) q v)
+
+  -- the node after a change of one side, and before what isn't needed is taken away
+  pub record IsHalfway (old mid : Link V A) (p : Prefix) : Type 0 where
+    pub pairs_are : pairs mid ≡ erase (pairs old) p
+    pub below : IsLawfulBelow mid
+    pub root_is : root mid ≡ root old
+
+  made_below_full : (b : Box (FullNode V A) A) (q : Prefix) (w : Option V) (l r : Link V A) → b.value.prefix ≡ q → b.value.value ≡ w
+      → b.value.left ≡ l → b.value.right ≡ r → AreHalves q l r → IsLawful l → IsLawful r → IsNode (Full b) q w l r × IsLawfulBelow (Full b)
+  made_below_full b q w l r e f i j h k m = (
+    rw (e, f, i, j) (record {
+      pairs_are = refl;
+      root_is = refl;
+      count_is = refl;
+      halves = h;
+      left_lawful = k;
+      right_lawful = m;
+    }),
+    rw (e, i, j) (h, k, m),
+  )
+
+  made_below_fork : (b : Box (ForkNode V A) A) (q : Prefix) (l r : Link V A) → b.value.prefix ≡ q
+      → b.value.left ≡ l → b.value.right ≡ r → AreHalves q l r → IsLawful l → IsLawful r → IsNode (Fork b) q None l r × IsLawfulBelow (Fork b)
+  made_below_fork b q l r e i j h k m = (
+    rw (e, i, j) (record {
+      pairs_are = refl;
+      root_is = refl;
+      count_is = refl;
+      halves = h;
+      left_lawful = k;
+      right_lawful = m;
+    }),
+    rw (e, i, j) (h, k, m),
+  )
+
+  pub halfway_fork_left : (f : Box (ForkNode V A) A) (m : ForkNode V A) (old k : Link V A) (p : Prefix) → old ≡ Fork f → m ≡ f.value
+      → IsLawful old → IsChild m.prefix false p → IsErased m.left k p → (b : Box (ForkNode V A) A) → b.value.prefix ≡ m.prefix
+      → b.value.left ≡ k → b.value.right ≡ m.right → IsHalfway old (Fork b) p
+  halfway_fork_left f m old k p e g h c i b x y z =
+      let n = of_fork f m old e g h.0 in
+      let u = made_below_fork b m.prefix k m.right x y z
+      (record { lower = i.stays m.prefix false n.halves.lower; upper = n.halves.upper }) i.lawful n.right_lawful in
+      record { pairs_are = erase_left old (Fork b) m.prefix None m.left m.right k p n u.0 c i; below = u.1; root_is = u.0.root_is ∙ sym n.root_is }
+
+  pub halfway_fork_right : (f : Box (ForkNode V A) A) (m : ForkNode V A) (old k : Link V A) (p : Prefix) → old ≡ Fork f → m ≡ f.value
+      → IsLawful old → IsChild m.prefix true p → IsErased m.right k p → (b : Box (ForkNode V A) A) → b.value.prefix ≡ m.prefix
+      → b.value.left ≡ m.left → b.value.right ≡ k → IsHalfway old (Fork b) p
+  halfway_fork_right f m old k p e g h c i b x y z =
+      let n = of_fork f m old e g h.0 in
+      let u = made_below_fork b m.prefix m.left k x y z
+      (record { lower = n.halves.lower; upper = i.stays m.prefix true n.halves.upper }) n.left_lawful i.lawful in
+      record { pairs_are = erase_right old (Fork b) m.prefix None m.left m.right k p n u.0 c i; below = u.1; root_is = u.0.root_is ∙ sym n.root_is }
+
+  pub halfway_full_left : (f : Box (FullNode V A) A) (m : FullNode V A) (old k : Link V A) (p : Prefix) → old ≡ Full f → m ≡ f.value
+      → IsLawful old → IsChild m.prefix false p → IsErased m.left k p → (b : Box (FullNode V A) A) → b.value.prefix ≡ m.prefix
+      → b.value.value ≡ m.value → b.value.left ≡ k → b.value.right ≡ m.right → IsHalfway old (Full b) p
+  halfway_full_left f m old k p e g h c i b x w y z =
+      let n = of_full f m old e g h.0 in
+      let u = made_below_full b m.prefix m.value k m.right x w y z
+      (record { lower = i.stays m.prefix false n.halves.lower; upper = n.halves.upper }) i.lawful n.right_lawful in
+      record { pairs_are = erase_left old (Full b) m.prefix m.value m.left m.right k p n u.0 c i; below = u.1; root_is = u.0.root_is ∙ sym n.root_is }
+
+  pub halfway_full_right : (f : Box (FullNode V A) A) (m : FullNode V A) (old k : Link V A) (p : Prefix) → old ≡ Full f → m ≡ f.value
+      → IsLawful old → IsChild m.prefix true p → IsErased m.right k p → (b : Box (FullNode V A) A) → b.value.prefix ≡ m.prefix
+      → b.value.value ≡ m.value → b.value.left ≡ m.left → b.value.right ≡ k → IsHalfway old (Full b) p
+  halfway_full_right f m old k p e g h c i b x w y z =
+      let n = of_full f m old e g h.0 in
+      let u = made_below_full b m.prefix m.value m.left k x w y z
+      (record { lower = n.halves.lower; upper = i.stays m.prefix true n.halves.upper }) n.left_lawful i.lawful in
+      record { pairs_are = erase_right old (Full b) m.prefix m.value m.left m.right k p n u.0 c i; below = u.1; root_is = u.0.root_is ∙ sym n.root_is }
+
+  pub halfway_full_here : (f : Box (FullNode V A) A) (m : FullNode V A) (old : Link V A) (p : Prefix) → old ≡ Full f → m ≡ f.value
+      → IsLawful old → p ≡ m.prefix → (b : Box (FullNode V A) A) → b.value.prefix ≡ m.prefix
+      → b.value.value ≡ None → b.value.left ≡ m.left → b.value.right ≡ m.right → IsHalfway old (Full b) p
+  halfway_full_here f m old p e g h i b x w y z =
+      let n = of_full f m old e g h.0 in
+      let u = made_below_full b m.prefix None m.left m.right x w y z n.halves n.left_lawful n.right_lawful in
+      rw i (record { pairs_are = erase_own old (Full b) m.prefix m.value m.left m.right n u.0; below = u.1; root_is = u.0.root_is ∙ sym n.root_is })
+
+  -- and the whole removal
+  pub erased_of : (old mid new : Link V A) (p : Prefix) → IsHalfway old mid p → IsSpliced mid new → IsErased old new p
+  erased_of old mid new p h s = record {
+    pairs_are = s.pairs_are ∙ h.pairs_are;
+    lawful = s.lawful;
+    stays = λ parent upper k. s.stays parent upper (rw h.root_is k);
+  }
+
+  -- nothing is taken out where nothing stands
+  pub erased_none : (old : Link V A) (p : Prefix) → IsLawful old → get (pairs old) p ≡ None → IsErased old old p
+  erased_none old p h e = record {
+    pairs_are = sym (erase-absent (pairs old) p e);
+    lawful = h;
+    stays = λ parent upper k. k;
+  }
+
+  -- at a fork nothing is stored but on its sides
+  pub fork_none : (b : Box (ForkNode V A) A) (n : ForkNode V A) (old : Link V A) (p : Prefix) (r : Place) → old ≡ Fork b → n ≡ b.value
+      → IsLawful old → StandsAt n.prefix p r → (r ≡ Left → ⊥) → (r ≡ Right → ⊥) → get (pairs old) p ≡ None
+  fork_none b n old p Here e f h s x y =
+      node_get-unstored old n.prefix n.left n.right (of_fork b n old e f h.0) p (omega (arith, ap (λ (z : Prefix). z.len) s))
+  fork_none b n old p Left e f h s x y = absurd (x refl)
+  fork_none b n old p Right e f h s x y = absurd (y refl)
+  fork_none b n old p Above e f h s x y = get_above old n.prefix p h (of_fork b n old e f h.0).root_is s
+  fork_none b n old p Apart e f h s x y = get_apart old n.prefix p h (of_fork b n old e f h.0).root_is s
+
+  -- at a full node, its own value aside
+  pub full_none : (b : Box (FullNode V A) A) (n : FullNode V A) (old : Link V A) (p : Prefix) (r : Place) → old ≡ Full b → n ≡ b.value
+      → IsLawful old → StandsAt n.prefix p r → (r ≡ Above) ⊎ (r ≡ Apart) → get (pairs old) p ≡ None
+  full_none b n old p r e f h s o = elim o [
+    | inl i ↦ get_above old n.prefix p h (of_full b n old e f h.0).root_is (subst (StandsAt n.prefix p) i s)
+    | inr i ↦ get_apart old n.prefix p h (of_full b n old e f h.0).root_is (subst (StandsAt n.prefix p) i s)
+  ]
+
+  pub erased_same : (old new : Link V A) (p : Prefix) → IsLawful old → get (pairs old) p ≡ None → old ≡ new → IsErased old new p
+  erased_same old new p h e i = subst (λ x. IsErased old x p) i (erased_none old p h e)
+
+  -- a leaf is taken out
+  pub erased_leaf : (old new : Link V A) (p : Prefix) → IsLeafOf p old → new ≡ Empty → IsErased old new p
+  erased_leaf Empty new p h e = absurd h
+  erased_leaf (Leaf b) new p h e =
+      let s : same b.value.prefix p ≡ true =
+      same_rank b.value.prefix p (ap (λ (x : Prefix). x.base) h) (ap (λ (x : Prefix). x.len) h) in
+      rw e (record { pairs_are = rw s refl; lawful = (tt, tt); stays = λ parent upper k. tt })
+  erased_leaf (Fork' x q left right) new p h e = absurd h
+  erased_leaf (Full' x q v left right) new p h e = absurd h

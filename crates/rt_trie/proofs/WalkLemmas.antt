@@ -1,0 +1,97 @@
+-- What a walk has put aside, as links are taken from it and put there.
+use Rattle.std.proofs.Common.{◌≡◌, ◌≢◌, ℕ, zero, suc, ◌+◌, ◌*◌, ◌<◌, ◌≤◌, List, [], ◌∷◌, ◌++◌, length, get_or, set, Option, Some, None, refl, sym, subst, ap, ◌∙◌, arith, append_assoc}
+use Rattle.std.proofs.Common.{true, false, inl, inr}
+use Rattle.std.proofs.lemmas.Bool.{cases_lt}
+use Rattle.std.specs.Prelude.{IfSome, IsSomeAnd}
+use Rattle.rt_trie.specs.Blocks.{IsChild}
+use Rattle.rt_trie.proofs.RemoveLemmas.{if_some_map}
+use Rattle.rt_trie.proofs.LinkLemmas.{IsNode}
+use Rattle.std.specs.Borrow.{Bor}
+use Rattle.rt_cidr.specs.declared.prefixes.Prefix.{Prefix}
+use Rattle.rt_trie.specs.declared.nodes.Link.{Link}
+use Rattle.rt_trie.specs.Aside.{link_at}
+use Rattle.rt_trie.specs.Links.{own, pairs, count, root}
+use Rattle.rt_trie.specs.Walks.{pairs_of, rest_of, IsFrom, IsAside}
+
+-- how much work a link is: one, and two for each of its nodes
+abbrev pub work_of : {V A : Type 0} → Option (Link V A) → ℕ
+work_of None = 0
+work_of (Some link) = 2 * count link + 1
+
+-- how much work is left
+abbrev pub weight_of : {V A : Type 0} → List (Bor (Link V A)) → ℕ → ℕ
+weight_of xs zero = 0
+weight_of xs (suc k) = work_of (link_at xs k) + weight_of xs k
+
+pub link_at-read : {X : Type 0} (xs : List (Bor X)) (k : ℕ) (r : Bor X) → k < length xs → r ≡ get_or xs k r → link_at xs k ≡ Some r.now
+link_at-read [] k r h e = absurd (omega arith)
+link_at-read (x ∷ xs) zero r h e = ap (λ (y : Bor _). Some y.now) (sym e)
+link_at-read (x ∷ xs) (suc k) r h e = link_at-read xs k r (omega arith) e
+
+pub link_at-set_same : {X : Type 0} (xs : List (Bor X)) (k : ℕ) (r : Bor X) → k < length xs → link_at (set xs k r) k ≡ Some r.now
+link_at-set_same [] k r h = absurd (omega arith)
+link_at-set_same (x ∷ xs) zero r h = refl
+link_at-set_same (x ∷ xs) (suc k) r h = link_at-set_same xs k r (omega arith)
+
+pub link_at-set_other : {X : Type 0} (xs : List (Bor X)) (j k : ℕ) (r : Bor X) → j ≢ k → link_at (set xs k r) j ≡ link_at xs j
+link_at-set_other [] j k r n = refl
+link_at-set_other (x ∷ xs) zero zero r n = absurd (n refl)
+link_at-set_other (x ∷ xs) zero (suc k) r n = refl
+link_at-set_other (x ∷ xs) (suc j) zero r n = refl
+link_at-set_other (x ∷ xs) (suc j) (suc k) r n = link_at-set_other xs j k r (λ e. n (ap suc e))
+
+longer_root : (k : ℕ) (o : Option Prefix) (q : Prefix) → o ≡ Some q → IfSome o (λ x. k ≤ x.len) → k ≤ q.len
+longer_root k o q e h = rw e at h
+
+module _ {V A : Type 0} where
+  -- what is changed at a place and after it leaves what is before
+  rest_below : (xs ys : List (Bor (Link V A))) (k : ℕ) → ((j : ℕ) → j < k → link_at ys j ≡ link_at xs j) → rest_of ys k ≡ rest_of xs k
+  rest_below xs ys zero h = refl
+  rest_below xs ys (suc k) h = rw (h k (omega arith)) (ap (λ m. pairs_of (link_at xs k) ++ m) (rest_below xs ys k (λ j l. h j (omega arith))))
+
+  weight_below : (xs ys : List (Bor (Link V A))) (k : ℕ) → ((j : ℕ) → j < k → link_at ys j ≡ link_at xs j) → weight_of ys k ≡ weight_of xs k
+  weight_below xs ys zero h = refl
+  weight_below xs ys (suc k) h = rw (h k (omega arith)) (ap (λ m. work_of (link_at xs k) + m) (weight_below xs ys k (λ j l. h j (omega arith))))
+
+  -- a node gives way to its two sides
+  pub walk_step : (xs ys : List (Bor (Link V A))) (m n k : ℕ) (link left right : Link V A) (q : Prefix) (v : Option V) → IsAside xs m → m ≡ suc k
+      → n ≡ suc (suc k) → link_at xs k ≡ Some link → IsNode link q v left right → link_at ys k ≡ Some right → link_at ys (suc k) ≡ Some left
+      → ((j : ℕ) → j < k → link_at ys j ≡ link_at xs j) → length ys ≡ length xs
+      → IsAside ys n × (own q v ++ rest_of ys n ≡ rest_of xs m) × (weight_of ys n < weight_of xs m)
+  walk_step xs ys m n k link left right q v a em en at node r l below size =
+      let here : IsFrom k link = rw at at (a.each k (omega arith)) in
+      let deep = longer_root k (root link) q node.root_is here.1 in
+      let short = q.is_prefix.short in
+      let right_from : IfSome (root right) (λ x. k ≤ x.len) =
+      if_some_map (root right) (IsChild q true) (λ x. k ≤ x.len) (λ x c. omega (arith, c.long)) node.halves.upper in
+      let left_from : IfSome (root left) (λ x. suc k ≤ x.len) =
+      if_some_map (root left) (IsChild q false) (λ x. suc k ≤ x.len) (λ x c. omega (arith, c.long)) node.halves.lower in
+      let at_right : IsSomeAnd (link_at ys k) (IsFrom k) = rw r (node.right_lawful, right_from) in
+      let at_left : IsSomeAnd (link_at ys (suc k)) (IsFrom (suc k)) = rw l (node.left_lawful, left_from) in (
+        record {
+          size = size ∙ a.size;
+          few = omega arith;
+          each = λ j h. elim (cases_lt j k) [
+            | inl lt ↦ let b : IsSomeAnd (link_at xs j) (IsFrom j) = a.each j (omega arith) in rw (below j lt) b
+            | inr ge ↦ elim (cases_lt k j) [
+              | inl gt ↦ let e : suc k ≡ j = omega arith in subst (λ i. IsSomeAnd (link_at ys i) (IsFrom i)) e at_left
+              | inr le ↦ let e : k ≡ j = omega arith in subst (λ i. IsSomeAnd (link_at ys i) (IsFrom i)) e at_right
+            ]
+          ];
+        },
+        rw (en, em, l, r, at) (
+            ap (λ t. own q v ++ (pairs left ++ (pairs right ++ t))) (rest_below xs ys k below)
+            ∙ ap (λ t. own q v ++ t) (sym (append_assoc (pairs left) (pairs right) (rest_of xs k)))
+            ∙ sym (append_assoc (own q v) (pairs left ++ pairs right) (rest_of xs k))
+            ∙ sym (ap (λ t. t ++ rest_of xs k) node.pairs_are)),
+        rw (en, em, l, r, at) (omega (arith, node.count_is, weight_below xs ys k below)),
+      )
+
+  -- the last link that is put aside
+  pub last_from : (xs : List (Bor (Link V A))) (m k : ℕ) (link : Link V A) → IsAside xs m → m ≡ suc k → link_at xs k ≡ Some link → IsFrom k link
+  last_from xs m k link a em at = rw at at (a.each k (omega arith))
+
+  -- a leaf is given
+  pub leaf_step : (xs : List (Bor (Link V A))) (m k : ℕ) (link : Link V A) (x : Prefix × V) → m ≡ suc k → link_at xs k ≡ Some link
+      → pairs link ≡ x ∷ [] → rest_of xs m ≡ x ∷ rest_of xs k
+  leaf_step xs m k link x em at e = rw (em, at) (ap (λ t. t ++ rest_of xs k) e)

@@ -1,0 +1,50 @@
+use Rattle.std.proofs.Common.{sym, ◌∙◌, arith}
+use Rattle.rt_trie.proofs.LinkLemmas.{of_fork, of_full, node_get-lower, node_get-upper, node_get-here, node_get-past, node_get-unstored}
+use Rattle.rt_trie.proofs.search.get.Goals as goal
+
+pub returns-then-len : goal.returns-then-len
+returns-then-len g c =
+    let n = of_fork c.in-Fork.fork c.as_ref-fork.result.now c.loop-link.link.now c.in-Fork.is c.as_ref-fork.ensures c.loop-link.invariant.lawful in
+    sym (c.loop-link.invariant.same ∙ node_get-unstored _ _ _ _ n c.args.p (omega arith))
+
+pub loop-link-preserved-then-base-middle : goal.loop-link-preserved-then-base-middle
+loop-link-preserved-then-base-middle g c =
+    let n = of_fork c.in-Fork.fork c.as_ref-fork.result.now c.loop-link.link.now c.in-Fork.is c.as_ref-fork.ensures c.loop-link.invariant.lawful in
+    record {
+      lawful = n.left_lawful.0;
+      same = c.loop-link.invariant.same ∙ node_get-lower _ _ _ _ _ n c.args.p (omega arith) (omega arith);
+    }
+
+pub loop-link-preserved-else-base-middle : goal.loop-link-preserved-else-base-middle
+loop-link-preserved-else-base-middle g c =
+    let n = of_fork c.in-Fork.fork c.as_ref-fork.result.now c.loop-link.link.now c.in-Fork.is c.as_ref-fork.ensures c.loop-link.invariant.lawful in
+    record {
+      lawful = n.right_lawful.0;
+      same = c.loop-link.invariant.same ∙ node_get-upper _ _ _ _ _ n c.args.p (omega arith) (omega arith);
+    }
+
+pub returns-then-eq-2 : goal.returns-then-eq-2
+returns-then-eq-2 g c =
+    let n = of_full c.in-Full.full c.as_ref-full.result.now c.loop-link.link.now c.in-Full.is c.as_ref-full.ensures c.loop-link.invariant.lawful in
+    c.as_ref.ensures.value ∙ sym (c.loop-link.invariant.same ∙ node_get-here _ _ _ _ _ n c.args.p (omega arith) (sym c.if-eq-2.ensures))
+
+pub returns-else-eq-2 : goal.returns-else-eq-2
+returns-else-eq-2 g c =
+    let n = of_full c.in-Full.full c.as_ref-full.result.now c.loop-link.link.now c.in-Full.is c.as_ref-full.ensures c.loop-link.invariant.lawful in
+    sym (c.loop-link.invariant.same ∙ node_get-past _ _ _ _ _ n c.args.p (omega arith) (sym c.if-eq-2.ensures))
+
+pub loop-link-preserved-then-base-middle-2 : goal.loop-link-preserved-then-base-middle-2
+loop-link-preserved-then-base-middle-2 g c =
+    let n = of_full c.in-Full.full c.as_ref-full.result.now c.loop-link.link.now c.in-Full.is c.as_ref-full.ensures c.loop-link.invariant.lawful in
+    record {
+      lawful = n.left_lawful.0;
+      same = c.loop-link.invariant.same ∙ node_get-lower _ _ _ _ _ n c.args.p (omega arith) (omega arith);
+    }
+
+pub loop-link-preserved : goal.loop-link-preserved
+loop-link-preserved g c =
+    let n = of_full c.in-Full.full c.as_ref-full.result.now c.loop-link.link.now c.in-Full.is c.as_ref-full.ensures c.loop-link.invariant.lawful in
+    record {
+      lawful = n.right_lawful.0;
+      same = c.loop-link.invariant.same ∙ node_get-upper _ _ _ _ _ n c.args.p (omega arith) (omega arith);
+    }

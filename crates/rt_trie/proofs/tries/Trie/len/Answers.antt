@@ -1,0 +1,9 @@
+use Rattle.std.proofs.Common.{subst}
+use Rattle.rt_trie.specs.Contents.{Contents}
+use Rattle.rt_trie.specs.Map.{IsOrdered}
+use Rattle.rt_trie.proofs.LinkLemmas.{pairs_ordered}
+use Rattle.rt_trie.proofs.tries.Trie.len.Goals as goal
+
+pub returns-clause-ordered : goal.returns-clause-ordered
+returns-clause-ordered g c =
+    subst (λ (x : Contents _). IsOrdered x.pairs) c.self.view_is (pairs_ordered c.self.inside.root c.self.invariant.lawful.0)

@@ -1,0 +1,32 @@
+use Rattle.std.proofs.Common.{length, sym, ap, ◌∙◌, arith}
+use Rattle.rt_trie.specs.Links.{pairs}
+use Rattle.rt_trie.proofs.RemoveLemmas.{erase-absent}
+use Rattle.rt_trie.proofs.LinkLemmas.{none_of}
+use Rattle.rt_trie.proofs.CountLemmas.{length-erase_known}
+use Rattle.rt_trie.proofs.tries.Trie.remove.Goals as goal
+
+pub invariant_of-self : goal.invariant_of-self
+invariant_of-self g c =
+    let i = c.remove-gone.ensures in
+    let m = pairs c.self.inside.root in
+    record {
+      lawful = i.erased.lawful;
+      len = omega (
+        arith,
+        c.self.invariant.len,
+        ap length i.erased.pairs_are,
+        length-erase_known m c.args.p c.remove-gone.result (sym i.value) c.if-is_some.ensures,
+      );
+      nodes = omega (arith, c.self.invariant.nodes, i.counted);
+    }
+
+pub invariant_of-self-else-is_some : goal.invariant_of-self-else-is_some
+invariant_of-self-else-is_some g c =
+    let i = c.remove-gone.ensures in
+    let m = pairs c.self.inside.root in
+    let e = sym i.value ∙ none_of c.remove-gone.result c.if-is_some.ensures in
+    record {
+      lawful = i.erased.lawful;
+      len = omega (arith, c.self.invariant.len, ap length i.erased.pairs_are, ap length (erase-absent m c.args.p e));
+      nodes = omega (arith, c.self.invariant.nodes, i.counted);
+    }

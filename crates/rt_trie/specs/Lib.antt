@@ -1,0 +1,13 @@
+pub use Rattle.rt_cidr.specs.Cidr
+pub use Rattle.rt_cidr.specs.Prefix
+pub mod Aside
+pub mod Blocks
+pub mod Changes
+pub mod Contents
+pub mod Descent
+pub mod Lends
+pub mod Links
+pub mod Map
+pub mod Trie
+pub mod TrieLends
+pub mod Walks

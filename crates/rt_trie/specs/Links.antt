@@ -1,0 +1,91 @@
+-- What a link holds: its pairs in order, how many nodes, and when it is lawful.
+use Rattle.std.specs.Prelude.{◌≡◌, ℕ, Bool, true, false, ◌+◌, ◌++◌, [], ◌∷◌, Option, Some, None, IfSome, IfNone, IsSome, IsNone, ◌⊎◌}
+use Rattle.rt_cidr.specs.declared.prefixes.Prefix.{Prefix}
+use Rattle.rt_trie.specs.declared.nodes.Link.{Link, Empty, Leaf, Fork', Full'}
+use Rattle.rt_trie.specs.Map.{Pairs}
+use Rattle.rt_trie.specs.Blocks.{IsChild}
+
+-- a node's own pair, if it has a value
+abbrev pub own : {V : Type 0} → Prefix → Option V → Pairs V
+own q None = []
+own q (Some v) = (q, v) ∷ []
+
+-- the pairs of the nodes that have a value: a node's own, then those on its left, then those on its right
+abbrev pub pairs : {V A : Type 0} → Link V A → Pairs V
+pairs Empty = []
+pairs (Leaf b) = own b.value.prefix (Some b.value.value)
+pairs (Fork' p q left right) = pairs left ++ pairs right
+pairs (Full' p q v left right) = own q v ++ (pairs left ++ pairs right)
+
+-- how many nodes
+abbrev pub count : {V A : Type 0} → Link V A → ℕ
+count Empty = 0
+count (Leaf b) = 1
+count (Fork' p q left right) = count left + count right + 1
+count (Full' p q v left right) = count left + count right + 1
+
+-- the prefix of the node that the link holds
+abbrev pub root : {V A : Type 0} → Link V A → Option Prefix
+root Empty = None
+root (Leaf b) = Some b.value.prefix
+root (Fork' p q left right) = Some q
+root (Full' p q v left right) = Some q
+
+-- the link holds a leaf of this prefix
+abbrev pub IsLeafOf : {V A : Type 0} → Prefix → Link V A → Type 0
+IsLeafOf q Empty = ⊥
+IsLeafOf q (Leaf b) = b.value.prefix ≡ q
+IsLeafOf q (Fork' p prefix left right) = ⊥
+IsLeafOf q (Full' p prefix v left right) = ⊥
+
+-- the link holds a fork of this prefix
+abbrev pub IsForkOf : {V A : Type 0} → Prefix → Link V A → Type 0
+IsForkOf q Empty = ⊥
+IsForkOf q (Leaf b) = ⊥
+IsForkOf q (Fork' p prefix left right) = prefix ≡ q
+IsForkOf q (Full' p prefix v left right) = ⊥
+
+-- the link holds a node
+abbrev pub IsFilled : {V A : Type 0} → Link V A → Type 0
+IsFilled link = IsSome (root link)
+
+-- the link holds nothing
+abbrev pub IsVacant : {V A : Type 0} → Link V A → Type 0
+IsVacant link = IsNone (root link)
+
+-- the link holds nothing, or a child of the parent on that side
+abbrev pub IsChildLink : {V A : Type 0} → Prefix → Bool → Link V A → Type 0
+IsChildLink parent upper link = IfSome (root link) (IsChild parent upper)
+
+-- each child is longer than its parent, contained in it, and in the half of its addresses that the next bit picks
+pub record AreHalves {V A : Type 0} (q : Prefix) (left right : Link V A) : Type 0 where
+  pub lower : IsChildLink q false left
+  pub upper : IsChildLink q true right
+
+-- a node without a value has two children
+abbrev pub IsNeeded : {V A : Type 0} → Link V A → Type 0
+IsNeeded Empty = Unit {0}
+IsNeeded (Leaf b) = Unit {0}
+IsNeeded (Fork' p q left right) = IsFilled left × IsFilled right
+IsNeeded (Full' p q v left right) = IfNone v (IsFilled left × IsFilled right)
+
+-- a node has neither a value nor two children
+abbrev pub IsLone : {V A : Type 0} → Link V A → Type 0
+IsLone Empty = ⊥
+IsLone (Leaf b) = ⊥
+IsLone (Fork' p q left right) = IsVacant left ⊎ IsVacant right
+IsLone (Full' p q v left right) = (v ≡ None) × (IsVacant left ⊎ IsVacant right)
+
+-- what stands below the node is lawful
+abbrev pub IsLawfulBelow : {V A : Type 0} → Link V A → Type 0
+IsLawfulBelow Empty = Unit {0}
+IsLawfulBelow (Leaf b) = Unit {0}
+IsLawfulBelow (Fork' p q left right) =
+    AreHalves q left right × (IsLawfulBelow left × IsNeeded left) × (IsLawfulBelow right × IsNeeded right)
+IsLawfulBelow (Full' p q v left right) =
+    AreHalves q left right × (IsLawfulBelow left × IsNeeded left) × (IsLawfulBelow right × IsNeeded right)
+
+-- every child is longer than its parent, contained in it and on the side of the next bit, and every node without a
+-- value has two children
+abbrev pub IsLawful : {V A : Type 0} → Link V A → Type 0
+IsLawful link = IsLawfulBelow link × IsNeeded link

@@ -1,0 +1,66 @@
+-- A finite map from prefixes, as the list of its pairs in the order of base and then length.
+use Rattle.std.specs.Prelude.{◌≡◌, Bool, false, ◌==◌, ◌&&◌, ◌||◌, ◌≤◌, nat_lt, List, [], ◌∷◌, Option, Some, None, if◌then◌else◌, IsTrue, All, Contains}
+use Rattle.std.specs.Borrow.{Bor}
+use Rattle.rt_cidr.specs.declared.address.Addr.{Addr}
+use Rattle.rt_cidr.specs.declared.prefixes.Prefix.{Prefix}
+use Rattle.rt_cidr.specs.Prefix.{covers}
+
+-- pairs of a prefix and its value
+abbrev pub Pairs : Type 0 → Type 0
+Pairs V = List (Prefix × V)
+
+-- the two are one prefix
+abbrev pub same : Prefix → Prefix → Bool
+same p q = p.base == q.base && p.len == q.len
+
+-- p comes before q: by base, then by length
+abbrev pub before : Prefix → Prefix → Bool
+before p q = nat_lt p.base q.base || p.base == q.base && nat_lt p.len q.len
+
+-- p comes before every prefix of the list
+abbrev pub IsBeforeAll : {V : Type 0} → Prefix → Pairs V → Type 0
+IsBeforeAll p [] = Unit {0}
+IsBeforeAll p ((q, v) ∷ rest) = IsTrue (before p q) × IsBeforeAll p rest
+
+-- each prefix comes before all that follow it, so none stands there twice
+abbrev pub IsOrdered : {V : Type 0} → Pairs V → Type 0
+IsOrdered [] = Unit {0}
+IsOrdered ((p, v) ∷ rest) = IsBeforeAll p rest × IsOrdered rest
+
+-- the value at p
+abbrev pub get : {V : Type 0} → Pairs V → Prefix → Option V
+get [] p = None
+get ((q, v) ∷ rest) p = if same q p then Some v else get rest p
+
+-- the map with v at p, in the place of what stood there
+abbrev pub put : {V : Type 0} → Pairs V → Prefix → V → Pairs V
+put [] p v = (p, v) ∷ []
+put ((q, w) ∷ rest) p v =
+    if before p q then (p, v) ∷ ((q, w) ∷ rest) else (if same q p then (q, v) ∷ rest else (q, w) ∷ put rest p v)
+
+-- the map with nothing at p
+abbrev pub erase : {V : Type 0} → Pairs V → Prefix → Pairs V
+erase [] p = []
+erase ((q, v) ∷ rest) p = if same q p then rest else (q, v) ∷ erase rest p
+
+-- the least prefix
+abbrev pub first : {V : Type 0} → Pairs V → Option Prefix
+first [] = None
+first ((p, v) ∷ rest) = Some p
+
+-- the least prefix that comes after p
+abbrev pub after : {V : Type 0} → Pairs V → Prefix → Option Prefix
+after [] p = None
+after ((q, v) ∷ rest) p = if before p q then Some q else after rest p
+
+-- a pair with the value that the reference points to
+abbrev pub pair_copied : {V : Type 0} → Option (Prefix × Bor V) → Option (Prefix × V)
+pair_copied None = None
+pair_copied (Some x) = Some (x.0, x.1.now)
+
+-- the pair of the greatest length among those that cover the address, or none where no pair covers it (RFC 1812,
+-- section 5.2.4.3, Longest Match)
+abbrev pub IsLongest : {V : Type 0} → Pairs V → Addr → Option (Prefix × V) → Type 0
+IsLongest m a None = All (λ y. covers y.0 a ≡ false) m
+IsLongest m a (Some x) =
+    Contains m x × IsTrue (covers x.0 a) × All (λ y. IsTrue (covers y.0 a) → y.0.len ≤ x.0.len) m

@@ -1,0 +1,15 @@
+-- What callers see of a trie: a finite map, and how many nodes it takes.
+use Rattle.std.specs.Prelude.{◌≡◌, length}
+use Rattle.rt_trie.specs.declared.tries.Trie.TheInside.{Inside}
+use Rattle.rt_trie.specs.Links.{pairs, count, IsLawful}
+use Rattle.rt_trie.specs.Contents.{Contents}
+
+-- the pairs and the number of nodes
+abbrev pub contents_of : {V A : Type 0} → Inside V A → Contents V
+contents_of t = record { pairs = pairs t.root; nodes = count t.root }
+
+-- the trie is lawful, and its counts are right
+pub record IsSound {V A : Type 0} (t : Inside V A) : Type 0 where
+  pub lawful : IsLawful t.root
+  pub len : t.len ≡ length (pairs t.root)
+  pub nodes : t.nodes ≡ count t.root

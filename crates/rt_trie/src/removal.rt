@@ -1,0 +1,147 @@
+//! Taking a value out of a trie, which takes no memory.
+
+ghost use Rattle.std.specs.Prelude.{◌≡◌, ℕ, ◌+◌, ◌<◌, ◌≤◌, ◌⊎◌, false, IsTrue};
+ghost use Rattle.rt_cidr.specs.declared.prefixes.Prefix.{Prefix};
+ghost use Rattle.rt_trie.specs.declared.nodes.Link.TheVariants.{Empty};
+ghost use Rattle.rt_trie.specs.Map.{get};
+ghost use Rattle.rt_trie.specs.Links.{pairs, count, IsLawful, IsLawfulBelow, IsNeeded, IsLone, IsFilled, IsVacant, IsLeafOf};
+ghost use Rattle.rt_trie.specs.Changes.{IsErased, IsSpliced, AreSidesOf};
+
+use crate::nodes::{ForkNode, FullNode, LeafNode, Link, Place, place_of};
+use rt_cidr::Prefix;
+use std::alloc::Allocator;
+use std::mem;
+
+/// Takes out the value at p below the link.
+pub(crate) fn remove<V: Drop, A: Allocator + Drop>(
+    link: &mut Link<V, A>,
+    nodes: &mut usize,
+    p: Prefix,
+) -> Option<V>
+    requires lawful { IsLawful link.old }
+    requires counted { count link.old ≤ nodes.old }
+    ensures erased { IsErased link.old link.new p }
+    ensures value { result ≡ get (pairs link.old) p }
+    ensures counted { nodes.new + count link.old ≡ nodes.old + count link.new }
+{
+    let gone = match link {
+        Link::Empty => return None,
+        Link::Leaf(_) => {
+            return if is_leaf_of(link, &p) {
+                pluck(link, nodes)
+            } else {
+                None
+            };
+        }
+        Link::Fork(fork) => {
+            let q = fork.prefix;
+            match place_of(&q, &p) {
+                Place::Left => remove(&mut fork.left, nodes, p),
+                Place::Right => remove(&mut fork.right, nodes, p),
+                Place::Here | Place::Above | Place::Apart => return None,
+            }
+        }
+        Link::Full(full) => {
+            let q = full.prefix;
+            match place_of(&q, &p) {
+                Place::Here => full.value.take(),
+                Place::Left => remove(&mut full.left, nodes, p),
+                Place::Right => remove(&mut full.right, nodes, p),
+                Place::Above | Place::Apart => return None,
+            }
+        }
+    };
+    splice(link, nodes);
+    gone
+}
+
+// Whether the leaf is that of p.
+fn is_leaf_of<V, A: Allocator>(link: &Link<V, A>, p: &Prefix) -> bool
+    requires { (q : Prefix) × IsLeafOf q link.now }
+    ensures here { IsTrue result → IsLeafOf p.now link.now }
+    ensures other { result ≡ false → get (pairs link.now) p.now ≡ None }
+{
+    let Link::Leaf(leaf) = link else {
+        unreachable!()
+    };
+    leaf.prefix == *p
+}
+
+// Takes the leaf away.
+fn pluck<V: Drop, A: Allocator + Drop>(link: &mut Link<V, A>, nodes: &mut usize) -> Option<V>
+    requires leaf { (q : Prefix) × IsLeafOf q link.old }
+    requires counted { 1 ≤ nodes.old }
+    ensures value { (q : Prefix) → IsLeafOf q link.old → get (pairs link.old) q ≡ result }
+    ensures empty { link.new ≡ Empty }
+    ensures counted { nodes.new + 1 ≡ nodes.old }
+{
+    let Link::Leaf(leaf) = mem::replace(link, Link::Empty) else {
+        unreachable!()
+    };
+    let LeafNode { prefix: _, value } = Box::into_inner(leaf);
+    *nodes -= 1;
+    Some(value)
+}
+
+// Takes away a node that has no value and fewer than two branches; what stands below it moves up.
+fn splice<V: Drop, A: Allocator + Drop>(link: &mut Link<V, A>, nodes: &mut usize)
+    requires lawful { IsLawfulBelow link.old }
+    requires counted { count link.old ≤ nodes.old }
+    ensures spliced { IsSpliced link.old link.new }
+    ensures counted { nodes.new + count link.old ≡ nodes.old + count link.new }
+{
+    if is_needed(link) {
+        return;
+    }
+    let (left, right) = into_sides(mem::replace(link, Link::Empty));
+    *link = if left.is_empty() { right } else { left };
+    *nodes -= 1;
+}
+
+// Whether the node has a value or two branches.
+fn is_needed<V, A: Allocator>(link: &Link<V, A>) -> bool
+    ensures needed { IsTrue result → IsNeeded link.now }
+    ensures lone { result ≡ false → IsLone link.now }
+{
+    match link {
+        Link::Empty | Link::Leaf(_) => true,
+        Link::Fork(fork) => has_both(&fork.left, &fork.right),
+        Link::Full(full) => full.value.is_some() || has_both(&full.left, &full.right),
+    }
+}
+
+// Whether both links hold a node.
+fn has_both<V, A: Allocator>(left: &Link<V, A>, right: &Link<V, A>) -> bool
+    ensures both { IsTrue result → IsFilled left.now × IsFilled right.now }
+    ensures lacking { result ≡ false → IsVacant left.now ⊎ IsVacant right.now }
+{
+    !left.is_empty() && !right.is_empty()
+}
+
+// What stands on the two sides of a node that has no value and fewer than two branches.
+fn into_sides<V: Drop, A: Allocator + Drop>(link: Link<V, A>) -> (Link<V, A>, Link<V, A>)
+    requires lone { IsLone link }
+    requires lawful { IsLawfulBelow link }
+    ensures { AreSidesOf link result.0 result.1 }
+{
+    match link {
+        Link::Fork(fork) => {
+            let ForkNode {
+                prefix: _,
+                left,
+                right,
+            } = Box::into_inner(fork);
+            (left, right)
+        }
+        Link::Full(full) => {
+            let FullNode {
+                prefix: _,
+                value: _,
+                left,
+                right,
+            } = Box::into_inner(full);
+            (left, right)
+        }
+        Link::Empty | Link::Leaf(_) => unreachable!(),
+    }
+}

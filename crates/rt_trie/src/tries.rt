@@ -1,0 +1,144 @@
+//! The map that callers see.
+
+ghost use Rattle.std.specs.Prelude.{◌≡◌, ◌+◌, ◌-◌, ◌*◌, ◌≤◌, [], length, IsSome, IsOk, IfOk, IfErr, OnOk};
+ghost use Rattle.std.specs.Borrow.{sem};
+ghost use Rattle.std.specs.Option.{option_copied, option_copied_mut};
+ghost use Rattle.rt_trie.specs.Map.{get, put, erase, first, after, pair_copied, IsOrdered, IsLongest};
+
+use crate::lending::{Descent, WayDown};
+use crate::nodes::Link;
+use crate::walks::Walk;
+use crate::{insertion, removal, search};
+use rt_cidr::{Addr, Prefix};
+use std::alloc::Allocator;
+use std::marker::Model;
+
+/// A finite map from IPv4 prefixes to values, in any allocator that is `Copy`, which the map keeps.
+///
+/// A node stands only where a prefix is stored or two branches part, so a map of m prefixes has at most 2m - 1 nodes. A
+/// look-up, an insertion and a removal visit at most 33 of them, however many prefixes there are.
+#[derive(Drop)]
+pub struct Trie<V, A: Allocator> {
+    root: Link<V, A>,
+    len: usize,
+    nodes: usize,
+    alloc: A,
+}
+
+impl<V, A: Allocator> Model for Trie<V, A> {
+    ghost use Rattle.rt_trie.specs.Contents.{Contents};
+
+    ghost Value = { Contents V };
+
+    ghost use Rattle.rt_trie.specs.Trie.{contents_of, IsSound};
+
+    ghost view = { contents_of };
+
+    ghost invariant = { IsSound };
+}
+
+impl<V: Drop, A: Allocator + Copy> Trie<V, A> {
+    ghost use Rattle.rt_trie.specs.TrieLends.{lends_value};
+
+    /// The empty map. It takes no memory.
+    pub fn new(alloc: A) -> Trie<V, A>
+        ensures pairs { result.pairs ≡ [] }
+        ensures nodes { result.nodes ≡ 0 }
+    {
+        Trie {
+            root: Link::Empty,
+            len: 0,
+            nodes: 0,
+            alloc,
+        }
+    }
+
+    /// How many prefixes are stored.
+    pub fn len(&self) -> usize
+        ensures len { result ≡ length self.now.pairs }
+        // The pairs are in the order of base and then length, so no prefix is stored twice.
+        ensures ordered { IsOrdered self.now.pairs }
+    {
+        self.len
+    }
+
+    /// How many nodes the map takes: none where nothing is stored, and at most 2m - 1 for m prefixes.
+    pub fn nodes(&self) -> usize
+        ensures nodes { result ≡ self.now.nodes }
+        ensures bound { result ≤ 2 * length self.now.pairs - 1 }
+    {
+        self.nodes
+    }
+
+    /// The value at the prefix, if it is stored.
+    pub fn get(&self, p: Prefix) -> Option<&V>
+        ensures { option_copied result ≡ get self.now.pairs p }
+    {
+        search::get(&self.root, p)
+    }
+
+    /// The value at the prefix for writing, if it is stored. What is written through it stands at the prefix from then on,
+    /// and the rest of the map stays.
+    pub fn get_mut(&mut self, p: Prefix) -> Option<&mut V>
+        ensures* writes_back { sem 𝓛 (lends_value V.row A.row A.Allocator self.entry p result) }
+        ensures value { option_copied_mut result ≡ get self.old.pairs p }
+    {
+        WayDown::find(&mut self.root, p)
+    }
+
+    /// Puts the value at the prefix, and gives the value that stood there. Where memory is refused it gives its own value
+    /// back as an `Err`, and the map and its nodes are as they were; at a prefix that is stored it takes no memory.
+    pub fn insert(&mut self, p: Prefix, v: V) -> Result<Option<V>, V>
+        ensures put { OnOk result (self.new.pairs ≡ put self.old.pairs p v) }
+        ensures had { IfOk result (λ had. had ≡ get self.old.pairs p) }
+        ensures refused { IfErr result (λ back. (back ≡ v) × (self.new ≡ self.old)) }
+        ensures stored_succeeds { IsSome (get self.old.pairs p) → IsOk result }
+    {
+        let had = insertion::insert(&mut self.root, &mut self.nodes, self.alloc, p, v)?;
+        if had.is_none() {
+            self.len += 1;
+        }
+        Ok(had)
+    }
+
+    /// Takes the prefix and its value out of the map, and gives the value. It takes no memory.
+    pub fn remove(&mut self, p: Prefix) -> Option<V>
+        ensures erased { self.new.pairs ≡ erase self.old.pairs p }
+        ensures had { result ≡ get self.old.pairs p }
+    {
+        let gone = removal::remove(&mut self.root, &mut self.nodes, p);
+        if gone.is_some() {
+            self.len -= 1;
+        }
+        gone
+    }
+
+    /// The stored prefix of the greatest length among those that cover the address, with its value (RFC 1812, section
+    /// 5.2.4.3, Longest Match).
+    pub fn longest(&self, a: Addr) -> Option<(Prefix, &V)>
+        ensures { IsLongest self.now.pairs a (pair_copied result) }
+    {
+        search::longest(&self.root, a)
+    }
+
+    /// All pairs, each once, by base and then by length. It takes no memory.
+    pub fn walk(&self) -> Walk<'_, V, A>
+        ensures { result ≡ self.now.pairs }
+    {
+        Walk::new(&self.root)
+    }
+
+    /// The least stored prefix, by base and then by length.
+    pub fn first(&self) -> Option<Prefix>
+        ensures { result ≡ first self.now.pairs }
+    {
+        search::first(&self.root)
+    }
+
+    /// The least stored prefix that comes after p, by base and then by length; p need not be stored.
+    pub fn after(&self, p: Prefix) -> Option<Prefix>
+        ensures { result ≡ after self.now.pairs p }
+    {
+        search::after(&self.root, p)
+    }
+}
