@@ -102,7 +102,9 @@ static void times(int levels, unsigned threads, uint64_t passages) {
     free(t.words);
 }
 
-int main(void) {
-    for (int levels = 1; levels <= 6; levels++) times(levels, 1, 1000000);
-    for (unsigned threads = 2; threads <= 64; threads *= threads == 4 ? 4 : threads == 16 ? 4 : 2) times(6, threads, 640000);
+int main(int argc, char **argv) {
+    uint64_t alone = argc > 1 ? strtoull(argv[1], 0, 10) : 3000;
+    static const unsigned together[] = {2, 4, 16, 64};
+    for (int levels = 1; levels <= 6; levels++) times(levels, 1, alone);
+    for (int i = 0; i < 4; i++) times(6, together[i], alone / 3 * 2 / together[i] * together[i]);
 }

@@ -4,6 +4,7 @@ pub mod DescentLemmas
 pub mod InsertLemmas
 pub mod LinkLemmas
 pub mod LongestLemmas
+pub mod MapLaws
 pub mod NodeLemmas
 pub mod OrderLemmas
 pub mod PairLemmas

@@ -14,7 +14,7 @@ use Rattle.rt_trie.specs.Map.{Pairs, same, get, first, after, before, IsOrdered,
 use Rattle.rt_trie.specs.Blocks.{IsWithin, IsChild, StandsAt, middle, past}
 use Rattle.rt_trie.specs.declared.nodes.Place.{Place}
 use Rattle.rt_trie.specs.declared.nodes.Place.TheVariants.{Here, Left, Right, Above, Apart}
-use Rattle.rt_trie.specs.Links.{own, pairs, count, root, AreHalves, IsFilled, IsNeeded, IsLawfulBelow, IsLawful, IsLeafOf, IsForkOf}
+use Rattle.rt_trie.specs.Links.{own, pairs, count, root, AreHalves, IsFilled, IsNeeded, IsLawfulBelow, IsLawful, IsForkOf}
 use Rattle.rt_trie.proofs.OrderLemmas.{same_rank, same_tells, rank_of_before, rank_of_not_before}
 use Rattle.rt_trie.proofs.BlockLemmas.{size_pos}
 use Rattle.rt_trie.proofs.NodeLemmas.{AreSides, get-lower, get-upper, get-here, get-past, IsOrdered-node, cover-lower, cover-upper, cover-none, after-lower, after-upper, after-all, after-past}
@@ -276,10 +276,6 @@ module _ {V A : Type 0} where
   pub fork_prefix : (b : Box (ForkNode V A) A) (n : ForkNode V A) (link : Link V A) (p : Prefix) → link ≡ Fork b → n ≡ b.value → IsForkOf p link
       → n.prefix ≡ p
   fork_prefix b n link p e f h = let k : b.value.prefix ≡ p = subst (IsForkOf p) e h in rw f k
-
-  pub leaf_prefix : (b : Box (LeafNode V) A) (n : LeafNode V) (link : Link V A) (p : Prefix) → link ≡ Leaf b → n ≡ b.value → IsLeafOf p link
-      → n.prefix ≡ p
-  leaf_prefix b n link p e f h = let k : b.value.prefix ≡ p = subst (IsLeafOf p) e h in rw f k
 
 -- a fact at `Ok` that another gives
 pub on_ok : {X E : Type 0} (r : Result X E) (P Q : Type 0) → (P → Q) → OnOk r P → OnOk r Q

@@ -1,7 +1,6 @@
 -- What taking a pair out, and then a node that isn't needed, makes of a link.
-use Rattle.std.proofs.Common.{◌≡◌, ◌⊎◌, ◌+◌, Bool, true, false, [], ◌∷◌, ◌++◌, Option, Some, None, inl, inr, refl, sym, subst, ap, ◌∙◌, arith, append-nil}
+use Rattle.std.proofs.Common.{◌≡◌, ◌⊎◌, ◌+◌, Bool, true, false, [], ◌∷◌, ◌++◌, Option, Some, None, inl, inr, refl, sym, subst, ap, ◌∙◌, arith}
 use Rattle.std.specs.Prelude.{Box, IfSome}
-use Rattle.std.proofs.lemmas.Bool.{false≢true}
 use Rattle.rt_cidr.specs.declared.prefixes.Prefix.{Prefix}
 use Rattle.rt_trie.specs.declared.nodes.Link.{Link, Empty, Leaf, Fork', Full'}
 use Rattle.rt_trie.specs.declared.nodes.Link.TheVariants.{Fork, Full}
@@ -12,7 +11,7 @@ use Rattle.rt_trie.specs.declared.nodes.Place.{Place}
 use Rattle.rt_trie.specs.declared.nodes.Place.TheVariants.{Here, Left, Right, Above, Apart}
 use Rattle.rt_trie.proofs.InsertLemmas.{get_above, get_apart}
 use Rattle.rt_trie.specs.Blocks.{StandsAt, IsChild, middle, past}
-use Rattle.rt_trie.specs.Links.{own, pairs, count, root, AreHalves, IsVacant, IsLone, IsLeafOf, IsLawfulBelow, IsLawful}
+use Rattle.rt_trie.specs.Links.{own, pairs, root, AreHalves, IsVacant, IsLone, IsLeafOf, IsLawfulBelow, IsLawful}
 use Rattle.rt_trie.specs.Changes.{IsErased, IsSpliced, AreSidesOf}
 use Rattle.rt_trie.proofs.OrderLemmas.{same_tells, same_rank}
 use Rattle.rt_trie.proofs.BlockLemmas.{size_pos}
@@ -42,18 +41,6 @@ erase-absent ((q, v) ∷ xs) p h = elim (same_tells q p) [
 ]
 
 module _ {V A : Type 0} where
-  pub vacant_pairs : (link : Link V A) → IsVacant link → pairs link ≡ []
-  vacant_pairs Empty h = refl
-  vacant_pairs (Leaf b) h = absurd (false≢true (sym h))
-  vacant_pairs (Fork' p q left right) h = absurd (false≢true (sym h))
-  vacant_pairs (Full' p q v left right) h = absurd (false≢true (sym h))
-
-  pub vacant_count : (link : Link V A) → IsVacant link → count link ≡ 0
-  vacant_count Empty h = refl
-  vacant_count (Leaf b) h = absurd (false≢true (sym h))
-  vacant_count (Fork' p q left right) h = absurd (false≢true (sym h))
-  vacant_count (Full' p q v left right) h = absurd (false≢true (sym h))
-
   -- the sides of a node without a value
   pub sides_apart : (link : Link V A) (q : Prefix) (left right : Link V A) → IsNode link q None left right → IsVacant left ⊎ IsVacant right
       → AreSidesOf link left right
@@ -84,25 +71,6 @@ module _ {V A : Type 0} where
       let none : n.value ≡ None = ap (λ (x : FullNode V A). x.value) f ∙ one.0 in
       sides_apart link n.prefix n.left n.right
       (subst (λ o. IsNode link n.prefix o n.left n.right) none (of_full b n link e f h)) (rw f one.1)
-
-  -- the side that is left moves up
-  pub splice_right : (old left right : Link V A) → AreSidesOf old left right → IsVacant left → IsSpliced old right
-  splice_right old left right s h = record {
-    pairs_are = sym (s.pairs_are ∙ ap (λ x. x ++ pairs right) (vacant_pairs left h));
-    lawful = s.right_lawful;
-    stays = s.right_stays;
-  }
-
-  pub splice_left : (old left right : Link V A) → AreSidesOf old left right → IsVacant right → IsSpliced old left
-  splice_left old left right s h = record {
-    pairs_are = sym (s.pairs_are ∙ ap (λ x. pairs left ++ x) (vacant_pairs right h) ∙ append-nil (pairs left));
-    lawful = s.left_lawful;
-    stays = s.left_stays;
-  }
-
-  -- where one side is vacant and it isn't the left one, it is the right one
-  pub other_vacant : (left right : Link V A) → IsVacant left ⊎ IsVacant right → ¬ IsVacant left → IsVacant right
-  other_vacant left right one n = elim one [ inl h ↦ absurd (n h) | inr h ↦ h ]
 
   -- p is taken out on one side
   erase_left : (old mid : Link V A) (q : Prefix) (w : Option V) (l r k : Link V A) (p : Prefix) → IsNode old q w l r → IsNode mid q w k r

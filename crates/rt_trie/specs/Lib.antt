@@ -5,6 +5,7 @@ pub mod Blocks
 pub mod Changes
 pub mod Contents
 pub mod Descent
+pub mod Laws
 pub mod Lends
 pub mod Links
 pub mod Map

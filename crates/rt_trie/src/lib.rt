@@ -5,6 +5,7 @@
 #[cfg(test)]
 mod checks;
 mod insertion;
+pub mod laws;
 mod lending;
 mod nodes;
 mod removal;

@@ -101,7 +101,10 @@ impl Walker {
     pub fn saw(&mut self, value: u64)
         requires { Fits self.old value }
         ensures after { self.new ≡ walk_after self.old value }
+
+        // It comes to a later point or level, unless it waits and found its own spin word unchanged.
         ensures onward { MovesOn self.old self.new }
+        // What it has spent and what it can still spend on this way don't rise.
         ensures budget { self.new.remote + budget self.new ≤ self.old.remote + budget self.old }
     {
         self.go_on(value)
@@ -111,6 +114,8 @@ impl Walker {
     pub fn done(&mut self)
         requires { IsStore (due self.old) }
         ensures after { (value : ℕ) → self.new ≡ walk_after self.old value }
+
+        // As for `saw`.
         ensures onward { MovesOn self.old self.new }
         ensures budget { self.new.remote + budget self.new ≤ self.old.remote + budget self.old }
     {

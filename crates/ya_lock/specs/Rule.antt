@@ -28,13 +28,9 @@ words_in levels row word = if is_word levels word then slice_index row (index_of
 
 -- the place of a view that is a process's
 abbrev pub place_of : {V : Type 0} → View V → Option ℕ
-place_of Stranger = none
-place_of Maker = none
-place_of Filler = none
-place_of (Dealer first value) = none
 place_of (Member place process value) = some place
 place_of (Confirmer place value other seen) = some place
-place_of Spent = none
+place_of _ = none
 
 -- what all seats together show: the seat of each place, where one has its process; each place's process; the seat that makes the passes; and the lent value, once it was given
 pub record Picture (V : Type 0) : Type 0 where

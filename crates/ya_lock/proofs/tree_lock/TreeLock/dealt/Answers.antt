@@ -1,4 +1,4 @@
-use Rattle.std.proofs.Common.{arith, ◌≡◌, ℕ, ◌-◌, ◌^◌, ◌≤◌, List, sym, ap, ◌∙◌, subst, slice_get, Some}
+use Rattle.std.proofs.Common.{arith, refl, ◌≡◌, ℕ, ◌-◌, ◌^◌, ◌≤◌, sym, ap, ◌∙◌, subst}
 use Rattle.atomic_table.specs.Table.{Allows, Splits}
 use Rattle.std.specs.Prelude.{Option}
 use Rattle.atomic_table.specs.Table.{Me}
@@ -9,7 +9,7 @@ use Rattle.ya_lock.specs.declared.view.View.{View}
 use Rattle.ya_lock.specs.Rule.{Rule}
 use Rattle.ya_lock.specs.Moves.{dealt, kept, Ends}
 use Rattle.ya_lock.proofs.Makings.{splits, ends}
-use Rattle.ya_lock.proofs.Deals.{one_more}
+use Rattle.ya_lock.proofs.Deals.{one_more_pass}
 use Rattle.ya_lock.proofs.tree_lock.TreeLock.dealt.Goals as goal
 
 pub split_seat-seat-requires : goal.split_seat-seat-requires
@@ -29,15 +29,13 @@ split_seat-seat-requires g c =
 pub loop-place-preserved : goal.loop-place-preserved
 loop-place-preserved g c =
     let i = c.loop-place.invariant in let e = c.split_seat-seat.ensures in let p = c.push_reserved.ensures in let n : ℕ = c.loop-place.place in let w = c.new.ensures in
-    let f : ℕ → IdlePass g.row.V.Denot = λ k. record { lock = c.args.self.now; place = k; seen = c.args.seen.value; remote = 0 } in
     let x : IdlePass g.row.V.Denot = record { lock = c.split_seat-seat.result.table_id; place = c.new.result.place; seen = c.again.result.value; remote = c.new.result.remote } in
-    let lock : c.split_seat-seat.result.table_id ≡ c.args.self.now = e.3 ∙ i.same in
-    let is : x ≡ f n = λ j. record { lock = lock j; place = (w j).place; seen = c.again.ensures j; remote = (w j).remote } in
     record {
       same = e.0 ∙ i.same;
       view = e.2 ∙ ap (λ (m : Me (Option g.row.V.Denot) (View g.row.V.Denot)). (kept m.0, m.1)) i.view;
       count = omega (arith, p.len, i.count);
-      made = λ k h. subst (λ (l : List (IdlePass g.row.V.Denot)). slice_get l k ≡ Some (f k)) (sym p.items) (one_more f c.loop-place.passes.items n x (sym c.loop-place.passes.ok.0 ∙ i.count) is i.made k h);
+      made = one_more_pass c.args.self.now c.args.seen.value c.loop-place.passes.items c.push_reserved.new.self.items n x p.items (sym c.loop-place.passes.ok.0 ∙ i.count) (e.3 ∙ i.same)
+          (ap (λ (m : Walk). m.place) w) c.again.ensures (ap (λ (m : Walk). m.remote) w) i.made;
       capacity = subst (λ (m : ℕ). 2 ^ g.row.L ≤ m) (sym p.capacity) i.capacity;
     }
 
@@ -59,10 +57,6 @@ returns-clause-passes g c =
     let reached : count - 1 ≤ n = c.loop-place-test.false in
     let within : n ≤ count - 1 = c.loop-place.auto.place-end in
     let last : count - 1 ≡ n = omega arith in
-    let f : ℕ → IdlePass g.row.V.Denot = λ k. record { lock = c.args.self.now; place = k; seen = c.args.seen.value; remote = 0 } in
     let x : IdlePass g.row.V.Denot = record { lock = c.load.new.seat.table_id; place = c.new-2.result.place; seen = c.args.seen.value; remote = c.new-2.result.remote } in
-    let lock : c.load.new.seat.table_id ≡ c.args.self.now = e.0 ∙ i.same in
-    let place : c.new-2.result.place ≡ n = ap (λ (m : Walk). m.place) w ∙ last in
-    let is : x ≡ f n = λ j. record { lock = lock j; place = place j; seen = c.args.seen.value; remote = (w j).remote } in
-    λ k h. subst (λ (l : List (IdlePass g.row.V.Denot)). slice_get l k ≡ Some (f k)) (sym p.items)
-    (one_more f c.loop-place.passes.items n x (sym c.loop-place.passes.ok.0 ∙ i.count) is i.made k (omega arith))
+    λ k h. one_more_pass c.args.self.now c.args.seen.value c.loop-place.passes.items c.push_reserved-2.new.self.items n x p.items (sym c.loop-place.passes.ok.0 ∙ i.count) (e.0 ∙ i.same)
+    (ap (λ (m : Walk). m.place) w ∙ last) refl (ap (λ (m : Walk). m.remote) w) i.made k (omega arith)

@@ -1,4 +1,5 @@
-//! Times passages of the lock beside those of std's mutex. What is done inside is one increment. Times go to standard error.
+//! Times passages of the lock beside those of std's mutex. What is done inside is one increment. Its one argument is how
+//! many passages one thread makes alone; all threads together make two thirds of that. Times go to standard error.
 #![tactic(auto)]
 
 ghost use Rattle.std.specs.Prelude.{◌≡◌, ℕ, ◌+◌, ◌-◌, ◌*◌, ◌/◌, ◌<◌, ◌≤◌, All, vec_len, IfSome};
@@ -8,13 +9,11 @@ use std::rt::Clock;
 use std::sync::{Mutex, Wait};
 use std::thread::Threads;
 use std::time::{Duration, Instant};
-use std::{io, thread};
+use std::{env, io, thread};
 use ya_lock::{Kept, Pass, TreeLock};
 
-// Passages of one thread alone, and of all threads together.
-const ALONE: u64 = 1_000_000;
-
-const TOGETHER: u64 = 640_000;
+/// How many passages one thread makes alone where no argument says so.
+const FEW: u64 = 3_000;
 
 /// How often it was entered.
 #[derive(Drop)]
@@ -137,32 +136,47 @@ fn report<R: Eprint>(
     }
 }
 
+// How many passages the first argument asks for.
+fn asked(rt: &HostRuntime) -> io::Result<u64> {
+    for word in env::args(rt)?.skip(1) {
+        if let Ok(n) = word.as_str().parse::<u64>() {
+            return Ok(n);
+        }
+    }
+    Ok(FEW)
+}
+
+// One thread alone, at each number of levels.
+fn alone<R: Threads + Wait + Clock + Eprint + Sync>(
+    rt: &R,
+    alloc: Global,
+    n: u64,
+) -> io::Result<()> {
+    report(rt, "tree1", 1, n, tree::<_, 1>(rt, alloc, 1, n))?;
+    report(rt, "tree2", 1, n, tree::<_, 2>(rt, alloc, 1, n))?;
+    report(rt, "tree3", 1, n, tree::<_, 3>(rt, alloc, 1, n))?;
+    report(rt, "tree4", 1, n, tree::<_, 4>(rt, alloc, 1, n))?;
+    report(rt, "tree5", 1, n, tree::<_, 5>(rt, alloc, 1, n))?;
+    report(rt, "tree6", 1, n, tree::<_, 6>(rt, alloc, 1, n))?;
+    report(rt, "mutex", 1, n, mutex(rt, alloc, 1, n))
+}
+
 fn main(rt: HostRuntime) -> io::Result<()> {
     let alloc: Global = rt.alloc();
-    report(&rt, "tree1", 1, ALONE, tree::<_, 1>(&rt, alloc, 1, ALONE))?;
-    report(&rt, "tree2", 1, ALONE, tree::<_, 2>(&rt, alloc, 1, ALONE))?;
-    report(&rt, "tree3", 1, ALONE, tree::<_, 3>(&rt, alloc, 1, ALONE))?;
-    report(&rt, "tree4", 1, ALONE, tree::<_, 4>(&rt, alloc, 1, ALONE))?;
-    report(&rt, "tree5", 1, ALONE, tree::<_, 5>(&rt, alloc, 1, ALONE))?;
-    report(&rt, "tree6", 1, ALONE, tree::<_, 6>(&rt, alloc, 1, ALONE))?;
-    report(&rt, "mutex", 1, ALONE, mutex(&rt, alloc, 1, ALONE))?;
+    let n = asked(&rt)?;
+    alone(&rt, alloc, n)?;
     for threads in [2u32, 4, 16, 64] {
         let count = threads as usize;
-        let each = TOGETHER / u64::from(threads);
+        let each = n / 3 * 2 / u64::from(threads);
+        let all = each.wrapping_mul(u64::from(threads));
         report(
             &rt,
             "tree6",
             threads,
-            TOGETHER,
+            all,
             tree::<_, 6>(&rt, alloc, count, each),
         )?;
-        report(
-            &rt,
-            "mutex",
-            threads,
-            TOGETHER,
-            mutex(&rt, alloc, count, each),
-        )?;
+        report(&rt, "mutex", threads, all, mutex(&rt, alloc, count, each))?;
     }
     Ok(())
 }
