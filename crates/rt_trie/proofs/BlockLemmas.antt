@@ -1,15 +1,15 @@
 -- How the blocks of two prefixes lie to each other: in a half, or apart.
-use Rattle.std.proofs.Common.{◌≡◌, ◌≢◌, ℕ, ◌+◌, ◌-◌, ◌*◌, ◌/◌, ◌^◌, ◌<◌, ◌≤◌, ◌⊎◌, inl, inr, ⊎_elim, true, false, refl, subst, ap, ◌∙◌, arith}
+use Rattle.std.proofs.Common.{◌≡◌, ◌≢◌, ℕ, ◌+◌, ◌-◌, ◌*◌, ◌/◌, ◌^◌, ◌<◌, ◌≤◌, ◌⊎◌, inl, inr, ⊎_elim, ◌↔◌, ◌%◌, Bool, true, false, cond, refl, sym, subst, ap, ◌∙◌, arith, add-mul}
 use Rattle.std.proofs.lemmas.Nat.{pow_pos, pow-add, div-add-mod', mod_below, div-mul-add}
 use Rattle.std.specs.Int.{◌∣◌}
-use Rattle.std.proofs.lemmas.Bool.{cases_lt}
+use Rattle.std.proofs.lemmas.Bool.{cases_lt, false≢true}
 use Rattle.std.proofs.lemmas.Bool.Decides.{eqb_tells, leb_tells}
-use Rattle.std.proofs.Math.Nat.{dvd_trans, dvd-mul_right, dvd-mul_left_of_dvd, dvd-add, dvd-sub, dvd_of_mod-eq-zero, le_of_dvd, mul-div_cancel_left}
+use Rattle.std.proofs.Math.Nat.{mul_assoc, dvd_trans, dvd-mul_right, dvd-mul_left_of_dvd, dvd-add, dvd-sub, dvd_of_mod-eq-zero, le_of_dvd, mul-div_cancel_left}
 use Rattle.rt_cidr.specs.declared.prefixes.Prefix.{Prefix}
 use Rattle.rt_cidr.specs.declared.address.Addr.{Addr}
 use Rattle.rt_cidr.specs.Cidr.{size_of}
 use Rattle.rt_cidr.specs.Prefix.{covers, contains}
-use Rattle.rt_trie.specs.Blocks.{middle, past}
+use Rattle.rt_trie.specs.Blocks.{IsChild, middle, past}
 use Rattle.rt_trie.proofs.OrderLemmas.{rank}
 
 -- what is at most a number is below it or it
@@ -136,3 +136,82 @@ longer_of p q r n = elim (lt_or_eq p.len q.len r.0) [
     | inr ge ↦ absurd (n (omega arith))
   ]
 ]
+
+-- the bit after a prefix's length, of an address that it covers, by the half where the address lies
+pub next_bit : (q : Prefix) (a : ℕ) → q.len < 32 → q.base ≤ a → a < past q
+    → (a < middle q → (a / (size_of q.len / 2)) % 2 ≡ 0) × (middle q ≤ a → (a / (size_of q.len / 2)) % 2 ≡ 1)
+next_bit q a short from to =
+    let h = size_of q.len / 2 in
+    let n = q.base / size_of q.len in
+    let d = size_doubles q.len 32 short (omega arith) in
+    let double : size_of q.len ≡ size_of q.len / 2 * 2 = omega arith in
+    let c = q.is_prefix.clear in
+    let f = div-add-mod' q.base (size_of q.len) in
+    let whole : n * size_of q.len ≡ 2 * n * (size_of q.len / 2) =
+    ap (λ x. n * x) double ∙ sym (mul_assoc n (size_of q.len / 2) 2) ∙ omega (arith, mul_assoc 2 n (size_of q.len / 2)) in (
+      λ lt.
+          let r : a - 2 * n * (size_of q.len / 2) < size_of q.len / 2 = omega arith in
+          let i : a ≡ 2 * n * (size_of q.len / 2) + (a - 2 * n * (size_of q.len / 2)) = omega arith in
+          ap (λ x. x % 2) (ap (λ x. x / (size_of q.len / 2)) i ∙ div-mul-add (2 * n) (size_of q.len / 2) (a - 2 * n * (size_of q.len / 2)) r)
+          ∙ omega arith,
+      λ ge.
+          let w : (2 * n + 1) * (size_of q.len / 2) ≡ 2 * n * (size_of q.len / 2) + 1 * (size_of q.len / 2) = add-mul (2 * n) 1 (size_of q.len / 2) in
+          let r : a - (2 * n * (size_of q.len / 2) + size_of q.len / 2) < size_of q.len / 2 = omega arith in
+          let i : a ≡ (2 * n + 1) * (size_of q.len / 2) + (a - (2 * n * (size_of q.len / 2) + size_of q.len / 2)) = omega (arith, w) in
+          ap (λ x. x % 2) (ap (λ x. x / (size_of q.len / 2)) i
+          ∙ div-mul-add (2 * n + 1) (size_of q.len / 2) (a - (2 * n * (size_of q.len / 2) + size_of q.len / 2)) r)
+          ∙ omega arith,
+    )
+
+-- the halves by the bit
+pub child_reading : (parent c : Prefix) (upper : Bool)
+    → IsChild parent upper c ↔ ((parent.len < c.len) × (contains parent c ≡ true) × ((c.base / (size_of parent.len / 2)) % 2 ≡ cond upper 1 0))
+child_reading parent c false = (
+  λ w.
+      let s = c.is_prefix.short in
+      let b : c.base < middle parent = omega (arith, w.to, size_pos c.len) in
+      let t = next_bit parent c.base (omega (arith, w.long)) w.from (omega arith) in (
+        omega (arith, w.long),
+        elim (contains_tells parent c) [
+          | inl r ↦ r.0
+          | inr r ↦ elim r.1 [ inl x ↦ absurd (omega (arith, w.long)) | inr y ↦ elim y [ inl z ↦ absurd (omega (arith, w.from)) | inr z ↦ absurd (omega arith) ] ]
+        ],
+        t.0 b,
+      ),
+  λ h.
+      let s = c.is_prefix.short in
+      elim (contains_tells parent c) [
+        | inr r ↦ absurd (false≢true (sym r.0 ∙ h.1))
+        | inl r ↦ elim (cases_lt c.base (middle parent)) [
+          | inl b ↦ record { long = omega (arith, h.0); from = r.2; to = lower_half parent c h.0 b }
+          | inr b ↦ let t = next_bit parent c.base (omega (arith, h.0)) r.2 r.3 in absurd (omega (arith, t.1 b, h.2))
+        ]
+      ],
+)
+child_reading parent c true = (
+  λ w.
+      let s = c.is_prefix.short in
+      let t = next_bit parent c.base (omega (arith, w.long)) (omega (arith, w.from)) (omega (arith, w.to, size_pos c.len)) in (
+        omega (arith, w.long),
+        elim (contains_tells parent c) [
+          | inl r ↦ r.0
+          | inr r ↦ elim r.1 [
+            | inl x ↦ absurd (omega (arith, w.long))
+            | inr y ↦ elim y [
+              | inl z ↦ absurd (omega (arith, w.from))
+              | inr z ↦ absurd (omega (arith, w.to, size_pos c.len))
+            ]
+          ]
+        ],
+        t.1 w.from,
+      ),
+  λ h.
+      let s = c.is_prefix.short in
+      elim (contains_tells parent c) [
+        | inr r ↦ absurd (false≢true (sym r.0 ∙ h.1))
+        | inl r ↦ elim (cases_lt c.base (middle parent)) [
+          | inr b ↦ record { long = omega (arith, h.0); from = b; to = upper_half parent c h.0 r.3 }
+          | inl b ↦ let t = next_bit parent c.base (omega (arith, h.0)) r.2 r.3 in absurd (omega (arith, t.0 b, h.2))
+        ]
+      ],
+)

@@ -1,6 +1,6 @@
-//! Laws of the map that the contracts speak of. The function does nothing: its contract is the law, for every map.
+//! Laws of the map that the contracts speak of, and of a lawful trie. Each function does nothing: its contract is the law.
 
-ghost use Rattle.rt_trie.specs.Laws.{PutIsSeen, EraseIsSeen, PutKeepsOrder, EraseKeepsOrder};
+ghost use Rattle.rt_trie.specs.Laws.{ChildByNextBit, PutIsSeen, EraseIsSeen, PutKeepsOrder, EraseKeepsOrder};
 
 /// An insertion and a removal are seen at their own prefix alone, and keep the pairs in order.
 pub fn changes<V>()
@@ -8,4 +8,10 @@ pub fn changes<V>()
     ensures erase { EraseIsSeen V }
     ensures put_in_order { PutKeepsOrder V }
     ensures erase_in_order { EraseKeepsOrder V }
+{}
+
+/// A lawful trie, in terms of bits: a child is longer than its parent, contained in it, and on the side of the first bit
+/// after the parent's length.
+pub fn children()
+    ensures { ChildByNextBit }
 {}
