@@ -1,5 +1,5 @@
 -- What contracts see of a lock, a pass and a guard.
-use Rattle.std.specs.Prelude.{◌≡◌, ℕ, ◌+◌, Bool, true, false}
+use Rattle.std.specs.Prelude.{◌≡◌, ℕ, ◌+◌, ◌^◌, ◌<◌, Bool, true, false, List, length, slice_get, Some}
 use Rattle.atomic_table.specs.Seated.{TableId}
 use Rattle.ya_core.specs.declared.process.Process.{Process}
 use Rattle.ya_core.specs.declared.process.Process.TheVariants.{Idle, Entering, Inside, Leaving}
@@ -23,6 +23,23 @@ pub record OpenGuard (V : Type 0) : Type 0 where
   pub found : V
   pub value : V
   pub remote : ℕ
+
+-- the guard that a pass becomes, whose entry found this value and made so many remote accesses
+abbrev pub guard_of : {V : Type 0} → IdlePass V → V → ℕ → OpenGuard V
+guard_of pass found remote = record { lock = pass.lock; place = pass.place; found = found; value = found; remote = remote }
+
+-- the pass that a guard becomes: it has seen the value that the guard leaves
+abbrev pub pass_of : {V : Type 0} → OpenGuard V → ℕ → IdlePass V
+pass_of guard remote = record { lock = guard.lock; place = guard.place; seen = guard.value; remote = remote }
+
+-- the pass of a place that has not been inside yet
+abbrev pub new_pass : {V : Type 0} → LockId → ℕ → V → IdlePass V
+new_pass lock place value = record { lock = lock; place = place; seen = value; remote = 0 }
+
+-- the passes of all places of a lock of so many levels in order, each of which has seen the value
+pub record IsDealt {V : Type 0} (lock : LockId) (levels : ℕ) (value : V) (passes : List (IdlePass V)) : Type 0 where
+  pub count : length passes ≡ 2 ^ levels
+  pub each : (place : ℕ) → place < 2 ^ levels → slice_get passes place ≡ Some (new_pass lock place value)
 
 -- the table has the words of a tree of this many levels, and the making word
 abbrev pub HasTree : LockId → ℕ → Type 0

@@ -6,7 +6,7 @@ ghost use Rattle.ya_lock.specs.declared.view.View.TheVariants.{Maker, Dealer, Me
 ghost use Rattle.ya_lock.specs.Rule.{making_index};
 ghost use Rattle.ya_core.specs.Worlds.{is_inside};
 ghost use Rattle.ya_lock.specs.Moves.{IsReady, Goes};
-ghost use Rattle.ya_lock.specs.Lock.{HasTree, IsOnWayIn, IsOnWayOut};
+ghost use Rattle.ya_lock.specs.Lock.{HasTree, IsOnWayIn, IsOnWayOut, IsDealt, guard_of, pass_of};
 
 use crate::guard::Guard;
 use crate::kept::Kept;
@@ -50,8 +50,7 @@ impl<V: Kept + Drop, const L: u32> TreeLock<V, L> {
     /// runs out the value comes back.
     pub fn new(alloc: Global, value: V) -> Result<(TreeLock<V, L>, Vec<Pass<V>>), (V, NoMemory)>
         requires { (1 ≤ L) × (L ≤ 6) }
-        ensures places { IfOk result (λ made. vec_len made.1 ≡ 2 ^ L) }
-        ensures passes { IfOk result (λ made. (k : ℕ) → k < 2 ^ L → slice_get made.1.items k ≡ Some (record { lock = made.0; place = k; seen = value; remote = 0 })) }
+        ensures passes { IfOk result (λ made. IsDealt made.0 L value made.1.items) }
         ensures refused { IfErr result (λ r. r.0 ≡ value) }
     {
         let Some(shape) = Shape::new(L) else {
@@ -100,8 +99,7 @@ impl<V: Kept + Drop, const L: u32> TreeLock<V, L> {
         mut passes: Vec<Pass<V>>,
     ) -> Vec<Pass<V>>
         requires { (shape ≡ L) × (maker.table_id ≡ self.now) × (maker.me ≡ (Dealer 0 seen.value, [])) × (passes.items ≡ []) × (2 ^ L ≤ vec_capacity passes) }
-        ensures places { vec_len result ≡ 2 ^ L }
-        ensures passes { (k : ℕ) → k < 2 ^ L → slice_get result.items k ≡ Some (record { lock = self.now; place = k; seen = seen.value; remote = 0 }) }
+        ensures { IsDealt self.now L seen.value result.items }
     {
         let last = shape.places() - 1;
         for place in 0..last {
@@ -127,9 +125,8 @@ impl<V: Kept + Drop, const L: u32> TreeLock<V, L> {
     /// other places, of the value that the pass has seen. It makes at most seven remote accesses a level.
     pub fn enter<R: Wait>(&self, rt: &R, pass: Pass<V>) -> Guard<V>
         requires { pass.lock ≡ self.now }
-        ensures place { (result.lock ≡ pass.lock) × (result.place ≡ pass.place) }
+        ensures guard { result ≡ guard_of pass result.found result.remote }
         ensures fresh { V.since pass.place pass.seen result.found }
-        ensures value { result.value ≡ result.found }
         ensures count { result.remote ≤ 7 * L }
     {
         let shared = &self.table.shared;
@@ -159,8 +156,7 @@ impl<V: Kept + Drop, const L: u32> TreeLock<V, L> {
     pub fn leave(&self, guard: Guard<V>) -> Pass<V>
         requires lock { guard.lock ≡ self.now }
         requires done { V.done guard.place guard.found guard.value }
-        ensures place { (result.lock ≡ guard.lock) × (result.place ≡ guard.place) }
-        ensures seen { result.seen ≡ guard.value }
+        ensures pass { result ≡ pass_of guard result.remote }
         ensures count { (guard.remote ≤ result.remote) × (result.remote ≤ guard.remote + 3 * L) }
     {
         let Guard {

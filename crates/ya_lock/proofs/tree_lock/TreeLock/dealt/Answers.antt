@@ -1,4 +1,4 @@
-use Rattle.std.proofs.Common.{arith, refl, ◌≡◌, ℕ, ◌-◌, ◌^◌, ◌≤◌, sym, ap, ◌∙◌, subst}
+use Rattle.std.proofs.Common.{arith, refl, ◌≡◌, ℕ, ◌-◌, ◌^◌, ◌≤◌, sym, ap, ◌∙◌, subst, vec_len}
 use Rattle.atomic_table.specs.Table.{Allows, Splits}
 use Rattle.std.specs.Prelude.{Option}
 use Rattle.atomic_table.specs.Table.{Me}
@@ -48,8 +48,8 @@ load-requires g c =
           (ends g.V.Kept.since g.V.Kept.since_same L c.self.inside.table.shared.table_id.slots c.loop-place.maker.id 0 c.loop-place.place c.args.seen.value c.loop-place.maker.me (ap (λ m. m.0) i.view)),
     )
 
-pub returns-clause-passes : goal.returns-clause-passes
-returns-clause-passes g c =
+pub returns : goal.returns
+returns g c =
     let i = c.loop-place.invariant in let e = c.load.ensures in let p = c.push_reserved-2.ensures in let n : ℕ = c.loop-place.place in let w = c.new-2.ensures in
     let L : ℕ = g.row.L in let places : ℕ = 2 ^ L in let count : ℕ = c.places-last.result in
     let all : count ≡ places = c.places-last.ensures.value ∙ ap (λ (m : ℕ). 2 ^ m) c.requires.0 in
@@ -58,5 +58,9 @@ returns-clause-passes g c =
     let within : n ≤ count - 1 = c.loop-place.auto.place-end in
     let last : count - 1 ≡ n = omega arith in
     let x : IdlePass g.row.V.Denot = record { lock = c.load.new.seat.table_id; place = c.new-2.result.place; seen = c.args.seen.value; remote = c.new-2.result.remote } in
-    λ k h. one_more_pass c.args.self.now c.args.seen.value c.loop-place.passes.items c.push_reserved-2.new.self.items n x p.items (sym c.loop-place.passes.ok.0 ∙ i.count) (e.0 ∙ i.same)
-    (ap (λ (m : Walk). m.place) w ∙ last) refl (ap (λ (m : Walk). m.remote) w) i.made k (omega arith)
+    let held : vec_len c.loop-place.passes ≡ n = i.count in
+    record {
+      count = omega (arith, p.len);
+      each = λ k h. one_more_pass c.args.self.now c.args.seen.value c.loop-place.passes.items c.push_reserved-2.new.self.items n x p.items (sym c.loop-place.passes.ok.0 ∙ i.count) (e.0 ∙ i.same)
+          (ap (λ (m : Walk). m.place) w ∙ last) refl (ap (λ (m : Walk). m.remote) w) i.made k (omega arith);
+    }
