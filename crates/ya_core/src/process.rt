@@ -57,6 +57,7 @@ pub enum Process {
 
 impl Process {
     /// The access that is due for the process of this place.
+    #[inline(always)]
     pub(crate) fn access(self, levels: u32, place: usize) -> Access
         requires least { 1 ≤ levels }
         requires most { levels ≤ 6 }
@@ -73,6 +74,7 @@ impl Process {
     }
 
     /// The process after its access, which loaded or stored the value.
+    #[inline(always)]
     pub(crate) fn next(self, levels: u32, place: usize, value: u64) -> Process
         requires least { 1 ≤ levels }
         requires most { levels ≤ 6 }
@@ -90,6 +92,7 @@ impl Process {
 }
 
 /// The identifier by which the words name the place. The identifier 0 is nil.
+#[inline(always)]
 fn identifier_of(place: usize) -> u64
     requires { place < 64 }
     ensures { result ≡ place + 1 }
@@ -98,6 +101,7 @@ fn identifier_of(place: usize) -> u64
 }
 
 /// The place that the identifier names.
+#[inline(always)]
 fn place_of(identifier: u64) -> usize
     ensures { result ≡ identifier - 1 }
 {
@@ -106,6 +110,7 @@ fn place_of(identifier: u64) -> usize
 
 /// The word C of the side on which the place competes.
 #[tactic(auto, unfolding(crate::specs::Tree::node_of, crate::specs::Tree::side_of))]
+#[inline(always)]
 fn own_claim(level: u32, place: usize) -> Word
     requires least { 1 ≤ level }
     requires most { level ≤ 6 }
@@ -116,6 +121,7 @@ fn own_claim(level: u32, place: usize) -> Word
 
 /// The word C of the other side of its node.
 #[tactic(auto, unfolding(crate::specs::Tree::node_of, crate::specs::Tree::side_of))]
+#[inline(always)]
 fn rival_claim(level: u32, place: usize) -> Word
     requires least { 1 ≤ level }
     requires most { level ≤ 6 }
@@ -126,6 +132,7 @@ fn rival_claim(level: u32, place: usize) -> Word
 
 /// The word T of the node below which the place competes.
 #[tactic(auto, unfolding(crate::specs::Tree::node_of, crate::specs::Tree::side_of))]
+#[inline(always)]
 fn turn(level: u32, place: usize) -> Word
     requires most { level ≤ 6 }
     ensures { result ≡ Word.T level (node_of level place) }
@@ -134,6 +141,7 @@ fn turn(level: u32, place: usize) -> Word
 }
 
 /// The access that is due on the way in at a level.
+#[inline(always)]
 fn entry_access(level: u32, place: usize, point: Entry) -> Access
     requires least { 1 ≤ level }
     requires most { level ≤ 6 }
@@ -154,6 +162,7 @@ fn entry_access(level: u32, place: usize, point: Entry) -> Access
 }
 
 /// The access that is due on the way out at a level.
+#[inline(always)]
 fn exit_access(level: u32, place: usize, point: Exit) -> Access
     requires least { 1 ≤ level }
     requires most { level ≤ 6 }
@@ -167,6 +176,7 @@ fn exit_access(level: u32, place: usize, point: Exit) -> Access
 }
 
 /// Where a point of the way in leads, by the value that its access loaded.
+#[inline(always)]
 fn entry_next(levels: u32, level: u32, place: usize, point: Entry, value: u64) -> Process
     requires most { level ≤ 6 }
     requires room { place < 64 }
@@ -192,6 +202,7 @@ fn entry_next(levels: u32, level: u32, place: usize, point: Entry, value: u64) -
 }
 
 /// Where a point of the way out leads, by the value that its access loaded.
+#[inline(always)]
 fn exit_next(level: u32, place: usize, point: Exit, value: u64) -> Process
     requires room { place < 64 }
     ensures { result ≡ exit_next level place point value }
@@ -205,6 +216,7 @@ fn exit_next(level: u32, place: usize, point: Exit, value: u64) -> Process
 }
 
 /// The process that won the level: it goes on to the next one, and from the root it goes inside.
+#[inline(always)]
 fn won(levels: u32, level: u32) -> Process
     requires { level ≤ 6 }
     ensures { result ≡ won levels level }
@@ -217,6 +229,7 @@ fn won(levels: u32, level: u32) -> Process
 }
 
 /// The process that left the level: it goes on to the one below, and from the leaves it goes idle.
+#[inline(always)]
 fn left(level: u32) -> Process
     ensures { result ≡ left level }
 {

@@ -23,6 +23,7 @@ impl Model for Shape {
 
 impl Shape {
     /// The tree of this many levels, or `None` outside 1 to 6.
+    #[inline(always)]
     pub fn new(levels: u32) -> Option<Shape>
         ensures some { IsSome result ↔ ((1 ≤ levels) × (levels ≤ 6)) }
         ensures value { IfSome result (λ shape. shape ≡ levels) }
@@ -35,6 +36,7 @@ impl Shape {
     }
 
     /// How many levels it has, 1 to 6.
+    #[inline(always)]
     pub(crate) fn levels(&self) -> u32
         ensures value { result ≡ self.now }
         ensures least { 1 ≤ result }
@@ -44,6 +46,7 @@ impl Shape {
     }
 
     /// How many places it has: two to the power of its levels.
+    #[inline(always)]
     pub fn places(&self) -> usize
         ensures value { result ≡ 2 ^ self.now }
         ensures least { 2 ≤ result }
@@ -60,6 +63,7 @@ impl Shape {
     }
 
     /// The number of the word C of that side of the node. Levels are counted from 1, nodes and sides from 0.
+    #[inline(always)]
     pub fn c(&self, level: u32, node: usize, side: usize) -> usize
         requires { IsWord self.now (Word.C level node side) }
         ensures value { result ≡ number_of self.now (Word.C level node side) }
@@ -69,6 +73,7 @@ impl Shape {
     }
 
     /// The number of the word T of the node. Levels are counted from 1, nodes from 0.
+    #[inline(always)]
     pub fn t(&self, level: u32, node: usize) -> usize
         requires { IsWord self.now (Word.T level node) }
         ensures value { result ≡ number_of self.now (Word.T level node) }
@@ -78,6 +83,7 @@ impl Shape {
     }
 
     /// The number of the word P of the place at the level. Levels are counted from 1, places from 0.
+    #[inline(always)]
     pub fn p(&self, level: u32, place: usize) -> usize
         requires { IsWord self.now (Word.P level place) }
         ensures value { result ≡ number_of self.now (Word.P level place) }
@@ -87,6 +93,7 @@ impl Shape {
     }
 
     /// The number of a word.
+    #[inline(always)]
     pub(crate) fn number(&self, word: Word) -> usize
         requires { IsWord self.now word }
         ensures value { result ≡ number_of self.now word }
@@ -100,6 +107,7 @@ impl Shape {
     }
 
     /// How many nodes the levels below have.
+    #[inline(always)]
     fn nodes_below(&self, level: u32) -> usize
         requires least { 1 ≤ level }
         requires most { level ≤ self.now }

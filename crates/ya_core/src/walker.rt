@@ -60,6 +60,7 @@ impl Model for Walker {
 
 impl Walker {
     /// An idle process of that place.
+    #[inline(always)]
     pub fn new(shape: Shape, place: usize) -> Walker
         requires { place < 2 ^ shape }
         ensures { result ≡ walk shape place Idle false 0 }
@@ -74,6 +75,7 @@ impl Walker {
     }
 
     /// What the process asks for. The number of a word is below the number of words.
+    #[inline(always)]
     pub fn op(&self) -> Op
         ensures value { result ≡ op_of self.now }
         ensures within { OpIsWithin self.now.levels result }
@@ -98,6 +100,7 @@ impl Walker {
     }
 
     /// Goes on by the value that the load found.
+    #[inline(always)]
     pub fn saw(&mut self, value: u64)
         requires { Fits self.old value }
         ensures after { self.new ≡ walk_after self.old value }
@@ -111,6 +114,7 @@ impl Walker {
     }
 
     /// Goes on after the store. Where it leads is the same for every value.
+    #[inline(always)]
     pub fn done(&mut self)
         requires { IsStore (due self.old) }
         ensures after { (value : ℕ) → self.new ≡ walk_after self.old value }
@@ -123,6 +127,7 @@ impl Walker {
     }
 
     /// Makes the first access of an entry due, and counts remote accesses from 0.
+    #[inline(always)]
     pub fn begin_entry(&mut self)
         requires { op_of self.old ≡ Op.Idle }
         ensures begun { self.new ≡ record self.old { begun = true; remote = 0 } }
@@ -132,6 +137,7 @@ impl Walker {
     }
 
     /// Makes the first access of an exit due.
+    #[inline(always)]
     pub fn begin_exit(&mut self)
         requires { op_of self.old ≡ Op.Inside }
         ensures begun { self.new ≡ record self.old { begun = true } }
@@ -151,6 +157,7 @@ impl Walker {
     }
 
     /// The access that is due, if the process was told to go on or is on its way.
+    #[inline(always)]
     fn due(&self) -> Option<Access>
         ensures value { result ≡ due self.now }
         ensures within { DueIsWithin self.now.levels result }
@@ -163,6 +170,7 @@ impl Walker {
     }
 
     /// What a process asks for that is idle or inside.
+    #[inline(always)]
     fn pause(&self) -> Op
         requires { due self.now ≡ None }
         ensures { result ≡ op_of self.now }
@@ -175,6 +183,7 @@ impl Walker {
     }
 
     /// Goes on after the access that is due, which loaded or stored the value.
+    #[inline(always)]
     fn go_on(&mut self, value: u64)
         requires { IsTold (due self.old) value }
         ensures after { self.new ≡ walk_after self.old value }
@@ -189,6 +198,7 @@ impl Walker {
 }
 
 /// Whether the process is idle or inside, and was not told to go on.
+#[inline(always)]
 fn is_at_rest(process: Process, begun: bool) -> bool
     ensures rests { IsTrue result → (levels place : ℕ)
         → due_of levels place process begun ≡ None }
@@ -199,6 +209,7 @@ fn is_at_rest(process: Process, begun: bool) -> bool
 }
 
 /// How many remote accesses it is for the place: one, but for an access of its own words P.
+#[inline(always)]
 fn cost(access: Access, place: usize) -> u64
     ensures value { result ≡ cost_of place access }
     ensures most { result ≤ 1 }

@@ -123,6 +123,7 @@ impl<V: Kept + Drop, const L: u32> TreeLock<V, L> {
 
     /// Waits until its place is alone inside, and gives the lent value. What the guard finds is what may have come, by
     /// other places, of the value that the pass has seen. It makes at most seven remote accesses a level.
+    #[inline(always)]
     pub fn enter<R: Wait>(&self, rt: &R, pass: Pass<V>) -> Guard<V>
         requires { pass.lock ≡ self.now }
         ensures guard { result ≡ guard_of pass result.found result.remote }
@@ -153,6 +154,7 @@ impl<V: Kept + Drop, const L: u32> TreeLock<V, L> {
 
     /// Gives the value back as it is now, and lets the next one in. The place may have changed it as `done` says. It waits
     /// for nobody, and makes at most three remote accesses a level.
+    #[inline(always)]
     pub fn leave(&self, guard: Guard<V>) -> Pass<V>
         requires lock { guard.lock ≡ self.now }
         requires done { V.done guard.place guard.found guard.value }
@@ -227,6 +229,7 @@ impl<V: Kept + Drop, const L: u32> TreeLock<V, L> {
 
     // Makes the accesses of an entry until its place is inside. Between two loads that find the place's spin word as it
     // was, it lets other threads go on.
+    #[inline(always)]
     fn go_in<R: Wait>(&self, rt: &R, seat: &mut LockSeat<V>, walker: &mut Walker, seen: &Recall<V>)
         requires lock { (seat.old.table_id ≡ self.now) × (walker.old.levels ≡ L) }
         requires way { IsOnWayIn walker.old.process walker.old.begun × (seat.old.me ≡ (Member walker.old.place walker.old.process seen.now.value, [])) }
@@ -253,6 +256,7 @@ impl<V: Kept + Drop, const L: u32> TreeLock<V, L> {
     }
 
     // Makes the accesses of an exit until its place is idle.
+    #[inline(always)]
     fn go_out(&self, seat: &mut LockSeat<V>, walker: &mut Walker, seen: &Recall<V>)
         requires lock { (seat.old.table_id ≡ self.now) × (walker.old.levels ≡ L) }
         requires way { IsOnWayOut walker.old.process walker.old.begun × (seat.old.me ≡ (Member walker.old.place walker.old.process seen.now.value, [])) }
@@ -270,6 +274,7 @@ impl<V: Kept + Drop, const L: u32> TreeLock<V, L> {
     }
 
     // The access that is due to the walker, which `due` names, by its seat.
+    #[inline(always)]
     fn step(&self, seat: &mut LockSeat<V>, walker: &mut Walker, due: Op)
         requires lock { (seat.old.table_id ≡ self.now) × (walker.old.levels ≡ L) }
         requires due { (due ≡ op_of walker.old) × (due ≢ Op.Inside) × (due ≢ Op.Idle) }
