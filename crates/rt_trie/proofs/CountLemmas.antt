@@ -8,7 +8,7 @@ use Rattle.rt_cidr.specs.declared.prefixes.Prefix.{Prefix}
 use Rattle.rt_trie.specs.declared.nodes.Link.{Link, Empty, Leaf, Fork', Full'}
 use Rattle.rt_trie.specs.Map.{Pairs, get, put, erase, first, IsBeforeAll, IsOrdered}
 use Rattle.rt_trie.specs.Blocks.{IsWithin}
-use Rattle.rt_trie.specs.Links.{pairs, count, root, IsFilled, IsLawfulBelow, IsLawful}
+use Rattle.rt_trie.specs.Links.{pairs, count, root, IsFilled, IsLawfulBelow, IsLawfulTrie}
 use Rattle.rt_trie.proofs.OrderLemmas.{same_tells, before_tells, rank_of_before}
 use Rattle.rt_trie.proofs.PairLemmas.{AllKeys, AllKeys-map, IsOther, IsOther-higher, IsHigher, get-none}
 use Rattle.rt_trie.proofs.LinkLemmas.{filled_first}
@@ -52,7 +52,7 @@ module _ {V A : Type 0} where
       omega (arith, room_halves q.len s, room_mono len q.len on)
 
   -- a whole trie has less than 2^33 nodes
-  pub count_small : (link : Link V A) → IsLawful link → count link < 2 ^ 33
+  pub count_small : (link : Link V A) → IsLawfulTrie link → count link < 2 ^ 33
   count_small link h = omega (arith, count_fits link 0 h.0 (any_root (root link)))
     where
       any_root : (o : Option Prefix) → IfSome o (λ q. 0 ≤ q.len)
@@ -67,11 +67,11 @@ module _ {V A : Type 0} where
   pairs_few (Full' p q None left right) = omega (arith, pairs_few left, pairs_few right, length-append (pairs left) (pairs right))
   pairs_few (Full' p q (Some v) left right) = omega (arith, pairs_few left, pairs_few right, length-append (pairs left) (pairs right))
 
-  filled_pairs : (link : Link V A) → IsLawful link → IsFilled link → 1 ≤ length (pairs link)
+  filled_pairs : (link : Link V A) → IsLawfulTrie link → IsFilled link → 1 ≤ length (pairs link)
   filled_pairs link h f = let i = filled_first link h f in first_some (pairs link) i.0 i.1
 
   -- a lawful link has at most twice as many nodes as pairs, less one
-  pub nodes_few : (link : Link V A) → IsLawful link → count link ≤ 2 * length (pairs link) - 1
+  pub nodes_few : (link : Link V A) → IsLawfulTrie link → count link ≤ 2 * length (pairs link) - 1
   nodes_few Empty h = omega arith
   nodes_few (Leaf b) h = omega arith
   nodes_few (Fork' p q left right) h =

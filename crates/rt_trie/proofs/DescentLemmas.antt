@@ -9,9 +9,9 @@ use mathlib.Core.Path.{fun_ext}
 use Rattle.std.proofs.lemmas.Bool.Decides.{leb_tells}
 use Rattle.rt_cidr.specs.declared.prefixes.Prefix.{Prefix}
 use Rattle.rt_trie.specs.declared.nodes.Link.{Link, Empty, Leaf, Fork', Full'}
-use Rattle.rt_trie.specs.Map.{Pairs, same, get, put, IsOrdered}
+use Rattle.rt_trie.specs.Map.{Pairs, same_prefix, get, put, IsOrdered}
 use Rattle.rt_trie.specs.Blocks.{IsChild, middle, past}
-use Rattle.rt_trie.specs.Links.{own, pairs, count, root, AreHalves, IsChildLink, IsFilled, IsLawful}
+use Rattle.rt_trie.specs.Links.{own_pair, pairs, count, root, AreHalves, IsChildLink, IsFilled, IsLawfulTrie}
 use Rattle.rt_trie.specs.Descent.{found, written, overwritten}
 use Rattle.rt_trie.proofs.OrderLemmas.{same_tells, before_tells}
 use Rattle.rt_trie.proofs.PairLemmas.{AllKeys, AllKeys-map, IsOther, IsHigher, IsLower, IsOther-higher, IsOther-lower, get-none}
@@ -26,12 +26,12 @@ IsDeep d link = IfSome (root link) (λ q. 33 ≤ q.len + d)
 -- the list with w in the place of the value at p, if there is one
 abbrev set_value : {V : Type 0} → Pairs V → Prefix → V → Pairs V
 set_value [] p w = []
-set_value ((q, v) ∷ m) p w = (q, cond (same q p) w v) ∷ set_value m p w
+set_value ((q, v) ∷ m) p w = (q, cond (same_prefix q p) w v) ∷ set_value m p w
 
 module _ {V : Type 0} where
   set_value-append : (xs ys : Pairs V) (p : Prefix) (w : V) → set_value (xs ++ ys) p w ≡ set_value xs p w ++ set_value ys p w
   set_value-append [] ys p w = refl
-  set_value-append ((q, v) ∷ xs) ys p w = ap (λ m. (q, cond (same q p) w v) ∷ m) (set_value-append xs ys p w)
+  set_value-append ((q, v) ∷ xs) ys p w = ap (λ m. (q, cond (same_prefix q p) w v) ∷ m) (set_value-append xs ys p w)
 
   set_value-other : (xs : Pairs V) (p : Prefix) (w : V) → AllKeys (IsOther p) xs → set_value xs p w ≡ xs
   set_value-other [] p w h = refl
@@ -64,18 +64,18 @@ module _ {V : Type 0} where
   some_kept true false (Some y) w h = h
   some_kept false s (Some y) w h = h
 
-  own_kept : (c s : Bool) (q : Prefix) (v : Option V) (w : V) → length (own q (cond c (cond s (overwritten v w) v) v)) ≡ length (own q v)
+  own_kept : (c s : Bool) (q : Prefix) (v : Option V) (w : V) → length (own_pair q (cond c (cond s (overwritten v w) v) v)) ≡ length (own_pair q v)
   own_kept true true q None w = refl
   own_kept true true q (Some y) w = refl
   own_kept true false q v w = refl
   own_kept false s q v w = refl
 
   -- a write at a node, by where the prefix stands
-  own_here : (q p : Prefix) (v : Option V) (w : V) → same q p ≡ true → set_value (own q v) p w ≡ own q (overwritten v w)
+  own_here : (q p : Prefix) (v : Option V) (w : V) → same_prefix q p ≡ true → set_value (own_pair q v) p w ≡ own_pair q (overwritten v w)
   own_here q p None w e = refl
   own_here q p (Some y) w e = rw e refl
 
-  own_there : (q p : Prefix) (v : Option V) (w : V) → same q p ≡ false → set_value (own q v) p w ≡ own q v
+  own_there : (q p : Prefix) (v : Option V) (w : V) → same_prefix q p ≡ false → set_value (own_pair q v) p w ≡ own_pair q v
   own_there q p None w e = refl
   own_there q p (Some y) w e = rw e refl
 
@@ -83,8 +83,8 @@ module _ {V : Type 0} where
     set_here : p.len ≤ q.len → set_value (xs ++ ys) p w ≡ xs ++ ys
     set_here h = set_value-other (xs ++ ys) p w (rest_other q v xs ys s p h)
 
-    set_own : q.len < p.len → set_value (own q v) p w ≡ own q v
-    set_own h = set_value-other (own q v) p w (own_other q v xs ys s p h)
+    set_own : q.len < p.len → set_value (own_pair q v) p w ≡ own_pair q v
+    set_own h = set_value-other (own_pair q v) p w (own_other q v xs ys s p h)
 
     set_lower : p.base < middle q → set_value (xs ++ ys) p w ≡ set_value xs p w ++ ys
     set_lower h =
@@ -99,7 +99,7 @@ module _ {V : Type 0} where
         (AllKeys-map (IsLower p) (IsOther p) xs (λ x. IsOther-lower p x) (lower_lower q v xs ys s p h)))
 
 module _ {V A : Type 0} where
-  sides_at : (q : Prefix) (left right : Link V A) → AreHalves q left right → IsLawful left → IsLawful right → AreSides q (pairs left) (pairs right)
+  sides_at : (q : Prefix) (left right : Link V A) → AreHalves q left right → IsLawfulTrie left → IsLawfulTrie right → AreSides q (pairs left) (pairs right)
   sides_at q left right h l r = record {
     lower = pairs_within left q.base (middle q) (q.len + 1) l.0 h.lower;
     upper = pairs_within right (middle q) (past q) (q.len + 1) r.0 h.upper;
@@ -120,7 +120,7 @@ module _ {V A : Type 0} where
       deeper (Some x) c = omega (arith, c.long)
 
   -- what is found is the map's
-  pub found_get : (d : ℕ) (link : Link V A) (p : Prefix) → IsLawful link → IsDeep d link → found d link p ≡ get (pairs link) p
+  pub found_get : (d : ℕ) (link : Link V A) (p : Prefix) → IsLawfulTrie link → IsDeep d link → found d link p ≡ get (pairs link) p
   found_get zero Empty p h deep = refl
   found_get zero (Leaf b) p h deep = let s = b.value.prefix.is_prefix.short in absurd (omega arith)
   found_get zero (Fork' x q left right) p h deep = let s = q.is_prefix.short in absurd (omega arith)
@@ -160,10 +160,10 @@ module _ {V A : Type 0} where
   pub record IsKept (old new : Link V A) : Type 0 where
     pub root_is : root new ≡ root old
     pub count_is : count new ≡ count old
-    pub lawful : IsLawful new
+    pub lawful : IsLawfulTrie new
     pub len_is : length (pairs new) ≡ length (pairs old)
 
-  kept_same : (link : Link V A) → IsLawful link → IsKept link link
+  kept_same : (link : Link V A) → IsLawfulTrie link → IsKept link link
   kept_same link h = record { root_is = refl; count_is = refl; lawful = h; len_is = refl }
 
   kept_cond : (c : Bool) (old a b : Link V A) → IsKept old a → IsKept old b → IsKept old (cond c a b)
@@ -176,7 +176,7 @@ module _ {V A : Type 0} where
   kept_filled : (l l' : Link V A) → IsKept l l' → IsFilled l → IsFilled l'
   kept_filled l l' i f = rw i.root_is f
 
-  kept_fork : (x : _) (q : Prefix) (l r l' r' : Link V A) → IsLawful (Fork' x q l r) → IsKept l l' → IsKept r r'
+  kept_fork : (x : _) (q : Prefix) (l r l' r' : Link V A) → IsLawfulTrie (Fork' x q l r) → IsKept l l' → IsKept r r'
       → IsKept (Fork' x q l r) (Fork' x q l' r')
   kept_fork x q l r l' r' h i j = record {
     root_is = refl;
@@ -185,8 +185,8 @@ module _ {V A : Type 0} where
     len_is = omega (arith, i.len_is, j.len_is, length-append (pairs l) (pairs r), length-append (pairs l') (pairs r'));
   }
 
-  kept_full : (x : _) (q : Prefix) (v v' : Option V) (l r l' r' : Link V A) → IsLawful (Full' x q v l r) → (v' ≡ None → v ≡ None)
-      → length (own q v') ≡ length (own q v) → IsKept l l' → IsKept r r' → IsKept (Full' x q v l r) (Full' x q v' l' r')
+  kept_full : (x : _) (q : Prefix) (v v' : Option V) (l r l' r' : Link V A) → IsLawfulTrie (Full' x q v l r) → (v' ≡ None → v ≡ None)
+      → length (own_pair q v') ≡ length (own_pair q v) → IsKept l l' → IsKept r r' → IsKept (Full' x q v l r) (Full' x q v' l' r')
   kept_full x q v v' l r l' r' h n e i j = record {
     root_is = refl;
     count_is = omega (arith, i.count_is, j.count_is);
@@ -198,8 +198,8 @@ module _ {V A : Type 0} where
       j.len_is,
       length-append (pairs l) (pairs r),
       length-append (pairs l') (pairs r'),
-      length-append (own q v) (pairs l ++ pairs r),
-      length-append (own q v') (pairs l' ++ pairs r'),
+      length-append (own_pair q v) (pairs l ++ pairs r),
+      length-append (own_pair q v') (pairs l' ++ pairs r'),
     );
   }
     where
@@ -209,7 +209,7 @@ module _ {V A : Type 0} where
       needed (Some y) None n h = absurd (let e : Some y ≡ None = n refl in cc)
 
   -- a write keeps the link lawful, with its nodes and its pairs
-  pub written_kept : (d : ℕ) (link : Link V A) (p : Prefix) (w : V) → IsLawful link → IsKept link (written d link p w)
+  pub written_kept : (d : ℕ) (link : Link V A) (p : Prefix) (w : V) → IsLawfulTrie link → IsKept link (written d link p w)
   written_kept zero link p w h = kept_same link h
   written_kept (suc d) Empty p w h = kept_same Empty h
   written_kept (suc d) (Leaf b) p w h = record { root_is = refl; count_is = refl; lawful = (tt, tt); len_is = refl }
@@ -224,12 +224,12 @@ module _ {V A : Type 0} where
       let l = written_kept d left p w h.0.1 in
       let r = written_kept d right p w h.0.2 in
       let low = leb (suc p.base) (middle q) in
-      kept_full x q v _ left right _ _ h (some_kept (leb p.len q.len) (same q p) v w) (own_kept (leb p.len q.len) (same q p) q v w)
+      kept_full x q v _ left right _ _ h (some_kept (leb p.len q.len) (same_prefix q p) v w) (own_kept (leb p.len q.len) (same_prefix q p) q v w)
       (kept_cond (leb p.len q.len) left left _ (kept_same left h.0.1) (kept_cond low left (written d left p w) left l (kept_same left h.0.1)))
       (kept_cond (leb p.len q.len) right right _ (kept_same right h.0.2) (kept_cond low right right (written d right p w) (kept_same right h.0.2) r))
 
   -- a write is one in the list
-  written_pairs : (d : ℕ) (link : Link V A) (p : Prefix) (w : V) → IsLawful link → IsDeep d link
+  written_pairs : (d : ℕ) (link : Link V A) (p : Prefix) (w : V) → IsLawfulTrie link → IsDeep d link
       → pairs (written d link p w) ≡ set_value (pairs link) p w
   written_pairs zero Empty p w h deep = refl
   written_pairs zero (Leaf b) p w h deep = let s = b.value.prefix.is_prefix.short in absurd (omega arith)
@@ -253,25 +253,25 @@ module _ {V A : Type 0} where
       let s = sides_at q left right h.0.0 h.0.1 h.0.2 in
       let l = written_pairs d left p w h.0.1 (deep_lower d q left deep h.0.0.lower) in
       let r = written_pairs d right p w h.0.2 (deep_upper d q right deep h.0.0.upper) in
-      let split = set_value-append (own q v) (pairs left ++ pairs right) p w in
+      let split = set_value-append (own_pair q v) (pairs left ++ pairs right) p w in
       elim (leb_tells p.len q.len) [
         | inl le ↦
             let rest = set_here q v (pairs left) (pairs right) s p w le.1 in
             elim (same_tells q p) [
               | inl e ↦ rw (le.0, e.0) (sym (split ∙ ap (λ m. m ++ set_value (pairs left ++ pairs right) p w) (own_here q p v w e.0)
-                  ∙ ap (λ m. own q (overwritten v w) ++ m) rest))
+                  ∙ ap (λ m. own_pair q (overwritten v w) ++ m) rest))
               | inr e ↦ rw (le.0, e.0) (sym (split ∙ ap (λ m. m ++ set_value (pairs left ++ pairs right) p w) (own_there q p v w e.0)
-                  ∙ ap (λ m. own q v ++ m) rest))
+                  ∙ ap (λ m. own_pair q v ++ m) rest))
             ]
         | inr gt ↦
             let mine = set_own q v (pairs left) (pairs right) s p w gt.1 in
             elim (leb_tells (suc p.base) (middle q)) [
-              | inl lo ↦ rw (gt.0, lo.0) (ap (λ m. own q v ++ (m ++ pairs right)) l
+              | inl lo ↦ rw (gt.0, lo.0) (ap (λ m. own_pair q v ++ (m ++ pairs right)) l
                   ∙ sym (split ∙ ap (λ m. m ++ set_value (pairs left ++ pairs right) p w) mine
-                  ∙ ap (λ m. own q v ++ m) (set_lower q v (pairs left) (pairs right) s p w lo.1)))
-              | inr hi ↦ rw (gt.0, hi.0) (ap (λ m. own q v ++ (pairs left ++ m)) r
+                  ∙ ap (λ m. own_pair q v ++ m) (set_lower q v (pairs left) (pairs right) s p w lo.1)))
+              | inr hi ↦ rw (gt.0, hi.0) (ap (λ m. own_pair q v ++ (pairs left ++ m)) r
                   ∙ sym (split ∙ ap (λ m. m ++ set_value (pairs left ++ pairs right) p w) mine
-                  ∙ ap (λ m. own q v ++ m) (set_upper q v (pairs left) (pairs right) s p w (omega arith))))
+                  ∙ ap (λ m. own_pair q v ++ m) (set_upper q v (pairs left) (pairs right) s p w (omega arith))))
             ]
       ]
 
@@ -283,11 +283,11 @@ module _ {V A : Type 0} where
       any None = tt
       any (Some q) = omega arith
 
-  pub found_is : (link : Link V A) (p : Prefix) → IsLawful link → found 33 link p ≡ get (pairs link) p
+  pub found_is : (link : Link V A) (p : Prefix) → IsLawfulTrie link → found 33 link p ≡ get (pairs link) p
   found_is link p h = found_get 33 link p h (all_deep link)
 
   -- a write where a value stands puts it there
-  pub written_is : (link : Link V A) (p : Prefix) (w v : V) → IsLawful link → get (pairs link) p ≡ Some v
+  pub written_is : (link : Link V A) (p : Prefix) (w v : V) → IsLawfulTrie link → get (pairs link) p ≡ Some v
       → pairs (written 33 link p w) ≡ put (pairs link) p w
   written_is link p w v h e =
       written_pairs 33 link p w h (all_deep link) ∙ sym (put-stored (pairs link) p w v (pairs_ordered link h.0) e)

@@ -11,7 +11,7 @@ use Rattle.rt_trie.specs.declared.nodes.FullNode.{FullNode}
 use Rattle.rt_trie.specs.Map.{get, put}
 use Rattle.rt_trie.specs.declared.nodes.Place.TheVariants.{Above, Apart}
 use Rattle.rt_trie.specs.Blocks.{IsWithin, IsChild, StandsAt, PartsAt, middle, past}
-use Rattle.rt_trie.specs.Links.{own, pairs, root, AreHalves, IsChildLink, IsFilled, IsLawful}
+use Rattle.rt_trie.specs.Links.{own_pair, pairs, root, AreHalves, IsChildLink, IsFilled, IsLawfulTrie}
 use Rattle.rt_trie.specs.Changes.{IsPut}
 use Rattle.rt_trie.proofs.BlockLemmas.{size_pos, lower_half}
 use Rattle.rt_trie.proofs.PairLemmas.{AllKeys, AllKeys-map, IsHigher, IsLower, IsOther, IsOther-higher, IsOther-lower, get-none, put-first, put-skip, put-front, put-here}
@@ -29,8 +29,8 @@ half_above_upper q p w h = record { long = w.long; from = h; to = w.to }
 module _ {V A : Type 0} where
   -- a full node with a value, made of lawful sides
   pub made_full : (b : Box (FullNode V A) A) (q : Prefix) (v : V) (l r : Link V A) → b.value.prefix ≡ q → b.value.value ≡ Some v
-      → b.value.left ≡ l → b.value.right ≡ r → AreHalves q l r → IsLawful l → IsLawful r
-      → IsNode (Full b) q (Some v) l r × IsLawful (Full b)
+      → b.value.left ≡ l → b.value.right ≡ r → AreHalves q l r → IsLawfulTrie l → IsLawfulTrie r
+      → IsNode (Full b) q (Some v) l r × IsLawfulTrie (Full b)
   made_full b q v l r e f i j h k m = (
     rw (e, f, i, j) (record {
       pairs_are = refl;
@@ -45,8 +45,8 @@ module _ {V A : Type 0} where
 
   -- a full node, made of lawful sides, which are filled where it has no value
   pub made_full_kept : (b : Box (FullNode V A) A) (q : Prefix) (w : Option V) (l r : Link V A) → b.value.prefix ≡ q → b.value.value ≡ w
-      → b.value.left ≡ l → b.value.right ≡ r → AreHalves q l r → IsLawful l → IsLawful r → (w ≡ None → IsFilled l × IsFilled r)
-      → IsNode (Full b) q w l r × IsLawful (Full b)
+      → b.value.left ≡ l → b.value.right ≡ r → AreHalves q l r → IsLawfulTrie l → IsLawfulTrie r → (w ≡ None → IsFilled l × IsFilled r)
+      → IsNode (Full b) q w l r × IsLawfulTrie (Full b)
   made_full_kept b q w l r e f i j h k m n = (
     rw (e, f, i, j) (record {
       pairs_are = refl;
@@ -65,7 +65,7 @@ module _ {V A : Type 0} where
 
   -- a fork, made of lawful sides that are both filled
   pub made_fork : (b : Box (ForkNode V A) A) (q : Prefix) (l r : Link V A) → b.value.prefix ≡ q → b.value.left ≡ l → b.value.right ≡ r
-      → AreHalves q l r → IsLawful l → IsLawful r → IsFilled l → IsFilled r → IsNode (Fork b) q None l r × IsLawful (Fork b)
+      → AreHalves q l r → IsLawfulTrie l → IsLawfulTrie r → IsFilled l → IsFilled r → IsNode (Fork b) q None l r × IsLawfulTrie (Fork b)
   made_fork b q l r e i j h k m f g = (
     rw (e, i, j) (record {
       pairs_are = refl;
@@ -92,7 +92,7 @@ module _ {V A : Type 0} where
 
   -- a fork at p gets a value
   pub put_fill : (old new : Link V A) (p : Prefix) (v : V) (l r : Link V A) → IsNode old p None l r → IsNode new p (Some v) l r
-      → IsLawful new → IsPut old new p v
+      → IsLawfulTrie new → IsPut old new p v
   put_fill old new p v l r n m h = record {
     pairs_are = m.pairs_are ∙ sym (ap (λ x. put x p v) n.pairs_are
         ∙ put-first (pairs l ++ pairs r) p v (sides_higher p None (pairs l) (pairs r) (sides_of old p None l r n)));
@@ -103,7 +103,7 @@ module _ {V A : Type 0} where
 
   -- a value goes in the place of another
   pub put_value : (old new : Link V A) (p : Prefix) (w : Option V) (v : V) (l r : Link V A) → IsNode old p w l r → IsNode new p (Some v) l r
-      → IsLawful new → IsPut old new p v
+      → IsLawfulTrie new → IsPut old new p v
   put_value old new p None v l r n m h = put_fill old new p v l r n m h
   put_value old new p (Some w) v l r n m h = record {
     pairs_are = m.pairs_are ∙ sym (ap (λ x. put x p v) n.pairs_are ∙ put-here (pairs l ++ pairs r) p w v);
@@ -114,11 +114,11 @@ module _ {V A : Type 0} where
 
   -- p is put in below, on the left or on the right
   pub put_left : (old new : Link V A) (q : Prefix) (w : Option V) (l r k : Link V A) (p : Prefix) (v : V) → IsNode old q w l r
-      → IsNode new q w k r → IsLawful new → IsChild q false p → IsPut l k p v → IsPut old new p v
+      → IsNode new q w k r → IsLawfulTrie new → IsChild q false p → IsPut l k p v → IsPut old new p v
   put_left old new q w l r k p v n m h c i = record {
     pairs_are = m.pairs_are ∙ sym (ap (λ x. put x p v) n.pairs_are
-        ∙ put-skip (own q w) (pairs l ++ pairs r) p v (own_lower q w (pairs l) (pairs r) (sides_of old q w l r n) p c.from (omega (arith, c.long)))
-        ∙ ap (λ x. own q w ++ x) (put-front (pairs l) (pairs r) p v
+        ∙ put-skip (own_pair q w) (pairs l ++ pairs r) p v (own_lower q w (pairs l) (pairs r) (sides_of old q w l r n) p c.from (omega (arith, c.long)))
+        ∙ ap (λ x. own_pair q w ++ x) (put-front (pairs l) (pairs r) p v
         (upper_higher q w (pairs l) (pairs r) (sides_of old q w l r n) p (omega (arith, c.to, size_pos p.len)))
         ∙ ap (λ x. x ++ pairs r) (sym i.pairs_are)));
     lawful = h;
@@ -127,12 +127,12 @@ module _ {V A : Type 0} where
   }
 
   pub put_right : (old new : Link V A) (q : Prefix) (w : Option V) (l r k : Link V A) (p : Prefix) (v : V) → IsNode old q w l r
-      → IsNode new q w l k → IsLawful new → IsChild q true p → IsPut r k p v → IsPut old new p v
+      → IsNode new q w l k → IsLawfulTrie new → IsChild q true p → IsPut r k p v → IsPut old new p v
   put_right old new q w l r k p v n m h c i = record {
     pairs_are = m.pairs_are ∙ sym (ap (λ x. put x p v) n.pairs_are
-        ∙ put-skip (own q w) (pairs l ++ pairs r) p v (own_lower q w (pairs l) (pairs r) (sides_of old q w l r n) p
+        ∙ put-skip (own_pair q w) (pairs l ++ pairs r) p v (own_lower q w (pairs l) (pairs r) (sides_of old q w l r n) p
         (omega (arith, c.from)) (omega (arith, c.long)))
-        ∙ ap (λ x. own q w ++ x) (put-skip (pairs l) (pairs r) p v
+        ∙ ap (λ x. own_pair q w ++ x) (put-skip (pairs l) (pairs r) p v
         (lower_lower q w (pairs l) (pairs r) (sides_of old q w l r n) p c.from)
         ∙ ap (λ x. pairs l ++ x) (sym i.pairs_are)));
     lawful = h;
@@ -144,7 +144,7 @@ module _ {V A : Type 0} where
   pub record IsLeafWith (link : Link V A) (p : Prefix) (v : V) : Type 0 where
     pub pairs_are : pairs link ≡ (p, v) ∷ []
     pub root_is : root link ≡ Some p
-    pub lawful : IsLawful link
+    pub lawful : IsLawfulTrie link
 
   pub made_leaf : (b : Box (LeafNode V) A) (p : Prefix) (v : V) → b.value.prefix ≡ p → b.value.value ≡ v → IsLeafWith (Leaf b) p v
   made_leaf b p v e f = record { pairs_are = rw (e, f) refl; root_is = rw e refl; lawful = (tt, tt) }
@@ -155,18 +155,18 @@ module _ {V A : Type 0} where
   child_link parent upper link q e h = rw e h
 
   -- everything in a link comes after what contains its root
-  below_higher : (old : Link V A) (q p : Prefix) → IsLawful old → root old ≡ Some q → StandsAt q p Above → AllKeys (IsHigher p) (pairs old)
+  below_higher : (old : Link V A) (q p : Prefix) → IsLawfulTrie old → root old ≡ Some q → StandsAt q p Above → AllKeys (IsHigher p) (pairs old)
   below_higher old q p h e w =
       let on : IsOn q.base (past q) q.len old = rw e (record { long = omega arith; from = omega arith; to = omega arith }) in
       AllKeys-map (IsWithin q.base (past q) q.len) (IsHigher p) (pairs old)
       (λ x k. omega (arith, k.long, k.from, w.long, w.from)) (pairs_within old q.base (past q) q.len h.0 on)
 
-  pub get_above : (old : Link V A) (q p : Prefix) → IsLawful old → root old ≡ Some q → StandsAt q p Above → get (pairs old) p ≡ None
+  pub get_above : (old : Link V A) (q p : Prefix) → IsLawfulTrie old → root old ≡ Some q → StandsAt q p Above → get (pairs old) p ≡ None
   get_above old q p h e w =
       get-none (pairs old) p (AllKeys-map (IsHigher p) (IsOther p) (pairs old) (λ x. IsOther-higher p x) (below_higher old q p h e w))
 
   -- p is put in above
-  pub put_above : (old new : Link V A) (q p : Prefix) (v : V) → IsLawful old → root old ≡ Some q → StandsAt q p Above → IsLawful new
+  pub put_above : (old new : Link V A) (q p : Prefix) (v : V) → IsLawfulTrie old → root old ≡ Some q → StandsAt q p Above → IsLawfulTrie new
       → root new ≡ Some p → pairs new ≡ (p, v) ∷ pairs old → IsPut old new p v
   put_above old new q p v h e w k i j = record {
     pairs_are = j ∙ sym (put-first (pairs old) p v (below_higher old q p h e w));
@@ -175,17 +175,17 @@ module _ {V A : Type 0} where
     stays = stays_new old new p i;
   }
 
-  pub put_above_left : (old new : Link V A) (q p : Prefix) (v : V) → IsLawful old → root old ≡ Some q → StandsAt q p Above → IsLawful new
+  pub put_above_left : (old new : Link V A) (q p : Prefix) (v : V) → IsLawfulTrie old → root old ≡ Some q → StandsAt q p Above → IsLawfulTrie new
       → IsNode new p (Some v) old Empty → IsPut old new p v
   put_above_left old new q p v h e w k n =
       put_above old new q p v h e w k n.root_is (n.pairs_are ∙ ap (λ x. (p, v) ∷ x) (append-nil (pairs old)))
 
-  pub put_above_right : (old new : Link V A) (q p : Prefix) (v : V) → IsLawful old → root old ≡ Some q → StandsAt q p Above → IsLawful new
+  pub put_above_right : (old new : Link V A) (q p : Prefix) (v : V) → IsLawfulTrie old → root old ≡ Some q → StandsAt q p Above → IsLawfulTrie new
       → IsNode new p (Some v) Empty old → IsPut old new p v
   put_above_right old new q p v h e w k n = put_above old new q p v h e w k n.root_is n.pairs_are
 
   -- a full node for p, with the old link on the side where its root lies
-  pub cover_put : (old : Link V A) (q p : Prefix) (v : V) → IsLawful old → root old ≡ Some q → StandsAt q p Above → (sides : Link V A × Link V A)
+  pub cover_put : (old : Link V A) (q p : Prefix) (v : V) → IsLawfulTrie old → root old ≡ Some q → StandsAt q p Above → (sides : Link V A × Link V A)
       → (q.base < middle p → sides ≡ (old, Empty)) → (middle p ≤ q.base → sides ≡ (Empty, old)) → (b : Box (FullNode V A) A)
       → b.value.prefix ≡ p → b.value.value ≡ Some v → b.value.left ≡ sides.0 → b.value.right ≡ sides.1 → IsPut old (Full b) p v
   cover_put old q p v h e w sides lo hi b i j k m = elim (cases_lt q.base (middle p)) [
@@ -202,7 +202,7 @@ module _ {V A : Type 0} where
   ]
 
   -- nothing in a link is a prefix that is apart from its root
-  pub get_apart : (old : Link V A) (q p : Prefix) → IsLawful old → root old ≡ Some q → StandsAt q p Apart → get (pairs old) p ≡ None
+  pub get_apart : (old : Link V A) (q p : Prefix) → IsLawfulTrie old → root old ≡ Some q → StandsAt q p Apart → get (pairs old) p ≡ None
   get_apart old q p h e w =
       let on : IsOn q.base (past q) q.len old = rw e (record { long = omega arith; from = omega arith; to = omega arith }) in
       get-none (pairs old) p (AllKeys-map (IsWithin q.base (past q) q.len) (IsOther p) (pairs old)
@@ -216,7 +216,7 @@ module _ {V A : Type 0} where
       (pairs_within old q.base (past q) q.len h.0 on))
 
   -- a fork where p and the old link part, p on the left
-  pub part_left : (old leaf : Link V A) (q p c : Prefix) (v : V) → IsLawful old → root old ≡ Some q → IsLeafWith leaf p v → PartsAt c p q
+  pub part_left : (old leaf : Link V A) (q p c : Prefix) (v : V) → IsLawfulTrie old → root old ≡ Some q → IsLeafWith leaf p v → PartsAt c p q
       → (b : Box (ForkNode V A) A) → b.value.prefix ≡ c → b.value.left ≡ leaf → b.value.right ≡ old → IsPut old (Fork b) p v
   part_left old leaf q p c v h e m k b i j o =
       let n = made_fork b c leaf old i j o
@@ -235,7 +235,7 @@ module _ {V A : Type 0} where
       }
 
   -- and p on the right
-  pub part_right : (old leaf : Link V A) (q p c : Prefix) (v : V) → IsLawful old → root old ≡ Some q → IsLeafWith leaf p v → PartsAt c q p
+  pub part_right : (old leaf : Link V A) (q p c : Prefix) (v : V) → IsLawfulTrie old → root old ≡ Some q → IsLeafWith leaf p v → PartsAt c q p
       → (b : Box (ForkNode V A) A) → b.value.prefix ≡ c → b.value.left ≡ old → b.value.right ≡ leaf → IsPut old (Fork b) p v
   part_right old leaf q p c v h e m k b i j o =
       let n = made_fork b c old leaf i j o
@@ -256,7 +256,7 @@ module _ {V A : Type 0} where
 
   -- p is put in on one side of a fork
   pub put_fork_left : (f : Box (ForkNode V A) A) (m : ForkNode V A) (old k : Link V A) (p : Prefix) (v : V) → old ≡ Fork f → m ≡ f.value
-      → IsLawful old → IsChild m.prefix false p → IsPut m.left k p v → (b : Box (ForkNode V A) A) → b.value.prefix ≡ m.prefix
+      → IsLawfulTrie old → IsChild m.prefix false p → IsPut m.left k p v → (b : Box (ForkNode V A) A) → b.value.prefix ≡ m.prefix
       → b.value.left ≡ k → b.value.right ≡ m.right → IsPut old (Fork b) p v
   put_fork_left f m old k p v e g h c i b x y z =
       let n = of_fork f m old e g h.0 in
@@ -266,7 +266,7 @@ module _ {V A : Type 0} where
       put_left old (Fork b) m.prefix None m.left m.right k p v n u.0 u.1 c i
 
   pub put_fork_right : (f : Box (ForkNode V A) A) (m : ForkNode V A) (old k : Link V A) (p : Prefix) (v : V) → old ≡ Fork f → m ≡ f.value
-      → IsLawful old → IsChild m.prefix true p → IsPut m.right k p v → (b : Box (ForkNode V A) A) → b.value.prefix ≡ m.prefix
+      → IsLawfulTrie old → IsChild m.prefix true p → IsPut m.right k p v → (b : Box (ForkNode V A) A) → b.value.prefix ≡ m.prefix
       → b.value.left ≡ m.left → b.value.right ≡ k → IsPut old (Fork b) p v
   put_fork_right f m old k p v e g h c i b x y z =
       let n = of_fork f m old e g h.0 in
@@ -277,7 +277,7 @@ module _ {V A : Type 0} where
 
   -- and of a full node
   pub put_full_left : (f : Box (FullNode V A) A) (m : FullNode V A) (old k : Link V A) (p : Prefix) (v : V) → old ≡ Full f → m ≡ f.value
-      → IsLawful old → IsChild m.prefix false p → IsPut m.left k p v → (b : Box (FullNode V A) A) → b.value.prefix ≡ m.prefix
+      → IsLawfulTrie old → IsChild m.prefix false p → IsPut m.left k p v → (b : Box (FullNode V A) A) → b.value.prefix ≡ m.prefix
       → b.value.value ≡ m.value → b.value.left ≡ k → b.value.right ≡ m.right → IsPut old (Full b) p v
   put_full_left f m old k p v e g h c i b x w y z =
       let n = of_full f m old e g h.0 in
@@ -287,7 +287,7 @@ module _ {V A : Type 0} where
       put_left old (Full b) m.prefix m.value m.left m.right k p v n u.0 u.1 c i
 
   pub put_full_right : (f : Box (FullNode V A) A) (m : FullNode V A) (old k : Link V A) (p : Prefix) (v : V) → old ≡ Full f → m ≡ f.value
-      → IsLawful old → IsChild m.prefix true p → IsPut m.right k p v → (b : Box (FullNode V A) A) → b.value.prefix ≡ m.prefix
+      → IsLawfulTrie old → IsChild m.prefix true p → IsPut m.right k p v → (b : Box (FullNode V A) A) → b.value.prefix ≡ m.prefix
       → b.value.value ≡ m.value → b.value.left ≡ m.left → b.value.right ≡ k → IsPut old (Full b) p v
   put_full_right f m old k p v e g h c i b x w y z =
       let n = of_full f m old e g h.0 in
@@ -298,7 +298,7 @@ module _ {V A : Type 0} where
 
   -- the value of a full node goes in the place of what stood there
   pub put_full_here : (f : Box (FullNode V A) A) (m : FullNode V A) (old : Link V A) (p : Prefix) (v : V) → old ≡ Full f → m ≡ f.value
-      → IsLawful old → p ≡ m.prefix → (b : Box (FullNode V A) A) → b.value.prefix ≡ m.prefix → b.value.value ≡ Some v
+      → IsLawfulTrie old → p ≡ m.prefix → (b : Box (FullNode V A) A) → b.value.prefix ≡ m.prefix → b.value.value ≡ Some v
       → b.value.left ≡ m.left → b.value.right ≡ m.right → IsPut old (Full b) p v
   put_full_here f m old p v e g h i b x w y z =
       let n = of_full f m old e g h.0 in

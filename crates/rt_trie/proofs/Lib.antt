@@ -5,9 +5,11 @@ pub mod InsertLemmas
 pub mod LinkLemmas
 pub mod LongestLemmas
 pub mod MapLaws
+pub mod NodeCountLemmas
 pub mod NodeLemmas
 pub mod OrderLemmas
 pub mod PairLemmas
 pub mod PartLemmas
 pub mod RemoveLemmas
+pub mod StoredLemmas
 pub mod WalkLemmas

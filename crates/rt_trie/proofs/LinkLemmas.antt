@@ -10,11 +10,11 @@ use Rattle.rt_trie.specs.declared.nodes.Link.TheVariants.{Fork, Full}
 use Rattle.rt_trie.specs.declared.nodes.LeafNode.{LeafNode}
 use Rattle.rt_trie.specs.declared.nodes.ForkNode.{ForkNode}
 use Rattle.rt_trie.specs.declared.nodes.FullNode.{FullNode}
-use Rattle.rt_trie.specs.Map.{Pairs, same, get, first, after, before, IsOrdered, IsLongest}
+use Rattle.rt_trie.specs.Map.{Pairs, same_prefix, get, first, next_after, before, IsOrdered, IsLongest}
 use Rattle.rt_trie.specs.Blocks.{IsWithin, IsChild, StandsAt, middle, past}
 use Rattle.rt_trie.specs.declared.nodes.Place.{Place}
 use Rattle.rt_trie.specs.declared.nodes.Place.TheVariants.{Here, Left, Right, Above, Apart}
-use Rattle.rt_trie.specs.Links.{own, pairs, count, root, AreHalves, IsFilled, IsNeeded, IsLawfulBelow, IsLawful, IsForkOf}
+use Rattle.rt_trie.specs.Links.{own_pair, pairs, count, root, AreHalves, IsFilled, IsNeeded, IsLawfulBelow, IsLawfulTrie, IsForkOf}
 use Rattle.rt_trie.proofs.OrderLemmas.{same_rank, same_tells, rank_of_before, rank_of_not_before}
 use Rattle.rt_trie.proofs.BlockLemmas.{size_pos}
 use Rattle.rt_trie.proofs.NodeLemmas.{AreSides, get-lower, get-upper, get-here, get-past, IsOrdered-node, cover-lower, cover-upper, cover-none, after-lower, after-upper, after-all, after-past}
@@ -46,7 +46,7 @@ module _ {V : Type 0} where
   -- and so with the prefix's own pair
   pub node_within : (lo hi len : ℕ) (q : Prefix) (v : Option V) (xs ys : Pairs V) → IsWithin lo hi len q
       → AllWithin q.base (middle q) (q.len + 1) xs → AllWithin (middle q) (past q) (q.len + 1) ys
-      → AllWithin lo hi len (own q v ++ (xs ++ ys))
+      → AllWithin lo hi len (own_pair q v ++ (xs ++ ys))
   node_within lo hi len q None xs ys h l r = halves_within lo hi len q xs ys h l r
   node_within lo hi len q (Some v) xs ys h l r = (h, halves_within lo hi len q xs ys h l r)
 
@@ -69,12 +69,12 @@ module _ {V A : Type 0} where
 
 -- the link holds a node of this prefix, value and sides, and what stands below it is lawful
 pub record IsNode {V A : Type 0} (link : Link V A) (q : Prefix) (v : Option V) (left right : Link V A) : Type 0 where
-  pub pairs_are : pairs link ≡ own q v ++ (pairs left ++ pairs right)
+  pub pairs_are : pairs link ≡ own_pair q v ++ (pairs left ++ pairs right)
   pub root_is : root link ≡ Some q
   pub count_is : count link ≡ count left + count right + 1
   pub halves : AreHalves q left right
-  pub left_lawful : IsLawful left
-  pub right_lawful : IsLawful right
+  pub left_lawful : IsLawfulTrie left
+  pub right_lawful : IsLawfulTrie right
 
 module _ {V A : Type 0} where
   of_fork_at : (b : Box (ForkNode V A) A) → IsLawfulBelow (Fork b) → IsNode (Fork b) b.value.prefix None b.value.left b.value.right
@@ -110,12 +110,12 @@ module _ {V A : Type 0} where
       ap (λ m. get m p) n.pairs_are ∙ get-upper q v (pairs left) (pairs right) (sides_of link q v left right n) p h k
 
   pub node_get-here : (link : Link V A) (q : Prefix) (v : Option V) (left right : Link V A) (n : IsNode link q v left right) (p : Prefix)
-      → p.len ≤ q.len → same q p ≡ true → get (pairs link) p ≡ v
+      → p.len ≤ q.len → same_prefix q p ≡ true → get (pairs link) p ≡ v
   node_get-here link q v left right n p h k =
       ap (λ m. get m p) n.pairs_are ∙ get-here q v (pairs left) (pairs right) (sides_of link q v left right n) p h k
 
   pub node_get-past : (link : Link V A) (q : Prefix) (v : Option V) (left right : Link V A) (n : IsNode link q v left right) (p : Prefix)
-      → p.len ≤ q.len → same q p ≡ false → get (pairs link) p ≡ None
+      → p.len ≤ q.len → same_prefix q p ≡ false → get (pairs link) p ≡ None
   node_get-past link q v left right n p h k =
       ap (λ m. get m p) n.pairs_are ∙ get-past q v (pairs left) (pairs right) (sides_of link q v left right n) p h k
 
@@ -145,12 +145,12 @@ module _ {V A : Type 0} where
 
   -- the longest match is looked for on one side, with the node's own pair to fall back on
   pub node_cover-lower : (link : Link V A) (q : Prefix) (v : Option V) (left right : Link V A) (n : IsNode link q v left right) (a : Addr)
-      → a.0 < middle q → last_cover (pairs link) a ≡ or_else (last_cover (pairs left) a) (last_cover (own q v) a)
+      → a.0 < middle q → last_cover (pairs link) a ≡ or_else (last_cover (pairs left) a) (last_cover (own_pair q v) a)
   node_cover-lower link q v left right n a h =
       ap (λ m. last_cover m a) n.pairs_are ∙ cover-lower q v (pairs left) (pairs right) (sides_of link q v left right n) a h
 
   pub node_cover-upper : (link : Link V A) (q : Prefix) (v : Option V) (left right : Link V A) (n : IsNode link q v left right) (a : Addr)
-      → middle q ≤ a.0 → last_cover (pairs link) a ≡ or_else (last_cover (pairs right) a) (last_cover (own q v) a)
+      → middle q ≤ a.0 → last_cover (pairs link) a ≡ or_else (last_cover (pairs right) a) (last_cover (own_pair q v) a)
   node_cover-upper link q v left right n a h =
       ap (λ m. last_cover m a) n.pairs_are ∙ cover-upper q v (pairs left) (pairs right) (sides_of link q v left right n) a h
 
@@ -162,17 +162,17 @@ module _ {V A : Type 0} where
   -- one step down keeps the answer: it is below the new link, or else the node's own pair, or else the best before
   pub step_lower : (link : Link V A) (q : Prefix) (v : Option V) (left right : Link V A) (n : IsNode link q v left right) (a : Addr)
       (o best : Option (Prefix × V)) → o ≡ or_else (last_cover (pairs link) a) best → a.0 < middle q
-      → o ≡ or_else (last_cover (pairs left) a) (or_else (last_cover (own q v) a) best)
+      → o ≡ or_else (last_cover (pairs left) a) (or_else (last_cover (own_pair q v) a) best)
   step_lower link q v left right n a o best e h =
       e ∙ ap (λ x. or_else x best) (node_cover-lower link q v left right n a h)
-      ∙ or_assoc (last_cover (pairs left) a) (last_cover (own q v) a) best
+      ∙ or_assoc (last_cover (pairs left) a) (last_cover (own_pair q v) a) best
 
   pub step_upper : (link : Link V A) (q : Prefix) (v : Option V) (left right : Link V A) (n : IsNode link q v left right) (a : Addr)
       (o best : Option (Prefix × V)) → o ≡ or_else (last_cover (pairs link) a) best → middle q ≤ a.0
-      → o ≡ or_else (last_cover (pairs right) a) (or_else (last_cover (own q v) a) best)
+      → o ≡ or_else (last_cover (pairs right) a) (or_else (last_cover (own_pair q v) a) best)
   step_upper link q v left right n a o best e h =
       e ∙ ap (λ x. or_else x best) (node_cover-upper link q v left right n a h)
-      ∙ or_assoc (last_cover (pairs right) a) (last_cover (own q v) a) best
+      ∙ or_assoc (last_cover (pairs right) a) (last_cover (own_pair q v) a) best
 
   -- where the node does not cover the address, the best so far is the answer
   pub step_none : (link : Link V A) (q : Prefix) (v : Option V) (left right : Link V A) (n : IsNode link q v left right) (a : Addr)
@@ -187,7 +187,7 @@ module _ {V A : Type 0} where
 
   -- the pairs of a leaf
   pub of_leaf : (b : Box (LeafNode V) A) (n : LeafNode V) (link : Link V A) → link ≡ Leaf b → n ≡ b.value
-      → pairs link ≡ own n.prefix (Some n.value)
+      → pairs link ≡ own_pair n.prefix (Some n.value)
   of_leaf b n link e f = rw (e, f) refl
 
   pub of_empty : (link : Link V A) → link ≡ Empty → pairs link ≡ []
@@ -206,7 +206,7 @@ module _ {V A : Type 0} where
       rw v at j
 
   -- a lawful link that holds a node has a first pair
-  pub filled_first : (link : Link V A) → IsLawful link → IsFilled link → (p : Prefix) × (first (pairs link) ≡ Some p)
+  pub filled_first : (link : Link V A) → IsLawfulTrie link → IsFilled link → (p : Prefix) × (first (pairs link) ≡ Some p)
   filled_first Empty h f = absurd (false≢true f)
   filled_first (Leaf b) h f = (b.value.prefix, refl)
   filled_first (Fork' p q left right) h f =
@@ -231,9 +231,9 @@ none_of (Some x) h = absurd (false≢true h)
 module _ {V A : Type 0} where
   -- the least prefix after p, by where p stands as seen from the node
   pub node_after-lower : (link : Link V A) (q : Prefix) (v : Option V) (left right : Link V A) (n : IsNode link q v left right) (p : Prefix)
-      (r : Place) → StandsAt q p r → (r ≡ Here) ⊎ (r ≡ Left) → after (pairs link) p ≡ or_else (after (pairs left) p) (first (pairs right))
+      (r : Place) → StandsAt q p r → (r ≡ Here) ⊎ (r ≡ Left) → next_after (pairs link) p ≡ or_else (next_after (pairs left) p) (first (pairs right))
   node_after-lower link q v left right n p r s e =
-      ap (λ m. after m p) n.pairs_are
+      ap (λ m. next_after m p) n.pairs_are
       ∙ elim e [
         | inl h ↦ let i : p ≡ q = subst (StandsAt q p) h s in here i
         | inr h ↦ let w : IsWithin q.base (middle q) (q.len + 1) p = subst (StandsAt q p) h s in
@@ -242,27 +242,27 @@ module _ {V A : Type 0} where
             (λ y k. let u = p.is_prefix.short in omega (arith, w.to, k.from, size_pos p.len))
       ]
     where
-      here : p ≡ q → after (own q v ++ (pairs left ++ pairs right)) p ≡ or_else (after (pairs left) p) (first (pairs right))
+      here : p ≡ q → next_after (own_pair q v ++ (pairs left ++ pairs right)) p ≡ or_else (next_after (pairs left) p) (first (pairs right))
       here i = rw i (after-lower q v (pairs left) (pairs right) (sides_of link q v left right n) q (omega arith)
           (λ y k. omega (arith, k.long, k.from)))
 
   pub node_after-upper : (link : Link V A) (q : Prefix) (v : Option V) (left right : Link V A) (n : IsNode link q v left right) (p : Prefix)
-      (r : Place) → StandsAt q p r → r ≡ Right → after (pairs link) p ≡ after (pairs right) p
+      (r : Place) → StandsAt q p r → r ≡ Right → next_after (pairs link) p ≡ next_after (pairs right) p
   node_after-upper link q v left right n p r s h =
       let w : IsWithin (middle q) (past q) (q.len + 1) p = subst (StandsAt q p) h s in
-      ap (λ m. after m p) n.pairs_are
+      ap (λ m. next_after m p) n.pairs_are
       ∙ after-upper q v (pairs left) (pairs right) (sides_of link q v left right n) p (omega (arith, w.from, w.long)) w.from
 
   pub node_after-all : (link : Link V A) (q : Prefix) (v : Option V) (left right : Link V A) (n : IsNode link q v left right) (p : Prefix)
-      → before p q ≡ true → after (pairs link) p ≡ first (pairs link)
+      → before p q ≡ true → next_after (pairs link) p ≡ first (pairs link)
   node_after-all link q v left right n p h =
-      ap (λ m. after m p) n.pairs_are
+      ap (λ m. next_after m p) n.pairs_are
       ∙ after-all q v (pairs left) (pairs right) (sides_of link q v left right n) p (rank_of_before p q h) ∙ sym (ap first n.pairs_are)
 
   pub node_after-none : (link : Link V A) (q : Prefix) (v : Option V) (left right : Link V A) (n : IsNode link q v left right) (p : Prefix)
-      (r : Place) → StandsAt q p r → (r ≡ Above) ⊎ (r ≡ Apart) → before p q ≡ false → after (pairs link) p ≡ None
+      (r : Place) → StandsAt q p r → (r ≡ Above) ⊎ (r ≡ Apart) → before p q ≡ false → next_after (pairs link) p ≡ None
   node_after-none link q v left right n p r s e h =
-      ap (λ m. after m p) n.pairs_are
+      ap (λ m. next_after m p) n.pairs_are
       ∙ after-past q v (pairs left) (pairs right) (sides_of link q v left right n) p (elim e [
         | inl i ↦ let w : IsWithin p.base (past p) (p.len + 1) q = subst (StandsAt q p) i s in
             absurd (omega (arith, rank_of_not_before p q h, w.from, w.long))
@@ -283,7 +283,7 @@ on_ok (Ok x) P Q f h = f h
 on_ok (Err e) P Q f h = h
 
 -- nothing is stored at a fork
-pub fork_absent : {V A : Type 0} (link : Link V A) (p : Prefix) → IsLawful link → IsForkOf p link → get (pairs link) p ≡ None
+pub fork_absent : {V A : Type 0} (link : Link V A) (p : Prefix) → IsLawfulTrie link → IsForkOf p link → get (pairs link) p ≡ None
 fork_absent Empty p h f = refl
 fork_absent (Leaf b) p h f = absurd f
 fork_absent (Fork' q prefix left right) p h f =
@@ -300,23 +300,23 @@ fork_absent (Full' q prefix v left right) p h f = absurd f
 
 module _ {V A : Type 0} where
   -- what stands at a prefix on one side of a node stands there in that side's link
-  pub fork_get-left : (b : Box (ForkNode V A) A) (n : ForkNode V A) (link : Link V A) (p : Prefix) → link ≡ Fork b → n ≡ b.value → IsLawful link
+  pub fork_get-left : (b : Box (ForkNode V A) A) (n : ForkNode V A) (link : Link V A) (p : Prefix) → link ≡ Fork b → n ≡ b.value → IsLawfulTrie link
       → IsChild n.prefix false p → get (pairs link) p ≡ get (pairs n.left) p
   fork_get-left b n link p e f h c = node_get-lower _ _ _ _ _ (of_fork b n link e f h.0) p (omega (arith, c.long)) (omega (arith, c.to, size_pos p.len))
 
-  pub fork_get-right : (b : Box (ForkNode V A) A) (n : ForkNode V A) (link : Link V A) (p : Prefix) → link ≡ Fork b → n ≡ b.value → IsLawful link
+  pub fork_get-right : (b : Box (ForkNode V A) A) (n : ForkNode V A) (link : Link V A) (p : Prefix) → link ≡ Fork b → n ≡ b.value → IsLawfulTrie link
       → IsChild n.prefix true p → get (pairs link) p ≡ get (pairs n.right) p
   fork_get-right b n link p e f h c = node_get-upper _ _ _ _ _ (of_fork b n link e f h.0) p (omega (arith, c.long)) c.from
 
-  pub full_get-left : (b : Box (FullNode V A) A) (n : FullNode V A) (link : Link V A) (p : Prefix) → link ≡ Full b → n ≡ b.value → IsLawful link
+  pub full_get-left : (b : Box (FullNode V A) A) (n : FullNode V A) (link : Link V A) (p : Prefix) → link ≡ Full b → n ≡ b.value → IsLawfulTrie link
       → IsChild n.prefix false p → get (pairs link) p ≡ get (pairs n.left) p
   full_get-left b n link p e f h c = node_get-lower _ _ _ _ _ (of_full b n link e f h.0) p (omega (arith, c.long)) (omega (arith, c.to, size_pos p.len))
 
-  pub full_get-right : (b : Box (FullNode V A) A) (n : FullNode V A) (link : Link V A) (p : Prefix) → link ≡ Full b → n ≡ b.value → IsLawful link
+  pub full_get-right : (b : Box (FullNode V A) A) (n : FullNode V A) (link : Link V A) (p : Prefix) → link ≡ Full b → n ≡ b.value → IsLawfulTrie link
       → IsChild n.prefix true p → get (pairs link) p ≡ get (pairs n.right) p
   full_get-right b n link p e f h c = node_get-upper _ _ _ _ _ (of_full b n link e f h.0) p (omega (arith, c.long)) c.from
 
-  pub full_get-here : (b : Box (FullNode V A) A) (n : FullNode V A) (link : Link V A) (p : Prefix) → link ≡ Full b → n ≡ b.value → IsLawful link
+  pub full_get-here : (b : Box (FullNode V A) A) (n : FullNode V A) (link : Link V A) (p : Prefix) → link ≡ Full b → n ≡ b.value → IsLawfulTrie link
       → p ≡ n.prefix → get (pairs link) p ≡ n.value
   full_get-here b n link p e f h i =
       node_get-here _ _ _ _ _ (of_full b n link e f h.0) p (omega (arith, ap (λ (x : Prefix). x.len) i))

@@ -1,13 +1,13 @@
 -- What a look-up finds after a change, and that a change keeps the order.
 use Rattle.std.proofs.Common.{◌≡◌, true, cond, [], ◌∷◌, Some, None, inl, inr, refl, sym, ◌∙◌, arith}
 use Rattle.rt_cidr.specs.declared.prefixes.Prefix.{Prefix}
-use Rattle.rt_trie.specs.Map.{Pairs, same, before, get, put, erase, IsBeforeAll, IsOrdered}
+use Rattle.rt_trie.specs.Map.{Pairs, same_prefix, before, get, put, erase, IsBeforeAll, IsOrdered}
 use Rattle.rt_trie.proofs.OrderLemmas.{same_tells, before_tells, same_rank, other_rank, lower_rank, rank_of_before}
 use Rattle.rt_trie.proofs.PairLemmas.{AllKeys-map, IsOther, IsOther-higher, IsHigher, get-none}
 use Rattle.rt_trie.proofs.CountLemmas.{AllKeys-higher}
 
 -- what is one with a prefix is one with the same others
-same_as : (x p q : Prefix) → x.base ≡ p.base → x.len ≡ p.len → same x q ≡ same p q
+same_as : (x p q : Prefix) → x.base ≡ p.base → x.len ≡ p.len → same_prefix x q ≡ same_prefix p q
 same_as x p q b l = elim (same_tells p q) [
   | inl h ↦ same_rank x q (omega arith) (omega arith) ∙ sym h.0
   | inr h ↦ other_rank x q (λ e. h.1 (omega arith)) ∙ sym h.0
@@ -15,7 +15,7 @@ same_as x p q b l = elim (same_tells p q) [
 
 module _ {V : Type 0} where
   -- after v was put in at p, it stands at p, and elsewhere what stood there
-  pub get-put : (m : Pairs V) (p : Prefix) (v : V) (q : Prefix) → get (put m p v) q ≡ cond (same p q) (Some v) (get m q)
+  pub get-put : (m : Pairs V) (p : Prefix) (v : V) (q : Prefix) → get (put m p v) q ≡ cond (same_prefix p q) (Some v) (get m q)
   get-put [] p v q = refl
   get-put ((x, w) ∷ m) p v q = elim (before_tells p x) [
     | inl b ↦ rw b.0 refl
@@ -29,7 +29,7 @@ module _ {V : Type 0} where
   ]
 
   -- after p was taken out, nothing stands at p, and elsewhere what stood there
-  pub get-erase : (m : Pairs V) (p q : Prefix) → IsOrdered m → get (erase m p) q ≡ cond (same p q) None (get m q)
+  pub get-erase : (m : Pairs V) (p q : Prefix) → IsOrdered m → get (erase m p) q ≡ cond (same_prefix p q) None (get m q)
   get-erase [] p q o = elim (same_tells p q) [ inl t ↦ rw t.0 refl | inr t ↦ rw t.0 refl ]
   get-erase ((x, w) ∷ m) p q o = elim (same_tells x p) [
     | inl s ↦ rw (s.0, same_as x p q s.1 s.2) (elim (same_tells p q) [

@@ -3,9 +3,9 @@ use Rattle.std.proofs.Common.{◌≡◌, ◌≢◌, ℕ, ◌+◌, ◌<◌, ◌�
 use Rattle.rt_cidr.specs.declared.prefixes.Prefix.{Prefix}
 use Rattle.rt_cidr.specs.declared.address.Addr.{Addr}
 use Rattle.rt_cidr.specs.Prefix.{covers}
-use Rattle.rt_trie.specs.Map.{Pairs, same, get, first, after, IsBeforeAll, IsOrdered}
+use Rattle.rt_trie.specs.Map.{Pairs, same_prefix, get, first, next_after, IsBeforeAll, IsOrdered}
 use Rattle.rt_trie.specs.Blocks.{IsWithin, middle, past}
-use Rattle.rt_trie.specs.Links.{own}
+use Rattle.rt_trie.specs.Links.{own_pair}
 use Rattle.rt_trie.proofs.OrderLemmas.{rank, lower_rank, other_rank}
 use Rattle.rt_trie.proofs.BlockLemmas.{size_pos, covers_tells, outside_of_covers}
 use Rattle.rt_trie.proofs.PairLemmas.{AllKeys, AllKeys-append, AllKeys-map, IsOther, IsLower, IsHigher, IsOther-lower, IsOther-higher, get-skip, get-none, get-front, after-append, after-skip, after-none, after-first, or_else, or_none, last_cover, last_cover-none, last_cover-append}
@@ -68,40 +68,40 @@ module _ {V : Type 0} (q : Prefix) (v : Option V) (xs ys : Pairs V) (sides : Are
   lower_lower p h = AllKeys-map (λ x. x.base < middle q) (IsLower p) xs (λ x k. let s = x.is_prefix.short in omega arith) lower_below
 
   -- the node's own pair, before what is longer
-  pub own_lower : (p : Prefix) → q.base ≤ p.base → q.len < p.len → AllKeys (IsLower p) (own q v)
-  own_lower p h k = elim v as (λ o. AllKeys (IsLower p) (own q o)) [ None ↦ tt | Some w ↦ (omega arith, tt) ]
+  pub own_lower : (p : Prefix) → q.base ≤ p.base → q.len < p.len → AllKeys (IsLower p) (own_pair q v)
+  own_lower p h k = elim v as (λ o. AllKeys (IsLower p) (own_pair q o)) [ None ↦ tt | Some w ↦ (omega arith, tt) ]
 
-  pub own_other : (p : Prefix) → q.len < p.len → AllKeys (IsOther p) (own q v)
-  own_other p k = elim v as (λ o. AllKeys (IsOther p) (own q o)) [ None ↦ tt | Some w ↦ (IsOther-len p q (omega arith), tt) ]
+  pub own_other : (p : Prefix) → q.len < p.len → AllKeys (IsOther p) (own_pair q v)
+  own_other p k = elim v as (λ o. AllKeys (IsOther p) (own_pair q o)) [ None ↦ tt | Some w ↦ (IsOther-len p q (omega arith), tt) ]
 
   -- the pairs are in order where those of both sides are
-  pub IsOrdered-node : IsOrdered xs → IsOrdered ys → IsOrdered (own q v ++ (xs ++ ys))
+  pub IsOrdered-node : IsOrdered xs → IsOrdered ys → IsOrdered (own_pair q v ++ (xs ++ ys))
   IsOrdered-node h k =
       let o = IsOrdered-append (middle q) xs ys h lower_below k upper_from in
-      elim v as (λ w. IsOrdered (own q w ++ (xs ++ ys))) [ None ↦ o | Some w ↦ (IsBeforeAll-higher q (xs ++ ys) sides_higher, o) ]
+      elim v as (λ w. IsOrdered (own_pair q w ++ (xs ++ ys))) [ None ↦ o | Some w ↦ (IsBeforeAll-higher q (xs ++ ys) sides_higher, o) ]
 
   -- the look-up
 
-  pub get-lower : (p : Prefix) → q.len < p.len → p.base < middle q → get (own q v ++ (xs ++ ys)) p ≡ get xs p
+  pub get-lower : (p : Prefix) → q.len < p.len → p.base < middle q → get (own_pair q v ++ (xs ++ ys)) p ≡ get xs p
   get-lower p h k =
-      get-skip (own q v) (xs ++ ys) p (own_other p h)
+      get-skip (own_pair q v) (xs ++ ys) p (own_other p h)
       ∙ get-front xs ys p (AllKeys-map (IsHigher p) (IsOther p) ys (λ x. IsOther-higher p x) (upper_higher p k))
 
-  pub get-upper : (p : Prefix) → q.len < p.len → middle q ≤ p.base → get (own q v ++ (xs ++ ys)) p ≡ get ys p
+  pub get-upper : (p : Prefix) → q.len < p.len → middle q ≤ p.base → get (own_pair q v ++ (xs ++ ys)) p ≡ get ys p
   get-upper p h k =
-      get-skip (own q v) (xs ++ ys) p (own_other p h)
+      get-skip (own_pair q v) (xs ++ ys) p (own_other p h)
       ∙ get-skip xs ys p (AllKeys-map (IsLower p) (IsOther p) xs (λ x. IsOther-lower p x) (lower_lower p k))
 
   pub rest_other : (p : Prefix) → p.len ≤ q.len → AllKeys (IsOther p) (xs ++ ys)
   rest_other p h = AllKeys-map (λ x. q.len < x.len) (IsOther p) (xs ++ ys) (λ x k. IsOther-len p x (omega arith)) sides_longer
 
-  pub get-here : (p : Prefix) → p.len ≤ q.len → same q p ≡ true → get (own q v ++ (xs ++ ys)) p ≡ v
-  get-here p h e = elim v as (λ o. get (own q o ++ (xs ++ ys)) p ≡ o) [ None ↦ get-none (xs ++ ys) p (rest_other p h) | Some w ↦ rw e refl ]
+  pub get-here : (p : Prefix) → p.len ≤ q.len → same_prefix q p ≡ true → get (own_pair q v ++ (xs ++ ys)) p ≡ v
+  get-here p h e = elim v as (λ o. get (own_pair q o ++ (xs ++ ys)) p ≡ o) [ None ↦ get-none (xs ++ ys) p (rest_other p h) | Some w ↦ rw e refl ]
 
-  pub get-past : (p : Prefix) → p.len ≤ q.len → same q p ≡ false → get (own q v ++ (xs ++ ys)) p ≡ None
+  pub get-past : (p : Prefix) → p.len ≤ q.len → same_prefix q p ≡ false → get (own_pair q v ++ (xs ++ ys)) p ≡ None
   get-past p h e =
       let n = get-none (xs ++ ys) p (rest_other p h) in
-      elim v as (λ o. get (own q o ++ (xs ++ ys)) p ≡ None) [ None ↦ n | Some w ↦ rw e n ]
+      elim v as (λ o. get (own_pair q o ++ (xs ++ ys)) p ≡ None) [ None ↦ n | Some w ↦ rw e n ]
 
 -- what lies within a block covers no address outside it
 pub covers-outside : (lo hi len : ℕ) (x : Prefix) (a : Addr) → (a.0 < lo) ⊎ (hi ≤ a.0) → IsWithin lo hi len x → covers x a ≡ false
@@ -112,25 +112,25 @@ covers-outside lo hi len x a o w = elim (covers_tells x a) [
 
 module _ {V : Type 0} (q : Prefix) (v : Option V) (xs ys : Pairs V) (sides : AreSides q xs ys) (a : Addr) where
   -- the longest match is in the half where the address lies, or the node's own pair
-  pub cover-lower : a.0 < middle q → last_cover (own q v ++ (xs ++ ys)) a ≡ or_else (last_cover xs a) (last_cover (own q v) a)
+  pub cover-lower : a.0 < middle q → last_cover (own_pair q v ++ (xs ++ ys)) a ≡ or_else (last_cover xs a) (last_cover (own_pair q v) a)
   cover-lower h =
       let none : last_cover ys a ≡ None =
       last_cover-none ys a (AllKeys-map (IsWithin (middle q) (past q) (q.len + 1)) (λ x. covers x a ≡ false) ys
       (λ x w. covers-outside (middle q) (past q) (q.len + 1) x a (inl h) w) sides.upper) in
-      last_cover-append (own q v) (xs ++ ys) a
-      ∙ ap (λ o. or_else o (last_cover (own q v) a)) (last_cover-append xs ys a ∙ ap (λ o. or_else o (last_cover xs a)) none)
+      last_cover-append (own_pair q v) (xs ++ ys) a
+      ∙ ap (λ o. or_else o (last_cover (own_pair q v) a)) (last_cover-append xs ys a ∙ ap (λ o. or_else o (last_cover xs a)) none)
 
-  pub cover-upper : middle q ≤ a.0 → last_cover (own q v ++ (xs ++ ys)) a ≡ or_else (last_cover ys a) (last_cover (own q v) a)
+  pub cover-upper : middle q ≤ a.0 → last_cover (own_pair q v ++ (xs ++ ys)) a ≡ or_else (last_cover ys a) (last_cover (own_pair q v) a)
   cover-upper h =
       let none : last_cover xs a ≡ None =
       last_cover-none xs a (AllKeys-map (IsWithin q.base (middle q) (q.len + 1)) (λ x. covers x a ≡ false) xs
       (λ x w. covers-outside q.base (middle q) (q.len + 1) x a (inr h) w) sides.lower) in
-      last_cover-append (own q v) (xs ++ ys) a
-      ∙ ap (λ o. or_else o (last_cover (own q v) a))
+      last_cover-append (own_pair q v) (xs ++ ys) a
+      ∙ ap (λ o. or_else o (last_cover (own_pair q v) a))
       (last_cover-append xs ys a ∙ ap (λ o. or_else (last_cover ys a) o) none ∙ or_none (last_cover ys a))
 
   -- nothing below a prefix covers an address that the prefix does not
-  pub cover-none : covers q a ≡ false → last_cover (own q v ++ (xs ++ ys)) a ≡ None
+  pub cover-none : covers q a ≡ false → last_cover (own_pair q v ++ (xs ++ ys)) a ≡ None
   cover-none h =
       let o = outside_of_covers q a h in
       let rest : AllKeys (λ x. covers x a ≡ false) (xs ++ ys) =
@@ -141,52 +141,52 @@ module _ {V : Type 0} (q : Prefix) (v : Option V) (xs ys : Pairs V) (sides : Are
       (AllKeys-map (IsWithin (middle q) (past q) (q.len + 1)) (λ x. covers x a ≡ false) ys
       (λ x w. covers-outside q.base (past q) (q.len + 1) x a o
       (record { long = w.long; from = omega (arith, w.from); to = w.to })) sides.upper) in
-      elim v as (λ w. last_cover (own q w ++ (xs ++ ys)) a ≡ None) [
+      elim v as (λ w. last_cover (own_pair q w ++ (xs ++ ys)) a ≡ None) [
         | None ↦ last_cover-none (xs ++ ys) a rest
         | Some w ↦ rw (last_cover-none (xs ++ ys) a rest, h) refl
       ]
 
 -- what a node adds to the best pair so far, at an address that it covers
 pub best_stored : {V : Type 0} (q : Prefix) (v : Option V) (w : V) (a : Addr) (best : Option (Prefix × V)) → v ≡ Some w → covers q a ≡ true
-    → or_else (last_cover (own q v) a) best ≡ Some (q, w)
+    → or_else (last_cover (own_pair q v) a) best ≡ Some (q, w)
 best_stored q v w a best e h = rw (e, h) refl
 
 pub best_unstored : {V : Type 0} (q : Prefix) (v : Option V) (a : Addr) (best : Option (Prefix × V)) → v ≡ None
-    → or_else (last_cover (own q v) a) best ≡ best
+    → or_else (last_cover (own_pair q v) a) best ≡ best
 best_unstored q v a best e = rw e refl
 
 module _ {V : Type 0} (q : Prefix) (v : Option V) (xs ys : Pairs V) (sides : AreSides q xs ys) (p : Prefix) where
-  own_until : rank q ≤ rank p → AllKeys (λ x. rank x ≤ rank p) (own q v)
-  own_until h = elim v as (λ o. AllKeys (λ x. rank x ≤ rank p) (own q o)) [ None ↦ tt | Some w ↦ (h, tt) ]
+  own_until : rank q ≤ rank p → AllKeys (λ x. rank x ≤ rank p) (own_pair q v)
+  own_until h = elim v as (λ o. AllKeys (λ x. rank x ≤ rank p) (own_pair q o)) [ None ↦ tt | Some w ↦ (h, tt) ]
 
   -- what comes after p is on the left, or else the first on the right, where p is not above the node nor in its upper half
   pub after-lower : rank q ≤ rank p → ((y : Prefix) → IsWithin (middle q) (past q) (q.len + 1) y → rank p < rank y)
-      → after (own q v ++ (xs ++ ys)) p ≡ or_else (after xs p) (first ys)
+      → next_after (own_pair q v ++ (xs ++ ys)) p ≡ or_else (next_after xs p) (first ys)
   after-lower h k =
-      after-skip (own q v) (xs ++ ys) p (own_until h) ∙ after-append xs ys p
-      ∙ ap (λ o. or_else (after xs p) o)
+      after-skip (own_pair q v) (xs ++ ys) p (own_until h) ∙ after-append xs ys p
+      ∙ ap (λ o. or_else (next_after xs p) o)
       (after-first ys p (AllKeys-map (IsWithin (middle q) (past q) (q.len + 1)) (IsHigher p) ys k sides.upper))
 
   -- it is on the right, where p is in the upper half
-  pub after-upper : rank q ≤ rank p → middle q ≤ p.base → after (own q v ++ (xs ++ ys)) p ≡ after ys p
+  pub after-upper : rank q ≤ rank p → middle q ≤ p.base → next_after (own_pair q v ++ (xs ++ ys)) p ≡ next_after ys p
   after-upper h k =
-      after-skip (own q v) (xs ++ ys) p (own_until h)
+      after-skip (own_pair q v) (xs ++ ys) p (own_until h)
       ∙ after-skip xs ys p (AllKeys-map (IsLower p) (λ x. rank x ≤ rank p) xs (λ x l. omega arith) (lower_lower q v xs ys sides p k))
 
   -- it is the first of all, where p comes before the node
-  pub after-all : rank p < rank q → after (own q v ++ (xs ++ ys)) p ≡ first (own q v ++ (xs ++ ys))
+  pub after-all : rank p < rank q → next_after (own_pair q v ++ (xs ++ ys)) p ≡ first (own_pair q v ++ (xs ++ ys))
   after-all h =
-      after-first (own q v ++ (xs ++ ys)) p
-      (AllKeys-append (IsHigher p) (own q v) (xs ++ ys)
-      (elim v as (λ o. AllKeys (IsHigher p) (own q o)) [ None ↦ tt | Some w ↦ (h, tt) ])
+      after-first (own_pair q v ++ (xs ++ ys)) p
+      (AllKeys-append (IsHigher p) (own_pair q v) (xs ++ ys)
+      (elim v as (λ o. AllKeys (IsHigher p) (own_pair q o)) [ None ↦ tt | Some w ↦ (h, tt) ])
       (AllKeys-map (IsHigher q) (IsHigher p) (xs ++ ys) (λ x l. omega arith) (sides_higher q v xs ys sides)))
 
   -- there is none, where p lies past the node
-  pub after-past : past q ≤ p.base → after (own q v ++ (xs ++ ys)) p ≡ None
+  pub after-past : past q ≤ p.base → next_after (own_pair q v ++ (xs ++ ys)) p ≡ None
   after-past h =
       let s = p.is_prefix.short in
-      after-none (own q v ++ (xs ++ ys)) p
-      (AllKeys-append (λ x. rank x ≤ rank p) (own q v) (xs ++ ys)
+      after-none (own_pair q v ++ (xs ++ ys)) p
+      (AllKeys-append (λ x. rank x ≤ rank p) (own_pair q v) (xs ++ ys)
       (own_until (let t = q.is_prefix.short in omega (arith, size_pos q.len)))
       (AllKeys-append (λ x. rank x ≤ rank p) xs ys
       (AllKeys-map (IsWithin q.base (middle q) (q.len + 1)) (λ x. rank x ≤ rank p) xs

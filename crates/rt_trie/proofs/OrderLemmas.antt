@@ -5,7 +5,7 @@ use Rattle.std.proofs.lemmas.Bool.Decides.{eqb_tells, leb_tells}
 use Rattle.rt_cidr.specs.declared.prefixes.Prefix.{Prefix}
 use Rattle.std.specs.Ordering.{partial_lt}
 use Rattle.rt_cidr.specs.contracts.prefixes.PrefixPartialOrd.TheImpl as order
-use Rattle.rt_trie.specs.Map.{same, before}
+use Rattle.rt_trie.specs.Map.{same_prefix, before}
 
 -- base and length as one number
 abbrev pub rank : Prefix → ℕ
@@ -13,7 +13,7 @@ rank p = 64 * p.base + p.len
 
 -- two prefixes are the same exactly where base and length are
 pub same_tells : (p q : Prefix)
-    → ((same p q ≡ true) × (p.base ≡ q.base) × (p.len ≡ q.len)) ⊎ ((same p q ≡ false) × (rank p ≢ rank q))
+    → ((same_prefix p q ≡ true) × (p.base ≡ q.base) × (p.len ≡ q.len)) ⊎ ((same_prefix p q ≡ false) × (rank p ≢ rank q))
 same_tells p q =
     let s = p.is_prefix.short in
     let t = q.is_prefix.short in
@@ -42,10 +42,10 @@ before_tells p q =
       ]
     ]
 
-pub same_rank : (p q : Prefix) → p.base ≡ q.base → p.len ≡ q.len → same p q ≡ true
+pub same_rank : (p q : Prefix) → p.base ≡ q.base → p.len ≡ q.len → same_prefix p q ≡ true
 same_rank p q b l = elim (same_tells p q) [ inl h ↦ h.0 | inr h ↦ absurd (h.1 (omega arith)) ]
 
-pub other_rank : (p q : Prefix) → rank p ≢ rank q → same p q ≡ false
+pub other_rank : (p q : Prefix) → rank p ≢ rank q → same_prefix p q ≡ false
 other_rank p q n = elim (same_tells p q) [ inl h ↦ absurd (n (omega arith)) | inr h ↦ h.0 ]
 
 pub lower_rank : (p q : Prefix) → rank p < rank q → before p q ≡ true

@@ -3,7 +3,7 @@ use Rattle.std.proofs.Common.{◌≡◌, ◌<◌, ◌≤◌, false, cond, [], �
 use Rattle.rt_cidr.specs.declared.prefixes.Prefix.{Prefix}
 use Rattle.rt_cidr.specs.declared.address.Addr.{Addr}
 use Rattle.rt_cidr.specs.Prefix.{covers}
-use Rattle.rt_trie.specs.Map.{Pairs, same, get, put, erase, first, after}
+use Rattle.rt_trie.specs.Map.{Pairs, same_prefix, get, put, erase, first, next_after}
 use Rattle.rt_trie.proofs.OrderLemmas.{rank, same_tells, before_tells, same_rank, other_rank, lower_rank, higher_rank}
 
 -- every prefix of the list meets P
@@ -21,7 +21,7 @@ AllKeys-map P Q ((q, v) ∷ xs) f h = (f q h.0, AllKeys-map P Q xs f h.1)
 
 -- what stands for another prefix than p, before p, or after p
 abbrev pub IsOther : Prefix → Prefix → Type 0
-IsOther p q = same q p ≡ false
+IsOther p q = same_prefix q p ≡ false
 
 abbrev pub IsLower : Prefix → Prefix → Type 0
 IsLower p q = rank q < rank p
@@ -61,7 +61,7 @@ module _ {V : Type 0} where
 
   pub get-front : (xs ys : Pairs V) (p : Prefix) → AllKeys (IsOther p) ys → get (xs ++ ys) p ≡ get xs p
   get-front [] ys p h = get-none ys p h
-  get-front ((q, v) ∷ xs) ys p h = ap (λ r. cond (same q p) (Some v) r) (get-front xs ys p h)
+  get-front ((q, v) ∷ xs) ys p h = ap (λ r. cond (same_prefix q p) (Some v) r) (get-front xs ys p h)
 
   -- putting in
 
@@ -114,22 +114,22 @@ module _ {V : Type 0} where
   first-append [] ys = refl
   first-append ((q, v) ∷ xs) ys = refl
 
-  pub after-append : (xs ys : Pairs V) (p : Prefix) → after (xs ++ ys) p ≡ or_else (after xs p) (after ys p)
+  pub after-append : (xs ys : Pairs V) (p : Prefix) → next_after (xs ++ ys) p ≡ or_else (next_after xs p) (next_after ys p)
   after-append [] ys p = refl
   after-append ((q, v) ∷ xs) ys p = elim (before_tells p q) [
     | inl b ↦ rw b.0 refl
     | inr b ↦ rw b.0 (after-append xs ys p)
   ]
 
-  pub after-skip : (xs ys : Pairs V) (p : Prefix) → AllKeys (λ q. rank q ≤ rank p) xs → after (xs ++ ys) p ≡ after ys p
+  pub after-skip : (xs ys : Pairs V) (p : Prefix) → AllKeys (λ q. rank q ≤ rank p) xs → next_after (xs ++ ys) p ≡ next_after ys p
   after-skip [] ys p h = refl
   after-skip ((q, v) ∷ xs) ys p h = rw (higher_rank p q h.0) (after-skip xs ys p h.1)
 
-  pub after-none : (xs : Pairs V) (p : Prefix) → AllKeys (λ q. rank q ≤ rank p) xs → after xs p ≡ None
+  pub after-none : (xs : Pairs V) (p : Prefix) → AllKeys (λ q. rank q ≤ rank p) xs → next_after xs p ≡ None
   after-none [] p h = refl
   after-none ((q, v) ∷ xs) p h = rw (higher_rank p q h.0) (after-none xs p h.1)
 
-  pub after-first : (xs : Pairs V) (p : Prefix) → AllKeys (IsHigher p) xs → after xs p ≡ first xs
+  pub after-first : (xs : Pairs V) (p : Prefix) → AllKeys (IsHigher p) xs → next_after xs p ≡ first xs
   after-first [] p h = refl
   after-first ((q, v) ∷ xs) p h = rw (lower_rank p q h.0) refl
 

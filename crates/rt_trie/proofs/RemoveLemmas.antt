@@ -6,12 +6,12 @@ use Rattle.rt_trie.specs.declared.nodes.Link.{Link, Empty, Leaf, Fork', Full'}
 use Rattle.rt_trie.specs.declared.nodes.Link.TheVariants.{Fork, Full}
 use Rattle.rt_trie.specs.declared.nodes.ForkNode.{ForkNode}
 use Rattle.rt_trie.specs.declared.nodes.FullNode.{FullNode}
-use Rattle.rt_trie.specs.Map.{Pairs, same, get, erase}
+use Rattle.rt_trie.specs.Map.{Pairs, same_prefix, get, erase}
 use Rattle.rt_trie.specs.declared.nodes.Place.{Place}
 use Rattle.rt_trie.specs.declared.nodes.Place.TheVariants.{Here, Left, Right, Above, Apart}
 use Rattle.rt_trie.proofs.InsertLemmas.{get_above, get_apart}
 use Rattle.rt_trie.specs.Blocks.{StandsAt, IsChild, middle, past}
-use Rattle.rt_trie.specs.Links.{own, pairs, root, AreHalves, IsVacant, IsLone, IsLeafOf, IsLawfulBelow, IsLawful}
+use Rattle.rt_trie.specs.Links.{own_pair, pairs, root, AreHalves, IsVacant, IsLone, IsLeafOf, IsLawfulBelow, IsLawfulTrie}
 use Rattle.rt_trie.specs.Changes.{IsErased, IsSpliced, AreSidesOf}
 use Rattle.rt_trie.proofs.OrderLemmas.{same_tells, same_rank}
 use Rattle.rt_trie.proofs.BlockLemmas.{size_pos}
@@ -78,8 +78,8 @@ module _ {V A : Type 0} where
   erase_left old mid q w l r k p n m c i =
       let s = sides_of old q w l r n in
       m.pairs_are ∙ sym (ap (λ x. erase x p) n.pairs_are
-      ∙ erase-skip (own q w) (pairs l ++ pairs r) p (own_other q w (pairs l) (pairs r) s p (omega (arith, c.long)))
-      ∙ ap (λ x. own q w ++ x) (erase-front (pairs l) (pairs r) p
+      ∙ erase-skip (own_pair q w) (pairs l ++ pairs r) p (own_other q w (pairs l) (pairs r) s p (omega (arith, c.long)))
+      ∙ ap (λ x. own_pair q w ++ x) (erase-front (pairs l) (pairs r) p
       (AllKeys-map (IsHigher p) (IsOther p) (pairs r) (λ x. IsOther-higher p x)
       (upper_higher q w (pairs l) (pairs r) s p (omega (arith, c.to, size_pos p.len))))
       ∙ ap (λ x. x ++ pairs r) (sym i.pairs_are)))
@@ -89,8 +89,8 @@ module _ {V A : Type 0} where
   erase_right old mid q w l r k p n m c i =
       let s = sides_of old q w l r n in
       m.pairs_are ∙ sym (ap (λ x. erase x p) n.pairs_are
-      ∙ erase-skip (own q w) (pairs l ++ pairs r) p (own_other q w (pairs l) (pairs r) s p (omega (arith, c.long)))
-      ∙ ap (λ x. own q w ++ x) (erase-skip (pairs l) (pairs r) p
+      ∙ erase-skip (own_pair q w) (pairs l ++ pairs r) p (own_other q w (pairs l) (pairs r) s p (omega (arith, c.long)))
+      ∙ ap (λ x. own_pair q w ++ x) (erase-skip (pairs l) (pairs r) p
       (AllKeys-map (IsLower p) (IsOther p) (pairs l) (λ x. IsOther-lower p x)
       (lower_lower q w (pairs l) (pairs r) s p c.from))
       ∙ ap (λ x. pairs l ++ x) (sym i.pairs_are)))
@@ -112,7 +112,7 @@ module _ {V A : Type 0} where
     pub root_is : root mid ≡ root old
 
   made_below_full : (b : Box (FullNode V A) A) (q : Prefix) (w : Option V) (l r : Link V A) → b.value.prefix ≡ q → b.value.value ≡ w
-      → b.value.left ≡ l → b.value.right ≡ r → AreHalves q l r → IsLawful l → IsLawful r → IsNode (Full b) q w l r × IsLawfulBelow (Full b)
+      → b.value.left ≡ l → b.value.right ≡ r → AreHalves q l r → IsLawfulTrie l → IsLawfulTrie r → IsNode (Full b) q w l r × IsLawfulBelow (Full b)
   made_below_full b q w l r e f i j h k m = (
     rw (e, f, i, j) (record {
       pairs_are = refl;
@@ -126,7 +126,7 @@ module _ {V A : Type 0} where
   )
 
   made_below_fork : (b : Box (ForkNode V A) A) (q : Prefix) (l r : Link V A) → b.value.prefix ≡ q
-      → b.value.left ≡ l → b.value.right ≡ r → AreHalves q l r → IsLawful l → IsLawful r → IsNode (Fork b) q None l r × IsLawfulBelow (Fork b)
+      → b.value.left ≡ l → b.value.right ≡ r → AreHalves q l r → IsLawfulTrie l → IsLawfulTrie r → IsNode (Fork b) q None l r × IsLawfulBelow (Fork b)
   made_below_fork b q l r e i j h k m = (
     rw (e, i, j) (record {
       pairs_are = refl;
@@ -140,7 +140,7 @@ module _ {V A : Type 0} where
   )
 
   pub halfway_fork_left : (f : Box (ForkNode V A) A) (m : ForkNode V A) (old k : Link V A) (p : Prefix) → old ≡ Fork f → m ≡ f.value
-      → IsLawful old → IsChild m.prefix false p → IsErased m.left k p → (b : Box (ForkNode V A) A) → b.value.prefix ≡ m.prefix
+      → IsLawfulTrie old → IsChild m.prefix false p → IsErased m.left k p → (b : Box (ForkNode V A) A) → b.value.prefix ≡ m.prefix
       → b.value.left ≡ k → b.value.right ≡ m.right → IsHalfway old (Fork b) p
   halfway_fork_left f m old k p e g h c i b x y z =
       let n = of_fork f m old e g h.0 in
@@ -149,7 +149,7 @@ module _ {V A : Type 0} where
       record { pairs_are = erase_left old (Fork b) m.prefix None m.left m.right k p n u.0 c i; below = u.1; root_is = u.0.root_is ∙ sym n.root_is }
 
   pub halfway_fork_right : (f : Box (ForkNode V A) A) (m : ForkNode V A) (old k : Link V A) (p : Prefix) → old ≡ Fork f → m ≡ f.value
-      → IsLawful old → IsChild m.prefix true p → IsErased m.right k p → (b : Box (ForkNode V A) A) → b.value.prefix ≡ m.prefix
+      → IsLawfulTrie old → IsChild m.prefix true p → IsErased m.right k p → (b : Box (ForkNode V A) A) → b.value.prefix ≡ m.prefix
       → b.value.left ≡ m.left → b.value.right ≡ k → IsHalfway old (Fork b) p
   halfway_fork_right f m old k p e g h c i b x y z =
       let n = of_fork f m old e g h.0 in
@@ -158,7 +158,7 @@ module _ {V A : Type 0} where
       record { pairs_are = erase_right old (Fork b) m.prefix None m.left m.right k p n u.0 c i; below = u.1; root_is = u.0.root_is ∙ sym n.root_is }
 
   pub halfway_full_left : (f : Box (FullNode V A) A) (m : FullNode V A) (old k : Link V A) (p : Prefix) → old ≡ Full f → m ≡ f.value
-      → IsLawful old → IsChild m.prefix false p → IsErased m.left k p → (b : Box (FullNode V A) A) → b.value.prefix ≡ m.prefix
+      → IsLawfulTrie old → IsChild m.prefix false p → IsErased m.left k p → (b : Box (FullNode V A) A) → b.value.prefix ≡ m.prefix
       → b.value.value ≡ m.value → b.value.left ≡ k → b.value.right ≡ m.right → IsHalfway old (Full b) p
   halfway_full_left f m old k p e g h c i b x w y z =
       let n = of_full f m old e g h.0 in
@@ -167,7 +167,7 @@ module _ {V A : Type 0} where
       record { pairs_are = erase_left old (Full b) m.prefix m.value m.left m.right k p n u.0 c i; below = u.1; root_is = u.0.root_is ∙ sym n.root_is }
 
   pub halfway_full_right : (f : Box (FullNode V A) A) (m : FullNode V A) (old k : Link V A) (p : Prefix) → old ≡ Full f → m ≡ f.value
-      → IsLawful old → IsChild m.prefix true p → IsErased m.right k p → (b : Box (FullNode V A) A) → b.value.prefix ≡ m.prefix
+      → IsLawfulTrie old → IsChild m.prefix true p → IsErased m.right k p → (b : Box (FullNode V A) A) → b.value.prefix ≡ m.prefix
       → b.value.value ≡ m.value → b.value.left ≡ m.left → b.value.right ≡ k → IsHalfway old (Full b) p
   halfway_full_right f m old k p e g h c i b x w y z =
       let n = of_full f m old e g h.0 in
@@ -176,7 +176,7 @@ module _ {V A : Type 0} where
       record { pairs_are = erase_right old (Full b) m.prefix m.value m.left m.right k p n u.0 c i; below = u.1; root_is = u.0.root_is ∙ sym n.root_is }
 
   pub halfway_full_here : (f : Box (FullNode V A) A) (m : FullNode V A) (old : Link V A) (p : Prefix) → old ≡ Full f → m ≡ f.value
-      → IsLawful old → p ≡ m.prefix → (b : Box (FullNode V A) A) → b.value.prefix ≡ m.prefix
+      → IsLawfulTrie old → p ≡ m.prefix → (b : Box (FullNode V A) A) → b.value.prefix ≡ m.prefix
       → b.value.value ≡ None → b.value.left ≡ m.left → b.value.right ≡ m.right → IsHalfway old (Full b) p
   halfway_full_here f m old p e g h i b x w y z =
       let n = of_full f m old e g h.0 in
@@ -192,7 +192,7 @@ module _ {V A : Type 0} where
   }
 
   -- nothing is taken out where nothing stands
-  pub erased_none : (old : Link V A) (p : Prefix) → IsLawful old → get (pairs old) p ≡ None → IsErased old old p
+  pub erased_none : (old : Link V A) (p : Prefix) → IsLawfulTrie old → get (pairs old) p ≡ None → IsErased old old p
   erased_none old p h e = record {
     pairs_are = sym (erase-absent (pairs old) p e);
     lawful = h;
@@ -201,7 +201,7 @@ module _ {V A : Type 0} where
 
   -- at a fork nothing is stored but on its sides
   pub fork_none : (b : Box (ForkNode V A) A) (n : ForkNode V A) (old : Link V A) (p : Prefix) (r : Place) → old ≡ Fork b → n ≡ b.value
-      → IsLawful old → StandsAt n.prefix p r → (r ≡ Left → ⊥) → (r ≡ Right → ⊥) → get (pairs old) p ≡ None
+      → IsLawfulTrie old → StandsAt n.prefix p r → (r ≡ Left → ⊥) → (r ≡ Right → ⊥) → get (pairs old) p ≡ None
   fork_none b n old p Here e f h s x y =
       node_get-unstored old n.prefix n.left n.right (of_fork b n old e f h.0) p (omega (arith, ap (λ (z : Prefix). z.len) s))
   fork_none b n old p Left e f h s x y = absurd (x refl)
@@ -211,20 +211,20 @@ module _ {V A : Type 0} where
 
   -- at a full node, its own value aside
   pub full_none : (b : Box (FullNode V A) A) (n : FullNode V A) (old : Link V A) (p : Prefix) (r : Place) → old ≡ Full b → n ≡ b.value
-      → IsLawful old → StandsAt n.prefix p r → (r ≡ Above) ⊎ (r ≡ Apart) → get (pairs old) p ≡ None
+      → IsLawfulTrie old → StandsAt n.prefix p r → (r ≡ Above) ⊎ (r ≡ Apart) → get (pairs old) p ≡ None
   full_none b n old p r e f h s o = elim o [
     | inl i ↦ get_above old n.prefix p h (of_full b n old e f h.0).root_is (subst (StandsAt n.prefix p) i s)
     | inr i ↦ get_apart old n.prefix p h (of_full b n old e f h.0).root_is (subst (StandsAt n.prefix p) i s)
   ]
 
-  pub erased_same : (old new : Link V A) (p : Prefix) → IsLawful old → get (pairs old) p ≡ None → old ≡ new → IsErased old new p
+  pub erased_same : (old new : Link V A) (p : Prefix) → IsLawfulTrie old → get (pairs old) p ≡ None → old ≡ new → IsErased old new p
   erased_same old new p h e i = subst (λ x. IsErased old x p) i (erased_none old p h e)
 
   -- a leaf is taken out
   pub erased_leaf : (old new : Link V A) (p : Prefix) → IsLeafOf p old → new ≡ Empty → IsErased old new p
   erased_leaf Empty new p h e = absurd h
   erased_leaf (Leaf b) new p h e =
-      let s : same b.value.prefix p ≡ true =
+      let s : same_prefix b.value.prefix p ≡ true =
       same_rank b.value.prefix p (ap (λ (x : Prefix). x.base) h) (ap (λ (x : Prefix). x.len) h) in
       rw e (record { pairs_are = rw s refl; lawful = (tt, tt); stays = λ parent upper k. tt })
   erased_leaf (Fork' x q left right) new p h e = absurd h

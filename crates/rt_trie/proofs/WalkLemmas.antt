@@ -10,7 +10,7 @@ use Rattle.std.specs.Borrow.{Bor}
 use Rattle.rt_cidr.specs.declared.prefixes.Prefix.{Prefix}
 use Rattle.rt_trie.specs.declared.nodes.Link.{Link}
 use Rattle.rt_trie.specs.Aside.{link_at}
-use Rattle.rt_trie.specs.Links.{own, pairs, count, root}
+use Rattle.rt_trie.specs.Links.{own_pair, pairs, count, root}
 use Rattle.rt_trie.specs.Walks.{pairs_of, rest_of, IsFrom, IsAside}
 
 -- how much work a link is: one, and two for each of its nodes
@@ -57,7 +57,7 @@ module _ {V A : Type 0} where
   pub walk_step : (xs ys : List (Bor (Link V A))) (m n k : ℕ) (link left right : Link V A) (q : Prefix) (v : Option V) → IsAside xs m → m ≡ suc k
       → n ≡ suc (suc k) → link_at xs k ≡ Some link → IsNode link q v left right → link_at ys k ≡ Some right → link_at ys (suc k) ≡ Some left
       → ((j : ℕ) → j < k → link_at ys j ≡ link_at xs j) → length ys ≡ length xs
-      → IsAside ys n × (own q v ++ rest_of ys n ≡ rest_of xs m) × (weight_of ys n < weight_of xs m)
+      → IsAside ys n × (own_pair q v ++ rest_of ys n ≡ rest_of xs m) × (weight_of ys n < weight_of xs m)
   walk_step xs ys m n k link left right q v a em en at node r l below size =
       let here : IsFrom k link = rw at at (a.each k (omega arith)) in
       let deep = longer_root k (root link) q node.root_is here.1 in
@@ -80,9 +80,9 @@ module _ {V A : Type 0} where
           ];
         },
         rw (en, em, l, r, at) (
-            ap (λ t. own q v ++ (pairs left ++ (pairs right ++ t))) (rest_below xs ys k below)
-            ∙ ap (λ t. own q v ++ t) (sym (append_assoc (pairs left) (pairs right) (rest_of xs k)))
-            ∙ sym (append_assoc (own q v) (pairs left ++ pairs right) (rest_of xs k))
+            ap (λ t. own_pair q v ++ (pairs left ++ (pairs right ++ t))) (rest_below xs ys k below)
+            ∙ ap (λ t. own_pair q v ++ t) (sym (append_assoc (pairs left) (pairs right) (rest_of xs k)))
+            ∙ sym (append_assoc (own_pair q v) (pairs left ++ pairs right) (rest_of xs k))
             ∙ sym (ap (λ t. t ++ rest_of xs k) node.pairs_are)),
         rw (en, em, l, r, at) (omega (arith, node.count_is, weight_below xs ys k below)),
       )

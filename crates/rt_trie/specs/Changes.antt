@@ -4,25 +4,25 @@ use Rattle.rt_cidr.specs.declared.prefixes.Prefix.{Prefix}
 use Rattle.rt_trie.specs.declared.nodes.Link.{Link}
 use Rattle.rt_trie.specs.Map.{put, erase}
 use Rattle.rt_trie.specs.Blocks.{IsChild}
-use Rattle.rt_trie.specs.Links.{pairs, count, IsFilled, IsVacant, IsLawful, IsChildLink}
+use Rattle.rt_trie.specs.Links.{pairs, count, IsFilled, IsVacant, IsLawfulTrie, IsChildLink}
 
 -- v was put at p: the link is lawful, and a child on each side where it was one and p is one
 pub record IsPut {V A : Type 0} (old new : Link V A) (p : Prefix) (v : V) : Type 0 where
   pub pairs_are : pairs new ≡ put (pairs old) p v
-  pub lawful : IsLawful new
+  pub lawful : IsLawfulTrie new
   pub filled : IsFilled new
   pub stays : (parent : Prefix) (upper : Bool) → IsChildLink parent upper old → IsChild parent upper p → IsChildLink parent upper new
 
 -- what stood at p was taken out: the link is lawful, and a child on each side where it was one
 pub record IsErased {V A : Type 0} (old new : Link V A) (p : Prefix) : Type 0 where
   pub pairs_are : pairs new ≡ erase (pairs old) p
-  pub lawful : IsLawful new
+  pub lawful : IsLawfulTrie new
   pub stays : (parent : Prefix) (upper : Bool) → IsChildLink parent upper old → IsChildLink parent upper new
 
 -- a node that isn't needed was taken away: the pairs are the same, the link is lawful, and a child where it was one
 pub record IsSpliced {V A : Type 0} (old new : Link V A) : Type 0 where
   pub pairs_are : pairs new ≡ pairs old
-  pub lawful : IsLawful new
+  pub lawful : IsLawfulTrie new
   pub stays : (parent : Prefix) (upper : Bool) → IsChildLink parent upper old → IsChildLink parent upper new
 
 -- the sides of a node without a value, of which one is vacant: they have its pairs, are lawful, and children where it is one
@@ -30,7 +30,7 @@ pub record AreSidesOf {V A : Type 0} (link left right : Link V A) : Type 0 where
   pub pairs_are : pairs link ≡ pairs left ++ pairs right
   pub counted : count link ≡ count left + count right + 1
   pub one : IsVacant left ⊎ IsVacant right
-  pub left_lawful : IsLawful left
-  pub right_lawful : IsLawful right
+  pub left_lawful : IsLawfulTrie left
+  pub right_lawful : IsLawfulTrie right
   pub left_stays : (parent : Prefix) (upper : Bool) → IsChildLink parent upper link → IsChildLink parent upper left
   pub right_stays : (parent : Prefix) (upper : Bool) → IsChildLink parent upper link → IsChildLink parent upper right

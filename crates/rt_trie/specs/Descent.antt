@@ -2,18 +2,18 @@
 use Rattle.std.specs.Prelude.{ℕ, zero, suc, nat_lt, nat_le, Option, Some, None, if◌then◌else◌}
 use Rattle.rt_cidr.specs.declared.prefixes.Prefix.{Prefix}
 use Rattle.rt_trie.specs.declared.nodes.Link.{Link, Empty, Leaf, Fork', Full'}
-use Rattle.rt_trie.specs.Map.{same}
+use Rattle.rt_trie.specs.Map.{same_prefix}
 use Rattle.rt_trie.specs.Blocks.{middle}
 
 -- the value at p, at most so many nodes down
 abbrev pub found : {V A : Type 0} → ℕ → Link V A → Prefix → Option V
 found zero link p = None
 found (suc d) Empty p = None
-found (suc d) (Leaf b) p = if same b.value.prefix p then Some b.value.value else None
+found (suc d) (Leaf b) p = if same_prefix b.value.prefix p then Some b.value.value else None
 found (suc d) (Fork' x q left right) p =
     if nat_le p.len q.len then None else (if nat_lt p.base (middle q) then found d left p else found d right p)
 found (suc d) (Full' x q v left right) p =
-    if nat_le p.len q.len then (if same q p then v else None) else (if nat_lt p.base (middle q) then found d left p else found d right p)
+    if nat_le p.len q.len then (if same_prefix q p then v else None) else (if nat_lt p.base (middle q) then found d left p else found d right p)
 
 -- w in the place of the value, if there is one
 abbrev pub overwritten : {V : Type 0} → Option V → V → Option V
@@ -24,11 +24,11 @@ overwritten (Some v) w = Some w
 abbrev pub written : {V A : Type 0} → ℕ → Link V A → Prefix → V → Link V A
 written zero link p w = link
 written (suc d) Empty p w = Empty
-written (suc d) (Leaf b) p w = Leaf (record b { value = record b.value { value = if same b.value.prefix p then w else b.value.value } })
+written (suc d) (Leaf b) p w = Leaf (record b { value = record b.value { value = if same_prefix b.value.prefix p then w else b.value.value } })
 written (suc d) (Fork' x q left right) p w =
     Fork' x q (if nat_le p.len q.len then left else (if nat_lt p.base (middle q) then written d left p w else left))
     (if nat_le p.len q.len then right else (if nat_lt p.base (middle q) then right else written d right p w))
 written (suc d) (Full' x q v left right) p w =
-    Full' x q (if nat_le p.len q.len then (if same q p then overwritten v w else v) else v)
+    Full' x q (if nat_le p.len q.len then (if same_prefix q p then overwritten v w else v) else v)
     (if nat_le p.len q.len then left else (if nat_lt p.base (middle q) then written d left p w else left))
     (if nat_le p.len q.len then right else (if nat_lt p.base (middle q) then right else written d right p w))

@@ -9,6 +9,7 @@ pub mod Laws
 pub mod Lends
 pub mod Links
 pub mod Map
+pub mod Nodes
 pub mod Trie
 pub mod TrieLends
 pub mod Walks

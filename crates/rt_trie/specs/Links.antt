@@ -6,16 +6,16 @@ use Rattle.rt_trie.specs.Map.{Pairs}
 use Rattle.rt_trie.specs.Blocks.{IsChild}
 
 -- a node's own pair, if it has a value
-abbrev pub own : {V : Type 0} → Prefix → Option V → Pairs V
-own q None = []
-own q (Some v) = (q, v) ∷ []
+abbrev pub own_pair : {V : Type 0} → Prefix → Option V → Pairs V
+own_pair q None = []
+own_pair q (Some v) = (q, v) ∷ []
 
 -- the pairs of the nodes that have a value: a node's own, then those on its left, then those on its right
 abbrev pub pairs : {V A : Type 0} → Link V A → Pairs V
 pairs Empty = []
-pairs (Leaf b) = own b.value.prefix (Some b.value.value)
+pairs (Leaf b) = own_pair b.value.prefix (Some b.value.value)
 pairs (Fork' p q left right) = pairs left ++ pairs right
-pairs (Full' p q v left right) = own q v ++ (pairs left ++ pairs right)
+pairs (Full' p q v left right) = own_pair q v ++ (pairs left ++ pairs right)
 
 -- how many nodes
 abbrev pub count : {V A : Type 0} → Link V A → ℕ
@@ -87,5 +87,5 @@ IsLawfulBelow (Full' p q v left right) =
 
 -- every child is longer than its parent, contained in it and on the side of the next bit, and every node without a
 -- value has two children
-abbrev pub IsLawful : {V A : Type 0} → Link V A → Type 0
-IsLawful link = IsLawfulBelow link × IsNeeded link
+abbrev pub IsLawfulTrie : {V A : Type 0} → Link V A → Type 0
+IsLawfulTrie link = IsLawfulBelow link × IsNeeded link

@@ -1,5 +1,5 @@
 -- A finite map from prefixes, as the list of its pairs in the order of base and then length.
-use Rattle.std.specs.Prelude.{◌≡◌, Bool, false, ◌==◌, ◌&&◌, ◌||◌, ◌≤◌, nat_lt, List, [], ◌∷◌, Option, Some, None, if◌then◌else◌, IsTrue, All, Contains}
+use Rattle.std.specs.Prelude.{◌≡◌, Bool, false, ◌==◌, ◌&&◌, ◌||◌, ◌≤◌, nat_lt, List, [], ◌∷◌, Option, Some, None, if◌then◌else◌, IsTrue, IsSome, All, Contains}
 use Rattle.std.specs.Borrow.{Bor}
 use Rattle.rt_cidr.specs.declared.address.Addr.{Addr}
 use Rattle.rt_cidr.specs.declared.prefixes.Prefix.{Prefix}
@@ -10,8 +10,8 @@ abbrev pub Pairs : Type 0 → Type 0
 Pairs V = List (Prefix × V)
 
 -- the two are one prefix
-abbrev pub same : Prefix → Prefix → Bool
-same p q = p.base == q.base && p.len == q.len
+abbrev pub same_prefix : Prefix → Prefix → Bool
+same_prefix p q = p.base == q.base && p.len == q.len
 
 -- p comes before q: by base, then by length
 abbrev pub before : Prefix → Prefix → Bool
@@ -30,18 +30,22 @@ IsOrdered ((p, v) ∷ rest) = IsBeforeAll p rest × IsOrdered rest
 -- the value at p
 abbrev pub get : {V : Type 0} → Pairs V → Prefix → Option V
 get [] p = None
-get ((q, v) ∷ rest) p = if same q p then Some v else get rest p
+get ((q, v) ∷ rest) p = if same_prefix q p then Some v else get rest p
+
+-- a value stands at p
+abbrev pub IsStored : {V : Type 0} → Pairs V → Prefix → Type 0
+IsStored m p = IsSome (get m p)
 
 -- the map with v at p, in the place of what stood there
 abbrev pub put : {V : Type 0} → Pairs V → Prefix → V → Pairs V
 put [] p v = (p, v) ∷ []
 put ((q, w) ∷ rest) p v =
-    if before p q then (p, v) ∷ ((q, w) ∷ rest) else (if same q p then (q, v) ∷ rest else (q, w) ∷ put rest p v)
+    if before p q then (p, v) ∷ ((q, w) ∷ rest) else (if same_prefix q p then (q, v) ∷ rest else (q, w) ∷ put rest p v)
 
 -- the map with nothing at p
 abbrev pub erase : {V : Type 0} → Pairs V → Prefix → Pairs V
 erase [] p = []
-erase ((q, v) ∷ rest) p = if same q p then rest else (q, v) ∷ erase rest p
+erase ((q, v) ∷ rest) p = if same_prefix q p then rest else (q, v) ∷ erase rest p
 
 -- the least prefix
 abbrev pub first : {V : Type 0} → Pairs V → Option Prefix
@@ -49,9 +53,9 @@ first [] = None
 first ((p, v) ∷ rest) = Some p
 
 -- the least prefix that comes after p
-abbrev pub after : {V : Type 0} → Pairs V → Prefix → Option Prefix
-after [] p = None
-after ((q, v) ∷ rest) p = if before p q then Some q else after rest p
+abbrev pub next_after : {V : Type 0} → Pairs V → Prefix → Option Prefix
+next_after [] p = None
+next_after ((q, v) ∷ rest) p = if before p q then Some q else next_after rest p
 
 -- a pair with the value that the reference points to
 abbrev pub pair_copied : {V : Type 0} → Option (Prefix × Bor V) → Option (Prefix × V)

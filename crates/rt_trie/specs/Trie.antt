@@ -1,7 +1,7 @@
 -- What callers see of a trie: a finite map, and how many nodes it takes.
 use Rattle.std.specs.Prelude.{◌≡◌, length}
 use Rattle.rt_trie.specs.declared.tries.Trie.TheInside.{Inside}
-use Rattle.rt_trie.specs.Links.{pairs, count, IsLawful}
+use Rattle.rt_trie.specs.Links.{pairs, count, IsLawfulTrie}
 use Rattle.rt_trie.specs.Contents.{Contents}
 
 -- the pairs and the number of nodes
@@ -10,6 +10,6 @@ contents_of t = record { pairs = pairs t.root; nodes = count t.root }
 
 -- the trie is lawful, and its counts are right
 pub record IsSound {V A : Type 0} (t : Inside V A) : Type 0 where
-  pub lawful : IsLawful t.root
+  pub lawful : IsLawfulTrie t.root
   pub len : t.len ≡ length (pairs t.root)
   pub nodes : t.nodes ≡ count t.root

@@ -4,7 +4,7 @@ use Rattle.std.specs.Borrow.{Bor}
 use Rattle.rt_trie.specs.declared.nodes.Link.{Link}
 use Rattle.rt_trie.specs.Map.{Pairs}
 use Rattle.rt_trie.specs.Aside.{link_at}
-use Rattle.rt_trie.specs.Links.{pairs, root, IsLawful}
+use Rattle.rt_trie.specs.Links.{pairs, root, IsLawfulTrie}
 
 -- the pairs of a link, if there is one
 abbrev pub pairs_of : {V A : Type 0} → Option (Link V A) → Pairs V
@@ -18,7 +18,7 @@ rest_of xs (suc k) = pairs_of (link_at xs k) ++ rest_of xs k
 
 -- a link that is lawful, and whose node, if it has one, has at least that length
 abbrev pub IsFrom : {V A : Type 0} → ℕ → Link V A → Type 0
-IsFrom k link = IsLawful link × IfSome (root link) (λ q. k ≤ q.len)
+IsFrom k link = IsLawfulTrie link × IfSome (root link) (λ q. k ≤ q.len)
 
 -- the links that are put aside are lawful, and each place's node has at least that length
 pub record IsAside {V A : Type 0} (xs : List (Bor (Link V A))) (len : ℕ) : Type 0 where

@@ -5,7 +5,7 @@ ghost use Rattle.rt_trie.specs.declared.nodes.Link.TheVariants.{Empty};
 ghost use Rattle.rt_trie.specs.declared.nodes.Place.TheVariants.{Above, Apart};
 ghost use Rattle.rt_trie.specs.Map.{get};
 ghost use Rattle.rt_trie.specs.Blocks.{middle, IsChild, StandsAt, PartsAt};
-ghost use Rattle.rt_trie.specs.Links.{pairs, root, count, IsLawful, IsLeafOf, IsForkOf};
+ghost use Rattle.rt_trie.specs.Links.{pairs, root, count, IsLawfulTrie, IsLeafOf, IsForkOf};
 ghost use Rattle.rt_trie.specs.Changes.{IsPut};
 
 use crate::nodes::{ForkNode, FullNode, LeafNode, Link, Place, middle, place_of};
@@ -22,7 +22,7 @@ pub(crate) fn insert<V: Drop, A: Allocator + Copy>(
     p: Prefix,
     value: V,
 ) -> Result<Option<V>, V>
-    requires lawful { IsLawful link.old }
+    requires lawful { IsLawfulTrie link.old }
     requires room { nodes.old + 2 < 2 ^ 64 }
     ensures put { OnOk result (IsPut link.old link.new p value) }
     ensures had { IfOk result (λ had. had ≡ get (pairs link.old) p) }
@@ -169,7 +169,7 @@ fn fill<V: Drop, A: Allocator + Copy>(
     p: Prefix,
     value: V,
 ) -> Result<Option<V>, V>
-    requires lawful { IsLawful link.old }
+    requires lawful { IsLawfulTrie link.old }
     requires fork { IsForkOf p link.old }
     ensures put { OnOk result (IsPut link.old link.new p value) }
     ensures absent { get (pairs link.old) p ≡ None }
@@ -207,7 +207,7 @@ fn cover<V: Drop, A: Allocator + Copy>(
     q: Prefix,
     value: V,
 ) -> Result<Option<V>, V>
-    requires lawful { IsLawful link.old }
+    requires lawful { IsLawfulTrie link.old }
     requires root { root link.old ≡ Some q }
     requires place { StandsAt q p Above }
     requires room { nodes.old + 2 < 2 ^ 64 }
@@ -241,7 +241,7 @@ fn part<V: Drop, A: Allocator + Copy>(
     q: Prefix,
     value: V,
 ) -> Result<Option<V>, V>
-    requires lawful { IsLawful link.old }
+    requires lawful { IsLawfulTrie link.old }
     requires root { root link.old ≡ Some q }
     requires place { StandsAt q p Apart }
     requires room { nodes.old + 2 < 2 ^ 64 }

@@ -1,6 +1,8 @@
 //! Laws of the map that the contracts speak of, and of a lawful trie. Each function does nothing: its contract is the law.
 
-ghost use Rattle.rt_trie.specs.Laws.{ChildByNextBit, PutIsSeen, EraseIsSeen, PutKeepsOrder, EraseKeepsOrder};
+ghost use Rattle.rt_trie.specs.Laws.{ChildByNextBit, PutIsSeen, EraseIsSeen, PutKeepsOrder, EraseKeepsOrder, PairsAreFound, MapHasOneList, FirstIsLeast, NoneIsFirst, AfterIsNext, NoneIsAfter};
+
+use rt_cidr::laws::same_prefix;
 
 /// An insertion and a removal are seen at their own prefix alone, and keep the pairs in order.
 pub fn changes<V>()
@@ -9,6 +11,24 @@ pub fn changes<V>()
     ensures put_in_order { PutKeepsOrder V }
     ensures erase_in_order { EraseKeepsOrder V }
 {}
+
+/// A pair is in the list of a map exactly where its value stands at its prefix, and a map has one list.
+pub fn one_list<V>()
+    ensures found { PairsAreFound V }
+    ensures one { MapHasOneList V }
+{
+    same_prefix();
+}
+
+/// The first prefix is the least that is stored, and the one after p is the stored prefix after it with no other between.
+pub fn least<V>()
+    ensures first { FirstIsLeast V }
+    ensures none_first { NoneIsFirst V }
+    ensures after { AfterIsNext V }
+    ensures none_after { NoneIsAfter V }
+{
+    same_prefix();
+}
 
 /// A lawful trie, in terms of bits: a child is longer than its parent, contained in it, and on the side of the first bit
 /// after the parent's length.

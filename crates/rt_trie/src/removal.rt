@@ -4,7 +4,7 @@ ghost use Rattle.std.specs.Prelude.{◌≡◌, ℕ, ◌+◌, ◌<◌, ◌≤◌,
 ghost use Rattle.rt_cidr.specs.declared.prefixes.Prefix.{Prefix};
 ghost use Rattle.rt_trie.specs.declared.nodes.Link.TheVariants.{Empty};
 ghost use Rattle.rt_trie.specs.Map.{get};
-ghost use Rattle.rt_trie.specs.Links.{pairs, count, IsLawful, IsLawfulBelow, IsNeeded, IsLone, IsFilled, IsVacant, IsLeafOf};
+ghost use Rattle.rt_trie.specs.Links.{pairs, count, IsLawfulTrie, IsLawfulBelow, IsNeeded, IsLone, IsFilled, IsVacant, IsLeafOf};
 ghost use Rattle.rt_trie.specs.Changes.{IsErased, IsSpliced, AreSidesOf};
 
 use crate::nodes::{ForkNode, FullNode, LeafNode, Link, Place, place_of};
@@ -18,7 +18,7 @@ pub(crate) fn remove<V: Drop, A: Allocator + Drop>(
     nodes: &mut usize,
     p: Prefix,
 ) -> Option<V>
-    requires lawful { IsLawful link.old }
+    requires lawful { IsLawfulTrie link.old }
     requires counted { count link.old ≤ nodes.old }
     ensures erased { IsErased link.old link.new p }
     ensures value { result ≡ get (pairs link.old) p }

@@ -2,8 +2,8 @@
 
 ghost use Rattle.std.specs.Prelude.{◌≡◌, Option};
 ghost use Rattle.std.specs.Option.{option_copied};
-ghost use Rattle.rt_trie.specs.Map.{get, first, after, pair_copied, IsLongest};
-ghost use Rattle.rt_trie.specs.Links.{pairs, IsLawful};
+ghost use Rattle.rt_trie.specs.Map.{get, first, next_after, pair_copied, IsLongest};
+ghost use Rattle.rt_trie.specs.Links.{pairs, IsLawfulTrie};
 
 use crate::nodes::{Link, Place, middle, place_of};
 use rt_cidr::{Addr, Prefix};
@@ -11,7 +11,7 @@ use std::alloc::Allocator;
 
 /// The value at a prefix.
 pub(crate) fn get<V, A: Allocator>(root: &Link<V, A>, p: Prefix) -> Option<&V>
-    requires { IsLawful root.now }
+    requires { IsLawfulTrie root.now }
     ensures { option_copied result ≡ get (pairs root.now) p }
 {
     let mut link = root;
@@ -58,7 +58,7 @@ pub(crate) fn get<V, A: Allocator>(root: &Link<V, A>, p: Prefix) -> Option<&V>
 
 /// The pair of the longest prefix that covers the address.
 pub(crate) fn longest<V, A: Allocator>(root: &Link<V, A>, address: Addr) -> Option<(Prefix, &V)>
-    requires { IsLawful root.now }
+    requires { IsLawfulTrie root.now }
     ensures { IsLongest (pairs root.now) address (pair_copied result) }
 {
     let mut best = None;
@@ -105,7 +105,7 @@ pub(crate) fn longest<V, A: Allocator>(root: &Link<V, A>, address: Addr) -> Opti
 
 /// The least prefix that is stored below the link, by base and then by length.
 pub(crate) fn first<V, A: Allocator>(root: &Link<V, A>) -> Option<Prefix>
-    requires { IsLawful root.now }
+    requires { IsLawfulTrie root.now }
     ensures { result ≡ first (pairs root.now) }
 {
     let mut link = root;
@@ -127,8 +127,8 @@ pub(crate) fn first<V, A: Allocator>(root: &Link<V, A>) -> Option<Prefix>
 
 /// The least prefix that is stored below the link and comes after p, by base and then by length.
 pub(crate) fn after<V, A: Allocator>(link: &Link<V, A>, p: Prefix) -> Option<Prefix>
-    requires { IsLawful link.now }
-    ensures { result ≡ after (pairs link.now) p }
+    requires { IsLawfulTrie link.now }
+    ensures { result ≡ next_after (pairs link.now) p }
 {
     match link {
         Link::Empty => None,

@@ -3,7 +3,8 @@
 ghost use Rattle.std.specs.Prelude.{◌≡◌, ◌+◌, ◌-◌, ◌*◌, ◌≤◌, [], length, IsSome, IsOk, IfOk, IfErr, OnOk};
 ghost use Rattle.std.specs.Borrow.{sem};
 ghost use Rattle.std.specs.Option.{option_copied, option_copied_mut};
-ghost use Rattle.rt_trie.specs.Map.{get, put, erase, first, after, pair_copied, IsOrdered, IsLongest};
+ghost use Rattle.rt_trie.specs.Map.{get, put, erase, first, next_after, pair_copied, IsOrdered, IsLongest};
+ghost use Rattle.rt_trie.specs.Nodes.{CountsNodes};
 
 use crate::lending::{Descent, WayDown};
 use crate::nodes::Link;
@@ -62,9 +63,11 @@ impl<V: Drop, A: Allocator + Copy> Trie<V, A> {
         self.len
     }
 
-    /// How many nodes the map takes: none where nothing is stored, and at most 2m - 1 for m prefixes.
+    /// How many nodes the map takes: one for each prefix that is stored, and one for each other at which two that are stored
+    /// part. So none where nothing is stored, and at most 2m - 1 for m prefixes.
     pub fn nodes(&self) -> usize
         ensures nodes { result ≡ self.now.nodes }
+        ensures counted { CountsNodes self.now.pairs result }
         ensures bound { result ≤ 2 * length self.now.pairs - 1 }
     {
         self.nodes
@@ -123,7 +126,8 @@ impl<V: Drop, A: Allocator + Copy> Trie<V, A> {
 
     /// All pairs, each once, by base and then by length. It takes no memory.
     pub fn walk(&self) -> Walk<'_, V, A>
-        ensures { result ≡ self.now.pairs }
+        ensures pairs { result ≡ self.now.pairs }
+        ensures ordered { IsOrdered result }
     {
         Walk::new(&self.root)
     }
@@ -137,7 +141,7 @@ impl<V: Drop, A: Allocator + Copy> Trie<V, A> {
 
     /// The least stored prefix that comes after p, by base and then by length; p need not be stored.
     pub fn after(&self, p: Prefix) -> Option<Prefix>
-        ensures { result ≡ after self.now.pairs p }
+        ensures { result ≡ next_after self.now.pairs p }
     {
         search::after(&self.root, p)
     }

@@ -30,10 +30,10 @@ impl<'a, V, A: Allocator> Model for Walk<'a, V, A> {
 }
 
 impl<'a, V, A: Allocator> Walk<'a, V, A> {
-    ghost use Rattle.rt_trie.specs.Links.{pairs, IsLawful};
+    ghost use Rattle.rt_trie.specs.Links.{pairs, IsLawfulTrie};
 
     pub(crate) fn new(root: &'a Link<V, A>) -> Walk<'a, V, A>
-        requires { IsLawful root.now }
+        requires { IsLawfulTrie root.now }
         ensures { result ≡ pairs root.now }
     {
         Walk {

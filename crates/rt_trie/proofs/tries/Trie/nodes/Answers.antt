@@ -1,7 +1,15 @@
-use Rattle.std.proofs.Common.{length, ap, arith}
+use Rattle.std.proofs.Common.{length, sym, subst, ap, arith}
 use Rattle.rt_trie.specs.Contents.{Contents}
+use Rattle.rt_trie.specs.Links.{count}
+use Rattle.rt_trie.specs.Nodes.{CountsNodes}
 use Rattle.rt_trie.proofs.CountLemmas.{nodes_few}
+use Rattle.rt_trie.proofs.NodeCountLemmas.{counts_nodes}
 use Rattle.rt_trie.proofs.tries.Trie.nodes.Goals as goal
+
+pub returns-clause-counted : goal.returns-clause-counted
+returns-clause-counted g c =
+    subst (λ n. CountsNodes c.args.self.now.pairs n) (sym c.self.invariant.nodes)
+    (subst (λ (x : Contents _). CountsNodes x.pairs (count c.self.inside.root)) c.self.view_is (counts_nodes c.self.inside.root c.self.invariant.lawful))
 
 pub returns-clause-bound : goal.returns-clause-bound
 returns-clause-bound g c =

@@ -1,0 +1,8 @@
+use Rattle.std.proofs.Common.{sym, subst}
+use Rattle.rt_trie.specs.Map.{Pairs, IsOrdered}
+use Rattle.rt_trie.proofs.LinkLemmas.{pairs_ordered}
+use Rattle.rt_trie.proofs.tries.Trie.walk.Goals as goal
+
+pub returns-clause-ordered : goal.returns-clause-ordered
+returns-clause-ordered g c =
+    subst (λ (m : Pairs _). IsOrdered m) (sym c.new.ensures) (pairs_ordered c.self.inside.root c.self.invariant.lawful.0)
