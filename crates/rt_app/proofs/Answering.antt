@@ -27,7 +27,7 @@ pub answers_refused : (feed : ℕ) (line : List ℕ) (b b' : Contents) (cmd : Cm
 answers_refused feed line b b' cmd is same = record { told = refused cmd; reads = is; journaled = same ∙ unchanged b; answered = refl }
 
 -- an answered command is the journal's last entry
-pub answers_reply : (feed : ℕ) (line : List ℕ) (b b' : Contents) (cmd : Cmd) (reply : Reply) → AnswersLine line (Ok (Some cmd)) → book.Answers b b' feed cmd reply → Answers feed line b b' (Some (Did reply))
+pub answers_reply : (feed : ℕ) (line : List ℕ) (b b' : Contents) (cmd : Cmd) (reply : Reply) → AnswersLine line (Ok (Some cmd)) → book.Applies b b' feed cmd reply → Answers feed line b b' (Some (Did reply))
 answers_reply feed line b b' cmd reply is answers = record { told = did cmd reply; reads = is; journaled = answers.journaled; answered = refl }
 
 -- before the first line

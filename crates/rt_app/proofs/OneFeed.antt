@@ -7,7 +7,7 @@ use Rattle.rt_rib.specs.declared.commands.Cmd.{Cmd}
 use Rattle.rt_rib.specs.declared.commands.Reply.{Reply}
 use Rattle.rt_rib.specs.declared.commands.Entry.{Entry}
 use Rattle.rt_rib.specs.Book.{Contents, table_of}
-use Rattle.rt_rib.specs.Journal.{IsLawful}
+use Rattle.rt_rib.specs.Journal.{IsLawfulJournal}
 use Rattle.rt_feed.specs.declared.report.Line.{Line}
 use Rattle.rt_feed.specs.Told.{Told, answered, entries_of, report_lines, some_refused, some_faulty}
 use Rattle.rt_feed.proofs.Telling.{has_refusal-report_lines, has_fault-report_lines}
@@ -21,7 +21,7 @@ entries : ℕ → List (Cmd × Reply) → List Entry
 entries feed pairs = map (λ p. record { feed = feed; cmd = p.0; reply = p.1 }) pairs
 
 -- of one feed's entries all are its own
-entries_of-entries : (pairs : List (Cmd × Reply)) → journals.entries_of 1 (entries 1 pairs) ≡ entries 1 pairs
+entries_of-entries : (pairs : List (Cmd × Reply)) → journals.feed_entries 1 (entries 1 pairs) ≡ entries 1 pairs
 unfolding entries
 entries_of-entries [] = refl
 entries_of-entries (pair ∷ pairs) = ap (λ es. record { feed = 1; cmd = pair.0; reply = pair.1 } ∷ es) (entries_of-entries pairs)
@@ -43,7 +43,7 @@ report_status-lines told = rw (has_refusal-report_lines, has_fault-report_lines,
 
 -- the report of the one feed, and then the table that its answered commands leave
 pub one_feed-text : (text : List ℕ) (limit number : ℕ) (b : Contents) (report : List Line) (bytes : List ℕ)
-    → AnswersLines 1 text [] number (record { limit = limit; journal = [] }) b report → IsLawful b.limit b.journal
+    → AnswersLines 1 text [] number (record { limit = limit; journal = [] }) b report → IsLawfulJournal b.limit b.journal
     → bytes ≡ report_text 1 report ++ table_text (table_of b) → IsRunText (text ∷ []) limit bytes (report_status report)
 unfolding entries
 one_feed-text text limit number b report bytes answers lawful printed =

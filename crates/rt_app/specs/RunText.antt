@@ -4,7 +4,7 @@ use Rattle.std.specs.List.{list_any}
 use Rattle.std.specs.Io.KnownBytes.{Appends}
 use Rattle.rt_cidr.specs.Output.{AppendsBeginning}
 use Rattle.rt_rib.specs.declared.commands.Entry.{Entry}
-use Rattle.rt_rib.specs.Journal.{IsLawful, left}
+use Rattle.rt_rib.specs.Journal.{IsLawfulJournal, table_left}
 use Rattle.rt_rib.specs.Laws as journals
 use Rattle.rt_feed.specs.Told.{Told, Tells, entries_of, report_lines, some_refused, some_faulty}
 use Rattle.rt_feed.specs.Printed.{report_text, table_text}
@@ -17,7 +17,7 @@ ExplainsFrom feed journal [] [] = Unit {0}
 ExplainsFrom feed journal [] (told ∷ tolds) = ⊥
 ExplainsFrom feed journal (text ∷ texts) [] = ⊥
 ExplainsFrom feed journal (text ∷ texts) (told ∷ tolds) =
-    Tells text told [] × (journals.entries_of feed journal ≡ entries_of feed told) × ExplainsFrom (feed + 1) journal texts tolds
+    Tells text told [] × (journals.feed_entries feed journal ≡ entries_of feed told) × ExplainsFrom (feed + 1) journal texts tolds
 
 -- the reports of all feeds, one after another, the first of them this feed's
 abbrev pub reports_from : ℕ → List (List Told) → List ℕ
@@ -33,11 +33,11 @@ status_of tolds =
 -- the bytes are a run's text for these texts, where each feed may have so many routes, and this is its status
 pub record IsRunText (texts : List (List ℕ)) (limit : ℕ) (bytes : List ℕ) (status : ℕ) : Type 0 where
   pub journal : List Entry
-  pub lawful : IsLawful limit journal
+  pub lawful : IsLawfulJournal limit journal
   pub told : List (List Told)
   pub explained : ExplainsFrom 1 journal texts told
   pub no_other : All (λ e. (1 ≤ e.feed) × (e.feed ≤ length texts)) journal
-  pub printed : bytes ≡ reports_from 1 told ++ table_text (left limit journal)
+  pub printed : bytes ≡ reports_from 1 told ++ table_text (table_left limit journal)
   pub is_status : status ≡ status_of told
 
 -- what a run leaves in its writer: such a text; nothing where it was refused; a beginning of such a text where it could not be written

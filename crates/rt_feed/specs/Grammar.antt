@@ -8,6 +8,8 @@ use Rattle.rt_cidr.specs.declared.prefixes.Prefix.{Prefix}
 use Rattle.rt_cidr.specs.declared.prefixes.TextFault.{TextFault}
 use Rattle.rt_cidr.specs.declared.prefixes.TextFault.TheVariants.{Text, Length, Bits}
 use Rattle.rt_cidr.specs.Reading.{ReadsDecimal, ReadsAddress, ReadsPrefix}
+use Rattle.rt_rib.specs.declared.routes.Hop.{Hop}
+use Rattle.rt_rib.specs.declared.routes.Hop.TheVariants.{Via}
 use Rattle.rt_rib.specs.declared.commands.Cmd.{Cmd}
 use Rattle.rt_rib.specs.declared.commands.Cmd.TheVariants.{Add, Replace, Withdraw, Lookup, Dump}
 use Rattle.rt_feed.specs.declared.parse.LineFault.{LineFault}
@@ -80,10 +82,10 @@ three_read (Ok three) = Ok (three.0.now, three.1.now, three.2.now)
 three_read (Err fault) = Err fault
 
 -- a prefix, a preference and a next hop
-abbrev pub ReadsRoute : List (List ℕ) → Result (Prefix × ℕ × Addr) LineFault → Type 0
+abbrev pub ReadsRoute : List (List ℕ) → Result (Prefix × ℕ × Hop) LineFault → Type 0
 ReadsRoute rest answer =
     Then (ReadsThreeFields rest) (λ three. Then (ReadsPrefixField three.0) (λ prefix. Then (ReadsPreferenceField three.1) (λ pref.
-    Then (ReadsAddressField fault.Hop three.2) (λ hop answer. answer ≡ Ok (prefix, pref, hop))))) answer
+    Then (ReadsAddressField fault.Hop three.2) (λ hop answer. answer ≡ Ok (prefix, pref, Via hop))))) answer
 
 -- how a command's first field is spelled
 abbrev pub spelling : Keyword → List ℕ

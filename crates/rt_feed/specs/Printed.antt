@@ -3,19 +3,26 @@ use Rattle.std.specs.Prelude.{ℕ, List, [], ◌∷◌, ◌++◌, length, codes,
 use Rattle.std.specs.List.{flat_map}
 use Rattle.rt_cidr.specs.Text.{address_text, prefix_text}
 use Rattle.rt_rib.specs.declared.routes.Route.{Route}
+use Rattle.rt_rib.specs.declared.routes.Hop.{Hop}
+use Rattle.rt_rib.specs.declared.routes.Hop.TheVariants.{Via, Discard}
 use Rattle.rt_rib.specs.declared.commands.Reply.{Reply}
-use Rattle.rt_rib.specs.declared.commands.Reply.TheVariants.{Added, Exists, Full, Replaced, Withdrawn, Missing, Found, NoRoute, Dumped}
+use Rattle.rt_rib.specs.declared.commands.Reply.TheVariants.{Added, Exists, Full, Replaced, Withdrawn, Missing, Found, NoRoute, Dumped, Purged}
 use Rattle.rt_feed.specs.declared.parse.LineFault.{LineFault}
 use Rattle.rt_feed.specs.declared.parse.LineFault.TheVariants as fault
 use Rattle.rt_feed.specs.declared.report.Line.{Line}
 use Rattle.rt_feed.specs.declared.report.Answer.{Answer}
 use Rattle.rt_feed.specs.declared.report.Answer.TheVariants.{Did, Refused, Fault}
 
+-- the next hop's address, or `discard`
+abbrev pub hop_text : Hop → List ℕ
+hop_text (Via address) = address_text address.0
+hop_text Discard = codes "discard"
+
 -- `PREFIX feed F pref P via HOP`
 unfoldable pub route_text : Route → List ℕ
 route_text route =
     prefix_text route.prefix.base route.prefix.len ++ (codes " feed " ++ (decimal route.feed ++
-    (codes " pref " ++ (decimal route.pref ++ (codes " via " ++ address_text route.hop.0)))))
+    (codes " pref " ++ (decimal route.pref ++ (codes " via " ++ hop_text route.hop)))))
 
 -- the reply to a command
 unfoldable pub reply_text : Reply → List ℕ
@@ -28,6 +35,7 @@ reply_text Missing = codes "missing"
 reply_text (Found route) = codes "route " ++ route_text route
 reply_text NoRoute = codes "no route"
 reply_text (Dumped count) = codes "dumped " ++ decimal count
+reply_text (Purged count) = codes "purged " ++ decimal count
 
 -- E1 to E8
 unfoldable pub fault_text : LineFault → List ℕ

@@ -4,7 +4,7 @@ ghost use Rattle.rt_feed.specs.Grammar.{is_skipped, fields, fields_left, spellin
 
 use crate::lines::cut_at;
 use rt_cidr::{Addr, Prefix, TextFault, decimal_u32};
-use rt_rib::Cmd;
+use rt_rib::{Cmd, Hop};
 use thiserror::Error;
 
 /// The most bytes that a line may have, without its LF.
@@ -159,14 +159,14 @@ fn three_fields(rest: Option<&[u8]>) -> Result<(&[u8], &[u8], &[u8]), LineFault>
 }
 
 /// What an `add` or a `replace` says: a prefix, a preference and a next hop.
-fn parse_route(rest: Option<&[u8]>) -> Result<(Prefix, u32, Addr), LineFault>
+fn parse_route(rest: Option<&[u8]>) -> Result<(Prefix, u32, Hop), LineFault>
     ensures { ReadsRoute (fields_left rest.entry) result }
 {
     let (prefix, pref, hop) = three_fields(rest)?;
     let prefix = parse_prefix(prefix)?;
     let pref = parse_preference(pref)?;
     let hop = parse_address(hop, LineFault::Hop)?;
-    Ok((prefix, pref, hop))
+    Ok((prefix, pref, Hop::Via(hop)))
 }
 
 /// The prefix that the field is.

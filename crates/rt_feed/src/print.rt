@@ -3,12 +3,12 @@
 ghost use Rattle.std.specs.Prelude.{◌≡◌, ◌+◌, ◌≤◌, ◌++◌, [], length, drop, IsOk, OnOk, OnErr};
 ghost use Rattle.std.specs.Io.KnownBytes.{Appends};
 ghost use Rattle.rt_cidr.specs.Output.{AppendsBeginning};
-ghost use Rattle.rt_feed.specs.Printed.{route_text, reply_text, fault_text, answer_text, line_text, report_text, row_text, count_text, table_text};
+ghost use Rattle.rt_feed.specs.Printed.{hop_text, route_text, reply_text, fault_text, answer_text, line_text, report_text, row_text, count_text, table_text};
 
 use crate::parse::LineFault;
 use crate::report::{Answer, Line, Report};
 use rt_cidr::{decimal_before, put, text_before};
-use rt_rib::{Reply, Route};
+use rt_rib::{Hop, Reply, Route};
 use std::io::{self, Write};
 
 /// Bytes for the longest printed line: its answer and two decimals of 64 bits.
@@ -92,13 +92,27 @@ fn route_before(route: &Route, buf: &mut [u8; LINE_ROOM], end: usize) -> usize
     ensures short { end ≤ result + 90 }
     ensures before_end { result ≤ end }
 {
-    let start = route.hop.write_before(buf, end);
+    let start = hop_before(route.hop, buf, end);
     let start = text_before(b" via ", buf, start);
     let start = decimal_before(u64::from(route.pref), buf, start);
     let start = text_before(b" pref ", buf, start);
     let start = decimal_before(u64::from(route.feed), buf, start);
     let start = text_before(b" feed ", buf, start);
     route.prefix.write_before(buf, start)
+}
+
+/// Where the route leads, 15 bytes at most.
+fn hop_before(hop: Hop, buf: &mut [u8; LINE_ROOM], end: usize) -> usize
+    requires room { 15 ≤ end }
+    requires within { end ≤ 160 }
+    ensures written { drop result buf.new ≡ hop_text hop ++ drop end buf.old }
+    ensures short { end ≤ result + 15 }
+    ensures before_end { result ≤ end }
+{
+    match hop {
+        Hop::Via(address) => address.write_before(buf, end),
+        Hop::Discard => text_before(b"discard", buf, end),
+    }
 }
 
 #[tactic(auto, unfolding(crate::specs::Printed::reply_text))]
@@ -124,6 +138,10 @@ fn reply_before(reply: &Reply, buf: &mut [u8; LINE_ROOM], end: usize) -> usize
         Reply::Dumped(count) => {
             let start = decimal_before(u64::from(*count), buf, end);
             text_before(b"dumped ", buf, start)
+        }
+        Reply::Purged(count) => {
+            let start = decimal_before(u64::from(*count), buf, end);
+            text_before(b"purged ", buf, start)
         }
     }
 }

@@ -7,7 +7,7 @@ use Rattle.rt_cidr.specs.declared.address.Addr.{Addr}
 use Rattle.rt_cidr.specs.Prefix.{covers}
 use Rattle.rt_rib.specs.declared.routes.Route.{Route}
 use Rattle.rt_rib.specs.Table.{is_better, is_of, IsTable}
-use Rattle.rt_rib.specs.LookUp.{matching, longest, best, look_up}
+use Rattle.rt_rib.specs.LookUp.{matching, longest_of, best, look_up}
 use Rattle.rt_rib.specs.Laws.{IsBestMatch, LookUpFindsBest}
 use Rattle.rt_rib.proofs.Lists.{AllPairs-head, AllPairs-tail, filter-none, list_all-from}
 use Rattle.rt_rib.proofs.Order.{below_then-false, is_of-from}
@@ -94,17 +94,17 @@ module _ (addr : Addr) (t : List Route) (table : IsTable t) where
 
   -- whether none of the longest is better
   abbrev is_best : Route → Bool
-  is_best s = list_all (λ u. not (is_better u s)) (longest (matching addr t))
+  is_best s = list_all (λ u. not (is_better u s)) (longest_of (matching addr t))
 
   -- one of the longest covers the address, and is as long as any that does
-  known : (s : Route) → Contains (longest (matching addr t)) s → Contains t s × (covering s ≡ true) × ((u : Route) → Contains t u → covering u ≡ true → u.prefix.len ≤ s.prefix.len)
+  known : (s : Route) → Contains (longest_of (matching addr t)) s → Contains t s × (covering s ≡ true) × ((u : Route) → Contains t u → covering u ≡ true → u.prefix.len ≤ s.prefix.len)
   known s c =
       let long = filter-from is_long (matching addr t) s c in
       let match = filter-from covering t s long.0 in
       (match.0, match.1, λ u d e. leb-true u.prefix.len s.prefix.len (list_all-contained (λ v. leb v.prefix.len s.prefix.len) (matching addr t) u long.1 (filter-keeps covering t u d e)))
 
   -- and the other way round
-  is_longest : (s : Route) → Contains t s → covering s ≡ true → ((u : Route) → Contains t u → covering u ≡ true → u.prefix.len ≤ s.prefix.len) → Contains (longest (matching addr t)) s
+  is_longest : (s : Route) → Contains t s → covering s ≡ true → ((u : Route) → Contains t u → covering u ≡ true → u.prefix.len ≤ s.prefix.len) → Contains (longest_of (matching addr t)) s
   is_longest s c e most =
       filter-keeps is_long (matching addr t) s (filter-keeps covering t s c e)
       (list_all-from_contained (λ u. leb u.prefix.len s.prefix.len) (matching addr t) (λ u d.
@@ -113,14 +113,14 @@ module _ (addr : Addr) (t : List Route) (table : IsTable t) where
   sound : (r : Route) → look_up addr t ≡ Some r → IsBestMatch addr t r
   unfolding look_up
   sound r e =
-      let found = find-from is_best (longest (matching addr t)) r e in
+      let found = find-from is_best (longest_of (matching addr t)) r e in
       let facts = known r found.0 in
       record {
         contained = facts.0;
         covering = facts.1;
         longest = facts.2;
         best = λ s c d same.
-            not-true (is_better s r) (list_all-contained (λ u. not (is_better u r)) (longest (matching addr t)) s found.1
+            not-true (is_better s r) (list_all-contained (λ u. not (is_better u r)) (longest_of (matching addr t)) s found.1
             (is_longest s c d (λ u k l. let most = facts.2 u k l in omega arith)));
       }
 
@@ -129,12 +129,12 @@ module _ (addr : Addr) (t : List Route) (table : IsTable t) where
   complete r h =
       let there = is_longest r h.contained h.covering h.longest in
       let wins : is_best r ≡ true =
-      list_all-from_contained (λ u. not (is_better u r)) (longest (matching addr t)) (λ s c.
+      list_all-from_contained (λ u. not (is_better u r)) (longest_of (matching addr t)) (λ s c.
       let facts = known s c in
       let low = h.longest s facts.0 facts.1 in
       let high = facts.2 r h.contained h.covering in
       not_from_false (is_better s r) (h.best s facts.0 facts.1 (omega arith))) in
-      let found = find-some is_best (longest (matching addr t)) r there wins in
+      let found = find-some is_best (longest_of (matching addr t)) r there wins in
       let s = found.0 in
       let facts = known s found.2 in
       let low = h.longest s facts.0 facts.1 in
@@ -142,7 +142,7 @@ module _ (addr : Addr) (t : List Route) (table : IsTable t) where
       let len : s.prefix.len ≡ r.prefix.len = omega arith in
       let base = (is_at-parts (base_at addr r.prefix.len) r.prefix.len s (covers-at s addr r.prefix.len facts.1 len)).0 in
       let own = (is_at-parts (base_at addr r.prefix.len) r.prefix.len r (covers-at r addr r.prefix.len h.covering refl)).0 in
-      let worse = not-true (is_better r s) (list_all-contained (λ u. not (is_better u s)) (longest (matching addr t)) r found.3 there) in
+      let worse = not-true (is_better r s) (list_all-contained (λ u. not (is_better u s)) (longest_of (matching addr t)) r found.3 there) in
       let feed = even r s worse (h.best s facts.0 facts.1 len) in
       found.1 ∙ ap Some (one_of t table.single r s h.contained facts.0 (is_of-from r.feed r.prefix s feed (base ∙ sym own) len))
 
@@ -150,5 +150,5 @@ pub look_up_finds_best : LookUpFindsBest
 unfolding look_up
 look_up_finds_best addr t table = (
   (λ r. (sound addr t table r, complete addr t table r)),
-  (λ none. ap (λ m. best (longest m)) (filter-none (λ s. covers s.prefix addr) t (λ k d l. none (get_or t k d) (Contains-get_or t k d l)))),
+  (λ none. ap (λ m. best (longest_of m)) (filter-none (λ s. covers s.prefix addr) t (λ k d l. none (get_or t k d) (Contains-get_or t k d l)))),
 )

@@ -1,13 +1,13 @@
 -- The counts of a table's routes, as routes come and go.
-use Rattle.std.proofs.Common.{◌≡◌, ℕ, ◌+◌, ◌-◌, ◌*◌, ◌<◌, ◌≤◌, cond, eqb, List, [], length, get_or, replicate, refl, sym, ap, ◌∙◌, get_or-set_same, get_or-set_other, inl, inr, arith}
+use Rattle.std.proofs.Common.{◌≡◌, ℕ, ◌+◌, ◌-◌, ◌*◌, ◌<◌, ◌≤◌, Bool, true, false, not, cond, eqb, List, [], ◌∷◌, length, get_or, replicate, refl, sym, ap, ◌∙◌, get_or-set_same, get_or-set_other, inl, inr, arith}
 use Rattle.std.proofs.Math.ListN.{set}
-use Rattle.std.proofs.lemmas.Bool.{cases_eq, eq-eqb, ne_eqb, cond-true, cond-false}
-use Rattle.std.proofs.lemmas.List.Sums.{sum_by-set, sum_by-le, sum_by-insert, sum_by-remove}
+use Rattle.std.proofs.lemmas.Bool.{cases_eq, eq-eqb, ne_eqb, eqb-true, cases_Bool, both_ways, false_from_ne_true, not_from_false, cond-true, cond-false}
+use Rattle.std.proofs.lemmas.List.Sums.{sum_by-cons, sum_by-set, sum_by-le, sum_by-insert, sum_by-remove}
 use Rattle.std.proofs.lemmas.List.Edits.{length-insert, length-remove}
 use Rattle.std.proofs.lemmas.List.{get_or_default, get_or-replicate}
-use Rattle.std.specs.List.{All, insert, remove}
+use Rattle.std.specs.List.{All, filter, count_by, insert, remove}
 use Rattle.rt_rib.specs.declared.routes.Route.{Route}
-use Rattle.rt_rib.specs.Table.{count_of}
+use Rattle.rt_rib.specs.Table.{count_of, purge}
 use Rattle.rt_rib.specs.Book.{IsFeed}
 use Rattle.rt_rib.specs.Kept.{AreCounts}
 
@@ -130,4 +130,77 @@ AreCounts-nil limit = record {
   each = λ i l. get_or-replicate 64 i 0 0 l;
   within = λ i l. zero_at 64 i limit l;
   all = refl;
+}
+
+module _ {X : Type 0} (p : X → Bool) where
+  -- none passes a test of those that fail it
+  count-failing : (xs : List X) → count_by p (filter (λ x. not (p x)) xs) ≡ 0
+  count-failing [] = refl
+  count-failing (x ∷ xs) =
+      let rest = count-failing xs in
+      elim (cases_Bool (p x)) [
+        | inl goes ↦ rw goes rest
+        | inr stays ↦
+            let none : cond (p x) 1 0 ≡ ◌+◌ 0 0 = cond-false (p x) 1 0 stays in
+            let whole = sum_by-cons (λ z. cond (p z) 1 0) x (filter (λ z. not (p z)) xs) in
+            rw stays (omega arith)
+      ]
+
+  -- as many as pass it of all pass a test that those alone pass
+  count-kept_whole : (q : X → Bool) → ((x : X) → q x ≡ true → p x ≡ true) → (xs : List X) → count_by q (filter p xs) ≡ count_by q xs
+  count-kept_whole q only [] = refl
+  count-kept_whole q only (x ∷ xs) =
+      let rest = count-kept_whole q only xs in
+      let one : X → ℕ = λ z. cond (q z) 1 0 in
+      let whole = sum_by-cons one x xs in
+      elim (cases_Bool (p x)) [
+        | inl stays ↦ let kept = sum_by-cons one x (filter p xs) in rw stays (omega arith)
+        | inr goes ↦
+            let other : q x ≡ false = false_from_ne_true (q x) (λ e. both_ways (p x) goes (only x e)) in
+            let none : one x ≡ ◌+◌ 0 0 = cond-false (q x) 1 0 other in
+            rw goes (omega arith)
+      ]
+
+  -- those that pass a test, and those that fail it
+  count-both : (xs : List X) → length xs ≡ length (filter (λ x. not (p x)) xs) + count_by p xs
+  count-both [] = refl
+  count-both (x ∷ xs) =
+      let rest = count-both xs in
+      let whole = sum_by-cons (λ z. cond (p z) 1 0) x xs in
+      let kept = filter (λ z. not (p z)) xs in
+      elim (cases_Bool (p x)) [
+        | inl goes ↦
+            let one : cond (p x) 1 0 ≡ ◌+◌ 1 0 = cond-true (p x) 1 0 goes in
+            let list = ap length (cond-false (not (p x)) (x ∷ kept) kept (ap not goes)) in
+            omega arith
+        | inr stays ↦
+            let none : cond (p x) 1 0 ≡ ◌+◌ 0 0 = cond-false (p x) 1 0 stays in
+            let list = ap length (cond-true (not (p x)) (x ∷ kept) kept (ap not stays)) in
+            omega arith
+      ]
+
+-- the feed's count is none, where its routes went out
+pub AreCounts-purge : (limit : ℕ) (counts : List ℕ) (t : List Route) (own : ℕ) → own < 64 → length counts ≡ 64 → AreCounts limit counts t → AreCounts limit (set counts own 0) (purge (own + 1) t)
+AreCounts-purge limit counts t own inside many h = record {
+  each = λ i l. elim (cases_eq i own) [
+    | inl same ↦
+        ap (λ k. get_or (set counts own 0) k 0) same ∙ get_or-set_same counts own 0 0 (omega arith)
+        ∙ sym (count-failing (λ (r : Route). eqb r.feed (own + 1)) t) ∙ sym (ap (λ k. count_of (k + 1) (purge (own + 1) t)) same)
+    | inr other ↦
+        get_or-set_other counts own i 0 0 other ∙ h.each i l
+        ∙ sym (count-kept_whole (λ (r : Route). not (eqb r.feed (own + 1))) (λ (r : Route). eqb r.feed (i + 1))
+        (λ r e. not_from_false (eqb r.feed (own + 1)) (ne_eqb r.feed (own + 1) (λ f. other (let mine = eqb-true r.feed (i + 1) e in omega arith)))) t)
+  ];
+  within = λ i l. elim (cases_eq i own) [
+    | inl same ↦
+        let there = ap (λ k. get_or (set counts own 0) k 0) same ∙ get_or-set_same counts own 0 0 (omega arith) in
+        omega arith
+    | inr other ↦ let there = get_or-set_other counts own i 0 0 other in let low = h.within i l in omega arith
+  ];
+  all =
+      let total = sum_by-set (λ x. x) counts own 0 0 (omega arith) in
+      let before = h.all in
+      let both = count-both (λ (r : Route). eqb r.feed (own + 1)) t in
+      let now = h.each own inside in
+      omega arith;
 }

@@ -4,21 +4,21 @@ use Rattle.rt_rib.specs.declared.commands.Cmd.{Cmd}
 use Rattle.rt_rib.specs.declared.commands.Reply.{Reply}
 use Rattle.rt_rib.specs.declared.commands.Entry.{Entry}
 use Rattle.rt_rib.specs.Sequential.{reply_of}
-use Rattle.rt_rib.specs.Journal.{left, IsLawful}
+use Rattle.rt_rib.specs.Journal.{table_left, IsLawfulJournal}
 use Rattle.rt_rib.specs.Laws.{asked, LeftByEntry, LawfulByEntry, LawfulIsDetermined}
-use Rattle.rt_rib.proofs.Journals.{IsTable-left, left-nil, left-push, IsLawful-nil, IsLawful-push, IsLawful-front, IsLawful-last}
+use Rattle.rt_rib.proofs.Journals.{IsTable-left, table_left-nil, table_left-push, IsLawfulJournal-nil, IsLawfulJournal-push, IsLawfulJournal-front, IsLawfulJournal-last}
 
 -- what a journal leaves, entry by entry
 pub left_by_entry : LeftByEntry
-left_by_entry limit journal e = (IsTable-left limit journal, left-nil limit, left-push limit journal e)
+left_by_entry limit journal e = (IsTable-left limit journal, table_left-nil limit, table_left-push limit journal e)
 
 -- what makes a journal lawful, entry by entry
 pub lawful_by_entry : LawfulByEntry
 lawful_by_entry limit journal e = (
-  IsLawful-nil limit,
+  IsLawfulJournal-nil limit,
   (
-    (λ h. (IsLawful-front limit journal (e ∷ []) h, IsLawful-last limit journal e h)),
-    (λ both. IsLawful-push limit journal e both.0 both.1),
+    (λ h. (IsLawfulJournal-front limit journal (e ∷ []) h, IsLawfulJournal-last limit journal e h)),
+    (λ both. IsLawfulJournal-push limit journal e both.0 both.1),
   ),
 )
 
@@ -32,7 +32,7 @@ unfolding entry
 same_entry e f feed cmd reply = ap (λ x. entry x e.cmd e.reply) feed ∙ ap (λ x. entry f.feed x e.reply) cmd ∙ ap (λ x. entry f.feed f.cmd x) reply
 
 -- after the same entries, the same commands have the same replies
-determined : (limit : ℕ) (p j k : List Entry) → IsLawful limit (p ++ j) → IsLawful limit (p ++ k) → asked j ≡ asked k → j ≡ k
+determined : (limit : ℕ) (p j k : List Entry) → IsLawfulJournal limit (p ++ j) → IsLawfulJournal limit (p ++ k) → asked j ≡ asked k → j ≡ k
 determined limit p [] [] g h same = refl
 determined limit p [] (f ∷ k) g h same = cc
 determined limit p (e ∷ j) [] g h same = cc
@@ -43,12 +43,12 @@ determined limit p (e ∷ j) (f ∷ k) g h same =
     let cmd : e.cmd ≡ f.cmd = ap (λ z. z.1) first in
     let reply : e.reply ≡ f.reply =
     g.answered p e j refl
-    ∙ ap (λ x. reply_of limit (left limit p) x e.cmd) feed
-    ∙ ap (λ x. reply_of limit (left limit p) f.feed x) cmd
+    ∙ ap (λ x. reply_of limit (table_left limit p) x e.cmd) feed
+    ∙ ap (λ x. reply_of limit (table_left limit p) f.feed x) cmd
     ∙ sym (h.answered p f k refl) in
     let equal = same_entry e f feed cmd reply in
-    let g' : IsLawful limit ((p ++ f ∷ []) ++ j) = subst (IsLawful limit) (ap (λ z. p ++ z ∷ j) equal ∙ sym (append_assoc p (f ∷ []) j)) g in
-    let h' : IsLawful limit ((p ++ f ∷ []) ++ k) = subst (IsLawful limit) (sym (append_assoc p (f ∷ []) k)) h in
+    let g' : IsLawfulJournal limit ((p ++ f ∷ []) ++ j) = subst (IsLawfulJournal limit) (ap (λ z. p ++ z ∷ j) equal ∙ sym (append_assoc p (f ∷ []) j)) g in
+    let h' : IsLawfulJournal limit ((p ++ f ∷ []) ++ k) = subst (IsLawfulJournal limit) (sym (append_assoc p (f ∷ []) k)) h in
     let rest = determined limit (p ++ f ∷ []) j k g' h' others in
     ap (λ z. z ∷ j) equal ∙ ap (λ z. f ∷ z) rest
 

@@ -1,19 +1,21 @@
 -- Each feed's routes stand by themselves.
-use Rattle.std.proofs.Common.{◌≡◌, ℕ, ◌+◌, Bool, true, false, cond, ◌||◌, eqb, leb, inl, inr, List, [], ◌∷◌, refl, ap, ◌∙◌, sym, subst, arith}
+use Rattle.std.proofs.Common.{◌≡◌, ℕ, ◌+◌, Bool, true, false, cond, not, ◌||◌, eqb, leb, inl, inr, List, [], ◌∷◌, refl, ap, ◌∙◌, sym, subst, arith}
 use Rattle.std.specs.Prelude.{if◌then◌else◌, fold}
-use Rattle.std.proofs.lemmas.Bool.{cases_Bool, cond_both, cond-true, cond-false, both_ways, eqb-true, eq-eqb, eqb-false, false_from_ne_true, false≢true}
+use Rattle.std.proofs.lemmas.Bool.{cases_Bool, cond_both, cond-true, cond-false, both_ways, eqb-true, eq-eqb, eqb-false, ne_eqb, not-true, not_from_false, false_from_ne_true, false≢true}
+use Rattle.std.proofs.lemmas.List.Elements.{All-weaker, filter_passes}
 use Rattle.std.proofs.lemmas.List.Kept.{AllPairs-filter}
 use Rattle.std.proofs.lemmas.List.Sums.{sum_by-cons}
 use Rattle.std.specs.List.{filter, list_any, count_by}
 use Rattle.rt_cidr.specs.declared.prefixes.Prefix.{Prefix}
 use Rattle.rt_rib.specs.declared.routes.Route.{Route}
 use Rattle.rt_rib.specs.declared.commands.Cmd.{Cmd}
-use Rattle.rt_rib.specs.declared.commands.Cmd.TheVariants.{Add, Replace, Withdraw, Lookup, Dump}
+use Rattle.rt_rib.specs.declared.commands.Cmd.TheVariants.{Add, Replace, Withdraw, Lookup, Dump, Purge}
 use Rattle.rt_rib.specs.declared.commands.Entry.{Entry}
-use Rattle.rt_rib.specs.Table.{is_of, has, count_of, put_in, take_out, IsTable}
-use Rattle.rt_rib.specs.Sequential.{reply_of, after}
-use Rattle.rt_rib.specs.Journal.{left}
-use Rattle.rt_rib.specs.Laws.{own, entries_of, is_own, FeedsStandAlone}
+use Rattle.rt_rib.specs.Table.{is_of, has, count_of, put_in, take_out, purge, IsTable}
+use Rattle.rt_rib.specs.Sequential.{reply_of, table_after}
+use Rattle.rt_rib.specs.Journal.{table_left}
+use Rattle.rt_rib.specs.Laws.{feed_routes, feed_entries, is_own, FeedsStandAlone}
+use Rattle.rt_rib.proofs.Lists.{filter-none}
 use Rattle.rt_rib.proofs.Order.{is_of-parts}
 use Rattle.rt_rib.proofs.Tables.{Ordered, Apart, IsTable-put_in, IsTable-take_out, IsTable-nil, has-take_out}
 use Rattle.rt_rib.proofs.Journals.{step, IsTable-after}
@@ -50,15 +52,15 @@ is_of-own : (feed : ℕ) (p : Prefix) (r : Route) → is_of feed p r ≡ true �
 is_of-own feed p r e = eq-eqb r.feed feed (is_of-parts feed p r e).0
 
 -- whether a feed has a route to a prefix shows in its own routes
-has-own : (feed : ℕ) (p : Prefix) (t : List Route) → has feed p (own feed t) ≡ has feed p t
+has-own : (feed : ℕ) (p : Prefix) (t : List Route) → has feed p (feed_routes feed t) ≡ has feed p t
 has-own feed p t = list_any-kept (λ r. eqb r.feed feed) (is_of feed p) (is_of-own feed p) t
 
 -- and so does how many it has
-count_of-own : (feed : ℕ) (t : List Route) → count_of feed (own feed t) ≡ count_of feed t
+count_of-own : (feed : ℕ) (t : List Route) → count_of feed (feed_routes feed t) ≡ count_of feed t
 count_of-own feed t = count-kept (λ r. eqb r.feed feed) t
 
 -- a feed's routes are a table
-IsTable-own : (feed : ℕ) (t : List Route) → IsTable t → IsTable (own feed t)
+IsTable-own : (feed : ℕ) (t : List Route) → IsTable t → IsTable (feed_routes feed t)
 IsTable-own feed t h = record {
   ordered = AllPairs-filter Ordered (λ r. eqb r.feed feed) t h.ordered;
   single = AllPairs-filter Apart (λ r. eqb r.feed feed) t h.single;
@@ -66,10 +68,10 @@ IsTable-own feed t h = record {
 
 module _ (t : List Route) (h : IsTable t) where
   -- a route of another feed goes in
-  own-put_in_other : (feed : ℕ) (r : Route) → has r.feed r.prefix t ≡ false → (r.feed ≡ feed → ⊥) → own feed (put_in r t) ≡ own feed t
+  own-put_in_other : (feed : ℕ) (r : Route) → has r.feed r.prefix t ≡ false → (r.feed ≡ feed → ⊥) → feed_routes feed (put_in r t) ≡ feed_routes feed t
   own-put_in_other feed r fresh other =
       let mine = λ (s : Route). eqb s.feed feed in
-      one_table_of_set (own feed (put_in r t)) (own feed t) (IsTable-own feed (put_in r t) (IsTable-put_in r t fresh h)) (IsTable-own feed t h)
+      one_table_of_set (feed_routes feed (put_in r t)) (feed_routes feed t) (IsTable-own feed (put_in r t) (IsTable-put_in r t fresh h)) (IsTable-own feed t h)
       (λ x. (
         (λ c.
             let both = filter-from mine (put_in r t) x c in
@@ -81,29 +83,29 @@ module _ (t : List Route) (h : IsTable t) where
       ))
 
   -- a route of the feed goes in
-  own-put_in : (r : Route) → has r.feed r.prefix t ≡ false → own r.feed (put_in r t) ≡ put_in r (own r.feed t)
+  own-put_in : (r : Route) → has r.feed r.prefix t ≡ false → feed_routes r.feed (put_in r t) ≡ put_in r (feed_routes r.feed t)
   own-put_in r fresh =
       let mine = λ (s : Route). eqb s.feed r.feed in
       let fresh' = has-own r.feed r.prefix t ∙ fresh in
-      one_table_of_set (own r.feed (put_in r t)) (put_in r (own r.feed t)) (IsTable-own r.feed (put_in r t) (IsTable-put_in r t fresh h)) (IsTable-put_in r (own r.feed t) fresh' (IsTable-own r.feed t h))
+      one_table_of_set (feed_routes r.feed (put_in r t)) (put_in r (feed_routes r.feed t)) (IsTable-own r.feed (put_in r t) (IsTable-put_in r t fresh h)) (IsTable-put_in r (feed_routes r.feed t) fresh' (IsTable-own r.feed t h))
       (λ x. (
         (λ c.
             let both = filter-from mine (put_in r t) x c in
             elim ((put_in_adds r x t).0 both.0) [
-              | inl old ↦ (put_in_adds r x (own r.feed t)).1 (inl (filter-keeps mine t x old both.1))
-              | inr same ↦ (put_in_adds r x (own r.feed t)).1 (inr same)
+              | inl old ↦ (put_in_adds r x (feed_routes r.feed t)).1 (inl (filter-keeps mine t x old both.1))
+              | inr same ↦ (put_in_adds r x (feed_routes r.feed t)).1 (inr same)
             ]),
-        (λ c. elim ((put_in_adds r x (own r.feed t)).0 c) [
+        (λ c. elim ((put_in_adds r x (feed_routes r.feed t)).0 c) [
           | inl old ↦ let both = filter-from mine t x old in filter-keeps mine (put_in r t) x ((put_in_adds r x t).1 (inl both.0)) both.1
           | inr same ↦ filter-keeps mine (put_in r t) x ((put_in_adds r x t).1 (inr same)) (eq-eqb x.feed r.feed (ap (λ s. s.feed) (sym same)))
         ]),
       ))
 
   -- a route of another feed goes out
-  own-take_out_other : (feed mover : ℕ) (p : Prefix) → (mover ≡ feed → ⊥) → own feed (take_out mover p t) ≡ own feed t
+  own-take_out_other : (feed mover : ℕ) (p : Prefix) → (mover ≡ feed → ⊥) → feed_routes feed (take_out mover p t) ≡ feed_routes feed t
   own-take_out_other feed mover p other =
       let mine = λ (s : Route). eqb s.feed feed in
-      one_table_of_set (own feed (take_out mover p t)) (own feed t) (IsTable-own feed (take_out mover p t) (IsTable-take_out mover p t h)) (IsTable-own feed t h)
+      one_table_of_set (feed_routes feed (take_out mover p t)) (feed_routes feed t) (IsTable-own feed (take_out mover p t) (IsTable-take_out mover p t h)) (IsTable-own feed t h)
       (λ x. (
         (λ c. let both = filter-from mine (take_out mover p t) x c in filter-keeps mine t x ((take_out_leaves_others mover p x t).0 both.0).0 both.1),
         (λ c.
@@ -113,42 +115,79 @@ module _ (t : List Route) (h : IsTable t) where
       ))
 
   -- a route of the feed goes out
-  own-take_out : (feed : ℕ) (p : Prefix) → own feed (take_out feed p t) ≡ take_out feed p (own feed t)
+  own-take_out : (feed : ℕ) (p : Prefix) → feed_routes feed (take_out feed p t) ≡ take_out feed p (feed_routes feed t)
   own-take_out feed p =
       let mine = λ (s : Route). eqb s.feed feed in
-      one_table_of_set (own feed (take_out feed p t)) (take_out feed p (own feed t)) (IsTable-own feed (take_out feed p t) (IsTable-take_out feed p t h)) (IsTable-take_out feed p (own feed t) (IsTable-own feed t h))
+      one_table_of_set (feed_routes feed (take_out feed p t)) (take_out feed p (feed_routes feed t)) (IsTable-own feed (take_out feed p t) (IsTable-take_out feed p t h)) (IsTable-take_out feed p (feed_routes feed t) (IsTable-own feed t h))
       (λ x. (
         (λ c.
             let both = filter-from mine (take_out feed p t) x c in
             let out = (take_out_leaves_others feed p x t).0 both.0 in
-            (take_out_leaves_others feed p x (own feed t)).1 (filter-keeps mine t x out.0 both.1, out.1)),
+            (take_out_leaves_others feed p x (feed_routes feed t)).1 (filter-keeps mine t x out.0 both.1, out.1)),
         (λ c.
-            let out = (take_out_leaves_others feed p x (own feed t)).0 c in
+            let out = (take_out_leaves_others feed p x (feed_routes feed t)).0 c in
             let both = filter-from mine t x out.0 in
             filter-keeps mine (take_out feed p t) x ((take_out_leaves_others feed p x t).1 (both.0, out.1)) both.1),
       ))
 
+-- one filter takes out what another one keeps
+filter-both_none : {X : Type 0} (p : X → Bool) (xs : List X) → filter p (filter (λ x. not (p x)) xs) ≡ []
+filter-both_none p xs =
+    filter-none p (filter (λ x. not (p x)) xs)
+    (All-weaker (λ x. not (p x) ≡ true) (λ x. p x ≡ false) (λ x. not-true (p x)) (filter (λ x. not (p x)) xs) (filter_passes (λ x. not (p x)) xs))
+
+-- a filter that keeps what another one keeps undoes nothing
+filter-kept : {X : Type 0} (p q : X → Bool) → ((x : X) → p x ≡ true → q x ≡ true) → (xs : List X) → filter p (filter q xs) ≡ filter p xs
+filter-kept p q both [] = refl
+filter-kept p q both (x ∷ xs) =
+    let rest = filter-kept p q both xs in
+    elim (cases_Bool (q x)) [
+      | inl stays ↦
+          ap (filter p) (cond-true (q x) (x ∷ filter q xs) (filter q xs) stays) ∙ ap (λ ys. cond (p x) (x ∷ ys) ys) rest
+      | inr goes ↦
+          let other : p x ≡ false = false_from_ne_true (p x) (λ e. both_ways (q x) goes (both x e)) in
+          ap (filter p) (cond-false (q x) (x ∷ filter q xs) (filter q xs) goes) ∙ rest ∙ sym (cond-false (p x) (x ∷ filter p xs) (filter p xs) other)
+    ]
+
+-- another feed's routes go out
+own-purge_other : (feed mover : ℕ) (t : List Route) → (mover ≡ feed → ⊥) → feed_routes feed (purge mover t) ≡ feed_routes feed t
+own-purge_other feed mover t other =
+    filter-kept (λ (r : Route). eqb r.feed feed) (λ (r : Route). not (eqb r.feed mover))
+    (λ r mine. not_from_false (eqb r.feed mover) (ne_eqb r.feed mover (λ e. other (sym e ∙ eqb-true r.feed feed mine)))) t
+
+-- none of a feed's routes is left of them
+own-purge : (feed : ℕ) (t : List Route) → feed_routes feed (purge feed t) ≡ []
+own-purge feed t = filter-both_none (λ (r : Route). eqb r.feed feed) t
+
+-- and nothing of its own ones
+purge-own : (feed : ℕ) (t : List Route) → purge feed (feed_routes feed t) ≡ []
+purge-own feed t =
+    filter-none (λ (r : Route). not (eqb r.feed feed)) (feed_routes feed t)
+    (All-weaker (λ (r : Route). eqb r.feed feed ≡ true) (λ (r : Route). not (eqb r.feed feed) ≡ false)
+    (λ r e. ap not e) (feed_routes feed t) (filter_passes (λ (r : Route). eqb r.feed feed) t))
+
 -- another feed's command leaves the feed's routes
-after_other : (limit : ℕ) (t : List Route) (feed mover : ℕ) (cmd : Cmd) → IsTable t → (mover ≡ feed → ⊥) → own feed (after limit t mover cmd) ≡ own feed t
-unfolding after
+after_other : (limit : ℕ) (t : List Route) (feed mover : ℕ) (cmd : Cmd) → IsTable t → (mover ≡ feed → ⊥) → feed_routes feed (table_after limit t mover cmd) ≡ feed_routes feed t
+unfolding table_after
 after_other limit t feed mover (Add p pref hop) h other =
     let r : Route = record { prefix = p; feed = mover; pref = pref; hop = hop } in
-    cond_both (has mover p t) t (if leb limit (count_of mover t) then t else put_in r t) (λ u. own feed u ≡ own feed t) (λ there. refl)
-    (λ fresh. cond_both (leb limit (count_of mover t)) t (put_in r t) (λ u. own feed u ≡ own feed t) (λ full. refl) (λ room. own-put_in_other t h feed r fresh other))
+    cond_both (has mover p t) t (if leb limit (count_of mover t) then t else put_in r t) (λ u. feed_routes feed u ≡ feed_routes feed t) (λ there. refl)
+    (λ fresh. cond_both (leb limit (count_of mover t)) t (put_in r t) (λ u. feed_routes feed u ≡ feed_routes feed t) (λ full. refl) (λ room. own-put_in_other t h feed r fresh other))
 after_other limit t feed mover (Replace p pref hop) h other =
     let r : Route = record { prefix = p; feed = mover; pref = pref; hop = hop } in
-    cond_both (has mover p t) (put_in r (take_out mover p t)) t (λ u. own feed u ≡ own feed t)
+    cond_both (has mover p t) (put_in r (take_out mover p t)) t (λ u. feed_routes feed u ≡ feed_routes feed t)
     (λ there.
     own-put_in_other (take_out mover p t) (IsTable-take_out mover p t h) feed r (has-take_out mover p t) other
     ∙ own-take_out_other t h feed mover p other) (λ fresh. refl)
 after_other limit t feed mover (Withdraw p) h other =
-    cond_both (has mover p t) (take_out mover p t) t (λ u. own feed u ≡ own feed t) (λ there. own-take_out_other t h feed mover p other) (λ fresh. refl)
+    cond_both (has mover p t) (take_out mover p t) t (λ u. feed_routes feed u ≡ feed_routes feed t) (λ there. own-take_out_other t h feed mover p other) (λ fresh. refl)
 after_other limit t feed mover (Lookup addr) h other = refl
 after_other limit t feed mover Dump h other = refl
+after_other limit t feed mover Purge h other = own-purge_other feed mover t other
 
 -- the feed's own command does to its routes what it does to all
-after_own : (limit : ℕ) (t : List Route) (feed : ℕ) (cmd : Cmd) → IsTable t → own feed (after limit t feed cmd) ≡ after limit (own feed t) feed cmd
-unfolding after
+after_own : (limit : ℕ) (t : List Route) (feed : ℕ) (cmd : Cmd) → IsTable t → feed_routes feed (table_after limit t feed cmd) ≡ table_after limit (feed_routes feed t) feed cmd
+unfolding table_after
 after_own limit t feed (Add p pref hop) h =
     let r : Route = record { prefix = p; feed = feed; pref = pref; hop = hop } in
     rw (has-own feed p t, count_of-own feed t)
@@ -170,39 +209,41 @@ after_own limit t feed (Withdraw p) h =
     rw (has-own feed p t) (elim (cases_Bool (has feed p t)) [ inl there ↦ rw there (own-take_out t h feed p) | inr fresh ↦ rw fresh ])
 after_own limit t feed (Lookup addr) h = refl
 after_own limit t feed Dump h = refl
+after_own limit t feed Purge h = own-purge feed t ∙ sym (purge-own feed t)
 
 -- and it is answered from them
-reply_own : (limit : ℕ) (t : List Route) (feed : ℕ) (cmd : Cmd) → is_own cmd ≡ true → reply_of limit t feed cmd ≡ reply_of limit (own feed t) feed cmd
+reply_own : (limit : ℕ) (t : List Route) (feed : ℕ) (cmd : Cmd) → is_own cmd ≡ true → reply_of limit t feed cmd ≡ reply_of limit (feed_routes feed t) feed cmd
 unfolding reply_of
 reply_own limit t feed (Add p pref hop) e = rw (has-own feed p t, count_of-own feed t)
 reply_own limit t feed (Replace p pref hop) e = rw (has-own feed p t)
 reply_own limit t feed (Withdraw p) e = rw (has-own feed p t)
 reply_own limit t feed (Lookup addr) e = absurd (false≢true e)
 reply_own limit t feed Dump e = absurd (false≢true e)
+reply_own limit t feed Purge e = rw (count_of-own feed t) refl
 
 -- so it is over a whole journal, from any table on
-own_fold : (limit feed : ℕ) (t : List Route) (journal : List Entry) → IsTable t → own feed (fold (step limit) t journal) ≡ fold (step limit) (own feed t) (entries_of feed journal)
+own_fold : (limit feed : ℕ) (t : List Route) (journal : List Entry) → IsTable t → feed_routes feed (fold (step limit) t journal) ≡ fold (step limit) (feed_routes feed t) (feed_entries feed journal)
 own_fold limit feed t [] h = refl
 own_fold limit feed t (e ∷ journal) h =
     let rest = own_fold limit feed (step limit t e) journal (IsTable-after limit t e.feed e.cmd h) in
-    let others = entries_of feed journal in
+    let others = feed_entries feed journal in
     elim (cases_Bool (eqb e.feed feed)) [
       | inl same ↦
-          let mine : own feed (step limit t e) ≡ step limit (own feed t) e =
-          subst (λ g. own g (after limit t e.feed e.cmd) ≡ after limit (own g t) e.feed e.cmd) (eqb-true e.feed feed same) (after_own limit t e.feed e.cmd h) in
-          rest ∙ ap (λ u. fold (step limit) u others) mine ∙ ap (fold (step limit) (own feed t)) (sym (cond-true (eqb e.feed feed) (e ∷ others) others same))
+          let mine : feed_routes feed (step limit t e) ≡ step limit (feed_routes feed t) e =
+          subst (λ g. feed_routes g (table_after limit t e.feed e.cmd) ≡ table_after limit (feed_routes g t) e.feed e.cmd) (eqb-true e.feed feed same) (after_own limit t e.feed e.cmd h) in
+          rest ∙ ap (λ u. fold (step limit) u others) mine ∙ ap (fold (step limit) (feed_routes feed t)) (sym (cond-true (eqb e.feed feed) (e ∷ others) others same))
       | inr other ↦
           rest ∙ ap (λ u. fold (step limit) u others) (after_other limit t feed e.feed e.cmd h (eqb-false e.feed feed other))
-          ∙ ap (fold (step limit) (own feed t)) (sym (cond-false (eqb e.feed feed) (e ∷ others) others other))
+          ∙ ap (fold (step limit) (feed_routes feed t)) (sym (cond-false (eqb e.feed feed) (e ∷ others) others other))
     ]
 
 -- and from the empty one
-own_left : (limit feed : ℕ) (journal : List Entry) → own feed (left limit journal) ≡ left limit (entries_of feed journal)
-unfolding left
+own_left : (limit feed : ℕ) (journal : List Entry) → feed_routes feed (table_left limit journal) ≡ table_left limit (feed_entries feed journal)
+unfolding table_left
 own_left limit feed journal = own_fold limit feed [] journal IsTable-nil
 
 -- both together
 pub feeds_stand_alone : FeedsStandAlone
 feeds_stand_alone limit feed journal cmd =
     let same = own_left limit feed journal in
-    (same, (λ e. reply_own limit (left limit journal) feed cmd e ∙ ap (λ t. reply_of limit t feed cmd) same))
+    (same, (λ e. reply_own limit (table_left limit journal) feed cmd e ∙ ap (λ t. reply_of limit t feed cmd) same))

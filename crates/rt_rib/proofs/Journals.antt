@@ -6,16 +6,16 @@ use Rattle.std.proofs.lemmas.List.Sums.{fold_push}
 use Rattle.std.specs.List.{fold}
 use Rattle.rt_rib.specs.declared.routes.Route.{Route}
 use Rattle.rt_rib.specs.declared.commands.Cmd.{Cmd}
-use Rattle.rt_rib.specs.declared.commands.Cmd.TheVariants.{Add, Replace, Withdraw, Lookup, Dump}
+use Rattle.rt_rib.specs.declared.commands.Cmd.TheVariants.{Add, Replace, Withdraw, Lookup, Dump, Purge}
 use Rattle.rt_rib.specs.declared.commands.Entry.{Entry}
 use Rattle.rt_rib.specs.Table.{IsTable, has, take_out, put_in, count_of}
-use Rattle.rt_rib.specs.Sequential.{after}
-use Rattle.rt_rib.specs.Journal.{left, IsAnswered, IsLawful}
-use Rattle.rt_rib.proofs.Tables.{IsTable-put_in, IsTable-take_out, has-take_out}
+use Rattle.rt_rib.specs.Sequential.{table_after}
+use Rattle.rt_rib.specs.Journal.{table_left, IsAnswered, IsLawfulJournal}
+use Rattle.rt_rib.proofs.Tables.{IsTable-put_in, IsTable-take_out, IsTable-purge, has-take_out}
 
 -- each command leaves a table
-pub IsTable-after : (limit : ℕ) (t : List Route) (feed : ℕ) (cmd : Cmd) → IsTable t → IsTable (after limit t feed cmd)
-unfolding after
+pub IsTable-after : (limit : ℕ) (t : List Route) (feed : ℕ) (cmd : Cmd) → IsTable t → IsTable (table_after limit t feed cmd)
+unfolding table_after
 IsTable-after limit t feed (Add p pref hop) h =
     let r : Route = record { prefix = p; feed = feed; pref = pref; hop = hop } in
     cond_both (has feed p t) t (if leb limit (count_of feed t) then t else put_in r t) IsTable (λ there. h)
@@ -27,10 +27,11 @@ IsTable-after limit t feed (Replace p pref hop) h =
 IsTable-after limit t feed (Withdraw p) h = cond_both (has feed p t) (take_out feed p t) t IsTable (λ there. IsTable-take_out feed p t h) (λ fresh. h)
 IsTable-after limit t feed (Lookup addr) h = h
 IsTable-after limit t feed Dump h = h
+IsTable-after limit t feed Purge h = IsTable-purge feed t h
 
 -- what an entry's command leaves
 abbrev pub step : ℕ → List Route → Entry → List Route
-step limit t e = after limit t e.feed e.cmd
+step limit t e = table_after limit t e.feed e.cmd
 
 -- from any table on, a journal leaves a table
 IsTable-fold : (limit : ℕ) (t : List Route) (journal : List Entry) → IsTable t → IsTable (fold (step limit) t journal)
@@ -38,19 +39,19 @@ IsTable-fold limit t [] h = h
 IsTable-fold limit t (e ∷ journal) h = IsTable-fold limit (step limit t e) journal (IsTable-after limit t e.feed e.cmd h)
 
 -- the routes that a journal leaves are a table
-pub IsTable-left : (limit : ℕ) (journal : List Entry) → IsTable (left limit journal)
-unfolding left
+pub IsTable-left : (limit : ℕ) (journal : List Entry) → IsTable (table_left limit journal)
+unfolding table_left
 IsTable-left limit journal = IsTable-fold limit [] journal (record { ordered = λ i j d l m. absurd (omega arith); single = λ i j d l m. absurd (omega arith) })
 
 -- one entry more leaves what its command leaves
-pub left-push : (limit : ℕ) (journal : List Entry) (e : Entry) → left limit (journal ++ e ∷ []) ≡ after limit (left limit journal) e.feed e.cmd
-unfolding left
-left-push limit journal e = fold_push (step limit) [] journal e
+pub table_left-push : (limit : ℕ) (journal : List Entry) (e : Entry) → table_left limit (journal ++ e ∷ []) ≡ table_after limit (table_left limit journal) e.feed e.cmd
+unfolding table_left
+table_left-push limit journal e = fold_push (step limit) [] journal e
 
 -- no entry leaves the empty set
-pub left-nil : (limit : ℕ) → left limit [] ≡ []
-unfolding left
-left-nil limit = refl
+pub table_left-nil : (limit : ℕ) → table_left limit [] ≡ []
+unfolding table_left
+table_left-nil limit = refl
 
 -- a list with an element is not the empty one
 not_empty : {X : Type 0} (ys : List X) (x : X) (zs : List X) → [] ≡ ys ++ x ∷ zs → ⊥
@@ -71,8 +72,8 @@ push_parts (a ∷ xs) (y ∷ ys) e x zs h =
     ]
 
 -- a lawful journal goes on with an entry that is so answered
-pub IsLawful-push : (limit : ℕ) (journal : List Entry) (e : Entry) → IsLawful limit journal → IsAnswered limit journal e → IsLawful limit (journal ++ e ∷ [])
-IsLawful-push limit journal e lawful last = record {
+pub IsLawfulJournal-push : (limit : ℕ) (journal : List Entry) (e : Entry) → IsLawfulJournal limit journal → IsAnswered limit journal e → IsLawfulJournal limit (journal ++ e ∷ [])
+IsLawfulJournal-push limit journal e lawful last = record {
   answered = λ earlier x later h.
       elim (push_parts journal earlier e x later h) [
         | inl here ↦ subst (λ z. IsAnswered limit z x) here.0 (subst (λ z. IsAnswered limit journal z) here.1 last)
@@ -81,16 +82,16 @@ IsLawful-push limit journal e lawful last = record {
 }
 
 -- what a lawful journal begins with is lawful, and its last entry is so answered
-pub IsLawful-front : (limit : ℕ) (front back : List Entry) → IsLawful limit (front ++ back) → IsLawful limit front
-IsLawful-front limit front back lawful = record {
+pub IsLawfulJournal-front : (limit : ℕ) (front back : List Entry) → IsLawfulJournal limit (front ++ back) → IsLawfulJournal limit front
+IsLawfulJournal-front limit front back lawful = record {
   answered = λ earlier x later h.
       lawful.answered earlier x (later ++ back) (ap (λ z. z ++ back) h ∙ append_assoc earlier (x ∷ later) back);
 }
 
 -- and its last entry is so answered
-pub IsLawful-last : (limit : ℕ) (journal : List Entry) (e : Entry) → IsLawful limit (journal ++ e ∷ []) → IsAnswered limit journal e
-IsLawful-last limit journal e lawful = lawful.answered journal e [] refl
+pub IsLawfulJournal-last : (limit : ℕ) (journal : List Entry) (e : Entry) → IsLawfulJournal limit (journal ++ e ∷ []) → IsAnswered limit journal e
+IsLawfulJournal-last limit journal e lawful = lawful.answered journal e [] refl
 
 -- the journal without an entry is lawful
-pub IsLawful-nil : (limit : ℕ) → IsLawful limit []
-IsLawful-nil limit = record { answered = λ earlier x later h. absurd (not_empty earlier x later h) }
+pub IsLawfulJournal-nil : (limit : ℕ) → IsLawfulJournal limit []
+IsLawfulJournal-nil limit = record { answered = λ earlier x later h. absurd (not_empty earlier x later h) }

@@ -6,22 +6,22 @@ use Rattle.std.proofs.Math.ListN.{set}
 use Rattle.std.specs.List.{HoldsAt, insert, remove}
 use Rattle.rt_cidr.specs.declared.prefixes.Prefix.{Prefix}
 use Rattle.rt_rib.specs.declared.routes.Route.{Route}
-use Rattle.rt_rib.specs.declared.commands.Cmd.TheVariants.{Add, Replace, Withdraw}
-use Rattle.rt_rib.specs.declared.commands.Reply.TheVariants.{Added, Replaced, Withdrawn}
-use Rattle.rt_rib.specs.Table.{precedes, is_of, has, put_in, take_out, IsTable}
+use Rattle.rt_rib.specs.declared.commands.Cmd.TheVariants.{Add, Replace, Withdraw, Purge}
+use Rattle.rt_rib.specs.declared.commands.Reply.TheVariants.{Added, Replaced, Withdrawn, Purged}
+use Rattle.rt_rib.specs.Table.{precedes, is_of, has, put_in, take_out, purge, IsTable}
 use Rattle.rt_rib.specs.Search.{Divides}
 use Rattle.rt_rib.specs.Book.{IsFeed}
-use Rattle.rt_rib.specs.Kept.{Held, IsCounted, IsKept, Serves}
+use Rattle.rt_rib.specs.Kept.{Held, AreCounts, IsCounted, IsKept, Serves}
 use Rattle.rt_rib.specs.declared.commands.Cmd.{Cmd}
 use Rattle.rt_rib.specs.declared.commands.Reply.{Reply}
 use Rattle.rt_rib.specs.declared.commands.Entry.{Entry}
-use Rattle.rt_rib.specs.Sequential.{reply_of, after}
-use Rattle.rt_rib.specs.Journal.{left}
-use Rattle.rt_rib.proofs.Journals.{IsLawful-push, left-push}
-use Rattle.rt_rib.proofs.Tables.{IsTable-put_in, IsTable-take_out, has-take_out}
+use Rattle.rt_rib.specs.Sequential.{reply_of, table_after}
+use Rattle.rt_rib.specs.Journal.{table_left}
+use Rattle.rt_rib.proofs.Journals.{IsLawfulJournal-push, table_left-push}
+use Rattle.rt_rib.proofs.Tables.{IsTable-put_in, IsTable-take_out, IsTable-purge, has-take_out}
 use Rattle.rt_rib.proofs.Places.{put_in-place, take_out-place}
-use Rattle.rt_rib.proofs.Counts.{HasMore, HasMore-insert, HasMore-remove, HasMore-both, AreCounts-more, AreCounts-less, AreCounts-same, AreCounts-own}
-use Rattle.rt_rib.proofs.Steps.{held, added, withdrawn, replaced}
+use Rattle.rt_rib.proofs.Counts.{HasMore, HasMore-insert, HasMore-remove, HasMore-both, AreCounts-more, AreCounts-less, AreCounts-same, AreCounts-own, AreCounts-purge}
+use Rattle.rt_rib.proofs.Steps.{held, added, withdrawn, replaced, purged}
 use Rattle.rt_rib.proofs.Lists.{list_any-holds}
 use Rattle.rt_rib.proofs.Order.{is_of-parts}
 
@@ -78,6 +78,21 @@ module _ (limit : ℕ) (counts : List ℕ) (t : List Route) (h : IsCounted limit
     -- and that is what the sequential table does
     pub withdrawn_serves : Serves (held limit t) (held limit u) feed (Withdraw p) Withdrawn
     withdrawn_serves = withdrawn limit t feed p there u out
+
+  module _ (feed : ℕ) (is_feed : IsFeed feed) (u : List Route) (is : u ≡ purge feed t) where
+    -- without the feed's routes it is a table, and its count is none
+    pub purged_counted : IsCounted limit (set counts (feed - 1) 0) u
+    purged_counted =
+        let own = own_place feed is_feed in
+        record {
+          limited = h.limited;
+          table = subst IsTable (sym is) (IsTable-purge feed t h.table);
+          counted = subst (AreCounts limit (set counts (feed - 1) 0)) (ap (λ f. purge f t) (sym own.1) ∙ sym is) (AreCounts-purge limit counts t (feed - 1) own.0 many h.counted);
+        }
+
+    -- and that is what the sequential table does
+    pub purged_serves : (gone : ℕ) → gone ≡ get_or counts (feed - 1) 0 → Serves (held limit t) (held limit u) feed Purge (Purged gone)
+    purged_serves gone are = rw (are, AreCounts-own limit counts t feed h.counted is_feed) (purged limit t feed u is)
 
 -- where a list was divided, it is divided with one element less
 pub Divides-remove : (test : Route → Bool) (t : List Route) (from place to : ℕ) → from < length t → Divides test t place → ((from < place) × (to ≡ place - 1)) ⊎ ((place ≤ from) × (to ≡ place)) → Divides test (remove t from) to
@@ -136,9 +151,9 @@ module _ (limit : ℕ) (counts : List ℕ) (t : List Route) (h : IsCounted limit
 pub IsKept-push : (old new : Held) (journal more : List Entry) (feed : ℕ) (cmd : Cmd) (reply : Reply) → IsKept old journal → Serves old new feed cmd reply → more ≡ journal ++ record { feed = feed; cmd = cmd; reply = reply } ∷ [] → IsKept new more
 IsKept-push old new journal more feed cmd reply h serves is =
     let e : Entry = record { feed = feed; cmd = cmd; reply = reply } in
-    let answered : reply ≡ reply_of old.limit (left old.limit journal) feed cmd = serves.replied ∙ ap (λ t. reply_of old.limit t feed cmd) h.kept in
-    let next : IsKept (record { limit = old.limit; routes = after old.limit old.routes feed cmd }) (journal ++ e ∷ []) = record {
-      lawful = IsLawful-push old.limit journal e h.lawful answered;
-      kept = ap (λ t. after old.limit t feed cmd) h.kept ∙ sym (left-push old.limit journal e);
+    let answered : reply ≡ reply_of old.limit (table_left old.limit journal) feed cmd = serves.replied ∙ ap (λ t. reply_of old.limit t feed cmd) h.kept in
+    let next : IsKept (record { limit = old.limit; routes = table_after old.limit old.routes feed cmd }) (journal ++ e ∷ []) = record {
+      lawful = IsLawfulJournal-push old.limit journal e h.lawful answered;
+      kept = ap (λ t. table_after old.limit t feed cmd) h.kept ∙ sym (table_left-push old.limit journal e);
     } in
-    rw (serves.left, is) next
+    rw (serves.changed, is) next

@@ -6,11 +6,11 @@ use Rattle.std.proofs.lemmas.Bool.{le-leb, lt-leb}
 use Rattle.rt_cidr.specs.declared.address.Addr.{Addr}
 use Rattle.rt_cidr.specs.declared.prefixes.Prefix.{Prefix}
 use Rattle.rt_rib.specs.declared.routes.Route.{Route}
-use Rattle.rt_rib.specs.declared.commands.Cmd.TheVariants.{Add, Replace, Withdraw, Lookup, Dump}
-use Rattle.rt_rib.specs.declared.commands.Reply.TheVariants.{Added, Exists, Full, Replaced, Withdrawn, Missing, Found, NoRoute, Dumped}
-use Rattle.rt_rib.specs.Table.{has, is_of, count_of, put_in, take_out}
+use Rattle.rt_rib.specs.declared.commands.Cmd.TheVariants.{Add, Replace, Withdraw, Lookup, Dump, Purge}
+use Rattle.rt_rib.specs.declared.commands.Reply.TheVariants.{Added, Exists, Full, Replaced, Withdrawn, Missing, Found, NoRoute, Dumped, Purged}
+use Rattle.rt_rib.specs.Table.{has, is_of, count_of, put_in, take_out, purge}
 use Rattle.rt_rib.specs.LookUp.{look_up}
-use Rattle.rt_rib.specs.Sequential.{reply_of, after}
+use Rattle.rt_rib.specs.Sequential.{reply_of, table_after}
 use Rattle.rt_rib.specs.Kept.{Held, Serves}
 use Rattle.rt_rib.proofs.Lists.{list_any-holds}
 
@@ -30,51 +30,56 @@ has-is feed p t o b search is = sym (is ∙ has-place feed p t o search)
 module _ (limit : ℕ) (t : List Route) (r : Route) where
   -- an add to a feed that has the route
   pub exists : has r.feed r.prefix t ≡ true → Serves (held limit t) (held limit t) r.feed (Add r.prefix r.pref r.hop) Exists
-  unfolding reply_of after
-  exists there = record { replied = rw there; left = rw there }
+  unfolding reply_of table_after
+  exists there = record { replied = rw there; changed = rw there }
 
   -- an add to a feed with as many routes as its limit
   pub full : has r.feed r.prefix t ≡ false → limit ≤ count_of r.feed t → Serves (held limit t) (held limit t) r.feed (Add r.prefix r.pref r.hop) Full
-  unfolding reply_of after
-  full fresh many = let at = le-leb limit (count_of r.feed t) many in record { replied = rw (fresh, at); left = rw (fresh, at) }
+  unfolding reply_of table_after
+  full fresh many = let at = le-leb limit (count_of r.feed t) many in record { replied = rw (fresh, at); changed = rw (fresh, at) }
 
   -- any other add
   pub added : has r.feed r.prefix t ≡ false → count_of r.feed t < limit → (u : List Route) → u ≡ put_in r t → Serves (held limit t) (held limit u) r.feed (Add r.prefix r.pref r.hop) Added
-  unfolding reply_of after
-  added fresh room u is = let at = lt-leb limit (count_of r.feed t) room in record { replied = rw (fresh, at); left = rw (is, fresh, at) }
+  unfolding reply_of table_after
+  added fresh room u is = let at = lt-leb limit (count_of r.feed t) room in record { replied = rw (fresh, at); changed = rw (is, fresh, at) }
 
   -- a replacement of no route
   pub unreplaced : has r.feed r.prefix t ≡ false → Serves (held limit t) (held limit t) r.feed (Replace r.prefix r.pref r.hop) Missing
-  unfolding reply_of after
-  unreplaced fresh = record { replied = rw fresh; left = rw fresh }
+  unfolding reply_of table_after
+  unreplaced fresh = record { replied = rw fresh; changed = rw fresh }
 
   -- a replacement of a route
   pub replaced : has r.feed r.prefix t ≡ true → (u : List Route) → u ≡ put_in r (take_out r.feed r.prefix t) → Serves (held limit t) (held limit u) r.feed (Replace r.prefix r.pref r.hop) Replaced
-  unfolding reply_of after
-  replaced there u is = record { replied = rw there; left = rw (is, there) }
+  unfolding reply_of table_after
+  replaced there u is = record { replied = rw there; changed = rw (is, there) }
 
 module _ (limit : ℕ) (t : List Route) (feed : ℕ) where
   -- a withdrawal of no route
   pub unwithdrawn : (p : Prefix) → has feed p t ≡ false → Serves (held limit t) (held limit t) feed (Withdraw p) Missing
-  unfolding reply_of after
-  unwithdrawn p fresh = record { replied = rw fresh; left = rw fresh }
+  unfolding reply_of table_after
+  unwithdrawn p fresh = record { replied = rw fresh; changed = rw fresh }
 
   -- a withdrawal of a route
   pub withdrawn : (p : Prefix) → has feed p t ≡ true → (u : List Route) → u ≡ take_out feed p t → Serves (held limit t) (held limit u) feed (Withdraw p) Withdrawn
-  unfolding reply_of after
-  withdrawn p there u is = record { replied = rw there; left = rw (is, there) }
+  unfolding reply_of table_after
+  withdrawn p there u is = record { replied = rw there; changed = rw (is, there) }
 
   -- a look-up of an address that no prefix covers
   pub unfound : (addr : Addr) → None ≡ look_up addr t → Serves (held limit t) (held limit t) feed (Lookup addr) NoRoute
-  unfolding reply_of after
-  unfound addr is = record { replied = rw (← is); left = refl }
+  unfolding reply_of table_after
+  unfound addr is = record { replied = rw (← is); changed = refl }
 
   -- a look-up of any other address
   pub found : (addr : Addr) (r : Route) → Some r ≡ look_up addr t → Serves (held limit t) (held limit t) feed (Lookup addr) (Found r)
-  unfolding reply_of after
-  found addr r is = record { replied = rw (← is); left = refl }
+  unfolding reply_of table_after
+  found addr r is = record { replied = rw (← is); changed = refl }
 
   -- a dump
   pub dumped : Serves (held limit t) (held limit t) feed Dump (Dumped (length t))
-  unfolding reply_of after
-  dumped = record { replied = refl; left = refl }
+  unfolding reply_of table_after
+  dumped = record { replied = refl; changed = refl }
+
+  -- a purge
+  pub purged : (u : List Route) → u ≡ purge feed t → Serves (held limit t) (held limit u) feed Purge (Purged (count_of feed t))
+  unfolding reply_of table_after
+  purged u is = record { replied = refl; changed = rw is refl }

@@ -1,12 +1,12 @@
 -- A route put into a table, or taken out, leaves a table.
-use Rattle.std.proofs.Common.{◌≡◌, ℕ, true, false, not, List, [], ◌∷◌, sym, arith}
+use Rattle.std.proofs.Common.{◌≡◌, ℕ, true, false, not, eqb, List, [], ◌∷◌, sym, arith}
 use Rattle.std.proofs.lemmas.Bool.{not-true, both_ways, false_from_ne_true}
 use Rattle.std.proofs.lemmas.List.Elements.{All-cons, All-filter, All-weaker, filter_passes}
 use Rattle.std.proofs.lemmas.List.Kept.{AllPairs-cons, AllPairs-filter}
 use Rattle.std.specs.List.{All, AllPairs, filter}
 use Rattle.rt_cidr.specs.declared.prefixes.Prefix.{Prefix}
 use Rattle.rt_rib.specs.declared.routes.Route.{Route}
-use Rattle.rt_rib.specs.Table.{precedes, is_of, has, put_in, take_out, IsTable}
+use Rattle.rt_rib.specs.Table.{precedes, is_of, has, put_in, take_out, purge, IsTable}
 use Rattle.rt_rib.proofs.Lists.{AllPairs-append, AllPairs-split, All-join, list_any-none, list_any-from_none}
 use Rattle.rt_rib.proofs.Order.{precedes-trans, precedes-other, is_of-parts, is_of-from}
 
@@ -85,6 +85,13 @@ pub IsTable-take_out : (feed : ℕ) (p : Prefix) (t : List Route) → IsTable t 
 IsTable-take_out feed p t h = record {
   ordered = AllPairs-filter Ordered (λ r. not (is_of feed p r)) t h.ordered;
   single = AllPairs-filter Apart (λ r. not (is_of feed p r)) t h.single;
+}
+
+-- a feed's routes taken out leave a table
+pub IsTable-purge : (feed : ℕ) (t : List Route) → IsTable t → IsTable (purge feed t)
+IsTable-purge feed t h = record {
+  ordered = AllPairs-filter Ordered (λ r. not (eqb r.feed feed)) t h.ordered;
+  single = AllPairs-filter Apart (λ r. not (eqb r.feed feed)) t h.single;
 }
 
 -- no route is left of what was taken out

@@ -5,7 +5,7 @@ use Rattle.rt_rib.specs.declared.commands.Cmd.{Cmd}
 use Rattle.rt_rib.specs.declared.commands.Reply.{Reply}
 use Rattle.rt_rib.specs.declared.commands.Entry.{Entry}
 use Rattle.rt_rib.specs.Sequential.{reply_of}
-use Rattle.rt_rib.specs.Journal.{left}
+use Rattle.rt_rib.specs.Journal.{table_left}
 
 -- a feed may have so many routes
 abbrev pub IsLimit : ℕ → Type 0
@@ -22,9 +22,9 @@ pub record Contents : Type 0 where
 
 -- the routes of the book: what its journal leaves
 abbrev pub table_of : Contents → List Route
-table_of book = left book.limit book.journal
+table_of book = table_left book.limit book.journal
 
 -- the command is answered as the sequential table answers it, and the journal has gained the one entry at its end
-pub record Answers (old new : Contents) (feed : ℕ) (cmd : Cmd) (reply : Reply) : Type 0 where
+pub record Applies (old new : Contents) (feed : ℕ) (cmd : Cmd) (reply : Reply) : Type 0 where
   pub replied : reply ≡ reply_of old.limit (table_of old) feed cmd
   pub journaled : new ≡ record old { journal = old.journal ++ record { feed = feed; cmd = cmd; reply = reply } ∷ [] }

@@ -5,8 +5,8 @@ use Rattle.rt_rib.specs.declared.commands.Cmd.{Cmd}
 use Rattle.rt_rib.specs.declared.commands.Reply.{Reply}
 use Rattle.rt_rib.specs.declared.commands.Entry.{Entry}
 use Rattle.rt_rib.specs.Table.{count_of, IsTable}
-use Rattle.rt_rib.specs.Sequential.{reply_of, after}
-use Rattle.rt_rib.specs.Journal.{left, IsLawful}
+use Rattle.rt_rib.specs.Sequential.{reply_of, table_after}
+use Rattle.rt_rib.specs.Journal.{table_left, IsLawfulJournal}
 use Rattle.rt_rib.specs.Book.{IsLimit}
 
 -- how many routes a feed may have, and the routes
@@ -17,7 +17,7 @@ pub record Held : Type 0 where
 -- the sequential table gives this reply to the command, and goes from the old routes to the new ones
 pub record Serves (old new : Held) (feed : ℕ) (cmd : Cmd) (reply : Reply) : Type 0 where
   pub replied : reply ≡ reply_of old.limit old.routes feed cmd
-  pub left : new ≡ record old { routes = after old.limit old.routes feed cmd }
+  pub changed : new ≡ record old { routes = table_after old.limit old.routes feed cmd }
 
 -- for each feed, how many of the routes are its own: no more than the limit, and there are no others
 pub record AreCounts (limit : ℕ) (counts : List ℕ) (routes : List Route) : Type 0 where
@@ -33,5 +33,5 @@ pub record IsCounted (limit : ℕ) (counts : List ℕ) (routes : List Route) : T
 
 -- the journal is lawful, and the routes are what it leaves
 pub record IsKept (held : Held) (journal : List Entry) : Type 0 where
-  pub lawful : IsLawful held.limit journal
-  pub kept : held.routes ≡ left held.limit journal
+  pub lawful : IsLawfulJournal held.limit journal
+  pub kept : held.routes ≡ table_left held.limit journal

@@ -8,10 +8,10 @@ use Rattle.rt_rib.specs.declared.routes.Route.{Route}
 use Rattle.rt_rib.specs.declared.commands.Cmd.{Cmd}
 use Rattle.rt_rib.specs.declared.commands.Entry.{Entry}
 use Rattle.rt_rib.specs.Table.{is_better, is_of, put_in, take_out, IsTable}
-use Rattle.rt_rib.specs.declared.commands.Cmd.TheVariants.{Add, Replace, Withdraw, Lookup, Dump}
+use Rattle.rt_rib.specs.declared.commands.Cmd.TheVariants.{Add, Replace, Withdraw, Lookup, Dump, Purge}
 use Rattle.rt_rib.specs.LookUp.{look_up}
-use Rattle.rt_rib.specs.Sequential.{reply_of, after}
-use Rattle.rt_rib.specs.Journal.{left, IsAnswered, IsLawful}
+use Rattle.rt_rib.specs.Sequential.{reply_of, table_after}
+use Rattle.rt_rib.specs.Journal.{table_left, IsAnswered, IsLawfulJournal}
 
 -- a route put in: the set, and that route
 abbrev pub PutInAdds : Type 0
@@ -42,12 +42,12 @@ LookUpFindsBest =
 -- what a journal leaves is a table; of no entry it is the empty one, and of one entry more what its command leaves
 abbrev pub LeftByEntry : Type 0
 LeftByEntry =
-    (limit : ℕ) (journal : List Entry) (e : Entry) → IsTable (left limit journal) × (left limit [] ≡ []) × (left limit (journal ++ e ∷ []) ≡ after limit (left limit journal) e.feed e.cmd)
+    (limit : ℕ) (journal : List Entry) (e : Entry) → IsTable (table_left limit journal) × (table_left limit [] ≡ []) × (table_left limit (journal ++ e ∷ []) ≡ table_after limit (table_left limit journal) e.feed e.cmd)
 
 -- a journal is lawful where it was so before its last entry, and that is answered as the sequential table answers it
 abbrev pub LawfulByEntry : Type 0
 LawfulByEntry =
-    (limit : ℕ) (journal : List Entry) (e : Entry) → IsLawful limit [] × (IsLawful limit (journal ++ e ∷ []) ↔ (IsLawful limit journal × IsAnswered limit journal e))
+    (limit : ℕ) (journal : List Entry) (e : Entry) → IsLawfulJournal limit [] × (IsLawfulJournal limit (journal ++ e ∷ []) ↔ (IsLawfulJournal limit journal × IsAnswered limit journal e))
 
 -- the commands of a journal, each with the feed that asked
 abbrev pub asked : List Entry → List (ℕ × Cmd)
@@ -55,15 +55,15 @@ asked journal = map (λ e. (e.feed, e.cmd)) journal
 
 -- the same commands have the same replies in every lawful journal
 abbrev pub LawfulIsDetermined : Type 0
-LawfulIsDetermined = (limit : ℕ) (j k : List Entry) → IsLawful limit j → IsLawful limit k → asked j ≡ asked k → j ≡ k
+LawfulIsDetermined = (limit : ℕ) (j k : List Entry) → IsLawfulJournal limit j → IsLawfulJournal limit k → asked j ≡ asked k → j ≡ k
 
 -- the routes of a feed
-abbrev pub own : ℕ → List Route → List Route
-own feed table = filter (λ r. r.feed == feed) table
+abbrev pub feed_routes : ℕ → List Route → List Route
+feed_routes feed table = filter (λ r. r.feed == feed) table
 
 -- the entries of a feed
-abbrev pub entries_of : ℕ → List Entry → List Entry
-entries_of feed journal = filter (λ e. e.feed == feed) journal
+abbrev pub feed_entries : ℕ → List Entry → List Entry
+feed_entries feed journal = filter (λ e. e.feed == feed) journal
 
 -- whether the command speaks of its feed's own routes alone
 abbrev pub is_own : Cmd → Bool
@@ -72,9 +72,10 @@ is_own (Replace prefix pref hop) = true
 is_own (Withdraw prefix) = true
 is_own (Lookup addr) = false
 is_own Dump = false
+is_own Purge = true
 
 -- each feed's routes are what its own entries leave by themselves, and its commands are answered from them
 abbrev pub FeedsStandAlone : Type 0
 FeedsStandAlone =
-    (limit feed : ℕ) (journal : List Entry) (cmd : Cmd) → (own feed (left limit journal) ≡ left limit (entries_of feed journal))
-    × (is_own cmd ≡ true → reply_of limit (left limit journal) feed cmd ≡ reply_of limit (left limit (entries_of feed journal)) feed cmd)
+    (limit feed : ℕ) (journal : List Entry) (cmd : Cmd) → (feed_routes feed (table_left limit journal) ≡ table_left limit (feed_entries feed journal))
+    × (is_own cmd ≡ true → reply_of limit (table_left limit journal) feed cmd ≡ reply_of limit (table_left limit (feed_entries feed journal)) feed cmd)

@@ -11,8 +11,8 @@ abbrev pub matching : Addr → List Route → List Route
 matching addr routes = filter (λ r. covers r.prefix addr) routes
 
 -- those of them that no other is longer than
-abbrev pub longest : List Route → List Route
-longest routes = filter (λ r. list_all (λ s. nat_le s.prefix.len r.prefix.len) routes) routes
+abbrev pub longest_of : List Route → List Route
+longest_of routes = filter (λ r. list_all (λ s. nat_le s.prefix.len r.prefix.len) routes) routes
 
 -- the one of them of least preference, and then of least feed, if there is any
 abbrev pub best : List Route → Option Route
@@ -20,4 +20,4 @@ best routes = find (λ r. list_all (λ s. not (is_better s r)) routes) routes
 
 -- the best of the longest of those that match
 unfoldable pub look_up : Addr → List Route → Option Route
-look_up addr routes = best (longest (matching addr routes))
+look_up addr routes = best (longest_of (matching addr routes))

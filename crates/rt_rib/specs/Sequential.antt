@@ -3,10 +3,10 @@ use Rattle.std.specs.Prelude.{ℕ, nat_le, if◌then◌else◌, List, length}
 use Rattle.std.specs.Option.{option_map_or}
 use Rattle.rt_rib.specs.declared.routes.Route.{Route}
 use Rattle.rt_rib.specs.declared.commands.Cmd.{Cmd}
-use Rattle.rt_rib.specs.declared.commands.Cmd.TheVariants.{Add, Replace, Withdraw, Lookup, Dump}
+use Rattle.rt_rib.specs.declared.commands.Cmd.TheVariants.{Add, Replace, Withdraw, Lookup, Dump, Purge}
 use Rattle.rt_rib.specs.declared.commands.Reply.{Reply}
-use Rattle.rt_rib.specs.declared.commands.Reply.TheVariants.{Added, Exists, Full, Replaced, Withdrawn, Missing, Found, NoRoute, Dumped}
-use Rattle.rt_rib.specs.Table.{has, count_of, put_in, take_out}
+use Rattle.rt_rib.specs.declared.commands.Reply.TheVariants.{Added, Exists, Full, Replaced, Withdrawn, Missing, Found, NoRoute, Dumped, Purged}
+use Rattle.rt_rib.specs.Table.{has, count_of, put_in, take_out, purge}
 use Rattle.rt_rib.specs.LookUp.{look_up}
 
 -- what the command is answered, where a feed may have so many routes
@@ -17,15 +17,17 @@ reply_of limit table feed (Replace prefix pref hop) = if has feed prefix table t
 reply_of limit table feed (Withdraw prefix) = if has feed prefix table then Withdrawn else Missing
 reply_of limit table feed (Lookup addr) = option_map_or Found (look_up addr table) NoRoute
 reply_of limit table feed Dump = Dumped (length table)
+reply_of limit table feed Purge = Purged (count_of feed table)
 
 -- the set that the command leaves
-unfoldable pub after : ℕ → List Route → ℕ → Cmd → List Route
-after limit table feed (Add prefix pref hop) =
+unfoldable pub table_after : ℕ → List Route → ℕ → Cmd → List Route
+table_after limit table feed (Add prefix pref hop) =
     if has feed prefix table then table else if nat_le limit (count_of feed table) then table
     else put_in (record { prefix = prefix; feed = feed; pref = pref; hop = hop }) table
-after limit table feed (Replace prefix pref hop) =
+table_after limit table feed (Replace prefix pref hop) =
     if has feed prefix table then put_in (record { prefix = prefix; feed = feed; pref = pref; hop = hop }) (take_out feed prefix table)
     else table
-after limit table feed (Withdraw prefix) = if has feed prefix table then take_out feed prefix table else table
-after limit table feed (Lookup addr) = table
-after limit table feed Dump = table
+table_after limit table feed (Withdraw prefix) = if has feed prefix table then take_out feed prefix table else table
+table_after limit table feed (Lookup addr) = table
+table_after limit table feed Dump = table
+table_after limit table feed Purge = purge feed table

@@ -41,6 +41,10 @@ put_in r table = filter (λ s. precedes s r) table ++ r ∷ filter (λ s. not (p
 abbrev pub take_out : ℕ → Prefix → List Route → List Route
 take_out feed prefix table = filter (λ r. not (is_of feed prefix r)) table
 
+-- all of a feed's routes taken out: those of the others stay
+abbrev pub purge : ℕ → List Route → List Route
+purge feed table = filter (λ r. not (r.feed == feed)) table
+
 -- the routes stand in dump order, and no two are of one feed and prefix
 pub record IsTable (table : List Route) : Type 0 where
   pub ordered : AllPairs (λ r s. precedes r s ≡ true) table

@@ -30,9 +30,9 @@ impl<A: Allocator + Copy> Model for Book<A> {
 }
 
 impl<A: Allocator + Copy> Book<A> {
-    ghost use Rattle.rt_rib.specs.Journal.{IsLawful};
+    ghost use Rattle.rt_rib.specs.Journal.{IsLawfulJournal};
     ghost use Rattle.rt_rib.specs.Table.{IsTable};
-    ghost use Rattle.rt_rib.specs.Book.{table_of, Answers};
+    ghost use Rattle.rt_rib.specs.Book.{table_of, Applies};
 
     /// An empty book in which each feed may have so many routes. It takes no memory.
     pub fn new(alloc: A, limit: u32) -> Book<A>
@@ -49,7 +49,7 @@ impl<A: Allocator + Copy> Book<A> {
     /// want memory: M1 is `Refused`, and then routes and journal are as they were.
     pub fn apply(&mut self, feed: u32, cmd: Cmd) -> Result<Reply, Refused>
         requires { IsFeed feed }
-        ensures ok { IfOk result (λ reply. Answers self.old self.new feed cmd reply) }
+        ensures ok { IfOk result (λ reply. Applies self.old self.new feed cmd reply) }
         ensures err { OnErr result (self.new ≡ self.old) }
     {
         self.journal.try_reserve(1)?;
@@ -62,7 +62,7 @@ impl<A: Allocator + Copy> Book<A> {
     pub fn table(&self) -> &[Route]
         ensures routes { result.now ≡ table_of self.now }
         ensures table { IsTable result.now }
-        ensures lawful { IsLawful self.now.limit self.now.journal }
+        ensures lawful { IsLawfulJournal self.now.limit self.now.journal }
     {
         self.table.routes()
     }
@@ -77,7 +77,7 @@ impl<A: Allocator + Copy> Book<A> {
     /// Every answered command with its reply, in the order in which they were answered.
     pub fn journal(&self) -> &[Entry]
         ensures entries { result.now ≡ self.now.journal }
-        ensures lawful { IsLawful self.now.limit self.now.journal }
+        ensures lawful { IsLawfulJournal self.now.limit self.now.journal }
     {
         self.journal.as_slice()
     }

@@ -1,31 +1,21 @@
-use crate::routes::Route;
+use crate::routes::{Hop, Route};
 use rt_cidr::{Addr, Prefix};
 
 /// A command of a feed. It speaks of that feed's own routes, but for `Lookup` and `Dump`, which ask for all.
 #[derive(Clone, Copy, PartialEq, Eq, Debug)]
 pub enum Cmd {
     /// Put in a route, unless the feed has one of this prefix or as many as its limit allows.
-    Add {
-        prefix: Prefix,
-        pref: u32,
-        hop: Addr,
-    },
+    Add { prefix: Prefix, pref: u32, hop: Hop },
     /// Give the feed's route of this prefix another preference and next hop.
-    Replace {
-        prefix: Prefix,
-        pref: u32,
-        hop: Addr,
-    },
+    Replace { prefix: Prefix, pref: u32, hop: Hop },
     /// Take out the feed's route of this prefix.
-    Withdraw {
-        prefix: Prefix,
-    },
+    Withdraw { prefix: Prefix },
     /// Ask for the best route of the longest prefix that covers the address.
-    Lookup {
-        addr: Addr,
-    },
+    Lookup { addr: Addr },
     /// Ask how many routes there are.
     Dump,
+    /// Take out all of the feed's routes.
+    Purge,
 }
 
 /// What a command is answered.
@@ -49,6 +39,8 @@ pub enum Reply {
     NoRoute,
     /// How many routes there are.
     Dumped(u32),
+    /// The feed's routes were taken out, which were so many.
+    Purged(u32),
 }
 
 /// One answered command of the journal.

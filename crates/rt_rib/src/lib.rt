@@ -16,4 +16,4 @@ pub use book::Book;
 pub use commands::{Cmd, Entry, Reply};
 pub use limits::{feed_ok, limit_ok};
 pub use refused::Refused;
-pub use routes::Route;
+pub use routes::{Hop, Route};

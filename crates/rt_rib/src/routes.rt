@@ -1,5 +1,14 @@
 use rt_cidr::{Addr, Prefix};
 
+/// Where packets to a route's addresses go.
+#[derive(Clone, Copy, PartialEq, Eq, Debug)]
+pub enum Hop {
+    /// To the router with this address.
+    Via(Addr),
+    /// Nowhere: they are discarded, as those to an aggregate that no longer route serves (RFC 4632, section 5.1).
+    Discard,
+}
+
 /// One feed's route to a prefix. Of several routes to one prefix the one of least preference number is the best,
 /// and of equal preferences the one of the least feed number.
 #[derive(Clone, Copy, PartialEq, Eq, Debug)]
@@ -11,5 +20,5 @@ pub struct Route {
     /// The preference number; the least is preferred.
     pub pref: u32,
     /// The next hop.
-    pub hop: Addr,
+    pub hop: Hop,
 }

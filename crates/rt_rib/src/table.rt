@@ -1,5 +1,5 @@
 ghost use Rattle.std.specs.Prelude.{◌≡◌, ◌<◌, ◌≤◌, [], length, IfOk, OnErr};
-ghost use Rattle.rt_rib.specs.declared.commands.Cmd.TheVariants.{Add, Replace, Withdraw};
+ghost use Rattle.rt_rib.specs.declared.commands.Cmd.TheVariants.{Add, Replace, Withdraw, Purge};
 ghost use Rattle.rt_rib.specs.Table.{IsTable};
 ghost use Rattle.rt_rib.specs.Book.{IsLimit, IsFeed};
 ghost use Rattle.rt_rib.specs.Kept.{Serves};
@@ -81,6 +81,7 @@ impl<A: Allocator + Copy> Table<A> {
                 None => Reply::NoRoute,
             }),
             Cmd::Dump => Ok(Reply::Dumped(self.routes.len() as u32)),
+            Cmd::Purge => Ok(self.purge(feed)),
         }
     }
 
@@ -133,5 +134,17 @@ impl<A: Allocator + Copy> Table<A> {
         self.routes.remove(place);
         self.counts[(feed - 1) as usize] -= 1;
         Reply::Withdrawn
+    }
+
+    /// Takes all of the feed's routes out.
+    fn purge(&mut self, feed: u32) -> Reply
+        requires { IsFeed feed }
+        ensures { Serves self.old self.new feed Purge result }
+    {
+        let own = (feed - 1) as usize;
+        let gone = self.counts[own];
+        self.routes.retain(|route| route.feed != feed);
+        self.counts[own] = 0;
+        Reply::Purged(gone)
     }
 }

@@ -14,11 +14,16 @@ fn addr(a: u8, b: u8, c: u8, d: u8) -> Addr {
     Addr(u32::from_be_bytes([a, b, c, d]))
 }
 
+/// The next hop 192.0.2.x of the worked runs.
+fn via(octet: u8) -> Hop {
+    Hop::Via(addr(192, 0, 2, octet))
+}
+
 fn add(prefix: Prefix, pref: u32, feed: u8) -> Cmd {
     Cmd::Add {
         prefix,
         pref,
-        hop: addr(192, 0, 2, feed),
+        hop: via(feed),
     }
 }
 
@@ -35,7 +40,7 @@ fn worked_run(rt: HostRuntime) -> Result<(), Fail> {
         prefix,
         feed,
         pref,
-        hop: addr(192, 0, 2, hop),
+        hop: via(hop),
     };
     let mut book = Book::new(rt.alloc(), 2);
     assert_eq!(rt; book.apply(2, add(wide, 5, 2))?, Reply::Added);
@@ -47,7 +52,7 @@ fn worked_run(rt: HostRuntime) -> Result<(), Fail> {
     let replace = Cmd::Replace {
         prefix: wide,
         pref: 4,
-        hop: addr(192, 0, 2, 2),
+        hop: via(2),
     };
     assert_eq!(rt; book.apply(2, replace)?, Reply::Replaced);
     assert_eq!(rt;
@@ -121,30 +126,34 @@ impl Dice {
 
     fn cmd(&mut self) -> Result<Cmd, TextFault> {
         let pref = self.roll(3) as u32;
-        let hop = self.addr();
-        Ok(match self.roll(10) {
-            0..=3 => Cmd::Add {
+        let hop = match self.roll(4) {
+            0 => Hop::Discard,
+            _ => Hop::Via(self.addr()),
+        };
+        Ok(match self.roll(20) {
+            0..=7 => Cmd::Add {
                 prefix: self.prefix()?,
                 pref,
                 hop,
             },
-            4..=5 => Cmd::Replace {
+            8..=11 => Cmd::Replace {
                 prefix: self.prefix()?,
                 pref,
                 hop,
             },
-            6 => Cmd::Withdraw {
+            12..=13 => Cmd::Withdraw {
                 prefix: self.prefix()?,
             },
-            7..=8 => Cmd::Lookup { addr: self.addr() },
-            _ => Cmd::Dump,
+            14..=16 => Cmd::Lookup { addr: self.addr() },
+            17..=18 => Cmd::Dump,
+            _ => Cmd::Purge,
         })
     }
 }
 
 /// The place of each kind of reply in a count.
 fn kind(reply: Reply) -> usize
-    ensures { result < 9 }
+    ensures { result < 10 }
 {
     match reply {
         Reply::Added => 0,
@@ -156,6 +165,7 @@ fn kind(reply: Reply) -> usize
         Reply::Found(_) => 6,
         Reply::NoRoute => 7,
         Reply::Dumped(_) => 8,
+        Reply::Purged(_) => 9,
     }
 }
 
@@ -166,7 +176,7 @@ fn agrees_with_the_definition(rt: HostRuntime) -> Result<(), Fail> {
         let mut dice = Dice(limit as u64);
         let mut book = Book::new(rt.alloc(), limit);
         let mut plain = Plain::new(rt.alloc(), limit);
-        let mut kinds = [false; 9];
+        let mut kinds = [false; 10];
         for step in 0..600u32 {
             let feed = feeds[dice.roll(4)];
             let cmd = dice.cmd()?;
@@ -231,7 +241,7 @@ fn refused_memory_changes_nothing(rt: HostRuntime) -> Result<(), Fail> {
             Cmd::Replace {
                 prefix: wide,
                 pref: 1,
-                hop: addr(192, 0, 2, 9),
+                hop: via(9),
             },
             Reply::Replaced,
         ),
@@ -243,6 +253,7 @@ fn refused_memory_changes_nothing(rt: HostRuntime) -> Result<(), Fail> {
             Reply::NoRoute,
         ),
         (Cmd::Dump, Reply::Dumped(1)),
+        (Cmd::Purge, Reply::Purged(1)),
     ];
     for (cmd, ample) in cmds {
         let heap = LocalHeap::new(rt.alloc(), 65_536)?;
@@ -260,7 +271,7 @@ fn refused_memory_changes_nothing(rt: HostRuntime) -> Result<(), Fail> {
                 prefix: wide,
                 feed: 1,
                 pref: 5,
-                hop: addr(192, 0, 2, 1)
+                hop: via(1)
             }]
             .as_slice()
         );

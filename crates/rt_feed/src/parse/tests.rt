@@ -52,7 +52,8 @@ fn skips_empty_lines_and_comments(rt: HostRuntime) {
 #[test]
 fn reads_each_command(rt: HostRuntime) -> Result<(), Fail> {
     let prefix = Prefix::new(167772160, 8)?;
-    let hop = Addr(3221225985);
+    let addr = Addr(3221225985);
+    let hop = Hop::Via(addr);
     let pref = 4294967295;
     let commands: [(&[u8], Cmd); 6] = [
         (
@@ -72,7 +73,7 @@ fn reads_each_command(rt: HostRuntime) -> Result<(), Fail> {
             Cmd::Replace { prefix, pref, hop },
         ),
         (b"withdraw 10.0.0.0/8", Cmd::Withdraw { prefix }),
-        (b"lookup 192.0.2.1", Cmd::Lookup { addr: hop }),
+        (b"lookup 192.0.2.1", Cmd::Lookup { addr }),
         (b"dump", Cmd::Dump),
     ];
     for (line, cmd) in commands {

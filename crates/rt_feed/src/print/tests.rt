@@ -11,7 +11,7 @@ fn route(prefix: &[u8], pref: u32, hop: &[u8]) -> Result<Route, TextFault> {
         prefix: Prefix::parse(prefix)?,
         feed: 1,
         pref,
-        hop: Addr::parse(hop)?,
+        hop: Hop::Via(Addr::parse(hop)?),
     })
 }
 
@@ -123,6 +123,7 @@ fn prints_every_other_answer(rt: HostRuntime) -> Result<(), Fail> {
         Answer::Did(Reply::Missing),
         Answer::Did(Reply::NoRoute),
         Answer::Did(Reply::Dumped(u32::MAX)),
+        Answer::Did(Reply::Purged(1_000_000)),
         Answer::Refused,
         Answer::Fault(LineFault::Command),
         Answer::Fault(LineFault::FieldCount),
@@ -139,19 +140,38 @@ fn prints_every_other_answer(rt: HostRuntime) -> Result<(), Fail> {
 64:4 missing
 64:5 no route
 64:6 dumped 4294967295
-64:7 refused
-64:8 fault E1
-64:9 fault E2
-64:10 fault E3
-64:11 fault E4
-64:12 fault E5
-64:13 fault E6
-64:14 fault E7
-64:15 fault E8
+64:7 purged 1000000
+64:8 refused
+64:9 fault E1
+64:10 fault E2
+64:11 fault E3
+64:12 fault E4
+64:13 fault E5
+64:14 fault E6
+64:15 fault E7
+64:16 fault E8
 ";
     let mut out = Vec::new(alloc);
     write_report(&mut out, 64, &report_of(alloc, &answers)?)?;
     assert_eq!(rt; out.as_slice(), text.as_slice());
+    Ok(())
+}
+
+#[test]
+fn prints_a_discard_route(rt: HostRuntime) -> Result<(), Fail> {
+    let discard = Route {
+        hop: Hop::Discard,
+        ..route(b"10.0.0.0/8", 5, b"192.0.2.1")?
+    };
+    let text = b"1:1 route 10.0.0.0/8 feed 1 pref 5 via discard
+table 1
+10.0.0.0/8 feed 1 pref 5 via discard
+";
+    let answers = [Answer::Did(Reply::Found(discard))];
+    assert_eq!(rt;
+        printed(rt.alloc(), &answers, &[discard])?.as_slice(),
+        text.as_slice()
+    );
     Ok(())
 }
 

@@ -83,6 +83,11 @@ impl Plain {
                 Some(route) => Reply::Found(route),
                 None => Reply::NoRoute,
             }),
+            Cmd::Purge => {
+                let gone = self.count(feed);
+                self.routes.retain(|route| route.feed != feed);
+                Ok(Reply::Purged(gone.min(u32::MAX as usize) as u32))
+            }
             Cmd::Dump => Ok(Reply::Dumped(self.routes.len().min(u32::MAX as usize) as u32)),
         }
     }
