@@ -8,7 +8,7 @@ use Rattle.ya_core.specs.Steps.{State, next_of, access_of, value_of}
 use Rattle.ya_core.specs.Soundness.{IsSound}
 use Rattle.ya_core.specs.Worlds.{Marked, World, Event, Steps, Appends, opening_world, WorldSteps, WorldAppends, Happens, Runs, IsReached, entries_of, FollowsFrom, IsLawful, is_inside, IsInside, any_entry}
 use Rattle.ya_core.proofs.Level.{or_else}
-use Rattle.ya_core.proofs.Keeping.{keeps, opens, excludes}
+use Rattle.ya_core.proofs.Invariant.{keeps, opens, excludes}
 
 -- the entries of a place, each with its mark
 abbrev pub marked : {X : Type 0} → ℕ → List X → List (Marked X)

@@ -14,7 +14,7 @@ use Rattle.ya_core.specs.declared.process.Process.TheVariants.{Idle, Entering, I
 use Rattle.ya_core.specs.Steps.{Accesses, access_of, next_of, entry_next, exit_next, won, left}
 use Rattle.ya_core.specs.Soundness.{Phase, Away, Waiting, Holding, Parting, claims, holds, phase_at, phase_of, entry_phase, exit_phase, IsProper}
 use Rattle.ya_core.specs.Machines.{word_of}
-use Rattle.ya_core.proofs.Walking.{either}
+use Rattle.ya_core.proofs.Properness.{either}
 
 -- the level at which a process acts next
 abbrev pub acts_at : ℕ → Process → ℕ

@@ -2,6 +2,6 @@ pub mod Tree
 pub mod Steps
 pub mod Soundness
 pub mod Walks
-pub mod Row
+pub mod FlatRow
 pub mod Machines
 pub mod Worlds

@@ -10,7 +10,8 @@ use Rattle.ya_core.specs.declared.step.Mark.TheVariants as mark
 use Rattle.ya_core.specs.declared.step.Step.{Step}
 use Rattle.ya_core.specs.Tree.{count_of_words}
 use Rattle.ya_core.specs.Steps.{State, StepsTo, access_of, next_of, value_of}
-use Rattle.ya_core.specs.Row.{row_state, IsSoundRow}
+use Rattle.ya_core.specs.Soundness.{IsSound}
+use Rattle.ya_core.specs.FlatRow.{row_state}
 
 -- the machine as plain data: its words in one flat row, and its processes by place
 pub record Rows : Type 0 where
@@ -35,7 +36,7 @@ pub record IsMachine (m : Rows) : Type 0 where
   pub least : 1 ≤ m.levels
   pub words : length m.words ≡ count_of_words m.levels
   pub processes : length m.processes ≡ 2 ^ m.levels
-  pub sound : IsSoundRow m.levels m.words (processes_of m.processes)
+  pub sound : IsSound m.levels (state_of m)
 
 -- the word of an access, and whether it is a store
 abbrev pub word_of : Access → Word
@@ -62,6 +63,12 @@ step_of levels place s =
     let access = access_of levels place (s.processes place) in
     let value = value_of s.words access in
     step_by place access value (next_of levels place (s.processes place) value)
+
+-- the place takes its step, after which the machine is one again, and this is told of it
+pub record TakesStep (place : ℕ) (old new : Rows) (step_told : Step) : Type 0 where
+  pub machine : IsMachine new
+  pub step : StepsTo old.levels place (state_of old) (state_of new)
+  pub told : step_told ≡ step_of old.levels place (state_of old)
 
 -- there is a tree of so many levels
 abbrev pub HasShape : ℕ → Type 0

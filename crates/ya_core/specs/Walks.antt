@@ -186,11 +186,15 @@ abbrev pub DueIsWithin : ℕ → Option Access → Type 0
 DueIsWithin levels None = Unit {0}
 DueIsWithin levels (Some access) = AccessIsWithin levels access
 
--- an access is due, and a load may find the value
+-- the access may be told the value: a load finds one that can stand in its word
+abbrev pub MayFind : Access → ℕ → Type 0
+MayFind (Load word) value = CanStand word value
+MayFind (Store word stored) value = Unit {0}
+
+-- an access is due, and may be told the value
 abbrev pub IsTold : Option Access → ℕ → Type 0
 IsTold None value = ⊥
-IsTold (Some (Load word)) value = CanStand word value
-IsTold (Some (Store word stored)) value = Unit {0}
+IsTold (Some access) value = MayFind access value
 
 -- told these values, one after another, the walk goes to the other one
 abbrev pub Goes : Walk → List ℕ → Walk → Type 0

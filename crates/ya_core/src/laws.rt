@@ -2,9 +2,11 @@
 //! which the walker and the machine are specified. Each is a function with an empty body, whose contract is the law.
 
 ghost use Rattle.std.specs.Prelude.{◌≡◌, ℕ, ◌+◌, ◌*◌, ◌^◌, ◌<◌, ◌≤◌, List};
-ghost use Rattle.ya_core.specs.Steps.{State, StepsTo, opening};
+ghost use Rattle.ya_core.specs.declared.word.Word.{Word};
+ghost use Rattle.ya_core.specs.Tree.{IsWord, number_of, count_of_words};
+ghost use Rattle.ya_core.specs.Steps.{State, StepsTo, opening, access_of, value_of};
 ghost use Rattle.ya_core.specs.Soundness.{IsSound};
-ghost use Rattle.ya_core.specs.Walks.{Walk, IsWalk, Enters, Leaves, Goes};
+ghost use Rattle.ya_core.specs.Walks.{Walk, IsWalk, Enters, Leaves, Goes, AccessIsWithin, MayFind};
 ghost use Rattle.ya_core.specs.Worlds.{Marked, World, Event, WorldSteps, WorldAppends};
 ghost use Rattle.ya_core.specs.Worlds.{IsReached, IsInside, IsLawful, any_entry, entries_of};
 
@@ -13,6 +15,25 @@ pub fn soundness()
     ensures start { (levels : ℕ) → IsSound levels opening }
     ensures kept { (levels place : ℕ) (old new : State)
         → 1 ≤ levels → IsSound levels old → StepsTo levels place old new → IsSound levels new }
+{}
+
+/// Different words of a tree have different numbers, each below the number of words.
+pub fn numbers()
+    ensures apart { (levels : ℕ) (a b : Word) → IsWord levels a → IsWord levels b
+        → number_of levels a ≡ number_of levels b → a ≡ b }
+    ensures within { (levels : ℕ) (word : Word) → IsWord levels word
+        → number_of levels word < count_of_words levels }
+{}
+
+/// Where the invariant holds, the access that is due to a place is of a word of the tree, and the value that a load finds
+/// can stand in its word.
+pub fn accesses()
+    ensures word { (levels place : ℕ) (s : State)
+        → 1 ≤ levels → place < 2 ^ levels → IsSound levels s
+        → AccessIsWithin levels (access_of levels place (s.processes place)) }
+    ensures value { (levels place : ℕ) (s : State) → IsSound levels s
+        → let access = access_of levels place (s.processes place) in
+        MayFind access (value_of s.words access) }
 {}
 
 /// Any place of the tree may step at any time, and its step has one outcome. The same holds of worlds, where a place that

@@ -1,10 +1,12 @@
+//! All places of a tree with their words, one atomic step at a time.
 ghost use Rattle.std.specs.Prelude.{◌≡◌, ◌↔◌, ℕ, ◌^◌, ◌<◌, Some, IfOk, length, slice_index};
 ghost use Rattle.ya_core.specs.Tree.{count_of_words};
 ghost use Rattle.std.specs.List.{position};
 ghost use Rattle.ya_core.specs.Steps.{Accesses, StepsTo, opening, value_of};
 ghost use Rattle.ya_core.specs.Walks.{AccessIsWithin};
-ghost use Rattle.ya_core.specs.Machines.{IsMachine, rows, state_of, step_of, step_by, mark_of};
-ghost use Rattle.ya_core.specs.Row.{words_of};
+ghost use Rattle.ya_core.specs.Machines.{IsMachine, TakesStep, rows, state_of, step_of};
+ghost use Rattle.ya_core.specs.Machines.{step_by, mark_of};
+ghost use Rattle.ya_core.specs.FlatRow.{words_of};
 ghost use Rattle.ya_core.specs.Worlds.{IsInside, is_inside};
 
 use crate::process::Process;
@@ -99,12 +101,8 @@ impl Machine {
 fn take_step(shape: &Shape, place: usize, words: &mut [u64], processes: &mut [Process]) -> Step
     requires room { place < 2 ^ shape.now }
     requires machine { IsMachine (rows shape.now words.old processes.old) }
-    ensures machine { IsMachine (rows shape.now words.new processes.new) }
-    ensures step { let old = state_of (rows shape.now words.old processes.old) in
-        let new = state_of (rows shape.now words.new processes.new) in
-        StepsTo shape.now place old new }
-    ensures told { let old = state_of (rows shape.now words.old processes.old) in
-        result ≡ step_of shape.now place old }
+    ensures { let old = rows shape.now words.old processes.old in
+        TakesStep place old (rows shape.now words.new processes.new) result }
 {
     let levels = shape.levels();
     let process = processes[place];

@@ -1,3 +1,4 @@
+//! Where one process stands, which access is due to it, and where that leads.
 ghost use Rattle.std.specs.Prelude.{◌≡◌, ◌+◌, ◌-◌, ◌^◌, ◌<◌, ◌≤◌};
 ghost use Rattle.ya_core.specs.Tree.{node_of, side_of};
 ghost use Rattle.ya_core.specs.Steps.{entry_access, exit_access, entry_next, exit_next, won, left};

@@ -1,3 +1,4 @@
+//! The replay of a given schedule.
 ghost use Rattle.std.specs.Prelude.{◌≡◌, ◌↔◌, ◌^◌, ◌<◌, ◌≤◌, List, IfOk, IsErrOf, All, Any};
 ghost use Rattle.ya_core.specs.declared.step.Step.{Step};
 ghost use Rattle.ya_core.specs.Steps.{opening};

@@ -1,3 +1,4 @@
+//! The words of a tree in one flat row.
 ghost use Rattle.std.specs.Prelude.{◌≡◌, ◌↔◌, ℕ, ◌+◌, ◌-◌, ◌*◌, ◌^◌, ◌<◌, ◌≤◌, IsSome, IfSome};
 ghost use Rattle.ya_core.specs.Tree.{IsWord, number_of, count_of_words, nodes_below};
 

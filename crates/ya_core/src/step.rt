@@ -1,3 +1,4 @@
+//! What is told of one atomic step.
 use crate::word::Word;
 
 /// What a step brought about.

@@ -1,3 +1,4 @@
+//! Tests: numbers of words against figures worked out by hand, and the machine against a second one.
 use super::laws::Accept;
 use super::*;
 use std::alloc::Global;
@@ -62,7 +63,7 @@ fn begin(walker: &mut Walker) {
 }
 
 /// Lets the walker load and store until it asks for nothing more, and gives what it asks for then.
-#[tactic(auto, using(crate::proofs::Driving::store_asked))]
+#[tactic(auto, using(crate::proofs::DueAccess::store_asked))]
 fn walk(rt: &impl Abort, walker: &mut Walker, words: &mut [u64]) -> Op {
     for _ in 0..1000 {
         match walker.op() {
@@ -263,6 +264,8 @@ impl Accept for Anything {
 #[test]
 fn laws_can_be_called() {
     laws::soundness();
+    laws::numbers();
+    laws::accesses();
     laws::freedom::<u64>();
     laws::exclusion::<u64>();
     laws::access_count();

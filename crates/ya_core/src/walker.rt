@@ -1,3 +1,4 @@
+//! One process that is told what it loaded.
 ghost use Rattle.std.specs.Prelude.{◌≡◌, ◌↔◌, ℕ, ◌+◌, ◌-◌, ◌*◌, ◌^◌, ◌<◌, ◌≤◌, true, false, IsTrue, IsFalse};
 ghost use Rattle.ya_core.specs.declared.process.Process.TheVariants.{Idle};
 ghost use Rattle.ya_core.specs.Tree.{node_of, side_of};

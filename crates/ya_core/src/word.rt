@@ -1,3 +1,4 @@
+//! The shared words by name, and the accesses of them.
 /// A shared word of the arbitration tree. Each is a whole number, 0 at the start.
 #[derive(Clone, Copy, Debug, PartialEq, Eq)]
 pub enum Word {

@@ -5,7 +5,7 @@ use mathlib.Core.Option.{Option, none, some, some-injective, some-ne-none}
 use Rattle.atomic_table.specs.Table.{State}
 use Rattle.ya_core.specs.declared.process.Process.{Process}
 use Rattle.ya_core.specs.declared.process.Process.TheVariants.{Idle, Inside}
-use Rattle.ya_core.proofs.Keeping.{excludes}
+use Rattle.ya_core.proofs.Promised.{excludes}
 use Rattle.ya_lock.specs.declared.view.View.{View}
 use Rattle.ya_lock.specs.declared.view.View.TheVariants.{Stranger, Maker, Filler, Dealer, Member, Confirmer, Spent}
 use Rattle.ya_lock.specs.Rule.{words_in, place_of, Picture, Knows, Lies, Fits, Rule}

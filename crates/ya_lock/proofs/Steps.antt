@@ -21,8 +21,8 @@ use Rattle.ya_lock.specs.declared.view.View.TheVariants.{Member}
 use Rattle.ya_lock.specs.Rule.{index_of, making_index, words_in, Picture, Knows, Lies, Fits, Obeys, Rule}
 use Rattle.ya_core.specs.Worlds.{is_inside}
 use Rattle.ya_lock.specs.Moves.{left_by, Slots, Carries, Goes, IsReady}
-use Rattle.ya_core.proofs.Walking.{MayFind}
-use Rattle.ya_core.proofs.Keeping.{keeps as kept_by_step, finds, excludes}
+use Rattle.ya_core.specs.Walks.{MayFind}
+use Rattle.ya_core.proofs.Promised.{keeps as kept_by_step, finds, excludes}
 use Rattle.ya_lock.proofs.Words.{index_below, word_in, word_set, word_set_other, word_kept}
 use Rattle.ya_lock.proofs.Frames.{moved, moved_here, moved_else, Same, Changed, gone_on, goes_on}
 

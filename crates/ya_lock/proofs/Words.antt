@@ -4,14 +4,14 @@ use Rattle.std.proofs.Math.Decide.{dec_lt}
 use Rattle.std.proofs.Math.Nat.{mul-le-mul_left, mul-le-mul_right}
 use Rattle.std.proofs.Math.Pow.{pow-lt}
 use Rattle.std.proofs.lemmas.Nat.{pow_pos}
-use Rattle.ya_core.proofs.Numbers.{at_most_64, number_within, same_number}
+use Rattle.ya_core.proofs.Promised.{at_most_64, number_within, same_number}
 use Rattle.std.proofs.Math.ListN.{get_or-eq_default}
 use Rattle.std.proofs.lemmas.List.{get_or-replicate, length-replicate, set-get_or}
 use Rattle.ya_core.specs.declared.word.Word.{Word}
 use Rattle.ya_core.specs.Tree.{IsWord, number_of, count_of_words}
-use Rattle.ya_core.specs.Row.{is_word}
+use Rattle.ya_core.specs.FlatRow.{is_word}
 use Rattle.ya_lock.specs.Rule.{index_of, making_index, words_in}
-use Rattle.ya_core.proofs.Rows.{is_word_true, word_is}
+use Rattle.ya_core.proofs.Promised.{is_word_true, word_is}
 
 -- the words of the tree lie before the making word, a cache line each
 pub index_below : (levels : ℕ) (w : Word) → IsWord levels w → index_of levels w + 8 ≤ making_index levels

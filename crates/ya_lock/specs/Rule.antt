@@ -9,7 +9,7 @@ use Rattle.ya_core.specs.declared.process.Process.{Process}
 use Rattle.ya_core.specs.declared.process.Process.TheVariants.{Idle, Inside}
 use Rattle.ya_core.specs.Tree.{number_of, count_of_words}
 use Rattle.ya_core.specs.Soundness.{IsSound}
-use Rattle.ya_core.specs.Row.{is_word}
+use Rattle.ya_core.specs.FlatRow.{is_word}
 use Rattle.ya_core.specs.Worlds.{is_inside}
 use Rattle.ya_lock.specs.declared.view.View.{View}
 use Rattle.ya_lock.specs.declared.view.View.TheVariants.{Stranger, Maker, Filler, Dealer, Member, Confirmer, Spent}

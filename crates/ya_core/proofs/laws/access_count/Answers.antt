@@ -1,7 +1,7 @@
 use Rattle.std.proofs.Common.{◌≡◌, ◌*◌, ap, ◌∙◌, arith}
 use Rattle.ya_core.specs.Walks.{budget, budget_of}
 use Rattle.ya_core.specs.declared.process.Process.TheVariants.{Idle, Inside}
-use Rattle.ya_core.proofs.Driving.{spends_along}
+use Rattle.ya_core.proofs.Counting.{spends_along}
 use Rattle.ya_core.proofs.laws.access_count.Goals as goal
 
 pub returns-clause-way_in : goal.returns-clause-way_in

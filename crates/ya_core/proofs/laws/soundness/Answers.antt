@@ -1,4 +1,4 @@
-use Rattle.ya_core.proofs.Keeping.{keeps}
+use Rattle.ya_core.proofs.Invariant.{keeps}
 use Rattle.ya_core.proofs.laws.soundness.Goals as goal
 
 pub returns-clause-kept : goal.returns-clause-kept

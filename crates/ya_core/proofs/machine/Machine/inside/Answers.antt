@@ -2,7 +2,7 @@ use Rattle.std.proofs.Common.{◌≡◌, ℕ, ◌∙◌, ap, sym, subst, Option,
 use Rattle.std.specs.List.{position}
 use Rattle.ya_core.specs.Machines.{Rows, state_of}
 use Rattle.ya_core.specs.Worlds.{IsInside, is_inside}
-use Rattle.ya_core.proofs.Machining.{inside_at}
+use Rattle.ya_core.proofs.MachineSteps.{inside_at}
 use Rattle.ya_core.proofs.machine.Machine.inside.Goals as goal
 
 pub returns : goal.returns

@@ -1,5 +1,5 @@
 use Rattle.std.proofs.Common.{ap, ◌∙◌, replicate}
-use Rattle.ya_core.proofs.Machining.{opening_row, opening_machine, some_level}
+use Rattle.ya_core.proofs.MachineSteps.{opening_row, opening_machine, some_level}
 use Rattle.ya_core.specs.declared.process.Process.TheVariants.{Idle}
 use Rattle.ya_core.proofs.machine.Machine.new.Goals as goal
 

@@ -1,6 +1,6 @@
 use Rattle.std.proofs.Common.{◌≡◌, ◌+◌, ◌≤◌, false, sym, subst}
 use Rattle.ya_core.specs.Walks.{Walk, walk, IsWalk, IsTold, due, walk_after, MovesOn, budget}
-use Rattle.ya_core.proofs.Walking.{goes_on, moves_on, spends}
+use Rattle.ya_core.proofs.Counting.{goes_on, moves_on, spends}
 use Rattle.ya_core.proofs.walker.Walker.go_on.Goals as goal
 
 pub invariant_of-self : goal.invariant_of-self

@@ -3,13 +3,13 @@ use Rattle.atomic_table.specs.Table.{Me, Allows}
 use Rattle.ya_core.specs.declared.word.Access.TheVariants.{Load, Store}
 use Rattle.ya_core.specs.Tree.{IsWord}
 use Rattle.ya_core.specs.Walks.{AccessIsWithin}
-use Rattle.ya_core.proofs.Walking.{within_access}
+use Rattle.ya_core.proofs.Promised.{within_access}
 use Rattle.ya_lock.specs.declared.view.View.{View}
 use Rattle.ya_lock.specs.Rule.{index_of, making_index, Rule}
 use Rattle.ya_lock.specs.Moves.{Goes}
 use Rattle.ya_lock.proofs.Words.{making_small, index_below, index_is}
 use Rattle.ya_lock.proofs.Steps.{allows}
-use Rattle.ya_core.proofs.Driving.{load_due, store_due}
+use Rattle.ya_core.proofs.Promised.{load_due, store_due}
 use Rattle.ya_lock.proofs.tree_lock.TreeLock.step.Goals as goal
 
 pub overflow_mul-number : goal.overflow_mul-number

@@ -1,7 +1,6 @@
 -- The machine's rows, as one place takes its step.
-use Rattle.std.proofs.Common.{◌≡◌, ◌≢◌, ℕ, zero, suc, ◌+◌, ◌^◌, ◌<◌, ◌≤◌, Bool, true, false, cond, refl, arith, ap, sym, ◌∙◌, List, [], ◌∷◌, ◌++◌, length, take, drop, get_or, replicate, slice_index, slice_index_or, slice_set, Option, Some, None, length-set, get_or-set_same, get_or-set_other}
-use Rattle.std.proofs.lemmas.Grind.{common_steps}
-use Rattle.std.proofs.lemmas.List.{get_or_read, length-replicate}
+use Rattle.std.proofs.Common.{◌≡◌, ◌≢◌, ℕ, zero, suc, ◌+◌, ◌^◌, ◌<◌, ◌≤◌, Bool, true, false, cond, refl, arith, ap, sym, ◌∙◌, subst, List, [], ◌∷◌, length, get_or, replicate, slice_index, slice_index_or, slice_set, Option, Some, None, length-set, get_or-set_same, get_or-set_other}
+use Rattle.std.proofs.lemmas.List.{length-replicate}
 use Rattle.std.proofs.lemmas.List.Quantifiers.{position-Some}
 use Rattle.std.proofs.lemmas.Iterator.Adapters.{position_from-zero}
 use Rattle.std.specs.List.{position, position_from}
@@ -9,24 +8,15 @@ use Rattle.ya_core.specs.declared.process.Process.{Process}
 use Rattle.ya_core.specs.declared.process.Process.TheVariants.{Idle}
 use Rattle.ya_core.specs.Tree.{count_of_words}
 use Rattle.ya_core.specs.Steps.{StepsTo, Accesses, opening, value_of, access_of, next_of}
-use Rattle.ya_core.specs.Soundness.{IsProper}
+use Rattle.ya_core.specs.Soundness.{IsProper, IsSound}
 use Rattle.ya_core.specs.Walks.{AccessIsWithin}
 use Rattle.ya_core.specs.Machines.{IsMachine, processes_of}
-use Rattle.ya_core.specs.Row.{words_of, row_state}
+use Rattle.ya_core.specs.FlatRow.{words_of, row_state}
 use Rattle.ya_core.specs.Worlds.{IsInside, is_inside}
-use Rattle.ya_core.proofs.Walking.{within_access}
-use Rattle.ya_core.proofs.Keeping.{keeps, excludes}
+use Rattle.ya_core.proofs.Properness.{within_access}
+use Rattle.ya_core.proofs.Invariant.{keeps, opens, excludes}
 use Rattle.ya_core.proofs.Content.{is_inside_is}
-use Rattle.ya_core.proofs.Rows.{words_of-zero, same_state, row_opens}
-
--- a row that was lent whole comes back whole
-pub lent_whole : (n : ℕ) (xs ys : List ℕ) → length ys ≡ length xs → n ≡ length xs → take n (ys ++ drop (length ys) xs) ≡ ys
-lent_whole n xs ys same whole = grind (arith, common_steps)
-
--- the process that is read at a place
-pub read_process : (list : List Process) (place : ℕ) (x : Process) → place < length list → x ≡ get_or list place x → x ≡ processes_of list place
-unfolding processes_of
-read_process list place x room is = get_or_read list place x room is Idle
+use Rattle.ya_core.proofs.NamedWords.{words_of-zero, same_state}
 
 -- the processes after one of them is set
 processes_of-set : (list : List Process) (place : ℕ) (x : Process) → place < length list → processes_of (slice_set list place x) place ≡ x
@@ -40,7 +30,7 @@ processes_of-set_other list place other x apart = get_or-set_other list place ot
 module _ (levels place : ℕ) (words : List ℕ) (processes : List Process) (room : place < 2 ^ levels) (is : IsMachine record { levels = levels; words = words; processes = processes }) where
   -- the process of the place, and the access that is due
   pub proper_here : IsProper levels place (processes_of processes place)
-  proper_here = is.sound.sound.proper place
+  proper_here = is.sound.proper place
 
   pub within_here : AccessIsWithin levels (access_of levels place (processes_of processes place))
   within_here = within_access levels place (processes_of processes place) is.least room proper_here
@@ -68,10 +58,7 @@ module _ (levels place : ℕ) (words : List ℕ) (processes : List Process) (roo
           words = same ∙ is.words;
           processes = length-set processes place next ∙ is.processes;
           sound =
-              record {
-                room = omega (arith, same, is.words);
-                sound = keeps levels place (row_state levels words (processes_of processes)) (row_state levels words' (processes_of (slice_set processes place next))) is.least is.sound.sound machine_steps;
-              };
+              keeps levels place (row_state levels words (processes_of processes)) (row_state levels words' (processes_of (slice_set processes place next))) is.least is.sound machine_steps;
         }
 
 -- a row of equal elements
@@ -94,16 +81,12 @@ opening_row levels words processes zeros idle =
     (λ p. ap (λ xs. slice_index_or xs p Idle) idle ∙ replicate_at (2 ^ levels) Idle p)
 
 pub opening_machine : (levels : ℕ) (words : List ℕ) (processes : List Process) → 1 ≤ levels → words ≡ replicate (count_of_words levels) 0 → processes ≡ replicate (2 ^ levels) Idle → IsMachine record { levels = levels; words = words; processes = processes }
-unfolding processes_of
 opening_machine levels words processes some zeros idle =
-    let size : length words ≡ count_of_words levels = ap length zeros ∙ length-replicate (count_of_words levels) 0 in
     record {
       least = some;
-      words = size;
+      words = ap length zeros ∙ length-replicate (count_of_words levels) 0;
       processes = ap length idle ∙ length-replicate (2 ^ levels) Idle;
-      sound =
-          row_opens levels words (processes_of processes) (omega arith) (λ i within. ap (λ xs. slice_index xs i) zeros ∙ replicate_at (count_of_words levels) 0 i)
-          (λ p. ap (λ xs. slice_index_or xs p Idle) idle ∙ replicate_at (2 ^ levels) Idle p);
+      sound = subst (IsSound levels) (sym (opening_row levels words processes zeros idle)) (opens levels);
     }
 
 -- where no process is found inside, none is
@@ -129,5 +112,5 @@ inside_at levels words processes is place = (λ e. (position-Some is_inside proc
     found h (Some other) e =
         let there = (position-Some is_inside processes other Idle e).1 in
         let same : other ≡ place =
-        excludes levels other place (row_state levels words (processes_of processes)) is.least is.sound.sound (is_inside_is (processes_of processes other) there) (is_inside_is (processes_of processes place) h) in
+        excludes levels other place (row_state levels words (processes_of processes)) is.least is.sound (is_inside_is (processes_of processes other) there) (is_inside_is (processes_of processes place) h) in
         e ∙ ap (λ n. Some n) same

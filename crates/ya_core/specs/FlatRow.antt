@@ -1,11 +1,10 @@
 -- One flat row that holds the words of the tree, each at its number.
-use Rattle.std.specs.Prelude.{ℕ, ◌-◌, ◌^◌, ◌≤◌, Bool, nat_lt, nat_le, ◌&&◌, if◌then◌else◌, List, length, slice_index}
+use Rattle.std.specs.Prelude.{ℕ, ◌-◌, ◌^◌, Bool, nat_lt, nat_le, ◌&&◌, if◌then◌else◌, List, slice_index}
 use Rattle.ya_core.specs.declared.word.Word.{Word}
 use Rattle.ya_core.specs.declared.word.Word.TheVariants.{C, T, P}
 use Rattle.ya_core.specs.declared.process.Process.{Process}
-use Rattle.ya_core.specs.Tree.{number_of, count_of_words}
+use Rattle.ya_core.specs.Tree.{number_of}
 use Rattle.ya_core.specs.Steps.{State}
-use Rattle.ya_core.specs.Soundness.{IsSound}
 
 -- whether the tree of this many levels has the word
 abbrev pub is_word : ℕ → Word → Bool
@@ -20,8 +19,3 @@ words_of levels row word = if is_word levels word then slice_index row (number_o
 -- the state that a flat row and processes show
 abbrev pub row_state : ℕ → List ℕ → (ℕ → Process) → State
 row_state levels row processes = record { words = words_of levels row; processes = processes }
-
--- a flat row, which may go on past the words of the tree, and processes show a state that meets the invariant
-pub record IsSoundRow (levels : ℕ) (row : List ℕ) (processes : ℕ → Process) : Type 0 where
-  pub room : count_of_words levels ≤ length row
-  pub sound : IsSound levels (row_state levels row processes)

@@ -12,12 +12,12 @@ use Rattle.ya_core.specs.declared.process.Process.TheVariants.{Idle, Entering, I
 use Rattle.ya_core.specs.Tree.{node_of, side_of}
 use Rattle.ya_core.specs.Steps.{State, StepsTo, Accesses, opening, value_of, access_of, entry_access, exit_access, next_of, entry_next, exit_next, won, left}
 use Rattle.ya_core.specs.Soundness.{Phase, Away, Named, Announced, Waiting, Holding, Parting, claims, is_past, holds, parts, phase_of, entry_phase, exit_phase, IsProper, IsSoundAt, IsSound}
-use Rattle.ya_core.specs.Walks.{CanStand}
+use Rattle.ya_core.specs.Walks.{MayFind, CanStand}
 use Rattle.ya_core.proofs.Places.{node_below, node_of_place, node_of_root}
-use Rattle.ya_core.proofs.Walking.{MayFind, proper_next}
+use Rattle.ya_core.proofs.Properness.{proper_next}
 use Rattle.ya_core.proofs.Level.{or_else, level_stays, one_holds}
 use Rattle.ya_core.proofs.Phases.{acts_at, acts_within, phase_here, phase_below, phase_away, phase_won, phase_left, frame_phase, access_level, words_stay, holds_below}
-use Rattle.ya_core.proofs.Acting.{act_claim, act_announce, act_clear, act_wake, act_let_in, act_give_up, act_look, act_part, act_win_unclaimed, act_win_other, act_win_let_in}
+use Rattle.ya_core.proofs.LevelSteps.{act_claim, act_announce, act_clear, act_wake, act_let_in, act_give_up, act_look, act_part, act_win_unclaimed, act_win_other, act_win_let_in}
 
 -- a number is 0 or not
 zero_or : (n : ℕ) → (n ≡ 0) ⊎ (1 ≤ n)
