@@ -1,0 +1,65 @@
+-- The passes of a table, as `new` deals them and `settle` takes them back.
+use Rattle.std.proofs.Common.{◌≡◌, ℕ, ◌^◌, ◌<◌, List, [], ◌∷◌, ◌++◌, All, map, length, get_or, Some, None, Option, sym, ap, ◌∙◌, subst, arith}
+use Rattle.std.proofs.lemmas.List.Elements.{All-map, All-nil, All-cons, All-head, All-tail}
+use Rattle.std.proofs.lemmas.List.{get_or-map, length-map}
+use Rattle.std.proofs.lemmas.Option.{slice_get-get_or, slice_get_within}
+use Rattle.rt_shared.specs.Lent.{feed_of, Grows}
+use Rattle.rt_rib.specs.declared.commands.Entry.{Entry}
+use Rattle.rt_shared.specs.Visits.{Since}
+use Rattle.ya_lock.specs.Lock.{LockId, IdlePass, IsDealt, new_pass}
+use Rattle.rt_rib.specs.Journal.{IsLawfulJournal}
+use Rattle.rt_shared.specs.declared.lent.Lent.{Lent}
+use Rattle.rt_shared.specs.Table.{HeldPass, ArePassesOf}
+use Rattle.rt_shared.specs.Pass.{of_feed, held_pass, IsThere}
+
+-- the place of a pass of the lock is that of a feed
+abbrev pub HasFeed : IdlePass Lent → Type 0
+HasFeed p = p.place < p.seen.feeds
+
+-- what a pass has seen is lawful
+pub seen_is_lawful : (feed : ℕ) (pass : Option (IdlePass Lent)) → IsThere feed pass → IsLawfulJournal (held_pass feed pass).table.limit (held_pass feed pass).seen
+seen_is_lawful feed (Some pass) there = pass.seen.lawful
+seen_is_lawful feed None there = absurd there
+
+-- what holds of all holds of one in their midst
+pub all_amid : {X : Type 0} (P : X → Type 0) (xs ys : List X) (x : X) → All P (xs ++ x ∷ ys) → P x
+all_amid P [] ys x all = All-head P x ys all
+all_amid P (y ∷ xs) ys x all = all_amid P xs ys x (All-tail P y (xs ++ x ∷ ys) all)
+
+-- and of those before them
+pub all_front : {X : Type 0} (P : X → Type 0) (xs ys : List X) → All P (xs ++ ys) → All P xs
+all_front P [] ys all = All-nil P
+all_front P (x ∷ xs) ys all = All-cons P x xs (All-head P x (xs ++ ys) all) (all_front P xs ys (All-tail P x (xs ++ ys) all))
+
+-- what the lock says of its pass holds of the feed's
+pub since_of : (idle : IdlePass Lent) (pass : HeldPass) (now : Lent) → feed_of idle.place ≡ pass.feed → idle.seen.book.journal ≡ pass.seen → Grows idle.place idle.seen now → Since pass.feed pass.seen now.book.journal
+since_of idle pass now feed seen grows =
+    subst (λ (n : ℕ). Since n pass.seen now.book.journal) feed (subst (λ (l : List Entry). Since (feed_of idle.place) l now.book.journal) seen grows.since)
+
+-- the passes of a lock that has just been made, as those of the feeds of a table
+module _ (lock : LockId) (levels : ℕ) (lent : Lent) (passes : List (IdlePass Lent)) (deal : IsDealt lock levels lent passes) (few : 2 ^ levels ≡ lent.feeds) where
+  -- the k-th of them
+  at_place : (k : ℕ) (d : IdlePass Lent) → k < length passes → get_or passes k d ≡ new_pass lock k lent
+  at_place k d h = let e = slice_get-get_or passes k d h in let f = deal.each k (omega (arith, deal.count)) in cc
+
+  pub in_range : All HasFeed passes
+  in_range k d h = subst HasFeed (sym (at_place k d h)) (omega (arith, deal.count))
+
+  pub are_dealt : ArePassesOf (record { lock = lock; limit = lent.book.limit; feeds = lent.feeds }) (map of_feed passes)
+  are_dealt = record {
+    count = length-map passes of_feed ∙ (deal.count ∙ few);
+    tables = All-map (λ (p : HeldPass). p.table ≡ record { lock = lock; limit = lent.book.limit; feeds = lent.feeds }) of_feed passes
+        (λ k d h. ap (λ (p : IdlePass Lent). (of_feed p).table) (at_place k d h));
+    feeds = λ i p e.
+        let within : i < length (map of_feed passes) = slice_get_within (map of_feed passes) i p e in
+        let within' : i < length passes = omega (arith, length-map passes of_feed) in
+        let d : IdlePass Lent = new_pass lock i lent in
+        let here : get_or (map of_feed passes) i p ≡ of_feed (get_or passes i d) = get_or-map of_feed passes i d p within' in
+        let there : get_or passes i d ≡ d = at_place i d within' in
+        let it = slice_get-get_or (map of_feed passes) i p within in
+        let is : p ≡ of_feed d = cc (here, ap of_feed there, it, e) in
+        ap (λ (q : HeldPass). q.feed) is;
+  }
+
+  pub have_seen : lent.book.journal ≡ [] → All (λ p. p.seen ≡ []) (map of_feed passes)
+  have_seen empty = All-map (λ (p : HeldPass). p.seen ≡ []) of_feed passes (λ k d h. ap (λ (p : IdlePass Lent). p.seen.book.journal) (at_place k d h) ∙ empty)

@@ -1,0 +1,5 @@
+pub mod Visits
+pub mod Lent
+pub mod Keeping
+pub mod Table
+pub mod Pass

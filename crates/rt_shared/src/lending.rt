@@ -1,0 +1,76 @@
+//! What a feed does to the lent book.
+ghost use Rattle.std.specs.Prelude.{◌≡◌, ℕ, ◌+◌, ◌<◌, ◌≤◌, IfOk, OnErr, [], ◌∷◌, ◌++◌, vec_len, vec_capacity, length};
+ghost use Rattle.rt_rib.specs.Book.{Applies, IsLimit};
+ghost use Rattle.rt_shared.specs.Visits.{answered, AreServed};
+ghost use Rattle.rt_shared.specs.Lent.{Grows, Adds, IsSameBut};
+ghost use Rattle.rt_shared.specs.Keeping.{grows_same, adds_same, grows_by_other};
+
+use crate::lent::Lent;
+use crate::outcome::Outcome;
+use rt_rib::laws::lawful_by_entry;
+use rt_rib::{Book, Cmd, Refused, Reply};
+use std::alloc::Global;
+use ya_lock::Kept;
+
+impl Kept for Lent {
+    ghost since = { λ place a b. Grows place a b };
+
+    ghost done = { λ place a b. Adds place a b };
+
+    ghost since_same = { λ place a. grows_same place a };
+
+    ghost done_same = { λ place a. adds_same place a };
+
+    ghost since_done = { λ place other a b c ne s d. grows_by_other place other a b c ne s d };
+}
+
+impl Lent {
+    // An empty book for so many feeds.
+    pub(crate) fn new(alloc: Global, limit: u32, feeds: u32) -> Lent
+        requires { IsLimit limit × (feeds ≤ 64) }
+        ensures { (result.book ≡ record { limit = limit; journal = [] }) × (result.feeds ≡ feeds) }
+    {
+        lawful_by_entry();
+        Lent {
+            book: Book::new(alloc, limit),
+            feeds,
+        }
+    }
+
+    // Answers a command of the feed, as the book does.
+    pub(crate) fn apply(&mut self, feed: u32, cmd: Cmd) -> Result<Reply, Refused>
+        requires { (1 ≤ feed) × (feed ≤ self.old.feeds) }
+        ensures feeds { self.new.feeds ≡ self.old.feeds }
+        ensures ok { IfOk result (λ reply. Applies self.old.book self.new.book feed cmd reply) }
+        ensures err { OnErr result (self.new.book ≡ self.old.book) }
+    {
+        lawful_by_entry();
+        self.book.apply(feed, cmd)
+    }
+
+    // The same, with the outcome in place of a result.
+    fn serve(&mut self, feed: u32, cmd: Cmd) -> Outcome
+        requires { (1 ≤ feed) × (feed ≤ self.old.feeds) }
+        ensures same { IsSameBut self.old self.new }
+        ensures entry { self.new.book.journal ≡ self.old.book.journal ++ answered feed (cmd ∷ []) (result ∷ []) }
+    {
+        match self.apply(feed, cmd) {
+            Ok(reply) => Outcome::Did(reply),
+            Err(Refused) => Outcome::Refused,
+        }
+    }
+
+    // Answers commands of the feed in order, with an outcome of each. One that is refused memory changes nothing, and the
+    // rest go on.
+    pub(crate) fn serve_all(&mut self, feed: u32, cmds: &[Cmd], out: &mut Vec<Outcome>)
+        requires feed { (1 ≤ feed) × (feed ≤ self.old.feeds) }
+        requires room { vec_len out.old + length cmds.now ≤ vec_capacity out.old }
+        ensures same { IsSameBut self.old self.new }
+        ensures served { AreServed feed cmds.now self.old.book.journal out.old.items self.new.book.journal out.new.items }
+    {
+        for cmd in cmds {
+            let outcome = self.serve(feed, *cmd);
+            out.push_reserved(outcome);
+        }
+    }
+}

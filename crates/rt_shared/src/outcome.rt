@@ -1,0 +1,10 @@
+use rt_rib::Reply;
+
+/// What came of a command.
+#[derive(Debug, Clone, Copy, PartialEq)]
+pub enum Outcome {
+    /// It was answered, and stands in the journal with this reply.
+    Did(Reply),
+    /// Its entry or its route was refused memory. It left no entry, and no route changed.
+    Refused,
+}

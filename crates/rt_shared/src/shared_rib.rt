@@ -1,0 +1,158 @@
+//! The shared table itself.
+ghost use Rattle.std.specs.Prelude.{◌≡◌, ℕ, ◌+◌, ◌^◌, ◌<◌, ◌≤◌, [], ◌∷◌, ◌++◌, IfOk, OnErr, IsOk, OnOk, All};
+ghost use Rattle.rt_rib.specs.Book.{IsLimit};
+ghost use Rattle.rt_rib.specs.Journal.{table_left, IsLawfulJournal};
+ghost use Rattle.rt_shared.specs.Visits.{Since, Visits, VisitsWith};
+ghost use Rattle.rt_shared.specs.Table.{ArePassesOf, Settles};
+
+use crate::feed_pass::FeedPass;
+use crate::lent::Lent;
+use crate::outcome::Outcome;
+use rt_rib::{Book, Cmd, Refused, Reply, Route};
+use std::alloc::Global;
+use std::marker::Model;
+use std::sync::Wait;
+use ya_lock::TreeLock;
+
+/// A routing table with its journal, which 2 to the power of L feeds change, each by a pass of its own. L is 1 to 6. A
+/// thread that uses it holds a reference to it and a pass. Contracts see which table it is, how many routes each feed may
+/// have, and how many feeds there are.
+#[derive(Drop)]
+pub struct SharedRib<const L: u32> {
+    lock: TreeLock<Lent, L>,
+    limit: u32,
+}
+
+impl<const L: u32> Model for SharedRib<L> {
+    ghost use Rattle.std.specs.Prelude.{◌^◌};
+    ghost use Rattle.rt_shared.specs.Table.{SharedId};
+
+    ghost Value = { SharedId };
+
+    ghost view = { λ t. record { lock = t.lock; limit = t.limit; feeds = 2 ^ L } };
+}
+
+impl<const L: u32> SharedRib<L> {
+    /// A table without routes, in which each feed may have so many, and the pass of each feed in order. M1: `Refused`
+    /// where memory was refused.
+    pub fn new(alloc: Global, limit: u32) -> Result<(SharedRib<L>, Vec<FeedPass>), Refused>
+        requires levels { (1 ≤ L) × (L ≤ 6) }
+        requires limit { IsLimit limit }
+        ensures table { IfOk result (λ made. (made.0.limit ≡ limit) × (made.0.feeds ≡ 2 ^ L)) }
+        ensures passes { IfOk result (λ made. ArePassesOf made.0 made.1.items) }
+        ensures seen { IfOk result (λ made. All (λ p. p.seen ≡ []) made.1.items) }
+    {
+        let feeds = Self::feeds();
+        let mut feed_passes = Vec::with_capacity(alloc, feeds as usize)?;
+        let Ok((lock, passes)) = TreeLock::new(alloc, Lent::new(alloc, limit, feeds)) else {
+            return Err(Refused);
+        };
+        for pass in passes {
+            feed_passes.push_reserved(FeedPass::of(pass));
+        }
+        Ok((SharedRib { lock, limit }, feed_passes))
+    }
+
+    // How many feeds it has.
+    fn feeds() -> u32
+        requires { (1 ≤ L) × (L ≤ 6) }
+        ensures value { result ≡ 2 ^ L }
+        ensures most { result ≤ 64 }
+    {
+        1 << L
+    }
+
+    /// Answers a command of the pass's feed as the sequential table does at the journal's end. The pass has then seen that
+    /// journal, with its own entry last. M1: `Refused` where memory was refused; the journal that the pass has then seen is
+    /// the one that it found. It may wait.
+    pub fn apply<R: Wait>(&self, rt: &R, pass: &mut FeedPass, cmd: Cmd) -> Result<Reply, Refused>
+        requires { pass.old.table ≡ self.now }
+        ensures table { pass.new.table ≡ pass.old.table }
+        ensures feed { pass.new.feed ≡ pass.old.feed }
+        ensures ok { IfOk result (λ reply. Visits self.now.limit pass.old.feed pass.old.seen (cmd ∷ []) (Outcome.Did reply ∷ []) pass.new.seen) }
+        ensures err { OnErr result (Visits self.now.limit pass.old.feed pass.old.seen (cmd ∷ []) (Outcome.Refused ∷ []) pass.new.seen) }
+    {
+        let Some(idle) = pass.pass.take() else {
+            unreachable!()
+        };
+        let mut guard = self.lock.enter(rt, idle);
+        let answer = guard.get_mut().apply(pass.feed, cmd);
+        pass.pass = Some(self.lock.leave(guard));
+        answer
+    }
+
+    /// Answers commands of the pass's feed in order, in one piece of the journal, and appends an outcome of each to `out`.
+    /// A command that is refused memory (M1) leaves no entry, and the rest go on. Where there is no command, nothing is
+    /// entered. M2: `Refused` where `out` was refused memory; then nothing was entered. It may wait.
+    pub fn apply_batch<R: Wait>(
+        &self,
+        rt: &R,
+        pass: &mut FeedPass,
+        cmds: &[Cmd],
+        out: &mut Vec<Outcome>,
+    ) -> Result<(), Refused>
+        requires { pass.old.table ≡ self.now }
+        ensures table { pass.new.table ≡ pass.old.table }
+        ensures feed { pass.new.feed ≡ pass.old.feed }
+        ensures ok { OnOk result (VisitsWith self.now.limit pass.old.feed pass.old.seen cmds.now out.old.items out.new.items pass.new.seen) }
+        ensures err { OnErr result ((pass.new ≡ pass.old) × (out.new.items ≡ out.old.items)) }
+        ensures empty { cmds.now ≡ [] → (pass.new ≡ pass.old) × IsOk result }
+    {
+        let feed = pass.feed;
+        if cmds.is_empty() {
+            return Ok(());
+        }
+        out.try_reserve(cmds.len())?;
+        let Some(idle) = pass.pass.take() else {
+            unreachable!()
+        };
+        let mut guard = self.lock.enter(rt, idle);
+        guard.get_mut().serve_all(feed, cmds, out);
+        pass.pass = Some(self.lock.leave(guard));
+        Ok(())
+    }
+
+    /// The routes of the table in dump order: what a journal leaves which the pass has then seen. They are copied while no
+    /// feed can enter. M1: `Refused` where memory was refused; the pass has seen that journal all the same. It may wait.
+    pub fn routes<R: Wait>(
+        &self,
+        rt: &R,
+        alloc: Global,
+        pass: &mut FeedPass,
+    ) -> Result<Vec<Route>, Refused>
+        requires { pass.old.table ≡ self.now }
+        ensures table { pass.new.table ≡ pass.old.table }
+        ensures feed { pass.new.feed ≡ pass.old.feed }
+        ensures seen { Since pass.old.feed pass.old.seen pass.new.seen }
+        ensures lawful { IsLawfulJournal self.now.limit pass.new.seen }
+        ensures ok { IfOk result (λ routes. routes.items ≡ table_left self.now.limit pass.new.seen) }
+    {
+        let Some(idle) = pass.pass.take() else {
+            unreachable!()
+        };
+        let guard = self.lock.enter(rt, idle);
+        let routes = guard.get().book.routes(alloc);
+        pass.pass = Some(self.lock.leave(guard));
+        routes
+    }
+
+    /// Ends the table, and gives its book. What each pass has seen begins the book's journal, with no entry of the pass's
+    /// feed behind. It takes no memory. It may wait.
+    pub fn settle<R: Wait>(self, rt: &R, passes: Vec<FeedPass>) -> Book<Global>
+        requires { ArePassesOf self passes.items }
+        ensures limit { result.limit ≡ self.entry.limit }
+        ensures settled { Settles self.entry passes.items result.journal }
+    {
+        let mut passes = passes;
+        let Some(last) = passes.pop() else {
+            unreachable!()
+        };
+        let SharedRib { lock, limit: _ } = self;
+        let mut guard = lock.enter(rt, last.into_idle());
+        while let Some(pass) = passes.pop() {
+            guard = lock.confirm(guard, pass.into_idle());
+        }
+        let Lent { book, feeds: _ } = lock.close(guard);
+        book
+    }
+}
