@@ -3,3 +3,4 @@ pub mod Lent
 pub mod Keeping
 pub mod Table
 pub mod Pass
+pub mod Laws

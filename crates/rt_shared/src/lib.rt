@@ -11,6 +11,7 @@
 #![tactic(auto)]
 
 mod feed_pass;
+pub mod laws;
 mod lending;
 mod lent;
 mod outcome;

@@ -1,0 +1,40 @@
+-- What holds of every journal and of the visits in it.
+use Rattle.std.specs.Prelude.{◌≡◌, ℕ, List, [], ◌∷◌, ◌++◌, length}
+use Rattle.std.specs.List.{flat_map}
+use Rattle.rt_rib.specs.declared.commands.Cmd.{Cmd}
+use Rattle.rt_rib.specs.declared.commands.Entry.{Entry}
+use Rattle.rt_rib.specs.Laws.{feed_entries}
+use Rattle.rt_shared.specs.declared.outcome.Outcome.{Outcome}
+use Rattle.rt_shared.specs.Visits.{AllBy, Since, answered, Visits, Uncut}
+
+-- what may have happened once may happen again
+abbrev pub SinceAgain : Type 0
+SinceAgain = (feed : ℕ) (a b c : List Entry) → Since feed a b → Since feed b c → Since feed a c
+
+-- the entries of two pieces of a feed's commands are those of the first, and then those of the second; all are the feed's
+abbrev pub AnsweredInPieces : Type 0
+AnsweredInPieces =
+    (feed : ℕ) (xs ys : List Cmd) (os ps : List Outcome) → length os ≡ length xs
+    → (answered feed (xs ++ ys) (os ++ ps) ≡ answered feed xs os ++ answered feed ys ps) × AllBy feed (answered feed xs os)
+
+-- in the empty journal a feed has no visit
+abbrev pub UncutAtFirst : Type 0
+UncutAtFirst = (feed : ℕ) → Uncut feed [] []
+
+-- a feed's visits stay uncut while it is away
+abbrev pub UncutSince : Type 0
+UncutSince = (feed : ℕ) (visits : List (List Entry)) (a b : List Entry) → Uncut feed visits a → Since feed a b → Uncut feed visits b
+
+-- and one more call adds one more
+abbrev pub UncutByVisit : Type 0
+UncutByVisit =
+    (limit feed : ℕ) (visits : List (List Entry)) (seen now : List Entry) (cmds : List Cmd) (outcomes : List Outcome) → Uncut feed visits seen
+    → Visits limit feed seen cmds outcomes now → Uncut feed (visits ++ answered feed cmds outcomes ∷ []) now
+
+-- the entries of the feed are those of its visits, one visit after another
+abbrev pub EntriesOfVisits : Type 0
+EntriesOfVisits = (feed : ℕ) (visits : List (List Entry)) (journal : List Entry) → Uncut feed visits journal → feed_entries feed journal ≡ flat_map (λ visit. visit) visits
+
+-- what a feed has seen has all its entries
+abbrev pub EntriesSince : Type 0
+EntriesSince = (feed : ℕ) (a b : List Entry) → Since feed a b → feed_entries feed b ≡ feed_entries feed a
