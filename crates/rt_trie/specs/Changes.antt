@@ -6,6 +6,10 @@ use Rattle.rt_trie.specs.Map.{put, erase}
 use Rattle.rt_trie.specs.Blocks.{IsChild}
 use Rattle.rt_trie.specs.Links.{pairs, count, IsFilled, IsVacant, IsLawfulTrie, IsChildLink}
 
+-- the new link is a child wherever the old one was, on any side of any parent
+abbrev pub StaysChild : {V A : Type 0} → Link V A → Link V A → Type 0
+StaysChild old new = (parent : Prefix) (upper : Bool) → IsChildLink parent upper old → IsChildLink parent upper new
+
 -- v was put at p: the link is lawful, and a child on each side where it was one and p is one
 pub record IsPut {V A : Type 0} (old new : Link V A) (p : Prefix) (v : V) : Type 0 where
   pub pairs_are : pairs new ≡ put (pairs old) p v
@@ -17,13 +21,13 @@ pub record IsPut {V A : Type 0} (old new : Link V A) (p : Prefix) (v : V) : Type
 pub record IsErased {V A : Type 0} (old new : Link V A) (p : Prefix) : Type 0 where
   pub pairs_are : pairs new ≡ erase (pairs old) p
   pub lawful : IsLawfulTrie new
-  pub stays : (parent : Prefix) (upper : Bool) → IsChildLink parent upper old → IsChildLink parent upper new
+  pub stays : StaysChild old new
 
 -- a node that isn't needed was taken away: the pairs are the same, the link is lawful, and a child where it was one
 pub record IsSpliced {V A : Type 0} (old new : Link V A) : Type 0 where
   pub pairs_are : pairs new ≡ pairs old
   pub lawful : IsLawfulTrie new
-  pub stays : (parent : Prefix) (upper : Bool) → IsChildLink parent upper old → IsChildLink parent upper new
+  pub stays : StaysChild old new
 
 -- the sides of a node without a value, of which one is vacant: they have its pairs, are lawful, and children where it is one
 pub record AreSidesOf {V A : Type 0} (link left right : Link V A) : Type 0 where
@@ -32,5 +36,5 @@ pub record AreSidesOf {V A : Type 0} (link left right : Link V A) : Type 0 where
   pub one : IsVacant left ⊎ IsVacant right
   pub left_lawful : IsLawfulTrie left
   pub right_lawful : IsLawfulTrie right
-  pub left_stays : (parent : Prefix) (upper : Bool) → IsChildLink parent upper link → IsChildLink parent upper left
-  pub right_stays : (parent : Prefix) (upper : Bool) → IsChildLink parent upper link → IsChildLink parent upper right
+  pub left_stays : StaysChild link left
+  pub right_stays : StaysChild link right

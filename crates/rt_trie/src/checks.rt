@@ -102,34 +102,158 @@ fn a_region_of_512_bytes_refuses_and_keeps(rt: HostRuntime) -> Result<(), Fail> 
     Ok(())
 }
 
-#[test]
-fn each_growth_of_a_split_refused_in_turn(rt: HostRuntime) -> Result<(), Fail> {
-    // A region that grows from too small for one pair to large enough for three: each box that an insertion asks for is
-    // the one that is refused at some size.
-    let mut split = 0u32;
-    for size in 1..40usize {
-        let heap = LocalHeap::new(rt.alloc(), 16 * size)?;
-        let mut trie: Trie<u32, &LocalHeap> = Trie::new(&heap);
-        let mut stored = Vec::new(rt.alloc());
-        for k in [3u32, 4, 5] {
-            let nodes = trie.nodes();
-            match trie.insert(eighth(k)?, k) {
-                Ok(_) => stored.push(k)?,
-                Err(back) => {
-                    assert_eq!(&rt; back, k);
-                    assert_eq!(&rt; trie.nodes(), nodes);
-                    if stored.len() == 1 {
-                        split = split.wrapping_add(1);
-                    }
-                }
-            }
-            assert_holds(&rt, &trie, &stored)?;
-        }
-        if size == 39 {
-            assert_eq!(&rt; stored.len(), 3);
+// Takes all memory that is left in the region, in blocks of its least size.
+fn take_the_rest<'h>(
+    heap: &'h LocalHeap,
+    blocks: &mut Vec<Box<u8, &'h LocalHeap>>,
+) -> Result<(), Fail> {
+    for _ in 0..1_000u32 {
+        match Box::new(heap, 0u8) {
+            Ok(block) => blocks.push(block)?,
+            Err(_) => return Ok(()),
         }
     }
-    assert!(rt; split > 1);
+    Err(Fail::from("the region is too large"))
+}
+
+// What a caller sees of a trie: its counts and its pairs in order.
+fn assert_has<A: Allocator + Copy>(
+    rt: &impl Abort,
+    trie: &Trie<u32, A>,
+    nodes: usize,
+    pairs: &[(Prefix, u32)],
+) -> Result<(), Fail> {
+    assert_eq!(rt; trie.len(), pairs.len());
+    assert_eq!(rt; trie.nodes(), nodes);
+    let mut walk = trie.walk();
+    for pair in pairs {
+        let (p, value) = walk.next().ok_or("too few pairs")?;
+        assert_eq!(rt; (p, *value), *pair);
+    }
+    assert!(rt; walk.next().is_none());
+    Ok(())
+}
+
+// Puts in the pairs, then the new one, in a region where nothing is left, then one block, and so on until it is put in.
+// So each box that the insertion asks for is refused, the first at the start and the last just before the end; each time
+// the trie is as it was, and the region too.
+fn refuse_each_box<'h>(
+    rt: &impl Abort,
+    alloc: Global,
+    heap: &'h LocalHeap,
+    pairs: &[(Prefix, u32)],
+    p: Prefix,
+) -> Result<(), Fail> {
+    let mut trie: Trie<u32, &LocalHeap> = Trie::new(heap);
+    for (q, value) in pairs {
+        let old = trie.insert(*q, *value).ok().ok_or("refused")?;
+        assert!(rt; old.is_none());
+    }
+    let nodes = trie.nodes();
+    let mut blocks: Vec<Box<u8, &'h LocalHeap>> = Vec::new(alloc);
+    take_the_rest(heap, &mut blocks)?;
+    for refused in 0..20u32 {
+        let left = heap.free();
+        match trie.insert(p, 7) {
+            Ok(old) => {
+                assert!(rt; old.is_none());
+                assert_eq!(rt; trie.get(p).copied(), Some(7));
+                assert_eq!(rt; trie.len(), pairs.len().wrapping_add(1));
+                assert!(rt; refused > 0);
+                return Ok(());
+            }
+            Err(back) => {
+                assert_eq!(rt; back, 7);
+                assert!(rt; trie.get(p).is_none());
+                assert_has(rt, &trie, nodes, pairs)?;
+                assert_eq!(rt; heap.free(), left);
+            }
+        }
+        drop(blocks.pop());
+    }
+    Err(Fail::from("never put in"))
+}
+
+#[test]
+fn each_box_of_each_insertion_refused_in_turn(rt: HostRuntime) -> Result<(), Fail> {
+    let wide = (prefix(10 << 24, 8)?, 1u32);
+    let one = (prefix(0x0a01_0000, 16)?, 2);
+    let two = (prefix(0x0a02_0000, 16)?, 3);
+    let longer = prefix(0x0a01_0200, 24)?;
+    let apart = prefix(0xc000_0200, 24)?;
+    let low = prefix(0x0100_0000, 8)?;
+    let alloc = rt.alloc();
+    let heap = LocalHeap::new(alloc, 2_048)?;
+    // A leaf where nothing was.
+    refuse_each_box(&rt, alloc, &heap, &[], wide.0)?;
+    // A leaf that becomes a full node, with the new one on either side.
+    refuse_each_box(&rt, alloc, &heap, &[wide], one.0)?;
+    refuse_each_box(&rt, alloc, &heap, &[wide], prefix(0x0aff_0000, 16)?)?;
+    // A fork that becomes a full node.
+    refuse_each_box(&rt, alloc, &heap, &[one, two], prefix(0x0a00_0000, 14)?)?;
+    // A full node above a leaf, a fork and a full node, on either side.
+    refuse_each_box(&rt, alloc, &heap, &[one], wide.0)?;
+    refuse_each_box(&rt, alloc, &heap, &[one, two], wide.0)?;
+    refuse_each_box(&rt, alloc, &heap, &[wide, one], prefix(0, 0)?)?;
+    refuse_each_box(&rt, alloc, &heap, &[(apart, 4)], prefix(0xc000_0000, 16)?)?;
+    refuse_each_box(&rt, alloc, &heap, &[(apart, 4)], prefix(0, 0)?)?;
+    // A fork beside a leaf, a fork and a full node, on either side: two boxes.
+    refuse_each_box(&rt, alloc, &heap, &[one], apart)?;
+    refuse_each_box(&rt, alloc, &heap, &[one], low)?;
+    refuse_each_box(&rt, alloc, &heap, &[one, two], apart)?;
+    refuse_each_box(&rt, alloc, &heap, &[one, two], low)?;
+    refuse_each_box(&rt, alloc, &heap, &[wide, one], apart)?;
+    refuse_each_box(&rt, alloc, &heap, &[wide, one], low)?;
+    // And further down: on the left and on the right of a fork and of a full node.
+    refuse_each_box(&rt, alloc, &heap, &[one, two], longer)?;
+    refuse_each_box(&rt, alloc, &heap, &[one, two], prefix(0x0a02_0200, 24)?)?;
+    refuse_each_box(&rt, alloc, &heap, &[wide, one], longer)?;
+    refuse_each_box(
+        &rt,
+        alloc,
+        &heap,
+        &[wide, (prefix(0x0aff_0000, 16)?, 5)],
+        prefix(0x0aff_0200, 24)?,
+    )?;
+    assert_eq!(&rt; heap.used(), 0);
+    Ok(())
+}
+
+#[test]
+fn nothing_but_an_insertion_asks_for_memory(rt: HostRuntime) -> Result<(), Fail> {
+    let heap = LocalHeap::new(rt.alloc(), 2_048)?;
+    let mut trie: Trie<u32, &LocalHeap> = Trie::new(&heap);
+    let pairs = [
+        (prefix(0, 0)?, 1u32),
+        (prefix(10 << 24, 8)?, 2),
+        (prefix(0x0a01_0000, 16)?, 3),
+        (prefix(0x0a01_0200, 24)?, 4),
+        (prefix(0x0a02_0000, 16)?, 5),
+        (prefix(0xc000_0200, 24)?, 6),
+    ];
+    for (p, value) in &pairs {
+        let old = trie.insert(*p, *value).ok().ok_or("refused")?;
+        assert!(&rt; old.is_none());
+    }
+    let mut blocks: Vec<Box<u8, &LocalHeap>> = Vec::new(rt.alloc());
+    take_the_rest(&heap, &mut blocks)?;
+    assert_has(&rt, &trie, 7, &pairs)?;
+    assert_eq!(&rt; trie.first(), Some(pairs[0].0));
+    assert_eq!(&rt; trie.after(pairs[3].0), Some(pairs[4].0));
+    assert_eq!(&rt;
+        trie.longest(Addr(0x0a01_0203)).map(|x| (x.0, *x.1)),
+        Some(pairs[3])
+    );
+    assert_eq!(&rt; trie.insert(pairs[1].0, 20).ok(), Some(Some(2)));
+    *trie.get_mut(pairs[1].0).ok_or("not found")? = 2;
+    // Each removal in a region where nothing is left: a leaf below a fork, a full node with one branch, one with two.
+    for (p, value) in &pairs {
+        assert_eq!(&rt; trie.get(*p).copied(), Some(*value));
+        assert_eq!(&rt; trie.remove(*p), Some(*value));
+        assert!(&rt; trie.remove(*p).is_none());
+        take_the_rest(&heap, &mut blocks)?;
+    }
+    assert_has(&rt, &trie, 0, &[])?;
     Ok(())
 }
 

@@ -1,5 +1,21 @@
 //! A finite map from IPv4 prefixes, kept as a path-compressed trie of boxes, with longest match (RFC 1812,
 //! section 5.2.4.3).
+//!
+//! ```
+//! let mut hops = Trie::new(alloc);
+//! let _ = hops.insert(Prefix::parse(b"10.0.0.0/8")?, 1);
+//! let _ = hops.insert(Prefix::parse(b"10.1.0.0/16")?, 2);
+//! let (prefix, hop) = hops.longest(Addr::parse(b"10.1.2.3")?).ok_or("no route")?; // 10.1.0.0/16 and 2
+//! ```
+//!
+//! A contract sees a trie as two things: `pairs`, the list of its prefixes with their values in the order of base and then
+//! length, and `nodes`, how many nodes keep them. That the trie behind is lawful is kept by its type: each child is longer
+//! than its parent, contained in it and on the side of the next bit, and a node without a value has two children.
+//! [`laws`] says what the words for the list mean. Each call is proved to do to the list what its clause says, to end, and
+//! to be safe; an insertion that is refused memory leaves list and nodes as they were.
+//!
+//! Only tested, since no clause says it: that an insertion succeeds where there is memory, that no other call needs any,
+//! and that what an insertion made is given back where it is refused a later box.
 #![tactic(auto)]
 
 #[cfg(test)]
