@@ -1,3 +1,4 @@
 pub mod Answered
 pub mod Passes
 pub mod Uncutting
+pub mod Runs

@@ -4,3 +4,4 @@ pub mod Keeping
 pub mod Table
 pub mod Pass
 pub mod Laws
+pub mod Headline

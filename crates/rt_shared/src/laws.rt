@@ -1,6 +1,16 @@
 //! What holds of every journal that feeds make behind the lock, and of their visits in it. Each function is a theorem:
 //! calling it makes its clauses known, and it does nothing.
+ghost use Rattle.std.specs.Prelude.{ℕ};
+ghost use Rattle.rt_rib.specs.Journal.{table_left, IsLawfulJournal};
+ghost use Rattle.rt_rib.specs.Table.{IsTable};
+ghost use Rattle.ya_core.specs.Worlds.{World};
+ghost use Rattle.rt_shared.specs.Headline.{Act, IsRunTo, journal_of, NoTwoInside, HasAllMade, FindsBest};
 ghost use Rattle.rt_shared.specs.Laws.{SinceAgain, AnsweredInPieces, UncutAtFirst, UncutSince, UncutByVisit, EntriesOfVisits, EntriesSince};
+
+use crate::sequential::SequentialTable;
+use rt_rib::laws::{lawful_by_entry, left_by_entry, look_up_finds_best};
+use rt_rib::{Cmd, Reply};
+use ya_core::laws::{content, exclusion};
 
 /// The visits of a feed lie uncut in the journal that its pass has seen: none at first, one more after each call that
 /// serves commands, and all still there, with no other entry of the feed, in whatever the journal becomes while the feed
@@ -22,3 +32,31 @@ pub fn away()
 pub fn pieces()
     ensures { AnsweredInPieces }
 {}
+
+/// The journal of every run of the core's worlds, in which each command was answered as the sequential table answers it in
+/// the copy of the journal that it was appended to, is lawful: nothing that was answered inside is lost or comes later.
+/// Each feed may have LIMIT routes.
+pub fn journal<const LIMIT: u32>()
+    ensures { (levels : ℕ) (world : World Act) → IsRunTo LIMIT levels world → IsLawfulJournal LIMIT (journal_of world.content) }
+{
+    content::<SequentialTable<LIMIT>>();
+    lawful_by_entry();
+}
+
+/// The headline. In every interleaving of any number of atomic steps, by at most 2 to the power of `levels` processes, no
+/// two are inside; each feed's entries in the journal are those that it made, in order; the journal is lawful, so every
+/// reply is the sequential table's; the routes that it leaves are a table; and what a look-up found is the best feed's
+/// route of the longest matching prefix.
+pub fn headline<const LIMIT: u32>()
+    ensures exclusion { (levels : ℕ) (world : World Act) → IsRunTo LIMIT levels world → NoTwoInside world }
+    ensures made { (levels : ℕ) (world : World Act) → IsRunTo LIMIT levels world → HasAllMade world }
+    ensures lawful { (levels : ℕ) (world : World Act) → IsRunTo LIMIT levels world → IsLawfulJournal LIMIT (journal_of world.content) }
+    ensures table { (levels : ℕ) (world : World Act) → IsRunTo LIMIT levels world → IsTable (table_left LIMIT (journal_of world.content)) }
+    ensures best { (levels : ℕ) (world : World Act) → IsRunTo LIMIT levels world → FindsBest LIMIT (journal_of world.content) }
+{
+    exclusion::<(Cmd, Reply)>();
+    content::<SequentialTable<LIMIT>>();
+    journal::<LIMIT>();
+    left_by_entry();
+    look_up_finds_best();
+}

@@ -15,6 +15,7 @@ pub mod laws;
 mod lending;
 mod lent;
 mod outcome;
+mod sequential;
 mod shared_rib;
 
 pub use feed_pass::FeedPass;

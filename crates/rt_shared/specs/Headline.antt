@@ -1,0 +1,47 @@
+-- The sentence that everything serves, said of the core's worlds: what places do there is to answer commands.
+use Rattle.std.specs.Prelude.{◌≡◌, ℕ, ◌≤◌, List, ◌∷◌, ◌++◌, map}
+use Rattle.ya_core.specs.Worlds.{Marked, World, Event, IsReached, IsInside}
+use Rattle.rt_cidr.specs.declared.address.Addr.{Addr}
+use Rattle.rt_rib.specs.declared.routes.Route.{Route}
+use Rattle.rt_rib.specs.declared.commands.Cmd.{Cmd}
+use Rattle.rt_rib.specs.declared.commands.Cmd.TheVariants.{Lookup}
+use Rattle.rt_rib.specs.declared.commands.Reply.{Reply}
+use Rattle.rt_rib.specs.declared.commands.Reply.TheVariants.{Found}
+use Rattle.rt_rib.specs.declared.commands.Entry.{Entry}
+use Rattle.rt_rib.specs.Journal.{table_left, IsAnswered}
+use Rattle.rt_rib.specs.Laws.{feed_entries, IsBestMatch}
+use Rattle.rt_shared.specs.Lent.{feed_of}
+
+-- a command with its reply
+abbrev pub Act : Type 0
+Act = Cmd × Reply
+
+-- what a place did, as an entry of the journal
+abbrev pub entry_of : ℕ → Act → Entry
+entry_of place act = record { feed = feed_of place; cmd = act.0; reply = act.1 }
+
+-- the content of a world as a journal
+abbrev pub journal_of : List (Marked Act) → List Entry
+journal_of content = map (λ x. entry_of x.0 x.1) content
+
+-- the reply is the sequential table's in the set that these acts leave
+abbrev pub IsSequential : ℕ → List (Marked Act) → Marked Act → Type 0
+IsSequential limit earlier x = IsAnswered limit (journal_of earlier) (entry_of x.0 x.1)
+
+-- some list of events leads to the world, in which each command was so answered in the copy that it was appended to
+abbrev pub IsRunTo : (limit levels : ℕ) → World Act → Type 0
+IsRunTo limit levels world = (1 ≤ levels) × (events : List (Event Act)) × IsReached levels (IsSequential limit) events world
+
+-- no two places are inside
+abbrev pub NoTwoInside : World Act → Type 0
+NoTwoInside world = (p q : ℕ) → IsInside world.state p → IsInside world.state q → p ≡ q
+
+-- each feed's entries in the journal are those that it made, in order
+abbrev pub HasAllMade : World Act → Type 0
+HasAllMade world = (place : ℕ) → feed_entries (feed_of place) (journal_of world.content) ≡ map (entry_of place) (world.made place)
+
+-- what a look-up found is the best feed's route of the longest matching prefix, in the table that the entries before it left
+abbrev pub FindsBest : ℕ → List Entry → Type 0
+FindsBest limit journal =
+    (feed : ℕ) (addr : Addr) (r : Route) (earlier later : List Entry) → journal ≡ earlier ++ record { feed = feed; cmd = Lookup addr; reply = Found r } ∷ later
+    → IsBestMatch addr (table_left limit earlier) r

@@ -1,0 +1,14 @@
+//! The sequential table as the core's law of the content takes it.
+ghost use Rattle.rt_shared.specs.Headline.{IsSequential};
+
+use rt_rib::{Cmd, Reply};
+use ya_core::laws::Accept;
+
+/// Accepts a command with the reply that the sequential table gives it, where each feed may have LIMIT routes.
+pub struct SequentialTable<const LIMIT: u32>;
+
+impl<const LIMIT: u32> Accept for SequentialTable<LIMIT> {
+    type Entry = (Cmd, Reply);
+
+    ghost ok = { λ earlier x. IsSequential LIMIT earlier x };
+}
