@@ -1,5 +1,6 @@
 // The lock's algorithm in plain C: the same words, steps and order, each access sequentially consistent, and the same
-// backing off between two loads of a spin word. Times passages as the lock's benchmark does, one line each on standard error.
+// backing off between two loads of a spin word. Its arguments are the passages in all, the levels and the threads; it times
+// them as the lock's benchmark does, in one line on standard error.
 #include <pthread.h>
 #include <sched.h>
 #include <stdatomic.h>
@@ -97,14 +98,14 @@ static void times(int levels, unsigned threads, uint64_t passages) {
     for (unsigned i = 0; i < threads; i++) pthread_join(id[i], 0);
     clock_gettime(CLOCK_MONOTONIC, &b);
     if (t.count != passages) fprintf(stderr, "c: %lu of %lu passages\n", t.count, passages);
-    fprintf(stderr, "c%d %u %lu %lu\n", levels, threads, passages,
+    fprintf(stderr, "%d %u %lu %lu\n", levels, threads, passages,
             (uint64_t)(b.tv_sec - a.tv_sec) * 1000000000u + b.tv_nsec - a.tv_nsec);
     free(t.words);
 }
 
 int main(int argc, char **argv) {
-    uint64_t alone = argc > 1 ? strtoull(argv[1], 0, 10) : 3000;
-    static const unsigned together[] = {2, 4, 16, 64};
-    for (int levels = 1; levels <= 6; levels++) times(levels, 1, alone);
-    for (int i = 0; i < 4; i++) times(6, together[i], alone / 3 * 2 / together[i] * together[i]);
+    uint64_t passages = argc > 1 ? strtoull(argv[1], 0, 10) : 3000;
+    int levels = argc > 2 ? atoi(argv[2]) : 6;
+    unsigned threads = argc > 3 ? atoi(argv[3]) : 1;
+    times(levels, threads, passages / threads * threads);
 }

@@ -1,10 +1,12 @@
 #!/usr/bin/env python3
-"""Times passages of the lock, of std's mutex and of the same algorithm in C, in one run.
+"""Times passages of the lock, of the same algorithm in C and of std's mutex, in turn.
 
-Usage: bench/lock.py [ROUNDS [PASSAGES]]. Needs rt, gcc and pthreads. The program crates/lock_bench and bench/lock.c run in
-turn, ROUNDS times (3 if left out), each with so many passages of one thread alone (1,000,000 if left out). For each case the
-least time a passage is printed, in nanoseconds, on standard error.
+Usage: bench/lock.py [ROUNDS [PASSAGES]]. Needs rt, gcc and pthreads. Each case runs the program crates/lock_bench, bench/lock.c
+and the mutex one after another, ROUNDS times (9 if left out), each with so many passages (200,000 if left out). For each case
+the least time of a passage is printed, in nanoseconds, and its ratio to C: time on the clock, and time of the processors (user
+and system).
 """
+import os
 import pathlib
 import subprocess
 import sys
@@ -12,11 +14,13 @@ import tempfile
 
 ROOT = pathlib.Path(__file__).resolve().parent.parent
 CRATE = ROOT / "crates" / "lock_bench"
+ALONE = [(levels, 1) for levels in range(1, 7)]
+TOGETHER = [(6, threads) for threads in (2, 4, 16, 64)]
 
 
 def build(folder):
     """The paths of both programs; the one in C is built in the folder."""
-    built = subprocess.run(["rt", "run"], cwd=CRATE, capture_output=True, text=True)
+    built = subprocess.run(["rt", "run", "--", "3000"], cwd=CRATE, capture_output=True, text=True)
     tree = CRATE / "out" / "lock_bench"
     if built.returncode != 0 or not tree.exists():
         sys.exit("bench/lock.py: the program was not built\n" + built.stdout[-2000:] + built.stderr[-2000:])
@@ -25,28 +29,37 @@ def build(folder):
     return tree, plain
 
 
-def times(program, passages):
-    """Nanoseconds a passage, by name and number of threads."""
-    run = subprocess.run([program, passages], capture_output=True, text=True, check=True)
-    rows = [line.split() for line in run.stderr.splitlines()]
-    return {(row[0], int(row[1])): int(row[3]) / int(row[2]) for row in rows if len(row) == 4}
+def timed(program, passages, levels, threads):
+    """Nanoseconds a passage on the clock, and of the processors."""
+    run = subprocess.Popen([program, str(passages), str(levels), str(threads)], stderr=subprocess.PIPE, text=True)
+    row = run.stderr.read().split()
+    _, status, used = os.wait4(run.pid, 0)
+    if status != 0 or len(row) != 4:
+        sys.exit(f"bench/lock.py: {program} failed at {levels} levels and {threads} threads")
+    made = int(row[2])
+    return int(row[3]) / made, (used.ru_utime + used.ru_stime) * 1e9 / made
+
+
+def least(rounds, passages, programs, levels, threads):
+    """The least of both times for the lock, C and the mutex."""
+    tree, plain = programs
+    cases = [(tree, levels), (plain, levels), (tree, 0)]
+    runs = [[timed(program, passages, height, threads) for program, height in cases] for _ in range(rounds)]
+    return [[min(times[case][kind] for times in runs) for case in range(3)] for kind in range(2)]
 
 
 def main():
-    rounds = int(sys.argv[1]) if len(sys.argv) > 1 else 3
-    passages = sys.argv[2] if len(sys.argv) > 2 else "1000000"
-    least = {}
+    rounds = int(sys.argv[1]) if len(sys.argv) > 1 else 9
+    passages = int(sys.argv[2]) if len(sys.argv) > 2 else 200_000
     with tempfile.TemporaryDirectory() as folder:
         programs = build(pathlib.Path(folder))
-        for _ in range(rounds):
-            for program in programs:
-                for case, nanos in times(program, passages).items():
-                    least[case] = min(nanos, least.get(case, nanos))
-    print("levels threads      lock         C     mutex  lock/C   (nanoseconds a passage)", file=sys.stderr)
-    for name, threads in [(f"tree{levels}", 1) for levels in range(1, 7)] + [("tree6", n) for n in (2, 4, 16, 64)]:
-        lock, plain = least[name, threads], least["c" + name[4:], threads]
-        mutex = least.get(("mutex", threads), 0)
-        print(f"{name[4:]:>6} {threads:>7} {lock:>9.1f} {plain:>9.1f} {mutex:>9.1f} {lock / plain:>7.2f}", file=sys.stderr)
+        print("               on the clock                       of the processors")
+        print("levels threads     lock        C    mutex lock/C     lock        C    mutex lock/C")
+        for levels, threads in ALONE + TOGETHER:
+            row = f"{levels:>6} {threads:>7}"
+            for lock, plain, mutex in least(rounds, passages, programs, levels, threads):
+                row += f" {lock:>8.1f} {plain:>8.1f} {mutex:>8.1f} {lock / plain:>6.2f}"
+            print(row, flush=True)
 
 
 if __name__ == "__main__":

@@ -1,5 +1,6 @@
-//! Times passages of the lock beside those of std's mutex. What is done inside is one increment. Its one argument is how
-//! many passages one thread makes alone; all threads together make two thirds of that. Times go to standard error.
+//! Times passages of the lock beside those of std's mutex. What is done inside is one increment. Its arguments, all numbers:
+//! how many passages are made in each case; the levels, or 0 for the mutex; and the threads, at most as many as places. With
+//! fewer than three it runs every case. Times go to standard error.
 #![tactic(auto)]
 
 ghost use Rattle.std.specs.Prelude.{◌≡◌, ℕ, ◌+◌, ◌-◌, ◌*◌, ◌/◌, ◌<◌, ◌≤◌, All, vec_len, IfSome};
@@ -120,63 +121,81 @@ fn mutex<R: Threads + Wait + Clock + Sync>(
     Some(time)
 }
 
-fn report<R: Eprint>(
-    rt: &R,
-    name: &str,
-    threads: u32,
-    passages: u64,
-    time: Option<Duration>,
-) -> io::Result<()> {
-    match time {
-        Some(time) => {
-            let nanos = time.as_nanos();
-            eprintln!(rt; "{name} {threads} {passages} {nanos}")
-        }
-        None => eprintln!(rt; "{name} {threads} no memory"),
-    }
-}
-
-// How many passages the first argument asks for.
-fn asked(rt: &HostRuntime) -> io::Result<u64> {
-    for word in env::args(rt)?.skip(1) {
-        if let Ok(n) = word.as_str().parse::<u64>() {
-            return Ok(n);
-        }
-    }
-    Ok(FEW)
-}
-
-// One thread alone, at each number of levels.
-fn alone<R: Threads + Wait + Clock + Eprint + Sync>(
+// A passage of a tree of so many levels; of the mutex where there is no such tree.
+fn timed<R: Threads + Wait + Clock + Sync>(
     rt: &R,
     alloc: Global,
-    n: u64,
+    levels: u64,
+    threads: usize,
+    each: u64,
+) -> Option<Duration> {
+    match levels {
+        1 => tree::<_, 1>(rt, alloc, threads, each),
+        2 => tree::<_, 2>(rt, alloc, threads, each),
+        3 => tree::<_, 3>(rt, alloc, threads, each),
+        4 => tree::<_, 4>(rt, alloc, threads, each),
+        5 => tree::<_, 5>(rt, alloc, threads, each),
+        6 => tree::<_, 6>(rt, alloc, threads, each),
+        _ => mutex(rt, alloc, threads, each),
+    }
+}
+
+// Makes so many passages in all, by so many threads, and writes a line: the levels, or 0 for the mutex; the threads; how
+// many passages were made; and the nanoseconds that they took.
+fn report<R: Threads + Wait + Clock + Eprint + Sync>(
+    rt: &R,
+    alloc: Global,
+    levels: u64,
+    threads: u32,
+    passages: u64,
 ) -> io::Result<()> {
-    report(rt, "tree1", 1, n, tree::<_, 1>(rt, alloc, 1, n))?;
-    report(rt, "tree2", 1, n, tree::<_, 2>(rt, alloc, 1, n))?;
-    report(rt, "tree3", 1, n, tree::<_, 3>(rt, alloc, 1, n))?;
-    report(rt, "tree4", 1, n, tree::<_, 4>(rt, alloc, 1, n))?;
-    report(rt, "tree5", 1, n, tree::<_, 5>(rt, alloc, 1, n))?;
-    report(rt, "tree6", 1, n, tree::<_, 6>(rt, alloc, 1, n))?;
-    report(rt, "mutex", 1, n, mutex(rt, alloc, 1, n))
+    let each = passages.checked_div(u64::from(threads)).unwrap_or(0);
+    let all = each.wrapping_mul(u64::from(threads));
+    match timed(rt, alloc, levels, threads as usize, each) {
+        Some(time) => {
+            let nanos = time.as_nanos();
+            eprintln!(rt; "{levels} {threads} {all} {nanos}")
+        }
+        None => eprintln!(rt; "{levels} {threads} no memory"),
+    }
+}
+
+// What the arguments ask for.
+struct Asked {
+    passages: u64,
+    // The levels and the threads of the one case that is asked for.
+    case: Option<(u64, u32)>,
+}
+
+fn wanted(rt: &HostRuntime) -> io::Result<Asked> {
+    let mut numbers = [FEW, 0, 0];
+    for (at, word) in env::args(rt)?.skip(1).take(3).enumerate() {
+        if let Ok(number) = word.as_str().parse::<u64>() {
+            if let Some(place) = numbers.get_mut(at) {
+                *place = number;
+            }
+        }
+    }
+    let [passages, levels, threads] = numbers;
+    let case = match u32::try_from(threads) {
+        Ok(threads) if threads > 0 => Some((levels, threads)),
+        _ => None,
+    };
+    Ok(Asked { passages, case })
 }
 
 fn main(rt: HostRuntime) -> io::Result<()> {
     let alloc: Global = rt.alloc();
-    let n = asked(&rt)?;
-    alone(&rt, alloc, n)?;
+    let Asked { passages, case } = wanted(&rt)?;
+    if let Some((levels, threads)) = case {
+        return report(&rt, alloc, levels, threads, passages);
+    }
+    for levels in 0..7 {
+        report(&rt, alloc, levels, 1, passages)?;
+    }
     for threads in [2u32, 4, 16, 64] {
-        let count = threads as usize;
-        let each = n / 3 * 2 / u64::from(threads);
-        let all = each.wrapping_mul(u64::from(threads));
-        report(
-            &rt,
-            "tree6",
-            threads,
-            all,
-            tree::<_, 6>(&rt, alloc, count, each),
-        )?;
-        report(&rt, "mutex", threads, all, mutex(&rt, alloc, count, each))?;
+        report(&rt, alloc, 0, threads, passages)?;
+        report(&rt, alloc, 6, threads, passages)?;
     }
     Ok(())
 }

@@ -1,6 +1,6 @@
 //! One process that is told what it loaded.
 ghost use Rattle.std.specs.Prelude.{◌≡◌, ◌↔◌, ℕ, ◌+◌, ◌-◌, ◌*◌, ◌^◌, ◌<◌, ◌≤◌, true, false, IsTrue, IsFalse};
-ghost use Rattle.ya_core.specs.declared.process.Process.TheVariants.{Idle};
+ghost use Rattle.ya_core.specs.declared.process.Process.TheVariants.{Idle, Inside};
 ghost use Rattle.ya_core.specs.Tree.{node_of, side_of};
 ghost use Rattle.ya_core.specs.Steps.{access_of};
 ghost use Rattle.ya_core.specs.Walks.{IsWalk, walk, op_of, due, Fits, IsStore, CanStand, cost_of, walk_after, budget, MovesOn, OpIsWithin};
@@ -72,6 +72,22 @@ impl Walker {
             process: Process::Idle,
             begun: false,
             remote: 0,
+        }
+    }
+
+    /// The process of that place once it is inside, after so many remote accesses.
+    #[inline(always)]
+    pub fn inside(shape: Shape, place: usize, remote: u64) -> Walker
+        requires place { place < 2 ^ shape }
+        requires remote { remote ≤ 7 * shape }
+        ensures { result ≡ walk shape place Inside false remote }
+    {
+        Walker {
+            shape,
+            place,
+            process: Process::Inside,
+            begun: false,
+            remote,
         }
     }
 

@@ -5,6 +5,6 @@ pub mod Makings
 pub mod Joinings
 pub mod Deals
 pub mod Heights
-pub mod Releases
+pub mod Entries
 pub mod Meanings
 pub mod Marking

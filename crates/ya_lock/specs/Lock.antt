@@ -1,8 +1,13 @@
 -- What contracts see of a lock, a pass and a guard.
-use Rattle.std.specs.Prelude.{◌≡◌, ℕ, ◌+◌, ◌^◌, ◌<◌, Bool, true, false, List, length, slice_get, Some}
+use Rattle.std.specs.Prelude.{◌≡◌, ℕ, ◌+◌, ◌*◌, ◌^◌, ◌<◌, ◌≤◌, Bool, true, false, List, [], ◌∷◌, length, slice_get, Some, None}
+use Rattle.std.specs.Prelude as std
+use Rattle.atomic_table.specs.Table.{Me}
 use Rattle.atomic_table.specs.Seated.{TableId}
 use Rattle.ya_core.specs.declared.process.Process.{Process}
 use Rattle.ya_core.specs.declared.process.Process.TheVariants.{Idle, Entering, Inside, Leaving}
+use Rattle.ya_core.specs.Walks.{Walk}
+use Rattle.ya_lock.specs.declared.view.View.{View}
+use Rattle.ya_lock.specs.declared.view.View.TheVariants.{Member}
 use Rattle.ya_lock.specs.Rule.{making_index}
 
 -- which lock it is: that of no other lock is the same
@@ -45,16 +50,54 @@ pub record IsDealt {V : Type 0} (lock : LockId) (levels : ℕ) (value : V) (pass
 abbrev pub HasTree : LockId → ℕ → Type 0
 HasTree lock levels = lock.words ≡ making_index levels + 1
 
--- the process is on its way in, or was told to go
-abbrev pub IsOnWayIn : Process → Bool → Type 0
-IsOnWayIn Idle begun = begun ≡ true
-IsOnWayIn (Entering level point) begun = Unit {0}
-IsOnWayIn Inside begun = ⊥
-IsOnWayIn (Leaving level point) begun = ⊥
+-- the place is one of the tree's
+pub record HasPlace (lock : LockId) (place : ℕ) : Type 0 where
+  pub levels : ℕ
+  pub words : HasTree lock levels
+  pub below : place < 2 ^ levels
 
--- it is on its way out, or idle again
-abbrev pub IsOnWayOut : Process → Bool → Type 0
-IsOnWayOut Idle begun = begun ≡ false
-IsOnWayOut (Entering level point) begun = ⊥
-IsOnWayOut Inside begun = ⊥
-IsOnWayOut (Leaving level point) begun = Unit {0}
+-- the table of a lock of so many levels: it has the words of their tree and one slot, and knows their number
+pub record IsLockTable (levels : ℕ) (key : ℕ) (table : LockId) : Type 0 where
+  pub least : 1 ≤ levels
+  pub most : levels ≤ 6
+  pub told : key ≡ levels
+  pub words : HasTree table levels
+  pub slots : table.slots ≡ 1
+
+module _ {V : Type 0} where
+  -- the seat of a pass: its process is idle, and it has no slot
+  pub record IsAtHome (lock : LockId) (place : ℕ) (seen : V) (me : Me (std.Option V) (View V)) : Type 0 where
+    pub process : me ≡ (Member place Idle seen, [])
+    pub in_tree : HasPlace lock place
+
+  -- the seat of a guard: its process is inside, and it has the slot of the value
+  pub record IsWithin (lock : LockId) (place : ℕ) (found : V) (remote : ℕ) (me : Me (std.Option V) (View V)) : Type 0 where
+    pub process : me ≡ (Member place Inside found, (0, None) ∷ [])
+    pub in_tree : HasPlace lock place
+    pub count : (levels : ℕ) → HasTree lock levels → remote ≤ 7 * levels
+
+  -- the seat of a place that has entered: it has the slot with the value found, which may have come of the one that it has seen
+  abbrev pub HasEntered : (ℕ → V → V → Type 0) → ℕ → V → Me (std.Option V) (View V) → Type 0
+  HasEntered since place seen me = (found : V) × since place seen found × (me ≡ (Member place Inside found, (0, Some found) ∷ []))
+
+  -- where a process stands on its way in, and what its seat has
+  abbrev pub ComesFrom : (ℕ → V → V → Type 0) → ℕ → V → Process → Bool → Me (std.Option V) (View V) → Type 0
+  ComesFrom since place seen Idle begun me = (begun ≡ true) × (me ≡ (Member place Idle seen, []))
+  ComesFrom since place seen (Entering level point) begun me = me ≡ (Member place (Entering level point) seen, [])
+  ComesFrom since place seen Inside begun me = (begun ≡ false) × HasEntered since place seen me
+  ComesFrom since place seen (Leaving level point) begun me = ⊥
+
+  -- the same on its way out, until it is idle
+  abbrev pub GoesFrom : ℕ → V → Process → Bool → Me (std.Option V) (View V) → Type 0
+  GoesFrom place seen Idle begun me = (begun ≡ false) × (me ≡ (Member place Idle seen, []))
+  GoesFrom place seen (Entering level point) begun me = ⊥
+  GoesFrom place seen Inside begun me = ⊥
+  GoesFrom place seen (Leaving level point) begun me = me ≡ (Member place (Leaving level point) seen, [])
+
+  -- a walker on its way in, with its seat
+  abbrev pub IsComing : (ℕ → V → V → Type 0) → V → Walk → Me (std.Option V) (View V) → Type 0
+  IsComing since seen w me = ComesFrom since w.place seen w.process w.begun me
+
+  -- a walker on its way out, with its seat
+  abbrev pub IsGoing : V → Walk → Me (std.Option V) (View V) → Type 0
+  IsGoing seen w me = GoesFrom w.place seen w.process w.begun me

@@ -7,30 +7,25 @@ ghost use Rattle.ya_lock.specs.Lent.{with_value};
 use crate::recall::Recall;
 use crate::rule::LockSeat;
 use std::marker::Model;
-use ya_core::Walker;
 
 /// The lent value, while the place of a pass is inside. Spend it by `leave` or `close`. Contracts see its lock, its place,
 /// the value as it was found at the entry and as it is now, and how many remote accesses the entry made.
 pub struct Guard<V> {
     pub(crate) seat: LockSeat<V>,
-    pub(crate) walker: Walker,
     pub(crate) place: usize,
+    pub(crate) remote: u64,
     pub(crate) value: V,
     pub(crate) found: Recall<V>,
 }
 
 impl<V> Model for Guard<V> {
-    ghost use Rattle.std.specs.Prelude.{◌≡◌, false, [], ◌∷◌, None};
-    ghost use Rattle.ya_core.specs.declared.process.Process.TheVariants as process;
-    ghost use Rattle.ya_lock.specs.Lock.{OpenGuard, HasTree};
+    ghost use Rattle.ya_lock.specs.Lock.{OpenGuard, IsWithin};
 
     ghost Value = { OpenGuard V };
 
-    ghost use Rattle.ya_lock.specs.declared.view.View.TheVariants.{Member};
+    ghost view = { λ g. record { lock = g.seat.table_id; place = g.place; found = g.found.value; value = g.value; remote = g.remote } };
 
-    ghost view = { λ g. record { lock = g.seat.table_id; place = g.walker.place; found = g.found.value; value = g.value; remote = g.walker.remote } };
-
-    ghost invariant = { λ g. (g.seat.me ≡ (Member g.walker.place process.Inside g.found.value, (0, None) ∷ [])) × (g.walker.process ≡ process.Inside) × (g.walker.begun ≡ false) × HasTree g.seat.table_id g.walker.levels × (g.place ≡ g.walker.place) };
+    ghost invariant = { λ g. IsWithin g.seat.table_id g.place g.found.value g.remote g.seat.me };
 }
 
 impl<V> Guard<V> {

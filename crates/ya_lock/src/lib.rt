@@ -14,7 +14,9 @@
 mod guard;
 mod kept;
 pub mod laws;
+mod making;
 mod pass;
+mod passage;
 mod plays;
 mod recall;
 mod rule;

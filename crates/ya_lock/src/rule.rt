@@ -1,4 +1,4 @@
-//! The rule of the lock's table.
+//! The rule of the lock's table, and where its words and its slot lie.
 ghost use Rattle.ya_lock.specs.Rule.{Rule};
 ghost use Rattle.ya_lock.specs.declared.view.View.TheVariants.{Stranger};
 
@@ -6,6 +6,13 @@ use crate::kept::Kept;
 use crate::view::View;
 use atomic_table::{Seat, Table, TableRule};
 use std::alloc::Global;
+
+/// The words of the tree lie a cache line apart, so that a place that spins on its own word is left alone by stores in
+/// others.
+pub const SPACING: usize = 8;
+
+/// The lent value has the table's one slot.
+pub const SLOT: usize = 0;
 
 /// The rule, at a number of levels: the core's invariant holds of the words and of the processes that the seats show, and
 /// the value lies home exactly where no process is inside.

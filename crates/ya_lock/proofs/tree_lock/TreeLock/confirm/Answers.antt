@@ -14,21 +14,21 @@ join_seat-requires g c =
     let V : Type 0 = g.row.V.Denot in let one = c.guard.inside in let other = c.pass.inside in let own = c.self.invariant in
     let M : Type 0 = Me (Option V) (View V) in
     let J : ℕ → View V → View V → Type 0 = λ k v w. Joins (Rule g.V.Kept.since k) one.seat.id v other.seat.id w (joined v w) Spent in (
-      ap (λ (q : OpenGuard V). q.lock) c.guard.view_is ∙ (c.requires.0 ∙ sym c.self.view_is),
-      ap (λ (q : IdlePass V). q.lock) c.pass.view_is ∙ (c.requires.1 ∙ sym c.self.view_is),
-      ap (λ (m : M). m.1) c.pass.invariant.0,
-      omega (arith, own.3),
-      subst (λ (v : View V). J c.self.inside.table.shared.key v other.seat.me.0) (sym (ap (λ (m : M). m.0) c.guard.invariant.0))
-          (subst (λ (w : View V). J c.self.inside.table.shared.key (Member one.walker.place Inside one.found.value) w) (sym (ap (λ (m : M). m.0) c.pass.invariant.0))
-          (joins g.V.Kept.since c.self.inside.table.shared.key one.seat.id one.walker.place one.found.value other.seat.id other.walker.place other.seen.value)),
+      ap (λ (q : OpenGuard V). q.lock) c.guard.view_is ∙ (c.requires.guard ∙ sym c.self.view_is),
+      ap (λ (q : IdlePass V). q.lock) c.pass.view_is ∙ (c.requires.pass ∙ sym c.self.view_is),
+      ap (λ (m : M). m.1) c.pass.invariant.process,
+      omega (arith, own.words),
+      subst (λ (v : View V). J c.self.inside.table.shared.key v other.seat.me.0) (sym (ap (λ (m : M). m.0) c.guard.invariant.process))
+          (subst (λ (w : View V). J c.self.inside.table.shared.key (Member one.place Inside one.found.value) w) (sym (ap (λ (m : M). m.0) c.pass.invariant.process))
+          (joins g.V.Kept.since c.self.inside.table.shared.key one.seat.id one.place one.found.value other.seat.id other.place other.seen.value)),
     )
 
 pub load-requires : goal.load-requires
 load-requires g c =
     let V : Type 0 = g.row.V.Denot in let one = c.guard.inside in let other = c.pass.inside in let own = c.self.invariant in
     let M : Type 0 = Me (Option V) (View V) in let j = c.join_seat.ensures in (
-      j.0 ∙ (ap (λ (q : OpenGuard V). q.lock) c.guard.view_is ∙ (c.requires.0 ∙ sym c.self.view_is)),
-      omega (arith, own.3),
-      learns g.V.Kept.since c.self.inside.table.shared.key c.self.inside.table.shared.table_id.slots c.join_seat.new.seat.id 0 one.walker.place one.found.value other.walker.place other.seen.value
-          c.join_seat.new.seat.me (ap (λ (m : M). m.0) j.2 ∙ (λ i. joined (c.guard.invariant.0 i).0 (c.pass.invariant.0 i).0)),
+      j.0 ∙ (ap (λ (q : OpenGuard V). q.lock) c.guard.view_is ∙ (c.requires.guard ∙ sym c.self.view_is)),
+      omega (arith, own.words),
+      learns g.V.Kept.since c.self.inside.table.shared.key c.self.inside.table.shared.table_id.slots c.join_seat.new.seat.id 0 one.place one.found.value other.place other.seen.value
+          c.join_seat.new.seat.me (ap (λ (m : M). m.0) j.2 ∙ (λ i. joined (c.guard.invariant.process i).0 (c.pass.invariant.process i).0)),
     )

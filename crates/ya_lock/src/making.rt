@@ -1,0 +1,88 @@
+//! How a lock is made: its tree and its table first, and then the passes of its places from the seat that made it.
+ghost use Rattle.std.specs.Prelude.{◌≡◌, ℕ, ◌+◌, ◌^◌, ◌≤◌, [], vec_capacity, IfOk};
+ghost use Rattle.ya_lock.specs.declared.view.View.TheVariants.{Maker, Dealer};
+ghost use Rattle.ya_lock.specs.Rule.{making_index};
+ghost use Rattle.ya_lock.specs.Lock.{IsLockTable, IsDealt};
+
+use crate::kept::Kept;
+use crate::pass::Pass;
+use crate::plays::{Begin, Deal, End};
+use crate::recall::Recall;
+use crate::rule::{LockSeat, LockTable};
+use crate::tree_lock::TreeLock;
+use atomic_table::Table;
+use std::alloc::Global;
+use ya_core::{NoMemory, Shape};
+
+impl<V: Kept + Drop, const L: u32> TreeLock<V, L> {
+    /// The tree of the lock.
+    #[inline(always)]
+    pub(crate) fn shape() -> Shape
+        requires { (1 ≤ L) × (L ≤ 6) }
+        ensures { result ≡ L }
+    {
+        let Some(shape) = Shape::new(L) else {
+            unreachable!()
+        };
+        shape
+    }
+
+    /// A table whose words are 0 and whose slot is empty, with the seat that is to make the passes. The making word lies
+    /// at `making`.
+    pub(crate) fn begun(
+        alloc: Global,
+        making: usize,
+    ) -> Result<(LockTable<V>, LockSeat<V>), NoMemory>
+        requires levels { (1 ≤ L) × (L ≤ 6) }
+        requires making { making ≡ making_index L }
+        ensures table { IfOk result (λ made. IsLockTable L made.0.shared.key made.0.shared.table_id) }
+        ensures lock { IfOk result (λ made. made.1.table_id ≡ made.0.shared.table_id) }
+        ensures maker { IfOk result (λ made. made.1.me ≡ (Maker, [])) }
+    {
+        let Ok(words) = Vec::from_elem(alloc, 0u64, making + 1) else {
+            return Err(NoMemory);
+        };
+        let Ok((table, _stranger)) = Table::vacant(alloc, words.as_slice(), 1, &L) else {
+            return Err(NoMemory);
+        };
+        let (found, maker) = table.shared.swap_new_seat::<Begin>(making, 1);
+        if found != 0 {
+            return Err(NoMemory);
+        }
+        Ok((table, maker))
+    }
+
+    /// The passes of all places in order, from the seat of the maker, which has given the value home.
+    pub(crate) fn dealt(
+        &self,
+        mut maker: LockSeat<V>,
+        seen: Recall<V>,
+        mut passes: Vec<Pass<V>>,
+    ) -> Vec<Pass<V>>
+        requires lock { maker.table_id ≡ self.now }
+        requires maker { maker.me ≡ (Dealer 0 seen.value, []) }
+        requires passes { passes.items ≡ [] }
+        requires room { 2 ^ L ≤ vec_capacity passes }
+        ensures { IsDealt self.now L seen.value result.items }
+    {
+        let shared = &self.table.shared;
+        let last = Self::shape().places() - 1;
+        for place in 0..last {
+            let seat = shared.split_seat::<Deal>(&mut maker);
+            passes.push_reserved(Pass {
+                seat,
+                place,
+                remote: 0,
+                seen: seen.again(),
+            });
+        }
+        shared.load::<End>(&mut maker, 0);
+        passes.push_reserved(Pass {
+            seat: maker,
+            place: last,
+            remote: 0,
+            seen,
+        });
+        passes
+    }
+}

@@ -1,0 +1,167 @@
+//! The way in and the way out: each access is one step of a walker of the core, by the seat of its place.
+ghost use Rattle.std.specs.Prelude.{◌≡◌, ◌≢◌, ℕ, [], ◌+◌, ◌*◌, ◌≤◌};
+ghost use Rattle.ya_core.specs.declared.process.Process.TheVariants.{Idle};
+ghost use Rattle.ya_core.specs.Walks.{IsWalk, op_of, walk_after, MovesOn, budget};
+ghost use Rattle.ya_core.specs.Worlds.{is_inside};
+ghost use Rattle.ya_lock.specs.declared.view.View.TheVariants.{Member};
+ghost use Rattle.ya_lock.specs.Moves.{IsReady, Goes};
+ghost use Rattle.ya_lock.specs.Lock.{HasEntered, IsComing, IsGoing};
+
+use crate::kept::Kept;
+use crate::plays::Go;
+use crate::recall::Recall;
+use crate::rule::{LockSeat, SPACING};
+use crate::tree_lock::TreeLock;
+use crossbeam_utils::Backoff;
+use std::sync::Wait;
+use ya_core::{Op, Walker};
+
+impl<V: Kept + Drop, const L: u32> TreeLock<V, L> {
+    /// Makes the accesses of an entry until its place is inside, and says how many of them were remote. They are written
+    /// out for a level whose other side is empty, so that the point of each is known where it is compiled.
+    #[inline(always)]
+    pub(crate) fn go_in<R: Wait>(
+        &self,
+        rt: &R,
+        seat: &mut LockSeat<V>,
+        mut walker: Walker,
+        seen: &Recall<V>,
+    ) -> u64
+        requires lock { seat.old.table_id ≡ self.now }
+        requires levels { walker.levels ≡ L }
+        requires coming { IsComing V.since seen.now.value walker seat.old.me }
+        ensures lock { seat.new.table_id ≡ seat.old.table_id }
+        ensures entered { HasEntered V.since walker.place seen.now.value seat.new.me }
+        ensures count { result ≤ 7 * L }
+    {
+        for _ in 0..L {
+            self.come(seat, &mut walker, seen);
+            self.come(seat, &mut walker, seen);
+            self.come(seat, &mut walker, seen);
+            self.come(seat, &mut walker, seen);
+            match walker.op() {
+                Op::Inside => return walker.remote(),
+                Op::Store(_, _) => {}
+                Op::Load(_) | Op::Idle => break,
+            }
+        }
+        self.wait_in(rt, seat, walker, seen)
+    }
+
+    /// The same where a rival competes. Between two loads that find the place's spin word as it was, it lets other threads
+    /// go on.
+    #[inline(never)]
+    fn wait_in<R: Wait>(
+        &self,
+        rt: &R,
+        seat: &mut LockSeat<V>,
+        mut walker: Walker,
+        seen: &Recall<V>,
+    ) -> u64
+        requires lock { seat.old.table_id ≡ self.now }
+        requires levels { walker.levels ≡ L }
+        requires coming { IsComing V.since seen.now.value walker seat.old.me }
+        ensures lock { seat.new.table_id ≡ seat.old.table_id }
+        ensures entered { HasEntered V.since walker.place seen.now.value seat.new.me }
+        ensures count { result ≤ 7 * L }
+    {
+        let backoff = Backoff::new();
+        let mut due = walker.op();
+        for _ in rt.forever() {
+            if matches!(due, Op::Inside) {
+                return walker.remote();
+            }
+            self.come(seat, &mut walker, seen);
+            let next = walker.op();
+            if next == due {
+                backoff.snooze();
+            } else {
+                backoff.reset();
+            }
+            due = next;
+        }
+        unreachable!()
+    }
+
+    /// Makes the accesses of an exit until its place is idle, and says how many of all since the entry were remote.
+    #[inline(always)]
+    pub(crate) fn go_out(&self, seat: &mut LockSeat<V>, mut walker: Walker, seen: &Recall<V>) -> u64
+        requires lock { seat.old.table_id ≡ self.now }
+        requires levels { walker.levels ≡ L }
+        requires going { IsGoing seen.now.value walker seat.old.me }
+        ensures lock { seat.new.table_id ≡ seat.old.table_id }
+        ensures idle { seat.new.me ≡ (Member walker.place Idle seen.now.value, []) }
+        ensures least { walker.remote ≤ result }
+        ensures most { result ≤ walker.remote + budget walker }
+    {
+        loop {
+            if matches!(walker.op(), Op::Idle) {
+                return walker.remote();
+            }
+            self.go(seat, &mut walker, seen);
+        }
+    }
+
+    /// The next access of an entry; none where the place is inside.
+    #[inline(always)]
+    fn come(&self, seat: &mut LockSeat<V>, walker: &mut Walker, seen: &Recall<V>)
+        requires lock { seat.old.table_id ≡ self.now }
+        requires levels { walker.old.levels ≡ L }
+        requires coming { IsComing V.since seen.now.value walker.old seat.old.me }
+        ensures lock { seat.new.table_id ≡ seat.old.table_id }
+        ensures levels { walker.new.levels ≡ L }
+        ensures place { walker.new.place ≡ walker.old.place }
+        ensures coming { IsComing V.since seen.now.value walker.new seat.new.me }
+    {
+        let due = walker.op();
+        if !matches!(due, Op::Inside) {
+            self.step(seat, walker, due);
+        }
+    }
+
+    /// The next access of an exit, which is not over yet.
+    #[inline(always)]
+    fn go(&self, seat: &mut LockSeat<V>, walker: &mut Walker, seen: &Recall<V>)
+        requires lock { seat.old.table_id ≡ self.now }
+        requires levels { walker.old.levels ≡ L }
+        requires going { IsGoing seen.now.value walker.old seat.old.me }
+        requires due { op_of walker.old ≢ Op.Idle }
+        ensures lock { seat.new.table_id ≡ seat.old.table_id }
+        ensures levels { walker.new.levels ≡ L }
+        ensures place { walker.new.place ≡ walker.old.place }
+        ensures going { IsGoing seen.now.value walker.new seat.new.me }
+        ensures onward { MovesOn walker.old walker.new }
+        ensures least { walker.old.remote ≤ walker.new.remote }
+        ensures budget { walker.new.remote + budget walker.new ≤ walker.old.remote + budget walker.old }
+    {
+        let due = walker.op();
+        self.step(seat, walker, due);
+    }
+
+    /// The access that is due to the walker, which `due` names, by its seat.
+    #[inline(always)]
+    pub(crate) fn step(&self, seat: &mut LockSeat<V>, walker: &mut Walker, due: Op)
+        requires lock { (seat.old.table_id ≡ self.now) × (walker.old.levels ≡ L) }
+        requires due { (due ≡ op_of walker.old) × (due ≢ Op.Inside) × (due ≢ Op.Idle) }
+        requires proper { IsWalk walker.old }
+        requires ready { (value : V) × (seat.old.me.0 ≡ Member walker.old.place walker.old.process value) × IsReady V.done (is_inside walker.old.process) walker.old.place value seat.old.me.1 }
+        ensures lock { seat.new.table_id ≡ seat.old.table_id }
+        ensures goes { (found : ℕ) × (walker.new ≡ walk_after walker.old found) × Goes V.since L found seat.old.me.0 seat.old.me.1 seat.new.me }
+        ensures onward { MovesOn walker.old walker.new }
+        ensures budget { walker.new.remote + budget walker.new ≤ walker.old.remote + budget walker.old }
+    {
+        match due {
+            Op::Load(number) => {
+                let value = self.table.shared.load::<Go<L>>(seat, SPACING * number);
+                walker.saw(value);
+            }
+            Op::Store(number, value) => {
+                self.table
+                    .shared
+                    .store::<Go<L>>(seat, SPACING * number, value);
+                walker.done();
+            }
+            Op::Inside | Op::Idle => unreachable!(),
+        }
+    }
+}
