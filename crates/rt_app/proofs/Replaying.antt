@@ -1,5 +1,5 @@
 -- The lines of a replay, one step further.
-use Rattle.std.proofs.Common.{◌≡◌, ℕ, suc, ◌+◌, ◌<◌, List, [], ◌∷◌, ◌++◌, length, take, get_or, refl, sym, ap, ◌∙◌, arith, append_assoc, append-nil, add-zero, add-one, length-take}
+use Rattle.std.proofs.Common.{◌≡◌, ℕ, ◌+◌, ◌<◌, List, [], ◌∷◌, ◌++◌, length, take, get_or, refl, sym, ap, ◌∙◌, arith, append_assoc, append-nil, add-zero, add-one, length-take}
 use Rattle.std.proofs.Math.Seq.{take-suc}
 use Rattle.ya_core.specs.declared.step.Step.{Step}
 use Rattle.rt_app.specs.ReplayText.{step_text, steps_text}

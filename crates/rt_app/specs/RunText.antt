@@ -6,7 +6,7 @@ use Rattle.rt_cidr.specs.Output.{AppendsBeginning}
 use Rattle.rt_rib.specs.declared.commands.Entry.{Entry}
 use Rattle.rt_rib.specs.Journal.{IsLawfulJournal, table_left}
 use Rattle.rt_rib.specs.Laws as journals
-use Rattle.rt_feed.specs.Told.{Told, Tells, entries_of, report_lines, some_refused, some_faulty}
+use Rattle.rt_feed.specs.Told.{Told, TellsText, entries_of, report_lines, some_refused, some_faulty}
 use Rattle.rt_feed.specs.Printed.{report_text, table_text}
 use Rattle.rt_app.specs.declared.faults.AppFault.{AppFault}
 use Rattle.rt_app.specs.declared.faults.AppFault.TheVariants.{Run, Replay, Write}
@@ -17,7 +17,7 @@ ExplainsFrom feed journal [] [] = Unit {0}
 ExplainsFrom feed journal [] (told ∷ tolds) = ⊥
 ExplainsFrom feed journal (text ∷ texts) [] = ⊥
 ExplainsFrom feed journal (text ∷ texts) (told ∷ tolds) =
-    Tells text told [] × (journals.feed_entries feed journal ≡ entries_of feed told) × ExplainsFrom (feed + 1) journal texts tolds
+    TellsText text told × (journals.feed_entries feed journal ≡ entries_of feed told) × ExplainsFrom (feed + 1) journal texts tolds
 
 -- the reports of all feeds, one after another, the first of them this feed's
 abbrev pub reports_from : ℕ → List (List Told) → List ℕ

@@ -3,11 +3,13 @@ ghost use Rattle.std.specs.Prelude.{◌≡◌, ◌↔◌, ℕ, ◌<◌, ◌≤�
 ghost use Rattle.rt_rib.specs.Book.{IsLimit, IsFeed};
 ghost use Rattle.rt_feed.specs.Printed.{report_text, table_text};
 ghost use Rattle.rt_app.specs.RunText.{IsRunText, Leaves};
-ghost use Rattle.rt_app.specs.Running.{Answers, AnswersOne, AnswersLines, report_status};
+ghost use Rattle.rt_app.specs.Running.{Answers, AnswersOne, AnswersText, report_status};
 
 use crate::faults::{AppFault, RunFault};
 use rt_cidr::put;
-use rt_feed::{Answer, Line, Report, next_line, parse_line, write_report, write_table};
+use rt_feed::{
+    Answer, Line, Report, Version, next_line, parse_line, text_body, write_report, write_table,
+};
 use rt_rib::{Book, Route};
 use std::alloc::{AllocError, Global};
 use std::io::Write;
@@ -77,13 +79,14 @@ fn answer_text(
 ) -> Result<Report, AllocError>
     requires of_feed { IsFeed feed }
     requires in_memory { length text.now < 2 ^ 63 }
-    ensures { IfOk result (λ report. (number : ℕ) × AnswersLines feed text.now [] number book.old book.new report) }
+    ensures { IfOk result (λ report. AnswersText feed text.now book.old book.new report) }
 {
+    let (version, lines) = text_body(text);
     let mut report = Report::new(alloc);
-    let mut rest = text;
-    let mut number = 1;
+    let mut rest = lines;
+    let mut number = version.first_line();
     while let Some((line, next)) = next_line(rest) {
-        answer_line(feed, number, line, book, &mut report)?;
+        answer_line(feed, number, line, version, book, &mut report)?;
         number += 1;
         rest = next;
     }
@@ -95,25 +98,26 @@ fn answer_line(
     feed: u32,
     number: usize,
     line: &[u8],
+    version: Version,
     book: &mut Book<Global>,
     report: &mut Report,
 ) -> Result<(), AllocError>
     requires of_feed { IsFeed feed }
     requires rising { All (λ earlier. earlier.number < number) report.old }
-    ensures { OnOk result (AnswersOne feed number line.now book.old book.new report.old report.new) }
+    ensures { OnOk result (AnswersOne feed number version line.now book.old book.new report.old report.new) }
 {
-    match answer_of(feed, line, book) {
+    match answer_of(feed, line, version, book) {
         Some(answer) => report.push(Line { number, answer }),
         None => Ok(()),
     }
 }
 
 /// What the line is answered: the book's reply, if it is a command.
-fn answer_of(feed: u32, line: &[u8], book: &mut Book<Global>) -> Option<Answer>
+fn answer_of(feed: u32, line: &[u8], version: Version, book: &mut Book<Global>) -> Option<Answer>
     requires { IsFeed feed }
-    ensures { Answers feed line.now book.old book.new result }
+    ensures { Answers feed version line.now book.old book.new result }
 {
-    match parse_line(line) {
+    match parse_line(line, version) {
         Err(fault) => Some(Answer::Fault(fault)),
         Ok(asked) => match asked {
             None => None,

@@ -6,7 +6,9 @@ use Rattle.std.proofs.lemmas.List.Elements.{All-weaker, All-from_get_or}
 use Rattle.std.proofs.lemmas.List.Splits.{slice_split_at, slice_split_none, length-slice_split}
 use Rattle.std.proofs.Math.Seq.{split_at}
 use Rattle.rt_feed.specs.Lines.{CutsAt}
-use Rattle.rt_feed.specs.Grammar.{fields, fields_left}
+use Rattle.rt_feed.specs.Grammar.{fields}
+use Rattle.rt_feed.specs.CommandText.{space}
+use Rattle.rt_feed.specs.Fields.{fields_left}
 
 -- what stands before a place has no mark where none of the places before it has one
 unmarked-take : (text : List ℕ) (mark at : ℕ) → at < length text → ((k : ℕ) → k < at → slice_index_or text k 0 ≢ mark)
@@ -27,16 +29,20 @@ cuts_at_first text mark at here is none rest is_rest = record {
 pub cuts_nowhere : (text : List ℕ) (mark : ℕ) → ((k : ℕ) → k < length text → slice_index_or text k 0 ≢ mark) → CutsAt mark text text None
 cuts_nowhere text mark none = record { unmarked = All-from_get_or (λ byte. byte ≢ mark) text 0 none; joined = refl }
 
+-- a list of bytes that are no space
+pub is_unspaced : (text : List ℕ) → All (λ byte. byte ≢ space) text → All (λ byte. eqb byte space ≡ false) text
+is_unspaced text none = All-weaker (λ byte. byte ≢ space) (λ byte. eqb byte space ≡ false) (λ byte ne. ne_eqb byte space ne) text none
+
 -- the fields of a text that is cut at its first space
-pub fields-cut : (text first : List ℕ) (rest : Option (Bor (List ℕ))) → CutsAt 32 text first rest → fields text ≡ first ∷ fields_left rest
+pub fields-cut : (text first : List ℕ) (rest : Option (Bor (List ℕ))) → CutsAt space text first rest → fields text ≡ first ∷ fields_left rest
 fields-cut text first None cut =
-    rw cut.joined (slice_split_none (λ byte. eqb byte 32) first (All-weaker (λ byte. byte ≢ 32) (λ byte. eqb byte 32 ≡ false) (λ byte ne. ne_eqb byte 32 ne) first cut.unmarked))
+    rw cut.joined (slice_split_none (λ byte. eqb byte space) first (is_unspaced first cut.unmarked))
 fields-cut text first (Some rest) cut =
-    rw cut.joined (slice_split_at (λ byte. eqb byte 32) first 32 rest.now (All-weaker (λ byte. byte ≢ 32) (λ byte. eqb byte 32 ≡ false) (λ byte ne. ne_eqb byte 32 ne) first cut.unmarked) refl)
+    rw cut.joined (slice_split_at (λ byte. eqb byte space) first space rest.now (is_unspaced first cut.unmarked) refl)
 
 -- a text has at least one field
 pub fields-nonempty : (text : List ℕ) → 0 < length (fields text)
-fields-nonempty text = omega (arith, length-slice_split (λ byte. eqb byte 32) text)
+fields-nonempty text = omega (arith, length-slice_split (λ byte. eqb byte space) text)
 
 -- a text that is cut at a space has more fields than one
 pub fields-more : (parts : List (List ℕ)) (first : List ℕ) (rest : Option (Bor (List ℕ))) (more : Bor (List ℕ))

@@ -1,4 +1,5 @@
 pub mod Cutting
+pub mod Words
 pub mod Telling
 pub mod Printing
 pub mod OneAnswer

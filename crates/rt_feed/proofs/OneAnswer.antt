@@ -1,144 +1,148 @@
--- A line has one answer, and a text is cut into lines in one way.
-use Rattle.std.proofs.Common.{if◌then◌else◌, ◌==◌, ◌≡◌, ℕ, inl, inr, List, ◌∷◌, length, Some, None, Result, Ok, Err, refl, sym, ap, ◌∙◌, arith}
-use Rattle.rt_cidr.specs.Reading.{ReadsDecimal, ReadsAddress, ReadsPrefix}
-use Rattle.rt_cidr.specs.Laws.{HasOneAnswer}
+-- A line has one answer: a command has one text, and a text has one first fault.
+use Rattle.std.proofs.Common.{◌≡◌, ℕ, ◌^◌, ◌<◌, inl, inr, List, [], ◌∷◌, length, slice_index_or, Option, Some, None, Ok, Err, subst, refl, sym, ap, ◌∙◌, arith}
+use Rattle.std.proofs.lemmas.Fmt.{decimal_injective}
+use Rattle.rt_cidr.specs.declared.address.Addr.{Addr}
+use Rattle.rt_cidr.specs.declared.prefixes.Prefix.{Prefix}
+use Rattle.rt_cidr.specs.Reading.{ReadsAddress, ReadsPrefix}
+use Rattle.rt_cidr.specs.Text.{IsAddressText, IsPrefixText, address_text, prefix_text}
+use Rattle.rt_cidr.specs.Laws.{HasOneAnswer, WritesPrefix, WritesAddress, ReadsPrefixAgain, ReadsAddressAgain}
+use Rattle.rt_rib.specs.declared.routes.Hop.{Hop}
+use Rattle.rt_rib.specs.declared.routes.Hop.TheVariants.{Via, Discard}
+use Rattle.rt_rib.specs.declared.commands.Cmd.{Cmd}
+use Rattle.rt_rib.specs.declared.commands.Cmd.TheVariants.{Add, Replace, Withdraw, Lookup, Dump, Purge}
 use Rattle.rt_feed.specs.declared.parse.LineFault.{LineFault}
-use Rattle.rt_feed.specs.declared.parse.LineFault.TheVariants as fault
-use Rattle.rt_feed.specs.declared.parse.Keyword.{Keyword}
-use Rattle.rt_feed.specs.declared.parse.Keyword.TheVariants as keyword
-use Rattle.rt_feed.specs.Grammar.{Then, fields, spelling, prefix_fault, ReadsPrefixField, ReadsPreferenceField, ReadsAddressField, ReadsOneField, ReadsThreeFields, ReadsRoute, ReadsCommand, ReadsFields, AnswersLine}
+use Rattle.rt_feed.specs.declared.versions.Version.{Version}
+use Rattle.rt_feed.specs.declared.versions.Version.TheVariants.{Two}
+use Rattle.rt_feed.specs.CommandText.{words, route_words, HasHop, HasCommand}
+use Rattle.rt_feed.specs.Printed.{hop_text}
+use Rattle.rt_feed.specs.Grammar.{Kind, prefix, preference, hop, address, IsFaultOf, IsFirstFault, IsFaultAmong, IsFaultAfter, IsFaultOfFields, prefix_fault, kinds_after, route_kinds, fields, AnswersLine}
+use Rattle.rt_feed.specs.Laws.{LineHasOneAnswer}
+use Rattle.rt_feed.proofs.Words.{address-ne-discard, fields-command_text, length-command_text, not_skipped-command_text}
 
--- a reading has at most one answer
-abbrev IsOnce : {A : Type 0} → (A → Type 0) → Type 0
-IsOnce {A} Reads = (one two : A) → Reads one → Reads two → one ≡ two
+-- what rt_cidr promises of prefixes and addresses and their text
+pub record Texts : Type 0 where
+  pub prefix_once : HasOneAnswer ReadsPrefix
+  pub prefix_written : WritesPrefix
+  pub prefix_again : ReadsPrefixAgain
+  pub address_written : WritesAddress
+  pub address_again : ReadsAddressAgain
 
--- so two of its values are equal, and two of its faults, and it has not both
-same_value : {A E : Type 0} (Reads : Result A E → Type 0) → IsOnce Reads → (v w : A) → Reads (Ok v) → Reads (Ok w) → v ≡ w
-same_value Reads once v w is other = let equal = once (Ok v) (Ok w) is other in cc
+-- two prefixes of one text are equal, and so are two addresses
+one_prefix : Texts → (p q : Prefix) → prefix_text p.base p.len ≡ prefix_text q.base q.len → p ≡ q
+one_prefix texts p q same =
+    let read : ReadsPrefix (prefix_text q.base q.len) (Ok p) = subst (λ text. IsPrefixText text p.base p.len) same (texts.prefix_written p) in
+    let equal = texts.prefix_again q (Ok p) read in cc
 
-same_fault : {A E : Type 0} (Reads : Result A E → Type 0) → IsOnce Reads → (e f : E) → Reads (Err e) → Reads (Err f) → e ≡ f
-same_fault Reads once e f is other = let equal = once (Err e) (Err f) is other in cc
+one_address : Texts → (a b : Addr) → a.0 < 2 ^ 32 → b.0 < 2 ^ 32 → address_text a.0 ≡ address_text b.0 → a ≡ b
+one_address texts a b fits others same =
+    let read : ReadsAddress (address_text b.0) (Ok a) = subst (λ text. IsAddressText text a.0) same (texts.address_written a.0 fits) in
+    let equal = texts.address_again b (Ok a) others read in cc
 
-never_both : {A E : Type 0} (Reads : Result A E → Type 0) → IsOnce Reads → (v : A) (e : E) → Reads (Ok v) → Reads (Err e) → ⊥
-never_both Reads once v e is other = let equal = once (Ok v) (Err e) is other in cc
+one_hop : Texts → (version : Version) (one two : Hop) → HasHop version one → HasHop version two → hop_text one ≡ hop_text two → one ≡ two
+one_hop texts version (Via a) (Via b) fits others same = ap Via (one_address texts a b fits others same)
+one_hop texts version (Via a) Discard fits others same = absurd (address-ne-discard a.0 fits same)
+one_hop texts version Discard (Via b) fits others same = absurd (address-ne-discard b.0 others (sym same))
+one_hop texts version Discard Discard fits others same = refl
 
--- one after the other, each with one answer, have one
-then_once : {A B : Type 0} (First : Result A LineFault → Type 0) (Rest : A → Result B LineFault → Type 0) → IsOnce First → ((value : A) → IsOnce (Rest value)) → IsOnce (Then First Rest)
-then_once First Rest first rest one two (inl (v, is, more)) (inl (w, other, others)) =
-    let same = same_value First first v w is other in rest w one two (rw same at more) others
-then_once First Rest first rest one two (inl (v, is, more)) (inr (e, other, fault)) = absurd (never_both First first v e is other)
-then_once First Rest first rest one two (inr (e, is, fault)) (inl (w, other, others)) = absurd (never_both First first w e other is)
-then_once First Rest first rest one two (inr (e, is, fault)) (inr (f, other, faults)) =
-    let same = same_fault First first e f is other in cc
+-- two commands with the same words are one
+one_command : Texts → (version : Version) (cmd other : Cmd) → HasCommand version cmd → HasCommand version other → words cmd ≡ words other → cmd ≡ other
+one_command texts version (Add p pref next) (Add q pref' next') fits fits' same =
+    let head : prefix_text p.base p.len ≡ prefix_text q.base q.len = cc in
+    let equal = one_prefix texts p q head in
+    let number = decimal_injective pref pref' (omega (arith, fits.0)) (omega (arith, fits'.0)) (cc) in
+    let same_next = one_hop texts version next next' fits.1 fits'.1 (cc) in cc
+one_command texts version (Replace p pref next) (Replace q pref' next') fits fits' same =
+    let head : prefix_text p.base p.len ≡ prefix_text q.base q.len = cc in
+    let equal = one_prefix texts p q head in
+    let number = decimal_injective pref pref' (omega (arith, fits.0)) (omega (arith, fits'.0)) (cc) in
+    let same_next = one_hop texts version next next' fits.1 fits'.1 (cc) in cc
+one_command texts version (Withdraw p) (Withdraw q) fits fits' same = let equal = one_prefix texts p q (cc) in cc
+one_command texts version (Lookup a) (Lookup b) fits fits' same = let equal = one_address texts a b fits fits' (cc) in cc
+one_command texts version Dump Dump fits fits' same = refl
+one_command texts version Purge Purge fits fits' same = refl
+one_command texts version cmd other fits fits' same = absurd (omega (arith, ap (λ ws. length (slice_index_or ws 0 [])) same))
 
--- a reading that ends in one value
-ends_once : {A : Type 0} (value : A) → IsOnce (λ (answer : A). answer ≡ value)
-ends_once value one two is other = is ∙ sym other
+-- a field has one fault
+one_fault : Texts → (kind : Kind) (field : List ℕ) (one two : LineFault) → IsFaultOf kind field one → IsFaultOf kind field two → one ≡ two
+one_fault texts prefix field one two is other =
+    let same : Err is.0 ≡ Err other.0 = texts.prefix_once field (Err is.0) (Err other.0) is.1 other.1 in
+    let reason : is.0 ≡ other.0 = cc in is.2 ∙ (ap prefix_fault reason ∙ sym other.2)
+one_fault texts preference field one two is other = is ∙ sym other
+one_fault texts (hop version) field one two is other = is ∙ sym other
+one_fault texts address field one two is other = is ∙ sym other
 
-prefix_once : HasOneAnswer ReadsPrefix → (field : List ℕ) → IsOnce (ReadsPrefixField field)
-prefix_once once field one two (inl (p, is, e)) (inl (q, other, f)) =
-    let same = same_value (ReadsPrefix field) (once field) p q is other in cc
-prefix_once once field one two (inl (p, is, e)) (inr (r, other, f)) =
-    absurd (never_both (ReadsPrefix field) (once field) p r is other)
-prefix_once once field one two (inr (r, is, e)) (inl (q, other, f)) =
-    absurd (never_both (ReadsPrefix field) (once field) q r other is)
-prefix_once once field one two (inr (r, is, e)) (inr (s, other, f)) =
-    let same = same_fault (ReadsPrefix field) (once field) r s is other in
-    e ∙ (ap (λ t. Err (prefix_fault t)) same ∙ sym f)
+-- there is one first fault
+one_first : Texts → (kinds : List Kind) (rest : List (List ℕ)) (one two : LineFault) → IsFirstFault kinds rest one → IsFirstFault kinds rest two → one ≡ two
+one_first texts [] rest one two is other = absurd is
+one_first texts (kind ∷ kinds) [] one two is other = absurd is
+one_first texts (kind ∷ kinds) (field ∷ rest) one two (inl is) (inl other) = one_fault texts kind field one two is.1 other.1
+one_first texts (kind ∷ kinds) (field ∷ rest) one two (inl is) (inr other) = absurd (is.0 other.0)
+one_first texts (kind ∷ kinds) (field ∷ rest) one two (inr is) (inl other) = absurd (other.0 is.0)
+one_first texts (kind ∷ kinds) (field ∷ rest) one two (inr is) (inr other) = one_first texts kinds rest one two is.1 other.1
 
-preference_once : HasOneAnswer ReadsDecimal → (field : List ℕ) → IsOnce (ReadsPreferenceField field)
-preference_once once field one two (inl (m, is, e)) (inl (n, other, f)) =
-    let same : Some m ≡ Some n = once field (Some m) (Some n) is other in cc
-preference_once once field one two (inl (m, is, e)) (inr (other, f)) =
-    let same : Some m ≡ None = once field (Some m) None is other in cc
-preference_once once field one two (inr (is, e)) (inl (n, other, f)) =
-    let same : Some n ≡ None = once field (Some n) None other is in cc
-preference_once once field one two (inr (is, e)) (inr (other, f)) = e ∙ sym f
+one_after : Texts → (kinds : Option (List Kind)) (rest : List (List ℕ)) (one two : LineFault) → IsFaultAfter kinds rest one → IsFaultAfter kinds rest two → one ≡ two
+one_after texts None rest one two is other = is ∙ sym other
+one_after texts (Some kinds) rest one two (inl is) (inl other) = is.1 ∙ sym other.1
+one_after texts (Some kinds) rest one two (inl is) (inr other) = absurd (is.0 other.0)
+one_after texts (Some kinds) rest one two (inr is) (inl other) = absurd (other.0 is.0)
+one_after texts (Some kinds) rest one two (inr is) (inr other) = one_first texts kinds rest one two is.1 other.1
 
-address_once : HasOneAnswer ReadsAddress → (none : LineFault) (field : List ℕ) → IsOnce (ReadsAddressField none field)
-address_once once none field one two (inl (a, is, e)) (inl (b, other, f)) =
-    let same = same_value (ReadsAddress field) (once field) a b is other in cc
-address_once once none field one two (inl (a, is, e)) (inr (r, other, f)) =
-    absurd (never_both (ReadsAddress field) (once field) a r is other)
-address_once once none field one two (inr (r, is, e)) (inl (b, other, f)) =
-    absurd (never_both (ReadsAddress field) (once field) b r other is)
-address_once once none field one two (inr (r, is, e)) (inr (s, other, f)) = e ∙ sym f
+one_of_fields : Texts → (version : Version) (line : List (List ℕ)) (one two : LineFault) → IsFaultOfFields version line one → IsFaultOfFields version line two → one ≡ two
+one_of_fields texts version [] one two is other = absurd is
+one_of_fields texts version (name ∷ rest) one two is other = one_after texts (kinds_after version name) rest one two is other
 
-one_once : (rest : List (List ℕ)) → IsOnce (ReadsOneField rest)
-one_once rest one two (inl (field, is, e)) (inl (other_field, other, f)) = cc
-one_once rest one two (inl (field, is, e)) (inr (not, f)) = absurd (not (ap length is))
-one_once rest one two (inr (not, e)) (inl (field, is, f)) = absurd (not (ap length is))
-one_once rest one two (inr (not, e)) (inr (other, f)) = e ∙ sym f
+-- a route's words have no fault
+sound-route : (version : Version) (p : Prefix) (pref : ℕ) (next : Hop) → pref < 2 ^ 32 → HasHop version next → (answer : LineFault) → ¬ IsFaultAmong (route_kinds version) (route_words p pref next) answer
+sound-route version p pref next fits has answer (inl (not, is)) = not refl
+sound-route version p pref next fits has answer (inr (same, inl (none, is))) = none (p, refl)
+sound-route version p pref next fits has answer (inr (same, inr (some, inl (none, is)))) = none (pref, fits, refl)
+sound-route version p pref next fits has answer (inr (same, inr (some, inr (more, inl (none, is))))) = none (next, has, refl)
+sound-route version p pref next fits has answer (inr (same, inr (some, inr (more, inr (last, is))))) = is
 
-three_once : (rest : List (List ℕ)) → IsOnce (ReadsThreeFields rest)
-three_once rest one two (inl (a, b, c, is, e)) (inl (d, g, h, other, f)) = cc
-three_once rest one two (inl (a, b, c, is, e)) (inr (not, f)) = absurd (not (ap length is))
-three_once rest one two (inr (not, e)) (inl (a, b, c, is, f)) = absurd (not (ap length is))
-three_once rest one two (inr (not, e)) (inr (other, f)) = e ∙ sym f
+sound-purge : (answer : LineFault) → ¬ IsFaultOfFields Two (words Purge) answer
+sound-purge answer (inl (not, is)) = not refl
+sound-purge answer (inr (same, is)) = is
 
--- the three readers of rt_cidr
-record ReadersOnce : Type 0 where
-  pub decimal : HasOneAnswer ReadsDecimal
-  pub address : HasOneAnswer ReadsAddress
-  pub prefix : HasOneAnswer ReadsPrefix
+-- nor have a command's
+sound-words : (version : Version) (cmd : Cmd) → HasCommand version cmd → (answer : LineFault) → ¬ IsFaultOfFields version (words cmd) answer
+sound-words version (Add p pref a) fits answer is = sound-route version p pref a fits.0 fits.1 answer is
+sound-words version (Replace p pref a) fits answer is = sound-route version p pref a fits.0 fits.1 answer is
+sound-words version (Withdraw p) fits answer (inl (not, is)) = not refl
+sound-words version (Withdraw p) fits answer (inr (same, inl (none, is))) = none (p, refl)
+sound-words version (Withdraw p) fits answer (inr (same, inr (some, is))) = is
+sound-words version (Lookup a) fits answer (inl (not, is)) = not refl
+sound-words version (Lookup a) fits answer (inr (same, inl (none, is))) = none (a, fits, refl)
+sound-words version (Lookup a) fits answer (inr (same, inr (some, is))) = is
+sound-words version Dump fits answer (inl (not, is)) = not refl
+sound-words version Dump fits answer (inr (same, is)) = is
+sound-words version Purge fits answer fault = sound-purge answer (rw fits at fault)
 
-route_once : ReadersOnce → (rest : List (List ℕ)) → IsOnce (ReadsRoute rest)
-route_once once rest =
-    then_once (ReadsThreeFields rest) _ (three_once rest) (λ three. then_once (ReadsPrefixField three.0) _ (prefix_once once.prefix three.0)
-    (λ prefix. then_once (ReadsPreferenceField three.1) _ (preference_once once.decimal three.1)
-    (λ pref. then_once (ReadsAddressField fault.Hop three.2) _ (address_once once.address fault.Hop three.2) (λ hop. ends_once _))))
+-- a command's text is neither skipped nor faulty
+never_skipped : (version : Version) (line : List ℕ) (cmd : Cmd) → AnswersLine version line (Ok (Some cmd)) → ¬ AnswersLine version line (Ok None)
+never_skipped version line cmd is skipped = let clash = sym (not_skipped-command_text cmd) ∙ (rw is.1 at skipped.1) in cc
 
-dump_once : (rest : List (List ℕ)) → IsOnce (ReadsCommand keyword.Dump rest)
-dump_once rest one two (inl (none, e)) (inl (other, f)) = e ∙ sym f
-dump_once rest one two (inl (none, e)) (inr (some, f)) = absurd (some none)
-dump_once rest one two (inr (some, e)) (inl (none, f)) = absurd (some none)
-dump_once rest one two (inr (some, e)) (inr (other, f)) = e ∙ sym f
+never_faulty : (version : Version) (line : List ℕ) (cmd : Cmd) (answer : LineFault) → AnswersLine version line (Ok (Some cmd)) → ¬ AnswersLine version line (Err answer)
+never_faulty version line cmd answer is (inl (long, told)) = omega (arith, long, ap length is.1, length-command_text version cmd is.0)
+never_faulty version line cmd answer is (inr (short, not, fault)) =
+    let parts : fields line ≡ words cmd = ap fields is.1 ∙ fields-command_text version cmd is.0 in
+    sound-words version cmd is.0 answer (rw parts at fault)
 
-command_once : ReadersOnce → (k : Keyword) (rest : List (List ℕ)) → IsOnce (ReadsCommand k rest)
-command_once once keyword.Add rest = then_once (ReadsRoute rest) _ (route_once once rest) (λ route. ends_once _)
-command_once once keyword.Replace rest = then_once (ReadsRoute rest) _ (route_once once rest) (λ route. ends_once _)
-command_once once keyword.Withdraw rest =
-    then_once (ReadsOneField rest) _ (one_once rest) (λ field. then_once (ReadsPrefixField field) _ (prefix_once once.prefix field) (λ prefix. ends_once _))
-command_once once keyword.Lookup rest =
-    then_once (ReadsOneField rest) _ (one_once rest) (λ field. then_once (ReadsAddressField fault.Text field) _ (address_once once.address fault.Text field) (λ addr. ends_once _))
-command_once once keyword.Dump rest = dump_once rest
+never_both : (version : Version) (line : List ℕ) (answer : LineFault) → AnswersLine version line (Ok None) → ¬ AnswersLine version line (Err answer)
+never_both version line answer is (inl (long, told)) = omega (arith, long, is.0)
+never_both version line answer is (inr (short, not, fault)) = let clash = sym is.1 ∙ not in cc
 
--- no two keywords are spelled alike: their lengths differ
-keyword_of_length : ℕ → Keyword
-keyword_of_length n = if n == 3 then keyword.Add else if n == 7 then keyword.Replace else if n == 8 then keyword.Withdraw else if n == 6 then keyword.Lookup else keyword.Dump
-
-keyword_of-spelling : (k : Keyword) → keyword_of_length (length (spelling k)) ≡ k
-unfolding keyword_of_length
-keyword_of-spelling keyword.Add = refl
-keyword_of-spelling keyword.Replace = refl
-keyword_of-spelling keyword.Withdraw = refl
-keyword_of-spelling keyword.Lookup = refl
-keyword_of-spelling keyword.Dump = refl
-
-spelling_once : (k j : Keyword) → spelling k ≡ spelling j → k ≡ j
-spelling_once k j same = sym (keyword_of-spelling k) ∙ (ap (λ text. keyword_of_length (length text)) same ∙ keyword_of-spelling j)
-
-fields_once : ReadersOnce → (line : List (List ℕ)) → IsOnce (ReadsFields line)
-fields_once once line one two (inl (k, rest, is, answer)) (inl (j, others, other, answers)) =
-    let parts : (spelling k ∷ rest) ≡ (spelling j ∷ others) = sym is ∙ other in
-    let first : spelling k ≡ spelling j = cc in
-    let after : rest ≡ others = cc in
-    let same : k ≡ j = spelling_once k j first in
-    command_once once j others one two (rw (same, after) at answer) answers
-fields_once once line one two (inl (k, rest, is, answer)) (inr (none, f)) = absurd (none k rest is)
-fields_once once line one two (inr (none, e)) (inl (k, rest, is, answer)) = absurd (none k rest is)
-fields_once once line one two (inr (none, e)) (inr (other, f)) = e ∙ sym f
-
--- a line has one answer where the readers of its fields have one
-pub line_once : HasOneAnswer ReadsDecimal → HasOneAnswer ReadsAddress → HasOneAnswer ReadsPrefix → (line : List ℕ) → IsOnce (AnswersLine line)
-line_once decimal address prefix line one two (inl (long, e)) (inl (other, f)) = e ∙ sym f
-line_once decimal address prefix line one two (inl (long, e)) (inr (inl (short, skipped, f))) = absurd (omega (arith, long, short))
-line_once decimal address prefix line one two (inl (long, e)) (inr (inr (short, skipped, f))) = absurd (omega (arith, long, short))
-line_once decimal address prefix line one two (inr (inl (short, skipped, e))) (inl (long, f)) = absurd (omega (arith, long, short))
-line_once decimal address prefix line one two (inr (inr (short, skipped, e))) (inl (long, f)) = absurd (omega (arith, long, short))
-line_once decimal address prefix line one two (inr (inl (short, skipped, e))) (inr (inl (other, others, f))) = e ∙ sym f
-line_once decimal address prefix line one two (inr (inl (short, skipped, e))) (inr (inr (other, read, f))) = let clash = sym skipped ∙ read in cc
-line_once decimal address prefix line one two (inr (inr (short, read, e))) (inr (inl (other, skipped, f))) = let clash = sym skipped ∙ read in cc
-line_once decimal address prefix line one two (inr (inr (short, read, e))) (inr (inr (other, others, f))) =
-    let once : ReadersOnce = record { decimal = decimal; address = address; prefix = prefix } in
-    then_once (ReadsFields (fields line)) _ (fields_once once (fields line)) (λ cmd. ends_once _) one two e f
+pub line_once : Texts → LineHasOneAnswer
+line_once texts version line (Ok (Some cmd)) (Ok (Some other)) is also =
+    let same = sym (fields-command_text version cmd is.0) ∙ (ap fields (sym is.1 ∙ also.1) ∙ fields-command_text version other also.0) in
+    ap (λ c. Ok (Some c)) (one_command texts version cmd other is.0 also.0 same)
+line_once texts version line (Ok (Some cmd)) (Ok None) is also = absurd (never_skipped version line cmd is also)
+line_once texts version line (Ok (Some cmd)) (Err fault) is also = absurd (never_faulty version line cmd fault is also)
+line_once texts version line (Ok None) (Ok (Some cmd)) is also = absurd (never_skipped version line cmd also is)
+line_once texts version line (Ok None) (Ok None) is also = refl
+line_once texts version line (Ok None) (Err fault) is also = absurd (never_both version line fault is also)
+line_once texts version line (Err fault) (Ok (Some cmd)) is also = absurd (never_faulty version line cmd fault also is)
+line_once texts version line (Err fault) (Ok None) is also = absurd (never_both version line fault also is)
+line_once texts version line (Err one) (Err two) (inl is) (inl also) = ap Err (is.1 ∙ sym also.1)
+line_once texts version line (Err one) (Err two) (inl (long, told)) (inr (short, not, fault)) = absurd (omega (arith, long, short))
+line_once texts version line (Err one) (Err two) (inr (short, not, fault)) (inl (long, told)) = absurd (omega (arith, long, short))
+line_once texts version line (Err one) (Err two) (inr is) (inr also) = ap Err (one_of_fields texts version (fields line) one two is.2 also.2)

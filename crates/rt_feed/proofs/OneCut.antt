@@ -1,9 +1,13 @@
 -- A text is cut into lines in one way, and so its lines are read in one way.
 use Rattle.std.proofs.Common.{◌≡◌, ◌≢◌, ℕ, inl, inr, List, [], ◌∷◌, ◌++◌, length, map, All, refl, sym, ap, ◌∙◌, arith}
+use Rattle.std.proofs.lemmas.List.{map-append}
 use Rattle.std.proofs.lemmas.List.Elements.{All-head, All-tail}
-use Rattle.rt_feed.specs.Lines.{CutsLine}
-use Rattle.rt_feed.specs.Told.{Told, Tells, reading}
-use Rattle.rt_feed.specs.Laws.{LineHasOneAnswer}
+use Rattle.rt_feed.specs.Lines.{lf, CutsLine}
+use Rattle.rt_feed.specs.Told.{Told, Tells, TellsText, heading, reading}
+use Rattle.rt_feed.specs.declared.versions.Version.{Version}
+use Rattle.rt_feed.specs.declared.versions.Version.TheVariants.{One, Two}
+use Rattle.rt_feed.specs.Versions.{TellsTwo, IsBody}
+use Rattle.rt_feed.specs.Laws.{LineHasOneAnswer, OlderTextsStay}
 use Rattle.rt_feed.proofs.Telling.{length-cut}
 
 -- the mark does not stand in what has none
@@ -28,21 +32,50 @@ first_mark mark (x ∷ xs) (y ∷ ys) rest others none nor is =
 pub one_cut : (text line left other other_left : List ℕ) → CutsLine text line left → CutsLine text other other_left → (line ≡ other) × (left ≡ other_left)
 one_cut text line left other other_left cut again = elim cut.ended [
   | inl more ↦ elim again.ended [
-    | inl mores ↦ first_mark 10 line other left other_left cut.unbroken again.unbroken (sym more ∙ mores)
-    | inr lasts ↦ absurd (unmarked_ends 10 other line left again.unbroken (sym lasts.0 ∙ more))
+    | inl mores ↦ first_mark lf line other left other_left cut.unbroken again.unbroken (sym more ∙ mores)
+    | inr lasts ↦ absurd (unmarked_ends lf other line left again.unbroken (sym lasts.0 ∙ more))
   ]
   | inr last ↦ elim again.ended [
-    | inl mores ↦ absurd (unmarked_ends 10 line other other_left cut.unbroken (sym last.0 ∙ mores))
+    | inl mores ↦ absurd (unmarked_ends lf line other other_left cut.unbroken (sym last.0 ∙ mores))
     | inr lasts ↦ (sym last.0 ∙ lasts.0, last.2 ∙ sym lasts.2)
   ]
 ]
 
--- two tellings of a whole text read alike
-pub one_reading : LineHasOneAnswer → (text : List ℕ) (tolds others : List Told) → Tells text tolds [] → Tells text others [] → map reading tolds ≡ map reading others
-one_reading once text [] [] is other = refl
-one_reading once text [] (told ∷ others) is (line, next, cut, reads, tells) = absurd (omega (arith, length-cut text line next cut, ap length is))
-one_reading once text (told ∷ tolds) [] (line, next, cut, reads, tells) is = absurd (omega (arith, length-cut text line next cut, ap length is))
-one_reading once text (told ∷ tolds) (other ∷ others) (line, next, cut, reads, tells) (line', next', cut', reads', tells') =
+-- two tellings of the same lines read alike
+one_reading_of : LineHasOneAnswer → (version : Version) (text : List ℕ) (tolds others : List Told) → Tells version text tolds [] → Tells version text others [] → map reading tolds ≡ map reading others
+one_reading_of once version text [] [] is other = refl
+one_reading_of once version text [] (told ∷ others) is (line, next, cut, reads, tells) = absurd (omega (arith, length-cut text line next cut, ap length is))
+one_reading_of once version text (told ∷ tolds) [] (line, next, cut, reads, tells) is = absurd (omega (arith, length-cut text line next cut, ap length is))
+one_reading_of once version text (told ∷ tolds) (other ∷ others) (line, next, cut, reads, tells) (line', next', cut', reads', tells') =
     let same = one_cut text line next line' next' cut cut' in
-    let head = once line' (reading told) (reading other) (rw same.0 at reads) reads' in
-    let tail = one_reading once next' tolds others (rw same.1 at tells) tells' in cc
+    let head = once version line' (reading told) (reading other) (rw same.0 at reads) reads' in
+    let tail = one_reading_of once version next' tolds others (rw same.1 at tells) tells' in cc
+
+-- a text has one version, by which the same lines are read
+pub one_body : (text lines others : List ℕ) (one two : Version) → IsBody text one lines → IsBody text two others → (one ≡ two) × (lines ≡ others)
+one_body text lines others One One is other = (refl, is.1 ∙ sym other.1)
+one_body text lines others One Two is other = absurd (is.0 others other)
+one_body text lines others Two One is other = absurd (other.0 lines is)
+one_body text lines others Two Two is other = (refl, (one_cut text _ lines _ others is other).1)
+
+-- two tellings of a whole text read alike
+pub one_reading : LineHasOneAnswer → (text : List ℕ) (tolds others : List Told) → TellsText text tolds → TellsText text others → map reading tolds ≡ map reading others
+one_reading once text tolds others is other =
+    let same = one_body text is.lines other.lines is.version other.version is.body other.body in
+    let tells : Tells other.version other.lines is.read [] = rw (same.0, same.1) at is.tells in
+    let reads = one_reading_of once other.version other.lines is.read other.read tells other.tells in
+    ap (map reading) is.joined ∙ (map-append reading (heading is.version) is.read ∙
+    (ap (λ v. map reading (heading v) ++ map reading is.read) same.0 ∙ (ap (λ more. map reading (heading other.version) ++ more) reads ∙
+    (sym (map-append reading (heading other.version) other.read) ∙ sym (ap (map reading) other.joined)))))
+
+-- where the text does not tell version 2, its lines are all read by version 1
+from_body : (text lines : List ℕ) (version : Version) (tolds read : List Told) → ((rest : List ℕ) → ¬ TellsTwo text rest) → IsBody text version lines
+    → Tells version lines read [] → tolds ≡ heading version ++ read → Tells One text tolds []
+from_body text lines One tolds read none body tells joined = rw (← joined, body.1) at tells
+from_body text lines Two tolds read none body tells joined = absurd (none lines body)
+
+pub older_texts : OlderTextsStay
+older_texts text tolds none = (
+  λ is. from_body text is.lines is.version tolds is.read none is.body is.tells is.joined,
+  λ is. record { version = One; lines = text; read = tolds; body = (none, refl); tells = is; joined = refl },
+)

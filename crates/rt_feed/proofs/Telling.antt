@@ -8,19 +8,20 @@ use Rattle.rt_rib.specs.declared.commands.Entry.{Entry}
 use Rattle.rt_feed.specs.declared.report.Line.{Line}
 use Rattle.rt_feed.specs.declared.report.Answer.{Answer}
 use Rattle.rt_feed.specs.Answers.{has_refusal, has_fault}
+use Rattle.rt_feed.specs.declared.versions.Version.{Version}
 use Rattle.rt_feed.specs.Grammar.{AnswersLine}
 use Rattle.rt_feed.specs.Lines.{CutsLine}
 use Rattle.rt_feed.specs.Told.{Told, skipped, faulty, refused, did, some_refused, some_faulty, Tells, reading, told_answer, numbered, report_lines, told_pair, answered, entries_of}
 
 -- tellings one after the other
-pub Tells-append : (text middle left : List ℕ) (tolds more : List Told) → Tells text tolds middle → Tells middle more left → Tells text (tolds ++ more) left
-Tells-append text middle left [] more first second = rw first second
-Tells-append text middle left (told ∷ tolds) more (line, next, cut, is, first) second =
-    (line, next, cut, is, Tells-append next middle left tolds more first second)
+pub Tells-append : (version : Version) (text middle left : List ℕ) (tolds more : List Told) → Tells version text tolds middle → Tells version middle more left → Tells version text (tolds ++ more) left
+Tells-append version text middle left [] more first second = rw first second
+Tells-append version text middle left (told ∷ tolds) more (line, next, cut, is, first) second =
+    (line, next, cut, is, Tells-append version next middle left tolds more first second)
 
 -- one line more
-pub Tells-push : (text line middle left : List ℕ) (tolds : List Told) (told : Told) → Tells text tolds middle → CutsLine middle line left → AnswersLine line (reading told) → Tells text (tolds ++ told ∷ []) left
-Tells-push text line middle left tolds told first cut is = Tells-append text middle left tolds (told ∷ []) first (line, left, cut, is, refl)
+pub Tells-push : (version : Version) (text line middle left : List ℕ) (tolds : List Told) (told : Told) → Tells version text tolds middle → CutsLine middle line left → AnswersLine version line (reading told) → Tells version text (tolds ++ told ∷ []) left
+Tells-push version text line middle left tolds told first cut is = Tells-append version text middle left tolds (told ∷ []) first (line, left, cut, is, refl)
 
 not_nil : (line : List ℕ) → line ≢ [] → 0 < length line
 not_nil [] ne = absurd (ne refl)
@@ -34,10 +35,10 @@ length-cut text line left cut = elim cut.ended [
 ]
 
 -- so the lines told are no more than the bytes that they took
-pub length-tolds : (text left : List ℕ) (tolds : List Told) → Tells text tolds left → length tolds + length left ≤ length text
-length-tolds text left [] is = omega (arith, ap length is)
-length-tolds text left (told ∷ tolds) (line, next, cut, is, rest) =
-    omega (arith, length-cut text line next cut, length-tolds next left tolds rest)
+pub length-tolds : (version : Version) (text left : List ℕ) (tolds : List Told) → Tells version text tolds left → length tolds + length left ≤ length text
+length-tolds version text left [] is = omega (arith, ap length is)
+length-tolds version text left (told ∷ tolds) (line, next, cut, is, rest) =
+    omega (arith, length-cut text line next cut, length-tolds version next left tolds rest)
 
 -- the report's lines of one telling after the other
 pub report_lines-append : (number : ℕ) (tolds more : List Told) → report_lines number (tolds ++ more) ≡ report_lines number tolds ++ report_lines (number + length tolds) more

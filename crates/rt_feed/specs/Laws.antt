@@ -1,15 +1,39 @@
 -- What the grammar of lines and the cut of a text into lines promise of every line and every text.
-use Rattle.std.specs.Prelude.{◌≡◌, ℕ, List, [], map, Option}
+use Rattle.std.specs.Prelude.{◌≡◌, ◌↔◌, ℕ, List, [], map, Option, Some, Ok}
 use Rattle.std.specs.declared.result.Result.{Result}
 use Rattle.rt_rib.specs.declared.commands.Cmd.{Cmd}
 use Rattle.rt_feed.specs.declared.parse.LineFault.{LineFault}
+use Rattle.rt_feed.specs.declared.versions.Version.{Version}
+use Rattle.rt_feed.specs.declared.versions.Version.TheVariants.{One}
+use Rattle.rt_feed.specs.CommandText.{command_text, HasCommand}
 use Rattle.rt_feed.specs.Grammar.{AnswersLine}
 use Rattle.rt_feed.specs.Lines.{CutsLine}
-use Rattle.rt_feed.specs.Told.{Told, Tells, reading}
+use Rattle.rt_feed.specs.Versions.{TellsTwo}
+use Rattle.rt_feed.specs.Told.{Told, Tells, TellsText, reading}
 
 -- a line has at most one answer
 abbrev pub LineHasOneAnswer : Type 0
-LineHasOneAnswer = (line : List ℕ) (one two : Result (Option Cmd) LineFault) → AnswersLine line one → AnswersLine line two → one ≡ two
+LineHasOneAnswer =
+    (version : Version) (line : List ℕ) (one two : Result (Option Cmd) LineFault) →
+    AnswersLine version line one → AnswersLine version line two → one ≡ two
+
+-- the text of a command reads as that command, in texts of every version that has it
+abbrev pub CommandIsReadAgain : Type 0
+CommandIsReadAgain =
+    (version : Version) (cmd : Cmd) (answer : Result (Option Cmd) LineFault) →
+    HasCommand version cmd → AnswersLine version (command_text cmd) answer → answer ≡ Ok (Some cmd)
+
+-- and no other line does
+abbrev pub OnlyItsTextIsRead : Type 0
+OnlyItsTextIsRead =
+    (version : Version) (line : List ℕ) (cmd : Cmd) →
+    AnswersLine version line (Ok (Some cmd)) → HasCommand version cmd × (line ≡ command_text cmd)
+
+-- a text that does not begin with the line that tells version 2 has all its lines read by version 1
+abbrev pub OlderTextsStay : Type 0
+OlderTextsStay =
+    (text : List ℕ) (tolds : List Told) →
+    ((rest : List ℕ) → ¬ TellsTwo text rest) → TellsText text tolds ↔ Tells One text tolds []
 
 -- a text is cut into its first line and what is left in at most one way
 abbrev pub TextHasOneCut : Type 0
@@ -19,4 +43,4 @@ TextHasOneCut =
 -- so two tellings of a whole text agree on what each of its lines says
 abbrev pub TextHasOneReading : Type 0
 TextHasOneReading =
-    (text : List ℕ) (tolds others : List Told) → Tells text tolds [] → Tells text others [] → map reading tolds ≡ map reading others
+    (text : List ℕ) (tolds others : List Told) → TellsText text tolds → TellsText text others → map reading tolds ≡ map reading others

@@ -1,7 +1,10 @@
 pub mod Answers
 pub mod FeedReport
+pub mod CommandText
+pub mod Fields
 pub mod Grammar
 pub mod Laws
 pub mod Lines
 pub mod Printed
 pub mod Told
+pub mod Versions

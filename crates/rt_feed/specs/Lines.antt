@@ -1,6 +1,10 @@
--- How a text is cut into lines. LF (10) ends a line, and the last line may go without it.
+-- How a text is cut into lines. LF ends a line, and the last line may go without it.
 use Rattle.std.specs.Prelude.{◌≡◌, ◌≢◌, ◌⊎◌, ℕ, List, [], ◌∷◌, ◌++◌, All, Option, MatchOption}
 use Rattle.std.specs.Borrow.{Bor}
+
+-- the byte that ends a line
+abbrev pub lf : ℕ
+lf = 10
 
 -- the text up to the first such byte, and what follows that byte, if it stands in the text
 pub record CutsAt (mark : ℕ) (text first : List ℕ) (rest : Option (Bor (List ℕ))) : Type 0 where
@@ -10,5 +14,5 @@ pub record CutsAt (mark : ℕ) (text first : List ℕ) (rest : Option (Bor (List
 -- the text's first line, without its LF, and what is left after it: no LF stands in the line, and either one follows it
 -- or it is the whole text, which is not empty
 pub record CutsLine (text line left : List ℕ) : Type 0 where
-  pub unbroken : All (λ byte. byte ≢ 10) line
-  pub ended : (text ≡ line ++ 10 ∷ left) ⊎ ((text ≡ line) × (line ≢ []) × (left ≡ []))
+  pub unbroken : All (λ byte. byte ≢ lf) line
+  pub ended : (text ≡ line ++ lf ∷ left) ⊎ ((text ≡ line) × (line ≢ []) × (left ≡ []))

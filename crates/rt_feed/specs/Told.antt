@@ -11,6 +11,9 @@ use Rattle.rt_feed.specs.declared.report.Answer.{Answer}
 use Rattle.rt_feed.specs.declared.report.Answer.TheVariants.{Did, Refused, Fault}
 use Rattle.rt_feed.specs.Grammar.{AnswersLine}
 use Rattle.rt_feed.specs.Lines.{CutsLine}
+use Rattle.rt_feed.specs.declared.versions.Version.{Version}
+use Rattle.rt_feed.specs.declared.versions.Version.TheVariants.{One, Two}
+use Rattle.rt_feed.specs.Versions.{IsBody}
 
 -- what one line became: nothing, a fault, a command refused for want of memory, or a command with its reply
 pub data Told : Type 0 where
@@ -26,11 +29,25 @@ reading (faulty fault) = Err fault
 reading (refused cmd) = Ok (Some cmd)
 reading (did cmd reply) = Ok (Some cmd)
 
--- the text begins with lines that became these, in order, and what is left of it after them
-abbrev pub Tells : List ℕ → List Told → List ℕ → Type 0
-Tells text [] left = text ≡ left
-Tells text (told ∷ tolds) left =
-    (line : List ℕ) × (next : List ℕ) × CutsLine text line next × AnswersLine line (reading told) × Tells next tolds left
+-- the text begins with lines that became these, in order, each read by this version, and what is left of it after them
+abbrev pub Tells : Version → List ℕ → List Told → List ℕ → Type 0
+Tells version text [] left = text ≡ left
+Tells version text (told ∷ tolds) left =
+    (line : List ℕ) × (next : List ℕ) × CutsLine text line next × AnswersLine version line (reading told) × Tells version next tolds left
+
+-- what became of the lines before those that are read: the line that tells version 2 is skipped
+abbrev pub heading : Version → List Told
+heading One = []
+heading Two = skipped ∷ []
+
+-- the lines of the whole text became these, each read by the text's version
+pub record TellsText (text : List ℕ) (tolds : List Told) : Type 0 where
+  pub version : Version
+  pub lines : List ℕ
+  pub read : List Told
+  pub body : IsBody text version lines
+  pub tells : Tells version lines read []
+  pub joined : tolds ≡ heading version ++ read
 
 -- the answer that the report has for a line, if it has one
 abbrev pub told_answer : Told → Option Answer

@@ -1,12 +1,27 @@
 //! Laws of the feed text. Each function does nothing: its contract is the law, for all lines and texts.
-ghost use Rattle.rt_feed.specs.Laws.{LineHasOneAnswer, TextHasOneCut, TextHasOneReading};
+ghost use Rattle.rt_feed.specs.Laws.{LineHasOneAnswer, CommandIsReadAgain, OnlyItsTextIsRead, OlderTextsStay, TextHasOneCut, TextHasOneReading};
 
 /// What `parse_line` answers is the only answer that its contract allows.
 pub fn one_answer()
     ensures { LineHasOneAnswer }
 {
     rt_cidr::laws::one_answer();
+    rt_cidr::laws::written();
+    rt_cidr::laws::read_again();
 }
+
+/// A line says a command exactly where it is the command's text: its words joined by single spaces, numbers plain.
+pub fn command_text()
+    ensures read { CommandIsReadAgain }
+    ensures only { OnlyItsTextIsRead }
+{
+    one_answer();
+}
+
+/// A text that does not begin with the line `version 2` is read as one of version 1, whole.
+pub fn older_texts()
+    ensures { OlderTextsStay }
+{}
 
 /// What `next_line` answers is the only cut that its contract allows.
 pub fn one_cut()

@@ -1,14 +1,22 @@
 //! One line of a feed's text, and what is wrong with it.
-ghost use Rattle.std.specs.Prelude.{◌≡◌, ℕ, ◌≢◌, ◌∷◌, [], MatchOption};
-ghost use Rattle.rt_feed.specs.Grammar.{is_skipped, fields, fields_left, spelling, one_read, three_read, ReadsOneField, ReadsThreeFields, ReadsPrefixField, ReadsPreferenceField, ReadsAddressField, ReadsRoute, ReadsCommand, ReadsFields, AnswersLine};
+ghost use Rattle.std.specs.Prelude.{◌≡◌, ◌≢◌, ◌∷◌, ◌<◌, ◌^◌, [], length, codes, decimal, IsTrue, ◌↔◌, None, MatchOption, MatchResult};
+ghost use Rattle.rt_cidr.specs.Text.{address_text, prefix_text};
+ghost use Rattle.rt_feed.specs.CommandText.{HasHop};
+ghost use Rattle.rt_feed.specs.Printed.{hop_text};
+ghost use Rattle.rt_feed.specs.Grammar.{Kind, route_kinds, kinds_after, is_skipped, fields, IsFaultAmong, AnswersLine};
+ghost use Rattle.rt_feed.specs.Fields.{fields_left, name_text, IsRoute, IsFaulty, AnswersFields};
 
 use crate::lines::cut_at;
-use rt_cidr::{Addr, Prefix, TextFault, decimal_u32};
+use crate::versions::Version;
+use rt_cidr::{Addr, Prefix, TextFault, decimal_u32, laws};
 use rt_rib::{Cmd, Hop};
 use thiserror::Error;
 
 /// The most bytes that a line may have, without its LF.
 pub const LINE_BYTES: usize = 128;
+
+/// The next hop of a route that discards.
+const DISCARD: &[u8] = b"discard";
 
 /// Why a line is no command. Of several faults the first in this order is told: `LineLength`, `Command`,
 /// `FieldCount`, and then the first fault of the fields from the left.
@@ -40,21 +48,23 @@ pub enum LineFault {
     LineLength,
 }
 
-/// The first field of a command's line.
+/// The name that a command's line begins with.
 #[derive(Clone, Copy)]
-enum Keyword {
+enum Name {
     Add,
     Replace,
     Withdraw,
     Lookup,
     Dump,
+    Purge,
 }
 
-/// The command that the line is, without its LF; nothing where it is empty or a comment (its first byte is `#`); or the
-/// first of its faults. The line is cut at every space; `add` and `replace` take a prefix, a preference and a next
-/// hop, `withdraw` a prefix, `lookup` an address and `dump` nothing. Takes no memory.
-pub fn parse_line(line: &[u8]) -> Result<Option<Cmd>, LineFault>
-    ensures { AnswersLine line.now result }
+/// What the line says, without its LF, in a text of this version: a command, or nothing where it is empty or a comment
+/// (its first byte is `#`), or the first of its faults. The line is cut at every space; `add` and `replace` take a
+/// prefix, a preference and a next hop, `withdraw` a prefix, `lookup` an address, `dump` nothing. In version 2 there is
+/// `purge`, which takes nothing, and a next hop may be `discard`. Takes no memory.
+pub fn parse_line(line: &[u8], version: Version) -> Result<Option<Cmd>, LineFault>
+    ensures { AnswersLine version line.now result }
 {
     if line.len() > LINE_BYTES {
         return Err(LineFault::LineLength);
@@ -62,7 +72,7 @@ pub fn parse_line(line: &[u8]) -> Result<Option<Cmd>, LineFault>
     if is_skipped(line) {
         return Ok(None);
     }
-    let command = parse_fields(line)?;
+    let command = parse_fields(line, version)?;
     Ok(Some(command))
 }
 
@@ -77,13 +87,65 @@ fn is_skipped(line: &[u8]) -> bool
 }
 
 /// The command that the line's fields are.
-fn parse_fields(line: &[u8]) -> Result<Cmd, LineFault>
-    ensures { ReadsFields (fields line.now) result }
+fn parse_fields(line: &[u8], version: Version) -> Result<Cmd, LineFault>
+    ensures { AnswersFields version (fields line.now) result }
 {
-    let (first, rest) = cut_field(line);
-    match keyword_of(first) {
-        Some(keyword) => parse_command(keyword, rest),
+    let (name, rest) = cut_field(line);
+    match name_of(name) {
+        Some(name) => parse_command(name, rest, version),
         None => Err(LineFault::Command),
+    }
+}
+
+/// The name that the field is.
+fn name_of(field: &[u8]) -> Option<Name>
+    ensures { MatchOption result
+        ((version : Version) → kinds_after version field.now ≡ None)
+        (λ name. field.now ≡ name_text name) }
+{
+    match field {
+        b"add" => Some(Name::Add),
+        b"replace" => Some(Name::Replace),
+        b"withdraw" => Some(Name::Withdraw),
+        b"lookup" => Some(Name::Lookup),
+        b"dump" => Some(Name::Dump),
+        b"purge" => Some(Name::Purge),
+        _ => None,
+    }
+}
+
+/// The command of this name with the fields that follow it.
+fn parse_command(name: Name, rest: Option<&[u8]>, version: Version) -> Result<Cmd, LineFault>
+    ensures { AnswersFields version (name_text name ∷ fields_left rest.entry) result }
+{
+    match name {
+        Name::Add => {
+            let (prefix, pref, hop) = parse_route(rest, version)?;
+            Ok(Cmd::Add { prefix, pref, hop })
+        }
+        Name::Replace => {
+            let (prefix, pref, hop) = parse_route(rest, version)?;
+            Ok(Cmd::Replace { prefix, pref, hop })
+        }
+        Name::Withdraw => {
+            let prefix = parse_only_prefix(rest)?;
+            Ok(Cmd::Withdraw { prefix })
+        }
+        Name::Lookup => {
+            let addr = parse_only_address(rest)?;
+            Ok(Cmd::Lookup { addr })
+        }
+        Name::Dump => {
+            no_field(rest)?;
+            Ok(Cmd::Dump)
+        }
+        Name::Purge => match version {
+            Version::One => Err(LineFault::Command),
+            Version::Two => {
+                no_field(rest)?;
+                Ok(Cmd::Purge)
+            }
+        },
     }
 }
 
@@ -94,52 +156,23 @@ fn cut_field(text: &[u8]) -> (&[u8], Option<&[u8]>)
     cut_at(text, b' ')
 }
 
-/// The keyword that is spelled so.
-fn keyword_of(field: &[u8]) -> Option<Keyword>
-    ensures { MatchOption result ((keyword : Keyword) → field.now ≢ spelling keyword)
-        (λ keyword. field.now ≡ spelling keyword) }
+/// Makes sure that no field is left; any other number of fields is E2.
+fn no_field(rest: Option<&[u8]>) -> Result<(), LineFault>
+    ensures { MatchResult result
+        (λ none. fields_left rest.entry ≡ [])
+        (λ answer. IsFaultAmong [] (fields_left rest.entry) answer) }
 {
-    match field {
-        b"add" => Some(Keyword::Add),
-        b"replace" => Some(Keyword::Replace),
-        b"withdraw" => Some(Keyword::Withdraw),
-        b"lookup" => Some(Keyword::Lookup),
-        b"dump" => Some(Keyword::Dump),
-        _ => None,
-    }
-}
-
-/// The command of this keyword with the fields that follow it.
-fn parse_command(keyword: Keyword, rest: Option<&[u8]>) -> Result<Cmd, LineFault>
-    ensures { ReadsCommand keyword (fields_left rest.entry) result }
-{
-    match keyword {
-        Keyword::Add => {
-            let (prefix, pref, hop) = parse_route(rest)?;
-            Ok(Cmd::Add { prefix, pref, hop })
-        }
-        Keyword::Replace => {
-            let (prefix, pref, hop) = parse_route(rest)?;
-            Ok(Cmd::Replace { prefix, pref, hop })
-        }
-        Keyword::Withdraw => {
-            let prefix = parse_prefix(only_field(rest)?)?;
-            Ok(Cmd::Withdraw { prefix })
-        }
-        Keyword::Lookup => {
-            let addr = parse_address(only_field(rest)?, LineFault::Text)?;
-            Ok(Cmd::Lookup { addr })
-        }
-        Keyword::Dump => match rest {
-            None => Ok(Cmd::Dump),
-            Some(_) => Err(LineFault::FieldCount),
-        },
+    match rest {
+        None => Ok(()),
+        Some(_) => Err(LineFault::FieldCount),
     }
 }
 
 /// The one field that is left; any other number of fields is E2.
 fn only_field(rest: Option<&[u8]>) -> Result<&[u8], LineFault>
-    ensures { ReadsOneField (fields_left rest.entry) (one_read result) }
+    ensures { MatchResult result
+        (λ field. fields_left rest.entry ≡ field.now ∷ [])
+        (λ answer. (length (fields_left rest.entry) ≢ 1) × (answer ≡ LineFault.FieldCount)) }
 {
     let (field, rest) = cut_field(rest.ok_or(LineFault::FieldCount)?);
     match rest {
@@ -150,7 +183,9 @@ fn only_field(rest: Option<&[u8]>) -> Result<&[u8], LineFault>
 
 /// The three fields that are left; any other number of fields is E2.
 fn three_fields(rest: Option<&[u8]>) -> Result<(&[u8], &[u8], &[u8]), LineFault>
-    ensures { ReadsThreeFields (fields_left rest.entry) (three_read result) }
+    ensures { MatchResult result
+        (λ three. fields_left rest.entry ≡ three.0.now ∷ three.1.now ∷ three.2.now ∷ [])
+        (λ answer. (length (fields_left rest.entry) ≢ 3) × (answer ≡ LineFault.FieldCount)) }
 {
     let (first, rest) = cut_field(rest.ok_or(LineFault::FieldCount)?);
     let (second, rest) = cut_field(rest.ok_or(LineFault::FieldCount)?);
@@ -158,21 +193,46 @@ fn three_fields(rest: Option<&[u8]>) -> Result<(&[u8], &[u8], &[u8]), LineFault>
     Ok((first, second, third))
 }
 
+/// What a `withdraw` says: a prefix alone.
+fn parse_only_prefix(rest: Option<&[u8]>) -> Result<Prefix, LineFault>
+    ensures { MatchResult result
+        (λ prefix. fields_left rest.entry ≡ prefix_text prefix.base prefix.len ∷ [])
+        (λ answer. IsFaultAmong (Kind.prefix ∷ []) (fields_left rest.entry) answer) }
+{
+    parse_prefix(only_field(rest)?)
+}
+
+/// What a `lookup` says: an address alone.
+fn parse_only_address(rest: Option<&[u8]>) -> Result<Addr, LineFault>
+    ensures { MatchResult result
+        (λ address. (address.0 < 2 ^ 32) × (fields_left rest.entry ≡ address_text address.0 ∷ []))
+        (λ answer. IsFaultAmong (Kind.address ∷ []) (fields_left rest.entry) answer) }
+{
+    parse_address(only_field(rest)?)
+}
+
 /// What an `add` or a `replace` says: a prefix, a preference and a next hop.
-fn parse_route(rest: Option<&[u8]>) -> Result<(Prefix, u32, Hop), LineFault>
-    ensures { ReadsRoute (fields_left rest.entry) result }
+fn parse_route(rest: Option<&[u8]>, version: Version) -> Result<(Prefix, u32, Hop), LineFault>
+    ensures { MatchResult result
+        (λ route. IsRoute version (fields_left rest.entry) route.0 route.1 route.2)
+        (λ answer. IsFaultAmong (route_kinds version) (fields_left rest.entry) answer) }
 {
     let (prefix, pref, hop) = three_fields(rest)?;
     let prefix = parse_prefix(prefix)?;
     let pref = parse_preference(pref)?;
-    let hop = parse_address(hop, LineFault::Hop)?;
-    Ok((prefix, pref, Hop::Via(hop)))
+    let hop = parse_hop(hop, version)?;
+    Ok((prefix, pref, hop))
 }
 
 /// The prefix that the field is.
 fn parse_prefix(field: &[u8]) -> Result<Prefix, LineFault>
-    ensures { ReadsPrefixField field.now result }
+    ensures { MatchResult result
+        (λ prefix. field.now ≡ prefix_text prefix.base prefix.len)
+        (λ answer. IsFaulty Kind.prefix field.now answer) }
 {
+    laws::one_text();
+    laws::written();
+    laws::read_again();
     match Prefix::parse(field) {
         Ok(prefix) => Ok(prefix),
         Err(TextFault::Text) => Err(LineFault::Text),
@@ -183,19 +243,57 @@ fn parse_prefix(field: &[u8]) -> Result<Prefix, LineFault>
 
 /// The preference number that the field is.
 fn parse_preference(field: &[u8]) -> Result<u32, LineFault>
-    ensures { ReadsPreferenceField field.now result }
+    ensures { MatchResult result
+        (λ pref. (pref < 2 ^ 32) × (field.now ≡ decimal pref))
+        (λ answer. IsFaulty Kind.preference field.now answer) }
 {
+    laws::one_text();
+    laws::written();
     match decimal_u32(field) {
         Some(pref) => Ok(pref),
         None => Err(LineFault::Preference),
     }
 }
 
-/// The address that the field is; the fault is for one that is none.
-fn parse_address(field: &[u8], fault: LineFault) -> Result<Addr, LineFault>
-    ensures { ReadsAddressField fault field.now result }
+/// The next hop that the field is: an address, or `discard` in version 2.
+fn parse_hop(field: &[u8], version: Version) -> Result<Hop, LineFault>
+    ensures { MatchResult result
+        (λ hop. HasHop version hop × (field.now ≡ hop_text hop))
+        (λ answer. IsFaulty (Kind.hop version) field.now answer) }
 {
-    Addr::parse(field).map_err(|_| fault)
+    laws::one_text();
+    laws::written();
+    match Addr::parse(field) {
+        Ok(address) => Ok(Hop::Via(address)),
+        Err(_) => {
+            if is_discard(field, version) {
+                Ok(Hop::Discard)
+            } else {
+                Err(LineFault::Hop)
+            }
+        }
+    }
+}
+
+/// Whether the field is the next hop that discards, which version 2 has.
+fn is_discard(field: &[u8], version: Version) -> bool
+    ensures { IsTrue result ↔ ((version ≡ Version.Two) × (field.now ≡ codes "discard")) }
+{
+    match version {
+        Version::One => false,
+        Version::Two => field == DISCARD,
+    }
+}
+
+/// The address that the field is.
+fn parse_address(field: &[u8]) -> Result<Addr, LineFault>
+    ensures { MatchResult result
+        (λ address. (address.0 < 2 ^ 32) × (field.now ≡ address_text address.0))
+        (λ answer. IsFaulty Kind.address field.now answer) }
+{
+    laws::one_text();
+    laws::written();
+    Addr::parse(field).map_err(|_| LineFault::Text)
 }
 
 #[cfg(test)]

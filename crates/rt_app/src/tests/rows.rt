@@ -27,7 +27,7 @@ pub fn one_text(alloc: Global, text: &[u8]) -> Result<Vec<Vec<u8>>, Fail>
 
 #[test]
 fn worked_runs(rt: HostRuntime) -> Result<(), Fail> {
-    for row in ROWS.iter() {
+    for row in ROWS.iter().chain(VERSION_ROWS.iter()) {
         assert!(rt; limit_ok(row.limit));
         let texts = one_text(rt.alloc(), row.text.as_bytes())?;
         let mut out = Vec::new(rt.alloc());
@@ -233,6 +233,159 @@ lookup 10.255.255.255
 1:3 route 10.0.0.0/8 feed 1 pref 9 via 192.0.2.2
 table 1
 10.0.0.0/8 feed 1 pref 9 via 192.0.2.2
+",
+        status: 0,
+    },
+];
+
+/// Runs of version 2, and of texts that come near its first line.
+static VERSION_ROWS: [Row; 11] = [
+    Row {
+        text: "version 2
+add 10.0.0.0/8 5 discard
+add 10.1.0.0/16 5 192.0.2.1
+lookup 10.1.0.1
+lookup 10.2.0.1
+replace 10.0.0.0/8 5 192.0.2.9
+lookup 10.2.0.1
+",
+        limit: EVERY_ROUTE,
+        output: "1:2 added
+1:3 added
+1:4 route 10.1.0.0/16 feed 1 pref 5 via 192.0.2.1
+1:5 route 10.0.0.0/8 feed 1 pref 5 via discard
+1:6 replaced
+1:7 route 10.0.0.0/8 feed 1 pref 5 via 192.0.2.9
+table 2
+10.0.0.0/8 feed 1 pref 5 via 192.0.2.9
+10.1.0.0/16 feed 1 pref 5 via 192.0.2.1
+",
+        status: 0,
+    },
+    Row {
+        text: "# x
+version 2
+add 10.0.0.0/8 5 discard
+",
+        limit: EVERY_ROUTE,
+        output: "1:2 fault E1
+1:3 fault E7
+table 0
+",
+        status: 2,
+    },
+    Row {
+        text: "version 2",
+        limit: EVERY_ROUTE,
+        output: "table 0
+",
+        status: 0,
+    },
+    Row {
+        text: "version 2
+add 10.0.0.0/8 1 192.0.2.1
+add 10.1.0.0/16 1 192.0.2.1
+add 10.2.0.0/16 1 192.0.2.1
+purge
+purge
+dump
+",
+        limit: EVERY_ROUTE,
+        output: "1:2 added
+1:3 added
+1:4 added
+1:5 purged 3
+1:6 purged 0
+1:7 dumped 0
+table 0
+",
+        status: 0,
+    },
+    Row {
+        text: "version 2
+add 10.0.0.0/8 1 192.0.2.1
+add 11.0.0.0/8 1 192.0.2.1
+purge
+add 11.0.0.0/8 1 192.0.2.1
+",
+        limit: 1,
+        output: "1:2 added
+1:3 full
+1:4 purged 1
+1:5 added
+table 1
+11.0.0.0/8 feed 1 pref 1 via 192.0.2.1
+",
+        status: 0,
+    },
+    Row {
+        text: "version 2\r
+purge
+",
+        limit: EVERY_ROUTE,
+        output: "1:1 fault E1
+1:2 fault E1
+table 0
+",
+        status: 2,
+    },
+    Row {
+        text: "version 2 
+purge
+",
+        limit: EVERY_ROUTE,
+        output: "1:1 fault E1
+1:2 fault E1
+table 0
+",
+        status: 2,
+    },
+    Row {
+        text: "dump
+version 2
+purge
+",
+        limit: EVERY_ROUTE,
+        output: "1:1 dumped 0
+1:2 fault E1
+1:3 fault E1
+table 0
+",
+        status: 2,
+    },
+    Row {
+        text: "
+version 2
+purge
+",
+        limit: EVERY_ROUTE,
+        output: "1:2 fault E1
+1:3 fault E1
+table 0
+",
+        status: 2,
+    },
+    Row {
+        text: "version 2
+version 2
+purge
+",
+        limit: EVERY_ROUTE,
+        output: "1:2 fault E1
+1:3 purged 0
+table 0
+",
+        status: 2,
+    },
+    Row {
+        text: "version 2
+
+# note
+add 10.0.0.0/8 5 discard",
+        limit: EVERY_ROUTE,
+        output: "1:4 added
+table 1
+10.0.0.0/8 feed 1 pref 5 via discard
 ",
         status: 0,
     },

@@ -2,6 +2,8 @@ use super::*;
 use crate::lines::next_line;
 use std::test::Fail;
 
+const VERSIONS: [Version; 2] = [Version::One, Version::Two];
+
 #[test]
 fn tells_the_first_fault(rt: HostRuntime) {
     let faulty: [(&[u8], LineFault); 27] = [
@@ -37,7 +39,9 @@ fn tells_the_first_fault(rt: HostRuntime) {
         (&[b'#'; 129], LineFault::LineLength),
     ];
     for (line, fault) in faulty {
-        assert_eq!(rt; parse_line(line), Err(fault), "at {line:?}");
+        for version in VERSIONS {
+            assert_eq!(rt; parse_line(line, version), Err(fault), "at {line:?}");
+        }
     }
 }
 
@@ -45,7 +49,9 @@ fn tells_the_first_fault(rt: HostRuntime) {
 fn skips_empty_lines_and_comments(rt: HostRuntime) {
     let skipped: [&[u8]; 4] = [b"", b"#", b"# note", &[b'#'; 128]];
     for line in skipped {
-        assert_eq!(rt; parse_line(line), Ok(None), "at {line:?}");
+        for version in VERSIONS {
+            assert_eq!(rt; parse_line(line, version), Ok(None), "at {line:?}");
+        }
     }
 }
 
@@ -77,7 +83,9 @@ fn reads_each_command(rt: HostRuntime) -> Result<(), Fail> {
         (b"dump", Cmd::Dump),
     ];
     for (line, cmd) in commands {
-        assert_eq!(rt; parse_line(line), Ok(Some(cmd)), "at {line:?}");
+        for version in VERSIONS {
+            assert_eq!(rt; parse_line(line, version), Ok(Some(cmd)), "at {line:?}");
+        }
     }
     Ok(())
 }
@@ -92,7 +100,63 @@ fn one_byte_is_no_command(rt: HostRuntime) -> Result<(), Fail> {
             _ => Err(LineFault::Command),
         };
         assert!(rt; left.is_empty());
-        assert_eq!(rt; parse_line(line), answer, "at {byte}");
+        for version in VERSIONS {
+            assert_eq!(rt; parse_line(line, version), answer, "at {byte}");
+        }
     }
     Ok(())
+}
+
+#[test]
+fn discard_and_purge_came_with_version_two(rt: HostRuntime) -> Result<(), Fail> {
+    let prefix = Prefix::new(167772160, 8)?;
+    let (pref, hop) = (5, Hop::Discard);
+    let lines: [(&[u8], LineFault, Cmd); 3] = [
+        (b"purge", LineFault::Command, Cmd::Purge),
+        (
+            b"add 10.0.0.0/8 5 discard",
+            LineFault::Hop,
+            Cmd::Add { prefix, pref, hop },
+        ),
+        (
+            b"replace 10.0.0.0/8 5 discard",
+            LineFault::Hop,
+            Cmd::Replace { prefix, pref, hop },
+        ),
+    ];
+    for (line, fault, cmd) in lines {
+        assert_eq!(rt; parse_line(line, Version::One), Err(fault), "at {line:?}");
+        assert_eq!(rt;
+            parse_line(line, Version::Two),
+            Ok(Some(cmd)),
+            "at {line:?}"
+        );
+    }
+    Ok(())
+}
+
+#[test]
+fn no_version_has_more(rt: HostRuntime) {
+    let faulty: [(&[u8], LineFault, LineFault); 8] = [
+        (
+            b"purge 10.0.0.0/8",
+            LineFault::Command,
+            LineFault::FieldCount,
+        ),
+        (b"purge ", LineFault::Command, LineFault::FieldCount),
+        (b"version 2", LineFault::Command, LineFault::Command),
+        (b"lookup discard", LineFault::Text, LineFault::Text),
+        (b"withdraw discard", LineFault::Text, LineFault::Text),
+        (b"add 10.0.0.0/8 5 Discard", LineFault::Hop, LineFault::Hop),
+        (b"add 10.0.0.0/8 5 discards", LineFault::Hop, LineFault::Hop),
+        (
+            b"add 10.0.0.0/8 x discard",
+            LineFault::Preference,
+            LineFault::Preference,
+        ),
+    ];
+    for (line, one, two) in faulty {
+        assert_eq!(rt; parse_line(line, Version::One), Err(one), "at {line:?}");
+        assert_eq!(rt; parse_line(line, Version::Two), Err(two), "at {line:?}");
+    }
 }

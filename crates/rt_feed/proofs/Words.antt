@@ -1,0 +1,167 @@
+-- The words of a command and the fields of its line.
+use Rattle.std.proofs.Common.{◌≡◌, ◌≢◌, ℕ, ◌+◌, ◌^◌, ◌<◌, ◌≤◌, ◌/◌, ◌%◌, List, [], ◌∷◌, ◌++◌, All, true, false, not, eqb, decimal, codes, length, length-append, sym, ap, ◌∙◌, slice_index_or, append_assoc, refl, arith}
+use Rattle.std.specs.List.{join_with_byte, list_all}
+use Rattle.std.proofs.lemmas.List.Splits.{join_with_byte-slice_split, slice_split_at, slice_split_none}
+use Rattle.std.proofs.lemmas.List.Elements.{All-nil, All-cons, All-append}
+use Rattle.std.proofs.lemmas.Bool.{and_parts, not-true, eqb-false}
+use Rattle.std.proofs.lemmas.Fmt.{length-decimal-le, decimal_by_steps}
+use Rattle.rt_cidr.specs.declared.prefixes.Prefix.{Prefix}
+use Rattle.rt_cidr.specs.Text.{address_text, prefix_text}
+use Rattle.rt_rib.specs.declared.routes.Hop.{Hop}
+use Rattle.rt_rib.specs.declared.routes.Hop.TheVariants.{Via, Discard}
+use Rattle.rt_rib.specs.declared.commands.Cmd.{Cmd}
+use Rattle.rt_rib.specs.declared.commands.Cmd.TheVariants.{Add, Replace, Withdraw, Lookup, Dump, Purge}
+use Rattle.rt_feed.specs.declared.versions.Version.{Version}
+use Rattle.rt_feed.specs.CommandText.{space, words, route_words, command_text, HasHop, HasCommand}
+use Rattle.rt_feed.specs.Printed.{hop_text}
+use Rattle.rt_feed.specs.Grammar.{fields, is_skipped}
+use Rattle.rt_feed.proofs.Cutting.{is_unspaced}
+
+-- a line whose fields are a command's words is the command's text
+pub line-from_words : (line : List ℕ) (cmd : Cmd) → fields line ≡ words cmd → line ≡ command_text cmd
+line-from_words line cmd is = sym (join_with_byte-slice_split space line) ∙ ap (join_with_byte space) is
+
+-- no byte is a space
+abbrev NoSpace : List ℕ → Type 0
+NoSpace text = All (λ byte. byte ≢ space) text
+
+-- no byte of these words is
+abbrev NoSpaces : List (List ℕ) → Type 0
+NoSpaces [] = Unit {0}
+NoSpaces (word ∷ words) = NoSpace word × NoSpaces words
+
+-- such words, joined by spaces, are the fields of what they make
+fields-joined : (word : List ℕ) (more : List (List ℕ)) → NoSpaces (word ∷ more) → fields (join_with_byte space (word ∷ more)) ≡ word ∷ more
+fields-joined word [] none = slice_split_none _ word (is_unspaced word none.0)
+fields-joined word (next ∷ more) none =
+    slice_split_at _ word space (join_with_byte space (next ∷ more)) (is_unspaced word none.0) refl
+    ∙ ap (λ rest. word ∷ rest) (fields-joined next more none.1)
+
+no_space-decimal : (n : ℕ) → n < 2 ^ 64 → NoSpace (decimal n)
+no_space-decimal =
+    let P : ℕ → Type 0 = λ byte. byte ≢ space in
+    decimal_by_steps (λ n digits. NoSpace digits)
+    (λ n one. All-cons P (48 + n) [] (omega arith) (All-nil P))
+    (λ n digits more none. All-append P digits ((48 + n % 10) ∷ []) none (All-cons P (48 + n % 10) [] (omega arith) (All-nil P)))
+
+no_space-address : (address : ℕ) → address < 2 ^ 32 → NoSpace (address_text address)
+unfolding address_text
+no_space-address address small =
+    let P : ℕ → Type 0 = λ byte. byte ≢ space in
+    let dotted : (octet : ℕ) (rest : List ℕ) → octet < 2 ^ 64 → NoSpace rest → NoSpace (decimal octet ++ 46 ∷ rest) =
+    λ octet rest fits more. All-append P (decimal octet) (46 ∷ rest) (no_space-decimal octet fits) (All-cons P 46 rest (omega arith) more) in
+    dotted (address / 2 ^ 24) _ (omega arith) (dotted (address / 2 ^ 16 % 256) _ (omega arith) (dotted (address / 2 ^ 8 % 256) _ (omega arith)
+    (no_space-decimal (address % 256) (omega arith))))
+
+no_space-prefix : (p : Prefix) → NoSpace (prefix_text p.base p.len)
+unfolding prefix_text
+no_space-prefix p =
+    let P : ℕ → Type 0 = λ byte. byte ≢ space in
+    All-append P (address_text p.base) (47 ∷ decimal p.len) (no_space-address p.base p.is_prefix.fits)
+    (All-cons P 47 (decimal p.len) (omega arith) (no_space-decimal p.len (omega (arith, p.is_prefix.short))))
+
+-- a word that is spelled out has none
+no_space-literal : (word : List ℕ) → list_all (λ byte. not (eqb byte space)) word ≡ true → NoSpace word
+no_space-literal [] is = All-nil (λ byte. byte ≢ space)
+no_space-literal (byte ∷ word) is =
+    let parts = and_parts (not (eqb byte space)) (list_all (λ byte. not (eqb byte space)) word) is in
+    All-cons (λ byte. byte ≢ space) byte word (eqb-false byte space (not-true (eqb byte space) parts.0)) (no_space-literal word parts.1)
+
+no_space-hop : (version : Version) (next : Hop) → HasHop version next → NoSpace (hop_text next)
+no_space-hop version (Via address) fits = no_space-address address.0 fits
+no_space-hop version Discard is = no_space-literal (codes "discard") refl
+
+no_space-route : (version : Version) (p : Prefix) (pref : ℕ) (next : Hop) → pref < 2 ^ 32 → HasHop version next → NoSpaces (route_words p pref next)
+no_space-route version p pref next fits has = (no_space-prefix p, (no_space-decimal pref (omega arith), (no_space-hop version next has, tt)))
+
+no_space-words : (version : Version) (cmd : Cmd) → HasCommand version cmd → NoSpaces (words cmd)
+no_space-words version (Add p pref hop) fits = (no_space-literal (codes "add") refl, no_space-route version p pref hop fits.0 fits.1)
+no_space-words version (Replace p pref hop) fits = (no_space-literal (codes "replace") refl, no_space-route version p pref hop fits.0 fits.1)
+no_space-words version (Withdraw p) fits = (no_space-literal (codes "withdraw") refl, (no_space-prefix p, tt))
+no_space-words version (Lookup addr) fits = (no_space-literal (codes "lookup") refl, (no_space-address addr.0 fits, tt))
+no_space-words version Dump fits = (no_space-literal (codes "dump") refl, tt)
+no_space-words version Purge fits = (no_space-literal (codes "purge") refl, tt)
+
+-- the fields of a command's text are its words
+pub fields-command_text : (version : Version) (cmd : Cmd) → HasCommand version cmd → fields (command_text cmd) ≡ words cmd
+fields-command_text version (Add p pref hop) fits = fields-joined (codes "add") (route_words p pref hop) (no_space-words version (Add p pref hop) fits)
+fields-command_text version (Replace p pref hop) fits = fields-joined (codes "replace") (route_words p pref hop) (no_space-words version (Replace p pref hop) fits)
+fields-command_text version (Withdraw p) fits = fields-joined (codes "withdraw") (prefix_text p.base p.len ∷ []) (no_space-words version (Withdraw p) fits)
+fields-command_text version (Lookup addr) fits = fields-joined (codes "lookup") (address_text addr.0 ∷ []) (no_space-words version (Lookup addr) fits)
+fields-command_text version Dump fits = fields-joined (codes "dump") [] (no_space-words version Dump fits)
+fields-command_text version Purge fits = fields-joined (codes "purge") [] (no_space-words version Purge fits)
+
+length-octet : (octet : ℕ) (rest : List ℕ) → octet < 1000 → length (decimal octet ++ 46 ∷ rest) ≤ 4 + length rest
+length-octet octet rest small =
+    omega (arith, length-append (decimal octet) (46 ∷ rest), length-decimal-le 3 octet (omega arith) (omega arith) (omega arith))
+
+length-address_text : (address : ℕ) → address < 2 ^ 32 → length (address_text address) ≤ 15
+unfolding address_text
+length-address_text address small =
+    let last = decimal (address % 256) in
+    let third = decimal (address / 2 ^ 8 % 256) ++ 46 ∷ last in
+    let second = decimal (address / 2 ^ 16 % 256) ++ 46 ∷ third in
+    omega (
+      arith,
+      length-octet (address / 2 ^ 24) second (omega arith),
+      length-octet (address / 2 ^ 16 % 256) third (omega arith),
+      length-octet (address / 2 ^ 8 % 256) last (omega arith),
+      length-decimal-le 3 (address % 256) (omega arith) (omega arith) (omega arith),
+    )
+
+length-prefix_text : (p : Prefix) → length (prefix_text p.base p.len) ≤ 18
+unfolding prefix_text
+length-prefix_text p =
+    omega (
+      arith,
+      length-append (address_text p.base) (47 ∷ decimal p.len),
+      length-address_text p.base p.is_prefix.fits,
+      length-decimal-le 2 p.len (omega arith) (omega (arith, p.is_prefix.short)) (omega (arith, p.is_prefix.short)),
+    )
+
+length-hop_text : (version : Version) (next : Hop) → HasHop version next → length (hop_text next) ≤ 15
+length-hop_text version (Via address) fits = length-address_text address.0 fits
+length-hop_text version Discard is = omega arith
+
+length-route : (version : Version) (p : Prefix) (pref : ℕ) (next : Hop) → pref < 2 ^ 32 → HasHop version next → length (join_with_byte space (route_words p pref next)) ≤ 45
+length-route version p pref next fits has =
+    omega (
+      arith,
+      length-append (prefix_text p.base p.len) (space ∷ (decimal pref ++ space ∷ hop_text next)),
+      length-append (decimal pref) (space ∷ hop_text next),
+      length-prefix_text p,
+      length-decimal-le 10 pref (omega arith) (omega arith) (omega arith),
+      length-hop_text version next has,
+    )
+
+-- a command's text is no longer than a line may be
+pub length-command_text : (version : Version) (cmd : Cmd) → HasCommand version cmd → length (command_text cmd) ≤ 128
+length-command_text version (Add p pref hop) fits = omega (arith, length-route version p pref hop fits.0 fits.1)
+length-command_text version (Replace p pref hop) fits = omega (arith, length-route version p pref hop fits.0 fits.1)
+length-command_text version (Withdraw p) fits = omega (arith, length-prefix_text p)
+length-command_text version (Lookup addr) fits = omega (arith, length-address_text addr.0 fits)
+length-command_text version Dump fits = omega arith
+length-command_text version Purge fits = omega arith
+
+-- a command's text is not skipped
+pub not_skipped-command_text : (cmd : Cmd) → is_skipped (command_text cmd) ≡ false
+not_skipped-command_text (Add p pref hop) = refl
+not_skipped-command_text (Replace p pref hop) = refl
+not_skipped-command_text (Withdraw p) = refl
+not_skipped-command_text (Lookup addr) = refl
+not_skipped-command_text Dump = refl
+not_skipped-command_text Purge = refl
+
+-- a decimal begins with a digit
+first_digit : (n : ℕ) → n < 2 ^ 64 → (rest : List ℕ) → slice_index_or (decimal n ++ rest) 0 0 < 58
+first_digit =
+    decimal_by_steps (λ n digits. (rest : List ℕ) → slice_index_or (digits ++ rest) 0 0 < 58)
+    (λ n one rest. omega arith)
+    (λ n digits more first rest. rw append_assoc (first ((48 + n % 10) ∷ rest)))
+
+-- so no address is spelled `discard`
+pub address-ne-discard : (address : ℕ) → address < 2 ^ 32 → address_text address ≢ codes "discard"
+unfolding address_text
+address-ne-discard address small is =
+    let more = 46 ∷ (decimal (address / 2 ^ 16 % 256) ++ 46 ∷ (decimal (address / 2 ^ 8 % 256) ++ 46 ∷ decimal (address % 256))) in
+    let digit = first_digit (address / 2 ^ 24) (omega arith) more in omega (arith, digit, ap (λ text. slice_index_or text 0 0) is)

@@ -1,0 +1,43 @@
+-- How the parser goes from field to field, and what it has read of them.
+use Rattle.std.specs.Prelude.{◌≡◌, ℕ, ◌^◌, ◌<◌, List, [], codes, Option, None, Some, Ok, Err}
+use Rattle.std.specs.declared.result.Result.{Result}
+use Rattle.std.specs.Borrow.{Bor}
+use Rattle.rt_cidr.specs.declared.prefixes.Prefix.{Prefix}
+use Rattle.rt_rib.specs.declared.routes.Hop.{Hop}
+use Rattle.rt_rib.specs.declared.commands.Cmd.{Cmd}
+use Rattle.rt_feed.specs.declared.parse.LineFault.{LineFault}
+use Rattle.rt_feed.specs.declared.versions.Version.{Version}
+use Rattle.rt_feed.specs.declared.parse.Name.{Name}
+use Rattle.rt_feed.specs.declared.parse.Name.TheVariants as name
+use Rattle.rt_feed.specs.CommandText.{words, route_words, HasHop, HasCommand}
+use Rattle.rt_feed.specs.Grammar.{Kind, fields, IsOfKind, IsFaultOf, IsFaultOfFields}
+
+-- the fields of what follows a space, if there is one
+abbrev pub fields_left : Option (Bor (List ℕ)) → List (List ℕ)
+fields_left None = []
+fields_left (Some text) = fields text.now
+
+-- how a command's name is spelled
+abbrev pub name_text : Name → List ℕ
+name_text name.Add = codes "add"
+name_text name.Replace = codes "replace"
+name_text name.Withdraw = codes "withdraw"
+name_text name.Lookup = codes "lookup"
+name_text name.Dump = codes "dump"
+name_text name.Purge = codes "purge"
+
+-- the fields are a prefix, a preference and a next hop that this version has
+pub record IsRoute (version : Version) (rest : List (List ℕ)) (prefix : Prefix) (pref : ℕ) (hop : Hop) : Type 0 where
+  pub spelled : rest ≡ route_words prefix pref hop
+  pub fits : pref < 2 ^ 32
+  pub has : HasHop version hop
+
+-- the field is not what it is to be, and this is its fault
+pub record IsFaulty (kind : Kind) (field : List ℕ) (answer : LineFault) : Type 0 where
+  pub none : ¬ IsOfKind kind field
+  pub told : IsFaultOf kind field answer
+
+-- the fields are the command's words, or have this first fault
+abbrev pub AnswersFields : Version → List (List ℕ) → Result Cmd LineFault → Type 0
+AnswersFields version line (Ok cmd) = HasCommand version cmd × (line ≡ words cmd)
+AnswersFields version line (Err answer) = IsFaultOfFields version line answer

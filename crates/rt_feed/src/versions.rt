@@ -1,0 +1,87 @@
+//! The version of a feed's text, which its first line tells.
+ghost use Rattle.std.specs.Prelude.{◌≡◌, ◌+◌, length};
+ghost use Rattle.rt_feed.specs.Versions.{IsBody, IsVersion};
+ghost use Rattle.rt_feed.specs.Told.{heading};
+
+use crate::lines::next_line;
+
+/// The first line of a text of version 2.
+const VERSION_TWO: &[u8] = b"version 2";
+
+/// By which grammar the lines of a text are read.
+#[derive(Clone, Copy, PartialEq, Eq, Debug)]
+pub enum Version {
+    /// The first line of the text is not `version 2`: all lines are read.
+    One,
+    /// The first line of the text is `version 2`: it is skipped, and the lines after it are read.
+    Two,
+}
+
+impl Version {
+    /// The number of the first line that is read: 1, or 2 after the line that tells the version.
+    pub fn first_line(&self) -> usize
+        ensures { result ≡ 1 + length (heading self.now) }
+    {
+        match self {
+            Version::One => 1,
+            Version::Two => 2,
+        }
+    }
+}
+
+/// The text's version: 2 where its first line is exactly `version 2`, else 1. Takes no memory.
+pub fn text_version(text: &[u8]) -> Version
+    ensures { IsVersion text.now result }
+{
+    text_body(text).0
+}
+
+/// The text's version, and the lines that are read by it: in version 2 those after the first. Takes no memory.
+pub fn text_body(text: &[u8]) -> (Version, &[u8])
+    ensures { IsBody text.now result.0 result.1.now }
+{
+    if let Some((line, lines)) = next_line(text) {
+        if line == VERSION_TWO {
+            return (Version::Two, lines);
+        }
+    }
+    (Version::One, text)
+}
+
+#[cfg(test)]
+mod tests {
+    use super::*;
+
+    #[test]
+    fn the_first_line_tells_version_two(rt: HostRuntime) {
+        let texts: [(&[u8], &[u8]); 3] = [
+            (b"version 2", b""),
+            (b"version 2\n", b""),
+            (b"version 2\nversion 2\n", b"version 2\n"),
+        ];
+        for (text, lines) in texts {
+            assert_eq!(rt; text_version(text), Version::Two, "at {text:?}");
+            assert_eq!(rt; text_body(text), (Version::Two, lines), "at {text:?}");
+        }
+    }
+
+    #[test]
+    fn every_other_text_is_of_version_one(rt: HostRuntime) {
+        let texts: [&[u8]; 10] = [
+            b"",
+            b"\n",
+            b"\nversion 2\n",
+            b"# x\nversion 2\n",
+            b"version 2\r\n",
+            b"version 2 \n",
+            b" version 2\n",
+            b"version  2\n",
+            b"version 1\n",
+            b"Version 2\n",
+        ];
+        for text in texts {
+            assert_eq!(rt; text_version(text), Version::One, "at {text:?}");
+            assert_eq!(rt; text_body(text), (Version::One, text), "at {text:?}");
+        }
+    }
+}
