@@ -2,6 +2,7 @@ pub mod BlockLemmas
 pub mod CountLemmas
 pub mod DescentLemmas
 pub mod InsertLemmas
+pub mod LaneLemmas
 pub mod LinkLemmas
 pub mod LongestLemmas
 pub mod MapLaws

@@ -2,9 +2,10 @@
 use Rattle.std.proofs.Common.{◌≡◌, ℕ, ◌⊎◌, ◌+◌, ◌<◌, ◌≤◌, [], ◌++◌, Option, Some, None, true, false, inl, inr, refl, sym, subst, ap, ◌∙◌, arith}
 use Rattle.rt_cidr.specs.declared.prefixes.Prefix.{Prefix}
 use Rattle.std.specs.Prelude.{Box, IfNone, IfSome, OnOk, Result, Ok, Err, is_some}
-use Rattle.std.proofs.lemmas.Bool.{false≢true}
+use Rattle.std.proofs.lemmas.Bool.{cases_lt, false≢true}
 use Rattle.rt_cidr.specs.declared.address.Addr.{Addr}
 use Rattle.rt_cidr.specs.Prefix.{covers}
+use Rattle.rt_trie.specs.LookUps.{or_else, last_cover}
 use Rattle.rt_trie.specs.declared.nodes.Link.{Link, Empty, Leaf, Fork', Full'}
 use Rattle.rt_trie.specs.declared.nodes.Link.TheVariants.{Fork, Full}
 use Rattle.rt_trie.specs.declared.nodes.LeafNode.{LeafNode}
@@ -18,7 +19,7 @@ use Rattle.rt_trie.specs.Links.{own_pair, pairs, count, root, AreHalves, IsFille
 use Rattle.rt_trie.proofs.OrderLemmas.{same_rank, same_tells, rank_of_before, rank_of_not_before}
 use Rattle.rt_trie.proofs.BlockLemmas.{size_pos}
 use Rattle.rt_trie.proofs.NodeLemmas.{AreSides, get-lower, get-upper, get-here, get-past, IsOrdered-node, cover-lower, cover-upper, cover-none, after-lower, after-upper, after-all, after-past}
-use Rattle.rt_trie.proofs.PairLemmas.{AllKeys, AllKeys-append, AllKeys-map, or_else, or_assoc, first-append, last_cover}
+use Rattle.rt_trie.proofs.PairLemmas.{AllKeys, AllKeys-append, AllKeys-map, or_assoc, first-append, last_cover-none, last_cover-append}
 use Rattle.rt_trie.proofs.LongestLemmas.{longest_is}
 
 -- the pairs lie within a block
@@ -159,26 +160,46 @@ module _ {V A : Type 0} where
   node_cover-none link q v left right n a h =
       ap (λ m. last_cover m a) n.pairs_are ∙ cover-none q v (pairs left) (pairs right) (sides_of link q v left right n) a h
 
-  -- one step down keeps the answer: it is below the new link, or else the node's own pair, or else the best before
+  -- a prefix that covers one address has nothing below it
+  none_below : (link : Link V A) (q : Prefix) (v : Option V) (left right : Link V A) (n : IsNode link q v left right) (a : Addr)
+      → q.len ≡ 32 → last_cover (pairs link) a ≡ or_else (last_cover (pairs left) a) (last_cover (own_pair q v) a)
+  none_below link q v left right n a h =
+      let s = sides_of link q v left right n in
+      let l : last_cover (pairs left) a ≡ None = last_cover-none (pairs left) a
+      (AllKeys-map (IsWithin q.base (middle q) (q.len + 1)) (λ x. covers x a ≡ false) (pairs left)
+      (λ x w. let t = x.is_prefix.short in absurd (omega (arith, w.long))) s.lower) in
+      let r : last_cover (pairs right) a ≡ None = last_cover-none (pairs right) a
+      (AllKeys-map (IsWithin (middle q) (past q) (q.len + 1)) (λ x. covers x a ≡ false) (pairs right)
+      (λ x w. let t = x.is_prefix.short in absurd (omega (arith, w.long))) s.upper) in
+      ap (λ m. last_cover m a) n.pairs_are ∙ last_cover-append (own_pair q v) (pairs left ++ pairs right) a
+      ∙ ap (λ o. or_else o (last_cover (own_pair q v) a)) (last_cover-append (pairs left) (pairs right) a ∙ cc (l, r))
+
+  -- a look-up goes on in the half where the address lies, with the node's own pair to fall back on
   pub step_lower : (link : Link V A) (q : Prefix) (v : Option V) (left right : Link V A) (n : IsNode link q v left right) (a : Addr)
-      (o best : Option (Prefix × V)) → o ≡ or_else (last_cover (pairs link) a) best → a.0 < middle q
-      → o ≡ or_else (last_cover (pairs left) a) (or_else (last_cover (own_pair q v) a) best)
-  step_lower link q v left right n a o best e h =
-      e ∙ ap (λ x. or_else x best) (node_cover-lower link q v left right n a h)
-      ∙ or_assoc (last_cover (pairs left) a) (last_cover (own_pair q v) a) best
+      (best found : Option (Prefix × V)) → (q.len < 32 → (middle q ≤ a.0 → ⊥)) → or_else (last_cover (own_pair q v) a) best ≡ found
+      → or_else (last_cover (pairs left) a) found ≡ or_else (last_cover (pairs link) a) best
+  step_lower link q v left right n a best found h e =
+      let s = q.is_prefix.short in
+      let here : last_cover (pairs link) a ≡ or_else (last_cover (pairs left) a) (last_cover (own_pair q v) a) =
+      elim (cases_lt q.len 32) [
+        | inl lt ↦ node_cover-lower link q v left right n a (elim (cases_lt a.0 (middle q)) [ inl low ↦ low | inr high ↦ absurd (h lt high) ])
+        | inr ge ↦ none_below link q v left right n a (omega arith)
+      ] in
+      ap (λ x. or_else (last_cover (pairs left) a) x) (sym e)
+      ∙ sym (ap (λ x. or_else x best) here ∙ or_assoc (last_cover (pairs left) a) (last_cover (own_pair q v) a) best)
 
   pub step_upper : (link : Link V A) (q : Prefix) (v : Option V) (left right : Link V A) (n : IsNode link q v left right) (a : Addr)
-      (o best : Option (Prefix × V)) → o ≡ or_else (last_cover (pairs link) a) best → middle q ≤ a.0
-      → o ≡ or_else (last_cover (pairs right) a) (or_else (last_cover (own_pair q v) a) best)
-  step_upper link q v left right n a o best e h =
-      e ∙ ap (λ x. or_else x best) (node_cover-upper link q v left right n a h)
-      ∙ or_assoc (last_cover (pairs right) a) (last_cover (own_pair q v) a) best
+      (best found : Option (Prefix × V)) → middle q ≤ a.0 → or_else (last_cover (own_pair q v) a) best ≡ found
+      → or_else (last_cover (pairs right) a) found ≡ or_else (last_cover (pairs link) a) best
+  step_upper link q v left right n a best found h e =
+      ap (λ x. or_else (last_cover (pairs right) a) x) (sym e)
+      ∙ sym (ap (λ x. or_else x best) (node_cover-upper link q v left right n a h)
+      ∙ or_assoc (last_cover (pairs right) a) (last_cover (own_pair q v) a) best)
 
   -- where the node does not cover the address, the best so far is the answer
   pub step_none : (link : Link V A) (q : Prefix) (v : Option V) (left right : Link V A) (n : IsNode link q v left right) (a : Addr)
-      (o best : Option (Prefix × V)) → o ≡ or_else (last_cover (pairs link) a) best → covers q a ≡ false → o ≡ best
-  step_none link q v left right n a o best e h =
-      e ∙ ap (λ x. or_else x best) (node_cover-none link q v left right n a h)
+      (best : Option (Prefix × V)) → covers q a ≡ false → best ≡ or_else (last_cover (pairs link) a) best
+  step_none link q v left right n a best h = sym (ap (λ x. or_else x best) (node_cover-none link q v left right n a h))
 
   -- the last pair that covers the address is the longest
   pub longest_of : (link : Link V A) (a : Addr) (o : Option (Prefix × V)) → IsLawfulBelow link → last_cover (pairs link) a ≡ o

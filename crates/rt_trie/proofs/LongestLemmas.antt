@@ -6,10 +6,10 @@ use Rattle.std.proofs.lemmas.List.Elements.{All-nil, All-cons, All-weaker, All-c
 use Rattle.rt_cidr.specs.declared.prefixes.Prefix.{Prefix}
 use Rattle.rt_cidr.specs.declared.address.Addr.{Addr}
 use Rattle.rt_cidr.specs.Prefix.{covers}
+use Rattle.rt_trie.specs.LookUps.{or_else, last_cover}
 use Rattle.rt_trie.specs.Map.{Pairs, before, IsBeforeAll, IsOrdered, IsLongest}
 use Rattle.rt_trie.proofs.OrderLemmas.{before_tells}
 use Rattle.rt_trie.proofs.BlockLemmas.{range_of_covers, ends_before}
-use Rattle.rt_trie.proofs.PairLemmas.{last_cover, or_else}
 
 -- of two prefixes that cover one address, the later one is the longer
 pub later_is_longer : (q x : Prefix) (a : Addr) → before q x ≡ true → covers q a ≡ true → covers x a ≡ true → q.len ≤ x.len

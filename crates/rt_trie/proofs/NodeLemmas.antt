@@ -3,12 +3,13 @@ use Rattle.std.proofs.Common.{◌≡◌, ◌≢◌, ℕ, ◌+◌, ◌<◌, ◌�
 use Rattle.rt_cidr.specs.declared.prefixes.Prefix.{Prefix}
 use Rattle.rt_cidr.specs.declared.address.Addr.{Addr}
 use Rattle.rt_cidr.specs.Prefix.{covers}
+use Rattle.rt_trie.specs.LookUps.{or_else, last_cover}
 use Rattle.rt_trie.specs.Map.{Pairs, same_prefix, get, first, next_after, IsBeforeAll, IsOrdered}
 use Rattle.rt_trie.specs.Blocks.{IsWithin, middle, past}
 use Rattle.rt_trie.specs.Links.{own_pair}
 use Rattle.rt_trie.proofs.OrderLemmas.{rank, lower_rank, other_rank}
 use Rattle.rt_trie.proofs.BlockLemmas.{size_pos, covers_tells, outside_of_covers}
-use Rattle.rt_trie.proofs.PairLemmas.{AllKeys, AllKeys-append, AllKeys-map, IsOther, IsLower, IsHigher, IsOther-lower, IsOther-higher, get-skip, get-none, get-front, after-append, after-skip, after-none, after-first, or_else, or_none, last_cover, last_cover-none, last_cover-append}
+use Rattle.rt_trie.proofs.PairLemmas.{AllKeys, AllKeys-append, AllKeys-map, IsOther, IsLower, IsHigher, IsOther-lower, IsOther-higher, get-skip, get-none, get-front, after-append, after-skip, after-none, after-first, or_none, last_cover-none, last_cover-append}
 
 -- the pairs on the two sides lie in the two halves
 pub record AreSides {V : Type 0} (q : Prefix) (xs ys : Pairs V) : Type 0 where

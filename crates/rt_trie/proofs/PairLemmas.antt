@@ -4,6 +4,7 @@ use Rattle.rt_cidr.specs.declared.prefixes.Prefix.{Prefix}
 use Rattle.rt_cidr.specs.declared.address.Addr.{Addr}
 use Rattle.rt_cidr.specs.Prefix.{covers}
 use Rattle.rt_trie.specs.Map.{Pairs, same_prefix, get, put, erase, first, next_after}
+use Rattle.rt_trie.specs.LookUps.{or_else, last_cover}
 use Rattle.rt_trie.proofs.OrderLemmas.{rank, same_tells, before_tells, same_rank, other_rank, lower_rank, higher_rank}
 
 -- every prefix of the list meets P
@@ -34,11 +35,6 @@ IsOther-lower p q h = other_rank q p (omega arith)
 
 pub IsOther-higher : (p q : Prefix) → IsHigher p q → IsOther p q
 IsOther-higher p q h = other_rank q p (omega arith)
-
--- the first of two answers
-abbrev pub or_else : {X : Type 0} → Option X → Option X → Option X
-or_else None d = d
-or_else (Some x) d = Some x
 
 pub or_none : {X : Type 0} (o : Option X) → or_else o None ≡ o
 or_none None = refl
@@ -134,11 +130,6 @@ module _ {V : Type 0} where
   after-first ((q, v) ∷ xs) p h = rw (lower_rank p q h.0) refl
 
   -- the longest match
-
-  -- the last pair that covers the address
-  abbrev pub last_cover : Pairs V → Addr → Option (Prefix × V)
-  last_cover [] a = None
-  last_cover ((q, v) ∷ rest) a = or_else (last_cover rest a) (cond (covers q a) (Some (q, v)) None)
 
   pub last_cover-none : (xs : Pairs V) (a : Addr) → AllKeys (λ q. covers q a ≡ false) xs → last_cover xs a ≡ None
   last_cover-none [] a h = refl

@@ -8,6 +8,7 @@ pub mod Descent
 pub mod Laws
 pub mod Lends
 pub mod Links
+pub mod LookUps
 pub mod Map
 pub mod Nodes
 pub mod Trie

@@ -1,5 +1,5 @@
 -- A finite map from prefixes, as the list of its pairs in the order of base and then length.
-use Rattle.std.specs.Prelude.{◌≡◌, Bool, false, ◌==◌, ◌&&◌, ◌||◌, ◌≤◌, nat_lt, List, [], ◌∷◌, Option, Some, None, if◌then◌else◌, IsTrue, IsSome, All, Contains}
+use Rattle.std.specs.Prelude.{◌≡◌, ℕ, ◌<◌, length, slice_index_or, Bool, false, ◌==◌, ◌&&◌, ◌||◌, ◌≤◌, nat_lt, List, [], ◌∷◌, Option, Some, None, if◌then◌else◌, IsTrue, IsSome, All, Contains}
 use Rattle.std.specs.Borrow.{Bor}
 use Rattle.rt_cidr.specs.declared.address.Addr.{Addr}
 use Rattle.rt_cidr.specs.declared.prefixes.Prefix.{Prefix}
@@ -68,3 +68,15 @@ abbrev pub IsLongest : {V : Type 0} → Pairs V → Addr → Option (Prefix × V
 IsLongest m a None = All (λ y. covers y.0 a ≡ false) m
 IsLongest m a (Some x) =
     Contains m x × IsTrue (covers x.0 a) × All (λ y. IsTrue (covers y.0 a) → y.0.len ≤ x.0.len) m
+
+-- the address and the answer at a place
+abbrev pub address_at : List Addr → ℕ → Addr
+address_at addresses k = slice_index_or addresses k (record { 0 = 0 })
+
+abbrev pub answer_at : {V : Type 0} → List (Option (Prefix × Bor V)) → ℕ → Option (Prefix × V)
+answer_at answers k = pair_copied (slice_index_or answers k None)
+
+-- each answer is the longest match of the address at its place
+abbrev pub AreLongest : {V : Type 0} → Pairs V → List Addr → List (Option (Prefix × Bor V)) → Type 0
+AreLongest m addresses answers =
+    (k : ℕ) → k < length addresses → IsLongest m (address_at addresses k) (answer_at answers k)

@@ -376,3 +376,38 @@ fn random_changes_beside_a_sorted_list(rt: HostRuntime) -> Result<(), Fail> {
     }
     Ok(())
 }
+
+#[test]
+fn look_ups_together_are_those_one_by_one(rt: HostRuntime) -> Result<(), Fail> {
+    let mut trie: Trie<u32, Global> = Trie::new(rt.alloc());
+    let mut addresses: Vec<Addr> = Vec::new(rt.alloc());
+    let mut seed = 3u64;
+    // As many addresses as fill no lane, each lane, and several rounds; beside prefixes of each length that nest.
+    for step in 0..40u32 {
+        seed = seed
+            .wrapping_mul(6_364_136_223_846_793_005)
+            .wrapping_add(1_442_695_040_888_963_407);
+        let bits = (seed >> 33) as u32;
+        let mask = (u64::from(u32::MAX) << (32 - step % 33) & 0xffff_ffff) as u32;
+        let len = (step % 33) as u8;
+        let old = trie
+            .insert(prefix(bits & mask, len)?, step)
+            .ok()
+            .ok_or("refused")?;
+        assert!(&rt; old.is_none() || step > 32);
+        let mut answers: Vec<Option<(Prefix, &u32)>> = Vec::new(rt.alloc());
+        for _ in 0..addresses.len() {
+            answers.push(None)?;
+        }
+        assert_eq!(&rt; answers.len(), addresses.len());
+        trie.longest_many(&addresses[..], &mut answers[..]);
+        for (address, answer) in addresses.iter().zip(&answers) {
+            assert_eq!(&rt;
+                answer.map(|x| (x.0, *x.1)),
+                trie.longest(*address).map(|x| (x.0, *x.1))
+            );
+        }
+        addresses.push(Addr(bits))?;
+    }
+    Ok(())
+}

@@ -1,7 +1,7 @@
 //! The nodes of a trie, of three kinds, and the links that hold them.
 
-ghost use Rattle.std.specs.Prelude.{◌≡◌};
-ghost use Rattle.std.specs.Prelude.{IsTrue, ◌↔◌};
+ghost use Rattle.std.specs.Prelude.{◌≡◌, ◌<◌, ◌≤◌, ◌↔◌, false, IsTrue};
+ghost use Rattle.rt_cidr.specs.Prefix.{covers};
 ghost use Rattle.rt_trie.specs.Blocks.{middle, StandsAt};
 ghost use Rattle.rt_trie.specs.Links.{IsVacant};
 
@@ -75,15 +75,26 @@ pub(crate) fn middle(q: &Prefix) -> u64
     q.base() as u64 + (1u64 << (32 - q.len())) / 2
 }
 
+/// Whether the address, which the prefix covers, lies in the upper half of those that it covers: whether the bit after the
+/// prefix's length is set. No bit is where the prefix covers but one address.
+#[inline(always)]
+pub(crate) fn in_upper_half(q: &Prefix, address: u32) -> bool
+    requires { IsTrue (covers q.now (record { 0 = address })) }
+    ensures half { q.now.len < 32 → IsTrue result ↔ middle q.now ≤ address }
+    ensures none { q.now.len ≡ 32 → result ≡ false }
+{
+    ((u64::from(address) << q.len()) >> 31) % 2 == 1
+}
+
 /// Where p stands as seen from q.
 pub(crate) fn place_of(q: &Prefix, p: &Prefix) -> Place
     ensures { StandsAt q.now p.now result }
 {
     if q.len() < p.len() && q.covers(Addr(p.base())) {
-        if (p.base() as u64) < middle(q) {
-            Place::Left
-        } else {
+        if in_upper_half(q, p.base()) {
             Place::Right
+        } else {
+            Place::Left
         }
     } else if q == p {
         Place::Here

@@ -1,11 +1,12 @@
 //! The look-ups, which go down from the root by a loop and take no memory.
 
-ghost use Rattle.std.specs.Prelude.{◌≡◌, Option};
+ghost use Rattle.std.specs.Prelude.{◌≡◌, ℕ, ◌+◌, ◌<◌, ◌≤◌, false, Option, None, IfSome, IsTrue, length};
 ghost use Rattle.std.specs.Option.{option_copied};
-ghost use Rattle.rt_trie.specs.Map.{get, first, next_after, pair_copied, IsLongest};
-ghost use Rattle.rt_trie.specs.Links.{pairs, IsLawfulTrie};
+ghost use Rattle.rt_trie.specs.Map.{get, first, next_after, pair_copied, IsLongest, AreLongest, address_at, answer_at};
+ghost use Rattle.rt_trie.specs.Links.{pairs, count, IsLawfulBelow, IsLawfulTrie};
+ghost use Rattle.rt_trie.specs.LookUps.{or_else, last_cover, sought, lane_at, lane_sought, work_of, AreLawful};
 
-use crate::nodes::{Link, Place, middle, place_of};
+use crate::nodes::{Link, Place, in_upper_half, middle, place_of};
 use rt_cidr::{Addr, Prefix};
 use std::alloc::Allocator;
 
@@ -64,43 +65,143 @@ pub(crate) fn longest<V, A: Allocator>(root: &Link<V, A>, address: Addr) -> Opti
     let mut best = None;
     let mut link = root;
     loop {
-        match link {
-            Link::Empty => return best,
-            Link::Leaf(leaf) => {
-                let leaf = leaf.as_ref();
-                return if leaf.prefix.covers(address) {
-                    Some((leaf.prefix, &leaf.value))
-                } else {
-                    best
-                };
+        let (next, found) = step(link, address, best);
+        best = found;
+        match next {
+            None => return best,
+            Some(below) => link = below,
+        }
+    }
+}
+
+/// One step of a look-up, at a link: the link at which it goes on, if it goes on, and the best pair so far.
+#[inline(always)]
+pub(crate) fn step<'a, V, A: Allocator>(
+    link: &'a Link<V, A>,
+    address: Addr,
+    best: Option<(Prefix, &'a V)>,
+) -> (Option<&'a Link<V, A>>, Option<(Prefix, &'a V)>)
+    requires { IsLawfulBelow link.now }
+    ensures lawful { IfSome result.0 (λ next. IsLawfulBelow next.now) }
+    ensures down { IfSome result.0 (λ next. count next.now < count link.now) }
+    ensures sought { sought result.0 address (pair_copied result.1)
+        ≡ or_else (last_cover (pairs link.now) address) (pair_copied best.entry) }
+{
+    match link {
+        Link::Empty => (None, best),
+        Link::Leaf(leaf) => {
+            let leaf = leaf.as_ref();
+            if leaf.prefix.covers(address) {
+                (None, Some((leaf.prefix, &leaf.value)))
+            } else {
+                (None, best)
             }
-            Link::Fork(fork) => {
-                let fork = fork.as_ref();
-                if !fork.prefix.covers(address) {
-                    return best;
-                }
-                link = if (address.0 as u64) < middle(&fork.prefix) {
-                    &fork.left
-                } else {
-                    &fork.right
-                };
+        }
+        Link::Fork(fork) => {
+            let fork = fork.as_ref();
+            if !fork.prefix.covers(address) {
+                return (None, best);
             }
-            Link::Full(full) => {
-                let full = full.as_ref();
-                if !full.prefix.covers(address) {
-                    return best;
-                }
-                if let Some(value) = &full.value {
-                    best = Some((full.prefix, value));
-                }
-                link = if (address.0 as u64) < middle(&full.prefix) {
-                    &full.left
-                } else {
-                    &full.right
-                };
+            if in_upper_half(&fork.prefix, address.0) {
+                (Some(&fork.right), best)
+            } else {
+                (Some(&fork.left), best)
+            }
+        }
+        Link::Full(full) => {
+            let full = full.as_ref();
+            if !full.prefix.covers(address) {
+                return (None, best);
+            }
+            let best = match &full.value {
+                Some(value) => Some((full.prefix, value)),
+                None => best,
+            };
+            if in_upper_half(&full.prefix, address.0) {
+                (Some(&full.right), best)
+            } else {
+                (Some(&full.left), best)
             }
         }
     }
+}
+
+/// So many look-ups go on in turn, so that while one waits for memory the others do too.
+const LANES: usize = 8;
+
+/// The pair of the longest prefix for each address, each in the place of what stood among the answers.
+pub(crate) fn longest_many<'a, V, A: Allocator>(
+    root: &'a Link<V, A>,
+    addresses: &[Addr],
+    answers: &mut [Option<(Prefix, &'a V)>],
+)
+    requires lawful { IsLawfulTrie root.now }
+    requires size { length answers.old ≡ length addresses.now }
+    ensures { AreLongest (pairs root.now) addresses.now answers.new }
+{
+    let mut start = 0;
+    while start < addresses.len() {
+        let size = (addresses.len() - start).min(LANES);
+        longest_in_lanes(root, addresses, answers, start, size);
+        start += size;
+    }
+}
+
+// The answers of so many addresses from a place on, one in each lane.
+fn longest_in_lanes<'a, V, A: Allocator>(
+    root: &'a Link<V, A>,
+    addresses: &[Addr],
+    answers: &mut [Option<(Prefix, &'a V)>],
+    start: usize,
+    size: usize,
+)
+    requires lawful { IsLawfulTrie root.now }
+    requires lanes { size ≤ 8 }
+    requires within { start + size ≤ length addresses.now }
+    requires size { length answers.old ≡ length addresses.now }
+    ensures each { (j : ℕ) → j < size
+        → IsLongest (pairs root.now) (address_at addresses.now (start + j)) (answer_at answers.new (start + j)) }
+    ensures rest { (k : ℕ) → k < start → answer_at answers.new k ≡ answer_at answers.old k }
+{
+    let mut lanes = [Some(root); LANES];
+    for k in start..start + size {
+        answers[k] = None;
+    }
+    while advance(&mut lanes[..], addresses, answers, start, size) {}
+}
+
+// Takes one step in each lane that has not ended, and answers whether one goes on.
+#[inline(always)]
+fn advance<'a, V, A: Allocator>(
+    lanes: &mut [Option<&'a Link<V, A>>],
+    addresses: &[Addr],
+    answers: &mut [Option<(Prefix, &'a V)>],
+    start: usize,
+    size: usize,
+) -> bool
+    requires lawful { AreLawful lanes.old size }
+    requires lanes { size ≤ length lanes.old }
+    requires within { start + size ≤ length addresses.now }
+    requires size { length answers.old ≡ length addresses.now }
+    ensures lawful { AreLawful lanes.new size }
+    ensures same { (j : ℕ) → j < size
+        → lane_sought lanes.new addresses.now answers.new start j ≡ lane_sought lanes.old addresses.now answers.old start j }
+    ensures rest { (k : ℕ) → k < start → answer_at answers.new k ≡ answer_at answers.old k }
+    ensures goes { IsTrue result → work_of lanes.new size < work_of lanes.old size }
+    ensures ends { result ≡ false → (j : ℕ) → j < size → lane_at lanes.new j ≡ None }
+{
+    let mut going = false;
+    for k in 0..size {
+        if let Some(link) = lanes[k] {
+            let (next, best) = step(link, addresses[start + k], answers[start + k]);
+            if next.is_some() {
+                going = true;
+            }
+            lanes[k] = next;
+            answers[start + k] = best;
+        }
+    }
+    going
 }
 
 /// The least prefix that is stored below the link, by base and then by length.

@@ -3,7 +3,7 @@
 ghost use Rattle.std.specs.Prelude.{◌≡◌, ◌+◌, ◌-◌, ◌*◌, ◌≤◌, [], length, IsSome, IsOk, IfOk, IfErr, OnOk};
 ghost use Rattle.std.specs.Borrow.{sem};
 ghost use Rattle.std.specs.Option.{option_copied, option_copied_mut};
-ghost use Rattle.rt_trie.specs.Map.{get, put, erase, first, next_after, pair_copied, IsOrdered, IsLongest};
+ghost use Rattle.rt_trie.specs.Map.{get, put, erase, first, next_after, pair_copied, IsOrdered, IsLongest, AreLongest};
 ghost use Rattle.rt_trie.specs.Nodes.{CountsNodes};
 
 use crate::lending::{Descent, WayDown};
@@ -122,6 +122,16 @@ impl<V: Drop, A: Allocator + Copy> Trie<V, A> {
         ensures { IsLongest self.now.pairs a (pair_copied result) }
     {
         search::longest(&self.root, a)
+    }
+
+    /// `longest` of each address: the answers take the place of what stood in the list, which is as long as that of the
+    /// addresses. Eight look-ups go on in turn, so that one waits for memory while the others do, which is faster where the
+    /// nodes don't all lie in cache. It takes no memory.
+    pub fn longest_many<'a>(&'a self, addresses: &[Addr], answers: &mut [Option<(Prefix, &'a V)>])
+        requires { length answers.old ≡ length addresses.now }
+        ensures { AreLongest self.now.pairs addresses.now answers.new }
+    {
+        search::longest_many(&self.root, addresses, answers);
     }
 
     /// All pairs, each once, by base and then by length. It takes no memory.

@@ -12,6 +12,9 @@ use std::{env, io};
 /// How many prefixes are drawn where no argument says so.
 const FEW: u32 = 2_000;
 
+/// So many addresses are looked up together.
+const BATCH: usize = 64;
+
 /// Numbers that look random, the same in each run.
 #[derive(Drop)]
 struct Draws {
@@ -70,6 +73,36 @@ fn count(rt: &HostRuntime) -> io::Result<u32> {
     Ok(FEW)
 }
 
+/// The time of a longest match where `BATCH` are asked for together, and the sum of the values that they find.
+fn look_up_together(
+    rt: &impl Clock,
+    trie: &Trie<u64, Global>,
+    n: u32,
+) -> io::Result<(u64, u64)> {
+    let mut draws = Draws { seed: 2 };
+    let mut found = 0u64;
+    let mut addresses = [Addr(0); BATCH];
+    let mut answers: [Option<(Prefix, &u64)>; BATCH] = [None; BATCH];
+    let start = Instant::now(rt)?;
+    for _ in 0..n as usize / BATCH {
+        for address in &mut addresses {
+            *address = Addr(draws.next());
+        }
+        trie.longest_many(&addresses[..], &mut answers[..]);
+        for answer in &answers {
+            if let Some((_, value)) = answer {
+                found = found.wrapping_add(**value);
+            }
+        }
+    }
+    for _ in 0..n as usize % BATCH {
+        if let Some((_, value)) = trie.longest(Addr(draws.next())) {
+            found = found.wrapping_add(*value);
+        }
+    }
+    Ok((per_call(rt, start, n)?, found))
+}
+
 fn run(rt: &HostRuntime, alloc: Global, n: u32) -> io::Result<()> {
     let mut trie: Trie<u64, Global> = Trie::new(alloc);
 
@@ -94,6 +127,8 @@ fn run(rt: &HostRuntime, alloc: Global, n: u32) -> io::Result<()> {
     }
     let longest = per_call(rt, start, n)?;
 
+    let (together, same) = look_up_together(rt, &trie, n)?;
+
     let mut draws = Draws { seed: 1 };
     let start = Instant::now(rt)?;
     for _ in 0..n {
@@ -105,7 +140,7 @@ fn run(rt: &HostRuntime, alloc: Global, n: u32) -> io::Result<()> {
 
     let left = trie.len();
     eprintln!(rt;
-        "insert {insert} longest {longest} remove {remove} prefixes {len} nodes {nodes} found {found} left {left}"
+        "insert {insert} longest {longest} together {together} remove {remove} prefixes {len} nodes {nodes} found {found} same {same} left {left}"
     )
 }
 

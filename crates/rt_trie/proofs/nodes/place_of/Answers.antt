@@ -1,23 +1,36 @@
-use Rattle.std.proofs.Common.{◌<◌, sym, ◌∙◌, inl, inr, arith}
-use Rattle.rt_trie.proofs.BlockLemmas.{longer_of, range_of_covers, outside_of_covers, contains_tells, lower_half, upper_half, ends_before}
+use Rattle.std.proofs.Common.{◌≡◌, ◌<◌, true, subst, sym, ◌∙◌, inl, inr, arith}
+use Rattle.rt_trie.proofs.BlockLemmas.{longer_of, range_of_covers, outside_of_covers, contains_tells, lower_half, upper_half, ends_before, in_upper, not_upper}
 use Rattle.rt_trie.proofs.OrderLemmas.{same_tells}
-use Rattle.std.proofs.lemmas.Bool.{false≢true}
+use Rattle.std.proofs.lemmas.Bool.{cases_lt, false≢true}
+use Rattle.rt_trie.specs.Blocks.{middle}
+use Rattle.rt_cidr.specs.Prefix.{covers}
 use Rattle.rt_trie.proofs.nodes.place_of.Goals as goal
 use Rattle.rt_trie.proofs.nodes.place_of.Goals.{else-len-via-then-len+else-covers, else-len-via-else-len}
 
-pub returns-then-base-middle : goal.returns-then-base-middle
-returns-then-base-middle c =
-    let q = c.args.q.now in
-    let p = c.args.p.now in
-    let r = range_of_covers q (record { 0 = c.base.result }) (sym c.if-covers.ensures) in
-    record { long = omega arith; from = omega arith; to = lower_half q p (omega arith) (omega arith) }
+pub in_upper_half-requires : goal.in_upper_half-requires
+in_upper_half-requires c =
+    subst (λ a. covers c.args.q.now (record { 0 = a }) ≡ true) (c.base.ensures ∙ sym c.base-then-covers.ensures) (sym c.if-covers.ensures)
 
-pub returns-else-base-middle : goal.returns-else-base-middle
-returns-else-base-middle c =
+pub returns-then-in_upper_half : goal.returns-then-in_upper_half
+returns-then-in_upper_half c =
     let q = c.args.q.now in
     let p = c.args.p.now in
     let r = range_of_covers q (record { 0 = c.base.result }) (sym c.if-covers.ensures) in
+    let m = in_upper q c.in_upper_half.result c.base-then-covers.result c.in_upper_half.ensures.half c.in_upper_half.ensures.none c.if-in_upper_half.true in
     record { long = omega arith; from = omega arith; to = upper_half q p (omega arith) (omega arith) }
+
+pub returns-else-in_upper_half : goal.returns-else-in_upper_half
+returns-else-in_upper_half c =
+    let q = c.args.q.now in
+    let p = c.args.p.now in
+    let t = p.is_prefix.short in
+    let r = range_of_covers q (record { 0 = c.base.result }) (sym c.if-covers.ensures) in
+    let lt : q.len < 32 = omega arith in
+    let low : p.base < middle q = elim (cases_lt p.base (middle q)) [
+      | inl l ↦ l
+      | inr ge ↦ absurd (not_upper q c.in_upper_half.result c.base-then-covers.result c.in_upper_half.ensures.half c.if-in_upper_half.false lt (omega arith))
+    ] in
+    record { long = omega arith; from = omega arith; to = lower_half q p (omega arith) low }
 
 pub returns-then-contains : goal.returns-then-contains
 returns-then-contains c =

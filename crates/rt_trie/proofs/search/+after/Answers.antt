@@ -1,9 +1,9 @@
 use Rattle.std.proofs.Common.{◌≡◌, Option, None, Some, refl, sym, ap, ◌∙◌}
 use Rattle.rt_cidr.specs.declared.prefixes.Prefix.{Prefix}
+use Rattle.rt_trie.specs.LookUps.{or_else}
 use Rattle.rt_trie.specs.Map.{first}
 use Rattle.rt_trie.specs.Links.{pairs}
 use Rattle.rt_trie.proofs.OrderLemmas.{lt_before}
-use Rattle.rt_trie.proofs.PairLemmas.{or_else}
 use Rattle.rt_trie.proofs.LinkLemmas.{of_fork, of_full, node_after-lower, node_after-upper, node_after-all, node_after-none}
 use Rattle.rt_trie.proofs.search.+after.Goals as goal
 
