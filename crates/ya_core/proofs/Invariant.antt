@@ -1,5 +1,5 @@
 -- Each step keeps the invariant, and the value that a load finds is one that can stand in its word.
-use Rattle.std.proofs.Common.{◌≡◌, ◌≢◌, ℕ, ◌-◌, ◌^◌, ◌<◌, ◌≤◌, ◌==◌, Bool, true, false, refl, arith, ap, sym, ◌∙◌, subst, ◌⊎◌, inl, inr, if◌then◌else◌, IsTrue}
+use Rattle.std.proofs.Common.{◌≡◌, ◌≢◌, ℕ, ◌+◌, ◌-◌, ◌^◌, ◌<◌, ◌≤◌, ◌==◌, Bool, true, false, refl, arith, ap, sym, ◌∙◌, subst, ◌⊎◌, inl, inr, if◌then◌else◌, IsTrue}
 use Rattle.std.proofs.lemmas.Bool.Decides.{nat_tests}
 use Rattle.ya_core.specs.declared.word.Word.{Word}
 use Rattle.ya_core.specs.declared.word.Word.TheVariants.{C, T, P}
@@ -11,13 +11,14 @@ use Rattle.ya_core.specs.declared.process.Process.{Process}
 use Rattle.ya_core.specs.declared.process.Process.TheVariants.{Idle, Entering, Inside, Leaving}
 use Rattle.ya_core.specs.Tree.{node_of, side_of}
 use Rattle.ya_core.specs.Steps.{State, StepsTo, Accesses, opening, value_of, access_of, entry_access, exit_access, next_of, entry_next, exit_next, won, left}
-use Rattle.ya_core.specs.Soundness.{Phase, Away, Named, Announced, Waiting, Holding, Parting, claims, is_past, holds, parts, phase_of, entry_phase, exit_phase, IsProper, IsSoundAt, IsSound}
+use Rattle.ya_core.specs.Soundness.{Phase, Away, Named, Holding, Parting, Freeing, is_past, holds, parts, phase_of, entry_phase, exit_phase, IsProper, IsSoundAt, IsOwedAt, IsSound}
 use Rattle.ya_core.specs.Walks.{MayFind, CanStand}
 use Rattle.ya_core.proofs.Places.{node_below, node_of_place, node_of_root}
 use Rattle.ya_core.proofs.Properness.{proper_next}
-use Rattle.ya_core.proofs.Level.{or_else, level_stays, one_holds}
-use Rattle.ya_core.proofs.Phases.{acts_at, acts_within, phase_here, phase_below, phase_away, phase_won, phase_left, frame_phase, access_level, words_stay, holds_below}
-use Rattle.ya_core.proofs.LevelSteps.{act_claim, act_announce, act_clear, act_wake, act_let_in, act_give_up, act_look, act_part, act_win_unclaimed, act_win_other, act_win_let_in}
+use Rattle.ya_core.proofs.Level.{competes, or_else, level_stays, one_holds}
+use Rattle.ya_core.proofs.Phases.{acts_at, phase_here, phase_below, phase_away, phase_won, phase_left, frame_phase, access_level, words_stay, holds_below}
+use Rattle.ya_core.proofs.Wake.{owed_stays}
+use Rattle.ya_core.proofs.LevelSteps.{act_claim, act_announce, act_clear, act_found, act_last, act_asleep, act_awake, act_wake, act_woken, act_waits, act_stay, act_let_in, act_give_up, act_part, act_see, act_win_unclaimed, act_win_other, act_win_let_in}
 
 -- a number is 0 or not
 zero_or : (n : ℕ) → (n ≡ 0) ⊎ (1 ≤ n)
@@ -25,8 +26,8 @@ zero_or n = grind arith
 
 -- at most one place competes on a side of a node: it holds the node below, which one place at most holds
 pub alone_at : (levels place level : ℕ) (s : State) → IsSound levels s → 1 ≤ level → level ≤ levels → (1 < level → IsTrue (holds (phase_of levels (level - 1) (s.processes place))))
-    → (q : ℕ) → node_of level q ≡ node_of level place → side_of level q ≡ side_of level place → IsTrue (claims (phase_of levels level (s.processes q))) → q ≡ place
-alone_at levels place level s is least most holding q nodes sides claiming = cases (zero_or (level - 1))
+    → (q : ℕ) → node_of level q ≡ node_of level place → side_of level q ≡ side_of level place → IsTrue (competes (phase_of levels level (s.processes q))) → q ≡ place
+alone_at levels place level s is least most holding q nodes sides competing = cases (zero_or (level - 1))
   where
     nodes_below : node_of (level - 1) q ≡ node_of (level - 1) place
     nodes_below = node_below level q place least nodes sides
@@ -37,7 +38,7 @@ alone_at levels place level s is least most holding q nodes sides claiming = cas
         sym (node_of_place q) ∙ places ∙ node_of_place place
     cases (inr above) =
         one_holds (node_of (level - 1)) (side_of (level - 1)) (λ p. phase_of levels (level - 1) (s.processes p)) (λ n d. s.words (C (level - 1) n d)) (λ n. s.words (T (level - 1) n))
-        (λ p. s.words (P (level - 1) p)) (is.sound (level - 1) above (omega arith)) q place nodes_below (holds_below levels level (s.processes q) least most claiming) (holding (omega arith))
+        (λ p. s.words (P (level - 1) p)) (is.sound (level - 1) above (omega arith)) q place nodes_below (holds_below levels level (s.processes q) least most competing) (holding (omega arith))
 
 -- what stands in a word of a sound level
 claim_stands : (levels level node side : ℕ) (s : State) → IsSoundAt levels s level → CanStand (C level node side) (s.words (C level node side))
@@ -100,6 +101,13 @@ module _ (levels place level : ℕ) (old new : State) (is : IsSound levels old) 
   here : IsSoundAt levels old level
   here = is.sound level least most
 
+  owed : IsOwedAt levels old level
+  owed = is.owed level least most
+
+  -- the level is sound after the step, and what is owed there is owed still
+  abbrev IsKept : Type 0
+  IsKept = IsSoundAt levels new level × IsOwedAt levels new level
+
   wins_it : new.processes place ≡ won levels level → phase_of levels level (new.processes place) ≡ Holding
   wins_it now = stands (won levels level) Holding now (phase_won levels level level most ∙ phase_here level Holding)
 
@@ -108,88 +116,105 @@ module _ (levels place level : ℕ) (old new : State) (is : IsSound levels old) 
 
   -- a place that stands on its way in, or out, is alone on its side
   alone_in : (point : Entry) → old.processes place ≡ Entering level point
-      → (q : ℕ) → node_of level q ≡ node_of level place → side_of level q ≡ side_of level place → IsTrue (claims (phase_of levels level (old.processes q))) → q ≡ place
+      → (q : ℕ) → node_of level q ≡ node_of level place → side_of level q ≡ side_of level place → IsTrue (competes (phase_of levels level (old.processes q))) → q ≡ place
   alone_in point e =
       alone_at levels place level old is least most (λ more. ap (λ x. holds (phase_of levels (level - 1) x)) e ∙ ap holds (phase_below (level - 1) level (entry_phase point) (omega arith)))
 
   alone_out : (point : Exit) → old.processes place ≡ Leaving level point
-      → (q : ℕ) → node_of level q ≡ node_of level place → side_of level q ≡ side_of level place → IsTrue (claims (phase_of levels level (old.processes q))) → q ≡ place
+      → (q : ℕ) → node_of level q ≡ node_of level place → side_of level q ≡ side_of level place → IsTrue (competes (phase_of levels level (old.processes q))) → q ≡ place
   alone_out point e =
       alone_at levels place level old is least most (λ more. ap (λ x. holds (phase_of levels (level - 1) x)) e ∙ ap holds (phase_below (level - 1) level (exit_phase point) (omega arith)))
 
+  -- the place comes to another point of the level
+  comes : (point : Entry) → new.processes place ≡ Entering level point → phase_of levels level (new.processes place) ≡ entry_phase point
+  comes point now = stands (Entering level point) (entry_phase point) now (phase_here level (entry_phase point))
+
   -- a step on the way in keeps the level where it acts
   acts_entry : (point : Entry) → old.processes place ≡ Entering level point → Accesses (entry_access level place point) old.words new.words
-      → new.processes place ≡ entry_next levels level place point (value_of old.words (entry_access level place point)) → IsSoundAt levels new level
-  acts_entry E1 e done now = act_claim levels place level old new here others (stands (Entering level E2) Named now (phase_here level Named)) done (alone_in E1 e)
-  acts_entry E2 e done now = act_announce levels place level old new here others (entry_phase_here levels level place old E2 e) (stands (Entering level E3) Announced now (phase_here level Announced)) done
-  acts_entry E3 e done now = act_clear levels place level old new here others (entry_phase_here levels level place old E3 e) (stands (Entering level E4) Waiting now (phase_here level Waiting)) done
+      → new.processes place ≡ entry_next levels level place point (value_of old.words (entry_access level place point)) → IsKept
+  acts_entry E1 e done now = act_claim levels place level old new here owed others (entry_phase_here levels level place old E1 e) (comes E2 now) done (alone_in E1 e)
+  acts_entry E2 e done now = act_announce levels place level old new here owed others (entry_phase_here levels level place old E2 e) (comes E3 now) done (alone_in E2 e)
+  acts_entry E3 e done now = act_clear levels place level old new here owed others (entry_phase_here levels level place old E3 e) (comes E4 now) done
   acts_entry E4 e done now =
-      by_choice (IsSoundAt levels new level) (new.processes place) (won levels level) (Entering level (E5 (old.words (C level (node_of level place) (1 - side_of level place)) - 1))) _ now
-      (λ nil won_now. act_win_unclaimed levels place level old new here others done (entry_phase_here levels level place old E4 e) (wins_it won_now) (grind (arith, nat_tests)))
-      (λ some goes. looks _ goes (entry_phase_here levels level place old E4 e))
+      by_choice IsKept (new.processes place) (won levels level) (Entering level (E5 (old.words (C level (node_of level place) (1 - side_of level place)) - 1))) _ now
+      (λ nil won_now. act_win_unclaimed levels place level old new here owed others done (entry_phase_here levels level place old E4 e) (wins_it won_now) (grind (arith, nat_tests)))
+      (λ some goes. found (old.words (C level (node_of level place) (1 - side_of level place)) - 1) goes (grind (arith, nat_tests)))
     where
-      looks : (point : Entry) → new.processes place ≡ Entering level point → phase_of levels level (old.processes place) ≡ entry_phase point → IsSoundAt levels new level
-      looks point goes was = act_look levels place level old new here others done (stands (Entering level point) (entry_phase point) goes (phase_here level (entry_phase point)) ∙ sym was)
+      found : (rival : ℕ) → new.processes place ≡ Entering level (E5 rival) → old.words (C level (node_of level place) (1 - side_of level place)) ≡ rival + 1 → IsKept
+      found rival goes word = act_found levels place level old new here owed others done rival (entry_phase_here levels level place old E4 e) (comes (E5 rival) goes) word
   acts_entry (E5 rival) e done now =
-      by_choice (IsSoundAt levels new level) (new.processes place) (Entering level (E6 rival)) (won levels level) _ now
-      (λ own goes. act_look levels place level old new here others done (stands (Entering level (E6 rival)) Waiting goes (phase_here level Waiting) ∙ sym (entry_phase_here levels level place old (E5 rival) e)))
-      (λ other won_now. act_win_other levels place level old new here others done (entry_phase_here levels level place old (E5 rival) e) (wins_it won_now) (grind (arith, nat_tests)))
+      by_choice IsKept (new.processes place) (Entering level (E6 rival)) (won levels level) _ now
+      (λ own goes. act_last levels place level old new here owed others done rival (entry_phase_here levels level place old (E5 rival) e) (comes (E6 rival) goes) (grind (arith, nat_tests)))
+      (λ other won_now. act_win_other levels place level old new here owed others done (E5 rival) (entry_phase_here levels level place old (E5 rival) e) (wins_it won_now) (grind (arith, nat_tests)))
   acts_entry (E6 rival) e done now =
-      by_choice (IsSoundAt levels new level) (new.processes place) (Entering level (E7 rival)) (Entering level E8) _ now
-      (λ zero goes. act_look levels place level old new here others done (stands (Entering level (E7 rival)) Waiting goes (phase_here level Waiting) ∙ sym (entry_phase_here levels level place old (E6 rival) e)))
-      (λ some goes. act_look levels place level old new here others done (stands (Entering level E8) Waiting goes (phase_here level Waiting) ∙ sym (entry_phase_here levels level place old (E6 rival) e)))
+      by_choice IsKept (new.processes place) (Entering level (E7 rival)) (Entering level E8) _ now
+      (λ zero goes. act_asleep levels place level old new here owed others done rival (entry_phase_here levels level place old (E6 rival) e) (comes (E7 rival) goes) (grind (arith, nat_tests)))
+      (λ some goes. act_awake levels place level old new here owed others done rival (entry_phase_here levels level place old (E6 rival) e) (comes E8 goes) (grind (arith, nat_tests)))
   acts_entry (E7 rival) e done now =
-      act_wake levels place level old new here others rival (stands (Entering level E8) Waiting now (phase_here level Waiting) ∙ sym (entry_phase_here levels level place old (E7 rival) e)) done
+      let proper : IsProper levels place (Entering level (E7 rival)) = subst (IsProper levels place) e (is.proper place) in
+      act_wake levels place level old new here owed others rival (entry_phase_here levels level place old (E7 rival) e) (comes E8 now) proper.3 done
   acts_entry E8 e done now =
-      by_choice (IsSoundAt levels new level) (new.processes place) (Entering level E8) (Entering level E9) _ now
-      (λ zero goes. act_look levels place level old new here others done (stands (Entering level E8) Waiting goes (phase_here level Waiting) ∙ sym (entry_phase_here levels level place old E8 e)))
-      (λ some goes. act_look levels place level old new here others done (stands (Entering level E9) Waiting goes (phase_here level Waiting) ∙ sym (entry_phase_here levels level place old E8 e)))
+      by_choice IsKept (new.processes place) (Entering level E8) (Entering level E9) _ now
+      (λ zero goes. act_stay levels place level old new here owed others done (comes E8 goes ∙ sym (entry_phase_here levels level place old E8 e)))
+      (λ some goes. act_woken levels place level old new here owed others done (entry_phase_here levels level place old E8 e) (comes E9 goes) (grind (arith, nat_tests)))
   acts_entry E9 e done now =
-      by_choice (IsSoundAt levels new level) (new.processes place) (Entering level E10) (won levels level) _ now
-      (λ own goes. act_look levels place level old new here others done (stands (Entering level E10) Waiting goes (phase_here level Waiting) ∙ sym (entry_phase_here levels level place old E9 e)))
-      (λ other won_now. act_win_other levels place level old new here others done (entry_phase_here levels level place old E9 e) (wins_it won_now) (grind (arith, nat_tests)))
+      by_choice IsKept (new.processes place) (Entering level E10) (won levels level) _ now
+      (λ own goes. act_waits levels place level old new here owed others done (entry_phase_here levels level place old E9 e) (comes E10 goes) (grind (arith, nat_tests)))
+      (λ other won_now. act_win_other levels place level old new here owed others done E9 (entry_phase_here levels level place old E9 e) (wins_it won_now) (grind (arith, nat_tests)))
   acts_entry E10 e done now =
-      by_choice (IsSoundAt levels new level) (new.processes place) (won levels level) (Entering level E10) _ now
-      (λ two won_now. act_win_let_in levels place level old new here others done (entry_phase_here levels level place old E10 e) (wins_it won_now) (grind (arith, nat_tests)))
-      (λ other goes. act_look levels place level old new here others done (stands (Entering level E10) Waiting goes (phase_here level Waiting) ∙ sym (entry_phase_here levels level place old E10 e)))
+      by_choice IsKept (new.processes place) (won levels level) (Entering level E10) _ now
+      (λ two won_now. act_win_let_in levels place level old new here owed others done (entry_phase_here levels level place old E10 e) (wins_it won_now) (grind (arith, nat_tests)))
+      (λ other goes. act_stay levels place level old new here owed others done (comes E10 goes ∙ sym (entry_phase_here levels level place old E10 e)))
 
   -- a step on the way out keeps the level where it acts
   acts_exit : (point : Exit) → old.processes place ≡ Leaving level point → Accesses (exit_access level place point) old.words new.words
-      → new.processes place ≡ exit_next level place point (value_of old.words (exit_access level place point)) → IsSoundAt levels new level
-  acts_exit X1 e done now = act_give_up levels place level old new here others (exit_phase_here levels level place old X1 e) (stands (Leaving level X2) Parting now (phase_here level Parting)) done
+      → new.processes place ≡ exit_next level place point (value_of old.words (exit_access level place point)) → IsKept
+  acts_exit X1 e done now = act_give_up levels place level old new here owed others (exit_phase_here levels level place old X1 e) (stands (Leaving level X2) Parting now (phase_here level Parting)) done
   acts_exit X2 e done now =
-      by_choice (IsSoundAt levels new level) (new.processes place) (left level) (Leaving level (X3 (old.words (T level (node_of level place)) - 1))) _ now
-      (λ own gone. act_part levels place level old new here others done (exit_phase_here levels level place old X2 e) (leaves_it gone))
-      (λ other goes. act_part levels place level old new here others done (exit_phase_here levels level place old X2 e) (stands (Leaving level (X3 (old.words (T level (node_of level place)) - 1))) Away goes (phase_here level Away)))
+      by_choice IsKept (new.processes place) (left level) (Leaving level (X3 (old.words (T level (node_of level place)) - 1))) _ now
+      (λ own gone. act_part levels place level old new here owed others done (exit_phase_here levels level place old X2 e) (leaves_it gone) (grind (arith, nat_tests)))
+      (λ other goes. act_see levels place level old new here owed others done (exit_phase_here levels level place old X2 e) (stands (Leaving level (X3 (old.words (T level (node_of level place)) - 1))) (Freeing (old.words (T level (node_of level place)) - 1)) goes (phase_here level (Freeing (old.words (T level (node_of level place)) - 1)))))
   acts_exit (X3 rival) e done now =
       let proper : IsProper levels place (Leaving level (X3 rival)) = subst (IsProper levels place) e (is.proper place) in
-      act_let_in levels place level old new here others rival (exit_phase_here levels level place old (X3 rival) e) (leaves_it now ∙ sym (exit_phase_here levels level place old (X3 rival) e)) proper.3.0 proper.3.1 done
-      (alone_out (X3 rival) e)
+      act_let_in levels place level old new here owed others rival (exit_phase_here levels level place old (X3 rival) e) (leaves_it now) proper.3.0 proper.3.1 done (alone_out (X3 rival) e)
 
 module _ (levels place : ℕ) (old new : State) (some : 1 ≤ levels) (is : IsSound levels old) (others : (q : ℕ) → q ≢ place → new.processes q ≡ old.processes q) where
+  -- the level is sound, and what is owed there is owed
+  abbrev IsWhole : ℕ → Type 0
+  IsWhole level = IsSoundAt levels new level × IsOwedAt levels new level
+
   -- a step keeps the level where it acts
   acts : (x : Process) → old.processes place ≡ x → Accesses (access_of levels place x) old.words new.words → new.processes place ≡ next_of levels place x (value_of old.words (access_of levels place x))
-      → IsSoundAt levels new (acts_at levels x)
+      → IsWhole (acts_at levels x)
   acts Idle e done now =
-      act_claim levels place 1 old new (is.sound 1 (omega arith) some) others (ap (λ y. phase_of levels 1 y) now ∙ phase_here 1 Named) done
+      act_claim levels place 1 old new (is.sound 1 (omega arith) some) (is.owed 1 (omega arith) some) others (ap (λ y. phase_of levels 1 y) e) (ap (λ y. phase_of levels 1 y) now ∙ phase_here 1 Named) done
       (alone_at levels place 1 old is (omega arith) some (λ more. absurd (omega arith)))
   acts (Entering level point) e done now =
       let proper : IsProper levels place (Entering level point) = subst (IsProper levels place) e (is.proper place) in
       acts_entry levels place level old new is proper.1 proper.2 others point e done now
   acts Inside e done now =
-      act_give_up levels place levels old new (is.sound levels some (omega arith)) others (ap (λ y. phase_of levels levels y) e ∙ phase_here levels Holding) (ap (λ y. phase_of levels levels y) now ∙ phase_here levels Parting) done
+      act_give_up levels place levels old new (is.sound levels some (omega arith)) (is.owed levels some (omega arith)) others (ap (λ y. phase_of levels levels y) e ∙ phase_here levels Holding) (ap (λ y. phase_of levels levels y) now ∙ phase_here levels Parting) done
   acts (Leaving level point) e done now =
       let proper : IsProper levels place (Leaving level point) = subst (IsProper levels place) e (is.proper place) in
       acts_exit levels place level old new is proper.1 proper.2 others point e done now
 
   -- and each other level
   rests : (x : Process) → old.processes place ≡ x → Accesses (access_of levels place x) old.words new.words → new.processes place ≡ next_of levels place x (value_of old.words (access_of levels place x))
-      → (level : ℕ) → 1 ≤ level → level ≤ levels → level ≢ acts_at levels x → IsSoundAt levels new level
-  rests x e done now level least most apart =
-      level_stays (node_of level) (side_of level) (λ q. phase_of levels level (old.processes q)) (λ q. phase_of levels level (new.processes q)) (λ n d. old.words (C level n d)) (λ n d. new.words (C level n d))
-      (λ n. old.words (T level n)) (λ n. new.words (T level n)) (λ q. old.words (P level q)) (λ q. new.words (P level q)) phases
-      (λ n d. stay (C level n d) refl) (λ n. stay (T level n) refl) (λ q. stay (P level q) refl) (is.sound level least most)
+      → (level : ℕ) → 1 ≤ level → level ≤ levels → level ≢ acts_at levels x → IsWhole level
+  rests x e done now level least most apart = (
+    level_stays (node_of level) (side_of level) before after (λ n d. old.words (C level n d)) (λ n d. new.words (C level n d))
+        (λ n. old.words (T level n)) (λ n. new.words (T level n)) (λ q. old.words (P level q)) (λ q. new.words (P level q)) phases
+        (λ n d. stay (C level n d) refl) (λ n. stay (T level n) refl) (λ q. stay (P level q) refl) (is.sound level least most),
+    owed_stays (node_of level) (side_of level) before after (λ n. old.words (T level n)) (λ n. new.words (T level n)) (λ q. old.words (P level q)) (λ q. new.words (P level q)) phases
+        (λ n. stay (T level n) refl) (λ q. stay (P level q) refl) (is.owed level least most),
+  )
     where
+      before : ℕ → Phase
+      before q = phase_of levels level (old.processes q)
+
+      after : ℕ → Phase
+      after q = phase_of levels level (new.processes q)
+
       stay : (word : Word) → Rattle.ya_core.proofs.Phases.level_of word ≡ level → new.words word ≡ old.words word
       stay word at = words_stay (access_of levels place x) old.words new.words done word (λ same. apart (sym at ∙ same ∙ access_level levels place x))
 
@@ -206,7 +231,7 @@ module _ (levels place : ℕ) (old new : State) (some : 1 ≤ levels) (is : IsSo
 
   keeps_from : (x : Process) → place < 2 ^ levels → old.processes place ≡ x → Accesses (access_of levels place x) old.words new.words
       → new.processes place ≡ next_of levels place x (value_of old.words (access_of levels place x)) → IsSound levels new
-  keeps_from x in_tree e done now = record { proper = λ q. proper q (or_else (λ q. new.processes q ≡ old.processes q) place others q); sound = λ level least most. sound level least most (level == acts_at levels x) refl }
+  keeps_from x in_tree e done now = record { proper = λ q. proper q (or_else (λ q. new.processes q ≡ old.processes q) place others q); sound = λ level least most. (whole level least most (level == acts_at levels x) refl).0; owed = λ level least most. (whole level least most (level == acts_at levels x) refl).1 }
     where
       proper : (q : ℕ) → (q ≡ place) ⊎ (new.processes q ≡ old.processes q) → IsProper levels q (new.processes q)
       proper q (inl one) =
@@ -214,9 +239,9 @@ module _ (levels place : ℕ) (old new : State) (some : 1 ≤ levels) (is : IsSo
           (subst (IsProper levels place) (sym now) (proper_next levels place x (value_of old.words (access_of levels place x)) some in_tree (subst (IsProper levels place) e (is.proper place)) (finds levels place old x is e)))
       proper q (inr same) = subst (IsProper levels q) (sym same) (is.proper q)
 
-      sound : (level : ℕ) → 1 ≤ level → level ≤ levels → (b : Bool) → (level == acts_at levels x) ≡ b → IsSoundAt levels new level
-      sound level least most true one = subst (IsSoundAt levels new) (let same : acts_at levels x ≡ level = grind (arith, nat_tests) in same) (acts x e done now)
-      sound level least most false other = rests x e done now level least most (grind (arith, nat_tests))
+      whole : (level : ℕ) → 1 ≤ level → level ≤ levels → (b : Bool) → (level == acts_at levels x) ≡ b → IsWhole level
+      whole level least most true one = subst IsWhole (let same : acts_at levels x ≡ level = grind (arith, nat_tests) in same) (acts x e done now)
+      whole level least most false other = rests x e done now level least most (grind (arith, nat_tests))
 
 -- each step keeps the invariant
 pub keeps : (levels place : ℕ) (old new : State) → 1 ≤ levels → IsSound levels old → StepsTo levels place old new → IsSound levels new
@@ -234,10 +259,19 @@ opens levels =
             below = λ n p h. absurd (omega arith);
             announced = λ p h. absurd cc;
             parting = λ p h. absurd cc;
-            one_of_two = λ p q nodes sides hp hq. absurd cc;
-            waiter = λ p q nodes sides hp hq. absurd cc;
+            one_of_two = λ p q rivals hp hq. absurd cc;
+            waiter = λ p q rivals hp hq. absurd cc;
             in_range = λ p. omega arith;
-            let_in = λ p q nodes sides hp two hq. absurd cc;
+            let_in = λ p q rivals hp two hq. absurd cc;
+          };
+      owed = λ level least most p.
+          record {
+            unwoken = λ h zero. absurd cc;
+            outside = λ h one. absurd cc;
+            woken = λ h zero. absurd cc;
+            owed_one = λ other h zero. absurd cc;
+            has_two = λ other h. absurd cc;
+            keeps_two = λ other h q rivals. absurd cc;
           };
     }
 

@@ -1,8 +1,10 @@
 -- One level: what each kind of step keeps of it. `node` and `side` say where each place competes.
-use Rattle.std.proofs.Common.{◌≡◌, ◌≢◌, ℕ, ◌+◌, ◌-◌, ◌<◌, ◌==◌, Bool, true, false, refl, arith, sym, subst, ◌⊎◌, inl, inr, IsTrue}
+use Rattle.std.proofs.Common.{◌≡◌, ◌≢◌, ℕ, ◌+◌, ◌-◌, ◌<◌, ◌==◌, Bool, true, false, refl, arith, sym, ◌∙◌, subst, ◌⊎◌, inl, inr, IsTrue}
 use Rattle.std.proofs.Math.Path.{fun_ext}
 use Rattle.std.proofs.lemmas.Bool.Decides.{nat_tests}
-use Rattle.ya_core.specs.Soundness.{Phase, Away, Named, Announced, Waiting, Holding, Parting, claims, is_past, waits, holds, IsSoundLevel}
+use Rattle.ya_core.specs.declared.process.Entry.{Entry}
+use Rattle.ya_core.specs.declared.process.Entry.TheVariants.{E4}
+use Rattle.ya_core.specs.Soundness.{Phase, Away, Named, Announced, Waiting, Holding, Parting, Freeing, claims, is_past, waits, holds, parts, IsSoundLevel}
 
 -- one who holds or is past claims, and one who holds or waits is past
 pub claims_holds : (x : Phase) → IsTrue (holds x) → IsTrue (claims x)
@@ -10,32 +12,58 @@ claims_holds Holding h = refl
 claims_holds Away h = absurd cc
 claims_holds Named h = absurd cc
 claims_holds Announced h = absurd cc
-claims_holds Waiting h = absurd cc
+claims_holds (Waiting point) h = absurd cc
 claims_holds Parting h = absurd cc
+claims_holds (Freeing rival) h = absurd cc
 
 pub is_past_holds : (x : Phase) → IsTrue (holds x) → IsTrue (is_past x)
 is_past_holds Holding h = refl
 is_past_holds Away h = absurd cc
 is_past_holds Named h = absurd cc
 is_past_holds Announced h = absurd cc
-is_past_holds Waiting h = absurd cc
+is_past_holds (Waiting point) h = absurd cc
 is_past_holds Parting h = absurd cc
+is_past_holds (Freeing rival) h = absurd cc
 
 pub claims_is_past : (x : Phase) → IsTrue (is_past x) → IsTrue (claims x)
 claims_is_past Announced h = refl
-claims_is_past Waiting h = refl
+claims_is_past (Waiting point) h = refl
 claims_is_past Holding h = refl
 claims_is_past Away h = absurd cc
 claims_is_past Named h = absurd cc
 claims_is_past Parting h = absurd cc
+claims_is_past (Freeing rival) h = absurd cc
 
 pub is_past_waits : (x : Phase) → IsTrue (waits x) → IsTrue (is_past x)
-is_past_waits Waiting h = refl
+is_past_waits (Waiting point) h = refl
 is_past_waits Away h = absurd cc
 is_past_waits Named h = absurd cc
 is_past_waits Announced h = absurd cc
 is_past_waits Holding h = absurd cc
 is_past_waits Parting h = absurd cc
+is_past_waits (Freeing rival) h = absurd cc
+
+-- it takes part at the node
+abbrev pub competes : Phase → Bool
+competes Away = false
+competes _ = true
+
+pub competes_claims : (x : Phase) → IsTrue (claims x) → IsTrue (competes x)
+competes_claims Away h = absurd cc
+competes_claims Named h = refl
+competes_claims Announced h = refl
+competes_claims (Waiting point) h = refl
+competes_claims Holding h = refl
+competes_claims Parting h = refl
+competes_claims (Freeing rival) h = refl
+
+-- the two phases are alike for the clauses on claim, turn, waiter and spin
+pub record Alike (x y : Phase) : Type 0 where
+  pub claiming : claims x ≡ claims y
+  pub past : is_past x ≡ is_past y
+  pub waiting : waits x ≡ waits y
+  pub holding : holds x ≡ holds y
+  pub parting : parts x ≡ parts y
 
 -- a place is the one that stepped, or is as it was
 abbrev pub Same : ℕ → (ℕ → Phase) → (ℕ → Phase) → Type 0
@@ -68,13 +96,23 @@ level_stays node side phase phase' claim claim' turn turn' spin spin' phases cla
     (subst (λ (f : ℕ → ℕ). IsSoundLevel node side phase claim turn f) (sym (fun_ext spins)) is)))
 
 module _ (node side : ℕ → ℕ) (phase : ℕ → Phase) (claim : ℕ → ℕ → ℕ) (turn spin : ℕ → ℕ) (is : IsSoundLevel node side phase claim turn spin) where
+  -- what is said of rivals, of two places by node and side
+  one_of_two_at : (p q : ℕ) → node p ≡ node q → side p ≢ side q → IsTrue (is_past (phase p)) → IsTrue (is_past (phase q)) → (turn (node p) ≡ p + 1) ⊎ (turn (node p) ≡ q + 1)
+  one_of_two_at p q nodes sides = is.one_of_two p q (nodes, sides)
+
+  waiter_at : (p q : ℕ) → node p ≡ node q → side p ≢ side q → IsTrue (holds (phase p)) → IsTrue (is_past (phase q)) → turn (node p) ≡ q + 1
+  waiter_at p q nodes sides = is.waiter p q (nodes, sides)
+
+  let_in_at : (p q : ℕ) → node p ≡ node q → side p ≢ side q → IsTrue (waits (phase p)) → spin p ≡ 2 → IsTrue (is_past (phase q)) → turn (node p) ≡ q + 1
+  let_in_at p q nodes sides = is.let_in p q (nodes, sides)
+
   -- at most one place claims a side
   pub one_a_side : (p q : ℕ) → node p ≡ node q → side p ≡ side q → IsTrue (claims (phase p)) → IsTrue (claims (phase q)) → p ≡ q
   one_a_side p q nodes sides hp hq = grind (arith, is.claimed p hp, is.claimed q hq)
 
   -- at most one place below a node holds it
   pub one_holds : (p q : ℕ) → node p ≡ node q → IsTrue (holds (phase p)) → IsTrue (holds (phase q)) → p ≡ q
-  one_holds p q nodes hp hq = grind (arith, one_a_side p q nodes, is.waiter p q nodes, is.waiter q p (sym nodes), is_past_holds (phase p) hp, is_past_holds (phase q) hq, claims_holds (phase p) hp, claims_holds (phase q) hq)
+  one_holds p q nodes hp hq = grind (arith, one_a_side p q nodes, waiter_at p q nodes, waiter_at q p (sym nodes), is_past_holds (phase p) hp, is_past_holds (phase q) hq, claims_holds (phase p) hp, claims_holds (phase q) hq)
 
   -- the three parts of what a word C says
   claimant_node : (n s p : ℕ) → claim n s ≡ p + 1 → node p ≡ n
@@ -98,12 +136,12 @@ module _ (node side : ℕ → ℕ) (phase : ℕ → Phase) (claim : ℕ → ℕ 
         one_of_two = is.one_of_two;
         waiter = is.waiter;
         in_range = λ q. grind (arith, others q, is.in_range q);
-        let_in = λ q s nodes sides hq spins hs. grind (arith, others q, is.let_in q s nodes sides);
+        let_in = λ q s rivals hq spins hs. let nodes = rivals.0 in let sides = rivals.1 in grind (arith, others q, let_in_at q s nodes sides);
       }
 
   -- x3: a place that is alone on its side, and away, lets in another place below the node; no rival of that one is past
-  pub lets_in : (two : (q : ℕ) → side q < 2) (p r : ℕ) (spin' : ℕ → ℕ) → phase p ≡ Away → node p ≡ node r → r ≢ p → spin' r ≡ 2 → SameWords r spin spin'
-      → ((q : ℕ) → node q ≡ node p → side q ≡ side p → IsTrue (claims (phase q)) → q ≡ p) → IsSoundLevel node side phase claim turn spin'
+  pub lets_in : (two : (q : ℕ) → side q < 2) (p r : ℕ) (spin' : ℕ → ℕ) → Alike (phase p) Away → node p ≡ node r → r ≢ p → spin' r ≡ 2 → SameWords r spin spin'
+      → ((q : ℕ) → node q ≡ node p → side q ≡ side p → IsTrue (competes (phase q)) → q ≡ p) → IsSoundLevel node side phase claim turn spin'
   lets_in two p r spin' was below other stored others alone =
       record {
         claimed = is.claimed;
@@ -114,17 +152,39 @@ module _ (node side : ℕ → ℕ) (phase : ℕ → Phase) (claim : ℕ → ℕ 
         one_of_two = is.one_of_two;
         waiter = is.waiter;
         in_range = λ q. grind (arith, others q, is.in_range q);
-        let_in = λ q s nodes sides hq spins hs.
-            grind (arith, others q, is.let_in q s nodes sides, alone q, alone s, two p, two q, two s, is_past_waits (phase q) hq, claims_is_past (phase q), claims_is_past (phase s) hs);
+        let_in = λ q s rivals hq spins hs.
+            let nodes = rivals.0 in let sides = rivals.1 in grind (arith, others q, let_in_at q s nodes sides, alone q, alone s, competes_claims (phase q), competes_claims (phase s), two p, two q, two s, is_past_waits (phase q) hq, claims_is_past (phase q), claims_is_past (phase s) hs, was.claiming, was.past, was.waiting);
       }
 
   module _ (p : ℕ) (phase' : ℕ → Phase) (same : Same p phase phase') where
+    -- a step that keeps what the clauses see of the place keeps them
+    pub alike : Alike (phase' p) (phase p) → IsSoundLevel node side phase' claim turn spin
+    alike here =
+        record {
+          claimed = λ q h. is.claimed q (sym (at q).claiming ∙ h);
+          claimant = λ n s q h. (claimant_node n s q h, claimant_side n s q h, (at q).claiming ∙ claimant_claims n s q h);
+          below = is.below;
+          announced = λ q h. is.announced q (sym (at q).past ∙ h);
+          parting = λ q h. is.parting q (sym (at q).parting ∙ h);
+          one_of_two = λ q r rivals hq hr. is.one_of_two q r rivals (sym (at q).past ∙ hq) (sym (at r).past ∙ hr);
+          waiter = λ q r rivals hq hr. is.waiter q r rivals (sym (at q).holding ∙ hq) (sym (at r).past ∙ hr);
+          in_range = is.in_range;
+          let_in = λ q r rivals hq two hr. is.let_in q r rivals (sym (at q).waiting ∙ hq) two (sym (at r).past ∙ hr);
+        }
+      where
+        at : (q : ℕ) → Alike (phase' q) (phase q)
+        at q = cases (same q)
+          where
+            cases : (q ≡ p) ⊎ (phase' q ≡ phase q) → Alike (phase' q) (phase q)
+            cases (inl one) = subst (λ r. Alike (phase' r) (phase r)) (sym one) here
+            cases (inr still) = subst (λ x. Alike x (phase q)) (sym still) (record { claiming = refl; past = refl; waiting = refl; holding = refl; parting = refl })
+
     -- e1: a place that is alone on its side claims it
     pub claims_side : (claim' : ℕ → ℕ → ℕ) → phase' p ≡ Named → claim' (node p) (side p) ≡ p + 1 → SameClaims (node p) (side p) claim claim'
-        → ((q : ℕ) → node q ≡ node p → side q ≡ side p → IsTrue (claims (phase q)) → q ≡ p) → IsSoundLevel node side phase' claim' turn spin
+        → ((q : ℕ) → node q ≡ node p → side q ≡ side p → IsTrue (competes (phase q)) → q ≡ p) → IsSoundLevel node side phase' claim' turn spin
     claims_side claim' now stored others alone =
         record {
-          claimed = λ q h. grind (arith, same q, others (node q) (side q), alone q, is.claimed q);
+          claimed = λ q h. grind (arith, same q, others (node q) (side q), alone q, competes_claims (phase q), is.claimed q);
           claimant = λ n s q h. (
             grind (arith, same q, others n s, claimant_node n s q),
             grind (arith, same q, others n s, claimant_side n s q),
@@ -133,10 +193,10 @@ module _ (node side : ℕ → ℕ) (phase : ℕ → Phase) (claim : ℕ → ℕ 
           below = is.below;
           announced = λ q h. grind (arith, same q, is.announced q);
           parting = λ q h. grind (arith, same q, is.parting q);
-          one_of_two = λ q r nodes sides hq hr. grind (arith, same q, same r, is.one_of_two q r nodes sides);
-          waiter = λ q r nodes sides hq hr. grind (arith, same q, same r, is.waiter q r nodes sides);
+          one_of_two = λ q r rivals hq hr. let nodes = rivals.0 in let sides = rivals.1 in grind (arith, same q, same r, one_of_two_at q r nodes sides);
+          waiter = λ q r rivals hq hr. let nodes = rivals.0 in let sides = rivals.1 in grind (arith, same q, same r, waiter_at q r nodes sides);
           in_range = is.in_range;
-          let_in = λ q r nodes sides hq spins hr. grind (arith, same q, same r, is.let_in q r nodes sides);
+          let_in = λ q r rivals hq spins hr. let nodes = rivals.0 in let sides = rivals.1 in grind (arith, same q, same r, let_in_at q r nodes sides);
         }
 
     -- e2: the place whose claim stands announces itself, the last to do so at the node
@@ -148,17 +208,17 @@ module _ (node side : ℕ → ℕ) (phase : ℕ → Phase) (claim : ℕ → ℕ 
           below = λ n q h. grind (arith, others n, is.below n q);
           announced = λ q h. grind (arith, same q, others (node q), is.announced q);
           parting = λ q h. grind (arith, same q, others (node q), is.parting q);
-          one_of_two = λ q r nodes sides hq hr.
-              grind (arith, same q, same r, others (node q), is.one_of_two q r nodes sides, two p, two q, two r, one_a_side p q, one_a_side p r, claims_is_past (phase q), claims_is_past (phase r));
-          waiter = λ q r nodes sides hq hr.
-              grind (arith, same q, same r, others (node q), is.waiter q r nodes sides, two p, two q, two r, one_a_side p q, one_a_side p r, claims_holds (phase q), claims_is_past (phase r));
+          one_of_two = λ q r rivals hq hr.
+              let nodes = rivals.0 in let sides = rivals.1 in grind (arith, same q, same r, others (node q), one_of_two_at q r nodes sides, two p, two q, two r, one_a_side p q, one_a_side p r, claims_is_past (phase q), claims_is_past (phase r));
+          waiter = λ q r rivals hq hr.
+              let nodes = rivals.0 in let sides = rivals.1 in grind (arith, same q, same r, others (node q), waiter_at q r nodes sides, two p, two q, two r, one_a_side p q, one_a_side p r, claims_holds (phase q), claims_is_past (phase r));
           in_range = is.in_range;
-          let_in = λ q r nodes sides hq spins hr.
-              grind (arith, same q, same r, others (node q), is.let_in q r nodes sides, two p, two q, two r, one_a_side p q, one_a_side p r, is_past_waits (phase q), claims_is_past (phase q), claims_is_past (phase r));
+          let_in = λ q r rivals hq spins hr.
+              let nodes = rivals.0 in let sides = rivals.1 in grind (arith, same q, same r, others (node q), let_in_at q r nodes sides, two p, two q, two r, one_a_side p q, one_a_side p r, is_past_waits (phase q), claims_is_past (phase q), claims_is_past (phase r));
         }
 
     -- e3: the place that clears its spin word is not let in
-    pub clears : (spin' : ℕ → ℕ) → phase p ≡ Announced → phase' p ≡ Waiting → spin' p ≡ 0 → SameWords p spin spin' → IsSoundLevel node side phase' claim turn spin'
+    pub clears : (spin' : ℕ → ℕ) → phase p ≡ Announced → phase' p ≡ Waiting E4 → spin' p ≡ 0 → SameWords p spin spin' → IsSoundLevel node side phase' claim turn spin'
     clears spin' was now stored others =
         record {
           claimed = λ q h. grind (arith, same q, is.claimed q);
@@ -166,25 +226,25 @@ module _ (node side : ℕ → ℕ) (phase : ℕ → Phase) (claim : ℕ → ℕ 
           below = is.below;
           announced = λ q h. grind (arith, same q, is.announced q);
           parting = λ q h. grind (arith, same q, is.parting q);
-          one_of_two = λ q r nodes sides hq hr. grind (arith, same q, same r, is.one_of_two q r nodes sides);
-          waiter = λ q r nodes sides hq hr. grind (arith, same q, same r, is.waiter q r nodes sides);
+          one_of_two = λ q r rivals hq hr. let nodes = rivals.0 in let sides = rivals.1 in grind (arith, same q, same r, one_of_two_at q r nodes sides);
+          waiter = λ q r rivals hq hr. let nodes = rivals.0 in let sides = rivals.1 in grind (arith, same q, same r, waiter_at q r nodes sides);
           in_range = λ q. grind (arith, others q, is.in_range q);
-          let_in = λ q r nodes sides hq spins hr. grind (arith, same q, same r, others q, is.let_in q r nodes sides);
+          let_in = λ q r rivals hq spins hr. let nodes = rivals.0 in let sides = rivals.1 in grind (arith, same q, same r, others q, let_in_at q r nodes sides);
         }
 
     -- e4, e5, e9, e10: a place wins where each rival that is past announced itself last
-    pub wins : phase p ≡ Waiting → phase' p ≡ Holding → ((q : ℕ) → node p ≡ node q → side p ≢ side q → IsTrue (is_past (phase q)) → turn (node p) ≡ q + 1) → IsSoundLevel node side phase' claim turn spin
-    wins was now last =
+    pub wins : (point : Entry) → phase p ≡ Waiting point → phase' p ≡ Holding → ((q : ℕ) → node p ≡ node q → side p ≢ side q → IsTrue (is_past (phase q)) → turn (node p) ≡ q + 1) → IsSoundLevel node side phase' claim turn spin
+    wins point was now last =
         record {
           claimed = λ q h. grind (arith, same q, is.claimed q);
           claimant = λ n s q h. (claimant_node n s q h, claimant_side n s q h, grind (arith, same q, claimant_claims n s q h));
           below = is.below;
           announced = λ q h. grind (arith, same q, is.announced q);
           parting = λ q h. grind (arith, same q, is.parting q);
-          one_of_two = λ q r nodes sides hq hr. grind (arith, same q, same r, is.one_of_two q r nodes sides);
-          waiter = λ q r nodes sides hq hr. grind (arith, same q, same r, is.waiter q r nodes sides, last r);
+          one_of_two = λ q r rivals hq hr. let nodes = rivals.0 in let sides = rivals.1 in grind (arith, same q, same r, one_of_two_at q r nodes sides);
+          waiter = λ q r rivals hq hr. let nodes = rivals.0 in let sides = rivals.1 in grind (arith, same q, same r, waiter_at q r nodes sides, last r);
           in_range = is.in_range;
-          let_in = λ q r nodes sides hq spins hr. grind (arith, same q, same r, is.let_in q r nodes sides);
+          let_in = λ q r rivals hq spins hr. let nodes = rivals.0 in let sides = rivals.1 in grind (arith, same q, same r, let_in_at q r nodes sides);
         }
 
     -- x1: the place that holds the node gives up its claim
@@ -200,25 +260,25 @@ module _ (node side : ℕ → ℕ) (phase : ℕ → Phase) (claim : ℕ → ℕ 
           below = is.below;
           announced = λ q h. grind (arith, same q, is.announced q);
           parting = λ q h. grind (arith, same q, is.parting q, is.announced q);
-          one_of_two = λ q r nodes sides hq hr. grind (arith, same q, same r, is.one_of_two q r nodes sides);
-          waiter = λ q r nodes sides hq hr. grind (arith, same q, same r, is.waiter q r nodes sides);
+          one_of_two = λ q r rivals hq hr. let nodes = rivals.0 in let sides = rivals.1 in grind (arith, same q, same r, one_of_two_at q r nodes sides);
+          waiter = λ q r rivals hq hr. let nodes = rivals.0 in let sides = rivals.1 in grind (arith, same q, same r, waiter_at q r nodes sides);
           in_range = is.in_range;
-          let_in = λ q r nodes sides hq spins hr. grind (arith, same q, same r, is.let_in q r nodes sides);
+          let_in = λ q r rivals hq spins hr. let nodes = rivals.0 in let sides = rivals.1 in grind (arith, same q, same r, let_in_at q r nodes sides);
         }
 
-    -- x2: the place that has seen who announced itself last is away
-    pub goes_away : phase p ≡ Parting → phase' p ≡ Away → IsSoundLevel node side phase' claim turn spin
-    goes_away was now =
+    -- x2: the place that has seen who announced itself last is as one that is away
+    pub goes_away : phase p ≡ Parting → Alike (phase' p) Away → IsSoundLevel node side phase' claim turn spin
+    goes_away was quiet =
         record {
-          claimed = λ q h. grind (arith, same q, is.claimed q);
-          claimant = λ n s q h. (claimant_node n s q h, claimant_side n s q h, grind (arith, same q, claimant_claims n s q h));
+          claimed = λ q h. grind (arith, quiet.claiming, quiet.past, quiet.waiting, quiet.holding, quiet.parting, same q, is.claimed q);
+          claimant = λ n s q h. (claimant_node n s q h, claimant_side n s q h, grind (arith, quiet.claiming, quiet.past, quiet.waiting, quiet.holding, quiet.parting, same q, claimant_claims n s q h));
           below = is.below;
-          announced = λ q h. grind (arith, same q, is.announced q);
-          parting = λ q h. grind (arith, same q, is.parting q);
-          one_of_two = λ q r nodes sides hq hr. grind (arith, same q, same r, is.one_of_two q r nodes sides);
-          waiter = λ q r nodes sides hq hr. grind (arith, same q, same r, is.waiter q r nodes sides);
+          announced = λ q h. grind (arith, quiet.claiming, quiet.past, quiet.waiting, quiet.holding, quiet.parting, same q, is.announced q);
+          parting = λ q h. grind (arith, quiet.claiming, quiet.past, quiet.waiting, quiet.holding, quiet.parting, same q, is.parting q);
+          one_of_two = λ q r rivals hq hr. let nodes = rivals.0 in let sides = rivals.1 in grind (arith, quiet.claiming, quiet.past, quiet.waiting, quiet.holding, quiet.parting, same q, same r, one_of_two_at q r nodes sides);
+          waiter = λ q r rivals hq hr. let nodes = rivals.0 in let sides = rivals.1 in grind (arith, quiet.claiming, quiet.past, quiet.waiting, quiet.holding, quiet.parting, same q, same r, waiter_at q r nodes sides);
           in_range = is.in_range;
-          let_in = λ q r nodes sides hq spins hr. grind (arith, same q, same r, is.let_in q r nodes sides);
+          let_in = λ q r rivals hq spins hr. let nodes = rivals.0 in let sides = rivals.1 in grind (arith, quiet.claiming, quiet.past, quiet.waiting, quiet.holding, quiet.parting, same q, same r, let_in_at q r nodes sides);
         }
 
     -- at e4 the rival's side is nil, so nobody opposite claims
@@ -229,8 +289,8 @@ module _ (node side : ℕ → ℕ) (phase : ℕ → Phase) (claim : ℕ → ℕ 
 
     -- at e5 and e9 the place is not the one that announced itself last
     pub last_other : turn (node p) ≢ p + 1 → IsTrue (is_past (phase p)) → (q : ℕ) → node p ≡ node q → side p ≢ side q → IsTrue (is_past (phase q)) → turn (node p) ≡ q + 1
-    last_other other hp q nodes sides hq = grind (arith, is.one_of_two p q nodes sides)
+    last_other other hp q nodes sides hq = grind (arith, one_of_two_at p q nodes sides)
 
     -- at e10 the place was let in
     pub last_let_in : spin p ≡ 2 → IsTrue (waits (phase p)) → (q : ℕ) → node p ≡ node q → side p ≢ side q → IsTrue (is_past (phase q)) → turn (node p) ≡ q + 1
-    last_let_in two hp q nodes sides hq = is.let_in p q nodes sides hp two hq
+    last_let_in two hp q nodes sides hq = let_in_at p q nodes sides hp two hq

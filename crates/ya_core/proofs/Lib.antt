@@ -4,10 +4,13 @@ pub mod Numbers
 pub mod Properness
 pub mod Counting
 pub mod Level
+pub mod Wake
 pub mod Phases
 pub mod LevelSteps
 pub mod Invariant
 pub mod Content
+pub mod Deadlock
+pub mod Overtaking
 pub mod Outcomes
 pub mod NamedWords
 pub mod MachineSteps

@@ -12,9 +12,10 @@ use Rattle.ya_core.specs.declared.process.Exit.TheVariants.{X1, X2, X3}
 use Rattle.ya_core.specs.declared.process.Process.{Process}
 use Rattle.ya_core.specs.declared.process.Process.TheVariants.{Idle, Entering, Inside, Leaving}
 use Rattle.ya_core.specs.Steps.{Accesses, access_of, next_of, entry_next, exit_next, won, left}
-use Rattle.ya_core.specs.Soundness.{Phase, Away, Waiting, Holding, Parting, claims, holds, phase_at, phase_of, entry_phase, exit_phase, IsProper}
+use Rattle.ya_core.specs.Soundness.{Phase, Away, Waiting, Holding, Parting, holds, phase_at, phase_of, entry_phase, exit_phase, IsProper}
 use Rattle.ya_core.specs.Machines.{word_of}
 use Rattle.ya_core.proofs.Properness.{either}
+use Rattle.ya_core.proofs.Level.{competes}
 
 -- the level at which a process acts next
 abbrev pub acts_at : ℕ → Process → ℕ
@@ -22,13 +23,6 @@ acts_at levels Idle = 1
 acts_at levels (Entering level point) = level
 acts_at levels Inside = levels
 acts_at levels (Leaving level point) = level
-
--- a process acts at a level of the tree
-pub acts_within : (levels place : ℕ) (x : Process) → 1 ≤ levels → IsProper levels place x → (1 ≤ acts_at levels x) × (acts_at levels x ≤ levels)
-acts_within levels place Idle some proper = (omega arith, some)
-acts_within levels place (Entering level point) some proper = (proper.1, proper.2)
-acts_within levels place Inside some proper = (some, omega arith)
-acts_within levels place (Leaving level point) some proper = (proper.1, proper.2)
 
 -- the phase at the level where a process stands, below it and above it
 pub phase_here : (level : ℕ) (a : Phase) → phase_at level level a ≡ a
@@ -71,18 +65,18 @@ frame_entry levels stands level place E1 value most apart = phase_apart level st
 frame_entry levels stands level place E2 value most apart = phase_apart level stands _ _ apart
 frame_entry levels stands level place E3 value most apart = phase_apart level stands _ _ apart
 frame_entry levels stands level place E4 value most apart =
-    either (λ x. phase_of levels level x ≡ phase_at level stands Waiting) (value == 0) _ _ (λ _. phase_won levels stands level most ∙ phase_apart level stands _ _ apart) (λ _. refl)
+    either (λ x. phase_of levels level x ≡ phase_at level stands (Waiting E4)) (value == 0) _ _ (λ _. phase_won levels stands level most ∙ phase_apart level stands _ _ apart) (λ _. phase_apart level stands _ _ apart)
 frame_entry levels stands level place (E5 rival) value most apart =
-    either (λ x. phase_of levels level x ≡ phase_at level stands Waiting) (value == place + 1) _ _ (λ _. refl) (λ _. phase_won levels stands level most ∙ phase_apart level stands _ _ apart)
+    either (λ x. phase_of levels level x ≡ phase_at level stands (Waiting (E5 rival))) (value == place + 1) _ _ (λ _. phase_apart level stands _ _ apart) (λ _. phase_won levels stands level most ∙ phase_apart level stands _ _ apart)
 frame_entry levels stands level place (E6 rival) value most apart =
-    either (λ x. phase_of levels level x ≡ phase_at level stands Waiting) (value == 0) _ _ (λ _. refl) (λ _. refl)
-frame_entry levels stands level place (E7 rival) value most apart = refl
+    either (λ x. phase_of levels level x ≡ phase_at level stands (Waiting (E6 rival))) (value == 0) _ _ (λ _. phase_apart level stands _ _ apart) (λ _. phase_apart level stands _ _ apart)
+frame_entry levels stands level place (E7 rival) value most apart = phase_apart level stands _ _ apart
 frame_entry levels stands level place E8 value most apart =
-    either (λ x. phase_of levels level x ≡ phase_at level stands Waiting) (value == 0) _ _ (λ _. refl) (λ _. refl)
+    either (λ x. phase_of levels level x ≡ phase_at level stands (Waiting E8)) (value == 0) _ _ (λ _. phase_apart level stands _ _ apart) (λ _. phase_apart level stands _ _ apart)
 frame_entry levels stands level place E9 value most apart =
-    either (λ x. phase_of levels level x ≡ phase_at level stands Waiting) (value == place + 1) _ _ (λ _. refl) (λ _. phase_won levels stands level most ∙ phase_apart level stands _ _ apart)
+    either (λ x. phase_of levels level x ≡ phase_at level stands (Waiting E9)) (value == place + 1) _ _ (λ _. phase_apart level stands _ _ apart) (λ _. phase_won levels stands level most ∙ phase_apart level stands _ _ apart)
 frame_entry levels stands level place E10 value most apart =
-    either (λ x. phase_of levels level x ≡ phase_at level stands Waiting) (value == 2) _ _ (λ _. phase_won levels stands level most ∙ phase_apart level stands _ _ apart) (λ _. refl)
+    either (λ x. phase_of levels level x ≡ phase_at level stands (Waiting E10)) (value == 2) _ _ (λ _. phase_won levels stands level most ∙ phase_apart level stands _ _ apart) (λ _. phase_apart level stands _ _ apart)
 
 pub frame_exit : (levels stands level place : ℕ) (point : Exit) (value : ℕ) → 1 ≤ stands → 1 ≤ level → level ≢ stands
     → phase_of levels level (exit_next stands place point value) ≡ phase_at level stands (exit_phase point)
@@ -90,7 +84,7 @@ frame_exit levels stands level place X1 value some least apart = phase_apart lev
 frame_exit levels stands level place X2 value some least apart =
     either (λ x. phase_of levels level x ≡ phase_at level stands Parting) (value == place + 1) _ _ (λ _. phase_left levels stands level some least ∙ phase_apart level stands _ _ apart)
     (λ _. phase_apart level stands _ _ apart)
-frame_exit levels stands level place (X3 rival) value some least apart = phase_left levels stands level some least
+frame_exit levels stands level place (X3 rival) value some least apart = phase_left levels stands level some least ∙ phase_apart level stands _ _ apart
 
 pub frame_phase : (levels level place : ℕ) (x : Process) (value : ℕ) → 1 ≤ levels → 1 ≤ level → IsProper levels place x → level ≢ acts_at levels x
     → phase_of levels level (next_of levels place x value) ≡ phase_of levels level x
@@ -128,14 +122,14 @@ pub words_stay : (a : Access) (old new : Word → ℕ) → Accesses a old new �
 words_stay (Load named) old new done word apart = done word
 words_stay (Store named value) old new done word apart = done.1 word (λ same. apart (ap level_of same))
 
--- one who claims a level holds the one below
-pub claims_at : (level stands : ℕ) (a : Phase) → IsTrue (claims (phase_at level stands a)) → level ≤ stands
-claims_at level stands a h = grind (arith, nat_tests, phase_above level stands a)
+-- one who takes part at a level holds the one below
+pub competes_at : (level stands : ℕ) (a : Phase) → IsTrue (competes (phase_at level stands a)) → level ≤ stands
+competes_at level stands a h = grind (arith, nat_tests, phase_above level stands a)
 
-pub holds_below : (levels level : ℕ) (x : Process) → 1 ≤ level → level ≤ levels → IsTrue (claims (phase_of levels level x)) → IsTrue (holds (phase_of levels (level - 1) x))
+pub holds_below : (levels level : ℕ) (x : Process) → 1 ≤ level → level ≤ levels → IsTrue (competes (phase_of levels level x)) → IsTrue (holds (phase_of levels (level - 1) x))
 holds_below levels level Idle some most h = absurd cc
 holds_below levels level (Entering stands point) some most h =
-    rw (phase_below (level - 1) stands (entry_phase point) (let less = claims_at level stands (entry_phase point) h in omega arith)) refl
+    rw (phase_below (level - 1) stands (entry_phase point) (let less = competes_at level stands (entry_phase point) h in omega arith)) refl
 holds_below levels level Inside some most h = rw (phase_below (level - 1) levels Holding (omega arith)) refl
 holds_below levels level (Leaving stands point) some most h =
-    rw (phase_below (level - 1) stands (exit_phase point) (let less = claims_at level stands (exit_phase point) h in omega arith)) refl
+    rw (phase_below (level - 1) stands (exit_phase point) (let less = competes_at level stands (exit_phase point) h in omega arith)) refl

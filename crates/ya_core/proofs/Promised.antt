@@ -9,3 +9,5 @@ pub use Rattle.ya_core.proofs.DueAccess.{load_due, store_due}
 pub use Rattle.ya_core.proofs.Properness.{within_access}
 -- the invariant holds at the start, each step keeps it, a load finds what can stand in its word, and two places that are inside are one
 pub use Rattle.ya_core.proofs.Invariant.{opens, keeps, finds, excludes}
+-- where some place takes part, one that takes part goes on
+pub use Rattle.ya_core.proofs.Deadlock.{someone_goes_on}

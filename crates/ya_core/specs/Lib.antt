@@ -5,3 +5,4 @@ pub mod Walks
 pub mod FlatRow
 pub mod Machines
 pub mod Worlds
+pub mod Progress

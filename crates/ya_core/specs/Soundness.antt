@@ -1,13 +1,13 @@
 -- What holds of all words and all processes at every moment: the invariant of the lock.
-use Rattle.std.specs.Prelude.{◌≡◌, ◌≢◌, ℕ, ◌+◌, ◌^◌, ◌<◌, ◌≤◌, ◌==◌, Bool, true, false, nat_lt, if◌then◌else◌, IsTrue, ◌⊎◌}
+use Rattle.std.specs.Prelude.{◌≡◌, ◌≢◌, ℕ, ◌+◌, ◌^◌, ◌<◌, ◌≤◌, ◌==◌, Bool, true, false, nat_lt, if◌then◌else◌, IsTrue, ◌⊎◌, ◌||◌}
 use Rattle.ya_core.specs.declared.word.Word.TheVariants.{C, T, P}
 use Rattle.ya_core.specs.declared.process.Entry.{Entry}
-use Rattle.ya_core.specs.declared.process.Entry.TheVariants.{E1, E2, E3, E5, E6, E7}
+use Rattle.ya_core.specs.declared.process.Entry.TheVariants.{E1, E2, E3, E4, E5, E6, E7, E8, E9, E10}
 use Rattle.ya_core.specs.declared.process.Exit.{Exit}
 use Rattle.ya_core.specs.declared.process.Exit.TheVariants.{X1, X2, X3}
 use Rattle.ya_core.specs.declared.process.Process.{Process}
 use Rattle.ya_core.specs.declared.process.Process.TheVariants.{Idle, Entering, Inside, Leaving}
-use Rattle.ya_core.specs.Tree.{node_of, side_of, AreRivals}
+use Rattle.ya_core.specs.Tree.{node_of, side_of, Rivals, AreRivals}
 use Rattle.ya_core.specs.Steps.{State}
 
 -- how far a process has come at one level
@@ -17,25 +17,27 @@ pub data Phase : Type 0 where
   Named : Phase
   -- it has also announced itself at the node
   Announced : Phase
-  -- it has also cleared its spin word, and looks for the rival or waits
-  Waiting : Phase
+  -- it has also cleared its spin word, and looks for the rival or waits; the point where it stands, e4 to e10
+  Waiting : Entry → Phase
   -- it has won the node, and keeps it until it gives up its claim
   Holding : Phase
   -- it gave up its claim, and has yet to see who announced itself last
   Parting : Phase
+  -- another place did, which it is to let in; that place
+  Freeing : ℕ → Phase
 
 -- the phase at the level where the process stands, on its way in
 abbrev pub entry_phase : Entry → Phase
 entry_phase E1 = Away
 entry_phase E2 = Named
 entry_phase E3 = Announced
-entry_phase _ = Waiting
+entry_phase point = Waiting point
 
 -- the same on its way out
 abbrev pub exit_phase : Exit → Phase
 exit_phase X1 = Holding
 exit_phase X2 = Parting
-exit_phase (X3 rival) = Away
+exit_phase (X3 rival) = Freeing rival
 
 -- it holds the levels below the one where it stands, and is away from those above
 abbrev pub phase_at : ℕ → ℕ → Phase → Phase
@@ -52,18 +54,19 @@ phase_of levels level (Leaving stands point) = phase_at level stands (exit_phase
 abbrev pub claims : Phase → Bool
 claims Away = false
 claims Parting = false
+claims (Freeing rival) = false
 claims _ = true
 
 -- it is past its announcement
 abbrev pub is_past : Phase → Bool
 is_past Announced = true
-is_past Waiting = true
+is_past (Waiting point) = true
 is_past Holding = true
 is_past _ = false
 
 -- it waits
 abbrev pub waits : Phase → Bool
-waits Waiting = true
+waits (Waiting point) = true
 waits _ = false
 
 -- it holds the node
@@ -76,6 +79,52 @@ abbrev pub parts : Phase → Bool
 parts Parting = true
 parts _ = false
 
+-- it knows its rival and was not woken yet: e5 to e8
+abbrev pub awaits_one : Phase → Bool
+awaits_one (Waiting (E5 rival)) = true
+awaits_one (Waiting (E6 rival)) = true
+awaits_one (Waiting (E7 rival)) = true
+awaits_one (Waiting E8) = true
+awaits_one _ = false
+
+-- and it has seen that it announced itself last: e6 to e8
+abbrev pub saw_itself_last : Phase → Bool
+saw_itself_last (Waiting (E6 rival)) = true
+saw_itself_last (Waiting (E7 rival)) = true
+saw_itself_last (Waiting E8) = true
+saw_itself_last _ = false
+
+-- it was woken: e9 and e10
+abbrev pub was_woken : Phase → Bool
+was_woken (Waiting E9) = true
+was_woken (Waiting E10) = true
+was_woken _ = false
+
+-- it waits to be let in: e10
+abbrev pub awaits_two : Phase → Bool
+awaits_two (Waiting E10) = true
+awaits_two _ = false
+
+-- it has yet to look for the place, or knows it and is to look whether it sleeps, or to wake it: e3 to e7
+abbrev pub is_to_wake : ℕ → Phase → Bool
+is_to_wake place Announced = true
+is_to_wake place (Waiting E4) = true
+is_to_wake place (Waiting (E5 rival)) = rival == place
+is_to_wake place (Waiting (E6 rival)) = rival == place
+is_to_wake place (Waiting (E7 rival)) = rival == place
+is_to_wake place _ = false
+
+-- its next step stores 1 in the place's spin word: e7
+abbrev pub wakes_next : ℕ → Phase → Bool
+wakes_next place (Waiting (E7 rival)) = rival == place
+wakes_next place _ = false
+
+-- on its way out it is to find the place in the word T, or to let it in: x2 and x3
+abbrev pub is_to_free : ℕ → ℕ → Phase → Bool
+is_to_free turn place Parting = turn == place + 1
+is_to_free turn place (Freeing rival) = rival == place
+is_to_free turn place _ = false
+
 -- one level is sound: `node` and `side` say where each place competes there, `phase` how far it has come,
 -- and `claim`, `turn` and `spin` what the words C, T and P of the level hold
 pub record IsSoundLevel (node side : ℕ → ℕ) (phase : ℕ → Phase) (claim : ℕ → ℕ → ℕ) (turn spin : ℕ → ℕ) : Type 0 where
@@ -86,21 +135,41 @@ pub record IsSoundLevel (node side : ℕ → ℕ) (phase : ℕ → Phase) (claim
   pub below : (n p : ℕ) → turn n ≡ p + 1 → node p ≡ n
   pub announced : (p : ℕ) → IsTrue (is_past (phase p)) → turn (node p) ≢ 0
   pub parting : (p : ℕ) → IsTrue (parts (phase p)) → turn (node p) ≢ 0
-  pub one_of_two : (p q : ℕ) → node p ≡ node q → side p ≢ side q → IsTrue (is_past (phase p)) → IsTrue (is_past (phase q))
+  pub one_of_two : (p q : ℕ) → Rivals node side p q → IsTrue (is_past (phase p)) → IsTrue (is_past (phase q))
       → (turn (node p) ≡ p + 1) ⊎ (turn (node p) ≡ q + 1)
   -- waiter: where one holds and its rival is past, the rival announced itself last
-  pub waiter : (p q : ℕ) → node p ≡ node q → side p ≢ side q → IsTrue (holds (phase p)) → IsTrue (is_past (phase q))
-      → turn (node p) ≡ q + 1
+  pub waiter : (p q : ℕ) → Rivals node side p q → IsTrue (holds (phase p)) → IsTrue (is_past (phase q)) → turn (node p) ≡ q + 1
   -- spin: a word P is 0, 1 or 2, and 2 lets its process in only where the rival announced itself last
   pub in_range : (p : ℕ) → spin p ≤ 2
-  pub let_in : (p q : ℕ) → node p ≡ node q → side p ≢ side q → IsTrue (waits (phase p)) → spin p ≡ 2 → IsTrue (is_past (phase q))
+  pub let_in : (p q : ℕ) → Rivals node side p q → IsTrue (waits (phase p)) → spin p ≡ 2 → IsTrue (is_past (phase q))
       → turn (node p) ≡ q + 1
+
+-- some rival of the place is in a phase of this kind
+abbrev pub SomeRival : (node side : ℕ → ℕ) (phase : ℕ → Phase) → ℕ → (Phase → Bool) → Type 0
+SomeRival node side phase p kind = (q : ℕ) × Rivals node side p q × IsTrue (kind (phase q))
+
+-- wake: whoever waits is owed a word
+pub record IsOwed (node side : ℕ → ℕ) (phase : ℕ → Phase) (turn spin : ℕ → ℕ) (p : ℕ) : Type 0 where
+  -- one that was not woken has a rival that competes or is to free it, and one that was not let in a rival that is past or is to free it
+  pub unwoken : IsTrue (awaits_one (phase p)) → spin p ≡ 0 → SomeRival node side phase p (λ x. claims x || is_to_free (turn (node p)) p x)
+  pub outside : IsTrue (waits (phase p)) → spin p ≡ 1 → SomeRival node side phase p (λ x. is_past x || is_to_free (turn (node p)) p x)
+  pub woken : IsTrue (was_woken (phase p)) → spin p ≢ 0
+  -- where another announced itself last it is owed a 1, until it has a 2 that nobody overwrites
+  pub owed_one : turn (node p) ≢ p + 1 → IsTrue (saw_itself_last (phase p)) → spin p ≡ 0 → SomeRival node side phase p (is_to_wake p)
+  pub has_two : turn (node p) ≢ p + 1 → IsTrue (awaits_two (phase p)) → spin p ≡ 2
+  pub keeps_two : turn (node p) ≢ p + 1 → IsTrue (awaits_two (phase p)) → (q : ℕ) → Rivals node side p q → wakes_next p (phase q) ≡ false
 
 -- the level of a state
 abbrev pub IsSoundAt : ℕ → State → ℕ → Type 0
 IsSoundAt levels s level =
     IsSoundLevel (node_of level) (side_of level) (λ p. phase_of levels level (s.processes p)) (λ n d. s.words (C level n d))
     (λ n. s.words (T level n)) (λ p. s.words (P level p))
+
+-- what is owed at a level of a state
+abbrev pub IsOwedAt : ℕ → State → ℕ → Type 0
+IsOwedAt levels s level =
+    (p : ℕ) → IsOwed (node_of level) (side_of level) (λ q. phase_of levels level (s.processes q)) (λ n. s.words (T level n))
+    (λ q. s.words (P level q)) p
 
 -- the rival that a point knows is a place on the other side of the node
 abbrev pub EntryIsProper : ℕ → ℕ → Entry → Type 0
@@ -121,7 +190,8 @@ IsProper levels place (Entering level point) = (place < 2 ^ levels) × (1 ≤ le
 IsProper levels place Inside = place < 2 ^ levels
 IsProper levels place (Leaving level point) = (place < 2 ^ levels) × (1 ≤ level) × (level ≤ levels) × ExitIsProper level place point
 
--- the invariant: each process is proper and each level is sound
+-- the invariant: each process is proper, each level is sound, and at each level whoever waits is owed a word
 pub record IsSound (levels : ℕ) (s : State) : Type 0 where
   pub proper : (p : ℕ) → IsProper levels p (s.processes p)
   pub sound : (level : ℕ) → 1 ≤ level → level ≤ levels → IsSoundAt levels s level
+  pub owed : (level : ℕ) → 1 ≤ level → level ≤ levels → IsOwedAt levels s level

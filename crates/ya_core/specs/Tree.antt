@@ -11,9 +11,13 @@ node_of level place = place / 2 ^ level
 unfoldable pub side_of : ℕ → ℕ → ℕ
 side_of level place = place / 2 ^ (level - 1) % 2
 
--- the two places compete with each other at that level: below one node, on different sides
+-- two places compete with each other where `node` and `side` say where each place stands: at one node, on different sides
+abbrev pub Rivals : (node side : ℕ → ℕ) → ℕ → ℕ → Type 0
+Rivals node side p q = (node p ≡ node q) × (side p ≢ side q)
+
+-- the two places compete with each other at that level
 abbrev pub AreRivals : ℕ → ℕ → ℕ → Type 0
-AreRivals level p q = (node_of level p ≡ node_of level q) × (side_of level p ≢ side_of level q)
+AreRivals level = Rivals (node_of level) (side_of level)
 
 -- the tree of this many levels has the word
 abbrev pub IsWord : ℕ → Word → Type 0

@@ -1,11 +1,14 @@
 //! What holds of every run of the lock's core, whatever the order in which the places step: laws of the definitions by
 //! which the walker and the machine are specified. Each is a function with an empty body, whose contract is the law.
 
-ghost use Rattle.std.specs.Prelude.{◌≡◌, ℕ, ◌+◌, ◌*◌, ◌^◌, ◌<◌, ◌≤◌, List};
+ghost use Rattle.std.specs.Prelude.{◌≡◌, ◌≢◌, ℕ, ◌+◌, ◌*◌, ◌^◌, ◌<◌, ◌≤◌, List, ◌∷◌, ◌++◌};
 ghost use Rattle.ya_core.specs.declared.word.Word.{Word};
 ghost use Rattle.ya_core.specs.Tree.{IsWord, number_of, count_of_words};
 ghost use Rattle.ya_core.specs.Steps.{State, StepsTo, opening, access_of, value_of};
 ghost use Rattle.ya_core.specs.Soundness.{IsSound};
+ghost use Rattle.ya_core.specs.declared.process.Process.TheVariants as process;
+ghost use Rattle.ya_core.specs.Progress.{SomeoneGoesOn, SomeoneGoesOnIn, LevelStep, announces};
+ghost use Rattle.ya_core.specs.Progress.{LevelSees, HasNotWon, times_overtaken};
 ghost use Rattle.ya_core.specs.Walks.{Walk, IsWalk, Enters, Leaves, Goes, AccessIsWithin, MayFind};
 ghost use Rattle.ya_core.specs.Worlds.{Marked, World, Event, WorldSteps, WorldAppends};
 ghost use Rattle.ya_core.specs.Worlds.{IsReached, IsInside, IsLawful, any_entry, entries_of};
@@ -54,6 +57,25 @@ pub fn exclusion<X>()
     ensures { (levels : ℕ) (events : List (Event X)) (world : World X)
         → 1 ≤ levels → IsReached levels any_entry events world
         → (p q : ℕ) → IsInside world.state p → IsInside world.state q → p ≡ q }
+{}
+
+/// Nobody waits for ever in vain: where the invariant holds and some place takes part, some place that takes part has a
+/// step that changes its process. So it is in every world that any list of events leads to.
+pub fn no_deadlock<X>()
+    ensures states { (levels place : ℕ) (s : State)
+        → 1 ≤ levels → IsSound levels s → s.processes place ≢ process.Idle
+        → SomeoneGoesOn levels s }
+    ensures worlds { (levels place : ℕ) (events : List (Event X)) (world : World X)
+        → 1 ≤ levels → IsReached levels any_entry events world
+        → world.state.processes place ≢ process.Idle → SomeoneGoesOnIn levels world }
+{}
+
+/// In every run, from a place's store of T at a node until it wins that node, the other side wins the node at most once.
+pub fn one_overtaking()
+    ensures { (levels level place : ℕ) (before during : List LevelStep)
+        → 1 ≤ level → level ≤ levels
+        → LevelSees levels level opening (before ++ announces place ∷ during)
+        → HasNotWon place during → times_overtaken level place during ≤ 1 }
 {}
 
 /// A place makes at most seven remote accesses a level from `begin_entry` until it is inside, and at most three a level

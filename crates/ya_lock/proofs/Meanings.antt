@@ -1,16 +1,16 @@
 -- What follows from the rule.
-use Rattle.std.proofs.Common.{◌≡◌, ℕ, ◌≤◌, Bool, true, false, List, [], ◌∷◌, sym, refl, ap, ◌∙◌, subst, Some}
+use Rattle.std.proofs.Common.{◌≡◌, ◌≢◌, ℕ, ◌≤◌, Bool, true, false, List, [], ◌∷◌, sym, refl, ap, ◌∙◌, subst, Some}
 use Rattle.std.specs.Prelude as std
 use mathlib.Core.Option.{Option, none, some, some-injective, some-ne-none}
 use Rattle.atomic_table.specs.Table.{State}
 use Rattle.ya_core.specs.declared.process.Process.{Process}
 use Rattle.ya_core.specs.declared.process.Process.TheVariants.{Idle, Inside}
-use Rattle.ya_core.proofs.Promised.{excludes}
+use Rattle.ya_core.proofs.Promised.{excludes, someone_goes_on}
 use Rattle.ya_lock.specs.declared.view.View.{View}
 use Rattle.ya_lock.specs.declared.view.View.TheVariants.{Stranger, Maker, Filler, Dealer, Member, Confirmer, Spent}
 use Rattle.ya_lock.specs.Rule.{words_in, place_of, Picture, Knows, Lies, Fits, Rule}
 use Rattle.ya_core.specs.Worlds.{is_inside}
-use Rattle.ya_lock.specs.Meaning.{IsOf, HasProcess, NoneInside, ShowsCore, OneSeatAPlace, OneInside, LiesHome, IsFresh}
+use Rattle.ya_lock.specs.Meaning.{IsOf, HasProcess, NoneInside, ShowsCore, GoesOn, SomeSeatGoesOn, OneSeatAPlace, OneInside, LiesHome, IsFresh}
 use Rattle.ya_lock.proofs.Steps.{inside_is, none_true}
 
 module _ {V : Type 0} (since : ℕ → V → V → Type 0) (levels : ℕ) where
@@ -73,6 +73,22 @@ module _ {V : Type 0} (since : ℕ → V → V → Type 0) (levels : ℕ) where
     (λ seat place process value h. (shown s r seat place process value h).is),
     (λ place away. no_seat s r place away (r.0.seat_of place) refl),
   )
+
+  -- where some process takes part, one goes on
+  pub some_seat_goes_on : 1 ≤ levels → (s : St) → Rule since levels s → SomeSeatGoesOn s levels
+  some_seat_goes_on least s r seat place process value h busy =
+      let one = someone_goes_on levels (record { words = words_in levels s.words; processes = r.0.processes }) least r.1.sound place (λ idle. busy (sym (shown s r seat place process value h).is ∙ idle)) in
+      by_seat one.place one.busy (λ same. one.goes_on (one.step.process ∙ same)) (r.0.seat_of one.place) refl
+    where
+      by_seat : (q : ℕ) → r.0.processes q ≢ Idle → GoesOn s levels q (r.0.processes q) → (o : Option ℕ) → r.0.seat_of q ≡ o
+          → (other k : ℕ) × ((x : Process) × ((v : V) × HasProcess s other k x v × (x ≢ Idle) × GoesOn s levels k x))
+      by_seat q takes_part moves none e = absurd (takes_part (r.1.absent q e))
+      by_seat q takes_part moves (some other) e =
+          let sits = r.1.seated q other e in let view = of_place sits.0 q sits.2 in
+          let x : Process = view.0 in let v : V = view.1.0 in
+          let has : HasProcess s other q x v = (sits.0, sits.1, view.1.1) in
+          let is : r.0.processes q ≡ x = (shown s r other q x v has).is in
+          (other, q, (x, (v, has, (λ idle. takes_part (is ∙ idle)), subst (GoesOn s levels q) is moves)))
 
   -- two views of one place are those of one seat
   pub one_seat : (s : St) → Rule since levels s → OneSeatAPlace s

@@ -6,6 +6,7 @@ use lib.ListN.{get_elem?}
 use Rattle.atomic_table.specs.Table.{State}
 use Rattle.ya_core.specs.declared.process.Process.{Process}
 use Rattle.ya_core.specs.declared.process.Process.TheVariants.{Idle, Inside}
+use Rattle.ya_core.specs.Steps.{access_of, next_of, value_of}
 use Rattle.ya_core.specs.Soundness.{IsSound}
 use Rattle.ya_lock.specs.declared.view.View.{View}
 use Rattle.ya_lock.specs.declared.view.View.TheVariants.{Member, Confirmer}
@@ -37,6 +38,15 @@ module _ {V : Type 0} where
         (processes : ℕ → Process) × IsSound levels (record { words = words_in levels s.words; processes = processes })
         × ((seat place : ℕ) (process : Process) (value : V) → HasProcess seat place process value → processes place ≡ process)
         × ((place : ℕ) → ((seat : ℕ) (process : Process) (value : V) → ¬ HasProcess seat place process value) → processes place ≡ Idle)
+
+    -- where some seat has a process that takes part, some seat has one that takes part and goes on by the words as they are
+    abbrev pub GoesOn : ℕ → ℕ → Process → Type 0
+    GoesOn levels place process = next_of levels place process (value_of (words_in levels s.words) (access_of levels place process)) ≢ process
+
+    abbrev pub SomeSeatGoesOn : ℕ → Type 0
+    SomeSeatGoesOn levels =
+        (seat place : ℕ) (process : Process) (value : V) → HasProcess seat place process value → process ≢ Idle
+        → (other q : ℕ) × ((x : Process) × ((v : V) × HasProcess other q x v × (x ≢ Idle) × GoesOn levels q x))
 
     -- two views of one place are those of one seat
     abbrev pub OneSeatAPlace : Type 0

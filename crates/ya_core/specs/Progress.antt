@@ -1,0 +1,80 @@
+-- What is said of progress: some place that takes part can go on, and at a node nobody is overtaken twice.
+use Rattle.std.specs.Prelude.{◌≡◌, ◌≢◌, ℕ, ◌+◌, ◌==◌, Bool, true, false, not, ◌&&◌, if◌then◌else◌, List, [], ◌∷◌}
+use Rattle.ya_core.specs.declared.process.Entry.TheVariants.{E2}
+use Rattle.ya_core.specs.declared.process.Process.{Process}
+use Rattle.ya_core.specs.declared.process.Process.TheVariants.{Idle, Entering}
+use Rattle.ya_core.specs.Tree.{node_of, side_of}
+use Rattle.ya_core.specs.Steps.{State, StepsTo}
+use Rattle.ya_core.specs.Worlds.{World, WorldSteps}
+
+-- some place that takes part has a step that changes its process
+pub record SomeoneGoesOn (levels : ℕ) (s : State) : Type 0 where
+  pub place : ℕ
+  pub busy : s.processes place ≢ Idle
+  pub after : State
+  pub step : StepsTo levels place s after
+  pub goes_on : after.processes place ≢ s.processes place
+
+-- the same in a world
+pub record SomeoneGoesOnIn {X : Type 0} (levels : ℕ) (world : World X) : Type 0 where
+  pub place : ℕ
+  pub busy : world.state.processes place ≢ Idle
+  pub after : World X
+  pub step : WorldSteps levels place world after
+  pub goes_on : after.state.processes place ≢ world.state.processes place
+
+-- what a step does at one level: its place announces itself at its node (e2), wins the node, or does neither
+pub data Deed : Type 0 where
+  Announces : Deed
+  Wins : Deed
+  Neither : Deed
+
+-- the process is on its way in at the level
+abbrev pub is_entering : ℕ → Process → Bool
+is_entering level (Entering stands point) = level == stands
+is_entering level _ = false
+
+-- it is to announce itself there
+abbrev pub is_to_announce : ℕ → Process → Bool
+is_to_announce level (Entering stands E2) = level == stands
+is_to_announce level _ = false
+
+-- the deed of a step from one process to the next; who leaves the way in of a level has won it
+abbrev pub deed_of : ℕ → Process → Process → Deed
+deed_of level before after =
+    if is_to_announce level before then Announces else (if is_entering level before && not (is_entering level after) then Wins else Neither)
+
+-- a step as one level sees it: its place, and what it did there
+pub record LevelStep : Type 0 where
+  pub place : ℕ
+  pub deed : Deed
+
+-- the place announces itself
+abbrev pub announces : ℕ → LevelStep
+announces place = record { place = place; deed = Announces }
+
+-- from this state on places step one after another, and the level sees these steps
+abbrev pub LevelSees : ℕ → ℕ → State → List LevelStep → Type 0
+LevelSees levels level s [] = Unit {0}
+LevelSees levels level s (step ∷ steps) =
+    (after : State) × StepsTo levels step.place s after × (step.deed ≡ deed_of level (s.processes step.place) (after.processes step.place))
+    × LevelSees levels level after steps
+
+-- none of the steps wins the level for the place
+abbrev pub HasNotWon : ℕ → List LevelStep → Type 0
+HasNotWon place [] = Unit {0}
+HasNotWon place (step ∷ steps) = (step.place ≡ place → step.deed ≢ Wins) × HasNotWon place steps
+
+-- the other place competes with the place at the level
+abbrev pub is_rival : ℕ → ℕ → ℕ → Bool
+is_rival level place other = (node_of level other == node_of level place) && not (side_of level other == side_of level place)
+
+abbrev pub is_win : Deed → Bool
+is_win Wins = true
+is_win _ = false
+
+-- how often rivals of the place win the level
+abbrev pub times_overtaken : ℕ → ℕ → List LevelStep → ℕ
+times_overtaken level place [] = 0
+times_overtaken level place (step ∷ steps) =
+    (if is_rival level place step.place && is_win step.deed then 1 else 0) + times_overtaken level place steps

@@ -1,0 +1,150 @@
+//! A second machine, written from the table of the steps in docs/LOCK.md over a map of named words. It shares no code with
+//! the crate.
+use std::alloc::Global;
+use std::collections::BTreeMap;
+use std::fmt::Write;
+use std::test::*;
+
+/// What the second machine tells of a step.
+#[derive(Drop)]
+pub struct Told {
+    pub word: String,
+    pub store: bool,
+    pub value: u64,
+    pub mark: &'static str,
+}
+
+/// Where a process of the second machine stands. Points 1 to 10 are those of the way in, 11 to 13 those of the way out.
+#[derive(Clone, Copy)]
+struct Stand {
+    point: u32,
+    level: u32,
+    rival: u64,
+}
+
+const IDLE: u32 = 0;
+
+const INSIDE: u32 = 14;
+
+/// All places of a tree.
+#[derive(Drop)]
+pub struct Second {
+    levels: u32,
+    words: BTreeMap<String, u64>,
+    stands: Vec<Stand>,
+}
+
+impl Second {
+    pub fn new(alloc: Global, levels: u32) -> Result<Second, Fail> {
+        let idle = Stand {
+            point: IDLE,
+            level: 0,
+            rival: 0,
+        };
+        Ok(Second {
+            levels,
+            words: BTreeMap::new(alloc),
+            stands: vec![in alloc; idle; 64]?,
+        })
+    }
+
+    pub fn step(&mut self, alloc: Global, place: usize) -> Result<Told, Fail> {
+        let mut stand = *self.stands.get(place).ok_or("a place")?;
+        if stand.point == IDLE {
+            (stand.point, stand.level) = (1, 1);
+        } else if stand.point == INSIDE {
+            (stand.point, stand.level) = (11, self.levels);
+        }
+        let own = place as u64 + 1;
+        let word = self.word(alloc, place, stand)?;
+        let stored = match stand.point {
+            1 | 2 => Some(own),
+            3 | 11 => Some(0),
+            7 => Some(1),
+            13 => Some(2),
+            _ => None,
+        };
+        let value = match stored {
+            Some(value) => value,
+            None => self.words.get(word.as_str()).copied().unwrap_or(0),
+        };
+        if stored.is_some() {
+            self.words.insert(word.clone()?, value)?;
+        }
+        let next = self.next(stand, own, value);
+        if let Some(stands) = self.stands.get_mut(place) {
+            *stands = next;
+        }
+        let mark = match next.point {
+            IDLE => "out",
+            INSIDE => "inside",
+            _ => "",
+        };
+        Ok(Told {
+            word,
+            store: stored.is_some(),
+            value,
+            mark,
+        })
+    }
+
+    /// The name of the word that the place is to load or store.
+    fn word(&self, alloc: Global, place: usize, stand: Stand) -> Result<String, Fail> {
+        let level = stand.level;
+        let node = place.checked_shr(level).unwrap_or(0);
+        let side = place.checked_shr(level.saturating_sub(1)).unwrap_or(0) % 2;
+        let rival = stand.rival.saturating_sub(1);
+        Ok(match stand.point {
+            1 | 11 => format!(in alloc; "C{level}.{node}.{side}")?,
+            4 => {
+                let other = 1 - side;
+                format!(in alloc; "C{level}.{node}.{other}")?
+            }
+            2 | 5 | 9 | 12 => format!(in alloc; "T{level}.{node}")?,
+            6 | 7 | 13 => format!(in alloc; "P{level}.{rival}")?,
+            _ => format!(in alloc; "P{level}.{place}")?,
+        })
+    }
+
+    /// Where the place stands after it loaded or stored the value.
+    fn next(&self, stand: Stand, own: u64, value: u64) -> Stand {
+        let won = match stand.point {
+            4 => value == 0,
+            5 | 9 => value != own,
+            10 => value == 2,
+            _ => false,
+        };
+        let left = stand.point == 13 || stand.point == 12 && value == own;
+        let (point, level) = if won && stand.level == self.levels {
+            (INSIDE, 0)
+        } else if won {
+            (1, stand.level.wrapping_add(1))
+        } else if left && stand.level == 1 {
+            (IDLE, 0)
+        } else if left {
+            (11, stand.level.wrapping_sub(1))
+        } else {
+            (self.point_after(stand.point, value), stand.level)
+        };
+        let rival = if stand.point == 4 || stand.point == 12 {
+            value
+        } else {
+            stand.rival
+        };
+        Stand {
+            point,
+            level,
+            rival,
+        }
+    }
+
+    /// The next point of the same level.
+    fn point_after(&self, point: u32, value: u64) -> u32 {
+        match point {
+            6 if value != 0 => 8,
+            8 if value == 0 => 8,
+            10 => 10,
+            _ => point.wrapping_add(1),
+        }
+    }
+}
