@@ -13,3 +13,6 @@ pub use parse::{LINE_BYTES, LineFault, parse_line};
 pub use print::{write_report, write_table};
 pub use report::{Answer, Line, Report};
 pub use versions::{Version, text_body, text_version};
+
+#[cfg(test)]
+mod hostile;
