@@ -1,12 +1,13 @@
 //! One process that is told what it loaded.
 ghost use Rattle.std.specs.Prelude.{◌≡◌, ◌↔◌, ℕ, ◌+◌, ◌-◌, ◌*◌, ◌^◌, ◌<◌, ◌≤◌, true, false, IsTrue, IsFalse};
-ghost use Rattle.ya_core.specs.declared.process.Process.TheVariants.{Idle, Inside};
+ghost use Rattle.ya_core.specs.declared.process.Process.TheVariants.{Idle, Inside, Entering};
+ghost use Rattle.ya_core.specs.declared.process.Entry.TheVariants.{E1};
 ghost use Rattle.ya_core.specs.Tree.{node_of, side_of};
 ghost use Rattle.ya_core.specs.Steps.{access_of};
 ghost use Rattle.ya_core.specs.Walks.{IsWalk, walk, op_of, due, Fits, IsStore, CanStand, cost_of, walk_after, budget, MovesOn, OpIsWithin};
-ghost use Rattle.ya_core.specs.Walks.{DueIsWithin, IsTold, LevelIsSmall, due_of};
+ghost use Rattle.ya_core.specs.Walks.{level_begun_of, DueIsWithin, IsTold, LevelIsSmall, due_of};
 
-use crate::process::Process;
+use crate::process::{Entry, Process};
 use crate::shape::Shape;
 use crate::word::{Access, Word};
 use std::marker::Model;
@@ -88,6 +89,33 @@ impl Walker {
             process: Process::Inside,
             begun: false,
             remote,
+        }
+    }
+
+    /// The process of that place at the first access of a level on its way in, after so many remote accesses.
+    #[inline(always)]
+    pub fn entering(shape: Shape, place: usize, level: u32, remote: u64) -> Walker
+        requires { IsWalk (walk shape place (Entering level E1) false remote) }
+        ensures { result ≡ walk shape place (Entering level E1) false remote }
+    {
+        Walker {
+            shape,
+            place,
+            process: Process::Entering(level, Entry::E1),
+            begun: false,
+            remote,
+        }
+    }
+
+    /// The level whose first access is due on the way in; none at any other point, and none where the process is idle.
+    #[inline(always)]
+    pub fn level_begun(&self) -> Option<u32>
+        ensures value { result ≡ level_begun_of self.now.process }
+        ensures proper { IsWalk self.now }
+    {
+        match self.process {
+            Process::Entering(level, Entry::E1) => Some(level),
+            _ => None,
         }
     }
 

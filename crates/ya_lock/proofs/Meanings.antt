@@ -1,5 +1,5 @@
 -- What follows from the rule.
-use Rattle.std.proofs.Common.{◌≡◌, ◌≢◌, ℕ, ◌≤◌, Bool, true, false, List, [], ◌∷◌, sym, refl, ap, ◌∙◌, subst, Some}
+use Rattle.std.proofs.Common.{◌≡◌, ◌≢◌, ℕ, ◌≤◌, Bool, true, false, List, [], ◌∷◌, sym, refl, ap, ◌∙◌, subst, slice_index, Some}
 use Rattle.std.specs.Prelude as std
 use mathlib.Core.Option.{Option, none, some, some-injective, some-ne-none}
 use Rattle.atomic_table.specs.Table.{State}
@@ -8,9 +8,9 @@ use Rattle.ya_core.specs.declared.process.Process.TheVariants.{Idle, Inside}
 use Rattle.ya_core.proofs.Promised.{excludes, someone_goes_on}
 use Rattle.ya_lock.specs.declared.view.View.{View}
 use Rattle.ya_lock.specs.declared.view.View.TheVariants.{Stranger, Maker, Filler, Dealer, Member, Confirmer, Spent}
-use Rattle.ya_lock.specs.Rule.{words_in, place_of, Picture, Knows, Lies, Fits, Rule}
+use Rattle.ya_lock.specs.Rule.{making_index, words_in, place_of, Picture, Knows, Lies, Fits, Rule}
 use Rattle.ya_core.specs.Worlds.{is_inside}
-use Rattle.ya_lock.specs.Meaning.{IsOf, HasProcess, NoneInside, ShowsCore, GoesOn, SomeSeatGoesOn, OneSeatAPlace, OneInside, LiesHome, IsFresh}
+use Rattle.ya_lock.specs.Meaning.{IsOf, IsFilling, IsMaking, HasProcess, NoneInside, ShowsCore, GoesOn, SomeSeatGoesOn, OneSeatAPlace, OneInside, LiesHome, IsFresh, IsMadeByOne}
 use Rattle.ya_lock.proofs.Steps.{inside_is, none_true}
 
 module _ {V : Type 0} (since : ℕ → V → V → Type 0) (levels : ℕ) where
@@ -155,3 +155,45 @@ module _ {V : Type 0} (since : ℕ → V → V → Type 0) (levels : ℕ) where
             subst (λ (v : V). since place seen v) (home_is k.0 now (sym same ∙ home)) k.2),
         (λ one other g. let b = shown s r one other Inside now g in subst (λ (v : V). since place seen v) (some-injective k.0 now (sym k.1 ∙ b.knows)) k.2),
       )
+
+  -- before the passes are made there are strangers alone
+  only_strangers : (s : St) (x : Picture V) (seat : ℕ) (view : View V) → slice_index s.words (making_index levels) ≡ 0 → Fits since levels s x seat view → view ≡ Stranger
+  only_strangers s x seat Stranger zero f = refl
+  only_strangers s x seat Maker zero f = absurd (f.0 zero)
+  only_strangers s x seat Filler zero f = absurd (f.0 zero)
+  only_strangers s x seat (Dealer first value) zero f = absurd (f.0 zero)
+  only_strangers s x seat (Member place process value) zero f = absurd (f.0 zero)
+  only_strangers s x seat (Confirmer place value other seen) zero f = absurd (f.0 zero)
+  only_strangers s x seat Spent zero f = absurd (f zero)
+
+  -- the picture has one maker
+  makes : (s : St) (x : Picture V) (seat : ℕ) (view : View V) → IsMaking view → Fits since levels s x seat view → x.maker ≡ some seat
+  makes s x seat Stranger h f = absurd h
+  makes s x seat Maker h f = f.1
+  makes s x seat Filler h f = f.1
+  makes s x seat (Dealer first value) h f = f.1
+  makes s x seat (Member place process value) h f = absurd h
+  makes s x seat (Confirmer place value other seen) h f = absurd h
+  makes s x seat Spent h f = absurd h
+
+  -- which has no content before the value is given
+  fills : (s : St) (x : Picture V) (seat : ℕ) (view : View V) → IsFilling view → Fits since levels s x seat view → x.content ≡ none
+  fills s x seat Stranger h f = absurd h
+  fills s x seat Maker h f = f.2
+  fills s x seat Filler h f = f.2
+  fills s x seat (Dealer first value) h f = absurd h
+  fills s x seat (Member place process value) h f = absurd h
+  fills s x seat (Confirmer place value other seen) h f = absurd h
+  fills s x seat Spent h f = absurd h
+
+  -- the passes are made by one seat
+  pub made_by_one : (s : St) → Rule since levels s → IsMadeByOne s levels
+  made_by_one s r = record {
+    strangers = λ zero seat view h. only_strangers s r.0 seat view zero (r.1.fits seat view h);
+    empty = λ zero. (r.1.unmade zero).1;
+    one_maker = λ one other v w h m k n. some-injective one other (sym (makes s r.0 one v m (r.1.fits one v h)) ∙ makes s r.0 other w n (r.1.fits other w k));
+    unfilled = λ seat view h m other place process value k.
+        some-ne-none other (sym (shown s r other place process value k).sits ∙ r.1.before (fills s r.0 seat view m (r.1.fits seat view h)) place);
+    undealt = λ seat first given h other place process value far k.
+        some-ne-none other (sym (shown s r other place process value k).sits ∙ ((r.1.fits seat (Dealer first given) h).3 place far).0);
+  }

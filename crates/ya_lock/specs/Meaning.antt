@@ -1,5 +1,5 @@
 -- What the rule says of the words, the lent value and the views of all seats, at every moment between two atomic steps.
-use Rattle.std.specs.Prelude.{◌≡◌, ◌≢◌, ℕ, List, [], ◌∷◌, Some}
+use Rattle.std.specs.Prelude.{◌≡◌, ◌≢◌, ◌≤◌, ℕ, List, [], ◌∷◌, slice_index, Some, None}
 use Rattle.std.specs.Prelude as std
 use mathlib.Core.Option.{none, some}
 use lib.ListN.{get_elem?}
@@ -9,8 +9,8 @@ use Rattle.ya_core.specs.declared.process.Process.TheVariants.{Idle, Inside}
 use Rattle.ya_core.specs.Steps.{access_of, next_of, value_of}
 use Rattle.ya_core.specs.Soundness.{IsSound}
 use Rattle.ya_lock.specs.declared.view.View.{View}
-use Rattle.ya_lock.specs.declared.view.View.TheVariants.{Member, Confirmer}
-use Rattle.ya_lock.specs.Rule.{words_in}
+use Rattle.ya_lock.specs.declared.view.View.TheVariants.{Stranger, Maker, Filler, Dealer, Member, Confirmer}
+use Rattle.ya_lock.specs.Rule.{words_in, making_index}
 
 module _ {V : Type 0} where
   -- the view is that of the place's process, which has seen the value or, inside, found it
@@ -18,6 +18,17 @@ module _ {V : Type 0} where
   IsOf (Member place process value) p x v = (place ≡ p) × (process ≡ x) × (value ≡ v)
   IsOf (Confirmer place value other seen) p x v = (place ≡ p) × (Inside ≡ x) × (value ≡ v)
   IsOf _ p x v = ⊥
+
+  -- the seat is to make the passes, and hasn't given the value yet
+  abbrev pub IsFilling : View V → Type 0
+  IsFilling Maker = Unit {0}
+  IsFilling Filler = Unit {0}
+  IsFilling _ = ⊥
+
+  -- it is to make the passes of the places from some one on
+  abbrev pub IsMaking : View V → Type 0
+  IsMaking (Dealer first value) = Unit {0}
+  IsMaking view = IsFilling view
 
   module _ (s : State (std.Option V) (View V)) where
     -- the seat has the process of the place
@@ -67,3 +78,21 @@ module _ {V : Type 0} where
     IsFresh since =
         (seat place : ℕ) (seen now : V) → IsAway seat place seen
         → ((s.homes ≡ some (Some now) ∷ [] → since place seen now) × ((one other : ℕ) → HasProcess one other Inside now → since place seen now))
+
+    -- how the passes are made: nobody knows anything and the slot is empty until one seat, the only one, begins to; it has all places from the next one on to itself
+    pub record IsMadeByOne (levels : ℕ) : Type 0 where
+      pub strangers : slice_index s.words (making_index levels) ≡ 0 → (seat : ℕ) (view : View V) → get_elem? s.views seat ≡ some view → view ≡ Stranger
+      pub empty : slice_index s.words (making_index levels) ≡ 0 → s.homes ≡ some None ∷ []
+      pub one_maker : (one other : ℕ) (v w : View V) → get_elem? s.views one ≡ some v → IsMaking v → get_elem? s.views other ≡ some w → IsMaking w → one ≡ other
+      pub unfilled : (seat : ℕ) (view : View V) → get_elem? s.views seat ≡ some view → IsFilling view → (other place : ℕ) (process : Process) (value : V) → ¬ HasProcess other place process value
+      pub undealt : (seat first : ℕ) (given : V) → get_elem? s.views seat ≡ some (Dealer first given) → (other place : ℕ) (process : Process) (value : V) → first ≤ place → ¬ HasProcess other place process value
+
+-- what words, value and views show at every moment between two atomic steps of the seats
+pub record IsLockState {V : Type 0} (since : ℕ → V → V → Type 0) (levels : ℕ) (s : State (std.Option V) (View V)) : Type 0 where
+  pub core : ShowsCore s levels
+  pub progress : SomeSeatGoesOn s levels
+  pub places : OneSeatAPlace s
+  pub exclusion : OneInside s
+  pub value : LiesHome s
+  pub fresh : IsFresh s since
+  pub making : IsMadeByOne s levels

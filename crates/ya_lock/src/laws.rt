@@ -1,6 +1,6 @@
-//! What the rule of the lock's table means, as contracts of functions that do nothing.
+//! What the rule of the lock's table means, as the contract of a function that does nothing.
 ghost use Rattle.std.specs.Prelude.{ℕ, ◌≤◌};
-ghost use Rattle.ya_lock.specs.Meaning.{ShowsCore, SomeSeatGoesOn, OneSeatAPlace, OneInside, LiesHome, IsFresh};
+ghost use Rattle.ya_lock.specs.Meaning.{IsLockState};
 
 use crate::kept::Kept;
 use crate::rule::LockRule;
@@ -10,14 +10,10 @@ use atomic_table::TableRule;
 /// Wherever the rule of a lock's table holds, and so at every moment between two atomic steps of its seats: the invariant
 /// of the core holds of the words and of the processes that the seats show, so whoever waits is owed a word; where some
 /// process takes part, one that does goes on by the words as they are; each place has one seat, and one seat at most is
-/// inside; the value lies home exactly where none is inside; and what each place away has seen may have become, by other
-/// places, the value as it is.
+/// inside; the value lies home exactly where none is inside; what each place away has seen may have become, by other
+/// places, the value as it is; and the passes are made by one seat, before which nobody knows anything.
 pub fn rule<V: Kept, const L: u32>()
     requires { 1 ≤ L }
-    ensures core { (s : _) → ⟦<LockRule as TableRule<Option<V>, View<V>, u32>>⟧.holds L s → ShowsCore s L }
-    ensures progress { (s : _) → ⟦<LockRule as TableRule<Option<V>, View<V>, u32>>⟧.holds L s → SomeSeatGoesOn s L }
-    ensures places { (s : _) → ⟦<LockRule as TableRule<Option<V>, View<V>, u32>>⟧.holds L s → OneSeatAPlace s }
-    ensures exclusion { (s : _) → ⟦<LockRule as TableRule<Option<V>, View<V>, u32>>⟧.holds L s → OneInside s }
-    ensures value { (s : _) → ⟦<LockRule as TableRule<Option<V>, View<V>, u32>>⟧.holds L s → LiesHome s }
-    ensures fresh { (s : _) → ⟦<LockRule as TableRule<Option<V>, View<V>, u32>>⟧.holds L s → IsFresh s V.since }
+    ensures { (s : _) → ⟦<LockRule as TableRule<Option<V>, View<V>, u32>>⟧.holds L s
+        → IsLockState V.since L s }
 {}

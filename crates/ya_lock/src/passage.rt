@@ -1,10 +1,11 @@
 //! The way in and the way out: each access is one step of a walker of the core, by the seat of its place.
-ghost use Rattle.std.specs.Prelude.{◌≡◌, ◌≢◌, ℕ, [], ◌+◌, ◌*◌, ◌≤◌};
+ghost use Rattle.std.specs.Prelude.{◌≡◌, ◌≢◌, ℕ, [], ◌+◌, ◌*◌, ◌^◌, ◌<◌, ◌≤◌, IfSome};
 ghost use Rattle.ya_core.specs.declared.process.Process.TheVariants.{Idle};
 ghost use Rattle.ya_core.specs.Walks.{IsWalk, op_of, walk_after, MovesOn, budget};
 ghost use Rattle.ya_core.specs.Worlds.{is_inside};
 ghost use Rattle.ya_lock.specs.declared.view.View.TheVariants.{Member};
 ghost use Rattle.ya_lock.specs.Moves.{IsReady, Goes};
+ghost use Rattle.ya_lock.specs.Climbs.{HasClimbed};
 ghost use Rattle.ya_lock.specs.Lock.{HasEntered, IsComing, IsGoing};
 
 use crate::kept::Kept;
@@ -16,40 +17,57 @@ use crossbeam_utils::Backoff;
 use std::sync::Wait;
 use ya_core::{Op, Walker};
 
+/// Where an entry has come to, after so many remote accesses.
+#[derive(Clone, Copy)]
+pub enum Climb {
+    /// To the first access of that level; it holds those below.
+    Level(u32, u64),
+    /// Inside.
+    Inside(u64),
+}
+
 impl<V: Kept + Drop, const L: u32> TreeLock<V, L> {
-    /// Makes the accesses of an entry until its place is inside, and says how many of them were remote. They are written
-    /// out for a level whose other side is empty, so that the point of each is known where it is compiled.
+    /// Makes the accesses of an entry from that place until it is inside, and says how many of them were remote. Those of a
+    /// level whose other side is empty are written out, so that the point of each is known where it is compiled.
     #[inline(always)]
     pub(crate) fn go_in<R: Wait>(
         &self,
         rt: &R,
         seat: &mut LockSeat<V>,
-        mut walker: Walker,
+        place: usize,
         seen: &Recall<V>,
     ) -> u64
         requires lock { seat.old.table_id ≡ self.now }
-        requires levels { walker.levels ≡ L }
-        requires coming { IsComing V.since seen.now.value walker seat.old.me }
+        requires place { place < 2 ^ L }
+        requires idle { seat.old.me ≡ (Member place Idle seen.now.value, []) }
         ensures lock { seat.new.table_id ≡ seat.old.table_id }
-        ensures entered { HasEntered V.since walker.place seen.now.value seat.new.me }
+        ensures entered { HasEntered V.since place seen.now.value seat.new.me }
         ensures count { result ≤ 7 * L }
     {
-        for _ in 0..L {
+        let _ = &self.table;
+        let mut walker = Walker::new(Self::shape(), place);
+        walker.begin_entry();
+        for _ in rt.forever() {
             self.come(seat, &mut walker, seen);
             self.come(seat, &mut walker, seen);
             self.come(seat, &mut walker, seen);
             self.come(seat, &mut walker, seen);
-            match walker.op() {
-                Op::Inside => return walker.remote(),
-                Op::Store(_, _) => {}
-                Op::Load(_) | Op::Idle => break,
+            let climb = match self.climbed(seat, &walker, seen) {
+                Some(climb) => climb,
+                None => self.wait_in(rt, seat, walker, seen),
+            };
+            match climb {
+                Climb::Level(level, remote) => {
+                    walker = Walker::entering(Self::shape(), place, level, remote);
+                }
+                Climb::Inside(remote) => return remote,
             }
         }
-        self.wait_in(rt, seat, walker, seen)
+        unreachable!()
     }
 
-    /// The same where a rival competes. Between two loads that find the place's spin word as it was, it lets other threads
-    /// go on.
+    /// Makes the accesses of a level where a rival competes, until it is won. Between two loads that find the place's spin
+    /// word as it was, it lets other threads go on.
     #[inline(never)]
     fn wait_in<R: Wait>(
         &self,
@@ -57,30 +75,43 @@ impl<V: Kept + Drop, const L: u32> TreeLock<V, L> {
         seat: &mut LockSeat<V>,
         mut walker: Walker,
         seen: &Recall<V>,
-    ) -> u64
+    ) -> Climb
         requires lock { seat.old.table_id ≡ self.now }
         requires levels { walker.levels ≡ L }
         requires coming { IsComing V.since seen.now.value walker seat.old.me }
         ensures lock { seat.new.table_id ≡ seat.old.table_id }
-        ensures entered { HasEntered V.since walker.place seen.now.value seat.new.me }
-        ensures count { result ≤ 7 * L }
+        ensures climbed { HasClimbed V.since L walker.place seen.now.value result seat.new.me }
     {
         let backoff = Backoff::new();
-        let mut due = walker.op();
         for _ in rt.forever() {
-            if matches!(due, Op::Inside) {
-                return walker.remote();
+            if let Some(climb) = self.climbed(seat, &walker, seen) {
+                return climb;
             }
+            let due = walker.op();
             self.come(seat, &mut walker, seen);
-            let next = walker.op();
-            if next == due {
+            if walker.op() == due {
                 backoff.snooze();
             } else {
                 backoff.reset();
             }
-            due = next;
         }
         unreachable!()
+    }
+
+    /// What the walker has climbed, where it is at the first access of a level or inside.
+    #[inline(always)]
+    fn climbed(&self, seat: &LockSeat<V>, walker: &Walker, seen: &Recall<V>) -> Option<Climb>
+        requires levels { walker.now.levels ≡ L }
+        requires coming { IsComing V.since seen.now.value walker.now seat.now.me }
+        ensures { IfSome result (λ climb. HasClimbed V.since L walker.now.place seen.now.value climb seat.now.me) }
+    {
+        if let Some(level) = walker.level_begun() {
+            return Some(Climb::Level(level, walker.remote()));
+        }
+        if matches!(walker.op(), Op::Inside) {
+            return Some(Climb::Inside(walker.remote()));
+        }
+        None
     }
 
     /// Makes the accesses of an exit until its place is idle, and says how many of all since the entry were remote.

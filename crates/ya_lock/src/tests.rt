@@ -121,21 +121,23 @@ fn hands_back_what_it_refuses(rt: HostRuntime) {
     }
 }
 
-// Enters with the last pass, confirms all others under its guard, and closes the lock.
+// Enters with the last pass, confirms all others under its guard, and closes the lock. How many were confirmed, and the
+// marks.
 fn settle<R: Wait, const L: u32>(
     rt: &R,
     lock: TreeLock<Marks, L>,
     passes: Vec<Pass<Marks>>,
-) -> Option<Marks>
+) -> Option<(usize, Marks)>
     requires { All (λ p. p.lock ≡ lock) passes.items }
 {
     let mut passes = passes;
     let pass = passes.pop()?;
+    let others = passes.len();
     let mut guard = lock.enter(rt, pass);
     while let Some(pass) = passes.pop() {
         guard = lock.confirm(guard, pass);
     }
-    Some(lock.close(guard))
+    Some((others, lock.close(guard)))
 }
 
 // The marks of two threads, which make so many each.
@@ -172,7 +174,8 @@ fn by_all<R: Threads + Wait + Sync, const L: u32>(
             ensures { result.lock ≡ shared.entry.now }
         { mark(rt, shared, pass, times) },
     )?;
-    Ok(settle(rt, lock, passes).ok_or("a pass")?)
+    let (_, marks) = settle(rt, lock, passes).ok_or("a pass")?;
+    Ok(marks)
 }
 
 #[test]
@@ -194,11 +197,34 @@ fn eight_threads_count(rt: HostRuntime) -> Result<(), Fail> {
 }
 
 #[test]
+fn a_pass_is_confirmed_while_the_other_place_is_inside(rt: HostRuntime) -> Result<(), Fail> {
+    let (lock, mut passes) = made::<Number, 1>(rt.alloc(), Number(7))?;
+    let second = passes.pop().ok_or("a second pass")?;
+    let first = passes.pop().ok_or("a first pass")?;
+    assert_eq!(rt; (first.place(), second.place()), (0, 1));
+    let mut guard = lock.enter(&rt, first);
+    *guard.get_mut() = Number(8);
+    let guard = lock.confirm(guard, second);
+    assert_eq!(rt; (guard.place(), guard.get().0), (0, 8));
+    let value = lock.close(guard);
+    assert_eq!(rt; value.0, 8);
+    Ok(())
+}
+
+// How many passes are confirmed under one open guard.
+fn confirmed<R: Wait, const L: u32>(rt: &R, alloc: Global) -> Result<usize, Fail>
+    requires { (1 ≤ L) × (L ≤ 6) }
+{
+    let (lock, passes) = made::<Marks, L>(alloc, Marks::new(alloc))?;
+    let (others, _) = settle(rt, lock, passes).ok_or("a pass")?;
+    Ok(others)
+}
+
+#[test]
 fn an_open_guard_keeps_no_other_pass_from_being_confirmed(rt: HostRuntime) -> Result<(), Fail> {
-    let (lock, passes) = made::<Marks, 1>(rt.alloc(), Marks::new(rt.alloc()))?;
-    let pair = settle(&rt, lock, passes).ok_or("two passes")?;
-    let (lock, passes) = made::<Marks, 4>(rt.alloc(), Marks::new(rt.alloc()))?;
-    let sixteen = settle(&rt, lock, passes).ok_or("sixteen passes")?;
-    assert!(rt; pair.places.is_empty() && sixteen.places.is_empty());
+    assert_eq!(rt; confirmed::<_, 1>(&rt, rt.alloc())?, 1);
+    assert_eq!(rt; confirmed::<_, 3>(&rt, rt.alloc())?, 7);
+    assert_eq!(rt; confirmed::<_, 4>(&rt, rt.alloc())?, 15);
+    assert_eq!(rt; confirmed::<_, 6>(&rt, rt.alloc())?, 63);
     Ok(())
 }

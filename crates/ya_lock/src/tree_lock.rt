@@ -70,9 +70,7 @@ impl<V: Kept + Drop, const L: u32> TreeLock<V, L> {
             seen,
         } = pass;
         let shared = &self.table.shared;
-        let mut walker = Walker::new(Self::shape(), place);
-        walker.begin_entry();
-        let remote = self.go_in(rt, &mut seat, walker, &seen);
+        let remote = self.go_in(rt, &mut seat, place, &seen);
         let Some(value) = shared.exchange(&mut seat, SLOT, None) else {
             unreachable!()
         };

@@ -6,6 +6,6 @@ abbrev pub invariant-loop : goal.invariant-loop
 invariant-loop g l = record {
   lock : l.seat.table_id ≡ l.self;
   levels : l.walker.levels ≡ g.row.L;
-  place : l.walker.place ≡ l.initial.walker.place;
+  place : l.walker.place ≡ l.place;
   coming : IsComing g.V.Kept.since l.seen.value l.walker l.seat.me;
 }

@@ -1,5 +1,4 @@
 use Rattle.std.proofs.Common.{◌≡◌}
-use Rattle.ya_core.specs.Walks.{op_of}
 use Rattle.ya_lock.specs.Lock.{IsComing}
 use Rattle.ya_lock.proofs.tree_lock.TreeLock.wait_in.Given as goal
 
@@ -8,6 +7,5 @@ invariant-loop g l = record {
   lock : l.seat.table_id ≡ l.self;
   levels : l.walker.levels ≡ g.row.L;
   place : l.walker.place ≡ l.initial.walker.place;
-  due : l.due ≡ op_of l.walker;
   coming : IsComing g.V.Kept.since l.seen.value l.walker l.seat.me;
 }
