@@ -8,6 +8,7 @@ and system).
 """
 import os
 import pathlib
+import statistics
 import subprocess
 import sys
 import tempfile
@@ -40,12 +41,14 @@ def timed(program, passages, levels, threads):
     return int(row[3]) / made, (used.ru_utime + used.ru_stime) * 1e9 / made
 
 
-def least(rounds, passages, programs, levels, threads):
-    """The least of both times for the lock, C and the mutex."""
+def times(rounds, passages, programs, levels, threads):
+    """Both times for the lock, C and the mutex: the least of one thread, whom other work can only slow down, and the middle one
+    of several, who are fastest when they happen to come one after another."""
     tree, plain = programs
     cases = [(tree, levels), (plain, levels), (tree, 0)]
     runs = [[timed(program, passages, height, threads) for program, height in cases] for _ in range(rounds)]
-    return [[min(times[case][kind] for times in runs) for case in range(3)] for kind in range(2)]
+    pick = min if threads == 1 else statistics.median
+    return [[pick([run[case][kind] for run in runs]) for case in range(3)] for kind in range(2)]
 
 
 def main():
@@ -57,7 +60,7 @@ def main():
         print("levels threads     lock        C    mutex lock/C     lock        C    mutex lock/C")
         for levels, threads in ALONE + TOGETHER:
             row = f"{levels:>6} {threads:>7}"
-            for lock, plain, mutex in least(rounds, passages, programs, levels, threads):
+            for lock, plain, mutex in times(rounds, passages, programs, levels, threads):
                 row += f" {lock:>8.1f} {plain:>8.1f} {mutex:>8.1f} {lock / plain:>6.2f}"
             print(row, flush=True)
 
