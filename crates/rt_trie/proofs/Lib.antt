@@ -3,6 +3,7 @@ pub mod CountLemmas
 pub mod DescentLemmas
 pub mod InsertLemmas
 pub mod LaneLemmas
+pub mod LawfulLemmas
 pub mod LinkLemmas
 pub mod LongestLemmas
 pub mod MapLaws

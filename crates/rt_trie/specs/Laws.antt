@@ -1,9 +1,11 @@
 -- What the words for a map mean: what is found, what a change makes, which prefix is first and which comes next.
-use Rattle.std.specs.Prelude.{◌≡◌, ◌↔◌, ◌<◌, ◌/◌, ◌%◌, Bool, false, IsTrue, [], Some, None, Contains, if◌then◌else◌}
+use Rattle.std.specs.Prelude.{◌≡◌, ◌↔◌, ◌<◌, ◌/◌, ◌%◌, Bool, true, false, IsTrue, [], Option, Some, None, IfSome, IfNone, Contains, if◌then◌else◌}
 use Rattle.rt_cidr.specs.declared.prefixes.Prefix.{Prefix}
 use Rattle.rt_cidr.specs.Cidr.{size_of}
 use Rattle.rt_cidr.specs.Prefix.{contains}
 use Rattle.rt_trie.specs.Blocks.{IsChild}
+use Rattle.rt_trie.specs.declared.nodes.Link.{Link, Empty, Leaf, Fork', Full'}
+use Rattle.rt_trie.specs.Links.{root, IsFilled, IsLawfulTrie}
 use Rattle.rt_trie.specs.Map.{Pairs, same_prefix, before, get, put, erase, first, next_after, IsStored, IsOrdered}
 
 -- after v was put in at p, v stands at p, and at every other prefix what stood there
@@ -50,10 +52,28 @@ AfterIsNext V =
 abbrev pub NoneIsAfter : Type 0 → Type 0
 NoneIsAfter V = (m : Pairs V) (p : Prefix) → (next_after m p ≡ None) ↔ ((x : Prefix) → IsStored m x → before p x ≡ false)
 
--- a child on a side is longer than its parent, contained in it, and has the side's bit after the parent's length, a bit that
--- weighs half as many addresses as the parent covers
+-- a child by bits: it is longer than its parent, contained in it, and has the side's bit after the parent's length, a bit
+-- that weighs half as many addresses as the parent covers
+pub record IsChildByBit (parent : Prefix) (upper : Bool) (c : Prefix) : Type 0 where
+  pub longer : parent.len < c.len
+  pub contained : IsTrue (contains parent c)
+  pub next_bit : (c.base / (size_of parent.len / 2)) % 2 ≡ (if upper then 1 else 0)
+
 abbrev pub ChildByNextBit : Type 0
-ChildByNextBit =
-    (parent c : Prefix) (upper : Bool)
-    → IsChild parent upper c
-    ↔ ((parent.len < c.len) × IsTrue (contains parent c) × ((c.base / (size_of parent.len / 2)) % 2 ≡ (if upper then 1 else 0)))
+ChildByNextBit = (parent c : Prefix) (upper : Bool) → IsChild parent upper c ↔ IsChildByBit parent upper c
+
+-- a node of a lawful trie: without a value it has two children, and each child is one by bits
+pub record IsLawfulNode {V A : Type 0} (q : Prefix) (v : Option V) (left right : Link V A) : Type 0 where
+  pub needed : IfNone v (IsFilled left × IsFilled right)
+  pub lower : IfSome (root left) (IsChildByBit q false)
+  pub upper : IfSome (root right) (IsChildByBit q true)
+
+-- every node is that of a lawful trie; a leaf has a value and no child
+abbrev pub IsLawfulByBits : {V A : Type 0} → Link V A → Type 0
+IsLawfulByBits Empty = Unit {0}
+IsLawfulByBits (Leaf b) = Unit {0}
+IsLawfulByBits (Fork' p q left right) = IsLawfulNode q None left right × IsLawfulByBits left × IsLawfulByBits right
+IsLawfulByBits (Full' p q v left right) = IsLawfulNode q v left right × IsLawfulByBits left × IsLawfulByBits right
+
+abbrev pub LawfulByBits : Type 0 → Type 0 → Type 0
+LawfulByBits V A = (link : Link V A) → IsLawfulTrie link ↔ IsLawfulByBits link

@@ -1,8 +1,9 @@
 //! Laws of the map that the contracts speak of, and of a lawful trie. Each function does nothing: its contract is the law.
 
-ghost use Rattle.rt_trie.specs.Laws.{ChildByNextBit, PutIsSeen, EraseIsSeen, PutKeepsOrder, EraseKeepsOrder, PairsAreFound, MapHasOneList, FirstIsLeast, NoneIsFirst, AfterIsNext, NoneIsAfter};
+ghost use Rattle.rt_trie.specs.Laws.{ChildByNextBit, PutIsSeen, EraseIsSeen, PutKeepsOrder, EraseKeepsOrder, PairsAreFound, MapHasOneList, FirstIsLeast, NoneIsFirst, AfterIsNext, NoneIsAfter, LawfulByBits};
 
 use rt_cidr::laws::same_prefix;
+use std::alloc::Allocator;
 
 /// An insertion and a removal are seen at their own prefix alone, and keep the pairs in order.
 pub fn changes<V>()
@@ -30,8 +31,9 @@ pub fn least<V>()
     same_prefix();
 }
 
-/// A lawful trie, in terms of bits: a child is longer than its parent, contained in it, and on the side of the first bit
-/// after the parent's length.
-pub fn children()
-    ensures { ChildByNextBit }
+/// The trie that the type keeps, in terms of bits: each child is longer than its parent, contained in it, and on the side of
+/// the first bit after the parent's length, and a node without a value has two children.
+pub fn lawful<V, A: Allocator>()
+    ensures child { ChildByNextBit }
+    ensures trie { LawfulByBits V A }
 {}
