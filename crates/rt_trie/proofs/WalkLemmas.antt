@@ -1,5 +1,5 @@
 -- What a walk has put aside, as links are taken from it and put there.
-use Rattle.std.proofs.Common.{◌≡◌, ◌≢◌, ℕ, zero, suc, ◌+◌, ◌*◌, ◌<◌, ◌≤◌, List, [], ◌∷◌, ◌++◌, length, get_or, set, Option, Some, None, refl, sym, subst, ap, ◌∙◌, arith, append_assoc}
+use Rattle.std.proofs.Common.{◌≡◌, ◌≢◌, ℕ, zero, suc, ◌+◌, ◌-◌, ◌*◌, ◌<◌, ◌≤◌, List, [], ◌∷◌, ◌++◌, length, get_or, set, Option, Some, None, refl, sym, subst, ap, ◌∙◌, arith, append_assoc}
 use Rattle.std.proofs.Common.{true, false, inl, inr}
 use Rattle.std.proofs.lemmas.Bool.{cases_lt}
 use Rattle.std.specs.Prelude.{IfSome, IsSomeAnd}
@@ -10,7 +10,7 @@ use Rattle.std.specs.Borrow.{Bor}
 use Rattle.rt_cidr.specs.declared.prefixes.Prefix.{Prefix}
 use Rattle.rt_trie.specs.declared.nodes.Link.{Link}
 use Rattle.rt_trie.specs.Aside.{link_at}
-use Rattle.rt_trie.specs.Links.{own_pair, pairs, count, root}
+use Rattle.rt_trie.specs.Links.{own_pair, pairs, count, root, IsLawfulBelow}
 use Rattle.rt_trie.specs.Walks.{pairs_of, rest_of, IsFrom, IsAside}
 
 -- how much work a link is: one, and two for each of its nodes
@@ -90,6 +90,18 @@ module _ {V A : Type 0} where
   -- the last link that is put aside
   pub last_from : (xs : List (Bor (Link V A))) (m k : ℕ) (link : Link V A) → IsAside xs m → m ≡ suc k → link_at xs k ≡ Some link → IsFrom k link
   last_from xs m k link a em at = rw at at (a.each k (omega arith))
+
+  -- the last link gives way to its two sides, which are put in its place and after it
+  pub walk_at : (xs ys : List (Bor (Link V A))) (m : ℕ) (link left right : Link V A) (q : Prefix) (v : Option V) → IsAside xs m → 0 < m
+      → link_at xs (m - 1) ≡ Some link → (IsLawfulBelow link → IsNode link q v left right) → link_at ys (m - 1) ≡ Some right
+      → link_at ys (m - 1 + 1) ≡ Some left → ((j : ℕ) → j < m - 1 → link_at ys j ≡ link_at xs j) → length ys ≡ length xs
+      → IsAside ys (m - 1 + 2) × (own_pair q v ++ rest_of ys (m - 1 + 2) ≡ rest_of xs m) × (weight_of ys (m - 1 + 2) < weight_of xs m)
+  walk_at xs ys m link left right q v a pos at node r l below size =
+      let em : m ≡ suc (m - 1) = omega arith in
+      let en : m - 1 + 2 ≡ suc (suc (m - 1)) = omega arith in
+      let one : m - 1 + 1 ≡ suc (m - 1) = omega arith in
+      walk_step xs ys m (m - 1 + 2) (m - 1) link left right q v a em en at (node (last_from xs m (m - 1) link a em at).0.0) r
+      (subst (λ j. link_at ys j ≡ Some left) one l) below size
 
   -- a leaf is given
   pub leaf_step : (xs : List (Bor (Link V A))) (m k : ℕ) (link : Link V A) (x : Prefix × V) → m ≡ suc k → link_at xs k ≡ Some link
