@@ -12,6 +12,33 @@ use std::alloc::{AllocError, AllocFailed, Global};
 /// How many routes one feed may have, where the command line does not say.
 pub const DEFAULT_LIMIT: u32 = 65_536;
 
+/// What `run --help` says of feed files, their faults and the exit status.
+const RUN_NOTES: &str = "\
+Commands, one a line; an empty line and one that begins with # are skipped:
+  add PREFIX PREF HOP      put in a route of this feed
+  replace PREFIX PREF HOP  change preference and next hop of this feed's route
+  withdraw PREFIX          take out this feed's route
+  lookup ADDR              the best route of the longest prefix that covers it
+  dump                     the number of routes of all feeds
+  purge                    take out all routes of this feed (version 2)
+Where the first line is `version 2`, HOP is an address or discard.
+
+Faults, the first that a line has:
+  E8 over 128 bytes   E1 no command   E2 number of fields
+  E3 prefix or address   E4 prefix length   E5 bits past the length
+  E6 preference   E7 next hop
+
+Exit status, the greatest that applies:
+  0 done   2 faulty line   3 command line   4 unreadable file
+  5 memory refused   6 output not written
+
+Example, where one.feed says `add 10.0.0.0/8 100 192.0.2.1`:
+  $ yarib run one.feed
+  1:1 added
+  table 1
+  10.0.0.0/8 feed 1 pref 100 via 192.0.2.1
+";
+
 /// What the words of a command line ask for.
 #[derive(Drop)]
 pub enum Request<'a> {
@@ -112,6 +139,7 @@ fn run_command<'a>(alloc: Global) -> Result<Command<'a>, AllocError> {
         .help("A feed file: one command a line");
     Command::new(alloc, "run")
         .about("Run the commands of a feed file and print the replies and the table")
+        .after_help(RUN_NOTES)
         .arg(limit)?
         .arg(file)
 }

@@ -1,5 +1,6 @@
-//! Worked runs byte for byte, writers that fail, and the program over its words.
+//! Worked runs byte for byte, hostile texts, writers that fail, and the program over its words.
 
+mod hostile;
 mod replays;
 mod rows;
 mod words;

@@ -155,6 +155,48 @@ fn help_and_version_are_shown(rt: HostRuntime) -> Result<(), Fail> {
     Ok(())
 }
 
+/// Whether the part stands somewhere in the text.
+fn holds(text: &[u8], part: &[u8]) -> bool {
+    (0..text.len()).any(|at| text[at..].starts_with(part))
+}
+
+#[test]
+fn the_help_of_run_names_commands_faults_and_statuses(rt: HostRuntime) -> Result<(), Fail> {
+    let help = run(&rt, &["yarib", "run", "--help"])?;
+    assert_eq!(rt; help.status, 0);
+    assert!(rt; help.err.is_empty());
+    let named: [&[u8]; 24] = [
+        b"\n  add PREFIX PREF HOP ",
+        b"\n  replace PREFIX PREF HOP ",
+        b"\n  withdraw PREFIX ",
+        b"\n  lookup ADDR ",
+        b"\n  dump ",
+        b"\n  purge ",
+        b"version 2",
+        b"discard",
+        b"E1 ",
+        b"E2 ",
+        b"E3 ",
+        b"E4 ",
+        b"E5 ",
+        b"E6 ",
+        b"E7 ",
+        b"E8 ",
+        b"0 done",
+        b"2 faulty line",
+        b"3 command line",
+        b"4 unreadable file",
+        b"5 memory refused",
+        b"6 output not written",
+        b"$ yarib run one.feed\n  1:1 added\n  table 1\n",
+        b"  10.0.0.0/8 feed 1 pref 100 via 192.0.2.1\n",
+    ];
+    for text in named {
+        assert!(rt; holds(help.out.as_slice(), text), "no {text:?}");
+    }
+    Ok(())
+}
+
 /// A writer that never takes a byte.
 #[derive(Drop)]
 struct Closed;

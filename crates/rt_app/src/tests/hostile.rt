@@ -1,0 +1,73 @@
+//! Hostile texts, from bytes to bytes.
+
+use crate::runs::run_texts;
+use crate::tests::rows::one_text;
+use std::alloc::Global;
+use std::process::Abort;
+use std::test::Fail;
+
+/// Lines and their fault, as a text of this one line prints it.
+const FAULTY: [(&[u8], &str); 14] = [
+    (b" dump", "E1"),
+    (b"ADD 10.0.0.0/8 1 192.0.2.1", "E1"),
+    (&[b'x'; 128], "E1"),
+    (b"dump ", "E2"),
+    (b"add", "E2"),
+    (b"withdraw 10.0.0.0/8 ", "E2"),
+    (b"lookup 1.2.3.4\r", "E3"),
+    (b"lookup 10.0.0.0/8", "E3"),
+    (b"add 10.0.0.1/33 x y", "E4"),
+    (b"replace 10.0.0.1/8 x y", "E5"),
+    (b"add 10.0.0.0/8 01 256.0.0.1", "E6"),
+    (b"add 10.0.0.0/8 1 256.0.0.1", "E7"),
+    (&[b'x'; 129], "E8"),
+    (&[b'#'; 129], "E8"),
+];
+
+/// Runs the text alone, and compares what it prints and its status.
+fn compare<R: Abort>(
+    rt: &R,
+    alloc: Global,
+    text: &[u8],
+    output: &[u8],
+    status: u8,
+) -> Result<(), Fail> {
+    let texts = one_text(alloc, text)?;
+    let mut out = Vec::new(alloc);
+    let ended = run_texts(rt, alloc, texts.as_slice(), 1, 1, &mut out);
+    assert_eq!(rt; ended, Ok(status), "of {text:?}");
+    assert_eq!(rt; out.as_slice(), output, "of {text:?}");
+    Ok(())
+}
+
+#[test]
+fn faults_are_told(rt: HostRuntime) -> Result<(), Fail> {
+    for (text, fault) in FAULTY {
+        let output = format!(in rt.alloc(); "1:1 fault {fault}\ntable 0\n")?;
+        compare(&rt, rt.alloc(), text, output.as_bytes(), 2)?;
+    }
+    Ok(())
+}
+
+#[test]
+fn texts_of_one_byte(rt: HostRuntime) -> Result<(), Fail> {
+    for byte in 0..=u8::MAX {
+        let (output, status): (&[u8], u8) = match byte {
+            b'#' | b'\n' => (b"table 0\n", 0),
+            _ => (b"1:1 fault E1\ntable 0\n", 2),
+        };
+        compare(&rt, rt.alloc(), &[byte], output, status)?;
+    }
+    Ok(())
+}
+
+#[test]
+fn a_million_bytes_without_an_end_of_line(rt: HostRuntime) -> Result<(), Fail> {
+    let text = vec![in rt.alloc(); b'x'; 1_000_000]?;
+    let texts = one_text(rt.alloc(), text.as_slice())?;
+    let mut out = Vec::new(rt.alloc());
+    let status = run_texts(&rt, rt.alloc(), texts.as_slice(), 1, 1, &mut out);
+    assert_eq!(rt; status, Ok(2));
+    assert_eq!(rt; out.as_slice(), b"1:1 fault E8\ntable 0\n".as_slice());
+    Ok(())
+}
