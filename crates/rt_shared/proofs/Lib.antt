@@ -2,3 +2,4 @@ pub mod Answered
 pub mod Passes
 pub mod Uncutting
 pub mod Runs
+pub mod Testing

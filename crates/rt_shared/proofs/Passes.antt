@@ -9,7 +9,7 @@ use Rattle.rt_shared.specs.Visits.{Since}
 use Rattle.ya_lock.specs.Lock.{LockId, IdlePass, IsDealt, new_pass}
 use Rattle.rt_rib.specs.Journal.{IsLawfulJournal}
 use Rattle.rt_shared.specs.declared.lent.Lent.{Lent}
-use Rattle.rt_shared.specs.Table.{HeldPass, ArePassesOf}
+use Rattle.rt_shared.specs.Table.{SharedId, HeldPass, ArePassesOf}
 use Rattle.rt_shared.specs.Pass.{of_feed, held_pass, IsThere}
 
 -- the place of a pass of the lock is that of a feed
@@ -35,6 +35,19 @@ all_front P (x ∷ xs) ys all = All-cons P x xs (All-head P x (xs ++ ys) all) (a
 pub since_of : (idle : IdlePass Lent) (pass : HeldPass) (now : Lent) → feed_of idle.place ≡ pass.feed → idle.seen.book.journal ≡ pass.seen → Grows idle.place idle.seen now → Since pass.feed pass.seen now.book.journal
 since_of idle pass now feed seen grows =
     subst (λ (n : ℕ). Since n pass.seen now.book.journal) feed (subst (λ (l : List Entry). Since (feed_of idle.place) l now.book.journal) seen grows.since)
+
+-- passes of the same tables and feeds
+pub passes_kept : (table : SharedId) (old new : List HeldPass) → ArePassesOf table old → length new ≡ length old
+    → ((i : ℕ) (d : HeldPass) → i < length old → ((get_or new i d).table ≡ (get_or old i d).table) × ((get_or new i d).feed ≡ (get_or old i d).feed)) → ArePassesOf table new
+passes_kept table old new are long each = record {
+  count = long ∙ are.count;
+  tables = λ k d h. (each k d (omega arith)).0 ∙ are.tables k d (omega arith);
+  feeds = λ i p e.
+      let within : i < length new = slice_get_within new i p e in
+      let here = slice_get-get_or new i p within in
+      let is : p ≡ get_or new i p = cc (here, e) in
+      ap (λ (q : HeldPass). q.feed) is ∙ ((each i p (omega arith)).1 ∙ are.feeds i (get_or old i p) (slice_get-get_or old i p (omega arith)));
+}
 
 -- the passes of a lock that has just been made, as those of the feeds of a table
 module _ (lock : LockId) (levels : ℕ) (lent : Lent) (passes : List (IdlePass Lent)) (deal : IsDealt lock levels lent passes) (few : 2 ^ levels ≡ lent.feeds) where

@@ -1,10 +1,11 @@
 -- What holds of every journal and of the visits in it.
-use Rattle.std.specs.Prelude.{◌≡◌, ℕ, List, [], ◌∷◌, ◌++◌, length}
+use Rattle.std.specs.Prelude.{◌≡◌, ℕ, ◌<◌, List, [], ◌∷◌, ◌++◌, length, slice_index_or}
 use Rattle.std.specs.List.{flat_map}
 use Rattle.rt_rib.specs.declared.commands.Cmd.{Cmd}
 use Rattle.rt_rib.specs.declared.commands.Entry.{Entry}
 use Rattle.rt_rib.specs.Laws.{feed_entries}
 use Rattle.rt_shared.specs.declared.outcome.Outcome.{Outcome}
+use Rattle.rt_shared.specs.Table.{SharedId, HeldPass, ArePassesOf}
 use Rattle.rt_shared.specs.Visits.{AllBy, Since, answered, Visits, Uncut}
 
 -- what may have happened once may happen again
@@ -38,3 +39,10 @@ EntriesOfVisits = (feed : ℕ) (visits : List (List Entry)) (journal : List Entr
 -- what a feed has seen has all its entries
 abbrev pub EntriesSince : Type 0
 EntriesSince = (feed : ℕ) (a b : List Entry) → Since feed a b → feed_entries feed b ≡ feed_entries feed a
+
+-- passes of which each has the table and feed that it had are still all passes of their table
+abbrev pub PassesKept : Type 0
+PassesKept =
+    (table : SharedId) (old new : List HeldPass) → ArePassesOf table old → length new ≡ length old
+    → ((i : ℕ) (d : HeldPass) → i < length old → ((slice_index_or new i d).table ≡ (slice_index_or old i d).table) × ((slice_index_or new i d).feed ≡ (slice_index_or old i d).feed))
+    → ArePassesOf table new

@@ -5,3 +5,4 @@ pub mod Table
 pub mod Pass
 pub mod Laws
 pub mod Headline
+pub mod Testing

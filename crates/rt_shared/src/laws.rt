@@ -5,7 +5,7 @@ ghost use Rattle.rt_rib.specs.Journal.{table_left, IsLawfulJournal};
 ghost use Rattle.rt_rib.specs.Table.{IsTable};
 ghost use Rattle.ya_core.specs.Worlds.{World};
 ghost use Rattle.rt_shared.specs.Headline.{Act, IsRunTo, journal_of, NoTwoInside, HasAllMade, FindsBest};
-ghost use Rattle.rt_shared.specs.Laws.{SinceAgain, AnsweredInPieces, UncutAtFirst, UncutSince, UncutByVisit, EntriesOfVisits, EntriesSince};
+ghost use Rattle.rt_shared.specs.Laws.{SinceAgain, AnsweredInPieces, UncutAtFirst, UncutSince, UncutByVisit, EntriesOfVisits, EntriesSince, PassesKept};
 
 use crate::sequential::SequentialTable;
 use rt_rib::laws::{lawful_by_entry, left_by_entry, look_up_finds_best};
@@ -31,6 +31,11 @@ pub fn away()
 /// The entries of a feed's commands may be told piece by piece.
 pub fn pieces()
     ensures { AnsweredInPieces }
+{}
+
+/// All passes of a table stay that while each keeps its table and its feed, as every call that they are lent to ensures.
+pub fn passes()
+    ensures { PassesKept }
 {}
 
 /// The journal of every run of the core's worlds, in which each command was answered as the sequential table answers it in

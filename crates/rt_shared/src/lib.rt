@@ -17,6 +17,8 @@ mod lent;
 mod outcome;
 mod sequential;
 mod shared_rib;
+#[cfg(test)]
+mod tests;
 
 pub use feed_pass::FeedPass;
 pub use lent::Lent;

@@ -1,0 +1,290 @@
+//! Tables at work: feeds in turn and on threads, whose settled journal is answered anew, entry by entry.
+ghost use Rattle.std.specs.Prelude.{◌≡◌, ℕ, ◌+◌, ◌*◌, ◌^◌, ◌<◌, ◌≤◌, [], vec_len, length, IfOk, IfSome, All};
+ghost use Rattle.rt_rib.specs.Book.{IsLimit};
+ghost use Rattle.rt_shared.specs.Testing.{AreBoth};
+
+use crate::laws::passes as passes_kept;
+use crate::{FeedPass, Outcome, Refused, SharedRib};
+use rt_cidr::{Addr, Prefix, TextFault};
+use rt_rib::{Book, Cmd, Entry, Hop, Reply, Route, feed_ok};
+use std::alloc::{AllocError, Global};
+use std::sync::Wait;
+use std::test::Fail;
+use std::thread;
+use std::thread::Threads;
+
+const VIA: Hop = Hop::Via(Addr(0xc000_0201));
+
+fn ten() -> Result<Prefix, TextFault> {
+    Prefix::new(0x0a00_0000, 8)
+}
+
+fn add(prefix: Prefix, pref: u32) -> Cmd {
+    Cmd::Add {
+        prefix,
+        pref,
+        hop: VIA,
+    }
+}
+
+/// The route that the command adds for the feed.
+fn route(prefix: Prefix, feed: u32, pref: u32) -> Route {
+    Route {
+        prefix,
+        feed,
+        pref,
+        hop: VIA,
+    }
+}
+
+/// Whether one table alone, with nobody else, answers the journal's commands in this order with these replies, and has then
+/// the routes of the book.
+fn is_explained(alloc: Global, limit: u32, book: &Book<Global>) -> Result<bool, Refused>
+    requires { IsLimit limit }
+{
+    let mut alone = Book::new(alloc, limit);
+    for entry in book.journal() {
+        if !feed_ok(entry.feed) || alone.apply(entry.feed, entry.cmd)? != entry.reply {
+            return Ok(false);
+        }
+    }
+    let routes = alone.routes(alloc)?;
+    Ok(routes.as_slice() == book.routes(alloc)?.as_slice())
+}
+
+/// A table of two feeds and their passes.
+fn pair(alloc: Global, limit: u32) -> Result<(SharedRib<1>, FeedPass, FeedPass), Fail>
+    requires { IsLimit limit }
+    ensures { IfOk result (λ m. (m.0.limit ≡ limit) × AreBoth m.0 m.1 m.2) }
+{
+    let (table, mut passes) = SharedRib::<1>::new(alloc, limit)?;
+    let second = passes.pop().ok_or("a second pass")?;
+    let first = passes.pop().ok_or("a first pass")?;
+    Ok((table, first, second))
+}
+
+/// Its book, once both are done.
+fn settle_both<R: Wait>(
+    rt: &R,
+    alloc: Global,
+    table: SharedRib<1>,
+    first: FeedPass,
+    second: FeedPass,
+) -> Result<Book<Global>, Fail>
+    requires { AreBoth table first second }
+{
+    let passes = vec![in alloc; first, second]?;
+    Ok(table.settle(rt, passes))
+}
+
+#[test]
+fn a_feed_finds_what_another_added(rt: HostRuntime) -> Result<(), Fail> {
+    let (table, mut first, mut second) = pair(rt.alloc(), 5)?;
+    assert_eq!(rt; (first.feed(), second.feed()), (1, 2));
+    let cmd = add(ten()?, 1);
+    assert_eq!(rt; table.apply(&rt, &mut first, cmd)?, Reply::Added);
+    let look_up = Cmd::Lookup {
+        addr: Addr(0x0a00_0001),
+    };
+    let found = Reply::Found(route(ten()?, 1, 1));
+    assert_eq!(rt; table.apply(&rt, &mut second, look_up)?, found);
+    let book = settle_both(&rt, rt.alloc(), table, first, second)?;
+    let entries = [
+        Entry {
+            feed: 1,
+            cmd,
+            reply: Reply::Added,
+        },
+        Entry {
+            feed: 2,
+            cmd: look_up,
+            reply: found,
+        },
+    ];
+    assert_eq!(rt; book.journal(), entries.as_slice());
+    Ok(())
+}
+
+/// The j-th prefix of a feed: none of another feed.
+fn prefix_of(feed: u32, j: u32) -> Result<Prefix, TextFault> {
+    Prefix::new(feed.wrapping_shl(24).wrapping_add(j.wrapping_shl(8)), 24)
+}
+
+/// Adds 500 routes of the pass's feed, by rising preference, and counts those that were added.
+fn add_many<R: Wait, const L: u32>(
+    rt: &R,
+    table: &SharedRib<L>,
+    pass: FeedPass,
+) -> (FeedPass, usize)
+    requires { pass.table ≡ table.now }
+    ensures { (result.0.table ≡ table.now) × (result.0.feed ≡ pass.feed) }
+{
+    let mut pass = pass;
+    let feed = pass.feed();
+    let mut added = 0usize;
+    for j in 0..500u32 {
+        if let Ok(prefix) = prefix_of(feed, j) {
+            if table.apply(rt, &mut pass, add(prefix, j)) == Ok(Reply::Added) {
+                added = added.wrapping_add(1);
+            }
+        }
+    }
+    (pass, added)
+}
+
+/// The book of a table that two threads have added 500 routes each to.
+fn by_two<R: Threads + Wait + Sync>(rt: &R, alloc: Global) -> Result<(Book<Global>, usize), Fail> {
+    let (table, first, second) = pair(alloc, 500)?;
+    let shared = &table;
+    let (first, second) = thread::join(
+        rt,
+        move || add_many(rt, shared, first),
+        move || add_many(rt, shared, second),
+    );
+    let added = first.1.wrapping_add(second.1);
+    let book = settle_both(rt, alloc, table, first.0, second.0)?;
+    Ok((book, added))
+}
+
+#[test]
+fn two_threads_add_a_thousand_routes(rt: HostRuntime) -> Result<(), Fail> {
+    let (book, added) = by_two(&rt, rt.alloc())?;
+    assert_eq!(rt; added, 1_000);
+    assert_eq!(rt; book.journal().len(), 1_000);
+    for feed in [1u32, 2] {
+        let mut j = 0;
+        for entry in book.journal().iter().filter(|e| e.feed == feed) {
+            assert_eq!(rt; entry.cmd, add(prefix_of(feed, j)?, j));
+            j = j.wrapping_add(1);
+        }
+        assert_eq!(rt; j, 500);
+    }
+    assert_eq!(rt; book.routes(rt.alloc())?.len(), 1_000);
+    assert!(rt; is_explained(rt.alloc(), 500, &book)?);
+    Ok(())
+}
+
+/// Whether the entries of each feed are so many.
+fn have_all(book: &Book<Global>, feeds: u32, each: usize) -> bool {
+    (1..feeds.saturating_add(1)).all(|feed| {
+        book.journal().iter().filter(|e| e.feed == feed).count() == each
+    })
+}
+
+/// The j-th command of a feed: each kind in turn, over a few prefixes.
+fn cmd_of(feed: u32, j: u32) -> Result<Cmd, TextFault> {
+    let prefix = prefix_of(feed, j / 6 % 5)?;
+    Ok(match j % 6 {
+        0 | 1 => add(prefix, j),
+        2 => Cmd::Lookup {
+            addr: Addr(prefix.base()),
+        },
+        3 => Cmd::Replace {
+            prefix,
+            pref: feed,
+            hop: Hop::Discard,
+        },
+        4 => Cmd::Dump,
+        _ if j % 4 == 1 => Cmd::Purge,
+        _ => Cmd::Withdraw { prefix },
+    })
+}
+
+/// Lets the pass's feed make its commands, so many at a time.
+fn run_batches<R: Wait, const L: u32>(
+    rt: &R,
+    table: &SharedRib<L>,
+    pass: &mut FeedPass,
+    cmds: &[Cmd],
+    batch: usize,
+    out: &mut Vec<Outcome>,
+)
+    requires { pass.old.table ≡ table.now }
+    ensures { (pass.new.table ≡ pass.old.table) × (pass.new.feed ≡ pass.old.feed) }
+{
+    for some in cmds.chunks(batch.max(1)) {
+        let _ = table.apply_batch(rt, pass, some, out);
+    }
+}
+
+/// Makes 60 commands of the pass's feed, so many at a time, and tells what came of them.
+fn run_feed<R: Wait, const L: u32>(
+    rt: &R,
+    alloc: Global,
+    table: &SharedRib<L>,
+    pass: &mut FeedPass,
+    batch: usize,
+)
+    requires { pass.old.table ≡ table.now }
+    ensures { (pass.new.table ≡ pass.old.table) × (pass.new.feed ≡ pass.old.feed) }
+{
+    let feed = pass.feed();
+    let mut cmds = Vec::new(alloc);
+    for j in 0..60u32 {
+        if let Ok(cmd) = cmd_of(feed, j) {
+            let _ = cmds.push(cmd);
+        }
+    }
+    let mut out = Vec::new(alloc);
+    run_batches(rt, table, pass, &cmds, batch, &mut out);
+}
+
+/// The book of a table whose feeds each run on a thread of their own.
+fn by_all<R: Threads + Wait + Sync, const L: u32>(
+    rt: &R,
+    alloc: Global,
+    batch: usize,
+) -> Result<Book<Global>, Refused>
+    requires { (1 ≤ L) × (L ≤ 6) }
+{
+    let (table, mut passes) = SharedRib::<L>::new(alloc, 4)?;
+    let shared = &table;
+    passes_kept();
+    thread::for_each_mut(
+        rt,
+        &mut passes,
+        64,
+        &|_place: usize, pass: &mut FeedPass|
+            requires { pass.old.table ≡ shared.now }
+            ensures { (pass.new.table ≡ pass.old.table) × (pass.new.feed ≡ pass.old.feed) }
+        { run_feed(rt, alloc, shared, pass, batch) },
+    );
+    Ok(table.settle(rt, passes))
+}
+
+#[test]
+fn a_thread_for_each_place(rt: HostRuntime) -> Result<(), Fail> {
+    for batch in [1usize, 3, 7] {
+        let eight = by_all::<_, 3>(&rt, rt.alloc(), batch)?;
+        assert!(rt; have_all(&eight, 8, 60));
+        assert!(rt; is_explained(rt.alloc(), 4, &eight)?);
+        let all = by_all::<_, 6>(&rt, rt.alloc(), batch)?;
+        assert!(rt; have_all(&all, 64, 60));
+        assert!(rt; is_explained(rt.alloc(), 4, &all)?);
+    }
+    Ok(())
+}
+
+#[test]
+fn a_batch_has_an_outcome_for_each_command(rt: HostRuntime) -> Result<(), Fail> {
+    let (table, mut first, second) = pair(rt.alloc(), 5)?;
+    let cmd = add(ten()?, 1);
+    let look_up = Cmd::Lookup {
+        addr: Addr(0x0a00_0001),
+    };
+    let outcomes = [
+        Outcome::Did(Reply::Added),
+        Outcome::Did(Reply::Exists),
+        Outcome::Did(Reply::Found(route(ten()?, 1, 1))),
+    ];
+    let mut out = Vec::new(rt.alloc());
+    table.apply_batch(&rt, &mut first, &[cmd, cmd, look_up], &mut out)?;
+    assert_eq!(rt; out.as_slice(), outcomes.as_slice());
+    table.apply_batch(&rt, &mut first, &[], &mut out)?;
+    assert_eq!(rt; out.as_slice(), outcomes.as_slice());
+    let routes = table.routes(&rt, rt.alloc(), &mut first)?;
+    assert_eq!(rt; routes.as_slice(), [route(ten()?, 1, 1)].as_slice());
+    let book = settle_both(&rt, rt.alloc(), table, first, second)?;
+    assert_eq!(rt; book.journal().len(), 3);
+    Ok(())
+}
