@@ -1,23 +1,89 @@
 -- The lines of a replay, one step further.
-use Rattle.std.proofs.Common.{◌≡◌, ℕ, ◌+◌, ◌<◌, List, [], ◌∷◌, ◌++◌, length, take, get_or, refl, sym, ap, ◌∙◌, arith, append_assoc, append-nil, add-zero, add-one, length-take}
+use Rattle.std.proofs.Common.{◌≡◌, ℕ, ◌+◌, ◌<◌, List, [], ◌∷◌, ◌++◌, length, take, get_or, refl, sym, ap, ◌∙◌, arith, append_assoc, append-nil, add-zero, add-one, length-take, length-append, codes, Bool, true, false, Option, None, Some, ◌≤◌, drop, take-append-drop}
 use Rattle.std.proofs.Math.Seq.{take-suc}
 use Rattle.ya_core.specs.declared.step.Step.{Step}
-use Rattle.rt_app.specs.ReplayText.{step_text, steps_text}
+use Rattle.ya_core.specs.declared.step.Mark.{Mark}
+use Rattle.ya_core.specs.declared.step.Mark.TheVariants.{Plain, Inside, Out}
+use Rattle.ya_core.specs.declared.word.Word.{Word}
+use Rattle.ya_core.specs.declared.word.Word.TheVariants.{C, T, P}
+use Rattle.rt_cidr.specs.Output.{AppendsBeginning, PassesOn}
+use Rattle.rt_cidr.proofs.Outputs.{begins_longer, passes_on-begins, passes_on-more}
+use Rattle.rt_cidr.proofs.ShortTexts.{length-decimal}
+use Rattle.rt_app.specs.ReplayText.{level_text, word_text, mark_text, sign_text, step_text, steps_text, inside_text}
 
--- the line of one step more stands last
-steps_text-push : (number : ℕ) (steps : List Step) (step : Step) → steps_text number (steps ++ step ∷ []) ≡ steps_text number steps ++ step_text (number + length steps) step
-steps_text-push number [] step = rw (append-nil, add-zero) refl
-steps_text-push number (first ∷ steps) step =
-    rw (steps_text-push (number + 1) steps step, ← append_assoc) (ap (λ n. (step_text number first ++ steps_text (number + 1) steps) ++ step_text n step) (omega arith))
+-- the lines of some steps and then of more
+steps_text-append : (number : ℕ) (steps more : List Step) → steps_text number (steps ++ more) ≡ steps_text number steps ++ steps_text (number + length steps) more
+steps_text-append number [] more = rw add-zero refl
+steps_text-append number (first ∷ steps) more =
+    rw (steps_text-append (number + 1) steps more, ← append_assoc) (ap (λ n. (step_text number first ++ steps_text (number + 1) steps) ++ steps_text n more) (omega arith))
 
--- so the lines of the first steps grow by the next one's
-steps_text-take : (steps : List Step) (k : ℕ) (d : Step) → k < length steps
-    → steps_text 1 (take (k + 1) steps) ≡ steps_text 1 (take k steps) ++ step_text (k + 1) (get_or steps k d)
-steps_text-take steps k d here =
-    let so_far : 1 + length (take k steps) ≡ k + 1 = omega (arith, length-take k steps) in
-    rw (add-one k, take-suc steps k d here, steps_text-push, so_far, add-one k) refl
+module _ (steps : List Step) (k : ℕ) (d : Step) (here : k < length steps) where
+  -- the lines of the first steps grow by the next one's
+  steps_text-take : steps_text 1 (take (k + 1) steps) ≡ steps_text 1 (take k steps) ++ step_text (k + 1) (get_or steps k d)
+  steps_text-take =
+      let so_far : 1 + length (take k steps) ≡ k + 1 = omega (arith, length-take k steps) in
+      rw (add-one k, take-suc steps k d here, steps_text-append, so_far, add-one k, append-nil) refl
 
--- a text of the first steps' lines that gains the next one's
-pub next_line : (steps : List Step) (k : ℕ) (d : Step) (old new : List ℕ) → old ≡ steps_text 1 (take k steps)
-    → new ≡ old ++ step_text (k + 1) (get_or steps k d) → k < length steps → new ≡ steps_text 1 (take (k + 1) steps)
-next_line steps k d old new so_far gains here = gains ∙ (ap (λ text. text ++ step_text (k + 1) (get_or steps k d)) so_far ∙ sym (steps_text-take steps k d here))
+  -- and so the rest follows
+  steps_text-rest : (rest : List ℕ) × (steps_text 1 steps ≡ (steps_text 1 (take k steps) ++ step_text (k + 1) (get_or steps k d)) ++ rest)
+  steps_text-rest = (
+    _,
+    ap (steps_text 1) (sym (take-append-drop (k + 1) steps)) ∙ steps_text-append 1 (take (k + 1) steps) (drop (k + 1) steps)
+        ∙ ap (λ text. text ++ steps_text (1 + length (take (k + 1) steps)) (drop (k + 1) steps)) steps_text-take,
+  )
+
+  module _ (a b c : Option (List ℕ)) (held held' held'' : List ℕ) (first : PassesOn a b held held' (steps_text 1 (take k steps))) where
+    -- the next step's line is put behind those before it
+    pub passes_next : PassesOn b c held' held'' (step_text (k + 1) (get_or steps k d)) → PassesOn a c held held'' (steps_text 1 (take (k + 1) steps))
+    passes_next second = rw steps_text-take (passes_on-more a b c held held' held'' _ _ first second)
+
+    -- a fault within it leaves a beginning of all lines
+    pub begins_all : AppendsBeginning b c (held' ++ step_text (k + 1) (get_or steps k d)) → AppendsBeginning a c (held ++ steps_text 1 steps)
+    begins_all second =
+        let (rest, whole) = steps_text-rest in
+        let so_far = passes_on-begins a b c held held' _ (step_text (k + 1) (get_or steps k d)) first second in
+        rw (whole, ← append_assoc held (steps_text 1 (take k steps) ++ step_text (k + 1) (get_or steps k d)) rest) (begins_longer a c _ rest so_far)
+
+-- how long the lines are at most
+level_fits : (letter : List ℕ) (level index : ℕ) → length (level_text letter level index) ≤ length letter + 129
+unfolding level_text
+level_fits letter level index =
+    let one = length-decimal level in
+    let two = length-decimal index in
+    simp length-append (omega arith)
+
+word_fits : (word : Word) → length (word_text word) ≤ 200
+unfolding word_text
+word_fits (C level node side) =
+    let front = level_fits (codes "C") level node in
+    let last = length-decimal side in
+    simp length-append (omega arith)
+word_fits (T level node) = omega (arith, level_fits (codes "T") level node)
+word_fits (P level place) = omega (arith, level_fits (codes "P") level place)
+
+mark_fits : (mark : Mark) → length (mark_text mark) ≤ 8
+unfolding mark_text
+mark_fits Plain = omega arith
+mark_fits Inside = omega arith
+mark_fits Out = omega arith
+
+sign_fits : (store : Bool) → length (sign_text store) ≤ 4
+unfolding sign_text
+sign_fits true = omega arith
+sign_fits false = omega arith
+
+pub step_fits : (number : ℕ) (step : Step) → length (step_text number step) ≤ 410
+unfolding step_text
+step_fits number step =
+    let first = length-decimal number in
+    let place = length-decimal step.place in
+    let word = word_fits step.word in
+    let sign = sign_fits step.store in
+    let value = length-decimal step.value in
+    let mark = mark_fits step.mark in
+    simp length-append (omega arith)
+
+pub inside_fits : (inside : Option ℕ) → length (inside_text inside) ≤ 80
+unfolding inside_text
+inside_fits None = omega arith
+inside_fits (Some place) = let digits = length-decimal place in simp length-append (omega arith)

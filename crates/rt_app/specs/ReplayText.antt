@@ -13,11 +13,15 @@ use Rattle.ya_core.specs.Machines.{Replays}
 use Rattle.rt_app.specs.declared.faults.AppFault.{AppFault}
 use Rattle.rt_app.specs.declared.faults.AppFault.TheVariants.{Run, Replay, Write}
 
+-- a word's letter, its level, and its node or place
+unfoldable pub level_text : List ℕ → ℕ → ℕ → List ℕ
+level_text letter level index = letter ++ (decimal level ++ (codes "." ++ decimal index))
+
 -- `C<level>.<node>.<side>`, `T<level>.<node>` or `P<level>.<place>`
 unfoldable pub word_text : Word → List ℕ
-word_text (C level node side) = codes "C" ++ (decimal level ++ (codes "." ++ (decimal node ++ (codes "." ++ decimal side))))
-word_text (T level node) = codes "T" ++ (decimal level ++ (codes "." ++ decimal node))
-word_text (P level place) = codes "P" ++ (decimal level ++ (codes "." ++ decimal place))
+word_text (C level node side) = level_text (codes "C") level node ++ (codes "." ++ decimal side)
+word_text (T level node) = level_text (codes "T") level node
+word_text (P level place) = level_text (codes "P") level place
 
 -- what the step brought about, and LF
 unfoldable pub mark_text : Mark → List ℕ

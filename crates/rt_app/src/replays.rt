@@ -1,16 +1,16 @@
 //! The text of a replay: the atomic steps of one schedule of the lock, one a line.
-ghost use Rattle.std.specs.Prelude.{◌≡◌, ◌↔◌, ◌+◌, ◌≤◌, ◌<◌, ◌++◌, ◌^◌, length, drop, codes, decimal, Any, IfOk, OnOk};
-ghost use Rattle.rt_app.specs.ReplayText.{word_text, mark_text, sign_text, step_text, inside_next, inside_after, inside_text, replay_text_of, LeavesReplay};
+ghost use Rattle.std.specs.Prelude.{◌≡◌, ◌↔◌, ◌≤◌, ◌<◌, ◌++◌, ◌^◌, [], length, codes, decimal, Any, OnOk, OnErr};
+ghost use Rattle.std.specs.Io.KnownBytes.{Appends};
+ghost use Rattle.rt_cidr.specs.Output.{AppendsBeginning, PassesOn};
+ghost use Rattle.rt_cidr.specs.ShortText.{Fits};
+ghost use Rattle.rt_app.specs.ReplayText.{level_text, word_text, mark_text, sign_text, step_text, steps_text, inside_next, inside_after, inside_text, replay_text_of, LeavesReplay};
 ghost use Rattle.ya_core.specs.Machines.{HasShape};
 
 use crate::faults::AppFault;
-use rt_cidr::{decimal_before, put, text_before};
-use std::alloc::{AllocError, Global};
-use std::io::Write;
+use rt_cidr::{OutputBuffer, ShortText};
+use std::alloc::Global;
+use std::io::{self, Write};
 use ya_core::{Mark, ReplayFault, Step, Word, replay};
-
-/// Bytes for the longest line: five numbers of 64 bits, one of 32, and the marks between them.
-const LINE_ROOM: usize = 160;
 
 /// Replays a schedule of the lock in a tree of that many levels, in which the picked places step one after another from
 /// the start, and writes to `w` one line for each step and then who is inside. Gives 0 where all was written. Refuses
@@ -31,61 +31,52 @@ pub fn replay_text<W: Write>(
         Ok(steps) => steps,
         Err(fault) => return Err(AppFault::Replay(fault)),
     };
-    let Ok(text) = rendered(alloc, steps.as_slice()) else {
+    let Ok(mut buffer) = OutputBuffer::new(alloc) else {
         return Err(AppFault::Replay(ReplayFault::Memory));
     };
-    match put(w, text.as_slice()) {
+    match write_replay(w, &mut buffer, steps.as_slice()) {
         Ok(()) => Ok(0),
         Err(_) => Err(AppFault::Write),
     }
 }
 
-/// The text of a replay that made these steps.
-fn rendered(alloc: Global, steps: &[Step]) -> Result<Vec<u8>, AllocError>
-    requires { length steps.now < 2 ^ 63 }
-    ensures { IfOk result (λ text. text.items ≡ replay_text_of steps.now) }
+/// Writes the text of a replay that made these steps.
+#[tactic(auto, using(crate::proofs::Replaying::inside_fits))]
+fn write_replay<W: Write>(
+    w: &mut W,
+    buffer: &mut OutputBuffer,
+    steps: &[Step],
+) -> Result<(), io::Error>
+    requires empty { buffer.old ≡ [] }
+    requires numbered { length steps.now < 2 ^ 63 }
+    ensures ok { OnOk result (Appends (W.contents w.old) (W.contents w.new) (replay_text_of steps.now)) }
+    ensures err { OnErr result (AppendsBeginning (W.contents w.old) (W.contents w.new) (replay_text_of steps.now)) }
 {
-    let mut text = Vec::new(alloc);
+    write_steps(w, buffer, steps)?;
+    let mut text = ShortText::new();
+    prepend_inside(&mut text, inside_place(steps));
+    buffer.put(w, text.as_bytes())?;
+    buffer.flush(w)
+}
+
+/// Puts the steps' lines behind what the buffer holds.
+#[tactic(auto, using(crate::proofs::Replaying::step_fits))]
+fn write_steps<W: Write>(
+    w: &mut W,
+    buffer: &mut OutputBuffer,
+    steps: &[Step],
+) -> Result<(), io::Error>
+    requires numbered { length steps.now < 2 ^ 63 }
+    ensures ok { OnOk result (PassesOn (W.contents w.old) (W.contents w.new) buffer.old buffer.new (steps_text 1 steps.now)) }
+    ensures err { OnErr result (AppendsBeginning (W.contents w.old) (W.contents w.new) (buffer.old ++ steps_text 1 steps.now)) }
+{
+    let mut text = ShortText::new();
     for (index, step) in steps.iter().enumerate() {
-        push_step(&mut text, index as u64 + 1, step)?;
+        text.clear();
+        prepend_step(&mut text, index as u64 + 1, step);
+        buffer.put(w, text.as_bytes())?;
     }
-    push_inside(&mut text, inside_place(steps))?;
-    Ok(text)
-}
-
-/// Puts the step's line at the end.
-fn push_step(text: &mut Vec<u8>, number: u64, step: &Step) -> Result<(), AllocError>
-    ensures { OnOk result (text.new.items ≡ text.old.items ++ step_text number step.now) }
-{
-    let mut line = [0; LINE_ROOM];
-    let start = step_before(number, step, &mut line, LINE_ROOM);
-    text.extend_from_slice(&line[start..])
-}
-
-/// Puts the last line at the end: who is inside.
-fn push_inside(text: &mut Vec<u8>, inside: Option<usize>) -> Result<(), AllocError>
-    ensures { OnOk result (text.new.items ≡ text.old.items ++ inside_text inside) }
-{
-    let mut line = [0; LINE_ROOM];
-    let start = inside_before(inside, &mut line, LINE_ROOM);
-    text.extend_from_slice(&line[start..])
-}
-
-/// The last line, written so that it ends at `end`: where it starts.
-#[tactic(auto, unfolding(crate::specs::ReplayText::inside_text))]
-fn inside_before(inside: Option<usize>, buf: &mut [u8; LINE_ROOM], end: usize) -> usize
-    requires { end ≡ 160 }
-    ensures written { drop result buf.new ≡ inside_text inside ++ drop end buf.old }
-    ensures before_end { result ≤ end }
-{
-    match inside {
-        None => text_before(b"inside none\n", buf, end),
-        Some(place) => {
-            let start = text_before(b"\n", buf, end);
-            let start = decimal_before(place as u64, buf, start);
-            text_before(b"inside p", buf, start)
-        }
-    }
+    Ok(())
 }
 
 /// Who is inside after these steps.
@@ -109,26 +100,72 @@ fn inside_next(inside: Option<usize>, step: &Step) -> Option<usize>
     }
 }
 
-/// The step's line, written so that it ends at `end`: where it starts.
-fn step_before(number: u64, step: &Step, buf: &mut [u8; LINE_ROOM], end: usize) -> usize
-    requires { end ≡ 160 }
-    ensures written { drop result buf.new ≡ step_text number step.now ++ drop end buf.old }
-    ensures before_end { result ≤ end }
+// Each function below puts its text in front.
+
+/// The last line: who is inside.
+#[tactic(auto, using(rt_cidr::proofs::ShortTexts::prepending), unfolding(crate::specs::ReplayText::inside_text))]
+fn prepend_inside(text: &mut ShortText, inside: Option<usize>)
+    requires room { Fits (inside_text inside) text.old }
+    ensures { text.new ≡ inside_text inside ++ text.old }
 {
-    let start = text_before(mark_word(step.mark), buf, end);
-    let start = decimal_before(step.value, buf, start);
-    let start = text_before(sign_word(step.store), buf, start);
-    let start = word_before(&step.word, buf, start);
-    let start = text_before(b" ", buf, start);
-    let start = decimal_before(step.place as u64, buf, start);
-    let start = text_before(b" p", buf, start);
-    decimal_before(number, buf, start)
+    match inside {
+        None => text.prepend(b"inside none\n"),
+        Some(place) => {
+            text.prepend(b"\n");
+            text.prepend_decimal(place as u64);
+            text.prepend(b"inside p");
+        }
+    }
+}
+
+/// The step's line.
+#[tactic(auto, using(rt_cidr::proofs::ShortTexts::prepending), unfolding(crate::specs::ReplayText::step_text))]
+fn prepend_step(text: &mut ShortText, number: u64, step: &Step)
+    requires room { Fits (step_text number step.now) text.old }
+    ensures { text.new ≡ step_text number step.now ++ text.old }
+{
+    text.prepend(mark_word(step.mark));
+    text.prepend_decimal(step.value);
+    text.prepend(sign_word(step.store));
+    prepend_word(text, &step.word);
+    text.prepend(b" ");
+    text.prepend_decimal(step.place as u64);
+    text.prepend(b" p");
+    text.prepend_decimal(number);
+}
+
+/// The word's name.
+#[tactic(auto, using(rt_cidr::proofs::ShortTexts::prepending), unfolding(crate::specs::ReplayText::word_text))]
+fn prepend_word(text: &mut ShortText, word: &Word)
+    requires room { Fits (word_text word.now) text.old }
+    ensures { text.new ≡ word_text word.now ++ text.old }
+{
+    match word {
+        Word::C(level, node, side) => {
+            text.prepend_decimal(*side as u64);
+            text.prepend(b".");
+            prepend_level(text, b"C", *level, *node);
+        }
+        Word::T(level, node) => prepend_level(text, b"T", *level, *node),
+        Word::P(level, place) => prepend_level(text, b"P", *level, *place),
+    }
+}
+
+/// A word's letter, its level, and its node or place.
+#[tactic(auto, using(rt_cidr::proofs::ShortTexts::prepending), unfolding(crate::specs::ReplayText::level_text))]
+fn prepend_level(text: &mut ShortText, letter: &[u8; 1], level: u32, index: usize)
+    requires room { Fits (level_text letter.now level index) text.old }
+    ensures { text.new ≡ level_text letter.now level index ++ text.old }
+{
+    text.prepend_decimal(index as u64);
+    text.prepend(b".");
+    text.prepend_decimal(u64::from(level));
+    text.prepend(letter);
 }
 
 #[tactic(auto, unfolding(crate::specs::ReplayText::mark_text))]
 fn mark_word(mark: Mark) -> &'static [u8]
-    ensures text { result.now ≡ mark_text mark }
-    ensures short { length result.now ≤ 8 }
+    ensures { result.now ≡ mark_text mark }
 {
     match mark {
         Mark::Plain => b"\n",
@@ -139,47 +176,7 @@ fn mark_word(mark: Mark) -> &'static [u8]
 
 #[tactic(auto, unfolding(crate::specs::ReplayText::sign_text))]
 fn sign_word(store: bool) -> &'static [u8]
-    ensures text { result.now ≡ sign_text store }
-    ensures short { length result.now ≤ 4 }
+    ensures { result.now ≡ sign_text store }
 {
     if store { b" := " } else { b" = " }
-}
-
-/// The word's name, 53 bytes at most.
-fn word_before(word: &Word, buf: &mut [u8; LINE_ROOM], end: usize) -> usize
-    requires room { 63 ≤ end }
-    requires within { end ≤ 160 }
-    ensures written { drop result buf.new ≡ word_text word.now ++ drop end buf.old }
-    ensures short { end ≤ result + 63 }
-    ensures before_end { result ≤ end }
-{
-    match word {
-        Word::C(level, node, side) => {
-            let start = decimal_before(*side as u64, buf, end);
-            let start = text_before(b".", buf, start);
-            level_before(b"C", *level, *node, buf, start)
-        }
-        Word::T(level, node) => level_before(b"T", *level, *node, buf, end),
-        Word::P(level, place) => level_before(b"P", *level, *place, buf, end),
-    }
-}
-
-/// A word's letter, its level, and its node or place.
-fn level_before(
-    letter: &[u8; 1],
-    level: u32,
-    index: usize,
-    buf: &mut [u8; LINE_ROOM],
-    end: usize,
-) -> usize
-    requires room { 42 ≤ end }
-    requires within { end ≤ 160 }
-    ensures written { drop result buf.new ≡ letter.now ++ (decimal level ++ (codes "." ++ (decimal index ++ drop end buf.old))) }
-    ensures short { end ≤ result + 42 }
-    ensures before_end { result ≤ end }
-{
-    let start = decimal_before(index as u64, buf, end);
-    let start = text_before(b".", buf, start);
-    let start = decimal_before(u64::from(level), buf, start);
-    text_before(letter, buf, start)
 }

@@ -1,18 +1,20 @@
 //! A run: feed texts in, their reports and the table out.
-ghost use Rattle.std.specs.Prelude.{◌≡◌, ◌↔◌, ℕ, ◌<◌, ◌≤◌, ◌++◌, ◌^◌, [], ◌∷◌, map, length, All, IfOk, OnOk};
+ghost use Rattle.std.specs.Prelude.{◌≡◌, ◌↔◌, ℕ, ◌<◌, ◌≤◌, ◌++◌, ◌^◌, [], ◌∷◌, map, length, All, IfOk, OnOk, OnErr};
+ghost use Rattle.std.specs.Io.KnownBytes.{Appends};
+ghost use Rattle.rt_cidr.specs.Output.{AppendsBeginning};
 ghost use Rattle.rt_rib.specs.Book.{IsLimit, IsFeed};
 ghost use Rattle.rt_feed.specs.Printed.{report_text, table_text};
 ghost use Rattle.rt_app.specs.RunText.{IsRunText, Leaves};
 ghost use Rattle.rt_app.specs.Running.{Answers, AnswersOne, AnswersText, report_status};
 
 use crate::faults::{AppFault, RunFault};
-use rt_cidr::put;
+use rt_cidr::OutputBuffer;
 use rt_feed::{
     Answer, Line, Report, Version, next_line, parse_line, text_body, write_report, write_table,
 };
 use rt_rib::{Book, Route};
 use std::alloc::{AllocError, Global};
-use std::io::Write;
+use std::io::{self, Write};
 
 /// The status where some command was refused for want of memory.
 const REFUSED: u8 = 5;
@@ -41,33 +43,17 @@ pub fn run_texts<R, W: Write>(
     let Some(text) = texts.first() else {
         return Err(AppFault::Run(RunFault::NoText));
     };
-    let Ok(output) = run_alone(alloc, text.as_slice(), limit) else {
+    let mut book = Book::new(alloc, limit);
+    let Ok(report) = answer_text(alloc, 1, text.as_slice(), &mut book) else {
         return Err(AppFault::Run(RunFault::Memory));
     };
-    match put(w, output.text.as_slice()) {
-        Ok(()) => Ok(output.status),
+    let Ok(mut buffer) = OutputBuffer::new(alloc) else {
+        return Err(AppFault::Run(RunFault::Memory));
+    };
+    match write_run(w, &mut buffer, 1, &report, book.table()) {
+        Ok(()) => Ok(status_of(&report)),
         Err(_) => Err(AppFault::Write),
     }
-}
-
-/// What a run writes, and the status where it was all written.
-#[derive(Drop)]
-struct Output {
-    text: Vec<u8>,
-    status: u8,
-}
-
-/// Runs one text as feed 1.
-fn run_alone(alloc: Global, text: &[u8], limit: u32) -> Result<Output, AllocError>
-    requires limited { IsLimit limit }
-    requires in_memory { length text.now < 2 ^ 63 }
-    ensures { IfOk result (λ output. IsRunText (text.now ∷ []) limit output.text.items output.status) }
-{
-    let mut book = Book::new(alloc, limit);
-    let report = answer_text(alloc, 1, text, &mut book)?;
-    let text = rendered(alloc, 1, &report, book.table())?;
-    let status = status_of(&report);
-    Ok(Output { text, status })
 }
 
 /// Answers the lines of a feed's text in turn, and gives the report.
@@ -129,23 +115,23 @@ fn answer_of(feed: u32, line: &[u8], version: Version, book: &mut Book<Global>) 
     }
 }
 
-/// The report and the book's table, as text.
-fn rendered(
-    alloc: Global,
+/// Writes the report of the feed of this number, and then the table.
+fn write_run<W: Write>(
+    w: &mut W,
+    buffer: &mut OutputBuffer,
     feed: u32,
     report: &Report,
     routes: &[Route],
-) -> Result<Vec<u8>, AllocError>
-    ensures { IfOk result (λ text. text.items ≡ report_text feed report.now ++ table_text routes.now) }
+) -> Result<(), io::Error>
+    requires { buffer.old ≡ [] }
+    ensures ok { OnOk result (Appends (W.contents w.old) (W.contents w.new)
+        (report_text feed report.now ++ table_text routes.now)) }
+    ensures err { OnErr result (AppendsBeginning (W.contents w.old) (W.contents w.new)
+        (report_text feed report.now ++ table_text routes.now)) }
 {
-    let mut text = Vec::new(alloc);
-    let Ok(()) = write_report(&mut text, feed, report) else {
-        return Err(AllocError);
-    };
-    let Ok(()) = write_table(&mut text, routes) else {
-        return Err(AllocError);
-    };
-    Ok(text)
+    write_report(w, buffer, feed, report)?;
+    write_table(w, buffer, routes)?;
+    buffer.flush(w)
 }
 
 /// The status of a report whose text was written.

@@ -1,7 +1,8 @@
-pub mod Buffers
 pub mod Digits
 pub mod Fronts
 pub mod Nesting
 pub mod OneAnswer
 pub mod Ranges
 pub mod Texts
+pub mod ShortTexts
+pub mod Outputs

@@ -113,15 +113,15 @@ decimal_is_decimal n fits =
 pub address_text_is_address : (address : ℕ) → address < 2 ^ 32 → IsAddressText (address_text address) address
 unfolding address_text
 address_text_is_address address fits = record {
-  first_text = decimal (address / 2 ^ 24);
+  first_text = decimal (address / 2 ^ 24 % 256);
   second_text = decimal (address / 2 ^ 16 % 256);
   third_text = decimal (address / 2 ^ 8 % 256);
   fourth_text = decimal (address % 256);
-  first = address / 2 ^ 24;
+  first = address / 2 ^ 24 % 256;
   second = address / 2 ^ 16 % 256;
   third = address / 2 ^ 8 % 256;
   fourth = address % 256;
-  is_first = octet (address / 2 ^ 24) (omega arith);
+  is_first = octet (address / 2 ^ 24 % 256) (omega arith);
   is_second = octet (address / 2 ^ 16 % 256) (omega arith);
   is_third = octet (address / 2 ^ 8 % 256) (omega arith);
   is_fourth = octet (address % 256) (omega arith);

@@ -49,7 +49,7 @@ pub record IsPrefixText (text : List ℕ) (address len : ℕ) : Type 0 where
 -- the text that is written for an address: its four octets
 unfoldable pub address_text : ℕ → List ℕ
 address_text address =
-    decimal (address / 2 ^ 24) ++ dot ∷ (
+    decimal (address / 2 ^ 24 % 256) ++ dot ∷ (
     decimal (address / 2 ^ 16 % 256) ++ dot ∷ (
     decimal (address / 2 ^ 8 % 256) ++ dot ∷
     decimal (address % 256)))

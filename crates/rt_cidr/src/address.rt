@@ -1,12 +1,14 @@
 ghost use Rattle.std.specs.Prelude.{◌≡◌, ◌+◌, ◌≤◌, ◌++◌, length, take, drop, OnOk, OnErr};
 ghost use Rattle.std.specs.Io.KnownBytes.{Appends};
 ghost use Rattle.rt_cidr.specs.Output.{AppendsBeginning};
+ghost use Rattle.rt_cidr.specs.ShortText.{Fits};
 ghost use Rattle.rt_cidr.specs.Text.{IsAddressText, IsOctetText, address_text};
 ghost use Rattle.rt_cidr.specs.Front.{ReadsFront, ReadsMark, IsHalfText};
 
-use crate::decimals::{byte_before, octet_before, read_decimal};
+use crate::decimals::read_decimal;
 use crate::output::put;
 use crate::prefixes::TextFault;
+use crate::short_text::ShortText;
 use std::io::{self, Write};
 
 /// An IPv4 address, its first octet the most significant.
@@ -30,36 +32,33 @@ impl Addr {
         Ok(Addr(address))
     }
 
-    /// Writes the address's text into the buffer so that it ends at `end`, and answers where it starts. What stands
-    /// before that and from `end` on stays. It asks for room for the longest text, 15 bytes.
-    pub fn write_before(&self, buf: &mut [u8], end: usize) -> usize
-        requires room { 15 ≤ end }
-        requires within { end ≤ length buf.old }
-        ensures written { drop result buf.new ≡ address_text self.now.0 ++ drop end buf.old }
-        ensures before { take result buf.new ≡ take result buf.old }
-        ensures start { result + length (address_text self.now.0) ≡ end }
-        ensures short { end ≤ result + 15 }
+    /// Puts the address's text in front: its four octets joined by dots.
+    #[tactic(auto, using(crate::proofs::ShortTexts::prepending), unfolding(crate::specs::Text::address_text))]
+    pub fn prepend_to(&self, text: &mut ShortText)
+        requires room { Fits (address_text self.now.0) text.old }
+        ensures { text.new ≡ address_text self.now.0 ++ text.old }
     {
-        let fourth = octet_before(self.0 % 256, buf, end);
-        let dot = byte_before(b'.', buf, fourth);
-        let third = octet_before((self.0 >> 8) % 256, buf, dot);
-        let dot = byte_before(b'.', buf, third);
-        let second = octet_before((self.0 >> 16) % 256, buf, dot);
-        let dot = byte_before(b'.', buf, second);
-        octet_before(self.0 >> 24, buf, dot)
+        text.prepend_decimal(u64::from(self.0 % 256));
+        text.prepend(b".");
+        text.prepend_decimal(u64::from((self.0 >> 8) % 256));
+        text.prepend(b".");
+        text.prepend_decimal(u64::from((self.0 >> 16) % 256));
+        text.prepend(b".");
+        text.prepend_decimal(u64::from((self.0 >> 24) % 256));
     }
 
     /// Writes the address's text: its four octets joined by dots. A fault is the writer's, as `put` hands it on; what
     /// was written is then a beginning of the text.
+    #[tactic(auto, using(crate::proofs::ShortTexts::lengths))]
     pub fn write_to<W: Write>(&self, w: &mut W) -> Result<(), io::Error>
         ensures ok { OnOk result
             (Appends (W.contents w.old) (W.contents w.new) (address_text self.now.0)) }
         ensures err { OnErr result
             (AppendsBeginning (W.contents w.old) (W.contents w.new) (address_text self.now.0)) }
     {
-        let mut text = [0; 15];
-        let start = self.write_before(&mut text, 15);
-        put(w, &text[start..])
+        let mut text = ShortText::new();
+        self.prepend_to(&mut text);
+        put(w, text.as_bytes())
     }
 }
 

@@ -1,6 +1,5 @@
 //! Decimals: one or more digits, without a leading zero unless it is `0` alone.
-ghost use Rattle.std.specs.Prelude.{◌≡◌, ◌+◌, ◌≤◌, ◌<◌, [], ◌∷◌, ◌++◌, length, take, drop, decimal, slice_index, IsTrue, ◌↔◌};
-ghost use Rattle.rt_cidr.specs.Buffer.{StandsBefore};
+ghost use Rattle.std.specs.Prelude.{◌≡◌, ◌<◌, length, slice_index, IsTrue, ◌↔◌};
 ghost use Rattle.rt_cidr.specs.Reading.{ReadsDecimal};
 ghost use Rattle.rt_cidr.specs.Front.{ReadsFront, IsCappedDecimal, LeadingDigits};
 
@@ -52,40 +51,4 @@ fn leading_digits(text: &[u8]) -> (u64, usize)
         len += 1;
     }
     (value, len)
-}
-
-/// Writes the decimal of `n` into the buffer so that it ends at `end`, and answers where it starts. What stands before
-/// that and from `end` on stays. It asks for room for the longest decimal, 20 bytes.
-pub fn decimal_before(n: u64, buf: &mut [u8], end: usize) -> usize
-    requires room { 20 ≤ end }
-    requires within { end ≤ length buf.old }
-    ensures written { drop result buf.new ≡ decimal n ++ drop end buf.old }
-    ensures before { take result buf.new ≡ take result buf.old }
-    ensures start { result + length (decimal n) ≡ end }
-    ensures short { end ≤ result + 20 }
-{
-    itoa::write_digits(n, buf, end)
-}
-
-/// Writes the decimal of an octet or a length, at most 255, as `decimal_before` does. It asks for room for 3 bytes.
-pub(crate) fn octet_before(n: u32, buf: &mut [u8], end: usize) -> usize
-    requires octet { n < 256 }
-    requires room { 3 ≤ end }
-    requires within { end ≤ length buf.old }
-    ensures stands { StandsBefore (decimal n) buf.old buf.new end result }
-    ensures short { end ≤ result + 3 }
-    ensures two_digits { n < 100 → end ≤ result + 2 }
-{
-    itoa::write_digits(u64::from(n), buf, end)
-}
-
-/// Writes the byte so that it ends at `end`, and answers where it stands. The other bytes stay.
-pub(crate) fn byte_before(byte: u8, buf: &mut [u8], end: usize) -> usize
-    requires room { 0 < end }
-    requires within { end ≤ length buf.old }
-    ensures stands { StandsBefore (byte ∷ []) buf.old buf.new end result }
-    ensures start { result + 1 ≡ end }
-{
-    buf[end - 1] = byte;
-    end - 1
 }

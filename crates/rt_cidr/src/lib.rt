@@ -16,11 +16,13 @@ mod decimals;
 pub mod laws;
 mod output;
 mod prefixes;
+mod short_text;
 
 pub use address::Addr;
-pub use decimals::{decimal_before, decimal_u32};
-pub use output::{put, text_before};
+pub use decimals::decimal_u32;
+pub use output::{OUTPUT_BYTES, OutputBuffer, put};
 pub use prefixes::{Prefix, TextFault};
+pub use short_text::{SHORT_TEXT_BYTES, ShortText};
 
 #[cfg(test)]
 mod tests;

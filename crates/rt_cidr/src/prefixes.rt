@@ -1,13 +1,15 @@
 ghost use Rattle.std.specs.Prelude.{◌≡◌, ◌≤◌, ◌<◌, ◌%◌, ◌+◌, ◌++◌, length, take, drop, OnOk, OnErr};
 ghost use Rattle.std.specs.Io.KnownBytes.{Appends};
 ghost use Rattle.rt_cidr.specs.Output.{AppendsBeginning};
+ghost use Rattle.rt_cidr.specs.ShortText.{Fits};
 ghost use Rattle.rt_cidr.specs.Text.{prefix_text};
 ghost use Rattle.rt_cidr.specs.Cidr.{size_of, IsPrefix};
 ghost use Rattle.rt_cidr.specs.Front.{ReadsPair};
 
 use crate::address::{Addr, after_mark, read_address};
-use crate::decimals::{byte_before, octet_before, read_decimal};
+use crate::decimals::read_decimal;
 use crate::output::put;
+use crate::short_text::ShortText;
 use std::io::{self, Write};
 use thiserror::Error;
 
@@ -100,33 +102,29 @@ impl Prefix {
         other.len >= self.len && self.covers(Addr(other.base))
     }
 
-    /// Writes the prefix's text into the buffer so that it ends at `end`, and answers where it starts. What stands
-    /// before that and from `end` on stays. It asks for room for the longest text, 18 bytes.
-    pub fn write_before(&self, buf: &mut [u8], end: usize) -> usize
-        requires room { 18 ≤ end }
-        requires within { end ≤ length buf.old }
-        ensures written { drop result buf.new
-            ≡ prefix_text self.now.base self.now.len ++ drop end buf.old }
-        ensures before { take result buf.new ≡ take result buf.old }
-        ensures start { result + length (prefix_text self.now.base self.now.len) ≡ end }
-        ensures short { end ≤ result + 18 }
+    /// Puts the prefix's text in front: its base, a slash and its length.
+    #[tactic(auto, using(crate::proofs::ShortTexts::prepending), unfolding(crate::specs::Text::prefix_text))]
+    pub fn prepend_to(&self, text: &mut ShortText)
+        requires room { Fits (prefix_text self.now.base self.now.len) text.old }
+        ensures { text.new ≡ prefix_text self.now.base self.now.len ++ text.old }
     {
-        let len = octet_before(u32::from(self.len), buf, end);
-        let slash = byte_before(b'/', buf, len);
-        Addr(self.base).write_before(buf, slash)
+        text.prepend_decimal(u64::from(self.len));
+        text.prepend(b"/");
+        Addr(self.base).prepend_to(text);
     }
 
     /// Writes the prefix's text: its base, a slash and its length. A fault is the writer's, as `put` hands it on; what
     /// was written is then a beginning of the text.
+    #[tactic(auto, using(crate::proofs::ShortTexts::lengths))]
     pub fn write_to<W: Write>(&self, w: &mut W) -> Result<(), io::Error>
         ensures ok { OnOk result (Appends (W.contents w.old) (W.contents w.new)
             (prefix_text self.now.base self.now.len)) }
         ensures err { OnErr result (AppendsBeginning (W.contents w.old) (W.contents w.new)
             (prefix_text self.now.base self.now.len)) }
     {
-        let mut text = [0; 18];
-        let start = self.write_before(&mut text, 18);
-        put(w, &text[start..])
+        let mut text = ShortText::new();
+        self.prepend_to(&mut text);
+        put(w, text.as_bytes())
     }
 }
 

@@ -151,11 +151,26 @@ fn reads_and_writes_decimals(rt: HostRuntime) {
     ] {
         assert_eq!(rt; decimal_u32(text.as_bytes()), number, "{text}");
     }
+}
 
-    let mut line = *b"route..................";
-    let start = decimal_before(18_446_744_073_709_551_615, &mut line, 22);
-    assert_eq!(rt; start, 2);
-    assert_eq!(rt; line.as_slice(), b"ro18446744073709551615.".as_slice());
+#[tactic(auto, using(crate::proofs::ShortTexts::prepending, crate::proofs::ShortTexts::lengths))]
+#[test]
+fn builds_a_short_text_from_its_back(rt: HostRuntime) -> Result<(), Fail> {
+    let mut text = ShortText::new();
+    assert_eq!(rt; text.as_bytes(), b"".as_slice());
+    text.prepend_decimal(u64::MAX);
+    text.prepend(b" to ");
+    Prefix::parse(b"192.0.2.128/25")?.prepend_to(&mut text);
+    text.prepend(b"");
+    assert_eq!(rt;
+        text.as_bytes(),
+        b"192.0.2.128/25 to 18446744073709551615".as_slice()
+    );
+    text.clear();
+    assert_eq!(rt; text.as_bytes(), b"".as_slice());
+    text.prepend(&[b'x'; SHORT_TEXT_BYTES]);
+    assert_eq!(rt; text.as_bytes().len(), SHORT_TEXT_BYTES);
+    Ok(())
 }
 
 #[test]

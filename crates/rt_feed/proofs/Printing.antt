@@ -1,35 +1,101 @@
--- What is in a writer after one text, or a beginning of one, follows another.
-use Rattle.std.proofs.Common.{◌≡◌, ℕ, suc, ◌+◌, ◌<◌, List, ◌∷◌, ◌++◌, length, take, drop, get_or, Option, arith, length-append, append_assoc, sym, ap, ◌∙◌}
-use Rattle.std.specs.Io.KnownBytes.{Appends}
-use Rattle.std.proofs.KnownBytes.{Appends-trans}
-use Rattle.std.proofs.lemmas.List.{take-append-le}
-use Rattle.std.proofs.Math.Seq.{take-append-add, split_at}
+-- How long a printed line is at most, and what is in a writer and its buffer after several texts.
+use Rattle.std.proofs.Common.{◌≡◌, ℕ, suc, ◌+◌, ◌<◌, ◌≤◌, List, ◌∷◌, ◌++◌, length, take, drop, get_or, codes, [], Option, arith, length-append, append_assoc, sym, ap, ◌∙◌, append-nil, add-one}
+use Rattle.std.proofs.Math.Seq.{split_at, take-suc}
 use Rattle.std.specs.List.{flat_map}
 use Rattle.std.proofs.lemmas.Grind.{flat_map-append}
-use Rattle.rt_cidr.specs.Output.{AppendsBeginning}
+use Rattle.rt_cidr.specs.Output.{AppendsBeginning, PassesOn}
+use Rattle.rt_cidr.proofs.Outputs.{begins_longer, passes_on-begins, passes_on-more}
+use Rattle.rt_cidr.proofs.ShortTexts.{length-decimal, length-address_text, length-prefix_text}
+use Rattle.rt_rib.specs.declared.routes.Route.{Route}
+use Rattle.rt_rib.specs.declared.routes.Hop.{Hop}
+use Rattle.rt_rib.specs.declared.routes.Hop.TheVariants.{Via, Discard}
+use Rattle.rt_rib.specs.declared.commands.Reply.{Reply}
+use Rattle.rt_rib.specs.declared.commands.Reply.TheVariants.{Added, Exists, Full, Replaced, Withdrawn, Missing, Found, NoRoute, Dumped, Purged}
+use Rattle.rt_feed.specs.declared.parse.LineFault.{LineFault}
+use Rattle.rt_feed.specs.declared.parse.LineFault.TheVariants as fault
+use Rattle.rt_feed.specs.declared.report.Line.{Line}
+use Rattle.rt_feed.specs.declared.report.Answer.{Answer}
+use Rattle.rt_feed.specs.declared.report.Answer.TheVariants.{Did, Refused, Fault}
+use Rattle.rt_feed.specs.Printed.{hop_text, route_text, reply_text, fault_text, answer_text, line_text, row_text, count_text}
 
--- a whole text and then a beginning of the next
-pub begins_after : (a b c : Option (List ℕ)) (xs ys : List ℕ) → Appends a b xs → AppendsBeginning b c ys → AppendsBeginning a c (xs ++ ys)
-begins_after a b c xs ys first second = record {
-  count = length xs + second.count;
-  within = omega (arith, length-append xs ys, second.within);
-  appended = rw take-append-add (Appends-trans a b c xs (take second.count ys) first second.appended);
-}
+hop_fits : (hop : Hop) → length (hop_text hop) ≤ 15
+hop_fits (Via address) = length-address_text address.0
+hop_fits Discard = omega arith
 
--- a beginning of a text is one of a longer text
-pub begins_longer : (a c : Option (List ℕ)) (xs ys : List ℕ) → AppendsBeginning a c xs → AppendsBeginning a c (xs ++ ys)
-begins_longer a c xs ys first = record {
-  count = first.count;
-  within = omega (arith, length-append xs ys, first.within);
-  appended = rw (take-append-le first.count xs ys first.within) first.appended;
-}
+route_fits : (route : Route) → length (route_text route) ≤ 250
+unfolding route_text
+route_fits route =
+    let prefix = length-prefix_text route.prefix.base route.prefix.len in
+    let feed = length-decimal route.feed in
+    let pref = length-decimal route.pref in
+    let hop = hop_fits route.hop in
+    simp length-append (omega arith)
+
+reply_fits : (reply : Reply) → length (reply_text reply) ≤ 260
+unfolding reply_text
+reply_fits Added = omega arith
+reply_fits Exists = omega arith
+reply_fits Full = omega arith
+reply_fits Replaced = omega arith
+reply_fits Withdrawn = omega arith
+reply_fits Missing = omega arith
+reply_fits (Found route) = let found = route_fits route in simp length-append (omega arith)
+reply_fits NoRoute = omega arith
+reply_fits (Dumped count) = let digits = length-decimal count in simp length-append (omega arith)
+reply_fits (Purged count) = let digits = length-decimal count in simp length-append (omega arith)
+
+fault_fits : (fault : LineFault) → length (fault_text fault) ≤ 8
+unfolding fault_text
+fault_fits fault.Command = omega arith
+fault_fits fault.FieldCount = omega arith
+fault_fits fault.Text = omega arith
+fault_fits fault.PrefixLength = omega arith
+fault_fits fault.PrefixBits = omega arith
+fault_fits fault.Preference = omega arith
+fault_fits fault.Hop = omega arith
+fault_fits fault.LineLength = omega arith
+
+answer_fits : (answer : Answer) → length (answer_text answer) ≤ 260
+unfolding answer_text
+answer_fits (Did reply) = reply_fits reply
+answer_fits Refused = omega arith
+answer_fits (Fault fault) = omega (arith, fault_fits fault)
+
+pub line_fits : (feed : ℕ) (line : Line) → length (line_text feed line) ≤ 400
+unfolding line_text
+line_fits feed line =
+    let number = length-decimal line.number in
+    let of_feed = length-decimal feed in
+    let answer = answer_fits line.answer in
+    simp length-append (omega arith)
+
+pub row_fits : (route : Route) → length (row_text route) ≤ 400
+unfolding row_text
+row_fits route = omega (arith, length-append (route_text route) (codes "\n"), route_fits route)
+
+pub count_fits : (count : ℕ) → length (count_text count) ≤ 400
+unfolding count_text
+count_fits count = let digits = length-decimal count in simp length-append (omega arith)
 
 -- a fault within one of several texts after a first one leaves a beginning of them all
-pub begins_all : {X : Type 0} (a b c : Option (List ℕ)) (head : List ℕ) (text : X → List ℕ) (xs : List X) (i : ℕ) (x : X) → i < length xs → x ≡ get_or xs i x
-    → Appends a b (head ++ flat_map text (take i xs)) → AppendsBeginning b c (text x) → AppendsBeginning a c (head ++ flat_map text xs)
-begins_all {X} a b c head text xs i x here is first second =
-    let whole : head ++ flat_map text xs ≡ ((head ++ flat_map text (take i xs)) ++ text x) ++ flat_map text (drop (suc i) xs) =
+pub begins_all : {X : Type 0} (a b c : Option (List ℕ)) (held held' head : List ℕ) (text : X → List ℕ) (xs : List X) (i : ℕ) (x : X) →
+    i < length xs → x ≡ get_or xs i x → PassesOn a b held held' (head ++ flat_map text (take i xs)) →
+    AppendsBeginning b c (held' ++ text x) → AppendsBeginning a c (held ++ (head ++ flat_map text xs))
+begins_all {X} a b c held held' head text xs i x here is first second =
+    let rest = flat_map text (drop (suc i) xs) in
+    let whole : head ++ flat_map text xs ≡ ((head ++ flat_map text (take i xs)) ++ text x) ++ rest =
     ap (λ (ys : List X). head ++ flat_map text ys) (split_at xs i x here ∙ ap (λ y. take i xs ++ y ∷ drop (suc i) xs) (sym is)) ∙
-    (ap (λ ys. head ++ ys) (flat_map-append text (take i xs) (x ∷ drop (suc i) xs)) ∙
-    simp append_assoc) in
-    rw whole (begins_longer a c _ (flat_map text (drop (suc i) xs)) (begins_after a b c _ _ first second))
+    (ap (λ ys. head ++ ys) (flat_map-append text (take i xs) (x ∷ drop (suc i) xs)) ∙ simp append_assoc) in
+    rw (whole, ← append_assoc held ((head ++ flat_map text (take i xs)) ++ text x) rest)
+    (begins_longer a c _ rest (passes_on-begins a b c held held' _ (text x) first second))
+
+-- one of several texts after a first one is put behind those before it
+pub passes_next : {X : Type 0} (a b c : Option (List ℕ)) (held held' held'' head : List ℕ) (text : X → List ℕ) (xs : List X) (i : ℕ) (x : X) →
+    i < length xs → x ≡ get_or xs i x → PassesOn a b held held' (head ++ flat_map text (take i xs)) →
+    PassesOn b c held' held'' (text x) → PassesOn a c held held'' (head ++ flat_map text (take (i + 1) xs))
+passes_next {X} a b c held held' held'' head text xs i x here is first second =
+    let next : flat_map text (take (i + 1) xs) ≡ flat_map text (take i xs) ++ text x =
+    ap (flat_map text) (ap (λ n. take n xs) (add-one i) ∙ take-suc xs i x here ∙ ap (λ y. take i xs ++ y ∷ []) (sym is)) ∙
+    (flat_map-append text (take i xs) (x ∷ []) ∙ ap (λ ys. flat_map text (take i xs) ++ ys) (append-nil (text x))) in
+    rw (next, ← append_assoc head (flat_map text (take i xs)) (text x))
+    (passes_on-more a b c held held' held'' (head ++ flat_map text (take i xs)) (text x) first second)

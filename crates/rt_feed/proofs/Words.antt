@@ -50,7 +50,7 @@ no_space-address address small =
     let P : ℕ → Type 0 = λ byte. byte ≢ space in
     let dotted : (octet : ℕ) (rest : List ℕ) → octet < 2 ^ 64 → NoSpace rest → NoSpace (decimal octet ++ 46 ∷ rest) =
     λ octet rest fits more. All-append P (decimal octet) (46 ∷ rest) (no_space-decimal octet fits) (All-cons P 46 rest (omega arith) more) in
-    dotted (address / 2 ^ 24) _ (omega arith) (dotted (address / 2 ^ 16 % 256) _ (omega arith) (dotted (address / 2 ^ 8 % 256) _ (omega arith)
+    dotted (address / 2 ^ 24 % 256) _ (omega arith) (dotted (address / 2 ^ 16 % 256) _ (omega arith) (dotted (address / 2 ^ 8 % 256) _ (omega arith)
     (no_space-decimal (address % 256) (omega arith))))
 
 no_space-prefix : (p : Prefix) → NoSpace (prefix_text p.base p.len)
@@ -103,7 +103,7 @@ length-address_text address small =
     let second = decimal (address / 2 ^ 16 % 256) ++ 46 ∷ third in
     omega (
       arith,
-      length-octet (address / 2 ^ 24) second (omega arith),
+      length-octet (address / 2 ^ 24 % 256) second (omega arith),
       length-octet (address / 2 ^ 16 % 256) third (omega arith),
       length-octet (address / 2 ^ 8 % 256) last (omega arith),
       length-decimal-le 3 (address % 256) (omega arith) (omega arith) (omega arith),
@@ -164,4 +164,4 @@ pub address-ne-discard : (address : ℕ) → address < 2 ^ 32 → address_text a
 unfolding address_text
 address-ne-discard address small is =
     let more = 46 ∷ (decimal (address / 2 ^ 16 % 256) ++ 46 ∷ (decimal (address / 2 ^ 8 % 256) ++ 46 ∷ decimal (address % 256))) in
-    let digit = first_digit (address / 2 ^ 24) (omega arith) more in omega (arith, digit, ap (λ text. slice_index_or text 0 0) is)
+    let digit = first_digit (address / 2 ^ 24 % 256) (omega arith) more in omega (arith, digit, ap (λ text. slice_index_or text 0 0) is)

@@ -1,5 +1,5 @@
--- The texts that are written: routes, answers, the lines of a report, the table. A printed line ends with LF (10).
-use Rattle.std.specs.Prelude.{ℕ, List, [], ◌∷◌, ◌++◌, length, codes, decimal}
+-- The texts that are written: routes, answers, the lines of a report, the table.
+use Rattle.std.specs.Prelude.{ℕ, List, ◌++◌, length, codes, decimal}
 use Rattle.std.specs.List.{flat_map}
 use Rattle.rt_cidr.specs.Text.{address_text, prefix_text}
 use Rattle.rt_rib.specs.declared.routes.Route.{Route}
@@ -57,7 +57,7 @@ answer_text (Fault fault) = fault_text fault
 -- `FEED:LINE ` and the answer
 unfoldable pub line_text : ℕ → Line → List ℕ
 line_text feed line =
-    decimal feed ++ (codes ":" ++ (decimal line.number ++ (codes " " ++ (answer_text line.answer ++ 10 ∷ []))))
+    decimal feed ++ (codes ":" ++ (decimal line.number ++ (codes " " ++ (answer_text line.answer ++ codes "\n"))))
 
 -- a feed's report: its lines in order
 abbrev pub report_text : ℕ → List Line → List ℕ
@@ -65,11 +65,11 @@ report_text feed lines = flat_map (line_text feed) lines
 
 -- a route of the table
 unfoldable pub row_text : Route → List ℕ
-row_text route = route_text route ++ 10 ∷ []
+row_text route = route_text route ++ codes "\n"
 
 -- the table's first line
 unfoldable pub count_text : ℕ → List ℕ
-count_text count = codes "table " ++ (decimal count ++ 10 ∷ [])
+count_text count = codes "table " ++ (decimal count ++ codes "\n")
 
 -- the table: `table COUNT`, and then the routes in order
 abbrev pub table_text : List Route → List ℕ

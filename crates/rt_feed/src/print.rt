@@ -1,148 +1,168 @@
-//! Reports and the table as text. Each line is built in a small buffer, from its back to its front, and then goes to the
-//! writer whole.
-ghost use Rattle.std.specs.Prelude.{◌≡◌, ◌+◌, ◌≤◌, ◌++◌, [], length, drop, IsOk, OnOk, OnErr};
-ghost use Rattle.std.specs.Io.KnownBytes.{Appends};
-ghost use Rattle.rt_cidr.specs.Output.{AppendsBeginning};
+//! Reports and the table as text. Each line is built in a short text, and goes to the writer through an output buffer.
+ghost use Rattle.std.specs.Prelude.{◌≡◌, ◌++◌, [], IsOk, OnOk, OnErr};
+ghost use Rattle.rt_cidr.specs.Output.{AppendsBeginning, PassesOn};
+ghost use Rattle.rt_cidr.specs.ShortText.{Fits};
 ghost use Rattle.rt_feed.specs.Printed.{hop_text, route_text, reply_text, fault_text, answer_text, line_text, report_text, row_text, count_text, table_text};
 
 use crate::parse::LineFault;
 use crate::report::{Answer, Line, Report};
-use rt_cidr::{decimal_before, put, text_before};
+use rt_cidr::{OutputBuffer, ShortText};
 use rt_rib::{Hop, Reply, Route};
 use std::io::{self, Write};
 
-/// Bytes for the longest printed line: its answer and two decimals of 64 bits.
-const LINE_ROOM: usize = 160;
-
-/// Writes the report of the feed of this number: for each line `FEED:LINE `, its answer and LF. After a fault of the
-/// writer, which is handed on, what was written is a beginning of that text. Takes no memory.
-pub fn write_report<W: Write>(w: &mut W, feed: u32, report: &Report) -> Result<(), io::Error>
-    ensures ok { OnOk result
-        (Appends (W.contents w.old) (W.contents w.new) (report_text feed report.now)) }
-    ensures err { OnErr result
-        (AppendsBeginning (W.contents w.old) (W.contents w.new) (report_text feed report.now)) }
+/// Puts the report of the feed of this number behind what the buffer holds: for each line `FEED:LINE `, its answer and
+/// LF. After a fault of the writer, which is handed on, what was written is a beginning of what was held and the report,
+/// and the buffer holds nothing any more. Takes no memory.
+#[tactic(auto, using(crate::proofs::Printing::line_fits))]
+pub fn write_report<W: Write>(
+    w: &mut W,
+    buffer: &mut OutputBuffer,
+    feed: u32,
+    report: &Report,
+) -> Result<(), io::Error>
+    ensures ok { OnOk result (PassesOn (W.contents w.old) (W.contents w.new)
+        buffer.old buffer.new (report_text feed report.now)) }
+    ensures err { OnErr result (AppendsBeginning (W.contents w.old) (W.contents w.new)
+        (buffer.old ++ report_text feed report.now)) }
 
     // Where there is no line to write, nothing fails.
     ensures nothing { report.now ≡ [] → IsOk result }
 {
+    let mut text = ShortText::new();
     for line in report.lines() {
-        write_line(w, feed, line)?;
+        text.clear();
+        prepend_line(&mut text, feed, line);
+        buffer.put(w, text.as_bytes())?;
     }
     Ok(())
 }
 
-/// Writes the table: `table COUNT` and LF, and then each route of the list and LF. After a fault of the writer, which is
-/// handed on, what was written is a beginning of that text. Takes no memory.
-pub fn write_table<W: Write>(w: &mut W, routes: &[Route]) -> Result<(), io::Error>
-    ensures ok { OnOk result
-        (Appends (W.contents w.old) (W.contents w.new) (table_text routes.now)) }
-    ensures err { OnErr result
-        (AppendsBeginning (W.contents w.old) (W.contents w.new) (table_text routes.now)) }
+/// Puts the table behind what the buffer holds: `table COUNT` and LF, and then each route of the list and LF. After a
+/// fault of the writer, which is handed on, what was written is a beginning of what was held and the table, and the
+/// buffer holds nothing any more. Takes no memory.
+#[tactic(auto, using(crate::proofs::Printing::count_fits, crate::proofs::Printing::row_fits))]
+pub fn write_table<W: Write>(
+    w: &mut W,
+    buffer: &mut OutputBuffer,
+    routes: &[Route],
+) -> Result<(), io::Error>
+    ensures ok { OnOk result (PassesOn (W.contents w.old) (W.contents w.new)
+        buffer.old buffer.new (table_text routes.now)) }
+    ensures err { OnErr result (AppendsBeginning (W.contents w.old) (W.contents w.new)
+        (buffer.old ++ table_text routes.now)) }
 {
-    write_count(w, routes.len())?;
+    let mut text = ShortText::new();
+    prepend_count(&mut text, routes.len());
+    buffer.put(w, text.as_bytes())?;
     for route in routes {
-        write_row(w, route)?;
+        text.clear();
+        prepend_row(&mut text, route);
+        buffer.put(w, text.as_bytes())?;
     }
     Ok(())
 }
 
-/// One line of a report.
-fn write_line<W: Write>(w: &mut W, feed: u32, line: &Line) -> Result<(), io::Error>
-    ensures ok { OnOk result
-        (Appends (W.contents w.old) (W.contents w.new) (line_text feed line.now)) }
-    ensures err { OnErr result
-        (AppendsBeginning (W.contents w.old) (W.contents w.new) (line_text feed line.now)) }
+// Each function below puts its text in front.
+
+/// One line of a report, with its LF.
+#[tactic(auto, using(rt_cidr::proofs::ShortTexts::prepending), unfolding(crate::specs::Printed::line_text))]
+fn prepend_line(text: &mut ShortText, feed: u32, line: &Line)
+    requires room { Fits (line_text feed line.now) text.old }
+    ensures { text.new ≡ line_text feed line.now ++ text.old }
 {
-    let mut buf = [0; LINE_ROOM];
-    let start = line_before(feed, line, &mut buf, LINE_ROOM);
-    put(w, &buf[start..])
+    text.prepend(b"\n");
+    prepend_answer(text, &line.answer);
+    text.prepend(b" ");
+    text.prepend_decimal(line.number as u64);
+    text.prepend(b":");
+    text.prepend_decimal(u64::from(feed));
 }
 
-/// The table's first line.
-fn write_count<W: Write>(w: &mut W, count: usize) -> Result<(), io::Error>
-    ensures ok { OnOk result
-        (Appends (W.contents w.old) (W.contents w.new) (count_text count)) }
-    ensures err { OnErr result
-        (AppendsBeginning (W.contents w.old) (W.contents w.new) (count_text count)) }
+/// The table's first line, with its LF.
+#[tactic(auto, using(rt_cidr::proofs::ShortTexts::prepending), unfolding(crate::specs::Printed::count_text))]
+fn prepend_count(text: &mut ShortText, count: usize)
+    requires room { Fits (count_text count) text.old }
+    ensures { text.new ≡ count_text count ++ text.old }
 {
-    let mut buf = [0; LINE_ROOM];
-    let start = count_before(count, &mut buf, LINE_ROOM);
-    put(w, &buf[start..])
+    text.prepend(b"\n");
+    text.prepend_decimal(count as u64);
+    text.prepend(b"table ");
 }
 
-/// One route of the table.
-fn write_row<W: Write>(w: &mut W, route: &Route) -> Result<(), io::Error>
-    ensures ok { OnOk result
-        (Appends (W.contents w.old) (W.contents w.new) (row_text route.now)) }
-    ensures err { OnErr result
-        (AppendsBeginning (W.contents w.old) (W.contents w.new) (row_text route.now)) }
+/// A route of the table, with its LF.
+#[tactic(auto, using(rt_cidr::proofs::ShortTexts::prepending), unfolding(crate::specs::Printed::row_text))]
+fn prepend_row(text: &mut ShortText, route: &Route)
+    requires room { Fits (row_text route.now) text.old }
+    ensures { text.new ≡ row_text route.now ++ text.old }
 {
-    let mut buf = [0; LINE_ROOM];
-    let start = row_before(route, &mut buf, LINE_ROOM);
-    put(w, &buf[start..])
+    text.prepend(b"\n");
+    prepend_route(text, route);
 }
 
-// Each function below writes its text into the buffer so that it ends at `end`, and answers where it starts.
-
-/// `PREFIX feed F pref P via HOP`, 90 bytes at most.
-fn route_before(route: &Route, buf: &mut [u8; LINE_ROOM], end: usize) -> usize
-    requires room { 90 ≤ end }
-    requires within { end ≤ 160 }
-    ensures written { drop result buf.new ≡ route_text route.now ++ drop end buf.old }
-    ensures short { end ≤ result + 90 }
-    ensures before_end { result ≤ end }
+/// What a line was answered.
+#[tactic(auto, unfolding(crate::specs::Printed::answer_text))]
+fn prepend_answer(text: &mut ShortText, answer: &Answer)
+    requires room { Fits (answer_text answer.now) text.old }
+    ensures { text.new ≡ answer_text answer.now ++ text.old }
 {
-    let start = hop_before(route.hop, buf, end);
-    let start = text_before(b" via ", buf, start);
-    let start = decimal_before(u64::from(route.pref), buf, start);
-    let start = text_before(b" pref ", buf, start);
-    let start = decimal_before(u64::from(route.feed), buf, start);
-    let start = text_before(b" feed ", buf, start);
-    route.prefix.write_before(buf, start)
-}
-
-/// Where the route leads, 15 bytes at most.
-fn hop_before(hop: Hop, buf: &mut [u8; LINE_ROOM], end: usize) -> usize
-    requires room { 15 ≤ end }
-    requires within { end ≤ 160 }
-    ensures written { drop result buf.new ≡ hop_text hop ++ drop end buf.old }
-    ensures short { end ≤ result + 15 }
-    ensures before_end { result ≤ end }
-{
-    match hop {
-        Hop::Via(address) => address.write_before(buf, end),
-        Hop::Discard => text_before(b"discard", buf, end),
+    match answer {
+        Answer::Did(reply) => prepend_reply(text, reply),
+        Answer::Refused => text.prepend(b"refused"),
+        Answer::Fault(fault) => text.prepend(fault_word(*fault)),
     }
 }
 
-#[tactic(auto, unfolding(crate::specs::Printed::reply_text))]
-fn reply_before(reply: &Reply, buf: &mut [u8; LINE_ROOM], end: usize) -> usize
-    requires room { 100 ≤ end }
-    requires within { end ≤ 160 }
-    ensures written { drop result buf.new ≡ reply_text reply.now ++ drop end buf.old }
-    ensures short { end ≤ result + 100 }
-    ensures before_end { result ≤ end }
+#[tactic(auto, using(rt_cidr::proofs::ShortTexts::prepending), unfolding(crate::specs::Printed::reply_text))]
+fn prepend_reply(text: &mut ShortText, reply: &Reply)
+    requires room { Fits (reply_text reply.now) text.old }
+    ensures { text.new ≡ reply_text reply.now ++ text.old }
 {
     match reply {
-        Reply::Added => text_before(b"added", buf, end),
-        Reply::Exists => text_before(b"exists", buf, end),
-        Reply::Full => text_before(b"full", buf, end),
-        Reply::Replaced => text_before(b"replaced", buf, end),
-        Reply::Withdrawn => text_before(b"withdrawn", buf, end),
-        Reply::Missing => text_before(b"missing", buf, end),
+        Reply::Added => text.prepend(b"added"),
+        Reply::Exists => text.prepend(b"exists"),
+        Reply::Full => text.prepend(b"full"),
+        Reply::Replaced => text.prepend(b"replaced"),
+        Reply::Withdrawn => text.prepend(b"withdrawn"),
+        Reply::Missing => text.prepend(b"missing"),
         Reply::Found(route) => {
-            let start = route_before(route, buf, end);
-            text_before(b"route ", buf, start)
+            prepend_route(text, route);
+            text.prepend(b"route ");
         }
-        Reply::NoRoute => text_before(b"no route", buf, end),
+        Reply::NoRoute => text.prepend(b"no route"),
         Reply::Dumped(count) => {
-            let start = decimal_before(u64::from(*count), buf, end);
-            text_before(b"dumped ", buf, start)
+            text.prepend_decimal(u64::from(*count));
+            text.prepend(b"dumped ");
         }
         Reply::Purged(count) => {
-            let start = decimal_before(u64::from(*count), buf, end);
-            text_before(b"purged ", buf, start)
+            text.prepend_decimal(u64::from(*count));
+            text.prepend(b"purged ");
         }
+    }
+}
+
+/// `PREFIX feed F pref P via HOP`.
+#[tactic(auto, using(rt_cidr::proofs::ShortTexts::prepending), unfolding(crate::specs::Printed::route_text))]
+fn prepend_route(text: &mut ShortText, route: &Route)
+    requires room { Fits (route_text route.now) text.old }
+    ensures { text.new ≡ route_text route.now ++ text.old }
+{
+    prepend_hop(text, route.hop);
+    text.prepend(b" via ");
+    text.prepend_decimal(u64::from(route.pref));
+    text.prepend(b" pref ");
+    text.prepend_decimal(u64::from(route.feed));
+    text.prepend(b" feed ");
+    route.prefix.prepend_to(text);
+}
+
+/// The next hop's address, or `discard`.
+fn prepend_hop(text: &mut ShortText, hop: Hop)
+    requires room { Fits (hop_text hop) text.old }
+    ensures { text.new ≡ hop_text hop ++ text.old }
+{
+    match hop {
+        Hop::Via(address) => address.prepend_to(text),
+        Hop::Discard => text.prepend(b"discard"),
     }
 }
 
@@ -161,57 +181,6 @@ fn fault_word(fault: LineFault) -> &'static [u8; 8]
         LineFault::Hop => b"fault E7",
         LineFault::LineLength => b"fault E8",
     }
-}
-
-/// What a line was answered, 100 bytes at most.
-#[tactic(auto, unfolding(crate::specs::Printed::answer_text))]
-fn answer_before(answer: &Answer, buf: &mut [u8; LINE_ROOM], end: usize) -> usize
-    requires room { 100 ≤ end }
-    requires within { end ≤ 160 }
-    ensures written { drop result buf.new ≡ answer_text answer.now ++ drop end buf.old }
-    ensures short { end ≤ result + 100 }
-    ensures before_end { result ≤ end }
-{
-    match answer {
-        Answer::Did(reply) => reply_before(reply, buf, end),
-        Answer::Refused => text_before(b"refused", buf, end),
-        Answer::Fault(fault) => text_before(fault_word(*fault), buf, end),
-    }
-}
-
-/// One line of a report, with its LF.
-fn line_before(feed: u32, line: &Line, buf: &mut [u8; LINE_ROOM], end: usize) -> usize
-    requires { end ≡ 160 }
-    ensures written { drop result buf.new ≡ line_text feed line.now ++ drop end buf.old }
-    ensures before_end { result ≤ end }
-{
-    let start = text_before(b"\n", buf, end);
-    let start = answer_before(&line.answer, buf, start);
-    let start = text_before(b" ", buf, start);
-    let start = decimal_before(line.number as u64, buf, start);
-    let start = text_before(b":", buf, start);
-    decimal_before(u64::from(feed), buf, start)
-}
-
-/// The table's first line, with its LF.
-fn count_before(count: usize, buf: &mut [u8; LINE_ROOM], end: usize) -> usize
-    requires { end ≡ 160 }
-    ensures written { drop result buf.new ≡ count_text count ++ drop end buf.old }
-    ensures before_end { result ≤ end }
-{
-    let start = text_before(b"\n", buf, end);
-    let start = decimal_before(count as u64, buf, start);
-    text_before(b"table ", buf, start)
-}
-
-/// A route of the table, with its LF.
-fn row_before(route: &Route, buf: &mut [u8; LINE_ROOM], end: usize) -> usize
-    requires { end ≡ 160 }
-    ensures written { drop result buf.new ≡ row_text route.now ++ drop end buf.old }
-    ensures before_end { result ≤ end }
-{
-    let start = text_before(b"\n", buf, end);
-    route_before(route, buf, start)
 }
 
 #[cfg(test)]

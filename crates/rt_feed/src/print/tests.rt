@@ -16,15 +16,22 @@ fn route(prefix: &[u8], pref: u32, hop: &[u8]) -> Result<Route, TextFault> {
 }
 
 /// Writes the report as feed 1's, and then the table.
-fn write_both<W: Write>(w: &mut W, report: &Report, routes: &[Route]) -> io::Result<()> {
-    write_report(w, 1, report)?;
-    write_table(w, routes)
+fn write_both<W: Write>(
+    alloc: Global,
+    w: &mut W,
+    report: &Report,
+    routes: &[Route],
+) -> io::Result<()> {
+    let mut buffer = OutputBuffer::new(alloc)?;
+    write_report(w, &mut buffer, 1, report)?;
+    write_table(w, &mut buffer, routes)?;
+    buffer.flush(w)
 }
 
 /// What that prints.
 fn printed(alloc: Global, answers: &[Answer], routes: &[Route]) -> Result<Vec<u8>, Fail> {
     let mut out = Vec::new(alloc);
-    write_both(&mut out, &report_of(alloc, answers)?, routes)?;
+    write_both(alloc, &mut out, &report_of(alloc, answers)?, routes)?;
     Ok(out)
 }
 
@@ -108,7 +115,7 @@ fn prints_a_withdrawal_and_a_count(rt: HostRuntime) -> Result<(), Fail> {
     let alloc = rt.alloc();
     let (report, routes) = withdrawing(alloc)?;
     let mut out = Vec::new(alloc);
-    write_both(&mut out, &report, &routes)?;
+    write_both(alloc, &mut out, &report, &routes)?;
     assert_eq!(rt; out.as_slice(), WITHDRAWING);
     Ok(())
 }
@@ -152,7 +159,9 @@ fn prints_every_other_answer(rt: HostRuntime) -> Result<(), Fail> {
 64:16 fault E8
 ";
     let mut out = Vec::new(alloc);
-    write_report(&mut out, 64, &report_of(alloc, &answers)?)?;
+    let mut buffer = OutputBuffer::new(alloc)?;
+    write_report(&mut out, &mut buffer, 64, &report_of(alloc, &answers)?)?;
+    buffer.flush(&mut out)?;
     assert_eq!(rt; out.as_slice(), text.as_slice());
     Ok(())
 }
@@ -217,7 +226,7 @@ fn writes_a_byte_a_call(rt: HostRuntime) -> Result<(), Fail> {
         each: 1,
         room: usize::MAX,
     };
-    write_both(&mut out, &report, &routes)?;
+    write_both(alloc, &mut out, &report, &routes)?;
     assert_eq!(rt; out.taken.as_slice(), WITHDRAWING);
     Ok(())
 }
@@ -232,7 +241,7 @@ fn stops_at_a_fault_after_each_byte(rt: HostRuntime) -> Result<(), Fail> {
             each: 7,
             room,
         };
-        assert!(rt; write_both(&mut out, &report, &routes).is_err());
+        assert!(rt; write_both(alloc, &mut out, &report, &routes).is_err());
         assert_eq!(rt; out.taken.as_slice(), &WITHDRAWING[..room]);
     }
     Ok(())
@@ -248,8 +257,7 @@ fn hands_on_the_writers_fault(rt: HostRuntime) -> Result<(), Fail> {
     };
     let report = report_of(alloc, &[Answer::Refused])?;
     let interrupted = |e: io::Error| e.kind() == ErrorKind::Interrupted;
-    assert!(rt; write_report(&mut out, 1, &report).is_err_and(interrupted));
+    assert!(rt; write_both(alloc, &mut out, &report, &[]).is_err_and(interrupted));
     assert_eq!(rt; out.taken.as_slice(), b"1:".as_slice());
-    assert!(rt; write_table(&mut out, &[]).is_err_and(interrupted));
     Ok(())
 }

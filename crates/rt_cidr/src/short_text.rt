@@ -1,0 +1,71 @@
+//! A short text, built from its back to its front: what every printer of the product writes a line with.
+ghost use Rattle.std.specs.Prelude.{◌≡◌, ◌++◌, [], ◌≤◌, drop, decimal};
+ghost use Rattle.rt_cidr.specs.ShortText.{Fits};
+
+use std::marker::Model;
+
+/// How many bytes a short text has room for: more than the longest line that is printed.
+pub const SHORT_TEXT_BYTES: usize = 512;
+
+/// A text of at most 512 bytes, built from its back to its front, since the digits of a number come last digit first.
+/// Contracts see its bytes. No call takes memory.
+#[derive(Drop)]
+pub struct ShortText {
+    buf: [u8; SHORT_TEXT_BYTES],
+    start: usize,
+}
+
+impl Model for ShortText {
+    ghost use Rattle.std.specs.Prelude.{ℕ, ◌≤◌, List, drop};
+    ghost use Rattle.rt_cidr.specs.declared.short_text.TheConstants.{SHORT_TEXT_BYTES};
+
+    ghost Value = { List ℕ };
+
+    ghost view = { λ text. drop text.start text.buf };
+
+    ghost invariant = { λ text. text.start ≤ SHORT_TEXT_BYTES };
+}
+
+impl ShortText {
+    /// The text without a byte.
+    pub fn new() -> ShortText
+        ensures { result ≡ [] }
+    {
+        ShortText {
+            buf: [0; SHORT_TEXT_BYTES],
+            start: SHORT_TEXT_BYTES,
+        }
+    }
+
+    /// The text's bytes.
+    pub fn as_bytes(&self) -> &[u8]
+        ensures { result.now ≡ self.now }
+    {
+        &self.buf[self.start..]
+    }
+
+    /// Takes all bytes out.
+    pub fn clear(&mut self)
+        ensures { self.new ≡ [] }
+    {
+        self.start = SHORT_TEXT_BYTES;
+    }
+
+    /// Puts the bytes in front.
+    pub fn prepend(&mut self, text: &[u8])
+        requires room { Fits text.now self.old }
+        ensures { self.new ≡ text.now ++ self.old }
+    {
+        let start = self.start - text.len();
+        self.buf[start..self.start].copy_from_slice(text);
+        self.start = start;
+    }
+
+    /// Puts the number's decimal in front.
+    pub fn prepend_decimal(&mut self, n: u64)
+        requires room { Fits (decimal n) self.old }
+        ensures { self.new ≡ decimal n ++ self.old }
+    {
+        self.start = itoa::write_digits(n, &mut self.buf, self.start);
+    }
+}

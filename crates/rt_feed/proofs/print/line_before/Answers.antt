@@ -1,7 +1,0 @@
-use Rattle.std.proofs.Common.{append_assoc}
-use Rattle.rt_feed.specs.Printed.{line_text}
-use Rattle.rt_feed.proofs.print.line_before.Goals as goal
-
-pub returns-clause-written : goal.returns-clause-written
-unfolding line_text
-returns-clause-written c = simp append_assoc (cc)
