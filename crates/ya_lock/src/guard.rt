@@ -23,7 +23,13 @@ impl<V> Model for Guard<V> {
 
     ghost Value = { OpenGuard V };
 
-    ghost view = { λ g. record { lock = g.seat.table_id; place = g.place; found = g.found.value; value = g.value; remote = g.remote } };
+    ghost view = { λ g. record {
+      lock = g.seat.table_id;
+      place = g.place;
+      found = g.found.value;
+      value = g.value;
+      remote = g.remote;
+    } };
 
     ghost invariant = { λ g. IsWithin g.seat.table_id g.place g.found.value g.remote g.seat.me };
 }

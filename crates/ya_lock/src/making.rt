@@ -35,7 +35,8 @@ impl<V: Kept + Drop, const L: u32> TreeLock<V, L> {
     ) -> Result<(LockTable<V>, LockSeat<V>), NoMemory>
         requires levels { (1 ≤ L) × (L ≤ 6) }
         requires making { making ≡ making_index L }
-        ensures table { IfOk result (λ made. IsLockTable L made.0.shared.key made.0.shared.table_id) }
+        ensures table { IfOk result
+            (λ made. IsLockTable L made.0.shared.key made.0.shared.table_id) }
         ensures lock { IfOk result (λ made. made.1.table_id ≡ made.0.shared.table_id) }
         ensures maker { IfOk result (λ made. made.1.me ≡ (Maker, [])) }
     {

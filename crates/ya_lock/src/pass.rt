@@ -20,7 +20,12 @@ impl<V> Model for Pass<V> {
 
     ghost Value = { IdlePass V };
 
-    ghost view = { λ p. record { lock = p.seat.table_id; place = p.place; seen = p.seen.value; remote = p.remote } };
+    ghost view = { λ p. record {
+      lock = p.seat.table_id;
+      place = p.place;
+      seen = p.seen.value;
+      remote = p.remote;
+    } };
 
     ghost invariant = { λ p. IsAtHome p.seat.table_id p.place p.seen.value p.seat.me };
 }

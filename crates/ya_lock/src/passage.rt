@@ -103,7 +103,8 @@ impl<V: Kept + Drop, const L: u32> TreeLock<V, L> {
     fn climbed(&self, seat: &LockSeat<V>, walker: &Walker, seen: &Recall<V>) -> Option<Climb>
         requires levels { walker.now.levels ≡ L }
         requires coming { IsComing V.since seen.now.value walker.now seat.now.me }
-        ensures { IfSome result (λ climb. HasClimbed V.since L walker.now.place seen.now.value climb seat.now.me) }
+        ensures { IfSome result
+            (λ climb. HasClimbed V.since L walker.now.place seen.now.value climb seat.now.me) }
     {
         if let Some(level) = walker.level_begun() {
             return Some(Climb::Level(level, walker.remote()));
@@ -163,7 +164,8 @@ impl<V: Kept + Drop, const L: u32> TreeLock<V, L> {
         ensures going { IsGoing seen.now.value walker.new seat.new.me }
         ensures onward { MovesOn walker.old walker.new }
         ensures least { walker.old.remote ≤ walker.new.remote }
-        ensures budget { walker.new.remote + budget walker.new ≤ walker.old.remote + budget walker.old }
+        ensures budget { walker.new.remote + budget walker.new
+            ≤ walker.old.remote + budget walker.old }
     {
         let due = walker.op();
         self.step(seat, walker, due);
@@ -175,11 +177,16 @@ impl<V: Kept + Drop, const L: u32> TreeLock<V, L> {
         requires lock { (seat.old.table_id ≡ self.now) × (walker.old.levels ≡ L) }
         requires due { (due ≡ op_of walker.old) × (due ≢ Op.Inside) × (due ≢ Op.Idle) }
         requires proper { IsWalk walker.old }
-        requires ready { (value : V) × (seat.old.me.0 ≡ Member walker.old.place walker.old.process value) × IsReady V.done (is_inside walker.old.process) walker.old.place value seat.old.me.1 }
+        requires ready { (value : V)
+            × (seat.old.me.0 ≡ Member walker.old.place walker.old.process value)
+            × IsReady V.done (is_inside walker.old.process) walker.old.place value seat.old.me.1 }
         ensures lock { seat.new.table_id ≡ seat.old.table_id }
-        ensures goes { (found : ℕ) × (walker.new ≡ walk_after walker.old found) × Goes V.since L found seat.old.me.0 seat.old.me.1 seat.new.me }
+        ensures goes { (found : ℕ)
+            × (walker.new ≡ walk_after walker.old found)
+            × Goes V.since L found seat.old.me.0 seat.old.me.1 seat.new.me }
         ensures onward { MovesOn walker.old walker.new }
-        ensures budget { walker.new.remote + budget walker.new ≤ walker.old.remote + budget walker.old }
+        ensures budget { walker.new.remote + budget walker.new
+            ≤ walker.old.remote + budget walker.old }
     {
         match due {
             Op::Load(number) => {
