@@ -5,4 +5,5 @@ pub mod Table
 pub mod Pass
 pub mod Laws
 pub mod Headline
+pub mod Running
 pub mod Testing

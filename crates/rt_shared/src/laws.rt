@@ -1,16 +1,21 @@
 //! What holds of every journal that feeds make behind the lock, and of their visits in it. Each function is a theorem:
 //! calling it makes its clauses known, and it does nothing.
-ghost use Rattle.std.specs.Prelude.{ℕ};
+ghost use Rattle.std.specs.Prelude.{ℕ, ◌≤◌};
 ghost use Rattle.rt_rib.specs.Journal.{table_left, IsLawfulJournal};
 ghost use Rattle.rt_rib.specs.Table.{IsTable};
 ghost use Rattle.ya_core.specs.Worlds.{World};
 ghost use Rattle.rt_shared.specs.Headline.{Act, IsRunTo, journal_of, NoTwoInside, HasAllMade, FindsBest};
+ghost use Rattle.ya_lock.specs.Rule.{Rule};
+ghost use Rattle.rt_shared.specs.Lent.{Grows};
+ghost use Rattle.rt_shared.specs.Running.{Moment, IsHome, IsExplained};
 ghost use Rattle.rt_shared.specs.Laws.{SinceAgain, AnsweredInPieces, UncutAtFirst, UncutSince, UncutByVisit, EntriesOfVisits, EntriesSince, PassesKept};
 
+use crate::lent::Lent;
 use crate::sequential::SequentialTable;
 use rt_rib::laws::{lawful_by_entry, left_by_entry, look_up_finds_best};
 use rt_rib::{Cmd, Reply};
 use ya_core::laws::{content, exclusion};
+use ya_lock::laws::rule;
 
 /// The visits of a feed lie uncut in the journal that its pass has seen: none at first, one more after each call that
 /// serves commands, and all still there, with no other entry of the feed, in whatever the journal becomes while the feed
@@ -64,4 +69,15 @@ pub fn headline<const LIMIT: u32>()
     journal::<LIMIT>();
     left_by_entry();
     look_up_finds_best();
+}
+
+/// The same sentence of the running table, between any two atomic steps of its feeds: whenever the book lies home, and so
+/// whenever no feed is inside, its journal is lawful, its routes are a table, and what each pass away has seen begins the
+/// journal, with no entry of that pass's feed behind. That the book keeps the routes that its journal leaves is its type's.
+pub fn running<const L: u32>()
+    requires { 1 ≤ L }
+    ensures { (s : Moment) (lent : Lent) → Rule Grows L s → IsHome s lent → IsExplained s lent }
+{
+    rule::<Lent, L>();
+    left_by_entry();
 }
