@@ -1,4 +1,5 @@
-ghost use Rattle.std.specs.Prelude.{◌≡◌, ◌≤◌, ◌<◌, ◌%◌, ◌+◌, ◌++◌, length, take, drop, OnOk, OnErr};
+//! IPv4 prefixes: what they cover and contain, their text read, and put in front of a short text.
+ghost use Rattle.std.specs.Prelude.{◌≡◌, ◌++◌, OnOk, OnErr};
 ghost use Rattle.std.specs.Io.KnownBytes.{Appends};
 ghost use Rattle.rt_cidr.specs.Output.{AppendsBeginning};
 ghost use Rattle.rt_cidr.specs.ShortText.{Fits};

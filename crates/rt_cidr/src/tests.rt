@@ -250,3 +250,67 @@ fn a_write_of_nothing_is_write_zero(rt: HostRuntime) -> Result<(), Fail> {
     assert_eq!(rt; writer.taken.as_slice(), b"0.0".as_slice());
     Ok(())
 }
+
+/// Takes all that it is given, counts the calls, and fails where it is flushed.
+#[derive(Drop)]
+struct Unflushed {
+    taken: Vec<u8>,
+    calls: usize,
+}
+
+impl Write for Unflushed {
+    fn write(&mut self, buf: &[u8]) -> io::Result<usize> {
+        self.taken.extend_from_slice(buf)?;
+        self.calls = self.calls.saturating_add(1);
+        Ok(buf.len())
+    }
+
+    fn flush(&mut self) -> io::Result<()> {
+        Err(io::Error::from(ErrorKind::Other))
+    }
+}
+
+// A `put` that flushes the writer is seen here.
+#[test]
+fn never_flushes_the_writer(rt: HostRuntime) -> Result<(), Fail> {
+    let mut writer = Unflushed {
+        taken: Vec::new(rt.alloc()),
+        calls: 0,
+    };
+    put(&mut writer, b"10.0.0.0/8")?;
+    let mut buffer = OutputBuffer::new(rt.alloc())?;
+    buffer.put(&mut writer, b" via 192.0.2.1")?;
+    buffer.flush(&mut writer)?;
+    assert_eq!(rt;
+        writer.taken.as_slice(),
+        b"10.0.0.0/8 via 192.0.2.1".as_slice()
+    );
+    Ok(())
+}
+
+// A buffer that hands on each piece by itself, or is never full, is seen here.
+#[test]
+fn gathers_pieces_into_few_large_writes(rt: HostRuntime) -> Result<(), Fail> {
+    let mut writer = Unflushed {
+        taken: Vec::new(rt.alloc()),
+        calls: 0,
+    };
+    let mut buffer = OutputBuffer::new(rt.alloc())?;
+    let mut wanted = Vec::new(rt.alloc());
+    for i in 0u32..20_000 {
+        let piece = [b'a' + (i % 26) as u8; 10];
+        buffer.put(&mut writer, &piece)?;
+        wanted.extend_from_slice(&piece)?;
+    }
+    assert_eq!(rt; writer.calls, 3);
+    buffer.flush(&mut writer)?;
+    assert_eq!(rt; writer.calls, 4);
+    assert_eq!(rt; writer.taken.as_slice(), wanted.as_slice());
+
+    // A text that is longer than the buffer goes out at once, behind what was held.
+    buffer.put(&mut writer, b"held")?;
+    buffer.put(&mut writer, wanted.as_slice())?;
+    assert_eq!(rt; writer.calls, 6);
+    assert_eq!(rt; writer.taken.len(), 400_004);
+    Ok(())
+}
