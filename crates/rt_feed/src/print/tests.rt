@@ -1,7 +1,7 @@
 use super::*;
 use crate::report::tests::report_of;
 use rt_cidr::{Addr, Prefix, TextFault};
-use std::alloc::Global;
+use std::alloc::{AllocError, Global};
 use std::io::ErrorKind;
 use std::test::Fail;
 
@@ -259,5 +259,44 @@ fn hands_on_the_writers_fault(rt: HostRuntime) -> Result<(), Fail> {
     let interrupted = |e: io::Error| e.kind() == ErrorKind::Interrupted;
     assert!(rt; write_both(alloc, &mut out, &report, &[]).is_err_and(interrupted));
     assert_eq!(rt; out.taken.as_slice(), b"1:".as_slice());
+    Ok(())
+}
+
+/// The decimal of a number from 1 to 999,999, by a way of its own.
+fn push_number(text: &mut Vec<u8>, number: usize) -> Result<(), AllocError> {
+    for scale in [100_000, 10_000, 1_000, 100, 10, 1] {
+        if number >= scale {
+            text.push(b'0' + (number / scale % 10) as u8)?;
+        }
+    }
+    Ok(())
+}
+
+// A report or a table that gives up beyond some number of lines is seen here.
+#[test]
+fn prints_hundreds_of_thousands_of_lines(rt: HostRuntime) -> Result<(), Fail> {
+    let alloc = rt.alloc();
+    let count = 200_000;
+    let ten = route(b"10.0.0.0/8", 100, b"192.0.2.1")?;
+    let mut answers = Vec::new(alloc);
+    let mut routes = Vec::new(alloc);
+    let mut wanted = Vec::new(alloc);
+    for i in 1..count {
+        answers.push(Answer::Did(Reply::Dumped(7)))?;
+        wanted.extend_from_slice(b"1:")?;
+        push_number(&mut wanted, i)?;
+        wanted.extend_from_slice(b" dumped 7\n")?;
+    }
+    wanted.extend_from_slice(b"table ")?;
+    push_number(&mut wanted, count)?;
+    wanted.push(b'\n')?;
+    for _ in 0..count {
+        routes.push(ten)?;
+        wanted.extend_from_slice(b"10.0.0.0/8 feed 1 pref 100 via 192.0.2.1\n")?;
+    }
+    let mut out = Vec::new(alloc);
+    let report = report_of(alloc, answers.as_slice())?;
+    write_both(alloc, &mut out, &report, routes.as_slice())?;
+    assert!(rt; out.as_slice() == wanted.as_slice());
     Ok(())
 }
