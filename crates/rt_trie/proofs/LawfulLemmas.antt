@@ -1,11 +1,11 @@
 -- A lawful link in terms of bits.
 use Rattle.std.proofs.Common.{◌↔◌, true, false, Option, Some, None}
-use Rattle.std.specs.Prelude.{IfSome}
+use Rattle.std.specs.Prelude.{IfSome, IfNone}
 use Rattle.rt_cidr.specs.declared.prefixes.Prefix.{Prefix}
 use Rattle.rt_trie.specs.declared.nodes.Link.{Link, Empty, Leaf, Fork', Full'}
 use Rattle.rt_trie.specs.Blocks.{IsChild}
-use Rattle.rt_trie.specs.Laws.{ChildByNextBit, IsChildByBit, IsLawfulByBits}
-use Rattle.rt_trie.specs.Links.{root, IsLawfulTrie}
+use Rattle.rt_trie.specs.Laws.{ChildByNextBit, IsChildByBit, IsLawfulNode, IsLawfulByBits}
+use Rattle.rt_trie.specs.Links.{root, AreHalves, IsFilled, IsLawfulTrie}
 use Rattle.rt_trie.proofs.BlockLemmas.{child_reading}
 use Rattle.rt_trie.proofs.RemoveLemmas.{if_some_map}
 
@@ -16,53 +16,31 @@ child_by_bit parent c upper = (
 )
 
 module _ {V A : Type 0} where
+  node_to_bits : (q : Prefix) (v : Option V) (left right : Link V A) → AreHalves q left right → IfNone v (IsFilled left × IsFilled right)
+      → IsLawfulNode q v left right
+  node_to_bits q v left right h n = record {
+    needed = n;
+    lower = if_some_map (root left) (IsChild q false) (IsChildByBit q false) (λ c. (child_by_bit q c false).0) h.lower;
+    upper = if_some_map (root right) (IsChild q true) (IsChildByBit q true) (λ c. (child_by_bit q c true).0) h.upper;
+  }
+
+  halves_of_bits : (q : Prefix) (v : Option V) (left right : Link V A) → IsLawfulNode q v left right → AreHalves q left right
+  halves_of_bits q v left right n = record {
+    lower = if_some_map (root left) (IsChildByBit q false) (IsChild q false) (λ c. (child_by_bit q c false).1) n.lower;
+    upper = if_some_map (root right) (IsChildByBit q true) (IsChild q true) (λ c. (child_by_bit q c true).1) n.upper;
+  }
+
   to_bits : (link : Link V A) → IsLawfulTrie link → IsLawfulByBits link
   to_bits Empty h = tt
   to_bits (Leaf b) h = tt
-  to_bits (Fork' p q left right) h = (
-    record {
-      needed = h.1;
-      lower = if_some_map (root left) (IsChild q false) (IsChildByBit q false) (λ c. (child_by_bit q c false).0) h.0.0.lower;
-      upper = if_some_map (root right) (IsChild q true) (IsChildByBit q true) (λ c. (child_by_bit q c true).0) h.0.0.upper;
-    },
-    to_bits left h.0.1,
-    to_bits right h.0.2,
-  )
-  to_bits (Full' p q v left right) h = (
-    record {
-      needed = h.1;
-      lower = if_some_map (root left) (IsChild q false) (IsChildByBit q false) (λ c. (child_by_bit q c false).0) h.0.0.lower;
-      upper = if_some_map (root right) (IsChild q true) (IsChildByBit q true) (λ c. (child_by_bit q c true).0) h.0.0.upper;
-    },
-    to_bits left h.0.1,
-    to_bits right h.0.2,
-  )
+  to_bits (Fork' p q left right) h = (node_to_bits q None left right h.0.0 h.1, to_bits left h.0.1, to_bits right h.0.2)
+  to_bits (Full' p q v left right) h = (node_to_bits q v left right h.0.0 h.1, to_bits left h.0.1, to_bits right h.0.2)
 
   of_bits : (link : Link V A) → IsLawfulByBits link → IsLawfulTrie link
   of_bits Empty h = (tt, tt)
   of_bits (Leaf b) h = (tt, tt)
-  of_bits (Fork' p q left right) h = (
-    (
-      record {
-        lower = if_some_map (root left) (IsChildByBit q false) (IsChild q false) (λ c. (child_by_bit q c false).1) h.0.lower;
-        upper = if_some_map (root right) (IsChildByBit q true) (IsChild q true) (λ c. (child_by_bit q c true).1) h.0.upper;
-      },
-      of_bits left h.1,
-      of_bits right h.2,
-    ),
-    h.0.needed,
-  )
-  of_bits (Full' p q v left right) h = (
-    (
-      record {
-        lower = if_some_map (root left) (IsChildByBit q false) (IsChild q false) (λ c. (child_by_bit q c false).1) h.0.lower;
-        upper = if_some_map (root right) (IsChildByBit q true) (IsChild q true) (λ c. (child_by_bit q c true).1) h.0.upper;
-      },
-      of_bits left h.1,
-      of_bits right h.2,
-    ),
-    h.0.needed,
-  )
+  of_bits (Fork' p q left right) h = ((halves_of_bits q None left right h.0, of_bits left h.1, of_bits right h.2), h.0.needed)
+  of_bits (Full' p q v left right) h = ((halves_of_bits q v left right h.0, of_bits left h.1, of_bits right h.2), h.0.needed)
 
   pub lawful_by_bits : (link : Link V A) → IsLawfulTrie link ↔ IsLawfulByBits link
   lawful_by_bits link = (to_bits link, of_bits link)

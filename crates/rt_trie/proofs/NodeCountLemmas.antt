@@ -1,13 +1,13 @@
 -- The nodes of a lawful link stand where a prefix is stored or two that are stored part, each once.
 use Rattle.std.proofs.Common.{◌≡◌, ℕ, ◌+◌, ◌<◌, ◌≤◌, ◌⊎◌, true, false, [], ◌∷◌, ◌++◌, Option, Some, None, length, inl, inr, refl, sym, ◌∙◌, ap, subst, arith, ◌↔◌, length-append}
-use Rattle.std.specs.Prelude.{is_some}
+use Rattle.std.specs.Prelude.{is_some, IfNone}
 use Rattle.std.proofs.lemmas.Bool.{cases_lt, false≢true}
 use Rattle.rt_cidr.specs.declared.prefixes.Prefix.{Prefix}
 use Rattle.rt_cidr.specs.Cidr.{size_of}
 use Rattle.rt_trie.specs.declared.nodes.Link.{Link, Empty, Leaf, Fork', Full'}
 use Rattle.rt_trie.specs.Map.{Pairs, same_prefix, get, first, IsStored, IsOrdered}
 use Rattle.rt_trie.specs.Blocks.{IsWithin, middle, past}
-use Rattle.rt_trie.specs.Links.{own_pair, pairs, count, IsLawfulBelow, IsLawfulTrie, IsFilled}
+use Rattle.rt_trie.specs.Links.{own_pair, pairs, count, AreHalves, IsLawfulBelow, IsLawfulTrie, IsFilled}
 use Rattle.rt_trie.specs.Nodes.{PartAt, IsNodeAt, CountsNodes}
 use Rattle.rt_trie.proofs.OrderLemmas.{same_tells, same_rank}
 use Rattle.rt_trie.proofs.BlockLemmas.{size_pos, lower_half, ends_before}
@@ -185,6 +185,10 @@ module _ {V : Type 0} where
       back (inr p) =
           parted p.low p.high (side_of q v xs ys p.low p.low_stored) (side_of q v xs ys p.high p.high_stored) p.parts.0 p.parts.1
 
+-- where nothing is stored no node stands
+none_each : {V : Type 0} (c : Prefix) → IsStored {V = Unit {0}} [] c ↔ IsNodeAt {V = V} [] c
+none_each c = (λ s. absurd (false≢true s), λ n. elim n [ inl s ↦ absurd (false≢true s) | inr p ↦ absurd (false≢true p.low_stored) ])
+
 -- the prefixes of the nodes, in order
 abbrev nodes_of : {V A : Type 0} → Link V A → Pairs (Unit {0})
 nodes_of Empty = []
@@ -233,38 +237,36 @@ module _ {V A : Type 0} where
   some_stored : (link : Link V A) → IsLawfulTrie link → IsFilled link → (p : Prefix) × IsStored (pairs link) p
   some_stored link h f = let i = filled_first link h f in (i.0, first-stored (pairs link) i.0 i.1)
 
-  nodes_each : (link : Link V A) → IsLawfulTrie link → (c : Prefix) → IsStored (nodes_of link) c ↔ IsNodeAt (pairs link) c
-  nodes_each Empty h c = (λ s. absurd (false≢true s), λ n. elim n [ inl s ↦ absurd (false≢true s) | inr p ↦ absurd (false≢true p.low_stored) ])
-  nodes_each (Leaf b) h c =
-      node_each b.value.prefix (Some b.value.value) [] [] [] [] (record { lower = tt; upper = tt }) (λ e. cc) none none c
+  -- the nodes of a node's link, by those of its sides
+  sides_each : (q : Prefix) (v : Option V) (left right : Link V A) → AreHalves q left right → IsLawfulTrie left → IsLawfulTrie right
+      → IfNone v (IsFilled left × IsFilled right) → ((c : Prefix) → IsStored (nodes_of left) c ↔ IsNodeAt (pairs left) c)
+      → ((c : Prefix) → IsStored (nodes_of right) c ↔ IsNodeAt (pairs right) c)
+      → (c : Prefix) → IsStored (own_pair q (Some tt) ++ (nodes_of left ++ nodes_of right)) c
+      ↔ IsNodeAt (own_pair q v ++ (pairs left ++ pairs right)) c
+  sides_each q v left right halves l r needed =
+      let s : AreSides q (pairs left) (pairs right) = record {
+        lower = pairs_within left q.base (middle q) (q.len + 1) l.0 halves.lower;
+        upper = pairs_within right (middle q) (past q) (q.len + 1) r.0 halves.upper;
+      } in
+      node_each q v (pairs left) (pairs right) (nodes_of left) (nodes_of right) s (λ e. both v needed e)
     where
-      none : (c : Prefix) → IsStored {V = Unit {0}} [] c ↔ IsNodeAt {V = V} [] c
-      none c = (λ s. absurd (false≢true s), λ n. elim n [ inl s ↦ absurd (false≢true s) | inr p ↦ absurd (false≢true p.low_stored) ])
+      both : (o : Option V) → IfNone o (IsFilled left × IsFilled right) → o ≡ None
+          → (a : Prefix) × (b : Prefix) × (IsStored (pairs left) a) × (IsStored (pairs right) b)
+      both None f e =
+          let x = some_stored left l f.0 in
+          let y = some_stored right r f.1 in
+          (x.0, y.0, x.1, y.1)
+      both (Some w) f e = cc
+
+  nodes_each : (link : Link V A) → IsLawfulTrie link → (c : Prefix) → IsStored (nodes_of link) c ↔ IsNodeAt (pairs link) c
+  nodes_each Empty h c = none_each {V = V} c
+  nodes_each (Leaf b) h c =
+      sides_each b.value.prefix (Some b.value.value) Empty Empty (record { lower = tt; upper = tt }) (tt, tt) (tt, tt) tt
+      (none_each {V = V}) (none_each {V = V}) c
   nodes_each (Fork' p q left right) h c =
-      let s : AreSides q (pairs left) (pairs right) = record {
-        lower = pairs_within left q.base (middle q) (q.len + 1) h.0.1.0 h.0.0.lower;
-        upper = pairs_within right (middle q) (past q) (q.len + 1) h.0.2.0 h.0.0.upper;
-      } in
-      let l = some_stored left h.0.1 h.1.0 in
-      let r = some_stored right h.0.2 h.1.1 in
-      node_each q None (pairs left) (pairs right) (nodes_of left) (nodes_of right) s (λ e. (l.0, r.0, l.1, r.1))
-      (nodes_each left h.0.1) (nodes_each right h.0.2) c
-  nodes_each (Full' p q None left right) h c =
-      let s : AreSides q (pairs left) (pairs right) = record {
-        lower = pairs_within left q.base (middle q) (q.len + 1) h.0.1.0 h.0.0.lower;
-        upper = pairs_within right (middle q) (past q) (q.len + 1) h.0.2.0 h.0.0.upper;
-      } in
-      let l = some_stored left h.0.1 h.1.0 in
-      let r = some_stored right h.0.2 h.1.1 in
-      node_each q None (pairs left) (pairs right) (nodes_of left) (nodes_of right) s (λ e. (l.0, r.0, l.1, r.1))
-      (nodes_each left h.0.1) (nodes_each right h.0.2) c
-  nodes_each (Full' p q (Some v) left right) h c =
-      let s : AreSides q (pairs left) (pairs right) = record {
-        lower = pairs_within left q.base (middle q) (q.len + 1) h.0.1.0 h.0.0.lower;
-        upper = pairs_within right (middle q) (past q) (q.len + 1) h.0.2.0 h.0.0.upper;
-      } in
-      node_each q (Some v) (pairs left) (pairs right) (nodes_of left) (nodes_of right) s (λ e. cc)
-      (nodes_each left h.0.1) (nodes_each right h.0.2) c
+      sides_each q None left right h.0.0 h.0.1 h.0.2 h.1 (nodes_each left h.0.1) (nodes_each right h.0.2) c
+  nodes_each (Full' p q v left right) h c =
+      sides_each q v left right h.0.0 h.0.1 h.0.2 h.1 (nodes_each left h.0.1) (nodes_each right h.0.2) c
 
   -- the count of a lawful link's nodes
   pub counts_nodes : (link : Link V A) → IsLawfulTrie link → CountsNodes (pairs link) (count link)
