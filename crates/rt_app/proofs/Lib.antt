@@ -1,3 +1,2 @@
-pub mod Answering
-pub mod OneFeed
 pub mod Replaying
+pub mod SeveralFeeds

@@ -1,45 +1,24 @@
--- What answering a line, and then a whole text, does to the book and the report.
-use Rattle.std.specs.Prelude.{◌≡◌, ℕ, ◌+◌, List, [], ◌∷◌, ◌++◌, length, All, ◌<◌, Option, if◌then◌else◌}
+-- What a run of feeds has done before its text is written.
+use Rattle.std.specs.Prelude.{◌≡◌, ℕ, ◌≤◌, if◌then◌else◌, List, All, length, map}
+use Rattle.std.specs.List.{list_any}
+use Rattle.rt_rib.specs.declared.commands.Entry.{Entry}
 use Rattle.rt_rib.specs.Book.{Contents}
+use Rattle.rt_rib.specs.Journal.{IsLawfulJournal}
 use Rattle.rt_feed.specs.declared.report.Line.{Line}
-use Rattle.rt_feed.specs.declared.report.Answer.{Answer}
 use Rattle.rt_feed.specs.Answers.{has_refusal, has_fault}
-use Rattle.rt_feed.specs.declared.versions.Version.{Version}
-use Rattle.rt_feed.specs.Versions.{IsBody}
-use Rattle.rt_feed.specs.Grammar.{AnswersLine}
-use Rattle.rt_feed.specs.Told.{Told, reading, Tells, heading, told_answer, numbered, entries_of, report_lines}
+use Rattle.rt_feed.specs.LineOutcomes.{LineOutcome, report_lines}
+use Rattle.rt_app.specs.RunText.{ExplainsFrom}
 
--- the line, read by this version, became one thing, which has this answer, and the book's journal has gained its command with the reply, if it had one
-pub record Answers (feed : ℕ) (version : Version) (line : List ℕ) (book book' : Contents) (answer : Option Answer) : Type 0 where
-  pub told : Told
-  pub reads : AnswersLine version line (reading told)
-  pub journaled : book' ≡ record book { journal = book.journal ++ entries_of feed (told ∷ []) }
-  pub answered : answer ≡ told_answer told
+-- the texts were run to their ends, and these are the reports and the book
+pub record HasRun (texts : List (List ℕ)) (limit batch : ℕ) (reports : List (List Line)) (book : Contents) : Type 0 where
+  pub limited : book.limit ≡ limit
+  pub lawful : IsLawfulJournal limit book.journal
+  pub outcomes : List (List LineOutcome)
+  pub explained : ExplainsFrom batch 1 book.journal texts outcomes
+  pub no_other : All (λ e. (1 ≤ e.feed) × (e.feed ≤ length texts)) book.journal
+  pub reported : reports ≡ map (report_lines 1) outcomes
+  pub counted : length reports ≡ length texts
 
--- and the report has gained that answer under this number, if there is one
-pub record AnswersOne (feed number : ℕ) (version : Version) (line : List ℕ) (book book' : Contents) (report report' : List Line) : Type 0 where
-  pub answer : Option Answer
-  pub answers : Answers feed version line book book' answer
-  pub reported : report' ≡ report ++ numbered number answer
-
--- the text's lines up to the rest, read by this version, became these, the next has this number, and book and report
--- have gained their answers
-pub record AnswersLines (feed : ℕ) (version : Version) (text rest : List ℕ) (number : ℕ) (book book' : Contents) (report : List Line) : Type 0 where
-  pub told : List Told
-  pub tells : Tells version text told rest
-  pub counted : number ≡ 1 + length (heading version ++ told)
-  pub journaled : book' ≡ record book { journal = book.journal ++ entries_of feed told }
-  pub reported : report ≡ report_lines 1 (heading version ++ told)
-  pub below : All (λ line. line.number < number) report
-
--- all lines that the text's version says are to be read became something, and book and report have gained their answers
-pub record AnswersText (feed : ℕ) (text : List ℕ) (book book' : Contents) (report : List Line) : Type 0 where
-  pub version : Version
-  pub lines : List ℕ
-  pub number : ℕ
-  pub body : IsBody text version lines
-  pub answers : AnswersLines feed version lines [] number book book' report
-
--- the status of a report: 5 where it has a refused command, else 2 where it has a fault, else 0
-abbrev pub report_status : List Line → ℕ
-report_status lines = if has_refusal lines then 5 else if has_fault lines then 2 else 0
+-- the status of these reports: 5 where one tells of a refused command, else 2 where one tells of a fault, else 0
+abbrev pub reports_status : List (List Line) → ℕ
+reports_status reports = if list_any has_refusal reports then 5 else if list_any has_fault reports then 2 else 0

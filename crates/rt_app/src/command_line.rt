@@ -1,11 +1,11 @@
 //! The command line: what the words ask for.
 
-ghost use Rattle.std.specs.Prelude.{◌≤◌, vec_len};
+ghost use Rattle.std.specs.Prelude.{◌≤◌};
 ghost use Rattle.rt_rib.specs.Book.{IsLimit};
 
 use clap::builder::ValueParser;
 use clap::error::ErrorKind;
-use clap::{Arg, ArgAction, ArgMatches, Command, Error};
+use clap::{Arg, ArgMatches, Command, Error};
 use rt_rib::limit_ok;
 use std::alloc::{AllocError, AllocFailed, Global};
 
@@ -39,6 +39,9 @@ Example, where one.feed says `add 10.0.0.0/8 100 192.0.2.1`:
   10.0.0.0/8 feed 1 pref 100 via 192.0.2.1
 ";
 
+/// How many commands of a feed are asked at once, where the command line does not say.
+pub const DEFAULT_BATCH: u32 = 1;
+
 /// What the words of a command line ask for.
 #[derive(Drop)]
 pub enum Request<'a> {
@@ -53,10 +56,12 @@ pub enum Request<'a> {
 pub struct RunRequest<'a> {
     /// How many routes a feed may have.
     pub limit: u32,
-    /// The names of the feed files, one.
+    /// How many commands of a feed are asked at once.
+    pub batch: u32,
+    /// The names of the feed files.
     pub files: Vec<&'a str>,
     pub ghost limited: { IsLimit limit },
-    pub ghost single: { vec_len files ≤ 1 },
+    pub ghost batched: { 1 ≤ batch },
 }
 
 /// Which schedule to show.
@@ -132,16 +137,23 @@ fn run_command<'a>(alloc: Global) -> Result<Command<'a>, AllocError> {
         .value_parser(ValueParser::unsigned(1, 1_000_000))
         .default_value("65536")
         .help("How many routes a feed may have, 1 to 1000000");
-    let file = Arg::new(alloc, "file")
+    let batch = Arg::new(alloc, "batch")
+        .long("batch")
+        .value_name("K")
+        .value_parser(ValueParser::unsigned(1, 1024))
+        .default_value("1")
+        .help("How many commands of a feed are asked at once, 1 to 1024");
+    let files = Arg::new(alloc, "files")
         .value_name("FILE")
         .required(true)
-        .action(ArgAction::Set)
-        .help("A feed file: one command a line");
+        .num_args(1..)
+        .help("Feed files, 1 to 64: one command a line");
     Command::new(alloc, "run")
-        .about("Run the commands of a feed file and print the replies and the table")
+        .about("Run the commands of feed files at once and print the replies and the table")
         .after_help(RUN_NOTES)
         .arg(limit)?
-        .arg(file)
+        .arg(batch)?
+        .arg(files)
 }
 
 fn replay_command<'a>(alloc: Global) -> Result<Command<'a>, AllocError> {
@@ -164,14 +176,24 @@ fn replay_command<'a>(alloc: Global) -> Result<Command<'a>, AllocError> {
 
 fn run_request<'a>(alloc: Global, asked: &ArgMatches<'a>) -> Result<RunRequest<'a>, Refusal> {
     let mut files = Vec::new(alloc);
-    if let Some(name) = asked.get_str("file") {
-        files.push(name)?;
+    if let Some(names) = asked.get_strs("files") {
+        for name in names {
+            files.push(*name)?;
+        }
     }
     let limit = asked
         .get_one::<u32>("limit")
         .filter(|limit| limit_ok(*limit))
         .unwrap_or(DEFAULT_LIMIT);
-    Ok(RunRequest { limit, files })
+    let batch = asked
+        .get_one::<u32>("batch")
+        .filter(|batch| *batch >= 1)
+        .unwrap_or(DEFAULT_BATCH);
+    Ok(RunRequest {
+        limit,
+        batch,
+        files,
+    })
 }
 
 fn replay_request(alloc: Global, asked: &ArgMatches<'_>) -> Result<ReplayRequest, Refusal> {

@@ -1,18 +1,8 @@
-//! What a run can be refused for.
+//! What the program's work can be refused for.
 
+use rt_feed::RunFault;
 use thiserror::Error;
 use ya_core::ReplayFault;
-
-/// Why a run of feeds gave no result. Nothing was written then.
-#[derive(Clone, Copy, Debug, PartialEq, Eq, Error)]
-pub enum RunFault {
-    /// F1: there is no text.
-    #[error("F1")]
-    NoText,
-    /// F3: memory was refused outside of a command.
-    #[error("F3")]
-    Memory,
-}
 
 /// Why the program's work was not done.
 #[derive(Clone, Copy, Debug, PartialEq, Eq, Error)]

@@ -7,11 +7,12 @@ mod program;
 mod replays;
 mod runs;
 
-pub use faults::{AppFault, RunFault};
+pub use faults::AppFault;
 pub use program::run_words;
 pub use replays::replay_text;
 use rt_cidr::put;
-pub use runs::run_texts;
+pub use rt_feed::RunFault;
+pub use runs::{MOST_TEXTS, run_texts};
 use std::alloc::Global;
 use std::env;
 use std::io::{self, ErrorKind, Write};

@@ -3,14 +3,17 @@
 ghost use Rattle.std.specs.Prelude.{◌≡◌, length, vec_len, IfOk};
 
 use crate::command_line::{self, Refusal, Request};
-use crate::faults::{AppFault, RunFault};
+use crate::faults::AppFault;
 use crate::replays::replay_text;
-use crate::runs::run_texts;
+use crate::runs::{MOST_TEXTS, run_texts};
 use rt_cidr::put;
+use rt_feed::RunFault;
 use std::alloc::{AllocFailed, Global};
 use std::fs;
 use std::io::{self, ErrorKind, Write};
 use std::rt::Files;
+use std::sync::Wait;
+use std::thread::Threads;
 use ya_core::ReplayFault;
 
 /// Why the program ends without having done what was asked.
@@ -18,6 +21,8 @@ use ya_core::ReplayFault;
 enum Stop<'a> {
     /// The command line was refused: the text to show.
     Misused(String),
+    /// There are more files than a run takes. None was read.
+    TooMany,
     /// A file could not be opened or read.
     Unreadable(&'a str),
     /// The work was refused or could not be written.
@@ -30,9 +35,9 @@ impl Stop<'_> {
     /// The exit status.
     fn status(&self) -> u8 {
         match self {
-            Stop::Misused(_) => 3,
+            Stop::Misused(_) | Stop::TooMany => 3,
             Stop::Unreadable(_) => 4,
-            Stop::Fault(AppFault::Run(RunFault::NoText)) => 3,
+            Stop::Fault(AppFault::Run(RunFault::NoText | RunFault::FeedCount)) => 3,
             Stop::Fault(AppFault::Run(RunFault::Memory)) => 5,
             Stop::Fault(AppFault::Replay(ReplayFault::Place | ReplayFault::Levels)) => 3,
             Stop::Fault(AppFault::Replay(ReplayFault::Memory)) => 5,
@@ -44,12 +49,14 @@ impl Stop<'_> {
     fn tell<E: Write>(&self, err: &mut E) -> Result<(), io::Error> {
         match self {
             Stop::Misused(text) => put(err, text.as_bytes()),
+            Stop::TooMany => put(err, b"yarib: more than 64 files\n"),
             Stop::Unreadable(name) => {
                 put(err, b"yarib: cannot read ")?;
                 put(err, name.as_bytes())?;
                 put(err, b"\n")
             }
             Stop::Fault(AppFault::Run(RunFault::NoText)) => put(err, b"yarib: fault F1\n"),
+            Stop::Fault(AppFault::Run(RunFault::FeedCount)) => put(err, b"yarib: fault F2\n"),
             Stop::Fault(AppFault::Run(RunFault::Memory)) => put(err, b"yarib: fault F3\n"),
             Stop::Fault(AppFault::Replay(ReplayFault::Place)) => put(err, b"yarib: fault P1\n"),
             Stop::Fault(AppFault::Replay(ReplayFault::Levels)) => put(err, b"yarib: fault P2\n"),
@@ -61,7 +68,7 @@ impl Stop<'_> {
 
 /// The program over its words, its name first: does what they ask, writes results to `out` and the text of a fault
 /// to `err`, and gives the exit status. A fault of `err` itself is dropped.
-pub fn run_words<R: Files + AllocGlobal, O: Write, E: Write>(
+pub fn run_words<R: Files + Threads + Wait + Sync + AllocGlobal, O: Write, E: Write>(
     rt: &R,
     alloc: Global,
     words: &[String],
@@ -77,7 +84,7 @@ pub fn run_words<R: Files + AllocGlobal, O: Write, E: Write>(
     }
 }
 
-fn carry_out<'a, R: Files + AllocGlobal, O: Write>(
+fn carry_out<'a, R: Files + Threads + Wait + Sync + AllocGlobal, O: Write>(
     rt: &R,
     alloc: Global,
     words: &'a [String],
@@ -91,8 +98,12 @@ fn carry_out<'a, R: Files + AllocGlobal, O: Write>(
     };
     let done = match asked {
         Request::Run(asked) => {
+            if asked.files.len() > MOST_TEXTS {
+                return Err(Stop::TooMany);
+            }
             let texts = read_files(rt, alloc, asked.files.as_slice())?;
-            run_texts(rt, alloc, texts.as_slice(), asked.limit, 1, out)
+            let batch = asked.batch as usize;
+            run_texts(rt, alloc, texts.as_slice(), asked.limit, batch, out)
         }
         Request::Replay(asked) => { replay_text(alloc, asked.levels, asked.picks.as_slice(), out) }
     };

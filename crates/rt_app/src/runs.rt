@@ -1,20 +1,27 @@
 //! A run: feed texts in, their reports and the table out.
-ghost use Rattle.std.specs.Prelude.{◌≡◌, ◌↔◌, ℕ, ◌<◌, ◌≤◌, ◌++◌, ◌^◌, [], ◌∷◌, map, length, All, IfOk, OnOk, OnErr};
-ghost use Rattle.std.specs.Io.KnownBytes.{Appends};
-ghost use Rattle.rt_cidr.specs.Output.{AppendsBeginning};
-ghost use Rattle.rt_rib.specs.Book.{IsLimit, IsFeed};
+ghost use Rattle.std.specs.Prelude.{◌≡◌, ◌↔◌, ℕ, ◌+◌, ◌≤◌, ◌++◌, ◌^◌, [], ◌∷◌, map, length, vec_len, vec_capacity, All, Some, None, IfOk, OnOk, IsSome};
+ghost use Rattle.rt_rib.specs.Book.{IsLimit, table_of};
+ghost use Rattle.std.specs.List.{list_any};
+ghost use Rattle.rt_feed.specs.Answers.{has_refusal, has_fault};
 ghost use Rattle.rt_feed.specs.Printed.{report_text, table_text};
-ghost use Rattle.rt_app.specs.RunText.{IsRunText, Leaves};
-ghost use Rattle.rt_app.specs.Running.{Answers, AnswersOne, AnswersText, report_status};
+ghost use Rattle.rt_app.specs.RunText.{IsRunText, Leaves, reports_text};
+ghost use Rattle.rt_app.specs.Running.{HasRun, reports_status};
 
-use crate::faults::{AppFault, RunFault};
-use rt_cidr::OutputBuffer;
-use rt_feed::{
-    Answer, Line, Report, Version, next_line, parse_line, text_body, write_report, write_table,
-};
+use crate::faults::AppFault;
+use rt_cidr::{OutputBuffer, put};
+use rt_feed::{Feed, Report, RunFault, TableGate, run_feeds, write_report, write_table};
 use rt_rib::{Book, Route};
+use rt_shared::{FeedPass, SharedRib};
 use std::alloc::{AllocError, Global};
 use std::io::{self, Write};
+use std::sync::Wait;
+use std::thread::Threads;
+
+/// The most texts that a run takes: as many as the lock has places.
+pub const MOST_TEXTS: usize = 64;
+
+/// The levels of the lock's tree.
+const LEVELS: u32 = 6;
 
 /// The status where some command was refused for want of memory.
 const REFUSED: u8 = 5;
@@ -22,12 +29,13 @@ const REFUSED: u8 = 5;
 /// The status where some line was faulty.
 const FAULTY: u8 = 2;
 
-/// Runs each text as a feed, the k-th as feed k with at most `limit` routes, and writes to `w` each feed's report in
-/// order and then the table. Gives the status where all was written: 5 where some command was refused for want of
-/// memory, else 2 where some line was faulty, else 0. No text at all is F1 and want of memory outside of a command F3,
-/// and then nothing was written. After `Write` a beginning of such a text was written.
-pub fn run_texts<R, W: Write>(
-    _rt: &R,
+/// Runs each text as a feed on a thread of its own, the k-th as feed k with at most `limit` routes, each asking up to
+/// `batch` commands at once of one table, and writes to `w` each feed's report in order and then the table. Gives the
+/// status where all was written: 5 where some command was refused for want of memory, else 2 where some line was faulty,
+/// else 0. No text at all is F1 and want of memory outside of a command F3, and then nothing was written. After `Write` a
+/// beginning of such a text was written.
+pub fn run_texts<R: Threads + Wait + Sync, W: Write>(
+    rt: &R,
     alloc: Global,
     texts: &[Vec<u8>],
     limit: u32,
@@ -35,114 +43,182 @@ pub fn run_texts<R, W: Write>(
     w: &mut W,
 ) -> Result<u8, AppFault>
     requires limited { IsLimit limit }
-    requires one_feed { length texts.now ≤ 1 }
-    requires one_command { batch ≡ 1 }
-    ensures text { Leaves (map (λ text. text.items) texts.now) limit (W.contents w.old) (W.contents w.new) result }
+    requires few { length texts.now ≤ 64 }
+    requires batched { 1 ≤ batch }
+    ensures text { Leaves (map (λ text. text.items) texts.now) limit batch (W.contents w.old) (W.contents w.new) result }
     ensures no_text { (result ≡ Err (AppFault.Run RunFault.NoText)) ↔ (texts.now ≡ []) }
 {
-    let Some(text) = texts.first() else {
+    if texts.is_empty() {
         return Err(AppFault::Run(RunFault::NoText));
-    };
-    let mut book = Book::new(alloc, limit);
-    let Ok(report) = answer_text(alloc, 1, text.as_slice(), &mut book) else {
+    }
+    let Ok(ran) = run_all(rt, alloc, texts, limit, batch) else {
         return Err(AppFault::Run(RunFault::Memory));
     };
-    let Ok(mut buffer) = OutputBuffer::new(alloc) else {
+    let Ok(text) = rendered(alloc, &ran) else {
         return Err(AppFault::Run(RunFault::Memory));
     };
-    match write_run(w, &mut buffer, 1, &report, book.table()) {
-        Ok(()) => Ok(status_of(&report)),
+    match put(w, text.as_slice()) {
+        Ok(()) => Ok(status_of(ran.reports.as_slice())),
         Err(_) => Err(AppFault::Write),
     }
 }
 
-/// Answers the lines of a feed's text in turn, and gives the report.
-fn answer_text(
+/// What a run has done: each feed's report, in order, and the book.
+#[derive(Drop)]
+struct Ran {
+    reports: Vec<Report>,
+    book: Book<Global>,
+}
+
+/// Runs the texts over one table.
+fn run_all<R: Threads + Wait + Sync>(
+    rt: &R,
     alloc: Global,
-    feed: u32,
-    text: &[u8],
-    book: &mut Book<Global>,
-) -> Result<Report, AllocError>
-    requires of_feed { IsFeed feed }
-    requires in_memory { length text.now < 2 ^ 63 }
-    ensures { IfOk result (λ report. AnswersText feed text.now book.old book.new report) }
+    texts: &[Vec<u8>],
+    limit: u32,
+    batch: usize,
+) -> Result<Ran, AllocError>
+    requires limited { IsLimit limit }
+    requires few { length texts.now ≤ 64 }
+    requires batched { 1 ≤ batch }
+    ensures { IfOk result (λ ran. HasRun (map (λ text. text.items) texts.now) limit batch ran.reports.items ran.book) }
 {
-    let (version, lines) = text_body(text);
-    let mut report = Report::new(alloc);
-    let mut rest = lines;
-    let mut number = version.first_line();
-    while let Some((line, next)) = next_line(rest) {
-        answer_line(feed, number, line, version, book, &mut report)?;
-        number += 1;
-        rest = next;
-    }
-    Ok(report)
+    let Ok((table, mut passes)) = SharedRib::<LEVELS>::new(alloc, limit) else {
+        return Err(AllocError);
+    };
+    let idle = passes.split_off(texts.len())?;
+    let mut ended = Vec::with_capacity(alloc, MOST_TEXTS)?;
+    let mut reports = Vec::with_capacity(alloc, texts.len())?;
+    let mut feeds = open_gates(alloc, &table, passes)?;
+    let Ok(()) = run_feeds(rt, alloc, texts, batch, &mut feeds) else {
+        return Err(AllocError);
+    };
+    close_gates(feeds, &mut ended, &mut reports);
+    put_behind(&mut ended, idle);
+    let book = table.settle(rt, ended);
+    Ok(Ran { reports, book })
 }
 
-/// Puts the answer to a line into the report under this number, if the line has one.
-fn answer_line(
-    feed: u32,
-    number: usize,
-    line: &[u8],
-    version: Version,
-    book: &mut Book<Global>,
-    report: &mut Report,
-) -> Result<(), AllocError>
-    requires of_feed { IsFeed feed }
-    requires rising { All (λ earlier. earlier.number < number) report.old }
-    ensures { OnOk result (AnswersOne feed number version line.now book.old book.new report.old report.new) }
+/// A gate to the table for each pass.
+fn open_gates<'a>(
+    alloc: Global,
+    table: &'a SharedRib<LEVELS>,
+    passes: Vec<FeedPass>,
+) -> Result<Vec<Feed<TableGate<'a, LEVELS>>>, AllocError>
+    requires { All (λ p. p.table ≡ table.now) passes.items }
+    ensures { IfOk result (λ feeds. feeds.items ≡ map (λ p. record { gate = p; report = None }) passes.items) }
 {
-    match answer_of(feed, line, version, book) {
-        Some(answer) => report.push(Line { number, answer }),
-        None => Ok(()),
+    let mut feeds = Vec::with_capacity(alloc, passes.len())?;
+    for pass in passes {
+        feeds.push_reserved(Feed {
+            gate: TableGate::new(table, pass),
+            report: None,
+        });
+    }
+    Ok(feeds)
+}
+
+/// Takes the feeds, which have all been run, apart into their passes and their reports.
+fn close_gates(
+    feeds: Vec<Feed<TableGate<'_, LEVELS>>>,
+    passes: &mut Vec<FeedPass>,
+    reports: &mut Vec<Report>,
+)
+    requires ran { All (λ feed. IsSome feed.report) feeds.items }
+    requires passes { (passes.old.items ≡ []) × (vec_len feeds ≤ vec_capacity passes.old) }
+    requires reports { (reports.old.items ≡ []) × (vec_len feeds ≤ vec_capacity reports.old) }
+    ensures passes { passes.new.items ≡ map (λ feed. feed.gate) feeds.entry.items }
+    ensures reports { map Some reports.new.items ≡ map (λ feed. feed.report) feeds.entry.items }
+    ensures room { vec_capacity passes.old ≤ vec_capacity passes.new }
+{
+    for feed in feeds {
+        let Feed { gate, report } = feed;
+        passes.push_reserved(gate.into_pass());
+        let Some(report) = report else { unreachable!() };
+        reports.push_reserved(report);
     }
 }
 
-/// What the line is answered: the book's reply, if it is a command.
-fn answer_of(feed: u32, line: &[u8], version: Version, book: &mut Book<Global>) -> Option<Answer>
-    requires { IsFeed feed }
-    ensures { Answers feed version line.now book.old book.new result }
+/// Puts the passes behind the others.
+fn put_behind(passes: &mut Vec<FeedPass>, more: Vec<FeedPass>)
+    requires { vec_len passes.old + vec_len more ≤ vec_capacity passes.old }
+    ensures { passes.new.items ≡ passes.old.items ++ more.items }
 {
-    match parse_line(line, version) {
-        Err(fault) => Some(Answer::Fault(fault)),
-        Ok(asked) => match asked {
-            None => None,
-            Some(cmd) => match book.apply(feed, cmd) {
-                Ok(reply) => Some(Answer::Did(reply)),
-                Err(_) => Some(Answer::Refused),
-            },
-        },
+    for pass in more {
+        passes.push_reserved(pass);
     }
 }
 
-/// Writes the report of the feed of this number, and then the table.
-fn write_run<W: Write>(
-    w: &mut W,
-    buffer: &mut OutputBuffer,
+/// The reports and the book's table, as text.
+fn rendered(alloc: Global, ran: &Ran) -> Result<Vec<u8>, AllocError>
+    requires { vec_len ran.now.reports ≤ 64 }
+    ensures { IfOk result (λ text. text.items ≡ reports_text 1 ran.now.reports.items ++ table_text (table_of ran.now.book)) }
+{
+    let mut text = Vec::new(alloc);
+    let mut feed = 0;
+    for report in ran.reports.as_slice() {
+        feed += 1;
+        let Ok(()) = push_report(alloc, &mut text, feed, report) else {
+            return Err(AllocError);
+        };
+    }
+    let Ok(routes) = ran.book.routes(alloc) else {
+        return Err(AllocError);
+    };
+    let Ok(()) = push_table(alloc, &mut text, routes.as_slice()) else {
+        return Err(AllocError);
+    };
+    Ok(text)
+}
+
+/// Puts a feed's report at the text's end.
+fn push_report(
+    alloc: Global,
+    text: &mut Vec<u8>,
     feed: u32,
     report: &Report,
-    routes: &[Route],
 ) -> Result<(), io::Error>
-    requires { buffer.old ≡ [] }
-    ensures ok { OnOk result (Appends (W.contents w.old) (W.contents w.new)
-        (report_text feed report.now ++ table_text routes.now)) }
-    ensures err { OnErr result (AppendsBeginning (W.contents w.old) (W.contents w.new)
-        (report_text feed report.now ++ table_text routes.now)) }
+    ensures ok { OnOk result (text.new.items ≡ text.old.items ++ report_text feed report.now) }
 {
-    write_report(w, buffer, feed, report)?;
-    write_table(w, buffer, routes)?;
-    buffer.flush(w)
+    let mut buffer = OutputBuffer::new(alloc)?;
+    write_report(text, &mut buffer, feed, report)?;
+    buffer.flush(text)?;
+    Ok(())
 }
 
-/// The status of a report whose text was written.
-fn status_of(report: &Report) -> u8
-    ensures { result ≡ report_status report.now }
+/// Puts the table at the text's end.
+fn push_table(alloc: Global, text: &mut Vec<u8>, routes: &[Route]) -> Result<(), io::Error>
+    ensures ok { OnOk result (text.new.items ≡ text.old.items ++ table_text routes.now) }
 {
-    if report.has_refusal() {
+    let mut buffer = OutputBuffer::new(alloc)?;
+    write_table(text, &mut buffer, routes)?;
+    buffer.flush(text)?;
+    Ok(())
+}
+
+/// The status of reports whose text was written.
+fn status_of(reports: &[Report]) -> u8
+    ensures { result ≡ reports_status reports.now }
+{
+    if some_refusal(reports) {
         REFUSED
-    } else if report.has_fault() {
+    } else if some_fault(reports) {
         FAULTY
     } else {
         0
     }
+}
+
+/// Whether a report tells of a refused command.
+fn some_refusal(reports: &[Report]) -> bool
+    ensures { result ≡ list_any has_refusal reports.now }
+{
+    reports.iter().any(|report| report.has_refusal())
+}
+
+/// Whether a report tells of a faulty line.
+fn some_fault(reports: &[Report]) -> bool
+    ensures { result ≡ list_any has_fault reports.now }
+{
+    reports.iter().any(|report| report.has_fault())
 }

@@ -1,6 +1,9 @@
 pub mod Cutting
 pub mod Words
-pub mod Telling
+pub mod Becoming
+pub mod Filling
+pub mod RunSteps
+pub mod UncutVisits
 pub mod Printing
 pub mod OneAnswer
 pub mod OneCut

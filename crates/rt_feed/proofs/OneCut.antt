@@ -3,12 +3,12 @@ use Rattle.std.proofs.Common.{◌≡◌, ◌≢◌, ℕ, inl, inr, List, [], ◌
 use Rattle.std.proofs.lemmas.List.{map-append}
 use Rattle.std.proofs.lemmas.List.Elements.{All-head, All-tail}
 use Rattle.rt_feed.specs.Lines.{lf, CutsLine}
-use Rattle.rt_feed.specs.Told.{Told, Tells, TellsText, heading, reading}
+use Rattle.rt_feed.specs.LineOutcomes.{LineOutcome, LinesBecome, Becomes, heading, reading}
 use Rattle.rt_feed.specs.declared.versions.Version.{Version}
 use Rattle.rt_feed.specs.declared.versions.Version.TheVariants.{One, Two}
 use Rattle.rt_feed.specs.Versions.{TellsTwo, IsBody}
 use Rattle.rt_feed.specs.Laws.{LineHasOneAnswer, OlderTextsStay}
-use Rattle.rt_feed.proofs.Telling.{length-cut}
+use Rattle.rt_feed.proofs.Becoming.{length-cut}
 
 -- the mark does not stand in what has none
 unmarked_ends : (mark : ℕ) (xs ys more : List ℕ) → All (λ byte. byte ≢ mark) xs → xs ≢ ys ++ mark ∷ more
@@ -41,15 +41,16 @@ one_cut text line left other other_left cut again = elim cut.ended [
   ]
 ]
 
--- two tellings of the same lines read alike
-one_reading_of : LineHasOneAnswer → (version : Version) (text : List ℕ) (tolds others : List Told) → Tells version text tolds [] → Tells version text others [] → map reading tolds ≡ map reading others
-one_reading_of once version text [] [] is other = refl
-one_reading_of once version text [] (told ∷ others) is (line, next, cut, reads, tells) = absurd (omega (arith, length-cut text line next cut, ap length is))
-one_reading_of once version text (told ∷ tolds) [] (line, next, cut, reads, tells) is = absurd (omega (arith, length-cut text line next cut, ap length is))
-one_reading_of once version text (told ∷ tolds) (other ∷ others) (line, next, cut, reads, tells) (line', next', cut', reads', tells') =
-    let same = one_cut text line next line' next' cut cut' in
-    let head = once version line' (reading told) (reading other) (rw same.0 at reads) reads' in
-    let tail = one_reading_of once version next' tolds others (rw same.1 at tells) tells' in cc
+-- lines that are read by one version say the same
+reads_alike : LineHasOneAnswer → (version : Version) (lines : List ℕ) (outcomes others : List LineOutcome) → LinesBecome version lines outcomes [] → LinesBecome version lines others []
+    → map reading outcomes ≡ map reading others
+reads_alike once version lines [] [] is other = refl
+reads_alike once version lines [] (outcome ∷ others) is (line, next, cut, reads, become) = absurd (omega (arith, length-cut lines line next cut, ap length is))
+reads_alike once version lines (outcome ∷ outcomes) [] (line, next, cut, reads, become) is = absurd (omega (arith, length-cut lines line next cut, ap length is))
+reads_alike once version lines (outcome ∷ outcomes) (other ∷ others) (line, next, cut, reads, become) (line', next', cut', reads', become') =
+    let same = one_cut lines line next line' next' cut cut' in
+    let head = once version line' (reading outcome) (reading other) (rw same.0 at reads) reads' in
+    let tail = reads_alike once version next' outcomes others (rw same.1 at become) become' in cc
 
 -- a text has one version, by which the same lines are read
 pub one_body : (text lines others : List ℕ) (one two : Version) → IsBody text one lines → IsBody text two others → (one ≡ two) × (lines ≡ others)
@@ -58,24 +59,24 @@ one_body text lines others One Two is other = absurd (is.0 others other)
 one_body text lines others Two One is other = absurd (other.0 lines is)
 one_body text lines others Two Two is other = (refl, (one_cut text _ lines _ others is other).1)
 
--- two tellings of a whole text read alike
-pub one_reading : LineHasOneAnswer → (text : List ℕ) (tolds others : List Told) → TellsText text tolds → TellsText text others → map reading tolds ≡ map reading others
-one_reading once text tolds others is other =
+-- whatever became of a whole text's commands, its lines say the same
+pub one_reading : LineHasOneAnswer → (text : List ℕ) (outcomes others : List LineOutcome) → Becomes text outcomes [] → Becomes text others [] → map reading outcomes ≡ map reading others
+one_reading once text outcomes others is other =
     let same = one_body text is.lines other.lines is.version other.version is.body other.body in
-    let tells : Tells other.version other.lines is.read [] = rw (same.0, same.1) at is.tells in
-    let reads = one_reading_of once other.version other.lines is.read other.read tells other.tells in
+    let become : LinesBecome other.version other.lines is.read [] = rw (same.0, same.1) at is.become in
+    let reads = reads_alike once other.version other.lines is.read other.read become other.become in
     ap (map reading) is.joined ∙ (map-append reading (heading is.version) is.read ∙
     (ap (λ v. map reading (heading v) ++ map reading is.read) same.0 ∙ (ap (λ more. map reading (heading other.version) ++ more) reads ∙
     (sym (map-append reading (heading other.version) other.read) ∙ sym (ap (map reading) other.joined)))))
 
 -- where the text does not tell version 2, its lines are all read by version 1
-from_body : (text lines : List ℕ) (version : Version) (tolds read : List Told) → ((rest : List ℕ) → ¬ TellsTwo text rest) → IsBody text version lines
-    → Tells version lines read [] → tolds ≡ heading version ++ read → Tells One text tolds []
-from_body text lines One tolds read none body tells joined = rw (← joined, body.1) at tells
-from_body text lines Two tolds read none body tells joined = absurd (none lines body)
+from_body : (text lines : List ℕ) (version : Version) (outcomes read : List LineOutcome) → ((rest : List ℕ) → ¬ TellsTwo text rest) → IsBody text version lines
+    → LinesBecome version lines read [] → outcomes ≡ heading version ++ read → LinesBecome One text outcomes []
+from_body text lines One outcomes read none body become joined = rw (← joined, body.1) at become
+from_body text lines Two outcomes read none body become joined = absurd (none lines body)
 
 pub older_texts : OlderTextsStay
-older_texts text tolds none = (
-  λ is. from_body text is.lines is.version tolds is.read none is.body is.tells is.joined,
-  λ is. record { version = One; lines = text; read = tolds; body = (none, refl); tells = is; joined = refl },
+older_texts text outcomes none = (
+  λ is. from_body text is.lines is.version outcomes is.read none is.body is.become is.joined,
+  λ is. record { version = One; lines = text; read = outcomes; body = (none, refl); become = is; joined = refl },
 )

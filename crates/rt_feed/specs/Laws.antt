@@ -9,7 +9,7 @@ use Rattle.rt_feed.specs.CommandText.{command_text, HasCommand}
 use Rattle.rt_feed.specs.Grammar.{AnswersLine}
 use Rattle.rt_feed.specs.Lines.{CutsLine}
 use Rattle.rt_feed.specs.Versions.{TellsTwo}
-use Rattle.rt_feed.specs.Told.{Told, Tells, TellsText, reading}
+use Rattle.rt_feed.specs.LineOutcomes.{LineOutcome, LinesBecome, Becomes, reading}
 
 -- a line has at most one answer
 abbrev pub LineHasOneAnswer : Type 0
@@ -32,15 +32,15 @@ OnlyItsTextIsRead =
 -- a text that does not begin with the line that tells version 2 has all its lines read by version 1
 abbrev pub OlderTextsStay : Type 0
 OlderTextsStay =
-    (text : List ℕ) (tolds : List Told) →
-    ((rest : List ℕ) → ¬ TellsTwo text rest) → TellsText text tolds ↔ Tells One text tolds []
+    (text : List ℕ) (outcomes : List LineOutcome) →
+    ((rest : List ℕ) → ¬ TellsTwo text rest) → Becomes text outcomes [] ↔ LinesBecome One text outcomes []
 
 -- a text is cut into its first line and what is left in at most one way
 abbrev pub TextHasOneCut : Type 0
 TextHasOneCut =
     (text line left other other_left : List ℕ) → CutsLine text line left → CutsLine text other other_left → (line ≡ other) × (left ≡ other_left)
 
--- so two tellings of a whole text agree on what each of its lines says
+-- so whatever became of a whole text's commands, each of its lines says the same
 abbrev pub TextHasOneReading : Type 0
 TextHasOneReading =
-    (text : List ℕ) (tolds others : List Told) → TellsText text tolds → TellsText text others → map reading tolds ≡ map reading others
+    (text : List ℕ) (outcomes others : List LineOutcome) → Becomes text outcomes [] → Becomes text others [] → map reading outcomes ≡ map reading others

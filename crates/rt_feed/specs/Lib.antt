@@ -1,10 +1,13 @@
 pub mod Answers
-pub mod FeedReport
 pub mod CommandText
+pub mod Feeds
 pub mod Fields
+pub mod Filling
 pub mod Grammar
 pub mod Laws
+pub mod LineOutcomes
 pub mod Lines
 pub mod Printed
-pub mod Told
+pub mod Running
 pub mod Versions
+pub mod Visits

@@ -1,4 +1,4 @@
-//! The texts of a feed: the lines that are read from it, and the report and the table that are written.
+//! The texts of a feed, the gate that answers its commands, and the report and the table that are written.
 //!
 //! A text's first line tells its version (`text_body`); the text is cut at each LF (`next_line`); and each line says a
 //! command, or nothing, or has a fault (`parse_line`). Contracts see texts and lines as lists of bytes. A line is a
@@ -14,21 +14,37 @@
 //! }
 //! ```
 //!
-//! Only tested: which error a writer's fault is, that the printed examples are what a person expects, and that the
+//! `run_feed` asks a text's commands of a gate, in pieces of a batch, and answers the report; `run_feeds` does so for
+//! several feeds, each on a thread of its own. A gate holds visits, what each call answered; `TableGate` is the gate to
+//! the shared table, and its visits lie uncut in the journal that its pass has seen.
+//!
+//! Only tested: that feeds run at the same time, which error a writer's fault is, that the printed examples are what a person expects, and that the
 //! reader agrees with a second one on hostile lines.
 #![tactic(auto)]
 
+mod faults;
+mod feed_run;
+mod feeds;
+mod gates;
 pub mod laws;
 mod lines;
 mod parse;
 mod print;
 mod report;
+mod running;
+mod table_gate;
 mod versions;
 
+pub use faults::RunFault;
+pub use feeds::{Feed, run_feeds};
+pub use gates::Gate;
 pub use lines::next_line;
 pub use parse::{LINE_BYTES, LineFault, parse_line};
 pub use print::{write_report, write_table};
 pub use report::{Answer, Line, Report};
+pub use rt_shared::Outcome;
+pub use running::run_feed;
+pub use table_gate::TableGate;
 pub use versions::{Version, text_body, text_version};
 
 #[cfg(test)]

@@ -1,8 +1,11 @@
 //! The answers to a feed's text, line by line.
-ghost use Rattle.std.specs.Prelude.{◌≡◌, ℕ, ◌<◌, List, [], ◌∷◌, ◌++◌, All, OnOk, OnErr};
+ghost use Rattle.std.specs.Prelude.{◌≡◌, ℕ, ◌<◌, ◌≤◌, List, [], ◌∷◌, ◌++◌, All, length, take, drop, OnOk, OnErr};
+ghost use Rattle.rt_feed.specs.LineOutcomes.{answer_of};
+ghost use Rattle.rt_feed.specs.Filling.{filled};
 
 use crate::parse::LineFault;
 use rt_rib::Reply;
+use rt_shared::Outcome;
 use std::alloc::{AllocError, Global};
 use std::marker::Model;
 
@@ -71,6 +74,7 @@ impl Model for Report {
 
 impl Report {
     ghost use Rattle.rt_feed.specs.Answers.{IsRising, has_refusal, has_fault};
+    ghost use Rattle.rt_feed.specs.Filling.{filled};
 
     /// A report without lines.
     pub fn new(alloc: Global) -> Report
@@ -103,6 +107,14 @@ impl Report {
         self.lines.iter().any(|line| line.answer.is_fault())
     }
 
+    /// Gives the lines from this place on that are no faults these outcomes, in order.
+    pub(crate) fn fill(&mut self, first: usize, outcomes: &[Outcome])
+        requires { first ≤ length self.old }
+        ensures { self.new ≡ take first self.old ++ filled (drop first self.old) outcomes.now }
+    {
+        fill_lines(&mut self.lines, first, outcomes);
+    }
+
     /// Puts a line at the end, its number above those of the lines that are there. Refused only for want of memory, and
     /// then the report is as it was.
     pub fn push(&mut self, line: Line) -> Result<(), AllocError>
@@ -112,6 +124,30 @@ impl Report {
     {
         self.lines.push(line)?;
         Ok(())
+    }
+}
+
+/// Gives the lines from this place on that are no faults these outcomes, in order.
+fn fill_lines(lines: &mut [Line], first: usize, outcomes: &[Outcome])
+    requires { first ≤ length lines.old }
+    ensures { lines.new ≡ take first lines.old ++ filled (drop first lines.old) outcomes.now }
+{
+    let mut next = 0;
+    for place in first..lines.len() {
+        if next < outcomes.len() && !lines[place].answer.is_fault() {
+            lines[place].answer = answer_of(outcomes[next]);
+            next += 1;
+        }
+    }
+}
+
+/// The command's answer in a report.
+fn answer_of(outcome: Outcome) -> Answer
+    ensures { result ≡ answer_of outcome }
+{
+    match outcome {
+        Outcome::Did(reply) => Answer::Did(reply),
+        Outcome::Refused => Answer::Refused,
     }
 }
 

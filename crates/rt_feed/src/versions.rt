@@ -1,7 +1,7 @@
 //! The version of a feed's text, which its first line tells.
 ghost use Rattle.std.specs.Prelude.{◌≡◌, ◌+◌, length};
 ghost use Rattle.rt_feed.specs.Versions.{IsBody, IsVersion};
-ghost use Rattle.rt_feed.specs.Told.{heading};
+ghost use Rattle.rt_feed.specs.LineOutcomes.{heading};
 
 use crate::lines::next_line;
 

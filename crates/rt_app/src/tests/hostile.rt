@@ -4,7 +4,9 @@ use crate::runs::run_texts;
 use crate::tests::rows::one_text;
 use std::alloc::Global;
 use std::process::Abort;
+use std::sync::Wait;
 use std::test::Fail;
+use std::thread::Threads;
 
 /// Lines and their fault, as a text of this one line prints it.
 const FAULTY: [(&[u8], &str); 14] = [
@@ -25,7 +27,7 @@ const FAULTY: [(&[u8], &str); 14] = [
 ];
 
 /// Runs the text alone, and compares what it prints and its status.
-fn compare<R: Abort>(
+fn compare<R: Threads + Wait + Sync + Abort>(
     rt: &R,
     alloc: Global,
     text: &[u8],

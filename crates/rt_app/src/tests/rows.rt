@@ -1,17 +1,18 @@
 ghost use Rattle.std.specs.Prelude.{◌≡◌, vec_len, IfOk};
 
-use crate::faults::{AppFault, RunFault};
+use crate::faults::AppFault;
 use crate::runs::run_texts;
+use rt_feed::RunFault;
 use rt_rib::limit_ok;
 use std::alloc::Global;
 use std::test::Fail;
 
 /// A worked run: a feed's text, the limit, and what has to be written with which status.
-struct Row {
-    text: &'static str,
+pub struct Row {
+    pub text: &'static str,
     limit: u32,
-    output: &'static str,
-    status: u8,
+    pub output: &'static str,
+    pub status: u8,
 }
 
 const EVERY_ROUTE: u32 = 65_536;
@@ -27,7 +28,7 @@ pub fn one_text(alloc: Global, text: &[u8]) -> Result<Vec<Vec<u8>>, Fail>
 
 #[test]
 fn worked_runs(rt: HostRuntime) -> Result<(), Fail> {
-    for row in ROWS.iter().chain(VERSION_ROWS.iter()) {
+    for row in ROWS.iter().chain(BATCHED.iter()).chain(VERSION_ROWS.iter()) {
         assert!(rt; limit_ok(row.limit));
         let texts = one_text(rt.alloc(), row.text.as_bytes())?;
         let mut out = Vec::new(rt.alloc());
@@ -47,7 +48,30 @@ fn no_text_is_refused(rt: HostRuntime) {
     assert!(rt; out.is_empty());
 }
 
-static ROWS: [Row; 13] = [
+/// Six commands, which every batch size cuts in another way.
+pub static BATCHED: [Row; 1] = [Row {
+    text: "add 10.0.0.0/8 10 192.0.2.1
+add 10.1.0.0/16 10 192.0.2.2
+add 10.2.0.0/16 10 192.0.2.3
+withdraw 10.1.0.0/16
+lookup 10.1.2.3
+dump
+",
+    limit: EVERY_ROUTE,
+    output: "1:1 added
+1:2 added
+1:3 added
+1:4 withdrawn
+1:5 route 10.0.0.0/8 feed 1 pref 10 via 192.0.2.1
+1:6 dumped 2
+table 2
+10.0.0.0/8 feed 1 pref 10 via 192.0.2.1
+10.2.0.0/16 feed 1 pref 10 via 192.0.2.3
+",
+    status: 0,
+}];
+
+static ROWS: [Row; 12] = [
     Row {
         text: "",
         limit: EVERY_ROUTE,
@@ -135,27 +159,6 @@ withdraw 10.0.0.0/8
         output: "1:1 missing
 1:2 missing
 table 0
-",
-        status: 0,
-    },
-    Row {
-        text: "add 10.0.0.0/8 10 192.0.2.1
-add 10.1.0.0/16 10 192.0.2.2
-add 10.2.0.0/16 10 192.0.2.3
-withdraw 10.1.0.0/16
-lookup 10.1.2.3
-dump
-",
-        limit: EVERY_ROUTE,
-        output: "1:1 added
-1:2 added
-1:3 added
-1:4 withdrawn
-1:5 route 10.0.0.0/8 feed 1 pref 10 via 192.0.2.1
-1:6 dumped 2
-table 2
-10.0.0.0/8 feed 1 pref 10 via 192.0.2.1
-10.2.0.0/16 feed 1 pref 10 via 192.0.2.3
 ",
         status: 0,
     },

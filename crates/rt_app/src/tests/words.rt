@@ -1,7 +1,10 @@
 use crate::program::run_words;
 use std::fs;
 use std::io::{self, ErrorKind, Write};
+use std::rt::Files;
+use std::sync::Wait;
 use std::test::Fail;
+use std::thread::Threads;
 
 /// What a call of the program gave.
 #[derive(Drop)]
@@ -11,7 +14,10 @@ struct Ending {
     err: Vec<u8>,
 }
 
-fn run(rt: &HostRuntime, words: &[&str]) -> Result<Ending, Fail> {
+fn run<R: Files + Threads + Wait + Sync + AllocGlobal>(
+    rt: &R,
+    words: &[&str],
+) -> Result<Ending, Fail> {
     let mut owned = Vec::new(rt.alloc());
     for word in words {
         owned.push(String::from_str(rt.alloc(), word)?)?;
@@ -81,17 +87,61 @@ fn unreadable_files_give_status_4(rt: HostRuntime) -> Result<(), Fail> {
 }
 
 #[test]
+fn more_than_64_files_are_refused_unread(rt: HostRuntime) -> Result<(), Fail> {
+    let mut words = Vec::from_slice(rt.alloc(), &["yarib", "run"])?;
+    for _ in 0..65 {
+        words.push("nosuchfile")?;
+    }
+    let ending = run(&rt, words.as_slice())?;
+    assert_eq!(rt; ending.status, 3);
+    assert!(rt; ending.out.is_empty());
+    assert_eq!(rt;
+        ending.err.as_slice(),
+        b"yarib: more than 64 files\n".as_slice()
+    );
+    Ok(())
+}
+
+#[test]
+fn several_files_are_run_in_batches(rt: HostRuntime) -> Result<(), Fail> {
+    fs::write(&rt, "one.feed", b"add 10.0.0.0/8 1 192.0.2.1\n")?;
+    let ending = run(
+        &rt,
+        &["yarib", "run", "--batch", "1024", "one.feed", "one.feed"],
+    )?;
+    assert_eq!(rt; ending.status, 0);
+    assert_eq!(rt;
+        ending.out.as_slice(),
+        b"1:1 added
+2:1 added
+table 2
+10.0.0.0/8 feed 1 pref 1 via 192.0.2.1
+10.0.0.0/8 feed 2 pref 1 via 192.0.2.1
+"
+            .as_slice()
+    );
+    let missing = run(&rt, &["yarib", "run", "one.feed", "nosuchfile", "one.feed"])?;
+    assert_eq!(rt; missing.status, 4);
+    assert!(rt; missing.out.is_empty());
+    assert_eq!(rt;
+        missing.err.as_slice(),
+        b"yarib: cannot read nosuchfile\n".as_slice()
+    );
+    Ok(())
+}
+
+#[test]
 fn refused_command_lines_give_status_3(rt: HostRuntime) -> Result<(), Fail> {
     let lines: [&[&str]; 13] = [
         &["yarib"],
         &["yarib", "walk"],
         &["yarib", "run"],
-        &["yarib", "run", "one.feed", "two.feed"],
         &["yarib", "run", "--limit", "0", "one.feed"],
         &["yarib", "run", "--limit", "1000001", "one.feed"],
         &["yarib", "run", "--limit", "x", "one.feed"],
         &["yarib", "run", "--limit", "1", "--limit", "2", "one.feed"],
-        &["yarib", "run", "--batch", "1", "one.feed"],
+        &["yarib", "run", "--batch", "0", "one.feed"],
+        &["yarib", "run", "--batch", "1025", "one.feed"],
         &["yarib", "replay"],
         &["yarib", "replay", "--levels", "256"],
         &["yarib", "replay", "--levels", "1", "256"],

@@ -1,0 +1,178 @@
+-- Lines of a text one after another: what they became, the report's lines for them and the commands among them.
+use Rattle.std.proofs.Common.{◌≡◌, ℕ, ◌+◌, ◌<◌, ◌≤◌, inl, inr, List, [], ◌∷◌, ◌++◌, ◌≢◌, suc, add-zero, length, map, All, Option, Some, None, Ok, sym, ◌∙◌, ap, refl, subst, arith, append_assoc, length-append}
+use Rattle.std.proofs.lemmas.List.{append-nil, map-append}
+use Rattle.std.proofs.lemmas.List.Elements.{All-nil, All-cons, All-append, All-weaker}
+use Rattle.rt_rib.specs.declared.commands.Cmd.{Cmd}
+use Rattle.rt_shared.specs.declared.outcome.Outcome.{Outcome}
+use Rattle.rt_shared.specs.declared.outcome.Outcome.TheVariants as outcome
+use Rattle.rt_feed.specs.declared.report.Line.{Line}
+use Rattle.rt_feed.specs.declared.report.Answer.{Answer}
+use Rattle.rt_feed.specs.Answers.{has_refusal, has_fault}
+use Rattle.rt_feed.specs.declared.versions.Version.{Version}
+use Rattle.rt_feed.specs.declared.versions.Version.TheVariants.{One, Two}
+use Rattle.rt_feed.specs.Versions.{IsBody}
+use Rattle.rt_feed.specs.Grammar.{AnswersLine}
+use Rattle.rt_feed.specs.Lines.{CutsLine}
+use Rattle.rt_feed.specs.LineOutcomes.{LineOutcome, skipped, faulty, asked, some_refused, some_faulty, LinesBecome, Becomes, heading, reading, line_answer, numbered, report_lines, asked_by, asked_of}
+
+-- more lines after some
+pub become-append : (version : Version) (lines middle left : List ℕ) (outcomes more : List LineOutcome) → LinesBecome version lines outcomes middle → LinesBecome version middle more left
+    → LinesBecome version lines (outcomes ++ more) left
+become-append version lines middle left [] more first second = rw first second
+become-append version lines middle left (outcome ∷ outcomes) more (line, next, cut, reads, first) second =
+    (line, next, cut, reads, become-append version next middle left outcomes more first second)
+
+-- one line more of a text
+pub becomes-push : (text line middle left : List ℕ) (outcomes : List LineOutcome) (outcome : LineOutcome) → (is : Becomes text outcomes middle) → CutsLine middle line left
+    → AnswersLine is.version line (reading outcome) → (other : Becomes text (outcomes ++ outcome ∷ []) left) × (other.version ≡ is.version)
+becomes-push text line middle left outcomes outcome is cut reads = (
+  record {
+    version = is.version;
+    lines = is.lines;
+    read = is.read ++ outcome ∷ [];
+    body = is.body;
+    become = become-append is.version is.lines middle left is.read (outcome ∷ []) is.become (line, left, cut, reads, refl);
+    joined = ap (λ os. os ++ outcome ∷ []) is.joined ∙ append_assoc (heading is.version) is.read (outcome ∷ []);
+  },
+  refl,
+)
+
+-- the same outcomes in other words
+pub becomes-at : (text left : List ℕ) (outcomes others : List LineOutcome) → others ≡ outcomes → (is : Becomes text outcomes left) → (other : Becomes text others left) × (other.version ≡ is.version)
+becomes-at text left outcomes others same is =
+    (record { version = is.version; lines = is.lines; read = is.read; body = is.body; become = is.become; joined = same ∙ is.joined }, refl)
+
+-- what lines became may be any outcomes that say the same
+become-alike : (version : Version) (lines left : List ℕ) (outcomes others : List LineOutcome) → map reading outcomes ≡ map reading others → LinesBecome version lines outcomes left
+    → LinesBecome version lines others left
+become-alike version lines left [] [] same is = is
+become-alike version lines left [] (other ∷ others) same is = absurd (cc)
+become-alike version lines left (outcome ∷ outcomes) [] same is = absurd (cc)
+become-alike version lines left (outcome ∷ outcomes) (other ∷ others) same (line, next, cut, reads, is) =
+    let head : reading outcome ≡ reading other = cc in
+    let tail : map reading outcomes ≡ map reading others = cc in
+    (line, next, cut, subst (AnswersLine version line) head reads, become-alike version next left outcomes others tail is)
+
+-- a line that is read so is skipped
+reads_nothing : (outcome : LineOutcome) → Ok None ≡ reading outcome → outcome ≡ skipped
+reads_nothing skipped is = refl
+reads_nothing (faulty fault) is = absurd (cc)
+reads_nothing (asked cmd outcome) is = absurd (cc)
+
+-- outcomes that say the same begin with the same heading
+headed : (version : Version) (outcomes read others : List LineOutcome) → outcomes ≡ heading version ++ read → map reading outcomes ≡ map reading others
+    → (rest : List LineOutcome) × (others ≡ heading version ++ rest) × (map reading read ≡ map reading rest)
+headed One outcomes read others is same = (others, refl, ap (map reading) (sym is) ∙ same)
+headed Two outcomes read [] is same = let e : map reading (skipped ∷ read) ≡ [] = ap (map reading) (sym is) ∙ same in absurd (cc)
+headed Two outcomes read (other ∷ others) is same =
+    let e : map reading (skipped ∷ read) ≡ map reading (other ∷ others) = ap (map reading) (sym is) ∙ same in
+    let head : Ok None ≡ reading other = cc in
+    let tail : map reading read ≡ map reading others = cc in
+    (others, ap (λ o. o ∷ others) (reads_nothing other head), tail)
+
+-- so it is of a text's first lines, by the same version
+pub becomes-alike : (text left : List ℕ) (outcomes others : List LineOutcome) → map reading outcomes ≡ map reading others → (is : Becomes text outcomes left)
+    → (other : Becomes text others left) × (other.version ≡ is.version)
+becomes-alike text left outcomes others same is =
+    let found = headed is.version outcomes is.read others is.joined same in (
+      record {
+        version = is.version;
+        lines = is.lines;
+        read = found.0;
+        body = is.body;
+        become = become-alike is.version is.lines left is.read found.0 found.2 is.become;
+        joined = found.1;
+      },
+      refl,
+    )
+
+-- the first of some lines became what they became
+become-first : (version : Version) (lines left : List ℕ) (outcomes more : List LineOutcome) → LinesBecome version lines (outcomes ++ more) left
+    → (middle : List ℕ) × LinesBecome version lines outcomes middle
+become-first version lines left [] more is = (lines, refl)
+become-first version lines left (outcome ∷ outcomes) more (line, next, cut, reads, is) =
+    let first = become-first version next left outcomes more is in (first.0, (line, next, cut, reads, first.1))
+
+-- what follows the heading
+behind_heading : (version : Version) (earlier more read : List LineOutcome) → (heading version ++ earlier) ++ more ≡ heading version ++ read → read ≡ earlier ++ more
+behind_heading One earlier more read is = sym is
+behind_heading Two earlier more read is = cc
+
+pub becomes-first : (text left : List ℕ) (outcomes earlier more : List LineOutcome) → (is : Becomes text (outcomes ++ more) left) → outcomes ≡ heading is.version ++ earlier
+    → (middle : List ℕ) × Becomes text outcomes middle
+becomes-first text left outcomes earlier more is begins =
+    let parts : is.read ≡ earlier ++ more = behind_heading is.version earlier more is.read (ap (λ os. os ++ more) (sym begins) ∙ is.joined) in
+    let first = become-first is.version is.lines left earlier more (subst (λ os. LinesBecome is.version is.lines os left) parts is.become) in
+    (first.0, record { version = is.version; lines = is.lines; read = earlier; body = is.body; become = first.1; joined = begins })
+
+not_nil : (line : List ℕ) → line ≢ [] → 0 < length line
+not_nil [] ne = absurd (ne refl)
+not_nil (byte ∷ line) ne = omega arith
+
+-- a line takes at least one byte
+pub length-cut : (text line left : List ℕ) → CutsLine text line left → length left < length text
+length-cut text line left cut = elim cut.ended [
+  | inl more ↦ omega (arith, ap length more, length-append line (10 ∷ left))
+  | inr last ↦ let some : 0 < length line = not_nil line last.1 in omega (arith, some, ap length last.0, ap length last.2)
+]
+
+-- so the lines are no more than the bytes that they took
+length-lines : (version : Version) (lines left : List ℕ) (outcomes : List LineOutcome) → LinesBecome version lines outcomes left → length outcomes + length left ≤ length lines
+length-lines version lines left [] is = omega (arith, ap length is)
+length-lines version lines left (outcome ∷ outcomes) (line, next, cut, reads, is) =
+    omega (arith, length-cut lines line next cut, length-lines version next left outcomes is)
+
+-- and so it is of a text
+length-body : (text lines left : List ℕ) (version : Version) (outcomes read : List LineOutcome) → IsBody text version lines → LinesBecome version lines read left
+    → outcomes ≡ heading version ++ read → length outcomes + length left ≤ length text
+length-body text lines left One outcomes read body become joined = omega (arith, ap length joined, ap length body.1, length-lines One lines left read become)
+length-body text lines left Two outcomes read body become joined = omega (arith, ap length joined, length-cut text _ lines body, length-lines Two lines left read become)
+
+pub length-outcomes : (text left : List ℕ) (outcomes : List LineOutcome) → Becomes text outcomes left → length outcomes + length left ≤ length text
+length-outcomes text left outcomes is = length-body text is.lines left is.version outcomes is.read is.body is.become is.joined
+
+-- the report's lines of more lines after some
+pub report_lines-append : (number : ℕ) (outcomes more : List LineOutcome) → report_lines number (outcomes ++ more) ≡ report_lines number outcomes ++ report_lines (number + length outcomes) more
+report_lines-append number [] more = rw add-zero refl
+report_lines-append number (outcome ∷ outcomes) more =
+    let next : number + 1 + length outcomes ≡ number + suc (length outcomes) = omega arith in
+    ap (λ lines. numbered number (line_answer outcome) ++ lines) (report_lines-append (number + 1) outcomes more) ∙
+    (ap (λ after. numbered number (line_answer outcome) ++ (report_lines (number + 1) outcomes ++ report_lines after more)) next ∙
+    sym (append_assoc (numbered number (line_answer outcome)) (report_lines (number + 1) outcomes) (report_lines (number + suc (length outcomes)) more)))
+
+-- the report's line for one line more
+pub report_lines-push : (number : ℕ) (outcomes : List LineOutcome) (outcome : LineOutcome) → report_lines number (outcomes ++ outcome ∷ []) ≡ report_lines number outcomes ++ numbered (number + length outcomes) (line_answer outcome)
+report_lines-push number outcomes outcome = report_lines-append number outcomes (outcome ∷ []) ∙ ap (λ lines. report_lines number outcomes ++ lines) (append-nil _)
+
+numbered-below : (number above : ℕ) (answer : Option Answer) → number < above → All (λ (line : Line). line.number < above) (numbered number answer)
+numbered-below number above None less = All-nil (λ (line : Line). line.number < above)
+numbered-below number above (Some answer) less = let P : Line → Type 0 = λ line. line.number < above in All-cons P (record { number = number; answer = answer }) [] less (All-nil P)
+
+-- the numbers of the lines so far are below the next one
+pub report_lines-below : (number : ℕ) (outcomes : List LineOutcome) → All (λ (line : Line). line.number < number + length outcomes) (report_lines number outcomes)
+report_lines-below number [] = All-nil _
+report_lines-below number (outcome ∷ outcomes) =
+    let P : Line → Type 0 = λ line. line.number < number + suc (length outcomes) in
+    let next : number + 1 + length outcomes ≡ number + suc (length outcomes) = omega arith in
+    All-append P (numbered number (line_answer outcome)) (report_lines (number + 1) outcomes) (numbered-below number (number + suc (length outcomes)) (line_answer outcome) (omega arith))
+    (All-weaker (λ (line : Line). line.number < number + 1 + length outcomes) P (λ line less. omega (arith, less, next)) _ (report_lines-below (number + 1) outcomes))
+
+-- the commands of more lines after some
+pub asked_of-append : (outcomes more : List LineOutcome) → asked_of (outcomes ++ more) ≡ asked_of outcomes ++ asked_of more
+asked_of-append [] more = refl
+asked_of-append (outcome ∷ outcomes) more = ap (λ asked. asked_by outcome ++ asked) (asked_of-append outcomes more) ∙ sym (append_assoc (asked_by outcome) (asked_of outcomes) (asked_of more))
+
+-- a report tells of a refusal where some command was refused, and of a fault where some line was faulty
+pub has_refusal-report_lines : (number : ℕ) (outcomes : List LineOutcome) → has_refusal (report_lines number outcomes) ≡ some_refused outcomes
+has_refusal-report_lines number [] = refl
+has_refusal-report_lines number (skipped ∷ outcomes) = has_refusal-report_lines (number + 1) outcomes
+has_refusal-report_lines number (faulty fault ∷ outcomes) = has_refusal-report_lines (number + 1) outcomes
+has_refusal-report_lines number (asked cmd outcome.Refused ∷ outcomes) = refl
+has_refusal-report_lines number (asked cmd (outcome.Did reply) ∷ outcomes) = has_refusal-report_lines (number + 1) outcomes
+
+pub has_fault-report_lines : (number : ℕ) (outcomes : List LineOutcome) → has_fault (report_lines number outcomes) ≡ some_faulty outcomes
+has_fault-report_lines number [] = refl
+has_fault-report_lines number (skipped ∷ outcomes) = has_fault-report_lines (number + 1) outcomes
+has_fault-report_lines number (faulty fault ∷ outcomes) = refl
+has_fault-report_lines number (asked cmd outcome.Refused ∷ outcomes) = has_fault-report_lines (number + 1) outcomes
+has_fault-report_lines number (asked cmd (outcome.Did reply) ∷ outcomes) = has_fault-report_lines (number + 1) outcomes

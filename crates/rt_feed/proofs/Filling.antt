@@ -1,0 +1,100 @@
+-- Lines of a report that are given outcomes, one after another.
+use Rattle.std.proofs.Common.{◌≡◌, ℕ, zero, suc, ◌+◌, ◌<◌, ◌≤◌, inl, inr, true, false, List, [], ◌∷◌, ◌++◌, length, take, drop, get_or, set, refl, sym, ap, ◌∙◌, arith, append_assoc, append-nil, add-one, drop-cons}
+use Rattle.std.proofs.Math.Seq.{take-suc}
+use Rattle.std.proofs.lemmas.List.{take-append-drop, drop-set-lt}
+use Rattle.std.proofs.lemmas.Grind.{take-set_at}
+use Rattle.std.proofs.lemmas.Bool.{cases_Bool}
+use Rattle.rt_shared.specs.declared.outcome.Outcome.{Outcome}
+use Rattle.rt_feed.specs.declared.report.Line.{Line}
+use Rattle.rt_feed.specs.Answers.{is_fault, IsRising}
+use Rattle.rt_feed.specs.LineOutcomes.{answer_of}
+use Rattle.rt_feed.specs.Filling.{filled}
+
+-- where there are no outcomes the lines stay
+pub filled-none : (lines : List Line) → filled lines [] ≡ lines
+filled-none [] = refl
+filled-none (line ∷ lines) = refl
+
+-- a fault is passed over
+pub filled-fault : (line : Line) (lines : List Line) (outcomes : List Outcome) → is_fault line.answer ≡ true → filled (line ∷ lines) outcomes ≡ line ∷ filled lines outcomes
+filled-fault line lines [] is = ap (λ ls. line ∷ ls) (sym (filled-none lines))
+filled-fault line lines (outcome ∷ outcomes) is = rw is refl
+
+-- another line is given the first outcome
+pub filled-given : (line : Line) (lines : List Line) (outcome : Outcome) (outcomes : List Outcome) → is_fault line.answer ≡ false
+    → filled (line ∷ lines) (outcome ∷ outcomes) ≡ record line { answer = answer_of outcome } ∷ filled lines outcomes
+filled-given line lines outcome outcomes is = rw is refl
+
+-- where no outcome is left all lines stay
+pub fills_none : (lines : List Line) (place : ℕ) → take place lines ++ filled (drop place lines) [] ≡ lines
+fills_none lines place = rw (filled-none, take-append-drop) refl
+
+module _ (lines : List Line) (place : ℕ) (d : Line) (here : place < length lines) where
+  -- the lines up to a place and the one there
+  one_more : (rest : List Line) → take (place + 1) lines ++ rest ≡ take place lines ++ get_or lines place d ∷ rest
+  one_more rest = rw (add-one place, take-suc lines place d here) (append_assoc (take place lines) (get_or lines place d ∷ []) rest)
+
+  -- a fault stays
+  pub fills_fault : (outcomes : List Outcome) → is_fault (get_or lines place d).answer ≡ true
+      → take (place + 1) lines ++ filled (drop (place + 1) lines) outcomes ≡ take place lines ++ filled (drop place lines) outcomes
+  fills_fault outcomes is =
+      one_more _ ∙ ap (λ rest. take place lines ++ rest) (sym (filled-fault (get_or lines place d) (drop (place + 1) lines) outcomes is)
+      ∙ ap (λ rest. filled rest outcomes) (sym (drop-cons lines place d here ∙ ap (λ n. get_or lines place d ∷ drop n lines) (sym (add-one place)))))
+
+  -- another line is given the next outcome
+  pub fills_line : (lines' : List Line) (outcome : Outcome) (outcomes : List Outcome) → is_fault (get_or lines place d).answer ≡ false
+      → lines' ≡ set lines place (record (get_or lines place d) { answer = answer_of outcome })
+      → take (place + 1) lines' ++ filled (drop (place + 1) lines') outcomes ≡ take place lines ++ filled (drop place lines) (outcome ∷ outcomes)
+  fills_line lines' outcome outcomes is changed =
+      let line = get_or lines place d in
+      let given = record line { answer = answer_of outcome } in
+      let first : take (place + 1) lines' ≡ take place lines ++ given ∷ [] = ap (take (place + 1)) changed ∙ take-set_at lines place (place + 1) given refl here in
+      let rest : drop (place + 1) lines' ≡ drop (place + 1) lines =
+      ap (drop (place + 1)) changed ∙ drop-set-lt (place + 1) lines place given (omega arith) in
+      let whole : drop place lines ≡ line ∷ drop (place + 1) lines = drop-cons lines place d here ∙ ap (λ n. line ∷ drop n lines) (sym (add-one place)) in
+      rw (first, rest, whole, filled-given line (drop (place + 1) lines) outcome outcomes is)
+      (append_assoc (take place lines) (given ∷ []) (filled (drop (place + 1) lines) outcomes))
+
+-- numbers stay
+pub number-filled : (lines : List Line) (outcomes : List Outcome) (i : ℕ) (d : Line) → (get_or (filled lines outcomes) i d).number ≡ (get_or lines i d).number
+number-filled [] outcomes i d = refl
+number-filled (line ∷ lines) [] i d = refl
+number-filled (line ∷ lines) (outcome ∷ outcomes) zero d = elim (cases_Bool (is_fault line.answer)) [
+  | inl fault ↦ rw (filled-fault line lines (outcome ∷ outcomes) fault) refl
+  | inr other ↦ rw (filled-given line lines outcome outcomes other) refl
+]
+number-filled (line ∷ lines) (outcome ∷ outcomes) (suc i) d = elim (cases_Bool (is_fault line.answer)) [
+  | inl fault ↦ rw (filled-fault line lines (outcome ∷ outcomes) fault) (number-filled lines (outcome ∷ outcomes) i d)
+  | inr other ↦ rw (filled-given line lines outcome outcomes other) (number-filled lines outcomes i d)
+]
+
+-- and so does how many lines there are
+pub length-filled : (lines : List Line) (outcomes : List Outcome) → length (filled lines outcomes) ≡ length lines
+length-filled [] outcomes = refl
+length-filled (line ∷ lines) [] = refl
+length-filled (line ∷ lines) (outcome ∷ outcomes) = elim (cases_Bool (is_fault line.answer)) [
+  | inl fault ↦ rw (filled-fault line lines (outcome ∷ outcomes) fault) (ap suc (length-filled lines (outcome ∷ outcomes)))
+  | inr other ↦ rw (filled-given line lines outcome outcomes other) (ap suc (length-filled lines outcomes))
+]
+
+-- the lines of which those from a place on were given outcomes
+refilled : ℕ → List Line → List Outcome → List Line
+refilled first lines outcomes = take first lines ++ filled (drop first lines) outcomes
+
+number-refilled : (first : ℕ) (lines : List Line) (outcomes : List Outcome) (i : ℕ) (d : Line) → (get_or (refilled first lines outcomes) i d).number ≡ (get_or lines i d).number
+unfolding refilled
+number-refilled zero lines outcomes i d = number-filled lines outcomes i d
+number-refilled (suc first) [] outcomes i d = refl
+number-refilled (suc first) (line ∷ lines) outcomes zero d = refl
+number-refilled (suc first) (line ∷ lines) outcomes (suc i) d = number-refilled first lines outcomes i d
+
+pub length-refilled : (first : ℕ) (lines : List Line) (outcomes : List Outcome) → length (take first lines ++ filled (drop first lines) outcomes) ≡ length lines
+length-refilled zero lines outcomes = length-filled lines outcomes
+length-refilled (suc first) [] outcomes = refl
+length-refilled (suc first) (line ∷ lines) outcomes = ap suc (length-refilled first lines outcomes)
+
+-- so they rise as before
+pub rising-refilled : (first : ℕ) (lines lines' : List Line) (outcomes : List Outcome) → IsRising lines → lines' ≡ take first lines ++ filled (drop first lines) outcomes → IsRising lines'
+unfolding refilled
+rising-refilled first lines lines' outcomes rising is = rw is (λ i j d less here.
+    omega (arith, rising i j d less (let same = length-refilled first lines outcomes in omega (arith, here, same)), number-refilled first lines outcomes i d, number-refilled first lines outcomes j d))

@@ -1,0 +1,353 @@
+-- A feed's text through a gate, one line and one batch further.
+use Rattle.std.proofs.Common.{◌≡◌, ◌≢◌, ◌⊎◌, inl, inr, ℕ, zero, suc, ◌+◌, ◌<◌, ◌≤◌, true, false, List, [], ◌∷◌, ◌++◌, All, length, map, take, drop, zip, Ok, None, Some, refl, sym, ap, subst, ◌∙◌, arith, append_assoc, append-nil, length-append, add-one}
+use Rattle.std.proofs.Math.Seq.{take-append_seam, drop-append_seam}
+use Rattle.std.proofs.lemmas.List.{map-append}
+use Rattle.std.proofs.lemmas.List.Elements.{All-nil, All-cons, All-append}
+use Rattle.std.proofs.lemmas.Slice.Zip.{length-zip}
+use Rattle.rt_rib.specs.declared.commands.Cmd.{Cmd}
+use Rattle.rt_shared.specs.declared.outcome.Outcome.{Outcome}
+use Rattle.rt_shared.specs.declared.outcome.Outcome.TheVariants.{Did, Refused}
+use Rattle.rt_feed.specs.declared.report.Line.{Line}
+use Rattle.rt_feed.specs.declared.feed_run.FeedRun.{FeedRun}
+use Rattle.rt_feed.specs.Answers.{is_fault}
+use Rattle.rt_feed.specs.declared.versions.Version.{Version}
+use Rattle.rt_feed.specs.declared.versions.Version.TheVariants.{One, Two}
+use Rattle.rt_feed.specs.Versions.{IsBody}
+use Rattle.rt_feed.specs.Grammar.{AnswersLine}
+use Rattle.rt_feed.specs.Lines.{CutsLine}
+use Rattle.rt_feed.specs.LineOutcomes.{LineOutcome, skipped, faulty, asked, reading, Becomes, heading, answer_of, line_answer, numbered, report_lines, asked_by, asked_of}
+use Rattle.rt_feed.specs.Visits.{Visit, Gains, IsCut, joined, piece_of, visit_of, AnswersBatch}
+use Rattle.rt_feed.specs.Filling.{filled}
+use Rattle.rt_feed.specs.Running.{AsksLines, RunsFeed, StopsWithin, AnswersWaiting, Gathers, HasRead}
+use Rattle.rt_feed.proofs.Becoming.{becomes-push, becomes-at, becomes-alike, becomes-first, report_lines-append, report_lines-push, asked_of-append}
+use Rattle.rt_feed.proofs.Filling.{filled-none, filled-fault, filled-given}
+
+-- pieces one after another
+joined-append : {X : Type 0} (pieces more : List (List X)) → joined (pieces ++ more) ≡ joined pieces ++ joined more
+joined-append [] more = refl
+joined-append (piece ∷ pieces) more = ap (λ xs. piece ++ xs) (joined-append pieces more) ∙ sym (append_assoc piece (joined pieces) (joined more))
+
+-- a piece by itself is joined to itself
+joined-piece : {X : Type 0} (piece : List X) → joined (piece_of piece) ≡ piece
+joined-piece [] = refl
+joined-piece (x ∷ xs) = append-nil (x ∷ xs)
+
+-- no visit more
+pub gains_none : {G : Type 0} (holds : G → List Visit → Type 0) (g : G) → Gains holds g g []
+gains_none holds g visits held = rw (append-nil visits) held
+
+-- one visit after another
+gains_both : {G : Type 0} (holds : G → List Visit → Type 0) (a b c : G) (first second : List Visit) → Gains holds a b first → Gains holds b c second → Gains holds a c (first ++ second)
+gains_both holds a b c first second one two visits held = rw (← append_assoc) (two (visits ++ first) (one visits held))
+
+-- lines whose commands, in order, have these outcomes
+given : List LineOutcome → List Outcome → List LineOutcome
+given [] outcomes = []
+given (skipped ∷ lines) outcomes = skipped ∷ given lines outcomes
+given (faulty fault ∷ lines) outcomes = faulty fault ∷ given lines outcomes
+given (asked cmd old ∷ lines) [] = asked cmd old ∷ lines
+given (asked cmd old ∷ lines) (outcome ∷ outcomes) = asked cmd outcome ∷ given lines outcomes
+
+-- say what they said
+reading-given : (lines : List LineOutcome) (outcomes : List Outcome) → map reading (given lines outcomes) ≡ map reading lines
+unfolding given
+reading-given [] outcomes = refl
+reading-given (skipped ∷ lines) outcomes = ap (λ rs. reading skipped ∷ rs) (reading-given lines outcomes)
+reading-given (faulty fault ∷ lines) outcomes = ap (λ rs. reading (faulty fault) ∷ rs) (reading-given lines outcomes)
+reading-given (asked cmd old ∷ lines) [] = refl
+reading-given (asked cmd old ∷ lines) (outcome ∷ outcomes) = ap (λ rs. reading (asked cmd old) ∷ rs) (reading-given lines outcomes)
+
+length-given : (lines : List LineOutcome) (outcomes : List Outcome) → length (given lines outcomes) ≡ length lines
+unfolding given
+length-given [] outcomes = refl
+length-given (skipped ∷ lines) outcomes = ap suc (length-given lines outcomes)
+length-given (faulty fault ∷ lines) outcomes = ap suc (length-given lines outcomes)
+length-given (asked cmd old ∷ lines) [] = refl
+length-given (asked cmd old ∷ lines) (outcome ∷ outcomes) = ap suc (length-given lines outcomes)
+
+-- a command's answer is no fault
+no_fault : (outcome : Outcome) → is_fault (answer_of outcome) ≡ false
+no_fault (Did reply) = refl
+no_fault Refused = refl
+
+-- the report's lines for them are those that were given the outcomes
+report_lines-given : (number : ℕ) (lines : List LineOutcome) (outcomes : List Outcome) → report_lines number (given lines outcomes) ≡ filled (report_lines number lines) outcomes
+unfolding given
+report_lines-given number [] outcomes = refl
+report_lines-given number (skipped ∷ lines) outcomes = report_lines-given (number + 1) lines outcomes
+report_lines-given number (faulty fault ∷ lines) outcomes =
+    ap (λ ls. numbered number (line_answer (faulty fault)) ++ ls) (report_lines-given (number + 1) lines outcomes) ∙ sym (filled-fault _ (report_lines (number + 1) lines) outcomes refl)
+report_lines-given number (asked cmd old ∷ lines) [] = sym (filled-none (report_lines number (asked cmd old ∷ lines)))
+report_lines-given number (asked cmd old ∷ lines) (outcome ∷ outcomes) =
+    ap (λ ls. numbered number (line_answer (asked cmd outcome)) ++ ls) (report_lines-given (number + 1) lines outcomes)
+    ∙ sym (filled-given (record { number = number; answer = answer_of old }) (report_lines (number + 1) lines) outcome outcomes (no_fault old))
+
+-- their outcomes are the ones given
+asked_of-given : (lines : List LineOutcome) (cmds : List Cmd) (outcomes : List Outcome) → asked_of lines ≡ map (λ cmd. (cmd, Refused)) cmds → length outcomes ≡ length cmds
+    → asked_of (given lines outcomes) ≡ zip cmds outcomes
+unfolding given
+asked_of-given [] [] [] is each = refl
+asked_of-given [] [] (outcome ∷ outcomes) is each = refl
+asked_of-given [] (cmd ∷ cmds) outcomes is each = absurd (cc)
+asked_of-given (skipped ∷ lines) cmds outcomes is each = asked_of-given lines cmds outcomes is each
+asked_of-given (faulty fault ∷ lines) cmds outcomes is each = asked_of-given lines cmds outcomes is each
+asked_of-given (asked cmd old ∷ lines) [] outcomes is each = absurd (cc)
+asked_of-given (asked cmd old ∷ lines) (c ∷ cmds) [] is each = absurd (omega (arith, each))
+asked_of-given (asked cmd old ∷ lines) (c ∷ cmds) (outcome ∷ outcomes) is each =
+    let pair : (cmd, old) ≡ (c, Refused) = cc in
+    let head : cmd ≡ c = ap (λ (p : Cmd × Outcome). p.0) pair in
+    let tail : asked_of lines ≡ map (λ cmd. (cmd, Refused)) cmds = cc in
+    ap (λ xs. (cmd, outcome) ∷ xs) (asked_of-given lines cmds outcomes tail (omega (arith, each))) ∙ ap (λ x. (x, outcome) ∷ zip cmds outcomes) head
+
+-- where all are refused they stay as they wait
+given-refused : (lines : List LineOutcome) (cmds : List Cmd) → asked_of lines ≡ map (λ cmd. (cmd, Refused)) cmds → given lines (map (λ cmd. Refused) cmds) ≡ lines
+unfolding given
+given-refused [] cmds is = refl
+given-refused (skipped ∷ lines) cmds is = ap (λ ls. skipped ∷ ls) (given-refused lines cmds is)
+given-refused (faulty fault ∷ lines) cmds is = ap (λ ls. faulty fault ∷ ls) (given-refused lines cmds is)
+given-refused (asked cmd old ∷ lines) [] is = absurd (cc)
+given-refused (asked cmd old ∷ lines) (c ∷ cmds) is =
+    let pair : (cmd, old) ≡ (c, Refused) = cc in
+    let was : old ≡ Refused = ap (λ (p : Cmd × Outcome). p.1) pair in
+    let tail : asked_of lines ≡ map (λ cmd. (cmd, Refused)) cmds = cc in
+    ap (λ ls. asked cmd Refused ∷ ls) (given-refused lines cmds tail) ∙ ap (λ o. asked cmd o ∷ lines) (sym was)
+
+-- a visit of some commands is a piece of them
+pub piece_asked : {G : Type 0} (holds : G → List Visit → Type 0) (old new : G) (cmds : List Cmd) (outcomes : List Outcome) → length outcomes ≡ length cmds → cmds ≢ []
+    → Gains holds old new (visit_of (zip cmds outcomes) ∷ []) → Gains holds old new (map visit_of (piece_of (zip cmds outcomes)))
+piece_asked holds old new [] outcomes each some gained = absurd (some refl)
+piece_asked holds old new (cmd ∷ cmds) [] each some gained = absurd (omega (arith, each))
+piece_asked holds old new (cmd ∷ cmds) (outcome ∷ outcomes) each some gained = gained
+
+-- none of the commands was answered
+none_answered : (cmds : List Cmd) → visit_of (zip cmds (map (λ cmd. Refused) cmds)) ≡ []
+none_answered [] = refl
+none_answered (cmd ∷ cmds) = none_answered cmds
+
+length-refusals : (cmds : List Cmd) → length (map (λ cmd. Refused) cmds) ≡ length cmds
+length-refusals [] = refl
+length-refusals (cmd ∷ cmds) = ap suc (length-refusals cmds)
+
+-- the commands that wait were refused in one empty visit
+pub refuses_waiting : {G : Type 0} (holds : G → List Visit → Type 0) (old new : G) (cmds : List Cmd) (first : ℕ) (report : List Line) → cmds ≢ []
+    → Gains holds old new ([] ∷ []) → AnswersWaiting holds old new cmds first report report
+refuses_waiting holds old new cmds first report some gained =
+    let outcomes = map (λ (cmd : Cmd). Refused) cmds in
+    record {
+      outcomes = outcomes;
+      each = length-refusals cmds;
+      gained = piece_asked holds old new cmds outcomes (length-refusals cmds) some (subst (λ visit. Gains holds old new (visit ∷ [])) (sym (none_answered cmds)) gained);
+      reported = inr (refl, refl);
+    }
+
+-- they were answered in one visit, and the report has what became of them
+pub answers_waiting : {G : Type 0} (holds : G → List Visit → Type 0) (old new : G) (cmds : List Cmd) (first : ℕ) (report report' : List Line) (out : List Outcome) → cmds ≢ []
+    → AnswersBatch holds old new cmds [] out → report' ≡ take first report ++ filled (drop first report) out → AnswersWaiting holds old new cmds first report report'
+answers_waiting holds old new cmds first report report' out some batch is = record {
+  outcomes = batch.outcomes;
+  each = batch.each;
+  gained = piece_asked holds old new cmds batch.outcomes batch.each some batch.gained;
+  reported = inl (is ∙ ap (λ os. take first report ++ filled (drop first report) os) batch.appended);
+}
+
+-- nothing waits
+pub none_waits : {G : Type 0} (holds : G → List Visit → Type 0) (gate : G) (first : ℕ) (report : List Line) → AnswersWaiting holds gate gate [] first report report
+none_waits holds gate first report = record { outcomes = []; each = refl; gained = gains_none holds gate; reported = inr (refl, refl) }
+
+-- the heading has no answer and asks nothing
+no_lines : (version : Version) → report_lines 1 (heading version) ≡ []
+no_lines One = refl
+no_lines Two = refl
+
+none_asked : (version : Version) → asked_of (heading version) ≡ []
+none_asked One = refl
+none_asked Two = refl
+
+-- before the first line
+pub nothing_read : {G : Type 0} (holds : G → List Visit → Type 0) (batch : ℕ) (text : List ℕ) (gate : G) (run : FeedRun) → run.report ≡ [] → run.first ≡ 0 → run.gathered.items ≡ []
+    → (lines : List ℕ) → IsBody text run.version lines → HasRead holds batch text lines (length (heading run.version)) gate gate run
+nothing_read holds batch text gate run report first gathered lines body = record {
+  settled = heading run.version;
+  waiting = [];
+  becomes = record { version = run.version; lines = lines; read = []; body = body; become = refl; joined = refl };
+  versioned = refl;
+  earlier = [];
+  headed = sym (append-nil (heading run.version));
+  counted = ap length (sym (append-nil (heading run.version)));
+  reported = report ∙ sym (ap (report_lines 1) (append-nil (heading run.version)) ∙ no_lines run.version);
+  first_waiting = first ∙ sym (ap length (no_lines run.version));
+  pieces = [];
+  full = All-nil _;
+  is_joined = none_asked run.version;
+  gained = gains_none holds gate;
+  gathered = rw gathered refl;
+}
+
+-- one line more, whose command waits if it is one
+pub line_read : {G : Type 0} (holds : G → List Visit → Type 0) (batch : ℕ) (text rest line left : List ℕ) (earlier number : ℕ) (start gate : G) (run run' : FeedRun) (outcome : LineOutcome) (more : List Cmd)
+    → HasRead holds batch text rest earlier start gate run → number ≡ earlier + 1 → CutsLine rest line left → AnswersLine run.version line (reading outcome)
+    → asked_by outcome ≡ map (λ cmd. (cmd, Refused)) more → run'.report ≡ run.report ++ numbered number (line_answer outcome) → run'.first ≡ run.first
+    → run'.gathered.items ≡ run.gathered.items ++ more → run'.version ≡ run.version → HasRead holds batch text left number start gate run'
+line_read holds batch text rest line left earlier number start gate run run' outcome more so_far next cut reads asks reported first gathered version =
+    let settled = so_far.settled in
+    let waiting = so_far.waiting in
+    let all : settled ++ (waiting ++ outcome ∷ []) ≡ (settled ++ waiting) ++ outcome ∷ [] = sym (append_assoc settled waiting (outcome ∷ [])) in
+    let count : number ≡ 1 + length (settled ++ waiting) = omega (arith, next, so_far.counted) in
+    let pushed = becomes-push text line rest left (settled ++ waiting) outcome so_far.becomes cut (subst (λ v. AnswersLine v line (reading outcome)) (sym so_far.versioned) reads) in
+    let becomes = becomes-at text left ((settled ++ waiting) ++ outcome ∷ []) (settled ++ (waiting ++ outcome ∷ [])) all pushed.0 in
+    record {
+      settled = settled;
+      waiting = waiting ++ outcome ∷ [];
+      becomes = becomes.0;
+      versioned = becomes.1 ∙ (pushed.1 ∙ (so_far.versioned ∙ sym version));
+      earlier = so_far.earlier;
+      headed = so_far.headed ∙ ap (λ v. heading v ++ so_far.earlier) (sym version);
+      counted = rw (all, length-append) (omega (arith, count));
+      reported = rw (reported, so_far.reported, all, report_lines-push, ← count) refl;
+      first_waiting = first ∙ so_far.first_waiting;
+      pieces = so_far.pieces;
+      full = so_far.full;
+      is_joined = so_far.is_joined;
+      gained = so_far.gained;
+      gathered = rw (asked_of-append, so_far.gathered, gathered, map-append, append-nil, asks) refl;
+    }
+
+-- what the lines became, once those that waited have been asked
+record Settled {G : Type 0} (holds : G → List Visit → Type 0) (version : Version) (text left : List ℕ) (number : ℕ) (start new : G) (pieces : List (List (Cmd × Outcome))) (asked : List (Cmd × Outcome)) (report : List Line) : Type 0 where
+  outcomes : List LineOutcome
+  becomes : Becomes text outcomes left
+  versioned : becomes.version ≡ version
+  earlier : List LineOutcome
+  headed : outcomes ≡ heading version ++ earlier
+  counted : number ≡ length outcomes
+  reported : report ≡ report_lines 1 outcomes
+  is_joined : asked_of outcomes ≡ joined pieces ++ asked
+  gained : Gains holds start new (map visit_of (pieces ++ piece_of asked))
+
+settles : {G : Type 0} (holds : G → List Visit → Type 0) (batch : ℕ) (text left : List ℕ) (number : ℕ) (start gate new : G) (run : FeedRun) (report : List Line)
+    → (read : HasRead holds batch text left number start gate run) → (answers : AnswersWaiting holds gate new run.gathered.items run.first run.report report)
+    → Settled holds run.version text left number start new read.pieces (zip run.gathered.items answers.outcomes) report
+settles holds batch text left number start gate new run report read answers =
+    let settled = read.settled in
+    let waiting = read.waiting in
+    let cmds = run.gathered.items in
+    let outcomes = answers.outcomes in
+    let said : map reading (settled ++ waiting) ≡ map reading (settled ++ given waiting outcomes) =
+    map-append reading settled waiting ∙ (ap (λ rs. map reading settled ++ rs) (sym (reading-given waiting outcomes)) ∙ sym (map-append reading settled (given waiting outcomes))) in
+    let before = report_lines 1 settled in
+    let after = report_lines (1 + length settled) waiting in
+    let parts : run.report ≡ before ++ after = read.reported ∙ report_lines-append 1 settled waiting in
+    let kept : take run.first run.report ≡ before = rw (parts, read.first_waiting) (take-append_seam before after) in
+    let left_over : drop run.first run.report ≡ after = rw (parts, read.first_waiting) (drop-append_seam before after) in
+    let whole : report_lines 1 (settled ++ given waiting outcomes) ≡ before ++ filled after outcomes =
+    report_lines-append 1 settled (given waiting outcomes) ∙ ap (λ ls. before ++ ls) (report_lines-given (1 + length settled) waiting outcomes) in
+    let becomes = becomes-alike text left (settled ++ waiting) (settled ++ given waiting outcomes) said read.becomes in
+    record {
+      outcomes = settled ++ given waiting outcomes;
+      becomes = becomes.0;
+      versioned = becomes.1 ∙ read.versioned;
+      earlier = read.earlier ++ given waiting outcomes;
+      headed = ap (λ os. os ++ given waiting outcomes) read.headed ∙ append_assoc (heading run.version) read.earlier (given waiting outcomes);
+      counted = rw (length-append, length-given, ← length-append) read.counted;
+      reported = elim answers.reported [
+        | inl is ↦ rw (is, kept, left_over, whole) refl
+        | inr same ↦ rw (same.0, read.reported) (ap (λ ls. report_lines 1 (settled ++ ls)) (sym (ap (given waiting) same.1 ∙ given-refused waiting cmds read.gathered)))
+      ];
+      is_joined = rw (asked_of-append, read.is_joined, asked_of-given waiting cmds outcomes read.gathered answers.each) refl;
+      gained = rw map-append (gains_both holds start gate new _ _ read.gained answers.gained);
+    }
+
+-- a list with a first element is not empty
+some_first : {X : Type 0} (x : X) (xs : List X) → x ∷ xs ≢ []
+some_first x xs is = absurd (omega (arith, ap length is))
+
+-- one command was refused
+pub refuses_one : {G : Type 0} (holds : G → List Visit → Type 0) (old new : G) (cmd : Cmd) (first : ℕ) (report : List Line)
+    → Gains holds old new ([] ∷ []) → AnswersWaiting holds old new (cmd ∷ []) first report report
+refuses_one holds old new cmd first report gained = refuses_waiting holds old new (cmd ∷ []) first report (some_first cmd []) gained
+
+-- a whole piece more
+piece_more : {X : Type 0} (pieces : List (List X)) (piece : List X) → joined pieces ++ piece ≡ joined (pieces ++ piece_of piece)
+piece_more pieces piece = sym (joined-append pieces (piece_of piece) ∙ ap (λ xs. joined pieces ++ xs) (joined-piece piece))
+
+-- a piece of the whole size
+full_piece : {X : Type 0} (size : ℕ) (piece : List X) → length piece ≡ size → All (λ p. length p ≡ size) (piece_of piece)
+full_piece {X} size [] is = All-nil _
+full_piece {X} size (x ∷ xs) is = All-cons (λ (p : List X). length p ≡ size) (x ∷ xs) [] is (All-nil _)
+
+-- as many pairs as elements
+pairs : (cmds : List Cmd) (outcomes : List Outcome) → length outcomes ≡ length cmds → length (zip cmds outcomes) ≡ length cmds
+pairs cmds outcomes each = omega (arith, length-zip cmds outcomes, each)
+
+-- a batch was asked: none of the lines read waits
+pub batch_asked : {G : Type 0} (holds : G → List Visit → Type 0) (batch : ℕ) (text left : List ℕ) (number : ℕ) (start gate new : G) (run run' : FeedRun)
+    → HasRead holds batch text left number start gate run → length run.gathered.items ≡ batch → AnswersWaiting holds gate new run.gathered.items run.first run.report run'.report
+    → run'.gathered.items ≡ [] → run'.first ≡ length run'.report → run'.version ≡ run.version → HasRead holds batch text left number start new run'
+batch_asked holds batch text left number start gate new run run' read whole answers emptied first version =
+    let asked = zip run.gathered.items answers.outcomes in
+    let done = settles holds batch text left number start gate new run run'.report read answers in
+    let becomes = becomes-at text left done.outcomes (done.outcomes ++ []) (append-nil done.outcomes) done.becomes in
+    record {
+      settled = done.outcomes;
+      waiting = [];
+      becomes = becomes.0;
+      versioned = becomes.1 ∙ (done.versioned ∙ sym version);
+      earlier = done.earlier;
+      headed = done.headed ∙ ap (λ v. heading v ++ done.earlier) (sym version);
+      counted = rw append-nil done.counted;
+      reported = rw append-nil done.reported;
+      first_waiting = first ∙ ap length done.reported;
+      pieces = read.pieces ++ piece_of asked;
+      full = All-append (λ piece. length piece ≡ batch) read.pieces (piece_of asked) read.full (full_piece batch asked (pairs run.gathered.items answers.outcomes answers.each ∙ whole));
+      is_joined = done.is_joined ∙ piece_more read.pieces asked;
+      gained = done.gained;
+      gathered = rw emptied refl;
+    }
+
+-- the text was read to its end, and the last commands were asked
+pub all_asked : {G : Type 0} (holds : G → List Visit → Type 0) (batch : ℕ) (text : List ℕ) (number : ℕ) (start gate new : G) (run : FeedRun) (report : List Line)
+    → HasRead holds batch text [] number start gate run → length run.gathered.items < batch → AnswersWaiting holds gate new run.gathered.items run.first run.report report
+    → RunsFeed holds batch text start new report
+all_asked holds batch text number start gate new run report read few answers =
+    let asked = zip run.gathered.items answers.outcomes in
+    let done = settles holds batch text [] number start gate new run report read answers in
+    record {
+      outcomes = done.outcomes;
+      asks = record {
+        becomes = done.becomes;
+        pieces = read.pieces ++ piece_of asked;
+        cut = record {
+          whole = read.pieces;
+          last = asked;
+          full = read.full;
+          fewer = omega (arith, few, pairs run.gathered.items answers.outcomes answers.each);
+          is_joined = done.is_joined;
+          is_cut = refl;
+        };
+        gained = done.gained;
+      };
+      reported = done.reported;
+    }
+
+-- the text was read so far, and no more is asked
+pub stopped : {G : Type 0} (holds : G → List Visit → Type 0) (batch : ℕ) (text left : List ℕ) (number : ℕ) (start gate : G) (run : FeedRun)
+    → HasRead holds batch text left number start gate run → length run.gathered.items < batch → StopsWithin holds batch text start gate
+stopped holds batch text left number start gate run read few =
+    let first = becomes-first text left read.settled read.earlier read.waiting read.becomes (read.headed ∙ ap (λ v. heading v ++ read.earlier) (sym read.versioned)) in
+    record {
+      outcomes = read.settled;
+      left = first.0;
+      asks = record {
+        becomes = first.1;
+        pieces = read.pieces;
+        cut = record {
+          whole = read.pieces;
+          last = [];
+          full = read.full;
+          fewer = omega (arith, few);
+          is_joined = read.is_joined ∙ sym (append-nil (joined read.pieces));
+          is_cut = sym (append-nil read.pieces);
+        };
+        gained = read.gained;
+      };
+    }

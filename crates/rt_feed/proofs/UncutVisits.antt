@@ -1,0 +1,79 @@
+-- Visits that lie uncut in a journal, as the journal grows.
+use Rattle.std.proofs.Common.{◌≡◌, ◌≢◌, ℕ, List, [], ◌∷◌, ◌++◌, All, length, map, zip, refl, sym, ap, subst, ◌∙◌, arith, append_assoc, append-nil}
+use Rattle.std.proofs.lemmas.List.{map-append}
+use Rattle.std.proofs.lemmas.List.Elements.{All-nil, All-cons, All-append}
+use Rattle.rt_rib.specs.declared.commands.Cmd.{Cmd}
+use Rattle.rt_rib.specs.declared.commands.Reply.{Reply}
+use Rattle.rt_rib.specs.declared.commands.Entry.{Entry}
+use Rattle.rt_shared.specs.declared.outcome.Outcome.{Outcome}
+use Rattle.rt_shared.specs.declared.outcome.Outcome.TheVariants.{Did, Refused}
+use Rattle.std.specs.declared.result.Result.{Result}
+use Rattle.std.specs.Prelude.{IfOk, OnOk, OnErr, Ok, Err}
+use Rattle.rt_shared.specs.Table.{HeldPass}
+use Rattle.rt_shared.specs.Visits as shared
+use Rattle.rt_shared.specs.Visits.{AllBy, NoneBy, Since, Uncut, answered}
+use Rattle.rt_feed.specs.Visits.{Visit, visit_of, entries}
+
+-- others add to the journal
+uncut_more : (feed : ℕ) (visits : List (List Entry)) (journal others : List Entry) → Uncut feed visits journal → NoneBy feed others → Uncut feed visits (journal ++ others)
+uncut_more feed [] journal others none also = All-append (λ e. e.feed ≢ feed) journal others none also
+uncut_more feed (visit ∷ visits) journal others (before, rest, is, none, own, uncut) also =
+    (before, rest ++ others, rw (is, append_assoc, append_assoc) refl, none, own, uncut_more feed visits rest others uncut also)
+
+-- what the feed has seen is what it made of it, whatever came since
+pub uncut_since : (feed : ℕ) (visits : List (List Entry)) (seen now : List Entry) → Uncut feed visits seen → Since feed seen now → Uncut feed visits now
+uncut_since feed visits seen now uncut since = rw since.grown (uncut_more feed visits seen since.others uncut since.by_others)
+
+-- the feed adds a visit
+uncut_push : (feed : ℕ) (visits : List (List Entry)) (journal own : List Entry) → Uncut feed visits journal → AllBy feed own → Uncut feed (visits ++ own ∷ []) (journal ++ own)
+uncut_push feed [] journal own none by = (journal, [], rw append-nil refl, none, by, All-nil _)
+uncut_push feed (visit ∷ visits) journal own (before, rest, is, none, all, uncut) by =
+    (before, rest ++ own, rw (is, append_assoc, append_assoc) refl, none, all, uncut_push feed visits rest own uncut by)
+
+-- the entries of a visit are the feed's
+pub entries_own : (feed : ℕ) (visit : Visit) → AllBy feed (entries feed visit)
+entries_own feed [] = All-nil _
+entries_own feed (pair ∷ visit) = All-cons (λ (e : Entry). e.feed ≡ feed) _ (entries feed visit) refl (entries_own feed visit)
+
+-- the entries of served commands are those of their visit
+entries_answered : (feed : ℕ) (cmds : List Cmd) (outcomes : List Outcome) → answered feed cmds outcomes ≡ entries feed (visit_of (zip cmds outcomes))
+entries_answered feed [] [] = refl
+entries_answered feed [] (outcome ∷ outcomes) = refl
+entries_answered feed (cmd ∷ cmds) [] = refl
+entries_answered feed (cmd ∷ cmds) (Did reply ∷ outcomes) = ap (λ es. record { feed = feed; cmd = cmd; reply = reply } ∷ es) (entries_answered feed cmds outcomes)
+entries_answered feed (cmd ∷ cmds) (Refused ∷ outcomes) = entries_answered feed cmds outcomes
+
+-- so a visit to the shared table lies uncut behind the others
+pub uncut_visit : (limit feed : ℕ) (seen now : List Entry) (cmds : List Cmd) (outcomes : List Outcome) (visits : List Visit) → shared.Visits limit feed seen cmds outcomes now
+    → Uncut feed (map (entries feed) visits) seen → Uncut feed (map (entries feed) (visits ++ visit_of (zip cmds outcomes) ∷ [])) now
+uncut_visit limit feed seen now cmds outcomes visits visit uncut =
+    let own = entries feed (visit_of (zip cmds outcomes)) in
+    let before = uncut_since feed (map (entries feed) visits) seen visit.found uncut visit.since in
+    rw (map-append, visit.left, entries_answered feed cmds outcomes) (uncut_push feed (map (entries feed) visits) visit.found own before (entries_own feed (visit_of (zip cmds outcomes))))
+
+-- a visit of the pass of a gate
+pub gate_visit : (limit : ℕ) (inside old new : HeldPass) (cmds : List Cmd) (outcomes : List Outcome) → inside ≡ old → new.feed ≡ inside.feed
+    → shared.Visits limit inside.feed inside.seen cmds outcomes new.seen
+    → (visits : List Visit) → Uncut old.feed (map (entries old.feed) visits) old.seen → Uncut new.feed (map (entries new.feed) (visits ++ visit_of (zip cmds outcomes) ∷ [])) new.seen
+gate_visit limit inside old new cmds outcomes is feed visit visits held =
+    rw feed (uncut_visit limit inside.feed inside.seen new.seen cmds outcomes visits visit (subst (λ (p : HeldPass). Uncut p.feed (map (entries p.feed) visits) p.seen) (sym is) held))
+
+-- an empty visit changes nothing
+pub gate_empty : (inside old new : HeldPass) → inside ≡ old → new ≡ inside
+    → (visits : List Visit) → Uncut old.feed (map (entries old.feed) visits) old.seen → Uncut new.feed (map (entries new.feed) (visits ++ [] ∷ [])) new.seen
+gate_empty inside old new is same visits held =
+    rw (same, is, map-append) (subst (Uncut old.feed (map (entries old.feed) visits ++ [] ∷ [])) (append-nil old.seen)
+    (uncut_push old.feed (map (entries old.feed) visits) old.seen [] held (All-nil _)))
+
+-- what follows from a value holds where there is one
+pub if_ok : {A E : Type 0} {P Q : A → Type 0} → ((a : A) → P a → Q a) → (r : Result A E) → IfOk r P → IfOk r Q
+if_ok gives (Ok a) is = gives a is
+if_ok gives (Err e) is = is
+
+pub on_ok : {E : Type 0} {P Q : Type 0} → (P → Q) → (r : Result (Unit {0}) E) → OnOk r P → OnOk r Q
+on_ok gives (Ok a) is = gives is
+on_ok gives (Err e) is = is
+
+pub on_err : {A E : Type 0} {P Q : Type 0} → (P → Q) → (r : Result A E) → OnErr r P → OnErr r Q
+on_err gives (Ok a) is = is
+on_err gives (Err e) is = gives is

@@ -1,0 +1,10 @@
+use Rattle.std.proofs.Common.{◌≡◌, ◌≤◌, ◌++◌, length, take, drop}
+use Rattle.rt_feed.specs.Filling.{filled}
+use Rattle.rt_feed.proofs.report.fill_lines.Given as goal
+
+-- the lines so far were given the outcomes so far, and what is left goes on so
+abbrev pub invariant-loop-place : goal.invariant-loop-place
+invariant-loop-place l = record {
+  within : l.next ≤ length l.outcomes;
+  so_far : take l.place l.lines ++ filled (drop l.place l.lines) (drop l.next l.outcomes) ≡ take l.first l.initial.lines ++ filled (drop l.first l.initial.lines) l.outcomes;
+}

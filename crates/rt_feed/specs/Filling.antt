@@ -1,0 +1,14 @@
+-- A report in which commands that wait for their answers stand as refused.
+use Rattle.std.specs.Prelude.{List, [], ◌∷◌, if◌then◌else◌}
+use Rattle.rt_shared.specs.declared.outcome.Outcome.{Outcome}
+use Rattle.rt_feed.specs.declared.report.Line.{Line}
+use Rattle.rt_feed.specs.Answers.{is_fault}
+use Rattle.rt_feed.specs.LineOutcomes.{answer_of}
+
+-- the lines, of which those that are no faults were given these outcomes, in order
+abbrev pub filled : List Line → List Outcome → List Line
+filled [] outcomes = []
+filled (line ∷ lines) [] = line ∷ lines
+filled (line ∷ lines) (outcome ∷ outcomes) =
+    if is_fault line.answer then line ∷ filled lines (outcome ∷ outcomes)
+    else record line { answer = answer_of outcome } ∷ filled lines outcomes

@@ -1,0 +1,104 @@
+-- What each line of a feed's text became, and what a list of that says: the report's lines, and the commands with what
+-- became of them.
+use Rattle.std.specs.Prelude.{◌≡◌, ℕ, ◌+◌, Bool, true, false, List, [], ◌∷◌, ◌++◌, Option, None, Some, Ok, Err}
+use Rattle.std.specs.declared.result.Result.{Result}
+use Rattle.std.specs.List.{list_any}
+use Rattle.rt_rib.specs.declared.commands.Cmd.{Cmd}
+use Rattle.rt_shared.specs.declared.outcome.Outcome.{Outcome}
+use Rattle.rt_shared.specs.declared.outcome.Outcome.TheVariants as outcome
+use Rattle.rt_feed.specs.declared.parse.LineFault.{LineFault}
+use Rattle.rt_feed.specs.declared.report.Line.{Line}
+use Rattle.rt_feed.specs.declared.report.Answer.{Answer}
+use Rattle.rt_feed.specs.declared.report.Answer.TheVariants.{Did, Refused, Fault}
+use Rattle.rt_feed.specs.declared.versions.Version.{Version}
+use Rattle.rt_feed.specs.declared.versions.Version.TheVariants.{One, Two}
+use Rattle.rt_feed.specs.Grammar.{AnswersLine}
+use Rattle.rt_feed.specs.Lines.{CutsLine}
+use Rattle.rt_feed.specs.Versions.{IsBody}
+
+-- what one line became: nothing, a fault, or a command with what became of it
+pub data LineOutcome : Type 0 where
+  skipped : LineOutcome
+  faulty : LineFault → LineOutcome
+  asked : Cmd → Outcome → LineOutcome
+
+-- what the line itself says, whatever became of its command
+abbrev pub reading : LineOutcome → Result (Option Cmd) LineFault
+reading skipped = Ok None
+reading (faulty fault) = Err fault
+reading (asked cmd outcome) = Ok (Some cmd)
+
+-- these lines begin with some that became these, in order, each read by this version, and this is left after them
+abbrev pub LinesBecome : Version → List ℕ → List LineOutcome → List ℕ → Type 0
+LinesBecome version lines [] left = lines ≡ left
+LinesBecome version lines (outcome ∷ outcomes) left =
+    (line : List ℕ) × (next : List ℕ) × CutsLine lines line next × AnswersLine version line (reading outcome)
+    × LinesBecome version next outcomes left
+
+-- what became of the lines before those that are read: the line that tells version 2 is skipped
+abbrev pub heading : Version → List LineOutcome
+heading One = []
+heading Two = skipped ∷ []
+
+-- the text's first lines became these, each read by the text's version, and this is left of it after them: nothing,
+-- where they are all its lines
+pub record Becomes (text : List ℕ) (outcomes : List LineOutcome) (left : List ℕ) : Type 0 where
+  pub version : Version
+  pub lines : List ℕ
+  pub read : List LineOutcome
+  pub body : IsBody text version lines
+  pub become : LinesBecome version lines read left
+  pub joined : outcomes ≡ heading version ++ read
+
+-- the answer of a command in a report
+abbrev pub answer_of : Outcome → Answer
+answer_of (outcome.Did reply) = Did reply
+answer_of outcome.Refused = Refused
+
+-- the answer that the report has for a line, if it has one
+abbrev pub line_answer : LineOutcome → Option Answer
+line_answer skipped = None
+line_answer (faulty fault) = Some (Fault fault)
+line_answer (asked cmd outcome) = Some (answer_of outcome)
+
+-- the line of a report at this number, if it has one
+abbrev pub numbered : ℕ → Option Answer → List Line
+numbered number None = []
+numbered number (Some answer) = record { number = number; answer = answer } ∷ []
+
+-- the report's lines for lines that became these, the first of them with this number
+abbrev pub report_lines : ℕ → List LineOutcome → List Line
+report_lines number [] = []
+report_lines number (outcome ∷ outcomes) = numbered number (line_answer outcome) ++ report_lines (number + 1) outcomes
+
+-- the line's command with what became of it, if it is one
+abbrev pub asked_by : LineOutcome → List (Cmd × Outcome)
+asked_by skipped = []
+asked_by (faulty fault) = []
+asked_by (asked cmd outcome) = (cmd, outcome) ∷ []
+
+-- the commands of the lines in order, each with what became of it
+abbrev pub asked_of : List LineOutcome → List (Cmd × Outcome)
+asked_of [] = []
+asked_of (outcome ∷ outcomes) = asked_by outcome ++ asked_of outcomes
+
+-- the line's command was refused for want of memory
+abbrev pub was_refused : LineOutcome → Bool
+was_refused skipped = false
+was_refused (faulty fault) = false
+was_refused (asked cmd (outcome.Did reply)) = false
+was_refused (asked cmd outcome.Refused) = true
+
+-- the line was faulty
+abbrev pub was_faulty : LineOutcome → Bool
+was_faulty skipped = false
+was_faulty (faulty fault) = true
+was_faulty (asked cmd outcome) = false
+
+-- some command was refused
+abbrev pub some_refused : List LineOutcome → Bool
+some_refused outcomes = list_any was_refused outcomes
+
+-- some line was faulty
+abbrev pub some_faulty : List LineOutcome → Bool
+some_faulty outcomes = list_any was_faulty outcomes

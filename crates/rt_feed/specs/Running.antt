@@ -1,0 +1,76 @@
+-- What running a feed's text through a gate does.
+use Rattle.std.specs.Prelude.{◌≡◌, ◌⊎◌, ℕ, ◌+◌, ◌<◌, List, [], ◌∷◌, ◌++◌, All, length, map, take, drop, zip}
+use Rattle.rt_rib.specs.declared.commands.Cmd.{Cmd}
+use Rattle.rt_shared.specs.declared.outcome.Outcome.{Outcome}
+use Rattle.rt_shared.specs.declared.outcome.Outcome.TheVariants.{Refused}
+use Rattle.rt_feed.specs.declared.report.Line.{Line}
+use Rattle.rt_feed.specs.declared.report.Answer.TheVariants as answer
+use Rattle.rt_feed.specs.declared.feed_run.FeedRun.{FeedRun}
+use Rattle.rt_feed.specs.Lines.{CutsLine}
+use Rattle.rt_feed.specs.LineOutcomes.{LineOutcome, Becomes, heading, report_lines, asked_of}
+use Rattle.rt_feed.specs.Visits.{Visit, Gains, IsCut, joined, piece_of, visit_of}
+use Rattle.rt_feed.specs.Filling.{filled}
+
+-- the text's first lines became these, and the gate was asked their commands in pieces of `batch`, a visit for each
+pub record AsksLines {G : Type 0} (holds : G → List Visit → Type 0) (batch : ℕ) (text : List ℕ) (outcomes : List LineOutcome) (left : List ℕ) (old new : G) : Type 0 where
+  pub becomes : Becomes text outcomes left
+  pub pieces : List (List (Cmd × Outcome))
+  pub cut : IsCut batch (asked_of outcomes) pieces
+  pub gained : Gains holds old new (map visit_of pieces)
+
+-- the whole text was asked so, and this is the report of what its lines became
+pub record RunsFeed {G : Type 0} (holds : G → List Visit → Type 0) (batch : ℕ) (text : List ℕ) (old new : G) (report : List Line) : Type 0 where
+  pub outcomes : List LineOutcome
+  pub asks : AsksLines holds batch text outcomes [] old new
+  pub reported : report ≡ report_lines 1 outcomes
+
+-- a beginning of the text was asked so
+pub record StopsWithin {G : Type 0} (holds : G → List Visit → Type 0) (batch : ℕ) (text : List ℕ) (old new : G) : Type 0 where
+  pub outcomes : List LineOutcome
+  pub left : List ℕ
+  pub asks : AsksLines holds batch text outcomes left old new
+
+-- the commands that wait have been asked, in one visit if there are any, and the report has what became of them, from
+-- this place on
+pub record AnswersWaiting {G : Type 0} (holds : G → List Visit → Type 0) (old new : G) (cmds : List Cmd) (first : ℕ) (report report' : List Line) : Type 0 where
+  pub outcomes : List Outcome
+  pub each : length outcomes ≡ length cmds
+  pub gained : Gains holds old new (map visit_of (piece_of (zip cmds outcomes)))
+  pub reported : (report' ≡ take first report ++ filled (drop first report) outcomes)
+      ⊎ ((report' ≡ report) × (outcomes ≡ map (λ cmd. Refused) cmds))
+
+-- the command of the line of this number waits, and stands in the report as refused
+pub record Gathers (number : ℕ) (cmd : Cmd) (run run' : FeedRun) : Type 0 where
+  pub reported : run'.report ≡ run.report ++ record { number = number; answer = answer.Refused } ∷ []
+  pub gathered : run'.gathered.items ≡ run.gathered.items ++ cmd ∷ []
+  pub first : run'.first ≡ run.first
+  pub version : run'.version ≡ run.version
+
+-- so many lines of the text were read and this is left of it. The commands of the first of them have been asked, in
+-- whole pieces. Those of the others wait: they are gathered, and stand in the report as refused
+pub record HasRead {G : Type 0} (holds : G → List Visit → Type 0) (batch : ℕ) (text left : List ℕ) (number : ℕ) (old now : G) (run : FeedRun) : Type 0 where
+  pub settled : List LineOutcome
+  pub waiting : List LineOutcome
+  pub becomes : Becomes text (settled ++ waiting) left
+  pub versioned : becomes.version ≡ run.version
+  pub earlier : List LineOutcome
+  pub headed : settled ≡ heading run.version ++ earlier
+  pub counted : number ≡ length (settled ++ waiting)
+  pub reported : run.report ≡ report_lines 1 (settled ++ waiting)
+  pub first_waiting : run.first ≡ length (report_lines 1 settled)
+  pub pieces : List (List (Cmd × Outcome))
+  pub full : All (λ piece. length piece ≡ batch) pieces
+  pub is_joined : asked_of settled ≡ joined pieces
+  pub gained : Gains holds old now (map visit_of pieces)
+  pub gathered : asked_of waiting ≡ map (λ cmd. (cmd, Refused)) run.gathered.items
+
+-- the same, and no batch waits
+abbrev pub IsReading : {G : Type 0} → (G → List Visit → Type 0) → ℕ → List ℕ → List ℕ → ℕ → G → G → FeedRun → Type 0
+IsReading {G} holds batch text left number old now run =
+    HasRead holds batch text left number old now run × (length run.gathered.items < batch)
+
+-- wherever a text's lines before it were read so, this line is read so too
+abbrev pub ReadsOneMore : {G : Type 0} → (G → List Visit → Type 0) → ℕ → ℕ → List ℕ → G → G → FeedRun → FeedRun → Type 0
+ReadsOneMore {G} holds batch number line old new run run' =
+    (text rest left : List ℕ) (earlier : ℕ) (start : G) → number ≡ earlier + 1 → IsReading holds batch text rest earlier start old run → CutsLine rest line left
+    → IsReading holds batch text left number start new run'

@@ -1,0 +1,83 @@
+//! Several feeds, each through a gate of its own and on a thread of its own.
+ghost use Rattle.std.specs.Prelude.{◌≡◌, ◌≢◌, ◌↔◌, ◌⊎◌, ℕ, ◌<◌, ◌≤◌, [], length, All, Any, IsSome, IfErr, OnOk, slice_index_or};
+ghost use Rattle.rt_feed.specs.Feeds.{RunsOne};
+
+use crate::faults::RunFault;
+use crate::gates::Gate;
+use crate::report::Report;
+use crate::running::run_feed;
+use std::alloc::Global;
+use std::sync::Wait;
+use std::thread;
+use std::thread::Threads;
+
+/// A feed: the gate that answers it and, after a run, its report.
+#[derive(Drop)]
+pub struct Feed<G> {
+    /// What answers its commands.
+    pub gate: G,
+    /// What its lines were answered, where it was run to its end.
+    pub report: Option<Report>,
+}
+
+/// Runs each text through the gate of the feed of the same number, each on a thread of its own, and joins them all. Where
+/// no thread can be made they run one after another.
+pub fn run_feeds<R: Threads + Wait + Sync, G: Gate + Send>(
+    rt: &R,
+    alloc: Global,
+    texts: &[Vec<u8>],
+    batch: usize,
+    feeds: &mut [Feed<G>],
+) -> Result<(), RunFault>
+    requires { 1 ≤ batch }
+    ensures no_text { (result ≡ Err (RunFault.NoText)) ↔ (texts.now ≡ []) }
+    ensures count { (result ≡ Err (RunFault.FeedCount)) ↔ ((texts.now ≢ []) × (length texts.now ≢ length feeds.old)) }
+    ensures unasked { (texts.now ≡ []) ⊎ (length texts.now ≢ length feeds.old) → feeds.new ≡ feeds.old }
+    ensures each { length texts.now ≡ length feeds.old → (i : ℕ) (t : _) (d : _) → i < length texts.now
+        → RunsOne G.name G.holds batch (slice_index_or texts.now i t).items (slice_index_or feeds.old i d).gate (slice_index_or feeds.new i d).gate (slice_index_or feeds.new i d).report }
+    ensures ok { OnOk result (All (λ feed. IsSome feed.report) feeds.new) }
+    ensures memory { result ≡ Err (RunFault.Memory) → Any (λ feed. feed.report ≡ None) feeds.new }
+{
+    if texts.is_empty() {
+        return Err(RunFault::NoText);
+    }
+    if texts.len() != feeds.len() {
+        return Err(RunFault::FeedCount);
+    }
+    thread::for_each_mut(
+        rt,
+        feeds,
+        texts.len(),
+        &|i: usize, feed: &mut Feed<G>|
+            requires { (i < length texts.now) × (1 ≤ batch) }
+            ensures { (t : _) → RunsOne G.name G.holds batch (slice_index_or texts.entry.now i t).items feed.entry.now.gate feed.exit.now.gate feed.exit.now.report }
+        {
+            run_one(rt, alloc, texts[i].as_slice(), batch, feed);
+        },
+    );
+    all_reported(feeds)
+}
+
+/// Whether every feed has a report.
+fn all_reported<G>(feeds: &[Feed<G>]) -> Result<(), RunFault>
+    ensures ok { OnOk result (All (λ feed. IsSome feed.report) feeds.now) }
+    ensures err { IfErr result (λ fault. (fault ≡ RunFault.Memory) × Any (λ feed. feed.report ≡ None) feeds.now) }
+{
+    for feed in feeds {
+        if feed.report.is_none() {
+            return Err(RunFault::Memory);
+        }
+    }
+    Ok(())
+}
+
+/// Runs the text through the feed's gate, and leaves the report with the feed.
+fn run_one<R: Wait, G: Gate>(rt: &R, alloc: Global, text: &[u8], batch: usize, feed: &mut Feed<G>)
+    requires { 1 ≤ batch }
+    ensures { RunsOne G.name G.holds batch text.now feed.old.gate feed.new.gate feed.new.report }
+{
+    feed.report = run_feed(rt, alloc, text, batch, &mut feed.gate).ok();
+}
+
+#[cfg(test)]
+mod tests;

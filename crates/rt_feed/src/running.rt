@@ -1,0 +1,163 @@
+//! A feed's text through a gate: its lines are read in order, and its commands asked in batches.
+ghost use Rattle.std.specs.Prelude.{◌≡◌, ◌≢◌, ◌<◌, ◌≤◌, [], ◌∷◌, length, All, IfOk, OnOk, OnErr};
+ghost use Rattle.rt_feed.specs.Running.{AnswersWaiting, Gathers, ReadsOneMore, RunsFeed, StopsWithin};
+
+use crate::feed_run::FeedRun;
+use crate::gates::Gate;
+use crate::lines::next_line;
+use crate::parse::parse_line;
+use crate::report::{Answer, Line, Report};
+use crate::versions::{Version, text_body};
+use rt_rib::{Cmd, Refused};
+use rt_shared::Outcome;
+use std::alloc::{AllocError, Global};
+use std::sync::Wait;
+
+/// Asks the gate each command of the text in order, `batch` at once, and gives the report: with a batch of 1 one by one,
+/// else the commands that are gathered when there are that many, or the text ends. Lines that are skipped or faulty take
+/// no place in a batch. A command that is refused for want of memory is reported so, as is each one of a batch that is
+/// refused (M2). M3: `Refused` where the report or the batch could not grow; the gate was then asked the commands of a
+/// beginning of the text.
+pub fn run_feed<R: Wait, G: Gate>(
+    rt: &R,
+    alloc: Global,
+    text: &[u8],
+    batch: usize,
+    gate: &mut G,
+) -> Result<Report, Refused>
+    requires { 1 ≤ batch }
+    ensures name { G.name gate.new ≡ G.name gate.old }
+    ensures ok { IfOk result (λ report. RunsFeed G.holds batch text.now gate.old gate.new report) }
+    ensures err { OnErr result (StopsWithin G.holds batch text.now gate.old gate.new) }
+{
+    let (version, lines) = text_body(text);
+    let mut run = FeedRun::new(alloc, version);
+    let mut rest = lines;
+    let mut number = version.first_line() - 1;
+    let _bytes = text.len();
+    while let Some((line, next)) = next_line(rest) {
+        number += 1;
+        run.read(rt, number, line, batch, gate)?;
+        rest = next;
+    }
+    run.ask(rt, batch, gate);
+    Ok(run.report)
+}
+
+impl FeedRun {
+    fn new(alloc: Global, version: Version) -> FeedRun
+        ensures version { result.version ≡ version }
+        ensures report { result.report ≡ [] }
+        ensures first { result.first ≡ 0 }
+        ensures gathered { result.gathered.items ≡ [] }
+    {
+        FeedRun {
+            version,
+            report: Report::new(alloc),
+            first: 0,
+            gathered: Vec::new(alloc),
+            outcomes: Vec::new(alloc),
+        }
+    }
+
+    /// Takes in the line of this number. Where that makes a batch, it is asked.
+    fn read<R: Wait, G: Gate>(
+        &mut self,
+        rt: &R,
+        number: usize,
+        line: &[u8],
+        batch: usize,
+        gate: &mut G,
+    ) -> Result<(), AllocError>
+        requires { All (λ earlier. earlier.number < number) self.old.report }
+        ensures name { G.name gate.new ≡ G.name gate.old }
+        ensures ok { OnOk result (ReadsOneMore G.holds batch number line.now gate.old gate.new self.old self.new) }
+        ensures err { OnErr result (gate.new ≡ gate.old) }
+    {
+        match parse_line(line, self.version) {
+            Err(fault) => {
+                let answer = Answer::Fault(fault);
+                self.report.push(Line { number, answer })?;
+                Ok(())
+            }
+            Ok(asked) => match asked {
+                None => Ok(()),
+                Some(cmd) => {
+                    self.gather(number, cmd)?;
+                    if self.gathered.len() == batch {
+                        self.ask(rt, batch, gate);
+                    }
+                    Ok(())
+                }
+            },
+        }
+    }
+
+    /// Puts the line's command with those that wait.
+    fn gather(&mut self, number: usize, cmd: Cmd) -> Result<(), AllocError>
+        requires { All (λ earlier. earlier.number < number) self.old.report }
+        ensures { OnOk result (Gathers number cmd self.old self.new) }
+    {
+        self.gathered.push(cmd)?;
+        self.report.push(Line {
+            number,
+            answer: Answer::Refused,
+        })
+    }
+
+    /// Asks the commands that wait, if there are any, and puts what became of them into the report.
+    fn ask<R: Wait, G: Gate>(&mut self, rt: &R, batch: usize, gate: &mut G)
+        ensures name { G.name gate.new ≡ G.name gate.old }
+        ensures waiting { AnswersWaiting G.holds gate.old gate.new self.old.gathered.items self.old.first self.old.report self.new.report }
+        ensures version { self.new.version ≡ self.old.version }
+        ensures emptied { self.new.gathered.items ≡ [] }
+        ensures none_waits { self.new.first ≡ length self.new.report }
+    {
+        let FeedRun {
+            version: _,
+            report,
+            first,
+            gathered,
+            outcomes,
+        } = self;
+        let cmds = gathered.as_slice();
+        if batch == 1 && cmds.len() == 1 {
+            ask_one(rt, cmds[0], gate, report, *first);
+        } else if !cmds.is_empty() {
+            ask_batch(rt, cmds, gate, outcomes, report, *first);
+        }
+        self.gathered.clear();
+        self.first = self.report.lines().len();
+    }
+}
+
+/// Asks the gate one command, and puts its reply into the report.
+fn ask_one<R: Wait, G: Gate>(rt: &R, cmd: Cmd, gate: &mut G, report: &mut Report, first: usize)
+    requires { first ≤ length report.old }
+    ensures name { G.name gate.new ≡ G.name gate.old }
+    ensures waiting { AnswersWaiting G.holds gate.old gate.new (cmd ∷ []) first report.old report.new }
+{
+    if let Ok(reply) = gate.apply(rt, cmd) {
+        report.fill(first, &[Outcome::Did(reply)]);
+    }
+}
+
+/// Asks the gate the commands at once, and puts what became of them into the report.
+fn ask_batch<R: Wait, G: Gate>(
+    rt: &R,
+    cmds: &[Cmd],
+    gate: &mut G,
+    out: &mut Vec<Outcome>,
+    report: &mut Report,
+    first: usize,
+)
+    requires placed { first ≤ length report.old }
+    requires some { cmds.now ≢ [] }
+    ensures name { G.name gate.new ≡ G.name gate.old }
+    ensures waiting { AnswersWaiting G.holds gate.old gate.new cmds.now first report.old report.new }
+{
+    out.clear();
+    if let Ok(()) = gate.apply_batch(rt, cmds, out) {
+        report.fill(first, out.as_slice());
+    }
+}

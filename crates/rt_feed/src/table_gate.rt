@@ -1,0 +1,70 @@
+//! A gate to the shared table.
+ghost use Rattle.std.specs.Prelude.{◌≡◌};
+
+use crate::gates::Gate;
+use rt_rib::{Cmd, Refused, Reply};
+use rt_shared::{FeedPass, Outcome, SharedRib};
+use std::marker::Model;
+use std::sync::Wait;
+
+/// Answers a feed's commands by a shared table, with the feed's pass. Its name is its table and its feed, and it holds
+/// visits that lie uncut in the journal that its pass has seen. Contracts see it as its pass.
+#[derive(Drop)]
+pub struct TableGate<'a, const L: u32> {
+    table: &'a SharedRib<L>,
+    pass: FeedPass,
+}
+
+impl<'a, const L: u32> Model for TableGate<'a, L> {
+    ghost use Rattle.std.specs.Prelude.{◌≡◌};
+    ghost use Rattle.rt_shared.specs.Table.{HeldPass};
+
+    ghost Value = { HeldPass };
+
+    ghost view = { λ g. g.pass };
+
+    ghost invariant = { λ g. g.pass.table ≡ g.table.now };
+}
+
+impl<'a, const L: u32> TableGate<'a, L> {
+    /// The gate of the pass's feed to this table. It takes no memory.
+    pub fn new(table: &'a SharedRib<L>, pass: FeedPass) -> TableGate<'a, L>
+        requires { pass.table ≡ table.now }
+        ensures { result ≡ pass }
+    {
+        TableGate { table, pass }
+    }
+
+    /// Its pass, with what that has seen by now. It takes no memory.
+    pub fn into_pass(self) -> FeedPass
+        ensures { result ≡ self.entry }
+    {
+        self.pass
+    }
+}
+
+impl<'a, const L: u32> Gate for TableGate<'a, L> {
+    ghost use Rattle.std.specs.Prelude.{◌≡◌, ℕ, map};
+    ghost use Rattle.rt_shared.specs.Table.{SharedId};
+    ghost use Rattle.rt_shared.specs.Visits.{Uncut};
+    ghost use Rattle.rt_feed.specs.Visits.{entries};
+
+    ghost Name = { SharedId × ℕ };
+
+    ghost name = { λ gate. (gate.table, gate.feed) };
+
+    ghost holds = { λ gate visits. Uncut gate.feed (map (entries gate.feed) visits) gate.seen };
+
+    fn apply<R: Wait>(&mut self, rt: &R, cmd: Cmd) -> Result<Reply, Refused> {
+        self.table.apply(rt, &mut self.pass, cmd)
+    }
+
+    fn apply_batch<R: Wait>(
+        &mut self,
+        rt: &R,
+        cmds: &[Cmd],
+        out: &mut Vec<Outcome>,
+    ) -> Result<(), Refused> {
+        self.table.apply_batch(rt, &mut self.pass, cmds, out)
+    }
+}
