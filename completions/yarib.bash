@@ -1,0 +1,25 @@
+# Completion of yarib for bash: source this file, or put it into the folder of bash-completion as `yarib`.
+_yarib() {
+  local word=${COMP_WORDS[COMP_CWORD]} before=${COMP_WORDS[COMP_CWORD - 1]} options
+  COMPREPLY=()
+  if [ "$COMP_CWORD" -eq 1 ]; then
+    COMPREPLY=($(compgen -W "run replay help --help --version" -- "$word"))
+    return
+  fi
+  case ${COMP_WORDS[1]}:$before in
+    run:--limit | run:--batch | replay:--levels) return ;;
+  esac
+  case ${COMP_WORDS[1]} in
+    run) options="--limit --batch --help" ;;
+    replay) options="--levels --help" ;;
+    help) options="run replay" ;;
+    *) return ;;
+  esac
+  if [ "${COMP_WORDS[1]}" = run ] && [[ $word != -* ]]; then
+    compopt -o filenames
+    COMPREPLY=($(compgen -f -- "$word"))
+  else
+    COMPREPLY=($(compgen -W "$options" -- "$word"))
+  fi
+}
+complete -F _yarib yarib ./yarib

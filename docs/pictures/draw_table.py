@@ -1,0 +1,169 @@
+#!/usr/bin/env python3
+"""Draws the pictures of the table, from real runs of `yarib run` and from the functions that stand in crates/.
+
+Usage: docs/pictures/draw_table.py [--check]. Needs a built program (./yarib --version builds it).
+Writes trie.svg and way.svg beside itself, or with --check compares them with what it would write.
+"""
+import html
+import pathlib
+import re
+import subprocess
+import sys
+import tempfile
+
+HERE = pathlib.Path(__file__).resolve().parent
+TOP = HERE.parent.parent
+INK, QUIET, BLUE, GREEN, PALE_GREEN = "#222", "#777", "#1f5fa8", "#1a7f37", "#dafbe1"
+
+
+def yarib(*words):
+    """What the program prints."""
+    return subprocess.run([TOP / "yarib", *words], check=True, capture_output=True, text=True).stdout
+
+
+class Picture:
+    """Shapes on a white ground."""
+
+    def __init__(self, width, height, title):
+        self.size, self.title, self.shapes = (width, height), title, []
+
+    def text(self, x, y, words, anchor="middle", size=13, fill=INK, weight="normal"):
+        self.shapes.append(
+            f'<text x="{x:g}" y="{y:g}" text-anchor="{anchor}" font-size="{size}" fill="{fill}" '
+            f'font-weight="{weight}">{html.escape(words)}</text>'
+        )
+
+    def line(self, x1, y1, x2, y2, stroke=QUIET, arrow=False):
+        end = ' marker-end="url(#arrow)"' if arrow else ""
+        self.shapes.append(
+            f'<line x1="{x1:g}" y1="{y1:g}" x2="{x2:g}" y2="{y2:g}" stroke="{stroke}" stroke-width="1.5"{end}/>'
+        )
+
+    def box(self, x, y, width, height, fill="#ffffff", stroke=INK, dash=False):
+        dashed = ' stroke-dasharray="5 4"' if dash else ""
+        self.shapes.append(
+            f'<rect x="{x:g}" y="{y:g}" width="{width:g}" height="{height:g}" rx="6" fill="{fill}" '
+            f'stroke="{stroke}" stroke-width="1.2"{dashed}/>'
+        )
+
+    def svg(self):
+        width, height = self.size
+        head = (
+            f'<svg xmlns="http://www.w3.org/2000/svg" width="{width}" height="{height}" '
+            f'viewBox="0 0 {width} {height}" font-family="Helvetica, Arial, sans-serif">\n'
+            f"<title>{html.escape(self.title)}</title>\n"
+            '<defs><marker id="arrow" viewBox="0 0 8 8" refX="8" refY="4" markerWidth="7" markerHeight="7" '
+            f'orient="auto"><path d="M0 0 L8 4 L0 8 z" fill="{QUIET}"/></marker></defs>\n'
+            f'<rect width="{width}" height="{height}" fill="#ffffff"/>\n'
+        )
+        return head + "\n".join(self.shapes) + "\n</svg>\n"
+
+
+def prefixes(commands):
+    """The prefixes of the table that these commands leave, as (base, length)."""
+    with tempfile.NamedTemporaryFile("w", suffix=".feed") as feed:
+        feed.write("".join(command + "\n" for command in commands))
+        feed.flush()
+        printed = yarib("run", feed.name).split("table ", 1)[1].splitlines()[1:]
+    for route in printed:
+        base, length = route.split()[0].split("/")
+        octets = [int(octet) for octet in base.split(".")]
+        yield sum(octet << 24 - 8 * place for place, octet in enumerate(octets)), int(length)
+
+
+def name(base, length):
+    return ".".join(str(base >> shift & 255) for shift in (24, 16, 8, 0)) + f"/{length}"
+
+
+def trie_of(stored):
+    """A lawful trie has a node where a prefix is stored or two branches part, so the prefixes give its nodes."""
+    nodes = set(stored)
+    for a, _ in stored:
+        for b, _ in stored:
+            if a != b:
+                shared = 32 - (a ^ b).bit_length()
+                longest = min(shared, *(length for base, length in stored if base in (a, b)))
+                nodes.add((a >> 32 - longest << 32 - longest if longest else 0, longest))
+    return nodes
+
+
+def covers(node, other):
+    return node != other and node[1] < other[1] and node[0] >> 32 - node[1] == other[0] >> 32 - node[1]
+
+
+def trie():
+    """The trie of a short run, before and after a withdrawal."""
+    commands = [
+        "add 10.0.0.0/8 10 192.0.2.1",
+        "add 10.1.0.0/16 10 192.0.2.2",
+        "add 10.2.0.0/16 10 192.0.2.3",
+        "withdraw 10.1.0.0/16",
+    ]
+    picture = Picture(720, 330, "The trie before and after a withdrawal")
+    for x, title, count in ((200, "after three adds", 3), (560, "after withdraw 10.1.0.0/16", 4)):
+        stored = set(prefixes(commands[:count]))
+        nodes = sorted(trie_of(stored), key=lambda node: (node[1], node[0]))
+        picture.text(x, 30, title, weight="bold")
+        at = {}
+        for node in nodes:
+            above = [other for other in nodes if covers(other, node)]
+            parent = max(above, key=lambda other: other[1], default=None)
+            siblings = [other for other in nodes if parent in at and other[1] == node[1]]
+            spread = 0 if len(siblings) < 2 else (-90 if node == min(siblings) else 90)
+            at[node] = (at[parent][0] if parent else x) + spread, 80 + 90 * len(above)
+            if parent:
+                picture.line(at[parent][0], at[parent][1] + 22, at[node][0], at[node][1] - 22)
+        for node, (node_x, node_y) in at.items():
+            picture.box(node_x - 66, node_y - 22, 132, 44, "#ffffff" if node in stored else "#f6f8fa", INK, node not in stored)
+            picture.text(node_x, node_y - 2, name(*node), size=12, weight="bold")
+            picture.text(node_x, node_y + 14, "stored" if node in stored else "two branches part", size=11, fill=QUIET)
+    return picture
+
+
+# Each stop of a command on its way, with the function that a reader can look up and the file that it stands in.
+WAY = [
+    ("a line of a feed file", "", ""),
+    ("cut and read", "parse_line", "rt_feed"),
+    ("gathered into batches", "run_feed", "rt_feed"),
+    ("asked of the table", "apply_batch", "rt_shared"),
+    ("enter the lock", "enter", "ya_lock"),
+    ("answered and journaled", "apply", "rt_rib"),
+    ("leave the lock", "leave", "ya_lock"),
+    ("a line of the report", "write_report", "rt_feed"),
+]
+
+
+def way():
+    """The way of one command through the crates."""
+    picture = Picture(640, 40 + 62 * len(WAY), "The way of a command through the crates")
+    for stop, (what, function, crate) in enumerate(WAY):
+        y = 20 + 62 * stop
+        if function and not any(
+            re.search(rf"\bfn {function}\b", path.read_text()) for path in (TOP / "crates" / crate / "src").rglob("*.rt")
+        ):
+            sys.exit(f"draw_table.py: {crate} has no function {function}")
+        locked = crate in ("ya_lock", "rt_rib")
+        picture.box(60, y, 250, 40, PALE_GREEN if locked else "#f6f8fa", GREEN if locked else INK)
+        picture.text(185, y + 25, what)
+        if function:
+            picture.text(340, y + 25, f"{crate}::{function}", "start", 13, BLUE)
+        if stop:
+            picture.line(185, y - 22, 185, y - 1, arrow=True)
+    picture.text(600, 36, "green: inside the lock", "end", 12, GREEN)
+    return picture
+
+
+def main():
+    stale = []
+    for file, picture in (("trie", trie()), ("way", way())):
+        path = HERE / f"{file}.svg"
+        if "--check" in sys.argv:
+            if not path.exists() or path.read_text() != picture.svg():
+                stale.append(path.name)
+        else:
+            path.write_text(picture.svg())
+    if stale:
+        sys.exit(f"draw_table.py: no longer true, draw them again: {', '.join(stale)}")
+
+
+main()
