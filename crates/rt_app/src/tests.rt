@@ -1,7 +1,7 @@
 //! Worked runs byte for byte, hostile texts, writers that fail, and the program over its words.
 
-mod hostile;
 mod feeds;
+mod hostile;
 mod replays;
 mod rows;
 mod words;

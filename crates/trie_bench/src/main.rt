@@ -74,11 +74,7 @@ fn count(rt: &HostRuntime) -> io::Result<u32> {
 }
 
 /// The time of a longest match where `BATCH` are asked for together, and the sum of the values that they find.
-fn look_up_together(
-    rt: &impl Clock,
-    trie: &Trie<u64, Global>,
-    n: u32,
-) -> io::Result<(u64, u64)> {
+fn look_up_together(rt: &impl Clock, trie: &Trie<u64, Global>, n: u32) -> io::Result<(u64, u64)> {
     let mut draws = Draws { seed: 2 };
     let mut found = 0u64;
     let mut addresses = [Addr(0); BATCH];
