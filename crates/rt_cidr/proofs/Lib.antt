@@ -1,3 +1,4 @@
+pub mod Promised
 pub mod Digits
 pub mod Fronts
 pub mod Nesting

@@ -23,6 +23,7 @@ same_prefix p q base len =
     let Len : ℕ → Type 0 = λ n. (h : IsPrefix q.base n) → ◌≡◌ {A = Prefix} p (record { base = q.base; len = n; is_prefix = h }) in
     subst Len len (subst Base base (λ h. pair_same p.base p.len p.is_prefix h)) q.is_prefix
 
+-- a prefix covers some address
 pub size_pos : (len : ℕ) → 0 < size_of len
 size_pos len = pow_pos (32 - len)
 

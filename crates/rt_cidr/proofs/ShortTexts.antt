@@ -3,7 +3,6 @@ use Rattle.std.proofs.Common.{ℕ, suc, zero, ◌+◌, ◌/◌, ◌%◌, ◌^◌
 use Rattle.std.proofs.lemmas.Bool.Decides.{nat_tests}
 use Rattle.std.proofs.lemmas.Fmt.{length-decimal-le}
 use Rattle.std.specs.Fmt.{digit_glyph, digits_onto, digits}
-use Rattle.rt_cidr.specs.declared.prefixes.Prefix.{Prefix}
 use Rattle.rt_cidr.specs.Text.{slash, address_text, prefix_text}
 
 -- the lemmas by which a piece in front of another is a piece of the whole, and has room where the whole has

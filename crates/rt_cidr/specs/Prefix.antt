@@ -1,4 +1,4 @@
--- What a prefix covers and contains (RFC 4632, section 3.1).
+-- What a prefix covers and contains (RFC 4632, section 3.1), and when two are one.
 use Rattle.std.specs.Prelude.{◌/◌, ◌==◌, ◌&&◌, nat_le, Bool}
 use Rattle.rt_cidr.specs.declared.address.Addr.{Addr}
 use Rattle.rt_cidr.specs.declared.prefixes.Prefix.{Prefix}
@@ -11,3 +11,7 @@ covers p a = (a.0 / size_of p.len) == (p.base / size_of p.len)
 -- whether q is no shorter than p, and p covers its base
 abbrev pub contains : Prefix → Prefix → Bool
 contains p q = nat_le p.len q.len && (q.base / size_of p.len) == (p.base / size_of p.len)
+
+-- whether two prefixes have one base and one length
+abbrev pub same_prefix : Prefix → Prefix → Bool
+same_prefix p q = p.base == q.base && p.len == q.len

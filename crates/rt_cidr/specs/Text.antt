@@ -10,11 +10,15 @@ dot = 46
 abbrev pub slash : ℕ
 slash = 47
 
+-- `b'0'`
+abbrev pub zero_digit : ℕ
+zero_digit = 48
+
 -- the text is n's decimal: one or more digits, the first a zero only where it stands alone
 pub record IsDecimal (text : List ℕ) (n : ℕ) : Type 0 where
   pub digits : IsNumeral 10 text
   pub value : digits_value 10 text ≡ n
-  pub no_leading_zero : slice_index text 0 ≡ 48 → length text ≡ 1
+  pub no_leading_zero : slice_index text 0 ≡ zero_digit → length text ≡ 1
 
 -- the text is an octet's: a decimal of at most 255
 pub record IsOctetText (text : List ℕ) (octet : ℕ) : Type 0 where

@@ -1,6 +1,7 @@
 //! Decimals: one or more digits, without a leading zero unless it is `0` alone.
 ghost use Rattle.std.specs.Prelude.{◌≡◌, ◌<◌, length, slice_index, IsTrue, ◌↔◌};
 ghost use Rattle.rt_cidr.specs.Reading.{ReadsDecimal};
+ghost use Rattle.rt_cidr.specs.Text.{zero_digit};
 ghost use Rattle.rt_cidr.specs.Front.{ReadsFront, IsCappedDecimal, LeadingDigits};
 
 /// From here on a value is no longer told from larger ones.
@@ -32,7 +33,7 @@ pub(crate) fn read_decimal(text: &[u8]) -> Option<(u64, &[u8])>
 
 /// Whether the digits begin with a zero that doesn't stand alone.
 fn has_leading_zero(digits: &[u8]) -> bool
-    ensures { IsTrue result ↔ ((1 < length digits.now) × (slice_index digits.now 0 ≡ 48)) }
+    ensures { IsTrue result ↔ ((1 < length digits.now) × (slice_index digits.now 0 ≡ zero_digit)) }
 {
     matches!(digits, [b'0', _, ..])
 }

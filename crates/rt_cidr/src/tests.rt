@@ -1,3 +1,4 @@
+//! Texts read and written, and writers that take a byte a call, fail or hold too little.
 use super::*;
 use std::alloc::Global;
 use std::io::{self, ErrorKind, Write};
