@@ -1,7 +1,7 @@
 -- One text after another to a writer: what stands there, and what a fault leaves.
 use Rattle.std.proofs.Common.{◌≡◌, ℕ, ◌+◌, List, [], ◌++◌, length, take, Option, arith, length-append, append_assoc, append-nil, sym, ap, ◌∙◌}
 use Rattle.std.specs.Io.KnownBytes.{Appends}
-use Rattle.std.proofs.KnownBytes.{Appends-trans, Appends-nil}
+use Rattle.std.proofs.KnownBytes.{Appends-trans}
 use Rattle.std.proofs.lemmas.List.{take-append-le}
 use Rattle.std.proofs.Math.Seq.{take-append-add}
 use Rattle.rt_cidr.specs.Output.{AppendsBeginning, PassesOn}
@@ -47,11 +47,7 @@ begins_longer a c xs ys first = record {
   appended = rw (take-append-le first.count xs ys (omega (arith, first.within))) first.appended;
 }
 
--- nothing has gone to the writer yet
-pub passes_on-held : (a : Option (List ℕ)) (held held' text : List ℕ) → held' ≡ held ++ text → PassesOn a a held held' text
-passes_on-held a held held' text grown = record { gone = []; appended = Appends-nil a; rest = sym grown }
-
--- or all of it has
+-- all that a buffer held has gone to the writer, and the text behind it
 pub passes_on-gone : (a b c : Option (List ℕ)) (held held' text : List ℕ) → Appends a b held → Appends b c text → held' ≡ [] →
     PassesOn a c held held' text
 passes_on-gone a b c held held' text first second emptied = record {

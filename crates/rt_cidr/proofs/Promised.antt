@@ -2,6 +2,8 @@
 
 -- a prefix covers some address
 pub use Rattle.rt_cidr.proofs.Ranges.{size_pos}
+-- how a short text grows piece by piece
+pub use Rattle.rt_cidr.proofs.ShortTexts.{prepending}
 -- how long the texts of numbers, addresses and prefixes are at most
 pub use Rattle.rt_cidr.proofs.ShortTexts.{length-decimal, length-address_text, length-prefix_text}
 -- what is in a writer and its buffer after one text and then another, and after a fault

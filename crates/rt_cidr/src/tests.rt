@@ -241,6 +241,44 @@ fn hands_on_the_writers_fault(rt: HostRuntime) -> Result<(), Fail> {
     Ok(())
 }
 
+// A `write_to`, or a call of a buffer, that answers another fault than the writer's is seen here.
+#[test]
+fn hands_on_the_fault_of_what_it_writes(rt: HostRuntime) -> Result<(), Fail> {
+    let long = Vec::from_elem(rt.alloc(), b'x', OUTPUT_BYTES + 1)?;
+    for kind in [ErrorKind::BrokenPipe, ErrorKind::Interrupted] {
+        let mut writer = Narrow::new(rt.alloc(), 3, Some(kind));
+        let Err(fault) = Addr(1).write_to(&mut writer) else {
+            return Err(Fail::from("no fault of an address"));
+        };
+        assert!(rt; fault.kind() == kind);
+
+        let mut writer = Narrow::new(rt.alloc(), 3, Some(kind));
+        let Err(fault) = Prefix::new(0, 0)?.write_to(&mut writer) else {
+            return Err(Fail::from("no fault of a prefix"));
+        };
+        assert!(rt; fault.kind() == kind);
+
+        let mut buffer = OutputBuffer::new(rt.alloc())?;
+        let mut writer = Narrow::new(rt.alloc(), 3, Some(kind));
+        buffer.put(&mut writer, b"held")?;
+        let Err(fault) = buffer.flush(&mut writer) else {
+            return Err(Fail::from("no fault of a flush"));
+        };
+        assert!(rt; fault.kind() == kind);
+
+        // Where the text has no room, the fault is that of writing what was held, or that of writing the text.
+        for held in [b"held".as_slice(), b"".as_slice()] {
+            let mut writer = Narrow::new(rt.alloc(), 3, Some(kind));
+            buffer.put(&mut writer, held)?;
+            let Err(fault) = buffer.put(&mut writer, long.as_slice()) else {
+                return Err(Fail::from("no fault of a buffer"));
+            };
+            assert!(rt; fault.kind() == kind);
+        }
+    }
+    Ok(())
+}
+
 #[test]
 fn a_write_of_nothing_is_write_zero(rt: HostRuntime) -> Result<(), Fail> {
     let mut writer = Narrow::new(rt.alloc(), 3, None);
