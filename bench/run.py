@@ -1,9 +1,11 @@
 #!/usr/bin/env python3
 """Times `yarib run` beside the same program in plain Rust, on inputs that it makes.
 
-Usage: bench/run.py [REPEATS]. Needs a built program (./yarib --version builds it), rustc and python3.
-Prints, for each input, lines a second and peak memory of both, the ratio of their times (the best of REPEATS
-runs each, taken in turn), and fails where their outputs differ.
+Usage: bench/run.py [ROUNDS [PREFIXES]]. Needs a built program (./yarib --version builds it), rustc and python3.
+Both programs run in turn, ROUNDS times (5 if left out) over each input; the big ones have PREFIXES prefixes (500,000 if left
+out) with the lengths of a real table. The plain program has one thread and takes the files in turn. Prints for each input the
+least time on the clock, the least time of the processors (user and system) and the peak memory of both, with the ratios, and
+fails where their outputs differ: whole for one file, the table for several, whose look-ups depend on how the threads ran.
 """
 import hashlib
 import os
@@ -23,29 +25,82 @@ def address(number):
 
 def one_prefix(count):
     """The same prefix added over and over, and as many look-ups of it."""
-    lines = ["add 10.0.0.0/8 100 192.0.2.1"] * count + ["lookup 10.1.2.3"] * count
-    return lines
+    return ["add 10.0.0.0/8 100 192.0.2.1"] * count + ["lookup 10.1.2.3"] * count
 
 
-def distinct_prefixes(count, seed):
-    """Distinct prefixes of the lengths of a real table in random order, and as many look-ups."""
-    draw = random.Random(seed)
-    lengths = [24] * 60 + [23, 22] * 10 + [21, 20, 19] * 4 + [16] * 5 + [18, 17, 15, 14, 8]
+def real_prefixes(count, draw):
+    """Distinct prefixes of the lengths of a real table in random order, nested ones among them."""
+    lengths = [24] * 60 + [23, 22] * 10 + [21, 20, 19] * 4 + [16] * 5 + [18, 17, 15, 14, 8, 28]
     chosen = {}
     while len(chosen) < count:
         length = draw.choice(lengths)
         base = draw.getrandbits(32) >> 32 - length << 32 - length
         chosen[base, length] = None
-    prefixes = list(chosen)
-    lines = [f"add {address(base)}/{length} {draw.randrange(200)} 192.0.2.1" for base, length in prefixes]
+    return list(chosen)
+
+
+def add(draw, base, length):
+    return f"add {address(base)}/{length} {draw.randrange(200)} 192.0.2.1"
+
+
+def look_ups(count, prefixes, draw):
+    """Look-ups of addresses of these prefixes, and one in ten of any address."""
     for _ in range(count):
         base, length = draw.choice(prefixes)
-        lines.append(f"lookup {address(base | draw.getrandbits(32 - length))}")
+        within = draw.getrandbits(32) if draw.randrange(10) == 0 else base | draw.getrandbits(32 - length)
+        yield f"lookup {address(within)}"
+
+
+def real_table(count, rising):
+    """A table's prefixes, in random or in rising order, and then look-ups of which most hit."""
+    draw = random.Random(1)
+    prefixes = real_prefixes(count, draw)
+    if rising:
+        prefixes.sort()
+    lines = [add(draw, base, length) for base, length in prefixes]
+    lines.extend(look_ups(count * 2 // 5, prefixes, draw))
     return lines
 
 
-def measure(words):
-    """Seconds, peak bytes and the digest of the output of one run."""
+def changing_table(count):
+    """The same in random order, with one withdrawal or replacement to five additions among them."""
+    draw = random.Random(2)
+    prefixes = real_prefixes(count, draw)
+    lines = []
+    for number, (base, length) in enumerate(prefixes):
+        lines.append(add(draw, base, length))
+        if number % 5 == 4:
+            base, length = prefixes[draw.randrange(number)]
+            if draw.randrange(2):
+                lines.append(f"withdraw {address(base)}/{length}")
+            else:
+                lines.append(f"replace {address(base)}/{length} {draw.randrange(200)} 192.0.2.2")
+    lines.extend(look_ups(count * 2 // 5, prefixes, draw))
+    return lines
+
+
+def deal(lines, count):
+    """The lines dealt to so many files: those that speak of one prefix to one file, the look-ups in turn."""
+    files = [[] for _ in range(count)]
+    for number, line in enumerate(lines):
+        word, subject = line.split()[:2]
+        files[number % count if word == "lookup" else hash_of(subject) % count].append(line)
+    return files
+
+
+def hash_of(text):
+    return int.from_bytes(hashlib.blake2b(text.encode(), digest_size=8).digest(), "big")
+
+
+def digest(output, whole):
+    """The digest of an output, or of its table alone."""
+    text = output.read()
+    start = 0 if whole else text.rindex(b"\ntable ")
+    return hashlib.sha256(text[start:]).digest()
+
+
+def measure(words, whole):
+    """Seconds on the clock and of the processors, peak bytes and the digest of the output of one run."""
     with tempfile.TemporaryFile() as output:
         start = time.perf_counter()
         child = subprocess.Popen(words, stdout=output, stderr=subprocess.PIPE)
@@ -56,49 +111,61 @@ def measure(words):
             sys.exit(f"{words}: status {child.returncode}: {child.stderr.read().decode()}")
         child.stderr.close()
         output.seek(0)
-        return seconds, usage.ru_maxrss * 1024, hashlib.file_digest(output, "sha256").digest()
+        return seconds, usage.ru_utime + usage.ru_stime, usage.ru_maxrss * 1024, digest(output, whole)
 
 
-def write(path, make, *arguments):
-    """Writes the lines to the file in a process of its own, so that this one stays small: a child's peak memory
+def write(folder, files):
+    """Makes the files' lines and writes them, in a process of its own, so that this one stays small: a child's peak memory
     counts what its parent had when it was forked."""
     child = os.fork()
     if child == 0:
-        path.write_text("\n".join(make(*arguments)) + "\n")
+        for number, lines in enumerate(files()):
+            (folder / f"{number:02}.feed").write_text("\n".join(lines) + "\n")
         os._exit(0)
     if os.waitpid(child, 0)[1] != 0:
-        sys.exit(f"{path} could not be written")
+        sys.exit(f"{folder} could not be written")
+    return sorted(folder.iterdir())
 
 
-def compare(name, path, count, yarib, peer, repeats):
-    """Runs both programs on the file in turn and prints one row."""
-    ours, theirs = [], []
-    for _ in range(repeats):
-        ours.append(measure([yarib, "run", "--limit", "1000000", path]))
-        theirs.append(measure([peer, path]))
-    if ours[0][2] != theirs[0][2]:
+def compare(name, paths, batch, programs, rounds):
+    """Runs both programs on the files in turn and prints one row."""
+    yarib, peer = programs
+    runs = []
+    for _ in range(rounds):
+        ours = measure([yarib, "run", "--limit", "1000000", "--batch", str(batch), *paths], len(paths) == 1)
+        runs.append((ours, measure([peer, *paths], len(paths) == 1)))
+    if runs[0][0][3] != runs[0][1][3]:
         sys.exit(f"{name}: the outputs differ")
-    best, peer_best = min(run[0] for run in ours), min(run[0] for run in theirs)
-    print(
-        f"{name:32} {count:9} lines  yarib {count / best / 1e6:6.2f} M lines/s {max(run[1] for run in ours) / 1e6:7.1f} MB"
-        f"  plain Rust {count / peer_best / 1e6:6.2f} M lines/s {max(run[1] for run in theirs) / 1e6:7.1f} MB"
-        f"  time ratio {best / peer_best:5.2f}"
-    )
+    row = f"{name:34} batch {batch:3}"
+    for title, field, scale, unit in (("clock", 0, 1e3, "ms"), ("processors", 1, 1e3, "ms"), ("memory", 2, 1e-6, "MB")):
+        ours, theirs = (min(run[program][field] for run in runs) for program in (0, 1))
+        row += f" | {title} {ours * scale:6.0f} / {theirs * scale:6.0f} {unit} = {ours / theirs:4.2f}"
+    print(row, flush=True)
 
 
 def main():
-    repeats = int(sys.argv[1]) if len(sys.argv) > 1 else 5
+    rounds = int(sys.argv[1]) if len(sys.argv) > 1 else 5
+    count = int(sys.argv[2]) if len(sys.argv) > 2 else 500_000
     subprocess.run([TOP / "yarib", "--version"], check=True, stdout=subprocess.DEVNULL)
+    inputs = [
+        ("one prefix, then look-ups of it", lambda: [one_prefix(200_000)], [1, 256]),
+        ("a table in random order", lambda: [real_table(count, False)], [1, 256]),
+        ("a table in rising order", lambda: [real_table(count, True)], [1, 256]),
+        ("a table that changes", lambda: [changing_table(count)], [1, 256]),
+        ("the same dealt to 4 files", lambda: deal(changing_table(count), 4), [1, 256]),
+        ("the same dealt to 64 files", lambda: deal(changing_table(count), 64), [1, 256]),
+    ]
     with tempfile.TemporaryDirectory() as made:
-        folder = pathlib.Path(made)
-        peer = folder / "peer"
+        peer = pathlib.Path(made) / "peer"
         subprocess.run(["rustc", "--edition", "2021", "-O", "-o", peer, TOP / "bench" / "peer.rs"], check=True)
-        yarib = TOP / "out" / "yarib"
-        path = folder / "feed"
-        write(path, one_prefix, 200_000)
-        compare("one prefix, then look-ups of it", path, 400_000, yarib, peer, repeats)
-        write(path, distinct_prefixes, 60_000, 1)
-        compare("60,000 prefixes, then look-ups", path, 120_000, yarib, peer, repeats)
+        for number, (name, files, batches) in enumerate(inputs):
+            folder = pathlib.Path(made) / str(number)
+            folder.mkdir()
+            paths = write(folder, files)
+            for batch in batches:
+                compare(name, paths, batch, (TOP / "out" / "yarib", peer), rounds)
+            for path in paths:
+                path.unlink()
 
 
 if __name__ == "__main__":
