@@ -1,6 +1,7 @@
 -- What each way to put a pair in makes of a link.
-use Rattle.std.proofs.Common.{◌≡◌, ◌+◌, ◌<◌, ◌≤◌, Bool, true, false, [], ◌∷◌, ◌++◌, Option, Some, None, inl, inr, refl, sym, ap, ◌∙◌, arith, append-nil}
-use Rattle.std.specs.Prelude.{Box, IfNone}
+use Rattle.std.proofs.Common.{◌≡◌, ℕ, ◌+◌, ◌<◌, ◌≤◌, Bool, true, false, [], ◌∷◌, ◌++◌, ◌⊎◌, Option, Some, None, inl, inr, refl, sym, subst, ap, ◌∙◌, arith, append-nil}
+use Rattle.std.specs.Prelude.{Box}
+use Rattle.std.specs.Box.{with_value}
 use Rattle.std.proofs.lemmas.Bool.{cases_lt}
 use Rattle.rt_cidr.specs.declared.prefixes.Prefix.{Prefix}
 use Rattle.rt_trie.specs.declared.nodes.Link.{Link, Empty, Leaf}
@@ -11,13 +12,13 @@ use Rattle.rt_trie.specs.declared.nodes.FullNode.{FullNode}
 use Rattle.rt_trie.specs.Map.{get, put}
 use Rattle.rt_trie.specs.declared.nodes.Place.TheVariants.{Above, Apart}
 use Rattle.rt_trie.specs.Blocks.{IsWithin, IsChild, StandsAt, PartsAt, middle, past}
-use Rattle.rt_trie.specs.Links.{own_pair, pairs, root, AreHalves, IsChildLink, IsFilled, IsLawfulTrie}
-use Rattle.rt_trie.specs.Changes.{IsPut}
+use Rattle.rt_trie.specs.Links.{own_pair, pairs, count, root, AreHalves, IsChildLink, IsFilled, IsLawfulTrie}
+use Rattle.rt_trie.specs.Changes.{IsPut, IsInserted, IsRefused, Inserts}
 use Rattle.rt_trie.proofs.BlockLemmas.{size_pos, lower_half}
 use Rattle.rt_trie.proofs.PairLemmas.{AllKeys, AllKeys-map, IsHigher, IsLower, IsOther, IsOther-higher, IsOther-lower, get-none, put-first, put-skip, put-front, put-here}
 use Rattle.rt_trie.proofs.NodeLemmas.{sides_higher, upper_higher, lower_lower, own_lower}
 use Rattle.rt_trie.proofs.PartLemmas.{child_of_parts}
-use Rattle.rt_trie.proofs.LinkLemmas.{IsNode, IsOn, pairs_within, sides_of, of_fork, of_full, fork_filled, full_filled}
+use Rattle.rt_trie.proofs.LinkLemmas.{if_some_map, if_some_is, IsNode, IsOn, IsView, pairs_within, sides_of, of_fork, of_full, node_get-unstored, get_left, get_right, get_own}
 
 -- what is within a prefix lies in one of its halves
 pub half_above : (q p : Prefix) → StandsAt q p Above → q.base < middle p → IsChild p false q
@@ -42,26 +43,6 @@ module _ {V A : Type 0} where
     }),
     rw (e, f, i, j) ((h, k, m), tt),
   )
-
-  -- a full node, made of lawful sides, which are filled where it has no value
-  pub made_full_kept : (b : Box (FullNode V A) A) (q : Prefix) (w : Option V) (l r : Link V A) → b.value.prefix ≡ q → b.value.value ≡ w
-      → b.value.left ≡ l → b.value.right ≡ r → AreHalves q l r → IsLawfulTrie l → IsLawfulTrie r → (w ≡ None → IsFilled l × IsFilled r)
-      → IsNode (Full b) q w l r × IsLawfulTrie (Full b)
-  made_full_kept b q w l r e f i j h k m n = (
-    rw (e, f, i, j) (record {
-      pairs_are = refl;
-      root_is = refl;
-      count_is = refl;
-      halves = h;
-      left_lawful = k;
-      right_lawful = m;
-    }),
-    rw (e, f, i, j) ((h, k, m), needed w n),
-  )
-    where
-      needed : (w : Option V) → (w ≡ None → IsFilled l × IsFilled r) → IfNone w (IsFilled l × IsFilled r)
-      needed None n = n refl
-      needed (Some v) n = tt
 
   -- a fork, made of lawful sides that are both filled
   pub made_fork : (b : Box (ForkNode V A) A) (q : Prefix) (l r : Link V A) → b.value.prefix ≡ q → b.value.left ≡ l → b.value.right ≡ r
@@ -254,53 +235,161 @@ module _ {V A : Type 0} where
             (child_of_parts parent c q p upper k (rw e at w) u);
       }
 
-  -- p is put in on one side of a fork
-  pub put_fork_left : (f : Box (ForkNode V A) A) (m : ForkNode V A) (old k : Link V A) (p : Prefix) (v : V) → old ≡ Fork f → m ≡ f.value
-      → IsLawfulTrie old → IsChild m.prefix false p → IsPut m.left k p v → (b : Box (ForkNode V A) A) → b.value.prefix ≡ m.prefix
-      → b.value.left ≡ k → b.value.right ≡ m.right → IsPut old (Fork b) p v
-  put_fork_left f m old k p v e g h c i b x y z =
-      let n = of_fork f m old e g h.0 in
-      let t = fork_filled f m old e g h.1 in
-      let u = made_fork b m.prefix k m.right x y z
-      (record { lower = i.stays m.prefix false n.halves.lower c; upper = n.halves.upper }) i.lawful n.right_lawful i.filled t.1 in
-      put_left old (Fork b) m.prefix None m.left m.right k p v n u.0 u.1 c i
+some_same : {X : Type 0} {x y : X} → Some x ≡ Some y → x ≡ y
+some_same e = cc
 
-  pub put_fork_right : (f : Box (ForkNode V A) A) (m : ForkNode V A) (old k : Link V A) (p : Prefix) (v : V) → old ≡ Fork f → m ≡ f.value
-      → IsLawfulTrie old → IsChild m.prefix true p → IsPut m.right k p v → (b : Box (ForkNode V A) A) → b.value.prefix ≡ m.prefix
-      → b.value.left ≡ m.left → b.value.right ≡ k → IsPut old (Fork b) p v
-  put_fork_right f m old k p v e g h c i b x y z =
-      let n = of_fork f m old e g h.0 in
-      let t = fork_filled f m old e g h.1 in
-      let u = made_fork b m.prefix m.left k x y z
-      (record { lower = n.halves.lower; upper = i.stays m.prefix true n.halves.upper c }) n.left_lawful i.lawful t.0 i.filled in
-      put_right old (Fork b) m.prefix None m.left m.right k p v n u.0 u.1 c i
+module _ {V A : Type 0} where
+  -- p is put in on one side of a node
+  pub insert_left : (old : Link V A) (q : Prefix) (w : Option V) (l r k : Link V A) (make : Link V A → Link V A → Link V A) (n m : ℕ) (p : Prefix)
+      (given slot : Option V) (done : Bool) → IsView old q w l r make → IsLawfulTrie old → IsChild q false p
+      → Inserts l k n m p given slot done → Inserts old (make k r) n m p given slot done
+  insert_left old q w l r k make n m p given slot true x h c i = record {
+    put = if_some_map given (IsPut l k p) (IsPut old (make k r) p)
+        (λ v j.
+        let u = x.again k r (record { lower = j.stays q false x.node.halves.lower c; upper = x.node.halves.upper }) j.lawful x.node.right_lawful in
+        put_left old (make k r) q w l r k p v x.node u.0 (u.1, x.needed k r (λ e. (j.filled, (x.filled h.1 e).1))) c j)
+        i.put;
+    had_is = i.had_is ∙ sym (get_left old q w l r x.node p c);
+    counted = omega (arith, i.counted, x.node.count_is, x.counts k r);
+  }
+  insert_left old q w l r k make n m p given slot false x h c i = record {
+    absent = get_left old q w l r x.node p c ∙ i.absent;
+    back_is = i.back_is;
+    same = ap (λ y. make y r) i.same ∙ x.same;
+    counted = i.counted;
+  }
 
-  -- and of a full node
-  pub put_full_left : (f : Box (FullNode V A) A) (m : FullNode V A) (old k : Link V A) (p : Prefix) (v : V) → old ≡ Full f → m ≡ f.value
-      → IsLawfulTrie old → IsChild m.prefix false p → IsPut m.left k p v → (b : Box (FullNode V A) A) → b.value.prefix ≡ m.prefix
-      → b.value.value ≡ m.value → b.value.left ≡ k → b.value.right ≡ m.right → IsPut old (Full b) p v
-  put_full_left f m old k p v e g h c i b x w y z =
-      let n = of_full f m old e g h.0 in
-      let u = made_full_kept b m.prefix m.value k m.right x w y z
-      (record { lower = i.stays m.prefix false n.halves.lower c; upper = n.halves.upper }) i.lawful n.right_lawful
-      (λ o. (i.filled, (full_filled f m old e g h.1 o).1)) in
-      put_left old (Full b) m.prefix m.value m.left m.right k p v n u.0 u.1 c i
+  pub insert_right : (old : Link V A) (q : Prefix) (w : Option V) (l r k : Link V A) (make : Link V A → Link V A → Link V A) (n m : ℕ) (p : Prefix)
+      (given slot : Option V) (done : Bool) → IsView old q w l r make → IsLawfulTrie old → IsChild q true p
+      → Inserts r k n m p given slot done → Inserts old (make l k) n m p given slot done
+  insert_right old q w l r k make n m p given slot true x h c i = record {
+    put = if_some_map given (IsPut r k p) (IsPut old (make l k) p)
+        (λ v j.
+        let u = x.again l k (record { lower = x.node.halves.lower; upper = j.stays q true x.node.halves.upper c }) x.node.left_lawful j.lawful in
+        put_right old (make l k) q w l r k p v x.node u.0 (u.1, x.needed l k (λ e. ((x.filled h.1 e).0, j.filled))) c j)
+        i.put;
+    had_is = i.had_is ∙ sym (get_right old q w l r x.node p c);
+    counted = omega (arith, i.counted, x.node.count_is, x.counts l k);
+  }
+  insert_right old q w l r k make n m p given slot false x h c i = record {
+    absent = get_right old q w l r x.node p c ∙ i.absent;
+    back_is = i.back_is;
+    same = ap (λ y. make l y) i.same ∙ x.same;
+    counted = i.counted;
+  }
 
-  pub put_full_right : (f : Box (FullNode V A) A) (m : FullNode V A) (old k : Link V A) (p : Prefix) (v : V) → old ≡ Full f → m ≡ f.value
-      → IsLawfulTrie old → IsChild m.prefix true p → IsPut m.right k p v → (b : Box (FullNode V A) A) → b.value.prefix ≡ m.prefix
-      → b.value.value ≡ m.value → b.value.left ≡ m.left → b.value.right ≡ k → IsPut old (Full b) p v
-  put_full_right f m old k p v e g h c i b x w y z =
-      let n = of_full f m old e g h.0 in
-      let u = made_full_kept b m.prefix m.value m.left k x w y z
-      (record { lower = n.halves.lower; upper = i.stays m.prefix true n.halves.upper c }) n.left_lawful i.lawful
-      (λ o. ((full_filled f m old e g h.1 o).0, i.filled)) in
-      put_right old (Full b) m.prefix m.value m.left m.right k p v n u.0 u.1 c i
+  -- the value of a full node, and what is in the slot, change places
+  pub insert_here : (f : Box (FullNode V A) A) (m : FullNode V A) (old : Link V A) (n : ℕ) (p : Prefix) (given stored slot : Option V) → old ≡ Full f
+      → m ≡ f.value → IsLawfulTrie old → p ≡ m.prefix → stored ≡ given → slot ≡ m.value
+      → IsInserted old (Full (with_value f (record { prefix = m.prefix; value = stored; left = m.left; right = m.right }))) n n p given slot
+  insert_here f m old n p given stored slot e g h i same had =
+      let b = with_value f (record { prefix = m.prefix; value = stored; left = m.left; right = m.right }) in
+      let x = of_full f m old e g h.0 in record {
+        put = if_some_is given (IsPut old (Full b) p)
+            (λ v o.
+            let u = made_full b m.prefix v m.left m.right refl (same ∙ o) refl refl x.halves x.left_lawful x.right_lawful in
+            subst (λ y. IsPut old (Full b) y v) (sym i) (put_value old (Full b) m.prefix m.value v m.left m.right x u.0 u.1));
+        had_is = had ∙ sym (get_own old m.prefix m.value m.left m.right x p i);
+        counted = omega (arith, x.count_is);
+      }
 
-  -- the value of a full node goes in the place of what stood there
-  pub put_full_here : (f : Box (FullNode V A) A) (m : FullNode V A) (old : Link V A) (p : Prefix) (v : V) → old ≡ Full f → m ≡ f.value
-      → IsLawfulTrie old → p ≡ m.prefix → (b : Box (FullNode V A) A) → b.value.prefix ≡ m.prefix → b.value.value ≡ Some v
-      → b.value.left ≡ m.left → b.value.right ≡ m.right → IsPut old (Full b) p v
-  put_full_here f m old p v e g h i b x w y z =
-      let n = of_full f m old e g h.0 in
-      let u = made_full b m.prefix v m.left m.right x w y z n.halves n.left_lawful n.right_lawful in
-      rw i (put_value old (Full b) m.prefix m.value v m.left m.right n u.0 u.1)
+  -- a leaf goes where nothing was
+  pub put_leaf : (b : Box (LeafNode V) A) (p : Prefix) (v : V) → b.value.prefix ≡ p → b.value.value ≡ v → IsPut Empty (Leaf b) p v
+  put_leaf b p v e f =
+      let k = made_leaf b p v e f in
+      record { pairs_are = k.pairs_are; lawful = k.lawful; filled = filled_of (Leaf b) p k.root_is; stays = stays_new Empty (Leaf b) p k.root_is }
+
+  -- the value given was put where nothing stood, and the slot is left empty
+  inserted : (old new : Link V A) (n m : ℕ) (p : Prefix) (given slot stored : Option V) → stored ≡ given → slot ≡ None → get (pairs old) p ≡ None
+      → m + count old ≡ n + count new → ((v : V) → stored ≡ Some v → IsPut old new p v) → IsInserted old new n m p given slot
+  inserted old new n m p given slot stored e none absent counted put = record {
+    put = if_some_is given (IsPut old new p) (λ v o. put v (e ∙ o));
+    had_is = none ∙ sym absent;
+    counted = counted;
+  }
+
+  -- nothing was done, and nothing stands at p
+  pub refused : (link : Link V A) (n : ℕ) (p : Prefix) (given : Option V) → get (pairs link) p ≡ None → IsRefused link link n n p given given
+  refused link n p given h = record { absent = h; back_is = refl; same = refl; counted = refl }
+
+  pub plant_insert : (b : Box (LeafNode V) A) (old : Link V A) (n m : ℕ) (p : Prefix) (given slot : Option V) → old ≡ Empty → b.value.prefix ≡ p
+      → given ≡ Some b.value.value → slot ≡ None → m ≡ n + 1 → IsInserted old (Leaf b) n m p given slot
+  plant_insert b old n m p given slot e f i none j =
+      rw e (inserted Empty (Leaf b) n m p given slot (Some b.value.value) (sym i) none refl (omega (arith, j)) (λ v o. put_leaf b p v f (some_same o)))
+
+  -- a leaf at q, as a node
+  leaf_node : (b : Box (LeafNode V) A) (old : Link V A) (q : Prefix) → old ≡ Leaf b → b.value.prefix ≡ q
+      → IsNode old q (Some b.value.value) Empty Empty
+  leaf_node b old q e f = subst (λ y. IsNode old y (Some b.value.value) Empty Empty) f
+      (rw e (record { pairs_are = refl; root_is = refl; count_is = refl; halves = record { lower = tt; upper = tt }; left_lawful = (tt, tt); right_lawful = (tt, tt) }))
+
+  pub leaf_absent : (b : Box (LeafNode V) A) (old : Link V A) (q p : Prefix) → old ≡ Leaf b → b.value.prefix ≡ q
+      → IsChild q false p ⊎ IsChild q true p → get (pairs old) p ≡ None
+  leaf_absent b old q p e f h = elim h [
+    | inl c ↦ get_left old q (Some b.value.value) Empty Empty (leaf_node b old q e f) p c
+    | inr c ↦ get_right old q (Some b.value.value) Empty Empty (leaf_node b old q e f) p c
+  ]
+
+  -- the leaf at q becomes a full node with a leaf of p on the side where p lies
+  pub grow_insert : (b k : Box (LeafNode V) A) (old : Link V A) (n m : ℕ) (q p : Prefix) (given slot : Option V) → old ≡ Leaf b → b.value.prefix ≡ q
+      → IsChild q false p ⊎ IsChild q true p → k.value.prefix ≡ p → given ≡ Some k.value.value → slot ≡ None → m ≡ n + 1 → (sides : Link V A × Link V A)
+      → (p.base < middle q → sides ≡ (Leaf k, Empty)) → (middle q ≤ p.base → sides ≡ (Empty, Leaf k)) → (f : Box (FullNode V A) A)
+      → f.value.prefix ≡ q → f.value.value ≡ Some b.value.value → f.value.left ≡ sides.0 → f.value.right ≡ sides.1
+      → IsInserted old (Full f) n m p given slot
+  grow_insert b k old n m q p given slot e g h i j none o sides lo hi f x y z w =
+      let a = leaf_node b old q e g in
+      let leaf = made_leaf k p k.value.value i refl in
+      elim h [
+        | inl c ↦
+            let s = lo (omega (arith, c.to, size_pos p.len)) in
+            let u = made_full f q b.value.value (Leaf k) Empty x y (z ∙ ap (λ (t : Link V A × Link V A). t.0) s) (w ∙ ap (λ (t : Link V A × Link V A). t.1) s)
+            (record { lower = child_link q false (Leaf k) p leaf.root_is c; upper = tt }) leaf.lawful (tt, tt) in
+            inserted old (Full f) n m p given slot (Some k.value.value) (sym j) none (leaf_absent b old q p e g (inl c)) (omega (arith, o, a.count_is, u.0.count_is))
+            (λ v t. put_left old (Full f) q (Some b.value.value) Empty Empty (Leaf k) p v a u.0 u.1 c (put_leaf k p v i (some_same t)))
+        | inr c ↦
+            let s = hi c.from in
+            let u = made_full f q b.value.value Empty (Leaf k) x y (z ∙ ap (λ (t : Link V A × Link V A). t.0) s) (w ∙ ap (λ (t : Link V A × Link V A). t.1) s)
+            (record { lower = tt; upper = child_link q true (Leaf k) p leaf.root_is c }) (tt, tt) leaf.lawful in
+            inserted old (Full f) n m p given slot (Some k.value.value) (sym j) none (leaf_absent b old q p e g (inr c)) (omega (arith, o, a.count_is, u.0.count_is))
+            (λ v t. put_right old (Full f) q (Some b.value.value) Empty Empty (Leaf k) p v a u.0 u.1 c (put_leaf k p v i (some_same t)))
+      ]
+
+  -- the fork at p becomes a full node
+  pub fill_insert : (b : Box (ForkNode V A) A) (x : ForkNode V A) (old : Link V A) (n : ℕ) (p : Prefix) (given slot stored : Option V) → old ≡ Fork b
+      → x ≡ b.value → IsLawfulTrie old → x.prefix ≡ p → stored ≡ given → slot ≡ None → (f : Box (FullNode V A) A) → f.value.prefix ≡ p
+      → f.value.value ≡ stored → f.value.left ≡ x.left → f.value.right ≡ x.right → IsInserted old (Full f) n n p given slot
+  fill_insert b x old n p given slot stored e g h i same none f j k l r =
+      let a = subst (λ q. IsNode old q None x.left x.right) i (of_fork b x old e g h.0) in
+      inserted old (Full f) n n p given slot stored same none (node_get-unstored old p x.left x.right a p (omega arith))
+      (omega (arith, a.count_is, ap count l, ap count r))
+      (λ v o.
+      let u = made_full f p v x.left x.right j (k ∙ o) l r a.halves a.left_lawful a.right_lawful in
+      put_fill old (Full f) p v x.left x.right a u.0 u.1)
+
+  -- a full node for p, with the old link on one of its sides
+  pub cover_insert : (old : Link V A) (n m : ℕ) (q p : Prefix) (given slot stored : Option V) → IsLawfulTrie old → root old ≡ Some q → StandsAt q p Above
+      → stored ≡ given → slot ≡ None → m ≡ n + 1 → (sides : Link V A × Link V A) → (q.base < middle p → sides ≡ (old, Empty))
+      → (middle p ≤ q.base → sides ≡ (Empty, old)) → (f : Box (FullNode V A) A) → f.value.prefix ≡ p → f.value.value ≡ stored
+      → f.value.left ≡ sides.0 → f.value.right ≡ sides.1 → IsInserted old (Full f) n m p given slot
+  cover_insert old n m q p given slot stored h e w same none o sides lo hi f i j k l =
+      let c : count sides.0 + count sides.1 ≡ count old = elim (cases_lt q.base (middle p)) [
+        | inl lt ↦ omega (arith, ap (λ (t : Link V A × Link V A). count t.0) (lo lt), ap (λ (t : Link V A × Link V A). count t.1) (lo lt))
+        | inr ge ↦ omega (arith, ap (λ (t : Link V A × Link V A). count t.0) (hi ge), ap (λ (t : Link V A × Link V A). count t.1) (hi ge))
+      ] in
+      inserted old (Full f) n m p given slot stored same none (get_above old q p h e w) (omega (arith, o, c, ap count k, ap count l))
+      (λ v t. cover_put old q p v h e w sides lo hi f i (j ∙ t) k l)
+
+  -- a fork where p and the old link part, with the leaf of p on the side where p lies
+  pub part_insert : (old : Link V A) (n m : ℕ) (q p c : Prefix) (given slot : Option V) (k : Box (LeafNode V) A) → IsLawfulTrie old → root old ≡ Some q
+      → StandsAt q p Apart → k.value.prefix ≡ p → given ≡ Some k.value.value → slot ≡ None → m ≡ n + 2 → (f : Box (ForkNode V A) A)
+      → f.value.prefix ≡ c
+      → (PartsAt c p q × (f.value.left ≡ Leaf k) × (f.value.right ≡ old)) ⊎ (PartsAt c q p × (f.value.left ≡ old) × (f.value.right ≡ Leaf k))
+      → IsInserted old (Fork f) n m p given slot
+  part_insert old n m q p c given slot k h e w i j none o f x s = elim s [
+    | inl y ↦ inserted old (Fork f) n m p given slot (Some k.value.value) (sym j) none (get_apart old q p h e w)
+        (omega (arith, o, ap count y.1, ap count y.2))
+        (λ v t. part_left old (Leaf k) q p c v h e (made_leaf k p v i (some_same t)) y.0 f x y.1 y.2)
+    | inr y ↦ inserted old (Fork f) n m p given slot (Some k.value.value) (sym j) none (get_apart old q p h e w)
+        (omega (arith, o, ap count y.1, ap count y.2))
+        (λ v t. part_right old (Leaf k) q p c v h e (made_leaf k p v i (some_same t)) y.0 f x y.1 y.2)
+  ]

@@ -1,13 +1,13 @@
 -- A lawful link in terms of bits.
-use Rattle.std.proofs.Common.{◌↔◌, true, false, Option, Some, None}
-use Rattle.std.specs.Prelude.{IfSome, IfNone}
+use Rattle.std.proofs.Common.{◌↔◌, true, false, Option, None}
+use Rattle.std.specs.Prelude.{IfNone}
 use Rattle.rt_cidr.specs.declared.prefixes.Prefix.{Prefix}
 use Rattle.rt_trie.specs.declared.nodes.Link.{Link, Empty, Leaf, Fork', Full'}
 use Rattle.rt_trie.specs.Blocks.{IsChild}
 use Rattle.rt_trie.specs.Laws.{ChildByNextBit, IsChildByBit, IsLawfulNode, IsLawfulByBits}
 use Rattle.rt_trie.specs.Links.{root, AreHalves, IsFilled, IsLawfulTrie}
 use Rattle.rt_trie.proofs.BlockLemmas.{child_reading}
-use Rattle.rt_trie.proofs.RemoveLemmas.{if_some_map}
+use Rattle.rt_trie.proofs.LinkLemmas.{if_some_map}
 
 pub child_by_bit : ChildByNextBit
 child_by_bit parent c upper = (

@@ -1,8 +1,9 @@
 -- The pairs of a lawful link lie where its root lies, and in order.
 use Rattle.std.proofs.Common.{◌≡◌, ℕ, ◌⊎◌, ◌+◌, ◌<◌, ◌≤◌, [], ◌++◌, Option, Some, None, true, false, inl, inr, refl, sym, subst, ap, ◌∙◌, arith}
 use Rattle.rt_cidr.specs.declared.prefixes.Prefix.{Prefix}
-use Rattle.std.specs.Prelude.{Box, IfNone, IfSome, OnOk, Result, Ok, Err, is_some}
+use Rattle.std.specs.Prelude.{Box, IfNone, IfSome, is_some}
 use Rattle.std.proofs.lemmas.Bool.{cases_lt, false≢true}
+use Rattle.std.specs.Box.{with_value}
 use Rattle.rt_cidr.specs.declared.address.Addr.{Addr}
 use Rattle.rt_cidr.specs.Prefix.{covers}
 use Rattle.rt_trie.specs.LookUps.{or_else, last_cover}
@@ -298,11 +299,6 @@ module _ {V A : Type 0} where
       → n.prefix ≡ p
   fork_prefix b n link p e f h = let k : b.value.prefix ≡ p = subst (IsForkOf p) e h in rw f k
 
--- a fact at `Ok` that another gives
-pub on_ok : {X E : Type 0} (r : Result X E) (P Q : Type 0) → (P → Q) → OnOk r P → OnOk r Q
-on_ok (Ok x) P Q f h = f h
-on_ok (Err e) P Q f h = h
-
 -- nothing is stored at a fork
 pub fork_absent : {V A : Type 0} (link : Link V A) (p : Prefix) → IsLawfulTrie link → IsForkOf p link → get (pairs link) p ≡ None
 fork_absent Empty p h f = refl
@@ -319,26 +315,76 @@ fork_absent (Fork' q prefix left right) p h f =
     node_get-unstored (Fork' q prefix left right) prefix left right n p (omega (arith, ap (λ (x : Prefix). x.len) f))
 fork_absent (Full' q prefix v left right) p h f = absurd f
 
+-- what holds of what an option holds, where it holds something
+pub if_some_map : {X : Type 0} (o : Option X) (P Q : X → Type 0) → ((x : X) → P x → Q x) → IfSome o P → IfSome o Q
+if_some_map None P Q f h = h
+if_some_map (Some x) P Q f h = f x h
+
+pub if_some_is : {X : Type 0} (o : Option X) (P : X → Type 0) → ((x : X) → o ≡ Some x → P x) → IfSome o P
+if_some_is None P f = tt
+if_some_is (Some x) P f = f x refl
+
+-- one view of a fork and a full node: the node, and what it is with other sides
+pub record IsView {V A : Type 0} (link : Link V A) (q : Prefix) (v : Option V) (left right : Link V A) (with_sides : Link V A → Link V A → Link V A) : Type 0 where
+  pub node : IsNode link q v left right
+  pub same : with_sides left right ≡ link
+  pub again : (l r : Link V A) → AreHalves q l r → IsLawfulTrie l → IsLawfulTrie r → IsNode (with_sides l r) q v l r × IsLawfulBelow (with_sides l r)
+  pub counts : (l r : Link V A) → count (with_sides l r) ≡ count l + count r + 1
+  pub needed : (l r : Link V A) → (v ≡ None → IsFilled l × IsFilled r) → IsNeeded (with_sides l r)
+  pub filled : IsNeeded link → v ≡ None → IsFilled left × IsFilled right
+
+if_none : {X : Type 0} (w : Option X) (P : Type 0) → (w ≡ None → P) → IfNone w P
+if_none None P h = h refl
+if_none (Some v) P h = tt
+
+none_if : {X : Type 0} (w : Option X) (P : Type 0) → IfNone w P → w ≡ None → P
+none_if None P h e = h
+none_if (Some v) P h e = cc
+
 module _ {V A : Type 0} where
+  view_fork_at : (b : Box (ForkNode V A) A) → IsLawfulBelow (Fork b)
+      → IsView (Fork b) b.value.prefix None b.value.left b.value.right (λ l r. Fork (with_value b (record { prefix = b.value.prefix; left = l; right = r })))
+  view_fork_at b h = record {
+    node = of_fork_at b h;
+    same = refl;
+    again = λ l r k i j. (record { pairs_are = refl; root_is = refl; count_is = refl; halves = k; left_lawful = i; right_lawful = j }, (k, i, j));
+    counts = λ l r. refl;
+    needed = λ l r k. k refl;
+    filled = λ k e. k;
+  }
+
+  view_full_at : (b : Box (FullNode V A) A) → IsLawfulBelow (Full b)
+      → IsView (Full b) b.value.prefix b.value.value b.value.left b.value.right
+      (λ l r. Full (with_value b (record { prefix = b.value.prefix; value = b.value.value; left = l; right = r })))
+  view_full_at b h = record {
+    node = of_full_at b h;
+    same = refl;
+    again = λ l r k i j. (record { pairs_are = refl; root_is = refl; count_is = refl; halves = k; left_lawful = i; right_lawful = j }, (k, i, j));
+    counts = λ l r. refl;
+    needed = λ l r. if_none b.value.value (IsFilled l × IsFilled r);
+    filled = none_if b.value.value (IsFilled b.value.left × IsFilled b.value.right);
+  }
+
+  pub view_fork : (b : Box (ForkNode V A) A) (n : ForkNode V A) (link : Link V A) → link ≡ Fork b → n ≡ b.value → IsLawfulBelow link
+      → IsView link n.prefix None n.left n.right (λ l r. Fork (with_value b (record { prefix = n.prefix; left = l; right = r })))
+  view_fork b n link e f h = rw (f, e) (view_fork_at b (subst IsLawfulBelow e h))
+
+  pub view_full : (b : Box (FullNode V A) A) (n : FullNode V A) (link : Link V A) → link ≡ Full b → n ≡ b.value → IsLawfulBelow link
+      → IsView link n.prefix n.value n.left n.right (λ l r. Full (with_value b (record { prefix = n.prefix; value = n.value; left = l; right = r })))
+  view_full b n link e f h = rw (f, e) (view_full_at b (subst IsLawfulBelow e h))
+
   -- what stands at a prefix on one side of a node stands there in that side's link
-  pub fork_get-left : (b : Box (ForkNode V A) A) (n : ForkNode V A) (link : Link V A) (p : Prefix) → link ≡ Fork b → n ≡ b.value → IsLawfulTrie link
-      → IsChild n.prefix false p → get (pairs link) p ≡ get (pairs n.left) p
-  fork_get-left b n link p e f h c = node_get-lower _ _ _ _ _ (of_fork b n link e f h.0) p (omega (arith, c.long)) (omega (arith, c.to, size_pos p.len))
+  pub get_left : (link : Link V A) (q : Prefix) (v : Option V) (left right : Link V A) (n : IsNode link q v left right) (p : Prefix)
+      → IsChild q false p → get (pairs link) p ≡ get (pairs left) p
+  get_left link q v left right n p c = node_get-lower link q v left right n p (omega (arith, c.long)) (omega (arith, c.to, size_pos p.len))
 
-  pub fork_get-right : (b : Box (ForkNode V A) A) (n : ForkNode V A) (link : Link V A) (p : Prefix) → link ≡ Fork b → n ≡ b.value → IsLawfulTrie link
-      → IsChild n.prefix true p → get (pairs link) p ≡ get (pairs n.right) p
-  fork_get-right b n link p e f h c = node_get-upper _ _ _ _ _ (of_fork b n link e f h.0) p (omega (arith, c.long)) c.from
+  pub get_right : (link : Link V A) (q : Prefix) (v : Option V) (left right : Link V A) (n : IsNode link q v left right) (p : Prefix)
+      → IsChild q true p → get (pairs link) p ≡ get (pairs right) p
+  get_right link q v left right n p c = node_get-upper link q v left right n p (omega (arith, c.long)) c.from
 
-  pub full_get-left : (b : Box (FullNode V A) A) (n : FullNode V A) (link : Link V A) (p : Prefix) → link ≡ Full b → n ≡ b.value → IsLawfulTrie link
-      → IsChild n.prefix false p → get (pairs link) p ≡ get (pairs n.left) p
-  full_get-left b n link p e f h c = node_get-lower _ _ _ _ _ (of_full b n link e f h.0) p (omega (arith, c.long)) (omega (arith, c.to, size_pos p.len))
-
-  pub full_get-right : (b : Box (FullNode V A) A) (n : FullNode V A) (link : Link V A) (p : Prefix) → link ≡ Full b → n ≡ b.value → IsLawfulTrie link
-      → IsChild n.prefix true p → get (pairs link) p ≡ get (pairs n.right) p
-  full_get-right b n link p e f h c = node_get-upper _ _ _ _ _ (of_full b n link e f h.0) p (omega (arith, c.long)) c.from
-
-  pub full_get-here : (b : Box (FullNode V A) A) (n : FullNode V A) (link : Link V A) (p : Prefix) → link ≡ Full b → n ≡ b.value → IsLawfulTrie link
-      → p ≡ n.prefix → get (pairs link) p ≡ n.value
-  full_get-here b n link p e f h i =
-      node_get-here _ _ _ _ _ (of_full b n link e f h.0) p (omega (arith, ap (λ (x : Prefix). x.len) i))
-      (same_rank n.prefix p (sym (ap (λ (x : Prefix). x.base) i)) (sym (ap (λ (x : Prefix). x.len) i)))
+  -- and its own prefix
+  pub get_own : (link : Link V A) (q : Prefix) (v : Option V) (left right : Link V A) (n : IsNode link q v left right) (p : Prefix)
+      → p ≡ q → get (pairs link) p ≡ v
+  get_own link q v left right n p i =
+      node_get-here link q v left right n p (omega (arith, ap (λ (x : Prefix). x.len) i))
+      (same_rank q p (sym (ap (λ (x : Prefix). x.base) i)) (sym (ap (λ (x : Prefix). x.len) i)))

@@ -1,17 +1,16 @@
 -- The nodes of a lawful link stand where a prefix is stored or two that are stored part, each once.
-use Rattle.std.proofs.Common.{◌≡◌, ℕ, ◌+◌, ◌<◌, ◌≤◌, ◌⊎◌, true, false, [], ◌∷◌, ◌++◌, Option, Some, None, length, inl, inr, refl, sym, ◌∙◌, ap, subst, arith, ◌↔◌, length-append}
-use Rattle.std.specs.Prelude.{is_some, IfNone}
+use Rattle.std.proofs.Common.{◌≡◌, ℕ, ◌+◌, ◌<◌, ◌⊎◌, [], ◌∷◌, ◌++◌, Option, Some, None, length, inl, inr, refl, ap, subst, arith, ◌↔◌, length-append}
+use Rattle.std.specs.Prelude.{IfNone}
 use Rattle.std.proofs.lemmas.Bool.{cases_lt, false≢true}
 use Rattle.rt_cidr.specs.declared.prefixes.Prefix.{Prefix}
 use Rattle.rt_cidr.specs.Cidr.{size_of}
 use Rattle.rt_trie.specs.declared.nodes.Link.{Link, Empty, Leaf, Fork', Full'}
-use Rattle.rt_trie.specs.Map.{Pairs, same_prefix, get, first, IsStored, IsOrdered}
+use Rattle.rt_trie.specs.Map.{Pairs, first, IsStored, IsOrdered}
 use Rattle.rt_trie.specs.Blocks.{IsWithin, middle, past}
 use Rattle.rt_trie.specs.Links.{own_pair, pairs, count, AreHalves, IsLawfulBelow, IsLawfulTrie, IsFilled}
-use Rattle.rt_trie.specs.Nodes.{PartAt, IsNodeAt, CountsNodes}
-use Rattle.rt_trie.proofs.OrderLemmas.{same_tells, same_rank}
+use Rattle.rt_trie.specs.Nodes.{IsNodeAt, CountsNodes}
+use Rattle.rt_trie.proofs.OrderLemmas.{same_rank}
 use Rattle.rt_trie.proofs.BlockLemmas.{size_pos, lower_half, ends_before}
-use Rattle.rt_trie.proofs.PairLemmas.{AllKeys}
 use Rattle.rt_trie.proofs.NodeLemmas.{AreSides, IsOrdered-node}
 use Rattle.rt_trie.proofs.LinkLemmas.{IsOn, AllWithin, node_within, pairs_within, filled_first}
 use Rattle.rt_trie.proofs.StoredLemmas.{stored-here, stored-more, stored-cases}

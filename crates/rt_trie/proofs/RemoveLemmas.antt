@@ -1,6 +1,6 @@
 -- What taking a pair out, and then a node that isn't needed, makes of a link.
 use Rattle.std.proofs.Common.{◌≡◌, ◌⊎◌, ◌+◌, Bool, true, false, [], ◌∷◌, ◌++◌, Option, Some, None, inl, inr, refl, sym, subst, ap, ◌∙◌, arith}
-use Rattle.std.specs.Prelude.{Box, IfSome}
+use Rattle.std.specs.Prelude.{Box}
 use Rattle.rt_cidr.specs.declared.prefixes.Prefix.{Prefix}
 use Rattle.rt_trie.specs.declared.nodes.Link.{Link, Empty, Leaf, Fork', Full'}
 use Rattle.rt_trie.specs.declared.nodes.Link.TheVariants.{Fork, Full}
@@ -17,11 +17,7 @@ use Rattle.rt_trie.proofs.OrderLemmas.{same_tells, same_rank}
 use Rattle.rt_trie.proofs.BlockLemmas.{size_pos}
 use Rattle.rt_trie.proofs.PairLemmas.{AllKeys-map, IsOther, IsHigher, IsLower, IsOther-higher, IsOther-lower, erase-skip, erase-none, erase-front, erase-here}
 use Rattle.rt_trie.proofs.NodeLemmas.{upper_higher, lower_lower, own_other, sides_higher}
-use Rattle.rt_trie.proofs.LinkLemmas.{IsNode, within_lower, within_upper, sides_of, of_fork, of_full, node_get-unstored}
-
-pub if_some_map : (o : Option Prefix) (P Q : Prefix → Type 0) → ((x : Prefix) → P x → Q x) → IfSome o P → IfSome o Q
-if_some_map None P Q f h = h
-if_some_map (Some x) P Q f h = f x h
+use Rattle.rt_trie.proofs.LinkLemmas.{if_some_map, IsNode, IsView, within_lower, within_upper, sides_of, of_fork, of_full, node_get-unstored}
 
 -- a child of a child on a side is a child there
 child_lower : (parent : Prefix) (upper : Bool) (q x : Prefix) → IsChild parent upper q → IsChild q false x → IsChild parent upper x
@@ -125,55 +121,18 @@ module _ {V A : Type 0} where
     rw (e, i, j) (h, k, m),
   )
 
-  made_below_fork : (b : Box (ForkNode V A) A) (q : Prefix) (l r : Link V A) → b.value.prefix ≡ q
-      → b.value.left ≡ l → b.value.right ≡ r → AreHalves q l r → IsLawfulTrie l → IsLawfulTrie r → IsNode (Fork b) q None l r × IsLawfulBelow (Fork b)
-  made_below_fork b q l r e i j h k m = (
-    rw (e, i, j) (record {
-      pairs_are = refl;
-      root_is = refl;
-      count_is = refl;
-      halves = h;
-      left_lawful = k;
-      right_lawful = m;
-    }),
-    rw (e, i, j) (h, k, m),
-  )
+  -- p was taken out on one side of a node
+  pub halfway_left : (old : Link V A) (q : Prefix) (w : Option V) (l r k : Link V A) (make : Link V A → Link V A → Link V A) (p : Prefix)
+      → IsView old q w l r make → IsChild q false p → IsErased l k p → IsHalfway old (make k r) p
+  halfway_left old q w l r k make p x c i =
+      let u = x.again k r (record { lower = i.stays q false x.node.halves.lower; upper = x.node.halves.upper }) i.lawful x.node.right_lawful in
+      record { pairs_are = erase_left old (make k r) q w l r k p x.node u.0 c i; below = u.1; root_is = u.0.root_is ∙ sym x.node.root_is }
 
-  pub halfway_fork_left : (f : Box (ForkNode V A) A) (m : ForkNode V A) (old k : Link V A) (p : Prefix) → old ≡ Fork f → m ≡ f.value
-      → IsLawfulTrie old → IsChild m.prefix false p → IsErased m.left k p → (b : Box (ForkNode V A) A) → b.value.prefix ≡ m.prefix
-      → b.value.left ≡ k → b.value.right ≡ m.right → IsHalfway old (Fork b) p
-  halfway_fork_left f m old k p e g h c i b x y z =
-      let n = of_fork f m old e g h.0 in
-      let u = made_below_fork b m.prefix k m.right x y z
-      (record { lower = i.stays m.prefix false n.halves.lower; upper = n.halves.upper }) i.lawful n.right_lawful in
-      record { pairs_are = erase_left old (Fork b) m.prefix None m.left m.right k p n u.0 c i; below = u.1; root_is = u.0.root_is ∙ sym n.root_is }
-
-  pub halfway_fork_right : (f : Box (ForkNode V A) A) (m : ForkNode V A) (old k : Link V A) (p : Prefix) → old ≡ Fork f → m ≡ f.value
-      → IsLawfulTrie old → IsChild m.prefix true p → IsErased m.right k p → (b : Box (ForkNode V A) A) → b.value.prefix ≡ m.prefix
-      → b.value.left ≡ m.left → b.value.right ≡ k → IsHalfway old (Fork b) p
-  halfway_fork_right f m old k p e g h c i b x y z =
-      let n = of_fork f m old e g h.0 in
-      let u = made_below_fork b m.prefix m.left k x y z
-      (record { lower = n.halves.lower; upper = i.stays m.prefix true n.halves.upper }) n.left_lawful i.lawful in
-      record { pairs_are = erase_right old (Fork b) m.prefix None m.left m.right k p n u.0 c i; below = u.1; root_is = u.0.root_is ∙ sym n.root_is }
-
-  pub halfway_full_left : (f : Box (FullNode V A) A) (m : FullNode V A) (old k : Link V A) (p : Prefix) → old ≡ Full f → m ≡ f.value
-      → IsLawfulTrie old → IsChild m.prefix false p → IsErased m.left k p → (b : Box (FullNode V A) A) → b.value.prefix ≡ m.prefix
-      → b.value.value ≡ m.value → b.value.left ≡ k → b.value.right ≡ m.right → IsHalfway old (Full b) p
-  halfway_full_left f m old k p e g h c i b x w y z =
-      let n = of_full f m old e g h.0 in
-      let u = made_below_full b m.prefix m.value k m.right x w y z
-      (record { lower = i.stays m.prefix false n.halves.lower; upper = n.halves.upper }) i.lawful n.right_lawful in
-      record { pairs_are = erase_left old (Full b) m.prefix m.value m.left m.right k p n u.0 c i; below = u.1; root_is = u.0.root_is ∙ sym n.root_is }
-
-  pub halfway_full_right : (f : Box (FullNode V A) A) (m : FullNode V A) (old k : Link V A) (p : Prefix) → old ≡ Full f → m ≡ f.value
-      → IsLawfulTrie old → IsChild m.prefix true p → IsErased m.right k p → (b : Box (FullNode V A) A) → b.value.prefix ≡ m.prefix
-      → b.value.value ≡ m.value → b.value.left ≡ m.left → b.value.right ≡ k → IsHalfway old (Full b) p
-  halfway_full_right f m old k p e g h c i b x w y z =
-      let n = of_full f m old e g h.0 in
-      let u = made_below_full b m.prefix m.value m.left k x w y z
-      (record { lower = n.halves.lower; upper = i.stays m.prefix true n.halves.upper }) n.left_lawful i.lawful in
-      record { pairs_are = erase_right old (Full b) m.prefix m.value m.left m.right k p n u.0 c i; below = u.1; root_is = u.0.root_is ∙ sym n.root_is }
+  pub halfway_right : (old : Link V A) (q : Prefix) (w : Option V) (l r k : Link V A) (make : Link V A → Link V A → Link V A) (p : Prefix)
+      → IsView old q w l r make → IsChild q true p → IsErased r k p → IsHalfway old (make l k) p
+  halfway_right old q w l r k make p x c i =
+      let u = x.again l k (record { lower = x.node.halves.lower; upper = i.stays q true x.node.halves.upper }) x.node.left_lawful i.lawful in
+      record { pairs_are = erase_right old (make l k) q w l r k p x.node u.0 c i; below = u.1; root_is = u.0.root_is ∙ sym x.node.root_is }
 
   pub halfway_full_here : (f : Box (FullNode V A) A) (m : FullNode V A) (old : Link V A) (p : Prefix) → old ≡ Full f → m ≡ f.value
       → IsLawfulTrie old → p ≡ m.prefix → (b : Box (FullNode V A) A) → b.value.prefix ≡ m.prefix

@@ -1,11 +1,11 @@
 -- What stands in a list in order: the pairs that are found, and the first and the next of their prefixes.
-use Rattle.std.proofs.Common.{◌≡◌, zero, suc, ◌+◌, ◌<◌, ◌≤◌, ◌⊎◌, true, false, [], ◌∷◌, ◌++◌, Some, None, length, inl, inr, refl, sym, ◌∙◌, ap, subst, arith, ◌↔◌}
+use Rattle.std.proofs.Common.{◌≡◌, zero, suc, ◌<◌, ◌⊎◌, true, false, [], ◌∷◌, Some, None, inl, inr, refl, sym, ◌∙◌, ap, subst, arith, ◌↔◌}
 use Rattle.std.specs.Prelude.{Contains, is_some}
-use Rattle.std.proofs.lemmas.Bool.{cases_lt, false≢true}
+use Rattle.std.proofs.lemmas.Bool.{false≢true}
 use Rattle.rt_cidr.specs.declared.prefixes.Prefix.{Prefix}
 use Rattle.rt_cidr.specs.Laws.{SamePrefix}
-use Rattle.rt_trie.specs.Map.{Pairs, same_prefix, before, get, first, next_after, IsStored, IsBeforeAll, IsOrdered}
-use Rattle.rt_trie.proofs.OrderLemmas.{rank, same_tells, before_tells, same_rank, other_rank, lower_rank, higher_rank, rank_of_before, rank_of_not_before}
+use Rattle.rt_trie.specs.Map.{Pairs, before, get, first, next_after, IsStored, IsBeforeAll, IsOrdered}
+use Rattle.rt_trie.proofs.OrderLemmas.{rank, same_tells, before_tells, same_rank, other_rank, lower_rank, higher_rank, rank_of_before}
 use Rattle.rt_trie.proofs.PairLemmas.{AllKeys-map, IsHigher, IsOther, IsOther-higher, get-none}
 use Rattle.rt_trie.proofs.CountLemmas.{AllKeys-higher}
 

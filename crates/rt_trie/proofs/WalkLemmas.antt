@@ -4,8 +4,7 @@ use Rattle.std.proofs.Common.{true, false, inl, inr}
 use Rattle.std.proofs.lemmas.Bool.{cases_lt}
 use Rattle.std.specs.Prelude.{IfSome, IsSomeAnd}
 use Rattle.rt_trie.specs.Blocks.{IsChild}
-use Rattle.rt_trie.proofs.RemoveLemmas.{if_some_map}
-use Rattle.rt_trie.proofs.LinkLemmas.{IsNode}
+use Rattle.rt_trie.proofs.LinkLemmas.{if_some_map, IsNode}
 use Rattle.std.specs.Borrow.{Bor}
 use Rattle.rt_cidr.specs.declared.prefixes.Prefix.{Prefix}
 use Rattle.rt_trie.specs.declared.nodes.Link.{Link}

@@ -1,8 +1,8 @@
 -- What an insertion and a removal make of a link.
-use Rattle.std.specs.Prelude.{◌≡◌, ◌+◌, ◌++◌, ◌⊎◌, Bool}
+use Rattle.std.specs.Prelude.{◌≡◌, ℕ, ◌+◌, ◌++◌, ◌⊎◌, Bool, true, false, Option, None, IfSome}
 use Rattle.rt_cidr.specs.declared.prefixes.Prefix.{Prefix}
 use Rattle.rt_trie.specs.declared.nodes.Link.{Link}
-use Rattle.rt_trie.specs.Map.{put, erase}
+use Rattle.rt_trie.specs.Map.{get, put, erase}
 use Rattle.rt_trie.specs.Blocks.{IsChild}
 use Rattle.rt_trie.specs.Links.{pairs, count, IsFilled, IsVacant, IsLawfulTrie, IsChildLink}
 
@@ -16,6 +16,24 @@ pub record IsPut {V A : Type 0} (old new : Link V A) (p : Prefix) (v : V) : Type
   pub lawful : IsLawfulTrie new
   pub filled : IsFilled new
   pub stays : (parent : Prefix) (upper : Bool) → IsChildLink parent upper old → IsChild parent upper p → IsChildLink parent upper new
+
+-- the value given was put at p, `had` is what stood there, and the number of nodes went from n to m with the link's
+pub record IsInserted {V A : Type 0} (old new : Link V A) (n m : ℕ) (p : Prefix) (given had : Option V) : Type 0 where
+  pub put : IfSome given (IsPut old new p)
+  pub had_is : had ≡ get (pairs old) p
+  pub counted : m + count old ≡ n + count new
+
+-- memory was refused: nothing has changed, and nothing stands at p, since to put another value there takes no memory
+pub record IsRefused {V A : Type 0} (old new : Link V A) (n m : ℕ) (p : Prefix) (given back : Option V) : Type 0 where
+  pub absent : get (pairs old) p ≡ None
+  pub back_is : back ≡ given
+  pub same : new ≡ old
+  pub counted : m ≡ n
+
+-- what an insertion did that answers whether it was done
+abbrev pub Inserts : {V A : Type 0} → Link V A → Link V A → ℕ → ℕ → Prefix → Option V → Option V → Bool → Type 0
+Inserts old new n m p given slot true = IsInserted old new n m p given slot
+Inserts old new n m p given slot false = IsRefused old new n m p given slot
 
 -- what stood at p was taken out: the link is lawful, and a child on each side where it was one
 pub record IsErased {V A : Type 0} (old new : Link V A) (p : Prefix) : Type 0 where

@@ -1,41 +1,43 @@
 //! Putting a value into a trie. Every box is made before the first link is changed.
+//!
+//! The value comes in a slot, and what stood in its place is left there. So the way down carries a `bool` alone, each call
+//! of it is its function's last act, and what it may change at its end stands in functions of their own: it becomes a loop.
 
-ghost use Rattle.std.specs.Prelude.{◌≡◌, ◌+◌, ◌<◌, ◌≤◌, ◌^◌, ◌⊎◌, false, true, None, IsSome, IsOk, IfOk, IfErr, OnOk, OnSome, IfSome};
+ghost use Rattle.std.specs.Prelude.{◌≡◌, ℕ, ◌+◌, ◌<◌, ◌≤◌, ◌^◌, ◌⊎◌, false, true, None, Some, IsSome, IfSome, IfNone};
 ghost use Rattle.rt_trie.specs.declared.nodes.Link.TheVariants.{Empty};
 ghost use Rattle.rt_trie.specs.declared.nodes.Place.TheVariants.{Above, Apart};
-ghost use Rattle.rt_trie.specs.Map.{get};
 ghost use Rattle.rt_trie.specs.Blocks.{middle, IsChild, StandsAt, PartsAt};
-ghost use Rattle.rt_trie.specs.Links.{pairs, root, count, IsLawfulTrie, IsLeafOf, IsForkOf};
-ghost use Rattle.rt_trie.specs.Changes.{IsPut};
+ghost use Rattle.rt_trie.specs.Links.{root, IsLawfulTrie, IsLeafOf, IsForkOf};
+ghost use Rattle.rt_trie.specs.Changes.{Inserts};
 
 use crate::nodes::{ForkNode, FullNode, LeafNode, Link, Place, middle, place_of};
 use rt_cidr::Prefix;
 use std::alloc::Allocator;
 use std::mem;
 
-/// Puts the value at p below the link, and gives the value that stood there. Where memory is refused it gives its own
-/// value back, and nothing has changed.
+/// Puts the value at p below the link, and leaves what stood there in its slot. Where memory is refused the answer is
+/// `false`, and nothing has changed.
 pub(crate) fn insert<V: Drop, A: Allocator + Copy>(
     link: &mut Link<V, A>,
     nodes: &mut usize,
     alloc: A,
     p: Prefix,
-    value: V,
-) -> Result<Option<V>, V>
+    value: &mut Option<V>,
+) -> bool
     requires lawful { IsLawfulTrie link.old }
     requires room { nodes.old + 2 < 2 ^ 64 }
-    ensures put { OnOk result (IsPut link.old link.new p value) }
-    ensures had { IfOk result (λ had. had ≡ get (pairs link.old) p) }
-    ensures counted { OnOk result (nodes.new + count link.old ≡ nodes.old + count link.new) }
-    ensures refused { IfErr result (λ back. (back ≡ value) × (link.new ≡ link.old) × (nodes.new ≡ nodes.old)) }
-    ensures there { IsSome (get (pairs link.old) p) → IsOk result }
+    requires given { IsSome value.old }
+    ensures { Inserts link.old link.new nodes.old nodes.new p value.old value.new result }
 {
     match link {
         Link::Empty => plant(link, nodes, alloc, p, value),
         Link::Leaf(leaf) => {
             let q = leaf.prefix;
             match place_of(&q, &p) {
-                Place::Here => Ok(Some(mem::replace(&mut leaf.value, value))),
+                Place::Here => {
+                    exchange(&mut leaf.value, value);
+                    true
+                }
                 Place::Left | Place::Right => grow(link, nodes, alloc, p, q, value),
                 Place::Above => cover(link, nodes, alloc, p, q, value),
                 Place::Apart => part(link, nodes, alloc, p, q, value),
@@ -54,7 +56,10 @@ pub(crate) fn insert<V: Drop, A: Allocator + Copy>(
         Link::Full(full) => {
             let q = full.prefix;
             match place_of(&q, &p) {
-                Place::Here => Ok(full.value.replace(value)),
+                Place::Here => {
+                    mem::swap(&mut full.value, value);
+                    true
+                }
                 Place::Left => insert(&mut full.left, nodes, alloc, p, value),
                 Place::Right => insert(&mut full.right, nodes, alloc, p, value),
                 Place::Above => cover(link, nodes, alloc, p, q, value),
@@ -64,31 +69,69 @@ pub(crate) fn insert<V: Drop, A: Allocator + Copy>(
     }
 }
 
+// The value in the slot and the one that is stored change places.
+#[inline(never)]
+fn exchange<V: Drop>(stored: &mut V, value: &mut Option<V>)
+    requires given { IsSome value.old }
+    ensures stored { value.old ≡ Some stored.new }
+    ensures had { value.new ≡ Some stored.old }
+{
+    let Some(given) = value.take() else {
+        unreachable!()
+    };
+    *value = Some(mem::replace(stored, given));
+}
+
 // A leaf where nothing was.
+#[inline(never)]
 fn plant<V: Drop, A: Allocator + Copy>(
     link: &mut Link<V, A>,
     nodes: &mut usize,
     alloc: A,
     p: Prefix,
-    value: V,
-) -> Result<Option<V>, V>
+    value: &mut Option<V>,
+) -> bool
     requires empty { link.old ≡ Empty }
     requires room { nodes.old + 2 < 2 ^ 64 }
-    ensures put { OnOk result (IsPut link.old link.new p value) }
-    ensures absent { get (pairs link.old) p ≡ None }
-    ensures had { IfOk result (λ had. had ≡ None) }
-    ensures counted { OnOk result (nodes.new + count link.old ≡ nodes.old + count link.new) }
-    ensures refused { IfErr result (λ back. (back ≡ value) × (link.new ≡ link.old) × (nodes.new ≡ nodes.old)) }
+    requires given { IsSome value.old }
+    ensures { Inserts link.old link.new nodes.old nodes.new p value.old value.new result }
 {
-    match Box::new(alloc, LeafNode { prefix: p, value }) {
-        Ok(leaf) => {
-            *link = Link::Leaf(leaf);
-            *nodes += 1;
-            Ok(None)
-        }
+    let Some(leaf) = leaf_of(alloc, p, value) else {
+        return false;
+    };
+    *link = Link::Leaf(leaf);
+    *nodes += 1;
+    true
+}
+
+// A leaf of p with the value in the slot, which is left there where memory is refused.
+fn leaf_of<V: Drop, A: Allocator + Copy>(
+    alloc: A,
+    p: Prefix,
+    value: &mut Option<V>,
+) -> Option<Box<LeafNode<V>, A>>
+    requires given { IsSome value.old }
+    ensures made { IfSome result (λ leaf. (leaf.value.prefix ≡ p) × (value.old ≡ Some leaf.value.value) × (value.new ≡ None)) }
+    ensures refused { IfNone result (value.new ≡ value.old) }
+{
+    let Some(given) = value.take() else {
+        unreachable!()
+    };
+    match Box::new(
+        alloc,
+        LeafNode {
+            prefix: p,
+            value: given,
+        },
+    ) {
+        Ok(leaf) => Some(leaf),
         Err(refused) => {
-            let LeafNode { prefix: _, value } = refused.value;
-            Err(value)
+            let LeafNode {
+                prefix: _,
+                value: given,
+            } = refused.value;
+            *value = Some(given);
+            None
         }
     }
 }
@@ -123,33 +166,40 @@ fn on_side<V, A: Allocator>(
 }
 
 // The leaf at q becomes a full node, and its box holds p below it.
+#[inline(never)]
 fn grow<V: Drop, A: Allocator + Copy>(
     link: &mut Link<V, A>,
     nodes: &mut usize,
     alloc: A,
     p: Prefix,
     q: Prefix,
-    value: V,
-) -> Result<Option<V>, V>
+    value: &mut Option<V>,
+) -> bool
     requires leaf { IsLeafOf q link.old }
     requires below { IsChild q false p ⊎ IsChild q true p }
     requires room { nodes.old + 2 < 2 ^ 64 }
-    ensures put { OnOk result (IsPut link.old link.new p value) }
-    ensures absent { get (pairs link.old) p ≡ None }
-    ensures had { IfOk result (λ had. had ≡ None) }
-    ensures counted { OnOk result (nodes.new + count link.old ≡ nodes.old + count link.new) }
-    ensures refused { IfErr result (λ back. (back ≡ value) × (link.new ≡ link.old) × (nodes.new ≡ nodes.old)) }
+    requires given { IsSome value.old }
+    ensures { Inserts link.old link.new nodes.old nodes.new p value.old value.new result }
 {
     let Some(mut full) = bare(alloc, q) else {
-        return Err(value);
+        return false;
     };
     let Link::Leaf(mut leaf) = mem::replace(link, Link::Empty) else {
+        unreachable!()
+    };
+    let Some(given) = value.take() else {
         unreachable!()
     };
     let LeafNode {
         prefix: _,
         value: above,
-    } = mem::replace(&mut *leaf, LeafNode { prefix: p, value });
+    } = mem::replace(
+        &mut *leaf,
+        LeafNode {
+            prefix: p,
+            value: given,
+        },
+    );
     let (left, right) = on_side(&q, p.base(), Link::Leaf(leaf));
     *full = FullNode {
         prefix: q,
@@ -159,26 +209,24 @@ fn grow<V: Drop, A: Allocator + Copy>(
     };
     *link = Link::Full(full);
     *nodes += 1;
-    Ok(None)
+    true
 }
 
 // The fork at p becomes a full node, as its prefix is stored now.
+#[inline(never)]
 fn fill<V: Drop, A: Allocator + Copy>(
     link: &mut Link<V, A>,
     alloc: A,
     p: Prefix,
-    value: V,
-) -> Result<Option<V>, V>
+    value: &mut Option<V>,
+) -> bool
     requires lawful { IsLawfulTrie link.old }
     requires fork { IsForkOf p link.old }
-    ensures put { OnOk result (IsPut link.old link.new p value) }
-    ensures absent { get (pairs link.old) p ≡ None }
-    ensures had { IfOk result (λ had. had ≡ None) }
-    ensures counted { OnOk result (count link.new ≡ count link.old) }
-    ensures refused { IfErr result (λ back. (back ≡ value) × (link.new ≡ link.old)) }
+    requires given { IsSome value.old }
+    ensures { (n : ℕ) → Inserts link.old link.new n n p value.old value.new result }
 {
     let Some(mut full) = bare(alloc, p) else {
-        return Err(value);
+        return false;
     };
     let Link::Fork(fork) = mem::replace(link, Link::Empty) else {
         unreachable!()
@@ -190,66 +238,62 @@ fn fill<V: Drop, A: Allocator + Copy>(
     } = Box::into_inner(fork);
     *full = FullNode {
         prefix: p,
-        value: Some(value),
+        value: value.take(),
         left,
         right,
     };
     *link = Link::Full(full);
-    Ok(None)
+    true
 }
 
 // A full node for p, with what was here on one of its sides.
+#[inline(never)]
 fn cover<V: Drop, A: Allocator + Copy>(
     link: &mut Link<V, A>,
     nodes: &mut usize,
     alloc: A,
     p: Prefix,
     q: Prefix,
-    value: V,
-) -> Result<Option<V>, V>
+    value: &mut Option<V>,
+) -> bool
     requires lawful { IsLawfulTrie link.old }
     requires root { root link.old ≡ Some q }
     requires place { StandsAt q p Above }
     requires room { nodes.old + 2 < 2 ^ 64 }
-    ensures put { OnOk result (IsPut link.old link.new p value) }
-    ensures absent { get (pairs link.old) p ≡ None }
-    ensures had { IfOk result (λ had. had ≡ None) }
-    ensures counted { OnOk result (nodes.new + count link.old ≡ nodes.old + count link.new) }
-    ensures refused { IfErr result (λ back. (back ≡ value) × (link.new ≡ link.old) × (nodes.new ≡ nodes.old)) }
+    requires given { IsSome value.old }
+    ensures { Inserts link.old link.new nodes.old nodes.new p value.old value.new result }
 {
     let Some(mut full) = bare(alloc, p) else {
-        return Err(value);
+        return false;
     };
     let (left, right) = on_side(&p, q.base(), mem::replace(link, Link::Empty));
     *full = FullNode {
         prefix: p,
-        value: Some(value),
+        value: value.take(),
         left,
         right,
     };
     *link = Link::Full(full);
     *nodes += 1;
-    Ok(None)
+    true
 }
 
 // A fork where p and what was here part.
+#[inline(never)]
 fn part<V: Drop, A: Allocator + Copy>(
     link: &mut Link<V, A>,
     nodes: &mut usize,
     alloc: A,
     p: Prefix,
     q: Prefix,
-    value: V,
-) -> Result<Option<V>, V>
+    value: &mut Option<V>,
+) -> bool
     requires lawful { IsLawfulTrie link.old }
     requires root { root link.old ≡ Some q }
     requires place { StandsAt q p Apart }
     requires room { nodes.old + 2 < 2 ^ 64 }
-    ensures put { OnOk result (IsPut link.old link.new p value) }
-    ensures absent { get (pairs link.old) p ≡ None }
-    ensures had { IfOk result (λ had. had ≡ None) }
-    ensures counted { OnOk result (nodes.new + count link.old ≡ nodes.old + count link.new) }
-    ensures refused { IfErr result (λ back. (back ≡ value) × (link.new ≡ link.old) × (nodes.new ≡ nodes.old)) }
+    requires given { IsSome value.old }
+    ensures { Inserts link.old link.new nodes.old nodes.new p value.old value.new result }
 {
     let prefix = common(&p, &q);
     let node = ForkNode {
@@ -258,20 +302,17 @@ fn part<V: Drop, A: Allocator + Copy>(
         right: Link::Empty,
     };
     let Some(mut fork) = Box::new(alloc, node).ok() else {
-        return Err(value);
+        return false;
     };
-    let leaf = match Box::new(alloc, LeafNode { prefix: p, value }) {
-        Ok(leaf) => Link::Leaf(leaf),
-        Err(refused) => {
-            let LeafNode { prefix: _, value } = refused.value;
-            return Err(value);
-        }
+    let Some(new) = leaf_of(alloc, p, value) else {
+        return false;
     };
+    let new = Link::Leaf(new);
     let other = mem::replace(link, Link::Empty);
     let (left, right) = if p.base() < q.base() {
-        (leaf, other)
+        (new, other)
     } else {
-        (other, leaf)
+        (other, new)
     };
     *fork = ForkNode {
         prefix,
@@ -280,7 +321,7 @@ fn part<V: Drop, A: Allocator + Copy>(
     };
     *link = Link::Fork(fork);
     *nodes += 2;
-    Ok(None)
+    true
 }
 
 // The longest prefix that contains both of two that have no address in common.

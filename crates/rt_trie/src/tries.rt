@@ -97,11 +97,15 @@ impl<V: Drop, A: Allocator + Copy> Trie<V, A> {
         ensures refused { IfErr result (λ back. (back ≡ v) × (self.new ≡ self.old)) }
         ensures stored_succeeds { IsSome (get self.old.pairs p) → IsOk result }
     {
-        let had = insertion::insert(&mut self.root, &mut self.nodes, self.alloc, p, v)?;
-        if had.is_none() {
-            self.len += 1;
+        let mut slot = Some(v);
+        if insertion::insert(&mut self.root, &mut self.nodes, self.alloc, p, &mut slot) {
+            if slot.is_none() {
+                self.len += 1;
+            }
+            return Ok(slot);
         }
-        Ok(had)
+        let Some(back) = slot else { unreachable!() };
+        Err(back)
     }
 
     /// Takes the prefix and its value out of the map, and gives the value. It takes no memory.

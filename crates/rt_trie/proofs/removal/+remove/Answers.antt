@@ -6,8 +6,8 @@ use Rattle.rt_trie.specs.declared.nodes.ForkNode.{ForkNode}
 use Rattle.rt_trie.specs.declared.nodes.FullNode.{FullNode}
 use Rattle.rt_trie.specs.Blocks.{IsChild}
 use Rattle.rt_trie.specs.Links.{count}
-use Rattle.rt_trie.proofs.RemoveLemmas.{IsHalfway, halfway_fork_left, halfway_fork_right, halfway_full_left, halfway_full_right, halfway_full_here, erased_of, erased_same, erased_leaf, fork_none, full_none}
-use Rattle.rt_trie.proofs.LinkLemmas.{fork_get-left, fork_get-right, full_get-left, full_get-right, full_get-here}
+use Rattle.rt_trie.proofs.RemoveLemmas.{IsHalfway, halfway_left, halfway_right, halfway_full_here, erased_of, erased_same, erased_leaf, fork_none, full_none}
+use Rattle.rt_trie.proofs.LinkLemmas.{of_fork, of_full, view_fork, view_full, get_left, get_right, get_own}
 use Rattle.rt_trie.proofs.removal.+remove.Goals as goal
 use Rattle.rt_trie.proofs.removal.+remove.Goals.{in-Fork+in-Left, in-Fork+in-Right, in-Full+in-Here-place_of, in-Full+in-Left-place_of, in-Full+in-Right-place_of}
 
@@ -70,23 +70,23 @@ splice-requires-clause-lawful g t c =
       | in-Fork+in-Left w ↦
           let m = w.deref_mut.result.now in
           let place = subst (λ (n : ForkNode _ _). IsChild n.prefix false p) (w.deref.ensures ∙ sym w.deref_mut.ensures.value) w.in-Left.ensures in
-          rw w.link-is (IsHalfway.below (halfway_fork_left w.in-Fork.fork m old w.remove.new.link p w.in-Fork.is w.deref_mut.ensures.value c.requires.lawful place
-          w.remove.ensures.erased (with_value w.in-Fork.fork (record { prefix = m.prefix; left = w.remove.new.link; right = m.right })) refl refl refl))
+          rw w.link-is (IsHalfway.below (halfway_left old m.prefix _ m.left m.right w.remove.new.link _ p
+          (view_fork w.in-Fork.fork m old w.in-Fork.is w.deref_mut.ensures.value c.requires.lawful.0) place w.remove.ensures.erased))
       | in-Fork+in-Right w ↦
           let m = w.deref_mut-in-Right.result.now in
           let place = subst (λ (n : ForkNode _ _). IsChild n.prefix true p) (w.deref.ensures ∙ sym w.deref_mut-in-Right.ensures.value) w.in-Right.ensures in
-          rw w.link-is (IsHalfway.below (halfway_fork_right w.in-Fork.fork m old w.remove-in-Right.new.link p w.in-Fork.is w.deref_mut-in-Right.ensures.value c.requires.lawful place
-          w.remove-in-Right.ensures.erased (with_value w.in-Fork.fork (record { prefix = m.prefix; left = m.left; right = w.remove-in-Right.new.link })) refl refl refl))
+          rw w.link-is (IsHalfway.below (halfway_right old m.prefix _ m.left m.right w.remove-in-Right.new.link _ p
+          (view_fork w.in-Fork.fork m old w.in-Fork.is w.deref_mut-in-Right.ensures.value c.requires.lawful.0) place w.remove-in-Right.ensures.erased))
       | in-Full+in-Left-place_of w ↦
           let m = w.deref_mut-in-Left-place_of.result.now in
           let place = subst (λ (n : FullNode _ _). IsChild n.prefix false p) (w.deref-in-Full.ensures ∙ sym w.deref_mut-in-Left-place_of.ensures.value) w.in-Left-place_of.ensures in
-          rw w.link-is (IsHalfway.below (halfway_full_left w.in-Full.full m old w.remove-in-Left-place_of.new.link p w.in-Full.is w.deref_mut-in-Left-place_of.ensures.value c.requires.lawful place
-          w.remove-in-Left-place_of.ensures.erased (with_value w.in-Full.full (record { prefix = m.prefix; value = m.value; left = w.remove-in-Left-place_of.new.link; right = m.right })) refl refl refl refl))
+          rw w.link-is (IsHalfway.below (halfway_left old m.prefix _ m.left m.right w.remove-in-Left-place_of.new.link _ p
+          (view_full w.in-Full.full m old w.in-Full.is w.deref_mut-in-Left-place_of.ensures.value c.requires.lawful.0) place w.remove-in-Left-place_of.ensures.erased))
       | in-Full+in-Right-place_of w ↦
           let m = w.deref_mut-in-Right-place_of.result.now in
           let place = subst (λ (n : FullNode _ _). IsChild n.prefix true p) (w.deref-in-Full.ensures ∙ sym w.deref_mut-in-Right-place_of.ensures.value) w.in-Right-place_of.ensures in
-          rw w.link-is (IsHalfway.below (halfway_full_right w.in-Full.full m old w.remove-in-Right-place_of.new.link p w.in-Full.is w.deref_mut-in-Right-place_of.ensures.value c.requires.lawful place
-          w.remove-in-Right-place_of.ensures.erased (with_value w.in-Full.full (record { prefix = m.prefix; value = m.value; left = m.left; right = w.remove-in-Right-place_of.new.link })) refl refl refl refl))
+          rw w.link-is (IsHalfway.below (halfway_right old m.prefix _ m.left m.right w.remove-in-Right-place_of.new.link _ p
+          (view_full w.in-Full.full m old w.in-Full.is w.deref_mut-in-Right-place_of.ensures.value c.requires.lawful.0) place w.remove-in-Right-place_of.ensures.erased))
       | in-Full+in-Here-place_of w ↦
           let m = w.deref_mut-in-Here-place_of.result.now in
           let place : p ≡ m.prefix = subst (λ (n : FullNode _ _). p ≡ n.prefix) (w.deref-in-Full.ensures ∙ sym w.deref_mut-in-Here-place_of.ensures.value)
@@ -105,23 +105,23 @@ returns-clause-erased g t c =
       | in-Fork+in-Left w ↦
           let m = w.deref_mut.result.now in
           let place = subst (λ (n : ForkNode _ _). IsChild n.prefix false p) (w.deref.ensures ∙ sym w.deref_mut.ensures.value) w.in-Left.ensures in
-          rw w.link-is (halfway_fork_left w.in-Fork.fork m old w.remove.new.link p w.in-Fork.is w.deref_mut.ensures.value c.requires.lawful place
-          w.remove.ensures.erased (with_value w.in-Fork.fork (record { prefix = m.prefix; left = w.remove.new.link; right = m.right })) refl refl refl)
+          rw w.link-is (halfway_left old m.prefix _ m.left m.right w.remove.new.link _ p
+          (view_fork w.in-Fork.fork m old w.in-Fork.is w.deref_mut.ensures.value c.requires.lawful.0) place w.remove.ensures.erased)
       | in-Fork+in-Right w ↦
           let m = w.deref_mut-in-Right.result.now in
           let place = subst (λ (n : ForkNode _ _). IsChild n.prefix true p) (w.deref.ensures ∙ sym w.deref_mut-in-Right.ensures.value) w.in-Right.ensures in
-          rw w.link-is (halfway_fork_right w.in-Fork.fork m old w.remove-in-Right.new.link p w.in-Fork.is w.deref_mut-in-Right.ensures.value c.requires.lawful place
-          w.remove-in-Right.ensures.erased (with_value w.in-Fork.fork (record { prefix = m.prefix; left = m.left; right = w.remove-in-Right.new.link })) refl refl refl)
+          rw w.link-is (halfway_right old m.prefix _ m.left m.right w.remove-in-Right.new.link _ p
+          (view_fork w.in-Fork.fork m old w.in-Fork.is w.deref_mut-in-Right.ensures.value c.requires.lawful.0) place w.remove-in-Right.ensures.erased)
       | in-Full+in-Left-place_of w ↦
           let m = w.deref_mut-in-Left-place_of.result.now in
           let place = subst (λ (n : FullNode _ _). IsChild n.prefix false p) (w.deref-in-Full.ensures ∙ sym w.deref_mut-in-Left-place_of.ensures.value) w.in-Left-place_of.ensures in
-          rw w.link-is (halfway_full_left w.in-Full.full m old w.remove-in-Left-place_of.new.link p w.in-Full.is w.deref_mut-in-Left-place_of.ensures.value c.requires.lawful place
-          w.remove-in-Left-place_of.ensures.erased (with_value w.in-Full.full (record { prefix = m.prefix; value = m.value; left = w.remove-in-Left-place_of.new.link; right = m.right })) refl refl refl refl)
+          rw w.link-is (halfway_left old m.prefix _ m.left m.right w.remove-in-Left-place_of.new.link _ p
+          (view_full w.in-Full.full m old w.in-Full.is w.deref_mut-in-Left-place_of.ensures.value c.requires.lawful.0) place w.remove-in-Left-place_of.ensures.erased)
       | in-Full+in-Right-place_of w ↦
           let m = w.deref_mut-in-Right-place_of.result.now in
           let place = subst (λ (n : FullNode _ _). IsChild n.prefix true p) (w.deref-in-Full.ensures ∙ sym w.deref_mut-in-Right-place_of.ensures.value) w.in-Right-place_of.ensures in
-          rw w.link-is (halfway_full_right w.in-Full.full m old w.remove-in-Right-place_of.new.link p w.in-Full.is w.deref_mut-in-Right-place_of.ensures.value c.requires.lawful place
-          w.remove-in-Right-place_of.ensures.erased (with_value w.in-Full.full (record { prefix = m.prefix; value = m.value; left = m.left; right = w.remove-in-Right-place_of.new.link })) refl refl refl refl)
+          rw w.link-is (halfway_right old m.prefix _ m.left m.right w.remove-in-Right-place_of.new.link _ p
+          (view_full w.in-Full.full m old w.in-Full.is w.deref_mut-in-Right-place_of.ensures.value c.requires.lawful.0) place w.remove-in-Right-place_of.ensures.erased)
       | in-Full+in-Here-place_of w ↦
           let m = w.deref_mut-in-Here-place_of.result.now in
           let place : p ≡ m.prefix = subst (λ (n : FullNode _ _). p ≡ n.prefix) (w.deref-in-Full.ensures ∙ sym w.deref_mut-in-Here-place_of.ensures.value)
@@ -141,26 +141,26 @@ returns-clause-value g t c =
           let m = w.deref_mut.result.now in
           let place = subst (λ (n : ForkNode _ _). IsChild n.prefix false p) (w.deref.ensures ∙ sym w.deref_mut.ensures.value) w.in-Left.ensures in
           w.gone-is ∙ w.remove.ensures.value
-          ∙ sym (fork_get-left w.in-Fork.fork m old p w.in-Fork.is w.deref_mut.ensures.value c.requires.lawful place)
+          ∙ sym (get_left old m.prefix _ m.left m.right (of_fork w.in-Fork.fork m old w.in-Fork.is w.deref_mut.ensures.value c.requires.lawful.0) p place)
       | in-Fork+in-Right w ↦
           let m = w.deref_mut-in-Right.result.now in
           let place = subst (λ (n : ForkNode _ _). IsChild n.prefix true p) (w.deref.ensures ∙ sym w.deref_mut-in-Right.ensures.value) w.in-Right.ensures in
           w.gone-is ∙ w.remove-in-Right.ensures.value
-          ∙ sym (fork_get-right w.in-Fork.fork m old p w.in-Fork.is w.deref_mut-in-Right.ensures.value c.requires.lawful place)
+          ∙ sym (get_right old m.prefix _ m.left m.right (of_fork w.in-Fork.fork m old w.in-Fork.is w.deref_mut-in-Right.ensures.value c.requires.lawful.0) p place)
       | in-Full+in-Left-place_of w ↦
           let m = w.deref_mut-in-Left-place_of.result.now in
           let place = subst (λ (n : FullNode _ _). IsChild n.prefix false p) (w.deref-in-Full.ensures ∙ sym w.deref_mut-in-Left-place_of.ensures.value) w.in-Left-place_of.ensures in
           w.gone-is ∙ w.remove-in-Left-place_of.ensures.value
-          ∙ sym (full_get-left w.in-Full.full m old p w.in-Full.is w.deref_mut-in-Left-place_of.ensures.value c.requires.lawful place)
+          ∙ sym (get_left old m.prefix _ m.left m.right (of_full w.in-Full.full m old w.in-Full.is w.deref_mut-in-Left-place_of.ensures.value c.requires.lawful.0) p place)
       | in-Full+in-Right-place_of w ↦
           let m = w.deref_mut-in-Right-place_of.result.now in
           let place = subst (λ (n : FullNode _ _). IsChild n.prefix true p) (w.deref-in-Full.ensures ∙ sym w.deref_mut-in-Right-place_of.ensures.value) w.in-Right-place_of.ensures in
           w.gone-is ∙ w.remove-in-Right-place_of.ensures.value
-          ∙ sym (full_get-right w.in-Full.full m old p w.in-Full.is w.deref_mut-in-Right-place_of.ensures.value c.requires.lawful place)
+          ∙ sym (get_right old m.prefix _ m.left m.right (of_full w.in-Full.full m old w.in-Full.is w.deref_mut-in-Right-place_of.ensures.value c.requires.lawful.0) p place)
       | in-Full+in-Here-place_of w ↦
           let m = w.deref_mut-in-Here-place_of.result.now in
           let place : p ≡ m.prefix = subst (λ (n : FullNode _ _). p ≡ n.prefix) (w.deref-in-Full.ensures ∙ sym w.deref_mut-in-Here-place_of.ensures.value)
           w.in-Here-place_of.ensures in
           w.gone-is ∙ w.take.ensures.value
-          ∙ sym (full_get-here w.in-Full.full m old p w.in-Full.is w.deref_mut-in-Here-place_of.ensures.value c.requires.lawful place)
+          ∙ sym (get_own old m.prefix _ m.left m.right (of_full w.in-Full.full m old w.in-Full.is w.deref_mut-in-Here-place_of.ensures.value c.requires.lawful.0) p place)
     ]

@@ -1,7 +1,7 @@
-use Rattle.std.proofs.Common.{◌≡◌, ◌+◌, ◌<◌, ◌≤◌, true, false, Option, Some, None, inl, inr, refl, sym, ap, subst, ◌∙◌, length, arith, length-set, set, get_or-set_same}
+use Rattle.std.proofs.Common.{◌≡◌, ◌+◌, ◌<◌, true, false, Some, None, inl, inr, sym, ap, subst, ◌∙◌, length, arith, length-set, set, get_or-set_same}
 use Rattle.std.proofs.lemmas.Bool.{cases_lt, false≢true}
 use Rattle.rt_trie.specs.Map.{pair_copied, address_at}
-use Rattle.rt_trie.specs.LookUps.{or_else, last_cover, sought, lane_at}
+use Rattle.rt_trie.specs.LookUps.{or_else, last_cover, lane_at}
 use Rattle.rt_trie.specs.Links.{pairs}
 use Rattle.rt_trie.proofs.LinkLemmas.{none_of}
 use Rattle.rt_trie.proofs.LaneLemmas.{read_at, lane_moved, no_lane}

@@ -1,6 +1,4 @@
-use Rattle.std.proofs.Common.{◌≡◌, ◌<◌, true, Some, refl, sym, ap, ◌∙◌, arith}
-use Rattle.rt_trie.specs.LookUps.{or_else, last_cover}
-use Rattle.rt_trie.specs.Links.{own_pair}
+use Rattle.std.proofs.Common.{refl, sym, ap, ◌∙◌}
 use Rattle.rt_trie.specs.Map.{pair_copied}
 use Rattle.rt_trie.proofs.NodeLemmas.{best_stored, best_unstored}
 use Rattle.rt_trie.proofs.LinkLemmas.{of_fork, of_full, step_lower, step_upper, step_none}

@@ -1,4 +1,5 @@
-use Rattle.std.proofs.Common.{length, sym, ap, ◌∙◌, arith}
+use Rattle.std.proofs.Common.{Some, length, sym, subst, ap, ◌∙◌, arith}
+use Rattle.rt_trie.specs.Changes.{IsPut, Inserts}
 use Rattle.rt_trie.specs.Links.{pairs}
 use Rattle.rt_trie.proofs.LinkLemmas.{pairs_ordered}
 use Rattle.rt_trie.proofs.CountLemmas.{count_small, pairs_few, length-put_absent, length-put_known, none_is}
@@ -11,28 +12,34 @@ pub overflow_add-self : goal.overflow_add-self
 overflow_add-self g c =
     omega (arith, c.self.invariant.len, pairs_few c.self.inside.root, count_small c.self.inside.root c.self.invariant.lawful)
 
-pub invariant_of-self-then-is_none : goal.invariant_of-self-then-is_none
-invariant_of-self-then-is_none g c =
-    let i = c.in_ok-had.ensures in
-    let m = pairs c.self.inside.root in
-    let e = sym i.had ∙ none_is c.in_ok-had.had c.if-is_none.ensures in
+pub invariant_of-self : goal.invariant_of-self
+invariant_of-self g c =
+    let old = c.self.inside.root in
+    let new = c.insert.new.link in
+    let slot = c.insert.new.value in
+    let i = subst (λ b. Inserts old new c.self.inside.nodes c.insert.new.nodes c.args.p (Some c.args.v) slot b) c.if-insert.true c.insert.ensures in
+    let put : IsPut old new c.args.p c.args.v = i.put in
+    let e = sym i.had_is ∙ none_is slot c.if-is_none.ensures in
     record {
-      lawful = i.put.lawful;
-      len = omega (arith, c.self.invariant.len, ap length i.put.pairs_are, length-put_absent m c.args.p c.args.v e);
+      lawful = put.lawful;
+      len = omega (arith, c.self.invariant.len, ap length put.pairs_are, length-put_absent (pairs old) c.args.p c.args.v e);
       nodes = omega (arith, c.self.invariant.nodes, i.counted);
     }
 
 pub invariant_of-self-else-is_none : goal.invariant_of-self-else-is_none
 invariant_of-self-else-is_none g c =
-    let i = c.in_ok-had.ensures in
-    let m = pairs c.self.inside.root in
+    let old = c.self.inside.root in
+    let new = c.insert.new.link in
+    let slot = c.insert.new.value in
+    let i = subst (λ b. Inserts old new c.self.inside.nodes c.insert.new.nodes c.args.p (Some c.args.v) slot b) c.if-insert.true c.insert.ensures in
+    let put : IsPut old new c.args.p c.args.v = i.put in
     record {
-      lawful = i.put.lawful;
+      lawful = put.lawful;
       len = omega (
         arith,
         c.self.invariant.len,
-        ap length i.put.pairs_are,
-        length-put_known m c.args.p c.args.v c.in_ok-had.had (pairs_ordered c.self.inside.root c.self.invariant.lawful.0) (sym i.had) c.if-is_none.ensures,
+        ap length put.pairs_are,
+        length-put_known (pairs old) c.args.p c.args.v slot (pairs_ordered old c.self.invariant.lawful.0) (sym i.had_is) c.if-is_none.ensures,
       );
       nodes = omega (arith, c.self.invariant.nodes, i.counted);
     }

@@ -1,5 +1,4 @@
-use Rattle.std.proofs.Common.{◌≡◌, suc, ◌+◌, ◌-◌, ◌<◌, Some, length, sym, subst, ap, ◌∙◌, arith}
-use Rattle.rt_trie.specs.Aside.{link_at}
+use Rattle.std.proofs.Common.{◌≡◌, suc, ◌-◌, length, sym, subst, ap, ◌∙◌, arith}
 use Rattle.rt_trie.proofs.LinkLemmas.{IsNode, of_leaf, of_fork, of_full}
 use Rattle.rt_trie.proofs.WalkLemmas.{walk_at, leaf_step}
 use Rattle.rt_trie.proofs.walks.WalkIterator.next.Goals as goal
