@@ -3,11 +3,10 @@
 
 Usage: bench/trie.py [ROUNDS [PREFIXES..]]. Needs rt and rustc. The program crates/trie_bench and bench/trie_peer.rs run in
 turn, ROUNDS times (5 if left out) over each number of prefixes (3,000, 30,000 and 500,000 if left out; a small number is
-run more often). For each call the least time is printed, in nanoseconds, with the ratio; `together` is a look-up where 64
-are asked for at once, beside the plain trie's single one. Then the processor time of the whole programs, user and system,
-and the bytes of nodes that a prefix takes.
+run more often). The table has a row for each call, with the least of the times in nanoseconds and the ratio: on the clock,
+and of the processor, for the user and the system. `together` is a look-up where 64 are asked for at once, beside the plain
+trie's single one. Then how many nodes the trie has, and how many bytes a prefix the plain one asked for.
 """
-import os
 import pathlib
 import subprocess
 import sys
@@ -30,19 +29,16 @@ def build(folder):
 
 
 def figures(program, prefixes):
-    """The figures that a program prints, by name, and its processor time in milliseconds."""
-    run = subprocess.Popen([program, str(prefixes)], stderr=subprocess.PIPE, text=True)
-    words = run.stderr.read().split()
-    _, status, used = os.wait4(run.pid, 0)
-    run.returncode = status
-    if status != 0:
-        sys.exit(f"bench/trie.py: {program} ended with status {status}")
-    named = {name: int(value) for name, value in zip(words[::2], words[1::2])}
-    return named | {"cpu": (used.ru_utime + used.ru_stime) * 1000}
+    """The figures that a program prints, by name."""
+    run = subprocess.run([program, str(prefixes)], capture_output=True, text=True)
+    if run.returncode != 0:
+        sys.exit(f"bench/trie.py: {program} ended with status {run.returncode}")
+    words = run.stderr.split()
+    return {name: int(value) for name, value in zip(words[::2], words[1::2])}
 
 
 def compare(programs, prefixes, rounds):
-    """Runs both in turn over so many prefixes and prints their least times."""
+    """Runs both in turn over so many prefixes and prints a row for each call, from their least times."""
     runs = [[figures(program, prefixes) for program in programs] for _ in range(rounds)]
     proved, plain = runs[0]
     for agreed in ("prefixes", "found", "left"):
@@ -50,12 +46,14 @@ def compare(programs, prefixes, rounds):
             sys.exit(f"bench/trie.py: the programs disagree on {agreed}")
     if proved["same"] != proved["found"]:
         sys.exit("bench/trie.py: look-ups together find something else")
-    for call, theirs_is in (("insert", "insert"), ("longest", "longest"), ("together", "longest"), ("remove", "remove"), ("cpu", "cpu")):
-        ours = min(run[0][call] for run in runs)
-        theirs = min(run[1][theirs_is] for run in runs)
-        unit = "ms" if call == "cpu" else "ns"
-        print(f"{prefixes:7} {call:8} trie {ours:8.0f} {unit}  plain Rust {theirs:8.0f} {unit}  ratio {ours / theirs:5.2f}")
-    print(f"{prefixes:7} {proved['nodes']} nodes; plain Rust asked for {plain['asked'] / plain['prefixes']:.1f} bytes a prefix")
+    for call, beside in (("insert", "insert"), ("longest", "longest"), ("together", "longest"), ("remove", "remove")):
+        row = f"{prefixes:8} {call:8}"
+        for kind in ("", "_cpu"):
+            ours = min(run[0][call + kind] for run in runs)
+            theirs = min(run[1][beside + kind] for run in runs)
+            row += f" {ours:8} {theirs:8} {ours / theirs:6.2f}"
+        print(row)
+    print(f"{prefixes:8} {proved['nodes']} nodes; plain Rust asked for {plain['asked'] / plain['prefixes']:.1f} bytes a prefix")
 
 
 def main():
@@ -63,6 +61,7 @@ def main():
     sizes = [int(word) for word in sys.argv[2:]] or [3_000, 30_000, 500_000]
     with tempfile.TemporaryDirectory() as folder:
         programs = build(pathlib.Path(folder))
+        print(f"{'prefixes':8} {'call':8} {'clock':>8} {'plain':>8} {'ratio':>6} {'cpu':>8} {'plain':>8} {'ratio':>6}")
         for prefixes in sizes:
             compare(programs, prefixes, rounds * max(1, 100_000 // prefixes))
 

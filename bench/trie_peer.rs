@@ -163,30 +163,66 @@ impl Draws {
     }
 }
 
+#[repr(C)]
+struct Timespec {
+    secs: i64,
+    nanos: i64,
+}
+
+unsafe extern "C" {
+    fn clock_gettime(clock: i32, time: *mut Timespec) -> i32;
+}
+
+/// The processor time of this process, user and system, in nanoseconds.
+fn cpu() -> u128 {
+    const PROCESS: i32 = 2;
+    let mut time = Timespec { secs: 0, nanos: 0 };
+    unsafe { clock_gettime(PROCESS, &mut time) };
+    time.secs as u128 * 1_000_000_000 + time.nanos as u128
+}
+
+struct Stopwatch {
+    start: Instant,
+    used: u128,
+}
+
+impl Stopwatch {
+    fn start() -> Stopwatch {
+        Stopwatch { used: cpu(), start: Instant::now() }
+    }
+    /// Nanoseconds for each call, on the clock and of the processor.
+    fn per_call(&self, calls: u32) -> (u128, u128) {
+        let clock = self.start.elapsed().as_nanos();
+        (clock / calls as u128, (cpu() - self.used) / calls as u128)
+    }
+}
+
 fn main() {
     let n: u32 = std::env::args().nth(1).and_then(|x| x.parse().ok()).unwrap_or(2_000);
     let mut trie = Trie { root: None, len: 0 };
     let mut draws = Draws { seed: 1 };
-    let start = Instant::now();
+    let watch = Stopwatch::start();
     for k in 0..n {
         trie.insert(draws.prefix(), k as u64);
     }
-    let insert = start.elapsed().as_nanos() / n as u128;
+    let insert = watch.per_call(n);
     let (len, asked) = (trie.len, ASKED.load(Ordering::Relaxed));
     let mut draws = Draws { seed: 2 };
     let mut found = 0u64;
-    let start = Instant::now();
+    let watch = Stopwatch::start();
     for _ in 0..n {
         if let Some((_, value)) = trie.longest(draws.next()) {
             found = found.wrapping_add(*value);
         }
     }
-    let longest = start.elapsed().as_nanos() / n as u128;
+    let longest = watch.per_call(n);
     let mut draws = Draws { seed: 1 };
-    let start = Instant::now();
+    let watch = Stopwatch::start();
     for _ in 0..n {
         trie.remove(draws.prefix());
     }
-    let remove = start.elapsed().as_nanos() / n as u128;
-    eprintln!("insert {insert} longest {longest} remove {remove} prefixes {len} asked {asked} found {found} left {}", trie.len);
+    let remove = watch.per_call(n);
+    eprintln!("insert {} longest {} remove {}", insert.0, longest.0, remove.0);
+    eprintln!("insert_cpu {} longest_cpu {} remove_cpu {}", insert.1, longest.1, remove.1);
+    eprintln!("prefixes {len} asked {asked} found {found} left {}", trie.len);
 }

@@ -1,12 +1,13 @@
 //! Times an insertion, a longest match and a removal over many prefixes, of lengths as a real table has them. Its one
-//! argument is how many prefixes it draws; the times go to standard error, in nanoseconds for each call.
+//! argument is how many prefixes it draws; the times go to standard error, in nanoseconds for each call: on the clock, and
+//! as `_cpu` of the processor, for the user and the system.
 #![tactic(auto)]
 
 use rt_cidr::{Addr, Prefix};
 use rt_trie::Trie;
 use std::alloc::Global;
 use std::rt::Clock;
-use std::time::Instant;
+use std::time::{CpuClock, Duration, Instant};
 use std::{env, io};
 
 /// How many prefixes are drawn where no argument says so.
@@ -55,13 +56,42 @@ impl Draws {
     }
 }
 
-fn per_call(rt: &impl Clock, start: Instant, calls: u32) -> io::Result<u64> {
-    let took = start.elapsed(rt)?;
-    let nanos = took
-        .as_secs()
+/// Times since a start, on the clock and of the processor.
+#[derive(Drop)]
+struct Stopwatch {
+    start: Instant,
+    used: Duration,
+}
+
+/// Nanoseconds for each call.
+#[derive(Drop, Clone, Copy)]
+struct Times {
+    clock: u64,
+    cpu: u64,
+}
+
+impl Stopwatch {
+    fn start(rt: &(impl Clock + CpuClock)) -> io::Result<Stopwatch> {
+        let used = rt.process_cpu_time()?;
+        let start = Instant::now(rt)?;
+        Ok(Stopwatch { start, used })
+    }
+
+    fn per_call(&self, rt: &(impl Clock + CpuClock), calls: u32) -> io::Result<Times> {
+        let clock = self.start.elapsed(rt)?;
+        let used = rt.process_cpu_time()?;
+        let calls = u64::from(calls.max(1));
+        Ok(Times {
+            clock: nanos(clock) / calls,
+            cpu: nanos(used).wrapping_sub(nanos(self.used)) / calls,
+        })
+    }
+}
+
+fn nanos(time: Duration) -> u64 {
+    time.as_secs()
         .wrapping_mul(1_000_000_000)
-        .wrapping_add(u64::from(took.subsec_nanos()));
-    Ok(nanos / u64::from(calls.max(1)))
+        .wrapping_add(u64::from(time.subsec_nanos()))
 }
 
 fn count(rt: &HostRuntime) -> io::Result<u32> {
@@ -74,12 +104,16 @@ fn count(rt: &HostRuntime) -> io::Result<u32> {
 }
 
 /// The time of a longest match where `BATCH` are asked for together, and the sum of the values that they find.
-fn look_up_together(rt: &impl Clock, trie: &Trie<u64, Global>, n: u32) -> io::Result<(u64, u64)> {
+fn look_up_together(
+    rt: &(impl Clock + CpuClock),
+    trie: &Trie<u64, Global>,
+    n: u32,
+) -> io::Result<(Times, u64)> {
     let mut draws = Draws { seed: 2 };
     let mut found = 0u64;
     let mut addresses = [Addr(0); BATCH];
     let mut answers: [Option<(Prefix, &u64)>; BATCH] = [None; BATCH];
-    let start = Instant::now(rt)?;
+    let watch = Stopwatch::start(rt)?;
     for _ in 0..n as usize / BATCH {
         for address in &mut addresses {
             *address = Addr(draws.next());
@@ -96,48 +130,54 @@ fn look_up_together(rt: &impl Clock, trie: &Trie<u64, Global>, n: u32) -> io::Re
             found = found.wrapping_add(*value);
         }
     }
-    Ok((per_call(rt, start, n)?, found))
+    Ok((watch.per_call(rt, n)?, found))
 }
 
 fn run(rt: &HostRuntime, alloc: Global, n: u32) -> io::Result<()> {
     let mut trie: Trie<u64, Global> = Trie::new(alloc);
 
     let mut draws = Draws { seed: 1 };
-    let start = Instant::now(rt)?;
+    let watch = Stopwatch::start(rt)?;
     for k in 0..n {
         if let Some(p) = draws.prefix() {
             let _ = trie.insert(p, u64::from(k));
         }
     }
-    let insert = per_call(rt, start, n)?;
+    let insert = watch.per_call(rt, n)?;
     let len = trie.len();
     let nodes = trie.nodes();
 
     let mut draws = Draws { seed: 2 };
     let mut found = 0u64;
-    let start = Instant::now(rt)?;
+    let watch = Stopwatch::start(rt)?;
     for _ in 0..n {
         if let Some((_, value)) = trie.longest(Addr(draws.next())) {
             found = found.wrapping_add(*value);
         }
     }
-    let longest = per_call(rt, start, n)?;
+    let longest = watch.per_call(rt, n)?;
 
     let (together, same) = look_up_together(rt, &trie, n)?;
 
     let mut draws = Draws { seed: 1 };
-    let start = Instant::now(rt)?;
+    let watch = Stopwatch::start(rt)?;
     for _ in 0..n {
         if let Some(p) = draws.prefix() {
             let _ = trie.remove(p);
         }
     }
-    let remove = per_call(rt, start, n)?;
+    let remove = watch.per_call(rt, n)?;
 
     let left = trie.len();
     eprintln!(rt;
-        "insert {insert} longest {longest} together {together} remove {remove} prefixes {len} nodes {nodes} found {found} same {same} left {left}"
-    )
+        "insert {} longest {} together {} remove {}",
+        insert.clock, longest.clock, together.clock, remove.clock
+    )?;
+    eprintln!(rt;
+        "insert_cpu {} longest_cpu {} together_cpu {} remove_cpu {}",
+        insert.cpu, longest.cpu, together.cpu, remove.cpu
+    )?;
+    eprintln!(rt; "prefixes {len} nodes {nodes} found {found} same {same} left {left}")
 }
 
 fn main(rt: HostRuntime) -> io::Result<()> {
