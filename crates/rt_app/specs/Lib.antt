@@ -1,3 +1,4 @@
 pub mod RunText
+pub mod SameTable
 pub mod Running
 pub mod ReplayText

@@ -3,6 +3,7 @@
 
 mod command_line;
 mod faults;
+pub mod laws;
 mod program;
 mod replays;
 mod runs;
