@@ -4,8 +4,8 @@ use Rattle.std.proofs.Math.Seq.{split_at, take-suc}
 use Rattle.std.specs.List.{flat_map}
 use Rattle.std.proofs.lemmas.Grind.{flat_map-append}
 use Rattle.rt_cidr.specs.Output.{AppendsBeginning, PassesOn}
-use Rattle.rt_cidr.proofs.Outputs.{begins_longer, passes_on-begins, passes_on-more}
-use Rattle.rt_cidr.proofs.ShortTexts.{length-decimal, length-address_text, length-prefix_text}
+use Rattle.rt_cidr.proofs.Promised.{begins_longer, passes_on-begins, passes_on-more}
+use Rattle.rt_cidr.proofs.Promised.{length-decimal, length-address_text, length-prefix_text}
 use Rattle.rt_rib.specs.declared.routes.Route.{Route}
 use Rattle.rt_rib.specs.declared.routes.Hop.{Hop}
 use Rattle.rt_rib.specs.declared.routes.Hop.TheVariants.{Via, Discard}
@@ -18,7 +18,7 @@ use Rattle.rt_feed.specs.declared.report.Answer.{Answer}
 use Rattle.rt_feed.specs.declared.report.Answer.TheVariants.{Did, Refused, Fault}
 use Rattle.rt_feed.specs.Printed.{hop_text, route_text, reply_text, fault_text, answer_text, line_text, row_text, count_text}
 
-hop_fits : (hop : Hop) → length (hop_text hop) ≤ 15
+pub hop_fits : (hop : Hop) → length (hop_text hop) ≤ 15
 hop_fits (Via address) = length-address_text address.0
 hop_fits Discard = omega arith
 

@@ -1,5 +1,5 @@
 -- A feed's text through a gate, one line and one batch further.
-use Rattle.std.proofs.Common.{◌≡◌, ◌≢◌, ◌⊎◌, inl, inr, ℕ, zero, suc, ◌+◌, ◌<◌, ◌≤◌, true, false, List, [], ◌∷◌, ◌++◌, All, length, map, take, drop, zip, Ok, None, Some, refl, sym, ap, subst, ◌∙◌, arith, append_assoc, append-nil, length-append, add-one}
+use Rattle.std.proofs.Common.{◌≡◌, ◌≢◌, inl, inr, ℕ, suc, ◌+◌, ◌<◌, false, List, [], ◌∷◌, ◌++◌, All, length, map, take, drop, zip, refl, sym, ap, subst, ◌∙◌, arith, append_assoc, append-nil, length-append}
 use Rattle.std.proofs.Math.Seq.{take-append_seam, drop-append_seam}
 use Rattle.std.proofs.lemmas.List.{map-append}
 use Rattle.std.proofs.lemmas.List.Elements.{All-nil, All-cons, All-append}
@@ -16,9 +16,9 @@ use Rattle.rt_feed.specs.Versions.{IsBody}
 use Rattle.rt_feed.specs.Grammar.{AnswersLine}
 use Rattle.rt_feed.specs.Lines.{CutsLine}
 use Rattle.rt_feed.specs.LineOutcomes.{LineOutcome, skipped, faulty, asked, reading, Becomes, heading, answer_of, line_answer, numbered, report_lines, asked_by, asked_of}
-use Rattle.rt_feed.specs.Visits.{Visit, Gains, IsCut, joined, piece_of, visit_of, AnswersBatch}
+use Rattle.rt_feed.specs.Visits.{Visit, Gains, joined, piece_of, visit_of, AnswersBatch}
 use Rattle.rt_feed.specs.Filling.{filled}
-use Rattle.rt_feed.specs.Running.{AsksLines, RunsFeed, StopsWithin, AnswersWaiting, Gathers, HasRead}
+use Rattle.rt_feed.specs.Running.{RunsFeed, StopsWithin, AnswersWaiting, HasRead}
 use Rattle.rt_feed.proofs.Becoming.{becomes-push, becomes-at, becomes-alike, becomes-first, report_lines-append, report_lines-push, asked_of-append}
 use Rattle.rt_feed.proofs.Filling.{filled-none, filled-fault, filled-given}
 

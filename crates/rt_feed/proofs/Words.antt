@@ -6,7 +6,8 @@ use Rattle.std.proofs.lemmas.List.Elements.{All-nil, All-cons, All-append}
 use Rattle.std.proofs.lemmas.Bool.{and_parts, not-true, eqb-false}
 use Rattle.std.proofs.lemmas.Fmt.{length-decimal-le, decimal_by_steps}
 use Rattle.rt_cidr.specs.declared.prefixes.Prefix.{Prefix}
-use Rattle.rt_cidr.specs.Text.{address_text, prefix_text}
+use Rattle.rt_cidr.specs.Text.{dot, slash, address_text, prefix_text}
+use Rattle.rt_cidr.proofs.Promised.{length-address_text, length-prefix_text}
 use Rattle.rt_rib.specs.declared.routes.Hop.{Hop}
 use Rattle.rt_rib.specs.declared.routes.Hop.TheVariants.{Via, Discard}
 use Rattle.rt_rib.specs.declared.commands.Cmd.{Cmd}
@@ -16,6 +17,7 @@ use Rattle.rt_feed.specs.CommandText.{space, words, route_words, command_text, H
 use Rattle.rt_feed.specs.Printed.{hop_text}
 use Rattle.rt_feed.specs.Grammar.{fields, is_skipped}
 use Rattle.rt_feed.proofs.Cutting.{is_unspaced}
+use Rattle.rt_feed.proofs.Printing.{hop_fits}
 
 -- a line whose fields are a command's words is the command's text
 pub line-from_words : (line : List ℕ) (cmd : Cmd) → fields line ≡ words cmd → line ≡ command_text cmd
@@ -48,8 +50,8 @@ no_space-address : (address : ℕ) → address < 2 ^ 32 → NoSpace (address_tex
 unfolding address_text
 no_space-address address small =
     let P : ℕ → Type 0 = λ byte. byte ≢ space in
-    let dotted : (octet : ℕ) (rest : List ℕ) → octet < 2 ^ 64 → NoSpace rest → NoSpace (decimal octet ++ 46 ∷ rest) =
-    λ octet rest fits more. All-append P (decimal octet) (46 ∷ rest) (no_space-decimal octet fits) (All-cons P 46 rest (omega arith) more) in
+    let dotted : (octet : ℕ) (rest : List ℕ) → octet < 2 ^ 64 → NoSpace rest → NoSpace (decimal octet ++ dot ∷ rest) =
+    λ octet rest fits more. All-append P (decimal octet) (dot ∷ rest) (no_space-decimal octet fits) (All-cons P dot rest (omega arith) more) in
     dotted (address / 2 ^ 24 % 256) _ (omega arith) (dotted (address / 2 ^ 16 % 256) _ (omega arith) (dotted (address / 2 ^ 8 % 256) _ (omega arith)
     (no_space-decimal (address % 256) (omega arith))))
 
@@ -57,8 +59,8 @@ no_space-prefix : (p : Prefix) → NoSpace (prefix_text p.base p.len)
 unfolding prefix_text
 no_space-prefix p =
     let P : ℕ → Type 0 = λ byte. byte ≢ space in
-    All-append P (address_text p.base) (47 ∷ decimal p.len) (no_space-address p.base p.is_prefix.fits)
-    (All-cons P 47 (decimal p.len) (omega arith) (no_space-decimal p.len (omega (arith, p.is_prefix.short))))
+    All-append P (address_text p.base) (slash ∷ decimal p.len) (no_space-address p.base p.is_prefix.fits)
+    (All-cons P slash (decimal p.len) (omega arith) (no_space-decimal p.len (omega (arith, p.is_prefix.short))))
 
 -- a word that is spelled out has none
 no_space-literal : (word : List ℕ) → list_all (λ byte. not (eqb byte space)) word ≡ true → NoSpace word
@@ -91,55 +93,23 @@ fields-command_text version (Lookup addr) fits = fields-joined (codes "lookup") 
 fields-command_text version Dump fits = fields-joined (codes "dump") [] (no_space-words version Dump fits)
 fields-command_text version Purge fits = fields-joined (codes "purge") [] (no_space-words version Purge fits)
 
-length-octet : (octet : ℕ) (rest : List ℕ) → octet < 1000 → length (decimal octet ++ 46 ∷ rest) ≤ 4 + length rest
-length-octet octet rest small =
-    omega (arith, length-append (decimal octet) (46 ∷ rest), length-decimal-le 3 octet (omega arith) (omega arith) (omega arith))
-
-length-address_text : (address : ℕ) → address < 2 ^ 32 → length (address_text address) ≤ 15
-unfolding address_text
-length-address_text address small =
-    let last = decimal (address % 256) in
-    let third = decimal (address / 2 ^ 8 % 256) ++ 46 ∷ last in
-    let second = decimal (address / 2 ^ 16 % 256) ++ 46 ∷ third in
-    omega (
-      arith,
-      length-octet (address / 2 ^ 24 % 256) second (omega arith),
-      length-octet (address / 2 ^ 16 % 256) third (omega arith),
-      length-octet (address / 2 ^ 8 % 256) last (omega arith),
-      length-decimal-le 3 (address % 256) (omega arith) (omega arith) (omega arith),
-    )
-
-length-prefix_text : (p : Prefix) → length (prefix_text p.base p.len) ≤ 18
-unfolding prefix_text
-length-prefix_text p =
-    omega (
-      arith,
-      length-append (address_text p.base) (47 ∷ decimal p.len),
-      length-address_text p.base p.is_prefix.fits,
-      length-decimal-le 2 p.len (omega arith) (omega (arith, p.is_prefix.short)) (omega (arith, p.is_prefix.short)),
-    )
-
-length-hop_text : (version : Version) (next : Hop) → HasHop version next → length (hop_text next) ≤ 15
-length-hop_text version (Via address) fits = length-address_text address.0 fits
-length-hop_text version Discard is = omega arith
-
-length-route : (version : Version) (p : Prefix) (pref : ℕ) (next : Hop) → pref < 2 ^ 32 → HasHop version next → length (join_with_byte space (route_words p pref next)) ≤ 45
-length-route version p pref next fits has =
+length-route : (p : Prefix) (pref : ℕ) (next : Hop) → pref < 2 ^ 32 → length (join_with_byte space (route_words p pref next)) ≤ 107
+length-route p pref next fits =
     omega (
       arith,
       length-append (prefix_text p.base p.len) (space ∷ (decimal pref ++ space ∷ hop_text next)),
       length-append (decimal pref) (space ∷ hop_text next),
-      length-prefix_text p,
+      length-prefix_text p.base p.len,
       length-decimal-le 10 pref (omega arith) (omega arith) (omega arith),
-      length-hop_text version next has,
+      hop_fits next,
     )
 
 -- a command's text is no longer than a line may be
 pub length-command_text : (version : Version) (cmd : Cmd) → HasCommand version cmd → length (command_text cmd) ≤ 128
-length-command_text version (Add p pref hop) fits = omega (arith, length-route version p pref hop fits.0 fits.1)
-length-command_text version (Replace p pref hop) fits = omega (arith, length-route version p pref hop fits.0 fits.1)
-length-command_text version (Withdraw p) fits = omega (arith, length-prefix_text p)
-length-command_text version (Lookup addr) fits = omega (arith, length-address_text addr.0 fits)
+length-command_text version (Add p pref hop) fits = omega (arith, length-route p pref hop fits.0)
+length-command_text version (Replace p pref hop) fits = omega (arith, length-route p pref hop fits.0)
+length-command_text version (Withdraw p) fits = omega (arith, length-prefix_text p.base p.len)
+length-command_text version (Lookup addr) fits = omega (arith, length-address_text addr.0)
 length-command_text version Dump fits = omega arith
 length-command_text version Purge fits = omega arith
 
@@ -163,5 +133,5 @@ first_digit =
 pub address-ne-discard : (address : ℕ) → address < 2 ^ 32 → address_text address ≢ codes "discard"
 unfolding address_text
 address-ne-discard address small is =
-    let more = 46 ∷ (decimal (address / 2 ^ 16 % 256) ++ 46 ∷ (decimal (address / 2 ^ 8 % 256) ++ 46 ∷ decimal (address % 256))) in
+    let more = dot ∷ (decimal (address / 2 ^ 16 % 256) ++ dot ∷ (decimal (address / 2 ^ 8 % 256) ++ dot ∷ decimal (address % 256))) in
     let digit = first_digit (address / 2 ^ 24 % 256) (omega arith) more in omega (arith, digit, ap (λ text. slice_index_or text 0 0) is)

@@ -65,7 +65,7 @@ pub fn write_table<W: Write>(
 // Each function below puts its text in front.
 
 /// One line of a report, with its LF.
-#[tactic(auto, using(rt_cidr::proofs::ShortTexts::prepending), unfolding(crate::specs::Printed::line_text))]
+#[tactic(auto, using(rt_cidr::proofs::Promised::prepending), unfolding(crate::specs::Printed::line_text))]
 fn prepend_line(text: &mut ShortText, feed: u32, line: &Line)
     requires room { Fits (line_text feed line.now) text.old }
     ensures { text.new ≡ line_text feed line.now ++ text.old }
@@ -79,7 +79,7 @@ fn prepend_line(text: &mut ShortText, feed: u32, line: &Line)
 }
 
 /// The table's first line, with its LF.
-#[tactic(auto, using(rt_cidr::proofs::ShortTexts::prepending), unfolding(crate::specs::Printed::count_text))]
+#[tactic(auto, using(rt_cidr::proofs::Promised::prepending), unfolding(crate::specs::Printed::count_text))]
 fn prepend_count(text: &mut ShortText, count: usize)
     requires room { Fits (count_text count) text.old }
     ensures { text.new ≡ count_text count ++ text.old }
@@ -90,7 +90,7 @@ fn prepend_count(text: &mut ShortText, count: usize)
 }
 
 /// A route of the table, with its LF.
-#[tactic(auto, using(rt_cidr::proofs::ShortTexts::prepending), unfolding(crate::specs::Printed::row_text))]
+#[tactic(auto, using(rt_cidr::proofs::Promised::prepending), unfolding(crate::specs::Printed::row_text))]
 fn prepend_row(text: &mut ShortText, route: &Route)
     requires room { Fits (row_text route.now) text.old }
     ensures { text.new ≡ row_text route.now ++ text.old }
@@ -112,7 +112,7 @@ fn prepend_answer(text: &mut ShortText, answer: &Answer)
     }
 }
 
-#[tactic(auto, using(rt_cidr::proofs::ShortTexts::prepending), unfolding(crate::specs::Printed::reply_text))]
+#[tactic(auto, using(rt_cidr::proofs::Promised::prepending), unfolding(crate::specs::Printed::reply_text))]
 fn prepend_reply(text: &mut ShortText, reply: &Reply)
     requires room { Fits (reply_text reply.now) text.old }
     ensures { text.new ≡ reply_text reply.now ++ text.old }
@@ -141,7 +141,7 @@ fn prepend_reply(text: &mut ShortText, reply: &Reply)
 }
 
 /// `PREFIX feed F pref P via HOP`.
-#[tactic(auto, using(rt_cidr::proofs::ShortTexts::prepending), unfolding(crate::specs::Printed::route_text))]
+#[tactic(auto, using(rt_cidr::proofs::Promised::prepending), unfolding(crate::specs::Printed::route_text))]
 fn prepend_route(text: &mut ShortText, route: &Route)
     requires room { Fits (route_text route.now) text.old }
     ensures { text.new ≡ route_text route.now ++ text.old }

@@ -64,7 +64,7 @@ pub record IsKept {X : Type 0} (levels : ℕ) (ok : List (Marked X) → Marked X
   pub copies : (p : ℕ) → IsInside w.state p → w.copies p ≡ w.content ++ marked p (w.doing p)
   pub made : (p : ℕ) → entries_of p w.content ≡ w.made p
   pub lawful : IsLawful ok w.content
-  pub lawful_copy : (p : ℕ) → IsInside w.state p → IsLawful ok (w.copies p)
+  lawful_copy : (p : ℕ) → IsInside w.state p → IsLawful ok (w.copies p)
 
 -- at the start it holds
 kept_opening : {X : Type 0} (levels : ℕ) (ok : List (Marked X) → Marked X → Type 0) → IsKept levels ok opening_world

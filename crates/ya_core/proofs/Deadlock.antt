@@ -41,9 +41,9 @@ module _ (levels : ℕ) (s : State) (some : 1 ≤ levels) (is : IsSound levels s
   -- a place that takes part is one of the tree
   in_tree : (q : ℕ) (x : Process) → s.processes q ≡ x → x ≢ Idle → q < 2 ^ levels
   in_tree q Idle e busy = absurd (busy refl)
-  in_tree q (Entering level point) e busy = (let proper : IsProper levels q (Entering level point) = subst (IsProper levels q) e (is.proper q) in proper).0
+  in_tree q (Entering level point) e busy = (let proper : IsProper levels q (Entering level point) = subst (IsProper levels q) e (is.proper q) in proper).in_tree
   in_tree q Inside e busy = let proper : IsProper levels q Inside = subst (IsProper levels q) e (is.proper q) in proper
-  in_tree q (Leaving level point) e busy = (let proper : IsProper levels q (Leaving level point) = subst (IsProper levels q) e (is.proper q) in proper).0
+  in_tree q (Leaving level point) e busy = (let proper : IsProper levels q (Leaving level point) = subst (IsProper levels q) e (is.proper q) in proper).in_tree
 
   -- it goes on where its step leads elsewhere
   goes : (q : ℕ) (x : Process) → s.processes q ≡ x → x ≢ Idle → next_of levels q x (value_of s.words (access_of levels q x)) ≢ x → SomeoneGoesOn levels s
@@ -110,8 +110,8 @@ module _ (levels : ℕ) (s : State) (some : 1 ≤ levels) (is : IsSound levels s
 
   -- one who is stuck stands at a level of the tree, and waits there
   stuck_at : (q level : ℕ) → IsStuck q level → (point : Entry) × (s.processes q ≡ Entering level point) × (1 ≤ level) × (level ≤ levels)
-  stuck_at q level (Asleep e none) = let proper : IsProper levels q (Entering level E8) = subst (IsProper levels q) e (is.proper q) in (E8, e, proper.1, proper.2)
-  stuck_at q level (Outside e apart) = let proper : IsProper levels q (Entering level E10) = subst (IsProper levels q) e (is.proper q) in (E10, e, proper.1, proper.2)
+  stuck_at q level (Asleep e none) = let proper : IsProper levels q (Entering level E8) = subst (IsProper levels q) e (is.proper q) in (E8, e, proper.least, proper.most)
+  stuck_at q level (Outside e apart) = let proper : IsProper levels q (Entering level E10) = subst (IsProper levels q) e (is.proper q) in (E10, e, proper.least, proper.most)
 
   -- what is owed to one who is stuck
   owed_to : (q level : ℕ) → IsStuck q level → IsOwed (node_of level) (side_of level) (λ p. phase_of levels level (s.processes p)) (λ n. s.words (T level n)) (λ p. s.words (P level p)) q

@@ -25,7 +25,7 @@ zero_or : (n : ℕ) → (n ≡ 0) ⊎ (1 ≤ n)
 zero_or n = grind arith
 
 -- at most one place competes on a side of a node: it holds the node below, which one place at most holds
-pub alone_at : (levels place level : ℕ) (s : State) → IsSound levels s → 1 ≤ level → level ≤ levels → (1 < level → IsTrue (holds (phase_of levels (level - 1) (s.processes place))))
+alone_at : (levels place level : ℕ) (s : State) → IsSound levels s → 1 ≤ level → level ≤ levels → (1 < level → IsTrue (holds (phase_of levels (level - 1) (s.processes place))))
     → (q : ℕ) → node_of level q ≡ node_of level place → side_of level q ≡ side_of level place → IsTrue (competes (phase_of levels level (s.processes q))) → q ≡ place
 alone_at levels place level s is least most holding q nodes sides competing = cases (zero_or (level - 1))
   where
@@ -82,11 +82,11 @@ pub finds : (levels place : ℕ) (s : State) (x : Process) → IsSound levels s 
 finds levels place s Idle is e = tt
 finds levels place s (Entering level point) is e =
     let proper : IsProper levels place (Entering level point) = subst (IsProper levels place) e (is.proper place) in
-    finds_entry levels level place s point (is.sound level proper.1 proper.2) e
+    finds_entry levels level place s point (is.sound level proper.least proper.most) e
 finds levels place s Inside is e = tt
 finds levels place s (Leaving level point) is e =
     let proper : IsProper levels place (Leaving level point) = subst (IsProper levels place) e (is.proper place) in
-    finds_exit levels level place s point (is.sound level proper.1 proper.2) e
+    finds_exit levels level place s point (is.sound level proper.least proper.most) e
 
 -- a fact that each branch of a choice gives
 by_choice : (R : Type 0) (z x y : Process) (b : Bool) → z ≡ (if b then x else y) → (b ≡ true → z ≡ x → R) → (b ≡ false → z ≡ y → R) → R
@@ -152,7 +152,7 @@ module _ (levels place level : ℕ) (old new : State) (is : IsSound levels old) 
       (λ some goes. act_awake levels place level old new here owed others done rival (entry_phase_here levels level place old (E6 rival) e) (comes E8 goes) (grind (arith, nat_tests)))
   acts_entry (E7 rival) e done now =
       let proper : IsProper levels place (Entering level (E7 rival)) = subst (IsProper levels place) e (is.proper place) in
-      act_wake levels place level old new here owed others rival (entry_phase_here levels level place old (E7 rival) e) (comes E8 now) proper.3 done
+      act_wake levels place level old new here owed others rival (entry_phase_here levels level place old (E7 rival) e) (comes E8 now) proper.knows done
   acts_entry E8 e done now =
       by_choice IsKept (new.processes place) (Entering level E8) (Entering level E9) _ now
       (λ zero goes. act_stay levels place level old new here owed others done (comes E8 goes ∙ sym (entry_phase_here levels level place old E8 e)))
@@ -176,7 +176,7 @@ module _ (levels place level : ℕ) (old new : State) (is : IsSound levels old) 
       (λ other goes. act_see levels place level old new here owed others done (exit_phase_here levels level place old X2 e) (stands (Leaving level (X3 (old.words (T level (node_of level place)) - 1))) (Freeing (old.words (T level (node_of level place)) - 1)) goes (phase_here level (Freeing (old.words (T level (node_of level place)) - 1)))))
   acts_exit (X3 rival) e done now =
       let proper : IsProper levels place (Leaving level (X3 rival)) = subst (IsProper levels place) e (is.proper place) in
-      act_let_in levels place level old new here owed others rival (exit_phase_here levels level place old (X3 rival) e) (leaves_it now) proper.3.0 proper.3.1 done (alone_out (X3 rival) e)
+      act_let_in levels place level old new here owed others rival (exit_phase_here levels level place old (X3 rival) e) (leaves_it now) proper.knows.0 proper.knows.1 done (alone_out (X3 rival) e)
 
 module _ (levels place : ℕ) (old new : State) (some : 1 ≤ levels) (is : IsSound levels old) (others : (q : ℕ) → q ≢ place → new.processes q ≡ old.processes q) where
   -- the level is sound, and what is owed there is owed
@@ -191,12 +191,12 @@ module _ (levels place : ℕ) (old new : State) (some : 1 ≤ levels) (is : IsSo
       (alone_at levels place 1 old is (omega arith) some (λ more. absurd (omega arith)))
   acts (Entering level point) e done now =
       let proper : IsProper levels place (Entering level point) = subst (IsProper levels place) e (is.proper place) in
-      acts_entry levels place level old new is proper.1 proper.2 others point e done now
+      acts_entry levels place level old new is proper.least proper.most others point e done now
   acts Inside e done now =
       act_give_up levels place levels old new (is.sound levels some (omega arith)) (is.owed levels some (omega arith)) others (ap (λ y. phase_of levels levels y) e ∙ phase_here levels Holding) (ap (λ y. phase_of levels levels y) now ∙ phase_here levels Parting) done
   acts (Leaving level point) e done now =
       let proper : IsProper levels place (Leaving level point) = subst (IsProper levels place) e (is.proper place) in
-      acts_exit levels place level old new is proper.1 proper.2 others point e done now
+      acts_exit levels place level old new is proper.least proper.most others point e done now
 
   -- and each other level
   rests : (x : Process) → old.processes place ≡ x → Accesses (access_of levels place x) old.words new.words → new.processes place ≡ next_of levels place x (value_of old.words (access_of levels place x))

@@ -1,47 +1,46 @@
 -- One level: what each kind of step keeps of it. `node` and `side` say where each place competes.
-use Rattle.std.proofs.Common.{◌≡◌, ◌≢◌, ℕ, ◌+◌, ◌-◌, ◌<◌, ◌==◌, Bool, true, false, refl, arith, sym, ◌∙◌, subst, ◌⊎◌, inl, inr, IsTrue}
+use Rattle.std.proofs.Common.{◌≡◌, ◌≢◌, ℕ, ◌+◌, ◌-◌, ◌<◌, ◌==◌, ◌||◌, not, Bool, true, false, refl, arith, sym, ◌∙◌, subst, ◌⊎◌, inl, inr, IsTrue}
 use Rattle.std.proofs.Math.Path.{fun_ext}
 use Rattle.std.proofs.lemmas.Bool.Decides.{nat_tests}
 use Rattle.ya_core.specs.declared.process.Entry.{Entry}
 use Rattle.ya_core.specs.declared.process.Entry.TheVariants.{E4}
 use Rattle.ya_core.specs.Soundness.{Phase, Away, Named, Announced, Waiting, Holding, Parting, Freeing, claims, is_past, waits, holds, parts, IsSoundLevel}
 
+-- at this phase the second kind has what the first has
+abbrev pub Also : (kind other : Phase → Bool) → Phase → Type 0
+Also kind other x = IsTrue (other x || not (kind x))
+
+-- so one kind is within another where it is so at each of the seven phases
+pub by_phases : (kind other : Phase → Bool) → Also kind other Away → Also kind other Named → Also kind other Announced → ((point : Entry) → Also kind other (Waiting point)) → Also kind other Holding
+    → Also kind other Parting → ((rival : ℕ) → Also kind other (Freeing rival)) → (x : Phase) → IsTrue (kind x) → IsTrue (other x)
+by_phases kind other away named announced waiting holding parting freeing x = has (kind x) (other x) (at x)
+  where
+    at : (x : Phase) → Also kind other x
+    at Away = away
+    at Named = named
+    at Announced = announced
+    at (Waiting point) = waiting point
+    at Holding = holding
+    at Parting = parting
+    at (Freeing rival) = freeing rival
+
+    has : (a b : Bool) → IsTrue (b || not a) → IsTrue a → IsTrue b
+    has a true both h = refl
+    has true false both h = absurd cc
+    has false false both h = absurd cc
+
 -- one who holds or is past claims, and one who holds or waits is past
 pub claims_holds : (x : Phase) → IsTrue (holds x) → IsTrue (claims x)
-claims_holds Holding h = refl
-claims_holds Away h = absurd cc
-claims_holds Named h = absurd cc
-claims_holds Announced h = absurd cc
-claims_holds (Waiting point) h = absurd cc
-claims_holds Parting h = absurd cc
-claims_holds (Freeing rival) h = absurd cc
+claims_holds = by_phases holds claims refl refl refl (λ point. refl) refl refl (λ rival. refl)
 
-pub is_past_holds : (x : Phase) → IsTrue (holds x) → IsTrue (is_past x)
-is_past_holds Holding h = refl
-is_past_holds Away h = absurd cc
-is_past_holds Named h = absurd cc
-is_past_holds Announced h = absurd cc
-is_past_holds (Waiting point) h = absurd cc
-is_past_holds Parting h = absurd cc
-is_past_holds (Freeing rival) h = absurd cc
+is_past_holds : (x : Phase) → IsTrue (holds x) → IsTrue (is_past x)
+is_past_holds = by_phases holds is_past refl refl refl (λ point. refl) refl refl (λ rival. refl)
 
 pub claims_is_past : (x : Phase) → IsTrue (is_past x) → IsTrue (claims x)
-claims_is_past Announced h = refl
-claims_is_past (Waiting point) h = refl
-claims_is_past Holding h = refl
-claims_is_past Away h = absurd cc
-claims_is_past Named h = absurd cc
-claims_is_past Parting h = absurd cc
-claims_is_past (Freeing rival) h = absurd cc
+claims_is_past = by_phases is_past claims refl refl refl (λ point. refl) refl refl (λ rival. refl)
 
 pub is_past_waits : (x : Phase) → IsTrue (waits x) → IsTrue (is_past x)
-is_past_waits (Waiting point) h = refl
-is_past_waits Away h = absurd cc
-is_past_waits Named h = absurd cc
-is_past_waits Announced h = absurd cc
-is_past_waits Holding h = absurd cc
-is_past_waits Parting h = absurd cc
-is_past_waits (Freeing rival) h = absurd cc
+is_past_waits = by_phases waits is_past refl refl refl (λ point. refl) refl refl (λ rival. refl)
 
 -- it takes part at the node
 abbrev pub competes : Phase → Bool
@@ -49,13 +48,7 @@ competes Away = false
 competes _ = true
 
 pub competes_claims : (x : Phase) → IsTrue (claims x) → IsTrue (competes x)
-competes_claims Away h = absurd cc
-competes_claims Named h = refl
-competes_claims Announced h = refl
-competes_claims (Waiting point) h = refl
-competes_claims Holding h = refl
-competes_claims Parting h = refl
-competes_claims (Freeing rival) h = refl
+competes_claims = by_phases claims competes refl refl refl (λ point. refl) refl refl (λ rival. refl)
 
 -- the two phases are alike for the clauses on claim, turn, waiter and spin
 pub record Alike (x y : Phase) : Type 0 where

@@ -18,7 +18,7 @@ same_claim : (level node side n s : ℕ) → C level n s ≡ C level node side �
 same_claim level node side n s e = (cc, cc)
 
 -- two names of words C are one, or differ in node or side
-pub claims_apart : (level node side : ℕ) (old new : Word → ℕ) → ((word : Word) → word ≢ C level node side → new word ≡ old word)
+claims_apart : (level node side : ℕ) (old new : Word → ℕ) → ((word : Word) → word ≢ C level node side → new word ≡ old word)
     → SameClaims node side (λ n s. old (C level n s)) (λ n s. new (C level n s))
 claims_apart level node side old new rest n s = cases (n == node) (s == side) refl refl
   where

@@ -35,7 +35,7 @@ module _ (levels place : ℕ) (words : List ℕ) (processes : List Process) (roo
   pub within_here : AccessIsWithin levels (access_of levels place (processes_of processes place))
   within_here = within_access levels place (processes_of processes place) is.least room proper_here
 
-  pub place_within : place < length processes
+  place_within : place < length processes
   place_within = omega (arith, is.processes)
 
   module _ (words' : List ℕ) (next : Process) (done : Accesses (access_of levels place (processes_of processes place)) (words_of levels words) (words_of levels words'))

@@ -41,17 +41,6 @@ pub words_of-number : (levels : ℕ) (row : List ℕ) (word : Word) → IsWord l
 unfolding words_of
 words_of-number levels row word is = ap (λ b. if b then slice_index row (number_of levels word) else 0) (is_word_true levels word is)
 
--- a row that changes at no word of the tree has the words that it had
-pub words_of-beyond : (levels : ℕ) (row : List ℕ) (i value : ℕ) → count_of_words levels ≤ i → (word : Word) → words_of levels (slice_set row i value) word ≡ words_of levels row word
-unfolding words_of
-words_of-beyond levels row i value past word = cases (is_word levels word) refl
-  where
-    cases : (b : Bool) → is_word levels word ≡ b → (if b then slice_index (slice_set row i value) (number_of levels word) else 0) ≡ (if b then slice_index row (number_of levels word) else 0)
-    cases true e =
-        let within : number_of levels word < count_of_words levels = number_within levels word (word_is levels word e) in
-        get_or-set_other row i (number_of levels word) value 0 (omega arith)
-    cases false e = refl
-
 -- a store at a word's number is a store in the word
 pub words_of-set : (levels : ℕ) (row : List ℕ) (word : Word) (value : ℕ) → IsWord levels word → count_of_words levels ≤ length row
     → Accesses (Store word value) (words_of levels row) (words_of levels (slice_set row (number_of levels word) value))

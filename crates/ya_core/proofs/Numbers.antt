@@ -20,7 +20,7 @@ pub at_most_64 : (levels : ℕ) → levels ≤ 6 → 2 ^ levels ≤ 64
 at_most_64 levels most = pow_mono {j = 6} most
 
 -- the rows of words P of the levels up to this one end before the last
-pub rows_end : (levels level n : ℕ) → 1 ≤ level → level ≤ levels → (level - 1) * n + n ≤ levels * n
+rows_end : (levels level n : ℕ) → 1 ≤ level → level ≤ levels → (level - 1) * n + n ≤ levels * n
 rows_end levels level n least most = grind (arith, mul-le-mul_right)
 
 -- the number of a word is below the number of words

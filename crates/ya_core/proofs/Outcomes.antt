@@ -13,7 +13,7 @@ use Rattle.ya_core.specs.Machines.{Replays, step_of}
 use Rattle.ya_core.specs.Worlds.{Marked, World, WorldSteps, WorldAppends, IsInside, is_inside, any_entry}
 
 -- two words are one, or are not
-pub same_or_apart : (a b : Word) → (a ≡ b) ⊎ (a ≢ b)
+same_or_apart : (a b : Word) → (a ≡ b) ⊎ (a ≢ b)
 same_or_apart (C h n s) (C k m d) = cases (h == k) (n == m) (s == d) refl refl refl
   where
     cases : (x y z : Bool) → (h == k) ≡ x → (n == m) ≡ y → (s == d) ≡ z → (C h n s ≡ C k m d) ⊎ (C h n s ≢ C k m d)

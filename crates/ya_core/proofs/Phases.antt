@@ -31,7 +31,7 @@ phase_here level a = grind (arith, nat_tests)
 pub phase_below : (level stands : ℕ) (a : Phase) → level < stands → phase_at level stands a ≡ Holding
 phase_below level stands a less = grind (arith, nat_tests)
 
-pub phase_above : (level stands : ℕ) (a : Phase) → stands < level → phase_at level stands a ≡ Away
+phase_above : (level stands : ℕ) (a : Phase) → stands < level → phase_at level stands a ≡ Away
 phase_above level stands a more = grind (arith, nat_tests)
 
 -- one who is away where it stands is away there and above
@@ -39,11 +39,11 @@ pub phase_away : (level stands : ℕ) → stands ≤ level → phase_at level st
 phase_away level stands most = grind (arith, nat_tests)
 
 -- at another level it doesn't matter what is done where the process stands
-pub phase_apart : (level stands : ℕ) (a b : Phase) → level ≢ stands → phase_at level stands a ≡ phase_at level stands b
+phase_apart : (level stands : ℕ) (a b : Phase) → level ≢ stands → phase_at level stands a ≡ phase_at level stands b
 phase_apart level stands a b apart = grind (arith, nat_tests)
 
 -- to stand at the foot of the next level is to hold the one below
-pub phase_up : (level stands : ℕ) → phase_at level (stands + 1) Away ≡ phase_at level stands Holding
+phase_up : (level stands : ℕ) → phase_at level (stands + 1) Away ≡ phase_at level stands Holding
 phase_up level stands = grind (arith, nat_tests)
 
 -- what a process that won a level, or left it, does at any level
@@ -59,7 +59,7 @@ phase_left levels stands level some least =
     (λ last. sym (phase_away level stands (grind (arith, nat_tests))))
 
 -- a step changes no phase but that of the level where it acts
-pub frame_entry : (levels stands level place : ℕ) (point : Entry) (value : ℕ) → stands ≤ levels → level ≢ stands
+frame_entry : (levels stands level place : ℕ) (point : Entry) (value : ℕ) → stands ≤ levels → level ≢ stands
     → phase_of levels level (entry_next levels stands place point value) ≡ phase_at level stands (entry_phase point)
 frame_entry levels stands level place E1 value most apart = phase_apart level stands _ _ apart
 frame_entry levels stands level place E2 value most apart = phase_apart level stands _ _ apart
@@ -78,7 +78,7 @@ frame_entry levels stands level place E9 value most apart =
 frame_entry levels stands level place E10 value most apart =
     either (λ x. phase_of levels level x ≡ phase_at level stands (Waiting E10)) (value == 2) _ _ (λ _. phase_won levels stands level most ∙ phase_apart level stands _ _ apart) (λ _. phase_apart level stands _ _ apart)
 
-pub frame_exit : (levels stands level place : ℕ) (point : Exit) (value : ℕ) → 1 ≤ stands → 1 ≤ level → level ≢ stands
+frame_exit : (levels stands level place : ℕ) (point : Exit) (value : ℕ) → 1 ≤ stands → 1 ≤ level → level ≢ stands
     → phase_of levels level (exit_next stands place point value) ≡ phase_at level stands (exit_phase point)
 frame_exit levels stands level place X1 value some least apart = phase_apart level stands _ _ apart
 frame_exit levels stands level place X2 value some least apart =
@@ -89,9 +89,9 @@ frame_exit levels stands level place (X3 rival) value some least apart = phase_l
 pub frame_phase : (levels level place : ℕ) (x : Process) (value : ℕ) → 1 ≤ levels → 1 ≤ level → IsProper levels place x → level ≢ acts_at levels x
     → phase_of levels level (next_of levels place x value) ≡ phase_of levels level x
 frame_phase levels level place Idle value some least proper apart = phase_above level 1 _ (omega arith)
-frame_phase levels level place (Entering stands point) value some least proper apart = frame_entry levels stands level place point value proper.2 apart
+frame_phase levels level place (Entering stands point) value some least proper apart = frame_entry levels stands level place point value proper.most apart
 frame_phase levels level place Inside value some least proper apart = phase_apart level levels _ _ apart
-frame_phase levels level place (Leaving stands point) value some least proper apart = frame_exit levels stands level place point value proper.1 least apart
+frame_phase levels level place (Leaving stands point) value some least proper apart = frame_exit levels stands level place point value proper.least least apart
 
 -- the level of a word
 abbrev pub level_of : Word → ℕ

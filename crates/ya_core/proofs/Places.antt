@@ -30,7 +30,7 @@ unfolding node_of
 node_of_root levels place room = div-eq_of_lt room
 
 -- the node at the level below, 0 standing for the place itself, follows from node and side
-pub node_split : (level place : ℕ) → 1 ≤ level → node_of (level - 1) place ≡ 2 * node_of level place + side_of level place
+node_split : (level place : ℕ) → 1 ≤ level → node_of (level - 1) place ≡ 2 * node_of level place + side_of level place
 unfolding node_of side_of
 node_split level place least =
     let halves : place / 2 ^ (level - 1) / 2 ^ 1 ≡ place / 2 ^ (level - 1 + 1) = shr-shr place (level - 1) 1 in

@@ -6,63 +6,47 @@ use Rattle.ya_core.specs.declared.process.Entry.{Entry}
 use Rattle.ya_core.specs.declared.process.Entry.TheVariants.{E1, E2, E3, E4, E5, E6, E7, E8, E9, E10}
 use Rattle.ya_core.specs.Tree.{Rivals}
 use Rattle.ya_core.specs.Soundness.{Phase, Away, Named, Announced, Waiting, Holding, Parting, Freeing, claims, is_past, waits, holds, awaits_one, saw_itself_last, was_woken, awaits_two, is_to_wake, wakes_next, is_to_free, IsSoundLevel, SomeRival, IsOwed}
-use Rattle.ya_core.proofs.Level.{Same, SameWords, competes, competes_claims, claims_is_past, is_past_waits}
+use Rattle.ya_core.proofs.Level.{Also, by_phases, Same, SameWords, competes, competes_claims, claims_is_past, is_past_waits}
 
--- who awaits the 1 waits, and so does who saw itself last, was woken or awaits the 2
+-- who awaits the 1 waits, and so does who saw itself last, was woken or awaits the 2; who awaits the 2 was woken
 waits_awaits_one : (x : Phase) → IsTrue (awaits_one x) → IsTrue (waits x)
-waits_awaits_one (Waiting point) h = refl
-waits_awaits_one Away h = absurd cc
-waits_awaits_one Named h = absurd cc
-waits_awaits_one Announced h = absurd cc
-waits_awaits_one Holding h = absurd cc
-waits_awaits_one Parting h = absurd cc
-waits_awaits_one (Freeing rival) h = absurd cc
+waits_awaits_one = by_phases awaits_one waits refl refl refl (λ point. refl) refl refl (λ rival. refl)
 
 waits_saw_itself_last : (x : Phase) → IsTrue (saw_itself_last x) → IsTrue (waits x)
-waits_saw_itself_last (Waiting point) h = refl
-waits_saw_itself_last Away h = absurd cc
-waits_saw_itself_last Named h = absurd cc
-waits_saw_itself_last Announced h = absurd cc
-waits_saw_itself_last Holding h = absurd cc
-waits_saw_itself_last Parting h = absurd cc
-waits_saw_itself_last (Freeing rival) h = absurd cc
+waits_saw_itself_last = by_phases saw_itself_last waits refl refl refl (λ point. refl) refl refl (λ rival. refl)
 
 waits_was_woken : (x : Phase) → IsTrue (was_woken x) → IsTrue (waits x)
-waits_was_woken (Waiting point) h = refl
-waits_was_woken Away h = absurd cc
-waits_was_woken Named h = absurd cc
-waits_was_woken Announced h = absurd cc
-waits_was_woken Holding h = absurd cc
-waits_was_woken Parting h = absurd cc
-waits_was_woken (Freeing rival) h = absurd cc
+waits_was_woken = by_phases was_woken waits refl refl refl (λ point. refl) refl refl (λ rival. refl)
 
 waits_awaits_two : (x : Phase) → IsTrue (awaits_two x) → IsTrue (waits x)
-waits_awaits_two (Waiting point) h = refl
-waits_awaits_two Away h = absurd cc
-waits_awaits_two Named h = absurd cc
-waits_awaits_two Announced h = absurd cc
-waits_awaits_two Holding h = absurd cc
-waits_awaits_two Parting h = absurd cc
-waits_awaits_two (Freeing rival) h = absurd cc
+waits_awaits_two = by_phases awaits_two waits refl refl refl (λ point. refl) refl refl (λ rival. refl)
 
--- a rival that competes, is past, or is to free a place takes part at the node
+was_woken_awaits_two : (x : Phase) → IsTrue (awaits_two x) → IsTrue (was_woken x)
+was_woken_awaits_two = by_phases awaits_two was_woken refl refl refl at refl refl (λ rival. refl)
+  where
+    at : (point : Entry) → Also awaits_two was_woken (Waiting point)
+    at E1 = refl
+    at E2 = refl
+    at E3 = refl
+    at E4 = refl
+    at (E5 rival) = refl
+    at (E6 rival) = refl
+    at (E7 rival) = refl
+    at E8 = refl
+    at E9 = refl
+    at E10 = refl
+
+-- a rival that competes, is past, is to free a place or to wake it takes part at the node
 pub competes_unwoken : (turn p : ℕ) (x : Phase) → IsTrue (claims x || is_to_free turn p x) → IsTrue (competes x)
-competes_unwoken turn p Away k = absurd cc
-competes_unwoken turn p Named k = refl
-competes_unwoken turn p Announced k = refl
-competes_unwoken turn p (Waiting point) k = refl
-competes_unwoken turn p Holding k = refl
-competes_unwoken turn p Parting k = refl
-competes_unwoken turn p (Freeing rival) k = refl
+competes_unwoken turn p =
+    by_phases (λ x. claims x || is_to_free turn p x) competes refl refl refl (λ point. refl) refl refl (λ rival. refl)
 
 pub competes_outside : (turn p : ℕ) (x : Phase) → IsTrue (is_past x || is_to_free turn p x) → IsTrue (competes x)
-competes_outside turn p Away k = absurd cc
-competes_outside turn p Named k = refl
-competes_outside turn p Announced k = refl
-competes_outside turn p (Waiting point) k = refl
-competes_outside turn p Holding k = refl
-competes_outside turn p Parting k = refl
-competes_outside turn p (Freeing rival) k = refl
+competes_outside turn p =
+    by_phases (λ x. is_past x || is_to_free turn p x) competes refl refl refl (λ point. refl) refl refl (λ rival. refl)
+
+competes_wakes_next : (p : ℕ) (x : Phase) → IsTrue (wakes_next p x) → IsTrue (competes x)
+competes_wakes_next p = by_phases (wakes_next p) competes refl refl refl (λ point. refl) refl refl (λ rival. refl)
 
 -- what a step keeps for a rival that waits, as the phase of the place that steps changes from the one to the other
 record Keeps (turn spin : ℕ → ℕ) (node : ℕ → ℕ) (phase : ℕ → Phase) (p : ℕ) (x y : Phase) : Type 0 where
@@ -501,25 +485,7 @@ module _ (node side : ℕ → ℕ) (two : (q : ℕ) → side q < 2) (phase : ℕ
                   has_two h true e = by_word (spin p) refl
                     where
                       woken : spin p ≢ 0
-                      woken = (owed p).woken (woken_two (phase p) (had awaits_two h))
-                        where
-                          woken_two : (z : Phase) → IsTrue (awaits_two z) → IsTrue (was_woken z)
-                          woken_two (Waiting E10) k = refl
-                          woken_two (Waiting E9) k = refl
-                          woken_two (Waiting E8) k = absurd cc
-                          woken_two (Waiting (E7 rival)) k = absurd cc
-                          woken_two (Waiting (E6 rival)) k = absurd cc
-                          woken_two (Waiting (E5 rival)) k = absurd cc
-                          woken_two (Waiting E4) k = absurd cc
-                          woken_two (Waiting E3) k = absurd cc
-                          woken_two (Waiting E2) k = absurd cc
-                          woken_two (Waiting E1) k = absurd cc
-                          woken_two Away k = absurd cc
-                          woken_two Named k = absurd cc
-                          woken_two Announced k = absurd cc
-                          woken_two Holding k = absurd cc
-                          woken_two Parting k = absurd cc
-                          woken_two (Freeing rival) k = absurd cc
+                      woken = (owed p).woken (was_woken_awaits_two (phase p) (had awaits_two h))
 
                       single : spin p ≡ 1 → ⊥
                       single one_word = no_rival ((owed p).outside (waits_awaits_two (phase p) (had awaits_two h)) one_word)
@@ -533,14 +499,5 @@ module _ (node side : ℕ → ℕ) (two : (q : ℕ) → side q < 2) (phase : ℕ
                       let k : IsTrue (wakes_next p Announced) = subst (λ z. IsTrue (wakes_next p z)) (ap phase' one ∙ now) e in absurd cc
                   quiet q rivals (inr stays) true e =
                       let k : IsTrue (wakes_next p (phase q)) = subst (λ z. IsTrue (wakes_next p z)) stays e in
-                      let one : q ≡ a = only q rivals (competing (phase q) k) in
+                      let one : q ≡ a = only q rivals (competes_wakes_next p (phase q) k) in
                       let n : IsTrue (wakes_next p Named) = subst (λ z. IsTrue (wakes_next p z)) (ap phase one ∙ was) k in absurd cc
-                    where
-                      competing : (z : Phase) → IsTrue (wakes_next p z) → IsTrue (competes z)
-                      competing Away k = absurd cc
-                      competing Named k = refl
-                      competing Announced k = refl
-                      competing (Waiting point) k = refl
-                      competing Holding k = refl
-                      competing Parting k = refl
-                      competing (Freeing rival) k = refl

@@ -70,10 +70,6 @@ pub record TakesStep (place : ℕ) (old new : Rows) (step_told : Step) : Type 0 
   pub step : StepsTo old.levels place (state_of old) (state_of new)
   pub told : step_told ≡ step_of old.levels place (state_of old)
 
--- there is a tree of so many levels
-abbrev pub HasShape : ℕ → Type 0
-HasShape levels = (1 ≤ levels) × (levels ≤ 6)
-
 -- from this state the places that are picked take these steps, one after another
 abbrev pub Replays : ℕ → State → List ℕ → List Step → Type 0
 Replays levels s [] [] = Unit {0}

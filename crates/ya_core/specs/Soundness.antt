@@ -183,12 +183,19 @@ abbrev pub ExitIsProper : ℕ → ℕ → Exit → Type 0
 ExitIsProper level place (X3 rival) = (node_of level place ≡ node_of level rival) × (rival ≢ place)
 ExitIsProper level place _ = Unit {0}
 
--- a process that takes part has a place and a level of the tree
+-- a process on its way in or out has a place and a level of the tree, and what its point knows is so
+pub record IsOnItsWay (levels place level : ℕ) (Knows : Type 0) : Type 0 where
+  pub in_tree : place < 2 ^ levels
+  pub least : 1 ≤ level
+  pub most : level ≤ levels
+  pub knows : Knows
+
+-- a process that takes part has a place of the tree
 abbrev pub IsProper : ℕ → ℕ → Process → Type 0
 IsProper levels place Idle = Unit {0}
-IsProper levels place (Entering level point) = (place < 2 ^ levels) × (1 ≤ level) × (level ≤ levels) × EntryIsProper level place point
+IsProper levels place (Entering level point) = IsOnItsWay levels place level (EntryIsProper level place point)
 IsProper levels place Inside = place < 2 ^ levels
-IsProper levels place (Leaving level point) = (place < 2 ^ levels) × (1 ≤ level) × (level ≤ levels) × ExitIsProper level place point
+IsProper levels place (Leaving level point) = IsOnItsWay levels place level (ExitIsProper level place point)
 
 -- the invariant: each process is proper, each level is sound, and at each level whoever waits is owed a word
 pub record IsSound (levels : ℕ) (s : State) : Type 0 where

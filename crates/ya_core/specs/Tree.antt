@@ -3,6 +3,10 @@ use Rattle.std.specs.Prelude.{◌≡◌, ◌≢◌, ℕ, ◌+◌, ◌-◌, ◌*�
 use Rattle.ya_core.specs.declared.word.Word.{Word}
 use Rattle.ya_core.specs.declared.word.Word.TheVariants.{C, T, P}
 
+-- there is a tree of so many levels
+abbrev pub HasShape : ℕ → Type 0
+HasShape levels = (1 ≤ levels) × (levels ≤ 6)
+
 -- the node of a place at a level; level 1 holds the leaves
 unfoldable pub node_of : ℕ → ℕ → ℕ
 node_of level place = place / 2 ^ level

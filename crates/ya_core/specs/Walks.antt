@@ -206,12 +206,16 @@ abbrev pub Goes : Walk → List ℕ → Walk → Type 0
 Goes w [] v = v ≡ w
 Goes w (value ∷ values) v = IsTold (due w) value × Goes (walk_after w value) values v
 
--- the walk of a place that was idle, or is inside, and was told to go on
-abbrev pub Enters : Walk → Type 0
-Enters w = (w.process ≡ Idle) × (w.begun ≡ true) × (w.remote ≡ 0)
+-- the walk of a place that was idle and was told to go on, of which no remote access is counted yet
+pub record Enters (w : Walk) : Type 0 where
+  pub process : w.process ≡ Idle
+  pub begun : w.begun ≡ true
+  pub uncounted : w.remote ≡ 0
 
-abbrev pub Leaves : Walk → Type 0
-Leaves w = (w.process ≡ Inside) × (w.begun ≡ true)
+-- the walk of a place that is inside and was told to go on
+pub record Leaves (w : Walk) : Type 0 where
+  pub process : w.process ≡ Inside
+  pub begun : w.begun ≡ true
 
 -- the word is of one of the levels 1 to 6
 abbrev pub LevelIsSmall : Word → Type 0

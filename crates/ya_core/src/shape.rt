@@ -1,6 +1,6 @@
 //! The words of a tree in one flat row.
 ghost use Rattle.std.specs.Prelude.{◌≡◌, ◌↔◌, ℕ, ◌+◌, ◌-◌, ◌*◌, ◌^◌, ◌<◌, ◌≤◌, IsSome, IfSome};
-ghost use Rattle.ya_core.specs.Tree.{IsWord, number_of, count_of_words, nodes_below};
+ghost use Rattle.ya_core.specs.Tree.{HasShape, IsWord, number_of, count_of_words, nodes_below};
 
 use crate::word::Word;
 use std::marker::Model;
@@ -17,7 +17,7 @@ impl Model for Shape {
 
     ghost view = { λ s. s.levels };
 
-    ghost invariant = { λ s. (1 ≤ s.levels) × (s.levels ≤ 6) };
+    ghost invariant = { λ s. HasShape s.levels };
 
     ghost inverse = { λ n. record { levels = n } };
 }
@@ -26,7 +26,7 @@ impl Shape {
     /// The tree of this many levels, or `None` outside 1 to 6.
     #[inline(always)]
     pub fn new(levels: u32) -> Option<Shape>
-        ensures some { IsSome result ↔ ((1 ≤ levels) × (levels ≤ 6)) }
+        ensures some { IsSome result ↔ HasShape levels }
         ensures value { IfSome result (λ shape. shape ≡ levels) }
     {
         if (1..=6).contains(&levels) {

@@ -7,4 +7,3 @@ pub mod Deals
 pub mod Heights
 pub mod Entries
 pub mod Meanings
-pub mod Marking

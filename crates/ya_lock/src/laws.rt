@@ -3,9 +3,8 @@ ghost use Rattle.std.specs.Prelude.{ℕ, ◌≤◌};
 ghost use Rattle.ya_lock.specs.Meaning.{IsLockState};
 
 use crate::kept::Kept;
-use crate::rule::LockRule;
+use crate::rule::{LockTable, Ruled};
 use crate::view::View;
-use atomic_table::TableRule;
 
 /// Wherever the rule of a lock's table holds, and so at every moment between two atomic steps of its seats: the invariant
 /// of the core holds of the words and of the processes that the seats show, so whoever waits is owed a word; where some
@@ -14,6 +13,6 @@ use atomic_table::TableRule;
 /// places, the value as it is; and the passes are made by one seat, before which nobody knows anything.
 pub fn rule<V: Kept, const L: u32>()
     requires { 1 ≤ L }
-    ensures { (s : _) → ⟦<LockRule as TableRule<Option<V>, View<V>, u32>>⟧.holds L s
+    ensures { (s : _) → ⟦<LockTable<V> as Ruled<Option<V>, View<V>, u32>>⟧.rule L s
         → IsLockState V.since L s }
 {}

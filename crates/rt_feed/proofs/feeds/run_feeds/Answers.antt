@@ -1,4 +1,4 @@
-use Rattle.std.proofs.Common.{◌<◌, length, arith}
+use Rattle.std.proofs.Common.{arith}
 use Rattle.rt_feed.proofs.feeds.run_feeds.Goals as goal
 
 pub returns-clause-each : goal.returns-clause-each

@@ -1,4 +1,4 @@
-use Rattle.std.proofs.Common.{◌≡◌, false, suc, ◌+◌, ◌<◌, ◌∷◌, ◌++◌, [], take, drop, length, get_or, set, refl, sym, ap, ◌∙◌, arith, add-one, drop-cons}
+use Rattle.std.proofs.Common.{◌≡◌, false, suc, ◌+◌, ◌<◌, ◌∷◌, ◌++◌, [], take, drop, length, get_or, set, sym, ap, ◌∙◌, arith, add-one, drop-cons}
 use Rattle.std.proofs.lemmas.List.{drop_all, get_or_default}
 use Rattle.rt_feed.specs.declared.report.Line.{Line}
 use Rattle.rt_feed.specs.declared.report.Answer.{Answer}

@@ -8,30 +8,16 @@ use Rattle.ya_core.proofs.machine.take_step.Goals as goal
 
 pub access-access-requires-clause-proper : goal.access-access-requires-clause-proper
 unfolding processes_of
-access-access-requires-clause-proper c =
-    let levels = c.args.shape.now in
-    let words = c.args.words.now in
-    let list = c.args.processes.now in
-    let place = c.args.place in
-    rw c.levels-levels.ensures.value (proper_here levels place words list c.requires.room c.requires.machine)
+access-access-requires-clause-proper c = rw c.levels-levels.ensures.value (proper_here _ _ _ _ c.requires.room c.requires.machine)
 
 pub perform-value-requires-clause-within : goal.perform-value-requires-clause-within
 unfolding processes_of
 perform-value-requires-clause-within c =
-    let levels = c.args.shape.now in
-    let words = c.args.words.now in
-    let list = c.args.processes.now in
-    let place = c.args.place in
-    rw (c.access-access.ensures, c.levels-levels.ensures.value) (within_here levels place words list c.requires.room c.requires.machine)
+    rw (c.access-access.ensures, c.levels-levels.ensures.value) (within_here _ _ _ _ c.requires.room c.requires.machine)
 
 pub next-next-requires-clause-proper : goal.next-next-requires-clause-proper
 unfolding processes_of
-next-next-requires-clause-proper c =
-    let levels = c.args.shape.now in
-    let words = c.args.words.now in
-    let list = c.args.processes.now in
-    let place = c.args.place in
-    rw c.levels-levels.ensures.value (proper_here levels place words list c.requires.room c.requires.machine)
+next-next-requires-clause-proper c = rw c.levels-levels.ensures.value (proper_here _ _ _ _ c.requires.room c.requires.machine)
 
 pub returns : goal.returns
 unfolding processes_of

@@ -1,4 +1,4 @@
-use Rattle.std.proofs.Common.{◌≡◌, ℕ, ◌+◌, ◌<◌, List, [], ◌∷◌, length, refl, sym, ap, ◌∙◌, append-nil, length-append, arith}
+use Rattle.std.proofs.Common.{◌≡◌, [], ◌∷◌, length, refl, sym, ap, ◌∙◌, append-nil, length-append, arith}
 use Rattle.rt_shared.specs.declared.outcome.Outcome.TheVariants.{Refused}
 use Rattle.rt_feed.specs.LineOutcomes.{skipped, faulty, asked}
 use Rattle.rt_feed.proofs.RunSteps.{line_read, batch_asked}
