@@ -1,3 +1,5 @@
+pub mod Promised
+pub mod Crossing
 pub mod Order
 pub mod Lists
 pub mod Tables

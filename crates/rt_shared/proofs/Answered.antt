@@ -1,11 +1,15 @@
 -- The entries of a feed's commands, piece by piece.
-use Rattle.std.proofs.Common.{◌≡◌, ℕ, List, [], ◌∷◌, ◌++◌, length, refl, sym, ap, ◌∙◌, append_assoc, length-append, arith}
+use Rattle.std.proofs.Common.{◌≡◌, ℕ, List, [], ◌∷◌, ◌++◌, length, refl, sym, ap, ◌∙◌, append_assoc, length-append, arith, append-nil, IfOk, OnErr, Result, Ok, Err}
 use Rattle.std.proofs.lemmas.List.Elements.{All-nil, All-cons}
 use Rattle.rt_rib.specs.declared.commands.Cmd.{Cmd}
 use Rattle.rt_rib.specs.declared.commands.Entry.{Entry}
+use Rattle.rt_rib.specs.declared.commands.Reply.{Reply}
+use Rattle.rt_rib.specs.Book.{Applies, Contents}
 use Rattle.rt_shared.specs.declared.outcome.Outcome.{Outcome}
 use Rattle.rt_shared.specs.declared.outcome.Outcome.TheVariants.{Did, Refused}
 use Rattle.rt_shared.specs.Visits.{answered, AreServed, AllBy}
+use Rattle.rt_shared.specs.declared.lent.Lent.{Lent}
+use Rattle.rt_shared.specs.Lent.{feed_of, Adds}
 
 -- the entries of two pieces are those of the first, and then those of the second
 pub answered_append : (feed : ℕ) (xs ys : List Cmd) (os ps : List Outcome) → length os ≡ length xs → answered feed (xs ++ ys) (os ++ ps) ≡ answered feed xs os ++ answered feed ys ps
@@ -41,3 +45,19 @@ all_answered feed (cmd ∷ cmds) (Refused ∷ os) = all_answered feed cmds os
 pub nothing_answered : (feed : ℕ) (cmds : List Cmd) → answered feed cmds [] ≡ []
 nothing_answered feed [] = refl
 nothing_answered feed (cmd ∷ cmds) = refl
+
+-- a book that has answered a command, or refused it, has added what is the feed's
+pub adds_applied : {E : Type 0} (place feed : ℕ) (cmd : Cmd) (old new : Lent) (r : Result Reply E) → feed ≡ feed_of place → new.feeds ≡ old.feeds
+    → IfOk r (λ reply. Applies old.book new.book feed cmd reply) → OnErr r (new.book ≡ old.book) → Adds place old new
+adds_applied place feed cmd old new (Ok reply) is feeds did refused = record {
+  same = record { limit = ap (λ (b : Contents). b.limit) did.journaled; feeds = feeds };
+  own = record { feed = feed; cmd = cmd; reply = reply } ∷ [];
+  added = ap (λ (b : Contents). b.journal) did.journaled;
+  by_feed = All-cons (λ (e : Entry). e.feed ≡ feed_of place) (record { feed = feed; cmd = cmd; reply = reply }) [] is (All-nil _);
+}
+adds_applied place feed cmd old new (Err fault) is feeds did refused = record {
+  same = record { limit = ap (λ (b : Contents). b.limit) refused; feeds = feeds };
+  own = [];
+  added = ap (λ (b : Contents). b.journal) refused ∙ sym (append-nil old.book.journal);
+  by_feed = All-nil _;
+}

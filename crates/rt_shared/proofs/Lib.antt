@@ -1,3 +1,5 @@
+pub mod Promised
+pub mod Crossing
 pub mod Answered
 pub mod Passes
 pub mod Uncutting

@@ -25,7 +25,7 @@ uncut_others feed (visit ∷ visits) journal more (before, rest, is, none, all, 
     (before, rest ++ more, more_behind before visit rest more journal is, none, all, uncut_others feed visits rest more uncut none')
 
 -- a visit at the end
-uncut_visit : (feed : ℕ) (visits : List (List Entry)) (journal own : List Entry) → Uncut feed visits journal → AllBy feed own → Uncut feed (visits ++ own ∷ []) (journal ++ own)
+pub uncut_visit : (feed : ℕ) (visits : List (List Entry)) (journal own : List Entry) → Uncut feed visits journal → AllBy feed own → Uncut feed (visits ++ own ∷ []) (journal ++ own)
 uncut_visit feed [] journal own none all = (journal, [], ap (λ (l : List Entry). journal ++ l) (sym (append-nil own)), none, all, All-nil _)
 uncut_visit feed (visit ∷ visits) journal own (before, rest, is, none, all, uncut) all' =
     (before, rest ++ own, more_behind before visit rest own journal is, none, all, uncut_visit feed visits rest own uncut all')

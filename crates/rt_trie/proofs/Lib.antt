@@ -1,3 +1,5 @@
+pub mod Promised
+pub mod Crossing
 pub mod BlockLemmas
 pub mod CountLemmas
 pub mod DescentLemmas
