@@ -1,0 +1,74 @@
+-- What a gate to a book of its own has served, one command after another.
+use Rattle.std.proofs.Common.{◌≡◌, List, [], ◌∷◌, ◌++◌, length, zip, sym, ap, ◌∙◌, arith, append_assoc, append-nil, length-append, Result, Ok, Err, IfOk, OnErr}
+use Rattle.std.proofs.lemmas.List.{map-append}
+use Rattle.rt_rib.specs.declared.commands.Cmd.{Cmd}
+use Rattle.rt_rib.specs.declared.commands.Reply.{Reply}
+use Rattle.rt_rib.specs.declared.commands.Entry.{Entry}
+use Rattle.rt_rib.specs.declared.refused.Refused.{Refused}
+use Rattle.rt_rib.specs.Book.{Contents, Applies}
+use Rattle.rt_shared.specs.declared.outcome.Outcome.{Outcome}
+use Rattle.rt_feed.specs.Visits.{Visit, reply_to, visit_of, joined, entries}
+use Rattle.walkthrough.specs.Gate.{HasVisits}
+
+-- the commands had these outcomes, and the journal has the entries of those that were answered
+pub record HasServed (cmds : List Cmd) (old : List Entry) (before : List Outcome) (now : List Entry) (after : List Outcome) : Type 0 where
+  pub outcomes : List Outcome
+  pub each : length outcomes ≡ length cmds
+  pub appended : after ≡ before ++ outcomes
+  pub left : now ≡ old ++ entries 1 (visit_of (zip cmds outcomes))
+
+-- the entries of one visit after another
+entries-append : (v w : Visit) → entries 1 (v ++ w) ≡ entries 1 v ++ entries 1 w
+entries-append v w = map-append (λ (p : Cmd × Reply). let e : Entry = record { feed = 1; cmd = p.0; reply = p.1 } in e) v w
+
+-- one command more
+visit_more : (cmds : List Cmd) (cmd : Cmd) (outcomes : List Outcome) (o : Outcome) → length outcomes ≡ length cmds
+    → visit_of (zip (cmds ++ cmd ∷ []) (outcomes ++ o ∷ [])) ≡ visit_of (zip cmds outcomes) ++ reply_to cmd o
+visit_more [] cmd [] o same = append-nil (reply_to cmd o)
+visit_more [] cmd (p ∷ outcomes) o same = absurd (omega arith)
+visit_more (c ∷ cmds) cmd [] o same = absurd (omega arith)
+visit_more (c ∷ cmds) cmd (p ∷ outcomes) o same =
+    ap (λ (l : Visit). reply_to c p ++ l) (visit_more cmds cmd outcomes o (omega arith)) ∙ sym (append_assoc (reply_to c p) (visit_of (zip cmds outcomes)) (reply_to cmd o))
+
+pub served_more : (cmds : List Cmd) (cmd : Cmd) (old : List Entry) (before : List Outcome) (now next : List Entry) (after : List Outcome) (o : Outcome)
+    → HasServed cmds old before now after → next ≡ now ++ entries 1 (reply_to cmd o) → HasServed (cmds ++ cmd ∷ []) old before next (after ++ o ∷ [])
+served_more cmds cmd old before now next after o served e =
+    let v : Visit = visit_of (zip cmds served.outcomes) in let w : Visit = reply_to cmd o in
+    record {
+      outcomes = served.outcomes ++ o ∷ [];
+      each = omega (arith, served.each, length-append served.outcomes (o ∷ []), length-append cmds (cmd ∷ []));
+      appended = ap (λ (l : List Outcome). l ++ o ∷ []) served.appended ∙ append_assoc before served.outcomes (o ∷ []);
+      left = e ∙ (ap (λ (l : List Entry). l ++ entries 1 w) served.left ∙ (append_assoc old (entries 1 v) (entries 1 w)
+          ∙ ap (λ (l : List Entry). old ++ l) (sym (ap (entries 1) (visit_more cmds cmd served.outcomes o served.each) ∙ entries-append v w))));
+    }
+
+-- one visit more is joined behind the others
+joined_more : (visits : List Visit) (v : Visit) → joined (visits ++ v ∷ []) ≡ joined visits ++ v
+joined_more [] v = append-nil v
+joined_more (u ∷ visits) v = ap (λ (l : Visit). u ++ l) (joined_more visits v) ∙ sym (append_assoc u (joined visits) v)
+
+-- a gate whose journal gains the entries of a visit holds that visit besides
+pub holds_more : (old new : List Entry) (visits : List Visit) (v : Visit) → HasVisits old visits → new ≡ old ++ entries 1 v → HasVisits new (visits ++ v ∷ [])
+holds_more old new visits v held e =
+    e ∙ (ap (λ (l : List Entry). l ++ entries 1 v) held ∙ sym (ap (entries 1) (joined_more visits v) ∙ entries-append (joined visits) v))
+
+-- an empty visit adds nothing
+pub holds_same : (old new : List Entry) (visits : List Visit) → HasVisits old visits → new ≡ old → HasVisits new (visits ++ [] ∷ [])
+holds_same old new visits held e = holds_more old new visits [] held (e ∙ sym (append-nil old))
+
+-- a command that the book answered is a visit of its own
+pub holds_answer : (cmd : Cmd) (old new : Contents) (result : Result Reply Refused) → IfOk result (λ reply. Applies old new 1 cmd reply)
+    → IfOk result (λ reply. (visits : List Visit) → HasVisits old.journal visits → HasVisits new.journal (visits ++ ((cmd, reply) ∷ []) ∷ []))
+holds_answer cmd old new (Ok reply) a = λ visits held. holds_more old.journal new.journal visits ((cmd, reply) ∷ []) held (ap (λ (b : Contents). b.journal) a.journaled)
+holds_answer cmd old new (Err e) a = tt
+
+-- one that it refused is none
+pub holds_refusal : (old new : Contents) (result : Result Reply Refused) → OnErr result (new ≡ old)
+    → OnErr result ((visits : List Visit) → HasVisits old.journal visits → HasVisits new.journal (visits ++ [] ∷ []))
+holds_refusal old new (Ok reply) e = tt
+holds_refusal old new (Err refused) e = λ visits held. holds_same old.journal new.journal visits held (ap (λ (b : Contents). b.journal) e)
+
+-- what holds anyway holds of an error
+pub on_err_of : {X E : Type 0} (r : Result X E) (P : Type 0) → P → OnErr r P
+on_err_of (Ok x) P p = tt
+on_err_of (Err e) P p = p

@@ -1,0 +1,13 @@
+use Rattle.std.proofs.Common.{ap, []}
+use Rattle.rt_rib.specs.Book.{Contents}
+use Rattle.walkthrough.proofs.gate.run_alone.Goals as goal
+
+pub returns : goal.returns
+returns g c = let ran = c.in_ok-report.ensures.ok in record {
+  outcomes = ran.outcomes;
+  becomes = ran.asks.becomes;
+  reported = ran.reported;
+  pieces = ran.asks.pieces;
+  cut = ran.asks.cut;
+  journaled = ran.asks.gained [] (ap (λ (b : Contents). b.journal) c.new.ensures);
+}

@@ -1,0 +1,27 @@
+-- A tally of two parts, of which each place changes its own.
+use Rattle.std.specs.Prelude.{◌≡◌, ◌≢◌, ℕ, ◌==◌, if◌then◌else◌}
+use Rattle.std.proofs.Common.{sym, ◌∙◌}
+use Rattle.ya_lock.specs.Lock.{LockId, IdlePass}
+use Rattle.walkthrough.specs.declared.lock.Tally.{Tally}
+
+-- the part of a place: of those beyond the two there is none
+abbrev pub part : ℕ → Tally → ℕ
+part place t = if place == 0 then t.first else if place == 1 then t.second else 0
+
+-- the place's part is what it was
+abbrev pub KeepsPart : ℕ → Tally → Tally → Type 0
+KeepsPart place a b = part place b ≡ part place a
+
+-- the parts of all other places are what they were
+abbrev pub KeepsOthers : ℕ → Tally → Tally → Type 0
+KeepsOthers place a b = (other : ℕ) → other ≢ place → KeepsPart other a b
+
+-- the lock's pass of this place, which has counted nothing
+pub record IsFresh (lock : LockId) (place : ℕ) (pass : IdlePass Tally) : Type 0 where
+  pub of_lock : pass.lock ≡ lock
+  pub at_place : pass.place ≡ place
+  pub counted : part place pass.seen ≡ 0
+
+-- what another place does keeps this one's part
+pub keeps_after : (place other : ℕ) (a b c : Tally) → other ≢ place → KeepsPart place a b → KeepsOthers other b c → KeepsPart place a c
+keeps_after place other a b c apart since done = done place (λ e. apart (sym e)) ∙ since

@@ -1,0 +1,74 @@
+//! `rt_feed`: a feed's text through a gate of one's own, here to a book that no other feed shares.
+ghost use Rattle.std.specs.Prelude.{◌≡◌, ◌++◌, IfOk};
+ghost use Rattle.rt_feed.specs.Visits.{entries, reply_to};
+ghost use Rattle.walkthrough.specs.Gate.{IsRunOf};
+
+use rt_feed::{Gate, Outcome, Report, run_feed};
+use rt_rib::{Book, Cmd, Refused, Reply};
+use std::alloc::Global;
+use std::sync::Wait;
+
+/// How many routes the feed may have here.
+const LIMIT: u32 = 10;
+
+/// Answers feed 1 by a book of its own. It holds the visits whose commands and replies its journal has.
+#[derive(Drop)]
+pub struct OwnBook {
+    /// The book.
+    pub book: Book<Global>,
+}
+
+impl OwnBook {
+    /// Answers a command, or tells that it was refused.
+    fn serve(&mut self, cmd: Cmd) -> Outcome
+        ensures { self.new.book.journal ≡ self.old.book.journal ++ entries 1 (reply_to cmd result) }
+    {
+        match self.book.apply(1, cmd) {
+            Ok(reply) => Outcome::Did(reply),
+            Err(Refused) => Outcome::Refused,
+        }
+    }
+}
+
+impl Gate for OwnBook {
+    ghost use Rattle.walkthrough.specs.Gate.{HasVisits};
+
+    ghost Name = { Unit {0} };
+
+    ghost name = { λ _. tt };
+
+    ghost holds = { λ gate visits. HasVisits gate.book.journal visits };
+
+    fn apply<R: Wait>(&mut self, _rt: &R, cmd: Cmd) -> Result<Reply, Refused> {
+        self.book.apply(1, cmd)
+    }
+
+    fn apply_batch<R: Wait>(
+        &mut self,
+        _rt: &R,
+        cmds: &[Cmd],
+        out: &mut Vec<Outcome>,
+    ) -> Result<(), Refused> {
+        out.try_reserve(cmds.len())?;
+        for cmd in cmds {
+            let outcome = self.serve(*cmd);
+            out.push_reserved(outcome);
+        }
+        Ok(())
+    }
+}
+
+/// Runs the text: what its lines were answered, and the book, whose journal has the commands that were.
+pub fn run_alone<R: Wait>(
+    rt: &R,
+    alloc: Global,
+    text: &[u8],
+) -> Result<(Report, Book<Global>), Refused>
+    ensures { IfOk result (λ run. IsRunOf text.now run.0 run.1.journal) }
+{
+    let mut gate = OwnBook {
+        book: Book::new(alloc, LIMIT),
+    };
+    let report = run_feed(rt, alloc, text, 1, &mut gate)?;
+    Ok((report, gate.book))
+}

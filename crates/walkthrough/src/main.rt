@@ -1,0 +1,91 @@
+//! One caller for each library of the repository, short enough to be copied, with a contract that says what it gives.
+//! Each file uses one crate and what that stands on; `main` prints what each caller gives.
+#![tactic(auto)]
+
+mod book;
+mod cover;
+mod gate;
+mod lock;
+mod replay;
+mod shared;
+mod trie;
+
+use anyhow::Result;
+use rt_cidr::{Addr, OutputBuffer, Prefix};
+use rt_feed::{write_report, write_table};
+use rt_rib::{Cmd, Hop, Reply};
+use std::alloc::Global;
+use std::io::{self, Write};
+use std::sync::Wait;
+use std::thread::Threads;
+
+/// A command that puts in a route.
+fn add(prefix: &[u8], pref: u32, hop: &[u8]) -> Result<Cmd> {
+    Ok(Cmd::Add {
+        prefix: Prefix::parse(prefix)?,
+        pref,
+        hop: Hop::Via(Addr::parse(hop)?),
+    })
+}
+
+/// Without threads: a prefix, a trie, a book and a schedule of the lock.
+fn tell_alone<W: Write>(alloc: Global, out: &mut W) -> Result<()> {
+    let covered = cover::covers_address(b"10.0.0.0/8", b"10.1.2.3")?;
+    writeln!(out, "10.0.0.0/8 covers 10.1.2.3: {covered}")?;
+
+    let wide = (Prefix::parse(b"10.0.0.0/8")?, 1);
+    let narrow = (Prefix::parse(b"10.1.0.0/16")?, 2);
+    let addr = Addr::parse(b"10.1.2.3")?;
+    if let Some((prefix, port)) = trie::port_of(alloc, wide, narrow, addr)? {
+        prefix.write_to(out)?;
+        writeln!(out, " is the longest, its port {port}")?;
+    }
+
+    let announce = add(b"10.0.0.0/8", 100, b"192.0.2.1")?;
+    let replies = book::two_feeds(alloc, announce, Cmd::Lookup { addr })?;
+    if let (Reply::Added, Reply::Found(route)) = replies {
+        let feed = route.feed;
+        route.prefix.write_to(out)?;
+        writeln!(out, " is found, a route of feed {feed}")?;
+    }
+
+    let alone = replay::somebody_inside(alloc, 1, &[0, 0, 0, 0])?;
+    let between = replay::somebody_inside(alloc, 1, &[0, 1, 0, 1])?;
+    writeln!(
+        out,
+        "inside after 0 0 0 0: {alone}, after 0 1 0 1: {between}"
+    )?;
+    Ok(())
+}
+
+/// With two threads: a lock, a shared table and a gate.
+fn tell_together<R: Threads + Wait + Sync, W: Write>(
+    rt: &R,
+    alloc: Global,
+    out: &mut W,
+) -> Result<()> {
+    let tally = lock::count_both(rt, alloc, 1_000)?;
+    let (first, second) = (tally.first, tally.second);
+    writeln!(out, "place 0 counted {first}, place 1 {second}")?;
+
+    let mut buffer = OutputBuffer::new(alloc)?;
+    let first = [add(b"10.0.0.0/8", 20, b"192.0.2.1")?, Cmd::Dump];
+    let second = [add(b"10.0.0.0/8", 10, b"192.0.2.2")?];
+    let routes = shared::routes_of_both(rt, alloc, &first, &second)?;
+    write_table(out, &mut buffer, &routes)?;
+
+    let text = b"add 10.0.0.0/8 100 192.0.2.1\nlookup 10.1.2.3\n";
+    let (report, book) = gate::run_alone(rt, alloc, text)?;
+    write_report(out, &mut buffer, 1, &report)?;
+    buffer.flush(out)?;
+    let entries = book.journal().len();
+    writeln!(out, "entries in the journal: {entries}")?;
+    Ok(())
+}
+
+fn main(rt: HostRuntime) -> Result<()> {
+    let stdout = rt.stdout();
+    let mut out = io::writer(&stdout);
+    tell_alone(rt.alloc(), &mut out)?;
+    tell_together(&rt, rt.alloc(), &mut out)
+}
