@@ -32,11 +32,52 @@ Exit status, the greatest that applies:
   0 done   2 faulty line   3 command line   4 unreadable file
   5 memory refused   6 output not written
 
+A feed has at most 65536 routes if --limit is left out; further adds are
+answered full, with status 0. A full table needs --limit 1000000.
+
 Example, where one.feed says `add 10.0.0.0/8 100 192.0.2.1`:
   $ yarib run one.feed
   1:1 added
   table 1
   10.0.0.0/8 feed 1 pref 100 via 192.0.2.1
+
+Several feeds, where two.feed says `add 10.0.0.0/8 50 192.0.2.2`:
+  $ yarib run --batch 64 one.feed two.feed
+  1:1 added
+  2:1 added
+  table 2
+  10.0.0.0/8 feed 2 pref 50 via 192.0.2.2
+  10.0.0.0/8 feed 1 pref 100 via 192.0.2.1
+";
+
+/// What `replay --help` says of a step's line, its words and marks, and the exit status.
+const REPLAY_NOTES: &str = "\
+A tree of L levels has 2 to the power of L places, numbered from 0. Each step
+has one line: its number, p and the place, the word, `:=` and the value that was
+stored or `=` and the value that was loaded, and a mark where there is one.
+
+Words, all 0 at the start; a process is named by its place + 1:
+  C<level>.<node>.<side>   who competes on that side of the node
+  T<level>.<node>          who announced itself there last
+  P<level>.<place>         what the place waits on: 0, 1 or 2
+
+Marks:
+  inside   the step won the root: its place is inside
+  out      the step ended the passage
+
+The last line is `inside p` and the place that is inside, or `inside none`.
+
+Exit status:
+  0 done   5 memory refused (P3)   6 output not written
+  3 command line, a pick that is no place (P1), levels not 1 to 6 (P2)
+
+Example:
+  $ yarib replay --levels 1 0 0 0 0
+  1 p0 C1.0.0 := 1
+  2 p0 T1.0 := 1
+  3 p0 P1.0 := 0
+  4 p0 C1.0.1 = 0 inside
+  inside p0
 ";
 
 /// How many commands of a feed are asked at once, where the command line does not say.
@@ -170,6 +211,7 @@ fn replay_command<'a>(alloc: Global) -> Result<Command<'a>, AllocError> {
         .help("The place that takes the next step");
     Command::new(alloc, "replay")
         .about("Show the atomic steps of the lock for one schedule, one a line")
+        .after_help(REPLAY_NOTES)
         .arg(levels)?
         .arg(picks)
 }

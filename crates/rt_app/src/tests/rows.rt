@@ -242,7 +242,28 @@ table 1
 ];
 
 /// Runs of version 2, and of texts that come near its first line.
-static VERSION_ROWS: [Row; 11] = [
+static VERSION_ROWS: [Row; 12] = [
+    Row {
+        text: "version 2
+# An aggregate whose addresses lead nowhere, but for one part of it; a purge takes out all that the feed has.
+add 10.0.0.0/8 5 discard
+add 10.1.0.0/16 5 192.0.2.1
+lookup 10.1.0.1
+lookup 10.2.0.1
+purge
+lookup 10.1.0.1
+",
+        limit: EVERY_ROUTE,
+        output: "1:3 added
+1:4 added
+1:5 route 10.1.0.0/16 feed 1 pref 5 via 192.0.2.1
+1:6 route 10.0.0.0/8 feed 1 pref 5 via discard
+1:7 purged 2
+1:8 no route
+table 0
+",
+        status: 0,
+    },
     Row {
         text: "version 2
 add 10.0.0.0/8 5 discard

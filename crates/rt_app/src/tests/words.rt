@@ -1,4 +1,5 @@
 use crate::program::run_words;
+use std::alloc::Global;
 use std::fs;
 use std::io::{self, ErrorKind, Write};
 use std::rt::Files;
@@ -215,7 +216,7 @@ fn the_help_of_run_names_commands_faults_and_statuses(rt: HostRuntime) -> Result
     let help = run(&rt, &["yarib", "run", "--help"])?;
     assert_eq!(rt; help.status, 0);
     assert!(rt; help.err.is_empty());
-    let named: [&[u8]; 24] = [
+    let named: [&[u8]; 26] = [
         b"\n  add PREFIX PREF HOP ",
         b"\n  replace PREFIX PREF HOP ",
         b"\n  withdraw PREFIX ",
@@ -238,11 +239,80 @@ fn the_help_of_run_names_commands_faults_and_statuses(rt: HostRuntime) -> Result
         b"4 unreadable file",
         b"5 memory refused",
         b"6 output not written",
+        b"at most 65536 routes",
+        b"--limit 1000000",
         b"$ yarib run one.feed\n  1:1 added\n  table 1\n",
         b"  10.0.0.0/8 feed 1 pref 100 via 192.0.2.1\n",
     ];
     for text in named {
         assert!(rt; holds(help.out.as_slice(), text), "no {text:?}");
+    }
+    Ok(())
+}
+
+/// Whether the help has each of these lines, moved in by two spaces, with none between.
+fn shows(alloc: Global, help: &[u8], printed: &[u8]) -> Result<bool, Fail> {
+    let mut moved = Vec::from_slice(alloc, b"\n  ")?;
+    for (at, byte) in printed.iter().enumerate() {
+        moved.push(*byte)?;
+        if *byte == b'\n' && at < printed.len() - 1 {
+            moved.extend_from_slice(b"  ")?;
+        }
+    }
+    Ok(holds(help, moved.as_slice()))
+}
+
+#[test]
+fn the_help_of_replay_names_words_marks_and_statuses(rt: HostRuntime) -> Result<(), Fail> {
+    let help = run(&rt, &["yarib", "replay", "--help"])?;
+    assert_eq!(rt; help.status, 0);
+    assert!(rt; help.err.is_empty());
+    let named: [&[u8]; 12] = [
+        b"\n  C<level>.<node>.<side> ",
+        b"\n  T<level>.<node> ",
+        b"\n  P<level>.<place> ",
+        b"\n  inside ",
+        b"\n  out ",
+        b"`inside none`",
+        b"(P1)",
+        b"(P2)",
+        b"(P3)",
+        b"0 done",
+        b"3 command line",
+        b"6 output not written",
+    ];
+    for text in named {
+        assert!(rt; holds(help.out.as_slice(), text), "no {text:?}");
+    }
+    Ok(())
+}
+
+#[test]
+fn the_examples_of_the_help_are_what_is_printed(rt: HostRuntime) -> Result<(), Fail> {
+    fs::write(&rt, "one.feed", b"add 10.0.0.0/8 100 192.0.2.1\n")?;
+    fs::write(&rt, "two.feed", b"add 10.0.0.0/8 50 192.0.2.2\n")?;
+    let examples: [(&str, &[&str]); 3] = [
+        ("run", &["one.feed"]),
+        ("run", &["--batch", "64", "one.feed", "two.feed"]),
+        ("replay", &["--levels", "1", "0", "0", "0", "0"]),
+    ];
+    for (command, asked) in examples {
+        let help = run(&rt, &["yarib", command, "--help"])?;
+        let mut words = Vec::from_slice(rt.alloc(), &["yarib", command])?;
+        words.extend_from_slice(asked)?;
+        let mut printed = Vec::from_slice(rt.alloc(), b"$")?;
+        for word in words.as_slice() {
+            printed.push(b' ')?;
+            printed.extend_from_slice(word.as_bytes())?;
+        }
+        printed.push(b'\n')?;
+        let ending = run(&rt, words.as_slice())?;
+        assert_eq!(rt; ending.status, 0);
+        printed.extend_from_slice(ending.out.as_slice())?;
+        assert!(rt;
+            shows(rt.alloc(), help.out.as_slice(), printed.as_slice())?,
+            "of {asked:?}"
+        );
     }
     Ok(())
 }
