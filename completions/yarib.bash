@@ -3,7 +3,7 @@ _yarib() {
   local word=${COMP_WORDS[COMP_CWORD]} before=${COMP_WORDS[COMP_CWORD - 1]} options
   COMPREPLY=()
   if [ "$COMP_CWORD" -eq 1 ]; then
-    COMPREPLY=($(compgen -W "run replay help --help --version" -- "$word"))
+    mapfile -t COMPREPLY < <(compgen -W "run replay help --help --version" -- "$word")
     return
   fi
   case ${COMP_WORDS[1]}:$before in
@@ -17,9 +17,9 @@ _yarib() {
   esac
   if [ "${COMP_WORDS[1]}" = run ] && [[ $word != -* ]]; then
     compopt -o filenames
-    COMPREPLY=($(compgen -f -- "$word"))
+    mapfile -t COMPREPLY < <(compgen -f -- "$word")
   else
-    COMPREPLY=($(compgen -W "$options" -- "$word"))
+    mapfile -t COMPREPLY < <(compgen -W "$options" -- "$word")
   fi
 }
 complete -F _yarib yarib ./yarib

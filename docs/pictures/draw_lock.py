@@ -1,11 +1,11 @@
 #!/usr/bin/env python3
 """Draws the lock's pictures from real runs of `yarib replay`, so that they stay true.
 
-  docs/pictures/draw_lock.py            # runs ./yarib at the top of the repository
-  docs/pictures/draw_lock.py PROGRAM    # or this program
+  docs/pictures/draw_lock.py [--check]            # runs ./yarib at the top of the repository
+  docs/pictures/draw_lock.py [--check] PROGRAM    # or this program
 
 It writes tree.svg (the arbitration tree with the words of one passage) and handshake.svg (two places at one node) beside
-itself."""
+itself, or with --check compares them with what it would write."""
 import pathlib
 import re
 import subprocess
@@ -13,7 +13,8 @@ import sys
 
 HERE = pathlib.Path(__file__).resolve().parent
 TOP = HERE.parent.parent
-PROGRAM = sys.argv[1] if len(sys.argv) > 1 else str(TOP / "yarib")
+CHECK = "--check" in sys.argv
+PROGRAM = next((word for word in sys.argv[1:] if word != "--check"), str(TOP / "yarib"))
 STEP = re.compile(r"(\d+) p(\d+) (([CTP])(\d+)\.(\d+)(?:\.(\d+))?) (:=|=) (\d+)(?: (inside|out))?$")
 STYLE = "font-family='Helvetica, Arial, sans-serif' font-size='13' fill='#222'"
 COLOURS = ["#1f5fa8", "#b3541e"]
@@ -38,9 +39,13 @@ def text(x, y, words, size=13, anchor="middle", colour="#222", weight="normal"):
 
 
 def picture(name, width, height, title, parts):
-    (HERE / name).write_text(
+    drawn = (
         f"<svg xmlns='http://www.w3.org/2000/svg' viewBox='0 0 {width} {height}' width='{width}' height='{height}' {STYLE}>\n"
         f"<title>{title}</title>\n<rect width='{width}' height='{height}' fill='white'/>\n" + "\n".join(parts) + "\n</svg>\n")
+    if not CHECK:
+        (HERE / name).write_text(drawn)
+    elif (HERE / name).read_text() != drawn:
+        sys.exit(f"draw_lock.py: no longer true, draw it again: {name}")
 
 
 def tree():

@@ -1,7 +1,7 @@
 #!/usr/bin/env python3
 """Draws the pictures of the table, from real runs of `yarib run` and from the functions that stand in crates/.
 
-Usage: docs/pictures/draw_table.py [--check]. Needs a built program (./yarib --version builds it).
+Usage: docs/pictures/draw_table.py [--check] [PROGRAM]. Without a program it runs ./yarib at the top of the repository.
 Writes trie.svg and way.svg beside itself, or with --check compares them with what it would write.
 """
 import html
@@ -13,12 +13,13 @@ import tempfile
 
 HERE = pathlib.Path(__file__).resolve().parent
 TOP = HERE.parent.parent
+PROGRAM = next((word for word in sys.argv[1:] if word != "--check"), TOP / "yarib")
 INK, QUIET, BLUE, GREEN, PALE_GREEN = "#222", "#777", "#1f5fa8", "#1a7f37", "#dafbe1"
 
 
 def yarib(*words):
     """What the program prints."""
-    return subprocess.run([TOP / "yarib", *words], check=True, capture_output=True, text=True).stdout
+    return subprocess.run([PROGRAM, *words], check=True, capture_output=True, text=True).stdout
 
 
 class Picture:
