@@ -13,7 +13,6 @@ use std::io::{self, Write};
 /// Puts the report of the feed of this number behind what the buffer holds: for each line `FEED:LINE `, its answer and
 /// LF. After a fault of the writer, which is handed on, what was written is a beginning of what was held and the report,
 /// and the buffer holds nothing any more. Takes no memory.
-#[tactic(auto, using(crate::proofs::Printing::line_fits))]
 pub fn write_report<W: Write>(
     w: &mut W,
     buffer: &mut OutputBuffer,
@@ -30,11 +29,28 @@ pub fn write_report<W: Write>(
 {
     let mut text = ShortText::new();
     for line in report.lines() {
-        text.clear();
-        prepend_line(&mut text, feed, line);
-        buffer.put(w, text.as_bytes())?;
+        put_line(w, buffer, &mut text, feed, line)?;
     }
     Ok(())
+}
+
+/// Puts one line of a report behind what the buffer holds. `text` is where it is rendered.
+#[tactic(auto, using(crate::proofs::Printing::line_fits))]
+fn put_line<W: Write>(
+    w: &mut W,
+    buffer: &mut OutputBuffer,
+    text: &mut ShortText,
+    feed: u32,
+    line: &Line,
+) -> Result<(), io::Error>
+    ensures ok { OnOk result (PassesOn (W.contents w.old) (W.contents w.new)
+        buffer.old buffer.new (line_text feed line.now)) }
+    ensures err { OnErr result (AppendsBeginning (W.contents w.old) (W.contents w.new)
+        (buffer.old ++ line_text feed line.now)) }
+{
+    text.clear();
+    prepend_line(text, feed, line);
+    buffer.put(w, text.as_bytes())
 }
 
 /// Puts the table behind what the buffer holds: `table COUNT` and LF, and then each route of the list and LF. After a
