@@ -9,6 +9,7 @@ use Rattle.std.proofs.lemmas.Bool.Decides.{eqb_tells, leb_tells}
 use Rattle.std.proofs.Math.Nat.{mul_assoc, dvd_trans, dvd-mul_right, dvd-mul_left_of_dvd, dvd-add, dvd-sub, dvd_of_mod-eq-zero, le_of_dvd, mul-div_cancel, mul-div_cancel_left, mul-le-mul_left, div-div-eq-div-mul}
 use Rattle.rt_cidr.specs.declared.prefixes.Prefix.{Prefix}
 use Rattle.rt_cidr.specs.declared.address.Addr.{Addr}
+use Rattle.rt_cidr.proofs.Promised.{size_pos}
 use Rattle.rt_cidr.specs.Cidr.{size_of}
 use Rattle.rt_cidr.specs.Prefix.{covers, contains}
 use Rattle.rt_trie.specs.Blocks.{IsChild, middle, past}
@@ -17,10 +18,6 @@ use Rattle.rt_trie.proofs.OrderLemmas.{rank}
 -- what is at most a number is below it or it
 lt_or_eq : (a b : ℕ) → a ≤ b → (a < b) ⊎ (a ≡ b)
 lt_or_eq a b h = elim (cases_lt a b) [ inl lt ↦ inl lt | inr ge ↦ inr (omega arith) ]
-
--- a prefix covers some address
-pub size_pos : (len : ℕ) → 0 < size_of len
-size_pos len = pow_pos (32 - len)
 
 -- what is shorter covers twice some number of the blocks of what is longer
 pub size_doubles : (a b : ℕ) → a < b → b ≤ 32 → size_of a ≡ 2 * (size_of b * 2 ^ (b - (a + 1)))

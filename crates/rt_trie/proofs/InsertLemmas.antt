@@ -14,7 +14,8 @@ use Rattle.rt_trie.specs.declared.nodes.Place.TheVariants.{Above, Apart}
 use Rattle.rt_trie.specs.Blocks.{IsWithin, IsChild, StandsAt, PartsAt, middle, past}
 use Rattle.rt_trie.specs.Links.{own_pair, pairs, count, root, AreHalves, IsChildLink, IsFilled, IsLawfulTrie}
 use Rattle.rt_trie.specs.Changes.{IsPut, IsInserted, IsRefused, Inserts}
-use Rattle.rt_trie.proofs.BlockLemmas.{size_pos, lower_half}
+use Rattle.rt_cidr.proofs.Promised.{size_pos}
+use Rattle.rt_trie.proofs.BlockLemmas.{lower_half}
 use Rattle.rt_trie.proofs.PairLemmas.{AllKeys, AllKeys-map, IsHigher, IsLower, IsOther, IsOther-higher, IsOther-lower, get-none, put-first, put-skip, put-front, put-here}
 use Rattle.rt_trie.proofs.NodeLemmas.{sides_higher, upper_higher, lower_lower, own_lower}
 use Rattle.rt_trie.proofs.PartLemmas.{child_of_parts}

@@ -82,8 +82,3 @@ module _ {V A : Type 0} where
     where
       same_or : (j k : ℕ) → (j ≡ k) ⊎ (j ≢ k)
       same_or j k = elim (eqb_tells j k) [ inl e ↦ inl e.1 | inr n ↦ inr n.1 ]
-
-  -- a lane that is none of a link's has ended
-  pub no_lane : (x : Option (Bor (Link V A))) → ((link : Bor (Link V A)) → x ≡ Some link → ⊥) → x ≡ None
-  no_lane None h = refl
-  no_lane (Some link) h = absurd (h link refl)

@@ -18,7 +18,7 @@ use Rattle.rt_trie.specs.declared.nodes.Place.{Place}
 use Rattle.rt_trie.specs.declared.nodes.Place.TheVariants.{Here, Left, Right, Above, Apart}
 use Rattle.rt_trie.specs.Links.{own_pair, pairs, count, root, AreHalves, IsFilled, IsNeeded, IsLawfulBelow, IsLawfulTrie, IsForkOf}
 use Rattle.rt_trie.proofs.OrderLemmas.{same_rank, same_tells, rank_of_before, rank_of_not_before}
-use Rattle.rt_trie.proofs.BlockLemmas.{size_pos}
+use Rattle.rt_cidr.proofs.Promised.{size_pos}
 use Rattle.rt_trie.proofs.NodeLemmas.{AreSides, get-lower, get-upper, get-here, get-past, IsOrdered-node, cover-lower, cover-upper, cover-none, after-lower, after-upper, after-all, after-past}
 use Rattle.rt_trie.proofs.PairLemmas.{AllKeys, AllKeys-append, AllKeys-map, or_assoc, first-append, last_cover-none, last_cover-append}
 use Rattle.rt_trie.proofs.LongestLemmas.{longest_is}
@@ -245,6 +245,10 @@ module _ {V A : Type 0} where
   first_left link q left right n f =
       let i = filled_first left n.left_lawful f in
       ap first n.pairs_are ∙ first-append (pairs left) (pairs right) ∙ ap (λ o. or_else o (first (pairs right))) i.1 ∙ sym i.1
+
+pub none_unless : {X : Type 0} (o : Option X) → ((x : X) → o ≡ Some x → ⊥) → o ≡ None
+none_unless None h = refl
+none_unless (Some x) h = absurd (h x refl)
 
 pub none_of : {X : Type 0} (o : Option X) → false ≡ is_some o → o ≡ None
 none_of None h = refl

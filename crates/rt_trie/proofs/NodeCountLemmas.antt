@@ -10,7 +10,8 @@ use Rattle.rt_trie.specs.Blocks.{IsWithin, middle, past}
 use Rattle.rt_trie.specs.Links.{own_pair, pairs, count, AreHalves, IsLawfulBelow, IsLawfulTrie, IsFilled}
 use Rattle.rt_trie.specs.Nodes.{IsNodeAt, CountsNodes}
 use Rattle.rt_trie.proofs.OrderLemmas.{same_rank}
-use Rattle.rt_trie.proofs.BlockLemmas.{size_pos, lower_half, ends_before}
+use Rattle.rt_cidr.proofs.Promised.{size_pos}
+use Rattle.rt_trie.proofs.BlockLemmas.{lower_half, ends_before}
 use Rattle.rt_trie.proofs.NodeLemmas.{AreSides, IsOrdered-node}
 use Rattle.rt_trie.proofs.LinkLemmas.{IsOn, AllWithin, node_within, pairs_within, filled_first}
 use Rattle.rt_trie.proofs.StoredLemmas.{stored-here, stored-more, stored-cases}

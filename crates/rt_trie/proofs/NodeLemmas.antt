@@ -8,7 +8,8 @@ use Rattle.rt_trie.specs.Map.{Pairs, same_prefix, get, first, next_after, IsBefo
 use Rattle.rt_trie.specs.Blocks.{IsWithin, middle, past}
 use Rattle.rt_trie.specs.Links.{own_pair}
 use Rattle.rt_trie.proofs.OrderLemmas.{rank, lower_rank, other_rank}
-use Rattle.rt_trie.proofs.BlockLemmas.{size_pos, covers_tells, outside_of_covers}
+use Rattle.rt_cidr.proofs.Promised.{size_pos}
+use Rattle.rt_trie.proofs.BlockLemmas.{covers_tells, outside_of_covers}
 use Rattle.rt_trie.proofs.PairLemmas.{AllKeys, AllKeys-append, AllKeys-map, IsOther, IsLower, IsHigher, IsOther-lower, IsOther-higher, get-skip, get-none, get-front, after-append, after-skip, after-none, after-first, or_none, last_cover-none, last_cover-append}
 
 -- the pairs on the two sides lie in the two halves

@@ -1,7 +1,9 @@
 -- The prefix where two that have no address in common part.
-use Rattle.std.proofs.Common.{◌≡◌, ◌≢◌, ℕ, Bool, true, false, ◌+◌, ◌-◌, ◌*◌, ◌/◌, ◌%◌, ◌^◌, ◌<◌, ◌≤◌, ◌⊎◌, inl, inr, sym, ap, ◌∙◌, arith, add-mul}
+use Rattle.std.proofs.Common.{◌≡◌, ◌≢◌, ℕ, suc, Bool, true, false, ◌+◌, ◌-◌, ◌*◌, ◌/◌, ◌%◌, ◌^◌, ◌<◌, ◌≤◌, ◌⊎◌, inl, inr, sym, subst, ap, ◌∙◌, arith, add-mul}
+use Rattle.std.specs.Int.Bits.{bit_xor, xor_assoc, xor_self, xor_zero_r}
+use Rattle.std.specs.Int.Count.{count_leading_zeros}
 use Rattle.std.proofs.lemmas.Bool.{cases_lt}
-use Rattle.std.proofs.lemmas.Nat.{pow_pos, pow-add, div-add-mod', mod_below, div-mul-add, mod-mul-add}
+use Rattle.std.proofs.lemmas.Nat.{leading_top, xor_of_32, xor_shr, pow_pos, pow-add, div-add-mod', mod_below, div-mul-add, mod-mul-add}
 use Rattle.std.proofs.Math.Nat.{mul_assoc}
 use Rattle.std.proofs.Math.Pow.{pow_mono}
 use Rattle.rt_cidr.specs.declared.prefixes.Prefix.{Prefix}
@@ -11,7 +13,46 @@ use Rattle.rt_cidr.specs.declared.prefixes.TextFault.TheVariants.{Text, Length, 
 use Rattle.rt_cidr.specs.Cidr.{size_of, IsPrefix}
 use Rattle.rt_cidr.specs.Reading.{AnswersPair}
 use Rattle.rt_trie.specs.Blocks.{IsChild, PartsAt, middle, past}
-use Rattle.rt_trie.proofs.BlockLemmas.{size_pos, lower_half, upper_half, ends_before}
+use Rattle.rt_cidr.proofs.Promised.{size_pos}
+use Rattle.rt_trie.proofs.BlockLemmas.{lower_half, upper_half, ends_before}
+
+-- two numbers that have no digit in which they differ are one
+xor_zero : (a b : ℕ) → bit_xor a b ≡ 0 → a ≡ b
+xor_zero a b e = sym (xor_zero_r a) ∙ ap (λ n. bit_xor a n) (sym (xor_self b)) ∙ sym (xor_assoc a b b) ∙ ap (λ n. bit_xor n b) e
+
+-- they agree above the highest digit in which they differ
+same_above : (a b k : ℕ) → bit_xor a b < 2 ^ k → a / 2 ^ k ≡ b / 2 ^ k
+same_above a b k h =
+    let e : bit_xor a b ≡ 0 * 2 ^ k + bit_xor a b = omega arith in
+    xor_zero (a / 2 ^ k) (b / 2 ^ k) (sym (xor_shr a b k) ∙ ap (λ n. n / 2 ^ k) e ∙ div-mul-add 0 (2 ^ k) (bit_xor a b) h)
+
+-- and not from it on
+differ_in : (a b j : ℕ) → 2 ^ j ≤ bit_xor a b → a / 2 ^ j ≢ b / 2 ^ j
+differ_in a b j h e =
+    let z : bit_xor a b / 2 ^ j ≡ 0 = xor_shr a b j ∙ ap (λ n. bit_xor (a / 2 ^ j) n) (sym e) ∙ xor_self (a / 2 ^ j) in
+    let d : bit_xor a b / 2 ^ j * 2 ^ j + bit_xor a b % 2 ^ j ≡ bit_xor a b = div-add-mod' (bit_xor a b) (2 ^ j) in
+    let w : 0 * 2 ^ j + bit_xor a b % 2 ^ j ≡ bit_xor a b = subst (λ n. n * 2 ^ j + bit_xor a b % 2 ^ j ≡ bit_xor a b) z d in
+    let m : bit_xor a b % 2 ^ j < 2 ^ j = mod_below (bit_xor a b) (2 ^ j) (pow_pos j) in
+    omega (arith, w, m, h)
+
+differ_some : (a b : ℕ) → a ≢ b → 0 < bit_xor a b
+differ_some a b d = elim (cases_lt 0 (bit_xor a b)) [ inl lt ↦ lt | inr ge ↦ absurd (d (xor_zero a b (omega arith))) ]
+
+-- that digit, by the leading zeros of the digits in which they differ
+pub highest_digit : (a b n : ℕ) → a < 2 ^ 32 → b < 2 ^ 32 → a ≢ b → n + count_leading_zeros 32 (bit_xor a b) ≡ 31
+    → (a / 2 ^ (n + 1) ≡ b / 2 ^ (n + 1)) × (a / 2 ^ n ≢ b / 2 ^ n)
+highest_digit a b n h k d e =
+    let t = leading_top 32 (bit_xor a b) (differ_some a b d) (xor_of_32 a b h k) in
+    let i : t.0 ≡ n = omega (arith, t.1, e) in
+    let u : suc t.0 ≡ n + 1 = omega (arith, i) in (
+      same_above a b (n + 1) (subst (λ m. bit_xor a b < 2 ^ m) u t.3),
+      differ_in a b n (subst (λ m. 2 ^ m ≤ bit_xor a b) i t.2),
+    )
+
+-- so there are at most 31 of them
+pub few_zeros : (a b : ℕ) → a < 2 ^ 32 → b < 2 ^ 32 → a ≢ b → count_leading_zeros 32 (bit_xor a b) ≤ 31
+few_zeros a b h k d =
+    let t = leading_top 32 (bit_xor a b) (differ_some a b d) (xor_of_32 a b h k) in omega (arith, t.1)
 
 -- two numbers that agree down to a bit and differ in it: the lower one lies in the lower half of what they share
 pub parts : (a b j : ℕ) → a / 2 ^ (j + 1) ≡ b / 2 ^ (j + 1) → a / 2 ^ j ≢ b / 2 ^ j → a < b

@@ -4,14 +4,11 @@ use Rattle.std.specs.Borrow.{Bor}
 use Rattle.rt_cidr.specs.declared.address.Addr.{Addr}
 use Rattle.rt_cidr.specs.declared.prefixes.Prefix.{Prefix}
 use Rattle.rt_cidr.specs.Prefix.{covers}
+pub use Rattle.rt_cidr.specs.Prefix.{same_prefix}
 
 -- pairs of a prefix and its value
 abbrev pub Pairs : Type 0 → Type 0
 Pairs V = List (Prefix × V)
-
--- the two are one prefix
-abbrev pub same_prefix : Prefix → Prefix → Bool
-same_prefix p q = p.base == q.base && p.len == q.len
 
 -- p comes before q: by base, then by length
 abbrev pub before : Prefix → Prefix → Bool

@@ -3,7 +3,7 @@
 //! The value comes in a slot, and what stood in its place is left there. So the way down carries a `bool` alone, each call
 //! of it is its function's last act, and what it may change at its end stands in functions of their own: it becomes a loop.
 
-ghost use Rattle.std.specs.Prelude.{◌≡◌, ℕ, ◌+◌, ◌<◌, ◌≤◌, ◌^◌, ◌⊎◌, false, true, None, Some, IsSome, IfSome, IfNone};
+ghost use Rattle.std.specs.Prelude.{◌≡◌, ◌≢◌, ℕ, ◌+◌, ◌/◌, ◌<◌, ◌≤◌, ◌^◌, ◌⊎◌, false, true, None, Some, IsSome, IfSome, IfNone};
 ghost use Rattle.rt_trie.specs.declared.nodes.Link.TheVariants.{Empty};
 ghost use Rattle.rt_trie.specs.declared.nodes.Place.TheVariants.{Above, Apart};
 ghost use Rattle.rt_trie.specs.Blocks.{middle, IsChild, StandsAt, PartsAt};
@@ -329,16 +329,22 @@ fn common(p: &Prefix, q: &Prefix) -> Prefix
     requires { StandsAt q.now p.now Apart }
     ensures { (p.now.base < q.now.base → PartsAt result p.now q.now) × (q.now.base ≤ p.now.base → PartsAt result q.now p.now) }
 {
-    let a = p.base() as u64;
-    let b = q.base() as u64;
-    // The first bit in which the two differ, counted from the last bit of an address.
-    let mut bit = 0u8;
-    while a >> (bit + 1) != b >> (bit + 1) {
-        bit += 1;
-    }
-    let base = (a >> (bit + 1)) << (bit + 1);
+    let a = p.base();
+    let b = q.base();
+    let bit = highest_difference(a, b);
+    let base = (a as u64 >> (bit + 1)) << (bit + 1);
     let Ok(prefix) = Prefix::new(base as u32, 31 - bit) else {
         unreachable!()
     };
     prefix
+}
+
+// The first bit in which two addresses differ, counted from the last bit of an address.
+fn highest_difference(a: u32, b: u32) -> u8
+    requires differ { a ≢ b }
+    ensures bit { result ≤ 31 }
+    ensures same { a / 2 ^ (result + 1) ≡ b / 2 ^ (result + 1) }
+    ensures differ { a / 2 ^ result ≢ b / 2 ^ result }
+{
+    31 - (a ^ b).leading_zeros() as u8
 }

@@ -65,62 +65,59 @@ pub(crate) fn longest<V, A: Allocator>(root: &Link<V, A>, address: Addr) -> Opti
     let mut best = None;
     let mut link = root;
     loop {
-        let (next, found) = step(link, address, best);
-        best = found;
-        match next {
+        match step(link, address, &mut best) {
             None => return best,
             Some(below) => link = below,
         }
     }
 }
 
-/// One step of a look-up, at a link: the link at which it goes on, if it goes on, and the best pair so far.
+/// One step of a look-up, at a link: the link at which it goes on, if it goes on. What the node stores is the best so far
+/// from then on, and is written only where there is some.
 #[inline(always)]
 pub(crate) fn step<'a, V, A: Allocator>(
     link: &'a Link<V, A>,
     address: Addr,
-    best: Option<(Prefix, &'a V)>,
-) -> (Option<&'a Link<V, A>>, Option<(Prefix, &'a V)>)
+    best: &mut Option<(Prefix, &'a V)>,
+) -> Option<&'a Link<V, A>>
     requires { IsLawfulBelow link.now }
-    ensures lawful { IfSome result.0 (λ next. IsLawfulBelow next.now) }
-    ensures down { IfSome result.0 (λ next. count next.now < count link.now) }
-    ensures sought { sought result.0 address (pair_copied result.1)
-        ≡ or_else (last_cover (pairs link.now) address) (pair_copied best.entry) }
+    ensures lawful { IfSome result (λ next. IsLawfulBelow next.now) }
+    ensures down { IfSome result (λ next. count next.now < count link.now) }
+    ensures sought { sought result address (pair_copied best.new)
+        ≡ or_else (last_cover (pairs link.now) address) (pair_copied best.old) }
 {
     match link {
-        Link::Empty => (None, best),
+        Link::Empty => None,
         Link::Leaf(leaf) => {
             let leaf = leaf.as_ref();
             if leaf.prefix.covers(address) {
-                (None, Some((leaf.prefix, &leaf.value)))
-            } else {
-                (None, best)
+                *best = Some((leaf.prefix, &leaf.value));
             }
+            None
         }
         Link::Fork(fork) => {
             let fork = fork.as_ref();
             if !fork.prefix.covers(address) {
-                return (None, best);
+                return None;
             }
             if in_upper_half(&fork.prefix, address.0) {
-                (Some(&fork.right), best)
+                Some(&fork.right)
             } else {
-                (Some(&fork.left), best)
+                Some(&fork.left)
             }
         }
         Link::Full(full) => {
             let full = full.as_ref();
             if !full.prefix.covers(address) {
-                return (None, best);
+                return None;
             }
-            let best = match &full.value {
-                Some(value) => Some((full.prefix, value)),
-                None => best,
-            };
+            if let Some(value) = &full.value {
+                *best = Some((full.prefix, value));
+            }
             if in_upper_half(&full.prefix, address.0) {
-                (Some(&full.right), best)
+                Some(&full.right)
             } else {
-                (Some(&full.left), best)
+                Some(&full.left)
             }
         }
     }
@@ -193,12 +190,11 @@ fn advance<'a, V, A: Allocator>(
     let mut going = false;
     for k in 0..size {
         if let Some(link) = lanes[k] {
-            let (next, best) = step(link, addresses[start + k], answers[start + k]);
+            let next = step(link, addresses[start + k], &mut answers[start + k]);
             if next.is_some() {
                 going = true;
             }
             lanes[k] = next;
-            answers[start + k] = best;
         }
     }
     going

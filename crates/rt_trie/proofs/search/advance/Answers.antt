@@ -3,8 +3,8 @@ use Rattle.std.proofs.lemmas.Bool.{cases_lt, false≢true}
 use Rattle.rt_trie.specs.Map.{pair_copied, address_at}
 use Rattle.rt_trie.specs.LookUps.{or_else, last_cover, lane_at}
 use Rattle.rt_trie.specs.Links.{pairs}
-use Rattle.rt_trie.proofs.LinkLemmas.{none_of}
-use Rattle.rt_trie.proofs.LaneLemmas.{read_at, lane_moved, no_lane}
+use Rattle.rt_trie.proofs.LinkLemmas.{none_of, none_unless}
+use Rattle.rt_trie.proofs.LaneLemmas.{read_at, lane_moved}
 use Rattle.rt_trie.proofs.search.advance.Goals as goal
 use Rattle.rt_trie.proofs.search.advance.Goals.{in-Some, then-is_some, else-is_some, in_default}
 
@@ -20,13 +20,13 @@ loop-k-preserved g c =
     elim c.match-lanes-k.branch [
       | in-Some w ↦
           let link = w.in-Some.link in
-          let next = w.step.result.0 in
-          let best = w.step.result.1 in
+          let next = w.step-next.result in
+          let best = w.step-next.new.best in
           let at : lane_at c.loop-k.lanes k ≡ Some link = read_at c.loop-k.lanes k None _ kl ∙ w.in-Some.is in
-          let was = w.index-answers-start.is ∙ read_at c.loop-k.answers (start + k) _ None kb in
+          let was = read_at c.loop-k.answers (start + k) w.index-answers-start.result None kb in
           let m = lane_moved c.loop-k.lanes c.loop-k.answers us start size k link next best (omega arith) i.lanes_long c.requires.within
-          i.answers_long at i.lawful w.step.ensures.lawful w.step.ensures.down
-          (w.step.ensures.sought ∙ ap (λ o. or_else (last_cover (pairs link.now) (address_at us (start + k))) (pair_copied o)) was) in
+          i.answers_long at i.lawful w.step-next.ensures.lawful w.step-next.ensures.down
+          (w.step-next.ensures.sought ∙ ap (λ o. or_else (last_cover (pairs link.now) (address_at us (start + k))) (pair_copied o)) was) in
           rw (w.lanes-is, w.answers-is) (record {
             lawful = m.lawful;
             same = λ j h. m.same j h ∙ i.same j h;
@@ -58,7 +58,7 @@ loop-k-preserved g c =
               | inr ge ↦
                   let d : j ≡ k = omega arith in
                   ap (λ n. lane_at c.loop-k.lanes n) d
-                  ∙ no_lane (lane_at c.loop-k.lanes k) (λ l q. w.in_default.not-Some l (read_at c.loop-k.lanes k _ None kl ∙ q))
+                  ∙ none_unless (lane_at c.loop-k.lanes k) (λ l q. w.in_default.not-Some l (read_at c.loop-k.lanes k _ None kl ∙ q))
             ];
             lanes_long = i.lanes_long;
             answers_long = i.answers_long;

@@ -6,6 +6,6 @@ use Rattle.rt_trie.proofs.search.longest.Goals as goal
 
 pub returns-in-None : goal.returns-in-None
 returns-in-None g c =
-    let best = pair_copied c.step.result.1 in
+    let best = pair_copied c.step.new.best in
     longest_of c.args.root.now c.args.address best c.requires.0
     (c.loop-best.invariant.found ∙ sym c.step.ensures.sought ∙ ap (λ o. sought o c.args.address best) c.in-None.is)
