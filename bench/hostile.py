@@ -1,0 +1,265 @@
+#!/usr/bin/env python3
+"""Runs the program in hostile surroundings: little memory, files that are none, outputs that take nothing, very long texts.
+
+Usage: bench/hostile.py [--large] [YARIB]. Builds ./yarib first unless a built program is named. Linux, python3.
+
+Little memory: the program is run under rising limits of its address space. It must end as with ample memory, or with status 5
+and nothing on standard output, or with status 5 and what the model of refused_growth.py prints without the commands that it
+says were refused; never by a signal. Limits under which it can't be loaded at all are left out. With --large (some minutes, and up to 8 GB of memory) texts
+of 1 to 10 million lines and lines of 100 MB to 1 GB are run, and time and memory for a line or a byte are printed.
+"""
+import contextlib
+import os
+import pathlib
+import re
+import resource
+import signal
+import subprocess
+import sys
+import tempfile
+import time
+
+from refused_growth import files as text_files, own_text, run_text
+
+TOP = pathlib.Path(__file__).resolve().parent.parent
+ROW = "add 10.0.0.0/8 100 192.0.2.1\n"
+ROW_OUT = "1:1 added\ntable 1\n10.0.0.0/8 feed 1 pref 100 via 192.0.2.1\n"
+failures = []
+
+
+def expect(what, found, wanted):
+    """Notes where something else was found."""
+    if found != wanted:
+        failures.append(what)
+        print(f"WRONG {what}: {found!r} in place of {wanted!r}", flush=True)
+
+
+def run(words, **how):
+    """Status, standard output and standard error of one call."""
+    how = {"stdout": subprocess.PIPE, "stderr": subprocess.PIPE, "timeout": 120} | how
+    ended = subprocess.run(words, **how)
+    return ended.returncode, (ended.stdout or b"").decode(), (ended.stderr or b"").decode()
+
+
+# Lines that leave the table as it was.
+AGAIN = "add 10.0.0.0/8 100 192.0.2.1\nlookup 10.1.2.3\nwithdraw 10.0.0.0/8\ndump\n"
+
+
+# Little memory
+
+
+def limited(words, size):
+    """A call with at most so many bytes of address space, or None where the program can't be loaded into them."""
+
+    def limit():
+        resource.setrlimit(resource.RLIMIT_AS, (size, size))
+        resource.setrlimit(resource.RLIMIT_CORE, (0, 0))
+
+    try:
+        loaded = run(words, preexec_fn=limit, env={"LD_TRACE_LOADED_OBJECTS": "1"})
+        if loaded[0] != 0:
+            return None
+        ended = run(words, preexec_fn=limit, env={})
+    except (subprocess.SubprocessError, OSError):
+        return None
+    return None if ended[0] == 127 else ended
+
+
+def judge(what, ended, ample, texts):
+    """Compares a run under a limit with the one that had all it wanted, or with the model where commands were refused."""
+    if ended == ample:
+        return "as with ample memory"
+    status, out, err = ended
+    if (status, out) == (5, "") and err in ("yarib: fault F3\n", "yarib: fault P3\n"):
+        return "with status 5 and nothing printed"
+    refused = {tuple(map(int, pair)) for pair in re.findall(r"^(\d+):(\d+) refused$", out, re.MULTILINE)}
+    explained = bool(refused) and texts is not None and out == run_text(texts, refused)
+    expect(what, (status, explained, err), (5, True, ""))
+    return "with commands refused"
+
+
+def little_memory(yarib, folder):
+    row, long, many = [ROW], [AGAIN * 20_000], [own_text(feed) for feed in range(1, 65)]
+    cases = [
+        ("one small file", ["run", *text_files(folder, "small", row)], row, 4_096, 0),
+        ("one long file", ["run", "--batch", "100", *text_files(folder, "long", long)], long, 65_536, 0.005),
+        ("64 files", ["run", *text_files(folder, "own", many)], many, 65_536, 0.02),
+        ("a replay", ["replay", "--levels", "6", *["5", "63"] * 100], None, 4_096, 0),
+        ("the help", ["run", "--help"], None, 4_096, 0),
+    ]
+    for name, words, texts, step, part in cases:
+        ample = run([yarib, *words])
+        kinds, size, in_turn = {}, 1 << 20, 0
+        while in_turn < 40 and size < 16 << 30:
+            ended = limited([yarib, *words], size)
+            if ended is not None:
+                kind = judge(f"{name} in {size // 1024} KB", ended, ample, texts)
+                kinds[kind] = kinds.get(kind, 0) + 1
+                in_turn = in_turn + 1 if ended == ample else 0
+            size += max(step, int(size * part)) // 4096 * 4096
+        expect(f"{name}: the last runs have all they want", in_turn, 40)
+        print(f"{name} under rising limits: " + ", ".join(f"{count} ended {kind}" for kind, count in kinds.items()), flush=True)
+
+
+# Files
+
+
+def files(yarib, folder):
+    row, empty, missing = folder / "row.feed", folder / "empty.feed", folder / "missing.feed"
+    row.write_text(ROW)
+    empty.write_text("")
+    sixty = [row] * 61
+    unreadable = lambda path: (4, "", f"yarib: cannot read {path}\n")
+    expect("64 files, one missing, one a folder, one empty", run([yarib, "run", *sixty, empty, missing, folder]), unreadable(missing))
+    expect("the folder before the missing one", run([yarib, "run", *sixty, folder, empty, missing]), unreadable(folder))
+    expect("the missing one first", run([yarib, "run", missing, *sixty, folder, empty]), unreadable(missing))
+    status, out, err = run([yarib, "run", *sixty, empty, row, row])
+    expect("one empty file of 64", (status, out.count(" added\n"), "table 63\n" in out, err), (0, 63, True, ""))
+    both = "1:1 added\n2:1 added\ntable 2\n" + "".join(f"10.0.0.0/8 feed {k} pref 100 via 192.0.2.1\n" for k in (1, 2))
+    expect("the same file twice", run([yarib, "run", row, row]), (0, both, ""))
+    expect("a pipe as /dev/stdin", run([yarib, "run", "/dev/stdin"], input=ROW.encode()), (0, ROW_OUT, ""))
+    with open(row) as text:
+        expect("a file as /dev/stdin", run([yarib, "run", "/dev/stdin"], stdin=text), (0, ROW_OUT, ""))
+    with open("/dev/zero") as text:
+        expect("standard input is not read unasked", run([yarib, "run", row], stdin=text), (0, ROW_OUT, ""))
+    expect("/dev/null", run([yarib, "run", "/dev/null"]), (0, "table 0\n", ""))
+    pipe = folder / "pipe"
+    os.mkfifo(pipe)
+    feeder = subprocess.Popen(["sh", "-c", f'printf "{ROW[:10]}" > "$0"; ', str(pipe)])
+    expect("a named pipe that ends in a line", run([yarib, "run", pipe]), (2, "1:1 fault E2\ntable 0\n", ""))
+    feeder.terminate()
+    feeder.wait()
+    locked = folder / "locked.feed"
+    locked.write_text(ROW)
+    locked.chmod(0)
+    if os.geteuid() != 0:
+        expect("a file without leave", run([yarib, "run", locked]), unreadable(locked))
+    odd = folder / "a name\nof two lines"
+    odd.write_text(ROW)
+    expect("a name with a space and an LF", run([yarib, "run", odd]), (0, ROW_OUT, ""))
+    expect("a name that is missing, with an LF", run([yarib, "run", str(odd) + "x"]), unreadable(str(odd) + "x"))
+    status, out, err = run([yarib, "run", b"\xff.feed"])
+    expect("a name that is no text", (status, out, err), (3, "", "yarib: arguments are not UTF-8\n"))
+    expect("a name of 5,000 bytes", run([yarib, "run", "x" * 5_000]), unreadable("x" * 5_000))
+    print("files: done", flush=True)
+
+
+# Outputs
+
+
+def outputs(yarib, folder):
+    large, row = folder / "large.feed", folder / "row.feed"
+    large.write_text(AGAIN * 2_500)
+    row.write_text(ROW)
+    cannot = (6, "", "yarib: cannot write\n")
+    for words in (["run", row], ["run", large], ["replay", "--levels", "1", "0"], ["run", "--help"], ["--version"]):
+        name = " ".join(str(word) for word in words if not isinstance(word, pathlib.Path))
+        with open("/dev/full", "w") as full:
+            expect(f"{name}: a full output", run([yarib, *words], stdout=full), cannot)
+        expect(f"{name}: a closed output", run([yarib, *words], stdout=None, preexec_fn=lambda: os.close(1)), cannot)
+        heard, told = os.pipe()
+        os.close(heard)
+        expect(f"{name}: a pipe without a reader", run([yarib, *words], stdout=told), cannot)
+        os.close(told)
+        with open("/dev/full", "w") as full:
+            expect(f"{name}: both outputs full", run([yarib, *words], stdout=full, stderr=full), (6, "", ""))
+        expect(f"{name}: nothing is open", run([yarib, *words], stdout=None, stderr=None, preexec_fn=close_all), (6, "", ""))
+    expect("the file that was read is as it was", row.read_text(), ROW)
+    reader_leaves(yarib, large)
+    disc_fills(yarib, large, folder)
+    status, _, _ = run([yarib, "run", row], stderr=None, preexec_fn=lambda: os.close(2))
+    expect("standard error closed", status, 0)
+    print("outputs: done", flush=True)
+
+
+def close_all():
+    for descriptor in (0, 1, 2):
+        os.close(descriptor)
+
+
+def reader_leaves(yarib, large):
+    """The reader of the output takes a beginning and goes away."""
+    child = subprocess.Popen([yarib, "run", large], stdout=subprocess.PIPE, stderr=subprocess.PIPE)
+    expect("the beginning that the reader has", child.stdout.read(10), b"1:1 added\n")
+    child.stdout.close()
+    said = child.stderr.read().decode()
+    expect("a reader that leaves", (child.wait(), said), (6, "yarib: cannot write\n"))
+
+
+def disc_fills(yarib, large, folder):
+    """The file that the output goes to may not grow beyond some size: what stands there is a beginning."""
+
+    def limit():
+        signal.signal(signal.SIGXFSZ, signal.SIG_IGN)
+        resource.setrlimit(resource.RLIMIT_FSIZE, (size, size))
+
+    whole = run([yarib, "run", large])[1]
+    for size in (0, 1, 4_096, 65_535, 65_536, 65_537, 131_072, len(whole) - 1):
+        target = folder / "target"
+        with open(target, "w") as output:
+            ended = run([yarib, "run", large], stdout=output, preexec_fn=limit)
+        expect(f"an output of at most {size} bytes", ended, (6, "", "yarib: cannot write\n"))
+        expect(f"what stands in {size} bytes", target.read_text() == whole[:size], True)
+
+
+# Large texts
+
+
+def measured(words):
+    """Seconds, peak bytes, status and the end of the output of one run."""
+    with tempfile.TemporaryFile() as output:
+        start = time.perf_counter()
+        child = subprocess.Popen(words, stdout=output)
+        _, status, usage = os.wait4(child.pid, 0)
+        seconds = time.perf_counter() - start
+        child.returncode = os.waitstatus_to_exitcode(status)
+        size = output.seek(0, os.SEEK_END)
+        output.seek(max(0, size - 60))
+        return seconds, usage.ru_maxrss * 1024, child.returncode, output.read().decode()
+
+
+def fill(path, piece, times):
+    """Writes the piece so often, in a process of its own: a child's peak memory counts what its parent had."""
+    child = os.fork()
+    if child == 0:
+        with open(path, "w") as text:
+            for _ in range(times):
+                text.write(piece)
+        os._exit(0)
+    os.waitpid(child, 0)
+
+
+def large_texts(yarib, folder):
+    path = folder / "long.feed"
+    lines = AGAIN * 25_000
+    for millions in (1, 2, 5, 10):
+        fill(path, lines, 10 * millions)
+        seconds, peak, status, end = measured([yarib, "run", "--batch", "256", path])
+        expect(f"{millions} million lines", (status, end[-8:]), (0, "table 0\n"))
+        print(f"{millions:2} million lines: {seconds:6.2f} s, {seconds / millions:5.2f} µs and {peak / millions / 1e6:4.0f} bytes a line", flush=True)
+    for megabytes in (100, 200, 500, 1_000):
+        fill(path, "x" * 1_000_000, megabytes)
+        seconds, peak, status, end = measured([yarib, "run", path])
+        expect(f"a line of {megabytes} MB", (status, end), (2, "1:1 fault E8\ntable 0\n"))
+        print(f"a line of {megabytes:4} MB: {seconds:5.2f} s, {seconds / megabytes * 1e3:4.2f} ns and {peak / megabytes / 1e6:4.2f} bytes a byte", flush=True)
+
+
+def main():
+    words = [word for word in sys.argv[1:] if word != "--large"]
+    if words:
+        yarib = pathlib.Path(words[0]).resolve()
+    else:
+        subprocess.run([TOP / "yarib", "--version"], check=True, stdout=subprocess.DEVNULL)
+        yarib = TOP / "out" / "yarib"
+    with tempfile.TemporaryDirectory() as made:
+        folder = pathlib.Path(made)
+        files(yarib, folder)
+        outputs(yarib, folder)
+        little_memory(yarib, folder)
+        if "--large" in sys.argv[1:]:
+            large_texts(yarib, folder)
+    sys.exit(f"{len(failures)} wrong" if failures else 0)
+
+
+if __name__ == "__main__":
+    main()

@@ -1,0 +1,73 @@
+#!/usr/bin/env python3
+"""Times commands of the shared table of 64 feeds beside those of a book under std's mutex, in turn.
+
+Usage: bench/shared.py [ROUNDS [COMMANDS]]. Needs rt. Each case runs the program crates/shared_bench for the table and for the
+mutex one after the other, ROUNDS times (9 if left out), each with so many commands in all (200,000 if left out). For each case
+the nanoseconds of a command are printed, on the clock and of the processors (user and system), and their ratios to the mutex:
+the least of one thread, whom other work can only slow down, and the middle one of several, of which single rounds differ much.
+The last rows are of two processors alone.
+"""
+import os
+import pathlib
+import statistics
+import subprocess
+import sys
+
+ROOT = pathlib.Path(__file__).resolve().parent.parent
+CRATE = ROOT / "crates" / "shared_bench"
+CASES = [(threads, batch) for threads in (1, 4, 16, 64) for batch in (1, 16, 256)]
+ON_TWO = [(threads, batch) for threads in (2, 64) for batch in (1, 256)]
+
+
+def build():
+    """The path of the program."""
+    built = subprocess.run(["rt", "run"], cwd=CRATE, capture_output=True, text=True)
+    program = CRATE / "out" / "shared_bench"
+    if built.returncode != 0 or not program.exists():
+        sys.exit("bench/shared.py: the program was not built\n" + built.stdout[-2000:] + built.stderr[-2000:])
+    return program
+
+
+def timed(program, commands, is_table, threads, batch, processors):
+    """Nanoseconds a command on the clock, and of the processors."""
+    words = [program] + [str(number) for number in (commands, is_table, threads, batch)]
+    run = subprocess.Popen(words, stderr=subprocess.PIPE, text=True, preexec_fn=lambda: os.sched_setaffinity(0, processors))
+    row = run.stderr.read().split()
+    _, status, used = os.wait4(run.pid, 0)
+    run.returncode = os.waitstatus_to_exitcode(status)
+    if run.returncode != 0 or len(row) != 5:
+        sys.exit(f"bench/shared.py: {words} failed")
+    made = int(row[3])
+    return int(row[4]) / made, (used.ru_utime + used.ru_stime) * 1e9 / made
+
+
+def compare(program, rounds, commands, threads, batch, processors):
+    """Prints one row, and gives the table's nanoseconds a command on the clock."""
+    runs = [[timed(program, commands, is_table, threads, batch, processors) for is_table in (1, 0)] for _ in range(rounds)]
+    pick = min if threads == 1 else statistics.median
+    row = f"{len(processors):>10} {threads:>7} {batch:>5}"
+    figures = [[pick(run[case][kind] for run in runs) for case in (0, 1)] for kind in (0, 1)]
+    for table, mutex in figures:
+        row += f" {table:>9.0f} {mutex:>8.0f} {table / mutex:>6.2f}"
+    print(row, flush=True)
+    return figures[0][0]
+
+
+def main():
+    rounds = int(sys.argv[1]) if len(sys.argv) > 1 else 9
+    commands = int(sys.argv[2]) if len(sys.argv) > 2 else 200_000
+    program = build()
+    every = os.sched_getaffinity(0)
+    print("                            on the clock              of the processors")
+    print("processors threads batch     table    mutex  ratio     table    mutex  ratio")
+    for threads, batch in CASES:
+        compare(program, rounds, commands, threads, batch, every)
+    two = set(sorted(every)[:2])
+    times = {(threads, batch): compare(program, rounds, commands, threads, batch, two) for threads, batch in ON_TWO}
+    for batch in (1, 256):
+        rate = times[2, batch] / times[64, batch]
+        print(f"on two processors, batches of {batch}: 64 threads make {rate:.2f} of the commands a second of two")
+
+
+if __name__ == "__main__":
+    main()

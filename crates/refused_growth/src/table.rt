@@ -1,0 +1,184 @@
+//! The shared table of 64 feeds.
+ghost use Rattle.std.specs.Prelude.{◌≡◌, ℕ, ◌<◌, length};
+ghost use Rattle.rt_shared.specs.Table.{ArePassesOf};
+
+use rt_feed::{Version, parse_line};
+use rt_rib::{Book, Cmd, Refused, Reply};
+use rt_shared::laws::passes as passes_kept;
+use rt_shared::{FeedPass, Outcome, SharedRib};
+use std::alloc::Global;
+use std::io;
+use std::sync::Wait;
+
+/// How many routes a feed may have.
+const LIMIT: u32 = 2;
+
+/// The commands that are asked one by one, each with the place of its feed.
+const TURNS: [(usize, &[u8]); 14] = [
+    (0, b"add 10.0.0.0/8 5 192.0.2.1"),
+    (1, b"add 10.0.0.0/8 5 192.0.2.2"),
+    (0, b"replace 10.0.0.0/8 7 discard"),
+    (1, b"lookup 10.0.0.1"),
+    (63, b"add 0.0.0.0/0 9 192.0.2.64"),
+    (0, b"add 10.1.0.0/16 1 192.0.2.1"),
+    (0, b"add 11.0.0.0/8 1 192.0.2.1"),
+    (63, b"lookup 10.1.0.1"),
+    (0, b"withdraw 10.1.0.0/16"),
+    (1, b"lookup 10.1.0.1"),
+    (1, b"purge"),
+    (1, b"lookup 11.0.0.1"),
+    (0, b"dump"),
+    (63, b"withdraw 10.0.0.0/8"),
+];
+
+/// The commands that are asked at once.
+const BATCH: [&[u8]; 3] = [b"add 10.2.0.0/16 1 discard", b"lookup 10.2.0.1", b"dump"];
+
+/// The command that the line says; all of them say one.
+fn command(line: &[u8]) -> Cmd {
+    match parse_line(line, Version::Two) {
+        Ok(said) => match said {
+            Some(cmd) => cmd,
+            None => Cmd::Dump,
+        },
+        Err(_) => Cmd::Dump,
+    }
+}
+
+/// Asks a command of the feed at this place.
+fn ask<R: Wait>(
+    rt: &R,
+    table: &SharedRib<6>,
+    passes: &mut Vec<FeedPass>,
+    at: usize,
+    cmd: Cmd,
+) -> Result<Reply, Refused>
+    requires all { ArePassesOf table.now passes.old.items }
+    requires there { at < length passes.old.items }
+    ensures all { ArePassesOf table.now passes.new.items }
+    ensures count { length passes.new.items ≡ length passes.old.items }
+{
+    passes_kept();
+    table.apply(rt, &mut passes[at], cmd)
+}
+
+/// Asks the batch of the feed at this place.
+fn ask_batch<R: Wait>(
+    rt: &R,
+    table: &SharedRib<6>,
+    passes: &mut Vec<FeedPass>,
+    at: usize,
+    cmds: &[Cmd],
+    out: &mut Vec<Outcome>,
+) -> Result<(), Refused>
+    requires all { ArePassesOf table.now passes.old.items }
+    requires there { at < length passes.old.items }
+    ensures all { ArePassesOf table.now passes.new.items }
+    ensures count { length passes.new.items ≡ length passes.old.items }
+{
+    passes_kept();
+    table.apply_batch(rt, &mut passes[at], cmds, out)
+}
+
+/// Asks the turns in order, and prints each with its answer.
+fn ask_turns<R: Wait + Print>(
+    rt: &R,
+    table: &SharedRib<6>,
+    passes: &mut Vec<FeedPass>,
+) -> io::Result<()>
+    requires all { ArePassesOf table.now passes.old.items }
+    requires count { length passes.old.items ≡ 64 }
+    ensures all { ArePassesOf table.now passes.new.items }
+    ensures count { length passes.new.items ≡ 64 }
+{
+    for (at, line) in TURNS {
+        let cmd = command(line);
+        let answer = ask(rt, table, passes, at, cmd);
+        println!(rt; "feed {} {cmd:?} {answer:?}", at + 1)?;
+    }
+    Ok(())
+}
+
+/// Asks the batch of two feeds, one after the other, and prints what became of it, with all that it was told by then.
+fn ask_batches<R: Wait + Print>(
+    rt: &R,
+    alloc: Global,
+    table: &SharedRib<6>,
+    passes: &mut Vec<FeedPass>,
+) -> io::Result<()>
+    requires all { ArePassesOf table.now passes.old.items }
+    requires count { length passes.old.items ≡ 64 }
+    ensures all { ArePassesOf table.now passes.new.items }
+    ensures count { length passes.new.items ≡ 64 }
+{
+    let cmds = [command(BATCH[0]), command(BATCH[1]), command(BATCH[2])];
+    let mut out = Vec::new(alloc);
+    for at in [1usize, 0, 63] {
+        let answer = ask_batch(rt, table, passes, at, &cmds, &mut out);
+        println!(rt; "batch of feed {} {answer:?} {:?}", at + 1, out.as_slice())?;
+    }
+    Ok(())
+}
+
+/// The table's routes, by the pass of the feed at this place.
+fn routes_by<R: Wait + Print>(
+    rt: &R,
+    alloc: Global,
+    table: &SharedRib<6>,
+    passes: &mut Vec<FeedPass>,
+    at: usize,
+) -> io::Result<()>
+    requires all { ArePassesOf table.now passes.old.items }
+    requires there { at < length passes.old.items }
+    ensures all { ArePassesOf table.now passes.new.items }
+    ensures count { length passes.new.items ≡ length passes.old.items }
+{
+    passes_kept();
+    match table.routes(rt, alloc, &mut passes[at]) {
+        Ok(routes) => println!(rt; "routes {:?}", routes.as_slice()),
+        Err(Refused) => println!(rt; "routes refused"),
+    }
+}
+
+/// Prints the book's journal, and its routes if there is memory for them.
+fn tell<R: Print>(rt: &R, alloc: Global, book: &Book<Global>) -> io::Result<()> {
+    for entry in book.journal() {
+        println!(rt;
+            "journal feed {} {:?} {:?}",
+            entry.feed, entry.cmd, entry.reply
+        )?;
+    }
+    match book.routes(alloc) {
+        Ok(routes) => println!(rt; "left {:?}", routes.as_slice()),
+        Err(Refused) => println!(rt; "left refused"),
+    }
+}
+
+/// Asks all of it of a new table.
+fn ask_all<R: Wait + Print>(
+    rt: &R,
+    alloc: Global,
+    table: SharedRib<6>,
+    mut passes: Vec<FeedPass>,
+) -> io::Result<()>
+    requires all { ArePassesOf table passes.items }
+    requires count { length passes.items ≡ 64 }
+{
+    ask_turns(rt, &table, &mut passes)?;
+    ask_batches(rt, alloc, &table, &mut passes)?;
+    routes_by(rt, alloc, &table, &mut passes, 1)?;
+    routes_by(rt, alloc, &table, &mut passes, 0)?;
+    let book = table.settle(rt, passes);
+    tell(rt, alloc, &book)
+}
+
+/// Makes a table, at the second try if the first is refused, and asks of it.
+pub fn ask_in_turn<R: Wait + Print>(rt: &R, alloc: Global) -> io::Result<()> {
+    for _ in 0..2u32 {
+        match SharedRib::<6>::new(alloc, LIMIT) {
+            Ok((table, passes)) => return ask_all(rt, alloc, table, passes),
+            Err(Refused) => println!(rt; "table refused")?,
+        }
+    }
+    Ok(())
+}
