@@ -1,3 +1,4 @@
+pub mod Promised
 pub mod Cutting
 pub mod Words
 pub mod Becoming

@@ -1,7 +1,7 @@
 -- Visits that lie uncut in a journal, as the journal grows.
-use Rattle.std.proofs.Common.{◌≡◌, ◌≢◌, ℕ, List, [], ◌∷◌, ◌++◌, map, zip, refl, sym, ap, subst, append_assoc, append-nil}
+use Rattle.std.proofs.Common.{◌≡◌, ℕ, List, [], ◌∷◌, ◌++◌, map, zip, refl, sym, ap, subst, append-nil}
 use Rattle.std.proofs.lemmas.List.{map-append}
-use Rattle.std.proofs.lemmas.List.Elements.{All-nil, All-cons, All-append}
+use Rattle.std.proofs.lemmas.List.Elements.{All-nil}
 use Rattle.rt_rib.specs.declared.commands.Cmd.{Cmd}
 use Rattle.rt_rib.specs.declared.commands.Entry.{Entry}
 use Rattle.rt_shared.specs.declared.outcome.Outcome.{Outcome}
@@ -10,29 +10,9 @@ use Rattle.std.specs.declared.result.Result.{Result}
 use Rattle.std.specs.Prelude.{IfOk, OnOk, OnErr, Ok, Err}
 use Rattle.rt_shared.specs.Table.{HeldPass}
 use Rattle.rt_shared.specs.Visits as shared
-use Rattle.rt_shared.specs.Visits.{AllBy, NoneBy, Since, Uncut, answered}
+use Rattle.rt_shared.specs.Visits.{Uncut, answered}
+use Rattle.rt_shared.proofs.Promised.{uncut_visit, uncut_by_visit}
 use Rattle.rt_feed.specs.Visits.{Visit, visit_of, entries}
-
--- others add to the journal
-uncut_more : (feed : ℕ) (visits : List (List Entry)) (journal others : List Entry) → Uncut feed visits journal → NoneBy feed others → Uncut feed visits (journal ++ others)
-uncut_more feed [] journal others none also = All-append (λ e. e.feed ≢ feed) journal others none also
-uncut_more feed (visit ∷ visits) journal others (before, rest, is, none, own, uncut) also =
-    (before, rest ++ others, rw (is, append_assoc, append_assoc) refl, none, own, uncut_more feed visits rest others uncut also)
-
--- what the feed has seen is what it made of it, whatever came since
-pub uncut_since : (feed : ℕ) (visits : List (List Entry)) (seen now : List Entry) → Uncut feed visits seen → Since feed seen now → Uncut feed visits now
-uncut_since feed visits seen now uncut since = rw since.grown (uncut_more feed visits seen since.others uncut since.by_others)
-
--- the feed adds a visit
-uncut_push : (feed : ℕ) (visits : List (List Entry)) (journal own : List Entry) → Uncut feed visits journal → AllBy feed own → Uncut feed (visits ++ own ∷ []) (journal ++ own)
-uncut_push feed [] journal own none by = (journal, [], rw append-nil refl, none, by, All-nil _)
-uncut_push feed (visit ∷ visits) journal own (before, rest, is, none, all, uncut) by =
-    (before, rest ++ own, rw (is, append_assoc, append_assoc) refl, none, all, uncut_push feed visits rest own uncut by)
-
--- the entries of a visit are the feed's
-pub entries_own : (feed : ℕ) (visit : Visit) → AllBy feed (entries feed visit)
-entries_own feed [] = All-nil _
-entries_own feed (pair ∷ visit) = All-cons (λ (e : Entry). e.feed ≡ feed) _ (entries feed visit) refl (entries_own feed visit)
 
 -- the entries of served commands are those of their visit
 entries_answered : (feed : ℕ) (cmds : List Cmd) (outcomes : List Outcome) → answered feed cmds outcomes ≡ entries feed (visit_of (zip cmds outcomes))
@@ -43,26 +23,24 @@ entries_answered feed (cmd ∷ cmds) (Did reply ∷ outcomes) = ap (λ es. recor
 entries_answered feed (cmd ∷ cmds) (Refused ∷ outcomes) = entries_answered feed cmds outcomes
 
 -- so a visit to the shared table lies uncut behind the others
-pub uncut_visit : (limit feed : ℕ) (seen now : List Entry) (cmds : List Cmd) (outcomes : List Outcome) (visits : List Visit) → shared.Visits limit feed seen cmds outcomes now
+uncut_entries : (limit feed : ℕ) (seen now : List Entry) (cmds : List Cmd) (outcomes : List Outcome) (visits : List Visit) → shared.Visits limit feed seen cmds outcomes now
     → Uncut feed (map (entries feed) visits) seen → Uncut feed (map (entries feed) (visits ++ visit_of (zip cmds outcomes) ∷ [])) now
-uncut_visit limit feed seen now cmds outcomes visits visit uncut =
-    let own = entries feed (visit_of (zip cmds outcomes)) in
-    let before = uncut_since feed (map (entries feed) visits) seen visit.found uncut visit.since in
-    rw (map-append, visit.left, entries_answered feed cmds outcomes) (uncut_push feed (map (entries feed) visits) visit.found own before (entries_own feed (visit_of (zip cmds outcomes))))
+uncut_entries limit feed seen now cmds outcomes visits visit uncut =
+    rw (map-append, ← entries_answered feed cmds outcomes) (uncut_by_visit limit feed (map (entries feed) visits) seen now cmds outcomes uncut visit)
 
 -- a visit of the pass of a gate
 pub gate_visit : (limit : ℕ) (inside old new : HeldPass) (cmds : List Cmd) (outcomes : List Outcome) → inside ≡ old → new.feed ≡ inside.feed
     → shared.Visits limit inside.feed inside.seen cmds outcomes new.seen
     → (visits : List Visit) → Uncut old.feed (map (entries old.feed) visits) old.seen → Uncut new.feed (map (entries new.feed) (visits ++ visit_of (zip cmds outcomes) ∷ [])) new.seen
 gate_visit limit inside old new cmds outcomes is feed visit visits held =
-    rw feed (uncut_visit limit inside.feed inside.seen new.seen cmds outcomes visits visit (subst (λ (p : HeldPass). Uncut p.feed (map (entries p.feed) visits) p.seen) (sym is) held))
+    rw feed (uncut_entries limit inside.feed inside.seen new.seen cmds outcomes visits visit (subst (λ (p : HeldPass). Uncut p.feed (map (entries p.feed) visits) p.seen) (sym is) held))
 
 -- an empty visit changes nothing
 pub gate_empty : (inside old new : HeldPass) → inside ≡ old → new ≡ inside
     → (visits : List Visit) → Uncut old.feed (map (entries old.feed) visits) old.seen → Uncut new.feed (map (entries new.feed) (visits ++ [] ∷ [])) new.seen
 gate_empty inside old new is same visits held =
     rw (same, is, map-append) (subst (Uncut old.feed (map (entries old.feed) visits ++ [] ∷ [])) (append-nil old.seen)
-    (uncut_push old.feed (map (entries old.feed) visits) old.seen [] held (All-nil _)))
+    (uncut_visit old.feed (map (entries old.feed) visits) old.seen [] held (All-nil _)))
 
 -- what follows from a value holds where there is one
 pub if_ok : {A E : Type 0} {P Q : A → Type 0} → ((a : A) → P a → Q a) → (r : Result A E) → IfOk r P → IfOk r Q
