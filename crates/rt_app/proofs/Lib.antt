@@ -1,3 +1,4 @@
 pub mod Replaying
+pub mod Reports
 pub mod SeveralFeeds
 pub mod SameTables

@@ -7,8 +7,7 @@ use Rattle.ya_core.specs.declared.step.Mark.TheVariants.{Plain, Inside, Out}
 use Rattle.ya_core.specs.declared.word.Word.{Word}
 use Rattle.ya_core.specs.declared.word.Word.TheVariants.{C, T, P}
 use Rattle.rt_cidr.specs.Output.{AppendsBeginning, PassesOn}
-use Rattle.rt_cidr.proofs.Outputs.{begins_longer, passes_on-begins, passes_on-more}
-use Rattle.rt_cidr.proofs.ShortTexts.{length-decimal}
+use Rattle.rt_cidr.proofs.Promised.{length-decimal, begins_longer, passes_on-begins, passes_on-more}
 use Rattle.rt_app.specs.ReplayText.{level_text, word_text, mark_text, sign_text, step_text, steps_text, inside_text}
 
 -- the lines of some steps and then of more

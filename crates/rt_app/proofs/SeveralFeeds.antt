@@ -21,8 +21,8 @@ use Rattle.rt_feed.specs.Visits.{Visit, visit_of, entries}
 use Rattle.rt_feed.specs.Running.{RunsFeed, StopsWithin}
 use Rattle.rt_feed.specs.Feeds.{RunsOne}
 use Rattle.rt_feed.specs.Printed.{report_text, table_text}
-use Rattle.rt_feed.proofs.Becoming.{has_refusal-report_lines, has_fault-report_lines}
-use Rattle.rt_feed.proofs.UncutVisits.{uncut_since}
+use Rattle.rt_feed.proofs.Promised.{has_refusal-report_lines, has_fault-report_lines}
+use Rattle.rt_shared.proofs.Promised.{uncut_since}
 use Rattle.rt_app.specs.RunText.{Explains, ExplainsFrom, reports_text, IsRunText, status_of}
 use Rattle.rt_app.specs.Running.{HasRun, reports_status}
 
@@ -223,12 +223,12 @@ module _ {V : Type 0} (items : V → List ℕ) (texts : List V) (table : SharedI
           explained batch m journal (items (get_or texts i t')) old new report runs unseen mine since
 
       -- so the texts were run to their ends
-      pub have_run : (limit : ℕ) (book : Contents) → book.journal ≡ journal → book.limit ≡ limit → table.limit ≡ limit → HasRun (map items texts) limit batch reports book
-      have_run limit book journaled limited same =
+      pub has_run : (book : Contents) → book.journal ≡ journal → book.limit ≡ table.limit → HasRun (map items texts) table.limit batch reports book
+      has_run book journaled limited =
           let all = all_explained items batch 1 journal texts reports n_reports explained_at in
           record {
             limited = limited;
-            lawful = rw (journaled, ← same) settled.lawful;
+            lawful = rw journaled settled.lawful;
             outcomes = all.outcomes;
             explained = rw journaled all.explained;
             no_other = rw (journaled, length-map texts items) no_other;
@@ -261,22 +261,6 @@ run_text texts limit batch reports book bytes ran printed = record {
   printed = rw (printed, ran.reported, ran.limited) refl;
   is_status = rw ran.reported (reports_status-lines ran.outcomes);
 }
-
--- one report more
-pub reports_text-push : (feed : ℕ) (reports : List (List Line)) (report : List Line) → reports_text feed (reports ++ report ∷ []) ≡ reports_text feed reports ++ report_text (feed + length reports) report
-reports_text-push feed [] report = rw (append-nil, add-zero) refl
-reports_text-push feed (first ∷ reports) report =
-    rw (reports_text-push (feed + 1) reports report, ← append_assoc)
-    (ap (λ n. (report_text feed first ++ reports_text (feed + 1) reports) ++ report_text n report) (omega arith))
-
--- a text of the first reports that gains the next one's
-pub reports_text-next : (reports : List (List Line)) (k : ℕ) (report : List Line) (feed : ℕ) (old new : List ℕ) → k < length reports → report ≡ get_or reports k report → feed ≡ 1 + k
-    → old ≡ reports_text 1 (take k reports) → new ≡ old ++ report_text feed report → new ≡ reports_text 1 (take (k + 1) reports)
-reports_text-next reports k report feed old new here is number so_far gains =
-    let count : 1 + length (take k reports) ≡ feed = omega (arith, number, length-take-le k reports (omega (arith, here))) in
-    let one : take (k + 1) reports ≡ take k reports ++ report ∷ [] = ap (λ (n : ℕ). take n reports) (add-one k) ∙ (take-suc reports k report here ∙ ap (λ (r : List Line). take k reports ++ r ∷ []) (sym is)) in
-    gains ∙ (ap (λ (t : List ℕ). t ++ report_text feed report) so_far
-    ∙ (ap (λ (n : ℕ). reports_text 1 (take k reports) ++ report_text n report) (sym count) ∙ (sym (reports_text-push 1 (take k reports) report) ∙ ap (reports_text 1) (sym one))))
 
 -- a vector that was written through a slice of all its elements holds what was written
 pub all_written : {X : Type 0} (len : ℕ) (new items : List X) → len ≡ length items → length new ≡ length items → take len (new ++ drop (length new) items) ≡ new

@@ -4,6 +4,7 @@ use Rattle.std.specs.List.{list_any}
 use Rattle.rt_rib.specs.declared.commands.Entry.{Entry}
 use Rattle.rt_rib.specs.Book.{Contents}
 use Rattle.rt_rib.specs.Journal.{IsLawfulJournal}
+use Rattle.rt_shared.specs.Table.{SharedId, HeldPass, ArePassesOf, Settles}
 use Rattle.rt_feed.specs.declared.report.Line.{Line}
 use Rattle.rt_feed.specs.Answers.{has_refusal, has_fault}
 use Rattle.rt_feed.specs.LineOutcomes.{LineOutcome, report_lines}
@@ -18,6 +19,11 @@ pub record HasRun (texts : List (List ℕ)) (limit batch : ℕ) (reports : List 
   pub no_other : All (λ e. (1 ≤ e.feed) × (e.feed ≤ length texts)) book.journal
   pub reported : reports ≡ map (report_lines 1) outcomes
   pub counted : length reports ≡ length texts
+
+-- the texts were run by passes of the table, which are all back, and these are the reports: whatever the table settles to, the texts were run to their ends with it
+pub record HaveRun (texts : List (List ℕ)) (batch : ℕ) (table : SharedId) (passes : List HeldPass) (reports : List (List Line)) : Type 0 where
+  pub back : ArePassesOf table passes
+  pub settled : (book : Contents) → book.limit ≡ table.limit → Settles table passes book.journal → HasRun texts table.limit batch reports book
 
 -- the status of these reports: 5 where one tells of a refused command, else 2 where one tells of a fault, else 0
 abbrev pub reports_status : List (List Line) → ℕ

@@ -1,14 +1,17 @@
 //! A run: feed texts in, their reports and the table out.
-ghost use Rattle.std.specs.Prelude.{◌≡◌, ◌↔◌, ℕ, ◌+◌, ◌≤◌, ◌++◌, ◌^◌, [], ◌∷◌, map, length, vec_len, vec_capacity, All, Some, None, IfOk, OnOk, IsSome};
-ghost use Rattle.rt_rib.specs.Book.{IsLimit, table_of};
+ghost use Rattle.std.specs.Prelude.{◌≡◌, ◌↔◌, ℕ, ◌+◌, ◌≤◌, ◌++◌, ◌^◌, [], ◌∷◌, map, length, vec_len, vec_capacity, All, Some, None, IfOk, OnOk, OnErr, IsSome};
+ghost use Rattle.std.specs.Io.KnownBytes.{Appends};
+ghost use Rattle.rt_cidr.specs.Output.{AppendsBeginning, PassesOn};
+ghost use Rattle.rt_rib.specs.Book.{IsLimit};
 ghost use Rattle.std.specs.List.{list_any};
 ghost use Rattle.rt_feed.specs.Answers.{has_refusal, has_fault};
 ghost use Rattle.rt_feed.specs.Printed.{report_text, table_text};
 ghost use Rattle.rt_app.specs.RunText.{IsRunText, Leaves, reports_text};
-ghost use Rattle.rt_app.specs.Running.{HasRun, reports_status};
+ghost use Rattle.rt_app.specs.Running.{HasRun, HaveRun, reports_status};
+ghost use Rattle.rt_shared.specs.Table.{ArePassesOf};
 
 use crate::faults::AppFault;
-use rt_cidr::{OutputBuffer, put};
+use rt_cidr::OutputBuffer;
 use rt_feed::{Feed, Report, RunFault, TableGate, run_feeds, write_report, write_table};
 use rt_rib::{Book, Route};
 use rt_shared::{FeedPass, SharedRib};
@@ -54,10 +57,13 @@ pub fn run_texts<R: Threads + Wait + Sync, W: Write>(
     let Ok(ran) = run_all(rt, alloc, texts, limit, batch) else {
         return Err(AppFault::Run(RunFault::Memory));
     };
-    let Ok(text) = rendered(alloc, &ran) else {
+    let Ok(routes) = ran.book.routes(alloc) else {
         return Err(AppFault::Run(RunFault::Memory));
     };
-    match put(w, text.as_slice()) {
+    let Ok(mut buffer) = OutputBuffer::new(alloc) else {
+        return Err(AppFault::Run(RunFault::Memory));
+    };
+    match write_run(w, &mut buffer, ran.reports.as_slice(), routes.as_slice()) {
         Ok(()) => Ok(status_of(ran.reports.as_slice())),
         Err(_) => Err(AppFault::Write),
     }
@@ -83,20 +89,50 @@ fn run_all<R: Threads + Wait + Sync>(
     requires batched { 1 ≤ batch }
     ensures { IfOk result (λ ran. HasRun (map (λ text. text.items) texts.now) limit batch ran.reports.items ran.book) }
 {
-    let Ok((table, mut passes)) = SharedRib::<LEVELS>::new(alloc, limit) else {
+    let Ok((table, passes)) = SharedRib::<LEVELS>::new(alloc, limit) else {
         return Err(AllocError);
     };
-    let idle = passes.split_off(texts.len())?;
-    let mut ended = Vec::with_capacity(alloc, MOST_TEXTS)?;
+    let Ended { passes, reports } = run_passes(rt, alloc, &table, passes, texts, batch)?;
+    let book = table.settle(rt, passes);
+    Ok(Ran { reports, book })
+}
+
+/// The passes of a table and the reports, once all threads are joined.
+#[derive(Drop)]
+struct Ended {
+    passes: Vec<FeedPass>,
+    reports: Vec<Report>,
+}
+
+/// Runs the texts, the k-th by the k-th of the table's passes, and gives all its passes back.
+fn run_passes<R: Threads + Wait + Sync>(
+    rt: &R,
+    alloc: Global,
+    table: &SharedRib<LEVELS>,
+    passes: Vec<FeedPass>,
+    texts: &[Vec<u8>],
+    batch: usize,
+) -> Result<Ended, AllocError>
+    requires dealt { ArePassesOf table.now passes.items }
+    requires fresh { All (λ p. p.seen ≡ []) passes.items }
+    requires few { length texts.now ≤ length passes.items }
+    requires batched { 1 ≤ batch }
+    ensures { IfOk result (λ ended. HaveRun (map (λ text. text.items) texts.now) batch table.now ended.passes.items ended.reports.items) }
+{
+    let mut ended = Vec::with_capacity(alloc, passes.len())?;
     let mut reports = Vec::with_capacity(alloc, texts.len())?;
-    let mut feeds = open_gates(alloc, &table, passes)?;
+    let mut passes = passes;
+    let idle = passes.split_off(texts.len())?;
+    let mut feeds = open_gates(alloc, table, passes)?;
     let Ok(()) = run_feeds(rt, alloc, texts, batch, &mut feeds) else {
         return Err(AllocError);
     };
     close_gates(feeds, &mut ended, &mut reports);
     put_behind(&mut ended, idle);
-    let book = table.settle(rt, ended);
-    Ok(Ran { reports, book })
+    Ok(Ended {
+        passes: ended,
+        reports,
+    })
 }
 
 /// A gate to the table for each pass.
@@ -149,50 +185,36 @@ fn put_behind(passes: &mut Vec<FeedPass>, more: Vec<FeedPass>)
     }
 }
 
-/// The reports and the book's table, as text.
-fn rendered(alloc: Global, ran: &Ran) -> Result<Vec<u8>, AllocError>
-    requires { vec_len ran.now.reports ≤ 64 }
-    ensures { IfOk result (λ text. text.items ≡ reports_text 1 ran.now.reports.items ++ table_text (table_of ran.now.book)) }
-{
-    let mut text = Vec::new(alloc);
-    let mut feed = 0;
-    for report in ran.reports.as_slice() {
-        feed += 1;
-        let Ok(()) = push_report(alloc, &mut text, feed, report) else {
-            return Err(AllocError);
-        };
-    }
-    let Ok(routes) = ran.book.routes(alloc) else {
-        return Err(AllocError);
-    };
-    let Ok(()) = push_table(alloc, &mut text, routes.as_slice()) else {
-        return Err(AllocError);
-    };
-    Ok(text)
-}
-
-/// Puts a feed's report at the text's end.
-fn push_report(
-    alloc: Global,
-    text: &mut Vec<u8>,
-    feed: u32,
-    report: &Report,
+/// Writes the reports, the k-th as feed k's, and then the table, in few large writes. Takes no memory.
+fn write_run<W: Write>(
+    w: &mut W,
+    buffer: &mut OutputBuffer,
+    reports: &[Report],
+    routes: &[Route],
 ) -> Result<(), io::Error>
-    ensures ok { OnOk result (text.new.items ≡ text.old.items ++ report_text feed report.now) }
+    requires empty { buffer.old ≡ [] }
+    requires few { length reports.now ≤ 64 }
+    ensures ok { OnOk result (Appends (W.contents w.old) (W.contents w.new) (reports_text 1 reports.now ++ table_text routes.now)) }
+    ensures err { OnErr result (AppendsBeginning (W.contents w.old) (W.contents w.new) (reports_text 1 reports.now ++ table_text routes.now)) }
 {
-    let mut buffer = OutputBuffer::new(alloc)?;
-    write_report(text, &mut buffer, feed, report)?;
-    buffer.flush(text)?;
-    Ok(())
+    write_reports(w, buffer, reports)?;
+    write_table(w, buffer, routes)?;
+    buffer.flush(w)
 }
 
-/// Puts the table at the text's end.
-fn push_table(alloc: Global, text: &mut Vec<u8>, routes: &[Route]) -> Result<(), io::Error>
-    ensures ok { OnOk result (text.new.items ≡ text.old.items ++ table_text routes.now) }
+/// Puts the reports behind what the buffer holds, the k-th as feed k's.
+fn write_reports<W: Write>(
+    w: &mut W,
+    buffer: &mut OutputBuffer,
+    reports: &[Report],
+) -> Result<(), io::Error>
+    requires few { length reports.now ≤ 64 }
+    ensures ok { OnOk result (PassesOn (W.contents w.old) (W.contents w.new) buffer.old buffer.new (reports_text 1 reports.now)) }
+    ensures err { OnErr result (AppendsBeginning (W.contents w.old) (W.contents w.new) (buffer.old ++ reports_text 1 reports.now)) }
 {
-    let mut buffer = OutputBuffer::new(alloc)?;
-    write_table(text, &mut buffer, routes)?;
-    buffer.flush(text)?;
+    for (index, report) in reports.iter().enumerate() {
+        write_report(w, buffer, index as u32 + 1, report)?;
+    }
     Ok(())
 }
 

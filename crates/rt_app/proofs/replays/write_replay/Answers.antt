@@ -1,6 +1,6 @@
 use Rattle.std.proofs.Common.{[], append-nil}
 use Rattle.std.proofs.lemmas.Result.{err_from_is_err_and, IfErr-weaker}
-use Rattle.rt_cidr.proofs.Outputs.{passes_on-begins, passes_on-more, begins_after}
+use Rattle.rt_cidr.proofs.Promised.{passes_on-begins, passes_on-more, begins_after}
 use Rattle.rt_app.proofs.replays.write_replay.Goals as goal
 
 pub returns-in_err-put-clause-err : goal.returns-in_err-put-clause-err
