@@ -1,5 +1,5 @@
 -- What a gate to a book of its own has served, one command after another.
-use Rattle.std.proofs.Common.{◌≡◌, List, [], ◌∷◌, ◌++◌, length, zip, sym, ap, ◌∙◌, arith, append_assoc, append-nil, length-append, Result, Ok, Err, IfOk, OnErr}
+use Rattle.std.proofs.Common.{◌≡◌, List, [], ◌∷◌, ◌++◌, length, zip, refl, sym, ap, ◌∙◌, arith, append_assoc, append-nil, length-append, Result, Ok, Err, IfOk, OnErr}
 use Rattle.std.proofs.lemmas.List.{map-append}
 use Rattle.rt_rib.specs.declared.commands.Cmd.{Cmd}
 use Rattle.rt_rib.specs.declared.commands.Reply.{Reply}
@@ -68,7 +68,8 @@ pub holds_refusal : (old new : Contents) (result : Result Reply Refused) → OnE
 holds_refusal old new (Ok reply) e = tt
 holds_refusal old new (Err refused) e = λ visits held. holds_same old.journal new.journal visits held (ap (λ (b : Contents). b.journal) e)
 
--- what holds anyway holds of an error
-pub on_err_of : {X E : Type 0} (r : Result X E) (P : Type 0) → P → OnErr r P
-on_err_of (Ok x) P p = tt
-on_err_of (Err e) P p = p
+-- an error before any command was asked: nothing was put behind, and the visit is empty
+pub holds_no_batch : {X E : Type 0} (r : Result X E) (journal : List Entry) (before after : List Outcome) → after ≡ before
+    → OnErr r ((after ≡ before) × ((visits : List Visit) → HasVisits journal visits → HasVisits journal (visits ++ [] ∷ [])))
+holds_no_batch (Ok x) journal before after e = tt
+holds_no_batch (Err refused) journal before after e = (e, λ visits held. holds_same journal journal visits held refl)

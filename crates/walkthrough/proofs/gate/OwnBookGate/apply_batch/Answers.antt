@@ -1,14 +1,14 @@
-use Rattle.std.proofs.Common.{◌≡◌, ℕ, ◌∷◌, ◌++◌, [], List, take, arith, refl, sym, subst, ap, ◌∙◌, add-one, length, zip}
+use Rattle.std.proofs.Common.{◌≡◌, ℕ, ◌∷◌, ◌++◌, [], List, take, arith, sym, subst, ap, ◌∙◌, add-one, length, zip}
 use Rattle.std.proofs.Math.Seq.{take-suc, take-length}
 use Rattle.rt_rib.specs.declared.commands.Cmd.{Cmd}
 use Rattle.rt_shared.specs.declared.outcome.Outcome.{Outcome}
 use Rattle.rt_feed.specs.Visits.{visit_of}
-use Rattle.walkthrough.proofs.Serving.{HasServed, served_more, holds_same, holds_more, on_err_of}
+use Rattle.walkthrough.proofs.Serving.{HasServed, served_more, holds_more, holds_no_batch}
 use Rattle.walkthrough.proofs.gate.OwnBookGate.apply_batch.Goals as goal
 
 pub returns-in_err-try_reserve-clause-err : goal.returns-in_err-try_reserve-clause-err
 returns-in_err-try_reserve-clause-err g c =
-    let journal = c.args.self.now.book.journal in on_err_of c.from_residual.result _ (c.try_reserve.ensures.items, λ visits held. holds_same journal journal visits held refl)
+    holds_no_batch c.from_residual.result c.args.self.now.book.journal c.args.out.now.items c.try_reserve.new.self.items c.try_reserve.ensures.items
 
 pub loop-cmd-preserved : goal.loop-cmd-preserved
 loop-cmd-preserved g c =
