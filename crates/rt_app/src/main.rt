@@ -1,4 +1,20 @@
 //! The program `yarib`: feed files in, one reply a command and the sorted table out.
+//!
+//! [`run_texts`] is a run over values: the texts of 1 to 64 feeds, each on a thread of its own, over one table behind the
+//! lock, and a writer. Its clause `text` is the theorem from bytes to bytes: what was written is a run's text.
+//! [`replay_text`] does the same for a schedule of the lock: one line for each atomic step of the one run that it names.
+//! `laws` says what holds of every run, however its threads ran.
+//!
+//! ```text
+//! // the reports of all feeds and then the table, and the exit status of the run
+//! let status = run_texts(&rt, alloc, texts.as_slice(), 65_536, 64, &mut out)?;
+//! ```
+//!
+//! Contracts see texts as lists of bytes, and of a writer what is in it, where that is known. After a fault of the writer
+//! a beginning of the text was written; after any other refusal nothing was.
+//!
+//! Only tested: [`run_words`], the program over its words. It reads the command line and the files, and turns each outcome
+//! into an exit status and a text on standard error.
 #![tactic(auto)]
 
 mod command_line;

@@ -1,3 +1,4 @@
+//! What came of a command that a feed gave to the shared table.
 use rt_rib::Reply;
 
 /// What came of a command.

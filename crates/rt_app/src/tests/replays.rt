@@ -1,3 +1,4 @@
+//! Replays of schedules, byte for byte, and schedules that are refused.
 use crate::faults::AppFault;
 use crate::replays::replay_text;
 use ya_core::ReplayFault;

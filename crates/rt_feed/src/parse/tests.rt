@@ -1,3 +1,4 @@
+//! Lines and the answers to them: the first fault of each kind, and commands read as what they say.
 use super::*;
 use crate::lines::next_line;
 use std::test::Fail;

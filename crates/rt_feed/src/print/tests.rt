@@ -1,3 +1,4 @@
+//! Printed reports and tables, byte for byte, and writers that fail.
 use super::*;
 use crate::report::tests::report_of;
 use rt_cidr::{Addr, Prefix, TextFault};
