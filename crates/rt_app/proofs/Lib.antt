@@ -1,4 +1,4 @@
 pub mod Replaying
-pub mod Reports
+pub mod Numbered
 pub mod SeveralFeeds
 pub mod SameTables

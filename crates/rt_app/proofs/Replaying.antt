@@ -1,47 +1,26 @@
--- The lines of a replay, one step further.
-use Rattle.std.proofs.Common.{◌≡◌, ℕ, ◌+◌, ◌<◌, List, [], ◌∷◌, ◌++◌, length, take, get_or, refl, sym, ap, ◌∙◌, arith, append_assoc, append-nil, add-zero, add-one, length-take, length-append, codes, Bool, true, false, Option, None, Some, ◌≤◌, drop, take-append-drop}
-use Rattle.std.proofs.Math.Seq.{take-suc}
+-- The lines of a replay, one step further, and how long they are at most.
+use Rattle.std.proofs.Common.{ℕ, ◌+◌, ◌<◌, ◌≤◌, List, ◌++◌, length, take, get_or, refl, arith, length-append, codes, Bool, true, false, Option, None, Some}
+use Rattle.std.proofs.lemmas.List.{get_or_default}
 use Rattle.ya_core.specs.declared.step.Step.{Step}
 use Rattle.ya_core.specs.declared.step.Mark.{Mark}
 use Rattle.ya_core.specs.declared.step.Mark.TheVariants.{Plain, Inside, Out}
 use Rattle.ya_core.specs.declared.word.Word.{Word}
 use Rattle.ya_core.specs.declared.word.Word.TheVariants.{C, T, P}
 use Rattle.rt_cidr.specs.Output.{AppendsBeginning, PassesOn}
-use Rattle.rt_cidr.proofs.Promised.{length-decimal, begins_longer, passes_on-begins, passes_on-more}
+use Rattle.rt_cidr.proofs.Promised.{length-decimal}
 use Rattle.rt_app.specs.ReplayText.{level_text, word_text, mark_text, sign_text, step_text, steps_text, inside_text}
+use Rattle.rt_app.proofs.Numbered as numbered
 
--- the lines of some steps and then of more
-steps_text-append : (number : ℕ) (steps more : List Step) → steps_text number (steps ++ more) ≡ steps_text number steps ++ steps_text (number + length steps) more
-steps_text-append number [] more = rw add-zero refl
-steps_text-append number (first ∷ steps) more =
-    rw (steps_text-append (number + 1) steps more, ← append_assoc) (ap (λ n. (step_text number first ++ steps_text (number + 1) steps) ++ steps_text n more) (omega arith))
+module _ (steps : List Step) (k : ℕ) (d : Step) (here : k < length steps) (a b c : Option (List ℕ)) (held held' held'' : List ℕ) (first : PassesOn a b held held' (steps_text 1 (take k steps))) where
+  -- the next step's line is put behind those before it
+  pub passes_next : PassesOn b c held' held'' (step_text (k + 1) (get_or steps k d)) → PassesOn a c held held'' (steps_text 1 (take (k + 1) steps))
+  passes_next second =
+      numbered.passes_next step_text steps_text (λ n. refl) (λ n x xs. refl) steps k (get_or steps k d) here (get_or_default steps k d (get_or steps k d) here) a b c held held' first held'' second
 
-module _ (steps : List Step) (k : ℕ) (d : Step) (here : k < length steps) where
-  -- the lines of the first steps grow by the next one's
-  steps_text-take : steps_text 1 (take (k + 1) steps) ≡ steps_text 1 (take k steps) ++ step_text (k + 1) (get_or steps k d)
-  steps_text-take =
-      let so_far : 1 + length (take k steps) ≡ k + 1 = omega (arith, length-take k steps) in
-      rw (add-one k, take-suc steps k d here, steps_text-append, so_far, add-one k, append-nil) refl
-
-  -- and so the rest follows
-  steps_text-rest : (rest : List ℕ) × (steps_text 1 steps ≡ (steps_text 1 (take k steps) ++ step_text (k + 1) (get_or steps k d)) ++ rest)
-  steps_text-rest = (
-    _,
-    ap (steps_text 1) (sym (take-append-drop (k + 1) steps)) ∙ steps_text-append 1 (take (k + 1) steps) (drop (k + 1) steps)
-        ∙ ap (λ text. text ++ steps_text (1 + length (take (k + 1) steps)) (drop (k + 1) steps)) steps_text-take,
-  )
-
-  module _ (a b c : Option (List ℕ)) (held held' held'' : List ℕ) (first : PassesOn a b held held' (steps_text 1 (take k steps))) where
-    -- the next step's line is put behind those before it
-    pub passes_next : PassesOn b c held' held'' (step_text (k + 1) (get_or steps k d)) → PassesOn a c held held'' (steps_text 1 (take (k + 1) steps))
-    passes_next second = rw steps_text-take (passes_on-more a b c held held' held'' _ _ first second)
-
-    -- a fault within it leaves a beginning of all lines
-    pub begins_all : AppendsBeginning b c (held' ++ step_text (k + 1) (get_or steps k d)) → AppendsBeginning a c (held ++ steps_text 1 steps)
-    begins_all second =
-        let (rest, whole) = steps_text-rest in
-        let so_far = passes_on-begins a b c held held' _ (step_text (k + 1) (get_or steps k d)) first second in
-        rw (whole, ← append_assoc held (steps_text 1 (take k steps) ++ step_text (k + 1) (get_or steps k d)) rest) (begins_longer a c _ rest so_far)
+  -- a fault within it leaves a beginning of all lines
+  pub begins_all : AppendsBeginning b c (held' ++ step_text (k + 1) (get_or steps k d)) → AppendsBeginning a c (held ++ steps_text 1 steps)
+  begins_all second =
+      numbered.begins_all step_text steps_text (λ n. refl) (λ n x xs. refl) steps k (get_or steps k d) here (get_or_default steps k d (get_or steps k d) here) a b c held held' first second
 
 -- how long the lines are at most
 level_fits : (letter : List ℕ) (level index : ℕ) → length (level_text letter level index) ≤ length letter + 129

@@ -140,3 +140,6 @@ fn read_files<'a, R: Files + AllocGlobal>(
     }
     Ok(texts)
 }
+
+#[cfg(test)]
+mod tests;

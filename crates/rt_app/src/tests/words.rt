@@ -63,6 +63,39 @@ table 1
 }
 
 #[test]
+fn a_feed_may_have_65_536_routes_where_nothing_is_asked(rt: HostRuntime) -> Result<(), Fail> {
+    let alloc = rt.alloc();
+    let mut text = Vec::new(alloc);
+    for high in 0..256u32 {
+        for low in 0..256u32 {
+            let line = format!(in alloc; "add 10.0.{high}.{low}/32 1 192.0.2.1\n")?;
+            text.extend_from_slice(line.as_bytes())?;
+        }
+    }
+    text.extend_from_slice(b"add 10.1.0.0/32 1 192.0.2.1\n")?;
+    fs::write(&rt, "many.feed", text.as_slice())?;
+    let last: &[u8] = b"1:65536 added\n1:65537 full\ntable 65536\n10.0.0.0/32 feed 1 ";
+    let all = run(&rt, &["yarib", "run", "--batch", "1024", "many.feed"])?;
+    assert_eq!(rt; all.status, 0);
+    assert!(rt; holds(all.out.as_slice(), last));
+    let more: &[u8] = b"1:65536 added\n1:65537 added\ntable 65537\n10.0.0.0/32 feed 1 ";
+    let words = [
+        "yarib",
+        "run",
+        "--limit",
+        "1000000",
+        "--batch",
+        "1024",
+        "many.feed",
+    ];
+    let all = run(&rt, &words)?;
+    assert_eq!(rt; all.status, 0);
+    assert!(rt; holds(all.out.as_slice(), more));
+    fs::write(&rt, "many.feed", b"")?;
+    Ok(())
+}
+
+#[test]
 fn a_faulty_line_gives_status_2(rt: HostRuntime) -> Result<(), Fail> {
     fs::write(&rt, "faulty.feed", b"frob\n")?;
     let ending = run(&rt, &["yarib", "run", "faulty.feed"])?;
@@ -159,7 +192,7 @@ fn refused_command_lines_give_status_3(rt: HostRuntime) -> Result<(), Fail> {
 
 #[test]
 fn schedules_are_replayed(rt: HostRuntime) -> Result<(), Fail> {
-    let rows: [(&[&str], u8, &str, &str); 7] = [
+    let rows: [(&[&str], u8, &str, &str); 8] = [
         (&["--levels", "1"], 0, "inside none\n", ""),
         (
             &["--levels", "1", "0"],
@@ -176,6 +209,7 @@ fn schedules_are_replayed(rt: HostRuntime) -> Result<(), Fail> {
         ),
         (&["--levels", "7", "200"], 3, "", "yarib: fault P2\n"),
         (&["--levels", "0", "0"], 3, "", "yarib: fault P2\n"),
+        (&["--levels", "255", "0"], 3, "", "yarib: fault P2\n"),
         (
             &["1", "--levels", "1"],
             0,

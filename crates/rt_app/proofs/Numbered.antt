@@ -1,0 +1,44 @@
+-- The texts of numbered items, one after another, as they are put behind what a buffer holds.
+use Rattle.std.proofs.Common.{◌≡◌, ℕ, ◌+◌, ◌<◌, List, [], ◌∷◌, ◌++◌, length, take, drop, get_or, refl, sym, ap, ◌∙◌, arith, append_assoc, append-nil, add-zero, add-one, length-take, take-append-drop, Option}
+use Rattle.std.proofs.Math.Seq.{take-suc}
+use Rattle.rt_cidr.specs.Output.{AppendsBeginning, PassesOn}
+use Rattle.rt_cidr.proofs.Promised.{begins_longer, passes_on-begins, passes_on-more}
+
+-- the text of one item under its number, and of all of them from this number on
+module _ {X : Type 0} (one : ℕ → X → List ℕ) (all : ℕ → List X → List ℕ) (none : (number : ℕ) → all number [] ≡ [])
+    (more : (number : ℕ) (x : X) (xs : List X) → all number (x ∷ xs) ≡ one number x ++ all (number + 1) xs) where
+  -- the text of some items and then of others
+  all-append : (number : ℕ) (xs ys : List X) → all number (xs ++ ys) ≡ all number xs ++ all (number + length xs) ys
+  all-append number [] ys = rw (none number, add-zero) refl
+  all-append number (x ∷ xs) ys =
+      rw (more number x (xs ++ ys), all-append (number + 1) xs ys, more number x xs, ← append_assoc)
+      (ap (λ n. (one number x ++ all (number + 1) xs) ++ all n ys) (omega arith))
+
+  module _ (xs : List X) (k : ℕ) (x : X) (here : k < length xs) (is : x ≡ get_or xs k x) where
+    -- the text of the first items grows by the next one's
+    all-take : all 1 (take (k + 1) xs) ≡ all 1 (take k xs) ++ one (k + 1) x
+    all-take =
+        let so_far : 1 + length (take k xs) ≡ k + 1 = omega (arith, length-take k xs) in
+        let last : take (k + 1) xs ≡ take k xs ++ x ∷ [] = ap (λ (n : ℕ). take n xs) (add-one k) ∙ (take-suc xs k x here ∙ ap (λ (y : X). take k xs ++ y ∷ []) (sym is)) in
+        let lone : all (k + 1) (x ∷ []) ≡ one (k + 1) x = more (k + 1) x [] ∙ (ap (λ (t : List ℕ). one (k + 1) x ++ t) (none (k + 1 + 1)) ∙ append-nil (one (k + 1) x)) in
+        ap (all 1) last ∙ (all-append 1 (take k xs) (x ∷ []) ∙ (ap (λ (n : ℕ). all 1 (take k xs) ++ all n (x ∷ [])) so_far ∙ ap (λ (t : List ℕ). all 1 (take k xs) ++ t) lone))
+
+    -- and so the rest follows
+    all-rest : (rest : List ℕ) × (all 1 xs ≡ (all 1 (take k xs) ++ one (k + 1) x) ++ rest)
+    all-rest = (
+      _,
+      ap (all 1) (sym (take-append-drop (k + 1) xs)) ∙ all-append 1 (take (k + 1) xs) (drop (k + 1) xs)
+          ∙ ap (λ text. text ++ all (1 + length (take (k + 1) xs)) (drop (k + 1) xs)) all-take,
+    )
+
+    module _ (a b c : Option (List ℕ)) (held held' : List ℕ) (first : PassesOn a b held held' (all 1 (take k xs))) where
+      -- the next item's text is put behind those before it
+      pub passes_next : (held'' : List ℕ) → PassesOn b c held' held'' (one (k + 1) x) → PassesOn a c held held'' (all 1 (take (k + 1) xs))
+      passes_next held'' second = rw all-take (passes_on-more a b c held held' held'' _ _ first second)
+
+      -- a fault within it leaves a beginning of all texts
+      pub begins_all : AppendsBeginning b c (held' ++ one (k + 1) x) → AppendsBeginning a c (held ++ all 1 xs)
+      begins_all second =
+          let (rest, whole) = all-rest in
+          let so_far = passes_on-begins a b c held held' _ (one (k + 1) x) first second in
+          rw (whole, ← append_assoc held (all 1 (take k xs) ++ one (k + 1) x) rest) (begins_longer a c _ rest so_far)
