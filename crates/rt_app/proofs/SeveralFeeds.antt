@@ -1,16 +1,12 @@
 -- Several feeds over one table: their reports and the journal that the table settles to explain one another.
-use Rattle.std.proofs.Common.{◌≡◌, ◌≢◌, ℕ, zero, suc, ◌+◌, ◌-◌, ◌<◌, ◌≤◌, ◌⊎◌, inl, inr, Option, Some, None, List, [], ◌∷◌, ◌++◌, All, length, map, take, drop, get_or, refl, sym, ap, subst, ◌∙◌, arith, add-zero, add-one, append_assoc, append-nil, length-append, length-drop}
+use Rattle.std.proofs.Common.{◌≡◌, ◌≢◌, ℕ, zero, suc, ◌+◌, ◌-◌, ◌<◌, ◌≤◌, ◌⊎◌, inl, inr, Option, Some, None, List, [], ◌∷◌, ◌++◌, All, length, map, take, drop, get_or, refl, sym, ap, subst, ◌∙◌, arith, append-nil, length-append, length-drop}
 use Rattle.std.specs.Prelude.{MatchOption}
-use Rattle.std.specs.List.{slice_get, list_any}
+use Rattle.std.specs.List.{list_any}
 use Rattle.std.proofs.lemmas.List.{get_or-map, get_or-drop, get_or-append_right, get_or_append_left, length-map, length-take-le, get_or-take, get_or_default, drop_all, take_all}
-use Rattle.std.proofs.Math.Seq.{take-suc}
 use Rattle.std.proofs.lemmas.List.Elements.{All-nil}
 use Rattle.std.proofs.lemmas.Option.{slice_get-get_or, slice_get_within, same_Some}
-use Rattle.rt_rib.specs.declared.commands.Cmd.{Cmd}
 use Rattle.rt_rib.specs.declared.commands.Entry.{Entry}
 use Rattle.rt_rib.specs.Book.{Contents, table_of}
-use Rattle.rt_rib.specs.Journal.{IsLawfulJournal}
-use Rattle.rt_shared.specs.declared.outcome.Outcome.{Outcome}
 use Rattle.rt_shared.specs.Table.{SharedId, HeldPass, ArePassesOf, Settles}
 use Rattle.rt_shared.specs.Visits.{Since, Uncut}
 use Rattle.rt_feed.specs.declared.report.Line.{Line}
@@ -20,7 +16,7 @@ use Rattle.rt_feed.specs.LineOutcomes.{LineOutcome, report_lines, some_refused, 
 use Rattle.rt_feed.specs.Visits.{Visit, visit_of, entries}
 use Rattle.rt_feed.specs.Running.{RunsFeed, StopsWithin}
 use Rattle.rt_feed.specs.Feeds.{RunsOne}
-use Rattle.rt_feed.specs.Printed.{report_text, table_text}
+use Rattle.rt_feed.specs.Printed.{table_text}
 use Rattle.rt_feed.proofs.Promised.{has_refusal-report_lines, has_fault-report_lines}
 use Rattle.rt_shared.proofs.Promised.{uncut_since}
 use Rattle.rt_app.specs.RunText.{Explains, ExplainsFrom, reports_text, IsRunText, status_of}

@@ -1,7 +1,6 @@
 -- What a run of feeds has done before its text is written.
 use Rattle.std.specs.Prelude.{◌≡◌, ℕ, ◌≤◌, if◌then◌else◌, List, All, length, map}
 use Rattle.std.specs.List.{list_any}
-use Rattle.rt_rib.specs.declared.commands.Entry.{Entry}
 use Rattle.rt_rib.specs.Book.{Contents}
 use Rattle.rt_rib.specs.Journal.{IsLawfulJournal}
 use Rattle.rt_shared.specs.Table.{SharedId, HeldPass, ArePassesOf, Settles}
