@@ -16,3 +16,4 @@ pub mod Sets
 pub mod Determined
 pub mod Feeds
 pub mod Best
+pub mod OfferLists

@@ -6,3 +6,5 @@ pub mod Book
 pub mod Kept
 pub mod Search
 pub mod Laws
+pub mod Offers
+pub mod Few

@@ -1,0 +1,195 @@
+-- How a list of offers in order changes as one is put in or taken out.
+use Rattle.std.proofs.Common.{◌≡◌, ℕ, zero, suc, ◌+◌, ◌<◌, ◌≤◌, Bool, true, false, not, ltb, eqb, ◌⊎◌, ◌↔◌, inl, inr, List, [], ◌∷◌, ◌++◌, length, get_or, Some, None, refl, ap, ◌∙◌, sym, subst, arith}
+use Rattle.std.proofs.lemmas.Bool.{cases_Bool, both_ways, cond-true, cond-false, not-true, not_from_true, not_from_false, false_from_ne_true, lt-ltb, ltb-true, ltb-false, eqb-true, eq-eqb, cases_lt}
+use Rattle.std.proofs.lemmas.List.Elements.{All-cons, All-head, All-tail, All-nil, All-weaker, AllWithin-more, filter_passes}
+use Rattle.std.proofs.lemmas.List.{get_or_default}
+use Rattle.std.proofs.lemmas.List.Kept.{AllPairs-cons}
+use Rattle.std.proofs.lemmas.List.Quantifiers.{position-Some, all_pairs_remove}
+use Rattle.std.proofs.lemmas.List.Sums.{fails_before_first}
+use Rattle.std.specs.List.{All, AllPairs, AllWithin, Contains, filter, insert, remove, list_any, position, position_or_len}
+use Rattle.rt_rib.specs.declared.offers.Offer.{Offer}
+use Rattle.rt_rib.specs.Offers.{outranks, is_from, IsRising, IsOffers, IsPlaceFor, HasGained, HasLost, HasSwapped}
+use Rattle.rt_rib.proofs.Lists.{AllPairs-head, AllPairs-tail, filter-all, list_any-none, list_any-from_none, list_any-at}
+use Rattle.rt_rib.proofs.Order.{below_then-false, below_then-less, below_then-same, below_then-trans}
+use Rattle.rt_rib.proofs.Sets.{Contains-head, Contains-tail, Contains-cases, Contains-none, filter-keeps, filter-from}
+
+module _ {X : Type 0} where
+  -- what a list contains once an element was put in
+  pub Contains-insert : (xs : List X) (i : ℕ) (y x : X) → i ≤ length xs → Contains (insert xs i y) x ↔ (Contains xs x ⊎ (y ≡ x))
+  Contains-insert [] zero y x l = (
+    (λ c. elim (Contains-cases y [] x c) [ inl here ↦ inr here | inr none ↦ absurd (Contains-none x none) ]),
+    (λ c. elim c [ inl none ↦ absurd (Contains-none x none) | inr here ↦ subst (Contains (y ∷ [])) here (Contains-head y []) ]),
+  )
+  Contains-insert [] (suc i) y x l = absurd (omega arith)
+  Contains-insert (z ∷ xs) zero y x l = (
+    (λ c. elim (Contains-cases y (z ∷ xs) x c) [ inl here ↦ inr here | inr later ↦ inl later ]),
+    (λ c. elim c [ inl old ↦ Contains-tail y (z ∷ xs) x old | inr here ↦ subst (Contains (y ∷ z ∷ xs)) here (Contains-head y (z ∷ xs)) ]),
+  )
+  Contains-insert (z ∷ xs) (suc i) y x l =
+      let rest = Contains-insert xs i y x (omega arith) in (
+        (λ c. elim (Contains-cases z (insert xs i y) x c) [
+          | inl here ↦ inl (subst (Contains (z ∷ xs)) here (Contains-head z xs))
+          | inr later ↦ elim (rest.0 later) [ inl old ↦ inl (Contains-tail z xs x old) | inr new ↦ inr new ]
+        ]),
+        (λ c. elim c [
+          | inl old ↦ elim (Contains-cases z xs x old) [
+            | inl here ↦ subst (Contains (z ∷ insert xs i y)) here (Contains-head z (insert xs i y))
+            | inr later ↦ Contains-tail z (insert xs i y) x (rest.1 (inl later))
+          ]
+          | inr new ↦ Contains-tail z (insert xs i y) x (rest.1 (inr new))
+        ]),
+      )
+
+  -- what holds of each element and of one that is put in
+  All-insert : (P : X → Type 0) (xs : List X) (i : ℕ) (y : X) → i ≤ length xs → P y → All P xs → All P (insert xs i y)
+  All-insert P [] zero y l p h = All-cons P y [] p h
+  All-insert P [] (suc i) y l p h = absurd (omega arith)
+  All-insert P (x ∷ xs) zero y l p h = All-cons P y (x ∷ xs) p h
+  All-insert P (x ∷ xs) (suc i) y l p h = All-cons P x (insert xs i y) (All-head P x xs h) (All-insert P xs i y (omega arith) p (All-tail P x xs h))
+
+  -- an element put in between those that go before it and those that go behind it
+  pub AllPairs-insert : (R : X → X → Type 0) (xs : List X) (i : ℕ) (y : X) → i ≤ length xs → AllPairs R xs → AllWithin (λ x. R x y) xs 0 i → AllWithin (R y) xs i (length xs) → AllPairs R (insert xs i y)
+  AllPairs-insert R [] zero y l h before behind = AllPairs-cons R y [] (All-nil (R y)) h
+  AllPairs-insert R [] (suc i) y l h before behind = absurd (omega arith)
+  AllPairs-insert R (x ∷ xs) zero y l h before behind = AllPairs-cons R y (x ∷ xs) (λ k d m. behind k d (omega arith) m) h
+  AllPairs-insert R (x ∷ xs) (suc i) y l h before behind =
+      AllPairs-cons R x (insert xs i y)
+      (All-insert (R x) xs i y (omega arith) (before 0 x (omega arith) (omega arith)) (AllPairs-head R x xs h))
+      (AllPairs-insert R xs i y (omega arith) (AllPairs-tail R x xs h) (λ k d m n. before (suc k) d (omega arith) (omega arith)) (λ k d m n. behind (suc k) d (omega arith) (omega arith)))
+
+  -- no place is found where none passes
+  pub position-none : (p : X → Bool) (xs : List X) → position p xs ≡ None → list_any p xs ≡ false
+  position-none p xs e = elim (cases_lt (position_or_len p xs) (length xs)) [
+    | inl less ↦
+        let found : position p xs ≡ Some (position_or_len p xs) = cond-true (ltb (position_or_len p xs) (length xs)) (Some (position_or_len p xs)) None (lt-ltb (position_or_len p xs) (length xs) less) in
+        cc
+    | inr more ↦ list_any-from_none p xs (λ k d l. fails_before_first p xs k d (omega arith))
+  ]
+
+  -- and where one is found it passes
+  pub position-some : (p : X → Bool) (xs : List X) (i : ℕ) → position p xs ≡ Some i → (i < length xs) × (list_any p xs ≡ true)
+  position-some p [] i e = cc
+  position-some p (x ∷ xs) i e = let at = position-Some p (x ∷ xs) i x e in (at.0, list_any-at p (x ∷ xs) i x at.0 at.1)
+
+-- what outranks one that outranks a third outranks that
+pub outranks-trans : (a b c : Offer) → outranks a b ≡ true → outranks b c ≡ true → outranks a c ≡ true
+outranks-trans a b c =
+    below_then-trans a.pref b.pref c.pref (ltb a.feed b.feed) (ltb b.feed c.feed) (ltb a.feed c.feed)
+    (λ x y. let p = ltb-true a.feed b.feed x in let q = ltb-true b.feed c.feed y in lt-ltb a.feed c.feed (omega arith))
+
+-- of offers of two feeds one outranks the other
+outranks-other : (a b : Offer) → outranks b a ≡ false → is_from a.feed b ≡ false → outranks a b ≡ true
+outranks-other a b e other =
+    elim (below_then-false b.pref a.pref (ltb b.feed a.feed) e) [
+      | inl less ↦ below_then-less a.pref b.pref (ltb a.feed b.feed) less
+      | inr same ↦
+          let p = same.0 in
+          let f = ltb-false b.feed a.feed same.1 in
+          let differ : b.feed ≡ a.feed → ⊥ = λ g. both_ways (is_from a.feed b) other (eq-eqb b.feed a.feed g) in
+          below_then-same a.pref b.pref (ltb a.feed b.feed) (omega arith) (lt-ltb a.feed b.feed (omega arith))
+    ]
+
+-- which of two feeds an offer is from, turned
+is_from-flip : (a b : Offer) → is_from b.feed a ≡ false → is_from a.feed b ≡ false
+is_from-flip a b e = false_from_ne_true (is_from a.feed b) (λ same. both_ways (is_from b.feed a) e (eq-eqb a.feed b.feed (sym (eqb-true b.feed a.feed same))))
+
+-- an offer of a feed that had none, put in where it belongs
+pub IsRising-insert : (offers : List Offer) (place : ℕ) (offer : Offer) → IsRising offers → All (λ o. is_from offer.feed o ≡ false) offers → IsPlaceFor offer offers place → IsRising (insert offers place offer)
+IsRising-insert offers place offer h fresh at = record {
+  ordered =
+      AllPairs-insert (λ a b. outranks a b ≡ true) offers place offer at.within h.ordered at.before
+      (λ k d l m. outranks-other offer (get_or offers k d) (at.behind k d l m) (fresh k d m));
+  single =
+      let within = at.within in
+      AllPairs-insert (λ a b. is_from b.feed a ≡ false) offers place offer at.within h.single
+      (λ k d l m. fresh k d (omega arith)) (λ k d l m. is_from-flip (get_or offers k d) offer (fresh k d m));
+}
+
+-- what rises does so without one
+pub IsRising-remove : (offers : List Offer) (place : ℕ) → IsRising offers → place < length offers → IsRising (remove offers place)
+IsRising-remove offers place h within = record {
+  ordered = all_pairs_remove (λ a b. outranks a b ≡ true) offers place within h.ordered;
+  single = all_pairs_remove (λ a b. is_from b.feed a ≡ false) offers place within h.single;
+}
+
+-- one offer rises
+pub IsRising-one : (offer : Offer) → IsRising (offer ∷ [])
+IsRising-one offer = record { ordered = λ i j d l m. absurd (omega arith); single = λ i j d l m. absurd (omega arith) }
+
+-- one offer more outranks it
+pub outranks-more : (offers : List Offer) (offer d : Offer) (place : ℕ) → place < length offers → AllWithin (λ o. outranks o offer ≡ true) offers 0 place → outranks (get_or offers place d) offer ≡ true → AllWithin (λ o. outranks o offer ≡ true) offers 0 (place + 1)
+outranks-more offers offer d place within before here =
+    AllWithin-more (λ o. outranks o offer ≡ true) offers 0 place before
+    (λ e. subst (λ z. outranks z offer ≡ true) (get_or_default offers place d e within) here)
+
+-- where an offer stands that does not outrank it, none behind that does
+pub outranks-behind : (offers : List Offer) (offer d : Offer) (place : ℕ) → IsRising offers → place < length offers → outranks (get_or offers place d) offer ≡ false → AllWithin (λ o. outranks o offer ≡ false) offers place (length offers)
+outranks-behind offers offer d place h within fails = λ k e l m.
+    let there = subst (λ z. outranks z offer ≡ false) (get_or_default offers place d e within) fails in
+    false_from_ne_true (outranks (get_or offers k e) offer) (λ holds.
+    elim (cases_lt place k) [
+      | inl less ↦
+          both_ways (outranks (get_or offers place e) offer) there
+          (outranks-trans (get_or offers place e) (get_or offers k e) offer (h.ordered place k e less m) holds)
+      | inr more ↦
+          let at : k ≡ place = omega arith in
+          both_ways (outranks (get_or offers place e) offer) there (subst (λ i. outranks (get_or offers i e) offer ≡ true) at holds)
+    ])
+
+-- the offers but for a feed's are those without the one at its place
+pub without-is : (feed : ℕ) (offers : List Offer) (place : ℕ) (d : Offer) → AllPairs (λ a b. is_from b.feed a ≡ false) offers → place < length offers → is_from feed (get_or offers place d) ≡ true → filter (λ o. not (is_from feed o)) offers ≡ remove offers place
+without-is feed [] place d single within is = absurd (omega arith)
+without-is feed (x ∷ offers) zero d single within is =
+    let mine = eqb-true x.feed feed is in
+    let others : All (λ o. not (is_from feed o) ≡ true) offers =
+    All-weaker (λ o. is_from o.feed x ≡ false) (λ o. not (is_from feed o) ≡ true)
+    (λ o apart. not_from_false (is_from feed o) (false_from_ne_true (is_from feed o) (λ same.
+    let also = eqb-true o.feed feed same in
+    both_ways (is_from o.feed x) apart (eq-eqb x.feed o.feed (mine ∙ sym also)))))
+    offers (AllPairs-head (λ a b. is_from b.feed a ≡ false) x offers single) in
+    cond-false (not (is_from feed x)) (x ∷ filter (λ o. not (is_from feed o)) offers) (filter (λ o. not (is_from feed o)) offers) (not_from_true (is_from feed x) is) ∙ filter-all (λ o. not (is_from feed o)) offers others
+without-is feed (x ∷ offers) (suc i) d single within is =
+    let mine = eqb-true (get_or offers i d).feed feed is in
+    let apart : is_from (get_or offers i d).feed x ≡ false = AllPairs-head (λ a b. is_from b.feed a ≡ false) x offers single i d (omega arith) in
+    let other : is_from feed x ≡ false =
+    false_from_ne_true (is_from feed x) (λ same.
+    both_ways (is_from (get_or offers i d).feed x) apart (eq-eqb x.feed (get_or offers i d).feed (eqb-true x.feed feed same ∙ sym mine))) in
+    cond-true (not (is_from feed x)) (x ∷ filter (λ o. not (is_from feed o)) offers) (filter (λ o. not (is_from feed o)) offers) (not_from_false (is_from feed x) other)
+    ∙ ap (λ z. x ∷ z) (without-is feed offers i d (AllPairs-tail (λ a b. is_from b.feed a ≡ false) x offers single) (omega arith) is)
+
+module _ (feed : ℕ) (offers : List Offer) (h : IsRising offers) (place : ℕ) (found : position (is_from feed) offers ≡ Some place) where
+  -- the offer at the place of the feed's is taken out: that is what is lost
+  pub lost : HasLost offers (remove offers place) feed
+  lost o =
+      let at = position-Some (is_from feed) offers place o found in
+      let other = λ (x : Offer). not (is_from feed x) in
+      let same : filter other offers ≡ remove offers place = without-is feed offers place o h.single at.0 at.1 in (
+        (λ c. let both = filter-from other offers o (subst (λ l. Contains l o) (sym same) c) in (both.0, not-true (is_from feed o) both.1)),
+        (λ c. subst (λ l. Contains l o) same (filter-keeps other offers o c.0 (not_from_false (is_from feed o) c.1))),
+      )
+
+  -- so none of the feed is left
+  pub none_left : All (λ o. is_from feed o ≡ false) (remove offers place)
+  none_left k d l =
+      let at = position-Some (is_from feed) offers place d found in
+      let other = λ (x : Offer). not (is_from feed x) in
+      let same : filter other offers ≡ remove offers place = without-is feed offers place d h.single at.0 at.1 in
+      subst (All (λ o. is_from feed o ≡ false)) same
+      (All-weaker (λ o. other o ≡ true) (λ o. is_from feed o ≡ false) (λ o. not-true (is_from feed o)) (filter other offers) (filter_passes other offers)) k d l
+
+-- a feed's offer put in the place of its other one
+pub swapped : (old rest new : List Offer) (offer : Offer) → HasLost old rest offer.feed → HasGained rest new offer → HasSwapped old new offer true
+swapped old rest new offer less more o = (
+  (λ c. elim ((more o).0 c) [ inl there ↦ inl ((less o).0 there) | inr here ↦ inr here ]),
+  (λ c. (more o).1 (elim c [ inl there ↦ inl ((less o).1 there) | inr here ↦ inr here ])),
+)
+
+-- the only offer of a list is the one that stands at its front
+pub only_one : (offers : List Offer) (offer : Offer) → length offers ≡ 1 → offer ≡ get_or offers 0 offer → offers ≡ offer ∷ []
+only_one [] offer long read = absurd (omega arith)
+only_one (x ∷ []) offer long read = ap (λ z. z ∷ []) (sym read)
+only_one (x ∷ y ∷ offers) offer long read = absurd (omega arith)
+
+-- what holds of a single offer
+pub alone : (feed : ℕ) (offer : Offer) → is_from feed offer ≡ false → All (λ o. is_from feed o ≡ false) (offer ∷ [])
+alone feed offer e = All-cons (λ o. is_from feed o ≡ false) offer [] e (All-nil (λ o. is_from feed o ≡ false))

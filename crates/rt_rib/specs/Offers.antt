@@ -1,0 +1,51 @@
+-- The offers of one prefix, as a list in order, and how they change.
+use Rattle.std.specs.Prelude.{◌≡◌, ℕ, ◌<◌, ◌≤◌, ◌≢◌, Bool, true, false, ◌==◌, nat_lt, List, [], ◌∷◌, length, ◌⊎◌, ◌↔◌}
+use Rattle.std.specs.List.{AllPairs, AllWithin, Contains, list_any}
+use Rattle.rt_rib.specs.declared.offers.Offer.{Offer}
+use Rattle.rt_rib.specs.declared.offers.Taken.{Taken}
+use Rattle.rt_rib.specs.declared.offers.Taken.TheVariants.{Missing, Last, Gone}
+use Rattle.rt_rib.specs.Table.{below_then}
+
+-- whether a is of lesser preference, and where that is equal of lesser feed
+abbrev pub outranks : Offer → Offer → Bool
+outranks a b = below_then a.pref b.pref (nat_lt a.feed b.feed)
+
+-- whether the offer is this feed's
+abbrev pub is_from : ℕ → Offer → Bool
+is_from feed o = o.feed == feed
+
+-- each offer outranks those behind it, and no two are of one feed
+pub record IsRising (offers : List Offer) : Type 0 where
+  pub ordered : AllPairs (λ a b. outranks a b ≡ true) offers
+  pub single : AllPairs (λ a b. is_from b.feed a ≡ false) offers
+
+-- there is an offer, and they rise
+pub record IsOffers (offers : List Offer) : Type 0 where
+  pub some : 0 < length offers
+  pub rising : IsRising offers
+
+-- the offers before the place outrank this one, and no others do
+pub record IsPlaceFor (offer : Offer) (offers : List Offer) (place : ℕ) : Type 0 where
+  pub within : place ≤ length offers
+  pub before : AllWithin (λ o. outranks o offer ≡ true) offers 0 place
+  pub behind : AllWithin (λ o. outranks o offer ≡ false) offers place (length offers)
+
+-- the new offers are the old ones and this one
+abbrev pub HasGained : List Offer → List Offer → Offer → Type 0
+HasGained old new offer = (o : Offer) → Contains new o ↔ (Contains old o ⊎ (offer ≡ o))
+
+-- the new offers are the old ones but for the feed's
+abbrev pub HasLost : List Offer → List Offer → ℕ → Type 0
+HasLost old new feed = (o : Offer) → Contains new o ↔ (Contains old o × (is_from feed o ≡ false))
+
+-- where its feed had one, the offer stands for it, and else the offers are the same
+abbrev pub HasSwapped : List Offer → List Offer → Offer → Bool → Type 0
+HasSwapped old new offer false = new ≡ old
+HasSwapped old new offer true =
+    (o : Offer) → Contains new o ↔ ((Contains old o × (is_from offer.feed o ≡ false)) ⊎ (offer ≡ o))
+
+-- the feed had none; it has the only one, which is left; or its offer is gone
+abbrev pub TakesOut : List Offer → List Offer → ℕ → Taken → Type 0
+TakesOut old new feed Missing = (new ≡ old) × (list_any (is_from feed) old ≡ false)
+TakesOut old new feed Last = (new ≡ old) × ((o : Offer) × (old ≡ o ∷ []) × (is_from feed o ≡ true))
+TakesOut old new feed Gone = HasLost old new feed × (list_any (is_from feed) old ≡ true)

@@ -1,0 +1,262 @@
+//! What the feeds offer for one prefix, the best offer first. One offer is the common case and takes no memory of its own.
+ghost use Rattle.std.specs.Prelude.{◌≡◌, ◌<◌, ◌+◌, false, [], ◌∷◌, length, IsTrue, IsOk, IfOk, OnOk, OnErr, position, vec_len, vec_capacity};
+ghost use Rattle.std.specs.List.{All, list_any};
+ghost use Rattle.rt_rib.specs.Offers.{outranks, is_from, IsRising, IsOffers, IsPlaceFor, HasGained, HasLost, HasSwapped, TakesOut};
+
+use crate::refused::Refused;
+use crate::routes::Hop;
+use std::alloc::Allocator;
+use std::marker::Model;
+
+/// What a feed offers for a prefix: its route, but for the prefix.
+#[derive(Clone, Copy, PartialEq, Eq, Debug)]
+pub(crate) struct Offer {
+    pub feed: u32,
+    pub pref: u32,
+    pub hop: Hop,
+}
+
+/// One offer, or a list of at least two.
+#[derive(Drop)]
+enum Few<A: Allocator> {
+    One(Offer),
+    Many(Box<Vec<Offer, A>, A>),
+}
+
+/// The offers of one prefix: at least one, by preference and then by feed, and none twice of one feed.
+#[derive(Drop)]
+pub(crate) struct Offers<A: Allocator + Copy> {
+    few: Few<A>,
+}
+
+impl<A: Allocator + Copy> Model for Offers<A> {
+    ghost use Rattle.std.specs.Prelude.{List};
+    ghost use Rattle.rt_rib.specs.declared.offers.Offer.{Offer};
+
+    ghost Value = { List Offer };
+
+    ghost use Rattle.rt_rib.specs.Few.{items, IsFew};
+
+    ghost view = { λ o. items o.few };
+
+    ghost invariant = { λ o. IsFew o.few };
+}
+
+/// What became of a feed's offer that was to be taken out.
+#[derive(Clone, Copy)]
+pub(crate) enum Taken {
+    /// The feed has none.
+    Missing,
+    /// It is the only one, and was left.
+    Last,
+    /// It is gone.
+    Gone,
+}
+
+impl<A: Allocator + Copy> Offers<A> {
+    /// A single offer. It takes no memory.
+    pub(crate) fn one(offer: Offer) -> Offers<A>
+        ensures { result ≡ offer ∷ [] }
+    {
+        Offers {
+            few: Few::One(offer),
+        }
+    }
+
+    /// The offers, the best one first.
+    pub(crate) fn as_slice(&self) -> &[Offer]
+        ensures offers { result.now ≡ self.now }
+        ensures lawful { IsOffers result.now }
+    {
+        match &self.few {
+            Few::One(offer) => std::slice::from_ref(offer),
+            Few::Many(offers) => offers.as_slice(),
+        }
+    }
+
+    /// Puts in the offer of a feed that has none. Where memory is refused the offers are as they were.
+    pub(crate) fn put(&mut self, alloc: A, offer: Offer) -> Result<(), Refused>
+        requires { All (λ o. is_from offer.feed o ≡ false) self.old }
+        ensures ok { OnOk result (HasGained self.old self.new offer) }
+        ensures refused { OnErr result (self.new ≡ self.old) }
+        ensures lawful { IsOffers self.new }
+    {
+        self.few.put(alloc, offer)
+    }
+
+    /// Puts the offer in the place of the feed's other one, if it has one, and answers whether it has. It takes no memory.
+    pub(crate) fn replace(&mut self, offer: Offer) -> bool
+        ensures had { result ≡ list_any (is_from offer.feed) self.old }
+        ensures swapped { HasSwapped self.old self.new offer result }
+        ensures lawful { IsOffers self.new }
+    {
+        self.few.replace(offer)
+    }
+
+    /// Takes the feed's offer out, unless it is the only one. It takes no memory.
+    pub(crate) fn take_out(&mut self, feed: u32) -> Taken
+        ensures taken { TakesOut self.old self.new feed result }
+        ensures lawful { IsOffers self.new }
+    {
+        self.few.take_out(feed)
+    }
+}
+
+impl<A: Allocator + Copy> Few<A> {
+    ghost use Rattle.rt_rib.specs.Few.{items, IsFew};
+
+    /// Puts in the offer of a feed that has none.
+    fn put(&mut self, alloc: A, offer: Offer) -> Result<(), Refused>
+        requires few { IsFew self.old }
+        requires fresh { All (λ o. is_from offer.feed o ≡ false) (items self.old) }
+        ensures ok { OnOk result (HasGained (items self.old) (items self.new) offer) }
+        ensures refused { OnErr result (items self.new ≡ items self.old) }
+        ensures few { IsFew self.new }
+    {
+        match self {
+            Few::One(first) => {
+                let both = two(alloc, *first, offer)?;
+                *self = Few::Many(both);
+                Ok(())
+            }
+            Few::Many(offers) => put_among(offers, offer),
+        }
+    }
+
+    /// Puts the offer in the place of the feed's other one, if it has one, and answers whether it has.
+    fn replace(&mut self, offer: Offer) -> bool
+        requires { IsFew self.old }
+        ensures had { result ≡ list_any (is_from offer.feed) (items self.old) }
+        ensures swapped { HasSwapped (items self.old) (items self.new) offer result }
+        ensures few { IsFew self.new }
+    {
+        match self {
+            Few::One(old) => {
+                if old.feed != offer.feed {
+                    return false;
+                }
+                *old = offer;
+                true
+            }
+            Few::Many(offers) => replace_among(offers, offer),
+        }
+    }
+
+    /// Takes the feed's offer out, unless it is the only one.
+    fn take_out(&mut self, feed: u32) -> Taken
+        requires { IsFew self.old }
+        ensures taken { TakesOut (items self.old) (items self.new) feed result }
+        ensures few { IsFew self.new }
+    {
+        match self {
+            Few::One(offer) => {
+                if offer.feed == feed {
+                    return Taken::Last;
+                }
+                Taken::Missing
+            }
+            Few::Many(offers) => {
+                if !take_among(offers, feed) {
+                    return Taken::Missing;
+                }
+                if offers.len() == 1 {
+                    let offer = offers[0];
+                    *self = Few::One(offer);
+                }
+                Taken::Gone
+            }
+        }
+    }
+}
+
+/// Whether `a` stands before `b`: it is of lesser preference, or of equal preference and lesser feed.
+fn comes_before(a: &Offer, b: &Offer) -> bool
+    ensures { result ≡ outranks a.now b.now }
+{
+    a.pref < b.pref || a.pref == b.pref && a.feed < b.feed
+}
+
+/// Where the feed's offer stands, if it has one.
+pub(crate) fn place_of(offers: &[Offer], feed: u32) -> Option<usize>
+    ensures { result ≡ position (is_from feed) offers.now }
+{
+    offers.iter().position(|offer| offer.feed == feed)
+}
+
+/// Where the offer belongs.
+fn place_for(offers: &[Offer], offer: &Offer) -> usize
+    requires { IsRising offers.now }
+    ensures { IsPlaceFor offer.now offers.now result }
+{
+    let mut place = 0;
+    while place < offers.len() && comes_before(&offers[place], offer) {
+        place += 1;
+    }
+    place
+}
+
+/// Puts in the offer of a feed that has none, at its place.
+fn put_among<A: Allocator + Copy>(offers: &mut Vec<Offer, A>, offer: Offer) -> Result<(), Refused>
+    requires rising { IsRising offers.old.items }
+    requires fresh { All (λ o. is_from offer.feed o ≡ false) offers.old.items }
+    ensures ok { OnOk result (HasGained offers.old.items offers.new.items offer) }
+    ensures rising { IsRising offers.new.items }
+    ensures more { OnOk result (vec_len offers.new ≡ vec_len offers.old + 1) }
+    ensures refused { OnErr result (offers.new.items ≡ offers.old.items) }
+    ensures room { vec_len offers.old < vec_capacity offers.old → IsOk result }
+{
+    let place = place_for(offers, &offer);
+    offers.insert(place, offer)?;
+    Ok(())
+}
+
+/// Puts the offer in the place of the feed's other one, if it has one, and answers whether it has.
+fn replace_among<A: Allocator + Copy>(offers: &mut Vec<Offer, A>, offer: Offer) -> bool
+    requires { IsRising offers.old.items }
+    ensures had { result ≡ list_any (is_from offer.feed) offers.old.items }
+    ensures swapped { HasSwapped offers.old.items offers.new.items offer result }
+    ensures rising { IsRising offers.new.items }
+    ensures many { vec_len offers.new ≡ vec_len offers.old }
+{
+    let Some(place) = place_of(offers, offer.feed) else {
+        return false;
+    };
+    offers.remove(place);
+    match put_among(offers, offer) {
+        Ok(()) => true,
+        Err(_) => unreachable!(),
+    }
+}
+
+/// Takes the feed's offer out, if it has one, and answers whether it has.
+fn take_among<A: Allocator + Copy>(offers: &mut Vec<Offer, A>, feed: u32) -> bool
+    requires { IsRising offers.old.items }
+    ensures had { result ≡ list_any (is_from feed) offers.old.items }
+    ensures kept { result ≡ false → offers.new.items ≡ offers.old.items }
+    ensures lost { IsTrue result → HasLost offers.old.items offers.new.items feed }
+    ensures fewer { IsTrue result → vec_len offers.new + 1 ≡ vec_len offers.old }
+    ensures rising { IsRising offers.new.items }
+{
+    let Some(place) = place_of(offers, feed) else {
+        return false;
+    };
+    offers.remove(place);
+    true
+}
+
+/// A list of two offers of different feeds.
+fn two<A: Allocator + Copy>(
+    alloc: A,
+    one: Offer,
+    other: Offer,
+) -> Result<Box<Vec<Offer, A>, A>, Refused>
+    requires { is_from other.feed one ≡ false }
+    ensures gained { IfOk result (λ offers. HasGained (one ∷ []) offers.value.items other) }
+    ensures rising { IfOk result (λ offers. IsRising offers.value.items) }
+    ensures both { IfOk result (λ offers. length offers.value.items ≡ 2) }
+{
+    let mut offers = Vec::with_capacity(alloc, 2)?;
+    offers.push(one)?;
+    put_among(&mut offers, other)?;
+    Ok(Box::new(alloc, offers)?)
+}
