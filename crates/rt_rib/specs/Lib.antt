@@ -5,6 +5,7 @@ pub mod Journal
 pub mod Book
 pub mod Kept
 pub mod Search
+pub mod Maps
 pub mod Laws
 pub mod Offers
 pub mod Few

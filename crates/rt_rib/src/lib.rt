@@ -5,6 +5,7 @@ mod book;
 mod commands;
 pub mod laws;
 mod limits;
+mod map;
 mod offers;
 mod refused;
 mod routes;

@@ -1,0 +1,64 @@
+-- A map from prefixes to their offers, and the routes that it stands for.
+use Rattle.std.specs.Prelude.{◌≡◌, ℕ, Bool, false, IsTrue, List, [], ◌∷◌, ◌++◌, Option, Some, None, map}
+use Rattle.std.specs.List.{Contains}
+use Rattle.rt_cidr.specs.declared.prefixes.Prefix.{Prefix}
+use Rattle.rt_cidr.specs.Laws.{SamePrefix}
+use Rattle.rt_trie.specs.Map.{Pairs, get, before, IsOrdered}
+use Rattle.rt_trie.specs.Laws.{PutIsSeen, EraseIsSeen, PutKeepsOrder, EraseKeepsOrder, PairsAreFound, MapHasOneList}
+use Rattle.rt_rib.specs.declared.routes.Route.{Route}
+use Rattle.rt_rib.specs.declared.offers.Offer.{Offer}
+use Rattle.rt_rib.specs.Offers.{IsOffers}
+
+-- prefixes with their offers
+abbrev pub Map : Type 0
+Map = Pairs (List Offer)
+
+-- the route that an offer makes of a prefix, and what a route offers for its prefix
+abbrev pub route_by : Prefix → Offer → Route
+route_by p o = record { prefix = p; feed = o.feed; pref = o.pref; hop = o.hop }
+
+abbrev pub offer_of : Route → Offer
+offer_of r = record { feed = r.feed; pref = r.pref; hop = r.hop }
+
+-- the routes of the map, prefix by prefix
+abbrev pub routes_of : Map → List Route
+routes_of [] = []
+routes_of ((p, offers) ∷ rest) = map (route_by p) offers ++ routes_of rest
+
+-- the offers at a prefix, none where nothing stands there
+abbrev pub offers_in : Option (List Offer) → List Offer
+offers_in None = []
+offers_in (Some offers) = offers
+
+abbrev pub offers_at : Map → Prefix → List Offer
+offers_at m p = offers_in (get m p)
+
+-- the map has, at the route's prefix, an offer of its feed with its preference and next hop
+abbrev pub IsThere : Map → Route → Type 0
+IsThere m r = Contains (offers_at m r.prefix) (offer_of r)
+
+-- each prefix stands in the map once, with at least one offer, and its offers in order
+pub record IsMap (m : Map) : Type 0 where
+  pub ordered : IsOrdered m
+  pub each : (p : Prefix) (offers : List Offer) → get m p ≡ Some offers → IsOffers offers
+
+-- no route is of a prefix before this one, or there is no route
+abbrev pub IsFirst : List Route → Option Prefix → Type 0
+IsFirst routes None = (r : Route) → ¬ Contains routes r
+IsFirst routes (Some q) = (r : Route) → Contains routes r → before r.prefix q ≡ false
+
+-- q comes after p, and no route is of a prefix between, or none is of one after p
+abbrev pub IsNext : List Route → Prefix → Option Prefix → Type 0
+IsNext routes p None = (r : Route) → Contains routes r → before p r.prefix ≡ false
+IsNext routes p (Some q) =
+    IsTrue (before p q) × ((r : Route) → Contains routes r → IsTrue (before p r.prefix) → before r.prefix q ≡ false)
+
+-- what the laws of the map and of prefixes say, of offers
+pub record MapLaws : Type 0 where
+  pub put : PutIsSeen (List Offer)
+  pub erase : EraseIsSeen (List Offer)
+  pub put_in_order : PutKeepsOrder (List Offer)
+  pub erase_in_order : EraseKeepsOrder (List Offer)
+  pub found : PairsAreFound (List Offer)
+  pub one : MapHasOneList (List Offer)
+  pub same : SamePrefix

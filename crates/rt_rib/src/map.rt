@@ -1,0 +1,135 @@
+//! The map from prefixes to their offers: the routes that it stands for, and how they change.
+ghost use Rattle.std.specs.Prelude.{◌≡◌, false, IsTrue, OnOk, OnErr};
+ghost use Rattle.rt_rib.specs.Table.{has, put_in, take_out};
+ghost use Rattle.rt_rib.specs.LookUp.{look_up};
+ghost use Rattle.rt_rib.specs.Maps.{routes_of, offers_at, route_by, IsMap, IsFirst, IsNext, MapLaws};
+
+use crate::offers::{Offer, Offers, Taken, place_of};
+use crate::refused::Refused;
+use crate::routes::Route;
+use rt_cidr::laws::same_prefix;
+use rt_cidr::{Addr, Prefix};
+use rt_trie::Trie;
+use rt_trie::laws::{changes, one_list};
+use std::alloc::Allocator;
+
+/// A map from prefixes to what is offered for them.
+pub(crate) type Map<A> = Trie<Offers<A>, A>;
+
+/// What the laws of the map and of prefixes say, of offers. It does nothing.
+fn map_laws<A: Allocator + Copy>()
+    ensures { MapLaws }
+{
+    changes::<Offers<A>>();
+    one_list::<Offers<A>>();
+    same_prefix();
+}
+
+/// The route that an offer makes of a prefix.
+pub(crate) fn route_by(prefix: Prefix, offer: &Offer) -> Route
+    ensures { result ≡ route_by prefix offer.now }
+{
+    Route {
+        prefix,
+        feed: offer.feed,
+        pref: offer.pref,
+        hop: offer.hop,
+    }
+}
+
+/// Whether the feed has a route to the prefix.
+pub(crate) fn has<A: Allocator + Copy>(map: &Map<A>, feed: u32, prefix: Prefix) -> bool
+    requires { IsMap map.now.pairs }
+    ensures { result ≡ has feed prefix (routes_of map.now.pairs) }
+{
+    map_laws::<A>();
+    match map.get(prefix) {
+        None => false,
+        Some(offers) => place_of(offers.as_slice(), feed).is_some(),
+    }
+}
+
+/// The best route of the longest prefix that covers the address.
+pub(crate) fn best_of<A: Allocator + Copy>(map: &Map<A>, addr: Addr) -> Option<Route>
+    requires { IsMap map.now.pairs }
+    ensures { result ≡ look_up addr (routes_of map.now.pairs) }
+{
+    map_laws::<A>();
+    match map.longest(addr) {
+        None => None,
+        Some((prefix, offers)) => Some(route_by(prefix, &offers.as_slice()[0])),
+    }
+}
+
+/// Puts in the route of a feed that has none to its prefix. Where memory is refused the map is as it was.
+pub(crate) fn put_in<A: Allocator + Copy>(
+    map: &mut Map<A>,
+    alloc: A,
+    route: Route,
+) -> Result<(), Refused>
+    requires map { IsMap map.old.pairs }
+    requires fresh { has route.feed route.prefix (routes_of map.old.pairs) ≡ false }
+    ensures ok { OnOk result (routes_of map.new.pairs ≡ put_in route (routes_of map.old.pairs)) }
+    ensures refused { OnErr result (map.new.pairs ≡ map.old.pairs) }
+    ensures map { IsMap map.new.pairs }
+{
+    map_laws::<A>();
+    let offer = Offer {
+        feed: route.feed,
+        pref: route.pref,
+        hop: route.hop,
+    };
+    if let Some(offers) = map.get_mut(route.prefix) {
+        return offers.put(alloc, offer);
+    }
+    match map.insert(route.prefix, Offers::one(offer)) {
+        Ok(_) => Ok(()),
+        Err(_) => Err(Refused),
+    }
+}
+
+/// Puts the route in the place of the feed's other one to its prefix, if there is one, and answers whether there is. It
+/// takes no memory.
+pub(crate) fn replace<A: Allocator + Copy>(map: &mut Map<A>, route: Route) -> bool
+    requires { IsMap map.old.pairs }
+    ensures had { result ≡ has route.feed route.prefix (routes_of map.old.pairs) }
+    ensures replaced { IsTrue result → routes_of map.new.pairs
+        ≡ put_in route (take_out route.feed route.prefix (routes_of map.old.pairs)) }
+    ensures kept { result ≡ false → map.new.pairs ≡ map.old.pairs }
+    ensures map { IsMap map.new.pairs }
+{
+    map_laws::<A>();
+    let offer = Offer {
+        feed: route.feed,
+        pref: route.pref,
+        hop: route.hop,
+    };
+    match map.get_mut(route.prefix) {
+        None => false,
+        Some(offers) => offers.replace(offer),
+    }
+}
+
+/// Takes the feed's route to the prefix out, if there is one, and answers whether there is. A prefix whose last offer goes is
+/// removed. It takes no memory.
+pub(crate) fn take_out<A: Allocator + Copy>(map: &mut Map<A>, feed: u32, prefix: Prefix) -> bool
+    requires { IsMap map.old.pairs }
+    ensures had { result ≡ has feed prefix (routes_of map.old.pairs) }
+    ensures gone { IsTrue result → routes_of map.new.pairs ≡ take_out feed prefix (routes_of map.old.pairs) }
+    ensures kept { result ≡ false → map.new.pairs ≡ map.old.pairs }
+    ensures map { IsMap map.new.pairs }
+{
+    map_laws::<A>();
+    let taken = match map.get_mut(prefix) {
+        None => return false,
+        Some(offers) => offers.take_out(feed),
+    };
+    match taken {
+        Taken::Missing => false,
+        Taken::Gone => true,
+        Taken::Last => {
+            map.remove(prefix);
+            true
+        }
+    }
+}
