@@ -4,6 +4,7 @@ use Rattle.std.proofs.Math.Nat.{mul-div_cancel, mod-add-div'}
 use Rattle.std.proofs.Math.Pow.{pow_pos}
 use Rattle.std.proofs.lemmas.Bool.{eqb-true, eq-eqb, and_parts, and_from}
 use Rattle.rt_cidr.specs.declared.address.Addr.{Addr}
+use Rattle.rt_cidr.specs.declared.prefixes.Prefix.{Prefix}
 use Rattle.rt_cidr.specs.Cidr.{size_of}
 use Rattle.rt_cidr.specs.Prefix.{covers}
 use Rattle.rt_rib.specs.declared.routes.Route.{Route}
@@ -34,3 +35,9 @@ at-covers r addr len at =
     let size : 0 < size_of len = pow_pos (32 - len) in
     let quotients : addr.0 / size_of len ≡ r.prefix.base / size_of len = sym (ap (λ b. b / size_of len) base ∙ mul-div_cancel (addr.0 / size_of len) size) in
     (eq-eqb (addr.0 / size_of r.prefix.len) (r.prefix.base / size_of r.prefix.len) (subst (λ n. addr.0 / size_of n ≡ r.prefix.base / size_of n) (sym same) quotients), same)
+
+-- a prefix that covers the address has that base
+pub covers-base : (p : Prefix) (addr : Addr) → covers p addr ≡ true → p.base ≡ base_at addr p.len
+covers-base p addr covered =
+    let quotients : addr.0 / size_of p.len ≡ p.base / size_of p.len = eqb-true (addr.0 / size_of p.len) (p.base / size_of p.len) covered in
+    quotient addr.0 p.base (size_of p.len) quotients p.is_prefix.clear

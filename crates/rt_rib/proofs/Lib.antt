@@ -17,3 +17,6 @@ pub mod Determined
 pub mod Feeds
 pub mod Best
 pub mod OfferLists
+pub mod MapRoutes
+pub mod MapChanges
+pub mod MapLookUps

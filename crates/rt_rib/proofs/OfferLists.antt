@@ -7,6 +7,7 @@ use Rattle.std.proofs.lemmas.List.Kept.{AllPairs-cons}
 use Rattle.std.proofs.lemmas.List.Quantifiers.{position-Some, all_pairs_remove}
 use Rattle.std.proofs.lemmas.List.Sums.{fails_before_first}
 use Rattle.std.specs.List.{All, AllPairs, AllWithin, Contains, filter, insert, remove, list_any, position, position_or_len}
+use Rattle.std.specs.Prelude.{is_some, Option}
 use Rattle.rt_rib.specs.declared.offers.Offer.{Offer}
 use Rattle.rt_rib.specs.Offers.{outranks, is_from, IsRising, IsOffers, IsPlaceFor, HasGained, HasLost, HasSwapped}
 use Rattle.rt_rib.proofs.Lists.{AllPairs-head, AllPairs-tail, filter-all, list_any-none, list_any-from_none, list_any-at}
@@ -70,6 +71,14 @@ module _ {X : Type 0} where
   pub position-some : (p : X → Bool) (xs : List X) (i : ℕ) → position p xs ≡ Some i → (i < length xs) × (list_any p xs ≡ true)
   position-some p [] i e = cc
   position-some p (x ∷ xs) i e = let at = position-Some p (x ∷ xs) i x e in (at.0, list_any-at p (x ∷ xs) i x at.0 at.1)
+
+  -- so whether one is found is whether one passes
+  pub position-is_some : (p : X → Bool) (xs : List X) → is_some (position p xs) ≡ list_any p xs
+  position-is_some p xs = by_place (position p xs) refl where
+    -- by the place
+    by_place : (o : Option ℕ) → position p xs ≡ o → is_some o ≡ list_any p xs
+    by_place None e = sym (position-none p xs e)
+    by_place (Some i) e = sym (position-some p xs i e).1
 
 -- what outranks one that outranks a third outranks that
 pub outranks-trans : (a b c : Offer) → outranks a b ≡ true → outranks b c ≡ true → outranks a c ≡ true

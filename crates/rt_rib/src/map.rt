@@ -1,5 +1,5 @@
 //! The map from prefixes to their offers: the routes that it stands for, and how they change.
-ghost use Rattle.std.specs.Prelude.{◌≡◌, false, IsTrue, OnOk, OnErr};
+ghost use Rattle.std.specs.Prelude.{◌≡◌, ◌++◌, false, IsTrue, IfOk, OnOk, OnErr, map};
 ghost use Rattle.rt_rib.specs.Table.{has, put_in, take_out};
 ghost use Rattle.rt_rib.specs.LookUp.{look_up};
 ghost use Rattle.rt_rib.specs.Maps.{routes_of, offers_at, route_by, IsMap, IsFirst, IsNext, MapLaws};
@@ -10,7 +10,7 @@ use crate::routes::Route;
 use rt_cidr::laws::same_prefix;
 use rt_cidr::{Addr, Prefix};
 use rt_trie::Trie;
-use rt_trie::laws::{changes, one_list};
+use rt_trie::laws::{changes, least, one_list};
 use std::alloc::Allocator;
 
 /// A map from prefixes to what is offered for them.
@@ -132,4 +132,53 @@ pub(crate) fn take_out<A: Allocator + Copy>(map: &mut Map<A>, feed: u32, prefix:
             true
         }
     }
+}
+
+/// The least prefix that a route has, by base and then by length.
+pub(crate) fn first<A: Allocator + Copy>(map: &Map<A>) -> Option<Prefix>
+    requires { IsMap map.now.pairs }
+    ensures { IsFirst (routes_of map.now.pairs) result }
+{
+    map_laws::<A>();
+    least::<Offers<A>>();
+    map.first()
+}
+
+/// The least prefix after this one that a route has.
+pub(crate) fn after<A: Allocator + Copy>(map: &Map<A>, prefix: Prefix) -> Option<Prefix>
+    requires { IsMap map.now.pairs }
+    ensures { IsNext (routes_of map.now.pairs) prefix result }
+{
+    map_laws::<A>();
+    least::<Offers<A>>();
+    map.after(prefix)
+}
+
+/// Appends the routes that the offers make of a prefix.
+fn append<A: Allocator + Copy>(
+    routes: &mut Vec<Route, A>,
+    prefix: Prefix,
+    offers: &[Offer],
+) -> Result<(), Refused>
+    ensures { OnOk result (routes.new.items ≡ routes.old.items ++ map (route_by prefix) offers.now) }
+{
+    for offer in offers {
+        routes.push(route_by(prefix, offer))?;
+    }
+    Ok(())
+}
+
+/// The routes by base, then length, then preference, then feed, of which there are so many.
+pub(crate) fn routes<A: Allocator + Copy>(
+    map: &Map<A>,
+    alloc: A,
+    count: usize,
+) -> Result<Vec<Route, A>, Refused>
+    ensures { IfOk result (λ routes. routes.items ≡ routes_of map.now.pairs) }
+{
+    let mut routes = Vec::with_capacity(alloc, count)?;
+    for (prefix, offers) in map.walk() {
+        append(&mut routes, prefix, offers.as_slice())?;
+    }
+    Ok(routes)
 }

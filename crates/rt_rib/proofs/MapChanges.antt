@@ -1,0 +1,295 @@
+-- What an offer put in, replaced or taken out at a prefix makes of the routes of a map.
+use Rattle.std.proofs.Common.{◌≡◌, ℕ, Bool, true, false, cond, eqb, ◌⊎◌, ◌↔◌, inl, inr, List, [], ◌∷◌, Option, Some, None, refl, ap, ◌∙◌, sym, subst, arith}
+use Rattle.std.specs.Prelude.{Result, Ok, Err, OnOk, OnErr}
+use Rattle.std.specs.List.{All, Contains, list_any}
+use Rattle.std.proofs.lemmas.Bool.{both_ways, cond-true, cond-false, false_from_ne_true, and_parts, and_from, eqb-true, eq-eqb}
+use Rattle.rt_cidr.specs.declared.prefixes.Prefix.{Prefix}
+use Rattle.rt_trie.specs.Map.{same_prefix, get, put, erase}
+use Rattle.rt_rib.specs.declared.routes.Route.{Route}
+use Rattle.rt_rib.specs.declared.offers.Offer.{Offer}
+use Rattle.rt_rib.specs.Offers.{is_from, IsOffers, HasGained, HasLost, HasSwapped}
+use Rattle.rt_rib.specs.Table.{is_of, has, put_in, take_out, IsTable}
+use Rattle.rt_rib.specs.Maps.{Map, route_by, offer_of, routes_of, offers_in, offers_at, IsThere, IsMap, MapLaws}
+use Rattle.rt_rib.proofs.Lists.{list_any-none, list_any-at}
+use Rattle.rt_rib.proofs.OfferLists.{IsRising-one}
+use Rattle.rt_rib.proofs.Order.{is_of-parts, is_of-from}
+use Rattle.rt_rib.proofs.Sets.{Contains-head, Contains-cases, Contains-none, put_in_adds, take_out_leaves_others}
+use Rattle.rt_rib.proofs.Tables.{IsTable-put_in, IsTable-take_out, has-take_out}
+use Rattle.rt_rib.proofs.MapRoutes.{one_or_other, same_prefix-itself, there_in, there_out, table_is, IsTable-map, has-is}
+
+-- the new map has these offers at the prefix, and at every other what the old one has
+abbrev pub IsWith : Map → Map → Prefix → List Offer → Type 0
+IsWith m n p offers = (q : Prefix) → offers_at n q ≡ cond (same_prefix p q) offers (offers_at m q)
+
+module _ (laws : MapLaws) (m : Map) (h : IsMap m) (p : Prefix) where
+  -- what stands at a prefix after offers were put at one
+  pub put_with : (offers : List Offer) → IsWith m (put m p offers) p offers
+  put_with offers q = ap offers_in (laws.put m p offers q) ∙ push (same_prefix p q) where
+    -- of either what is given or what was there
+    push : (b : Bool) → offers_in (cond b (Some offers) (get m q)) ≡ cond b offers (offers_at m q)
+    push true = refl
+    push false = refl
+
+  -- or after those there were taken out
+  pub erase_with : IsWith m (erase m p) p []
+  erase_with q = ap offers_in (laws.erase m p q h.ordered) ∙ push (same_prefix p q) where
+    -- of either nothing or what was there
+    push : (b : Bool) → offers_in (cond b None (get m q)) ≡ cond b [] (offers_at m q)
+    push true = refl
+    push false = refl
+
+  -- the map with offers that rise is one
+  pub IsMap-put : (offers : List Offer) → IsOffers offers → IsMap (put m p offers)
+  IsMap-put offers lawful = record {
+    ordered = laws.put_in_order m p offers h.ordered;
+    each = λ q os e. by_test (same_prefix p q) q os (sym (laws.put m p offers q) ∙ e);
+  } where
+    -- by whether it is their prefix
+    by_test : (b : Bool) (q : Prefix) (os : List Offer) → cond b (Some offers) (get m q) ≡ Some os → IsOffers os
+    by_test true q os e = let same : offers ≡ os = cc in subst IsOffers same lawful
+    by_test false q os e = h.each q os e
+
+  -- and so is the map without those at a prefix
+  pub IsMap-erase : IsMap (erase m p)
+  IsMap-erase = record {
+    ordered = laws.erase_in_order m p h.ordered;
+    each = λ q os e. by_test (same_prefix p q) q os (sym (laws.erase m p q h.ordered) ∙ e);
+  } where
+    -- by whether it is that prefix
+    by_test : (b : Bool) (q : Prefix) (os : List Offer) → cond b None (get m q) ≡ Some os → IsOffers os
+    by_test true q os e = cc
+    by_test false q os e = h.each q os e
+
+  -- the same offers put there again make the same map
+  pub put_same : (offers : List Offer) → Some offers ≡ get m p → put m p offers ≡ m
+  put_same offers e =
+      laws.one (put m p offers) m (laws.put_in_order m p offers h.ordered) h.ordered (λ q. laws.put m p offers q ∙ at q) where
+    -- at each prefix
+    at : (q : Prefix) → cond (same_prefix p q) (Some offers) (get m q) ≡ get m q
+    at q = elim (one_or_other laws.same p q) [
+      | inl here ↦
+          let one : same_prefix p q ≡ true = subst (λ x. same_prefix p x ≡ true) here (same_prefix-itself p) in
+          cond-true (same_prefix p q) (Some offers) (get m q) one ∙ e ∙ ap (get m) here
+      | inr other ↦ cond-false (same_prefix p q) (Some offers) (get m q) other
+    ]
+
+module _ (laws : MapLaws) (m n : Map) (p : Prefix) (offers : List Offer) (at : IsWith m n p offers) where
+  -- what the new map has at the prefix
+  at_it : (q : Prefix) → p ≡ q → offers_at n q ≡ offers
+  at_it q here =
+      let one : same_prefix p q ≡ true = subst (λ x. same_prefix p x ≡ true) here (same_prefix-itself p) in
+      at q ∙ cond-true (same_prefix p q) offers (offers_at m q) one
+
+  -- and elsewhere
+  elsewhere : (q : Prefix) → same_prefix p q ≡ false → offers_at n q ≡ offers_at m q
+  elsewhere q other = at q ∙ cond-false (same_prefix p q) offers (offers_at m q) other
+
+  -- the route of an offer at the prefix is of that prefix
+  not_other : (o : Offer) (x : Route) → same_prefix p x.prefix ≡ false → route_by p o ≡ x → ⊥
+  not_other o x other e = both_ways (same_prefix p x.prefix) other (subst (λ z. same_prefix p z.prefix ≡ true) e (same_prefix-itself p))
+
+  -- a route to another prefix is no feed's to this one
+  pub apart : (feed : ℕ) (x : Route) → same_prefix p x.prefix ≡ false → is_of feed p x ≡ false
+  apart feed x other =
+      false_from_ne_true (is_of feed p x) (λ mine.
+      let parts = is_of-parts feed p x mine in
+      let one = laws.same p x.prefix (sym parts.1) (sym parts.2) in
+      both_ways (same_prefix p x.prefix) other (subst (λ q. same_prefix p q ≡ true) one (same_prefix-itself p)))
+
+  -- a route to this prefix is a feed's just where its offer is
+  pub mine : (feed : ℕ) (x : Route) → p ≡ x.prefix → is_from feed (offer_of x) ≡ false → is_of feed p x ≡ false
+  mine feed x here differs = false_from_ne_true (is_of feed p x) (λ yes. both_ways (is_from feed (offer_of x)) differs (eq-eqb x.feed feed (is_of-parts feed p x yes).0))
+
+  -- and the other way round
+  pub not_mine : (feed : ℕ) (x : Route) → p ≡ x.prefix → is_of feed p x ≡ false → is_from feed (offer_of x) ≡ false
+  not_mine feed x here differs =
+      false_from_ne_true (is_from feed (offer_of x)) (λ yes.
+      both_ways (is_of feed p x) differs (is_of-from feed p x (eqb-true x.feed feed yes) (ap (λ q. q.base) (sym here)) (ap (λ q. q.len) (sym here))))
+
+  -- one offer more is one route more
+  pub added : (o : Offer) → HasGained (offers_at m p) offers o → (x : Route) → IsThere n x ↔ (IsThere m x ⊎ (route_by p o ≡ x))
+  added o gain x = elim (one_or_other laws.same p x.prefix) [
+    | inl here ↦ (
+        (λ c. elim ((gain (offer_of x)).0 (subst (λ l. Contains l (offer_of x)) (at_it x.prefix here) c)) [
+          | inl old ↦ inl (subst (λ q. Contains (offers_at m q) (offer_of x)) here old)
+          | inr new ↦ inr (ap (λ q. route_by q o) here ∙ ap (route_by x.prefix) new)
+        ]),
+        (λ c. subst (λ l. Contains l (offer_of x)) (sym (at_it x.prefix here)) ((gain (offer_of x)).1 (elim c [
+          | inl old ↦ inl (subst (λ q. Contains (offers_at m q) (offer_of x)) (sym here) old)
+          | inr new ↦ inr (ap offer_of new)
+        ]))),
+      )
+    | inr other ↦ (
+        (λ c. inl (subst (λ l. Contains l (offer_of x)) (elsewhere x.prefix other) c)),
+        (λ c. elim c [
+          | inl old ↦ subst (λ l. Contains l (offer_of x)) (sym (elsewhere x.prefix other)) old
+          | inr new ↦ absurd (not_other o x other new)
+        ]),
+      )
+  ]
+
+  -- a feed's offer less is its route less
+  pub taken : (feed : ℕ) → HasLost (offers_at m p) offers feed → (x : Route) → IsThere n x ↔ (IsThere m x × (is_of feed p x ≡ false))
+  taken feed loss x = elim (one_or_other laws.same p x.prefix) [
+    | inl here ↦ (
+        (λ c.
+        let both = (loss (offer_of x)).0 (subst (λ l. Contains l (offer_of x)) (at_it x.prefix here) c) in
+        (subst (λ q. Contains (offers_at m q) (offer_of x)) here both.0, mine feed x here both.1)),
+        (λ c. subst (λ l. Contains l (offer_of x)) (sym (at_it x.prefix here)) ((loss (offer_of x)).1
+        (subst (λ q. Contains (offers_at m q) (offer_of x)) (sym here) c.0, not_mine feed x here c.1))),
+      )
+    | inr other ↦ (
+        (λ c. (subst (λ l. Contains l (offer_of x)) (elsewhere x.prefix other) c, apart feed x other)),
+        (λ c. subst (λ l. Contains l (offer_of x)) (sym (elsewhere x.prefix other)) c.0),
+      )
+  ]
+
+  -- a feed's offer in the place of its other one is its route in the place of the other
+  pub swapped : (o : Offer) → HasSwapped (offers_at m p) offers o true → (x : Route) → IsThere n x ↔ ((IsThere m x × (is_of o.feed p x ≡ false)) ⊎ (route_by p o ≡ x))
+  swapped o swap x = elim (one_or_other laws.same p x.prefix) [
+    | inl here ↦ (
+        (λ c. elim ((swap (offer_of x)).0 (subst (λ l. Contains l (offer_of x)) (at_it x.prefix here) c)) [
+          | inl old ↦ inl (subst (λ q. Contains (offers_at m q) (offer_of x)) here old.0, mine o.feed x here old.1)
+          | inr new ↦ inr (ap (λ q. route_by q o) here ∙ ap (route_by x.prefix) new)
+        ]),
+        (λ c. subst (λ l. Contains l (offer_of x)) (sym (at_it x.prefix here)) ((swap (offer_of x)).1 (elim c [
+          | inl old ↦ inl (subst (λ q. Contains (offers_at m q) (offer_of x)) (sym here) old.0, not_mine o.feed x here old.1)
+          | inr new ↦ inr (ap offer_of new)
+        ]))),
+      )
+    | inr other ↦ (
+        (λ c. inl (subst (λ l. Contains l (offer_of x)) (elsewhere x.prefix other) c, apart o.feed x other)),
+        (λ c. elim c [
+          | inl old ↦ subst (λ l. Contains l (offer_of x)) (sym (elsewhere x.prefix other)) old.0
+          | inr new ↦ absurd (not_other o x other new)
+        ]),
+      )
+  ]
+
+module _ (laws : MapLaws) (m n : Map) (h : IsMap m) (k : IsMap n) (p : Prefix) (offers : List Offer) (at : IsWith m n p offers) where
+  -- what is contained in the routes is what is there
+  both : (x : Route) → IsThere m x ↔ Contains (routes_of m) x
+  both x = (there_out laws m x h.ordered, there_in laws m x h.ordered)
+
+  -- so the routes are the old ones with that route
+  pub routes_added : (o : Offer) → has o.feed p (routes_of m) ≡ false → HasGained (offers_at m p) offers o → routes_of n ≡ put_in (route_by p o) (routes_of m)
+  routes_added o fresh gain =
+      table_is laws n k (put_in (route_by p o) (routes_of m)) (IsTable-put_in (route_by p o) (routes_of m) fresh (IsTable-map laws m h)) (λ x.
+      let step = added laws m n p offers at o gain x in
+      let put = put_in_adds (route_by p o) x (routes_of m) in (
+        (λ c. put.1 (elim (step.0 c) [ inl old ↦ inl ((both x).0 old) | inr new ↦ inr new ])),
+        (λ c. step.1 (elim (put.0 c) [ inl old ↦ inl ((both x).1 old) | inr new ↦ inr new ])),
+      ))
+
+  -- or without the feed's route
+  pub routes_taken : (feed : ℕ) → HasLost (offers_at m p) offers feed → routes_of n ≡ take_out feed p (routes_of m)
+  routes_taken feed loss =
+      table_is laws n k (take_out feed p (routes_of m)) (IsTable-take_out feed p (routes_of m) (IsTable-map laws m h)) (λ x.
+      let step = taken laws m n p offers at feed loss x in
+      let out = take_out_leaves_others feed p x (routes_of m) in (
+        (λ c. let left = step.0 c in out.1 ((both x).0 left.0, left.1)),
+        (λ c. let left = out.0 c in step.1 ((both x).1 left.0, left.1)),
+      ))
+
+  -- or with one in the place of the feed's other one
+  pub routes_swapped : (o : Offer) → HasSwapped (offers_at m p) offers o true → routes_of n ≡ put_in (route_by p o) (take_out o.feed p (routes_of m))
+  routes_swapped o swap =
+      let rest = take_out o.feed p (routes_of m) in
+      table_is laws n k (put_in (route_by p o) rest)
+      (IsTable-put_in (route_by p o) rest (has-take_out o.feed p (routes_of m)) (IsTable-take_out o.feed p (routes_of m) (IsTable-map laws m h))) (λ x.
+      let step = swapped laws m n p offers at o swap x in
+      let put = put_in_adds (route_by p o) x rest in
+      let out = take_out_leaves_others o.feed p x (routes_of m) in (
+        (λ c. put.1 (elim (step.0 c) [ inl old ↦ inl (out.1 ((both x).0 old.0, old.1)) | inr new ↦ inr new ])),
+        (λ c. step.1 (elim (put.0 c) [ inl old ↦ let left = out.0 old in inl ((both x).1 left.0, left.1) | inr new ↦ inr new ])),
+      ))
+
+-- nothing is left of a feed's only offer
+pub only_lost : (feed : ℕ) (o : Offer) → is_from feed o ≡ true → HasLost (o ∷ []) [] feed
+only_lost feed o own x = (
+  (λ c. absurd (Contains-none x c)),
+  (λ c. elim (Contains-cases o [] x c.0) [
+    | inl here ↦ absurd (both_ways (is_from feed x) c.1 (subst (λ z. is_from feed z ≡ true) here own))
+    | inr none ↦ none
+  ]),
+)
+
+-- the first offer is all that nothing has gained
+pub first_gained : (o : Offer) → HasGained [] (o ∷ []) o
+first_gained o x = (
+  (λ c. elim (Contains-cases o [] x c) [ inl here ↦ inr here | inr none ↦ inl none ]),
+  (λ c. elim c [ inl none ↦ absurd (Contains-none x none) | inr here ↦ subst (Contains (o ∷ [])) here (Contains-head o []) ]),
+)
+
+-- a feed without a route to the prefix has no offer there
+pub none_there : (laws : MapLaws) (m : Map) → IsMap m → (feed : ℕ) (p : Prefix) → has feed p (routes_of m) ≡ false → All (λ o. is_from feed o ≡ false) (offers_at m p)
+none_there laws m h feed p fresh = list_any-none (is_from feed) (offers_at m p) (sym (has-is laws m h feed p) ∙ fresh)
+
+-- a single offer is in order
+pub IsOffers-one : (o : Offer) → IsOffers (o ∷ [])
+IsOffers-one o = record { some = omega arith; rising = IsRising-one o }
+
+module _ (laws : MapLaws) (m : Map) (h : IsMap m) (p : Prefix) where
+  -- nothing stands at the prefix, so no feed has a route to it
+  pub none_had : (feed : ℕ) → None ≡ get m p → has feed p (routes_of m) ≡ false
+  none_had feed there = has-is laws m h feed p ∙ ap (λ o. list_any (is_from feed) (offers_in o)) (sym there)
+
+  -- the first offer for the prefix
+  pub first_added : (o : Offer) → None ≡ get m p → routes_of (put m p (o ∷ [])) ≡ put_in (route_by p o) (routes_of m)
+  first_added o there =
+      let fresh = none_had o.feed there in
+      let gain : HasGained (offers_at m p) (o ∷ []) o = subst (λ l. HasGained l (o ∷ []) o) (ap offers_in there) (first_gained o) in
+      routes_added laws m (put m p (o ∷ [])) h (IsMap-put laws m h p (o ∷ []) (IsOffers-one o)) p (o ∷ []) (put_with laws m h p (o ∷ [])) o fresh gain
+
+module _ (laws : MapLaws) (m : Map) (h : IsMap m) (p : Prefix) (old new : List Offer) (there : Some old ≡ get m p) where
+  -- the offers that stand at the prefix
+  pub at_is : offers_at m p ≡ old
+  at_is = ap offers_in (sym there)
+
+  -- a feed has a route where it is among them
+  pub is_had : (feed : ℕ) → has feed p (routes_of m) ≡ list_any (is_from feed) old
+  is_had feed = has-is laws m h feed p ∙ ap (list_any (is_from feed)) at_is
+
+  -- the same offers leave the map as it is
+  pub unchanged : new ≡ old → put m p new ≡ m
+  unchanged same = ap (put m p) same ∙ put_same laws m h p old there
+
+  -- one offer more
+  pub more : IsOffers new → (o : Offer) → has o.feed p (routes_of m) ≡ false → HasGained old new o → routes_of (put m p new) ≡ put_in (route_by p o) (routes_of m)
+  more lawful o fresh gain =
+      routes_added laws m (put m p new) h (IsMap-put laws m h p new lawful) p new (put_with laws m h p new) o fresh (subst (λ l. HasGained l new o) (sym at_is) gain)
+
+  -- a feed's offer less
+  pub less : IsOffers new → (feed : ℕ) → HasLost old new feed → routes_of (put m p new) ≡ take_out feed p (routes_of m)
+  less lawful feed loss =
+      routes_taken laws m (put m p new) h (IsMap-put laws m h p new lawful) p new (put_with laws m h p new) feed (subst (λ l. HasLost l new feed) (sym at_is) loss)
+
+  -- another offer of the feed
+  pub other : IsOffers new → (o : Offer) → HasSwapped old new o true → routes_of (put m p new) ≡ put_in (route_by p o) (take_out o.feed p (routes_of m))
+  other lawful o swap =
+      routes_swapped laws m (put m p new) h (IsMap-put laws m h p new lawful) p new (put_with laws m h p new) o (subst (λ l. HasSwapped l new o true) (sym at_is) swap)
+
+  -- the only offer goes with its prefix
+  pub last_gone : new ≡ old → (feed : ℕ) (o : Offer) → old ≡ o ∷ [] → is_from feed o ≡ true → routes_of (erase (put m p new) p) ≡ take_out feed p (routes_of m)
+  last_gone same feed o only own =
+      ap (λ n. routes_of (erase n p)) (unchanged same)
+      ∙ routes_taken laws m (erase m p) h (IsMap-erase laws m h p) p [] (erase_with laws m h p) feed
+      (subst (λ l. HasLost l [] feed) (sym (at_is ∙ only)) (only_lost feed o own))
+
+  -- and the rest is a map
+  pub last_map : new ≡ old → IsMap (erase (put m p new) p)
+  last_map same = subst (λ n. IsMap (erase n p)) (sym (unchanged same)) (IsMap-erase laws m h p)
+
+-- the only offer is the feed's, so the feed has one
+pub one_is_from : (feed : ℕ) (offers : List Offer) (o : Offer) → offers ≡ o ∷ [] → is_from feed o ≡ true → list_any (is_from feed) offers ≡ true
+one_is_from feed offers o only own = ap (list_any (is_from feed)) only ∙ list_any-at (is_from feed) (o ∷ []) 0 o (omega arith) own
+
+-- what follows from what an answer brings
+pub on_ok : {T E P Q : Type 0} (r : Result T E) → (P → Q) → OnOk r P → OnOk r Q
+on_ok (Ok x) f h = f h
+on_ok (Err e) f h = h
+
+-- and from what a refusal does
+pub on_err : {T E P Q : Type 0} (r : Result T E) → (P → Q) → OnErr r P → OnErr r Q
+on_err (Ok x) f h = h
+on_err (Err e) f h = f h
