@@ -13,8 +13,7 @@ use Rattle.rt_rib.proofs.Lists.{AllPairs-head, AllPairs-tail, filter-none, list_
 use Rattle.rt_rib.proofs.Order.{below_then-false, is_of-from}
 use Rattle.rt_rib.proofs.Tables.{Apart, Apart-flip}
 use Rattle.rt_rib.proofs.Sets.{Contains-head, Contains-tail, Contains-cases, Contains-none, filter-keeps, filter-from}
-use Rattle.rt_rib.proofs.Searches.{is_at-parts}
-use Rattle.rt_rib.proofs.Covering.{base_at, covers-at}
+use Rattle.rt_rib.proofs.Covering.{base_at, covers-base}
 
 -- what is contained passes a test that all pass
 list_all-contained : {X : Type 0} (p : X → Bool) (xs : List X) (x : X) → list_all p xs ≡ true → Contains xs x → p x ≡ true
@@ -54,7 +53,7 @@ find-from p (z ∷ xs) y e = elim (cases_Bool (p z)) [
 ]
 
 -- a table contains one route of a feed to a prefix
-one_of : (t : List Route) → AllPairs Apart t → (r s : Route) → Contains t r → Contains t s → is_of r.feed r.prefix s ≡ true → s ≡ r
+pub one_of : (t : List Route) → AllPairs Apart t → (r s : Route) → Contains t r → Contains t s → is_of r.feed r.prefix s ≡ true → s ≡ r
 one_of [] h r s c d e = absurd (Contains-none r c)
 one_of (x ∷ t) h r s c d e =
     elim (Contains-cases x t r c) [
@@ -140,8 +139,8 @@ module _ (addr : Addr) (t : List Route) (table : IsTable t) where
       let low = h.longest s facts.0 facts.1 in
       let high = facts.2 r h.contained h.covering in
       let len : s.prefix.len ≡ r.prefix.len = omega arith in
-      let base = (is_at-parts (base_at addr r.prefix.len) r.prefix.len s (covers-at s addr r.prefix.len facts.1 len)).0 in
-      let own = (is_at-parts (base_at addr r.prefix.len) r.prefix.len r (covers-at r addr r.prefix.len h.covering refl)).0 in
+      let base = covers-base s.prefix addr facts.1 ∙ ap (base_at addr) len in
+      let own = covers-base r.prefix addr h.covering in
       let worse = not-true (is_better r s) (list_all-contained (λ u. not (is_better u s)) (longest_of (matching addr t)) r found.3 there) in
       let feed = even r s worse (h.best s facts.0 facts.1 len) in
       found.1 ∙ ap Some (one_of t table.single r s h.contained facts.0 (is_of-from r.feed r.prefix s feed (base ∙ sym own) len))

@@ -1,15 +1,23 @@
 -- The counts of a table's routes, as routes come and go.
-use Rattle.std.proofs.Common.{◌≡◌, ℕ, ◌+◌, ◌-◌, ◌*◌, ◌<◌, ◌≤◌, Bool, true, false, not, cond, eqb, List, [], ◌∷◌, length, get_or, replicate, refl, sym, ap, ◌∙◌, get_or-set_same, get_or-set_other, inl, inr, arith}
+use Rattle.std.proofs.Common.{◌≡◌, ℕ, ◌+◌, ◌-◌, ◌*◌, ◌<◌, ◌≤◌, Bool, true, false, not, cond, eqb, List, [], ◌∷◌, length, length-append, get_or, replicate, refl, sym, subst, ap, ◌∙◌, get_or-set_same, get_or-set_other, inl, inr, arith}
 use Rattle.std.proofs.Math.ListN.{set}
 use Rattle.std.proofs.lemmas.Bool.{cases_eq, eq-eqb, ne_eqb, eqb-true, cases_Bool, both_ways, false_from_ne_true, not_from_false, cond-true, cond-false}
-use Rattle.std.proofs.lemmas.List.Sums.{sum_by-cons, sum_by-set, sum_by-le, sum_by-insert, sum_by-remove}
-use Rattle.std.proofs.lemmas.List.Edits.{length-insert, length-remove}
+use Rattle.std.proofs.lemmas.List.Sums.{sum_by-cons, sum_by-set, sum_by-le, sum_by-append, length-filter}
+use Rattle.std.proofs.lemmas.List.Filters.{sum_by-filter_both}
+use Rattle.std.proofs.lemmas.List.Folds.{Any-from_list_any}
 use Rattle.std.proofs.lemmas.List.{get_or_default, get_or-replicate}
-use Rattle.std.specs.List.{All, filter, count_by, insert, remove}
+use Rattle.std.specs.List.{All, Contains, filter, count_by, list_any}
+use Rattle.rt_cidr.specs.declared.prefixes.Prefix.{Prefix}
 use Rattle.rt_rib.specs.declared.routes.Route.{Route}
-use Rattle.rt_rib.specs.Table.{count_of, purge}
+use Rattle.rt_rib.specs.Table.{count_of, precedes, is_of, has, put_in, take_out, IsTable}
 use Rattle.rt_rib.specs.Book.{IsFeed}
 use Rattle.rt_rib.specs.Kept.{AreCounts}
+use Rattle.rt_rib.proofs.Lists.{list_any-from_none}
+use Rattle.rt_rib.proofs.Order.{is_of-parts, is_of-from}
+use Rattle.rt_rib.proofs.Sets.{put_in_adds, take_out_leaves_others, one_table_of_set}
+use Rattle.rt_rib.proofs.Best.{one_of}
+use Rattle.rt_rib.proofs.Tables.{IsTable-put_in, IsTable-take_out}
+use Rattle.rt_rib.proofs.MapRoutes.{All-from_contained}
 
 -- u has one route of the feed more than t, and else as many of each feed
 pub record HasMore (feed : ℕ) (t u : List Route) : Type 0 where
@@ -25,14 +33,95 @@ HasMore-from feed r t u same each longer = record {
   all = longer;
 }
 
--- a route that goes in, or comes out
-pub HasMore-insert : (t : List Route) (i : ℕ) (r : Route) → i ≤ length t → HasMore r.feed t (insert t i r)
-HasMore-insert t i r l = HasMore-from r.feed r t (insert t i r) refl (λ other. sum_by-insert (λ s. cond (eqb s.feed other) 1 0) t i r) (length-insert t i r l)
+module _ {X : Type 0} (p : X → Bool) where
+  -- none passes a test of those that fail it
+  count-failing : (xs : List X) → count_by p (filter (λ x. not (p x)) xs) ≡ 0
+  count-failing [] = refl
+  count-failing (x ∷ xs) =
+      let rest = count-failing xs in
+      elim (cases_Bool (p x)) [
+        | inl goes ↦ rw goes rest
+        | inr stays ↦
+            let none : cond (p x) 1 0 ≡ ◌+◌ 0 0 = cond-false (p x) 1 0 stays in
+            let whole = sum_by-cons (λ z. cond (p z) 1 0) x (filter (λ z. not (p z)) xs) in
+            rw stays (omega arith)
+      ]
 
--- and one that comes out
-pub HasMore-remove : (feed : ℕ) (t : List Route) (i : ℕ) (r : Route) → i < length t → (get_or t i r).feed ≡ feed → HasMore feed (remove t i) t
-HasMore-remove feed t i r l same =
-    HasMore-from feed (get_or t i r) (remove t i) t same (λ other. sym (sum_by-remove (λ s. cond (eqb s.feed other) 1 0) t i r l)) (sym (length-remove t i l))
+  -- as many as pass it of all pass a test that those alone pass
+  count-kept_whole : (q : X → Bool) → ((x : X) → q x ≡ true → p x ≡ true) → (xs : List X) → count_by q (filter p xs) ≡ count_by q xs
+  count-kept_whole q only [] = refl
+  count-kept_whole q only (x ∷ xs) =
+      let rest = count-kept_whole q only xs in
+      let one : X → ℕ = λ z. cond (q z) 1 0 in
+      let whole = sum_by-cons one x xs in
+      elim (cases_Bool (p x)) [
+        | inl stays ↦ let kept = sum_by-cons one x (filter p xs) in rw stays (omega arith)
+        | inr goes ↦
+            let other : q x ≡ false = false_from_ne_true (q x) (λ e. both_ways (p x) goes (only x e)) in
+            let none : one x ≡ ◌+◌ 0 0 = cond-false (q x) 1 0 other in
+            rw goes (omega arith)
+      ]
+
+  -- those that pass a test, and those that fail it
+  count-both : (xs : List X) → length xs ≡ length (filter (λ x. not (p x)) xs) + count_by p xs
+  count-both [] = refl
+  count-both (x ∷ xs) =
+      let rest = count-both xs in
+      let whole = sum_by-cons (λ z. cond (p z) 1 0) x xs in
+      let kept = filter (λ z. not (p z)) xs in
+      elim (cases_Bool (p x)) [
+        | inl goes ↦
+            let one : cond (p x) 1 0 ≡ ◌+◌ 1 0 = cond-true (p x) 1 0 goes in
+            let list = ap length (cond-false (not (p x)) (x ∷ kept) kept (ap not goes)) in
+            omega arith
+        | inr stays ↦
+            let none : cond (p x) 1 0 ≡ ◌+◌ 0 0 = cond-false (p x) 1 0 stays in
+            let list = ap length (cond-true (not (p x)) (x ∷ kept) kept (ap not stays)) in
+            omega arith
+      ]
+
+-- a route that is put in
+pub HasMore-put_in : (r : Route) (t : List Route) → HasMore r.feed t (put_in r t)
+HasMore-put_in r t =
+    let early : Route → Bool = λ s. precedes s r in
+    let late : Route → Bool = λ s. not (precedes s r) in
+    HasMore-from r.feed r t (put_in r t) refl
+    (λ other.
+    let one : Route → ℕ = λ s. cond (eqb s.feed other) 1 0 in
+    let joined = sum_by-append one (filter early t) (r ∷ filter late t) in
+    let first = sum_by-cons one r (filter late t) in
+    let both = sum_by-filter_both early late (λ s. refl) one t in
+    omega arith)
+    (let joined = length-append (filter early t) (r ∷ filter late t) in
+    let all = count-both early t in
+    let kept = length-filter early t in
+    omega arith)
+
+-- and a feed's route that is taken out
+pub HasMore-take_out : (feed : ℕ) (p : Prefix) (t : List Route) → IsTable t → has feed p t ≡ true → HasMore feed (take_out feed p t) t
+HasMore-take_out feed p t table there =
+    let any = Any-from_list_any (is_of feed p) t there in
+    let r = any.1 in
+    let held : Contains t r = (any.0, any.2, any.3) in
+    let parts = is_of-parts feed p r any.4 in
+    let rest = take_out feed p t in
+    let fresh : has r.feed r.prefix rest ≡ false =
+    list_any-from_none (is_of r.feed r.prefix) rest (All-from_contained (λ s. is_of r.feed r.prefix s ≡ false) rest (λ s c.
+    let out = (take_out_leaves_others feed p s t).0 c in
+    false_from_ne_true (is_of r.feed r.prefix s) (λ mine.
+    let same = is_of-parts r.feed r.prefix s mine in
+    both_ways (is_of feed p s) out.1 (is_of-from feed p s (same.0 ∙ parts.0) (same.1 ∙ parts.1) (same.2 ∙ parts.2))))) in
+    let back : put_in r rest ≡ t =
+    one_table_of_set (put_in r rest) t (IsTable-put_in r rest fresh (IsTable-take_out feed p t table)) table (λ s. (
+      (λ c. elim ((put_in_adds r s rest).0 c) [ inl left ↦ ((take_out_leaves_others feed p s t).0 left).0 | inr here ↦ subst (Contains t) here held ]),
+      (λ c. (put_in_adds r s rest).1 (elim (cases_Bool (is_of feed p s)) [
+        | inl mine ↦
+            let same = is_of-parts feed p s mine in
+            inr (sym (one_of t table.single r s held c (is_of-from r.feed r.prefix s (same.0 ∙ sym parts.0) (same.1 ∙ sym parts.1) (same.2 ∙ sym parts.2))))
+        | inr other ↦ inl ((take_out_leaves_others feed p s t).1 (c, other))
+      ])),
+    )) in
+    subst (λ f. HasMore f rest t) parts.0 (subst (HasMore r.feed rest) back (HasMore-put_in r rest))
 
 -- two lists with one route of the feed more than a third have as many of each feed
 pub HasMore-both : (feed : ℕ) (t u v : List Route) → HasMore feed t u → HasMore feed t v → (other : ℕ) → count_of other v ≡ count_of other u
@@ -130,77 +219,4 @@ AreCounts-nil limit = record {
   each = λ i l. get_or-replicate 64 i 0 0 l;
   within = λ i l. zero_at 64 i limit l;
   all = refl;
-}
-
-module _ {X : Type 0} (p : X → Bool) where
-  -- none passes a test of those that fail it
-  count-failing : (xs : List X) → count_by p (filter (λ x. not (p x)) xs) ≡ 0
-  count-failing [] = refl
-  count-failing (x ∷ xs) =
-      let rest = count-failing xs in
-      elim (cases_Bool (p x)) [
-        | inl goes ↦ rw goes rest
-        | inr stays ↦
-            let none : cond (p x) 1 0 ≡ ◌+◌ 0 0 = cond-false (p x) 1 0 stays in
-            let whole = sum_by-cons (λ z. cond (p z) 1 0) x (filter (λ z. not (p z)) xs) in
-            rw stays (omega arith)
-      ]
-
-  -- as many as pass it of all pass a test that those alone pass
-  count-kept_whole : (q : X → Bool) → ((x : X) → q x ≡ true → p x ≡ true) → (xs : List X) → count_by q (filter p xs) ≡ count_by q xs
-  count-kept_whole q only [] = refl
-  count-kept_whole q only (x ∷ xs) =
-      let rest = count-kept_whole q only xs in
-      let one : X → ℕ = λ z. cond (q z) 1 0 in
-      let whole = sum_by-cons one x xs in
-      elim (cases_Bool (p x)) [
-        | inl stays ↦ let kept = sum_by-cons one x (filter p xs) in rw stays (omega arith)
-        | inr goes ↦
-            let other : q x ≡ false = false_from_ne_true (q x) (λ e. both_ways (p x) goes (only x e)) in
-            let none : one x ≡ ◌+◌ 0 0 = cond-false (q x) 1 0 other in
-            rw goes (omega arith)
-      ]
-
-  -- those that pass a test, and those that fail it
-  count-both : (xs : List X) → length xs ≡ length (filter (λ x. not (p x)) xs) + count_by p xs
-  count-both [] = refl
-  count-both (x ∷ xs) =
-      let rest = count-both xs in
-      let whole = sum_by-cons (λ z. cond (p z) 1 0) x xs in
-      let kept = filter (λ z. not (p z)) xs in
-      elim (cases_Bool (p x)) [
-        | inl goes ↦
-            let one : cond (p x) 1 0 ≡ ◌+◌ 1 0 = cond-true (p x) 1 0 goes in
-            let list = ap length (cond-false (not (p x)) (x ∷ kept) kept (ap not goes)) in
-            omega arith
-        | inr stays ↦
-            let none : cond (p x) 1 0 ≡ ◌+◌ 0 0 = cond-false (p x) 1 0 stays in
-            let list = ap length (cond-true (not (p x)) (x ∷ kept) kept (ap not stays)) in
-            omega arith
-      ]
-
--- the feed's count is none, where its routes went out
-pub AreCounts-purge : (limit : ℕ) (counts : List ℕ) (t : List Route) (own : ℕ) → own < 64 → length counts ≡ 64 → AreCounts limit counts t → AreCounts limit (set counts own 0) (purge (own + 1) t)
-AreCounts-purge limit counts t own inside many h = record {
-  each = λ i l. elim (cases_eq i own) [
-    | inl same ↦
-        ap (λ k. get_or (set counts own 0) k 0) same ∙ get_or-set_same counts own 0 0 (omega arith)
-        ∙ sym (count-failing (λ (r : Route). eqb r.feed (own + 1)) t) ∙ sym (ap (λ k. count_of (k + 1) (purge (own + 1) t)) same)
-    | inr other ↦
-        get_or-set_other counts own i 0 0 other ∙ h.each i l
-        ∙ sym (count-kept_whole (λ (r : Route). not (eqb r.feed (own + 1))) (λ (r : Route). eqb r.feed (i + 1))
-        (λ r e. not_from_false (eqb r.feed (own + 1)) (ne_eqb r.feed (own + 1) (λ f. other (let mine = eqb-true r.feed (i + 1) e in omega arith)))) t)
-  ];
-  within = λ i l. elim (cases_eq i own) [
-    | inl same ↦
-        let there = ap (λ k. get_or (set counts own 0) k 0) same ∙ get_or-set_same counts own 0 0 (omega arith) in
-        omega arith
-    | inr other ↦ let there = get_or-set_other counts own i 0 0 other in let low = h.within i l in omega arith
-  ];
-  all =
-      let total = sum_by-set (λ x. x) counts own 0 0 (omega arith) in
-      let before = h.all in
-      let both = count-both (λ (r : Route). eqb r.feed (own + 1)) t in
-      let now = h.each own inside in
-      omega arith;
 }

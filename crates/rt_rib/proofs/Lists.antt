@@ -3,7 +3,7 @@ use Rattle.std.proofs.Common.{◌≡◌, ℕ, zero, suc, ◌<◌, Bool, true, fa
 use Rattle.std.proofs.lemmas.Bool.{or_parts, or_from, or_left, or_right, and_from, cond-true, cond-false}
 use Rattle.std.proofs.lemmas.List.Elements.{All-cons, All-head, All-tail, All-append, All-filter}
 use Rattle.std.proofs.lemmas.List.Kept.{AllPairs-cons}
-use Rattle.std.specs.List.{All, AllPairs, HoldsAt, filter, list_any, list_all}
+use Rattle.std.specs.List.{All, AllPairs, filter, list_any, list_all}
 
 -- what follows from two facts of each element
 pub All-join : {X : Type 0} (P Q R : X → Type 0) → ((x : X) → P x → Q x → R x) → (xs : List X) → All P xs → All Q xs → All R xs
@@ -42,11 +42,6 @@ pub list_any-at : {X : Type 0} (p : X → Bool) (xs : List X) (i : ℕ) (d : X) 
 list_any-at p [] i d l e = absurd (omega arith)
 list_any-at p (x ∷ xs) zero d l e = or_left (p x) (list_any p xs) e
 list_any-at p (x ∷ xs) (suc i) d l e = or_right (p x) (list_any p xs) (list_any-at p xs i d (omega arith) e)
-
--- the same, whatever stands for an element past the end
-pub list_any-holds : {X : Type 0} (p : X → Bool) (xs : List X) (i : ℕ) → i < length xs → HoldsAt (λ x. p x ≡ true) xs i → list_any p xs ≡ true
-list_any-holds p [] i l h = absurd (omega arith)
-list_any-holds p (x ∷ xs) i l h = list_any-at p (x ∷ xs) i x l (h x)
 
 -- a filter that each element passes, or that none passes
 pub filter-all : {X : Type 0} (p : X → Bool) (xs : List X) → All (λ x. p x ≡ true) xs → filter p xs ≡ xs

@@ -293,3 +293,8 @@ on_ok (Err e) f h = h
 pub on_err : {T E P Q : Type 0} (r : Result T E) → (P → Q) → OnErr r P → OnErr r Q
 on_err (Ok x) f h = h
 on_err (Err e) f h = f h
+
+-- what holds anyway holds on a refusal
+pub err_from : {T E P : Type 0} (r : Result T E) → P → OnErr r P
+err_from (Ok x) p = tt
+err_from (Err e) p = p

@@ -52,7 +52,7 @@ any-contained : {X : Type 0} (test : X → Bool) (xs : List X) → list_any test
 any-contained test xs e = let any = Any-from_list_any test xs e in (any.1, (any.0, any.2, any.3), any.4)
 
 -- what holds of whatever a list contains
-All-from_contained : {X : Type 0} (P : X → Type 0) (xs : List X) → ((x : X) → Contains xs x → P x) → All P xs
+pub All-from_contained : {X : Type 0} (P : X → Type 0) (xs : List X) → ((x : X) → Contains xs x → P x) → All P xs
 All-from_contained P xs h = λ k d l. h (get_or xs k d) (Contains-get_or xs k d l)
 
 -- two prefixes are one, or the test says that they are not
@@ -198,3 +198,7 @@ module _ (laws : MapLaws) (m : Map) (h : IsMap m) where
         let there = subst (λ q. Contains (offers_at m q) (offer_of r)) one (there_in laws m r h.ordered c) in
         both_ways (list_any (is_from feed) (offers_at m p)) none (any-from_contained (is_from feed) (offers_at m p) (offer_of r) there (eq-eqb r.feed feed parts.0))))) ∙ sym none
   ]
+
+-- nothing is a map
+pub IsMap-nil : IsMap []
+IsMap-nil = record { ordered = tt; each = λ p offers e. cc }

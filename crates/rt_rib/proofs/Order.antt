@@ -4,7 +4,6 @@ use Rattle.std.proofs.lemmas.Bool.{ltb-true, ltb-false, eqb-true, eqb-false, lt-
 use Rattle.rt_cidr.specs.declared.prefixes.Prefix.{Prefix}
 use Rattle.rt_rib.specs.declared.routes.Route.{Route}
 use Rattle.rt_rib.specs.Table.{below_then, is_better, precedes, is_of, same_prefix}
-use Rattle.rt_rib.specs.Search.{is_earlier, is_at}
 
 -- what a test in order says where it holds
 pub below_then-true : (a b : ℕ) (rest : Bool) → below_then a b rest ≡ true → (a < b) ⊎ ((a ≡ b) × (rest ≡ true))
@@ -77,10 +76,6 @@ is_of-parts feed p r e =
     let both = and_parts (eqb r.prefix.base p.base) (eqb r.prefix.len p.len) parts.1 in
     (eqb-true r.feed feed parts.0, eqb-true r.prefix.base p.base both.0, eqb-true r.prefix.len p.len both.1)
 
--- a feed's route to a prefix is of that prefix
-pub is_of-at : (feed : ℕ) (p : Prefix) (r : Route) → is_of feed p r ≡ true → is_at p.base p.len r ≡ true
-is_of-at feed p r e = (and_parts (eqb r.feed feed) (same_prefix r.prefix p) e).1
-
 -- a route of this feed, base and length is the feed's route to the prefix
 pub is_of-from : (feed : ℕ) (p : Prefix) (r : Route) → r.feed ≡ feed → r.prefix.base ≡ p.base → r.prefix.len ≡ p.len → is_of feed p r ≡ true
 is_of-from feed p r f b l =
@@ -118,14 +113,3 @@ precedes-itself r =
 pub precedes-flip : (r s : Route) → precedes r s ≡ true → precedes s r ≡ false
 precedes-flip r s e =
     false_from_ne_true (precedes s r) (λ back. both_ways (precedes r r) (precedes-itself r) (precedes-trans r s r e back))
-
--- a route before one of an earlier prefix is of an earlier prefix
-pub is_earlier-before : (base len : ℕ) (r s : Route) → precedes r s ≡ true → is_earlier base len s ≡ true → is_earlier base len r ≡ true
-is_earlier-before base len r s =
-    below_then-trans r.prefix.base s.prefix.base base (below_then r.prefix.len s.prefix.len (is_better r s)) (ltb s.prefix.len len) (ltb r.prefix.len len)
-    (λ x y.
-    let less = ltb-true s.prefix.len len y in
-    elim (below_then-true r.prefix.len s.prefix.len (is_better r s) x) [
-      | inl l ↦ lt-ltb r.prefix.len len (omega arith)
-      | inr same ↦ let l = same.0 in lt-ltb r.prefix.len len (omega arith)
-    ])

@@ -1,31 +1,19 @@
 -- What the sequential table says of each command, case by case.
 use Rattle.std.proofs.Common.{◌≡◌, ℕ, ◌<◌, ◌≤◌, Bool, true, false, List, Some, None, Option, refl, sym, ◌∙◌, length}
-use Rattle.std.specs.Prelude.{MatchOption, is_some}
-use Rattle.std.specs.List.{HoldsAt}
 use Rattle.std.proofs.lemmas.Bool.{le-leb, lt-leb}
 use Rattle.rt_cidr.specs.declared.address.Addr.{Addr}
 use Rattle.rt_cidr.specs.declared.prefixes.Prefix.{Prefix}
 use Rattle.rt_rib.specs.declared.routes.Route.{Route}
 use Rattle.rt_rib.specs.declared.commands.Cmd.TheVariants.{Add, Replace, Withdraw, Lookup, Dump, Purge}
 use Rattle.rt_rib.specs.declared.commands.Reply.TheVariants.{Added, Exists, Full, Replaced, Withdrawn, Missing, Found, NoRoute, Dumped, Purged}
-use Rattle.rt_rib.specs.Table.{has, is_of, count_of, put_in, take_out, purge}
+use Rattle.rt_rib.specs.Table.{has, count_of, put_in, take_out, purge}
 use Rattle.rt_rib.specs.LookUp.{look_up}
 use Rattle.rt_rib.specs.Sequential.{reply_of, table_after}
 use Rattle.rt_rib.specs.Kept.{Held, Serves}
-use Rattle.rt_rib.proofs.Lists.{list_any-holds}
 
 -- a limit and routes
 abbrev pub held : ℕ → List Route → Held
 held limit t = record { limit = limit; routes = t }
-
--- what a search for the feed's route says
-pub has-place : (feed : ℕ) (p : Prefix) (t : List Route) (o : Option ℕ) → MatchOption o (has feed p t ≡ false) (λ i. (i < length t) × HoldsAt (λ r. is_of feed p r ≡ true) t i) → is_some o ≡ has feed p t
-has-place feed p t None none = sym none
-has-place feed p t (Some i) found = sym (list_any-holds (is_of feed p) t i found.0 found.1)
-
--- the same with what the code asks of the search
-pub has-is : (feed : ℕ) (p : Prefix) (t : List Route) (o : Option ℕ) (b : Bool) → MatchOption o (has feed p t ≡ false) (λ i. (i < length t) × HoldsAt (λ r. is_of feed p r ≡ true) t i) → b ≡ is_some o → has feed p t ≡ b
-has-is feed p t o b search is = sym (is ∙ has-place feed p t o search)
 
 module _ (limit : ℕ) (t : List Route) (r : Route) where
   -- an add to a feed that has the route

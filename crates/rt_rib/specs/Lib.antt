@@ -4,7 +4,6 @@ pub mod Sequential
 pub mod Journal
 pub mod Book
 pub mod Kept
-pub mod Search
 pub mod Maps
 pub mod Laws
 pub mod Offers

@@ -58,20 +58,14 @@ impl<A: Allocator + Copy> Book<A> {
         Ok(reply)
     }
 
-    /// The routes in dump order: by base, then length, then preference, then feed.
-    pub fn table(&self) -> &[Route]
-        ensures routes { result.now ≡ table_of self.now }
-        ensures table { IsTable result.now }
+    /// The routes in dump order, by base, then length, then preference, then feed, in memory of the allocator. M1:
+    /// `Refused` where that memory was refused.
+    pub fn routes(&self, alloc: A) -> Result<Vec<Route, A>, Refused>
+        ensures routes { IfOk result (λ routes. routes.items ≡ table_of self.now) }
+        ensures table { IsTable (table_of self.now) }
         ensures lawful { IsLawfulJournal self.now.limit self.now.journal }
     {
-        self.table.routes()
-    }
-
-    /// A copy of `table` in memory of the allocator. M1: `Refused` where that memory was refused.
-    pub fn routes(&self, alloc: A) -> Result<Vec<Route, A>, Refused>
-        ensures { IfOk result (λ routes. routes.items ≡ table_of self.now) }
-    {
-        Ok(self.table.routes().to_vec(alloc)?)
+        self.table.routes(alloc)
     }
 
     /// Every answered command with its reply, in the order in which they were answered.

@@ -9,7 +9,6 @@ mod map;
 mod offers;
 mod refused;
 mod routes;
-mod search;
 mod table;
 #[cfg(test)]
 mod tests;

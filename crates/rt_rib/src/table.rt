@@ -1,15 +1,18 @@
+//! The sequential table: its routes as offers in a map, how many each feed has, and the answers to commands.
 ghost use Rattle.std.specs.Prelude.{◌≡◌, ◌<◌, ◌≤◌, [], length, IfOk, OnErr};
 ghost use Rattle.rt_rib.specs.declared.commands.Cmd.TheVariants.{Add, Replace, Withdraw, Purge};
-ghost use Rattle.rt_rib.specs.Table.{IsTable};
+ghost use Rattle.rt_rib.specs.Table.{count_of, IsTable};
 ghost use Rattle.rt_rib.specs.Book.{IsLimit, IsFeed};
+ghost use Rattle.rt_rib.specs.Maps.{IsFirst, IsNext};
 ghost use Rattle.rt_rib.specs.Kept.{Serves};
 
 use crate::commands::{Cmd, Reply};
 use crate::limits::FEEDS;
+use crate::map::{self, Map};
 use crate::refused::Refused;
 use crate::routes::Route;
-use crate::search;
 use rt_cidr::Prefix;
+use rt_trie::Trie;
 use std::alloc::Allocator;
 use std::marker::Model;
 
@@ -20,18 +23,20 @@ pub(crate) struct Table<A: Allocator + Copy> {
     limit: u32,
     /// How many routes each feed has, that of feed 1 first.
     counts: [u32; FEEDS],
-    /// In dump order.
-    routes: Vec<Route, A>,
+    /// The routes, as what is offered for each prefix.
+    map: Map<A>,
+    alloc: A,
 }
 
 impl<A: Allocator + Copy> Model for Table<A> {
     ghost use Rattle.rt_rib.specs.Kept.{Held, IsCounted};
+    ghost use Rattle.rt_rib.specs.Maps.{routes_of};
 
     ghost Value = { Held };
 
-    ghost view = { λ t. record { limit = t.limit; routes = t.routes.items } };
+    ghost view = { λ t. record { limit = t.limit; routes = routes_of t.map.pairs } };
 
-    ghost invariant = { λ t. IsCounted t.limit t.counts t.routes.items };
+    ghost invariant = { λ t. IsCounted t.limit t.counts t.map.pairs };
 }
 
 impl<A: Allocator + Copy> Table<A> {
@@ -44,16 +49,39 @@ impl<A: Allocator + Copy> Table<A> {
         Table {
             limit,
             counts,
-            routes: Vec::new(alloc),
+            map: Trie::new(alloc),
+            alloc,
         }
     }
 
-    /// The routes in dump order.
-    pub(crate) fn routes(&self) -> &[Route]
-        ensures routes { result.now ≡ self.now.routes }
-        ensures table { IsTable result.now }
+    /// How many routes there are.
+    fn len(&self) -> u32
+        ensures { result ≡ length self.now.routes }
     {
-        self.routes.as_slice()
+        self.counts.iter().sum()
+    }
+
+    /// How many routes the feed has.
+    fn count(&self, feed: u32) -> u32
+        requires { IsFeed feed }
+        ensures { result ≡ count_of feed self.now.routes }
+    {
+        self.counts[(feed - 1) as usize]
+    }
+
+    /// The routes in dump order.
+    pub(crate) fn routes(&self, alloc: A) -> Result<Vec<Route, A>, Refused>
+        ensures routes { IfOk result (λ routes. routes.items ≡ self.now.routes) }
+        ensures table { IsTable self.now.routes }
+    {
+        let count = self.len();
+        map::routes(&self.map, alloc, count as usize)
+    }
+
+    /// How many nodes the map takes.
+    #[cfg(test)]
+    pub(crate) fn nodes(&self) -> usize {
+        self.map.nodes()
     }
 
     /// Answers a command of the feed. Where memory is refused, the table stays as it was.
@@ -76,11 +104,11 @@ impl<A: Allocator + Copy> Table<A> {
                 hop,
             })),
             Cmd::Withdraw { prefix } => Ok(self.withdraw(feed, prefix)),
-            Cmd::Lookup { addr } => Ok(match search::best_of(&self.routes, addr) {
+            Cmd::Lookup { addr } => Ok(match map::best_of(&self.map, addr) {
                 Some(route) => Reply::Found(route),
                 None => Reply::NoRoute,
             }),
-            Cmd::Dump => Ok(Reply::Dumped(self.routes.len() as u32)),
+            Cmd::Dump => Ok(Reply::Dumped(self.len())),
             Cmd::Purge => Ok(self.purge(feed)),
         }
     }
@@ -92,16 +120,14 @@ impl<A: Allocator + Copy> Table<A> {
             IfOk result (λ reply. Serves self.old self.new route.feed cmd reply) }
         ensures err { OnErr result (self.new ≡ self.old) }
     {
-        let start = search::first_of(&self.routes, route.prefix.base(), route.prefix.len());
-        if search::place_of(&self.routes, start, route.feed, route.prefix).is_some() {
+        if map::has(&self.map, route.feed, route.prefix) {
             return Ok(Reply::Exists);
         }
         let own = (route.feed - 1) as usize;
         if self.counts[own] >= self.limit {
             return Ok(Reply::Full);
         }
-        let place = search::place_for(&self.routes, start, &route);
-        self.routes.insert(place, route)?;
+        map::put_in(&mut self.map, self.alloc, route)?;
         self.counts[own] += 1;
         Ok(Reply::Added)
     }
@@ -112,13 +138,9 @@ impl<A: Allocator + Copy> Table<A> {
         ensures { let cmd = Replace route.prefix route.pref route.hop in
             Serves self.old self.new route.feed cmd result }
     {
-        let start = search::first_of(&self.routes, route.prefix.base(), route.prefix.len());
-        let Some(from) = search::place_of(&self.routes, start, route.feed, route.prefix) else {
+        if !map::replace(&mut self.map, route) {
             return Reply::Missing;
-        };
-        let place = search::place_for(&self.routes, start, &route);
-        let to = if from < place { place - 1 } else { place };
-        search::change(&mut self.routes, from, to, route);
+        }
         Reply::Replaced
     }
 
@@ -127,24 +149,41 @@ impl<A: Allocator + Copy> Table<A> {
         requires { IsFeed feed }
         ensures { Serves self.old self.new feed (Withdraw prefix) result }
     {
-        let start = search::first_of(&self.routes, prefix.base(), prefix.len());
-        let Some(place) = search::place_of(&self.routes, start, feed, prefix) else {
+        if !map::take_out(&mut self.map, feed, prefix) {
             return Reply::Missing;
-        };
-        self.routes.remove(place);
+        }
         self.counts[(feed - 1) as usize] -= 1;
         Reply::Withdrawn
     }
 
-    /// Takes all of the feed's routes out.
+    /// Takes all of the feed's routes out: prefix by prefix, until the feed has none.
     fn purge(&mut self, feed: u32) -> Reply
         requires { IsFeed feed }
         ensures { Serves self.old self.new feed Purge result }
     {
-        let own = (feed - 1) as usize;
-        let gone = self.counts[own];
-        self.routes.retain(|route| route.feed != feed);
-        self.counts[own] = 0;
+        let gone = self.count(feed);
+        let mut next = self.first();
+        while let Some(prefix) = next {
+            if self.count(feed) == 0 {
+                break;
+            }
+            let _ = self.withdraw(feed, prefix);
+            next = self.after(prefix);
+        }
         Reply::Purged(gone)
+    }
+
+    /// The least prefix that a route has, by base and then by length.
+    fn first(&self) -> Option<Prefix>
+        ensures { IsFirst self.now.routes result }
+    {
+        map::first(&self.map)
+    }
+
+    /// The least prefix after this one that a route has.
+    fn after(&self, prefix: Prefix) -> Option<Prefix>
+        ensures { IsNext self.now.routes prefix result }
+    {
+        map::after(&self.map, prefix)
     }
 }

@@ -1,21 +1,33 @@
-use Rattle.rt_rib.proofs.Kept.{withdrawn_counted, withdrawn_serves}
-use Rattle.rt_rib.proofs.Steps.{unwithdrawn}
+use Rattle.std.proofs.Common.{refl, sym, subst, arith}
+use Rattle.rt_rib.specs.declared.commands.Cmd.TheVariants.{Withdraw}
+use Rattle.rt_rib.specs.declared.commands.Reply.TheVariants.{Missing}
+use Rattle.rt_rib.specs.Kept.{Serves}
+use Rattle.rt_rib.specs.Maps.{routes_of}
+use Rattle.rt_rib.proofs.Kept.{kept_counted, withdrawn_counted, withdrawn_one}
+use Rattle.rt_rib.proofs.Steps.{held, unwithdrawn, withdrawn}
 use Rattle.rt_rib.proofs.table.Table.withdraw.Goals as goal
 
-pub returns-in_default : goal.returns-in_default
-returns-in_default g c =
-    let fresh = rw c.deref-2.ensures.value at c.in_default.ensures in
-    rw (← c.self.view_is) (unwithdrawn c.self.inside.limit c.self.inside.routes.items c.args.feed c.args.prefix fresh)
+pub take_out-requires : goal.take_out-requires
+take_out-requires g c = c.self.invariant.map
 
 pub invariant_of-self : goal.invariant_of-self
-invariant_of-self g c =
-    let found = rw c.deref-2.ensures.value at c.in-Some.ensures in
-    withdrawn_counted c.self.inside.limit c.self.inside.counts c.self.inside.routes.items c.self.invariant c.self.told
-    c.args.feed c.requires c.args.prefix c.in-Some.place found.0 found.1 c.remove.result c.remove.new.self.items c.remove.ensures.items
+invariant_of-self g c = kept_counted c.self.inside.limit c.self.inside.counts c.self.inside.map.pairs c.take_out.new.map.pairs c.self.invariant (c.if-not-take_out.ensures.kept refl)
+
+pub returns-then-not-take_out : goal.returns-then-not-take_out
+returns-then-not-take_out g c =
+    rw (← c.self.view_is)
+    (subst (λ n. Serves (held c.self.inside.limit (routes_of c.self.inside.map.pairs)) (held c.self.inside.limit (routes_of n)) c.args.feed (Withdraw c.args.prefix) Missing)
+    (sym (c.if-not-take_out.ensures.kept refl)) (unwithdrawn c.self.inside.limit (routes_of c.self.inside.map.pairs) c.args.feed c.args.prefix (sym c.if-not-take_out.ensures.had)))
+
+pub overflow_sub-self : goal.overflow_sub-self
+overflow_sub-self g c = ?
+
+pub invariant_of-self-2 : goal.invariant_of-self-2
+invariant_of-self-2 g c =
+    withdrawn_counted c.self.inside.limit c.self.inside.counts c.self.inside.map.pairs c.self.invariant c.self.told
+    c.args.feed c.requires c.args.prefix (sym c.if-not-take_out.ensures.had) c.take_out.new.map.pairs c.take_out.ensures.map (c.if-not-take_out.ensures.gone refl)
 
 pub returns : goal.returns
 returns g c =
-    let found = rw c.deref-2.ensures.value at c.in-Some.ensures in
     rw (← c.self.view_is)
-    (withdrawn_serves c.self.inside.limit c.self.inside.counts c.self.inside.routes.items c.self.invariant c.self.told
-    c.args.feed c.requires c.args.prefix c.in-Some.place found.0 found.1 c.remove.result c.remove.new.self.items c.remove.ensures.items)
+    (withdrawn c.self.inside.limit (routes_of c.self.inside.map.pairs) c.args.feed c.args.prefix (sym c.if-not-take_out.ensures.had) (routes_of c.take_out.new.map.pairs) (c.if-not-take_out.ensures.gone refl))
