@@ -1,11 +1,11 @@
 -- The counts of a table's routes, as routes come and go.
 use Rattle.std.proofs.Common.{◌≡◌, ℕ, ◌+◌, ◌-◌, ◌*◌, ◌<◌, ◌≤◌, Bool, true, false, not, cond, eqb, List, [], ◌∷◌, length, length-append, get_or, replicate, refl, sym, subst, ap, ◌∙◌, get_or-set_same, get_or-set_other, inl, inr, arith}
-use Rattle.std.proofs.Math.ListN.{set}
+use Rattle.std.proofs.Math.ListN.{set, length-set}
 use Rattle.std.proofs.lemmas.Bool.{cases_eq, eq-eqb, ne_eqb, eqb-true, cases_Bool, both_ways, false_from_ne_true, not_from_false, cond-true, cond-false}
 use Rattle.std.proofs.lemmas.List.Sums.{sum_by-cons, sum_by-set, sum_by-le, sum_by-append, length-filter}
 use Rattle.std.proofs.lemmas.List.Filters.{sum_by-filter_both}
 use Rattle.std.proofs.lemmas.List.Folds.{Any-from_list_any}
-use Rattle.std.proofs.lemmas.List.{get_or_default, get_or-replicate}
+use Rattle.std.proofs.lemmas.List.{get_or_default, get_or-replicate, length-replicate}
 use Rattle.std.specs.List.{All, Contains, filter, count_by, list_any}
 use Rattle.rt_cidr.specs.declared.prefixes.Prefix.{Prefix}
 use Rattle.rt_rib.specs.declared.routes.Route.{Route}
@@ -142,6 +142,7 @@ module _ (limit : ℕ) (counts : List ℕ) (t u : List Route) (own : ℕ) (insid
   -- the feed's count raised by one, where it has one route more
   pub AreCounts-more : AreCounts limit counts t → HasMore (own + 1) t u → get_or counts own 0 < limit → AreCounts limit (set counts own (get_or counts own 0 + 1)) u
   AreCounts-more h more room = record {
+    many = length-set counts own (get_or counts own 0 + 1) ∙ many;
     each = λ i l. elim (cases_eq i own) [
       | inl same ↦
           let now = h.each own inside in
@@ -164,6 +165,7 @@ module _ (limit : ℕ) (counts : List ℕ) (t u : List Route) (own : ℕ) (insid
   -- the feed's count lowered by one, where it has one route less
   pub AreCounts-less : AreCounts limit counts t → HasMore (own + 1) u t → AreCounts limit (set counts own (get_or counts own 0 - 1)) u
   AreCounts-less h more = record {
+    many = length-set counts own (get_or counts own 0 - 1) ∙ many;
     each = λ i l. elim (cases_eq i own) [
       | inl same ↦
           let now = h.each own inside in
@@ -195,14 +197,16 @@ module _ (limit : ℕ) (counts : List ℕ) (t u : List Route) (own : ℕ) (insid
 -- as many routes of each feed
 pub AreCounts-same : (limit : ℕ) (counts : List ℕ) (t u : List Route) → AreCounts limit counts t → ((feed : ℕ) → count_of feed u ≡ count_of feed t) → length u ≡ length t → AreCounts limit counts u
 AreCounts-same limit counts t u h each all = record {
+  many = h.many;
   each = λ i l. h.each i l ∙ sym (each (i + 1));
   within = h.within;
   all = h.all ∙ sym all;
 }
 
 -- there are at most so many routes as the feeds' limits allow together
-pub AreCounts-length : (limit : ℕ) (counts : List ℕ) (t : List Route) → AreCounts limit counts t → length counts ≡ 64 → length t ≤ 64 * limit
-AreCounts-length limit counts t h many =
+pub AreCounts-length : (limit : ℕ) (counts : List ℕ) (t : List Route) → AreCounts limit counts t → length t ≤ 64 * limit
+AreCounts-length limit counts t h =
+    let many = h.many in
     let low : All (λ x. x ≤ limit) counts = λ k d l. let same = get_or_default counts k d 0 l in let within = h.within k (omega arith) in omega arith in
     let most = sum_by-le (λ x. x) limit counts low in
     let product = ap (λ n. n * limit) many in
@@ -216,6 +220,7 @@ zero_at n i limit l = rw (get_or-replicate {A = ℕ} n i 0 0 l) (omega arith)
 -- no routes, and so none of any feed
 pub AreCounts-nil : (limit : ℕ) → AreCounts limit (replicate 64 0) []
 AreCounts-nil limit = record {
+  many = length-replicate {A = ℕ} 64 0;
   each = λ i l. get_or-replicate 64 i 0 0 l;
   within = λ i l. zero_at 64 i limit l;
   all = refl;

@@ -1,6 +1,7 @@
 -- A table keeps its counts as routes are put in, changed and taken out.
 use Rattle.std.proofs.Common.{◌≡◌, ℕ, ◌+◌, ◌-◌, ◌<◌, true, false, List, [], ◌∷◌, ◌++◌, length, get_or, sym, ◌∙◌, ap, subst, arith}
 use Rattle.std.proofs.Math.ListN.{set}
+use Rattle.std.proofs.lemmas.List.Elements.{All-push}
 use Rattle.rt_cidr.specs.declared.prefixes.Prefix.{Prefix}
 use Rattle.rt_rib.specs.declared.routes.Route.{Route}
 use Rattle.rt_rib.specs.declared.commands.Cmd.TheVariants.{Add}
@@ -84,11 +85,12 @@ pub kept_counted : (limit : ℕ) (counts : List ℕ) (m n : Map) → IsCounted l
 kept_counted limit counts m n h same = subst (IsCounted limit counts) (sym same) h
 
 -- a journal goes on with the entry of what the table serves
-pub IsKept-push : (old new : Held) (journal more : List Entry) (feed : ℕ) (cmd : Cmd) (reply : Reply) → IsKept old journal → Serves old new feed cmd reply → more ≡ journal ++ record { feed = feed; cmd = cmd; reply = reply } ∷ [] → IsKept new more
-IsKept-push old new journal more feed cmd reply h serves is =
+pub IsKept-push : (old new : Held) (journal more : List Entry) (feed : ℕ) (cmd : Cmd) (reply : Reply) → IsFeed feed → IsKept old journal → Serves old new feed cmd reply → more ≡ journal ++ record { feed = feed; cmd = cmd; reply = reply } ∷ [] → IsKept new more
+IsKept-push old new journal more feed cmd reply is_feed h serves is =
     let e : Entry = record { feed = feed; cmd = cmd; reply = reply } in
     let answered : reply ≡ reply_of old.limit (table_left old.limit journal) feed cmd = serves.replied ∙ ap (λ t. reply_of old.limit t feed cmd) h.kept in
     let next : IsKept (record { limit = old.limit; routes = table_after old.limit old.routes feed cmd }) (journal ++ e ∷ []) = record {
+      feeds = All-push (λ x. IsFeed x.feed) journal e h.feeds is_feed;
       lawful = IsLawfulJournal-push old.limit journal e h.lawful answered;
       kept = ap (λ t. table_after old.limit t feed cmd) h.kept ∙ sym (table_left-push old.limit journal e);
     } in

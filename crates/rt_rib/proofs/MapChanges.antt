@@ -64,14 +64,14 @@ module _ (laws : MapLaws) (m : Map) (h : IsMap m) (p : Prefix) where
   pub put_same : (offers : List Offer) → Some offers ≡ get m p → put m p offers ≡ m
   put_same offers e =
       laws.one (put m p offers) m (laws.put_in_order m p offers h.ordered) h.ordered (λ q. laws.put m p offers q ∙ at q) where
-    -- at each prefix
-    at : (q : Prefix) → cond (same_prefix p q) (Some offers) (get m q) ≡ get m q
-    at q = elim (one_or_other laws.same p q) [
-      | inl here ↦
-          let one : same_prefix p q ≡ true = subst (λ x. same_prefix p x ≡ true) here (same_prefix-itself p) in
-          cond-true (same_prefix p q) (Some offers) (get m q) one ∙ e ∙ ap (get m) here
-      | inr other ↦ cond-false (same_prefix p q) (Some offers) (get m q) other
-    ]
+        -- at each prefix
+        at : (q : Prefix) → cond (same_prefix p q) (Some offers) (get m q) ≡ get m q
+        at q = elim (one_or_other laws.same p q) [
+          | inl here ↦
+              let one : same_prefix p q ≡ true = subst (λ x. same_prefix p x ≡ true) here (same_prefix-itself p) in
+              cond-true (same_prefix p q) (Some offers) (get m q) one ∙ e ∙ ap (get m) here
+          | inr other ↦ cond-false (same_prefix p q) (Some offers) (get m q) other
+        ]
 
 module _ (laws : MapLaws) (m n : Map) (p : Prefix) (offers : List Offer) (at : IsWith m n p offers) where
   -- what the new map has at the prefix
@@ -110,60 +110,60 @@ module _ (laws : MapLaws) (m n : Map) (p : Prefix) (offers : List Offer) (at : I
   pub added : (o : Offer) → HasGained (offers_at m p) offers o → (x : Route) → IsThere n x ↔ (IsThere m x ⊎ (route_by p o ≡ x))
   added o gain x = elim (one_or_other laws.same p x.prefix) [
     | inl here ↦ (
-        (λ c. elim ((gain (offer_of x)).0 (subst (λ l. Contains l (offer_of x)) (at_it x.prefix here) c)) [
-          | inl old ↦ inl (subst (λ q. Contains (offers_at m q) (offer_of x)) here old)
-          | inr new ↦ inr (ap (λ q. route_by q o) here ∙ ap (route_by x.prefix) new)
-        ]),
-        (λ c. subst (λ l. Contains l (offer_of x)) (sym (at_it x.prefix here)) ((gain (offer_of x)).1 (elim c [
-          | inl old ↦ inl (subst (λ q. Contains (offers_at m q) (offer_of x)) (sym here) old)
-          | inr new ↦ inr (ap offer_of new)
-        ]))),
-      )
+      (λ c. elim ((gain (offer_of x)).0 (subst (λ l. Contains l (offer_of x)) (at_it x.prefix here) c)) [
+        | inl old ↦ inl (subst (λ q. Contains (offers_at m q) (offer_of x)) here old)
+        | inr new ↦ inr (ap (λ q. route_by q o) here ∙ ap (route_by x.prefix) new)
+      ]),
+      (λ c. subst (λ l. Contains l (offer_of x)) (sym (at_it x.prefix here)) ((gain (offer_of x)).1 (elim c [
+        | inl old ↦ inl (subst (λ q. Contains (offers_at m q) (offer_of x)) (sym here) old)
+        | inr new ↦ inr (ap offer_of new)
+      ]))),
+    )
     | inr other ↦ (
-        (λ c. inl (subst (λ l. Contains l (offer_of x)) (elsewhere x.prefix other) c)),
-        (λ c. elim c [
-          | inl old ↦ subst (λ l. Contains l (offer_of x)) (sym (elsewhere x.prefix other)) old
-          | inr new ↦ absurd (not_other o x other new)
-        ]),
-      )
+      (λ c. inl (subst (λ l. Contains l (offer_of x)) (elsewhere x.prefix other) c)),
+      (λ c. elim c [
+        | inl old ↦ subst (λ l. Contains l (offer_of x)) (sym (elsewhere x.prefix other)) old
+        | inr new ↦ absurd (not_other o x other new)
+      ]),
+    )
   ]
 
   -- a feed's offer less is its route less
   pub taken : (feed : ℕ) → HasLost (offers_at m p) offers feed → (x : Route) → IsThere n x ↔ (IsThere m x × (is_of feed p x ≡ false))
   taken feed loss x = elim (one_or_other laws.same p x.prefix) [
     | inl here ↦ (
-        (λ c.
-        let both = (loss (offer_of x)).0 (subst (λ l. Contains l (offer_of x)) (at_it x.prefix here) c) in
-        (subst (λ q. Contains (offers_at m q) (offer_of x)) here both.0, mine feed x here both.1)),
-        (λ c. subst (λ l. Contains l (offer_of x)) (sym (at_it x.prefix here)) ((loss (offer_of x)).1
-        (subst (λ q. Contains (offers_at m q) (offer_of x)) (sym here) c.0, not_mine feed x here c.1))),
-      )
+      (λ c.
+          let both = (loss (offer_of x)).0 (subst (λ l. Contains l (offer_of x)) (at_it x.prefix here) c) in
+          (subst (λ q. Contains (offers_at m q) (offer_of x)) here both.0, mine feed x here both.1)),
+      (λ c. subst (λ l. Contains l (offer_of x)) (sym (at_it x.prefix here)) ((loss (offer_of x)).1
+          (subst (λ q. Contains (offers_at m q) (offer_of x)) (sym here) c.0, not_mine feed x here c.1))),
+    )
     | inr other ↦ (
-        (λ c. (subst (λ l. Contains l (offer_of x)) (elsewhere x.prefix other) c, apart feed x other)),
-        (λ c. subst (λ l. Contains l (offer_of x)) (sym (elsewhere x.prefix other)) c.0),
-      )
+      (λ c. (subst (λ l. Contains l (offer_of x)) (elsewhere x.prefix other) c, apart feed x other)),
+      (λ c. subst (λ l. Contains l (offer_of x)) (sym (elsewhere x.prefix other)) c.0),
+    )
   ]
 
   -- a feed's offer in the place of its other one is its route in the place of the other
   pub swapped : (o : Offer) → HasSwapped (offers_at m p) offers o true → (x : Route) → IsThere n x ↔ ((IsThere m x × (is_of o.feed p x ≡ false)) ⊎ (route_by p o ≡ x))
   swapped o swap x = elim (one_or_other laws.same p x.prefix) [
     | inl here ↦ (
-        (λ c. elim ((swap (offer_of x)).0 (subst (λ l. Contains l (offer_of x)) (at_it x.prefix here) c)) [
-          | inl old ↦ inl (subst (λ q. Contains (offers_at m q) (offer_of x)) here old.0, mine o.feed x here old.1)
-          | inr new ↦ inr (ap (λ q. route_by q o) here ∙ ap (route_by x.prefix) new)
-        ]),
-        (λ c. subst (λ l. Contains l (offer_of x)) (sym (at_it x.prefix here)) ((swap (offer_of x)).1 (elim c [
-          | inl old ↦ inl (subst (λ q. Contains (offers_at m q) (offer_of x)) (sym here) old.0, not_mine o.feed x here old.1)
-          | inr new ↦ inr (ap offer_of new)
-        ]))),
-      )
+      (λ c. elim ((swap (offer_of x)).0 (subst (λ l. Contains l (offer_of x)) (at_it x.prefix here) c)) [
+        | inl old ↦ inl (subst (λ q. Contains (offers_at m q) (offer_of x)) here old.0, mine o.feed x here old.1)
+        | inr new ↦ inr (ap (λ q. route_by q o) here ∙ ap (route_by x.prefix) new)
+      ]),
+      (λ c. subst (λ l. Contains l (offer_of x)) (sym (at_it x.prefix here)) ((swap (offer_of x)).1 (elim c [
+        | inl old ↦ inl (subst (λ q. Contains (offers_at m q) (offer_of x)) (sym here) old.0, not_mine o.feed x here old.1)
+        | inr new ↦ inr (ap offer_of new)
+      ]))),
+    )
     | inr other ↦ (
-        (λ c. inl (subst (λ l. Contains l (offer_of x)) (elsewhere x.prefix other) c, apart o.feed x other)),
-        (λ c. elim c [
-          | inl old ↦ subst (λ l. Contains l (offer_of x)) (sym (elsewhere x.prefix other)) old.0
-          | inr new ↦ absurd (not_other o x other new)
-        ]),
-      )
+      (λ c. inl (subst (λ l. Contains l (offer_of x)) (elsewhere x.prefix other) c, apart o.feed x other)),
+      (λ c. elim c [
+        | inl old ↦ subst (λ l. Contains l (offer_of x)) (sym (elsewhere x.prefix other)) old.0
+        | inr new ↦ absurd (not_other o x other new)
+      ]),
+    )
   ]
 
 module _ (laws : MapLaws) (m n : Map) (h : IsMap m) (k : IsMap n) (p : Prefix) (offers : List Offer) (at : IsWith m n p offers) where

@@ -8,13 +8,15 @@ use Rattle.std.proofs.lemmas.List.Sums.{sum_by-cons}
 use Rattle.rt_cidr.specs.declared.prefixes.Prefix.{Prefix}
 use Rattle.rt_trie.specs.Map.{same_prefix, before}
 use Rattle.rt_rib.specs.declared.routes.Route.{Route}
-use Rattle.rt_rib.specs.declared.commands.Cmd.TheVariants.{Withdraw}
+use Rattle.rt_rib.specs.declared.commands.Cmd.TheVariants.{Withdraw, Purge}
+use Rattle.rt_rib.specs.declared.commands.Reply.TheVariants.{Purged}
 use Rattle.rt_rib.specs.Table.{is_of, has, count_of, take_out, purge}
 use Rattle.rt_rib.specs.Maps.{IsFirst, IsNext}
-use Rattle.rt_rib.specs.Sequential.{table_after}
-use Rattle.rt_rib.specs.Kept.{Held, IsAhead, HasPassed, left_of}
+use Rattle.rt_rib.specs.Sequential.{reply_of, table_after}
+use Rattle.rt_rib.specs.Kept.{Held, Serves, IsAhead, HasPassed, left_of}
 use Rattle.rt_rib.proofs.Lists.{filter-all, list_any-none}
 use Rattle.rt_rib.proofs.Order.{below_then-true, below_then-false, below_then-less, below_then-same}
+use Rattle.rt_rib.proofs.Steps.{held}
 use Rattle.rt_rib.proofs.Sets.{Contains-cases, Contains-none, take_out_leaves_others}
 
 -- what a filter keeps of what another one keeps all of
@@ -34,10 +36,10 @@ pub purge-take_out : (feed : ℕ) (p : Prefix) (t : List Route) → purge feed (
 purge-take_out feed p t =
     filter-filter (λ (r : Route). not (eqb r.feed feed)) (λ (r : Route). not (is_of feed p r))
     (λ r other. not_from_false (is_of feed p r) (apart (eqb r.feed feed) (same_prefix r.prefix p) other)) t where
-  -- another feed's route is not this one's
-  apart : (a b : Bool) → not a ≡ true → (a && b) ≡ false
-  apart true b e = cc
-  apart false b e = refl
+      -- another feed's route is not this one's
+      apart : (a b : Bool) → not a ≡ true → (a && b) ≡ false
+      apart true b e = cc
+      apart false b e = refl
 
 -- nothing goes where no route is the feed's
 pub purge-none : (feed : ℕ) (t : List Route) → ((r : Route) → Contains t r → eqb r.feed feed ≡ false) → purge feed t ≡ t
@@ -83,10 +85,10 @@ passed-next feed t u p o h is next = λ r c own.
     false_from_ne_true (same_prefix r.prefix p) (λ same. both_ways (is_of feed p r) left.1 (and_from (eqb r.feed feed) (same_prefix r.prefix p) own same)) in
     let later = comes_after r.prefix p (h r left.0 own) other in
     ahead o next r c later where
-  -- by whether there is a next one
-  ahead : (o' : Option Prefix) → IsNext u p o' → (r : Route) → Contains u r → before p r.prefix ≡ true → IsAhead o' r
-  ahead None n r c later = both_ways (before p r.prefix) (n r c) later
-  ahead (Some q) n r c later = n.1 r c later
+      -- by whether there is a next one
+      ahead : (o' : Option Prefix) → IsNext u p o' → (r : Route) → Contains u r → before p r.prefix ≡ true → IsAhead o' r
+      ahead None n r c later = both_ways (before p r.prefix) (n r c) later
+      ahead (Some q) n r c later = n.1 r c later
 
 -- once all are passed the feed has none
 pub passed-all : (feed : ℕ) (t : List Route) → HasPassed feed t None → (r : Route) → Contains t r → eqb r.feed feed ≡ false
@@ -114,3 +116,13 @@ left-less t p (Some q) next =
       | inl less ↦ omega arith
       | inr same ↦ let len = ltb-true p.len q.len same.1 in let base = same.0 in omega arith
     ]
+
+-- once others are as they were and the feed has none, all of its routes went out
+pub purge_done : (old now : Held) (feed gone : ℕ) → now.limit ≡ old.limit → purge feed now.routes ≡ purge feed old.routes → ((r : Route) → Contains now.routes r → eqb r.feed feed ≡ false) → gone ≡ count_of feed old.routes → Serves old now feed Purge (Purged gone)
+unfolding reply_of table_after
+purge_done old now feed gone same others none are =
+    let left : now.routes ≡ purge feed old.routes = sym (purge-none feed now.routes none) ∙ others in
+    record {
+      replied = ap Purged are;
+      changed = ap (λ l. held l now.routes) same ∙ ap (held old.limit) left;
+    }

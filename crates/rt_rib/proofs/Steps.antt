@@ -66,8 +66,3 @@ module _ (limit : ℕ) (t : List Route) (feed : ℕ) where
   pub dumped : Serves (held limit t) (held limit t) feed Dump (Dumped (length t))
   unfolding reply_of table_after
   dumped = record { replied = refl; changed = refl }
-
-  -- a purge
-  pub purged : (u : List Route) → u ≡ purge feed t → Serves (held limit t) (held limit u) feed Purge (Purged (count_of feed t))
-  unfolding reply_of table_after
-  purged u is = record { replied = refl; changed = rw is refl }

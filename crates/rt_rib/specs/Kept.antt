@@ -1,6 +1,6 @@
 -- What a table keeps beside its routes, and a book beside its journal.
 use Rattle.std.specs.Prelude.{◌≡◌, ℕ, ◌+◌, ◌-◌, ◌*◌, ◌^◌, ◌<◌, ◌≤◌, ◌==◌, true, false, List, Option, Some, None, length, sum, slice_index}
-use Rattle.std.specs.List.{Contains}
+use Rattle.std.specs.List.{All, Contains}
 use Rattle.rt_rib.specs.declared.routes.Route.{Route}
 use Rattle.rt_rib.specs.declared.commands.Cmd.{Cmd}
 use Rattle.rt_rib.specs.declared.commands.Reply.{Reply}
@@ -11,7 +11,7 @@ use Rattle.rt_rib.specs.Table.{count_of, IsTable}
 use Rattle.rt_rib.specs.Maps.{Map, routes_of, IsMap}
 use Rattle.rt_rib.specs.Sequential.{reply_of, table_after}
 use Rattle.rt_rib.specs.Journal.{table_left, IsLawfulJournal}
-use Rattle.rt_rib.specs.Book.{IsLimit}
+use Rattle.rt_rib.specs.Book.{IsLimit, IsFeed}
 
 -- how many routes a feed may have, and the routes
 pub record Held : Type 0 where
@@ -25,6 +25,7 @@ pub record Serves (old new : Held) (feed : ℕ) (cmd : Cmd) (reply : Reply) : Ty
 
 -- for each feed, how many of the routes are its own: no more than the limit, and there are no others
 pub record AreCounts (limit : ℕ) (counts : List ℕ) (routes : List Route) : Type 0 where
+  pub many : length counts ≡ 64
   pub each : (i : ℕ) → i < 64 → slice_index counts i ≡ count_of (i + 1) routes
   pub within : (i : ℕ) → i < 64 → slice_index counts i ≤ limit
   pub all : sum counts ≡ length routes
@@ -50,7 +51,8 @@ abbrev pub left_of : Option Prefix → ℕ
 left_of None = 0
 left_of (Some p) = 2 ^ 39 - (p.base * 64 + p.len) + 1
 
--- the journal is lawful, and the routes are what it leaves
+-- the journal is lawful, its entries are of feeds that there may be, and the routes are what it leaves
 pub record IsKept (held : Held) (journal : List Entry) : Type 0 where
+  pub feeds : All (λ e. IsFeed e.feed) journal
   pub lawful : IsLawfulJournal held.limit journal
   pub kept : held.routes ≡ table_left held.limit journal

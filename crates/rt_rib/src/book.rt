@@ -1,4 +1,5 @@
 ghost use Rattle.std.specs.Prelude.{◌≡◌, [], IfOk, OnErr};
+ghost use Rattle.std.specs.List.{All};
 ghost use Rattle.rt_rib.specs.Book.{IsLimit, IsFeed};
 
 use crate::commands::{Cmd, Entry, Reply};
@@ -10,7 +11,7 @@ use std::marker::Model;
 
 /// A routing table with the journal of every command that it answered. Contracts see a book as its limit and its
 /// journal. The journal is lawful: each reply is the sequential table's, in the set of routes that the entries
-/// before it leave. The routes are the set that the whole journal leaves.
+/// before it leave, and each entry is of a feed from 1 to 64. The routes are the set that the whole journal leaves.
 #[derive(Drop)]
 pub struct Book<A: Allocator + Copy> {
     table: Table<A>,
@@ -72,6 +73,7 @@ impl<A: Allocator + Copy> Book<A> {
     pub fn journal(&self) -> &[Entry]
         ensures entries { result.now ≡ self.now.journal }
         ensures lawful { IsLawfulJournal self.now.limit self.now.journal }
+        ensures feeds { All (λ e. IsFeed e.feed) self.now.journal }
     {
         self.journal.as_slice()
     }

@@ -1,5 +1,5 @@
 //! The sequential table: its routes as offers in a map, how many each feed has, and the answers to commands.
-ghost use Rattle.std.specs.Prelude.{◌≡◌, ◌<◌, ◌≤◌, [], length, IfOk, OnErr};
+ghost use Rattle.std.specs.Prelude.{◌≡◌, ◌^◌, ◌<◌, [], length, sum, IfOk, OnErr};
 ghost use Rattle.rt_rib.specs.declared.commands.Cmd.TheVariants.{Add, Replace, Withdraw, Purge};
 ghost use Rattle.rt_rib.specs.Table.{count_of, IsTable};
 ghost use Rattle.rt_rib.specs.Book.{IsLimit, IsFeed};
@@ -58,7 +58,7 @@ impl<A: Allocator + Copy> Table<A> {
     fn len(&self) -> u32
         ensures { result ≡ length self.now.routes }
     {
-        self.counts.iter().sum()
+        total(&self.counts)
     }
 
     /// How many routes the feed has.
@@ -186,4 +186,12 @@ impl<A: Allocator + Copy> Table<A> {
     {
         map::after(&self.map, prefix)
     }
+}
+
+/// The sum of the counts.
+fn total(counts: &[u32]) -> u32
+    requires { sum counts.now < 2 ^ 32 }
+    ensures { result ≡ sum counts.now }
+{
+    counts.iter().sum()
 }

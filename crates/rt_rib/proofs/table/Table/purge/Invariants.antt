@@ -7,7 +7,7 @@ abbrev pub invariant-loop-next : goal.invariant-loop-next
 invariant-loop-next g l = record {
   same_limit : l.self.limit ≡ l.initial.self.limit;
   others : purge l.feed l.self.routes ≡ purge l.feed l.initial.self.routes;
-  passed : HasPassed l.feed l.self.routes l.next
+  passed : HasPassed l.feed l.self.routes l.next;
 }
 
 abbrev pub decreases-loop-next : goal.decreases-loop-next

@@ -20,7 +20,14 @@ returns-then-not-take_out g c =
     (sym (c.if-not-take_out.ensures.kept refl)) (unwithdrawn c.self.inside.limit (routes_of c.self.inside.map.pairs) c.args.feed c.args.prefix (sym c.if-not-take_out.ensures.had)))
 
 pub overflow_sub-self : goal.overflow_sub-self
-overflow_sub-self g c = ?
+overflow_sub-self g c = c.requires.0
+
+pub overflow_sub-self-2 : goal.overflow_sub-self-2
+overflow_sub-self-2 g c =
+    let one =
+    withdrawn_one c.self.inside.limit c.self.inside.counts c.self.inside.map.pairs c.self.invariant c.self.told
+    c.args.feed c.requires c.args.prefix (sym c.if-not-take_out.ensures.had) c.take_out.new.map.pairs c.take_out.ensures.map (c.if-not-take_out.ensures.gone refl) in
+    omega arith
 
 pub invariant_of-self-2 : goal.invariant_of-self-2
 invariant_of-self-2 g c =
