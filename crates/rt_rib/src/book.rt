@@ -69,6 +69,12 @@ impl<A: Allocator + Copy> Book<A> {
         self.table.routes(alloc)
     }
 
+    /// How many nodes the trie of the routes takes.
+    #[cfg(test)]
+    pub(crate) fn nodes(&self) -> usize {
+        self.table.nodes()
+    }
+
     /// Every answered command with its reply, in the order in which they were answered.
     pub fn journal(&self) -> &[Entry]
         ensures entries { result.now ≡ self.now.journal }
