@@ -129,6 +129,7 @@ WAY = [
     ("asked of the table", "apply_batch", "rt_shared"),
     ("enter the lock", "enter", "ya_lock"),
     ("answered and journaled", "apply", "rt_rib"),
+    ("the longest match", "longest", "rt_trie"),
     ("leave the lock", "leave", "ya_lock"),
     ("a line of the report", "write_report", "rt_feed"),
 ]
@@ -143,7 +144,7 @@ def way():
             re.search(rf"\bfn {function}\b", path.read_text()) for path in (TOP / "crates" / crate / "src").rglob("*.rt")
         ):
             sys.exit(f"draw_table.py: {crate} has no function {function}")
-        locked = crate in ("ya_lock", "rt_rib")
+        locked = crate in ("ya_lock", "rt_rib", "rt_trie")
         picture.box(60, y, 250, 40, PALE_GREEN if locked else "#f6f8fa", GREEN if locked else INK)
         picture.text(185, y + 25, what)
         if function:

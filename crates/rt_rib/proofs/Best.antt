@@ -1,16 +1,17 @@
 -- What a look-up finds, in terms of what the set contains.
-use Rattle.std.proofs.Common.{◌≡◌, ◌≤◌, Bool, true, false, not, ltb, leb, inl, inr, List, [], ◌∷◌, get_or, Some, refl, ap, ◌∙◌, sym, subst, arith}
-use Rattle.std.proofs.lemmas.Bool.{cases_Bool, cond-true, cond-false, both_ways, and_parts, not-true, not_from_false, leb-true, le-leb, ltb-false}
+use Rattle.std.proofs.Common.{◌≡◌, ◌≤◌, Bool, true, false, not, ltb, leb, inl, inr, List, [], ◌∷◌, get_or, Some, None, refl, ap, ◌∙◌, sym, subst, arith}
+use Rattle.std.proofs.lemmas.Bool.{cases_Bool, cond-true, cond-false, both_ways, false_from_ne_true, and_parts, and_from, not-true, not_from_false, leb-true, le-leb, ltb-true, ltb-false, lt-ltb}
+use Rattle.std.specs.Prelude.{◌&&◌}
 use Rattle.std.proofs.lemmas.List.Elements.{All-contains, Contains-get_or}
 use Rattle.std.specs.List.{AllPairs, Contains, find, list_all}
 use Rattle.rt_cidr.specs.declared.address.Addr.{Addr}
 use Rattle.rt_cidr.specs.Prefix.{covers}
 use Rattle.rt_rib.specs.declared.routes.Route.{Route}
-use Rattle.rt_rib.specs.Table.{is_better, is_of, IsTable}
+use Rattle.rt_rib.specs.Table.{below_then, is_better, is_of, IsTable}
 use Rattle.rt_rib.specs.LookUp.{matching, longest_of, best, look_up}
 use Rattle.rt_rib.specs.Laws.{IsBestMatch, LookUpFindsBest}
 use Rattle.rt_rib.proofs.Lists.{AllPairs-head, AllPairs-tail, filter-none, list_all-from}
-use Rattle.rt_rib.proofs.Order.{below_then-false, is_of-from}
+use Rattle.rt_rib.proofs.Order.{below_then-true, below_then-false, below_then-less, below_then-same, below_then-trans, is_better-trans, is_better-itself, is_of-from}
 use Rattle.rt_rib.proofs.Tables.{Apart, Apart-flip}
 use Rattle.rt_rib.proofs.Sets.{Contains-head, Contains-tail, Contains-cases, Contains-none, filter-keeps, filter-from}
 use Rattle.rt_rib.proofs.Covering.{base_at, covers-base}
@@ -82,6 +83,111 @@ even r s a b =
       ]
     ]
 
+-- whether r's prefix is longer than s's, or as long and r the better one
+abbrev beats : Route → Route → Bool
+beats r s = below_then s.prefix.len r.prefix.len (is_better r s)
+
+-- what beats one that a second doesn't beat beats the second
+beats-over : (r s u : Route) → beats r u ≡ true → beats s u ≡ false → beats r s ≡ true
+beats-over r s u x y =
+    elim (below_then-true u.prefix.len r.prefix.len (is_better r u) x) [
+      | inl more ↦ elim (below_then-false u.prefix.len s.prefix.len (is_better s u) y) [
+        | inl less ↦ below_then-less s.prefix.len r.prefix.len (is_better r s) (omega arith)
+        | inr same ↦ let e = same.0 in below_then-less s.prefix.len r.prefix.len (is_better r s) (omega arith)
+      ]
+      | inr also ↦ elim (below_then-false u.prefix.len s.prefix.len (is_better s u) y) [
+        | inl less ↦ let e = also.0 in below_then-less s.prefix.len r.prefix.len (is_better r s) (omega arith)
+        | inr same ↦
+            let e = also.0 in
+            let f = same.0 in
+            below_then-same s.prefix.len r.prefix.len (is_better r s) (omega arith) (better-over r s u also.1 same.1)
+      ]
+    ] where
+      -- the same of preference and feed
+      better-over : (r s u : Route) → is_better r u ≡ true → is_better s u ≡ false → is_better r s ≡ true
+      better-over r s u x y =
+          elim (below_then-true r.pref u.pref (ltb r.feed u.feed) x) [
+            | inl less ↦ elim (below_then-false s.pref u.pref (ltb s.feed u.feed) y) [
+              | inl more ↦ below_then-less r.pref s.pref (ltb r.feed s.feed) (omega arith)
+              | inr same ↦ let e = same.0 in below_then-less r.pref s.pref (ltb r.feed s.feed) (omega arith)
+            ]
+            | inr also ↦ elim (below_then-false s.pref u.pref (ltb s.feed u.feed) y) [
+              | inl more ↦ let e = also.0 in below_then-less r.pref s.pref (ltb r.feed s.feed) (omega arith)
+              | inr same ↦
+                  let e = also.0 in
+                  let f = same.0 in
+                  let low = ltb-true r.feed u.feed also.1 in
+                  let high = ltb-false s.feed u.feed same.1 in
+                  below_then-same r.pref s.pref (ltb r.feed s.feed) (omega arith) (lt-ltb r.feed s.feed (omega arith))
+            ]
+          ]
+
+-- no route beats itself
+beats-itself : (r : Route) → beats r r ≡ false
+beats-itself r = false_from_ne_true (beats r r) (λ e. elim (below_then-true r.prefix.len r.prefix.len (is_better r r) e) [
+  | inl less ↦ omega arith
+  | inr same ↦ both_ways (is_better r r) (is_better-itself r) same.1
+])
+
+-- what beats one that beats a third beats that
+beats-trans : (r s u : Route) → beats r s ≡ true → beats s u ≡ true → beats r u ≡ true
+beats-trans r s u x y =
+    below_then-trans u.prefix.len s.prefix.len r.prefix.len (is_better s u) (is_better r s) (is_better r u) (λ p q. is_better-trans r s u q p) y x
+
+-- a route that covers the address, of this one and those of the list, that none of them beats
+record IsTop (addr : Addr) (first : Route) (rest : List Route) : Type 0 where
+  top : Route
+  contained : Contains (first ∷ rest) top
+  covering : covers top.prefix addr ≡ true
+  unbeaten : (s : Route) → Contains (first ∷ rest) s → covers s.prefix addr ≡ true → beats s top ≡ false
+
+-- there is one where this one covers the address
+find_top : (addr : Addr) (first : Route) (rest : List Route) → covers first.prefix addr ≡ true → IsTop addr first rest
+find_top addr first [] c = record {
+  top = first;
+  contained = Contains-head first [];
+  covering = c;
+  unbeaten = λ s d e. elim (Contains-cases first [] s d) [
+    | inl here ↦ subst (λ z. beats z first ≡ false) here (beats-itself first)
+    | inr none ↦ absurd (Contains-none s none)
+  ];
+}
+find_top addr first (x ∷ rest) c = elim (cases_Bool (covers x.prefix addr && beats x first)) [
+  | inl wins ↦
+      let parts = and_parts (covers x.prefix addr) (beats x first) wins in
+      let h = find_top addr x rest parts.0 in
+      record {
+        top = h.top;
+        contained = Contains-tail first (x ∷ rest) h.top h.contained;
+        covering = h.covering;
+        unbeaten = λ s d e. elim (Contains-cases first (x ∷ rest) s d) [
+          | inl here ↦ subst (λ z. beats z h.top ≡ false) here (false_from_ne_true (beats first h.top) (λ over.
+              both_ways (beats x h.top) (h.unbeaten x (Contains-head x rest) parts.0) (beats-trans x first h.top parts.1 over)))
+          | inr later ↦ h.unbeaten s later e
+        ];
+      }
+  | inr loses ↦
+      let h = find_top addr first rest c in
+      record {
+        top = h.top;
+        contained = elim (Contains-cases first rest h.top h.contained) [
+          | inl here ↦ subst (Contains (first ∷ x ∷ rest)) here (Contains-head first (x ∷ rest))
+          | inr later ↦ Contains-tail first (x ∷ rest) h.top (Contains-tail x rest h.top later)
+        ];
+        covering = h.covering;
+        unbeaten = λ s d e. elim (Contains-cases first (x ∷ rest) s d) [
+          | inl here ↦ h.unbeaten s (subst (Contains (first ∷ rest)) here (Contains-head first rest)) e
+          | inr later ↦ elim (Contains-cases x rest s later) [
+            | inl same ↦ false_from_ne_true (beats s h.top) (λ over.
+                let covered : covers x.prefix addr ≡ true = ap (λ z. covers z.prefix addr) same ∙ e in
+                let more : beats x first ≡ true = ap (λ z. beats z first) same ∙ beats-over s first h.top over (h.unbeaten first (Contains-head first rest) c) in
+                both_ways (covers x.prefix addr && beats x first) loses (and_from (covers x.prefix addr) (beats x first) covered more))
+            | inr behind ↦ h.unbeaten s (Contains-tail first rest s behind) e
+          ]
+        ];
+      }
+]
+
 module _ (addr : Addr) (t : List Route) (table : IsTable t) where
   -- whether the prefix covers the address
   abbrev covering : Route → Bool
@@ -145,9 +251,38 @@ module _ (addr : Addr) (t : List Route) (table : IsTable t) where
       let feed = even r s worse (h.best s facts.0 facts.1 len) in
       found.1 ∙ ap Some (one_of t table.single r s h.contained facts.0 (is_of-from r.feed r.prefix s feed (base ∙ sym own) len))
 
+-- where a prefix covers the address there is a best match
+covered_best : (addr : Addr) (t : List Route) (s : Route) → Contains t s → covers s.prefix addr ≡ true → (r : Route) × IsBestMatch addr t r
+covered_best addr t s c e =
+    let h = find_top addr s t e in
+    let there : Contains t h.top = elim (Contains-cases s t h.top h.contained) [ inl here ↦ subst (Contains t) here c | inr later ↦ later ] in (
+      h.top,
+      record {
+        contained = there;
+        covering = h.covering;
+        longest = λ u d f. elim (below_then-false h.top.prefix.len u.prefix.len (is_better u h.top) (h.unbeaten u (Contains-tail s t u d) f)) [
+          | inl less ↦ omega arith
+          | inr same ↦ let len = same.0 in omega arith
+        ];
+        best = λ u d f len. elim (below_then-false h.top.prefix.len u.prefix.len (is_better u h.top) (h.unbeaten u (Contains-tail s t u d) f)) [
+          | inl less ↦ absurd (omega arith)
+          | inr same ↦ same.1
+        ];
+      },
+    )
+
 pub look_up_finds_best : LookUpFindsBest
 unfolding look_up
 look_up_finds_best addr t table = (
   (λ r. (sound addr t table r, complete addr t table r)),
-  (λ none. ap (λ m. best (longest_of m)) (filter-none (λ s. covers s.prefix addr) t (λ k d l. none (get_or t k d) (Contains-get_or t k d l)))),
-)
+  (
+    (λ e s c. false_from_ne_true (covers s.prefix addr) (λ covered.
+        let b = covered_best addr t s c covered in
+        let found : best (longest_of (matching addr t)) ≡ Some b.0 = complete addr t table b.0 b.1 in
+        absurd (some_none (sym e ∙ found)))),
+    (λ none. ap (λ m. best (longest_of m)) (filter-none (λ s. covers s.prefix addr) t (λ k d l. none (get_or t k d) (Contains-get_or t k d l)))),
+  ),
+) where
+  -- something is not nothing
+  some_none : {X : Type 0} {x : X} → None ≡ Some x → ⊥
+  some_none e = cc

@@ -62,6 +62,6 @@ module _ (laws : MapLaws) (m : Map) (h : IsMap m) (addr : Addr) where
   -- where no prefix covers the address it finds nothing
   pub look_up-none : All (λ (y : Prefix × List Offer). covers y.0 addr ≡ false) m → look_up addr (routes_of m) ≡ None
   look_up-none none =
-      (look_up_finds_best addr (routes_of m) (IsTable-map laws m h)).1 (λ s c.
+      (look_up_finds_best addr (routes_of m) (IsTable-map laws m h)).1.1 (λ s c.
       let x = offer_in m s c in
       All-contains (λ (y : Prefix × List Offer). covers y.0 addr ≡ false) m (s.prefix, x.0) none x.1)

@@ -46,7 +46,7 @@ below_then-trans a b c p q r rest x y =
     ]
 
 -- what is better than a better one is better
-is_better-trans : (r s t : Route) → is_better r s ≡ true → is_better s t ≡ true → is_better r t ≡ true
+pub is_better-trans : (r s t : Route) → is_better r s ≡ true → is_better s t ≡ true → is_better r t ≡ true
 is_better-trans r s t =
     below_then-trans r.pref s.pref t.pref (ltb r.feed s.feed) (ltb s.feed t.feed) (ltb r.feed t.feed)
     (λ x y. let a = ltb-true r.feed s.feed x in let b = ltb-true s.feed t.feed y in lt-ltb r.feed t.feed (omega arith))

@@ -33,11 +33,11 @@ pub record IsBestMatch (addr : Addr) (table : List Route) (r : Route) : Type 0 w
   pub longest : (s : Route) → Contains table s → covers s.prefix addr ≡ true → s.prefix.len ≤ r.prefix.len
   pub best : (s : Route) → Contains table s → covers s.prefix addr ≡ true → s.prefix.len ≡ r.prefix.len → is_better s r ≡ false
 
--- what a look-up finds is the best match, and nothing where no prefix covers the address
+-- what a look-up finds is the best match, and it finds nothing exactly where no prefix covers the address
 abbrev pub LookUpFindsBest : Type 0
 LookUpFindsBest =
     (addr : Addr) (table : List Route) → IsTable table → ((r : Route) → (look_up addr table ≡ Some r) ↔ IsBestMatch addr table r)
-    × (((s : Route) → Contains table s → covers s.prefix addr ≡ false) → look_up addr table ≡ None)
+    × ((look_up addr table ≡ None) ↔ ((s : Route) → Contains table s → covers s.prefix addr ≡ false))
 
 -- what a journal leaves is a table; of no entry it is the empty one, and of one entry more what its command leaves
 abbrev pub LeftByEntry : Type 0

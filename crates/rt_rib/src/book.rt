@@ -1,3 +1,4 @@
+//! The book: a table with the journal of all that it answered, and nothing but what keeps the two in step.
 ghost use Rattle.std.specs.Prelude.{◌≡◌, [], IfOk, OnErr};
 ghost use Rattle.std.specs.List.{All};
 ghost use Rattle.rt_rib.specs.Book.{IsLimit, IsFeed};

@@ -1,3 +1,4 @@
+//! What a feed may ask, what it is answered, and the two as an entry: plain data, as callers see it.
 use crate::routes::{Hop, Route};
 use rt_cidr::{Addr, Prefix};
 

@@ -18,7 +18,7 @@ pub fn one_table_of_set()
 {}
 
 /// A look-up finds a route exactly where it is one of the set whose prefix covers the address, no longer prefix covers
-/// it, and no other route to that prefix is better. It finds none where no prefix covers the address.
+/// it, and no other route to that prefix is better. It finds none exactly where no prefix covers the address.
 pub fn look_up_finds_best()
     ensures { LookUpFindsBest }
 {}

@@ -1,4 +1,24 @@
 //! One IPv4 routing table as a set of routes, its commands and replies, and the journal of all that was answered.
+//!
+//! ```
+//! let mut book = Book::new(alloc, 100);
+//! let prefix = Prefix::parse(b"10.0.0.0/8")?;
+//! let hop = Hop::Via(Addr::parse(b"192.0.2.1")?);
+//! book.apply(1, Cmd::Add { prefix, pref: 10, hop })?; // Added
+//! let addr = Addr::parse(b"10.1.2.3")?;
+//! book.apply(2, Cmd::Lookup { addr })?; // Found, with the route of feed 1
+//! ```
+//!
+//! A contract sees a book as two things: how many routes a feed may have, and the journal of every answered command. Its type
+//! keeps that the journal is lawful: each reply is the sequential table's (`specs/Sequential.antt`) in the set of routes that
+//! the entries before it leave, and each entry is of a feed from 1 to 64. The routes are what the journal leaves, and
+//! [`Book::routes`] gives them in dump order. [`laws`] says what holds of every set of routes and of every journal.
+//!
+//! The routes lie in a trie: under each prefix what is offered for it, the best offer first (`src/map.rt`, `src/offers.rt`). So
+//! a look-up goes down once and reads one offer, and only an `Add` grows anything but the journal.
+//!
+//! Only tested, since no clause says it: that a command succeeds where there is memory, that none but an `Add` wants memory
+//! beside that of its entry, and how many nodes the trie has.
 #![tactic(auto)]
 
 mod book;

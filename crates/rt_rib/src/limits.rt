@@ -1,3 +1,4 @@
+//! How many feeds and routes there may be, and the tests of such numbers.
 ghost use Rattle.std.specs.Prelude.{◌↔◌, IsTrue};
 ghost use Rattle.rt_rib.specs.Book.{IsLimit, IsFeed};
 

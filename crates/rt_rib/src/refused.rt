@@ -1,3 +1,4 @@
+//! Want of memory, the one error of this crate.
 use std::alloc::{AllocError, AllocFailed};
 use thiserror::Error;
 

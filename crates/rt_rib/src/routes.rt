@@ -1,3 +1,4 @@
+//! Routes: plain data, as callers see it.
 use rt_cidr::{Addr, Prefix};
 
 /// Where packets to a route's addresses go.
