@@ -8,7 +8,7 @@ use Rattle.rt_app.proofs.runs.run_texts.Goals as goal
 
 pub returns-in-Ok-write_run-clause-text : goal.returns-in-Ok-write_run-clause-text
 returns-in-Ok-write_run-clause-text g c =
-    let routes = c.in-Ok-routes.ensures {u = tt} in (
+    let routes = (c.in-Ok-routes.ensures {u = tt}).routes in (
       reports_text 1 c.in-Ok.ran.reports.items ++ table_text (table_of c.in-Ok.ran.book),
       rw (c.status_of.ensures, c.as_slice-in-Ok-write_run.ensures.value)
           (run_text _ c.args.limit c.args.batch c.in-Ok.ran.reports.items c.in-Ok.ran.book _ (c.in-Ok.ensures {u = tt}) refl),
@@ -17,7 +17,7 @@ returns-in-Ok-write_run-clause-text g c =
 
 pub returns-clause-text : goal.returns-clause-text
 returns-clause-text g c =
-    let routes = c.in-Ok-routes.ensures {u = tt} in (
+    let routes = (c.in-Ok-routes.ensures {u = tt}).routes in (
       reports_text 1 c.in-Ok.ran.reports.items ++ table_text (table_of c.in-Ok.ran.book),
       reports_status c.in-Ok.ran.reports.items,
       run_text _ c.args.limit c.args.batch c.in-Ok.ran.reports.items c.in-Ok.ran.book _ (c.in-Ok.ensures {u = tt}) refl,
