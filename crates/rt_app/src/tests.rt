@@ -2,6 +2,8 @@
 
 mod feeds;
 mod hostile;
+mod judge;
+mod orders;
 mod replays;
 mod rows;
 mod words;

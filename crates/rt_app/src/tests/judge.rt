@@ -1,0 +1,345 @@
+//! A judge of runs. It takes the texts of some feeds and what a run of them wrote, and finds whether some order of the
+//! feeds' visits explains it.
+//!
+//! How it judges: it reads each text line by line, and beside each command it puts the answer that the output has for
+//! that line. Where the output has another line, or lacks one, nothing explains it. Each feed's commands are then cut into
+//! visits of `batch`, of which the last may be shorter. A state of the search says which commands each feed still has to
+//! ask, and which routes stand in the table. From a state it goes on with the next visit of each feed: it answers the
+//! visit's commands from the table, one after another and with nothing between them, and gives that way up at the first
+//! answer that differs from the printed one. The output is explained if some way leads to the end of all feeds, and what
+//! it printed behind the reports is then the table that stands there.
+//!
+//! No state is looked at twice. A command changes the routes of its own feed alone, so all the ways that leave each feed
+//! the same commands have left the same table.
+//!
+//! The table is a plain list of routes in no order, which every command goes through from end to end. Nothing here is
+//! code of the crates. The judge is for the tests' own texts and for runs with ample memory: it knows the fields of good
+//! lines, takes every other line for fault E1, and no refusal for an answer.
+use std::alloc::{AllocError, Global};
+use std::str;
+
+/// A prefix, and what a feed offers for it: the texts as they were read, and in numbers what they are compared by.
+#[derive(Clone, Copy)]
+struct Offer<'a> {
+    prefix: &'a str,
+    base: u32,
+    len: u32,
+    pref: u32,
+    hop: &'a str,
+}
+
+/// What a line says.
+#[derive(Clone, Copy)]
+enum Said<'a> {
+    Add(Offer<'a>),
+    Replace(Offer<'a>),
+    Withdraw(&'a str),
+    Lookup(u32),
+    Dump,
+    Purge,
+}
+
+/// A route of the table.
+#[derive(Clone, Copy)]
+struct Row<'a> {
+    feed: usize,
+    offer: Offer<'a>,
+}
+
+/// A command, and the answer that was printed for it.
+#[derive(Clone, Copy)]
+struct Ask<'a> {
+    said: Said<'a>,
+    answer: &'a str,
+}
+
+/// What each feed still has to ask, and the table.
+#[derive(Drop)]
+struct State<'b, 'a> {
+    left: Vec<&'b [Ask<'a>]>,
+    table: Vec<Row<'a>>,
+}
+
+/// The most states that a search may have.
+const MOST_STATES: usize = 1_000_000;
+
+/// Whether some order of the visits of these texts, the k-th of which is feed k's, explains the output. Each feed may have
+/// `limit` routes and asks `batch` commands at once.
+pub fn explains(
+    alloc: Global,
+    texts: &[String],
+    limit: usize,
+    batch: usize,
+    output: &[u8],
+) -> Result<bool, AllocError> {
+    let Ok(mut rest) = str::from_utf8(output) else {
+        return Ok(false);
+    };
+    let mut feeds = Vec::new(alloc);
+    for (i, text) in texts.iter().enumerate() {
+        match read_report(alloc, i.wrapping_add(1), text.as_str(), rest)? {
+            None => return Ok(false),
+            Some((asks, more)) => {
+                feeds.push(asks)?;
+                rest = more;
+            }
+        }
+    }
+    search(alloc, feeds.as_slice(), limit, batch, rest)
+}
+
+/// The feed's commands with their answers, where the output begins with a report of the feed, and the output after it.
+fn read_report<'a>(
+    alloc: Global,
+    feed: usize,
+    text: &'a str,
+    output: &'a str,
+) -> Result<Option<(Vec<Ask<'a>>, &'a str)>, AllocError> {
+    let two = text.starts_with("version 2\n");
+    let mut rest = output;
+    let mut asks = Vec::new(alloc);
+    for (i, line) in text.split('\n').enumerate() {
+        if line.is_empty() || line.starts_with('#') || two && i == 0 {
+            continue;
+        }
+        let Some((printed, more)) = rest.split_once('\n') else {
+            return Ok(None);
+        };
+        rest = more;
+        let number = i.wrapping_add(1);
+        let heading = format!(in alloc; "{feed}:{number} ")?;
+        let Some(answer) = printed.strip_prefix(heading.as_str()) else {
+            return Ok(None);
+        };
+        match read_line(line, two) {
+            Some(said) => asks.push(Ask { said, answer })?,
+            None => {
+                if answer != "fault E1" {
+                    return Ok(None);
+                }
+            }
+        }
+    }
+    Ok(Some((asks, rest)))
+}
+
+/// What the line says, if its fields are good.
+fn read_line(line: &str, two: bool) -> Option<Said<'_>> {
+    let mut fields = line.split(' ');
+    let name = fields.next()?;
+    let rest = (fields.next(), fields.next(), fields.next());
+    match (name, rest) {
+        ("add", (Some(prefix), Some(pref), Some(hop))) => {
+            Some(Said::Add(read_offer(prefix, pref, hop)?))
+        }
+        ("replace", (Some(prefix), Some(pref), Some(hop))) => {
+            Some(Said::Replace(read_offer(prefix, pref, hop)?))
+        }
+        ("withdraw", (Some(prefix), None, None)) => Some(Said::Withdraw(prefix)),
+        ("lookup", (Some(addr), None, None)) => Some(Said::Lookup(address(addr)?)),
+        ("dump", (None, None, None)) => Some(Said::Dump),
+        ("purge", (None, None, None)) => { if two { Some(Said::Purge) } else { None } }
+        _ => None,
+    }
+}
+
+fn read_offer<'a>(prefix: &'a str, pref: &str, hop: &'a str) -> Option<Offer<'a>> {
+    let (base, len) = prefix.split_once('/')?;
+    Some(Offer {
+        prefix,
+        base: address(base)?,
+        len: len.parse::<u32>().ok()?,
+        pref: pref.parse::<u32>().ok()?,
+        hop,
+    })
+}
+
+fn address(text: &str) -> Option<u32> {
+    let mut octets = text.split('.');
+    let first = octets.next()?.parse::<u8>().ok()?;
+    let second = octets.next()?.parse::<u8>().ok()?;
+    let third = octets.next()?.parse::<u8>().ok()?;
+    let fourth = octets.next()?.parse::<u8>().ok()?;
+    Some(u32::from_be_bytes([first, second, third, fourth]))
+}
+
+/// Whether some way leads to the end of all feeds, and this is the text of the table that it leaves.
+fn search(
+    alloc: Global,
+    feeds: &[Vec<Ask<'_>>],
+    limit: usize,
+    batch: usize,
+    printed: &str,
+) -> Result<bool, AllocError> {
+    let mut states = 1;
+    let mut left = Vec::new(alloc);
+    for asks in feeds {
+        states = asks
+            .len()
+            .saturating_add(1)
+            .saturating_mul(states)
+            .min(MOST_STATES);
+        left.push(asks.as_slice())?;
+    }
+    let mut seen = vec![in alloc; false; states]?;
+    let mut open = Vec::new(alloc);
+    open.push(State {
+        left,
+        table: Vec::new(alloc),
+    })?;
+    for _ in 0..states {
+        let Some(state) = open.pop() else {
+            return Ok(false);
+        };
+        if state.left.iter().all(|asks| asks.is_empty()) {
+            return is_printed(alloc, &state.table, printed);
+        }
+        for (i, asks) in state.left.iter().enumerate() {
+            let Some(next) = after_visit(alloc, &state, i, asks, limit, batch)? else {
+                continue;
+            };
+            if let Some(place) = seen.get_mut(number_of(next.left.as_slice(), feeds)) {
+                if !*place {
+                    *place = true;
+                    open.push(next)?;
+                }
+            }
+        }
+    }
+    Ok(false)
+}
+
+/// The number of a state among all that the feeds may come to.
+fn number_of(left: &[&[Ask<'_>]], feeds: &[Vec<Ask<'_>>]) -> usize {
+    let mut number = 0usize;
+    for (asks, all) in left.iter().zip(feeds) {
+        number = number
+            .wrapping_mul(all.len().wrapping_add(1))
+            .wrapping_add(asks.len());
+    }
+    number
+}
+
+/// The state after the next visit of the feed at this place, which has these commands left, if it has one and the answers
+/// are those that were printed.
+fn after_visit<'b, 'a>(
+    alloc: Global,
+    state: &State<'b, 'a>,
+    place: usize,
+    asks: &'b [Ask<'a>],
+    limit: usize,
+    batch: usize,
+) -> Result<Option<State<'b, 'a>>, AllocError> {
+    if asks.is_empty() {
+        return Ok(None);
+    }
+    let (visit, rest) = asks.split_at(batch.min(asks.len()));
+    let mut table = state.table.clone()?;
+    for ask in visit {
+        let reply = answer(alloc, &mut table, limit, place.wrapping_add(1), ask.said)?;
+        if reply.as_str() != ask.answer {
+            return Ok(None);
+        }
+    }
+    let mut left = state.left.clone()?;
+    if let Some(asks) = left.get_mut(place) {
+        *asks = rest;
+    }
+    Ok(Some(State { left, table }))
+}
+
+/// Answers the feed's command from the table, and changes the table as it says.
+fn answer<'a>(
+    alloc: Global,
+    table: &mut Vec<Row<'a>>,
+    limit: usize,
+    feed: usize,
+    said: Said<'a>,
+) -> Result<String, AllocError> {
+    match said {
+        Said::Add(offer) => {
+            if has(table.as_slice(), feed, offer.prefix) {
+                return String::from_str(alloc, "exists");
+            }
+            if count(table.as_slice(), feed) >= limit {
+                return String::from_str(alloc, "full");
+            }
+            table.push(Row { feed, offer })?;
+            String::from_str(alloc, "added")
+        }
+        Said::Replace(offer) => {
+            if !has(table.as_slice(), feed, offer.prefix) {
+                return String::from_str(alloc, "missing");
+            }
+            table.retain(|row| row.feed != feed || row.offer.prefix != offer.prefix);
+            table.push(Row { feed, offer })?;
+            String::from_str(alloc, "replaced")
+        }
+        Said::Withdraw(prefix) => {
+            if !has(table.as_slice(), feed, prefix) {
+                return String::from_str(alloc, "missing");
+            }
+            table.retain(|row| row.feed != feed || row.offer.prefix != prefix);
+            String::from_str(alloc, "withdrawn")
+        }
+        Said::Lookup(addr) => match best(table.as_slice(), addr) {
+            None => String::from_str(alloc, "no route"),
+            Some(row) => {
+                let text = row_text(alloc, &row)?;
+                format!(in alloc; "route {text}")
+            }
+        },
+        Said::Dump => {
+            let routes = table.len();
+            format!(in alloc; "dumped {routes}")
+        }
+        Said::Purge => {
+            let gone = count(table.as_slice(), feed);
+            table.retain(|row| row.feed != feed);
+            format!(in alloc; "purged {gone}")
+        }
+    }
+}
+
+fn has(table: &[Row<'_>], feed: usize, prefix: &str) -> bool {
+    table
+        .iter()
+        .any(|row| row.feed == feed && row.offer.prefix == prefix)
+}
+
+fn count(table: &[Row<'_>], feed: usize) -> usize {
+    table.iter().filter(|row| row.feed == feed).count()
+}
+
+/// The route for the address: it covers the address, of those the longest, of those the least preference, of those the
+/// least feed.
+fn best<'a>(table: &[Row<'a>], addr: u32) -> Option<Row<'a>> {
+    table
+        .iter()
+        .copied()
+        .filter(|row| covers(&row.offer, addr))
+        .min_by_key(|row| (32 - row.offer.len.min(32), row.offer.pref, row.feed))
+}
+
+fn covers(offer: &Offer<'_>, addr: u32) -> bool {
+    let host_bits = u32::MAX.checked_shr(offer.len).unwrap_or(0);
+    addr | host_bits == offer.base | host_bits
+}
+
+fn row_text(alloc: Global, row: &Row<'_>) -> Result<String, AllocError> {
+    let (prefix, feed, pref, hop) = (row.offer.prefix, row.feed, row.offer.pref, row.offer.hop);
+    format!(in alloc; "{prefix} feed {feed} pref {pref} via {hop}")
+}
+
+/// Whether this is the text of the table.
+fn is_printed(alloc: Global, table: &Vec<Row<'_>>, printed: &str) -> Result<bool, AllocError> {
+    let mut rows = table.clone()?;
+    rows.sort_by_key(|row| (row.offer.base, row.offer.len, row.offer.pref, row.feed))?;
+    let routes = rows.len();
+    let mut text = format!(in alloc; "table {routes}\n")?;
+    for row in rows.iter() {
+        text.push_str(row_text(alloc, row)?.as_str())?;
+        text.push_str("\n")?;
+    }
+    Ok(text.as_str() == printed)
+}
