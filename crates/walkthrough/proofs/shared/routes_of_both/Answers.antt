@@ -16,4 +16,4 @@ returns g c =
     if_ok c.routes-2.result (λ routes. routes.items ≡ table_left book.limit book.journal) (λ routes. IsLeft LIMIT c.args.first.now c.args.second.now routes.items)
     (λ routes is. left_by_both law.first law.call law.away table LIMIT c.args.first.now c.args.second.now one two one' two' book.journal made.0 made.1 asked.0 asked.1 settled routes.items
     (is ∙ ap (λ (l : ℕ). table_left l book.journal) same))
-    c.routes-2.ensures
+    c.routes-2.ensures.routes
