@@ -3,6 +3,7 @@
 mod feeds;
 mod hostile;
 mod judge;
+mod large_outputs;
 mod orders;
 mod replays;
 mod rows;
