@@ -17,8 +17,7 @@
 //! The routes lie in a trie: under each prefix what is offered for it, the best offer first (`src/map.rt`, `src/offers.rt`). So
 //! a look-up goes down once and reads one offer, and only an `Add` grows anything but the journal.
 //!
-//! Only tested, since no clause says it: that a command succeeds where there is memory, that none but an `Add` wants memory
-//! beside that of its entry, and how many nodes the trie has.
+//! Only tested, since no clause says it: that a command succeeds where there is memory, and how many nodes the trie has.
 #![tactic(auto)]
 
 mod book;
