@@ -58,7 +58,7 @@ fn tell_alone<W: Write>(alloc: Global, out: &mut W) -> Result<()> {
     Ok(())
 }
 
-/// With two threads: a lock, a shared table and a gate.
+/// With a lock: a value lent to two threads, a shared table and a gate.
 fn tell_together<R: Threads + Wait + Sync, W: Write>(
     rt: &R,
     alloc: Global,

@@ -1,4 +1,4 @@
-//! `rt_shared`: two feeds change one table at the same time, each by a batch, which stands in one piece in the journal.
+//! `rt_shared`: two feeds change one table, each by a batch, which stands in one piece in the journal.
 ghost use Rattle.std.specs.Prelude.{◌≡◌, IfOk};
 ghost use Rattle.walkthrough.specs.Shared.{AreBoth, HasAsked, IsLeft};
 
@@ -7,8 +7,6 @@ use rt_shared::laws::visits;
 use rt_shared::{FeedPass, Refused, SharedRib};
 use std::alloc::Global;
 use std::sync::Wait;
-use std::thread;
-use std::thread::Threads;
 
 /// How many routes a feed may have here.
 const LIMIT: u32 = 10;
@@ -40,29 +38,9 @@ fn ask<R: Wait>(
     Ok(pass)
 }
 
-/// Lets two feeds ask at the same time, and gives their passes back.
-fn ask_both<R: Threads + Wait + Sync>(
-    rt: &R,
-    alloc: Global,
-    table: &SharedRib<1>,
-    passes: (FeedPass, FeedPass),
-    first: &[Cmd],
-    second: &[Cmd],
-) -> Result<(FeedPass, FeedPass), Refused>
-    requires { (passes.0.table ≡ table.now) × (passes.1.table ≡ table.now) }
-    ensures { IfOk result (λ after. HasAsked table.now.limit passes.0 first.now after.0 × HasAsked table.now.limit passes.1 second.now after.1) }
-{
-    let (one, two) = passes;
-    let (one, two) = thread::join(
-        rt,
-        move || ask(rt, alloc, table, one, first),
-        move || ask(rt, alloc, table, two, second),
-    );
-    Ok((one?, two?))
-}
-
-/// The routes that two feeds leave which ask these commands, each on a thread of its own.
-pub fn routes_of_both<R: Threads + Wait + Sync>(
+/// The routes that two feeds leave which ask these commands, a batch each. A program gives each feed a thread, which has
+/// a reference to the table and the feed's pass; the clause is the same then, whichever comes first.
+pub fn routes_of_both<R: Wait>(
     rt: &R,
     alloc: Global,
     first: &[Cmd],
@@ -71,7 +49,8 @@ pub fn routes_of_both<R: Threads + Wait + Sync>(
     ensures { IfOk result (λ routes. IsLeft LIMIT first.now second.now routes.items) }
 {
     let (table, one, two) = table_of_two(alloc)?;
-    let (one, two) = ask_both(rt, alloc, &table, (one, two), first, second)?;
+    let one = ask(rt, alloc, &table, one, first)?;
+    let two = ask(rt, alloc, &table, two, second)?;
     let passes = vec![in alloc; one, two]?;
     // A feed's batch stays in one piece, whatever the other does: known from here on.
     visits();

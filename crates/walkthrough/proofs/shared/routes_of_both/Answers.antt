@@ -9,11 +9,11 @@ use Rattle.walkthrough.proofs.shared.routes_of_both.Goals as goal
 pub returns : goal.returns
 returns g c =
     let made = c.in_ok-table.ensures in let table = c.in_ok-table.table in let law = c.visits.ensures in
-    let one = c.in_ok-table.one in let two = c.in_ok-table.two in let one' = c.in_ok-one.one in let two' = c.in_ok-one.two in
-    let book = c.settle.result in let same : book.limit ≡ LIMIT = c.settle.ensures.limit ∙ made.0 in let asked = c.in_ok-one.ensures in
+    let one = c.in_ok-table.one in let two = c.in_ok-table.two in let one' = c.in_ok-one.one in let two' = c.in_ok-two.two in
+    let book = c.settle.result in let same : book.limit ≡ LIMIT = c.settle.ensures.limit ∙ made.0 in
     let settled : Settles table (one' ∷ two' ∷ []) book.journal =
     subst (λ (ps : List HeldPass). Settles table ps book.journal) c.in_ok-passes.ensures.items c.settle.ensures.settled in
     if_ok c.routes-2.result (λ routes. routes.items ≡ table_left book.limit book.journal) (λ routes. IsLeft LIMIT c.args.first.now c.args.second.now routes.items)
-    (λ routes is. left_by_both law.first law.call law.away table LIMIT c.args.first.now c.args.second.now one two one' two' book.journal made.0 made.1 asked.0 asked.1 settled routes.items
+    (λ routes is. left_by_both law.first law.call law.away table LIMIT c.args.first.now c.args.second.now one two one' two' book.journal made.0 made.1 c.in_ok-one.ensures c.in_ok-two.ensures settled routes.items
     (is ∙ ap (λ (l : ℕ). table_left l book.journal) same))
     c.routes-2.ensures.routes
