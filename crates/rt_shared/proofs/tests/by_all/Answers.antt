@@ -1,6 +1,9 @@
 use Rattle.std.proofs.Common.{◌≡◌, ℕ, ◌<◌, List, ◌++◌, length, take, drop, get_or, sym, ap, ◌∙◌, subst, arith}
+use Rattle.std.proofs.Crossing.{sync}
 use Rattle.std.proofs.Math.Seq.{take-append_seam}
 use Rattle.rt_shared.specs.Table.{HeldPass, ArePassesOf}
+use denote.Param.Send.{sendable}
+use Rattle.rt_shared.proofs.Crossing.{pass_send, rib_sync}
 use Rattle.rt_shared.proofs.tests.by_all.Goals as goal
 
 pub settle-requires : goal.settle-requires
@@ -17,3 +20,9 @@ settle-requires g c =
     let all : take c.in_ok-table.passes.len (new ++ drop (length new) old) ≡ new =
     subst (λ (n : ℕ). take n (new ++ drop (length new) old) ≡ new) (long ∙ sym c.in_ok-table.passes.ok.0) (take-append_seam new (drop (length new) old)) in
     (omega arith, subst (ArePassesOf c.in_ok-table.table) (sym all) kept)
+
+pub for_each_mut-requires-send-T : goal.for_each_mut-requires-send-T
+for_each_mut-requires-send-T g c κs within = search (pass_send, sendable) depth 60
+
+pub for_each_mut-requires-sync-F : goal.for_each_mut-requires-sync-F
+for_each_mut-requires-sync-F g c κs within = search (rib_sync, sync, sendable) depth 60
