@@ -32,6 +32,11 @@ fn add(prefix: Prefix, pref: u32, feed: u8) -> Cmd {
 fn send<T: Send + Drop>(_value: T) {}
 
 #[test]
+fn a_book_may_go_to_another_thread(rt: HostRuntime) {
+    send(Book::new(rt.alloc(), 1));
+}
+
+#[test]
 fn worked_run(rt: HostRuntime) -> Result<(), Fail> {
     let wide = Prefix::new(addr(10, 0, 0, 0).0, 8)?;
     let narrow = Prefix::new(addr(10, 0, 0, 0).0, 16)?;
@@ -79,7 +84,6 @@ fn worked_run(rt: HostRuntime) -> Result<(), Fail> {
         route(narrow, 1, 9, 1),
     ];
     assert_eq!(rt; book.routes(rt.alloc())?.as_slice(), left.as_slice());
-    send(book);
     Ok(())
 }
 
