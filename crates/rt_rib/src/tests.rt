@@ -36,53 +36,49 @@ fn a_book_may_go_to_another_thread(rt: HostRuntime) {
     send(Book::new(rt.alloc(), 1));
 }
 
+/// A route of the worked run, whose next hop has the number of its feed.
+fn route(prefix: Prefix, feed: u8, pref: u32) -> Route {
+    Route {
+        prefix,
+        feed: feed as u32,
+        pref,
+        hop: via(feed),
+    }
+}
+
 #[test]
 fn worked_run(rt: HostRuntime) -> Result<(), Fail> {
     let wide = Prefix::new(addr(10, 0, 0, 0).0, 8)?;
     let narrow = Prefix::new(addr(10, 0, 0, 0).0, 16)?;
     let other = Prefix::new(addr(11, 0, 0, 0).0, 8)?;
-    let inside = addr(10, 0, 0, 1);
-    let route = |prefix: Prefix, feed: u32, pref: u32, hop: u8| Route {
-        prefix,
-        feed,
-        pref,
-        hop: via(hop),
+    let look_up = Cmd::Lookup {
+        addr: addr(10, 0, 0, 1),
     };
-    let mut book = Book::new(rt.alloc(), 2);
-    assert_eq!(rt; book.apply(2, add(wide, 5, 2))?, Reply::Added);
-    assert_eq!(rt; book.apply(1, add(wide, 5, 1))?, Reply::Added);
-    assert_eq!(rt;
-        book.apply(3, Cmd::Lookup { addr: inside })?,
-        Reply::Found(route(wide, 1, 5, 1))
-    );
     let replace = Cmd::Replace {
         prefix: wide,
         pref: 4,
         hop: via(2),
     };
-    assert_eq!(rt; book.apply(2, replace)?, Reply::Replaced);
-    assert_eq!(rt;
-        book.apply(3, Cmd::Lookup { addr: inside })?,
-        Reply::Found(route(wide, 2, 4, 2))
-    );
-    assert_eq!(rt;
-        book.apply(3, Cmd::Withdraw { prefix: wide })?,
-        Reply::Missing
-    );
-    assert_eq!(rt; book.apply(1, add(narrow, 9, 1))?, Reply::Added);
-    assert_eq!(rt; book.apply(1, add(other, 1, 1))?, Reply::Full);
-    assert_eq!(rt; book.apply(1, add(narrow, 1, 1))?, Reply::Exists);
-    assert_eq!(rt;
-        book.apply(2, Cmd::Lookup { addr: inside })?,
-        Reply::Found(route(narrow, 1, 9, 1))
-    );
-    assert_eq!(rt; book.apply(64, Cmd::Dump)?, Reply::Dumped(3));
-    assert_eq!(rt; book.journal().len(), 11);
-    let left = [
-        route(wide, 2, 4, 2),
-        route(wide, 1, 5, 1),
-        route(narrow, 1, 9, 1),
+    let rows = [
+        (2, add(wide, 5, 2), Reply::Added),
+        (1, add(wide, 5, 1), Reply::Added),
+        (3, look_up, Reply::Found(route(wide, 1, 5))),
+        (2, replace, Reply::Replaced),
+        (3, look_up, Reply::Found(route(wide, 2, 4))),
+        (3, Cmd::Withdraw { prefix: wide }, Reply::Missing),
+        (1, add(narrow, 9, 1), Reply::Added),
+        (1, add(other, 1, 1), Reply::Full),
+        (1, add(narrow, 1, 1), Reply::Exists),
+        (2, look_up, Reply::Found(route(narrow, 1, 9))),
+        (64, Cmd::Dump, Reply::Dumped(3)),
     ];
+    let mut book = Book::new(rt.alloc(), 2);
+    for (feed, cmd, reply) in rows {
+        assert!(rt; feed_ok(feed));
+        assert_eq!(rt; book.apply(feed, cmd)?, reply);
+    }
+    assert_eq!(rt; book.journal().len(), rows.len());
+    let left = [route(wide, 2, 4), route(wide, 1, 5), route(narrow, 1, 9)];
     assert_eq!(rt; book.routes(rt.alloc())?.as_slice(), left.as_slice());
     Ok(())
 }
