@@ -1,79 +1,186 @@
 //! What the clauses leave open: that insertions succeed, that what is refused changes nothing to be seen, worked
 //! examples, and a long run beside a plain list.
 
-use crate::Trie;
+use crate::{Trie, Walk};
 use linked_list_allocator::LocalHeap;
 use rt_cidr::{Addr, Prefix};
 use std::alloc::{Allocator, Global};
 use std::process::Abort;
 use std::test::Fail;
 
-fn prefix(base: u32, len: u8) -> Result<Prefix, Fail> {
-    Ok(Prefix::new(base, len).ok().ok_or("no prefix")?)
+fn prefix(rt: &impl Abort, text: &str) -> Prefix {
+    Prefix::parse(text.as_bytes()).expect(rt, "a prefix")
 }
 
 // k.0.0.0/8
-fn eighth(k: u32) -> Result<Prefix, Fail> {
-    prefix(k.wrapping_mul(1 << 24), 8)
+fn eighth(rt: &impl Abort, k: u32) -> Prefix {
+    Prefix::new(k.wrapping_mul(1 << 24), 8).expect(rt, "a prefix")
+}
+
+// The first prefixes with the values 1, 2 and so on.
+fn numbered(rt: &impl Abort, alloc: Global, texts: &[&str]) -> Vec<(Prefix, u32)> {
+    let mut pairs = Vec::new(alloc);
+    let mut value = 0u32;
+    for text in texts {
+        value = value.wrapping_add(1);
+        pairs.push((prefix(rt, text), value)).expect(rt, "memory");
+    }
+    pairs
+}
+
+// Puts in a value where none is.
+fn put_new<A: Allocator + Copy>(rt: &impl Abort, trie: &mut Trie<u32, A>, p: Prefix, value: u32) {
+    assert_eq!(rt; trie.insert(p, value), Ok(None));
+}
+
+fn put_all<A: Allocator + Copy>(rt: &impl Abort, trie: &mut Trie<u32, A>, pairs: &[(Prefix, u32)]) {
+    for (p, value) in pairs {
+        put_new(rt, trie, *p, *value);
+    }
+}
+
+fn put_eighths<A: Allocator + Copy>(rt: &impl Abort, trie: &mut Trie<u32, A>) {
+    for k in 1..65u32 {
+        put_new(rt, trie, eighth(rt, k), k);
+    }
+}
+
+fn take_eighths<A: Allocator + Copy>(rt: &impl Abort, trie: &mut Trie<u32, A>) {
+    for k in 1..65u32 {
+        take_out(rt, trie, eighth(rt, k), Some(k));
+    }
+}
+
+fn assert_counts<A: Allocator + Copy>(
+    rt: &impl Abort,
+    trie: &Trie<u32, A>,
+    len: usize,
+    nodes: usize,
+) {
+    assert_eq!(rt; (trie.len(), trie.nodes()), (len, nodes));
+}
+
+fn assert_after<A: Allocator + Copy>(
+    rt: &impl Abort,
+    trie: &Trie<u32, A>,
+    p: Prefix,
+    next: Option<Prefix>,
+) {
+    assert_eq!(rt; trie.after(p), next);
+}
+
+// Of 1.0.0.0/8 to 64.0.0.0/8, the first, and what comes after a prefix that is stored or not.
+fn assert_next<A: Allocator + Copy>(rt: &impl Abort, trie: &Trie<u32, A>) {
+    assert_eq!(rt; trie.first(), Some(eighth(rt, 1)));
+    assert_after(rt, trie, eighth(rt, 1), Some(eighth(rt, 2)));
+    assert_after(rt, trie, prefix(rt, "1.0.0.0/9"), Some(eighth(rt, 2)));
+    assert_after(rt, trie, prefix(rt, "0.0.0.0/0"), Some(eighth(rt, 1)));
+    assert_after(rt, trie, eighth(rt, 64), None);
+}
+
+fn assert_value<A: Allocator + Copy>(
+    rt: &impl Abort,
+    trie: &Trie<u32, A>,
+    p: Prefix,
+    value: Option<u32>,
+) {
+    assert_eq!(rt; trie.get(p).copied(), value);
+}
+
+fn take_out<A: Allocator + Copy>(
+    rt: &impl Abort,
+    trie: &mut Trie<u32, A>,
+    p: Prefix,
+    value: Option<u32>,
+) {
+    assert_eq!(rt; trie.remove(p), value);
 }
 
 // Puts in 1.0.0.0/8 to 64.0.0.0/8, with what `first` and `after` say of them, and takes them out again.
-fn fill_and_empty<A: Allocator + Copy>(rt: &impl Abort, alloc: A) -> Result<(), Fail> {
+fn fill_and_empty<A: Allocator + Copy>(rt: &impl Abort, alloc: A) {
     let mut trie: Trie<u32, A> = Trie::new(alloc);
-    for k in 1..65u32 {
-        let old = trie.insert(eighth(k)?, k).ok().ok_or("refused")?;
-        assert!(rt; old.is_none());
-    }
-    assert_eq!(rt; trie.len(), 64);
-    assert_eq!(rt; trie.nodes(), 127);
-    assert_eq!(rt; trie.first(), Some(eighth(1)?));
-    assert_eq!(rt; trie.after(eighth(1)?), Some(eighth(2)?));
-    assert_eq!(rt; trie.after(prefix(1 << 24, 9)?), Some(eighth(2)?));
-    assert_eq!(rt; trie.after(prefix(0, 0)?), Some(eighth(1)?));
-    assert_eq!(rt; trie.after(eighth(64)?), None);
-    for k in 1..65u32 {
-        let old = trie.remove(eighth(k)?);
-        assert_eq!(rt; old, Some(k));
-    }
-    assert_eq!(rt; trie.len(), 0);
-    assert_eq!(rt; trie.nodes(), 0);
-    Ok(())
+    put_eighths(rt, &mut trie);
+    assert_counts(rt, &trie, 64, 127);
+    assert_next(rt, &trie);
+    take_eighths(rt, &mut trie);
+    assert_counts(rt, &trie, 0, 0);
 }
 
 #[test]
-fn sixty_four_prefixes(rt: HostRuntime) -> Result<(), Fail> {
-    fill_and_empty(&rt, rt.alloc())
+fn sixty_four_prefixes(rt: HostRuntime) {
+    fill_and_empty(&rt, rt.alloc());
 }
 
 #[test]
 fn sixty_four_prefixes_a_hundred_times_in_one_region(rt: HostRuntime) -> Result<(), Fail> {
     let heap = LocalHeap::new(rt.alloc(), 65_536)?;
     for _ in 0..100 {
-        fill_and_empty(&rt, &heap)?;
+        fill_and_empty(&rt, &heap);
     }
     Ok(())
 }
 
-// What a caller sees of a trie of values k at k.0.0.0/8: its counts, its pairs in order, and each longest match.
-fn assert_holds<A: Allocator + Copy>(
+fn longest<A: Allocator + Copy>(trie: &Trie<u32, A>, a: Addr) -> Option<(Prefix, u32)> {
+    let (p, value) = trie.longest(a)?;
+    Some((p, *value))
+}
+
+fn assert_longest<A: Allocator + Copy>(
     rt: &impl Abort,
     trie: &Trie<u32, A>,
-    stored: &[u32],
-) -> Result<(), Fail> {
-    assert_eq!(rt; trie.len(), stored.len());
+    address: u32,
+    pair: Option<(Prefix, u32)>,
+) {
+    assert_eq!(rt; longest(trie, Addr(address)), pair);
+}
+
+fn next_pair<A: Allocator + Copy>(walk: &mut Walk<'_, u32, A>) -> Option<(Prefix, u32)> {
+    let (p, value) = walk.next()?;
+    Some((p, *value))
+}
+
+// What a caller sees of a trie: these pairs, in order.
+fn assert_pairs<A: Allocator + Copy>(
+    rt: &impl Abort,
+    trie: &Trie<u32, A>,
+    pairs: &[(Prefix, u32)],
+) {
+    assert_eq!(rt; trie.len(), pairs.len());
     let mut walk = trie.walk();
-    for k in stored {
-        let (p, value) = walk.next().ok_or("too few pairs")?;
-        assert_eq!(rt; p, eighth(*k)?);
-        assert_eq!(rt; *value, *k);
-        let (found, value) = trie
-            .longest(Addr(k.wrapping_mul(1 << 24)))
-            .ok_or("not found")?;
-        assert_eq!(rt; found, p);
-        assert_eq!(rt; *value, *k);
+    for pair in pairs {
+        assert_eq!(rt; next_pair(&mut walk), Some(*pair));
     }
-    assert!(rt; walk.next().is_none());
-    Ok(())
+    assert_eq!(rt; next_pair(&mut walk), None);
+}
+
+// Each pair is the longest match of its base, where no prefix is inside another.
+fn assert_found<A: Allocator + Copy>(
+    rt: &impl Abort,
+    trie: &Trie<u32, A>,
+    pairs: &[(Prefix, u32)],
+) {
+    for pair in pairs {
+        assert_longest(rt, trie, pair.0.base(), Some(*pair));
+    }
+}
+
+// Asks to put in a new pair, and adds it to the list where it is put in. Where memory is refused the value comes back and
+// no node is made.
+fn ask<A: Allocator + Copy>(
+    rt: &impl Abort,
+    trie: &mut Trie<u32, A>,
+    stored: &mut Vec<(Prefix, u32)>,
+    pair: (Prefix, u32),
+) {
+    let nodes = trie.nodes();
+    let answer = trie.insert(pair.0, pair.1);
+    if answer.is_ok() {
+        assert_eq!(rt; answer, Ok(None));
+        stored.push(pair).expect(rt, "memory");
+    } else {
+        assert_eq!(rt; answer, Err(pair.1));
+        assert_eq!(rt; trie.nodes(), nodes);
+    }
 }
 
 #[test]
@@ -81,333 +188,378 @@ fn a_region_of_512_bytes_refuses_and_keeps(rt: HostRuntime) -> Result<(), Fail> 
     let heap = LocalHeap::new(rt.alloc(), 512)?;
     let mut trie: Trie<u32, &LocalHeap> = Trie::new(&heap);
     let mut stored = Vec::new(rt.alloc());
-    let mut refused = 0u32;
     for k in 1..65u32 {
-        let nodes = trie.nodes();
-        match trie.insert(eighth(k)?, k) {
-            Ok(old) => {
-                assert!(&rt; old.is_none());
-                stored.push(k)?;
-            }
-            Err(back) => {
-                assert_eq!(&rt; back, k);
-                assert_eq!(&rt; trie.nodes(), nodes);
-                refused = refused.wrapping_add(1);
-            }
-        }
-        assert_holds(&rt, &trie, &stored)?;
+        ask(&rt, &mut trie, &mut stored, (eighth(&rt, k), k));
+        assert_pairs(&rt, &trie, &stored);
+        assert_found(&rt, &trie, &stored);
     }
-    assert!(rt; refused > 0);
-    assert!(rt; stored.len() > 1);
+    assert!(rt; 1 < stored.len() && stored.len() < 64);
     Ok(())
 }
 
-// Takes all memory that is left in the region, in blocks of its least size.
-fn take_the_rest<'h>(
-    heap: &'h LocalHeap,
-    blocks: &mut Vec<Box<u8, &'h LocalHeap>>,
-) -> Result<(), Fail> {
-    for _ in 0..1_000u32 {
-        match Box::new(heap, 0u8) {
-            Ok(block) => blocks.push(block)?,
-            Err(_) => return Ok(()),
-        }
-    }
-    Err(Fail::from("the region is too large"))
+// A block of the region's least size, if there is one left.
+fn least_block(heap: &LocalHeap) -> Option<Box<u8, &LocalHeap>> {
+    Box::new(heap, 0u8).ok()
 }
 
-// What a caller sees of a trie: its counts and its pairs in order.
-fn assert_has<A: Allocator + Copy>(
+// Takes all memory that is left in the region, in such blocks.
+fn take_the_rest<'h>(
+    rt: &impl Abort,
+    heap: &'h LocalHeap,
+    blocks: &mut Vec<Box<u8, &'h LocalHeap>>,
+) {
+    for _ in 0..1_000u32 {
+        let Some(block) = least_block(heap) else {
+            return;
+        };
+        blocks.push(block).expect(rt, "memory");
+    }
+    panic!(rt; "the region is too large");
+}
+
+// What stays where memory is refused: the pairs, the nodes, and nothing at the new prefix.
+fn assert_kept<A: Allocator + Copy>(
     rt: &impl Abort,
     trie: &Trie<u32, A>,
     nodes: usize,
     pairs: &[(Prefix, u32)],
-) -> Result<(), Fail> {
-    assert_eq!(rt; trie.len(), pairs.len());
-    assert_eq!(rt; trie.nodes(), nodes);
-    let mut walk = trie.walk();
-    for pair in pairs {
-        let (p, value) = walk.next().ok_or("too few pairs")?;
-        assert_eq!(rt; (p, *value), *pair);
+    p: Prefix,
+) {
+    assert_value(rt, trie, p, None);
+    assert_counts(rt, trie, pairs.len(), nodes);
+    assert_pairs(rt, trie, pairs);
+}
+
+// Asks to put in the value 7. Where memory is refused it comes back, and trie and region are as they were.
+fn is_put_in<'h>(
+    rt: &impl Abort,
+    heap: &'h LocalHeap,
+    trie: &mut Trie<u32, &'h LocalHeap>,
+    pairs: &[(Prefix, u32)],
+    p: Prefix,
+) -> bool {
+    let nodes = trie.nodes();
+    let left = heap.free();
+    let answer = trie.insert(p, 7);
+    if answer.is_ok() {
+        assert_eq!(rt; answer, Ok(None));
+        return true;
     }
-    assert!(rt; walk.next().is_none());
-    Ok(())
+    assert_eq!(rt; answer, Err(7));
+    assert_kept(rt, trie, nodes, pairs, p);
+    assert_eq!(rt; heap.free(), left);
+    false
+}
+
+// Gives back one block more each time, until the prefix is put in: how often it was refused.
+fn refusals<'h>(
+    rt: &impl Abort,
+    heap: &'h LocalHeap,
+    blocks: &mut Vec<Box<u8, &'h LocalHeap>>,
+    trie: &mut Trie<u32, &'h LocalHeap>,
+    pairs: &[(Prefix, u32)],
+    p: Prefix,
+) -> u32 {
+    for refused in 0..20u32 {
+        if is_put_in(rt, heap, trie, pairs, p) {
+            return refused;
+        }
+        drop(blocks.pop());
+    }
+    panic!(rt; "never put in");
 }
 
 // Puts in the pairs, then the new one, in a region where nothing is left, then one block, and so on until it is put in.
 // So each box that the insertion asks for is refused, the first at the start and the last just before the end; each time
 // the trie is as it was, and the region too.
-fn refuse_each_box<'h>(
+fn refuse_each_box(
     rt: &impl Abort,
     alloc: Global,
-    heap: &'h LocalHeap,
+    heap: &LocalHeap,
     pairs: &[(Prefix, u32)],
     p: Prefix,
-) -> Result<(), Fail> {
+) {
     let mut trie: Trie<u32, &LocalHeap> = Trie::new(heap);
-    for (q, value) in pairs {
-        let old = trie.insert(*q, *value).ok().ok_or("refused")?;
-        assert!(rt; old.is_none());
-    }
-    let nodes = trie.nodes();
-    let mut blocks: Vec<Box<u8, &'h LocalHeap>> = Vec::new(alloc);
-    take_the_rest(heap, &mut blocks)?;
-    for refused in 0..20u32 {
-        let left = heap.free();
-        match trie.insert(p, 7) {
-            Ok(old) => {
-                assert!(rt; old.is_none());
-                assert_eq!(rt; trie.get(p).copied(), Some(7));
-                assert_eq!(rt; trie.len(), pairs.len().wrapping_add(1));
-                assert!(rt; refused > 0);
-                return Ok(());
-            }
-            Err(back) => {
-                assert_eq!(rt; back, 7);
-                assert!(rt; trie.get(p).is_none());
-                assert_has(rt, &trie, nodes, pairs)?;
-                assert_eq!(rt; heap.free(), left);
-            }
-        }
-        drop(blocks.pop());
-    }
-    Err(Fail::from("never put in"))
+    put_all(rt, &mut trie, pairs);
+    let mut blocks = Vec::new(alloc);
+    take_the_rest(rt, heap, &mut blocks);
+    assert!(rt; refusals(rt, heap, &mut blocks, &mut trie, pairs, p) > 0);
+    assert_value(rt, &trie, p, Some(7));
+    assert_eq!(rt; trie.len(), pairs.len().wrapping_add(1));
 }
 
 #[test]
 fn each_box_of_each_insertion_refused_in_turn(rt: HostRuntime) -> Result<(), Fail> {
-    let wide = (prefix(10 << 24, 8)?, 1u32);
-    let one = (prefix(0x0a01_0000, 16)?, 2);
-    let two = (prefix(0x0a02_0000, 16)?, 3);
-    let longer = prefix(0x0a01_0200, 24)?;
-    let apart = prefix(0xc000_0200, 24)?;
-    let low = prefix(0x0100_0000, 8)?;
-    let alloc = rt.alloc();
-    let heap = LocalHeap::new(alloc, 2_048)?;
-    // A leaf where nothing was.
-    refuse_each_box(&rt, alloc, &heap, &[], wide.0)?;
-    // A leaf that becomes a full node, with the new one on either side.
-    refuse_each_box(&rt, alloc, &heap, &[wide], one.0)?;
-    refuse_each_box(&rt, alloc, &heap, &[wide], prefix(0x0aff_0000, 16)?)?;
-    // A fork that becomes a full node.
-    refuse_each_box(&rt, alloc, &heap, &[one, two], prefix(0x0a00_0000, 14)?)?;
-    // A full node above a leaf, a fork and a full node, on either side.
-    refuse_each_box(&rt, alloc, &heap, &[one], wide.0)?;
-    refuse_each_box(&rt, alloc, &heap, &[one, two], wide.0)?;
-    refuse_each_box(&rt, alloc, &heap, &[wide, one], prefix(0, 0)?)?;
-    refuse_each_box(&rt, alloc, &heap, &[(apart, 4)], prefix(0xc000_0000, 16)?)?;
-    refuse_each_box(&rt, alloc, &heap, &[(apart, 4)], prefix(0, 0)?)?;
-    // A fork beside a leaf, a fork and a full node, on either side: two boxes.
-    refuse_each_box(&rt, alloc, &heap, &[one], apart)?;
-    refuse_each_box(&rt, alloc, &heap, &[one], low)?;
-    refuse_each_box(&rt, alloc, &heap, &[one, two], apart)?;
-    refuse_each_box(&rt, alloc, &heap, &[one, two], low)?;
-    refuse_each_box(&rt, alloc, &heap, &[wide, one], apart)?;
-    refuse_each_box(&rt, alloc, &heap, &[wide, one], low)?;
-    // And further down: on the left and on the right of a fork and of a full node.
-    refuse_each_box(&rt, alloc, &heap, &[one, two], longer)?;
-    refuse_each_box(&rt, alloc, &heap, &[one, two], prefix(0x0a02_0200, 24)?)?;
-    refuse_each_box(&rt, alloc, &heap, &[wide, one], longer)?;
-    refuse_each_box(
-        &rt,
-        alloc,
-        &heap,
-        &[wide, (prefix(0x0aff_0000, 16)?, 5)],
-        prefix(0x0aff_0200, 24)?,
-    )?;
-    assert_eq!(&rt; heap.used(), 0);
+    let heap = LocalHeap::new(rt.alloc(), 2_048)?;
+    let wide = "10.0.0.0/8";
+    let one = "10.1.0.0/16";
+    let two = "10.2.0.0/16";
+    let apart = "192.0.2.0/24";
+    let low = "1.0.0.0/8";
+    let rows: [(&[&str], &str); 19] = [
+        // A leaf where nothing was.
+        (&[], wide),
+        // A leaf that becomes a full node, with the new one on either side.
+        (&[wide], one),
+        (&[wide], "10.255.0.0/16"),
+        // A fork that becomes a full node.
+        (&[one, two], "10.0.0.0/14"),
+        // A full node above a leaf, a fork and a full node, on either side.
+        (&[one], wide),
+        (&[one, two], wide),
+        (&[wide, one], "0.0.0.0/0"),
+        (&[apart], "192.0.0.0/16"),
+        (&[apart], "0.0.0.0/0"),
+        // A fork beside a leaf, a fork and a full node, on either side: two boxes.
+        (&[one], apart),
+        (&[one], low),
+        (&[one, two], apart),
+        (&[one, two], low),
+        (&[wide, one], apart),
+        (&[wide, one], low),
+        // And further down: on the left and on the right of a fork and of a full node.
+        (&[one, two], "10.1.2.0/24"),
+        (&[one, two], "10.2.2.0/24"),
+        (&[wide, one], "10.1.2.0/24"),
+        (&[wide, "10.255.0.0/16"], "10.255.2.0/24"),
+    ];
+    for (stored, new) in rows {
+        let pairs = numbered(&rt, rt.alloc(), stored);
+        refuse_each_box(&rt, rt.alloc(), &heap, &pairs, prefix(&rt, new));
+        assert_eq!(&rt; heap.used(), 0);
+    }
     Ok(())
+}
+
+// Each removal in a region where nothing is left: a leaf below a fork, a full node with one branch, one with two.
+fn take_each<'h>(
+    rt: &impl Abort,
+    heap: &'h LocalHeap,
+    blocks: &mut Vec<Box<u8, &'h LocalHeap>>,
+    trie: &mut Trie<u32, &'h LocalHeap>,
+    pairs: &[(Prefix, u32)],
+) {
+    for (p, value) in pairs {
+        assert_value(rt, trie, *p, Some(*value));
+        take_out(rt, trie, *p, Some(*value));
+        take_out(rt, trie, *p, None);
+        take_the_rest(rt, heap, blocks);
+    }
+}
+
+// What is asked where nothing is put in.
+fn assert_answers<A: Allocator + Copy>(
+    rt: &impl Abort,
+    trie: &Trie<u32, A>,
+    pairs: &[(Prefix, u32)],
+) {
+    let narrow = prefix(rt, "10.1.2.0/24");
+    assert_counts(rt, trie, 6, 7);
+    assert_pairs(rt, trie, pairs);
+    assert_eq!(rt; trie.first(), Some(prefix(rt, "0.0.0.0/0")));
+    assert_after(rt, trie, narrow, Some(prefix(rt, "10.2.0.0/16")));
+    assert_longest(rt, trie, 0x0a01_0203, Some((narrow, 4)));
+}
+
+fn put_over<A: Allocator + Copy>(
+    rt: &impl Abort,
+    trie: &mut Trie<u32, A>,
+    p: Prefix,
+    value: u32,
+    old: u32,
+) {
+    assert_eq!(rt; trie.insert(p, value), Ok(Some(old)));
+}
+
+fn write_at<A: Allocator + Copy>(rt: &impl Abort, trie: &mut Trie<u32, A>, p: Prefix, value: u32) {
+    *trie.get_mut(p).expect(rt, "a value") = value;
 }
 
 #[test]
 fn nothing_but_an_insertion_asks_for_memory(rt: HostRuntime) -> Result<(), Fail> {
     let heap = LocalHeap::new(rt.alloc(), 2_048)?;
     let mut trie: Trie<u32, &LocalHeap> = Trie::new(&heap);
-    let pairs = [
-        (prefix(0, 0)?, 1u32),
-        (prefix(10 << 24, 8)?, 2),
-        (prefix(0x0a01_0000, 16)?, 3),
-        (prefix(0x0a01_0200, 24)?, 4),
-        (prefix(0x0a02_0000, 16)?, 5),
-        (prefix(0xc000_0200, 24)?, 6),
+    let texts = [
+        "0.0.0.0/0",
+        "10.0.0.0/8",
+        "10.1.0.0/16",
+        "10.1.2.0/24",
+        "10.2.0.0/16",
+        "192.0.2.0/24",
     ];
-    for (p, value) in &pairs {
-        let old = trie.insert(*p, *value).ok().ok_or("refused")?;
-        assert!(&rt; old.is_none());
-    }
-    let mut blocks: Vec<Box<u8, &LocalHeap>> = Vec::new(rt.alloc());
-    take_the_rest(&heap, &mut blocks)?;
-    assert_has(&rt, &trie, 7, &pairs)?;
-    assert_eq!(&rt; trie.first(), Some(pairs[0].0));
-    assert_eq!(&rt; trie.after(pairs[3].0), Some(pairs[4].0));
-    assert_eq!(&rt;
-        trie.longest(Addr(0x0a01_0203)).map(|x| (x.0, *x.1)),
-        Some(pairs[3])
+    let pairs = numbered(&rt, rt.alloc(), &texts);
+    put_all(&rt, &mut trie, &pairs);
+    let mut blocks = Vec::new(rt.alloc());
+    take_the_rest(&rt, &heap, &mut blocks);
+    assert_answers(&rt, &trie, &pairs);
+    put_over(&rt, &mut trie, prefix(&rt, "10.0.0.0/8"), 20, 2);
+    write_at(&rt, &mut trie, prefix(&rt, "10.0.0.0/8"), 2);
+    take_each(&rt, &heap, &mut blocks, &mut trie, &pairs);
+    assert_counts(&rt, &trie, 0, 0);
+    assert_pairs(&rt, &trie, &[]);
+    Ok(())
+}
+
+#[test]
+fn a_branch_without_a_value_goes_with_its_branches(rt: HostRuntime) {
+    let mut trie = Trie::new(rt.alloc());
+    let pairs = numbered(
+        &rt,
+        rt.alloc(),
+        &["10.0.0.0/8", "10.1.0.0/16", "10.2.0.0/16"],
     );
-    assert_eq!(&rt; trie.insert(pairs[1].0, 20).ok(), Some(Some(2)));
-    *trie.get_mut(pairs[1].0).ok_or("not found")? = 2;
-    // Each removal in a region where nothing is left: a leaf below a fork, a full node with one branch, one with two.
-    for (p, value) in &pairs {
-        assert_eq!(&rt; trie.get(*p).copied(), Some(*value));
-        assert_eq!(&rt; trie.remove(*p), Some(*value));
-        assert!(&rt; trie.remove(*p).is_none());
-        take_the_rest(&heap, &mut blocks)?;
-    }
-    assert_has(&rt, &trie, 0, &[])?;
-    Ok(())
+    put_all(&rt, &mut trie, &pairs);
+    assert_counts(&rt, &trie, 3, 4);
+    take_out(&rt, &mut trie, prefix(&rt, "10.1.0.0/16"), Some(2));
+    assert_counts(&rt, &trie, 2, 2);
+    let wide = prefix(&rt, "10.0.0.0/8");
+    assert_longest(&rt, &trie, 0x0a01_0203, Some((wide, 1)));
 }
 
 #[test]
-fn a_branch_without_a_value_goes_with_its_branches(rt: HostRuntime) -> Result<(), Fail> {
+fn a_branch_without_a_value_is_never_found(rt: HostRuntime) {
     let mut trie = Trie::new(rt.alloc());
-    let wide = prefix(10 << 24, 8)?;
-    let one = prefix(0x0a01_0000, 16)?;
-    let two = prefix(0x0a02_0000, 16)?;
-    for (p, value) in [(wide, 1u32), (one, 2), (two, 3)] {
-        let old = trie.insert(p, value).ok().ok_or("refused")?;
-        assert!(&rt; old.is_none());
-    }
-    assert_eq!(&rt; trie.nodes(), 4);
-    assert_eq!(&rt; trie.remove(one), Some(2));
-    assert_eq!(&rt; trie.nodes(), 2);
-    let (p, value) = trie.longest(Addr(0x0a01_0203)).ok_or("not found")?;
-    assert_eq!(&rt; p, wide);
-    assert_eq!(&rt; *value, 1);
-    Ok(())
+    let left = prefix(&rt, "0.0.0.0/1");
+    put_new(&rt, &mut trie, prefix(&rt, "128.0.0.0/1"), 1);
+    put_new(&rt, &mut trie, left, 2);
+    assert_longest(&rt, &trie, 0x7fff_ffff, Some((left, 2)));
+    take_out(&rt, &mut trie, left, Some(2));
+    put_new(&rt, &mut trie, prefix(&rt, "0.0.0.0/2"), 3);
+    assert_longest(&rt, &trie, 64 << 24, None);
+    assert_value(&rt, &trie, prefix(&rt, "0.0.0.0/0"), None);
 }
 
 #[test]
-fn a_branch_without_a_value_is_never_found(rt: HostRuntime) -> Result<(), Fail> {
+fn a_value_is_written_in_place(rt: HostRuntime) {
     let mut trie = Trie::new(rt.alloc());
-    for (base, len, value) in [(1 << 31, 1, 1u32), (0, 1, 2)] {
-        let old = trie
-            .insert(prefix(base, len)?, value)
-            .ok()
-            .ok_or("refused")?;
-        assert!(&rt; old.is_none());
+    put_eighths(&rt, &mut trie);
+    write_at(&rt, &mut trie, eighth(&rt, 5), 50);
+    assert!(&rt; trie.get_mut(eighth(&rt, 65)).is_none());
+    for (k, value) in [(5, 50), (4, 4), (6, 6)] {
+        assert_value(&rt, &trie, eighth(&rt, k), Some(value));
     }
-    let (p, value) = trie.longest(Addr(0x7fff_ffff)).ok_or("not found")?;
-    assert_eq!(&rt; p, prefix(0, 1)?);
-    assert_eq!(&rt; *value, 2);
-    assert_eq!(&rt; trie.remove(prefix(0, 1)?), Some(2));
-    let old = trie.insert(prefix(0, 2)?, 3).ok().ok_or("refused")?;
-    assert!(&rt; old.is_none());
-    assert!(&rt; trie.longest(Addr(64 << 24)).is_none());
-    assert!(rt; trie.get(prefix(0, 0)?).is_none());
-    Ok(())
+    put_over(&rt, &mut trie, eighth(&rt, 5), 51, 50);
+    assert_value(&rt, &trie, eighth(&rt, 5), Some(51));
+    assert_eq!(rt; trie.len(), 64);
+}
+
+// A map as a plain list of pairs in order.
+#[derive(Drop)]
+struct PlainList {
+    pairs: Vec<(Prefix, u32)>,
+}
+
+impl PlainList {
+    // The place of a prefix, or where it would go.
+    fn place_of(&self, p: Prefix) -> Result<usize, usize> {
+        self.pairs.binary_search_by_key(&p, |x| x.0)
+    }
+
+    fn insert(&mut self, rt: &impl Abort, p: Prefix, value: u32) -> Option<u32> {
+        match self.place_of(p) {
+            Ok(k) => {
+                let pair = self.pairs.get_mut(k).expect(rt, "a pair");
+                let old = pair.1;
+                pair.1 = value;
+                Some(old)
+            }
+            Err(k) => {
+                assert!(rt; k <= self.pairs.len());
+                self.pairs.insert(k, (p, value)).expect(rt, "memory");
+                None
+            }
+        }
+    }
+
+    fn remove(&mut self, rt: &impl Abort, p: Prefix) -> Option<u32> {
+        let k = self.place_of(p).ok()?;
+        assert!(rt; k < self.pairs.len());
+        Some(self.pairs.remove(k).1)
+    }
+
+    fn longest(&self, a: Addr) -> Option<(Prefix, u32)> {
+        let mut best: Option<(Prefix, u32)> = None;
+        for pair in &self.pairs {
+            if pair.0.covers(a) && best.is_none_or(|b| b.0.len() <= pair.0.len()) {
+                best = Some(*pair);
+            }
+        }
+        best
+    }
+}
+
+// The next number of a linear congruence.
+fn next_number(seed: u64) -> u64 {
+    seed.wrapping_mul(6_364_136_223_846_793_005)
+        .wrapping_add(1_442_695_040_888_963_407)
+}
+
+// The prefix of so many bits, at most 32, that covers the address.
+fn covering(rt: &impl Abort, address: u32, len: u32) -> Prefix {
+    let len = len % 33;
+    let past = 32 - len;
+    let base = (u64::from(address) >> past << past) as u32;
+    Prefix::new(base, len as u8).expect(rt, "a prefix")
+}
+
+// Makes one change to both: an insertion or a removal.
+fn change_both<A: Allocator + Copy>(
+    rt: &impl Abort,
+    trie: &mut Trie<u32, A>,
+    list: &mut PlainList,
+    p: Prefix,
+    value: Option<u32>,
+) {
+    match value {
+        Some(value) => assert_eq!(rt; trie.insert(p, value), Ok(list.insert(rt, p, value))),
+        None => assert_eq!(rt; trie.remove(p), list.remove(rt, p)),
+    }
+    assert_eq!(rt; trie.len(), list.pairs.len());
 }
 
 #[test]
-fn a_value_is_written_in_place(rt: HostRuntime) -> Result<(), Fail> {
+fn random_changes_beside_a_sorted_list(rt: HostRuntime) {
     let mut trie = Trie::new(rt.alloc());
-    for k in 1..9u32 {
-        let old = trie.insert(eighth(k)?, k).ok().ok_or("refused")?;
-        assert!(&rt; old.is_none());
-    }
-    *trie.get_mut(eighth(5)?).ok_or("not found")? = 50;
-    assert!(&rt; trie.get_mut(eighth(9)?).is_none());
-    assert_eq!(&rt; trie.get(eighth(5)?).copied(), Some(50));
-    assert_eq!(&rt; trie.get(eighth(4)?).copied(), Some(4));
-    assert_eq!(&rt; trie.insert(eighth(5)?, 51).ok(), Some(Some(50)));
-    assert_eq!(rt; trie.len(), 8);
-    Ok(())
-}
-
-// The place of a prefix in a sorted list of pairs, or where it would go.
-fn place_in(list: &[(Prefix, u32)], p: Prefix) -> Result<usize, usize> {
-    list.binary_search_by_key(&p, |x| x.0)
-}
-
-#[test]
-fn random_changes_beside_a_sorted_list(rt: HostRuntime) -> Result<(), Fail> {
-    let mut trie = Trie::new(rt.alloc());
-    let mut list: Vec<(Prefix, u32)> = Vec::new(rt.alloc());
+    let mut list = PlainList {
+        pairs: Vec::new(rt.alloc()),
+    };
     let mut seed = 1u64;
     for step in 0..20_000u32 {
-        seed = seed
-            .wrapping_mul(6_364_136_223_846_793_005)
-            .wrapping_add(1_442_695_040_888_963_407);
+        seed = next_number(seed);
         let bits = (seed >> 33) as u32;
         // Few bits at both ends, so that prefixes meet, nest and part often.
-        let len = (bits % 33) as u8;
-        let mask = (u64::from(u32::MAX) << (32 - len) & 0xffff_ffff) as u32;
-        let p = prefix((seed >> 16 & 0xe1c0_0307) as u32 & mask, len)?;
-        if bits & 0x100 == 0 {
-            let old = trie.insert(p, step).ok().ok_or("refused")?;
-            match place_in(&list, p) {
-                Ok(k) => {
-                    assert!(&rt; k < list.len());
-                    assert_eq!(&rt; old, Some(list[k].1));
-                    list[k].1 = step;
-                }
-                Err(k) => {
-                    assert!(&rt; old.is_none());
-                    assert!(&rt; k <= list.len());
-                    list.insert(k, (p, step))?;
-                }
-            }
-        } else {
-            let gone = trie.remove(p);
-            match place_in(&list, p) {
-                Ok(k) => {
-                    assert!(&rt; k < list.len());
-                    assert_eq!(&rt; gone, Some(list.remove(k).1));
-                }
-                Err(_) => assert!(&rt; gone.is_none()),
-            }
-        }
-        assert_eq!(&rt; trie.len(), list.len());
+        let p = covering(&rt, (seed >> 16 & 0xe1c0_0307) as u32, bits);
+        let value = if bits & 0x100 == 0 { Some(step) } else { None };
+        change_both(&rt, &mut trie, &mut list, p, value);
         if step % 500 == 0 {
-            let mut walk = trie.walk();
-            for x in &list {
-                let (q, value) = walk.next().ok_or("too few pairs")?;
-                assert_eq!(&rt; (q, *value), *x);
-            }
-            assert!(&rt; walk.next().is_none());
+            assert_pairs(&rt, &trie, &list.pairs);
             let a = Addr(p.base());
-            let mut best: Option<(Prefix, u32)> = None;
-            for x in &list {
-                if x.0.covers(a) && best.is_none_or(|b| b.0.len() <= x.0.len()) {
-                    best = Some(*x);
-                }
-            }
-            assert_eq!(&rt; trie.longest(a).map(|x| (x.0, *x.1)), best);
+            assert_eq!(&rt; longest(&trie, a), list.longest(a));
         }
     }
-    Ok(())
+}
+
+// Looks all addresses up together, and compares each answer with that of the address alone.
+fn assert_together(rt: &impl Abort, alloc: Global, trie: &Trie<u32, Global>, addresses: &[Addr]) {
+    let mut answers = vec![in alloc; None; addresses.len()].expect(rt, "memory");
+    trie.longest_many(addresses, &mut answers);
+    for (address, answer) in addresses.iter().zip(&answers) {
+        assert_eq!(rt; *answer, trie.longest(*address));
+    }
 }
 
 #[test]
-fn look_ups_together_are_those_one_by_one(rt: HostRuntime) -> Result<(), Fail> {
+fn look_ups_together_are_those_one_by_one(rt: HostRuntime) {
     let mut trie: Trie<u32, Global> = Trie::new(rt.alloc());
-    let mut addresses: Vec<Addr> = Vec::new(rt.alloc());
+    let mut addresses = Vec::new(rt.alloc());
     let mut seed = 3u64;
     // As many addresses as fill no lane, each lane, and several rounds; beside prefixes of each length that nest.
     for step in 0..40u32 {
-        seed = seed
-            .wrapping_mul(6_364_136_223_846_793_005)
-            .wrapping_add(1_442_695_040_888_963_407);
+        seed = next_number(seed);
         let bits = (seed >> 33) as u32;
-        let mask = (u64::from(u32::MAX) << (32 - step % 33) & 0xffff_ffff) as u32;
-        let len = (step % 33) as u8;
-        let old = trie
-            .insert(prefix(bits & mask, len)?, step)
-            .ok()
-            .ok_or("refused")?;
-        assert!(&rt; old.is_none() || step > 32);
-        let mut answers: Vec<Option<(Prefix, &u32)>> = Vec::new(rt.alloc());
-        for _ in 0..addresses.len() {
-            answers.push(None)?;
-        }
-        assert_eq!(&rt; answers.len(), addresses.len());
-        trie.longest_many(&addresses[..], &mut answers[..]);
-        for (address, answer) in addresses.iter().zip(&answers) {
-            assert_eq!(&rt;
-                answer.map(|x| (x.0, *x.1)),
-                trie.longest(*address).map(|x| (x.0, *x.1))
-            );
-        }
-        addresses.push(Addr(bits))?;
+        let answer = trie.insert(covering(&rt, bits, step), step);
+        assert!(&rt; answer.is_ok() && (answer == Ok(None) || step > 32));
+        assert_together(&rt, rt.alloc(), &trie, &addresses);
+        addresses.push(Addr(bits)).expect(&rt, "memory");
     }
-    Ok(())
 }
