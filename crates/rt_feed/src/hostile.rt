@@ -252,10 +252,11 @@ fn draw(state: &mut u64) -> usize {
 
 /// One of the texts.
 fn pick<'a>(state: &mut u64, texts: &[&'a [u8]]) -> &'a [u8] {
-    texts
-        .get(draw(state) % texts.len().max(1))
-        .copied()
-        .unwrap_or(b"")
+    let at = draw(state) % texts.len().max(1);
+    match texts.get(at) {
+        Some(text) => text,
+        None => b"",
+    }
 }
 
 /// Puts a hostile line into the buffer, without an LF.

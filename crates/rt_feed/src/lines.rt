@@ -31,10 +31,21 @@ pub(crate) fn cut_at(text: &[u8], mark: u8) -> (&[u8], Option<&[u8]>)
 #[cfg(test)]
 mod tests {
     use super::*;
-    use std::test::Fail;
+    use std::process::Abort;
+
+    /// The text has these lines and no more.
+    fn assert_lines(rt: &impl Abort, text: &[u8], lines: &[&[u8]]) {
+        let mut left = text;
+        for line in lines {
+            let (first, more) = next_line(left).expect(rt, "a line");
+            assert_eq!(rt; first, *line);
+            left = more;
+        }
+        assert_eq!(rt; next_line(left), None, "after {text:?}");
+    }
 
     #[test]
-    fn cuts_texts_into_lines(rt: HostRuntime) -> Result<(), Fail> {
+    fn cuts_texts_into_lines(rt: HostRuntime) {
         let texts: [(&[u8], &[&[u8]]); 7] = [
             (b"", &[]),
             (b"\n", &[b""]),
@@ -45,14 +56,7 @@ mod tests {
             (b"\n\nadd", &[b"", b"", b"add"]),
         ];
         for (text, lines) in texts {
-            let mut left = text;
-            for line in lines {
-                let (first, more) = next_line(left).ok_or("a line is missing")?;
-                assert_eq!(rt; first, *line);
-                left = more;
-            }
-            assert_eq!(rt; next_line(left), None, "after {text:?}");
+            assert_lines(&rt, text, lines);
         }
-        Ok(())
     }
 }

@@ -154,6 +154,7 @@ fn answer_of(outcome: Outcome) -> Answer
 #[cfg(test)]
 pub(crate) mod tests {
     use super::*;
+    use std::process::Abort;
     use std::test::Fail;
 
     /// A report with an answer for each line from the first on.
@@ -166,6 +167,14 @@ pub(crate) mod tests {
             })?;
         }
         Ok(report)
+    }
+
+    /// The report has a line for each answer, in order.
+    fn assert_keeps(rt: &impl Abort, report: &Report, answers: &[Answer]) {
+        assert_eq!(rt; report.lines().len(), answers.len());
+        for (line, answer) in report.lines().iter().zip(answers) {
+            assert_eq!(rt; line.answer, *answer);
+        }
     }
 
     #[test]
@@ -181,12 +190,12 @@ pub(crate) mod tests {
         ];
         for (answers, refusal, faulty) in reports {
             let report = report_of(rt.alloc(), answers)?;
-            assert_eq!(rt; report.lines().len(), answers.len());
-            for (line, answer) in report.lines().iter().zip(answers) {
-                assert_eq!(rt; line.answer, *answer);
-            }
-            assert_eq!(rt; report.has_refusal(), refusal, "in {answers:?}");
-            assert_eq!(rt; report.has_fault(), faulty, "in {answers:?}");
+            assert_keeps(&rt, &report, answers);
+            assert_eq!(rt;
+                (report.has_refusal(), report.has_fault()),
+                (refusal, faulty),
+                "in {answers:?}"
+            );
         }
         Ok(())
     }

@@ -51,6 +51,13 @@ pub fn text_body(text: &[u8]) -> (Version, &[u8])
 #[cfg(test)]
 mod tests {
     use super::*;
+    use std::process::Abort;
+
+    /// The text is of the version, and these are its lines.
+    fn assert_version(rt: &impl Abort, text: &[u8], version: Version, lines: &[u8]) {
+        assert_eq!(rt; text_version(text), version, "at {text:?}");
+        assert_eq!(rt; text_body(text), (version, lines), "at {text:?}");
+    }
 
     #[test]
     fn the_first_line_tells_version_two(rt: HostRuntime) {
@@ -60,8 +67,7 @@ mod tests {
             (b"version 2\nversion 2\n", b"version 2\n"),
         ];
         for (text, lines) in texts {
-            assert_eq!(rt; text_version(text), Version::Two, "at {text:?}");
-            assert_eq!(rt; text_body(text), (Version::Two, lines), "at {text:?}");
+            assert_version(&rt, text, Version::Two, lines);
         }
     }
 
@@ -80,8 +86,7 @@ mod tests {
             b"Version 2\n",
         ];
         for text in texts {
-            assert_eq!(rt; text_version(text), Version::One, "at {text:?}");
-            assert_eq!(rt; text_body(text), (Version::One, text), "at {text:?}");
+            assert_version(&rt, text, Version::One, text);
         }
     }
 }

@@ -4,6 +4,8 @@ use crate::print::write_report;
 use rt_cidr::OutputBuffer;
 use rt_rib::{Cmd, Refused, Reply};
 use rt_shared::Outcome;
+use std::alloc::AllocError;
+use std::process::Abort;
 use std::sync::atomic::{AtomicU64, Ordering};
 use std::test::Fail;
 
@@ -93,16 +95,21 @@ fn new_recording(alloc: Global) -> Recording {
     }
 }
 
+/// The text of the report as feed 1's.
+fn text_of(alloc: Global, report: &Report) -> Result<Vec<u8>, Fail> {
+    let mut text = Vec::new(alloc);
+    let mut buffer = OutputBuffer::new(alloc)?;
+    write_report(&mut text, &mut buffer, 1, report)?;
+    buffer.flush(&mut text)?;
+    Ok(text)
+}
+
 #[test]
 fn a_refused_command_is_reported_and_the_rest_go_on(rt: HostRuntime) -> Result<(), Fail> {
     let mut gate = new_recording(rt.alloc());
     let report = run_feed(&rt, rt.alloc(), b"dump\ndump\ndump\n", 1, &mut gate)?;
-    let mut text = Vec::new(rt.alloc());
-    let mut buffer = OutputBuffer::new(rt.alloc())?;
-    write_report(&mut text, &mut buffer, 1, &report)?;
-    buffer.flush(&mut text)?;
     assert_eq!(rt;
-        text.as_slice(),
+        text_of(rt.alloc(), &report)?.as_slice(),
         b"1:1 dumped 0\n1:2 refused\n1:3 dumped 0\n".as_slice()
     );
     Ok(())
@@ -114,13 +121,7 @@ fn faulty_and_skipped_lines_take_no_place_in_a_batch(rt: HostRuntime) -> Result<
     let text = b"dump\ndump\nfrob\n# note\ndump\ndump\ndump\ndump\ndump\n";
     let report = run_feed(&rt, rt.alloc(), text, 3, &mut gate)?;
     assert_eq!(rt; gate.lengths.as_slice(), [3, 3, 1].as_slice());
-    let mut text = Vec::new(rt.alloc());
-    let mut buffer = OutputBuffer::new(rt.alloc())?;
-    write_report(&mut text, &mut buffer, 1, &report)?;
-    buffer.flush(&mut text)?;
-    assert_eq!(rt;
-        text.as_slice(),
-        b"1:1 refused
+    let wanted = b"1:1 refused
 1:2 refused
 1:3 fault E1
 1:5 refused
@@ -128,9 +129,8 @@ fn faulty_and_skipped_lines_take_no_place_in_a_batch(rt: HostRuntime) -> Result<
 1:7 refused
 1:8 refused
 1:9 refused
-"
-            .as_slice()
-    );
+";
+    assert_eq!(rt; text_of(rt.alloc(), &report)?.as_slice(), wanted.as_slice());
     Ok(())
 }
 
@@ -156,26 +156,41 @@ fn a_run_without_texts_or_with_other_feeds_asks_nothing(rt: HostRuntime) -> Resu
     Ok(())
 }
 
+/// As many texts of one command as gates, each gate before one of them.
+fn feeds_that_meet<'a>(
+    alloc: Global,
+    called: &'a AtomicU64,
+    gates: u64,
+) -> Result<(Vec<Vec<u8>>, Vec<Feed<Meeting<'a>>>), AllocError> {
+    let mut texts = Vec::new(alloc);
+    let mut feeds = Vec::new(alloc);
+    for _ in 0..gates {
+        texts.push(Vec::from_slice(alloc, b"dump\n")?)?;
+        feeds.push(Feed {
+            gate: Meeting { called, gates },
+            report: None,
+        })?;
+    }
+    Ok((texts, feeds))
+}
+
+/// Each feed has a report of one line, which was not refused.
+fn assert_answered(rt: &impl Abort, feeds: &[Feed<Meeting<'_>>]) {
+    for feed in feeds {
+        let report = feed.report.as_ref().expect(rt, "a report");
+        assert!(rt; !report.has_refusal() && report.lines().len() == 1);
+    }
+}
+
 #[test]
 fn feeds_are_asked_at_the_same_time(rt: HostRuntime) -> Result<(), Fail> {
     for gates in [2, 16] {
         let called = AtomicU64::new(0);
-        let mut texts = Vec::new(rt.alloc());
-        let mut feeds = Vec::new(rt.alloc());
-        for _ in 0..gates {
-            texts.push(Vec::from_slice(rt.alloc(), b"dump\n")?)?;
-            let gate = Meeting {
-                called: &called,
-                gates,
-            };
-            feeds.push(Feed { gate, report: None })?;
-        }
+        let (texts, mut feeds) = feeds_that_meet(rt.alloc(), &called, gates)?;
         let ran = run_feeds(&rt, rt.alloc(), texts.as_slice(), 1, feeds.as_mut_slice());
         assert_eq!(rt; ran, Ok(()));
-        for feed in feeds.as_slice() {
-            let report = feed.report.as_ref().ok_or("a report")?;
-            assert!(rt; !report.has_refusal() && report.lines().len() == 1);
-        }
+        assert_eq!(rt; feeds.len() as u64, gates);
+        assert_answered(&rt, feeds.as_slice());
     }
     Ok(())
 }

@@ -133,9 +133,13 @@ fn octet(text: &[u8]) -> Option<u8> {
 
 /// The number whose digits these are; one that doesn't fit is the largest.
 fn number(digits: &[u8]) -> Option<u64> {
-    if digits.is_empty() || (digits.len() > 1 && digits[0] == b'0') {
-        return None;
+    match digits {
+        [] | [b'0', _, ..] => None,
+        _ => sum(digits),
     }
+}
+
+fn sum(digits: &[u8]) -> Option<u64> {
     let mut value = 0u64;
     for byte in digits {
         let digit = byte.wrapping_sub(b'0');

@@ -1,9 +1,24 @@
 //! Lines and the answers to them: the first fault of each kind, and commands read as what they say.
 use super::*;
 use crate::lines::next_line;
+use std::process::Abort;
 use std::test::Fail;
 
-const VERSIONS: [Version; 2] = [Version::One, Version::Two];
+/// What the line is answered in a text of the version.
+fn assert_answer(
+    rt: &impl Abort,
+    line: &[u8],
+    version: Version,
+    answer: Result<Option<Cmd>, LineFault>,
+) {
+    assert_eq!(rt; parse_line(line, version), answer, "at {line:?}");
+}
+
+/// What it is answered in each version.
+fn assert_answers(rt: &impl Abort, line: &[u8], answer: Result<Option<Cmd>, LineFault>) {
+    assert_answer(rt, line, Version::One, answer);
+    assert_answer(rt, line, Version::Two, answer);
+}
 
 #[test]
 fn tells_the_first_fault(rt: HostRuntime) {
@@ -40,9 +55,7 @@ fn tells_the_first_fault(rt: HostRuntime) {
         (&[b'#'; 129], LineFault::LineLength),
     ];
     for (line, fault) in faulty {
-        for version in VERSIONS {
-            assert_eq!(rt; parse_line(line, version), Err(fault), "at {line:?}");
-        }
+        assert_answers(&rt, line, Err(fault));
     }
 }
 
@@ -50,9 +63,7 @@ fn tells_the_first_fault(rt: HostRuntime) {
 fn skips_empty_lines_and_comments(rt: HostRuntime) {
     let skipped: [&[u8]; 4] = [b"", b"#", b"# note", &[b'#'; 128]];
     for line in skipped {
-        for version in VERSIONS {
-            assert_eq!(rt; parse_line(line, version), Ok(None), "at {line:?}");
-        }
+        assert_answers(&rt, line, Ok(None));
     }
 }
 
@@ -84,9 +95,7 @@ fn reads_each_command(rt: HostRuntime) -> Result<(), Fail> {
         (b"dump", Cmd::Dump),
     ];
     for (line, cmd) in commands {
-        for version in VERSIONS {
-            assert_eq!(rt; parse_line(line, version), Ok(Some(cmd)), "at {line:?}");
-        }
+        assert_answers(&rt, line, Ok(Some(cmd)));
     }
     Ok(())
 }
@@ -101,9 +110,7 @@ fn one_byte_is_no_command(rt: HostRuntime) -> Result<(), Fail> {
             _ => Err(LineFault::Command),
         };
         assert!(rt; left.is_empty());
-        for version in VERSIONS {
-            assert_eq!(rt; parse_line(line, version), answer, "at {byte}");
-        }
+        assert_answers(&rt, line, answer);
     }
     Ok(())
 }
@@ -126,12 +133,8 @@ fn discard_and_purge_came_with_version_two(rt: HostRuntime) -> Result<(), Fail> 
         ),
     ];
     for (line, fault, cmd) in lines {
-        assert_eq!(rt; parse_line(line, Version::One), Err(fault), "at {line:?}");
-        assert_eq!(rt;
-            parse_line(line, Version::Two),
-            Ok(Some(cmd)),
-            "at {line:?}"
-        );
+        assert_answer(&rt, line, Version::One, Err(fault));
+        assert_answer(&rt, line, Version::Two, Ok(Some(cmd)));
     }
     Ok(())
 }
@@ -157,7 +160,7 @@ fn no_version_has_more(rt: HostRuntime) {
         ),
     ];
     for (line, one, two) in faulty {
-        assert_eq!(rt; parse_line(line, Version::One), Err(one), "at {line:?}");
-        assert_eq!(rt; parse_line(line, Version::Two), Err(two), "at {line:?}");
+        assert_answer(&rt, line, Version::One, Err(one));
+        assert_answer(&rt, line, Version::Two, Err(two));
     }
 }

@@ -267,8 +267,38 @@ fn hands_on_the_writers_fault(rt: HostRuntime) -> Result<(), Fail> {
 fn push_number(text: &mut Vec<u8>, number: usize) -> Result<(), AllocError> {
     for scale in [100_000, 10_000, 1_000, 100, 10, 1] {
         if number >= scale {
-            text.push(b'0' + (number / scale % 10) as u8)?;
+            text.push(b'0' + (number.checked_div(scale).unwrap_or(0) % 10) as u8)?;
         }
+    }
+    Ok(())
+}
+
+/// A report of lines that were answered with a count, from the first to the one before this number.
+fn dumped(alloc: Global, end: usize) -> Result<Report, AllocError> {
+    let mut answers = Vec::new(alloc);
+    for _ in 1..end {
+        answers.push(Answer::Did(Reply::Dumped(7)))?;
+    }
+    report_of(alloc, answers.as_slice())
+}
+
+/// What it prints.
+fn push_dumped(text: &mut Vec<u8>, end: usize) -> Result<(), AllocError> {
+    for i in 1..end {
+        text.extend_from_slice(b"1:")?;
+        push_number(text, i)?;
+        text.extend_from_slice(b" dumped 7\n")?;
+    }
+    Ok(())
+}
+
+/// What a table prints that has the route of 10.0.0.0/8 so often.
+fn push_table(text: &mut Vec<u8>, count: usize) -> Result<(), AllocError> {
+    text.extend_from_slice(b"table ")?;
+    push_number(text, count)?;
+    text.push(b'\n')?;
+    for _ in 0..count {
+        text.extend_from_slice(b"10.0.0.0/8 feed 1 pref 100 via 192.0.2.1\n")?;
     }
     Ok(())
 }
@@ -279,25 +309,12 @@ fn prints_hundreds_of_thousands_of_lines(rt: HostRuntime) -> Result<(), Fail> {
     let alloc = rt.alloc();
     let count = 200_000;
     let ten = route(b"10.0.0.0/8", 100, b"192.0.2.1")?;
-    let mut answers = Vec::new(alloc);
-    let mut routes = Vec::new(alloc);
     let mut wanted = Vec::new(alloc);
-    for i in 1..count {
-        answers.push(Answer::Did(Reply::Dumped(7)))?;
-        wanted.extend_from_slice(b"1:")?;
-        push_number(&mut wanted, i)?;
-        wanted.extend_from_slice(b" dumped 7\n")?;
-    }
-    wanted.extend_from_slice(b"table ")?;
-    push_number(&mut wanted, count)?;
-    wanted.push(b'\n')?;
-    for _ in 0..count {
-        routes.push(ten)?;
-        wanted.extend_from_slice(b"10.0.0.0/8 feed 1 pref 100 via 192.0.2.1\n")?;
-    }
+    push_dumped(&mut wanted, count)?;
+    push_table(&mut wanted, count)?;
+    let routes = vec![in alloc; ten; count]?;
     let mut out = Vec::new(alloc);
-    let report = report_of(alloc, answers.as_slice())?;
-    write_both(alloc, &mut out, &report, routes.as_slice())?;
+    write_both(alloc, &mut out, &dumped(alloc, count)?, routes.as_slice())?;
     assert!(rt; out.as_slice() == wanted.as_slice());
     Ok(())
 }
