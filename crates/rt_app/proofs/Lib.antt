@@ -2,3 +2,4 @@ pub mod Replaying
 pub mod Numbered
 pub mod SeveralFeeds
 pub mod SameTables
+pub mod WhoIsInside

@@ -8,8 +8,9 @@ use Rattle.ya_core.specs.declared.word.Word.TheVariants.{C, T, P}
 use Rattle.ya_core.specs.declared.step.Mark.{Mark}
 use Rattle.ya_core.specs.declared.step.Mark.TheVariants.{Plain, Inside, Out}
 use Rattle.ya_core.specs.declared.step.Step.{Step}
-use Rattle.ya_core.specs.Steps.{opening}
-use Rattle.ya_core.specs.Machines.{Replays}
+use Rattle.ya_core.specs.Steps.{State, opening}
+use Rattle.ya_core.specs.Machines.{ReplaysTo}
+use Rattle.ya_core.specs.Worlds.{TellsInside}
 use Rattle.rt_app.specs.declared.faults.AppFault.{AppFault}
 use Rattle.rt_app.specs.declared.faults.AppFault.TheVariants.{Run, Replay, Write}
 
@@ -67,15 +68,24 @@ unfoldable pub inside_text : Option ℕ → List ℕ
 inside_text None = codes "inside none\n"
 inside_text (Some place) = codes "inside p" ++ (decimal place ++ codes "\n")
 
--- the text of a replay that made these steps
-abbrev pub replay_text_of : List Step → List ℕ
-replay_text_of steps = steps_text 1 steps ++ inside_text (inside_after steps)
+-- the text of a replay that made these steps, after which this place is inside
+abbrev pub replay_text_of : List Step → Option ℕ → List ℕ
+replay_text_of steps inside = steps_text 1 steps ++ inside_text inside
+
+-- the text of the run that the picks name: its steps, and who is inside in the state to which they lead
+pub record IsReplayText (levels : ℕ) (picks text : List ℕ) : Type 0 where
+  pub steps : List Step
+  pub last : State
+  pub taken : ReplaysTo levels opening picks steps last
+  pub inside : Option ℕ
+  pub told : TellsInside last inside
+  pub printed : text ≡ replay_text_of steps inside
 
 -- what a replay leaves in its writer: the text of the one run that the picks name; nothing where it was refused; a beginning of that text where it could not be written
 abbrev pub LeavesReplay : ℕ → List ℕ → Option (List ℕ) → Option (List ℕ) → Result ℕ AppFault → Type 0
 LeavesReplay levels picks old new (Ok status) =
-    (status ≡ 0) × (steps : List Step) × Replays levels opening picks steps × Appends old new (replay_text_of steps)
+    (status ≡ 0) × (text : List ℕ) × IsReplayText levels picks text × Appends old new text
 LeavesReplay levels picks old new (Err (Run fault)) = ⊥
 LeavesReplay levels picks old new (Err (Replay fault)) = new ≡ old
 LeavesReplay levels picks old new (Err Write) =
-    (steps : List Step) × Replays levels opening picks steps × AppendsBeginning old new (replay_text_of steps)
+    (text : List ℕ) × IsReplayText levels picks text × AppendsBeginning old new text

@@ -34,27 +34,29 @@ pub fn replay_text<W: Write>(
     let Ok(mut buffer) = OutputBuffer::new(alloc) else {
         return Err(AppFault::Replay(ReplayFault::Memory));
     };
-    match write_replay(w, &mut buffer, steps.as_slice()) {
+    let inside = inside_place(steps.as_slice());
+    match write_replay(w, &mut buffer, steps.as_slice(), inside) {
         Ok(()) => Ok(0),
         Err(_) => Err(AppFault::Write),
     }
 }
 
-/// Writes the text of a replay that made these steps.
+/// Writes the text of a replay that made these steps, after which that place is inside.
 #[tactic(auto, using(crate::proofs::Replaying::inside_fits))]
 fn write_replay<W: Write>(
     w: &mut W,
     buffer: &mut OutputBuffer,
     steps: &[Step],
+    inside: Option<usize>,
 ) -> Result<(), io::Error>
     requires empty { buffer.old ≡ [] }
     requires numbered { length steps.now < 2 ^ 63 }
-    ensures ok { OnOk result (Appends (W.contents w.old) (W.contents w.new) (replay_text_of steps.now)) }
-    ensures err { OnErr result (AppendsBeginning (W.contents w.old) (W.contents w.new) (replay_text_of steps.now)) }
+    ensures ok { OnOk result (Appends (W.contents w.old) (W.contents w.new) (replay_text_of steps.now inside)) }
+    ensures err { OnErr result (AppendsBeginning (W.contents w.old) (W.contents w.new) (replay_text_of steps.now inside)) }
 {
     write_steps(w, buffer, steps)?;
     let mut text = ShortText::new();
-    prepend_inside(&mut text, inside_place(steps));
+    prepend_inside(&mut text, inside);
     buffer.put(w, text.as_bytes())?;
     buffer.flush(w)
 }

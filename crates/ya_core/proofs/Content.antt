@@ -8,7 +8,7 @@ use Rattle.ya_core.specs.Steps.{State, next_of, access_of, value_of}
 use Rattle.ya_core.specs.Soundness.{IsSound}
 use Rattle.ya_core.specs.Worlds.{Marked, World, Event, Steps, Appends, opening_world, WorldSteps, WorldAppends, Happens, Runs, IsReached, entries_of, FollowsFrom, IsLawful, is_inside, IsInside, any_entry}
 use Rattle.ya_core.proofs.Level.{or_else}
-use Rattle.ya_core.proofs.Invariant.{keeps, opens, excludes}
+use Rattle.ya_core.proofs.Invariant.{keeps, opens, is_inside_is, excludes}
 
 -- the entries of a place, each with its mark
 abbrev pub marked : {X : Type 0} → ℕ → List X → List (Marked X)
@@ -51,13 +51,6 @@ FollowsFrom-push : {X : Type 0} (ok : List (Marked X) → Marked X → Type 0) (
 FollowsFrom-push ok before [] x is may = (subst (λ ys. ok ys x) (append-nil before) may, tt)
 FollowsFrom-push ok before (y ∷ ys) x is may = (is.0, FollowsFrom-push ok (before ++ y ∷ []) ys x is.1 (subst (λ zs. ok zs x) (sym (append_assoc before (y ∷ []) ys)) may))
 
--- a process that is inside
-pub is_inside_is : (x : Process) → IsTrue (is_inside x) → x ≡ Inside
-is_inside_is Inside h = refl
-is_inside_is Idle h = absurd cc
-is_inside_is (Entering level point) h = absurd cc
-is_inside_is (Leaving level point) h = absurd cc
-
 -- what holds of every world that is reached
 pub record IsKept {X : Type 0} (levels : ℕ) (ok : List (Marked X) → Marked X → Type 0) (w : World X) : Type 0 where
   pub sound : IsSound levels w.state
@@ -71,10 +64,6 @@ kept_opening : {X : Type 0} (levels : ℕ) (ok : List (Marked X) → Marked X �
 kept_opening levels ok = record { sound = opens levels; copies = λ p h. absurd cc; made = λ p. refl; lawful = tt; lawful_copy = λ p h. absurd cc }
 
 module _ {X : Type 0} (levels : ℕ) (ok : List (Marked X) → Marked X → Type 0) (some : 1 ≤ levels) where
-  -- two places inside are one
-  pub one_inside : (s : State) (p q : ℕ) → IsSound levels s → IsInside s p → IsInside s q → p ≡ q
-  one_inside s p q is hp hq = excludes levels p q s some is (is_inside_is (s.processes p) hp) (is_inside_is (s.processes q) hq)
-
   module _ (place : ℕ) (old new : World X) (is : IsKept levels ok old) where
     -- the step of a place that is inside writes its copy over the content
     kept_release : WorldSteps levels place old new → is_inside (old.state.processes place) ≡ true → IsKept levels ok new
@@ -108,7 +97,7 @@ module _ {X : Type 0} (levels : ℕ) (ok : List (Marked X) → Marked X → Type
             cases : (q ≡ place) ⊎ (new.state.processes q ≡ old.state.processes q) → ⊥
             cases (inl one) = let now : is_inside (new.state.processes place) ≡ true = subst (λ p. is_inside (new.state.processes p) ≡ true) one h in cc (out, now)
             cases (inr same) =
-                let one : q ≡ place = one_inside old.state q place is.sound (ap is_inside (sym same) ∙ h) inside in
+                let one : q ≡ place = excludes levels q place old.state some is.sound (ap is_inside (sym same) ∙ h) inside in
                 let now : is_inside (new.state.processes place) ≡ true = subst (λ p. is_inside (new.state.processes p) ≡ true) one h in cc (out, now)
 
         made : (q : ℕ) → entries_of q new.content ≡ new.made q

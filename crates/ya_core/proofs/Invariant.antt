@@ -13,6 +13,7 @@ use Rattle.ya_core.specs.Tree.{node_of, side_of}
 use Rattle.ya_core.specs.Steps.{State, StepsTo, Accesses, opening, value_of, access_of, entry_access, exit_access, next_of, entry_next, exit_next, won, left}
 use Rattle.ya_core.specs.Soundness.{Phase, Away, Named, Holding, Parting, Freeing, is_past, holds, parts, phase_of, entry_phase, exit_phase, IsProper, IsSoundAt, IsOwedAt, IsSound}
 use Rattle.ya_core.specs.Walks.{MayFind, CanStand}
+use Rattle.ya_core.specs.Worlds.{IsInside, is_inside}
 use Rattle.ya_core.proofs.Places.{node_below, node_of_place, node_of_root}
 use Rattle.ya_core.proofs.Properness.{proper_next}
 use Rattle.ya_core.proofs.Level.{competes, or_else, level_stays, one_holds}
@@ -275,11 +276,21 @@ opens levels =
           };
     }
 
+-- a process that is inside
+pub is_inside_is : (x : Process) → IsTrue (is_inside x) → x ≡ Inside
+is_inside_is Inside h = refl
+is_inside_is Idle h = absurd cc
+is_inside_is (Entering level point) h = absurd cc
+is_inside_is (Leaving level point) h = absurd cc
+
 -- two places that are inside are one
-pub excludes : (levels p q : ℕ) (s : State) → 1 ≤ levels → IsSound levels s → s.processes p ≡ Inside → s.processes q ≡ Inside → p ≡ q
+pub excludes : (levels p q : ℕ) (s : State) → 1 ≤ levels → IsSound levels s → IsInside s p → IsInside s q → p ≡ q
 excludes levels p q s some is hp hq =
-    let root = is.sound levels some (omega arith) in
-    let room_p : p < 2 ^ levels = subst (IsProper levels p) hp (is.proper p) in
-    let room_q : q < 2 ^ levels = subst (IsProper levels q) hq (is.proper q) in
-    one_holds (node_of levels) (side_of levels) (λ p. phase_of levels levels (s.processes p)) (λ n d. s.words (C levels n d)) (λ n. s.words (T levels n)) (λ p. s.words (P levels p)) root p q
-    (node_of_root levels p room_p ∙ sym (node_of_root levels q room_q)) (ap (λ x. holds (phase_of levels levels x)) hp ∙ ap holds (phase_here levels Holding)) (ap (λ x. holds (phase_of levels levels x)) hq ∙ ap holds (phase_here levels Holding))
+    one_holds (node_of levels) (side_of levels) (λ p. phase_of levels levels (s.processes p)) (λ n d. s.words (C levels n d)) (λ n. s.words (T levels n)) (λ p. s.words (P levels p))
+    (is.sound levels some (omega arith)) p q (node_of_root levels p (place_in p hp) ∙ sym (node_of_root levels q (place_in q hq))) (holds_root p hp) (holds_root q hq)
+  where
+    place_in : (p : ℕ) → IsInside s p → p < 2 ^ levels
+    place_in p h = subst (IsProper levels p) (is_inside_is (s.processes p) h) (is.proper p)
+
+    holds_root : (p : ℕ) → IsInside s p → IsTrue (holds (phase_of levels levels (s.processes p)))
+    holds_root p h = ap (λ x. holds (phase_of levels levels x)) (is_inside_is (s.processes p) h) ∙ ap holds (phase_here levels Holding)

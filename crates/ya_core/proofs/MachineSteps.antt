@@ -10,12 +10,11 @@ use Rattle.ya_core.specs.Tree.{count_of_words}
 use Rattle.ya_core.specs.Steps.{StepsTo, Accesses, opening, value_of, access_of, next_of}
 use Rattle.ya_core.specs.Soundness.{IsProper, IsSound}
 use Rattle.ya_core.specs.Walks.{AccessIsWithin}
-use Rattle.ya_core.specs.Machines.{IsMachine, processes_of}
+use Rattle.ya_core.specs.Machines.{Rows, IsMachine, processes_of, state_of}
 use Rattle.ya_core.specs.FlatRow.{words_of, row_state}
-use Rattle.ya_core.specs.Worlds.{IsInside, is_inside}
+use Rattle.ya_core.specs.Worlds.{IsInside, TellsInside, is_inside}
 use Rattle.ya_core.proofs.Properness.{within_access}
 use Rattle.ya_core.proofs.Invariant.{keeps, opens, excludes}
-use Rattle.ya_core.proofs.Content.{is_inside_is}
 use Rattle.ya_core.proofs.NamedWords.{words_of-zero, same_state}
 
 -- the processes after one of them is set
@@ -100,17 +99,17 @@ none_inside i (x ∷ xs) e k = cases (is_inside x) refl e k (none_inside (i + 1)
     cases false outside e (suc k) rest = rest e k
 
 -- the first place that is inside is the one that is
-pub inside_at : (levels : ℕ) (words : List ℕ) (processes : List Process) → IsMachine record { levels = levels; words = words; processes = processes }
-    → (place : ℕ) → (position is_inside processes ≡ Some place → IsInside (row_state levels words (processes_of processes)) place) × (IsInside (row_state levels words (processes_of processes)) place → position is_inside processes ≡ Some place)
+pub inside_at : (m : Rows) → IsMachine m → TellsInside (state_of m) (position is_inside m.processes)
 unfolding processes_of
-inside_at levels words processes is place = (λ e. (position-Some is_inside processes place Idle e).1, λ h. found h (position is_inside processes) refl)
+inside_at m is place = (λ e. (position-Some is_inside m.processes place Idle e).1, λ h. found h (position is_inside m.processes) refl)
   where
-    found : IsInside (row_state levels words (processes_of processes)) place → (o : Option ℕ) → position is_inside processes ≡ o → position is_inside processes ≡ Some place
+    found : IsInside (state_of m) place → (o : Option ℕ) → position is_inside m.processes ≡ o
+        → position is_inside m.processes ≡ Some place
     found h None e =
-        let nobody : is_inside (get_or processes place Idle) ≡ false = none_inside 0 processes (sym (position_from-zero is_inside processes) ∙ e) place in
+        let nobody : is_inside (get_or m.processes place Idle) ≡ false =
+        none_inside 0 m.processes (sym (position_from-zero is_inside m.processes) ∙ e) place in
         absurd (let both : true ≡ false = sym h ∙ nobody in cc)
     found h (Some other) e =
-        let there = (position-Some is_inside processes other Idle e).1 in
-        let same : other ≡ place =
-        excludes levels other place (row_state levels words (processes_of processes)) is.least is.sound (is_inside_is (processes_of processes other) there) (is_inside_is (processes_of processes place) h) in
+        let there = (position-Some is_inside m.processes other Idle e).1 in
+        let same : other ≡ place = excludes m.levels other place (state_of m) is.least is.sound there h in
         e ∙ ap (λ n. Some n) same

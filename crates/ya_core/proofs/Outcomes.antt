@@ -9,7 +9,7 @@ use Rattle.ya_core.specs.declared.word.Access.TheVariants.{Load, Store}
 use Rattle.ya_core.specs.declared.process.Process.{Process}
 use Rattle.ya_core.specs.declared.step.Step.{Step}
 use Rattle.ya_core.specs.Steps.{State, StepsTo, Accesses, value_of, access_of, next_of}
-use Rattle.ya_core.specs.Machines.{Replays, step_of}
+use Rattle.ya_core.specs.Machines.{ReplaysTo, step_of}
 use Rattle.ya_core.specs.Worlds.{Marked, World, WorldSteps, WorldAppends, IsInside, is_inside, any_entry}
 
 -- two words are one, or are not
@@ -127,39 +127,30 @@ one_outcome levels place old new other p q = λ i. record { words = words i; pro
     processes = fun_ext at
 
 -- the picks name one run
-pub one_replay : (levels : ℕ) (picks : List ℕ) (s : State) (steps other : List Step) → Replays levels s picks steps → Replays levels s picks other → other ≡ steps
-one_replay levels [] s [] [] p q = refl
-one_replay levels [] s [] (y ∷ other) p q = absurd q
-one_replay levels [] s (x ∷ steps) other p q = absurd p
-one_replay levels (place ∷ picks) s [] other p q = absurd p
-one_replay levels (place ∷ picks) s (x ∷ steps) [] p q = absurd q
-one_replay levels (place ∷ picks) s (x ∷ steps) (y ∷ other) p q =
+pub one_replay : (levels : ℕ) (picks : List ℕ) (s last end : State) (steps other : List Step)
+    → ReplaysTo levels s picks steps last → ReplaysTo levels s picks other end → other ≡ steps
+one_replay levels [] s last end [] [] p q = refl
+one_replay levels [] s last end [] (y ∷ other) p q = absurd q
+one_replay levels [] s last end (x ∷ steps) other p q = absurd p
+one_replay levels (place ∷ picks) s last end [] other p q = absurd p
+one_replay levels (place ∷ picks) s last end (x ∷ steps) [] p q = absurd q
+one_replay levels (place ∷ picks) s last end (x ∷ steps) (y ∷ other) p q =
     let same : q.0 ≡ p.0 = one_outcome levels place s q.0 p.0 q.1 p.1 in
-    let rest : other ≡ steps = one_replay levels picks p.0 steps other p.3 (subst (λ t. Replays levels t picks other) same q.3) in
+    let rest : other ≡ steps =
+    one_replay levels picks p.0 last end steps other p.3 (subst (λ t. ReplaysTo levels t picks other end) same q.3) in
     let first : y ≡ x = q.2 ∙ sym p.2 in
     cc
 
--- the picks lead from one state to the other by these steps
-abbrev pub Reaches : ℕ → State → List ℕ → List Step → State → Type 0
-Reaches levels s [] [] t = s ≡ t
-Reaches levels s (place ∷ picks) (step ∷ steps) t =
-    (after : State) × StepsTo levels place s after × (step ≡ step_of levels place s) × Reaches levels after picks steps t
-Reaches levels s [] (step ∷ steps) t = ⊥
-Reaches levels s (place ∷ picks) [] t = ⊥
-
 -- a run that goes on by one more step
-pub reaches_more : (levels place : ℕ) (s t u : State) (picks : List ℕ) (steps : List Step) → Reaches levels s picks steps t → StepsTo levels place t u → Reaches levels s (picks ++ place ∷ []) (steps ++ step_of levels place t ∷ []) u
-reaches_more levels place s t u [] [] run step = (u, subst (λ v. StepsTo levels place v u) (sym run) step, ap (step_of levels place) (sym run), refl)
-reaches_more levels place s t u (p ∷ picks) (x ∷ steps) run step = (run.0, run.1, run.2, reaches_more levels place run.0 t u picks steps run.3 step)
-reaches_more levels place s t u [] (x ∷ steps) run step = absurd run
-reaches_more levels place s t u (p ∷ picks) [] run step = absurd run
-
--- the steps of a run that reaches some state are those that the picks name
-pub replays_reached : (levels : ℕ) (s t : State) (picks : List ℕ) (steps : List Step) → Reaches levels s picks steps t → Replays levels s picks steps
-replays_reached levels s t [] [] run = tt
-replays_reached levels s t (p ∷ picks) (x ∷ steps) run = (run.0, run.1, run.2, replays_reached levels run.0 t picks steps run.3)
-replays_reached levels s t [] (x ∷ steps) run = absurd run
-replays_reached levels s t (p ∷ picks) [] run = absurd run
+pub replays_more : (levels place : ℕ) (s last after : State) (picks : List ℕ) (steps : List Step)
+    → ReplaysTo levels s picks steps last → StepsTo levels place last after
+    → ReplaysTo levels s (picks ++ place ∷ []) (steps ++ step_of levels place last ∷ []) after
+replays_more levels place s last after [] [] run step =
+    (after, subst (λ t. StepsTo levels place t after) run step, ap (step_of levels place) run, refl)
+replays_more levels place s last after (p ∷ picks) (x ∷ steps) run step =
+    (run.0, run.1, run.2, replays_more levels place run.0 last after picks steps run.3 step)
+replays_more levels place s last after [] (x ∷ steps) run step = absurd run
+replays_more levels place s last after (p ∷ picks) [] run step = absurd run
 
 -- one of two values, where the test is known
 if_true : {A : Type 0} (b : Bool) (x y : A) → b ≡ true → (if b then x else y) ≡ x

@@ -7,7 +7,7 @@ pub use Rattle.ya_core.proofs.NamedWords.{is_word_true, word_is}
 -- the access that is due where a walker asks for a load or a store, and its word is one of the tree
 pub use Rattle.ya_core.proofs.DueAccess.{load_due, store_due}
 pub use Rattle.ya_core.proofs.Properness.{within_access}
--- the invariant holds at the start, each step keeps it, a load finds what can stand in its word, and two places that are inside are one
-pub use Rattle.ya_core.proofs.Invariant.{opens, keeps, finds, excludes}
+-- the invariant holds at the start, each step keeps it, a load finds what can stand in its word, a process that is inside is at one point, and two places that are inside are one
+pub use Rattle.ya_core.proofs.Invariant.{opens, keeps, finds, is_inside_is, excludes}
 -- where some place takes part, one that takes part goes on
 pub use Rattle.ya_core.proofs.Deadlock.{someone_goes_on}

@@ -70,10 +70,15 @@ pub record TakesStep (place : ℕ) (old new : Rows) (step_told : Step) : Type 0 
   pub step : StepsTo old.levels place (state_of old) (state_of new)
   pub told : step_told ≡ step_of old.levels place (state_of old)
 
+-- from this state the places that are picked take these steps, one after another, which leads to the last state
+abbrev pub ReplaysTo : ℕ → State → List ℕ → List Step → State → Type 0
+ReplaysTo levels s [] [] last = last ≡ s
+ReplaysTo levels s (place ∷ picks) (step ∷ steps) last =
+    (after : State) × StepsTo levels place s after × (step ≡ step_of levels place s)
+    × ReplaysTo levels after picks steps last
+ReplaysTo levels s [] (step ∷ steps) last = ⊥
+ReplaysTo levels s (place ∷ picks) [] last = ⊥
+
 -- from this state the places that are picked take these steps, one after another
 abbrev pub Replays : ℕ → State → List ℕ → List Step → Type 0
-Replays levels s [] [] = Unit {0}
-Replays levels s (place ∷ picks) (step ∷ steps) =
-    (after : State) × StepsTo levels place s after × (step ≡ step_of levels place s) × Replays levels after picks steps
-Replays levels s [] (step ∷ steps) = ⊥
-Replays levels s (place ∷ picks) [] = ⊥
+Replays levels s picks steps = (last : State) × ReplaysTo levels s picks steps last

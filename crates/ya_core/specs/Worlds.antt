@@ -1,5 +1,5 @@
 -- Processes that change a shared list while they are inside: worlds, events and runs. Nothing here keeps two processes out.
-use Rattle.std.specs.Prelude.{◌≡◌, ◌≢◌, ℕ, ◌==◌, Bool, true, false, if◌then◌else◌, IsTrue, List, [], ◌∷◌, ◌++◌}
+use Rattle.std.specs.Prelude.{◌≡◌, ◌≢◌, ◌↔◌, ℕ, ◌==◌, Bool, true, false, if◌then◌else◌, IsTrue, List, [], ◌∷◌, ◌++◌, Option, Some}
 use Rattle.ya_core.specs.declared.process.Process.{Process}
 use Rattle.ya_core.specs.declared.process.Process.TheVariants.{Inside}
 use Rattle.ya_core.specs.Steps.{State, StepsTo, opening}
@@ -12,6 +12,10 @@ is_inside _ = false
 -- the place is inside
 abbrev pub IsInside : State → ℕ → Type 0
 IsInside s place = IsTrue (is_inside (s.processes place))
+
+-- who is inside: this place, or none where no place is
+abbrev pub TellsInside : State → Option ℕ → Type 0
+TellsInside s inside = (place : ℕ) → (inside ≡ Some place) ↔ IsInside s place
 
 -- an entry of the content, marked with the place that made it
 abbrev pub Marked : Type 0 → Type 0

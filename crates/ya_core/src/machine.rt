@@ -1,5 +1,5 @@
 //! All places of a tree with their words, one atomic step at a time.
-ghost use Rattle.std.specs.Prelude.{◌≡◌, ◌↔◌, ℕ, ◌^◌, ◌<◌, Some, IfOk, length, slice_index};
+ghost use Rattle.std.specs.Prelude.{◌≡◌, ◌^◌, ◌<◌, IfOk, length, slice_index};
 ghost use Rattle.ya_core.specs.Tree.{count_of_words};
 ghost use Rattle.std.specs.List.{position};
 ghost use Rattle.ya_core.specs.Steps.{Accesses, StepsTo, opening, value_of};
@@ -7,7 +7,7 @@ ghost use Rattle.ya_core.specs.Walks.{AccessIsWithin};
 ghost use Rattle.ya_core.specs.Machines.{IsMachine, TakesStep, rows, state_of, step_of};
 ghost use Rattle.ya_core.specs.Machines.{step_by, mark_of};
 ghost use Rattle.ya_core.specs.FlatRow.{words_of};
-ghost use Rattle.ya_core.specs.Worlds.{IsInside, is_inside};
+ghost use Rattle.ya_core.specs.Worlds.{TellsInside, is_inside};
 
 use crate::process::Process;
 use crate::shape::Shape;
@@ -83,7 +83,7 @@ impl Machine {
 
     /// The place that is inside, if one is.
     pub fn inside(&self) -> Option<usize>
-        ensures { (place : ℕ) → (result ≡ Some place) ↔ IsInside (state_of self.now) place }
+        ensures { TellsInside (state_of self.now) result }
     {
         first_inside(&self.processes)
     }

@@ -5,13 +5,13 @@ use mathlib.Core.Option.{Option, none, some, some-injective, some-ne-none}
 use Rattle.atomic_table.specs.Table.{State}
 use Rattle.ya_core.specs.declared.process.Process.{Process}
 use Rattle.ya_core.specs.declared.process.Process.TheVariants.{Idle, Inside}
-use Rattle.ya_core.proofs.Promised.{excludes, someone_goes_on}
+use Rattle.ya_core.proofs.Promised.{is_inside_is, excludes, someone_goes_on}
 use Rattle.ya_lock.specs.declared.view.View.{View}
 use Rattle.ya_lock.specs.declared.view.View.TheVariants.{Stranger, Maker, Filler, Dealer, Member, Confirmer, Spent}
 use Rattle.ya_lock.specs.Rule.{making_index, words_in, place_of, Picture, Knows, Lies, Fits, Rule}
 use Rattle.ya_core.specs.Worlds.{is_inside}
 use Rattle.ya_lock.specs.Meaning.{IsOf, IsFilling, IsMaking, HasProcess, NoneInside, ShowsCore, GoesOn, SomeSeatGoesOn, OneSeatAPlace, OneInside, LiesHome, IsFresh, IsMadeByOne}
-use Rattle.ya_lock.proofs.Steps.{inside_is, none_true}
+use Rattle.ya_lock.proofs.Steps.{none_true}
 
 module _ {V : Type 0} (since : ℕ → V → V → Type 0) (levels : ℕ) where
   -- a state of the table
@@ -98,7 +98,7 @@ module _ {V : Type 0} (since : ℕ → V → V → Type 0) (levels : ℕ) where
   pub one_inside : 1 ≤ levels → (s : St) → Rule since levels s → OneInside s
   one_inside least s r one other p q v w h k =
       let a = shown s r one p Inside v h in let b = shown s r other q Inside w k in
-      let same : p ≡ q = excludes levels p q (record { words = words_in levels s.words; processes = r.0.processes }) least r.1.sound a.is b.is in
+      let same : p ≡ q = excludes levels p q (record { words = words_in levels s.words; processes = r.0.processes }) least r.1.sound (ap is_inside a.is) (ap is_inside b.is) in
       some-injective one other (sym a.sits ∙ (ap r.0.seat_of same ∙ b.sits))
 
   -- who knows of the content shows that it is there
@@ -124,7 +124,7 @@ module _ {V : Type 0} (since : ℕ → V → V → Type 0) (levels : ℕ) where
         let a = shown s r seat place process value h in let c = content_of r.0.content place value (is_inside process) a.knows in (
           c.0,
           (subst (λ (c : Option V). Lies since r.0.processes s.homes c) c.1 r.1.lies).0
-              (λ k. none_true (is_inside (r.0.processes k)) (λ e. has_seat s r k (inside_is (r.0.processes k) e) away (r.0.seat_of k) refl)),
+              (λ k. none_true (is_inside (r.0.processes k)) (λ e. has_seat s r k (is_inside_is (r.0.processes k) e) away (r.0.seat_of k) refl)),
         )),
   )
 
@@ -147,7 +147,7 @@ module _ {V : Type 0} (since : ℕ → V → V → Type 0) (levels : ℕ) where
   pub is_fresh : (s : St) → Rule since levels s → IsFresh s since
   is_fresh s r seat place seen now h =
       let a = shown s r seat place h.0 seen h.2 in
-      let out : is_inside h.0 ≡ false = none_true (is_inside h.0) (λ e. h.1 (inside_is h.0 e)) in
+      let out : is_inside h.0 ≡ false = none_true (is_inside h.0) (λ e. h.1 (is_inside_is h.0 e)) in
       let k = subst (λ (b : Bool). Knows since r.0.content place b seen) out a.knows in
       let lies = subst (λ (c : Option V). Lies since r.0.processes s.homes c) k.1 r.1.lies in (
         (λ home.

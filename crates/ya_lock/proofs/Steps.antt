@@ -22,16 +22,9 @@ use Rattle.ya_lock.specs.Rule.{index_of, making_index, words_in, Picture, Knows,
 use Rattle.ya_core.specs.Worlds.{is_inside}
 use Rattle.ya_lock.specs.Moves.{left_by, Slots, Carries, Goes, IsReady}
 use Rattle.ya_core.specs.Walks.{MayFind}
-use Rattle.ya_core.proofs.Promised.{keeps as kept_by_step, finds, excludes}
+use Rattle.ya_core.proofs.Promised.{keeps as kept_by_step, finds, is_inside_is, excludes}
 use Rattle.ya_lock.proofs.Words.{index_below, word_in, word_set, word_set_other, word_kept}
 use Rattle.ya_lock.proofs.Frames.{moved, moved_here, moved_else, Same, Changed, gone_on, goes_on}
-
--- there is one process that is inside
-pub inside_is : (p : Process) → is_inside p ≡ true → p ≡ Inside
-inside_is Idle e = cc
-inside_is (Entering level point) e = cc
-inside_is Inside e = refl
-inside_is (Leaving level point) e = cc
 
 -- a process that leaves the inside isn't inside
 leaves : (levels place n : ℕ) (p : Process) → p ≡ Inside → is_inside (next_of levels place p n) ≡ false
@@ -122,7 +115,7 @@ module _ {V : Type 0} (since done : ℕ → V → V → Type 0) (since_same : (p
       let alone : (k : ℕ) → is_inside (x.processes k) ≡ true → ⊥ = λ k e.
       let ne : k ≢ place = λ h. let both : true ≡ false = sym e ∙ (ap (λ (z : ℕ). is_inside (x.processes z)) h ∙ was) in cc in
       ne (excludes levels k place (core_after s x place i n) least sound
-      (inside_is _ (ap is_inside (moved_else x.processes place p' k ne) ∙ e)) (inside_is _ there)) in
+      (ap is_inside (moved_else x.processes place p' k ne) ∙ e) there) in
       let nobody : (k : ℕ) → is_inside (x.processes k) ≡ false = λ k. none_true (is_inside (x.processes k)) (alone k) in
       let lies = subst (λ (c : Option V). Lies since x.processes s.homes c) knows.1 o.lies in
       let home : s.homes ≡ some (Some now) ∷ [] = lies.0 nobody in
@@ -193,12 +186,12 @@ module _ {V : Type 0} (since done : ℕ → V → V → Type 0) (since_same : (p
   releases s x o id place i n value slots at f long word before sound found was knows ready =
       let p' : Process = next_of levels place (x.processes place) n in
       let next : V = ready.0 in
-      let is : is_inside p' ≡ false = leaves levels place n (x.processes place) (inside_is _ was) in
+      let is : is_inside p' ≡ false = leaves levels place n (x.processes place) (is_inside_is _ was) in
       let lies = subst (λ (c : Option V). Lies since x.processes s.homes c) knows o.lies in
       let out : s.homes ≡ none ∷ [] = lies.1 place was in
       let homes : List (Option (std.Option V)) = homes_after s.homes slots gives in
       let back : homes ≡ some (Some next) ∷ [] = (λ k. homes_after (out k) (ready.1 k) gives) in
-      let alone : (k : ℕ) → k ≢ place → is_inside (x.processes k) ≡ true → ⊥ = λ k ne e. ne (excludes levels k place (core_of s x) least before (inside_is _ e) (inside_is _ was)) in
+      let alone : (k : ℕ) → k ≢ place → is_inside (x.processes k) ≡ true → ⊥ = λ k ne e. ne (excludes levels k place (core_of s x) least before e was) in
       let after : Lies since (moved x.processes place p') homes (some next) = (
         (λ away. back),
         (λ k e. absurd (alone k (stays_inside x place p' k is e) (inside x place p' k is e))),
