@@ -3,7 +3,7 @@ use Rattle.std.proofs.Common.{◌≡◌, ℕ, zero, suc, ◌+◌, ◌<◌, ◌�
 use Rattle.std.specs.Prelude.{IfSome, IfNone}
 use Rattle.std.proofs.Common.{leb}
 use Rattle.std.specs.Borrow.{MutBor}
-use Rattle.std.specs.Option.{ghost_name_of}
+use Rattle.std.specs.Option.{ghost_name_of, option_copied_mut}
 use borrow.Follows.Closed.{read_of}
 use mathlib.Core.Path.{fun_ext}
 use Rattle.std.proofs.lemmas.Bool.Decides.{leb_tells}
@@ -13,6 +13,8 @@ use Rattle.rt_trie.specs.Map.{Pairs, same_prefix, get, put, IsOrdered}
 use Rattle.rt_trie.specs.Blocks.{IsChild, middle, past}
 use Rattle.rt_trie.specs.Links.{own_pair, pairs, count, root, AreHalves, IsChildLink, IsFilled, IsLawfulTrie}
 use Rattle.rt_trie.specs.Descent.{found, written, overwritten}
+use Rattle.rt_trie.specs.Contents.{Contents}
+use Rattle.rt_trie.specs.TrieLends.{with_value}
 use Rattle.rt_trie.proofs.OrderLemmas.{same_tells, before_tells}
 use Rattle.rt_trie.proofs.PairLemmas.{AllKeys, AllKeys-map, IsOther, IsHigher, IsLower, IsOther-higher, IsOther-lower, get-none}
 use Rattle.rt_trie.proofs.NodeLemmas.{AreSides, own_other, upper_higher, lower_lower, rest_other, get-here, get-past, get-lower, get-upper}
@@ -122,12 +124,12 @@ module _ {V A : Type 0} where
   -- what is found is the map's
   pub found_get : (d : ℕ) (link : Link V A) (p : Prefix) → IsLawfulTrie link → IsDeep d link → found d link p ≡ get (pairs link) p
   found_get zero Empty p h deep = refl
-  found_get zero (Leaf b) p h deep = let s = b.value.prefix.is_prefix.short in absurd (omega arith)
-  found_get zero (Fork' x q left right) p h deep = let s = q.is_prefix.short in absurd (omega arith)
-  found_get zero (Full' x q v left right) p h deep = let s = q.is_prefix.short in absurd (omega arith)
+  found_get zero (Leaf i j b) p h deep = let s = b.value.prefix.is_prefix.short in absurd (omega arith)
+  found_get zero (Fork' i j x q left right) p h deep = let s = q.is_prefix.short in absurd (omega arith)
+  found_get zero (Full' i j x q v left right) p h deep = let s = q.is_prefix.short in absurd (omega arith)
   found_get (suc d) Empty p h deep = refl
-  found_get (suc d) (Leaf b) p h deep = refl
-  found_get (suc d) (Fork' x q left right) p h deep =
+  found_get (suc d) (Leaf i j b) p h deep = refl
+  found_get (suc d) (Fork' i j x q left right) p h deep =
       let s = sides_at q left right h.0.0 h.0.1 h.0.2 in
       let l = found_get d left p h.0.1 (deep_lower d q left deep h.0.0.lower) in
       let r = found_get d right p h.0.2 (deep_upper d q right deep h.0.0.upper) in
@@ -141,7 +143,7 @@ module _ {V A : Type 0} where
           | inr hi ↦ rw (gt.0, hi.0) (r ∙ sym (get-upper q None (pairs left) (pairs right) s p gt.1 (omega arith)))
         ]
       ]
-  found_get (suc d) (Full' x q v left right) p h deep =
+  found_get (suc d) (Full' i j x q v left right) p h deep =
       let s = sides_at q left right h.0.0 h.0.1 h.0.2 in
       let l = found_get d left p h.0.1 (deep_lower d q left deep h.0.0.lower) in
       let r = found_get d right p h.0.2 (deep_upper d q right deep h.0.0.upper) in
@@ -176,21 +178,21 @@ module _ {V A : Type 0} where
   kept_filled : (l l' : Link V A) → IsKept l l' → IsFilled l → IsFilled l'
   kept_filled l l' i f = rw i.root_is f
 
-  kept_fork : (x : _) (q : Prefix) (l r l' r' : Link V A) → IsLawfulTrie (Fork' x q l r) → IsKept l l' → IsKept r r'
-      → IsKept (Fork' x q l r) (Fork' x q l' r')
-  kept_fork x q l r l' r' h i j = record {
+  kept_fork : (len base : ℕ) (x : _) (q : Prefix) (l r l' r' : Link V A) → IsLawfulTrie (Fork' len base x q l r) → IsKept l l' → IsKept r r'
+      → IsKept (Fork' len base x q l r) (Fork' len base x q l' r')
+  kept_fork len base x q l r l' r' h i j = record {
     root_is = refl;
     count_is = omega (arith, i.count_is, j.count_is);
-    lawful = ((kept_halves q l r l' r' h.0.0 i j, i.lawful, j.lawful), (kept_filled l l' i h.1.0, kept_filled r r' j h.1.1));
+    lawful = ((kept_halves q l r l' r' h.0.0 i j, i.lawful, j.lawful, h.0.3), (kept_filled l l' i h.1.0, kept_filled r r' j h.1.1));
     len_is = omega (arith, i.len_is, j.len_is, length-append (pairs l) (pairs r), length-append (pairs l') (pairs r'));
   }
 
-  kept_full : (x : _) (q : Prefix) (v v' : Option V) (l r l' r' : Link V A) → IsLawfulTrie (Full' x q v l r) → (v' ≡ None → v ≡ None)
-      → length (own_pair q v') ≡ length (own_pair q v) → IsKept l l' → IsKept r r' → IsKept (Full' x q v l r) (Full' x q v' l' r')
-  kept_full x q v v' l r l' r' h n e i j = record {
+  kept_full : (len base : ℕ) (x : _) (q : Prefix) (v v' : Option V) (l r l' r' : Link V A) → IsLawfulTrie (Full' len base x q v l r) → (v' ≡ None → v ≡ None)
+      → length (own_pair q v') ≡ length (own_pair q v) → IsKept l l' → IsKept r r' → IsKept (Full' len base x q v l r) (Full' len base x q v' l' r')
+  kept_full len base x q v v' l r l' r' h n e i j = record {
     root_is = refl;
     count_is = omega (arith, i.count_is, j.count_is);
-    lawful = ((kept_halves q l r l' r' h.0.0 i j, i.lawful, j.lawful), needed v v' n h.1);
+    lawful = ((kept_halves q l r l' r' h.0.0 i j, i.lawful, j.lawful, h.0.3), needed v v' n h.1);
     len_is = omega (
       arith,
       e,
@@ -212,19 +214,19 @@ module _ {V A : Type 0} where
   pub written_kept : (d : ℕ) (link : Link V A) (p : Prefix) (w : V) → IsLawfulTrie link → IsKept link (written d link p w)
   written_kept zero link p w h = kept_same link h
   written_kept (suc d) Empty p w h = kept_same Empty h
-  written_kept (suc d) (Leaf b) p w h = record { root_is = refl; count_is = refl; lawful = (tt, tt); len_is = refl }
-  written_kept (suc d) (Fork' x q left right) p w h =
+  written_kept (suc d) (Leaf i j b) p w h = record { root_is = refl; count_is = refl; lawful = h; len_is = refl }
+  written_kept (suc d) (Fork' i j x q left right) p w h =
       let l = written_kept d left p w h.0.1 in
       let r = written_kept d right p w h.0.2 in
       let low = leb (suc p.base) (middle q) in
-      kept_fork x q left right _ _ h
+      kept_fork i j x q left right _ _ h
       (kept_cond (leb p.len q.len) left left _ (kept_same left h.0.1) (kept_cond low left (written d left p w) left l (kept_same left h.0.1)))
       (kept_cond (leb p.len q.len) right right _ (kept_same right h.0.2) (kept_cond low right right (written d right p w) (kept_same right h.0.2) r))
-  written_kept (suc d) (Full' x q v left right) p w h =
+  written_kept (suc d) (Full' i j x q v left right) p w h =
       let l = written_kept d left p w h.0.1 in
       let r = written_kept d right p w h.0.2 in
       let low = leb (suc p.base) (middle q) in
-      kept_full x q v _ left right _ _ h (some_kept (leb p.len q.len) (same_prefix q p) v w) (own_kept (leb p.len q.len) (same_prefix q p) q v w)
+      kept_full i j x q v _ left right _ _ h (some_kept (leb p.len q.len) (same_prefix q p) v w) (own_kept (leb p.len q.len) (same_prefix q p) q v w)
       (kept_cond (leb p.len q.len) left left _ (kept_same left h.0.1) (kept_cond low left (written d left p w) left l (kept_same left h.0.1)))
       (kept_cond (leb p.len q.len) right right _ (kept_same right h.0.2) (kept_cond low right right (written d right p w) (kept_same right h.0.2) r))
 
@@ -232,12 +234,12 @@ module _ {V A : Type 0} where
   written_pairs : (d : ℕ) (link : Link V A) (p : Prefix) (w : V) → IsLawfulTrie link → IsDeep d link
       → pairs (written d link p w) ≡ set_value (pairs link) p w
   written_pairs zero Empty p w h deep = refl
-  written_pairs zero (Leaf b) p w h deep = let s = b.value.prefix.is_prefix.short in absurd (omega arith)
-  written_pairs zero (Fork' x q left right) p w h deep = let s = q.is_prefix.short in absurd (omega arith)
-  written_pairs zero (Full' x q v left right) p w h deep = let s = q.is_prefix.short in absurd (omega arith)
+  written_pairs zero (Leaf i j b) p w h deep = let s = b.value.prefix.is_prefix.short in absurd (omega arith)
+  written_pairs zero (Fork' i j x q left right) p w h deep = let s = q.is_prefix.short in absurd (omega arith)
+  written_pairs zero (Full' i j x q v left right) p w h deep = let s = q.is_prefix.short in absurd (omega arith)
   written_pairs (suc d) Empty p w h deep = refl
-  written_pairs (suc d) (Leaf b) p w h deep = refl
-  written_pairs (suc d) (Fork' x q left right) p w h deep =
+  written_pairs (suc d) (Leaf i j b) p w h deep = refl
+  written_pairs (suc d) (Fork' i j x q left right) p w h deep =
       let s = sides_at q left right h.0.0 h.0.1 h.0.2 in
       let l = written_pairs d left p w h.0.1 (deep_lower d q left deep h.0.0.lower) in
       let r = written_pairs d right p w h.0.2 (deep_upper d q right deep h.0.0.upper) in
@@ -249,7 +251,7 @@ module _ {V A : Type 0} where
               ∙ sym (set_upper q None (pairs left) (pairs right) s p w (omega arith)))
         ]
       ]
-  written_pairs (suc d) (Full' x q v left right) p w h deep =
+  written_pairs (suc d) (Full' i j x q v left right) p w h deep =
       let s = sides_at q left right h.0.0 h.0.1 h.0.2 in
       let l = written_pairs d left p w h.0.1 (deep_lower d q left deep h.0.0.lower) in
       let r = written_pairs d right p w h.0.2 (deep_upper d q right deep h.0.0.upper) in
@@ -283,17 +285,34 @@ module _ {V A : Type 0} where
       any None = tt
       any (Some q) = omega arith
 
-  pub found_is : (link : Link V A) (p : Prefix) → IsLawfulTrie link → found 33 link p ≡ get (pairs link) p
-  found_is link p h = found_get 33 link p h (all_deep link)
-
-  -- a write where a value stands puts it there
-  pub written_is : (link : Link V A) (p : Prefix) (w v : V) → IsLawfulTrie link → get (pairs link) p ≡ Some v
-      → pairs (written 33 link p w) ≡ put (pairs link) p w
-  written_is link p w v h e =
-      written_pairs 33 link p w h (all_deep link) ∙ sym (put-stored (pairs link) p w v (pairs_ordered link h.0) e)
+  pub found_is : (d : ℕ) (link : Link V A) (p : Prefix) → d ≡ 33 → IsLawfulTrie link → found d link p ≡ get (pairs link) p
+  found_is d link p e h = found_get d link p h (rw e (all_deep link))
 
 -- two readings of what is lent are the same where they agree on each value that can be written
-pub same_readings : {D E : Type 0} (o : Option (MutBor E)) (F G : E → D) (u v : D) → u ≡ v → ((r : MutBor E) → o ≡ Some r → (w : E) → F w ≡ G w)
+same_readings : {D E : Type 0} (o : Option (MutBor E)) (F G : E → D) (u v : D) → u ≡ v → ((r : MutBor E) → o ≡ Some r → (w : E) → F w ≡ G w)
     → read_of (ghost_name_of o) F u ≡ read_of (ghost_name_of o) G v
 same_readings None F G u v e h = ap inr e
 same_readings (Some r) F G u v e h = ap (λ f. inl (r.ghost_name, f)) (fun_ext (h r refl))
+
+-- what a link holds, for its trie's callers
+abbrev pub held : {V A : Type 0} → Link V A → Contents V
+held link = record { pairs = pairs link; nodes = count link }
+
+module _ {V A : Type 0} where
+  -- a write where a value stands puts it there
+  written_is : (d : ℕ) (link : Link V A) (p : Prefix) (w v : V) → d ≡ 33 → IsLawfulTrie link → get (pairs link) p ≡ Some v
+      → held (written d link p w) ≡ with_value (held link) p w
+  written_is d link p w v e h at =
+      let same : pairs (written d link p w) ≡ put (pairs link) p w =
+      written_pairs d link p w h (rw e (all_deep link)) ∙ sym (put-stored (pairs link) p w v (pairs_ordered link h.0) at) in
+      let kept : count (written d link p w) ≡ count link = (written_kept d link p w h).count_is in
+      rw (same, kept) refl
+
+  -- so what is lent of the link is lent of what it holds
+  pub lent : (d : ℕ) (link : Link V A) (p : Prefix) (o : Option (MutBor V)) (t : Contents V) → d ≡ 33 → IsLawfulTrie link → held link ≡ t
+      → option_copied_mut o ≡ found d link p
+      → read_of (ghost_name_of o) (λ w. held (written d link p w)) (held link) ≡ read_of (ghost_name_of o) (λ w. with_value t p w) t
+  lent d link p o t e h view is =
+      same_readings o (λ w. held (written d link p w)) (λ w. with_value t p w) (held link) t view (λ r i w.
+      written_is d link p w r.now e h (sym (sym (ap option_copied_mut i) ∙ is ∙ found_is d link p e h))
+      ∙ ap (λ x. with_value x p w) view)

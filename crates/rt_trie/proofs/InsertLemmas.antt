@@ -11,15 +11,15 @@ use Rattle.rt_trie.specs.declared.nodes.ForkNode.{ForkNode}
 use Rattle.rt_trie.specs.declared.nodes.FullNode.{FullNode}
 use Rattle.rt_trie.specs.Map.{get, put}
 use Rattle.rt_trie.specs.declared.nodes.Place.TheVariants.{Above, Apart}
-use Rattle.rt_trie.specs.Blocks.{IsWithin, IsChild, StandsAt, PartsAt, middle, past}
-use Rattle.rt_trie.specs.Links.{own_pair, pairs, count, root, AreHalves, IsChildLink, IsFilled, IsLawfulTrie}
+use Rattle.rt_trie.specs.Blocks.{IsKeyOf, IsWithin, IsChild, StandsAt, PartsAt, middle, past}
+use Rattle.rt_trie.specs.Links.{own_pair, pairs, count, root, leaf_link, fork_link, full_link, AreHalves, IsChildLink, IsFilled, IsLawfulTrie}
 use Rattle.rt_trie.specs.Changes.{IsPut, IsInserted, IsRefused, Inserts}
 use Rattle.rt_cidr.proofs.Promised.{size_pos}
 use Rattle.rt_trie.proofs.BlockLemmas.{lower_half}
 use Rattle.rt_trie.proofs.PairLemmas.{AllKeys, AllKeys-map, IsHigher, IsLower, IsOther, IsOther-higher, IsOther-lower, get-none, put-first, put-skip, put-front, put-here}
 use Rattle.rt_trie.proofs.NodeLemmas.{sides_higher, upper_higher, lower_lower, own_lower}
 use Rattle.rt_trie.proofs.PartLemmas.{child_of_parts}
-use Rattle.rt_trie.proofs.LinkLemmas.{if_some_map, if_some_is, IsNode, IsOn, IsView, pairs_within, sides_of, of_fork, of_full, node_get-unstored, get_left, get_right, get_own}
+use Rattle.rt_trie.proofs.LinkLemmas.{if_some_map, if_some_is, IsNode, IsOn, IsView, pairs_within, sides_of, of_fork, of_full, own_key, key_of_full, node_get-unstored, get_left, get_right, get_own}
 
 -- what is within a prefix lies in one of its halves
 pub half_above : (q p : Prefix) → StandsAt q p Above → q.base < middle p → IsChild p false q
@@ -30,10 +30,10 @@ half_above_upper q p w h = record { long = w.long; from = h; to = w.to }
 
 module _ {V A : Type 0} where
   -- a full node with a value, made of lawful sides
-  pub made_full : (b : Box (FullNode V A) A) (q : Prefix) (v : V) (l r : Link V A) → b.value.prefix ≡ q → b.value.value ≡ Some v
-      → b.value.left ≡ l → b.value.right ≡ r → AreHalves q l r → IsLawfulTrie l → IsLawfulTrie r
-      → IsNode (Full b) q (Some v) l r × IsLawfulTrie (Full b)
-  made_full b q v l r e f i j h k m = (
+  made_full_at : (len base : ℕ) (b : Box (FullNode V A) A) (q : Prefix) (v : V) (l r : Link V A) → IsKeyOf len base q → b.value.prefix ≡ q
+      → b.value.value ≡ Some v → b.value.left ≡ l → b.value.right ≡ r → AreHalves q l r → IsLawfulTrie l → IsLawfulTrie r
+      → IsNode (Full len base b) q (Some v) l r × IsLawfulTrie (Full len base b)
+  made_full_at len base b q v l r key e f i j h k m = (
     rw (e, f, i, j) (record {
       pairs_are = refl;
       root_is = refl;
@@ -42,12 +42,19 @@ module _ {V A : Type 0} where
       left_lawful = k;
       right_lawful = m;
     }),
-    rw (e, f, i, j) ((h, k, m), tt),
+    rw (e, f, i, j) ((h, k, m, key), tt),
   )
+
+  -- and in a link of its own
+  made_full : (b : Box (FullNode V A) A) (q : Prefix) (v : V) (l r : Link V A) → b.value.prefix ≡ q → b.value.value ≡ Some v
+      → b.value.left ≡ l → b.value.right ≡ r → AreHalves q l r → IsLawfulTrie l → IsLawfulTrie r
+      → IsNode (full_link b) q (Some v) l r × IsLawfulTrie (full_link b)
+  made_full b q v l r e f i j h k m =
+      made_full_at b.value.prefix.len b.value.prefix.base b q v l r (rw e (own_key q)) e f i j h k m
 
   -- a fork, made of lawful sides that are both filled
   pub made_fork : (b : Box (ForkNode V A) A) (q : Prefix) (l r : Link V A) → b.value.prefix ≡ q → b.value.left ≡ l → b.value.right ≡ r
-      → AreHalves q l r → IsLawfulTrie l → IsLawfulTrie r → IsFilled l → IsFilled r → IsNode (Fork b) q None l r × IsLawfulTrie (Fork b)
+      → AreHalves q l r → IsLawfulTrie l → IsLawfulTrie r → IsFilled l → IsFilled r → IsNode (fork_link b) q None l r × IsLawfulTrie (fork_link b)
   made_fork b q l r e i j h k m f g = (
     rw (e, i, j) (record {
       pairs_are = refl;
@@ -57,7 +64,7 @@ module _ {V A : Type 0} where
       left_lawful = k;
       right_lawful = m;
     }),
-    rw (e, i, j) ((h, k, m), (f, g)),
+    rw (e, i, j) ((h, k, m, own_key q), (f, g)),
   )
 
   -- where the new root is p, or the old one
@@ -128,8 +135,8 @@ module _ {V A : Type 0} where
     pub root_is : root link ≡ Some p
     pub lawful : IsLawfulTrie link
 
-  pub made_leaf : (b : Box (LeafNode V) A) (p : Prefix) (v : V) → b.value.prefix ≡ p → b.value.value ≡ v → IsLeafWith (Leaf b) p v
-  made_leaf b p v e f = record { pairs_are = rw (e, f) refl; root_is = rw e refl; lawful = (tt, tt) }
+  pub made_leaf : (b : Box (LeafNode V) A) (p : Prefix) (v : V) → b.value.prefix ≡ p → b.value.value ≡ v → IsLeafWith (leaf_link b) p v
+  made_leaf b p v e f = record { pairs_are = rw (e, f) refl; root_is = rw e refl; lawful = (own_key b.value.prefix, tt) }
 
   -- a child, as a link
   pub child_link : (parent : Prefix) (upper : Bool) (link : Link V A) (q : Prefix) → root link ≡ Some q → IsChild parent upper q
@@ -169,18 +176,18 @@ module _ {V A : Type 0} where
   -- a full node for p, with the old link on the side where its root lies
   pub cover_put : (old : Link V A) (q p : Prefix) (v : V) → IsLawfulTrie old → root old ≡ Some q → StandsAt q p Above → (sides : Link V A × Link V A)
       → (q.base < middle p → sides ≡ (old, Empty)) → (middle p ≤ q.base → sides ≡ (Empty, old)) → (b : Box (FullNode V A) A)
-      → b.value.prefix ≡ p → b.value.value ≡ Some v → b.value.left ≡ sides.0 → b.value.right ≡ sides.1 → IsPut old (Full b) p v
+      → b.value.prefix ≡ p → b.value.value ≡ Some v → b.value.left ≡ sides.0 → b.value.right ≡ sides.1 → IsPut old (full_link b) p v
   cover_put old q p v h e w sides lo hi b i j k m = elim (cases_lt q.base (middle p)) [
     | inl lt ↦
         let s = lo lt in
         let n = made_full b p v old Empty i j (k ∙ ap (λ (x : Link V A × Link V A). x.0) s) (m ∙ ap (λ (x : Link V A × Link V A). x.1) s)
         (record { lower = child_link p false old q e (half_above q p w lt); upper = tt }) h (tt, tt) in
-        put_above_left old (Full b) q p v h e w n.1 n.0
+        put_above_left old (full_link b) q p v h e w n.1 n.0
     | inr ge ↦
         let s = hi ge in
         let n = made_full b p v Empty old i j (k ∙ ap (λ (x : Link V A × Link V A). x.0) s) (m ∙ ap (λ (x : Link V A × Link V A). x.1) s)
         (record { lower = tt; upper = child_link p true old q e (half_above_upper q p w ge) }) (tt, tt) h in
-        put_above_right old (Full b) q p v h e w n.1 n.0
+        put_above_right old (full_link b) q p v h e w n.1 n.0
   ]
 
   -- nothing in a link is a prefix that is apart from its root
@@ -199,7 +206,7 @@ module _ {V A : Type 0} where
 
   -- a fork where p and the old link part, p on the left
   pub part_left : (old leaf : Link V A) (q p c : Prefix) (v : V) → IsLawfulTrie old → root old ≡ Some q → IsLeafWith leaf p v → PartsAt c p q
-      → (b : Box (ForkNode V A) A) → b.value.prefix ≡ c → b.value.left ≡ leaf → b.value.right ≡ old → IsPut old (Fork b) p v
+      → (b : Box (ForkNode V A) A) → b.value.prefix ≡ c → b.value.left ≡ leaf → b.value.right ≡ old → IsPut old (fork_link b) p v
   part_left old leaf q p c v h e m k b i j o =
       let n = made_fork b c leaf old i j o
       (record { lower = child_link c false leaf p m.root_is k.0; upper = child_link c true old q e k.1 })
@@ -211,14 +218,14 @@ module _ {V A : Type 0} where
             ∙ sym (put-first (pairs old) p v (AllKeys-map (IsWithin (middle c) (past c) (c.len + 1)) (IsHigher p) (pairs old)
             (λ x w. omega (arith, w.from, k.0.to, size_pos p.len)) (pairs_within old (middle c) (past c) (c.len + 1) h.0 on)));
         lawful = n.1;
-        filled = filled_of (Fork b) c n.0.root_is;
-        stays = λ parent upper w u. child_link parent upper (Fork b) c n.0.root_is
+        filled = filled_of (fork_link b) c n.0.root_is;
+        stays = λ parent upper w u. child_link parent upper (fork_link b) c n.0.root_is
             (child_of_parts parent c p q upper k u (rw e at w));
       }
 
   -- and p on the right
   pub part_right : (old leaf : Link V A) (q p c : Prefix) (v : V) → IsLawfulTrie old → root old ≡ Some q → IsLeafWith leaf p v → PartsAt c q p
-      → (b : Box (ForkNode V A) A) → b.value.prefix ≡ c → b.value.left ≡ old → b.value.right ≡ leaf → IsPut old (Fork b) p v
+      → (b : Box (ForkNode V A) A) → b.value.prefix ≡ c → b.value.left ≡ old → b.value.right ≡ leaf → IsPut old (fork_link b) p v
   part_right old leaf q p c v h e m k b i j o =
       let n = made_fork b c old leaf i j o
       (record { lower = child_link c false old q e k.0; upper = child_link c true leaf p m.root_is k.1 })
@@ -231,8 +238,8 @@ module _ {V A : Type 0} where
             (λ x w. let s = x.is_prefix.short in omega (arith, w.to, k.1.from, size_pos x.len))
             (pairs_within old c.base (middle c) (c.len + 1) h.0 on)));
         lawful = n.1;
-        filled = filled_of (Fork b) c n.0.root_is;
-        stays = λ parent upper w u. child_link parent upper (Fork b) c n.0.root_is
+        filled = filled_of (fork_link b) c n.0.root_is;
+        stays = λ parent upper w u. child_link parent upper (fork_link b) c n.0.root_is
             (child_of_parts parent c q p upper k (rw e at w) u);
       }
 
@@ -280,25 +287,25 @@ module _ {V A : Type 0} where
   }
 
   -- the value of a full node, and what is in the slot, change places
-  pub insert_here : (f : Box (FullNode V A) A) (m : FullNode V A) (old : Link V A) (n : ℕ) (p : Prefix) (given stored slot : Option V) → old ≡ Full f
+  pub insert_here : {len base : ℕ} (f : Box (FullNode V A) A) (m : FullNode V A) (old : Link V A) (n : ℕ) (p : Prefix) (given stored slot : Option V) → old ≡ Full len base f
       → m ≡ f.value → IsLawfulTrie old → p ≡ m.prefix → stored ≡ given → slot ≡ m.value
-      → IsInserted old (Full (with_value f (record { prefix = m.prefix; value = stored; left = m.left; right = m.right }))) n n p given slot
-  insert_here f m old n p given stored slot e g h i same had =
+      → IsInserted old (Full len base (with_value f (record { prefix = m.prefix; value = stored; left = m.left; right = m.right }))) n n p given slot
+  insert_here {len} {base} f m old n p given stored slot e g h i same had =
       let b = with_value f (record { prefix = m.prefix; value = stored; left = m.left; right = m.right }) in
       let x = of_full f m old e g h.0 in record {
-        put = if_some_is given (IsPut old (Full b) p)
+        put = if_some_is given (IsPut old (Full len base b) p)
             (λ v o.
-            let u = made_full b m.prefix v m.left m.right refl (same ∙ o) refl refl x.halves x.left_lawful x.right_lawful in
-            subst (λ y. IsPut old (Full b) y v) (sym i) (put_value old (Full b) m.prefix m.value v m.left m.right x u.0 u.1));
+            let u = made_full_at len base b m.prefix v m.left m.right (key_of_full f m old e g h.0) refl (same ∙ o) refl refl x.halves x.left_lawful x.right_lawful in
+            subst (λ y. IsPut old (Full len base b) y v) (sym i) (put_value old (Full len base b) m.prefix m.value v m.left m.right x u.0 u.1));
         had_is = had ∙ sym (get_own old m.prefix m.value m.left m.right x p i);
         counted = omega (arith, x.count_is);
       }
 
   -- a leaf goes where nothing was
-  pub put_leaf : (b : Box (LeafNode V) A) (p : Prefix) (v : V) → b.value.prefix ≡ p → b.value.value ≡ v → IsPut Empty (Leaf b) p v
+  pub put_leaf : (b : Box (LeafNode V) A) (p : Prefix) (v : V) → b.value.prefix ≡ p → b.value.value ≡ v → IsPut Empty (leaf_link b) p v
   put_leaf b p v e f =
       let k = made_leaf b p v e f in
-      record { pairs_are = k.pairs_are; lawful = k.lawful; filled = filled_of (Leaf b) p k.root_is; stays = stays_new Empty (Leaf b) p k.root_is }
+      record { pairs_are = k.pairs_are; lawful = k.lawful; filled = filled_of (leaf_link b) p k.root_is; stays = stays_new Empty (leaf_link b) p k.root_is }
 
   -- the value given was put where nothing stood, and the slot is left empty
   inserted : (old new : Link V A) (n m : ℕ) (p : Prefix) (given slot stored : Option V) → stored ≡ given → slot ≡ None → get (pairs old) p ≡ None
@@ -314,17 +321,17 @@ module _ {V A : Type 0} where
   refused link n p given h = record { absent = h; back_is = refl; same = refl; counted = refl }
 
   pub plant_insert : (b : Box (LeafNode V) A) (old : Link V A) (n m : ℕ) (p : Prefix) (given slot : Option V) → old ≡ Empty → b.value.prefix ≡ p
-      → given ≡ Some b.value.value → slot ≡ None → m ≡ n + 1 → IsInserted old (Leaf b) n m p given slot
+      → given ≡ Some b.value.value → slot ≡ None → m ≡ n + 1 → IsInserted old (leaf_link b) n m p given slot
   plant_insert b old n m p given slot e f i none j =
-      rw e (inserted Empty (Leaf b) n m p given slot (Some b.value.value) (sym i) none refl (omega (arith, j)) (λ v o. put_leaf b p v f (some_same o)))
+      rw e (inserted Empty (leaf_link b) n m p given slot (Some b.value.value) (sym i) none refl (omega (arith, j)) (λ v o. put_leaf b p v f (some_same o)))
 
   -- a leaf at q, as a node
-  leaf_node : (b : Box (LeafNode V) A) (old : Link V A) (q : Prefix) → old ≡ Leaf b → b.value.prefix ≡ q
+  leaf_node : {len base : ℕ} (b : Box (LeafNode V) A) (old : Link V A) (q : Prefix) → old ≡ Leaf len base b → b.value.prefix ≡ q
       → IsNode old q (Some b.value.value) Empty Empty
   leaf_node b old q e f = subst (λ y. IsNode old y (Some b.value.value) Empty Empty) f
       (rw e (record { pairs_are = refl; root_is = refl; count_is = refl; halves = record { lower = tt; upper = tt }; left_lawful = (tt, tt); right_lawful = (tt, tt) }))
 
-  pub leaf_absent : (b : Box (LeafNode V) A) (old : Link V A) (q p : Prefix) → old ≡ Leaf b → b.value.prefix ≡ q
+  pub leaf_absent : {len base : ℕ} (b : Box (LeafNode V) A) (old : Link V A) (q p : Prefix) → old ≡ Leaf len base b → b.value.prefix ≡ q
       → IsChild q false p ⊎ IsChild q true p → get (pairs old) p ≡ None
   leaf_absent b old q p e f h = elim h [
     | inl c ↦ get_left old q (Some b.value.value) Empty Empty (leaf_node b old q e f) p c
@@ -332,65 +339,65 @@ module _ {V A : Type 0} where
   ]
 
   -- the leaf at q becomes a full node with a leaf of p on the side where p lies
-  pub grow_insert : (b k : Box (LeafNode V) A) (old : Link V A) (n m : ℕ) (q p : Prefix) (given slot : Option V) → old ≡ Leaf b → b.value.prefix ≡ q
+  pub grow_insert : {len base : ℕ} (b k : Box (LeafNode V) A) (old : Link V A) (n m : ℕ) (q p : Prefix) (given slot : Option V) → old ≡ Leaf len base b → b.value.prefix ≡ q
       → IsChild q false p ⊎ IsChild q true p → k.value.prefix ≡ p → given ≡ Some k.value.value → slot ≡ None → m ≡ n + 1 → (sides : Link V A × Link V A)
-      → (p.base < middle q → sides ≡ (Leaf k, Empty)) → (middle q ≤ p.base → sides ≡ (Empty, Leaf k)) → (f : Box (FullNode V A) A)
+      → (p.base < middle q → sides ≡ (leaf_link k, Empty)) → (middle q ≤ p.base → sides ≡ (Empty, leaf_link k)) → (f : Box (FullNode V A) A)
       → f.value.prefix ≡ q → f.value.value ≡ Some b.value.value → f.value.left ≡ sides.0 → f.value.right ≡ sides.1
-      → IsInserted old (Full f) n m p given slot
+      → IsInserted old (full_link f) n m p given slot
   grow_insert b k old n m q p given slot e g h i j none o sides lo hi f x y z w =
       let a = leaf_node b old q e g in
       let leaf = made_leaf k p k.value.value i refl in
       elim h [
         | inl c ↦
             let s = lo (omega (arith, c.to, size_pos p.len)) in
-            let u = made_full f q b.value.value (Leaf k) Empty x y (z ∙ ap (λ (t : Link V A × Link V A). t.0) s) (w ∙ ap (λ (t : Link V A × Link V A). t.1) s)
-            (record { lower = child_link q false (Leaf k) p leaf.root_is c; upper = tt }) leaf.lawful (tt, tt) in
-            inserted old (Full f) n m p given slot (Some k.value.value) (sym j) none (leaf_absent b old q p e g (inl c)) (omega (arith, o, a.count_is, u.0.count_is))
-            (λ v t. put_left old (Full f) q (Some b.value.value) Empty Empty (Leaf k) p v a u.0 u.1 c (put_leaf k p v i (some_same t)))
+            let u = made_full f q b.value.value (leaf_link k) Empty x y (z ∙ ap (λ (t : Link V A × Link V A). t.0) s) (w ∙ ap (λ (t : Link V A × Link V A). t.1) s)
+            (record { lower = child_link q false (leaf_link k) p leaf.root_is c; upper = tt }) leaf.lawful (tt, tt) in
+            inserted old (full_link f) n m p given slot (Some k.value.value) (sym j) none (leaf_absent b old q p e g (inl c)) (omega (arith, o, a.count_is, u.0.count_is))
+            (λ v t. put_left old (full_link f) q (Some b.value.value) Empty Empty (leaf_link k) p v a u.0 u.1 c (put_leaf k p v i (some_same t)))
         | inr c ↦
             let s = hi c.from in
-            let u = made_full f q b.value.value Empty (Leaf k) x y (z ∙ ap (λ (t : Link V A × Link V A). t.0) s) (w ∙ ap (λ (t : Link V A × Link V A). t.1) s)
-            (record { lower = tt; upper = child_link q true (Leaf k) p leaf.root_is c }) (tt, tt) leaf.lawful in
-            inserted old (Full f) n m p given slot (Some k.value.value) (sym j) none (leaf_absent b old q p e g (inr c)) (omega (arith, o, a.count_is, u.0.count_is))
-            (λ v t. put_right old (Full f) q (Some b.value.value) Empty Empty (Leaf k) p v a u.0 u.1 c (put_leaf k p v i (some_same t)))
+            let u = made_full f q b.value.value Empty (leaf_link k) x y (z ∙ ap (λ (t : Link V A × Link V A). t.0) s) (w ∙ ap (λ (t : Link V A × Link V A). t.1) s)
+            (record { lower = tt; upper = child_link q true (leaf_link k) p leaf.root_is c }) (tt, tt) leaf.lawful in
+            inserted old (full_link f) n m p given slot (Some k.value.value) (sym j) none (leaf_absent b old q p e g (inr c)) (omega (arith, o, a.count_is, u.0.count_is))
+            (λ v t. put_right old (full_link f) q (Some b.value.value) Empty Empty (leaf_link k) p v a u.0 u.1 c (put_leaf k p v i (some_same t)))
       ]
 
   -- the fork at p becomes a full node
-  pub fill_insert : (b : Box (ForkNode V A) A) (x : ForkNode V A) (old : Link V A) (n : ℕ) (p : Prefix) (given slot stored : Option V) → old ≡ Fork b
+  pub fill_insert : {len base : ℕ} (b : Box (ForkNode V A) A) (x : ForkNode V A) (old : Link V A) (n : ℕ) (p : Prefix) (given slot stored : Option V) → old ≡ Fork len base b
       → x ≡ b.value → IsLawfulTrie old → x.prefix ≡ p → stored ≡ given → slot ≡ None → (f : Box (FullNode V A) A) → f.value.prefix ≡ p
-      → f.value.value ≡ stored → f.value.left ≡ x.left → f.value.right ≡ x.right → IsInserted old (Full f) n n p given slot
+      → f.value.value ≡ stored → f.value.left ≡ x.left → f.value.right ≡ x.right → IsInserted old (full_link f) n n p given slot
   fill_insert b x old n p given slot stored e g h i same none f j k l r =
       let a = subst (λ q. IsNode old q None x.left x.right) i (of_fork b x old e g h.0) in
-      inserted old (Full f) n n p given slot stored same none (node_get-unstored old p x.left x.right a p (omega arith))
+      inserted old (full_link f) n n p given slot stored same none (node_get-unstored old p x.left x.right a p (omega arith))
       (omega (arith, a.count_is, ap count l, ap count r))
       (λ v o.
       let u = made_full f p v x.left x.right j (k ∙ o) l r a.halves a.left_lawful a.right_lawful in
-      put_fill old (Full f) p v x.left x.right a u.0 u.1)
+      put_fill old (full_link f) p v x.left x.right a u.0 u.1)
 
   -- a full node for p, with the old link on one of its sides
   pub cover_insert : (old : Link V A) (n m : ℕ) (q p : Prefix) (given slot stored : Option V) → IsLawfulTrie old → root old ≡ Some q → StandsAt q p Above
       → stored ≡ given → slot ≡ None → m ≡ n + 1 → (sides : Link V A × Link V A) → (q.base < middle p → sides ≡ (old, Empty))
       → (middle p ≤ q.base → sides ≡ (Empty, old)) → (f : Box (FullNode V A) A) → f.value.prefix ≡ p → f.value.value ≡ stored
-      → f.value.left ≡ sides.0 → f.value.right ≡ sides.1 → IsInserted old (Full f) n m p given slot
+      → f.value.left ≡ sides.0 → f.value.right ≡ sides.1 → IsInserted old (full_link f) n m p given slot
   cover_insert old n m q p given slot stored h e w same none o sides lo hi f i j k l =
       let c : count sides.0 + count sides.1 ≡ count old = elim (cases_lt q.base (middle p)) [
         | inl lt ↦ omega (arith, ap (λ (t : Link V A × Link V A). count t.0) (lo lt), ap (λ (t : Link V A × Link V A). count t.1) (lo lt))
         | inr ge ↦ omega (arith, ap (λ (t : Link V A × Link V A). count t.0) (hi ge), ap (λ (t : Link V A × Link V A). count t.1) (hi ge))
       ] in
-      inserted old (Full f) n m p given slot stored same none (get_above old q p h e w) (omega (arith, o, c, ap count k, ap count l))
+      inserted old (full_link f) n m p given slot stored same none (get_above old q p h e w) (omega (arith, o, c, ap count k, ap count l))
       (λ v t. cover_put old q p v h e w sides lo hi f i (j ∙ t) k l)
 
   -- a fork where p and the old link part, with the leaf of p on the side where p lies
   pub part_insert : (old : Link V A) (n m : ℕ) (q p c : Prefix) (given slot : Option V) (k : Box (LeafNode V) A) → IsLawfulTrie old → root old ≡ Some q
       → StandsAt q p Apart → k.value.prefix ≡ p → given ≡ Some k.value.value → slot ≡ None → m ≡ n + 2 → (f : Box (ForkNode V A) A)
       → f.value.prefix ≡ c
-      → (PartsAt c p q × (f.value.left ≡ Leaf k) × (f.value.right ≡ old)) ⊎ (PartsAt c q p × (f.value.left ≡ old) × (f.value.right ≡ Leaf k))
-      → IsInserted old (Fork f) n m p given slot
+      → (PartsAt c p q × (f.value.left ≡ leaf_link k) × (f.value.right ≡ old)) ⊎ (PartsAt c q p × (f.value.left ≡ old) × (f.value.right ≡ leaf_link k))
+      → IsInserted old (fork_link f) n m p given slot
   part_insert old n m q p c given slot k h e w i j none o f x s = elim s [
-    | inl y ↦ inserted old (Fork f) n m p given slot (Some k.value.value) (sym j) none (get_apart old q p h e w)
+    | inl y ↦ inserted old (fork_link f) n m p given slot (Some k.value.value) (sym j) none (get_apart old q p h e w)
         (omega (arith, o, ap count y.1, ap count y.2))
-        (λ v t. part_left old (Leaf k) q p c v h e (made_leaf k p v i (some_same t)) y.0 f x y.1 y.2)
-    | inr y ↦ inserted old (Fork f) n m p given slot (Some k.value.value) (sym j) none (get_apart old q p h e w)
+        (λ v t. part_left old (leaf_link k) q p c v h e (made_leaf k p v i (some_same t)) y.0 f x y.1 y.2)
+    | inr y ↦ inserted old (fork_link f) n m p given slot (Some k.value.value) (sym j) none (get_apart old q p h e w)
         (omega (arith, o, ap count y.1, ap count y.2))
-        (λ v t. part_right old (Leaf k) q p c v h e (made_leaf k p v i (some_same t)) y.0 f x y.1 y.2)
+        (λ v t. part_right old (leaf_link k) q p c v h e (made_leaf k p v i (some_same t)) y.0 f x y.1 y.2)
   ]

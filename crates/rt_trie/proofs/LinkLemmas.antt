@@ -13,7 +13,7 @@ use Rattle.rt_trie.specs.declared.nodes.LeafNode.{LeafNode}
 use Rattle.rt_trie.specs.declared.nodes.ForkNode.{ForkNode}
 use Rattle.rt_trie.specs.declared.nodes.FullNode.{FullNode}
 use Rattle.rt_trie.specs.Map.{Pairs, same_prefix, get, first, next_after, before, IsOrdered, IsLongest}
-use Rattle.rt_trie.specs.Blocks.{IsWithin, IsChild, StandsAt, middle, past}
+use Rattle.rt_trie.specs.Blocks.{IsKeyOf, IsWithin, IsChild, StandsAt, middle, past}
 use Rattle.rt_trie.specs.declared.nodes.Place.{Place}
 use Rattle.rt_trie.specs.declared.nodes.Place.TheVariants.{Here, Left, Right, Above, Apart}
 use Rattle.rt_trie.specs.Links.{own_pair, pairs, count, root, AreHalves, IsFilled, IsNeeded, IsLawfulBelow, IsLawfulTrie, IsForkOf}
@@ -59,15 +59,21 @@ IsOn lo hi len link = IfSome (root link) (IsWithin lo hi len)
 module _ {V A : Type 0} where
   pub pairs_within : (link : Link V A) (lo hi len : ℕ) → IsLawfulBelow link → IsOn lo hi len link → AllWithin lo hi len (pairs link)
   pairs_within Empty lo hi len h on = tt
-  pairs_within (Leaf b) lo hi len h on = (on, tt)
-  pairs_within (Fork' p q left right) lo hi len h on =
+  pairs_within (Leaf i j b) lo hi len h on = (on, tt)
+  pairs_within (Fork' i j p q left right) lo hi len h on =
       node_within lo hi len q None (pairs left) (pairs right) on
       (pairs_within left q.base (middle q) (q.len + 1) h.1.0 h.0.lower)
       (pairs_within right (middle q) (past q) (q.len + 1) h.2.0 h.0.upper)
-  pairs_within (Full' p q v left right) lo hi len h on =
+  pairs_within (Full' i j p q v left right) lo hi len h on =
       node_within lo hi len q v (pairs left) (pairs right) on
       (pairs_within left q.base (middle q) (q.len + 1) h.1.0 h.0.lower)
       (pairs_within right (middle q) (past q) (q.len + 1) h.2.0 h.0.upper)
+
+pub own_key : (q : Prefix) → IsKeyOf q.len q.base q
+own_key q = record { len_is = refl; base_is = refl }
+
+pub key_short : (len base : ℕ) (q : Prefix) → IsKeyOf len base q → len ≤ 32
+key_short len base q k = let s = q.is_prefix.short in omega (arith, k.len_is)
 
 -- the link holds a node of this prefix, value and sides, and what stands below it is lawful
 pub record IsNode {V A : Type 0} (link : Link V A) (q : Prefix) (v : Option V) (left right : Link V A) : Type 0 where
@@ -79,19 +85,32 @@ pub record IsNode {V A : Type 0} (link : Link V A) (q : Prefix) (v : Option V) (
   pub right_lawful : IsLawfulTrie right
 
 module _ {V A : Type 0} where
-  of_fork_at : (b : Box (ForkNode V A) A) → IsLawfulBelow (Fork b) → IsNode (Fork b) b.value.prefix None b.value.left b.value.right
-  of_fork_at b h = record { pairs_are = refl; root_is = refl; count_is = refl; halves = h.0; left_lawful = h.1; right_lawful = h.2 }
+  of_fork_at : (len base : ℕ) (b : Box (ForkNode V A) A) → IsLawfulBelow (Fork len base b) → IsNode (Fork len base b) b.value.prefix None b.value.left b.value.right
+  of_fork_at len base b h = record { pairs_are = refl; root_is = refl; count_is = refl; halves = h.0; left_lawful = h.1; right_lawful = h.2 }
 
-  of_full_at : (b : Box (FullNode V A) A) → IsLawfulBelow (Full b) → IsNode (Full b) b.value.prefix b.value.value b.value.left b.value.right
-  of_full_at b h = record { pairs_are = refl; root_is = refl; count_is = refl; halves = h.0; left_lawful = h.1; right_lawful = h.2 }
+  of_full_at : (len base : ℕ) (b : Box (FullNode V A) A) → IsLawfulBelow (Full len base b) → IsNode (Full len base b) b.value.prefix b.value.value b.value.left b.value.right
+  of_full_at len base b h = record { pairs_are = refl; root_is = refl; count_is = refl; halves = h.0; left_lawful = h.1; right_lawful = h.2 }
 
-  pub of_fork : (b : Box (ForkNode V A) A) (n : ForkNode V A) (link : Link V A) → link ≡ Fork b → n ≡ b.value → IsLawfulBelow link
+  pub of_fork : {len base : ℕ} (b : Box (ForkNode V A) A) (n : ForkNode V A) (link : Link V A) → link ≡ Fork len base b → n ≡ b.value → IsLawfulBelow link
       → IsNode link n.prefix None n.left n.right
-  of_fork b n link e f h = rw (f, e) (of_fork_at b (subst IsLawfulBelow e h))
+  of_fork {len} {base} b n link e f h = rw (f, e) (of_fork_at len base b (subst IsLawfulBelow e h))
 
-  pub of_full : (b : Box (FullNode V A) A) (n : FullNode V A) (link : Link V A) → link ≡ Full b → n ≡ b.value → IsLawfulBelow link
+  pub of_full : {len base : ℕ} (b : Box (FullNode V A) A) (n : FullNode V A) (link : Link V A) → link ≡ Full len base b → n ≡ b.value → IsLawfulBelow link
       → IsNode link n.prefix n.value n.left n.right
-  of_full b n link e f h = rw (f, e) (of_full_at b (subst IsLawfulBelow e h))
+  of_full {len} {base} b n link e f h = rw (f, e) (of_full_at len base b (subst IsLawfulBelow e h))
+
+  -- the link keeps its node's key
+  pub key_of_leaf : {len base : ℕ} (b : Box (LeafNode V) A) (n : LeafNode V) (link : Link V A) → link ≡ Leaf len base b → n ≡ b.value → IsLawfulBelow link
+      → IsKeyOf len base n.prefix
+  key_of_leaf {len} {base} b n link e f h = let k : IsLawfulBelow (Leaf len base b) = subst IsLawfulBelow e h in rw f k
+
+  pub key_of_fork : {len base : ℕ} (b : Box (ForkNode V A) A) (n : ForkNode V A) (link : Link V A) → link ≡ Fork len base b → n ≡ b.value → IsLawfulBelow link
+      → IsKeyOf len base n.prefix
+  key_of_fork {len} {base} b n link e f h = let k : IsLawfulBelow (Fork len base b) = subst IsLawfulBelow e h in rw f k.3
+
+  pub key_of_full : {len base : ℕ} (b : Box (FullNode V A) A) (n : FullNode V A) (link : Link V A) → link ≡ Full len base b → n ≡ b.value → IsLawfulBelow link
+      → IsKeyOf len base n.prefix
+  key_of_full {len} {base} b n link e f h = let k : IsLawfulBelow (Full len base b) = subst IsLawfulBelow e h in rw f k.3
 
   pub sides_of : (link : Link V A) (q : Prefix) (v : Option V) (left right : Link V A) → IsNode link q v left right
       → AreSides q (pairs left) (pairs right)
@@ -131,14 +150,14 @@ module _ {V A : Type 0} where
   -- the pairs of a lawful link are in order
   pub pairs_ordered : (link : Link V A) → IsLawfulBelow link → IsOrdered (pairs link)
   pairs_ordered Empty h = tt
-  pairs_ordered (Leaf b) h = (tt, tt)
-  pairs_ordered (Fork' p q left right) h =
+  pairs_ordered (Leaf i j b) h = (tt, tt)
+  pairs_ordered (Fork' i j p q left right) h =
       let s : AreSides q (pairs left) (pairs right) = record {
         lower = pairs_within left q.base (middle q) (q.len + 1) h.1.0 h.0.lower;
         upper = pairs_within right (middle q) (past q) (q.len + 1) h.2.0 h.0.upper;
       } in
       IsOrdered-node q None (pairs left) (pairs right) s (pairs_ordered left h.1.0) (pairs_ordered right h.2.0)
-  pairs_ordered (Full' p q v left right) h =
+  pairs_ordered (Full' i j p q v left right) h =
       let s : AreSides q (pairs left) (pairs right) = record {
         lower = pairs_within left q.base (middle q) (q.len + 1) h.1.0 h.0.lower;
         upper = pairs_within right (middle q) (past q) (q.len + 1) h.2.0 h.0.upper;
@@ -208,7 +227,7 @@ module _ {V A : Type 0} where
   longest_of link a o h e = subst (λ x. IsLongest (pairs link) a x) e (longest_is (pairs link) a (pairs_ordered link h))
 
   -- the pairs of a leaf
-  pub of_leaf : (b : Box (LeafNode V) A) (n : LeafNode V) (link : Link V A) → link ≡ Leaf b → n ≡ b.value
+  pub of_leaf : {len base : ℕ} (b : Box (LeafNode V) A) (n : LeafNode V) (link : Link V A) → link ≡ Leaf len base b → n ≡ b.value
       → pairs link ≡ own_pair n.prefix (Some n.value)
   of_leaf b n link e f = rw (e, f) refl
 
@@ -216,13 +235,13 @@ module _ {V A : Type 0} where
   of_empty link e = rw e refl
 
   -- a node without a value has both sides
-  pub fork_filled : (b : Box (ForkNode V A) A) (n : ForkNode V A) (link : Link V A) → link ≡ Fork b → n ≡ b.value → IsNeeded link
+  pub fork_filled : {len base : ℕ} (b : Box (ForkNode V A) A) (n : ForkNode V A) (link : Link V A) → link ≡ Fork len base b → n ≡ b.value → IsNeeded link
       → IsFilled n.left × IsFilled n.right
-  fork_filled b n link e f h = let k : IsFilled b.value.left × IsFilled b.value.right = subst IsNeeded e h in rw f k
+  fork_filled {len} {base} b n link e f h = let k : IsFilled b.value.left × IsFilled b.value.right = subst IsNeeded e h in rw f k
 
-  pub full_filled : (b : Box (FullNode V A) A) (n : FullNode V A) (link : Link V A) → link ≡ Full b → n ≡ b.value → IsNeeded link
+  pub full_filled : {len base : ℕ} (b : Box (FullNode V A) A) (n : FullNode V A) (link : Link V A) → link ≡ Full len base b → n ≡ b.value → IsNeeded link
       → n.value ≡ None → IsFilled n.left × IsFilled n.right
-  full_filled b n link e f h v =
+  full_filled {len} {base} b n link e f h v =
       let k : IfNone b.value.value (IsFilled b.value.left × IsFilled b.value.right) = subst IsNeeded e h in
       let j : IfNone n.value (IsFilled n.left × IsFilled n.right) = rw f k in
       rw v at j
@@ -230,12 +249,12 @@ module _ {V A : Type 0} where
   -- a lawful link that holds a node has a first pair
   pub filled_first : (link : Link V A) → IsLawfulTrie link → IsFilled link → (p : Prefix) × (first (pairs link) ≡ Some p)
   filled_first Empty h f = absurd (false≢true f)
-  filled_first (Leaf b) h f = (b.value.prefix, refl)
-  filled_first (Fork' p q left right) h f =
+  filled_first (Leaf i j b) h f = (b.value.prefix, refl)
+  filled_first (Fork' i j p q left right) h f =
       let i = filled_first left h.0.1 h.1.0 in
       (i.0, first-append (pairs left) (pairs right) ∙ ap (λ o. or_else o (first (pairs right))) i.1)
-  filled_first (Full' p q (Some v) left right) h f = (q, refl)
-  filled_first (Full' p q None left right) h f =
+  filled_first (Full' i j p q (Some v) left right) h f = (q, refl)
+  filled_first (Full' i j p q None left right) h f =
       let i = filled_first left h.0.1 h.1.0 in
       (i.0, first-append (pairs left) (pairs right) ∙ ap (λ o. or_else o (first (pairs right))) i.1)
 
@@ -299,16 +318,16 @@ module _ {V A : Type 0} where
       ])
 
   -- the prefix of a fork, and of a leaf
-  pub fork_prefix : (b : Box (ForkNode V A) A) (n : ForkNode V A) (link : Link V A) (p : Prefix) → link ≡ Fork b → n ≡ b.value → IsForkOf p link
+  pub fork_prefix : {len base : ℕ} (b : Box (ForkNode V A) A) (n : ForkNode V A) (link : Link V A) (p : Prefix) → link ≡ Fork len base b → n ≡ b.value → IsForkOf p link
       → n.prefix ≡ p
   fork_prefix b n link p e f h = let k : b.value.prefix ≡ p = subst (IsForkOf p) e h in rw f k
 
 -- nothing is stored at a fork
 pub fork_absent : {V A : Type 0} (link : Link V A) (p : Prefix) → IsLawfulTrie link → IsForkOf p link → get (pairs link) p ≡ None
 fork_absent Empty p h f = refl
-fork_absent (Leaf b) p h f = absurd f
-fork_absent (Fork' q prefix left right) p h f =
-    let n : IsNode (Fork' q prefix left right) prefix None left right = record {
+fork_absent (Leaf i j b) p h f = absurd f
+fork_absent (Fork' i j q prefix left right) p h f =
+    let n : IsNode (Fork' i j q prefix left right) prefix None left right = record {
       pairs_are = refl;
       root_is = refl;
       count_is = refl;
@@ -316,8 +335,8 @@ fork_absent (Fork' q prefix left right) p h f =
       left_lawful = h.0.1;
       right_lawful = h.0.2;
     } in
-    node_get-unstored (Fork' q prefix left right) prefix left right n p (omega (arith, ap (λ (x : Prefix). x.len) f))
-fork_absent (Full' q prefix v left right) p h f = absurd f
+    node_get-unstored (Fork' i j q prefix left right) prefix left right n p (omega (arith, ap (λ (x : Prefix). x.len) f))
+fork_absent (Full' i j q prefix v left right) p h f = absurd f
 
 -- what holds of what an option holds, where it holds something
 pub if_some_map : {X : Type 0} (o : Option X) (P Q : X → Type 0) → ((x : X) → P x → Q x) → IfSome o P → IfSome o Q
@@ -346,36 +365,36 @@ none_if None P h e = h
 none_if (Some v) P h e = cc
 
 module _ {V A : Type 0} where
-  view_fork_at : (b : Box (ForkNode V A) A) → IsLawfulBelow (Fork b)
-      → IsView (Fork b) b.value.prefix None b.value.left b.value.right (λ l r. Fork (with_value b (record { prefix = b.value.prefix; left = l; right = r })))
-  view_fork_at b h = record {
-    node = of_fork_at b h;
+  view_fork_at : (len base : ℕ) (b : Box (ForkNode V A) A) → IsLawfulBelow (Fork len base b)
+      → IsView (Fork len base b) b.value.prefix None b.value.left b.value.right (λ l r. Fork len base (with_value b (record { prefix = b.value.prefix; left = l; right = r })))
+  view_fork_at len base b h = record {
+    node = of_fork_at len base b h;
     same = refl;
-    again = λ l r k i j. (record { pairs_are = refl; root_is = refl; count_is = refl; halves = k; left_lawful = i; right_lawful = j }, (k, i, j));
+    again = λ l r k i j. (record { pairs_are = refl; root_is = refl; count_is = refl; halves = k; left_lawful = i; right_lawful = j }, (k, i, j, h.3));
     counts = λ l r. refl;
     needed = λ l r k. k refl;
     filled = λ k e. k;
   }
 
-  view_full_at : (b : Box (FullNode V A) A) → IsLawfulBelow (Full b)
-      → IsView (Full b) b.value.prefix b.value.value b.value.left b.value.right
-      (λ l r. Full (with_value b (record { prefix = b.value.prefix; value = b.value.value; left = l; right = r })))
-  view_full_at b h = record {
-    node = of_full_at b h;
+  view_full_at : (len base : ℕ) (b : Box (FullNode V A) A) → IsLawfulBelow (Full len base b)
+      → IsView (Full len base b) b.value.prefix b.value.value b.value.left b.value.right
+      (λ l r. Full len base (with_value b (record { prefix = b.value.prefix; value = b.value.value; left = l; right = r })))
+  view_full_at len base b h = record {
+    node = of_full_at len base b h;
     same = refl;
-    again = λ l r k i j. (record { pairs_are = refl; root_is = refl; count_is = refl; halves = k; left_lawful = i; right_lawful = j }, (k, i, j));
+    again = λ l r k i j. (record { pairs_are = refl; root_is = refl; count_is = refl; halves = k; left_lawful = i; right_lawful = j }, (k, i, j, h.3));
     counts = λ l r. refl;
     needed = λ l r. if_none b.value.value (IsFilled l × IsFilled r);
     filled = none_if b.value.value (IsFilled b.value.left × IsFilled b.value.right);
   }
 
-  pub view_fork : (b : Box (ForkNode V A) A) (n : ForkNode V A) (link : Link V A) → link ≡ Fork b → n ≡ b.value → IsLawfulBelow link
-      → IsView link n.prefix None n.left n.right (λ l r. Fork (with_value b (record { prefix = n.prefix; left = l; right = r })))
-  view_fork b n link e f h = rw (f, e) (view_fork_at b (subst IsLawfulBelow e h))
+  pub view_fork : {len base : ℕ} (b : Box (ForkNode V A) A) (n : ForkNode V A) (link : Link V A) → link ≡ Fork len base b → n ≡ b.value → IsLawfulBelow link
+      → IsView link n.prefix None n.left n.right (λ l r. Fork len base (with_value b (record { prefix = n.prefix; left = l; right = r })))
+  view_fork {len} {base} b n link e f h = rw (f, e) (view_fork_at len base b (subst IsLawfulBelow e h))
 
-  pub view_full : (b : Box (FullNode V A) A) (n : FullNode V A) (link : Link V A) → link ≡ Full b → n ≡ b.value → IsLawfulBelow link
-      → IsView link n.prefix n.value n.left n.right (λ l r. Full (with_value b (record { prefix = n.prefix; value = n.value; left = l; right = r })))
-  view_full b n link e f h = rw (f, e) (view_full_at b (subst IsLawfulBelow e h))
+  pub view_full : {len base : ℕ} (b : Box (FullNode V A) A) (n : FullNode V A) (link : Link V A) → link ≡ Full len base b → n ≡ b.value → IsLawfulBelow link
+      → IsView link n.prefix n.value n.left n.right (λ l r. Full len base (with_value b (record { prefix = n.prefix; value = n.value; left = l; right = r })))
+  view_full {len} {base} b n link e f h = rw (f, e) (view_full_at len base b (subst IsLawfulBelow e h))
 
   -- what stands at a prefix on one side of a node stands there in that side's link
   pub get_left : (link : Link V A) (q : Prefix) (v : Option V) (left right : Link V A) (n : IsNode link q v left right) (p : Prefix)

@@ -1,5 +1,5 @@
 -- What taking a pair out, and then a node that isn't needed, makes of a link.
-use Rattle.std.proofs.Common.{◌≡◌, ◌⊎◌, ◌+◌, Bool, true, false, [], ◌∷◌, ◌++◌, Option, Some, None, inl, inr, refl, sym, subst, ap, ◌∙◌, arith}
+use Rattle.std.proofs.Common.{◌≡◌, ℕ, ◌⊎◌, ◌+◌, Bool, true, false, [], ◌∷◌, ◌++◌, Option, Some, None, inl, inr, refl, sym, subst, ap, ◌∙◌, arith}
 use Rattle.std.specs.Prelude.{Box}
 use Rattle.rt_cidr.specs.declared.prefixes.Prefix.{Prefix}
 use Rattle.rt_trie.specs.declared.nodes.Link.{Link, Empty, Leaf, Fork', Full'}
@@ -10,14 +10,14 @@ use Rattle.rt_trie.specs.Map.{Pairs, same_prefix, get, erase}
 use Rattle.rt_trie.specs.declared.nodes.Place.{Place}
 use Rattle.rt_trie.specs.declared.nodes.Place.TheVariants.{Here, Left, Right, Above, Apart}
 use Rattle.rt_trie.proofs.InsertLemmas.{get_above, get_apart}
-use Rattle.rt_trie.specs.Blocks.{StandsAt, IsChild, middle, past}
+use Rattle.rt_trie.specs.Blocks.{IsKeyOf, StandsAt, IsChild, middle, past}
 use Rattle.rt_trie.specs.Links.{own_pair, pairs, root, AreHalves, IsVacant, IsLone, IsLeafOf, IsLawfulBelow, IsLawfulTrie}
 use Rattle.rt_trie.specs.Changes.{IsErased, IsSpliced, AreSidesOf}
 use Rattle.rt_trie.proofs.OrderLemmas.{same_tells, same_rank}
 use Rattle.rt_cidr.proofs.Promised.{size_pos}
 use Rattle.rt_trie.proofs.PairLemmas.{AllKeys-map, IsOther, IsHigher, IsLower, IsOther-higher, IsOther-lower, erase-skip, erase-none, erase-front, erase-here}
 use Rattle.rt_trie.proofs.NodeLemmas.{upper_higher, lower_lower, own_other, sides_higher}
-use Rattle.rt_trie.proofs.LinkLemmas.{if_some_map, IsNode, IsView, within_lower, within_upper, sides_of, of_fork, of_full, node_get-unstored}
+use Rattle.rt_trie.proofs.LinkLemmas.{if_some_map, IsNode, IsView, within_lower, within_upper, sides_of, of_fork, of_full, key_of_full, node_get-unstored}
 
 -- a child of a child on a side is a child there
 child_lower : (parent : Prefix) (upper : Bool) (q x : Prefix) → IsChild parent upper q → IsChild q false x → IsChild parent upper x
@@ -54,13 +54,13 @@ module _ {V A : Type 0} where
         if_some_map (root right) (IsChild q true) (IsChild parent upper) (λ x. child_upper parent upper q x c) n.halves.upper;
   }
 
-  pub fork_apart : (b : Box (ForkNode V A) A) (n : ForkNode V A) (link : Link V A) → link ≡ Fork b → n ≡ b.value → IsLawfulBelow link
+  pub fork_apart : {len base : ℕ} (b : Box (ForkNode V A) A) (n : ForkNode V A) (link : Link V A) → link ≡ Fork len base b → n ≡ b.value → IsLawfulBelow link
       → IsLone link → AreSidesOf link n.left n.right
   fork_apart b n link e f h k =
       let one : IsVacant b.value.left ⊎ IsVacant b.value.right = subst IsLone e k in
       sides_apart link n.prefix n.left n.right (of_fork b n link e f h) (rw f one)
 
-  pub full_apart : (b : Box (FullNode V A) A) (n : FullNode V A) (link : Link V A) → link ≡ Full b → n ≡ b.value → IsLawfulBelow link
+  pub full_apart : {len base : ℕ} (b : Box (FullNode V A) A) (n : FullNode V A) (link : Link V A) → link ≡ Full len base b → n ≡ b.value → IsLawfulBelow link
       → IsLone link → AreSidesOf link n.left n.right
   full_apart b n link e f h k =
       let one : (b.value.value ≡ None) × (IsVacant b.value.left ⊎ IsVacant b.value.right) = subst IsLone e k in
@@ -107,9 +107,10 @@ module _ {V A : Type 0} where
     pub below : IsLawfulBelow mid
     pub root_is : root mid ≡ root old
 
-  made_below_full : (b : Box (FullNode V A) A) (q : Prefix) (w : Option V) (l r : Link V A) → b.value.prefix ≡ q → b.value.value ≡ w
-      → b.value.left ≡ l → b.value.right ≡ r → AreHalves q l r → IsLawfulTrie l → IsLawfulTrie r → IsNode (Full b) q w l r × IsLawfulBelow (Full b)
-  made_below_full b q w l r e f i j h k m = (
+  made_below_full : (len base : ℕ) (b : Box (FullNode V A) A) (q : Prefix) (w : Option V) (l r : Link V A) → IsKeyOf len base q → b.value.prefix ≡ q
+      → b.value.value ≡ w → b.value.left ≡ l → b.value.right ≡ r → AreHalves q l r → IsLawfulTrie l → IsLawfulTrie r
+      → IsNode (Full len base b) q w l r × IsLawfulBelow (Full len base b)
+  made_below_full len base b q w l r key e f i j h k m = (
     rw (e, f, i, j) (record {
       pairs_are = refl;
       root_is = refl;
@@ -118,7 +119,7 @@ module _ {V A : Type 0} where
       left_lawful = k;
       right_lawful = m;
     }),
-    rw (e, i, j) (h, k, m),
+    rw (e, i, j) (h, k, m, key),
   )
 
   -- p was taken out on one side of a node
@@ -134,13 +135,13 @@ module _ {V A : Type 0} where
       let u = x.again l k (record { lower = x.node.halves.lower; upper = i.stays q true x.node.halves.upper }) x.node.left_lawful i.lawful in
       record { pairs_are = erase_right old (make l k) q w l r k p x.node u.0 c i; below = u.1; root_is = u.0.root_is ∙ sym x.node.root_is }
 
-  pub halfway_full_here : (f : Box (FullNode V A) A) (m : FullNode V A) (old : Link V A) (p : Prefix) → old ≡ Full f → m ≡ f.value
+  pub halfway_full_here : {len base : ℕ} (f : Box (FullNode V A) A) (m : FullNode V A) (old : Link V A) (p : Prefix) → old ≡ Full len base f → m ≡ f.value
       → IsLawfulTrie old → p ≡ m.prefix → (b : Box (FullNode V A) A) → b.value.prefix ≡ m.prefix
-      → b.value.value ≡ None → b.value.left ≡ m.left → b.value.right ≡ m.right → IsHalfway old (Full b) p
-  halfway_full_here f m old p e g h i b x w y z =
+      → b.value.value ≡ None → b.value.left ≡ m.left → b.value.right ≡ m.right → IsHalfway old (Full len base b) p
+  halfway_full_here {len} {base} f m old p e g h i b x w y z =
       let n = of_full f m old e g h.0 in
-      let u = made_below_full b m.prefix None m.left m.right x w y z n.halves n.left_lawful n.right_lawful in
-      rw i (record { pairs_are = erase_own old (Full b) m.prefix m.value m.left m.right n u.0; below = u.1; root_is = u.0.root_is ∙ sym n.root_is })
+      let u = made_below_full len base b m.prefix None m.left m.right (key_of_full f m old e g h.0) x w y z n.halves n.left_lawful n.right_lawful in
+      rw i (record { pairs_are = erase_own old (Full len base b) m.prefix m.value m.left m.right n u.0; below = u.1; root_is = u.0.root_is ∙ sym n.root_is })
 
   -- and the whole removal
   pub erased_of : (old mid new : Link V A) (p : Prefix) → IsHalfway old mid p → IsSpliced mid new → IsErased old new p
@@ -159,7 +160,7 @@ module _ {V A : Type 0} where
   }
 
   -- at a fork nothing is stored but on its sides
-  pub fork_none : (b : Box (ForkNode V A) A) (n : ForkNode V A) (old : Link V A) (p : Prefix) (r : Place) → old ≡ Fork b → n ≡ b.value
+  pub fork_none : {len base : ℕ} (b : Box (ForkNode V A) A) (n : ForkNode V A) (old : Link V A) (p : Prefix) (r : Place) → old ≡ Fork len base b → n ≡ b.value
       → IsLawfulTrie old → StandsAt n.prefix p r → (r ≡ Left → ⊥) → (r ≡ Right → ⊥) → get (pairs old) p ≡ None
   fork_none b n old p Here e f h s x y =
       node_get-unstored old n.prefix n.left n.right (of_fork b n old e f h.0) p (omega (arith, ap (λ (z : Prefix). z.len) s))
@@ -169,7 +170,7 @@ module _ {V A : Type 0} where
   fork_none b n old p Apart e f h s x y = get_apart old n.prefix p h (of_fork b n old e f h.0).root_is s
 
   -- at a full node, its own value aside
-  pub full_none : (b : Box (FullNode V A) A) (n : FullNode V A) (old : Link V A) (p : Prefix) (r : Place) → old ≡ Full b → n ≡ b.value
+  pub full_none : {len base : ℕ} (b : Box (FullNode V A) A) (n : FullNode V A) (old : Link V A) (p : Prefix) (r : Place) → old ≡ Full len base b → n ≡ b.value
       → IsLawfulTrie old → StandsAt n.prefix p r → (r ≡ Above) ⊎ (r ≡ Apart) → get (pairs old) p ≡ None
   full_none b n old p r e f h s o = elim o [
     | inl i ↦ get_above old n.prefix p h (of_full b n old e f h.0).root_is (subst (StandsAt n.prefix p) i s)
@@ -182,9 +183,9 @@ module _ {V A : Type 0} where
   -- a leaf is taken out
   pub erased_leaf : (old new : Link V A) (p : Prefix) → IsLeafOf p old → new ≡ Empty → IsErased old new p
   erased_leaf Empty new p h e = absurd h
-  erased_leaf (Leaf b) new p h e =
+  erased_leaf (Leaf i j b) new p h e =
       let s : same_prefix b.value.prefix p ≡ true =
       same_rank b.value.prefix p (ap (λ (x : Prefix). x.base) h) (ap (λ (x : Prefix). x.len) h) in
       rw e (record { pairs_are = rw s refl; lawful = (tt, tt); stays = λ parent upper k. tt })
-  erased_leaf (Fork' x q left right) new p h e = absurd h
-  erased_leaf (Full' x q v left right) new p h e = absurd h
+  erased_leaf (Fork' i j x q left right) new p h e = absurd h
+  erased_leaf (Full' i j x q v left right) new p h e = absurd h

@@ -13,6 +13,11 @@ middle q = q.base + size_of q.len / 2
 abbrev pub past : Prefix → ℕ
 past q = q.base + size_of q.len
 
+-- the length and the base are the prefix's: its key
+pub record IsKeyOf (len base : ℕ) (q : Prefix) : Type 0 where
+  pub len_is : len ≡ q.len
+  pub base_is : base ≡ q.base
+
 -- c is at least that long, and covers addresses from lo on and below hi alone
 pub record IsWithin (lo hi len : ℕ) (c : Prefix) : Type 0 where
   pub long : len ≤ c.len

@@ -3,7 +3,7 @@ use Rattle.std.specs.Prelude.{◌≡◌, ◌↔◌, ◌<◌, ◌/◌, ◌%◌, B
 use Rattle.rt_cidr.specs.declared.prefixes.Prefix.{Prefix}
 use Rattle.rt_cidr.specs.Cidr.{size_of}
 use Rattle.rt_cidr.specs.Prefix.{contains}
-use Rattle.rt_trie.specs.Blocks.{IsChild}
+use Rattle.rt_trie.specs.Blocks.{IsChild, IsKeyOf}
 use Rattle.rt_trie.specs.declared.nodes.Link.{Link, Empty, Leaf, Fork', Full'}
 use Rattle.rt_trie.specs.Links.{root, IsFilled, IsLawfulTrie}
 use Rattle.rt_trie.specs.Map.{Pairs, same_prefix, before, get, put, erase, first, next_after, IsStored, IsOrdered}
@@ -68,12 +68,12 @@ pub record IsLawfulNode {V A : Type 0} (q : Prefix) (v : Option V) (left right :
   pub lower : IfSome (root left) (IsChildByBit q false)
   pub upper : IfSome (root right) (IsChildByBit q true)
 
--- every node is that of a lawful trie; a leaf has a value and no child
+-- every node is that of a lawful trie, and every link keeps its node's key; a leaf has a value and no child
 abbrev pub IsLawfulByBits : {V A : Type 0} → Link V A → Type 0
 IsLawfulByBits Empty = Unit {0}
-IsLawfulByBits (Leaf b) = Unit {0}
-IsLawfulByBits (Fork' p q left right) = IsLawfulNode q None left right × IsLawfulByBits left × IsLawfulByBits right
-IsLawfulByBits (Full' p q v left right) = IsLawfulNode q v left right × IsLawfulByBits left × IsLawfulByBits right
+IsLawfulByBits (Leaf len base b) = IsKeyOf len base b.value.prefix
+IsLawfulByBits (Fork' len base p q left right) = IsLawfulNode q None left right × IsLawfulByBits left × IsLawfulByBits right × IsKeyOf len base q
+IsLawfulByBits (Full' len base p q v left right) = IsLawfulNode q v left right × IsLawfulByBits left × IsLawfulByBits right × IsKeyOf len base q
 
 abbrev pub LawfulByBits : Type 0 → Type 0 → Type 0
 LawfulByBits V A = (link : Link V A) → IsLawfulTrie link ↔ IsLawfulByBits link

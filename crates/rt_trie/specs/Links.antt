@@ -1,9 +1,13 @@
 -- What a link holds: its pairs in order, how many nodes, and when it is lawful.
-use Rattle.std.specs.Prelude.{◌≡◌, ℕ, Bool, true, false, ◌+◌, ◌++◌, [], ◌∷◌, Option, Some, None, IfSome, IfNone, IsSome, IsNone, ◌⊎◌}
+use Rattle.std.specs.Prelude.{◌≡◌, ℕ, Bool, Box, true, false, ◌+◌, ◌++◌, [], ◌∷◌, Option, Some, None, IfSome, IfNone, IsSome, IsNone, ◌⊎◌}
 use Rattle.rt_cidr.specs.declared.prefixes.Prefix.{Prefix}
 use Rattle.rt_trie.specs.declared.nodes.Link.{Link, Empty, Leaf, Fork', Full'}
+use Rattle.rt_trie.specs.declared.nodes.Link.TheVariants.{Fork, Full}
+use Rattle.rt_trie.specs.declared.nodes.LeafNode.{LeafNode}
+use Rattle.rt_trie.specs.declared.nodes.ForkNode.{ForkNode}
+use Rattle.rt_trie.specs.declared.nodes.FullNode.{FullNode}
 use Rattle.rt_trie.specs.Map.{Pairs}
-use Rattle.rt_trie.specs.Blocks.{IsChild}
+use Rattle.rt_trie.specs.Blocks.{IsChild, IsKeyOf}
 
 -- a node's own pair, if it has a value
 abbrev pub own_pair : {V : Type 0} → Prefix → Option V → Pairs V
@@ -13,37 +17,47 @@ own_pair q (Some v) = (q, v) ∷ []
 -- the pairs of the nodes that have a value: a node's own, then those on its left, then those on its right
 abbrev pub pairs : {V A : Type 0} → Link V A → Pairs V
 pairs Empty = []
-pairs (Leaf b) = own_pair b.value.prefix (Some b.value.value)
-pairs (Fork' p q left right) = pairs left ++ pairs right
-pairs (Full' p q v left right) = own_pair q v ++ (pairs left ++ pairs right)
+pairs (Leaf len base b) = own_pair b.value.prefix (Some b.value.value)
+pairs (Fork' len base p q left right) = pairs left ++ pairs right
+pairs (Full' len base p q v left right) = own_pair q v ++ (pairs left ++ pairs right)
 
 -- how many nodes
 abbrev pub count : {V A : Type 0} → Link V A → ℕ
 count Empty = 0
-count (Leaf b) = 1
-count (Fork' p q left right) = count left + count right + 1
-count (Full' p q v left right) = count left + count right + 1
+count (Leaf len base b) = 1
+count (Fork' len base p q left right) = count left + count right + 1
+count (Full' len base p q v left right) = count left + count right + 1
 
 -- the prefix of the node that the link holds
 abbrev pub root : {V A : Type 0} → Link V A → Option Prefix
 root Empty = None
-root (Leaf b) = Some b.value.prefix
-root (Fork' p q left right) = Some q
-root (Full' p q v left right) = Some q
+root (Leaf len base b) = Some b.value.prefix
+root (Fork' len base p q left right) = Some q
+root (Full' len base p q v left right) = Some q
+
+-- a link to a node, with the node's key
+abbrev pub leaf_link : {V A : Type 0} → Box (LeafNode V) A → Link V A
+leaf_link b = Leaf b.value.prefix.len b.value.prefix.base b
+
+abbrev pub fork_link : {V A : Type 0} → Box (ForkNode V A) A → Link V A
+fork_link b = Fork b.value.prefix.len b.value.prefix.base b
+
+abbrev pub full_link : {V A : Type 0} → Box (FullNode V A) A → Link V A
+full_link b = Full b.value.prefix.len b.value.prefix.base b
 
 -- the link holds a leaf of this prefix
 abbrev pub IsLeafOf : {V A : Type 0} → Prefix → Link V A → Type 0
 IsLeafOf q Empty = ⊥
-IsLeafOf q (Leaf b) = b.value.prefix ≡ q
-IsLeafOf q (Fork' p prefix left right) = ⊥
-IsLeafOf q (Full' p prefix v left right) = ⊥
+IsLeafOf q (Leaf len base b) = b.value.prefix ≡ q
+IsLeafOf q (Fork' len base p prefix left right) = ⊥
+IsLeafOf q (Full' len base p prefix v left right) = ⊥
 
 -- the link holds a fork of this prefix
 abbrev pub IsForkOf : {V A : Type 0} → Prefix → Link V A → Type 0
 IsForkOf q Empty = ⊥
-IsForkOf q (Leaf b) = ⊥
-IsForkOf q (Fork' p prefix left right) = prefix ≡ q
-IsForkOf q (Full' p prefix v left right) = ⊥
+IsForkOf q (Leaf len base b) = ⊥
+IsForkOf q (Fork' len base p prefix left right) = prefix ≡ q
+IsForkOf q (Full' len base p prefix v left right) = ⊥
 
 -- the link holds a node
 abbrev pub IsFilled : {V A : Type 0} → Link V A → Type 0
@@ -65,27 +79,27 @@ pub record AreHalves {V A : Type 0} (q : Prefix) (left right : Link V A) : Type 
 -- a node without a value has two children
 abbrev pub IsNeeded : {V A : Type 0} → Link V A → Type 0
 IsNeeded Empty = Unit {0}
-IsNeeded (Leaf b) = Unit {0}
-IsNeeded (Fork' p q left right) = IsFilled left × IsFilled right
-IsNeeded (Full' p q v left right) = IfNone v (IsFilled left × IsFilled right)
+IsNeeded (Leaf len base b) = Unit {0}
+IsNeeded (Fork' len base p q left right) = IsFilled left × IsFilled right
+IsNeeded (Full' len base p q v left right) = IfNone v (IsFilled left × IsFilled right)
 
 -- a node has neither a value nor two children
 abbrev pub IsLone : {V A : Type 0} → Link V A → Type 0
 IsLone Empty = ⊥
-IsLone (Leaf b) = ⊥
-IsLone (Fork' p q left right) = IsVacant left ⊎ IsVacant right
-IsLone (Full' p q v left right) = (v ≡ None) × (IsVacant left ⊎ IsVacant right)
+IsLone (Leaf len base b) = ⊥
+IsLone (Fork' len base p q left right) = IsVacant left ⊎ IsVacant right
+IsLone (Full' len base p q v left right) = (v ≡ None) × (IsVacant left ⊎ IsVacant right)
 
--- what stands below the node is lawful
+-- what the link keeps is its node's key, and what stands below the node is lawful
 abbrev pub IsLawfulBelow : {V A : Type 0} → Link V A → Type 0
 IsLawfulBelow Empty = Unit {0}
-IsLawfulBelow (Leaf b) = Unit {0}
-IsLawfulBelow (Fork' p q left right) =
-    AreHalves q left right × (IsLawfulBelow left × IsNeeded left) × (IsLawfulBelow right × IsNeeded right)
-IsLawfulBelow (Full' p q v left right) =
-    AreHalves q left right × (IsLawfulBelow left × IsNeeded left) × (IsLawfulBelow right × IsNeeded right)
+IsLawfulBelow (Leaf len base b) = IsKeyOf len base b.value.prefix
+IsLawfulBelow (Fork' len base p q left right) =
+    AreHalves q left right × (IsLawfulBelow left × IsNeeded left) × (IsLawfulBelow right × IsNeeded right) × IsKeyOf len base q
+IsLawfulBelow (Full' len base p q v left right) =
+    AreHalves q left right × (IsLawfulBelow left × IsNeeded left) × (IsLawfulBelow right × IsNeeded right) × IsKeyOf len base q
 
--- every child is longer than its parent, contained in it and on the side of the next bit, and every node without a
--- value has two children
+-- every child is longer than its parent, contained in it and on the side of the next bit, every node without a value has
+-- two children, and every link keeps its node's key
 abbrev pub IsLawfulTrie : {V A : Type 0} → Link V A → Type 0
 IsLawfulTrie link = IsLawfulBelow link × IsNeeded link

@@ -31,7 +31,7 @@ pub(crate) fn insert<V: Drop, A: Allocator + Copy>(
 {
     match link {
         Link::Empty => plant(link, nodes, alloc, p, value),
-        Link::Leaf(leaf) => {
+        Link::Leaf(_, _, leaf) => {
             let q = leaf.prefix;
             match place_of(&q, &p) {
                 Place::Here => {
@@ -43,7 +43,7 @@ pub(crate) fn insert<V: Drop, A: Allocator + Copy>(
                 Place::Apart => part(link, nodes, alloc, p, q, value),
             }
         }
-        Link::Fork(fork) => {
+        Link::Fork(_, _, fork) => {
             let q = fork.prefix;
             match place_of(&q, &p) {
                 Place::Here => fill(link, alloc, p, value),
@@ -53,7 +53,7 @@ pub(crate) fn insert<V: Drop, A: Allocator + Copy>(
                 Place::Apart => part(link, nodes, alloc, p, q, value),
             }
         }
-        Link::Full(full) => {
+        Link::Full(_, _, full) => {
             let q = full.prefix;
             match place_of(&q, &p) {
                 Place::Here => {
@@ -99,7 +99,7 @@ fn plant<V: Drop, A: Allocator + Copy>(
     let Some(leaf) = leaf_of(alloc, p, value) else {
         return false;
     };
-    *link = Link::Leaf(leaf);
+    *link = Link::of_leaf(leaf);
     *nodes += 1;
     true
 }
@@ -184,7 +184,7 @@ fn grow<V: Drop, A: Allocator + Copy>(
     let Some(mut full) = bare(alloc, q) else {
         return false;
     };
-    let Link::Leaf(mut leaf) = mem::replace(link, Link::Empty) else {
+    let Link::Leaf(_, _, mut leaf) = mem::replace(link, Link::Empty) else {
         unreachable!()
     };
     let Some(given) = value.take() else {
@@ -200,14 +200,14 @@ fn grow<V: Drop, A: Allocator + Copy>(
             value: given,
         },
     );
-    let (left, right) = on_side(&q, p.base(), Link::Leaf(leaf));
+    let (left, right) = on_side(&q, p.base(), Link::of_leaf(leaf));
     *full = FullNode {
         prefix: q,
         value: Some(above),
         left,
         right,
     };
-    *link = Link::Full(full);
+    *link = Link::of_full(full);
     *nodes += 1;
     true
 }
@@ -228,7 +228,7 @@ fn fill<V: Drop, A: Allocator + Copy>(
     let Some(mut full) = bare(alloc, p) else {
         return false;
     };
-    let Link::Fork(fork) = mem::replace(link, Link::Empty) else {
+    let Link::Fork(_, _, fork) = mem::replace(link, Link::Empty) else {
         unreachable!()
     };
     let ForkNode {
@@ -242,7 +242,7 @@ fn fill<V: Drop, A: Allocator + Copy>(
         left,
         right,
     };
-    *link = Link::Full(full);
+    *link = Link::of_full(full);
     true
 }
 
@@ -273,7 +273,7 @@ fn cover<V: Drop, A: Allocator + Copy>(
         left,
         right,
     };
-    *link = Link::Full(full);
+    *link = Link::of_full(full);
     *nodes += 1;
     true
 }
@@ -307,7 +307,7 @@ fn part<V: Drop, A: Allocator + Copy>(
     let Some(new) = leaf_of(alloc, p, value) else {
         return false;
     };
-    let new = Link::Leaf(new);
+    let new = Link::of_leaf(new);
     let other = mem::replace(link, Link::Empty);
     let (left, right) = if p.base() < q.base() {
         (new, other)
@@ -319,7 +319,7 @@ fn part<V: Drop, A: Allocator + Copy>(
         left,
         right,
     };
-    *link = Link::Fork(fork);
+    *link = Link::of_fork(fork);
     *nodes += 2;
     true
 }

@@ -42,14 +42,14 @@ impl<L: Descent> Descent for Deeper<L> {
     fn find<V, A: Allocator>(link: &mut Link<V, A>, p: Prefix) -> Option<&mut V> {
         match link {
             Link::Empty => None,
-            Link::Leaf(leaf) => {
+            Link::Leaf(_, _, leaf) => {
                 if leaf.prefix == p {
                     Some(&mut leaf.value)
                 } else {
                     None
                 }
             }
-            Link::Fork(fork) => {
+            Link::Fork(_, _, fork) => {
                 if p.len() <= fork.prefix.len() {
                     None
                 } else if (p.base() as u64) < middle(&fork.prefix) {
@@ -58,7 +58,7 @@ impl<L: Descent> Descent for Deeper<L> {
                     L::find(&mut fork.right, p)
                 }
             }
-            Link::Full(full) => {
+            Link::Full(_, _, full) => {
                 if p.len() <= full.prefix.len() {
                     if full.prefix == p {
                         full.value.as_mut()

@@ -1,9 +1,10 @@
 //! The nodes of a trie, of three kinds, and the links that hold them.
 
 ghost use Rattle.std.specs.Prelude.{◌≡◌, ◌<◌, ◌≤◌, ◌↔◌, false, IsTrue};
-ghost use Rattle.rt_cidr.specs.Prefix.{covers};
-ghost use Rattle.rt_trie.specs.Blocks.{middle, StandsAt};
-ghost use Rattle.rt_trie.specs.Links.{IsVacant};
+ghost use Rattle.rt_cidr.specs.declared.prefixes.Prefix.{Prefix};
+ghost use Rattle.rt_cidr.specs.Prefix.{covers, same_prefix};
+ghost use Rattle.rt_trie.specs.Blocks.{middle, IsKeyOf, StandsAt};
+ghost use Rattle.rt_trie.specs.Links.{leaf_link, fork_link, full_link, IsVacant};
 
 use rt_cidr::{Addr, Prefix};
 use std::alloc::Allocator;
@@ -35,14 +36,15 @@ pub(crate) struct FullNode<V, A: Allocator> {
     pub right: Link<V, A>,
 }
 
-/// What the trie, or a node on one of its sides, holds: nothing, or a node in a box of its kind's size.
+/// What the trie, or a node on one of its sides, holds: nothing, or a node in a box of its kind's size, and beside the box
+/// the length and the base of the node's prefix, so that a look-up that ends at a node need not wait for its memory.
 #[cycle(links)]
 #[derive(Drop)]
 pub(crate) enum Link<V, A: Allocator> {
     Empty,
-    Leaf(Box<LeafNode<V>, A>),
-    Fork(Box<ForkNode<V, A>, A>),
-    Full(Box<FullNode<V, A>, A>),
+    Leaf(u8, u32, Box<LeafNode<V>, A>),
+    Fork(u8, u32, Box<ForkNode<V, A>, A>),
+    Full(u8, u32, Box<FullNode<V, A>, A>),
 }
 
 /// Where a prefix stands as seen from another.
@@ -65,6 +67,27 @@ impl<V, A: Allocator> Link<V, A> {
     {
         matches!(self, Link::Empty)
     }
+
+    /// The link to a leaf.
+    pub fn of_leaf(leaf: Box<LeafNode<V>, A>) -> Link<V, A>
+        ensures { result ≡ leaf_link leaf }
+    {
+        Link::Leaf(leaf.prefix.len(), leaf.prefix.base(), leaf)
+    }
+
+    /// The link to a fork.
+    pub fn of_fork(fork: Box<ForkNode<V, A>, A>) -> Link<V, A>
+        ensures { result ≡ fork_link fork }
+    {
+        Link::Fork(fork.prefix.len(), fork.prefix.base(), fork)
+    }
+
+    /// The link to a full node.
+    pub fn of_full(full: Box<FullNode<V, A>, A>) -> Link<V, A>
+        ensures { result ≡ full_link full }
+    {
+        Link::Full(full.prefix.len(), full.prefix.base(), full)
+    }
 }
 
 /// The first address of the upper half of those that the prefix covers, or its base where it covers but one.
@@ -75,15 +98,34 @@ pub(crate) fn middle(q: &Prefix) -> u64
     q.base() as u64 + (1u64 << (32 - q.len())) / 2
 }
 
-/// Whether the address, which the prefix covers, lies in the upper half of those that it covers: whether the bit after the
-/// prefix's length is set. No bit is where the prefix covers but one address.
+/// Whether the prefix of that length and base covers the address.
 #[inline(always)]
-pub(crate) fn in_upper_half(q: &Prefix, address: u32) -> bool
-    requires { IsTrue (covers q.now (record { 0 = address })) }
-    ensures half { q.now.len < 32 → IsTrue result ↔ middle q.now ≤ address }
-    ensures none { q.now.len ≡ 32 → result ≡ false }
+pub(crate) fn covers(len: u8, base: u32, address: Addr) -> bool
+    requires { len ≤ 32 }
+    ensures { (q : Prefix) → IsKeyOf len base q → result ≡ covers q address }
 {
-    ((u64::from(address) << q.len()) >> 31) % 2 == 1
+    let past = 32 - len;
+    u64::from(address.0) >> past == u64::from(base) >> past
+}
+
+/// Whether that length and base are those of p.
+#[inline(always)]
+pub(crate) fn is_key_of(len: u8, base: u32, p: &Prefix) -> bool
+    ensures { (q : Prefix) → IsKeyOf len base q → result ≡ same_prefix q p.now }
+{
+    base == p.base() && len == p.len()
+}
+
+/// Whether an address that a prefix of that length covers lies in the upper half of those that it covers: whether the bit
+/// after the length is set. No bit is where the prefix covers but one address.
+#[inline(always)]
+pub(crate) fn in_upper_half(len: u8, address: u32) -> bool
+    requires { len ≤ 32 }
+    ensures half { (q : Prefix) → q.len ≡ len → IsTrue (covers q (record { 0 = address })) → q.len < 32
+        → IsTrue result ↔ middle q ≤ address }
+    ensures none { len ≡ 32 → result ≡ false }
+{
+    ((u64::from(address) << len) >> 31) % 2 == 1
 }
 
 /// Where p stands as seen from q.
@@ -91,7 +133,7 @@ pub(crate) fn place_of(q: &Prefix, p: &Prefix) -> Place
     ensures { StandsAt q.now p.now result }
 {
     if q.len() < p.len() && q.covers(Addr(p.base())) {
-        if in_upper_half(q, p.base()) {
+        if in_upper_half(q.len(), p.base()) {
             Place::Right
         } else {
             Place::Left

@@ -26,14 +26,14 @@ pub(crate) fn remove<V: Drop, A: Allocator + Drop>(
 {
     let gone = match link {
         Link::Empty => return None,
-        Link::Leaf(_) => {
+        Link::Leaf(..) => {
             return if is_leaf_of(link, &p) {
                 pluck(link, nodes)
             } else {
                 None
             };
         }
-        Link::Fork(fork) => {
+        Link::Fork(_, _, fork) => {
             let q = fork.prefix;
             match place_of(&q, &p) {
                 Place::Left => remove(&mut fork.left, nodes, p),
@@ -41,7 +41,7 @@ pub(crate) fn remove<V: Drop, A: Allocator + Drop>(
                 Place::Here | Place::Above | Place::Apart => return None,
             }
         }
-        Link::Full(full) => {
+        Link::Full(_, _, full) => {
             let q = full.prefix;
             match place_of(&q, &p) {
                 Place::Here => full.value.take(),
@@ -61,7 +61,7 @@ fn is_leaf_of<V, A: Allocator>(link: &Link<V, A>, p: &Prefix) -> bool
     ensures here { IsTrue result → IsLeafOf p.now link.now }
     ensures other { result ≡ false → get (pairs link.now) p.now ≡ None }
 {
-    let Link::Leaf(leaf) = link else {
+    let Link::Leaf(_, _, leaf) = link else {
         unreachable!()
     };
     leaf.prefix == *p
@@ -75,7 +75,7 @@ fn pluck<V: Drop, A: Allocator + Drop>(link: &mut Link<V, A>, nodes: &mut usize)
     ensures empty { link.new ≡ Empty }
     ensures counted { nodes.new + 1 ≡ nodes.old }
 {
-    let Link::Leaf(leaf) = mem::replace(link, Link::Empty) else {
+    let Link::Leaf(_, _, leaf) = mem::replace(link, Link::Empty) else {
         unreachable!()
     };
     let LeafNode { prefix: _, value } = Box::into_inner(leaf);
@@ -104,9 +104,9 @@ fn is_needed<V, A: Allocator>(link: &Link<V, A>) -> bool
     ensures lone { result ≡ false → IsLone link.now }
 {
     match link {
-        Link::Empty | Link::Leaf(_) => true,
-        Link::Fork(fork) => has_both(&fork.left, &fork.right),
-        Link::Full(full) => full.value.is_some() || has_both(&full.left, &full.right),
+        Link::Empty | Link::Leaf(..) => true,
+        Link::Fork(_, _, fork) => has_both(&fork.left, &fork.right),
+        Link::Full(_, _, full) => full.value.is_some() || has_both(&full.left, &full.right),
     }
 }
 
@@ -125,7 +125,7 @@ fn into_sides<V: Drop, A: Allocator + Drop>(link: Link<V, A>) -> (Link<V, A>, Li
     ensures { AreSidesOf link result.0 result.1 }
 {
     match link {
-        Link::Fork(fork) => {
+        Link::Fork(_, _, fork) => {
             let ForkNode {
                 prefix: _,
                 left,
@@ -133,7 +133,7 @@ fn into_sides<V: Drop, A: Allocator + Drop>(link: Link<V, A>) -> (Link<V, A>, Li
             } = Box::into_inner(fork);
             (left, right)
         }
-        Link::Full(full) => {
+        Link::Full(_, _, full) => {
             let FullNode {
                 prefix: _,
                 value: _,
@@ -142,6 +142,6 @@ fn into_sides<V: Drop, A: Allocator + Drop>(link: Link<V, A>) -> (Link<V, A>, Li
             } = Box::into_inner(full);
             (left, right)
         }
-        Link::Empty | Link::Leaf(_) => unreachable!(),
+        Link::Empty | Link::Leaf(..) => unreachable!(),
     }
 }

@@ -6,7 +6,7 @@ ghost use Rattle.rt_trie.specs.Map.{get, first, next_after, pair_copied, IsLonge
 ghost use Rattle.rt_trie.specs.Links.{pairs, count, IsLawfulBelow, IsLawfulTrie};
 ghost use Rattle.rt_trie.specs.LookUps.{or_else, last_cover, sought, lane_at, lane_sought, work_of, AreLawful};
 
-use crate::nodes::{Link, Place, in_upper_half, middle, place_of};
+use crate::nodes::{Link, Place, covers, in_upper_half, is_key_of, middle, place_of};
 use rt_cidr::{Addr, Prefix};
 use std::alloc::Allocator;
 
@@ -19,34 +19,33 @@ pub(crate) fn get<V, A: Allocator>(root: &Link<V, A>, p: Prefix) -> Option<&V>
     loop {
         match link {
             Link::Empty => return None,
-            Link::Leaf(leaf) => {
-                let leaf = leaf.as_ref();
-                return if leaf.prefix == p {
-                    Some(&leaf.value)
+            Link::Leaf(len, base, leaf) => {
+                return if is_key_of(*len, *base, &p) {
+                    Some(&leaf.as_ref().value)
                 } else {
                     None
                 };
             }
-            Link::Fork(fork) => {
-                let fork = fork.as_ref();
-                if fork.prefix.len() >= p.len() {
+            Link::Fork(len, _, fork) => {
+                if *len >= p.len() {
                     return None;
                 }
+                let fork = fork.as_ref();
                 link = if (p.base() as u64) < middle(&fork.prefix) {
                     &fork.left
                 } else {
                     &fork.right
                 };
             }
-            Link::Full(full) => {
-                let full = full.as_ref();
-                if full.prefix.len() >= p.len() {
-                    return if full.prefix == p {
-                        full.value.as_ref()
+            Link::Full(len, base, full) => {
+                if *len >= p.len() {
+                    return if is_key_of(*len, *base, &p) {
+                        full.as_ref().value.as_ref()
                     } else {
                         None
                     };
                 }
+                let full = full.as_ref();
                 link = if (p.base() as u64) < middle(&full.prefix) {
                     &full.left
                 } else {
@@ -88,33 +87,33 @@ pub(crate) fn step<'a, V, A: Allocator>(
 {
     match link {
         Link::Empty => None,
-        Link::Leaf(leaf) => {
-            let leaf = leaf.as_ref();
-            if leaf.prefix.covers(address) {
+        Link::Leaf(len, base, leaf) => {
+            if covers(*len, *base, address) {
+                let leaf = leaf.as_ref();
                 *best = Some((leaf.prefix, &leaf.value));
             }
             None
         }
-        Link::Fork(fork) => {
-            let fork = fork.as_ref();
-            if !fork.prefix.covers(address) {
+        Link::Fork(len, base, fork) => {
+            if !covers(*len, *base, address) {
                 return None;
             }
-            if in_upper_half(&fork.prefix, address.0) {
+            let fork = fork.as_ref();
+            if in_upper_half(*len, address.0) {
                 Some(&fork.right)
             } else {
                 Some(&fork.left)
             }
         }
-        Link::Full(full) => {
-            let full = full.as_ref();
-            if !full.prefix.covers(address) {
+        Link::Full(len, base, full) => {
+            if !covers(*len, *base, address) {
                 return None;
             }
+            let full = full.as_ref();
             if let Some(value) = &full.value {
                 *best = Some((full.prefix, value));
             }
-            if in_upper_half(&full.prefix, address.0) {
+            if in_upper_half(*len, address.0) {
                 Some(&full.right)
             } else {
                 Some(&full.left)
@@ -209,9 +208,9 @@ pub(crate) fn first<V, A: Allocator>(root: &Link<V, A>) -> Option<Prefix>
     loop {
         match link {
             Link::Empty => return None,
-            Link::Leaf(leaf) => return Some(leaf.as_ref().prefix),
-            Link::Fork(fork) => link = &fork.as_ref().left,
-            Link::Full(full) => {
+            Link::Leaf(_, _, leaf) => return Some(leaf.as_ref().prefix),
+            Link::Fork(_, _, fork) => link = &fork.as_ref().left,
+            Link::Full(_, _, full) => {
                 let full = full.as_ref();
                 if full.value.is_some() {
                     return Some(full.prefix);
@@ -229,7 +228,7 @@ pub(crate) fn after<V, A: Allocator>(link: &Link<V, A>, p: Prefix) -> Option<Pre
 {
     match link {
         Link::Empty => None,
-        Link::Leaf(leaf) => {
+        Link::Leaf(_, _, leaf) => {
             let leaf = leaf.as_ref();
             if p < leaf.prefix {
                 Some(leaf.prefix)
@@ -237,7 +236,7 @@ pub(crate) fn after<V, A: Allocator>(link: &Link<V, A>, p: Prefix) -> Option<Pre
                 None
             }
         }
-        Link::Fork(fork) => {
+        Link::Fork(_, _, fork) => {
             let fork = fork.as_ref();
             match place_of(&fork.prefix, &p) {
                 Place::Here | Place::Left => match after(&fork.left, p) {
@@ -248,7 +247,7 @@ pub(crate) fn after<V, A: Allocator>(link: &Link<V, A>, p: Prefix) -> Option<Pre
                 Place::Above | Place::Apart => if p < fork.prefix { first(link) } else { None },
             }
         }
-        Link::Full(full) => {
+        Link::Full(_, _, full) => {
             let full = full.as_ref();
             match place_of(&full.prefix, &p) {
                 Place::Here | Place::Left => match after(&full.left, p) {

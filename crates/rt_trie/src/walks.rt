@@ -58,16 +58,16 @@ impl<'a, V, A: Allocator> Iterator for Walk<'a, V, A> {
             let at = self.len;
             match link_at(&self.aside[..], at) {
                 Link::Empty => {}
-                Link::Leaf(leaf) => {
+                Link::Leaf(_, _, leaf) => {
                     let leaf = leaf.as_ref();
                     return Some((leaf.prefix, &leaf.value));
                 }
-                Link::Fork(fork) => {
+                Link::Fork(_, _, fork) => {
                     let fork = fork.as_ref();
                     put_sides(&mut self.aside[..], at, &fork.right, &fork.left);
                     self.len = at + 2;
                 }
-                Link::Full(full) => {
+                Link::Full(_, _, full) => {
                     let full = full.as_ref();
                     put_sides(&mut self.aside[..], at, &full.right, &full.left);
                     self.len = at + 2;

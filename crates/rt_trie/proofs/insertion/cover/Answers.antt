@@ -9,11 +9,11 @@ pub returns : goal.returns
 returns g c =
     let s = c.on_side-left.result in
     let e = c.replace.ensures.value in
-    cover_insert c.args.link.now c.args.nodes.now _ c.args.q c.args.p c.args.value.now c.take.new.self c.take.result
+    rw c.of_full.ensures (cover_insert c.args.link.now c.args.nodes.now _ c.args.q c.args.p c.args.value.now c.take.new.self c.take.result
     c.requires.lawful c.requires.root c.requires.place c.take.ensures.value c.take.ensures.after refl s
     (λ (h : c.args.q.base < middle c.args.p). c.on_side-left.ensures.left (omega (arith, c.base.ensures, h)) ∙ ap (λ (x : Link _ _). (x, Empty)) e)
     (λ (h : middle c.args.p ≤ c.args.q.base). c.on_side-left.ensures.right (omega (arith, c.base.ensures, h)) ∙ ap (λ (x : Link _ _). (Empty, x)) e)
-    (with_value c.in-Some.full (record { prefix = c.args.p; value = c.take.result; left = s.0; right = s.1 })) refl refl refl refl
+    (with_value c.in-Some.full (record { prefix = c.args.p; value = c.take.result; left = s.0; right = s.1 })) refl refl refl refl)
 
 pub returns-in_default : goal.returns-in_default
 returns-in_default g c =

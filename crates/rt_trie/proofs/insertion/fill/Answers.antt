@@ -10,9 +10,9 @@ returns g c = λ n.
     let old = c.args.link.now in
     let p = c.args.p in
     let is = sym c.in-Fork.ensures.value in
-    fill_insert c.in-Fork.fork m old n p c.args.value.now c.take.new.self c.take.result is c.into_inner-left.ensures c.requires.lawful
+    rw c.of_full.ensures (fill_insert c.in-Fork.fork m old n p c.args.value.now c.take.new.self c.take.result is c.into_inner-left.ensures c.requires.lawful
     (fork_prefix c.in-Fork.fork m old p is c.into_inner-left.ensures c.requires.fork) c.take.ensures.value c.take.ensures.after
-    (with_value c.in-Some.full (record { prefix = p; value = c.take.result; left = m.left; right = m.right })) refl refl refl refl
+    (with_value c.in-Some.full (record { prefix = p; value = c.take.result; left = m.left; right = m.right })) refl refl refl refl)
 
 pub returns-in_default : goal.returns-in_default
 returns-in_default g c = λ n.

@@ -10,20 +10,20 @@ returns g c =
     let r = c.requires in
     let leaf = c.in-Some-leaf_of in
     let fork = with_value c.in-Some.fork (record { prefix = c.common-prefix.result; left = c.if-base.left.0; right = c.if-base.left.1 }) in
-    part_insert c.args.link.now c.args.nodes.now _ c.args.q c.args.p c.common-prefix.result c.args.value.now c.leaf_of.new.value leaf.new
+    rw c.of_fork.ensures (part_insert c.args.link.now c.args.nodes.now _ c.args.q c.args.p c.common-prefix.result c.args.value.now c.leaf_of.new.value leaf.new
     r.lawful r.root r.place leaf.ensures.made.0 leaf.ensures.made.1 leaf.ensures.made.2 refl fork refl
     (elim c.if-base.branch [
       | then-base w ↦ inl (
         c.common-prefix.ensures.0 (omega arith),
-        ap (λ (x : Link _ _ × Link _ _). x.0) w.left-is,
+        ap (λ (x : Link _ _ × Link _ _). x.0) w.left-is ∙ c.of_leaf-new.ensures,
         ap (λ (x : Link _ _ × Link _ _). x.1) w.left-is ∙ c.replace-other.ensures.value,
       )
       | else-base w ↦ inr (
         c.common-prefix.ensures.1 (omega arith),
         ap (λ (x : Link _ _ × Link _ _). x.0) w.left-is ∙ c.replace-other.ensures.value,
-        ap (λ (x : Link _ _ × Link _ _). x.1) w.left-is,
+        ap (λ (x : Link _ _ × Link _ _). x.1) w.left-is ∙ c.of_leaf-new.ensures,
       )
-    ])
+    ]))
 
 pub returns-in_default : goal.returns-in_default
 returns-in_default g c =

@@ -8,15 +8,17 @@ use Rattle.rt_trie.proofs.nodes.place_of.Goals as goal
 use Rattle.rt_trie.proofs.nodes.place_of.Goals.{else-len-via-then-len+else-covers, else-len-via-else-len}
 
 pub in_upper_half-requires : goal.in_upper_half-requires
-in_upper_half-requires c =
-    subst (λ a. covers c.args.q.now (record { 0 = a }) ≡ true) (c.base.ensures ∙ sym c.base-then-covers.ensures) (sym c.if-covers.ensures)
+in_upper_half-requires c = let s = c.args.q.now.is_prefix.short in omega arith
 
 pub returns-then-in_upper_half : goal.returns-then-in_upper_half
 returns-then-in_upper_half c =
     let q = c.args.q.now in
     let p = c.args.p.now in
     let r = range_of_covers q (record { 0 = c.base.result }) (sym c.if-covers.ensures) in
-    let m = in_upper q c.in_upper_half.result c.base-then-covers.result c.in_upper_half.ensures.half c.in_upper_half.ensures.none c.if-in_upper_half.true in
+    let e = sym c.len-then-covers.ensures in
+    let covered = subst (λ a. covers q (record { 0 = a }) ≡ true) (c.base.ensures ∙ sym c.base-then-covers.ensures) (sym c.if-covers.ensures) in
+    let m = in_upper q c.in_upper_half.result c.base-then-covers.result (c.in_upper_half.ensures.half q e covered)
+    (λ t. c.in_upper_half.ensures.none (sym e ∙ t)) c.if-in_upper_half.true in
     record { long = omega arith; from = omega arith; to = upper_half q p (omega arith) (omega arith) }
 
 pub returns-else-in_upper_half : goal.returns-else-in_upper_half
@@ -26,9 +28,11 @@ returns-else-in_upper_half c =
     let t = p.is_prefix.short in
     let r = range_of_covers q (record { 0 = c.base.result }) (sym c.if-covers.ensures) in
     let lt : q.len < 32 = omega arith in
+    let e = sym c.len-then-covers.ensures in
+    let covered = subst (λ a. covers q (record { 0 = a }) ≡ true) (c.base.ensures ∙ sym c.base-then-covers.ensures) (sym c.if-covers.ensures) in
     let low : p.base < middle q = elim (cases_lt p.base (middle q)) [
       | inl l ↦ l
-      | inr ge ↦ absurd (not_upper q c.in_upper_half.result c.base-then-covers.result c.in_upper_half.ensures.half c.if-in_upper_half.false lt (omega arith))
+      | inr ge ↦ absurd (not_upper q c.in_upper_half.result c.base-then-covers.result (c.in_upper_half.ensures.half q e covered) c.if-in_upper_half.false lt (omega arith))
     ] in
     record { long = omega arith; from = omega arith; to = lower_half q p (omega arith) low }
 

@@ -12,7 +12,7 @@ use Rattle.rt_trie.proofs.removal.+remove.Goals as goal
 use Rattle.rt_trie.proofs.removal.+remove.Goals.{in-Fork+in-Left, in-Fork+in-Right, in-Full+in-Here-place_of, in-Full+in-Left-place_of, in-Full+in-Right-place_of}
 
 pub is_leaf_of-requires : goal.is_leaf_of-requires
-is_leaf_of-requires g t c = rw c.in-Leaf.is (c.in-Leaf.field-0.value.prefix, refl)
+is_leaf_of-requires g t c = rw c.in-Leaf.is (c.in-Leaf.field-2.value.prefix, refl)
 
 pub pluck-requires-clause-leaf : goal.pluck-requires-clause-leaf
 pluck-requires-clause-leaf g t c = (c.args.p, c.is_leaf_of.ensures.here c.if-is_leaf_of.true)

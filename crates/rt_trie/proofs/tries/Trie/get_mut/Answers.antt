@@ -1,11 +1,7 @@
-use Rattle.std.proofs.Common.{sym, ap, ◌∙◌}
-use Rattle.std.specs.Option.{option_copied_mut}
+use Rattle.std.proofs.Common.{refl, sym, ap, ◌∙◌}
 use Rattle.rt_trie.specs.Contents.{Contents}
-use Rattle.rt_trie.specs.Map.{get, put}
-use Rattle.rt_trie.specs.TrieLends.{with_value}
-use Rattle.rt_trie.specs.Links.{pairs, count}
-use Rattle.rt_trie.specs.Descent.{written}
-use Rattle.rt_trie.proofs.DescentLemmas.{found_is, written_is, written_kept, same_readings}
+use Rattle.rt_trie.specs.Map.{get}
+use Rattle.rt_trie.proofs.DescentLemmas.{found_is, written_kept, lent}
 use Rattle.rt_trie.proofs.tries.Trie.get_mut.Goals as goal
 
 pub invariant_of-self-lent : goal.invariant_of-self-lent
@@ -20,13 +16,10 @@ invariant_of-self-lent g c = λ r. (
 pub returns : goal.returns
 returns g c =
     let link = c.self.inside.root in
-    let p = c.args.p in
-    let h = c.self.invariant.lawful in
-    let found = c.find.follows ∙ found_is link p h in (
-      same_readings c.find.result _ _ _ _ c.self.view_is (λ r e w.
-          ap (λ m. record { pairs = m; nodes = count (written 33 link p w) })
-          (written_is link p w r.now h (sym (sym (ap option_copied_mut e) ∙ found)))
-          ∙ ap (λ n. record { pairs = put (pairs link) p w; nodes = n }) (written_kept 33 link p w h).count_is
-          ∙ ap (λ (t : Contents _). with_value t p w) c.self.view_is),
-      record { writes_back = tt; value = found ∙ ap (λ (t : Contents _). get t.pairs p) c.self.view_is },
+    let h = c.self.invariant.lawful in (
+      lent _ link c.args.p c.find.result _ refl h c.self.view_is c.find.follows,
+      record {
+        writes_back = tt;
+        value = c.find.follows ∙ found_is _ link c.args.p refl h ∙ ap (λ (t : Contents _). get t.pairs c.args.p) c.self.view_is;
+      },
     )
