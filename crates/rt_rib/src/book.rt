@@ -60,6 +60,13 @@ impl<A: Allocator + Copy> Book<A> {
         Ok(reply)
     }
 
+    /// Reads what the first [`AHEAD`](crate::AHEAD) of these commands will go down to, all at once, so that `apply` finds it in cache. In a
+    /// table that doesn't lie in cache this makes a batch faster. It answers nothing and changes nothing, and takes no
+    /// memory.
+    pub fn read_ahead(&self, cmds: &[Cmd]) {
+        self.table.read_ahead(cmds);
+    }
+
     /// The routes in dump order, by base, then length, then preference, then feed, in memory of the allocator. M1:
     /// `Refused` where that memory was refused.
     pub fn routes(&self, alloc: A) -> Result<Vec<Route, A>, Refused>

@@ -15,11 +15,13 @@
 //! [`Book::routes`] gives them in dump order. [`laws`] says what holds of every set of routes and of every journal.
 //!
 //! The routes lie in a trie: under each prefix what is offered for it, the best offer first (`src/map.rt`, `src/offers.rt`). So
-//! a look-up goes down once and reads one offer, and only an `Add` grows anything but the journal.
+//! a look-up goes down once and reads one offer, and only an `Add` grows anything but the journal. Who has several commands at
+//! hand lets the trie wait for the memory of all of them at once by [`Book::read_ahead`] (`src/ahead.rt`).
 //!
 //! Only tested, since no clause says it: that a command succeeds where there is memory, and how many nodes the trie has.
 #![tactic(auto)]
 
+mod ahead;
 mod book;
 mod commands;
 pub mod laws;
@@ -32,6 +34,7 @@ mod table;
 #[cfg(test)]
 mod tests;
 
+pub use ahead::AHEAD;
 pub use book::Book;
 pub use commands::{Cmd, Entry, Reply};
 pub use limits::{feed_ok, limit_ok};

@@ -6,6 +6,7 @@ ghost use Rattle.rt_rib.specs.Book.{IsLimit, IsFeed};
 ghost use Rattle.rt_rib.specs.Maps.{IsFirst, IsNext};
 ghost use Rattle.rt_rib.specs.Kept.{Serves};
 
+use crate::ahead;
 use crate::commands::{Cmd, Reply};
 use crate::limits::FEEDS;
 use crate::map::{self, Map};
@@ -76,6 +77,11 @@ impl<A: Allocator + Copy> Table<A> {
     {
         let count = self.len();
         map::routes(&self.map, alloc, count as usize)
+    }
+
+    /// Reads what the first few of the commands will go down to.
+    pub(crate) fn read_ahead(&self, cmds: &[Cmd]) {
+        ahead::read_ahead(&self.map, cmds);
     }
 
     /// How many nodes the map takes.

@@ -8,7 +8,7 @@ ghost use Rattle.rt_shared.specs.Keeping.{grows_same, adds_same, grows_by_other}
 use crate::lent::Lent;
 use crate::outcome::Outcome;
 use rt_rib::laws::lawful_by_entry;
-use rt_rib::{Book, Cmd, Refused, Reply};
+use rt_rib::{AHEAD, Book, Cmd, Refused, Reply};
 use std::alloc::Global;
 use ya_lock::Kept;
 
@@ -68,7 +68,10 @@ impl Lent {
         ensures same { IsSameBut self.old self.new }
         ensures served { AreServed feed cmds.now self.old.book.journal out.old.items self.new.book.journal out.new.items }
     {
-        for cmd in cmds {
+        for (index, cmd) in cmds.iter().enumerate() {
+            if index % AHEAD == 0 {
+                self.book.read_ahead(&cmds[index..]);
+            }
             let outcome = self.serve(feed, *cmd);
             out.push_reserved(outcome);
         }

@@ -3,9 +3,9 @@ use Rattle.rt_shared.specs.Visits.{AreServed}
 use Rattle.rt_shared.specs.Lent.{IsSameBut}
 use Rattle.rt_shared.proofs.lent.Lent.serve_all.Given as goal
 
-abbrev pub invariant-loop-cmd : goal.invariant-loop-cmd
-invariant-loop-cmd l = record {
+abbrev pub invariant-loop-index : goal.invariant-loop-index
+invariant-loop-index l = record {
   same : IsSameBut l.initial.self l.self;
-  served : AreServed l.feed (take l.cmd-index l.cmds) l.initial.self.book.journal l.initial.out.items l.self.book.journal l.out.items;
-  room : vec_len l.out + length l.cmds ≤ vec_capacity l.out + l.cmd-index;
+  served : AreServed l.feed (take l.index l.cmds) l.initial.self.book.journal l.initial.out.items l.self.book.journal l.out.items;
+  room : vec_len l.out + length l.cmds ≤ vec_capacity l.out + l.index;
 }
