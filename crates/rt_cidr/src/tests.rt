@@ -2,6 +2,7 @@
 use super::*;
 use std::alloc::Global;
 use std::io::{self, ErrorKind, Write};
+use std::process::Abort;
 use std::test::Fail;
 
 /// Takes one byte a call. Once it holds `room` bytes it answers one fault, or else takes nothing, and then goes on.
@@ -220,9 +221,16 @@ fn puts_all_one_byte_a_call(rt: HostRuntime) -> Result<(), Fail> {
     Ok(())
 }
 
+fn assert_fault(rt: &impl Abort, written: io::Result<()>, kind: ErrorKind) {
+    match written {
+        Ok(()) => panic!(rt; "no fault"),
+        Err(fault) => assert!(rt; fault.kind() == kind),
+    }
+}
+
 // A fault is handed on at once, whatever its kind, and nothing is tried again.
 #[test]
-fn hands_on_the_writers_fault(rt: HostRuntime) -> Result<(), Fail> {
+fn hands_on_the_writers_fault(rt: HostRuntime) {
     for kind in [
         ErrorKind::BrokenPipe,
         ErrorKind::Interrupted,
@@ -231,14 +239,41 @@ fn hands_on_the_writers_fault(rt: HostRuntime) -> Result<(), Fail> {
     ] {
         for room in [0, 3] {
             let mut writer = Narrow::new(rt.alloc(), room, Some(kind));
-            let Err(fault) = put(&mut writer, b"10.0.0.0/8") else {
-                return Err(Fail::from("no fault"));
-            };
-            assert!(rt; fault.kind() == kind);
+            assert_fault(&rt, put(&mut writer, b"10.0.0.0/8"), kind);
             assert_eq!(rt; writer.taken.len(), room);
         }
     }
-    Ok(())
+}
+
+/// A writer that fails at its fourth byte.
+fn failing(alloc: Global, kind: ErrorKind) -> Narrow {
+    Narrow::new(alloc, 3, Some(kind))
+}
+
+fn write_values(rt: &impl Abort, alloc: Global, kind: ErrorKind) {
+    let prefix = Prefix::new(0, 0).expect(rt, "a prefix");
+    assert_fault(rt, Addr(1).write_to(&mut failing(alloc, kind)), kind);
+    assert_fault(rt, prefix.write_to(&mut failing(alloc, kind)), kind);
+}
+
+fn flush_held(rt: &impl Abort, alloc: Global, buffer: &mut OutputBuffer, kind: ErrorKind) {
+    let mut writer = failing(alloc, kind);
+    buffer.put(&mut writer, b"held").expect(rt, "room");
+    assert_fault(rt, buffer.flush(&mut writer), kind);
+}
+
+// Where a text has no room, the fault is that of writing what was held, or that of writing the text.
+fn overfill(
+    rt: &impl Abort,
+    alloc: Global,
+    buffer: &mut OutputBuffer,
+    held: &[u8],
+    long: &[u8],
+    kind: ErrorKind,
+) {
+    let mut writer = failing(alloc, kind);
+    buffer.put(&mut writer, held).expect(rt, "room");
+    assert_fault(rt, buffer.put(&mut writer, long), kind);
 }
 
 // A `write_to`, or a call of a buffer, that answers another fault than the writer's is seen here.
@@ -246,46 +281,20 @@ fn hands_on_the_writers_fault(rt: HostRuntime) -> Result<(), Fail> {
 fn hands_on_the_fault_of_what_it_writes(rt: HostRuntime) -> Result<(), Fail> {
     let long = Vec::from_elem(rt.alloc(), b'x', OUTPUT_BYTES + 1)?;
     for kind in [ErrorKind::BrokenPipe, ErrorKind::Interrupted] {
-        let mut writer = Narrow::new(rt.alloc(), 3, Some(kind));
-        let Err(fault) = Addr(1).write_to(&mut writer) else {
-            return Err(Fail::from("no fault of an address"));
-        };
-        assert!(rt; fault.kind() == kind);
-
-        let mut writer = Narrow::new(rt.alloc(), 3, Some(kind));
-        let Err(fault) = Prefix::new(0, 0)?.write_to(&mut writer) else {
-            return Err(Fail::from("no fault of a prefix"));
-        };
-        assert!(rt; fault.kind() == kind);
-
+        write_values(&rt, rt.alloc(), kind);
         let mut buffer = OutputBuffer::new(rt.alloc())?;
-        let mut writer = Narrow::new(rt.alloc(), 3, Some(kind));
-        buffer.put(&mut writer, b"held")?;
-        let Err(fault) = buffer.flush(&mut writer) else {
-            return Err(Fail::from("no fault of a flush"));
-        };
-        assert!(rt; fault.kind() == kind);
-
-        // Where the text has no room, the fault is that of writing what was held, or that of writing the text.
-        for held in [b"held".as_slice(), b"".as_slice()] {
-            let mut writer = Narrow::new(rt.alloc(), 3, Some(kind));
-            buffer.put(&mut writer, held)?;
-            let Err(fault) = buffer.put(&mut writer, long.as_slice()) else {
-                return Err(Fail::from("no fault of a buffer"));
-            };
-            assert!(rt; fault.kind() == kind);
-        }
+        flush_held(&rt, rt.alloc(), &mut buffer, kind);
+        overfill(&rt, rt.alloc(), &mut buffer, b"held", &long, kind);
+        overfill(&rt, rt.alloc(), &mut buffer, b"", &long, kind);
     }
     Ok(())
 }
 
 #[test]
 fn a_write_of_nothing_is_write_zero(rt: HostRuntime) -> Result<(), Fail> {
+    let prefix = Prefix::new(0, 0)?;
     let mut writer = Narrow::new(rt.alloc(), 3, None);
-    let Err(fault) = Prefix::new(0, 0)?.write_to(&mut writer) else {
-        return Err(Fail::from("no fault"));
-    };
-    assert!(rt; fault.kind() == ErrorKind::WriteZero);
+    assert_fault(&rt, prefix.write_to(&mut writer), ErrorKind::WriteZero);
     assert_eq!(rt; writer.taken.as_slice(), b"0.0".as_slice());
     Ok(())
 }
@@ -295,6 +304,15 @@ fn a_write_of_nothing_is_write_zero(rt: HostRuntime) -> Result<(), Fail> {
 struct Unflushed {
     taken: Vec<u8>,
     calls: usize,
+}
+
+impl Unflushed {
+    fn new(alloc: Global) -> Unflushed {
+        Unflushed {
+            taken: Vec::new(alloc),
+            calls: 0,
+        }
+    }
 }
 
 impl Write for Unflushed {
@@ -312,10 +330,7 @@ impl Write for Unflushed {
 // A `put` that flushes the writer is seen here.
 #[test]
 fn never_flushes_the_writer(rt: HostRuntime) -> Result<(), Fail> {
-    let mut writer = Unflushed {
-        taken: Vec::new(rt.alloc()),
-        calls: 0,
-    };
+    let mut writer = Unflushed::new(rt.alloc());
     put(&mut writer, b"10.0.0.0/8")?;
     let mut buffer = OutputBuffer::new(rt.alloc())?;
     buffer.put(&mut writer, b" via 192.0.2.1")?;
@@ -327,20 +342,27 @@ fn never_flushes_the_writer(rt: HostRuntime) -> Result<(), Fail> {
     Ok(())
 }
 
+/// Puts 20,000 pieces into the buffer, and behind one another into the list.
+fn put_pieces(
+    rt: &impl Abort,
+    buffer: &mut OutputBuffer,
+    writer: &mut Unflushed,
+    wanted: &mut Vec<u8>,
+) {
+    for i in 0u32..20_000 {
+        let piece = [b'a' + (i % 26) as u8; 10];
+        buffer.put(writer, &piece).expect(rt, "no fault");
+        wanted.extend_from_slice(&piece).expect(rt, "memory");
+    }
+}
+
 // A buffer that hands on each piece by itself, or is never full, is seen here.
 #[test]
 fn gathers_pieces_into_few_large_writes(rt: HostRuntime) -> Result<(), Fail> {
-    let mut writer = Unflushed {
-        taken: Vec::new(rt.alloc()),
-        calls: 0,
-    };
+    let mut writer = Unflushed::new(rt.alloc());
     let mut buffer = OutputBuffer::new(rt.alloc())?;
     let mut wanted = Vec::new(rt.alloc());
-    for i in 0u32..20_000 {
-        let piece = [b'a' + (i % 26) as u8; 10];
-        buffer.put(&mut writer, &piece)?;
-        wanted.extend_from_slice(&piece)?;
-    }
+    put_pieces(&rt, &mut buffer, &mut writer, &mut wanted);
     assert_eq!(rt; writer.calls, 3);
     buffer.flush(&mut writer)?;
     assert_eq!(rt; writer.calls, 4);
