@@ -7,7 +7,8 @@ use crate::laws::passes as passes_kept;
 use crate::{FeedPass, Outcome, Refused, SharedRib};
 use rt_cidr::{Addr, Prefix, TextFault};
 use rt_rib::{Book, Cmd, Entry, Hop, Reply, Route, feed_ok};
-use std::alloc::{AllocError, Global};
+use std::alloc::Global;
+use std::process::Abort;
 use std::sync::Wait;
 use std::test::Fail;
 use std::thread;
@@ -77,17 +78,25 @@ fn settle_both<R: Wait>(
     Ok(table.settle(rt, passes))
 }
 
+/// Asks a command of the pass's feed.
+fn ask<R: Wait + Abort>(rt: &R, table: &SharedRib<1>, pass: &mut FeedPass, cmd: Cmd, reply: Reply)
+    requires { pass.old.table ≡ table.now }
+    ensures { (pass.new.table ≡ pass.old.table) × (pass.new.feed ≡ pass.old.feed) }
+{
+    assert_eq!(rt; table.apply(rt, pass, cmd), Ok(reply));
+}
+
 #[test]
 fn a_feed_finds_what_another_added(rt: HostRuntime) -> Result<(), Fail> {
-    let (table, mut first, mut second) = pair(rt.alloc(), 5)?;
-    assert_eq!(rt; (first.feed(), second.feed()), (1, 2));
     let cmd = add(ten()?, 1);
-    assert_eq!(rt; table.apply(&rt, &mut first, cmd)?, Reply::Added);
     let look_up = Cmd::Lookup {
         addr: Addr(0x0a00_0001),
     };
     let found = Reply::Found(route(ten()?, 1, 1));
-    assert_eq!(rt; table.apply(&rt, &mut second, look_up)?, found);
+    let (table, mut first, mut second) = pair(rt.alloc(), 5)?;
+    assert_eq!(rt; (first.feed(), second.feed()), (1, 2));
+    ask(&rt, &table, &mut first, cmd, Reply::Added);
+    ask(&rt, &table, &mut second, look_up, found);
     let book = settle_both(&rt, rt.alloc(), table, first, second)?;
     let entries = [
         Entry {
@@ -146,29 +155,48 @@ fn by_two<R: Threads + Wait + Sync>(rt: &R, alloc: Global) -> Result<(Book<Globa
     Ok((book, added))
 }
 
+/// The entries of the feed are the 500 routes that it added, in order.
+fn assert_added(rt: &impl Abort, book: &Book<Global>, feed: u32) {
+    let mut j = 0;
+    for entry in book.journal() {
+        if entry.feed == feed {
+            let prefix = prefix_of(feed, j).expect(rt, "a prefix");
+            assert_eq!(rt; entry.cmd, add(prefix, j));
+            j = j.wrapping_add(1);
+        }
+    }
+    assert_eq!(rt; j, 500);
+}
+
 #[test]
 fn two_threads_add_a_thousand_routes(rt: HostRuntime) -> Result<(), Fail> {
     let (book, added) = by_two(&rt, rt.alloc())?;
     assert_eq!(rt; added, 1_000);
     assert_eq!(rt; book.journal().len(), 1_000);
-    for feed in [1u32, 2] {
-        let mut j = 0;
-        for entry in book.journal().iter().filter(|e| e.feed == feed) {
-            assert_eq!(rt; entry.cmd, add(prefix_of(feed, j)?, j));
-            j = j.wrapping_add(1);
-        }
-        assert_eq!(rt; j, 500);
-    }
+    assert_added(&rt, &book, 1);
+    assert_added(&rt, &book, 2);
     assert_eq!(rt; book.routes(rt.alloc())?.len(), 1_000);
     assert!(rt; is_explained(rt.alloc(), 500, &book)?);
     Ok(())
 }
 
-/// Whether the entries of each feed are so many.
-fn have_all(book: &Book<Global>, feeds: u32, each: usize) -> bool {
-    (1..feeds.saturating_add(1)).all(|feed| {
-        book.journal().iter().filter(|e| e.feed == feed).count() == each
-    })
+/// How many entries of the feed the journal has.
+fn entries_of(book: &Book<Global>, feed: u32) -> usize {
+    let mut count = 0usize;
+    for entry in book.journal() {
+        if entry.feed == feed {
+            count = count.wrapping_add(1);
+        }
+    }
+    count
+}
+
+/// The entries of each feed are so many, and one table alone explains them all.
+fn assert_explained(rt: &impl Abort, alloc: Global, book: &Book<Global>, feeds: u32, each: usize) {
+    for feed in 0..feeds {
+        assert_eq!(rt; entries_of(book, feed.wrapping_add(1)), each);
+    }
+    assert_eq!(rt; is_explained(alloc, 4, book), Ok(true));
 }
 
 /// The j-th command of a feed: each kind in turn, over a few prefixes.
@@ -256,34 +284,61 @@ fn by_all<R: Threads + Wait + Sync, const L: u32>(
 fn a_thread_for_each_place(rt: HostRuntime) -> Result<(), Fail> {
     for batch in [1usize, 3, 7] {
         let eight = by_all::<_, 3>(&rt, rt.alloc(), batch)?;
-        assert!(rt; have_all(&eight, 8, 60));
-        assert!(rt; is_explained(rt.alloc(), 4, &eight)?);
+        assert_explained(&rt, rt.alloc(), &eight, 8, 60);
         let all = by_all::<_, 6>(&rt, rt.alloc(), batch)?;
-        assert!(rt; have_all(&all, 64, 60));
-        assert!(rt; is_explained(rt.alloc(), 4, &all)?);
+        assert_explained(&rt, rt.alloc(), &all, 64, 60);
     }
     Ok(())
 }
 
+/// Asks the commands at once, behind what was answered before.
+fn ask_batch<R: Wait + Abort>(
+    rt: &R,
+    table: &SharedRib<1>,
+    pass: &mut FeedPass,
+    cmds: &[Cmd],
+    out: &mut Vec<Outcome>,
+    outcomes: &[Outcome],
+)
+    requires { pass.old.table ≡ table.now }
+    ensures { (pass.new.table ≡ pass.old.table) × (pass.new.feed ≡ pass.old.feed) }
+{
+    assert_eq!(rt; table.apply_batch(rt, pass, cmds, out), Ok(()));
+    assert_eq!(rt; out.as_slice(), outcomes);
+}
+
+fn assert_routes<R: Wait + Abort>(
+    rt: &R,
+    alloc: Global,
+    table: &SharedRib<1>,
+    pass: &mut FeedPass,
+    routes: &[Route],
+)
+    requires { pass.old.table ≡ table.now }
+    ensures { (pass.new.table ≡ pass.old.table) × (pass.new.feed ≡ pass.old.feed) }
+{
+    let left = table.routes(rt, alloc, pass).expect(rt, "memory");
+    assert_eq!(rt; left.as_slice(), routes);
+}
+
 #[test]
 fn a_batch_has_an_outcome_for_each_command(rt: HostRuntime) -> Result<(), Fail> {
-    let (table, mut first, second) = pair(rt.alloc(), 5)?;
     let cmd = add(ten()?, 1);
+    let found = route(ten()?, 1, 1);
     let look_up = Cmd::Lookup {
         addr: Addr(0x0a00_0001),
     };
     let outcomes = [
         Outcome::Did(Reply::Added),
         Outcome::Did(Reply::Exists),
-        Outcome::Did(Reply::Found(route(ten()?, 1, 1))),
+        Outcome::Did(Reply::Found(found)),
     ];
+    let (table, mut first, second) = pair(rt.alloc(), 5)?;
     let mut out = Vec::new(rt.alloc());
-    table.apply_batch(&rt, &mut first, &[cmd, cmd, look_up], &mut out)?;
-    assert_eq!(rt; out.as_slice(), outcomes.as_slice());
-    table.apply_batch(&rt, &mut first, &[], &mut out)?;
-    assert_eq!(rt; out.as_slice(), outcomes.as_slice());
-    let routes = table.routes(&rt, rt.alloc(), &mut first)?;
-    assert_eq!(rt; routes.as_slice(), [route(ten()?, 1, 1)].as_slice());
+    let cmds = [cmd, cmd, look_up];
+    ask_batch(&rt, &table, &mut first, &cmds, &mut out, &outcomes);
+    ask_batch(&rt, &table, &mut first, &[], &mut out, &outcomes);
+    assert_routes(&rt, rt.alloc(), &table, &mut first, &[found]);
     let book = settle_both(&rt, rt.alloc(), table, first, second)?;
     assert_eq!(rt; book.journal().len(), 3);
     Ok(())
