@@ -3,7 +3,6 @@
 mod feeds;
 mod hostile;
 mod judge;
-mod large_outputs;
 mod orders;
 mod replays;
 mod rows;

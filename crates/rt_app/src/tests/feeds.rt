@@ -1,35 +1,15 @@
 //! Several feeds over one table, and batches.
-use crate::runs::run_texts;
-use crate::tests::rows::{BATCHED, one_text};
-use std::alloc::Global;
-use std::sync::Wait;
+use crate::tests::rows::{BATCHED, EVERY_ROUTE, compare, one_text, run};
+use std::alloc::{AllocError, Global};
 use std::test::Fail;
-use std::thread::Threads;
 
 /// The texts of feeds, in order.
-fn texts_of(alloc: Global, texts: &[&str]) -> Result<Vec<Vec<u8>>, Fail> {
+fn texts_of(alloc: Global, texts: &[&str]) -> Result<Vec<Vec<u8>>, AllocError> {
     let mut owned = Vec::new(alloc);
     for text in texts {
         owned.push(Vec::from_slice(alloc, text.as_bytes())?)?;
     }
     Ok(owned)
-}
-
-/// What a run of these texts writes, and its status.
-fn run<R: Threads + Wait + Sync>(
-    rt: &R,
-    alloc: Global,
-    texts: &[Vec<u8>],
-    batch: usize,
-) -> Result<(Vec<u8>, u8), Fail> {
-    let mut out = Vec::new(alloc);
-    if texts.len() > 64 || batch == 0 {
-        return Err(Fail::from("a run that its conditions allow"));
-    }
-    match run_texts(rt, alloc, texts, 65_536, batch, &mut out) {
-        Ok(status) => Ok((out, status)),
-        Err(_) => Err(Fail::from("a run")),
-    }
 }
 
 /// A run of feeds whose output is the same for every interleaving.
@@ -84,35 +64,52 @@ table 1
 
 #[test]
 fn feeds_meet_in_one_table(rt: HostRuntime) -> Result<(), Fail> {
+    let alloc = rt.alloc();
     for row in FEEDS.iter() {
-        let texts = texts_of(rt.alloc(), row.texts)?;
+        let texts = texts_of(alloc, row.texts)?;
         for batch in [1, 2, 1024] {
-            let (out, status) = run(&rt, rt.alloc(), texts.as_slice(), batch)?;
-            assert_eq!(rt; out.as_slice(), row.output.as_bytes(), "of {:?}", row.texts);
-            assert_eq!(rt; status, row.status);
+            compare(
+                &rt,
+                alloc,
+                texts.as_slice(),
+                EVERY_ROUTE,
+                batch,
+                row.output,
+                row.status,
+            );
         }
     }
     Ok(())
 }
 
+/// The texts of so many feeds that all offer one route, and what a run of them prints.
+fn meeting(alloc: Global, feeds: u32) -> Result<(Vec<Vec<u8>>, String), AllocError> {
+    let mut texts = Vec::new(alloc);
+    let (mut output, mut rows) = (String::new(alloc), String::new(alloc));
+    for feed in 1..=feeds {
+        let text = format!(in alloc; "add 10.0.0.0/8 5 192.0.2.{feed}\n")?;
+        texts.push(Vec::from_slice(alloc, text.as_bytes())?)?;
+        output.push_str(format!(in alloc; "{feed}:1 added\n")?.as_str())?;
+        let row = format!(in alloc; "10.0.0.0/8 feed {feed} pref 5 via 192.0.2.{feed}\n")?;
+        rows.push_str(row.as_str())?;
+    }
+    output.push_str(format!(in alloc; "table {feeds}\n{rows}")?.as_str())?;
+    Ok((texts, output))
+}
+
 #[test]
 fn a_place_for_each_of_64_feeds(rt: HostRuntime) -> Result<(), Fail> {
-    let alloc = rt.alloc();
     for feeds in [16, 17, 64] {
-        let mut texts = Vec::new(alloc);
-        let (mut reports, mut rows) = (String::new(alloc), String::new(alloc));
-        for feed in 1..feeds + 1 {
-            let text = format!(in alloc; "add 10.0.0.0/8 5 192.0.2.{feed}\n")?;
-            texts.push(Vec::from_slice(alloc, text.as_bytes())?)?;
-            reports.push_str(format!(in alloc; "{feed}:1 added\n")?.as_str())?;
-            rows.push_str(format!(in alloc;
-                "10.0.0.0/8 feed {feed} pref 5 via 192.0.2.{feed}\n"
-            )?.as_str())?;
-        }
-        let (out, status) = run(&rt, alloc, texts.as_slice(), 1)?;
-        let expected = format!(in alloc; "{reports}table {feeds}\n{rows}")?;
-        assert_eq!(rt; out.as_slice(), expected.as_bytes());
-        assert_eq!(rt; status, 0);
+        let (texts, output) = meeting(rt.alloc(), feeds)?;
+        compare(
+            &rt,
+            rt.alloc(),
+            texts.as_slice(),
+            EVERY_ROUTE,
+            1,
+            output.as_str(),
+            0,
+        );
     }
     Ok(())
 }
@@ -121,43 +118,42 @@ fn a_place_for_each_of_64_feeds(rt: HostRuntime) -> Result<(), Fail> {
 fn every_batch_size_gives_the_same_output(rt: HostRuntime) -> Result<(), Fail> {
     let row = &BATCHED[0];
     let texts = one_text(rt.alloc(), row.text.as_bytes())?;
-    for batch in 1..1025 {
-        let (out, status) = run(&rt, rt.alloc(), texts.as_slice(), batch)?;
-        assert_eq!(rt;
-            out.as_slice(),
-            row.output.as_bytes(),
-            "in batches of {batch}"
+    for batch in 1..=1024 {
+        compare(
+            &rt,
+            rt.alloc(),
+            texts.as_slice(),
+            EVERY_ROUTE,
+            batch,
+            row.output,
+            row.status,
         );
-        assert_eq!(rt; status, row.status);
     }
     Ok(())
 }
 
-/// So many bytes of a line, over and over.
-fn repeated(alloc: Global, lines: &str, times: usize) -> Result<Vec<u8>, Fail> {
-    let mut text = Vec::new(alloc);
-    for _ in 0..times {
-        text.extend_from_slice(lines.as_bytes())?;
-    }
-    Ok(text)
+/// Texts of two feeds: a route that comes and goes 10,000 times, and 20,000 dumps.
+fn coming_and_going(alloc: Global) -> Result<Vec<Vec<u8>>, AllocError> {
+    let route = "add 10.0.0.0/8 1 192.0.2.1\nwithdraw 10.0.0.0/8\n".repeat(alloc, 10_000)?;
+    let dumps = "dump\n".repeat(alloc, 20_000)?;
+    texts_of(alloc, &[route.as_str(), dumps.as_str()])
+}
+
+/// Whether a dump of feed 2 met the route of feed 1.
+fn have_met(output: &[u8]) -> bool {
+    output
+        .windows(9)
+        .any(|part| part == b" dumped 1".as_slice())
 }
 
 #[test]
 fn feeds_run_at_the_same_time(rt: HostRuntime) -> Result<(), Fail> {
-    let alloc = rt.alloc();
-    let mut texts = Vec::new(alloc);
-    texts.push(repeated(
-        alloc,
-        "add 10.0.0.0/8 1 192.0.2.1\nwithdraw 10.0.0.0/8\n",
-        10_000,
-    )?)?;
-    texts.push(repeated(alloc, "dump\n", 20_000)?)?;
+    let texts = coming_and_going(rt.alloc())?;
     let mut met = false;
     for _ in 0..100 {
-        let (out, status) = run(&rt, alloc, texts.as_slice(), 1)?;
-        assert_eq!(rt; status, 0);
-        assert!(rt; out.ends_with(b"table 0\n"));
-        met = out.windows(9).any(|part| part == b" dumped 1".as_slice());
+        let ran = run(&rt, rt.alloc(), texts.as_slice(), EVERY_ROUTE, 1);
+        assert!(rt; ran.status == Ok(0) && ran.out.ends_with(b"table 0\n"));
+        met = have_met(ran.out.as_slice());
         if met {
             break;
         }

@@ -1,7 +1,6 @@
 //! Hostile texts, from bytes to bytes.
 
-use crate::runs::run_texts;
-use crate::tests::rows::one_text;
+use crate::tests::rows::{one_text, run};
 use std::alloc::Global;
 use std::process::Abort;
 use std::sync::Wait;
@@ -27,18 +26,17 @@ const FAULTY: [(&[u8], &str); 14] = [
 ];
 
 /// Runs the text alone, and compares what it prints and its status.
-fn compare<R: Threads + Wait + Sync + Abort>(
+fn alone<R: Threads + Wait + Sync + Abort>(
     rt: &R,
     alloc: Global,
     text: &[u8],
-    output: &[u8],
+    output: &str,
     status: u8,
 ) -> Result<(), Fail> {
     let texts = one_text(alloc, text)?;
-    let mut out = Vec::new(alloc);
-    let ended = run_texts(rt, alloc, texts.as_slice(), 1, 1, &mut out);
-    assert_eq!(rt; ended, Ok(status), "of {text:?}");
-    assert_eq!(rt; out.as_slice(), output, "of {text:?}");
+    let ran = run(rt, alloc, texts.as_slice(), 1, 1);
+    let ends_so = ran.status == Ok(status) && ran.out.as_slice() == output.as_bytes();
+    assert!(rt; ends_so, "of {text:?}");
     Ok(())
 }
 
@@ -46,7 +44,7 @@ fn compare<R: Threads + Wait + Sync + Abort>(
 fn faults_are_told(rt: HostRuntime) -> Result<(), Fail> {
     for (text, fault) in FAULTY {
         let output = format!(in rt.alloc(); "1:1 fault {fault}\ntable 0\n")?;
-        compare(&rt, rt.alloc(), text, output.as_bytes(), 2)?;
+        alone(&rt, rt.alloc(), text, output.as_str(), 2)?;
     }
     Ok(())
 }
@@ -54,11 +52,11 @@ fn faults_are_told(rt: HostRuntime) -> Result<(), Fail> {
 #[test]
 fn texts_of_one_byte(rt: HostRuntime) -> Result<(), Fail> {
     for byte in 0..=u8::MAX {
-        let (output, status): (&[u8], u8) = match byte {
-            b'#' | b'\n' => (b"table 0\n", 0),
-            _ => (b"1:1 fault E1\ntable 0\n", 2),
+        let (output, status) = match byte {
+            b'#' | b'\n' => ("table 0\n", 0),
+            _ => ("1:1 fault E1\ntable 0\n", 2),
         };
-        compare(&rt, rt.alloc(), &[byte], output, status)?;
+        alone(&rt, rt.alloc(), &[byte], output, status)?;
     }
     Ok(())
 }
@@ -66,10 +64,11 @@ fn texts_of_one_byte(rt: HostRuntime) -> Result<(), Fail> {
 #[test]
 fn a_million_bytes_without_an_end_of_line(rt: HostRuntime) -> Result<(), Fail> {
     let text = vec![in rt.alloc(); b'x'; 1_000_000]?;
-    let texts = one_text(rt.alloc(), text.as_slice())?;
-    let mut out = Vec::new(rt.alloc());
-    let status = run_texts(&rt, rt.alloc(), texts.as_slice(), 1, 1, &mut out);
-    assert_eq!(rt; status, Ok(2));
-    assert_eq!(rt; out.as_slice(), b"1:1 fault E8\ntable 0\n".as_slice());
-    Ok(())
+    alone(
+        &rt,
+        rt.alloc(),
+        text.as_slice(),
+        "1:1 fault E8\ntable 0\n",
+        2,
+    )
 }

@@ -15,8 +15,9 @@
 //! The table is a plain list of routes in no order, which every command goes through from end to end. Nothing here is
 //! code of the crates. The judge is for the tests' own texts and for runs with ample memory: it knows the fields of good
 //! lines, takes every other line for fault E1, and no refusal for an answer.
+ghost use Rattle.std.specs.Prelude.{◌<◌, length, IfSome};
+
 use std::alloc::{AllocError, Global};
-use std::str;
 
 /// A prefix, and what a feed offers for it: the texts as they were read, and in numbers what they are compared by.
 #[derive(Clone, Copy)]
@@ -70,11 +71,9 @@ pub fn explains(
     texts: &[String],
     limit: usize,
     batch: usize,
-    output: &[u8],
+    output: &str,
 ) -> Result<bool, AllocError> {
-    let Ok(mut rest) = str::from_utf8(output) else {
-        return Ok(false);
-    };
+    let mut rest = output;
     let mut feeds = Vec::new(alloc);
     for (i, text) in texts.iter().enumerate() {
         match read_report(alloc, i.wrapping_add(1), text.as_str(), rest)? {
@@ -125,25 +124,25 @@ fn read_report<'a>(
 
 /// What the line says, if its fields are good.
 fn read_line(line: &str, two: bool) -> Option<Said<'_>> {
-    let mut fields = line.split(' ');
-    let name = fields.next()?;
-    let rest = (fields.next(), fields.next(), fields.next());
-    match (name, rest) {
-        ("add", (Some(prefix), Some(pref), Some(hop))) => {
-            Some(Said::Add(read_offer(prefix, pref, hop)?))
-        }
-        ("replace", (Some(prefix), Some(pref), Some(hop))) => {
-            Some(Said::Replace(read_offer(prefix, pref, hop)?))
-        }
-        ("withdraw", (Some(prefix), None, None)) => Some(Said::Withdraw(prefix)),
-        ("lookup", (Some(addr), None, None)) => Some(Said::Lookup(address(addr)?)),
-        ("dump", (None, None, None)) => Some(Said::Dump),
-        ("purge", (None, None, None)) => { if two { Some(Said::Purge) } else { None } }
+    if line == "dump" {
+        return Some(Said::Dump);
+    }
+    if line == "purge" && two {
+        return Some(Said::Purge);
+    }
+    let (name, fields) = line.split_once(' ')?;
+    match name {
+        "add" => Some(Said::Add(read_offer(fields)?)),
+        "replace" => Some(Said::Replace(read_offer(fields)?)),
+        "withdraw" => Some(Said::Withdraw(fields)),
+        "lookup" => Some(Said::Lookup(address(fields)?)),
         _ => None,
     }
 }
 
-fn read_offer<'a>(prefix: &'a str, pref: &str, hop: &'a str) -> Option<Offer<'a>> {
+fn read_offer(fields: &str) -> Option<Offer<'_>> {
+    let (prefix, rest) = fields.split_once(' ')?;
+    let (pref, hop) = rest.split_once(' ')?;
     let (base, len) = prefix.split_once('/')?;
     Some(Offer {
         prefix,
@@ -171,22 +170,10 @@ fn search(
     batch: usize,
     printed: &str,
 ) -> Result<bool, AllocError> {
-    let mut states = 1;
-    let mut left = Vec::new(alloc);
-    for asks in feeds {
-        states = asks
-            .len()
-            .saturating_add(1)
-            .saturating_mul(states)
-            .min(MOST_STATES);
-        left.push(asks.as_slice())?;
-    }
+    let states = states_of(feeds);
     let mut seen = vec![in alloc; false; states]?;
     let mut open = Vec::new(alloc);
-    open.push(State {
-        left,
-        table: Vec::new(alloc),
-    })?;
+    open.push(start(alloc, feeds)?)?;
     for _ in 0..states {
         let Some(state) = open.pop() else {
             return Ok(false);
@@ -194,19 +181,56 @@ fn search(
         if state.left.iter().all(|asks| asks.is_empty()) {
             return is_printed(alloc, &state.table, printed);
         }
-        for (i, asks) in state.left.iter().enumerate() {
-            let Some(next) = after_visit(alloc, &state, i, asks, limit, batch)? else {
-                continue;
-            };
-            if let Some(place) = seen.get_mut(number_of(next.left.as_slice(), feeds)) {
-                if !*place {
-                    *place = true;
-                    open.push(next)?;
-                }
+        open_next(alloc, feeds, &state, limit, batch, &mut seen, &mut open)?;
+    }
+    Ok(false)
+}
+
+/// How many states the feeds may come to, as far as the search goes.
+fn states_of(feeds: &[Vec<Ask<'_>>]) -> usize {
+    let mut states = 1usize;
+    for asks in feeds {
+        states = states
+            .saturating_mul(asks.len().saturating_add(1))
+            .min(MOST_STATES);
+    }
+    states
+}
+
+/// The state in which nothing was asked.
+fn start<'b, 'a>(alloc: Global, feeds: &'b [Vec<Ask<'a>>]) -> Result<State<'b, 'a>, AllocError> {
+    let mut left = Vec::new(alloc);
+    for asks in feeds {
+        left.push(asks.as_slice())?;
+    }
+    Ok(State {
+        left,
+        table: Vec::new(alloc),
+    })
+}
+
+/// Opens the states after the next visit of each feed, but for those that were seen.
+fn open_next<'b, 'a>(
+    alloc: Global,
+    feeds: &[Vec<Ask<'a>>],
+    state: &State<'b, 'a>,
+    limit: usize,
+    batch: usize,
+    seen: &mut Vec<bool>,
+    open: &mut Vec<State<'b, 'a>>,
+) -> Result<(), AllocError> {
+    for (i, asks) in state.left.iter().enumerate() {
+        let Some(next) = after_visit(alloc, state, i, asks, limit, batch)? else {
+            continue;
+        };
+        if let Some(place) = seen.get_mut(number_of(next.left.as_slice(), feeds)) {
+            if !*place {
+                *place = true;
+                open.push(next)?;
             }
         }
     }
-    Ok(false)
+    Ok(())
 }
 
 /// The number of a state among all that the feeds may come to.
@@ -236,8 +260,7 @@ fn after_visit<'b, 'a>(
     let (visit, rest) = asks.split_at(batch.min(asks.len()));
     let mut table = state.table.clone()?;
     for ask in visit {
-        let reply = answer(alloc, &mut table, limit, place.wrapping_add(1), ask.said)?;
-        if reply.as_str() != ask.answer {
+        if !is_answered(alloc, &mut table, limit, place.wrapping_add(1), ask)? {
             return Ok(None);
         }
     }
@@ -248,63 +271,85 @@ fn after_visit<'b, 'a>(
     Ok(Some(State { left, table }))
 }
 
-/// Answers the feed's command from the table, and changes the table as it says.
-fn answer<'a>(
+/// Whether the feed's command is answered from the table as was printed. Changes the table as the command says.
+fn is_answered<'a>(
     alloc: Global,
     table: &mut Vec<Row<'a>>,
     limit: usize,
     feed: usize,
-    said: Said<'a>,
-) -> Result<String, AllocError> {
-    match said {
-        Said::Add(offer) => {
-            if has(table.as_slice(), feed, offer.prefix) {
-                return String::from_str(alloc, "exists");
-            }
-            if count(table.as_slice(), feed) >= limit {
-                return String::from_str(alloc, "full");
-            }
-            table.push(Row { feed, offer })?;
-            String::from_str(alloc, "added")
-        }
-        Said::Replace(offer) => {
-            if !has(table.as_slice(), feed, offer.prefix) {
-                return String::from_str(alloc, "missing");
-            }
-            table.retain(|row| row.feed != feed || row.offer.prefix != offer.prefix);
-            table.push(Row { feed, offer })?;
-            String::from_str(alloc, "replaced")
-        }
-        Said::Withdraw(prefix) => {
-            if !has(table.as_slice(), feed, prefix) {
-                return String::from_str(alloc, "missing");
-            }
-            table.retain(|row| row.feed != feed || row.offer.prefix != prefix);
-            String::from_str(alloc, "withdrawn")
-        }
-        Said::Lookup(addr) => match best(table.as_slice(), addr) {
-            None => String::from_str(alloc, "no route"),
-            Some(row) => {
-                let text = row_text(alloc, &row)?;
-                format!(in alloc; "route {text}")
-            }
-        },
-        Said::Dump => {
-            let routes = table.len();
-            format!(in alloc; "dumped {routes}")
-        }
-        Said::Purge => {
-            let gone = count(table.as_slice(), feed);
-            table.retain(|row| row.feed != feed);
-            format!(in alloc; "purged {gone}")
-        }
+    ask: &Ask<'a>,
+) -> Result<bool, AllocError> {
+    match ask.said {
+        Said::Add(offer) => Ok(add(table, limit, Row { feed, offer })? == ask.answer),
+        Said::Replace(offer) => Ok(replace(table, Row { feed, offer }) == ask.answer),
+        Said::Withdraw(prefix) => Ok(withdraw(table, feed, prefix) == ask.answer),
+        Said::Lookup(addr) => is_found(alloc, best(table.as_slice(), addr), ask.answer),
+        Said::Dump => is_count(alloc, "dumped", table.len(), ask.answer),
+        Said::Purge => is_count(alloc, "purged", purge(table, feed), ask.answer),
     }
 }
 
-fn has(table: &[Row<'_>], feed: usize, prefix: &str) -> bool {
+/// The answer to an `add` of this route.
+fn add<'a>(
+    table: &mut Vec<Row<'a>>,
+    limit: usize,
+    row: Row<'a>,
+) -> Result<&'static str, AllocError> {
+    if place_of(table.as_slice(), row.feed, row.offer.prefix).is_some() {
+        return Ok("exists");
+    }
+    if count(table.as_slice(), row.feed) >= limit {
+        return Ok("full");
+    }
+    table.push(row)?;
+    Ok("added")
+}
+
+/// The answer to a `replace` by this route.
+fn replace<'a>(table: &mut Vec<Row<'a>>, row: Row<'a>) -> &'static str {
+    let Some(place) = place_of(table.as_slice(), row.feed, row.offer.prefix) else {
+        return "missing";
+    };
+    table[place] = row;
+    "replaced"
+}
+
+/// The answer to a `withdraw` of the feed's route for this prefix.
+fn withdraw(table: &mut Vec<Row<'_>>, feed: usize, prefix: &str) -> &'static str {
+    let Some(place) = place_of(table.as_slice(), feed, prefix) else {
+        return "missing";
+    };
+    table.swap_remove(place);
+    "withdrawn"
+}
+
+/// Takes out the feed's routes, and tells how many they were.
+fn purge(table: &mut Vec<Row<'_>>, feed: usize) -> usize {
+    let gone = count(table.as_slice(), feed);
+    table.retain(|row| row.feed != feed);
+    gone
+}
+
+/// Whether the answer to a look-up tells of this route.
+fn is_found(alloc: Global, row: Option<Row<'_>>, answer: &str) -> Result<bool, AllocError> {
+    match row {
+        None => Ok(answer == "no route"),
+        Some(row) => Ok(answer.strip_prefix("route ") == Some(row_text(alloc, &row)?.as_str())),
+    }
+}
+
+/// Whether the answer is this word and this number.
+fn is_count(alloc: Global, word: &str, count: usize, answer: &str) -> Result<bool, AllocError> {
+    Ok(format!(in alloc; "{word} {count}")?.as_str() == answer)
+}
+
+/// Where the feed's route for this prefix stands.
+fn place_of(table: &[Row<'_>], feed: usize, prefix: &str) -> Option<usize>
+    ensures { IfSome result (λ place. place < length table.entry.now) }
+{
     table
         .iter()
-        .any(|row| row.feed == feed && row.offer.prefix == prefix)
+        .position(|row| row.feed == feed && row.offer.prefix == prefix)
 }
 
 fn count(table: &[Row<'_>], feed: usize) -> usize {
@@ -335,11 +380,15 @@ fn row_text(alloc: Global, row: &Row<'_>) -> Result<String, AllocError> {
 fn is_printed(alloc: Global, table: &Vec<Row<'_>>, printed: &str) -> Result<bool, AllocError> {
     let mut rows = table.clone()?;
     rows.sort_by_key(|row| (row.offer.base, row.offer.len, row.offer.pref, row.feed))?;
+    Ok(table_text(alloc, rows.as_slice())?.as_str() == printed)
+}
+
+fn table_text(alloc: Global, rows: &[Row<'_>]) -> Result<String, AllocError> {
     let routes = rows.len();
     let mut text = format!(in alloc; "table {routes}\n")?;
-    for row in rows.iter() {
+    for row in rows {
         text.push_str(row_text(alloc, row)?.as_str())?;
         text.push_str("\n")?;
     }
-    Ok(text.as_str() == printed)
+    Ok(text)
 }

@@ -1,12 +1,12 @@
 //! Runs of random texts, each explained by some order of its feeds' visits; and outputs that no order explains.
-use crate::runs::run_texts;
 use crate::tests::judge::explains;
-use rt_rib::limit_ok;
+use crate::tests::rows::run;
 use std::alloc::{AllocError, Global};
-use std::str;
+use std::process::Abort;
 use std::sync::Wait;
 use std::test::Fail;
 use std::thread::Threads;
+use std::{str, thread};
 
 /// Few prefixes, so that feeds meet, and addresses that they cover.
 const PREFIXES: [&str; 5] = [
@@ -54,47 +54,52 @@ fn random_line(alloc: Global, state: &mut u64, text: &mut String) -> Result<(), 
     text.push_str(line.as_str())
 }
 
-/// A random text of so many lines, of either version. It begins with a comment for each of `idle` lines, so that feeds
-/// that start later meet those that started before them.
-fn random_text(
-    alloc: Global,
+/// How many comments a text has, about half of this number of hundreds: so many that a feed is not done before the others
+/// have begun.
+const HUNDREDS: usize = 4_000;
+
+/// Puts fewer than so many times the comments behind the text.
+fn pause(
     state: &mut u64,
-    lines: usize,
-    idle: usize,
-) -> Result<String, AllocError> {
+    comments: &str,
+    times: usize,
+    text: &mut String,
+) -> Result<(), AllocError> {
+    for _ in 0..draw(state) % times.max(1) {
+        text.push_str(comments)?;
+    }
+    Ok(())
+}
+
+/// A random text of so many lines, of either version, with comments before each.
+fn random_text(alloc: Global, state: &mut u64, lines: usize) -> Result<String, AllocError> {
+    let comments = "#\n".repeat(alloc, 100)?;
     let mut text = String::new(alloc);
     if draw(state) % 2 == 0 {
         text.push_str("version 2\n")?;
     }
-    for _ in 0..idle {
-        text.push_str("#\n")?;
-    }
     for _ in 0..lines {
+        pause(state, comments.as_str(), HUNDREDS / lines.max(1), &mut text)?;
         random_line(alloc, state, &mut text)?;
     }
     Ok(text)
 }
 
 /// What a run of these texts writes.
-fn run<R: Threads + Wait + Sync>(
+fn written<R: Threads + Wait + Sync + Abort>(
     rt: &R,
     alloc: Global,
     texts: &[String],
     limit: u32,
     batch: usize,
-) -> Result<Vec<u8>, Fail> {
+) -> Result<String, Fail> {
     let mut owned = Vec::new(alloc);
     for text in texts {
         owned.push(Vec::from_slice(alloc, text.as_bytes())?)?;
     }
-    if owned.len() > 64 || batch == 0 || !limit_ok(limit) {
-        return Err(Fail::from("a run that its conditions allow"));
-    }
-    let mut out = Vec::new(alloc);
-    match run_texts(rt, alloc, owned.as_slice(), limit, batch, &mut out) {
-        Ok(_) => Ok(out),
-        Err(_) => Err(Fail::from("a run")),
-    }
+    let ran = run(rt, alloc, owned.as_slice(), limit, batch);
+    assert!(rt; ran.status.is_ok());
+    Ok(String::from_str(alloc, str::from_utf8(ran.out.as_slice())?)?)
 }
 
 /// Random texts, and how a run of them is to be made.
@@ -111,8 +116,7 @@ fn draw_texts(alloc: Global, seed: u64, feeds: usize, lines: usize) -> Result<Dr
     let batch = 1 + draw(&mut state) % 4;
     let mut texts = Vec::new(alloc);
     for _ in 0..feeds {
-        let idle = draw(&mut state) % 2000;
-        texts.push(random_text(alloc, &mut state, lines, idle)?)?;
+        texts.push(random_text(alloc, &mut state, lines)?)?;
     }
     Ok(Drawn {
         texts,
@@ -122,110 +126,153 @@ fn draw_texts(alloc: Global, seed: u64, feeds: usize, lines: usize) -> Result<Dr
 }
 
 /// What a run of the drawn texts writes.
-fn run_drawn<R: Threads + Wait + Sync>(
+fn run_drawn<R: Threads + Wait + Sync + Abort>(
     rt: &R,
     alloc: Global,
     drawn: &Drawn,
-) -> Result<Vec<u8>, Fail> {
-    run(rt, alloc, drawn.texts.as_slice(), drawn.limit, drawn.batch)
+) -> Result<String, Fail> {
+    written(rt, alloc, drawn.texts.as_slice(), drawn.limit, drawn.batch)
 }
 
-/// Whether some order of the visits of the drawn texts explains the output.
-fn explains_drawn(alloc: Global, drawn: &Drawn, output: &[u8]) -> Result<bool, AllocError> {
+/// Whether some order of the visits of the drawn texts explains the output, where each asks so many commands.
+fn explains_drawn(
+    alloc: Global,
+    drawn: &Drawn,
+    batch: usize,
+    output: &str,
+) -> Result<bool, AllocError> {
     let limit = drawn.limit as usize;
-    explains(alloc, drawn.texts.as_slice(), limit, drawn.batch, output)
+    explains(alloc, drawn.texts.as_slice(), limit, batch, output)
 }
 
-#[test]
-fn some_order_explains_each_of_500_runs(rt: HostRuntime) -> Result<(), Fail> {
-    let alloc = rt.alloc();
-    for (feeds, lines) in [(2, 14), (3, 9), (4, 6), (5, 5), (6, 4)] {
-        for seed in 1..=100 {
-            let drawn = draw_texts(alloc, seed, feeds, lines)?;
-            let out = run_drawn(&rt, alloc, &drawn)?;
-            assert!(rt;
-                explains_drawn(alloc, &drawn, out.as_slice())?,
-                "{feeds} feeds of seed {seed}"
-            );
+/// Judges 100 runs of so many feeds with so many lines each, and counts those in which feeds interleaved: no order of
+/// whole feeds explains them.
+fn judge_runs<R: Threads + Wait + Sync + Abort>(
+    rt: &R,
+    alloc: Global,
+    feeds: usize,
+    lines: usize,
+) -> Result<usize, Fail> {
+    let mut interleaved = 0usize;
+    for seed in 1..=100 {
+        let drawn = draw_texts(alloc, seed, feeds, lines)?;
+        let output = run_drawn(rt, alloc, &drawn)?;
+        let explained = explains_drawn(alloc, &drawn, drawn.batch, output.as_str())?;
+        assert!(rt; explained, "{feeds} feeds of seed {seed}");
+        if !explains_drawn(alloc, &drawn, usize::MAX, output.as_str())? {
+            interleaved = interleaved.wrapping_add(1);
         }
     }
+    Ok(interleaved)
+}
+
+// On one processor the feeds may as well run one after another.
+#[test]
+fn some_order_explains_each_of_500_runs(rt: HostRuntime) -> Result<(), Fail> {
+    let mut interleaved = 0usize;
+    for (feeds, lines) in [(2, 100), (3, 60), (4, 20), (5, 10), (6, 7)] {
+        interleaved = interleaved.wrapping_add(judge_runs(&rt, rt.alloc(), feeds, lines)?);
+    }
+    let processors = thread::available_parallelism(&rt)?.get();
+    assert!(rt;
+        processors == 1 || interleaved >= 50,
+        "{interleaved} runs interleaved"
+    );
     Ok(())
 }
 
-/// The feed and the number of a report's line, and its answer.
-fn report_line(line: &str) -> Option<(usize, usize, &str)> {
-    let (heading, answer) = line.split_once(' ')?;
-    let (feed, number) = heading.split_once(':')?;
-    Some((
-        feed.parse::<usize>().ok()?,
-        number.parse::<usize>().ok()?,
-        answer,
-    ))
-}
-
-/// The feed and the line of the first withdrawal that took a route out.
-fn first_withdrawal(output: &str) -> Option<(usize, usize)> {
-    for line in output.lines() {
-        if let Some((feed, number, "withdrawn")) = report_line(line) {
-            return Some((feed, number));
-        }
-    }
-    None
-}
-
-/// The text with a comment in the place of this line.
-fn without_line(alloc: Global, text: &str, number: usize) -> Result<String, AllocError> {
-    let mut left = String::new(alloc);
-    for (i, line) in text.lines().enumerate() {
-        left.push_str(if i.wrapping_add(1) == number {
-            "#"
-        } else {
-            line
-        })?;
-        left.push_str("\n")?;
-    }
-    Ok(left)
-}
-
-/// The output with `withdrawn` put in for the feed's line of this number.
-fn with_withdrawn(
-    alloc: Global,
-    output: &str,
+/// A line of a report: its beginning, the feed and the line's number that stand there, and the answer.
+#[derive(Clone, Copy)]
+struct Printed<'a> {
+    heading: &'a str,
     feed: usize,
     number: usize,
+    answer: &'a str,
+}
+
+fn report_line(line: &str) -> Option<Printed<'_>> {
+    let (heading, answer) = line.split_once(' ')?;
+    let (feed, number) = heading.split_once(':')?;
+    Some(Printed {
+        heading,
+        feed: feed.parse::<usize>().ok()?,
+        number: number.parse::<usize>().ok()?,
+        answer,
+    })
+}
+
+/// The output with this answer on the line that begins so.
+fn with_answer(
+    alloc: Global,
+    output: &str,
+    heading: &str,
+    answer: &str,
 ) -> Result<String, AllocError> {
     let mut text = String::new(alloc);
-    let mut is_in = false;
     for line in output.lines() {
-        let comes_first = report_line(line).is_some_and(|(f, n, _)| (f, n) < (feed, number));
-        if !is_in && !comes_first {
-            is_in = true;
-            text.push_str(format!(in alloc; "{feed}:{number} withdrawn\n")?.as_str())?;
-        }
-        text.push_str(line)?;
+        let Some((start, rest)) = line.split_once(' ') else {
+            continue;
+        };
+        text.push_str(start)?;
+        text.push_str(" ")?;
+        text.push_str(if start == heading { answer } else { rest })?;
         text.push_str("\n")?;
     }
     Ok(text)
 }
 
+/// The first withdrawal that took a route out.
+fn first_withdrawal(output: &str) -> Option<Printed<'_>> {
+    for line in output.lines() {
+        if let Some(printed) = report_line(line) {
+            if printed.answer == "withdrawn" {
+                return Some(printed);
+            }
+        }
+    }
+    None
+}
+
+/// The text with `dump` in the place of this line.
+fn with_dump(alloc: Global, text: &str, number: usize) -> Result<String, AllocError> {
+    let mut left = String::new(alloc);
+    for (i, line) in text.lines().enumerate() {
+        let is_there = i.wrapping_add(1) == number;
+        left.push_str(if is_there { "dump" } else { line })?;
+        left.push_str("\n")?;
+    }
+    Ok(left)
+}
+
+/// The drawn texts, with `dump` in the place of a line of one of them.
+fn asking_another(
+    alloc: Global,
+    drawn: &Drawn,
+    lost: Printed<'_>,
+) -> Result<Vec<String>, AllocError> {
+    let mut texts = Vec::new(alloc);
+    for (i, text) in drawn.texts.iter().enumerate() {
+        let is_its = i.wrapping_add(1) == lost.feed;
+        let number = if is_its { lost.number } else { 0 };
+        texts.push(with_dump(alloc, text.as_str(), number)?)?;
+    }
+    Ok(texts)
+}
+
 /// An output of the drawn texts into which a lost withdrawal was put, if they have one to lose: it is answered, and the
 /// route stays.
-fn losing_a_withdrawal<R: Threads + Wait + Sync>(
+fn losing_a_withdrawal<R: Threads + Wait + Sync + Abort>(
     rt: &R,
     alloc: Global,
     drawn: &Drawn,
 ) -> Result<Option<String>, Fail> {
-    let out = run_drawn(rt, alloc, drawn)?;
-    let Some((feed, number)) = first_withdrawal(str::from_utf8(out.as_slice())?) else {
+    let output = run_drawn(rt, alloc, drawn)?;
+    let Some(lost) = first_withdrawal(output.as_str()) else {
         return Ok(None);
     };
-    let mut texts = Vec::new(alloc);
-    for (i, text) in drawn.texts.iter().enumerate() {
-        let lost = if i.wrapping_add(1) == feed { number } else { 0 };
-        texts.push(without_line(alloc, text.as_str(), lost)?)?;
-    }
-    let out = run(rt, alloc, texts.as_slice(), drawn.limit, drawn.batch)?;
-    Ok(Some(with_withdrawn(alloc, str::from_utf8(out.as_slice())?, feed, number)?))
+    let texts = asking_another(alloc, drawn, lost)?;
+    let output = written(rt, alloc, texts.as_slice(), drawn.limit, drawn.batch)?;
+    Ok(Some(with_answer(alloc, output.as_str(), lost.heading, "withdrawn")?))
 }
 
 #[test]
@@ -235,42 +282,51 @@ fn no_order_explains_a_lost_withdrawal(rt: HostRuntime) -> Result<(), Fail> {
     for seed in 1..=100 {
         let drawn = draw_texts(alloc, seed, 3, 9)?;
         if let Some(output) = losing_a_withdrawal(&rt, alloc, &drawn)? {
-            lost = lost.saturating_add(1);
-            assert!(rt;
-                !explains_drawn(alloc, &drawn, output.as_bytes())?,
-                "seed {seed}: {output}"
-            );
+            lost = lost.wrapping_add(1);
+            let explained = explains_drawn(alloc, &drawn, drawn.batch, output.as_str())?;
+            assert!(rt; !explained, "seed {seed}: {output}");
         }
     }
     assert!(rt; lost >= 20, "{lost} withdrawals lost");
     Ok(())
 }
 
-/// Whether the reply speaks of its feed's own routes alone.
-fn is_own(answer: &str) -> bool {
-    [
-        "added",
-        "exists",
-        "full",
-        "replaced",
-        "withdrawn",
-        "missing",
-    ]
-    .iter()
-    .any(|own| *own == answer)
+/// The replies that speak of their feed's own routes alone.
+const OWN: [&str; 6] = [
+    "added",
+    "exists",
+    "full",
+    "replaced",
+    "withdrawn",
+    "missing",
+];
+
+fn own_reply(line: &str) -> Option<Printed<'_>> {
+    let printed = report_line(line)?;
+    if OWN.contains(&printed.answer) {
+        Some(printed)
+    } else {
+        None
+    }
 }
 
-/// Two lines of one feed's report with different replies of that kind, if there are such.
-fn two_replies(output: &str) -> Option<((usize, usize, &str), (usize, usize, &str))> {
+/// The first such reply to the same feed that differs from this one.
+fn other_reply<'a>(output: &'a str, one: Printed<'_>) -> Option<Printed<'a>> {
     for line in output.lines() {
-        let Some(one) = report_line(line) else {
-            continue;
-        };
-        for later in output.lines() {
-            let Some(other) = report_line(later) else {
-                continue;
-            };
-            if one.0 == other.0 && one.2 != other.2 && is_own(one.2) && is_own(other.2) {
+        if let Some(other) = own_reply(line) {
+            if other.feed == one.feed && other.answer != one.answer {
+                return Some(other);
+            }
+        }
+    }
+    None
+}
+
+/// Two such replies to one feed, if there are two.
+fn two_replies(output: &str) -> Option<(Printed<'_>, Printed<'_>)> {
+    for line in output.lines() {
+        if let Some(one) = own_reply(line) {
+            if let Some(other) = other_reply(output, one) {
                 return Some((one, other));
             }
         }
@@ -283,24 +339,8 @@ fn swapping_replies(alloc: Global, output: &str) -> Result<Option<String>, Alloc
     let Some((one, other)) = two_replies(output) else {
         return Ok(None);
     };
-    let mut text = String::new(alloc);
-    for line in output.lines() {
-        let swapped = match report_line(line) {
-            Some((feed, number, _)) => {
-                if (feed, number) == (one.0, one.1) {
-                    format!(in alloc; "{feed}:{number} {}", other.2)?
-                } else if (feed, number) == (other.0, other.1) {
-                    format!(in alloc; "{feed}:{number} {}", one.2)?
-                } else {
-                    String::from_str(alloc, line)?
-                }
-            }
-            None => String::from_str(alloc, line)?,
-        };
-        text.push_str(swapped.as_str())?;
-        text.push_str("\n")?;
-    }
-    Ok(Some(text))
+    let first = with_answer(alloc, output, one.heading, other.answer)?;
+    Ok(Some(with_answer(alloc, first.as_str(), other.heading, one.answer)?))
 }
 
 #[test]
@@ -309,13 +349,11 @@ fn no_order_explains_swapped_replies(rt: HostRuntime) -> Result<(), Fail> {
     let mut swapped = 0usize;
     for seed in 1..=100 {
         let drawn = draw_texts(alloc, seed, 3, 9)?;
-        let out = run_drawn(&rt, alloc, &drawn)?;
-        if let Some(output) = swapping_replies(alloc, str::from_utf8(out.as_slice())?)? {
-            swapped = swapped.saturating_add(1);
-            assert!(rt;
-                !explains_drawn(alloc, &drawn, output.as_bytes())?,
-                "seed {seed}: {output}"
-            );
+        let ran = run_drawn(&rt, alloc, &drawn)?;
+        if let Some(output) = swapping_replies(alloc, ran.as_str())? {
+            swapped = swapped.wrapping_add(1);
+            let explained = explains_drawn(alloc, &drawn, drawn.batch, output.as_str())?;
+            assert!(rt; !explained, "seed {seed}: {output}");
         }
     }
     assert!(rt; swapped >= 50, "{swapped} replies swapped");
@@ -538,14 +576,9 @@ fn the_judge_tells_what_an_order_explains(rt: HostRuntime) -> Result<(), Fail> {
         for text in judged.texts {
             texts.push(String::from_str(alloc, text)?)?;
         }
-        let explained = explains(
-            alloc,
-            texts.as_slice(),
-            65_536,
-            judged.batch,
-            judged.output.as_bytes(),
-        )?;
-        assert_eq!(rt; explained, judged.explained, "of {:?}", judged.output);
+        let (batch, output) = (judged.batch, judged.output);
+        let explained = explains(alloc, texts.as_slice(), 65_536, batch, output)?;
+        assert!(rt; explained == judged.explained, "of {output:?}");
     }
     Ok(())
 }

@@ -1,11 +1,14 @@
 ghost use Rattle.std.specs.Prelude.{◌≡◌, vec_len, IfOk};
 
 use crate::faults::AppFault;
-use crate::runs::run_texts;
+use crate::runs::{MOST_TEXTS, run_texts};
 use rt_feed::RunFault;
 use rt_rib::limit_ok;
 use std::alloc::Global;
+use std::process::Abort;
+use std::sync::Wait;
 use std::test::Fail;
+use std::thread::Threads;
 
 /// A worked run: a feed's text, the limit, and what has to be written with which status.
 pub struct Row {
@@ -15,7 +18,7 @@ pub struct Row {
     pub status: u8,
 }
 
-const EVERY_ROUTE: u32 = 65_536;
+pub const EVERY_ROUTE: u32 = 65_536;
 
 /// The texts of a run of this one feed.
 pub fn one_text(alloc: Global, text: &[u8]) -> Result<Vec<Vec<u8>>, Fail>
@@ -26,26 +29,74 @@ pub fn one_text(alloc: Global, text: &[u8]) -> Result<Vec<Vec<u8>>, Fail>
     Ok(texts)
 }
 
-#[test]
-fn worked_runs(rt: HostRuntime) -> Result<(), Fail> {
-    for row in ROWS.iter().chain(BATCHED.iter()).chain(VERSION_ROWS.iter()) {
-        assert!(rt; limit_ok(row.limit));
-        let texts = one_text(rt.alloc(), row.text.as_bytes())?;
-        let mut out = Vec::new(rt.alloc());
-        let status = run_texts(&rt, rt.alloc(), texts.as_slice(), row.limit, 1, &mut out);
-        assert_eq!(rt; status, Ok(row.status), "of {:?}", row.text);
-        assert_eq!(rt; out.as_slice(), row.output.as_bytes(), "of {:?}", row.text);
+/// How a run ended, and what it wrote.
+#[derive(Drop)]
+pub struct Ran {
+    pub status: Result<u8, AppFault>,
+    pub out: Vec<u8>,
+}
+
+/// Runs the texts, once its conditions were seen to hold.
+pub fn run<R: Threads + Wait + Sync + Abort>(
+    rt: &R,
+    alloc: Global,
+    texts: &[Vec<u8>],
+    limit: u32,
+    batch: usize,
+) -> Ran {
+    assert!(rt; texts.len() <= MOST_TEXTS && limit_ok(limit) && batch >= 1);
+    let mut out = Vec::new(alloc);
+    let status = run_texts(rt, alloc, texts, limit, batch, &mut out);
+    Ran { status, out }
+}
+
+/// Runs the texts, and compares what is written and the status.
+pub fn compare<R: Threads + Wait + Sync + Abort>(
+    rt: &R,
+    alloc: Global,
+    texts: &[Vec<u8>],
+    limit: u32,
+    batch: usize,
+    output: &str,
+    status: u8,
+) {
+    let ran = run(rt, alloc, texts, limit, batch);
+    let ends_so = ran.status == Ok(status) && ran.out.as_slice() == output.as_bytes();
+    assert!(rt; ends_so, "in batches of {batch}: {output}");
+}
+
+/// Runs each row's text, and compares.
+fn compare_rows<R: Threads + Wait + Sync + Abort>(
+    rt: &R,
+    alloc: Global,
+    rows: &[Row],
+) -> Result<(), Fail> {
+    for row in rows {
+        let texts = one_text(alloc, row.text.as_bytes())?;
+        compare(
+            rt,
+            alloc,
+            texts.as_slice(),
+            row.limit,
+            1,
+            row.output,
+            row.status,
+        );
     }
     Ok(())
 }
 
 #[test]
+fn worked_runs(rt: HostRuntime) -> Result<(), Fail> {
+    compare_rows(&rt, rt.alloc(), &ROWS)?;
+    compare_rows(&rt, rt.alloc(), &BATCHED)?;
+    compare_rows(&rt, rt.alloc(), &VERSION_ROWS)
+}
+
+#[test]
 fn no_text_is_refused(rt: HostRuntime) {
-    let mut out = Vec::new(rt.alloc());
-    let none = Vec::new(rt.alloc());
-    let status = run_texts(&rt, rt.alloc(), none.as_slice(), 1, 1, &mut out);
-    assert_eq!(rt; status, Err(AppFault::Run(RunFault::NoText)));
-    assert!(rt; out.is_empty());
+    let ran = run(&rt, rt.alloc(), &[], 1, 1);
+    assert!(rt; ran.status == Err(AppFault::Run(RunFault::NoText)) && ran.out.is_empty());
 }
 
 /// Six commands, which every batch size cuts in another way.

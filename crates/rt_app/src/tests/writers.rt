@@ -1,203 +1,190 @@
+//! Writers that fail, take little or are interrupted once, at outputs of less than one buffer and of more than two.
+ghost use Rattle.std.specs.Prelude.{◌≡◌, ◌≤◌, length, vec_len, IfOk};
+
 use crate::faults::AppFault;
 use crate::runs::run_texts;
 use crate::tests::rows::one_text;
+use rt_cidr::OUTPUT_BYTES;
 use std::alloc::Global;
 use std::io::{self, ErrorKind, Write};
+use std::process::Abort;
+use std::sync::Wait;
 use std::test::Fail;
+use std::thread::Threads;
 
-/// Takes at most so many bytes a call and so many in all, and then fails.
+/// Takes at most so many bytes a call and so many in all, answers a fault of this kind once, and takes the rest: whoever
+/// goes on after the fault is seen by what stands there. A flush counts as a call, and is a fault.
 #[derive(Drop)]
-struct Narrow {
+struct Failing {
     taken: Vec<u8>,
+    calls: usize,
     at_once: usize,
     room: usize,
+    kind: ErrorKind,
 }
 
-impl Write for Narrow {
+impl Write for Failing {
     fn write(&mut self, buf: &[u8]) -> io::Result<usize> {
-        let count = buf.len().min(self.at_once).min(self.room);
-        if count == 0 && !buf.is_empty() {
-            return Err(io::Error::from(ErrorKind::BrokenPipe));
+        if self.room == 0 {
+            self.room = usize::MAX;
+            return Err(io::Error::from(self.kind));
         }
+        let count = buf.len().min(self.at_once).min(self.room);
         self.taken.extend_from_slice(&buf[..count])?;
         self.room -= count;
+        self.calls = self.calls.wrapping_add(1);
         Ok(count)
     }
 
     fn flush(&mut self) -> io::Result<()> {
-        Ok(())
+        self.calls = self.calls.wrapping_add(1);
+        Err(io::Error::from(self.kind))
     }
 }
 
-const FEED: &[u8] = b"add 10.0.0.0/8 100 192.0.2.1\nlookup 10.1.2.3\n";
-
-const OUTPUT: &[u8] = b"1:1 added
-1:2 route 10.0.0.0/8 feed 1 pref 100 via 192.0.2.1
-table 1
-10.0.0.0/8 feed 1 pref 100 via 192.0.2.1
-";
-
-#[test]
-fn a_byte_a_call_gives_the_whole_text(rt: HostRuntime) -> Result<(), Fail> {
-    let texts = one_text(rt.alloc(), FEED)?;
-    let mut out = Narrow {
-        taken: Vec::new(rt.alloc()),
-        at_once: 1,
-        room: usize::MAX,
-    };
-    let status = run_texts(&rt, rt.alloc(), texts.as_slice(), 1, 1, &mut out);
-    assert_eq!(rt; status, Ok(0));
-    assert_eq!(rt; out.taken.as_slice(), OUTPUT);
-    Ok(())
-}
-
-#[test]
-fn a_full_writer_holds_a_beginning(rt: HostRuntime) -> Result<(), Fail> {
-    let texts = one_text(rt.alloc(), FEED)?;
-    for room in 0..OUTPUT.len() {
-        let mut out = Narrow {
-            taken: Vec::new(rt.alloc()),
-            at_once: usize::MAX,
-            room,
-        };
-        let status = run_texts(&rt, rt.alloc(), texts.as_slice(), 1, 1, &mut out);
-        assert_eq!(rt; status, Err(AppFault::Write));
-        assert_eq!(rt; out.taken.as_slice(), &OUTPUT[..room]);
+/// A writer that takes this much before its fault.
+fn writer(alloc: Global, at_once: usize, room: usize, kind: ErrorKind) -> Failing {
+    Failing {
+        taken: Vec::new(alloc),
+        calls: 0,
+        at_once,
+        room,
+        kind,
     }
-    Ok(())
 }
 
-/// A text of this many look-ups, each of which finds nothing.
-fn look_ups(alloc: Global, count: usize) -> Result<Vec<u8>, Fail> {
-    let mut text = Vec::new(alloc);
-    for _ in 0..count {
-        text.extend_from_slice(b"lookup 10.0.0.0\n")?;
+/// A text of one route and so many look-ups of it, and what a run of it prints.
+fn looked_up(alloc: Global, look_ups: u32) -> Result<(Vec<Vec<u8>>, Vec<u8>), Fail>
+    ensures { IfOk result (λ made. vec_len made.0 ≡ 1) }
+{
+    let mut text = Vec::from_slice(alloc, b"add 10.0.0.0/8 100 192.0.2.1\n")?;
+    let mut output = Vec::from_slice(alloc, b"1:1 added\n")?;
+    for index in 0..look_ups {
+        text.extend_from_slice(b"lookup 10.1.2.3\n")?;
+        let number = u64::from(index) + 2;
+        let line = format!(in alloc;
+            "1:{number} route 10.0.0.0/8 feed 1 pref 100 via 192.0.2.1\n"
+        )?;
+        output.extend_from_slice(line.as_bytes())?;
     }
-    Ok(text)
+    output.extend_from_slice(b"table 1\n10.0.0.0/8 feed 1 pref 100 via 192.0.2.1\n")?;
+    Ok((one_text(alloc, text.as_slice())?, output))
 }
 
-/// What a run of them writes.
-fn nothing_found(alloc: Global, count: usize) -> Result<String, Fail> {
-    let mut text = String::new(alloc);
-    for line in 0..count {
-        let number = line + 1;
-        text.push_str(format!(in alloc; "1:{number} no route\n")?.as_str())?;
-    }
-    text.push_str("table 0\n")?;
-    Ok(text)
+/// Runs the texts over a writer that fails once it has so many bytes, and compares: the run ends there, and they are a
+/// beginning of the output.
+fn stops<R: Threads + Wait + Sync + Abort>(
+    rt: &R,
+    alloc: Global,
+    texts: &[Vec<u8>],
+    output: &[u8],
+    room: usize,
+    at_once: usize,
+    kind: ErrorKind,
+)
+    requires { length texts.now ≤ 64 }
+{
+    let mut out = writer(alloc, at_once, room, kind);
+    let status = run_texts(rt, alloc, texts, 1, 1024, &mut out);
+    let stopped = status == Err(AppFault::Write)
+        && out.taken.len() == room
+        && output.starts_with(out.taken.as_slice());
+    assert!(rt; stopped, "after {room} bytes, {at_once} a call");
 }
 
-const LOOK_UPS: usize = 20_000;
+/// The first bytes, those about the end of a buffer, and some others.
+fn is_tried(room: usize) -> bool {
+    let past = room % OUTPUT_BYTES;
+    room < 1_000 || past < 4 || past >= OUTPUT_BYTES - 4 || past % 1_999 == 0
+}
 
-#[test]
-fn a_fault_past_the_first_buffer_leaves_a_beginning(rt: HostRuntime) -> Result<(), Fail> {
-    let alloc = rt.alloc();
-    let texts = one_text(alloc, look_ups(alloc, LOOK_UPS)?.as_slice())?;
-    let whole = nothing_found(alloc, LOOK_UPS)?;
-    let whole = whole.as_bytes();
-    for room in [
-        65_535,
-        65_536,
-        65_537,
-        131_072,
-        200_000,
-        whole.len().saturating_sub(1),
-    ] {
-        for at_once in [1_000, usize::MAX] {
-            let mut out = Narrow {
-                taken: Vec::new(alloc),
-                at_once,
-                room,
-            };
-            let status = run_texts(&rt, alloc, texts.as_slice(), 1, 1024, &mut out);
-            assert_eq!(rt; status, Err(AppFault::Write));
-            assert!(rt;
-                whole.starts_with(out.taken.as_slice()) && out.taken.len() == room,
-                "room for {room}"
-            );
+/// Lets the writer fail after each count of bytes that is tried.
+fn stops_everywhere<R: Threads + Wait + Sync + Abort>(
+    rt: &R,
+    alloc: Global,
+    texts: &[Vec<u8>],
+    output: &[u8],
+    at_once: usize,
+    kind: ErrorKind,
+)
+    requires { length texts.now ≤ 64 }
+{
+    for room in 0..output.len() {
+        if is_tried(room) {
+            stops(rt, alloc, texts, output, room, at_once, kind);
         }
     }
+}
+
+/// How many bytes a call takes, and what the fault is. Whoever tries again after `Interrupted`, as std's `write_all` does,
+/// is seen by it.
+const WAYS: [(usize, ErrorKind); 5] = [
+    (1, ErrorKind::Interrupted),
+    (1_000, ErrorKind::BrokenPipe),
+    (5_000, ErrorKind::Other),
+    (40_000, ErrorKind::Interrupted),
+    (usize::MAX, ErrorKind::BrokenPipe),
+];
+
+#[test]
+fn a_fault_within_a_small_output_leaves_a_beginning(rt: HostRuntime) -> Result<(), Fail> {
+    let alloc = rt.alloc();
+    let (texts, output) = looked_up(alloc, 1)?;
+    for (at_once, kind) in WAYS {
+        stops_everywhere(
+            &rt,
+            alloc,
+            texts.as_slice(),
+            output.as_slice(),
+            at_once,
+            kind,
+        );
+    }
     Ok(())
 }
 
-/// Keeps what is written and how many bytes each call brought, and fails if it is flushed.
-#[derive(Drop)]
-struct Counting {
-    taken: Vec<u8>,
-    calls: Vec<usize>,
+#[test]
+fn a_fault_in_any_buffer_leaves_a_beginning(rt: HostRuntime) -> Result<(), Fail> {
+    let alloc = rt.alloc();
+    let (texts, output) = looked_up(alloc, 4_000)?;
+    assert!(rt; output.len() > 3 * OUTPUT_BYTES);
+    for (at_once, kind) in WAYS {
+        stops_everywhere(
+            &rt,
+            alloc,
+            texts.as_slice(),
+            output.as_slice(),
+            at_once,
+            kind,
+        );
+    }
+    Ok(())
 }
 
-impl Write for Counting {
-    fn write(&mut self, buf: &[u8]) -> io::Result<usize> {
-        self.taken.extend_from_slice(buf)?;
-        self.calls.push(buf.len())?;
-        Ok(buf.len())
+#[test]
+fn all_is_written_however_little_a_call_takes(rt: HostRuntime) -> Result<(), Fail> {
+    let alloc = rt.alloc();
+    let (texts, output) = looked_up(alloc, 4_000)?;
+    for at_once in [1, 7, OUTPUT_BYTES + 1] {
+        let mut out = writer(alloc, at_once, usize::MAX, ErrorKind::Other);
+        let status = run_texts(&rt, alloc, texts.as_slice(), 1, 100, &mut out);
+        assert_eq!(rt; status, Ok(0));
+        assert!(rt;
+            out.taken.as_slice() == output.as_slice(),
+            "{at_once} at once"
+        );
     }
-
-    fn flush(&mut self) -> io::Result<()> {
-        Err(io::Error::from(ErrorKind::BrokenPipe))
-    }
+    Ok(())
 }
 
 #[test]
 fn the_output_goes_out_in_few_large_writes(rt: HostRuntime) -> Result<(), Fail> {
     let alloc = rt.alloc();
-    let texts = one_text(alloc, look_ups(alloc, LOOK_UPS)?.as_slice())?;
-    let whole = nothing_found(alloc, LOOK_UPS)?;
-    let mut out = Counting {
-        taken: Vec::new(alloc),
-        calls: Vec::new(alloc),
-    };
+    let (texts, output) = looked_up(alloc, 4_000)?;
+    let mut out = writer(alloc, usize::MAX, usize::MAX, ErrorKind::BrokenPipe);
     let status = run_texts(&rt, alloc, texts.as_slice(), 1, 1024, &mut out);
     assert_eq!(rt; status, Ok(0));
-    assert!(rt; out.taken.as_slice() == whole.as_bytes());
-    assert_eq!(rt; out.calls.len(), whole.len() / 65_536 + 1);
-    Ok(())
-}
-
-/// Takes so many bytes, is then interrupted once, and takes all from then on.
-#[derive(Drop)]
-struct Interrupted {
-    taken: Vec<u8>,
-    before: usize,
-    was: bool,
-}
-
-impl Write for Interrupted {
-    fn write(&mut self, buf: &[u8]) -> io::Result<usize> {
-        if self.was {
-            self.taken.extend_from_slice(buf)?;
-            return Ok(buf.len());
-        }
-        let count = buf.len().min(self.before);
-        if count == 0 {
-            self.was = true;
-            return Err(io::Error::from(ErrorKind::Interrupted));
-        }
-        self.taken.extend_from_slice(&buf[..count])?;
-        self.before -= count;
-        Ok(count)
-    }
-
-    fn flush(&mut self) -> io::Result<()> {
-        Ok(())
-    }
-}
-
-#[test]
-fn an_interrupted_write_is_a_fault_after_which_nothing_is_written(
-    rt: HostRuntime,
-) -> Result<(), Fail> {
-    let texts = one_text(rt.alloc(), FEED)?;
-    for before in 0..OUTPUT.len() {
-        let mut out = Interrupted {
-            taken: Vec::new(rt.alloc()),
-            before,
-            was: false,
-        };
-        let status = run_texts(&rt, rt.alloc(), texts.as_slice(), 1, 1, &mut out);
-        assert_eq!(rt; status, Err(AppFault::Write));
-        assert_eq!(rt; out.taken.as_slice(), &OUTPUT[..before]);
-    }
+    assert!(rt; out.taken.as_slice() == output.as_slice());
+    assert_eq!(rt; out.calls, output.len() / OUTPUT_BYTES + 1);
     Ok(())
 }
