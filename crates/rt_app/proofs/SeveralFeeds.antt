@@ -85,6 +85,28 @@ le_or_lt zero n = inl (omega arith)
 le_or_lt (suc m) zero = inr (omega arith)
 le_or_lt (suc m) (suc n) = elim (le_or_lt m n) [ inl le ↦ inl (omega (arith, le)) | inr lt ↦ inr (omega (arith, lt)) ]
 
+-- what is needed of the places in lists; here a tactic sees nothing else
+below_more : (i m n : ℕ) → i < m → m ≤ n → i < n
+below_more i m n here more = omega (arith, here, more)
+
+with_rest : (m n : ℕ) → m ≤ n → m + (n - m) ≡ n
+with_rest m n within = omega (arith, within)
+
+before_next : (n : ℕ) → 1 ≤ n → (n - 1) + 1 ≡ n
+before_next n positive = omega (arith, positive)
+
+before_below : (n m : ℕ) → 1 ≤ n → n ≤ m → n - 1 < m
+before_below n m positive within = omega (arith, positive, within)
+
+before_past : (m n : ℕ) → m < n → m ≤ n - 1
+before_past m n past = omega (arith, past)
+
+one_more : (i : ℕ) → 1 + i ≡ i + 1
+one_more i = omega arith
+
+as_below : (i m n : ℕ) → n ≡ m → i < m → i < n
+as_below i m n same here = subst (λ (k : ℕ). i < k) (sym same) here
+
 -- where there is a place there is a text
 some_text : {V : Type 0} (texts : List V) (i : ℕ) → i < length texts → V
 some_text [] i here = absurd (omega (arith, here))
@@ -112,7 +134,7 @@ module _ {V : Type 0} (items : V → List ℕ) (texts : List V) (table : SharedI
   gate_before : (i : ℕ) → i < length texts → (get_or feeds i no_feed).gate ≡ get_or passes i no_pass
   unfolding no_pass no_feed open_feed
   gate_before i here =
-      let within : i < length (take (length texts) passes) = omega (arith, here, length-take-le (length texts) passes few) in
+      let within : i < length (take (length texts) passes) = as_below i _ _ (length-take-le (length texts) passes few) here in
       ap (λ (fs : List (Feed HeldPass)). (get_or fs i no_feed).gate) opened
       ∙ (ap (λ (f : Feed HeldPass). f.gate) (get_or-map open_feed (take (length texts) passes) i no_pass no_feed within) ∙ get_or-take (length texts) passes i no_pass here)
 
@@ -125,20 +147,23 @@ module _ {V : Type 0} (items : V → List ℕ) (texts : List V) (table : SharedI
 
   n_back : length back ≡ length passes
   unfolding back
-  n_back = omega (arith, length-append (map (λ (f : Feed HeldPass). f.gate) feeds') (drop (length texts) passes), length-drop (length texts) passes, n_gates, few)
+  n_back =
+      length-append (map (λ (f : Feed HeldPass). f.gate) feeds') (drop (length texts) passes)
+      ∙ (ap (λ (n : ℕ). n + length (drop (length texts) passes)) n_gates
+      ∙ (ap (λ (n : ℕ). length texts + n) (length-drop (length texts) passes) ∙ with_rest (length texts) (length passes) few))
 
   -- the first come back from the gates
   ran_back : (i : ℕ) → i < length texts → get_or back i no_pass ≡ (get_or feeds' i no_feed).gate
   unfolding back no_pass no_feed
   ran_back i here =
-      get_or_append_left (map (λ (f : Feed HeldPass). f.gate) feeds') (drop (length texts) passes) no_pass i (omega (arith, here, n_gates))
-      ∙ get_or-map (λ (f : Feed HeldPass). f.gate) feeds' i no_feed no_pass (omega (arith, here, n_feeds))
+      get_or_append_left (map (λ (f : Feed HeldPass). f.gate) feeds') (drop (length texts) passes) no_pass i (as_below i _ _ n_gates here)
+      ∙ get_or-map (λ (f : Feed HeldPass). f.gate) feeds' i no_feed no_pass (as_below i _ _ n_feeds here)
 
   -- and the others as they were
   idle_back : (i : ℕ) → length texts ≤ i → get_or back i no_pass ≡ get_or passes i no_pass
   unfolding back
   idle_back i idle =
-      let at : length texts + (i - length texts) ≡ i = omega (arith, idle) in
+      let at : length texts + (i - length texts) ≡ i = with_rest (length texts) i idle in
       get_or-append_right (map (λ (f : Feed HeldPass). f.gate) feeds') (drop (length texts) passes) (length texts) i no_pass n_gates idle
       ∙ (get_or-drop (length texts) passes (i - length texts) no_pass ∙ ap (λ (k : ℕ). get_or passes k no_pass) at)
 
@@ -158,12 +183,12 @@ module _ {V : Type 0} (items : V → List ℕ) (texts : List V) (table : SharedI
   are_back = record {
     count = n_back ∙ dealt.count;
     tables = λ k d here.
-        let within : k < length passes = omega (arith, here, n_back) in
+        let within : k < length passes = as_below k _ _ (sym n_back) here in
         ap (λ (p : HeldPass). p.table) (get_or_default back k d no_pass here) ∙ (ap (λ (p : SharedId × ℕ). p.0) (named_back k) ∙ dealt.tables k no_pass within);
     feeds = λ i p is.
         let here = slice_get_within back i p is in
         let found : p ≡ get_or back i no_pass = same_Some _ _ (sym is ∙ slice_get-get_or back i no_pass here) in
-        ap (λ (q : HeldPass). q.feed) found ∙ feed_back i (omega (arith, here, n_back));
+        ap (λ (q : HeldPass). q.feed) found ∙ feed_back i (as_below i _ _ (sym n_back) here);
   }
 
   module _ (journal : List Entry) (settled : Settles table (map (λ (f : Feed HeldPass). f.gate) feeds' ++ drop (length texts) passes) journal) where
@@ -171,7 +196,7 @@ module _ {V : Type 0} (items : V → List ℕ) (texts : List V) (table : SharedI
     since_back : (i : ℕ) → i < length passes → Since (i + 1) (get_or back i no_pass).seen journal
     unfolding back
     since_back i here =
-        subst (λ (feed : ℕ). Since feed (get_or back i no_pass).seen journal) (feed_back i here) (settled.since i no_pass (omega (arith, here, n_back)))
+        subst (λ (feed : ℕ). Since feed (get_or back i no_pass).seen journal) (feed_back i here) (settled.since i no_pass (as_below i _ _ n_back here))
 
     -- so no entry is of a feed that has no text
     pub no_other : All (λ (e : Entry). (1 ≤ e.feed) × (e.feed ≤ length texts)) journal
@@ -182,10 +207,10 @@ module _ {V : Type 0} (items : V → List ℕ) (texts : List V) (table : SharedI
           | inl within ↦ (of.0, within)
           | inr past ↦
               let i = feed - 1 in
-              let next : i + 1 ≡ feed = omega (arith, of.0) in
-              let within : i < length passes = omega (arith, of.1, of.0, dealt.count) in
+              let next : i + 1 ≡ feed = before_next feed of.0 in
+              let within : i < length passes = as_below i _ _ dealt.count (before_below feed table.feeds of.0 of.1) in
               let since = since_back i within in
-              let unseen : (get_or back i no_pass).seen ≡ [] = ap (λ (p : HeldPass). p.seen) (idle_back i (omega (arith, past))) ∙ fresh i no_pass within in
+              let unseen : (get_or back i no_pass).seen ≡ [] = ap (λ (p : HeldPass). p.seen) (idle_back i (before_past (length texts) feed past)) ∙ fresh i no_pass within in
               let all : journal ≡ since.others = since.grown ∙ ap (λ (seen : List Entry). seen ++ since.others) unseen in
               let other : feed ≢ i + 1 =
               subst (λ (l : List Entry). (get_or l k d).feed ≢ i + 1) (sym all) (since.by_others k d (subst (λ (l : List Entry). k < length l) all here)) in
@@ -199,12 +224,12 @@ module _ {V : Type 0} (items : V → List ℕ) (texts : List V) (table : SharedI
 
       report_at : (i : ℕ) (r : List Line) → i < length texts → (get_or feeds' i no_feed).report ≡ Some (get_or reports i r)
       report_at i r here =
-          sym (get_or-map (λ (f : Feed HeldPass). f.report) feeds' i no_feed None (omega (arith, here, n_feeds)))
-          ∙ (ap (λ (rs : List (Option (List Line))). get_or rs i None) (sym reported) ∙ get_or-map Some reports i r None (omega (arith, here, n_reports)))
+          sym (get_or-map (λ (f : Feed HeldPass). f.report) feeds' i no_feed None (as_below i _ _ n_feeds here))
+          ∙ (ap (λ (rs : List (Option (List Line))). get_or rs i None) (sym reported) ∙ get_or-map Some reports i r None (as_below i _ _ n_reports here))
 
       explained_at : (i m : ℕ) (t' : V) (r : List Line) → i < length texts → m ≡ 1 + i → IsExplained batch m journal (items (get_or texts i t')) (get_or reports i r)
       explained_at i m t' r here is =
-          let within : i < length passes = omega (arith, here, few) in
+          let within : i < length passes = below_more i _ _ here few in
           let run = ran i t' no_feed here in
           let old = (get_or feeds i no_feed).gate in
           let new = (get_or feeds' i no_feed).gate in
@@ -212,7 +237,7 @@ module _ {V : Type 0} (items : V → List ℕ) (texts : List V) (table : SharedI
           let runs : RunsFeed holds batch (items (get_or texts i t')) old new report =
           subst (λ (o : Option (List Line)). MatchOption o (StopsWithin holds batch (items (get_or texts i t')) old new) (λ lines. RunsFeed holds batch (items (get_or texts i t')) old new lines)) (report_at i r here) run.runs in
           let unseen : old.seen ≡ [] = ap (λ (p : HeldPass). p.seen) (gate_before i here) ∙ fresh i no_pass within in
-          let next : m ≡ i + 1 = omega (arith, is) in
+          let next : m ≡ i + 1 = is ∙ one_more i in
           let mine : new.feed ≡ m = ap (λ (p : HeldPass). p.feed) (sym (ran_back i here)) ∙ (feed_back i within ∙ sym next) in
           let since : Since m new.seen journal =
           subst (λ (p : HeldPass). Since m p.seen journal) (ran_back i here) (subst (λ (f : ℕ). Since f (get_or back i no_pass).seen journal) (sym next) (since_back i within)) in
