@@ -53,21 +53,23 @@ fn writer(alloc: Global, at_once: usize, room: usize, kind: ErrorKind) -> Failin
     }
 }
 
-/// A text of one route and so many look-ups of it, and what a run of it prints.
+/// A text of one route and so many look-ups of it, and what a run of it prints, in lines that are long.
 fn looked_up(alloc: Global, look_ups: u32) -> Result<(Vec<Vec<u8>>, Vec<u8>), Fail>
     ensures { IfOk result (λ made. vec_len made.0 ≡ 1) }
 {
-    let mut text = Vec::from_slice(alloc, b"add 10.0.0.0/8 100 192.0.2.1\n")?;
+    let mut text = Vec::from_slice(alloc, b"add 100.100.100.0/24 4294967295 100.100.100.100\n")?;
     let mut output = Vec::from_slice(alloc, b"1:1 added\n")?;
     for index in 0..look_ups {
-        text.extend_from_slice(b"lookup 10.1.2.3\n")?;
+        text.extend_from_slice(b"lookup 100.100.100.1\n")?;
         let number = u64::from(index) + 2;
         let line = format!(in alloc;
-            "1:{number} route 10.0.0.0/8 feed 1 pref 100 via 192.0.2.1\n"
+            "1:{number} route 100.100.100.0/24 feed 1 pref 4294967295 via 100.100.100.100\n"
         )?;
         output.extend_from_slice(line.as_bytes())?;
     }
-    output.extend_from_slice(b"table 1\n10.0.0.0/8 feed 1 pref 100 via 192.0.2.1\n")?;
+    output.extend_from_slice(
+        b"table 1\n100.100.100.0/24 feed 1 pref 4294967295 via 100.100.100.100\n",
+    )?;
     Ok((one_text(alloc, text.as_slice())?, output))
 }
 
@@ -159,6 +161,41 @@ fn a_fault_in_any_buffer_leaves_a_beginning(rt: HostRuntime) -> Result<(), Fail>
         );
     }
     Ok(())
+}
+
+/// Lets the writer fail after each count of bytes, of an output of more than one buffer, that leaves this remainder.
+fn stops_after_each<R: Threads + Wait + Sync + Abort>(
+    rt: &R,
+    alloc: Global,
+    remainder: usize,
+) -> Result<(), Fail> {
+    let (texts, output) = looked_up(alloc, 920)?;
+    assert!(rt; output.len() > OUTPUT_BYTES);
+    for room in 0..output.len() {
+        if room % 2 == remainder {
+            stops(
+                rt,
+                alloc,
+                texts.as_slice(),
+                output.as_slice(),
+                room,
+                usize::MAX,
+                ErrorKind::Other,
+            );
+        }
+    }
+    Ok(())
+}
+
+// Each of these two takes some ten seconds.
+#[test]
+fn a_fault_after_any_even_number_of_bytes_leaves_a_beginning(rt: HostRuntime) -> Result<(), Fail> {
+    stops_after_each(&rt, rt.alloc(), 0)
+}
+
+#[test]
+fn a_fault_after_any_odd_number_of_bytes_leaves_a_beginning(rt: HostRuntime) -> Result<(), Fail> {
+    stops_after_each(&rt, rt.alloc(), 1)
 }
 
 #[test]
