@@ -1,12 +1,14 @@
 -- Whatever happens, the content holds what each place made, in order, and each entry followed lawfully.
-use Rattle.std.proofs.Common.{◌≡◌, ◌≢◌, ℕ, ◌≤◌, ◌==◌, Bool, true, false, refl, arith, ap, sym, ◌∙◌, subst, ◌⊎◌, inl, inr, if◌then◌else◌, IsTrue, List, [], ◌∷◌, ◌++◌, append_assoc}
+use Rattle.std.proofs.Common.{◌≡◌, ◌≢◌, ℕ, ◌≤◌, ◌==◌, Bool, true, false, refl, arith, ap, sym, ◌∙◌, subst, ◌⊎◌, inl}
+use Rattle.std.proofs.Common.{inr, if◌then◌else◌, IsTrue, List, [], ◌∷◌, ◌++◌, append_assoc}
 use Rattle.std.proofs.lemmas.Bool.Decides.{nat_tests}
 use Rattle.std.proofs.lemmas.List.{append-nil}
 use Rattle.ya_core.specs.declared.process.Process.{Process}
 use Rattle.ya_core.specs.declared.process.Process.TheVariants.{Idle, Entering, Inside, Leaving}
 use Rattle.ya_core.specs.Steps.{State, next_of, access_of, value_of}
 use Rattle.ya_core.specs.Soundness.{IsSound}
-use Rattle.ya_core.specs.Worlds.{Marked, World, Event, Steps, Appends, opening_world, WorldSteps, WorldAppends, Happens, Runs, IsReached, entries_of, FollowsFrom, IsLawful, is_inside, IsInside, any_entry}
+use Rattle.ya_core.specs.Worlds.{Marked, World, Event, Steps, Appends, opening_world, WorldSteps, WorldAppends, Happens}
+use Rattle.ya_core.specs.Worlds.{Runs, IsReached, entries_of, FollowsFrom, IsLawful, is_inside, IsInside, any_entry}
 use Rattle.ya_core.proofs.Level.{or_else}
 use Rattle.ya_core.proofs.Invariant.{keeps, opens, is_inside_is, excludes}
 
@@ -20,12 +22,14 @@ marked-append place [] ys = refl
 marked-append place (x ∷ xs) ys = ap (λ zs. (place, x) ∷ zs) (marked-append place xs ys)
 
 -- the entries of a place in two lists, one after the other
-entries_of-append : {X : Type 0} (place : ℕ) (xs ys : List (Marked X)) → entries_of place (xs ++ ys) ≡ entries_of place xs ++ entries_of place ys
+entries_of-append : {X : Type 0} (place : ℕ) (xs ys : List (Marked X))
+    → entries_of place (xs ++ ys) ≡ entries_of place xs ++ entries_of place ys
 entries_of-append place [] ys = refl
 entries_of-append place (x ∷ xs) ys = cases (x.0 == place) (entries_of-append place xs ys)
   where
     cases : (b : Bool) → entries_of place (xs ++ ys) ≡ entries_of place xs ++ entries_of place ys
-        → (if b then x.1 ∷ entries_of place (xs ++ ys) else entries_of place (xs ++ ys)) ≡ (if b then x.1 ∷ entries_of place xs else entries_of place xs) ++ entries_of place ys
+        → (if b then x.1 ∷ entries_of place (xs ++ ys) else entries_of place (xs ++ ys)) ≡ (if b
+        then x.1 ∷ entries_of place xs else entries_of place xs) ++ entries_of place ys
     cases true rest = ap (λ zs. x.1 ∷ zs) rest
     cases false rest = rest
 
@@ -34,22 +38,31 @@ entries_of-marked : {X : Type 0} (place : ℕ) (xs : List X) → entries_of plac
 entries_of-marked place [] = refl
 entries_of-marked place (x ∷ xs) = cases (place == place) (grind (arith, nat_tests)) (entries_of-marked place xs)
   where
-    cases : (b : Bool) → b ≡ true → entries_of place (marked place xs) ≡ xs → (if b then x ∷ entries_of place (marked place xs) else entries_of place (marked place xs)) ≡ x ∷ xs
+    cases : (b : Bool) → b ≡ true → entries_of place (marked place xs) ≡ xs
+        → (if b then x ∷ entries_of place (marked place xs) else entries_of place (marked place xs)) ≡ x ∷ xs
     cases true is rest = ap (λ zs. x ∷ zs) rest
     cases false is rest = cc
 
-entries_of-marked_other : {X : Type 0} (place other : ℕ) (xs : List X) → other ≢ place → entries_of place (marked other xs) ≡ []
+entries_of-marked_other : {X : Type 0} (place other : ℕ) (xs : List X) → other ≢ place
+    → entries_of place (marked other xs) ≡ []
 entries_of-marked_other place other [] apart = refl
-entries_of-marked_other place other (x ∷ xs) apart = cases (other == place) (grind (arith, nat_tests)) (entries_of-marked_other place other xs apart)
+entries_of-marked_other place other (x ∷ xs) apart =
+    cases (other == place) (grind (arith, nat_tests)) (entries_of-marked_other place other xs apart)
   where
-    cases : (b : Bool) → b ≡ false → entries_of place (marked other xs) ≡ [] → (if b then x ∷ entries_of place (marked other xs) else entries_of place (marked other xs)) ≡ []
+    cases : (b : Bool) → b ≡ false → entries_of place (marked other xs) ≡ []
+        → (if b then x ∷ entries_of place (marked other xs) else entries_of place (marked other xs)) ≡ []
     cases false is rest = rest
     cases true is rest = cc
 
 -- one more entry that may follow all the others
-FollowsFrom-push : {X : Type 0} (ok : List (Marked X) → Marked X → Type 0) (before xs : List (Marked X)) (x : Marked X) → FollowsFrom ok before xs → ok (before ++ xs) x → FollowsFrom ok before (xs ++ x ∷ [])
+FollowsFrom-push : {X : Type 0} (ok : List (Marked X) → Marked X → Type 0) (before xs : List (Marked X)) (x : Marked X)
+    → FollowsFrom ok before xs → ok (before ++ xs) x → FollowsFrom ok before (xs ++ x ∷ [])
 FollowsFrom-push ok before [] x is may = (subst (λ ys. ok ys x) (append-nil before) may, tt)
-FollowsFrom-push ok before (y ∷ ys) x is may = (is.0, FollowsFrom-push ok (before ++ y ∷ []) ys x is.1 (subst (λ zs. ok zs x) (sym (append_assoc before (y ∷ []) ys)) may))
+FollowsFrom-push ok before (y ∷ ys) x is may = (
+  is.0,
+  FollowsFrom-push ok (before ++ y ∷ []) ys x is.1
+      (subst (λ zs. ok zs x) (sym (append_assoc before (y ∷ []) ys)) may),
+)
 
 -- what holds of every world that is reached
 pub record IsKept {X : Type 0} (levels : ℕ) (ok : List (Marked X) → Marked X → Type 0) (w : World X) : Type 0 where
@@ -61,7 +74,14 @@ pub record IsKept {X : Type 0} (levels : ℕ) (ok : List (Marked X) → Marked X
 
 -- at the start it holds
 kept_opening : {X : Type 0} (levels : ℕ) (ok : List (Marked X) → Marked X → Type 0) → IsKept levels ok opening_world
-kept_opening levels ok = record { sound = opens levels; copies = λ p h. absurd cc; made = λ p. refl; lawful = tt; lawful_copy = λ p h. absurd cc }
+kept_opening levels ok =
+    record {
+      sound = opens levels;
+      copies = λ p h. absurd cc;
+      made = λ p. refl;
+      lawful = tt;
+      lawful_copy = λ p h. absurd cc;
+    }
 
 module _ {X : Type 0} (levels : ℕ) (ok : List (Marked X) → Marked X → Type 0) (some : 1 ≤ levels) where
   module _ (place : ℕ) (old new : World X) (is : IsKept levels ok old) where
@@ -95,24 +115,33 @@ module _ {X : Type 0} (levels : ℕ) (ok : List (Marked X) → Marked X → Type
         nobody q h = cases (or_else (λ q. new.state.processes q ≡ old.state.processes q) place step.state.others q)
           where
             cases : (q ≡ place) ⊎ (new.state.processes q ≡ old.state.processes q) → ⊥
-            cases (inl one) = let now : is_inside (new.state.processes place) ≡ true = subst (λ p. is_inside (new.state.processes p) ≡ true) one h in cc (out, now)
+            cases (inl one) =
+                let now : is_inside (new.state.processes place) ≡ true =
+                subst (λ p. is_inside (new.state.processes p) ≡ true) one h in cc (out, now)
             cases (inr same) =
-                let one : q ≡ place = excludes levels q place old.state some is.sound (ap is_inside (sym same) ∙ h) inside in
-                let now : is_inside (new.state.processes place) ≡ true = subst (λ p. is_inside (new.state.processes p) ≡ true) one h in cc (out, now)
+                let one : q ≡ place =
+                excludes levels q place old.state some is.sound (ap is_inside (sym same) ∙ h) inside in
+                let now : is_inside (new.state.processes place) ≡ true =
+                subst (λ p. is_inside (new.state.processes p) ≡ true) one h in cc (out, now)
 
         made : (q : ℕ) → entries_of q new.content ≡ new.made q
-        made q = ap (entries_of q) whole ∙ entries_of-append q old.content (marked place (old.doing place)) ∙ cases (or_else (λ q. new.made q ≡ old.made q) place step.others_made q) (q == place) refl
+        made q = ap (entries_of q) whole ∙ entries_of-append q old.content (marked place (old.doing place))
+            ∙ cases (or_else (λ q. new.made q ≡ old.made q) place step.others_made q) (q == place) refl
           where
-            cases : (q ≡ place) ⊎ (new.made q ≡ old.made q) → (b : Bool) → (q == place) ≡ b → entries_of q old.content ++ entries_of q (marked place (old.doing place)) ≡ new.made q
+            cases : (q ≡ place) ⊎ (new.made q ≡ old.made q) → (b : Bool) → (q == place) ≡ b
+                → entries_of q old.content ++ entries_of q (marked place (old.doing place)) ≡ new.made q
             cases either true one =
                 let same : q ≡ place = grind (arith, nat_tests) in
-                subst (λ p. entries_of p old.content ++ entries_of p (marked place (old.doing place)) ≡ new.made p) (sym same)
-                (ap (λ xs. xs ++ entries_of place (marked place (old.doing place))) (is.made place) ∙ ap (λ xs. old.made place ++ xs) (entries_of-marked place (old.doing place))
+                subst (λ p. entries_of p old.content ++ entries_of p (marked place (old.doing place)) ≡ new.made p)
+                (sym same)
+                (ap (λ xs. xs ++ entries_of place (marked place (old.doing place))) (is.made place)
+                ∙ ap (λ xs. old.made place ++ xs) (entries_of-marked place (old.doing place))
                 ∙ sym (step.made ∙ ap (λ b. if b then old.made place ++ old.doing place else old.made place) inside))
             cases (inl same) false other = absurd (grind (arith, nat_tests))
             cases (inr same) false other =
                 let apart : place ≢ q = grind (arith, nat_tests) in
-                ap (λ xs. entries_of q old.content ++ xs) (entries_of-marked_other q place (old.doing place) apart) ∙ append-nil (entries_of q old.content) ∙ is.made q ∙ sym same
+                ap (λ xs. entries_of q old.content ++ xs) (entries_of-marked_other q place (old.doing place) apart)
+                ∙ append-nil (entries_of q old.content) ∙ is.made q ∙ sym same
 
     -- any other step leaves the content; where it wins the root, the copy is the content
     kept_step : WorldSteps levels place old new → is_inside (old.state.processes place) ≡ false → IsKept levels ok new
@@ -131,31 +160,39 @@ module _ {X : Type 0} (levels : ℕ) (ok : List (Marked X) → Marked X → Type
         made : (q : ℕ) (b : Bool) → (q == place) ≡ b → new.made q ≡ old.made q
         made q true one =
             let same : q ≡ place = grind (arith, nat_tests) in
-            subst (λ p. new.made p ≡ old.made p) (sym same) (step.made ∙ ap (λ b. if b then old.made place ++ old.doing place else old.made place) outside)
+            subst (λ p. new.made p ≡ old.made p) (sym same)
+            (step.made ∙ ap (λ b. if b then old.made place ++ old.doing place else old.made place) outside)
         made q false other = step.others_made q (grind (arith, nat_tests))
 
-        copies : (q : ℕ) → IsInside new.state q → (b : Bool) → (q == place) ≡ b → new.copies q ≡ new.content ++ marked q (new.doing q)
+        copies : (q : ℕ) → IsInside new.state q → (b : Bool) → (q == place) ≡ b
+            → new.copies q ≡ new.content ++ marked q (new.doing q)
         copies q h true one =
             let same : q ≡ place = grind (arith, nat_tests) in
-            let now : is_inside (new.state.processes place) ≡ true = subst (λ p. is_inside (new.state.processes p) ≡ true) same h in
-            let copy : new.copies place ≡ old.content = step.copy ∙ ap (λ b. if b then old.content else old.copies place) now in
+            let now : is_inside (new.state.processes place) ≡ true =
+            subst (λ p. is_inside (new.state.processes p) ≡ true) same h in
+            let copy : new.copies place ≡ old.content =
+            step.copy ∙ ap (λ b. if b then old.content else old.copies place) now in
             let doing : new.doing place ≡ [] = step.doing ∙ ap (λ b. if b then [] else old.doing place) now in
             subst (λ p. new.copies p ≡ new.content ++ marked p (new.doing p)) (sym same)
             (copy ∙ sym content ∙ sym (append-nil new.content) ∙ ap (λ xs. new.content ++ marked place xs) (sym doing))
         copies q h false other =
             let apart : q ≢ place = grind (arith, nat_tests) in
             let was : IsInside old.state q = ap is_inside (sym (step.state.others q apart)) ∙ h in
-            step.others_copy q apart ∙ is.copies q was ∙ ap (λ xs. xs ++ marked q (old.doing q)) (sym content) ∙ ap (λ xs. new.content ++ marked q xs) (sym (step.others_doing q apart))
+            step.others_copy q apart ∙ is.copies q was ∙ ap (λ xs. xs ++ marked q (old.doing q)) (sym content)
+            ∙ ap (λ xs. new.content ++ marked q xs) (sym (step.others_doing q apart))
 
         lawful_copy : (q : ℕ) → IsInside new.state q → (b : Bool) → (q == place) ≡ b → IsLawful ok (new.copies q)
         lawful_copy q h true one =
             let same : q ≡ place = grind (arith, nat_tests) in
-            let now : is_inside (new.state.processes place) ≡ true = subst (λ p. is_inside (new.state.processes p) ≡ true) same h in
-            let copy : new.copies place ≡ old.content = step.copy ∙ ap (λ b. if b then old.content else old.copies place) now in
+            let now : is_inside (new.state.processes place) ≡ true =
+            subst (λ p. is_inside (new.state.processes p) ≡ true) same h in
+            let copy : new.copies place ≡ old.content =
+            step.copy ∙ ap (λ b. if b then old.content else old.copies place) now in
             subst (λ p. IsLawful ok (new.copies p)) (sym same) (subst (IsLawful ok) (sym copy) is.lawful)
         lawful_copy q h false other =
             let apart : q ≢ place = grind (arith, nat_tests) in
-            subst (IsLawful ok) (sym (step.others_copy q apart)) (is.lawful_copy q (ap is_inside (sym (step.state.others q apart)) ∙ h))
+            subst (IsLawful ok) (sym (step.others_copy q apart))
+            (is.lawful_copy q (ap is_inside (sym (step.state.others q apart)) ∙ h))
 
     -- an entry that is appended to a copy
     kept_append : (entry : X) → WorldAppends ok place entry old new → IsKept levels ok new
@@ -169,29 +206,38 @@ module _ {X : Type 0} (levels : ℕ) (ok : List (Marked X) → Marked X → Type
         }
       where
         made : (q : ℕ) (b : Bool) → (q == place) ≡ b → new.made q ≡ old.made q
-        made q true one = let same : q ≡ place = grind (arith, nat_tests) in subst (λ p. new.made p ≡ old.made p) (sym same) adds.made
+        made q true one =
+            let same : q ≡ place = grind (arith, nat_tests) in subst (λ p. new.made p ≡ old.made p) (sym same) adds.made
         made q false other = adds.others_made q (grind (arith, nat_tests))
 
-        copies : (q : ℕ) → IsInside old.state q → (b : Bool) → (q == place) ≡ b → new.copies q ≡ new.content ++ marked q (new.doing q)
+        copies : (q : ℕ) → IsInside old.state q → (b : Bool) → (q == place) ≡ b
+            → new.copies q ≡ new.content ++ marked q (new.doing q)
         copies q h true one =
             let same : q ≡ place = grind (arith, nat_tests) in
             subst (λ p. new.copies p ≡ new.content ++ marked p (new.doing p)) (sym same)
-            (adds.copy ∙ ap (λ xs. xs ++ (place, entry) ∷ []) (is.copies place adds.inside) ∙ append_assoc old.content (marked place (old.doing place)) ((place, entry) ∷ [])
-            ∙ ap (λ xs. old.content ++ xs) (sym (marked-append place (old.doing place) (entry ∷ []))) ∙ ap (λ xs. xs ++ marked place (old.doing place ++ entry ∷ [])) (sym adds.content)
+            (adds.copy ∙ ap (λ xs. xs ++ (place, entry) ∷ []) (is.copies place adds.inside)
+            ∙ append_assoc old.content (marked place (old.doing place)) ((place, entry) ∷ [])
+            ∙ ap (λ xs. old.content ++ xs) (sym (marked-append place (old.doing place) (entry ∷ [])))
+            ∙ ap (λ xs. xs ++ marked place (old.doing place ++ entry ∷ [])) (sym adds.content)
             ∙ ap (λ xs. new.content ++ marked place xs) (sym adds.doing))
         copies q h false other =
             let apart : q ≢ place = grind (arith, nat_tests) in
-            adds.others_copy q apart ∙ is.copies q h ∙ ap (λ xs. xs ++ marked q (old.doing q)) (sym adds.content) ∙ ap (λ xs. new.content ++ marked q xs) (sym (adds.others_doing q apart))
+            adds.others_copy q apart ∙ is.copies q h ∙ ap (λ xs. xs ++ marked q (old.doing q)) (sym adds.content)
+            ∙ ap (λ xs. new.content ++ marked q xs) (sym (adds.others_doing q apart))
 
         lawful_copy : (q : ℕ) → IsInside old.state q → (b : Bool) → (q == place) ≡ b → IsLawful ok (new.copies q)
         lawful_copy q h true one =
             let same : q ≡ place = grind (arith, nat_tests) in
             subst (λ p. IsLawful ok (new.copies p)) (sym same)
-            (subst (IsLawful ok) (sym adds.copy) (FollowsFrom-push ok [] (old.copies place) (place, entry) (is.lawful_copy place adds.inside) adds.may_follow))
-        lawful_copy q h false other = subst (IsLawful ok) (sym (adds.others_copy q (grind (arith, nat_tests)))) (is.lawful_copy q h)
+            (subst (IsLawful ok) (sym adds.copy)
+            (FollowsFrom-push ok [] (old.copies place) (place, entry)
+            (is.lawful_copy place adds.inside) adds.may_follow))
+        lawful_copy q h false other =
+            subst (IsLawful ok) (sym (adds.others_copy q (grind (arith, nat_tests)))) (is.lawful_copy q h)
 
   -- each event keeps it
-  kept_event : (event : Event X) (old new : World X) → IsKept levels ok old → Happens levels ok event old new → IsKept levels ok new
+  kept_event : (event : Event X) (old new : World X) → IsKept levels ok old → Happens levels ok event old new
+      → IsKept levels ok new
   kept_event (Steps place) old new is step = cases (is_inside (old.state.processes place)) refl
     where
       cases : (b : Bool) → is_inside (old.state.processes place) ≡ b → IsKept levels ok new
@@ -200,7 +246,8 @@ module _ {X : Type 0} (levels : ℕ) (ok : List (Marked X) → Marked X → Type
   kept_event (Appends place entry) old new is adds = kept_append place old new is entry adds
 
   -- and each run
-  kept_run : (events : List (Event X)) (old new : World X) → IsKept levels ok old → Runs levels ok old events new → IsKept levels ok new
+  kept_run : (events : List (Event X)) (old new : World X) → IsKept levels ok old → Runs levels ok old events new
+      → IsKept levels ok new
   kept_run [] old new is run = subst (IsKept levels ok) (sym run) is
   kept_run (event ∷ events) old new is run = kept_run events run.0 new (kept_event event old run.0 is run.1) run.2
 
@@ -209,7 +256,8 @@ module _ {X : Type 0} (levels : ℕ) (ok : List (Marked X) → Marked X → Type
   kept events w run = kept_run events opening_world w (kept_opening levels ok) run
 
 -- a run whose entries may follow is a run
-pub any_run : {X : Type 0} (levels : ℕ) (ok : List (Marked X) → Marked X → Type 0) (events : List (Event X)) (old new : World X) → Runs levels ok old events new → Runs levels any_entry old events new
+pub any_run : {X : Type 0} (levels : ℕ) (ok : List (Marked X) → Marked X → Type 0) (events : List (Event X))
+    (old new : World X) → Runs levels ok old events new → Runs levels any_entry old events new
 any_run levels ok [] old new run = run
 any_run levels ok (Steps place ∷ events) old new run = (run.0, run.1, any_run levels ok events run.0 new run.2)
 any_run levels ok (Appends place entry ∷ events) old new run = (

@@ -1,5 +1,6 @@
 -- One process: each step comes nearer to its end, and costs what was counted.
-use Rattle.std.proofs.Common.{◌≡◌, ℕ, ◌+◌, ◌-◌, ◌*◌, ◌<◌, ◌≤◌, ◌==◌, Bool, true, false, nat_lt, refl, arith, ◌⊎◌, inl, inr, IsTrue, Some, List, [], ◌∷◌, ap}
+use Rattle.std.proofs.Common.{◌≡◌, ℕ, ◌+◌, ◌-◌, ◌*◌, ◌<◌, ◌≤◌, ◌==◌, Bool, true, false, nat_lt, refl, arith, ◌⊎◌, inl}
+use Rattle.std.proofs.Common.{inr, IsTrue, Some, List, [], ◌∷◌, ap}
 use Rattle.std.proofs.lemmas.Bool.Decides.{nat_tests}
 use Rattle.ya_core.specs.declared.word.Word.{Word}
 use Rattle.ya_core.specs.declared.word.Word.TheVariants.{C, T, P}
@@ -14,58 +15,83 @@ use Rattle.ya_core.specs.declared.process.Process.TheVariants.{Idle, Entering, I
 use Rattle.ya_core.specs.Steps.{access_of, entry_access, exit_access, next_of, entry_next, exit_next, won, left}
 use Rattle.ya_core.specs.Soundness.{IsProper}
 use Rattle.ya_core.proofs.Properness.{either, proper_next, within_access}
-use Rattle.ya_core.specs.Walks.{MayFind, Goes, AccessIsWithin, Walk, IsWalk, walk_after, MovesOn, budget, due, DueIsWithin, CountIsKept, due_of, IsTold, budget_of, points_of, cost_of, cost_of_word, is_waiting, entry_points, exit_points, entry_cost}
+use Rattle.ya_core.specs.Walks.{MayFind, Goes, AccessIsWithin, Walk, IsWalk, walk_after, MovesOn, budget, due}
+use Rattle.ya_core.specs.Walks.{DueIsWithin, CountIsKept, due_of, IsTold, budget_of, points_of, cost_of, cost_of_word}
+use Rattle.ya_core.specs.Walks.{is_waiting, entry_points, exit_points, entry_cost}
 
 -- what is still ahead of a process that won a level, or left it
 points_won : (levels level : ℕ) → level ≤ levels → points_of levels (won levels level) false ≤ 10 * (levels - level)
-points_won levels level most = either (λ x. points_of levels x false ≤ 10 * (levels - level)) (nat_lt level levels) _ _ (λ less. grind (arith, nat_tests)) (λ _. omega arith)
+points_won levels level most =
+    either (λ x. points_of levels x false ≤ 10 * (levels - level)) (nat_lt level levels) _ _
+    (λ less. grind (arith, nat_tests)) (λ _. omega arith)
 
 points_left : (levels level : ℕ) → points_of levels (left level) false ≤ 3 * (level - 1)
-points_left levels level = either (λ x. points_of levels x false ≤ 3 * (level - 1)) (nat_lt 1 level) _ _ (λ more. grind (arith, nat_tests)) (λ _. omega arith)
+points_left levels level =
+    either (λ x. points_of levels x false ≤ 3 * (level - 1)) (nat_lt 1 level) _ _ (λ more. grind (arith, nat_tests))
+    (λ _. omega arith)
 
 -- a step on the way in comes nearer, or waits
 nearer_entry : (levels level place : ℕ) (point : Entry) (value : ℕ) → level ≤ levels
-    → (points_of levels (entry_next levels level place point value) false < 10 * (levels - level) + entry_points point) ⊎ (IsTrue (is_waiting (Entering level point)) × (entry_next levels level place point value ≡ Entering level point))
+    → (points_of levels (entry_next levels level place point value) false < 10 * (levels - level) + entry_points point)
+    ⊎ (IsTrue (is_waiting (Entering level point))
+    × (entry_next levels level place point value ≡ Entering level point))
 nearer_entry levels level place E1 value most = inl (omega arith)
 nearer_entry levels level place E2 value most = inl (omega arith)
 nearer_entry levels level place E3 value most = inl (omega arith)
 nearer_entry levels level place E4 value most =
-    inl (either (λ x. points_of levels x false < 10 * (levels - level) + 7) (value == 0) _ _ (λ _. omega (arith, points_won levels level most)) (λ _. omega arith))
+    inl (either (λ x. points_of levels x false < 10 * (levels - level) + 7) (value == 0) _ _
+    (λ _. omega (arith, points_won levels level most)) (λ _. omega arith))
 nearer_entry levels level place (E5 rival) value most =
-    inl (either (λ x. points_of levels x false < 10 * (levels - level) + 6) (value == place + 1) _ _ (λ _. omega arith) (λ _. omega (arith, points_won levels level most)))
+    inl (either (λ x. points_of levels x false < 10 * (levels - level) + 6) (value == place + 1) _ _ (λ _. omega arith)
+    (λ _. omega (arith, points_won levels level most)))
 nearer_entry levels level place (E6 rival) value most =
-    inl (either (λ x. points_of levels x false < 10 * (levels - level) + 5) (value == 0) _ _ (λ _. omega arith) (λ _. omega arith))
+    inl (either (λ x. points_of levels x false < 10 * (levels - level) + 5) (value == 0) _ _ (λ _. omega arith)
+    (λ _. omega arith))
 nearer_entry levels level place (E7 rival) value most = inl (omega arith)
 nearer_entry levels level place E8 value most =
-    either (λ x. (points_of levels x false < 10 * (levels - level) + 3) ⊎ (IsTrue true × (x ≡ Entering level E8))) (value == 0) _ _ (λ _. inr (refl, refl)) (λ _. inl (omega arith))
+    either (λ x. (points_of levels x false < 10 * (levels - level) + 3) ⊎ (IsTrue true × (x ≡ Entering level E8)))
+    (value == 0) _ _ (λ _. inr (refl, refl)) (λ _. inl (omega arith))
 nearer_entry levels level place E9 value most =
-    inl (either (λ x. points_of levels x false < 10 * (levels - level) + 2) (value == place + 1) _ _ (λ _. omega arith) (λ _. omega (arith, points_won levels level most)))
+    inl (either (λ x. points_of levels x false < 10 * (levels - level) + 2) (value == place + 1) _ _ (λ _. omega arith)
+    (λ _. omega (arith, points_won levels level most)))
 nearer_entry levels level place E10 value most =
-    either (λ x. (points_of levels x false < 10 * (levels - level) + 1) ⊎ (IsTrue true × (x ≡ Entering level E10))) (value == 2) _ _ (λ _. inl (omega (arith, points_won levels level most))) (λ _. inr (refl, refl))
+    either (λ x. (points_of levels x false < 10 * (levels - level) + 1) ⊎ (IsTrue true × (x ≡ Entering level E10)))
+    (value == 2) _ _ (λ _. inl (omega (arith, points_won levels level most))) (λ _. inr (refl, refl))
 
 -- a step on the way out comes nearer
-nearer_exit : (levels level place : ℕ) (point : Exit) (value : ℕ) → points_of levels (exit_next level place point value) false < 3 * (level - 1) + exit_points point
+nearer_exit : (levels level place : ℕ) (point : Exit) (value : ℕ)
+    → points_of levels (exit_next level place point value) false < 3 * (level - 1) + exit_points point
 nearer_exit levels level place X1 value = omega arith
 nearer_exit levels level place X2 value =
-    either (λ x. points_of levels x false < 3 * (level - 1) + 2) (value == place + 1) _ _ (λ _. omega (arith, points_left levels level)) (λ _. omega arith)
+    either (λ x. points_of levels x false < 3 * (level - 1) + 2) (value == place + 1) _ _
+    (λ _. omega (arith, points_left levels level)) (λ _. omega arith)
 nearer_exit levels level place (X3 rival) value = omega (arith, points_left levels level)
 
--- a step takes a process to a later point or level, but for a load that found a waiting process its own spin word unchanged
-nearer : (levels place : ℕ) (x : Process) (begun : Bool) (value : ℕ) → 1 ≤ levels → IsProper levels place x → IsTold (due_of levels place x begun) value
-    → (points_of levels (next_of levels place x value) false < points_of levels x begun) ⊎ (IsTrue (is_waiting x) × (next_of levels place x value ≡ x))
+-- a step takes a process to a later point or level, but for a load that found a waiting process its own spin word
+-- unchanged
+nearer : (levels place : ℕ) (x : Process) (begun : Bool) (value : ℕ) → 1 ≤ levels → IsProper levels place x
+    → IsTold (due_of levels place x begun) value
+    → (points_of levels (next_of levels place x value) false < points_of levels x begun)
+    ⊎ (IsTrue (is_waiting x) × (next_of levels place x value ≡ x))
 nearer levels place Idle true value some proper told = inl (omega arith)
 nearer levels place Idle false value some proper told = absurd told
-nearer levels place (Entering level point) begun value some proper told = nearer_entry levels level place point value proper.most
+nearer levels place (Entering level point) begun value some proper told =
+    nearer_entry levels level place point value proper.most
 nearer levels place Inside true value some proper told = inl (omega arith)
 nearer levels place Inside false value some proper told = absurd told
-nearer levels place (Leaving level point) begun value some proper told = inl (nearer_exit levels level place point value)
+nearer levels place (Leaving level point) begun value some proper told =
+    inl (nearer_exit levels level place point value)
 
 -- what remote accesses can still cost a process that won a level, or left it
 budget_won : (levels level : ℕ) → level ≤ levels → budget_of levels (won levels level) false ≤ 7 * (levels - level)
-budget_won levels level most = either (λ x. budget_of levels x false ≤ 7 * (levels - level)) (nat_lt level levels) _ _ (λ less. grind (arith, nat_tests)) (λ _. omega arith)
+budget_won levels level most =
+    either (λ x. budget_of levels x false ≤ 7 * (levels - level)) (nat_lt level levels) _ _
+    (λ less. grind (arith, nat_tests)) (λ _. omega arith)
 
 budget_left : (levels level : ℕ) → budget_of levels (left level) false ≤ 3 * (level - 1)
-budget_left levels level = either (λ x. budget_of levels x false ≤ 3 * (level - 1)) (nat_lt 1 level) _ _ (λ more. grind (arith, nat_tests)) (λ _. omega arith)
+budget_left levels level =
+    either (λ x. budget_of levels x false ≤ 3 * (level - 1)) (nat_lt 1 level) _ _ (λ more. grind (arith, nat_tests))
+    (λ _. omega arith)
 
 -- an access costs one at most, and one of an own word P nothing
 cost_at_most : (place : ℕ) (word : Word) → cost_of_word place word ≤ 1
@@ -78,74 +104,100 @@ cost_of_own level place = grind (arith, nat_tests)
 
 -- a step on the way in, or out, costs what the budget loses
 cheaper_entry : (levels level place : ℕ) (point : Entry) (value : ℕ) → level ≤ levels
-    → cost_of place (entry_access level place point) + budget_of levels (entry_next levels level place point value) false ≤ 7 * (levels - level) + entry_cost point
+    → cost_of place (entry_access level place point) + budget_of levels
+    (entry_next levels level place point value) false ≤ 7 * (levels - level) + entry_cost point
 cheaper_entry levels level place E1 value most = omega arith
 cheaper_entry levels level place E2 value most = omega arith
 cheaper_entry levels level place E3 value most = omega (arith, cost_of_own level place)
 cheaper_entry levels level place E4 value most =
-    either (λ x. 1 + budget_of levels x false ≤ 7 * (levels - level) + 5) (value == 0) _ _ (λ _. omega (arith, budget_won levels level most)) (λ _. omega arith)
+    either (λ x. 1 + budget_of levels x false ≤ 7 * (levels - level) + 5) (value == 0) _ _
+    (λ _. omega (arith, budget_won levels level most)) (λ _. omega arith)
 cheaper_entry levels level place (E5 rival) value most =
-    either (λ x. 1 + budget_of levels x false ≤ 7 * (levels - level) + 4) (value == place + 1) _ _ (λ _. omega arith) (λ _. omega (arith, budget_won levels level most))
+    either (λ x. 1 + budget_of levels x false ≤ 7 * (levels - level) + 4) (value == place + 1) _ _ (λ _. omega arith)
+    (λ _. omega (arith, budget_won levels level most))
 cheaper_entry levels level place (E6 rival) value most =
-    either (λ x. cost_of_word place (P level rival) + budget_of levels x false ≤ 7 * (levels - level) + 3) (value == 0) _ _ (λ _. omega (arith, cost_at_most place (P level rival))) (λ _. omega (arith, cost_at_most place (P level rival)))
+    either (λ x. cost_of_word place (P level rival) + budget_of levels x false ≤ 7 * (levels - level) + 3)
+    (value == 0) _ _ (λ _. omega (arith, cost_at_most place (P level rival)))
+    (λ _. omega (arith, cost_at_most place (P level rival)))
 cheaper_entry levels level place (E7 rival) value most = omega (arith, cost_at_most place (P level rival))
 cheaper_entry levels level place E8 value most =
-    either (λ x. cost_of_word place (P level place) + budget_of levels x false ≤ 7 * (levels - level) + 1) (value == 0) _ _ (λ _. omega (arith, cost_of_own level place)) (λ _. omega (arith, cost_of_own level place))
+    either (λ x. cost_of_word place (P level place) + budget_of levels x false ≤ 7 * (levels - level) + 1)
+    (value == 0) _ _ (λ _. omega (arith, cost_of_own level place)) (λ _. omega (arith, cost_of_own level place))
 cheaper_entry levels level place E9 value most =
-    either (λ x. 1 + budget_of levels x false ≤ 7 * (levels - level) + 1) (value == place + 1) _ _ (λ _. omega arith) (λ _. omega (arith, budget_won levels level most))
+    either (λ x. 1 + budget_of levels x false ≤ 7 * (levels - level) + 1) (value == place + 1) _ _ (λ _. omega arith)
+    (λ _. omega (arith, budget_won levels level most))
 cheaper_entry levels level place E10 value most =
-    either (λ x. cost_of_word place (P level place) + budget_of levels x false ≤ 7 * (levels - level) + 0) (value == 2) _ _ (λ _. omega (arith, cost_of_own level place, budget_won levels level most)) (λ _. omega (arith, cost_of_own level place))
+    either (λ x. cost_of_word place (P level place) + budget_of levels x false ≤ 7 * (levels - level) + 0)
+    (value == 2) _ _ (λ _. omega (arith, cost_of_own level place, budget_won levels level most))
+    (λ _. omega (arith, cost_of_own level place))
 
 cheaper_exit : (levels level place : ℕ) (point : Exit) (value : ℕ)
-    → cost_of place (exit_access level place point) + budget_of levels (exit_next level place point value) false ≤ 3 * (level - 1) + exit_points point
+    → cost_of place (exit_access level place point) + budget_of levels
+    (exit_next level place point value) false ≤ 3 * (level - 1) + exit_points point
 cheaper_exit levels level place X1 value = omega arith
 cheaper_exit levels level place X2 value =
-    either (λ x. 1 + budget_of levels x false ≤ 3 * (level - 1) + 2) (value == place + 1) _ _ (λ _. omega (arith, budget_left levels level)) (λ _. omega arith)
-cheaper_exit levels level place (X3 rival) value = omega (arith, budget_left levels level, cost_at_most place (P level rival))
+    either (λ x. 1 + budget_of levels x false ≤ 3 * (level - 1) + 2) (value == place + 1) _ _
+    (λ _. omega (arith, budget_left levels level)) (λ _. omega arith)
+cheaper_exit levels level place (X3 rival) value =
+    omega (arith, budget_left levels level, cost_at_most place (P level rival))
 
-cheaper : (levels place : ℕ) (x : Process) (begun : Bool) (value : ℕ) → 1 ≤ levels → IsProper levels place x → IsTold (due_of levels place x begun) value
-    → cost_of place (access_of levels place x) + budget_of levels (next_of levels place x value) false ≤ budget_of levels x begun
+cheaper : (levels place : ℕ) (x : Process) (begun : Bool) (value : ℕ) → 1 ≤ levels → IsProper levels place x
+    → IsTold (due_of levels place x begun) value
+    → cost_of place (access_of levels place x) + budget_of levels
+    (next_of levels place x value) false ≤ budget_of levels x begun
 cheaper levels place Idle true value some proper told = omega arith
 cheaper levels place Idle false value some proper told = absurd told
-cheaper levels place (Entering level point) begun value some proper told = cheaper_entry levels level place point value proper.most
+cheaper levels place (Entering level point) begun value some proper told =
+    cheaper_entry levels level place point value proper.most
 cheaper levels place Inside true value some proper told = omega arith
 cheaper levels place Inside false value some proper told = absurd told
 cheaper levels place (Leaving level point) begun value some proper told = cheaper_exit levels level place point value
 
 -- the count is kept where what was spent and what can still be spent are at most seven a level
-counted_in : (levels remote : ℕ) (x : Process) → remote + budget_of levels x false ≤ 7 * levels → CountIsKept levels remote x false
+counted_in : (levels remote : ℕ) (x : Process) → remote + budget_of levels x false ≤ 7 * levels
+    → CountIsKept levels remote x false
 counted_in levels remote Idle most = omega arith
 counted_in levels remote (Entering level point) most = most
 counted_in levels remote Inside most = omega arith
 counted_in levels remote (Leaving level point) most = omega arith
 
 -- on the way out, where they are at most ten a level
-counted_left : (levels level remote : ℕ) → remote + 3 * (level - 1) ≤ 10 * levels → CountIsKept levels remote (left level) false
-counted_left levels level remote most = either (λ x. CountIsKept levels remote x false) (nat_lt 1 level) _ _ (λ more. grind (arith, nat_tests)) (λ _. omega arith)
+counted_left : (levels level remote : ℕ) → remote + 3 * (level - 1) ≤ 10 * levels
+    → CountIsKept levels remote (left level) false
+counted_left levels level remote most =
+    either (λ x. CountIsKept levels remote x false) (nat_lt 1 level) _ _ (λ more. grind (arith, nat_tests))
+    (λ _. omega arith)
 
-counted_exit : (levels level place remote : ℕ) (point : Exit) (value : ℕ) → remote + (3 * (level - 1) + exit_points point) ≤ 10 * levels
-    → CountIsKept levels (remote + cost_of place (exit_access level place point)) (exit_next level place point value) false
+counted_exit : (levels level place remote : ℕ) (point : Exit) (value : ℕ)
+    → remote + (3 * (level - 1) + exit_points point) ≤ 10 * levels
+    → CountIsKept levels (remote + cost_of place (exit_access level place point))
+    (exit_next level place point value) false
 counted_exit levels level place remote X1 value most = omega arith
 counted_exit levels level place remote X2 value most =
-    either (λ x. CountIsKept levels (remote + 1) x false) (value == place + 1) _ _ (λ _. counted_left levels level (remote + 1) (omega arith)) (λ _. omega arith)
+    either (λ x. CountIsKept levels (remote + 1) x false) (value == place + 1) _ _
+    (λ _. counted_left levels level (remote + 1) (omega arith)) (λ _. omega arith)
 counted_exit levels level place remote (X3 rival) value most =
     let cost = cost_of_word place (P level rival) in
     counted_left levels level (remote + cost) (omega (arith, cost_at_most place (P level rival)))
 
 -- the count of a process after its access
-counted_next : (levels place remote : ℕ) (x : Process) (begun : Bool) (value : ℕ) → 1 ≤ levels → IsProper levels place x → IsTold (due_of levels place x begun) value → CountIsKept levels remote x begun
+counted_next : (levels place remote : ℕ) (x : Process) (begun : Bool) (value : ℕ) → 1 ≤ levels → IsProper levels place x
+    → IsTold (due_of levels place x begun) value → CountIsKept levels remote x begun
     → CountIsKept levels (remote + cost_of place (access_of levels place x)) (next_of levels place x value) false
 counted_next levels place remote Idle true value some proper told counted = omega arith
 counted_next levels place remote Idle false value some proper told counted = absurd told
 counted_next levels place remote (Entering level point) begun value some proper told counted =
-    counted_in levels (remote + cost_of place (entry_access level place point)) (entry_next levels level place point value)
+    counted_in levels (remote + cost_of place (entry_access level place point))
+    (entry_next levels level place point value)
     (omega (arith, cheaper_entry levels level place point value proper.most))
 counted_next levels place remote Inside true value some proper told counted = omega arith
 counted_next levels place remote Inside false value some proper told counted = absurd told
-counted_next levels place remote (Leaving level point) begun value some proper told counted = counted_exit levels level place remote point value counted
+counted_next levels place remote (Leaving level point) begun value some proper told counted =
+    counted_exit levels level place remote point value counted
 
 -- what is told of the access that is due may be found by it
-found_of : (levels place : ℕ) (x : Process) (begun : Bool) (value : ℕ) → IsTold (due_of levels place x begun) value → MayFind (access_of levels place x) value
+found_of : (levels place : ℕ) (x : Process) (begun : Bool) (value : ℕ) → IsTold (due_of levels place x begun) value
+    → MayFind (access_of levels place x) value
 found_of levels place Idle true value told = tt
 found_of levels place Idle false value told = absurd told
 found_of levels place (Entering level point) begun value told = told
@@ -160,25 +212,29 @@ goes_on w value is told =
       least = is.least;
       most = is.most;
       in_tree = is.in_tree;
-      proper = proper_next w.levels w.place w.process value is.least is.in_tree is.proper (found_of w.levels w.place w.process w.begun value told);
+      proper = proper_next w.levels w.place w.process value is.least is.in_tree is.proper
+          (found_of w.levels w.place w.process w.begun value told);
       counted = counted_next w.levels w.place w.remote w.process w.begun value is.least is.proper told is.counted;
     }
 
 pub moves_on : (w : Walk) (value : ℕ) → IsWalk w → IsTold (due w) value → MovesOn w (walk_after w value)
 moves_on w value is told = nearer w.levels w.place w.process w.begun value is.least is.proper told
 
-pub spends : (w : Walk) (value : ℕ) → IsWalk w → IsTold (due w) value → (walk_after w value).remote + budget (walk_after w value) ≤ w.remote + budget w
+pub spends : (w : Walk) (value : ℕ) → IsWalk w → IsTold (due w) value
+    → (walk_after w value).remote + budget (walk_after w value) ≤ w.remote + budget w
 spends w value is told = omega (arith, cheaper w.levels w.place w.process w.begun value is.least is.proper told)
 
 -- the word that is due is one of the tree's words
 pub due_within : (w : Walk) → IsWalk w → DueIsWithin w.levels (due w)
-due_within w is = within w.levels w.place w.process w.begun (within_access w.levels w.place w.process is.least is.in_tree is.proper)
+due_within w is =
+    within w.levels w.place w.process w.begun (within_access w.levels w.place w.process is.least is.in_tree is.proper)
   where
     told : (levels : ℕ) (a : Access) → AccessIsWithin levels a → DueIsWithin levels (Some a)
     told levels (Load word) is = is
     told levels (Store word stored) is = is
 
-    within : (levels place : ℕ) (x : Process) (begun : Bool) → AccessIsWithin levels (access_of levels place x) → DueIsWithin levels (due_of levels place x begun)
+    within : (levels place : ℕ) (x : Process) (begun : Bool) → AccessIsWithin levels (access_of levels place x)
+        → DueIsWithin levels (due_of levels place x begun)
     within levels place Idle true is = is
     within levels place Idle false is = tt
     within levels place (Entering level point) begun is = told levels (entry_access level place point) is
@@ -187,6 +243,12 @@ due_within w is = within w.levels w.place w.process w.begun (within_access w.lev
     within levels place (Leaving level point) begun is = told levels (exit_access level place point) is
 
 -- along any way what was spent and what can still be spent don't rise
-pub spends_along : (w v : Walk) (values : List ℕ) → IsWalk w → Goes w values v → v.remote + budget v ≤ w.remote + budget w
+pub spends_along : (w v : Walk) (values : List ℕ) → IsWalk w → Goes w values v
+    → v.remote + budget v ≤ w.remote + budget w
 spends_along w v [] is goes = omega (arith, ap (λ (u : Walk). u.remote + budget u) goes)
-spends_along w v (value ∷ values) is goes = omega (arith, spends w value is goes.0, spends_along (walk_after w value) v values (goes_on w value is goes.0) goes.1)
+spends_along w v (value ∷ values) is goes =
+    omega (
+      arith,
+      spends w value is goes.0,
+      spends_along (walk_after w value) v values (goes_on w value is goes.0) goes.1,
+    )

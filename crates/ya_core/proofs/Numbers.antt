@@ -26,12 +26,15 @@ rows_end levels level n least most = grind (arith, mul-le-mul_right)
 -- the number of a word is below the number of words
 pub number_within : (levels : ℕ) (word : Word) → IsWord levels word → number_of levels word < count_of_words levels
 unfolding number_of count_of_words
-number_within levels (C level node side) is = omega (arith, double (levels - level), room levels level is.0 is.1, pow_pos levels, pow_pos (levels - level))
-number_within levels (T level node) is = omega (arith, double (levels - level), room levels level is.0 is.1, pow_pos levels, pow_pos (levels - level))
+number_within levels (C level node side) is =
+    omega (arith, double (levels - level), room levels level is.0 is.1, pow_pos levels, pow_pos (levels - level))
+number_within levels (T level node) is =
+    omega (arith, double (levels - level), room levels level is.0 is.1, pow_pos levels, pow_pos (levels - level))
 number_within levels (P level place) is = omega (arith, rows_end levels level (2 ^ levels) is.0 is.1, pow_pos levels)
 
 -- the nodes of lower levels have lower numbers
-nodes_apart : (levels h k n m : ℕ) → 1 ≤ h → h < k → k ≤ levels → n < 2 ^ (levels - h) → nodes_below levels h + n < nodes_below levels k + m
+nodes_apart : (levels h k n m : ℕ) → 1 ≤ h → h < k → k ≤ levels → n < 2 ^ (levels - h)
+    → nodes_below levels h + n < nodes_below levels k + m
 nodes_apart levels h k n m least less most room =
     let half : 2 ^ (levels - k + 1) ≤ 2 ^ (levels - h) = pow_mono (omega arith) in
     let whole : 2 ^ (levels - h + 1) ≡ 2 * 2 ^ (levels - h) = double (levels - h) in
@@ -39,7 +42,8 @@ nodes_apart levels h k n m least less most room =
     omega arith
 
 -- two nodes with one number are one
-node_number : (levels h k n m : ℕ) → 1 ≤ h → 1 ≤ k → h ≤ levels → k ≤ levels → n < 2 ^ (levels - h) → m < 2 ^ (levels - k) → nodes_below levels h + n ≡ nodes_below levels k + m → (h ≡ k) × (n ≡ m)
+node_number : (levels h k n m : ℕ) → 1 ≤ h → 1 ≤ k → h ≤ levels → k ≤ levels → n < 2 ^ (levels - h)
+    → m < 2 ^ (levels - k) → nodes_below levels h + n ≡ nodes_below levels k + m → (h ≡ k) × (n ≡ m)
 node_number levels h k n m hl kl hm km hn km' e = cases (three h k)
   where
     three : (a b : ℕ) → (a < b) ⊎ ((a ≡ b) ⊎ (b < a))
@@ -70,14 +74,18 @@ spin_number size h k p q hp hq e = cases (three h k)
         (same, omega arith)
 
 -- the words C come first, then the words T
-claims_end : (levels level node side : ℕ) → IsWord levels (C level node side) → 2 * (nodes_below levels level + node) + side < 2 * (2 ^ levels - 1)
-claims_end levels level node side is = omega (arith, double (levels - level), room levels level is.0 is.1, pow_pos levels, pow_pos (levels - level))
+claims_end : (levels level node side : ℕ) → IsWord levels (C level node side)
+    → 2 * (nodes_below levels level + node) + side < 2 * (2 ^ levels - 1)
+claims_end levels level node side is =
+    omega (arith, double (levels - level), room levels level is.0 is.1, pow_pos levels, pow_pos (levels - level))
 
 turns_end : (levels level node : ℕ) → IsWord levels (T level node) → nodes_below levels level + node < 2 ^ levels - 1
-turns_end levels level node is = omega (arith, double (levels - level), room levels level is.0 is.1, pow_pos levels, pow_pos (levels - level))
+turns_end levels level node is =
+    omega (arith, double (levels - level), room levels level is.0 is.1, pow_pos levels, pow_pos (levels - level))
 
 -- two words of the tree with one number are one
-pub same_number : (levels : ℕ) (a b : Word) → IsWord levels a → IsWord levels b → number_of levels a ≡ number_of levels b → a ≡ b
+pub same_number : (levels : ℕ) (a b : Word) → IsWord levels a → IsWord levels b
+    → number_of levels a ≡ number_of levels b → a ≡ b
 unfolding number_of
 same_number levels (C h n s) (C k m d) ha hb e =
     let sides : s ≡ d = omega arith in

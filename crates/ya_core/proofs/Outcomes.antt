@@ -1,5 +1,6 @@
 -- Any process may step at any time, and a step has one outcome.
-use Rattle.std.proofs.Common.{◌≡◌, ◌≢◌, ℕ, ◌^◌, ◌<◌, ◌==◌, Bool, true, false, refl, arith, ap, sym, ◌∙◌, subst, ◌⊎◌, inl, inr, if◌then◌else◌, List, [], ◌∷◌, ◌++◌}
+use Rattle.std.proofs.Common.{◌≡◌, ◌≢◌, ℕ, ◌^◌, ◌<◌, ◌==◌, Bool, true, false, refl, arith, ap, sym, ◌∙◌, subst, ◌⊎◌}
+use Rattle.std.proofs.Common.{inl, inr, if◌then◌else◌, List, [], ◌∷◌, ◌++◌}
 use Rattle.std.proofs.Math.Path.{fun_ext}
 use Rattle.std.proofs.lemmas.Bool.Decides.{nat_tests}
 use Rattle.ya_core.specs.declared.word.Word.{Word}
@@ -11,6 +12,21 @@ use Rattle.ya_core.specs.declared.step.Step.{Step}
 use Rattle.ya_core.specs.Steps.{State, StepsTo, Accesses, value_of, access_of, next_of}
 use Rattle.ya_core.specs.Machines.{ReplaysTo, step_of}
 use Rattle.ya_core.specs.Worlds.{Marked, World, WorldSteps, WorldAppends, IsInside, is_inside, any_entry}
+
+-- two words of one kind that two numbers name are one, or are not
+by_numbers : (word : ℕ → ℕ → Word) → ((h n k m : ℕ) → word h n ≡ word k m → (h ≡ k) × (n ≡ m)) → (h n k m : ℕ)
+    → (word h n ≡ word k m) ⊎ (word h n ≢ word k m)
+by_numbers word one_name h n k m = cases (h == k) (n == m) refl refl
+  where
+    cases : (x y : Bool) → (h == k) ≡ x → (n == m) ≡ y → (word h n ≡ word k m) ⊎ (word h n ≢ word k m)
+    cases true true p q =
+        let one : h ≡ k = grind (arith, nat_tests) in
+        let two : n ≡ m = grind (arith, nat_tests) in
+        inl cc
+    cases false y p q =
+        inr (λ e. (let apart : h ≢ k = grind (arith, nat_tests) in apart) (one_name h n k m e).0)
+    cases true false p q =
+        inr (λ e. (let apart : n ≢ m = grind (arith, nat_tests) in apart) (one_name h n k m e).1)
 
 -- two words are one, or are not
 same_or_apart : (a b : Word) → (a ≡ b) ⊎ (a ≢ b)
@@ -25,24 +41,8 @@ same_or_apart (C h n s) (C k m d) = cases (h == k) (n == m) (s == d) refl refl r
     cases false y z p q r = inr (λ e. (let apart : h ≢ k = grind (arith, nat_tests) in apart) cc)
     cases true false z p q r = inr (λ e. (let apart : n ≢ m = grind (arith, nat_tests) in apart) cc)
     cases true true false p q r = inr (λ e. (let apart : s ≢ d = grind (arith, nat_tests) in apart) cc)
-same_or_apart (T h n) (T k m) = cases (h == k) (n == m) refl refl
-  where
-    cases : (x y : Bool) → (h == k) ≡ x → (n == m) ≡ y → (T h n ≡ T k m) ⊎ (T h n ≢ T k m)
-    cases true true p q =
-        let one : h ≡ k = grind (arith, nat_tests) in
-        let two : n ≡ m = grind (arith, nat_tests) in
-        inl cc
-    cases false y p q = inr (λ e. (let apart : h ≢ k = grind (arith, nat_tests) in apart) cc)
-    cases true false p q = inr (λ e. (let apart : n ≢ m = grind (arith, nat_tests) in apart) cc)
-same_or_apart (P h n) (P k m) = cases (h == k) (n == m) refl refl
-  where
-    cases : (x y : Bool) → (h == k) ≡ x → (n == m) ≡ y → (P h n ≡ P k m) ⊎ (P h n ≢ P k m)
-    cases true true p q =
-        let one : h ≡ k = grind (arith, nat_tests) in
-        let two : n ≡ m = grind (arith, nat_tests) in
-        inl cc
-    cases false y p q = inr (λ e. (let apart : h ≢ k = grind (arith, nat_tests) in apart) cc)
-    cases true false p q = inr (λ e. (let apart : n ≢ m = grind (arith, nat_tests) in apart) cc)
+same_or_apart (T h n) (T k m) = by_numbers (λ level node. T level node) (λ h n k m e. (cc, cc)) h n k m
+same_or_apart (P h n) (P k m) = by_numbers (λ level place. P level place) (λ h n k m e. (cc, cc)) h n k m
 same_or_apart (C h n s) (T k m) = inr (λ e. cc)
 same_or_apart (C h n s) (P k m) = inr (λ e. cc)
 same_or_apart (T h n) (C k m d) = inr (λ e. cc)
@@ -73,8 +73,10 @@ words_after (Store named value) words word = word_choice word named (same_or_apa
 words_after_are : (a : Access) (words : Word → ℕ) → Accesses a words (words_after a words)
 unfolding words_after
 words_after_are (Load named) words = λ word. refl
-words_after_are (Store named value) words =
-    (word_choice-same named named (same_or_apart named named) value (words named) refl, λ word apart. word_choice-apart word named (same_or_apart word named) value (words word) apart)
+words_after_are (Store named value) words = (
+  word_choice-same named named (same_or_apart named named) value (words named) refl,
+  λ word apart. word_choice-apart word named (same_or_apart word named) value (words word) apart,
+)
 
 -- any process may step at any time
 pub may_step : (levels place : ℕ) (old : State) → place < 2 ^ levels → (new : State) × StepsTo levels place old new
@@ -101,7 +103,8 @@ may_step levels place old room = (
     not_chosen b e x y = ap (λ c. if c then x else y) e
 
 -- an access has one outcome
-one_row : (a : Access) (old new other : Word → ℕ) → Accesses a old new → Accesses a old other → (word : Word) → new word ≡ other word
+one_row : (a : Access) (old new other : Word → ℕ) → Accesses a old new → Accesses a old other → (word : Word)
+    → new word ≡ other word
 one_row (Load named) old new other p q word = p word ∙ sym (q word)
 one_row (Store named value) old new other p q word = cases (same_or_apart word named)
   where
@@ -110,17 +113,21 @@ one_row (Store named value) old new other p q word = cases (same_or_apart word n
     cases (inr apart) = p.1 word apart ∙ sym (q.1 word apart)
 
 -- a step has one outcome
-pub one_outcome : (levels place : ℕ) (old new other : State) → StepsTo levels place old new → StepsTo levels place old other → new ≡ other
+pub one_outcome : (levels place : ℕ) (old new other : State) → StepsTo levels place old new
+    → StepsTo levels place old other → new ≡ other
 one_outcome levels place old new other p q = λ i. record { words = words i; processes = processes i }
   where
     words : new.words ≡ other.words
-    words = fun_ext (one_row (access_of levels place (old.processes place)) old.words new.words other.words p.words q.words)
+    words = fun_ext
+        (one_row (access_of levels place (old.processes place)) old.words new.words other.words p.words q.words)
 
     at : (b : ℕ) → new.processes b ≡ other.processes b
     at b = cases (b == place) refl
       where
         cases : (t : Bool) → (b == place) ≡ t → new.processes b ≡ other.processes b
-        cases true e = let same : b ≡ place = grind (arith, nat_tests) in subst (λ c. new.processes c ≡ other.processes c) (sym same) (p.process ∙ sym q.process)
+        cases true e =
+            let same : b ≡ place = grind (arith, nat_tests) in
+            subst (λ c. new.processes c ≡ other.processes c) (sym same) (p.process ∙ sym q.process)
         cases false e = let apart : b ≢ place = grind (arith, nat_tests) in p.others b apart ∙ sym (q.others b apart)
 
     processes : new.processes ≡ other.processes
@@ -167,7 +174,8 @@ other_place : (other place : ℕ) → other ≢ place → (other == place) ≡ f
 other_place other place apart = grind (arith, nat_tests)
 
 -- in any world any place may step
-pub world_may_step : {X : Type 0} (levels place : ℕ) (old : World X) → place < 2 ^ levels → (new : World X) × WorldSteps levels place old new
+pub world_may_step : {X : Type 0} (levels place : ℕ) (old : World X) → place < 2 ^ levels
+    → (new : World X) × WorldSteps levels place old new
 world_may_step {X} levels place old room = (
   record {
     state = next.0;
@@ -201,7 +209,8 @@ world_may_step {X} levels place old room = (
     made = if is_inside (old.state.processes place) then old.made place ++ old.doing place else old.made place
 
 -- and one that is inside may append an entry that may follow
-pub world_may_append : {X : Type 0} (place : ℕ) (entry : X) (old : World X) → IsInside old.state place → (new : World X) × WorldAppends any_entry place entry old new
+pub world_may_append : {X : Type 0} (place : ℕ) (entry : X) (old : World X) → IsInside old.state place
+    → (new : World X) × WorldAppends any_entry place entry old new
 world_may_append place entry old inside = (
   record {
     state = old.state;
@@ -218,8 +227,11 @@ world_may_append place entry old inside = (
     copy = if_true (place == place) (old.copies place ++ (place, entry) ∷ []) (old.copies place) (same_place place);
     doing = if_true (place == place) (old.doing place ++ entry ∷ []) (old.doing place) (same_place place);
     made = refl;
-    others_copy = λ q apart. if_false (q == place) (old.copies place ++ (place, entry) ∷ []) (old.copies q) (other_place q place apart);
-    others_doing = λ q apart. if_false (q == place) (old.doing place ++ entry ∷ []) (old.doing q) (other_place q place apart);
+    others_copy =
+        λ q apart. if_false (q == place) (old.copies place ++ (place, entry) ∷ []) (old.copies q)
+        (other_place q place apart);
+    others_doing =
+        λ q apart. if_false (q == place) (old.doing place ++ entry ∷ []) (old.doing q) (other_place q place apart);
     others_made = λ q apart. refl;
   },
 )

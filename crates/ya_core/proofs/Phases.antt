@@ -12,7 +12,8 @@ use Rattle.ya_core.specs.declared.process.Exit.TheVariants.{X1, X2, X3}
 use Rattle.ya_core.specs.declared.process.Process.{Process}
 use Rattle.ya_core.specs.declared.process.Process.TheVariants.{Idle, Entering, Inside, Leaving}
 use Rattle.ya_core.specs.Steps.{Accesses, access_of, next_of, entry_next, exit_next, won, left}
-use Rattle.ya_core.specs.Soundness.{Phase, Away, Waiting, Holding, Parting, holds, phase_at, phase_of, entry_phase, exit_phase, IsProper}
+use Rattle.ya_core.specs.Soundness.{Phase, Away, Waiting, Holding, Parting, holds, phase_at, phase_of, entry_phase}
+use Rattle.ya_core.specs.Soundness.{exit_phase, IsProper}
 use Rattle.ya_core.specs.Machines.{word_of}
 use Rattle.ya_core.proofs.Properness.{either}
 use Rattle.ya_core.proofs.Level.{competes}
@@ -47,15 +48,19 @@ phase_up : (level stands : ℕ) → phase_at level (stands + 1) Away ≡ phase_a
 phase_up level stands = grind (arith, nat_tests)
 
 -- what a process that won a level, or left it, does at any level
-pub phase_won : (levels stands level : ℕ) → stands ≤ levels → phase_of levels level (won levels stands) ≡ phase_at level stands Holding
+pub phase_won : (levels stands level : ℕ) → stands ≤ levels
+    → phase_of levels level (won levels stands) ≡ phase_at level stands Holding
 phase_won levels stands level most =
-    either (λ x. phase_of levels level x ≡ phase_at level stands Holding) (nat_lt stands levels) _ _ (λ _. phase_up level stands)
+    either (λ x. phase_of levels level x ≡ phase_at level stands Holding) (nat_lt stands levels) _ _
+    (λ _. phase_up level stands)
     (λ last. ap (λ n. phase_at level n Holding) (let same : levels ≡ stands = grind (arith, nat_tests) in same))
 
-pub phase_left : (levels stands level : ℕ) → 1 ≤ stands → 1 ≤ level → phase_of levels level (left stands) ≡ phase_at level stands Away
+pub phase_left : (levels stands level : ℕ) → 1 ≤ stands → 1 ≤ level
+    → phase_of levels level (left stands) ≡ phase_at level stands Away
 phase_left levels stands level some least =
     either (λ x. phase_of levels level x ≡ phase_at level stands Away) (nat_lt 1 stands) _ _
-    (λ more. sym (phase_up level (stands - 1)) ∙ ap (λ n. phase_at level n Away) (let same : stands - 1 + 1 ≡ stands = omega arith in same))
+    (λ more. sym (phase_up level (stands - 1))
+    ∙ ap (λ n. phase_at level n Away) (let same : stands - 1 + 1 ≡ stands = omega arith in same))
     (λ last. sym (phase_away level stands (grind (arith, nat_tests))))
 
 -- a step changes no phase but that of the level where it acts
@@ -65,33 +70,48 @@ frame_entry levels stands level place E1 value most apart = phase_apart level st
 frame_entry levels stands level place E2 value most apart = phase_apart level stands _ _ apart
 frame_entry levels stands level place E3 value most apart = phase_apart level stands _ _ apart
 frame_entry levels stands level place E4 value most apart =
-    either (λ x. phase_of levels level x ≡ phase_at level stands (Waiting E4)) (value == 0) _ _ (λ _. phase_won levels stands level most ∙ phase_apart level stands _ _ apart) (λ _. phase_apart level stands _ _ apart)
+    either (λ x. phase_of levels level x ≡ phase_at level stands (Waiting E4)) (value == 0) _ _
+    (λ _. phase_won levels stands level most ∙ phase_apart level stands _ _ apart)
+    (λ _. phase_apart level stands _ _ apart)
 frame_entry levels stands level place (E5 rival) value most apart =
-    either (λ x. phase_of levels level x ≡ phase_at level stands (Waiting (E5 rival))) (value == place + 1) _ _ (λ _. phase_apart level stands _ _ apart) (λ _. phase_won levels stands level most ∙ phase_apart level stands _ _ apart)
+    either (λ x. phase_of levels level x ≡ phase_at level stands (Waiting (E5 rival))) (value == place + 1) _ _
+    (λ _. phase_apart level stands _ _ apart)
+    (λ _. phase_won levels stands level most ∙ phase_apart level stands _ _ apart)
 frame_entry levels stands level place (E6 rival) value most apart =
-    either (λ x. phase_of levels level x ≡ phase_at level stands (Waiting (E6 rival))) (value == 0) _ _ (λ _. phase_apart level stands _ _ apart) (λ _. phase_apart level stands _ _ apart)
+    either (λ x. phase_of levels level x ≡ phase_at level stands (Waiting (E6 rival))) (value == 0) _ _
+    (λ _. phase_apart level stands _ _ apart) (λ _. phase_apart level stands _ _ apart)
 frame_entry levels stands level place (E7 rival) value most apart = phase_apart level stands _ _ apart
 frame_entry levels stands level place E8 value most apart =
-    either (λ x. phase_of levels level x ≡ phase_at level stands (Waiting E8)) (value == 0) _ _ (λ _. phase_apart level stands _ _ apart) (λ _. phase_apart level stands _ _ apart)
+    either (λ x. phase_of levels level x ≡ phase_at level stands (Waiting E8)) (value == 0) _ _
+    (λ _. phase_apart level stands _ _ apart) (λ _. phase_apart level stands _ _ apart)
 frame_entry levels stands level place E9 value most apart =
-    either (λ x. phase_of levels level x ≡ phase_at level stands (Waiting E9)) (value == place + 1) _ _ (λ _. phase_apart level stands _ _ apart) (λ _. phase_won levels stands level most ∙ phase_apart level stands _ _ apart)
+    either (λ x. phase_of levels level x ≡ phase_at level stands (Waiting E9)) (value == place + 1) _ _
+    (λ _. phase_apart level stands _ _ apart)
+    (λ _. phase_won levels stands level most ∙ phase_apart level stands _ _ apart)
 frame_entry levels stands level place E10 value most apart =
-    either (λ x. phase_of levels level x ≡ phase_at level stands (Waiting E10)) (value == 2) _ _ (λ _. phase_won levels stands level most ∙ phase_apart level stands _ _ apart) (λ _. phase_apart level stands _ _ apart)
+    either (λ x. phase_of levels level x ≡ phase_at level stands (Waiting E10)) (value == 2) _ _
+    (λ _. phase_won levels stands level most ∙ phase_apart level stands _ _ apart)
+    (λ _. phase_apart level stands _ _ apart)
 
 frame_exit : (levels stands level place : ℕ) (point : Exit) (value : ℕ) → 1 ≤ stands → 1 ≤ level → level ≢ stands
     → phase_of levels level (exit_next stands place point value) ≡ phase_at level stands (exit_phase point)
 frame_exit levels stands level place X1 value some least apart = phase_apart level stands _ _ apart
 frame_exit levels stands level place X2 value some least apart =
-    either (λ x. phase_of levels level x ≡ phase_at level stands Parting) (value == place + 1) _ _ (λ _. phase_left levels stands level some least ∙ phase_apart level stands _ _ apart)
+    either (λ x. phase_of levels level x ≡ phase_at level stands Parting) (value == place + 1) _ _
+    (λ _. phase_left levels stands level some least ∙ phase_apart level stands _ _ apart)
     (λ _. phase_apart level stands _ _ apart)
-frame_exit levels stands level place (X3 rival) value some least apart = phase_left levels stands level some least ∙ phase_apart level stands _ _ apart
+frame_exit levels stands level place (X3 rival) value some least apart =
+    phase_left levels stands level some least ∙ phase_apart level stands _ _ apart
 
-pub frame_phase : (levels level place : ℕ) (x : Process) (value : ℕ) → 1 ≤ levels → 1 ≤ level → IsProper levels place x → level ≢ acts_at levels x
+pub frame_phase : (levels level place : ℕ) (x : Process) (value : ℕ) → 1 ≤ levels → 1 ≤ level → IsProper levels place x
+    → level ≢ acts_at levels x
     → phase_of levels level (next_of levels place x value) ≡ phase_of levels level x
 frame_phase levels level place Idle value some least proper apart = phase_above level 1 _ (omega arith)
-frame_phase levels level place (Entering stands point) value some least proper apart = frame_entry levels stands level place point value proper.most apart
+frame_phase levels level place (Entering stands point) value some least proper apart =
+    frame_entry levels stands level place point value proper.most apart
 frame_phase levels level place Inside value some least proper apart = phase_apart level levels _ _ apart
-frame_phase levels level place (Leaving stands point) value some least proper apart = frame_exit levels stands level place point value proper.least least apart
+frame_phase levels level place (Leaving stands point) value some least proper apart =
+    frame_exit levels stands level place point value proper.least least apart
 
 -- the level of a word
 abbrev pub level_of : Word → ℕ
@@ -118,7 +138,8 @@ access_level levels place (Leaving level X2) = refl
 access_level levels place (Leaving level (X3 rival)) = refl
 
 -- an access changes no word of another level
-pub words_stay : (a : Access) (old new : Word → ℕ) → Accesses a old new → (word : Word) → level_of word ≢ level_of (word_of a) → new word ≡ old word
+pub words_stay : (a : Access) (old new : Word → ℕ) → Accesses a old new → (word : Word)
+    → level_of word ≢ level_of (word_of a) → new word ≡ old word
 words_stay (Load named) old new done word apart = done word
 words_stay (Store named value) old new done word apart = done.1 word (λ same. apart (ap level_of same))
 
@@ -126,10 +147,13 @@ words_stay (Store named value) old new done word apart = done.1 word (λ same. a
 pub competes_at : (level stands : ℕ) (a : Phase) → IsTrue (competes (phase_at level stands a)) → level ≤ stands
 competes_at level stands a h = grind (arith, nat_tests, phase_above level stands a)
 
-pub holds_below : (levels level : ℕ) (x : Process) → 1 ≤ level → level ≤ levels → IsTrue (competes (phase_of levels level x)) → IsTrue (holds (phase_of levels (level - 1) x))
+pub holds_below : (levels level : ℕ) (x : Process) → 1 ≤ level → level ≤ levels
+    → IsTrue (competes (phase_of levels level x)) → IsTrue (holds (phase_of levels (level - 1) x))
 holds_below levels level Idle some most h = absurd cc
 holds_below levels level (Entering stands point) some most h =
-    rw (phase_below (level - 1) stands (entry_phase point) (let less = competes_at level stands (entry_phase point) h in omega arith)) refl
+    rw (phase_below (level - 1) stands (entry_phase point) (let less = competes_at level stands (entry_phase point) h in
+    omega arith)) refl
 holds_below levels level Inside some most h = rw (phase_below (level - 1) levels Holding (omega arith)) refl
 holds_below levels level (Leaving stands point) some most h =
-    rw (phase_below (level - 1) stands (exit_phase point) (let less = competes_at level stands (exit_phase point) h in omega arith)) refl
+    rw (phase_below (level - 1) stands (exit_phase point) (let less = competes_at level stands (exit_phase point) h in
+    omega arith)) refl

@@ -8,7 +8,8 @@ use Rattle.ya_core.specs.Steps.{State}
 
 -- whether the tree of this many levels has the word
 abbrev pub is_word : ℕ → Word → Bool
-is_word levels (C level node side) = nat_le 1 level && nat_le level levels && nat_lt node (2 ^ (levels - level)) && nat_lt side 2
+is_word levels (C level node side) =
+    nat_le 1 level && nat_le level levels && nat_lt node (2 ^ (levels - level)) && nat_lt side 2
 is_word levels (T level node) = nat_le 1 level && nat_le level levels && nat_lt node (2 ^ (levels - level))
 is_word levels (P level place) = nat_le 1 level && nat_le level levels && nat_lt place (2 ^ levels)
 

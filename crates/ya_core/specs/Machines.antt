@@ -55,7 +55,8 @@ mark_of _ = mark.Plain
 
 -- what is told of an access by which a process goes on to the next one
 abbrev pub step_by : ℕ → Access → ℕ → Process → Step
-step_by place access value next = record { place = place; word = word_of access; store = is_store access; value = value; mark = mark_of next }
+step_by place access value next =
+    record { place = place; word = word_of access; store = is_store access; value = value; mark = mark_of next }
 
 -- what is told of the step of a place
 abbrev pub step_of : ℕ → ℕ → State → Step

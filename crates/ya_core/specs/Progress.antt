@@ -42,7 +42,8 @@ is_to_announce level _ = false
 -- the deed of a step from one process to the next; who leaves the way in of a level has won it
 abbrev pub deed_of : ℕ → Process → Process → Deed
 deed_of level before after =
-    if is_to_announce level before then Announces else (if is_entering level before && not (is_entering level after) then Wins else Neither)
+    if is_to_announce level before then Announces
+    else (if is_entering level before && not (is_entering level after) then Wins else Neither)
 
 -- a step as one level sees it: its place, and what it did there
 pub record LevelStep : Type 0 where
@@ -57,7 +58,8 @@ announces place = record { place = place; deed = Announces }
 abbrev pub LevelSees : ℕ → ℕ → State → List LevelStep → Type 0
 LevelSees levels level s [] = Unit {0}
 LevelSees levels level s (step ∷ steps) =
-    (after : State) × StepsTo levels step.place s after × (step.deed ≡ deed_of level (s.processes step.place) (after.processes step.place))
+    (after : State) × StepsTo levels step.place s after
+    × (step.deed ≡ deed_of level (s.processes step.place) (after.processes step.place))
     × LevelSees levels level after steps
 
 -- none of the steps wins the level for the place
@@ -67,7 +69,8 @@ HasNotWon place (step ∷ steps) = (step.place ≡ place → step.deed ≢ Wins)
 
 -- the other place competes with the place at the level
 abbrev pub is_rival : ℕ → ℕ → ℕ → Bool
-is_rival level place other = (node_of level other == node_of level place) && not (side_of level other == side_of level place)
+is_rival level place other =
+    (node_of level other == node_of level place) && not (side_of level other == side_of level place)
 
 abbrev pub is_win : Deed → Bool
 is_win Wins = true

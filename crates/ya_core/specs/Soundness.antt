@@ -1,5 +1,6 @@
 -- What holds of all words and all processes at every moment: the invariant of the lock.
-use Rattle.std.specs.Prelude.{◌≡◌, ◌≢◌, ℕ, ◌+◌, ◌^◌, ◌<◌, ◌≤◌, ◌==◌, Bool, true, false, nat_lt, if◌then◌else◌, IsTrue, ◌⊎◌, ◌||◌}
+use Rattle.std.specs.Prelude.{◌≡◌, ◌≢◌, ℕ, ◌+◌, ◌^◌, ◌<◌, ◌≤◌, ◌==◌, Bool, true, false, nat_lt, if◌then◌else◌, IsTrue}
+use Rattle.std.specs.Prelude.{◌⊎◌, ◌||◌}
 use Rattle.ya_core.specs.declared.word.Word.TheVariants.{C, T, P}
 use Rattle.ya_core.specs.declared.process.Entry.{Entry}
 use Rattle.ya_core.specs.declared.process.Entry.TheVariants.{E1, E2, E3, E4, E5, E6, E7, E8, E9, E10}
@@ -131,14 +132,16 @@ pub record IsSoundLevel (node side : ℕ → ℕ) (phase : ℕ → Phase) (claim
   -- claim: a word C names the process that claims its side, and is nil where none does
   pub claimed : (p : ℕ) → IsTrue (claims (phase p)) → claim (node p) (side p) ≡ p + 1
   pub claimant : (n s p : ℕ) → claim n s ≡ p + 1 → (node p ≡ n) × (side p ≡ s) × IsTrue (claims (phase p))
-  -- turn: a word T names a place below the node, and one of two rivals that are both past; it is not nil where a process is past or parts
+  -- turn: a word T names a place below the node, and one of two rivals that are both past; it is not nil where a
+  -- process is past or parts
   pub below : (n p : ℕ) → turn n ≡ p + 1 → node p ≡ n
   pub announced : (p : ℕ) → IsTrue (is_past (phase p)) → turn (node p) ≢ 0
   pub parting : (p : ℕ) → IsTrue (parts (phase p)) → turn (node p) ≢ 0
   pub one_of_two : (p q : ℕ) → Rivals node side p q → IsTrue (is_past (phase p)) → IsTrue (is_past (phase q))
       → (turn (node p) ≡ p + 1) ⊎ (turn (node p) ≡ q + 1)
   -- waiter: where one holds and its rival is past, the rival announced itself last
-  pub waiter : (p q : ℕ) → Rivals node side p q → IsTrue (holds (phase p)) → IsTrue (is_past (phase q)) → turn (node p) ≡ q + 1
+  pub waiter : (p q : ℕ) → Rivals node side p q → IsTrue (holds (phase p)) → IsTrue (is_past (phase q))
+      → turn (node p) ≡ q + 1
   -- spin: a word P is 0, 1 or 2, and 2 lets its process in only where the rival announced itself last
   pub in_range : (p : ℕ) → spin p ≤ 2
   pub let_in : (p q : ℕ) → Rivals node side p q → IsTrue (waits (phase p)) → spin p ≡ 2 → IsTrue (is_past (phase q))
@@ -150,25 +153,32 @@ SomeRival node side phase p kind = (q : ℕ) × Rivals node side p q × IsTrue (
 
 -- wake: whoever waits is owed a word
 pub record IsOwed (node side : ℕ → ℕ) (phase : ℕ → Phase) (turn spin : ℕ → ℕ) (p : ℕ) : Type 0 where
-  -- one that was not woken has a rival that competes or is to free it, and one that was not let in a rival that is past or is to free it
-  pub unwoken : IsTrue (awaits_one (phase p)) → spin p ≡ 0 → SomeRival node side phase p (λ x. claims x || is_to_free (turn (node p)) p x)
-  pub outside : IsTrue (waits (phase p)) → spin p ≡ 1 → SomeRival node side phase p (λ x. is_past x || is_to_free (turn (node p)) p x)
+  -- one that was not woken has a rival that competes or is to free it, and one that was not let in a rival that is past
+  -- or is to free it
+  pub unwoken : IsTrue (awaits_one (phase p)) → spin p ≡ 0
+      → SomeRival node side phase p (λ x. claims x || is_to_free (turn (node p)) p x)
+  pub outside : IsTrue (waits (phase p)) → spin p ≡ 1
+      → SomeRival node side phase p (λ x. is_past x || is_to_free (turn (node p)) p x)
   pub woken : IsTrue (was_woken (phase p)) → spin p ≢ 0
   -- where another announced itself last it is owed a 1, until it has a 2 that nobody overwrites
-  pub owed_one : turn (node p) ≢ p + 1 → IsTrue (saw_itself_last (phase p)) → spin p ≡ 0 → SomeRival node side phase p (is_to_wake p)
+  pub owed_one : turn (node p) ≢ p + 1 → IsTrue (saw_itself_last (phase p)) → spin p ≡ 0
+      → SomeRival node side phase p (is_to_wake p)
   pub has_two : turn (node p) ≢ p + 1 → IsTrue (awaits_two (phase p)) → spin p ≡ 2
-  pub keeps_two : turn (node p) ≢ p + 1 → IsTrue (awaits_two (phase p)) → (q : ℕ) → Rivals node side p q → wakes_next p (phase q) ≡ false
+  pub keeps_two : turn (node p) ≢ p + 1 → IsTrue (awaits_two (phase p)) → (q : ℕ) → Rivals node side p q
+      → wakes_next p (phase q) ≡ false
 
 -- the level of a state
 abbrev pub IsSoundAt : ℕ → State → ℕ → Type 0
 IsSoundAt levels s level =
-    IsSoundLevel (node_of level) (side_of level) (λ p. phase_of levels level (s.processes p)) (λ n d. s.words (C level n d))
+    IsSoundLevel (node_of level) (side_of level) (λ p. phase_of levels level (s.processes p))
+    (λ n d. s.words (C level n d))
     (λ n. s.words (T level n)) (λ p. s.words (P level p))
 
 -- what is owed at a level of a state
 abbrev pub IsOwedAt : ℕ → State → ℕ → Type 0
 IsOwedAt levels s level =
-    (p : ℕ) → IsOwed (node_of level) (side_of level) (λ q. phase_of levels level (s.processes q)) (λ n. s.words (T level n))
+    (p : ℕ) → IsOwed (node_of level) (side_of level) (λ q. phase_of levels level (s.processes q))
+    (λ n. s.words (T level n))
     (λ q. s.words (P level q)) p
 
 -- the rival that a point knows is a place on the other side of the node

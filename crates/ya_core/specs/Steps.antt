@@ -52,7 +52,8 @@ entry_next levels level place E1 value = Entering level E2
 entry_next levels level place E2 value = Entering level E3
 entry_next levels level place E3 value = Entering level E4
 entry_next levels level place E4 value = if value == 0 then won levels level else Entering level (E5 (value - 1))
-entry_next levels level place (E5 rival) value = if value == place + 1 then Entering level (E6 rival) else won levels level
+entry_next levels level place (E5 rival) value =
+    if value == place + 1 then Entering level (E6 rival) else won levels level
 entry_next levels level place (E6 rival) value = if value == 0 then Entering level (E7 rival) else Entering level E8
 entry_next levels level place (E7 rival) value = Entering level E8
 entry_next levels level place E8 value = if value == 0 then Entering level E8 else Entering level E9
@@ -96,5 +97,6 @@ pub record StepsTo (levels place : ℕ) (old new : State) : Type 0 where
   pub in_tree : place < 2 ^ levels
   pub words : Accesses (access_of levels place (old.processes place)) old.words new.words
   pub process :
-      new.processes place ≡ next_of levels place (old.processes place) (value_of old.words (access_of levels place (old.processes place)))
+      new.processes place ≡ next_of levels place (old.processes place)
+      (value_of old.words (access_of levels place (old.processes place)))
   pub others : (other : ℕ) → other ≢ place → new.processes other ≡ old.processes other

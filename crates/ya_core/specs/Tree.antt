@@ -1,4 +1,4 @@
--- The arbitration tree (Yang and Anderson 1995): where each place competes, and the numbers of the words in one flat row.
+-- The arbitration tree (Yang and Anderson 1995): where each place competes, and the words' numbers in one flat row.
 use Rattle.std.specs.Prelude.{◌≡◌, ◌≢◌, ℕ, ◌+◌, ◌-◌, ◌*◌, ◌/◌, ◌%◌, ◌^◌, ◌<◌, ◌≤◌}
 use Rattle.ya_core.specs.declared.word.Word.{Word}
 use Rattle.ya_core.specs.declared.word.Word.TheVariants.{C, T, P}
@@ -15,7 +15,7 @@ node_of level place = place / 2 ^ level
 unfoldable pub side_of : ℕ → ℕ → ℕ
 side_of level place = place / 2 ^ (level - 1) % 2
 
--- two places compete with each other where `node` and `side` say where each place stands: at one node, on different sides
+-- two places compete where `node` and `side` say where each place stands: at one node, on different sides
 abbrev pub Rivals : (node side : ℕ → ℕ) → ℕ → ℕ → Type 0
 Rivals node side p q = (node p ≡ node q) × (side p ≢ side q)
 
@@ -33,7 +33,7 @@ IsWord levels (P level place) = (1 ≤ level) × (level ≤ levels) × (place < 
 abbrev pub nodes_below : ℕ → ℕ → ℕ
 nodes_below levels level = 2 ^ levels - 2 ^ (levels - level + 1)
 
--- the number of a word: first the words C, by level, node and side, then the words T, then the words P by level and place
+-- the number of a word: first the words C by level, node and side, then the words T, then the words P by level, place
 unfoldable pub number_of : ℕ → Word → ℕ
 number_of levels (C level node side) = 2 * (nodes_below levels level + node) + side
 number_of levels (T level node) = 2 * (2 ^ levels - 1) + nodes_below levels level + node

@@ -1,5 +1,6 @@
 -- One process that is told what it loaded: which access is due, which values it may find, and where they lead.
-use Rattle.std.specs.Prelude.{◌≡◌, ℕ, ◌+◌, ◌-◌, ◌*◌, ◌^◌, ◌<◌, ◌≤◌, ◌==◌, Bool, true, false, if◌then◌else◌, IsTrue, ◌⊎◌, Option, Some, None, List, [], ◌∷◌}
+use Rattle.std.specs.Prelude.{◌≡◌, ℕ, ◌+◌, ◌-◌, ◌*◌, ◌^◌, ◌<◌, ◌≤◌, ◌==◌, Bool, true, false, if◌then◌else◌, IsTrue, ◌⊎◌}
+use Rattle.std.specs.Prelude.{Option, Some, None, List, [], ◌∷◌}
 use Rattle.ya_core.specs.declared.word.Word.{Word}
 use Rattle.ya_core.specs.declared.word.Word.TheVariants.{C, T, P}
 use Rattle.ya_core.specs.declared.word.Access.{Access}
@@ -27,7 +28,8 @@ pub record Walk : Type 0 where
 
 -- the walk of these parts
 abbrev pub walk : ℕ → ℕ → Process → Bool → ℕ → Walk
-walk levels place process begun remote = record { levels = levels; place = place; process = process; begun = begun; remote = remote }
+walk levels place process begun remote =
+    record { levels = levels; place = place; process = process; begun = begun; remote = remote }
 
 -- the access that is due; none where the process is idle or inside and was not told to go on
 abbrev pub due_of : ℕ → ℕ → Process → Bool → Option Access
@@ -42,7 +44,8 @@ due w = due_of w.levels w.place w.process w.begun
 -- a value that can stand in a word: in C nil or the identifier of a place on that side, in T that of a place below
 -- the node, in P 0, 1 or 2
 abbrev pub CanStand : Word → ℕ → Type 0
-CanStand (C level node side) value = (value ≡ 0) ⊎ ((1 ≤ value) × (node_of level (value - 1) ≡ node) × (side_of level (value - 1) ≡ side))
+CanStand (C level node side) value =
+    (value ≡ 0) ⊎ ((1 ≤ value) × (node_of level (value - 1) ≡ node) × (side_of level (value - 1) ≡ side))
 CanStand (T level node) value = (1 ≤ value) × (node_of level (value - 1) ≡ node)
 CanStand (P level place) value = value ≤ 2
 
@@ -84,7 +87,8 @@ op_of_access levels (Store word value) = op.Store (number_of levels word) value
 
 abbrev pub op_of_due : ℕ → ℕ → Process → Bool → Op
 op_of_due levels place Idle begun = if begun then op_of_access levels (access_of levels place Idle) else op.Idle
-op_of_due levels place (Entering level point) begun = op_of_access levels (access_of levels place (Entering level point))
+op_of_due levels place (Entering level point) begun =
+    op_of_access levels (access_of levels place (Entering level point))
 op_of_due levels place Inside begun = if begun then op_of_access levels (access_of levels place Inside) else op.Inside
 op_of_due levels place (Leaving level point) begun = op_of_access levels (access_of levels place (Leaving level point))
 
@@ -154,17 +158,20 @@ is_waiting (Entering level E8) = true
 is_waiting (Entering level E10) = true
 is_waiting _ = false
 
--- a step takes the walk to a later point or level, but for a load that found a waiting process its own spin word unchanged
+-- a step takes the walk to a later point or level, unless it waits and its load found its own spin word unchanged
 abbrev pub MovesOn : Walk → Walk → Type 0
-MovesOn old new = (points_ahead new < points_ahead old) ⊎ (IsTrue (is_waiting old.process) × (new.process ≡ old.process))
+MovesOn old new =
+    (points_ahead new < points_ahead old) ⊎ (IsTrue (is_waiting old.process) × (new.process ≡ old.process))
 
 -- at most seven remote accesses a level on the way in, and three a level on the way out
 abbrev pub CountIsKept : ℕ → ℕ → Process → Bool → Type 0
 CountIsKept levels remote Idle true = remote ≡ 0
 CountIsKept levels remote Idle false = remote ≤ 10 * levels
-CountIsKept levels remote (Entering level point) begun = remote + budget_of levels (Entering level point) false ≤ 7 * levels
+CountIsKept levels remote (Entering level point) begun =
+    remote + budget_of levels (Entering level point) false ≤ 7 * levels
 CountIsKept levels remote Inside begun = remote ≤ 7 * levels
-CountIsKept levels remote (Leaving level point) begun = remote + budget_of levels (Leaving level point) false ≤ 10 * levels
+CountIsKept levels remote (Leaving level point) begun =
+    remote + budget_of levels (Leaving level point) false ≤ 10 * levels
 
 -- what holds of every walk
 pub record IsWalk (w : Walk) : Type 0 where

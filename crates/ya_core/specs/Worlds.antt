@@ -1,5 +1,6 @@
--- Processes that change a shared list while they are inside: worlds, events and runs. Nothing here keeps two processes out.
-use Rattle.std.specs.Prelude.{◌≡◌, ◌≢◌, ◌↔◌, ℕ, ◌==◌, Bool, true, false, if◌then◌else◌, IsTrue, List, [], ◌∷◌, ◌++◌, Option, Some}
+-- Processes that change a shared list while they are inside: worlds, events and runs. Nothing here keeps two out.
+use Rattle.std.specs.Prelude.{◌≡◌, ◌≢◌, ◌↔◌, ℕ, ◌==◌, Bool, true, false, if◌then◌else◌, IsTrue, List, [], ◌∷◌, ◌++◌}
+use Rattle.std.specs.Prelude.{Option, Some}
 use Rattle.ya_core.specs.declared.process.Process.{Process}
 use Rattle.ya_core.specs.declared.process.Process.TheVariants.{Inside}
 use Rattle.ya_core.specs.Steps.{State, StepsTo, opening}
@@ -21,7 +22,7 @@ TellsInside s inside = (place : ℕ) → (inside ≡ Some place) ↔ IsInside s 
 abbrev pub Marked : Type 0 → Type 0
 Marked X = ℕ × X
 
--- words and processes; the content; for each place its copy of the content, what it did in this passage, and what it made in all
+-- words and processes; the content; for each place its copy of it, what it did in this passage, and what it made in all
 pub record World (X : Type 0) : Type 0 where
   pub state : State
   pub content : List (Marked X)
@@ -45,13 +46,15 @@ pub record WorldSteps {X : Type 0} (levels place : ℕ) (old new : World X) : Ty
   pub copy : new.copies place ≡ (if is_inside (new.state.processes place) then old.content else old.copies place)
   pub doing : new.doing place ≡ (if is_inside (new.state.processes place) then [] else old.doing place)
   pub content : new.content ≡ (if is_inside (old.state.processes place) then old.copies place else old.content)
-  pub made : new.made place ≡ (if is_inside (old.state.processes place) then old.made place ++ old.doing place else old.made place)
+  pub made : new.made place ≡ (if is_inside (old.state.processes place) then old.made place ++ old.doing place
+      else old.made place)
   pub others_copy : (other : ℕ) → other ≢ place → new.copies other ≡ old.copies other
   pub others_doing : (other : ℕ) → other ≢ place → new.doing other ≡ old.doing other
   pub others_made : (other : ℕ) → other ≢ place → new.made other ≡ old.made other
 
 -- a place that is inside appends an entry to its copy, one that may follow what the copy has
-pub record WorldAppends {X : Type 0} (may : List (Marked X) → Marked X → Type 0) (place : ℕ) (entry : X) (old new : World X) : Type 0 where
+pub record WorldAppends {X : Type 0} (may : List (Marked X) → Marked X → Type 0) (place : ℕ) (entry : X)
+    (old new : World X) : Type 0 where
   pub inside : IsInside old.state place
   pub may_follow : may (old.copies place) (place, entry)
   pub state : new.state ≡ old.state
@@ -71,9 +74,10 @@ Happens levels may (Appends place entry) old new = WorldAppends may place entry 
 -- any list of events, one after another
 abbrev pub Runs : {X : Type 0} → ℕ → (List (Marked X) → Marked X → Type 0) → World X → List (Event X) → World X → Type 0
 Runs {X} levels may old [] new = new ≡ old
-Runs {X} levels may old (event ∷ events) new = (next : World X) × Happens levels may event old next × Runs levels may next events new
+Runs {X} levels may old (event ∷ events) new =
+    (next : World X) × Happens levels may event old next × Runs levels may next events new
 
--- the world is reached from the opening one by some list of events; each entry `may` follow the copy that it was appended to
+-- the world is reached from the opening one by some list of events; each entry `may` follow the copy it was put behind
 abbrev pub IsReached : {X : Type 0} → ℕ → (List (Marked X) → Marked X → Type 0) → List (Event X) → World X → Type 0
 IsReached levels may events world = Runs levels may opening_world events world
 
@@ -84,10 +88,12 @@ any_entry before entry = Unit {0}
 -- the entries that a place made, in order
 abbrev pub entries_of : {X : Type 0} → ℕ → List (Marked X) → List X
 entries_of place [] = []
-entries_of place (entry ∷ entries) = if entry.0 == place then entry.1 ∷ entries_of place entries else entries_of place entries
+entries_of place (entry ∷ entries) =
+    if entry.0 == place then entry.1 ∷ entries_of place entries else entries_of place entries
 
 -- each entry may follow those before it, of which `before` were there already
-abbrev pub FollowsFrom : {X : Type 0} → (List (Marked X) → Marked X → Type 0) → List (Marked X) → List (Marked X) → Type 0
+abbrev pub FollowsFrom : {X : Type 0} → (List (Marked X) → Marked X → Type 0) → List (Marked X) → List (Marked X)
+    → Type 0
 FollowsFrom ok before [] = Unit {0}
 FollowsFrom ok before (entry ∷ entries) = ok before entry × FollowsFrom ok (before ++ entry ∷ []) entries
 

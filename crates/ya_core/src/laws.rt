@@ -28,8 +28,8 @@ pub fn numbers()
         → number_of levels word < count_of_words levels }
 {}
 
-/// Where the invariant holds, the access that is due to a place is of a word of the tree, and the value that a load finds
-/// can stand in its word.
+/// Where the invariant holds, the access that is due to a place is of a word of the tree, and the value that a load
+/// finds can stand in its word.
 pub fn accesses()
     ensures word { (levels place : ℕ) (s : State)
         → 1 ≤ levels → place < 2 ^ levels → IsSound levels s
@@ -39,8 +39,8 @@ pub fn accesses()
         MayFind access (value_of s.words access) }
 {}
 
-/// Any place of the tree may step at any time, and its step has one outcome. The same holds of worlds, where a place that
-/// is inside may append any entry.
+/// Any place of the tree may step at any time, and its step has one outcome. The same holds of worlds, where a place
+/// that is inside may append any entry.
 pub fn freedom<X>()
     ensures may { (levels place : ℕ) (old : State)
         → place < 2 ^ levels → (new : State) × StepsTo levels place old new }
@@ -70,7 +70,8 @@ pub fn no_deadlock<X>()
         → world.state.processes place ≢ process.Idle → SomeoneGoesOnIn levels world }
 {}
 
-/// In every run, from a place's store of T at a node until it wins that node, the other side wins the node at most once.
+/// In every run, from a place's store of T at a node until it wins that node, the other side wins the node at most
+/// once.
 pub fn one_overtaking()
     ensures { (levels level place : ℕ) (before during : List LevelStep)
         → 1 ≤ level → level ≤ levels
@@ -97,8 +98,8 @@ pub trait Accept {
 }
 
 /// In every world that any list of events leads to, the entries of each place in the content are those that it made, in
-/// order. Where each entry was acceptable to the copy that it was appended to, each is so to the entries before it; such
-/// a run is a run like any other.
+/// order. Where each entry was acceptable to the copy that it was appended to, each is so to the entries before it;
+/// such a run is a run like any other.
 pub fn content<K: Accept>()
     ensures kept { (levels : ℕ) (events : List (Event K.Entry)) (world : World K.Entry)
         → 1 ≤ levels → IsReached levels any_entry events world

@@ -17,11 +17,11 @@
 //! walker.op()                                    // Store(32, 6): the word T of its node at level 1
 //! ```
 //!
-//! A lock that runs drives a walker over atomic words. What its proofs may cite beside the contracts of this crate stands
-//! in one place, `proofs/Promised.antt`, and is part of what the crate promises.
+//! A lock that runs drives a walker over atomic words. What its proofs may cite beside the contracts of this crate
+//! stands in one place, `proofs/Promised.antt`, and is part of what the crate promises.
 //!
-//! Only tested: that [`Machine::new`] and [`replay`] find memory where there is some, and that the table of steps is the
-//! one that docs/LOCK.md tells, by a second machine that was written from that table (`tests.rt`).
+//! Only tested: that [`Machine::new`] and [`replay`] find memory where there is some, and that the table of steps is
+//! the one that docs/LOCK.md tells, by a second machine that was written from that table (`tests.rt`).
 #![tactic(auto)]
 
 pub mod laws;

@@ -36,8 +36,8 @@ impl<T: Drop> From<AllocFailed<T>> for NoMemory {
 
 /// All places of a tree with its words, where one place at a time takes one atomic step.
 ///
-/// Contracts see it as its rows: its levels, its words in one flat row and its processes by place. `state_of` shows them
-/// as words by name and processes by place, in which the lock's invariant always holds.
+/// Contracts see it as its rows: its levels, its words in one flat row and its processes by place. `state_of` shows
+/// them as words by name and processes by place, in which the lock's invariant always holds.
 #[derive(Drop)]
 pub struct Machine {
     shape: Shape,

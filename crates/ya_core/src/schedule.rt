@@ -25,10 +25,11 @@ pub enum ReplayFault {
     Memory,
 }
 
-/// The steps of the run in which the picked places step one after another, from the start, in a tree of that many levels.
+/// The steps of the run in which the picked places step one after another, from the start, in a tree of that many
+/// levels.
 ///
-/// Refuses with P2 where the levels are not 1 to 6, else with P1 where some pick is no place, else with P3 where memory is
-/// refused. After a refusal nothing is kept.
+/// Refuses with P2 where the levels are not 1 to 6, else with P1 where some pick is no place, else with P3 where memory
+/// is refused. After a refusal nothing is kept.
 pub fn replay(alloc: Global, levels: u32, picks: &[u32]) -> Result<Vec<Step>, ReplayFault>
     ensures steps { IfOk result (λ steps. Replays levels opening picks.now steps.items) }
     // The picks name one run.

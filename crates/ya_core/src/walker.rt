@@ -4,7 +4,8 @@ ghost use Rattle.ya_core.specs.declared.process.Process.TheVariants.{Idle, Insid
 ghost use Rattle.ya_core.specs.declared.process.Entry.TheVariants.{E1};
 ghost use Rattle.ya_core.specs.Tree.{node_of, side_of};
 ghost use Rattle.ya_core.specs.Steps.{access_of};
-ghost use Rattle.ya_core.specs.Walks.{IsWalk, walk, op_of, due, Fits, IsStore, CanStand, cost_of, walk_after, budget, MovesOn, OpIsWithin};
+ghost use Rattle.ya_core.specs.Walks.{IsWalk, walk, op_of, due, Fits, IsStore, CanStand, cost_of, walk_after, budget};
+ghost use Rattle.ya_core.specs.Walks.{MovesOn, OpIsWithin};
 ghost use Rattle.ya_core.specs.Walks.{level_begun_of, DueIsWithin, IsTold, LevelIsSmall, due_of};
 
 use crate::process::{Entry, Process};
@@ -57,7 +58,13 @@ impl Model for Walker {
 
     ghost invariant = { λ w. IsWalk (walk w.shape w.place w.process w.begun w.remote) };
 
-    ghost inverse = { λ w. record { shape = w.levels; place = w.place; process = w.process; begun = w.begun; remote = w.remote } };
+    ghost inverse = { λ w. record {
+      shape = w.levels;
+      place = w.place;
+      process = w.process;
+      begun = w.begun;
+      remote = w.remote;
+    } };
 }
 
 impl Walker {
@@ -133,8 +140,8 @@ impl Walker {
         }
     }
 
-    /// Whether the value can stand in the word that is to be loaded: in a word C nil or the identifier of a place on that
-    /// side, in a word T that of a place below the node, in a word P 0, 1 or 2. False where no load is due.
+    /// Whether the value can stand in the word that is to be loaded: in a word C nil or the identifier of a place on
+    /// that side, in a word T that of a place below the node, in a word P 0, 1 or 2. False where no load is due.
     pub fn fits(&self, value: u64) -> bool
         ensures { IsTrue result ↔ Fits self.now value }
     {

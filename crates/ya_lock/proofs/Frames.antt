@@ -1,5 +1,6 @@
 -- A step of one process leaves the rule to the other seats.
-use Rattle.std.proofs.Common.{◌≡◌, ◌≢◌, ℕ, zero, suc, eqb, Bool, true, false, cond, List, [], ◌∷◌, ◌++◌, length, set, sym, refl, ap, ◌∙◌, subst, slice_index, ⊎_elim, eq-eqb, ne_eqb}
+use Rattle.std.proofs.Common.{◌≡◌, ◌≢◌, ℕ, zero, suc, eqb, Bool, true, false, cond, List, [], ◌∷◌, ◌++◌, length, set}
+use Rattle.std.proofs.Common.{sym, refl, ap, ◌∙◌, subst, slice_index, ⊎_elim, eq-eqb, ne_eqb}
 use Rattle.std.specs.Prelude as std
 use mathlib.Core.Option.{Option, none, some, some-injective, some-ne-none}
 use lib.ListN.{get_elem?}
@@ -16,7 +17,8 @@ use Rattle.ya_lock.specs.Rule.{making_index, words_in, place_of, Picture, Knows,
 use Rattle.ya_core.specs.Worlds.{is_inside}
 
 -- what a seat has once its view was set
-pub set_at : {A : Type 0} (l : List A) (i : ℕ) (old new : A) → get_elem? l i ≡ some old → get_elem? (set l i new) i ≡ some new
+pub set_at : {A : Type 0} (l : List A) (i : ℕ) (old new : A) → get_elem? l i ≡ some old
+    → get_elem? (set l i new) i ≡ some new
 set_at [] i old new e = absurd (some-ne-none old (sym e))
 set_at (x ∷ xs) zero old new e = refl
 set_at (x ∷ xs) (suc i) old new e = set_at xs i old new e
@@ -26,11 +28,13 @@ abbrev pub moved : (ℕ → Process) → ℕ → Process → ℕ → Process
 moved processes place process other = cond (eqb other place) process (processes other)
 
 -- the one that went on is the new process
-pub moved_here : (processes : ℕ → Process) (place : ℕ) (process : Process) → moved processes place process place ≡ process
+pub moved_here : (processes : ℕ → Process) (place : ℕ) (process : Process)
+    → moved processes place process place ≡ process
 moved_here processes place process = rw (eq-eqb place place refl) refl
 
 -- all others stay
-pub moved_else : (processes : ℕ → Process) (place : ℕ) (process : Process) (other : ℕ) → other ≢ place → moved processes place process other ≡ processes other
+pub moved_else : (processes : ℕ → Process) (place : ℕ) (process : Process) (other : ℕ) → other ≢ place
+    → moved processes place process other ≡ processes other
 moved_else processes place process other ne = rw (ne_eqb other place ne) refl
 
 module _ {V : Type 0} (since : ℕ → V → V → Type 0) (levels : ℕ) where
@@ -42,34 +46,45 @@ module _ {V : Type 0} (since : ℕ → V → V → Type 0) (levels : ℕ) where
   pub data Later (x : Picture V) (place : ℕ) (content : Option V) : Type 0 where
     Same : content ≡ x.content → Later x place content
     Changed : ((other : ℕ) → other ≢ place → is_inside (x.processes other) ≡ true → ⊥)
-        → ((other : ℕ) (value : V) → other ≢ place → Knows since x.content other false value → Knows since content other false value) → Later x place content
+        → ((other : ℕ) (value : V) → other ≢ place → Knows since x.content other false value
+        → Knows since content other false value) → Later x place content
 
   -- what another place knows stays true
-  away_later : (x : Picture V) (place : ℕ) (content : Option V) (other : ℕ) (value : V) → Later x place content → other ≢ place → Knows since x.content other false value
+  away_later : (x : Picture V) (place : ℕ) (content : Option V) (other : ℕ) (value : V) → Later x place content
+      → other ≢ place → Knows since x.content other false value
       → Knows since content other false value
-  away_later x place content other value (Same e) ne k = subst (λ (c : Option V). Knows since c other false value) (sym e) k
+  away_later x place content other value (Same e) ne k =
+      subst (λ (c : Option V). Knows since c other false value) (sym e) k
   away_later x place content other value (Changed alone away) ne k = away other value ne k
 
   -- so does what two places know of which one is inside
-  inside_later : (x : Picture V) (place : ℕ) (content : Option V) (other third : ℕ) (value seen : V) → Later x place content → other ≢ place → is_inside (x.processes other) ≡ true
-      → Knows since x.content other true value → Knows since x.content third false seen → Knows since content other true value × Knows since content third false seen
-  inside_later x place content other third value seen (Same e) ne is k l =
-      (subst (λ (c : Option V). Knows since c other true value) (sym e) k, subst (λ (c : Option V). Knows since c third false seen) (sym e) l)
+  inside_later : (x : Picture V) (place : ℕ) (content : Option V) (other third : ℕ) (value seen : V)
+      → Later x place content → other ≢ place → is_inside (x.processes other) ≡ true
+      → Knows since x.content other true value → Knows since x.content third false seen
+      → Knows since content other true value × Knows since content third false seen
+  inside_later x place content other third value seen (Same e) ne is k l = (
+    subst (λ (c : Option V). Knows since c other true value) (sym e) k,
+    subst (λ (c : Option V). Knows since c third false seen) (sym e) l,
+  )
   inside_later x place content other third value seen (Changed alone away) ne is k l = absurd (alone other ne is)
 
   -- what a seat knows of its own process stays true
-  knows_later : (x : Picture V) (place : ℕ) (content : Option V) (other : ℕ) (value : V) (b : Bool) → Later x place content → other ≢ place → is_inside (x.processes other) ≡ b
+  knows_later : (x : Picture V) (place : ℕ) (content : Option V) (other : ℕ) (value : V) (b : Bool)
+      → Later x place content → other ≢ place → is_inside (x.processes other) ≡ b
       → Knows since x.content other b value → Knows since content other b value
-  knows_later x place content other value true (Same e) ne is k = subst (λ (c : Option V). Knows since c other true value) (sym e) k
+  knows_later x place content other value true (Same e) ne is k =
+      subst (λ (c : Option V). Knows since c other true value) (sym e) k
   knows_later x place content other value true (Changed alone away) ne is k = absurd (alone other ne is)
   knows_later x place content other value false later ne is k = away_later x place content other value later ne k
 
   -- the picture after a process went on
   abbrev pub gone_on : Picture V → ℕ → Process → Option V → Picture V
-  gone_on x place process content = record { seat_of = x.seat_of; processes = moved x.processes place process; maker = x.maker; content = content }
+  gone_on x place process content =
+      record { seat_of = x.seat_of; processes = moved x.processes place process; maker = x.maker; content = content }
 
   -- seats of their own have places of their own
-  other_place : (x : Picture V) (place id other seat : ℕ) → x.seat_of place ≡ some id → x.seat_of other ≡ some seat → seat ≢ id → other ≢ place
+  other_place : (x : Picture V) (place id other seat : ℕ) → x.seat_of place ≡ some id → x.seat_of other ≡ some seat
+      → seat ≢ id → other ≢ place
   other_place x place id other seat a b ne e = ne (some-injective _ _ (sym b ∙ (ap x.seat_of e ∙ a)))
 
   -- a place without a seat is another one
@@ -77,17 +92,31 @@ module _ {V : Type 0} (since : ℕ → V → V → Type 0) (levels : ℕ) where
   no_place x place id other a b e = some-ne-none id (sym a ∙ (ap x.seat_of (sym e) ∙ b))
 
   -- the view of another seat fits the new picture
-  other_fits : (s t : St) (x : Picture V) (id place : ℕ) (process : Process) (content : Option V) (now : V) → x.content ≡ some now
-      → slice_index t.words (making_index levels) ≡ slice_index s.words (making_index levels) → x.seat_of place ≡ some id → Later x place content
-      → (seat : ℕ) (view : View V) → seat ≢ id → Fits since levels s x seat view → Fits since levels t (gone_on x place process content) seat view
+  other_fits : (s t : St) (x : Picture V) (id place : ℕ) (process : Process) (content : Option V) (now : V)
+      → x.content ≡ some now
+      → slice_index t.words (making_index levels) ≡ slice_index s.words (making_index levels)
+      → x.seat_of place ≡ some id → Later x place content
+      → (seat : ℕ) (view : View V) → seat ≢ id → Fits since levels s x seat view
+      → Fits since levels t (gone_on x place process content) seat view
   other_fits s t x id place process content now is word here later seat Stranger ne f = tt
-  other_fits s t x id place process content now is word here later seat Maker ne f = absurd (some-ne-none now (sym is ∙ f.2))
-  other_fits s t x id place process content now is word here later seat Filler ne f = absurd (some-ne-none now (sym is ∙ f.2))
-  other_fits s t x id place process content now is word here later seat (Dealer first value) ne f =
-      ((λ e. f.0 (sym word ∙ e)), f.1, f.2, λ k le. let g = f.3 k le in (g.0, away_later x place content k value later (no_place x place id k here g.0) g.1))
+  other_fits s t x id place process content now is word here later seat Maker ne f =
+      absurd (some-ne-none now (sym is ∙ f.2))
+  other_fits s t x id place process content now is word here later seat Filler ne f =
+      absurd (some-ne-none now (sym is ∙ f.2))
+  other_fits s t x id place process content now is word here later seat (Dealer first value) ne f = (
+    (λ e. f.0 (sym word ∙ e)),
+    f.1,
+    f.2,
+    λ k le. let g = f.3 k le in
+        (g.0, away_later x place content k value later (no_place x place id k here g.0) g.1),
+  )
   other_fits s t x id place process content now is word here later seat (Member k p value) ne f =
-      let other = other_place x place id k seat here f.1 ne in
-      ((λ e. f.0 (sym word ∙ e)), f.1, moved_else x.processes place process k other ∙ f.2, knows_later x place content k value (is_inside p) later other (ap is_inside f.2) f.3)
+      let other = other_place x place id k seat here f.1 ne in (
+        (λ e. f.0 (sym word ∙ e)),
+        f.1,
+        moved_else x.processes place process k other ∙ f.2,
+        knows_later x place content k value (is_inside p) later other (ap is_inside f.2) f.3,
+      )
   other_fits s t x id place process content now is word here later seat (Confirmer k value j seen) ne f =
       let other = other_place x place id k seat here f.1 ne in
       let both = inside_later x place content k j value seen later other (ap is_inside f.2) f.3 f.4 in (
@@ -104,55 +133,76 @@ module _ {V : Type 0} (since : ℕ → V → V → Type 0) (levels : ℕ) where
   Sits views place seat = (view : View V) × (get_elem? views seat ≡ some view) × (place_of view ≡ some place)
 
   -- by cases: it is that seat, or another
-  sits_by : (views : List (View V)) (id : ℕ) (old new : View V) → get_elem? views id ≡ some old → place_of new ≡ place_of old → (place seat : ℕ) → Sits views place seat → Dec (seat ≡ id)
+  sits_by : (views : List (View V)) (id : ℕ) (old new : View V) → get_elem? views id ≡ some old
+      → place_of new ≡ place_of old → (place seat : ℕ) → Sits views place seat → Dec (seat ≡ id)
       → Sits (set views id new) place seat
   sits_by views id old new at same place seat sits (yes is) =
-      let here : old ≡ sits.0 = some-injective old sits.0 (sym at ∙ (ap (λ (k : ℕ). get_elem? views k) (sym is) ∙ sits.1)) in
-      (new, ap (λ (k : ℕ). get_elem? (set views id new) k) is ∙ set_at views id old new at, same ∙ (ap place_of here ∙ sits.2))
+      let here : old ≡ sits.0 =
+      some-injective old sits.0 (sym at ∙ (ap (λ (k : ℕ). get_elem? views k) (sym is) ∙ sits.1)) in (
+        new,
+        ap (λ (k : ℕ). get_elem? (set views id new) k) is ∙ set_at views id old new at,
+        same ∙ (ap place_of here ∙ sits.2),
+      )
   sits_by views id old new at same place seat sits (no ne) = (sits.0, set_else views id seat new ne ∙ sits.1, sits.2)
 
   -- still so where the seat's view changes, but not its place
-  pub sits_still : (views : List (View V)) (id : ℕ) (old new : View V) → get_elem? views id ≡ some old → place_of new ≡ place_of old → (place seat : ℕ) → Sits views place seat → Sits (set views id new) place seat
-  sits_still views id old new at same place seat sits = sits_by views id old new at same place seat sits (ℕ_discrete seat id)
+  pub sits_still : (views : List (View V)) (id : ℕ) (old new : View V) → get_elem? views id ≡ some old
+      → place_of new ≡ place_of old → (place seat : ℕ) → Sits views place seat → Sits (set views id new) place seat
+  sits_still views id old new at same place seat sits =
+      sits_by views id old new at same place seat sits (ℕ_discrete seat id)
 
   -- still so where a seat that isn't the place's changes its view
-  pub sits_else : (views : List (View V)) (id : ℕ) (old new : View V) → get_elem? views id ≡ some old → (place seat : ℕ) → place_of old ≢ some place → Sits views place seat → Sits (set views id new) place seat
+  pub sits_else : (views : List (View V)) (id : ℕ) (old new : View V) → get_elem? views id ≡ some old → (place seat : ℕ)
+      → place_of old ≢ some place → Sits views place seat → Sits (set views id new) place seat
   sits_else views id old new at place seat other sits =
-      let ne : seat ≢ id = λ e. other (ap place_of (some-injective old sits.0 (sym at ∙ (ap (λ (k : ℕ). get_elem? views k) (sym e) ∙ sits.1))) ∙ sits.2) in
+      let ne : seat ≢ id =
+      λ e. other (ap place_of
+      (some-injective old sits.0 (sym at ∙ (ap (λ (k : ℕ). get_elem? views k) (sym e) ∙ sits.1))) ∙ sits.2) in
       (sits.0, set_else views id seat new ne ∙ sits.1, sits.2)
 
   -- and where a seat comes
-  pub sits_longer : (views : List (View V)) (new : View V) (place seat : ℕ) → Sits views place seat → Sits (views ++ new ∷ []) place seat
+  pub sits_longer : (views : List (View V)) (new : View V) (place seat : ℕ) → Sits views place seat
+      → Sits (views ++ new ∷ []) place seat
   sits_longer views new place seat sits = (sits.0, at_longer views (new ∷ []) seat sits.0 sits.1, sits.2)
 
   -- a process goes on, and its seat knows the value next
-  pub goes_on : (s : St) (x : Picture V) → Obeys since levels s x → (id place : ℕ) (before process : Process) (value next now then' : V) (content : Option V) (row : List ℕ) (homes : List (Option (std.Option V)))
+  pub goes_on : (s : St) (x : Picture V) → Obeys since levels s x
+      → (id place : ℕ) (before process : Process) (value next now then' : V) (content : Option V) (row : List ℕ)
+      (homes : List (Option (std.Option V)))
       → get_elem? s.views id ≡ some (Member place before value)
-      → slice_index s.words (making_index levels) ≢ 0 → x.seat_of place ≡ some id → x.content ≡ some now → content ≡ some then'
+      → slice_index s.words (making_index levels) ≢ 0 → x.seat_of place ≡ some id → x.content ≡ some now
+      → content ≡ some then'
       → length row ≡ length s.words → slice_index row (making_index levels) ≡ slice_index s.words (making_index levels)
-      → IsSound levels (record { words = words_in levels row; processes = moved x.processes place process }) → Lies since (moved x.processes place process) homes content
+      → IsSound levels (record { words = words_in levels row; processes = moved x.processes place process })
+      → Lies since (moved x.processes place process) homes content
       → Knows since content place (is_inside process) next → Later x place content
-      → Obeys since levels record { words = row; homes = homes; views = set s.views id (Member place process next) } (gone_on x place process content)
-  goes_on s x o id place before process value next now then' content row homes at' begun here was is long word sound lies knows later =
+      → Obeys since levels record { words = row; homes = homes; views = set s.views id (Member place process next) }
+      (gone_on x place process content)
+  goes_on s x o id place before process value next now then' content row homes at' begun here was is long word sound
+      lies knows later =
       let t : St = record { words = row; homes = homes; views = set s.views id (Member place process next) } in
       record {
         wide = long ∙ o.wide;
         unmade = λ e. absurd (begun (sym word ∙ e));
         before = λ e. absurd (some-ne-none then' (sym is ∙ e));
-        seated = λ k seat e. sits_still s.views id (Member place before value) (Member place process next) at' refl k seat (o.seated k seat e);
+        seated = λ k seat e. sits_still s.views id (Member place before value)
+            (Member place process next) at' refl k seat (o.seated k seat e);
         absent = λ k e. moved_else x.processes place process k (no_place x place id k here e) ∙ o.absent k e;
         sound = sound;
         lies = lies;
         fits = λ seat view at. ⊎_elim
             (λ p. subst (λ (y : View V). Fits since levels t (gone_on x place process content) seat y) p.1
             ((λ e. begun (sym word ∙ e)), here ∙ ap some (sym p.0), moved_here x.processes place process, knows))
-            (λ p. other_fits s t x id place process content now was word here later seat view p.0 (o.fits seat view p.1))
+            (λ p. other_fits s t x id place process content now was word here later seat view p.0
+            (o.fits seat view p.1))
             (at_set s.views id seat (Member place process next) view at);
       }
 
   -- the same picture fits where the making word stays set, and the slot stays while the maker waits for it
-  pub refits : (s t : St) (x : Picture V) → (slice_index s.words (making_index levels) ≢ 0 → slice_index t.words (making_index levels) ≢ 0)
-      → (seat : ℕ) (view : View V) → (x.maker ≡ some seat → t.homes ≡ s.homes) → Fits since levels s x seat view → Fits since levels t x seat view
+  pub refits : (s t : St) (x : Picture V)
+      → (slice_index s.words (making_index levels) ≢ 0 → slice_index t.words (making_index levels) ≢ 0)
+      → (seat : ℕ) (view : View V) → (x.maker ≡ some seat → t.homes ≡ s.homes) → Fits since levels s x seat view
+      → Fits since levels t x seat view
   refits s t x begun seat Stranger slot f = tt
   refits s t x begun seat Maker slot f = (begun f.0, f.1, f.2, slot f.1 ∙ f.3)
   refits s t x begun seat Filler slot f = (begun f.0, f.1, f.2, ap length (slot f.1) ∙ f.3)
@@ -163,8 +213,10 @@ module _ {V : Type 0} (since : ℕ → V → V → Type 0) (levels : ℕ) where
 
   -- what a load that changes no word has to show
   abbrev pub Looks : St → ℕ → Slots V → View V → Act (std.Option V) → List ℕ → Type 0
-  Looks s id slots w a row = Rule since levels record { words = row; homes = homes_after s.homes slots a; views = set s.views id w }
+  Looks s id slots w a row =
+      Rule since levels record { words = row; homes = homes_after s.homes slots a; views = set s.views id w }
 
   -- a load leaves its word as it is, so it is enough to show the rule for the words as they are
-  pub looks : (s : St) (id i : ℕ) (slots : Slots V) (w : View V) (a : Act (std.Option V)) → Looks s id slots w a s.words → Rule since levels (stepped s i (slice_index s.words i) id slots w a)
+  pub looks : (s : St) (id i : ℕ) (slots : Slots V) (w : View V) (a : Act (std.Option V)) → Looks s id slots w a s.words
+      → Rule since levels (stepped s i (slice_index s.words i) id slots w a)
   looks s id i slots w a r = subst (Looks s id slots w a) (sym (word_kept s.words i)) r

@@ -12,5 +12,7 @@ one_tree x y a b e h k =
     same_height a b (let same : m ≡ n = omega arith in same)
 
 -- so a place of the lock is one of that tree
-pub place_below : (x y : LockId) (place levels shape : ℕ) → x ≡ y → HasTree y levels → shape ≡ levels → HasPlace x place → place < 2 ^ shape
-place_below x y place levels shape e h s p = subst (λ (l : ℕ). place < 2 ^ l) (one_tree x y p.levels levels e p.words h ∙ sym s) p.below
+pub place_below : (x y : LockId) (place levels shape : ℕ) → x ≡ y → HasTree y levels → shape ≡ levels → HasPlace x place
+    → place < 2 ^ shape
+place_below x y place levels shape e h s p =
+    subst (λ (l : ℕ). place < 2 ^ l) (one_tree x y p.levels levels e p.words h ∙ sym s) p.below

@@ -1,12 +1,15 @@
 -- The steps by which `new` makes the passes keep the rule.
-use Rattle.std.proofs.Common.{◌≡◌, ◌≢◌, ℕ, zero, suc, ◌+◌, ◌^◌, ◌<◌, eqb, true, false, cond, List, [], ◌∷◌, ◌++◌, length, set, sym, refl, ap, ◌∙◌, subst, arith, slice_index, None, Some, replicate, inl, inr, ⊎_elim, ◌⊎◌, eq-eqb, ne_eqb}
+use Rattle.std.proofs.Common.{◌≡◌, ◌≢◌, ℕ, zero, suc, ◌+◌, ◌^◌, ◌<◌, eqb, true, false, cond, List, [], ◌∷◌, ◌++◌}
+use Rattle.std.proofs.Common.{length, set, sym, refl, ap, ◌∙◌, subst, arith, slice_index, None, Some, replicate, inl}
+use Rattle.std.proofs.Common.{inr, ⊎_elim, ◌⊎◌, eq-eqb, ne_eqb}
 use Rattle.std.specs.Prelude as std
 use Rattle.std.proofs.lemmas.List.{length-set, get_or-set_same, length-replicate}
 use Rattle.std.proofs.lemmas.Nat.{pow_pos}
 use mathlib.Core.Option.{Option, none, some, some-injective, some-ne-none}
 use native.Mathlib.Decide.{ℕ_discrete}
 use lib.ListN.{get_elem?}
-use Rattle.atomic_table.specs.Table.{State, Me, keeps, takes, gives, carried_after, homes_after, opening, Allows, Arrives, Splits}
+use Rattle.atomic_table.specs.Table.{State, Me, keeps, takes, gives, carried_after, homes_after, opening, Allows}
+use Rattle.atomic_table.specs.Table.{Arrives, Splits}
 use Rattle.atomic_table.proofs.Lists.{at_set, at_last}
 use Rattle.ya_core.specs.declared.word.Word.{Word}
 use Rattle.ya_core.specs.declared.process.Process.TheVariants.{Idle}
@@ -21,7 +24,8 @@ use Rattle.ya_lock.proofs.Words.{words_zero, words_beyond}
 use Rattle.ya_lock.proofs.Frames.{refits, looks, Sits, sits_still, sits_else, sits_longer, set_at}
 
 -- the view that came last, or one that was there
-pub at_end : {A : Type 0} (l : List A) (a b : A) (j : ℕ) → get_elem? (l ++ a ∷ []) j ≡ some b → (get_elem? l j ≡ some b) ⊎ ((j ≡ length l) × (a ≡ b))
+pub at_end : {A : Type 0} (l : List A) (a b : A) (j : ℕ) → get_elem? (l ++ a ∷ []) j ≡ some b
+    → (get_elem? l j ≡ some b) ⊎ ((j ≡ length l) × (a ≡ b))
 at_end [] a b zero e = inr (refl, some-injective a b e)
 at_end [] a b (suc j) e = absurd (some-ne-none b (sym e))
 at_end (x ∷ xs) a b zero e = inl e
@@ -43,7 +47,8 @@ pub one_value : {V : Type 0} (a b : V) → ◌≡◌ {A = Slots V} ((0, Some a) 
 unfolding first_value
 one_value {V} a b e = let values : Some a ≡ Some b = ap (λ (l : Slots V). first_value l) e in cc
 
-module _ {V : Type 0} (since : ℕ → V → V → Type 0) (since_same : (place : ℕ) (a : V) → since place a a) (levels : ℕ) where
+module _ {V : Type 0} (since : ℕ → V → V → Type 0) (since_same : (place : ℕ) (a : V) → since place a a)
+    (levels : ℕ) where
   -- a state of the table
   abbrev St : Type 0
   St = State (std.Option V) (View V)
@@ -53,7 +58,8 @@ module _ {V : Type 0} (since : ℕ → V → V → Type 0) (since_same : (place 
   nothing = record { seat_of = λ _. none; processes = λ _. Idle; maker = none; content = none }
 
   -- the seat that the table begins with is a stranger
-  first_fits : (s : St) (seat : ℕ) (view : View V) → get_elem? (Stranger ∷ []) seat ≡ some view → Fits since levels s nothing seat view
+  first_fits : (s : St) (seat : ℕ) (view : View V) → get_elem? (Stranger ∷ []) seat ≡ some view
+      → Fits since levels s nothing seat view
   first_fits s zero view at = subst (λ (v : View V). Fits since levels s nothing zero v) (some-injective _ _ at) tt
   first_fits s (suc j) view at = absurd (some-ne-none view (sym at))
 
@@ -68,14 +74,16 @@ module _ {V : Type 0} (since : ℕ → V → V → Type 0) (since_same : (place 
       before = λ _ _. refl;
       seated = λ place seat e. absurd (some-ne-none seat (sym e));
       absent = λ _ _. refl;
-      sound = subst (λ (words : Word → ℕ). IsSound levels record { words = words; processes = λ _. Idle }) (sym (words_zero levels n)) (opens_sound levels);
+      sound = subst (λ (words : Word → ℕ). IsSound levels record { words = words; processes = λ _. Idle })
+          (sym (words_zero levels n)) (opens_sound levels);
       lies = tt;
       fits = first_fits (opening (replicate n 0) (None ∷ []) Stranger);
     },
   )
 
   -- while the making word is 0 there are strangers alone
-  strangers : (s t : St) (x y : Picture V) (seat : ℕ) (view : View V) → slice_index s.words (making_index levels) ≡ 0 → Fits since levels s x seat view → Fits since levels t y seat view
+  strangers : (s t : St) (x y : Picture V) (seat : ℕ) (view : View V) → slice_index s.words (making_index levels) ≡ 0
+      → Fits since levels s x seat view → Fits since levels t y seat view
   strangers s t x y seat Stranger e f = tt
   strangers s t x y seat Maker e f = absurd (f.0 e)
   strangers s t x y seat Filler e f = absurd (f.0 e)
@@ -85,17 +93,27 @@ module _ {V : Type 0} (since : ℕ → V → V → Type 0) (since_same : (place 
   strangers s t x y seat Spent e f = absurd (f e)
 
   -- the swap of 1 into the making word
-  begins_at : (slots : ℕ) → Arrives (Rule since levels) slots (making_index levels) (λ _. 1) (λ found me. Begins found me)
+  begins_at : (slots : ℕ)
+      → Arrives (Rule since levels) slots (making_index levels) (λ _. 1) (λ found me. Begins found me)
   begins_at slots s rule wide small =
-      let x : Picture V = rule.0 in let o = rule.1 in let m : ℕ = making_index levels in let n : ℕ = length s.words in let long : n ≡ m + 1 = o.wide in
+      let x : Picture V = rule.0 in let o = rule.1 in let m : ℕ = making_index levels in let n : ℕ = length s.words in
+      let long : n ≡ m + 1 = o.wide in
       let set_now : slice_index (set s.words m 1) m ≡ 1 = get_or-set_same s.words m 1 0 (omega arith) in
-      let begun : slice_index (set s.words m 1) m ≢ 0 = λ e. let one : ◌≡◌ {A = ℕ} 1 0 = sym set_now ∙ e in absurd (omega arith) in
+      let begun : slice_index (set s.words m 1) m ≢ 0 = λ e. let one : ◌≡◌ {A = ℕ} 1 0 = sym set_now ∙ e in
+      absurd (omega arith) in
       let sound : IsSound levels record { words = words_in levels (set s.words m 1); processes = x.processes } =
-      subst (λ (words : Word → ℕ). IsSound levels record { words = words; processes = x.processes }) (sym (words_beyond levels s.words 1)) o.sound in
+      subst (λ (words : Word → ℕ). IsSound levels record { words = words; processes = x.processes })
+      (sym (words_beyond levels s.words 1)) o.sound in
       elim (ℕ_discrete (slice_index s.words m) 0) [
         | yes z ↦
             let t : St = record { words = set s.words m 1; homes = s.homes; views = s.views ++ Maker ∷ [] } in
-            let y : Picture V = record { seat_of = x.seat_of; processes = x.processes; maker = some (length s.views); content = x.content } in (
+            let y : Picture V =
+            record {
+              seat_of = x.seat_of;
+              processes = x.processes;
+              maker = some (length s.views);
+              content = x.content;
+            } in (
               Maker,
               keeps,
               tt,
@@ -110,7 +128,9 @@ module _ {V : Type 0} (since : ℕ → V → V → Type 0) (since_same : (place 
                   sound = sound;
                   lies = o.lies;
                   fits = λ seat view at. ⊎_elim (λ there. strangers s t x y seat view z (o.fits seat view there))
-                      (λ p. subst (λ (v : View V). Fits since levels t y seat v) p.1 (begun, ap some (sym p.0), (o.unmade z).0, (o.unmade z).1)) (at_end s.views Maker view seat at);
+                      (λ p. subst (λ (v : View V). Fits since levels t y seat v) p.1
+                      (begun, ap some (sym p.0), (o.unmade z).0, (o.unmade z).1))
+                      (at_end s.views Maker view seat at);
                 },
               ),
               ((λ _. refl), refl),
@@ -130,8 +150,10 @@ module _ {V : Type 0} (since : ℕ → V → V → Type 0) (since_same : (place 
                   absent = o.absent;
                   sound = sound;
                   lies = o.lies;
-                  fits = λ seat view at. ⊎_elim (λ there. refits since levels s t x (λ _. begun) seat view (λ _. refl) (o.fits seat view there))
-                      (λ p. subst (λ (v : View V). Fits since levels t x seat v) p.1 tt) (at_end s.views Stranger view seat at);
+                  fits = λ seat view at. ⊎_elim
+                      (λ there. refits since levels s t x (λ _. begun) seat view (λ _. refl) (o.fits seat view there))
+                      (λ p. subst (λ (v : View V). Fits since levels t x seat v) p.1 tt)
+                      (at_end s.views Stranger view seat at);
                 },
               ),
               ((λ z. absurd (other z)), refl),
@@ -139,15 +161,19 @@ module _ {V : Type 0} (since : ℕ → V → V → Type 0) (since_same : (place 
       ]
 
   -- the same where the word is named by its number
-  pub begins : (slots i : ℕ) → i ≡ making_index levels → Arrives (Rule since levels) slots i (λ _. 1) (λ found me. Begins found me)
-  begins slots i is = subst (λ (j : ℕ). Arrives (Rule since levels) slots j (λ _. 1) (λ found me. Begins found me)) (sym is) (begins_at slots)
+  pub begins : (slots i : ℕ) → i ≡ making_index levels
+      → Arrives (Rule since levels) slots i (λ _. 1) (λ found me. Begins found me)
+  begins slots i is =
+      subst (λ (j : ℕ). Arrives (Rule since levels) slots j (λ _. 1) (λ found me. Begins found me)) (sym is)
+      (begins_at slots)
 
   -- the maker has one seat
   other_maker : (x : Picture V) (id seat : ℕ) → x.maker ≡ some id → x.maker ≡ some seat → seat ≢ id → ⊥
   other_maker x id seat a b ne = ne (some-injective _ _ (sym b ∙ a))
 
   -- the maker takes the empty slot
-  pub takes_slot : (slots id i : ℕ) (me : Me (std.Option V) (View V)) → me.0 ≡ Maker → me.1 ≡ [] → Allows (Rule since levels) slots id me i (λ n. n) (λ n then'. Takes me.0 then')
+  pub takes_slot : (slots id i : ℕ) (me : Me (std.Option V) (View V)) → me.0 ≡ Maker → me.1 ≡ []
+      → Allows (Rule since levels) slots id me i (λ n. n) (λ n then'. Takes me.0 then')
   takes_slot slots id i me is none' s rule wide at small =
       let x : Picture V = rule.0 in let o = rule.1 in let f = o.fits id Maker (at ∙ ap some is) in
       let t : St = record { words = s.words; homes = set s.homes 0 none; views = set s.views id Filler } in (
@@ -160,37 +186,52 @@ module _ {V : Type 0} (since : ℕ → V → V → Type 0) (since_same : (place 
             wide = o.wide;
             unmade = λ e. absurd (f.0 e);
             before = o.before;
-            seated = λ k seat e. sits_still since levels s.views id Maker Filler (at ∙ ap some is) refl k seat (o.seated k seat e);
+            seated = λ k seat e. sits_still since levels s.views id Maker Filler (at ∙ ap some is) refl k seat
+                (o.seated k seat e);
             absent = o.absent;
             sound = o.sound;
             lies = subst (λ (c : Option V). Lies since x.processes (set s.homes 0 none) c) (sym f.2) tt;
             fits = λ seat view there. ⊎_elim
-                (λ p. subst (λ (v : View V). Fits since levels t x seat v) p.1 (f.0, f.1 ∙ ap some (sym p.0), f.2, ap (λ (h : List (Option (std.Option V))). length (set h 0 none)) f.3))
-                (λ p. refits since levels s t x (λ b. b) seat view (λ m. absurd (other_maker x id seat f.1 m p.0)) (o.fits seat view p.1)) (at_set s.views id seat Filler view there);
+                (λ p. subst (λ (v : View V). Fits since levels t x seat v) p.1 (
+                  f.0,
+                  f.1 ∙ ap some (sym p.0),
+                  f.2,
+                  ap (λ (h : List (Option (std.Option V))). length (set h 0 none)) f.3,
+                ))
+                (λ p. refits since levels s t x (λ b. b) seat view (λ m. absurd (other_maker x id seat f.1 m p.0))
+                (o.fits seat view p.1)) (at_set s.views id seat Filler view there);
           },
         ),
-        subst (λ (v : View V). Takes v (Filler, (0, None) ∷ me.1)) (sym is) (ap (λ (l : Slots V). (Filler, (0, None) ∷ l)) none'),
+        subst (λ (v : View V). Takes v (Filler, (0, None) ∷ me.1)) (sym is)
+            (ap (λ (l : Slots V). (Filler, (0, None) ∷ l)) none'),
       )
 
   -- before the value was given there are the maker and strangers alone
-  given_fits : (s t : St) (x y : Picture V) (id : ℕ) → Obeys since levels s x → x.maker ≡ some id → x.content ≡ none → slice_index t.words (making_index levels) ≢ 0
+  given_fits : (s t : St) (x y : Picture V) (id : ℕ) → Obeys since levels s x → x.maker ≡ some id → x.content ≡ none
+      → slice_index t.words (making_index levels) ≢ 0
       → (seat : ℕ) (view : View V) → seat ≢ id → Fits since levels s x seat view → Fits since levels t y seat view
   given_fits s t x y id o m c begun seat Stranger ne f = tt
   given_fits s t x y id o m c begun seat Maker ne f = absurd (other_maker x id seat m f.1 ne)
   given_fits s t x y id o m c begun seat Filler ne f = absurd (other_maker x id seat m f.1 ne)
   given_fits s t x y id o m c begun seat (Dealer first value) ne f = absurd (other_maker x id seat m f.1 ne)
-  given_fits s t x y id o m c begun seat (Member place process value) ne f = absurd (some-ne-none seat (sym f.1 ∙ o.before c place))
-  given_fits s t x y id o m c begun seat (Confirmer place value other seen) ne f = absurd (some-ne-none seat (sym f.1 ∙ o.before c place))
+  given_fits s t x y id o m c begun seat (Member place process value) ne f =
+      absurd (some-ne-none seat (sym f.1 ∙ o.before c place))
+  given_fits s t x y id o m c begun seat (Confirmer place value other seen) ne f =
+      absurd (some-ne-none seat (sym f.1 ∙ o.before c place))
   given_fits s t x y id o m c begun seat Spent ne f = begun
 
   -- the maker gives the slot home with the value
-  pub gives_value : (slots id i : ℕ) (value : V) (me : Me (std.Option V) (View V)) → me.0 ≡ Filler → me.1 ≡ (0, Some value) ∷ [] → Allows (Rule since levels) slots id me i (λ n. n) (λ n then'. Gives me.0 me.1 then')
+  pub gives_value : (slots id i : ℕ) (value : V) (me : Me (std.Option V) (View V)) → me.0 ≡ Filler
+      → me.1 ≡ (0, Some value) ∷ []
+      → Allows (Rule since levels) slots id me i (λ n. n) (λ n then'. Gives me.0 me.1 then')
   gives_value slots id i value me is has s rule wide at small =
       let x : Picture V = rule.0 in let o = rule.1 in let f = o.fits id Filler (at ∙ ap some is) in
       let homes : List (Option (std.Option V)) = homes_after s.homes me.1 gives in
-      let home : homes ≡ some (Some value) ∷ [] = ap (λ (l : Slots V). homes_after s.homes l gives) has ∙ only s.homes (some (Some value)) f.3 in
+      let home : homes ≡ some (Some value) ∷ [] =
+      ap (λ (l : Slots V). homes_after s.homes l gives) has ∙ only s.homes (some (Some value)) f.3 in
       let t : St = record { words = s.words; homes = homes; views = set s.views id (Dealer 0 value) } in
-      let y : Picture V = record { seat_of = x.seat_of; processes = x.processes; maker = x.maker; content = some value } in (
+      let y : Picture V =
+      record { seat_of = x.seat_of; processes = x.processes; maker = x.maker; content = some value } in (
         Dealer 0 value,
         gives,
         tt,
@@ -200,80 +241,128 @@ module _ {V : Type 0} (since : ℕ → V → V → Type 0) (since_same : (place 
             wide = o.wide;
             unmade = λ e. absurd (f.0 e);
             before = λ e. absurd (some-ne-none value e);
-            seated = λ k seat e. sits_still since levels s.views id Filler (Dealer 0 value) (at ∙ ap some is) refl k seat (o.seated k seat e);
+            seated = λ k seat e. sits_still since levels s.views id Filler (Dealer 0 value)
+                (at ∙ ap some is) refl k seat (o.seated k seat e);
             absent = o.absent;
             sound = o.sound;
-            lies = ((λ _. home), (λ k e. let idle : true ≡ false = sym e ∙ ap is_inside (o.absent k (o.before f.2 k)) in cc));
+            lies = (
+              (λ _. home),
+              (λ k e. let idle : true ≡ false = sym e ∙ ap is_inside (o.absent k (o.before f.2 k)) in cc),
+            );
             fits = λ seat view there. ⊎_elim
-                (λ p. subst (λ (v : View V). Fits since levels t y seat v) p.1
-                (f.0, f.1 ∙ ap some (sym p.0), pow_pos levels, λ k le. (o.before f.2 k, (value, refl, since_same k value))))
-                (λ p. given_fits s t x y id o f.1 f.2 f.0 seat view p.0 (o.fits seat view p.1)) (at_set s.views id seat (Dealer 0 value) view there);
+                (λ p. subst (λ (v : View V). Fits since levels t y seat v) p.1 (
+                  f.0,
+                  f.1 ∙ ap some (sym p.0),
+                  pow_pos levels,
+                  λ k le. (o.before f.2 k, (value, refl, since_same k value)),
+                ))
+                (λ p. given_fits s t x y id o f.1 f.2 f.0 seat view p.0 (o.fits seat view p.1))
+                (at_set s.views id seat (Dealer 0 value) view there);
           },
         ),
         subst (λ (v : View V). Gives v me.1 (Dealer 0 value, carried_after me.1 gives)) (sym is)
-            (λ other e. let same : value ≡ other = one_value value other (sym has ∙ e) in λ k. (Dealer 0 (same k), carried_after (e k) gives)),
+            (λ other e. let same : value ≡ other = one_value value other (sym has ∙ e) in
+            λ k. (Dealer 0 (same k), carried_after (e k) gives)),
       )
 
   -- a place has its process in a seat from now on
   abbrev seated : Picture V → ℕ → ℕ → Picture V
-  seated x place id = record { seat_of = λ other. cond (eqb other place) (some id) (x.seat_of other); processes = x.processes; maker = x.maker; content = x.content }
+  seated x place id =
+      record {
+        seat_of = λ other. cond (eqb other place) (some id) (x.seat_of other);
+        processes = x.processes;
+        maker = x.maker;
+        content = x.content;
+      }
 
   -- the place has that seat
   seated_here : (x : Picture V) (place id : ℕ) → (seated x place id).seat_of place ≡ some id
   seated_here x place id = rw (eq-eqb place place refl) refl
 
   -- all other places keep theirs
-  seated_else : (x : Picture V) (place id other : ℕ) → other ≢ place → (seated x place id).seat_of other ≡ x.seat_of other
+  seated_else : (x : Picture V) (place id other : ℕ) → other ≢ place
+      → (seated x place id).seat_of other ≡ x.seat_of other
   seated_else x place id other ne = rw (ne_eqb other place ne) refl
 
   -- a place without a seat isn't one with a seat
-  unseated : (x : Picture V) (place other seat : ℕ) → x.seat_of place ≡ none → x.seat_of other ≡ some seat → other ≢ place
+  unseated : (x : Picture V) (place other seat : ℕ) → x.seat_of place ≡ none → x.seat_of other ≡ some seat
+      → other ≢ place
   unseated x place other seat a b e = some-ne-none seat (sym b ∙ (ap x.seat_of e ∙ a))
 
   -- the view of another seat fits the new picture
-  dealt_fits : (s t : St) (x : Picture V) (id place number : ℕ) → x.maker ≡ some id → x.seat_of place ≡ none → t.words ≡ s.words → t.homes ≡ s.homes
-      → (seat : ℕ) (view : View V) → seat ≢ id → Fits since levels s x seat view → Fits since levels t (seated x place number) seat view
+  dealt_fits : (s t : St) (x : Picture V) (id place number : ℕ) → x.maker ≡ some id → x.seat_of place ≡ none
+      → t.words ≡ s.words → t.homes ≡ s.homes
+      → (seat : ℕ) (view : View V) → seat ≢ id → Fits since levels s x seat view
+      → Fits since levels t (seated x place number) seat view
   dealt_fits s t x id place number m free words homes seat Stranger ne f = tt
   dealt_fits s t x id place number m free words homes seat Maker ne f = absurd (other_maker x id seat m f.1 ne)
   dealt_fits s t x id place number m free words homes seat Filler ne f = absurd (other_maker x id seat m f.1 ne)
-  dealt_fits s t x id place number m free words homes seat (Dealer first value) ne f = absurd (other_maker x id seat m f.1 ne)
-  dealt_fits s t x id place number m free words homes seat (Member p process value) ne f =
-      (subst (λ (r : List ℕ). slice_index r (making_index levels) ≢ 0) (sym words) f.0, seated_else x place number p (unseated x place p seat free f.1) ∙ f.1, f.2, f.3)
-  dealt_fits s t x id place number m free words homes seat (Confirmer p value other seen) ne f =
-      (subst (λ (r : List ℕ). slice_index r (making_index levels) ≢ 0) (sym words) f.0, seated_else x place number p (unseated x place p seat free f.1) ∙ f.1, f.2, f.3, f.4)
-  dealt_fits s t x id place number m free words homes seat Spent ne f = subst (λ (r : List ℕ). slice_index r (making_index levels) ≢ 0) (sym words) f
+  dealt_fits s t x id place number m free words homes seat (Dealer first value) ne f =
+      absurd (other_maker x id seat m f.1 ne)
+  dealt_fits s t x id place number m free words homes seat (Member p process value) ne f = (
+    subst (λ (r : List ℕ). slice_index r (making_index levels) ≢ 0) (sym words) f.0,
+    seated_else x place number p (unseated x place p seat free f.1) ∙ f.1,
+    f.2,
+    f.3,
+  )
+  dealt_fits s t x id place number m free words homes seat (Confirmer p value other seen) ne f = (
+    subst (λ (r : List ℕ). slice_index r (making_index levels) ≢ 0) (sym words) f.0,
+    seated_else x place number p (unseated x place p seat free f.1) ∙ f.1,
+    f.2,
+    f.3,
+    f.4,
+  )
+  dealt_fits s t x id place number m free words homes seat Spent ne f =
+      subst (λ (r : List ℕ). slice_index r (making_index levels) ≢ 0) (sym words) f
 
   -- a place that still has no seat is idle
-  seated_absent : (x : Picture V) (place id : ℕ) → ((k : ℕ) → x.seat_of k ≡ none → x.processes k ≡ Idle) → (k : ℕ) → (seated x place id).seat_of k ≡ none → x.processes k ≡ Idle
+  seated_absent : (x : Picture V) (place id : ℕ) → ((k : ℕ) → x.seat_of k ≡ none → x.processes k ≡ Idle) → (k : ℕ)
+      → (seated x place id).seat_of k ≡ none → x.processes k ≡ Idle
   seated_absent x place id absent k e = elim (ℕ_discrete k place) [
-    | yes same ↦ absurd (some-ne-none id (sym (seated_here x place id) ∙ (ap (seated x place id).seat_of (sym same) ∙ e)))
+    | yes same ↦ absurd
+        (some-ne-none id (sym (seated_here x place id) ∙ (ap (seated x place id).seat_of (sym same) ∙ e)))
     | no ne ↦ absent k (sym (seated_else x place id k ne) ∙ e)
   ]
 
   -- the pass that was split off has the place, and the others sit where they sat
-  dealt_sits : (views : List (View V)) (id first : ℕ) (value : V) (place k seat : ℕ) → get_elem? views id ≡ some (Dealer first value) → (x : Picture V)
+  dealt_sits : (views : List (View V)) (id first : ℕ) (value : V) (place k seat : ℕ)
+      → get_elem? views id ≡ some (Dealer first value) → (x : Picture V)
       → (x.seat_of k ≡ some seat → Sits since levels views k seat) → Dec (k ≡ place)
       → (seated x place (length (set views id (Dealer (first + 1) value)))).seat_of k ≡ some seat
       → Sits since levels (set views id (Dealer (first + 1) value) ++ Member place Idle value ∷ []) k seat
   dealt_sits views id first value place k seat at x sits (yes same) e =
       let n : ℕ = length (set views id (Dealer (first + 1) value)) in
-      let number : n ≡ seat = some-injective n seat (sym (seated_here x place n) ∙ (ap (seated x place n).seat_of (sym same) ∙ e)) in
-      (Member place Idle value, at_last (set views id (Dealer (first + 1) value)) (Member place Idle value) seat number, ap some (sym same))
+      let number : n ≡ seat =
+      some-injective n seat (sym (seated_here x place n) ∙ (ap (seated x place n).seat_of (sym same) ∙ e)) in (
+        Member place Idle value,
+        at_last (set views id (Dealer (first + 1) value)) (Member place Idle value) seat number,
+        ap some (sym same),
+      )
   dealt_sits views id first value place k seat at x sits (no ne) e =
       sits_longer since levels (set views id (Dealer (first + 1) value)) (Member place Idle value) k seat
-      (sits_still since levels views id (Dealer first value) (Dealer (first + 1) value) at refl k seat (sits (sym (seated_else x place (length (set views id (Dealer (first + 1) value))) k ne) ∙ e)))
+      (sits_still since levels views id (Dealer first value) (Dealer (first + 1) value) at refl k seat
+      (sits (sym (seated_else x place (length (set views id (Dealer (first + 1) value))) k ne) ∙ e)))
 
   -- the seat that became a pass has its place, and the others sit where they sat
-  ended_sits : (views : List (View V)) (x : Picture V) (id place : ℕ) (value : V) (k seat : ℕ) → get_elem? views id ≡ some (Dealer place value) → (x.seat_of k ≡ some seat → Sits since levels views k seat)
-      → Dec (k ≡ place) → (seated x place id).seat_of k ≡ some seat → Sits since levels (set views id (Member place Idle value)) k seat
+  ended_sits : (views : List (View V)) (x : Picture V) (id place : ℕ) (value : V) (k seat : ℕ)
+      → get_elem? views id ≡ some (Dealer place value) → (x.seat_of k ≡ some seat → Sits since levels views k seat)
+      → Dec (k ≡ place) → (seated x place id).seat_of k ≡ some seat
+      → Sits since levels (set views id (Member place Idle value)) k seat
   ended_sits views x id place value k seat at sits (yes same) e =
-      let number : id ≡ seat = some-injective id seat (sym (seated_here x place id) ∙ (ap (seated x place id).seat_of (sym same) ∙ e)) in
-      (Member place Idle value, ap (λ (j : ℕ). get_elem? (set views id (Member place Idle value)) j) (sym number) ∙ set_at views id (Dealer place value) (Member place Idle value) at, ap some (sym same))
+      let number : id ≡ seat =
+      some-injective id seat (sym (seated_here x place id) ∙ (ap (seated x place id).seat_of (sym same) ∙ e)) in (
+        Member place Idle value,
+        ap (λ (j : ℕ). get_elem? (set views id (Member place Idle value)) j) (sym number)
+            ∙ set_at views id (Dealer place value) (Member place Idle value) at,
+        ap some (sym same),
+      )
   ended_sits views x id place value k seat at sits (no ne) e =
-      sits_else since levels views id (Dealer place value) (Member place Idle value) at k seat (λ h. some-ne-none k (sym h)) (sits (sym (seated_else x place id k ne) ∙ e))
+      sits_else since levels views id (Dealer place value) (Member place Idle value) at k seat
+      (λ h. some-ne-none k (sym h)) (sits (sym (seated_else x place id k ne) ∙ e))
 
   -- the dealer splits off the pass of its first place
-  pub splits : (id place : ℕ) (value : V) → place + 1 < 2 ^ levels → Splits (Rule since levels) id (Dealer place value) (Dealer (place + 1) value) (Member place Idle value)
+  pub splits : (id place : ℕ) (value : V) → place + 1 < 2 ^ levels
+      → Splits (Rule since levels) id (Dealer place value) (Dealer (place + 1) value) (Member place Idle value)
   splits id place value room s rule at =
       let x : Picture V = rule.0 in let o = rule.1 in let f = o.fits id (Dealer place value) at in
       let views : List (View V) = set s.views id (Dealer (place + 1) value) in
@@ -285,22 +374,31 @@ module _ {V : Type 0} (since : ℕ → V → V → Type 0) (since_same : (place 
           wide = o.wide;
           unmade = o.unmade;
           before = λ e. absurd (some-ne-none here.1.0 (sym here.1.1 ∙ e));
-          seated = λ k seat e. dealt_sits s.views id place value place k seat at x (o.seated k seat) (ℕ_discrete k place) e;
+          seated = λ k seat e. dealt_sits s.views id place value place k seat at x (o.seated k seat)
+              (ℕ_discrete k place) e;
           absent = seated_absent x place (length views) o.absent;
           sound = o.sound;
           lies = o.lies;
           fits = λ seat view there. ⊎_elim
               (λ old. ⊎_elim
+              (λ p. subst (λ (v : View V). Fits since levels t y seat v) p.1 (
+                f.0,
+                f.1 ∙ ap some (sym p.0),
+                room,
+                λ k le. let g = f.3 k (omega arith) in
+                    (seated_else x place (length views) k (λ e. omega arith) ∙ g.0, g.1),
+              ))
+              (λ p. dealt_fits s t x id place (length views) f.1 here.0 refl refl seat view p.0 (o.fits seat view p.1))
+              (at_set s.views id seat (Dealer (place + 1) value) view old))
               (λ p. subst (λ (v : View V). Fits since levels t y seat v) p.1
-              (f.0, f.1 ∙ ap some (sym p.0), room, λ k le. let g = f.3 k (omega arith) in (seated_else x place (length views) k (λ e. omega arith) ∙ g.0, g.1)))
-              (λ p. dealt_fits s t x id place (length views) f.1 here.0 refl refl seat view p.0 (o.fits seat view p.1)) (at_set s.views id seat (Dealer (place + 1) value) view old))
-              (λ p. subst (λ (v : View V). Fits since levels t y seat v) p.1
-              (f.0, seated_here x place (length views) ∙ ap some (sym p.0), o.absent place here.0, here.1)) (at_end views (Member place Idle value) view seat there);
+              (f.0, seated_here x place (length views) ∙ ap some (sym p.0), o.absent place here.0, here.1))
+              (at_end views (Member place Idle value) view seat there);
         },
       )
 
   -- the dealer becomes the pass of its last place
-  pub ends : (slots id i place : ℕ) (value : V) (me : Me (std.Option V) (View V)) → me.0 ≡ Dealer place value → Allows (Rule since levels) slots id me i (λ n. n) (λ n then'. Ends me.0 me.1 then')
+  pub ends : (slots id i place : ℕ) (value : V) (me : Me (std.Option V) (View V)) → me.0 ≡ Dealer place value
+      → Allows (Rule since levels) slots id me i (λ n. n) (λ n then'. Ends me.0 me.1 then')
   ends slots id i place value me is s rule wide at small =
       let x : Picture V = rule.0 in let o = rule.1 in let f = o.fits id (Dealer place value) (at ∙ ap some is) in
       let w : View V = Member place Idle value in
@@ -316,13 +414,16 @@ module _ {V : Type 0} (since : ℕ → V → V → Type 0) (since_same : (place 
             wide = o.wide;
             unmade = o.unmade;
             before = λ e. absurd (some-ne-none here.1.0 (sym here.1.1 ∙ e));
-            seated = λ k seat e. ended_sits s.views x id place value k seat (at ∙ ap some is) (o.seated k seat) (ℕ_discrete k place) e;
+            seated = λ k seat e. ended_sits s.views x id place value k seat (at ∙ ap some is) (o.seated k seat)
+                (ℕ_discrete k place) e;
             absent = seated_absent x place id o.absent;
             sound = o.sound;
             lies = o.lies;
             fits = λ seat view there. ⊎_elim
-                (λ p. subst (λ (v : View V). Fits since levels t y seat v) p.1 (f.0, seated_here x place id ∙ ap some (sym p.0), o.absent place here.0, here.1))
-                (λ p. dealt_fits s t x id place id f.1 here.0 refl refl seat view p.0 (o.fits seat view p.1)) (at_set s.views id seat w view there);
+                (λ p. subst (λ (v : View V). Fits since levels t y seat v) p.1
+                (f.0, seated_here x place id ∙ ap some (sym p.0), o.absent place here.0, here.1))
+                (λ p. dealt_fits s t x id place id f.1 here.0 refl refl seat view p.0 (o.fits seat view p.1))
+                (at_set s.views id seat w view there);
           },
         ),
         subst (λ (v : View V). Ends v me.1 (w, me.1)) (sym is) refl,

@@ -1,5 +1,6 @@
 -- The words of the tree in the table's row.
-use Rattle.std.proofs.Common.{◌≡◌, ◌≢◌, ℕ, ◌+◌, ◌*◌, ◌^◌, ◌<◌, ◌≤◌, Bool, true, false, List, length, get_or, set, refl, ◌∙◌, arith, get_or-set_other, get_or-set_same, replicate, slice_index}
+use Rattle.std.proofs.Common.{◌≡◌, ◌≢◌, ℕ, ◌+◌, ◌*◌, ◌^◌, ◌<◌, ◌≤◌, Bool, true, false, List, length, get_or, set, refl}
+use Rattle.std.proofs.Common.{◌∙◌, arith, get_or-set_other, get_or-set_same, replicate, slice_index}
 use Rattle.std.proofs.Math.Decide.{dec_lt}
 use Rattle.std.proofs.Math.Nat.{mul-le-mul_left, mul-le-mul_right}
 use Rattle.std.proofs.Math.Pow.{pow-lt}
@@ -19,24 +20,31 @@ unfolding index_of making_index
 index_below levels w h = let l = number_within levels w h in omega arith
 
 -- what a word of the tree holds
-pub word_in : (levels : ℕ) (row : List ℕ) (w : Word) → IsWord levels w → words_in levels row w ≡ get_or row (index_of levels w) 0
+pub word_in : (levels : ℕ) (row : List ℕ) (w : Word) → IsWord levels w
+    → words_in levels row w ≡ get_or row (index_of levels w) 0
 unfolding words_in
 word_in levels row w h = rw (is_word_true levels w h) refl
 
 -- a store in a word of the tree leaves the number there
-pub word_set : (levels : ℕ) (row : List ℕ) (w : Word) (n : ℕ) → IsWord levels w → index_of levels w < length row → words_in levels (set row (index_of levels w) n) w ≡ n
-word_set levels row w n h l = word_in levels (set row (index_of levels w) n) w h ∙ get_or-set_same row (index_of levels w) n 0 l
+pub word_set : (levels : ℕ) (row : List ℕ) (w : Word) (n : ℕ) → IsWord levels w → index_of levels w < length row
+    → words_in levels (set row (index_of levels w) n) w ≡ n
+word_set levels row w n h l =
+    word_in levels (set row (index_of levels w) n) w h ∙ get_or-set_same row (index_of levels w) n 0 l
 
 -- different words lie in different places
-indices_apart : (levels : ℕ) (v w : Word) → IsWord levels v → IsWord levels w → v ≢ w → index_of levels v ≢ index_of levels w
+indices_apart : (levels : ℕ) (v w : Word) → IsWord levels v → IsWord levels w → v ≢ w
+    → index_of levels v ≢ index_of levels w
 unfolding index_of
 indices_apart levels v w h k ne e = ne (same_number levels v w h k (omega arith))
 
 -- by whether the other is a word of the tree
-other_by : (levels : ℕ) (row : List ℕ) (w other : Word) (n : ℕ) (b : Bool) → is_word levels other ≡ b → IsWord levels w → other ≢ w
+other_by : (levels : ℕ) (row : List ℕ) (w other : Word) (n : ℕ) (b : Bool) → is_word levels other ≡ b → IsWord levels w
+    → other ≢ w
     → words_in levels (set row (index_of levels w) n) other ≡ words_in levels row other
 unfolding words_in
-other_by levels row w other n true is h ne = rw is (get_or-set_other row (index_of levels w) (index_of levels other) n 0 (indices_apart levels other w (word_is levels other is) h ne))
+other_by levels row w other n true is h ne =
+    rw is (get_or-set_other row (index_of levels w) (index_of levels other) n 0
+    (indices_apart levels other w (word_is levels other is) h ne))
 other_by levels row w other n false is h ne = rw is refl
 
 -- and no other number changes
@@ -68,22 +76,26 @@ pub words_zero : (levels n : ℕ) → words_in levels (replicate n 0) ≡ (λ w.
 words_zero levels n = λ i w. zeros_by levels n w (is_word levels w) refl i
 
 -- by whether it is a word of the tree
-beyond_by : (levels : ℕ) (row : List ℕ) (n : ℕ) (w : Word) (b : Bool) → is_word levels w ≡ b → words_in levels (set row (making_index levels) n) w ≡ words_in levels row w
+beyond_by : (levels : ℕ) (row : List ℕ) (n : ℕ) (w : Word) (b : Bool) → is_word levels w ≡ b
+    → words_in levels (set row (making_index levels) n) w ≡ words_in levels row w
 unfolding words_in
 beyond_by levels row n w true is =
-    let i : ℕ = index_of levels w in let m : ℕ = making_index levels in let l : i + 8 ≤ m = index_below levels w (word_is levels w is) in
+    let i : ℕ = index_of levels w in let m : ℕ = making_index levels in let l : i + 8 ≤ m =
+    index_below levels w (word_is levels w is) in
     rw is (get_or-set_other row m i n 0 (λ e. omega arith))
 beyond_by levels row n w false is = rw is refl
 
 -- the making word is no word of the tree
-pub words_beyond : (levels : ℕ) (row : List ℕ) (n : ℕ) → words_in levels (set row (making_index levels) n) ≡ words_in levels row
+pub words_beyond : (levels : ℕ) (row : List ℕ) (n : ℕ)
+    → words_in levels (set row (making_index levels) n) ≡ words_in levels row
 words_beyond levels row n = λ i w. beyond_by levels row n w (is_word levels w) refl i
 
 -- the row is short
 pub making_small : (levels : ℕ) → levels ≤ 6 → making_index levels ≤ 4584
 unfolding making_index count_of_words
 making_small levels most =
-    let places : ℕ = 2 ^ levels in let few : places ≤ 64 = at_most_64 levels most in let times : levels * places ≤ 6 * places = mul-le-mul_right places most in omega arith
+    let places : ℕ = 2 ^ levels in let few : places ≤ 64 = at_most_64 levels most in
+    let times : levels * places ≤ 6 * places = mul-le-mul_right places most in omega arith
 
 -- where the making word lies
 pub making_is : (levels : ℕ) → 8 * count_of_words levels ≡ making_index levels
@@ -100,12 +112,17 @@ less_making : (a b : ℕ) → a < b → making_index a < making_index b
 unfolding making_index count_of_words
 less_making a b h =
     let x : ℕ = 2 ^ a in let y : ℕ = 2 ^ b in let less : x < y = pow-lt h in let some : 1 ≤ x = pow_pos a in
-    let wide : a * x ≤ b * x = mul-le-mul_right x (let le : a ≤ b = omega arith in le) in let high : b * x ≤ b * y = mul-le-mul_left b (let le : x ≤ y = omega arith in le) in omega arith
+    let wide : a * x ≤ b * x = mul-le-mul_right x (let le : a ≤ b = omega arith in le) in let high : b * x ≤ b * y =
+    mul-le-mul_left b (let le : x ≤ y = omega arith in le) in omega arith
 
 -- by which of the two is higher
 same_by : (a b : ℕ) → making_index a ≡ making_index b → Dec (a < b) → Dec (b < a) → a ≡ b
-same_by a b e (yes h) d = let m : ℕ = making_index a in let n : ℕ = making_index b in let less : m < n = less_making a b h in let is : m ≡ n = e in absurd (omega arith)
-same_by a b e (no h) (yes k) = let m : ℕ = making_index a in let n : ℕ = making_index b in let less : n < m = less_making b a k in let is : m ≡ n = e in absurd (omega arith)
+same_by a b e (yes h) d =
+    let m : ℕ = making_index a in let n : ℕ = making_index b in let less : m < n = less_making a b h in let is : m ≡ n =
+    e in absurd (omega arith)
+same_by a b e (no h) (yes k) =
+    let m : ℕ = making_index a in let n : ℕ = making_index b in let less : n < m = less_making b a k in let is : m ≡ n =
+    e in absurd (omega arith)
 same_by a b e (no h) (no k) = omega arith
 
 -- trees of as many words are of one height

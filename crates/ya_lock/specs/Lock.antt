@@ -1,5 +1,6 @@
 -- What contracts see of a lock, a pass and a guard.
-use Rattle.std.specs.Prelude.{◌≡◌, ℕ, ◌+◌, ◌*◌, ◌^◌, ◌<◌, ◌≤◌, Bool, true, false, List, [], ◌∷◌, length, slice_get, Some, None}
+use Rattle.std.specs.Prelude.{◌≡◌, ℕ, ◌+◌, ◌*◌, ◌^◌, ◌<◌, ◌≤◌, Bool, true, false, List, [], ◌∷◌, length, slice_get}
+use Rattle.std.specs.Prelude.{Some, None}
 use Rattle.std.specs.Prelude as std
 use Rattle.atomic_table.specs.Table.{Me}
 use Rattle.atomic_table.specs.Seated.{TableId}
@@ -31,7 +32,8 @@ pub record OpenGuard (V : Type 0) : Type 0 where
 
 -- the guard that a pass becomes, whose entry found this value and made so many remote accesses
 abbrev pub guard_of : {V : Type 0} → IdlePass V → V → ℕ → OpenGuard V
-guard_of pass found remote = record { lock = pass.lock; place = pass.place; found = found; value = found; remote = remote }
+guard_of pass found remote =
+    record { lock = pass.lock; place = pass.place; found = found; value = found; remote = remote }
 
 -- the pass that a guard becomes: it has seen the value that the guard leaves
 abbrev pub pass_of : {V : Type 0} → OpenGuard V → ℕ → IdlePass V
@@ -71,14 +73,16 @@ module _ {V : Type 0} where
     pub in_tree : HasPlace lock place
 
   -- the seat of a guard: its process is inside, and it has the slot of the value
-  pub record IsWithin (lock : LockId) (place : ℕ) (found : V) (remote : ℕ) (me : Me (std.Option V) (View V)) : Type 0 where
+  pub record IsWithin (lock : LockId) (place : ℕ) (found : V) (remote : ℕ)
+      (me : Me (std.Option V) (View V)) : Type 0 where
     pub process : me ≡ (Member place Inside found, (0, None) ∷ [])
     pub in_tree : HasPlace lock place
     pub count : (levels : ℕ) → HasTree lock levels → remote ≤ 7 * levels
 
-  -- the seat of a place that has entered: it has the slot with the value found, which may have come of the one that it has seen
+  -- the seat of a place that has entered: it has the slot with the value found, which may have come of the one seen
   abbrev pub HasEntered : (ℕ → V → V → Type 0) → ℕ → V → Me (std.Option V) (View V) → Type 0
-  HasEntered since place seen me = (found : V) × since place seen found × (me ≡ (Member place Inside found, (0, Some found) ∷ []))
+  HasEntered since place seen me =
+      (found : V) × since place seen found × (me ≡ (Member place Inside found, (0, Some found) ∷ []))
 
   -- where a process stands on its way in, and what its seat has
   abbrev pub ComesFrom : (ℕ → V → V → Type 0) → ℕ → V → Process → Bool → Me (std.Option V) (View V) → Type 0

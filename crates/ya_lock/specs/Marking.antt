@@ -29,12 +29,17 @@ pub adds_same : (place : ℕ) (a : List ℕ) → Adds place a a
 adds_same place a = ([], sym (append-nil a), tt)
 
 -- what one place adds was added by others, for every other place
-none_by_all : (place other : ℕ) → other ≢ place → (xs ys : List ℕ) → NoneOf place xs → AllOf other ys → NoneOf place (xs ++ ys)
+none_by_all : (place other : ℕ) → other ≢ place → (xs ys : List ℕ) → NoneOf place xs → AllOf other ys
+    → NoneOf place (xs ++ ys)
 none_by_all place other ne [] [] h k = tt
 none_by_all place other ne [] (y ∷ ys) h k = ((λ e. ne (sym k.0 ∙ e)), none_by_all place other ne [] ys tt k.1)
 none_by_all place other ne (x ∷ xs) ys h k = (h.0, none_by_all place other ne xs ys h.1 k)
 
 -- so the list still grew by others
-pub grows_by_other : (place other : ℕ) (a b c : List ℕ) → other ≢ place → Grows place a b → Adds other b c → Grows place a c
-grows_by_other place other a b c ne s d =
-    (s.0 ++ d.0, d.1 ∙ (ap (λ (l : List ℕ). l ++ d.0) s.1 ∙ append_assoc a s.0 d.0), none_by_all place other ne s.0 d.0 s.2 d.2)
+pub grows_by_other : (place other : ℕ) (a b c : List ℕ) → other ≢ place → Grows place a b → Adds other b c
+    → Grows place a c
+grows_by_other place other a b c ne s d = (
+  s.0 ++ d.0,
+  d.1 ∙ (ap (λ (l : List ℕ). l ++ d.0) s.1 ∙ append_assoc a s.0 d.0),
+  none_by_all place other ne s.0 d.0 s.2 d.2,
+)

@@ -33,7 +33,8 @@ module _ {V : Type 0} where
   module _ (s : State (std.Option V) (View V)) where
     -- the seat has the process of the place
     abbrev pub HasProcess : ℕ → ℕ → Process → V → Type 0
-    HasProcess seat place process value = (view : View V) × (get_elem? s.views seat ≡ some view) × IsOf view place process value
+    HasProcess seat place process value =
+        (view : View V) × (get_elem? s.views seat ≡ some view) × IsOf view place process value
 
     -- it has one that isn't inside
     abbrev pub IsAway : ℕ → ℕ → V → Type 0
@@ -43,16 +44,19 @@ module _ {V : Type 0} where
     abbrev pub NoneInside : Type 0
     NoneInside = (seat place : ℕ) (value : V) → ¬ HasProcess seat place Inside value
 
-    -- the invariant of the core holds of the words and of the processes that the views show; a place without a view is idle
+    -- the invariant of the core holds of the words and of the processes that views show; a place without a view is idle
     abbrev pub ShowsCore : ℕ → Type 0
     ShowsCore levels =
         (processes : ℕ → Process) × IsSound levels (record { words = words_in levels s.words; processes = processes })
-        × ((seat place : ℕ) (process : Process) (value : V) → HasProcess seat place process value → processes place ≡ process)
-        × ((place : ℕ) → ((seat : ℕ) (process : Process) (value : V) → ¬ HasProcess seat place process value) → processes place ≡ Idle)
+        × ((seat place : ℕ) (process : Process) (value : V) → HasProcess seat place process value
+        → processes place ≡ process)
+        × ((place : ℕ) → ((seat : ℕ) (process : Process) (value : V) → ¬ HasProcess seat place process value)
+        → processes place ≡ Idle)
 
-    -- where some seat has a process that takes part, some seat has one that takes part and goes on by the words as they are
+    -- where some seat's process takes part, some seat has one that takes part and goes on by the words as they are
     abbrev pub GoesOn : ℕ → ℕ → Process → Type 0
-    GoesOn levels place process = next_of levels place process (value_of (words_in levels s.words) (access_of levels place process)) ≢ process
+    GoesOn levels place process =
+        next_of levels place process (value_of (words_in levels s.words) (access_of levels place process)) ≢ process
 
     abbrev pub SomeSeatGoesOn : ℕ → Type 0
     SomeSeatGoesOn levels =
@@ -61,7 +65,9 @@ module _ {V : Type 0} where
 
     -- two views of one place are those of one seat
     abbrev pub OneSeatAPlace : Type 0
-    OneSeatAPlace = (one other place : ℕ) (x y : Process) (v w : V) → HasProcess one place x v → HasProcess other place y w → one ≡ other
+    OneSeatAPlace =
+        (one other place : ℕ) (x y : Process) (v w : V) → HasProcess one place x v → HasProcess other place y w
+        → one ≡ other
 
     -- two views inside are those of one seat
     abbrev pub OneInside : Type 0
@@ -71,24 +77,32 @@ module _ {V : Type 0} where
     abbrev pub LiesHome : Type 0
     LiesHome =
         ((seat place : ℕ) (value : V) → HasProcess seat place Inside value → s.homes ≡ none ∷ [])
-        × ((seat place : ℕ) (process : Process) (value : V) → HasProcess seat place process value → NoneInside → (now : V) × (s.homes ≡ some (Some now) ∷ []))
+        × ((seat place : ℕ) (process : Process) (value : V) → HasProcess seat place process value → NoneInside
+        → (now : V) × (s.homes ≡ some (Some now) ∷ []))
 
     -- what a place away has seen may have become, by others, the value that lies home or that the one inside found
     abbrev pub IsFresh : (ℕ → V → V → Type 0) → Type 0
     IsFresh since =
         (seat place : ℕ) (seen now : V) → IsAway seat place seen
-        → ((s.homes ≡ some (Some now) ∷ [] → since place seen now) × ((one other : ℕ) → HasProcess one other Inside now → since place seen now))
+        → ((s.homes ≡ some (Some now) ∷ [] → since place seen now)
+        × ((one other : ℕ) → HasProcess one other Inside now → since place seen now))
 
-    -- how the passes are made: nobody knows anything and the slot is empty until one seat, the only one, begins to; it has all places from the next one on to itself
+    -- how the passes are made: nobody knows anything and the slot is empty until one seat, the only one, begins to; it
+    -- has all places from the next one on to itself
     pub record IsMadeByOne (levels : ℕ) : Type 0 where
-      pub strangers : slice_index s.words (making_index levels) ≡ 0 → (seat : ℕ) (view : View V) → get_elem? s.views seat ≡ some view → view ≡ Stranger
+      pub strangers : slice_index s.words (making_index levels) ≡ 0 → (seat : ℕ) (view : View V)
+          → get_elem? s.views seat ≡ some view → view ≡ Stranger
       pub empty : slice_index s.words (making_index levels) ≡ 0 → s.homes ≡ some None ∷ []
-      pub one_maker : (one other : ℕ) (v w : View V) → get_elem? s.views one ≡ some v → IsMaking v → get_elem? s.views other ≡ some w → IsMaking w → one ≡ other
-      pub unfilled : (seat : ℕ) (view : View V) → get_elem? s.views seat ≡ some view → IsFilling view → (other place : ℕ) (process : Process) (value : V) → ¬ HasProcess other place process value
-      pub undealt : (seat first : ℕ) (given : V) → get_elem? s.views seat ≡ some (Dealer first given) → (other place : ℕ) (process : Process) (value : V) → first ≤ place → ¬ HasProcess other place process value
+      pub one_maker : (one other : ℕ) (v w : View V) → get_elem? s.views one ≡ some v → IsMaking v
+          → get_elem? s.views other ≡ some w → IsMaking w → one ≡ other
+      pub unfilled : (seat : ℕ) (view : View V) → get_elem? s.views seat ≡ some view → IsFilling view
+          → (other place : ℕ) (process : Process) (value : V) → ¬ HasProcess other place process value
+      pub undealt : (seat first : ℕ) (given : V) → get_elem? s.views seat ≡ some (Dealer first given)
+          → (other place : ℕ) (process : Process) (value : V) → first ≤ place → ¬ HasProcess other place process value
 
 -- what words, value and views show at every moment between two atomic steps of the seats
-pub record IsLockState {V : Type 0} (since : ℕ → V → V → Type 0) (levels : ℕ) (s : State (std.Option V) (View V)) : Type 0 where
+pub record IsLockState {V : Type 0} (since : ℕ → V → V → Type 0) (levels : ℕ)
+    (s : State (std.Option V) (View V)) : Type 0 where
   pub core : ShowsCore s levels
   pub progress : SomeSeatGoesOn s levels
   pub places : OneSeatAPlace s

@@ -21,7 +21,8 @@ left_by (Load word) found = found
 left_by (Store word value) found = value
 
 module _ {V : Type 0} where
-  -- a process that is to leave the inside has put a value in the slot which its place may leave of what it found; every other one has no slot
+  -- a process that is to leave the inside has put a value in the slot which its place may leave of what it found; every
+  -- other one has no slot
   abbrev pub IsReady : (done : ℕ → V → V → Type 0) → Bool → ℕ → V → Slots V → Type 0
   IsReady done true place value slots = (next : V) × (slots ≡ (0, Some next) ∷ []) × done place value next
   IsReady done false place value slots = slots ≡ []
@@ -61,7 +62,8 @@ module _ {V : Type 0} where
   joined view other = view
 
   module _ (since : ℕ → V → V → Type 0) where
-    -- the step that leaves the inside gives the value of the slot home, the one that goes inside takes the value that lies there, and every other one leaves the slots alone
+    -- the step that leaves the inside gives the value of the slot home, the one that goes inside takes the value that
+    -- lies there, and every other one leaves the slots alone
     abbrev pub Carries : (before after : Bool) → ℕ → V → Slots V → V → Slots V → Type 0
     Carries true after place value slots next slots' = (slots ≡ (0, Some next) ∷ []) × (slots' ≡ [])
     Carries false true place value slots next slots' = since place value next × (slots' ≡ (0, Some next) ∷ [])
@@ -77,5 +79,6 @@ module _ {V : Type 0} where
 
     -- the process inside learns what may have come of the value that the other has seen
     abbrev pub Learns : View V → Slots V → Me (std.Option V) (View V) → Type 0
-    Learns (Confirmer place value other seen) slots me = since other seen value × (me ≡ (Member place Inside value, slots))
+    Learns (Confirmer place value other seen) slots me =
+        since other seen value × (me ≡ (Member place Inside value, slots))
     Learns _ slots me = Unit {0}

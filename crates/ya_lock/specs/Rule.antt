@@ -1,5 +1,6 @@
--- The rule of the running lock: what its words, the lent value and the views of all seats show between any two atomic steps.
-use Rattle.std.specs.Prelude.{◌≡◌, ◌≢◌, ℕ, ◌+◌, ◌*◌, ◌^◌, ◌<◌, ◌≤◌, Bool, true, false, if◌then◌else◌, List, [], ◌∷◌, length, slice_index, None, Some}
+-- The rule of the running lock: what its words, the lent value and all seats' views show between any two atomic steps.
+use Rattle.std.specs.Prelude.{◌≡◌, ◌≢◌, ℕ, ◌+◌, ◌*◌, ◌^◌, ◌<◌, ◌≤◌, Bool, true, false, if◌then◌else◌, List, [], ◌∷◌}
+use Rattle.std.specs.Prelude.{length, slice_index, None, Some}
 use Rattle.std.specs.Prelude as std
 use mathlib.Core.Option.{Option, none, some}
 use lib.ListN.{get_elem?}
@@ -32,7 +33,8 @@ place_of (Member place process value) = some place
 place_of (Confirmer place value other seen) = some place
 place_of _ = none
 
--- what all seats together show: the seat of each place, where one has its process; each place's process; the seat that makes the passes; and the lent value, once it was given
+-- what all seats together show: the seat of each place, where one has its process; each place's process; the seat that
+-- makes the passes; and the lent value, once it was given
 pub record Picture (V : Type 0) : Type 0 where
   pub seat_of : ℕ → Option ℕ
   pub processes : ℕ → Process
@@ -40,7 +42,7 @@ pub record Picture (V : Type 0) : Type 0 where
   pub content : Option V
 
 module _ {V : Type 0} (since : ℕ → V → V → Type 0) where
-  -- inside, the value that was found is the content; else the content is what the value may have become since it was seen
+  -- inside, the value that was found is the content; else the content is what the value seen may have become since
   abbrev pub Knows : Option V → ℕ → Bool → V → Type 0
   Knows content place true value = content ≡ some value
   Knows content place false value = (now : V) × (content ≡ some now) × since place value now
@@ -49,7 +51,8 @@ module _ {V : Type 0} (since : ℕ → V → V → Type 0) where
   abbrev pub Lies : (ℕ → Process) → List (Option (std.Option V)) → Option V → Type 0
   Lies processes homes none = Unit {0}
   Lies processes homes (some value) =
-      (((place : ℕ) → is_inside (processes place) ≡ false) → homes ≡ some (Some value) ∷ []) × ((place : ℕ) → is_inside (processes place) ≡ true → homes ≡ none ∷ [])
+      (((place : ℕ) → is_inside (processes place) ≡ false) → homes ≡ some (Some value) ∷ [])
+      × ((place : ℕ) → is_inside (processes place) ≡ true → homes ≡ none ∷ [])
 
   module _ (levels : ℕ) (s : State (std.Option V) (View V)) (x : Picture V) where
     -- `new` has begun to make the passes
@@ -62,10 +65,14 @@ module _ {V : Type 0} (since : ℕ → V → V → Type 0) where
     Fits seat Maker = IsBegun × (x.maker ≡ some seat) × (x.content ≡ none) × (s.homes ≡ some None ∷ [])
     Fits seat Filler = IsBegun × (x.maker ≡ some seat) × (x.content ≡ none) × (length s.homes ≡ 1)
     Fits seat (Dealer first value) =
-        IsBegun × (x.maker ≡ some seat) × (first < 2 ^ levels) × ((place : ℕ) → first ≤ place → (x.seat_of place ≡ none) × Knows x.content place false value)
-    Fits seat (Member place process value) = IsBegun × (x.seat_of place ≡ some seat) × (x.processes place ≡ process) × Knows x.content place (is_inside process) value
+        IsBegun × (x.maker ≡ some seat) × (first < 2 ^ levels)
+        × ((place : ℕ) → first ≤ place → (x.seat_of place ≡ none) × Knows x.content place false value)
+    Fits seat (Member place process value) =
+        IsBegun × (x.seat_of place ≡ some seat) × (x.processes place ≡ process)
+        × Knows x.content place (is_inside process) value
     Fits seat (Confirmer place value other seen) =
-        IsBegun × (x.seat_of place ≡ some seat) × (x.processes place ≡ Inside) × Knows x.content place true value × Knows x.content other false seen
+        IsBegun × (x.seat_of place ≡ some seat) × (x.processes place ≡ Inside) × Knows x.content place true value
+        × Knows x.content other false seen
     Fits seat Spent = IsBegun
 
     -- the picture is what the words, the value and the views show
@@ -74,8 +81,10 @@ module _ {V : Type 0} (since : ℕ → V → V → Type 0) where
       pub wide : length s.words ≡ making_index levels + 1
       pub unmade : slice_index s.words (making_index levels) ≡ 0 → (x.content ≡ none) × (s.homes ≡ some None ∷ [])
       pub before : x.content ≡ none → (place : ℕ) → x.seat_of place ≡ none
-      -- lock: the seat of a place has its process, a place without a seat is idle, and the invariant of the core holds of the words and all processes
-      pub seated : (place seat : ℕ) → x.seat_of place ≡ some seat → (view : View V) × (get_elem? s.views seat ≡ some view) × (place_of view ≡ some place)
+      -- lock: the seat of a place has its process, a place without a seat is idle, and the invariant of the core holds
+      -- of the words and all processes
+      pub seated : (place seat : ℕ) → x.seat_of place ≡ some seat
+          → (view : View V) × (get_elem? s.views seat ≡ some view) × (place_of view ≡ some place)
       pub absent : (place : ℕ) → x.seat_of place ≡ none → x.processes place ≡ Idle
       pub sound : IsSound levels (record { words = words_in levels s.words; processes = x.processes })
       -- value: it lies home exactly where no process is inside, and each seat knows what its view says

@@ -8,8 +8,8 @@ use crate::recall::Recall;
 use crate::rule::LockSeat;
 use std::marker::Model;
 
-/// The lent value, while the place of a pass is inside. Spend it by `leave` or `close`. Contracts see its lock, its place,
-/// the value as it was found at the entry and as it is now, and how many remote accesses the entry made.
+/// The lent value, while the place of a pass is inside. Spend it by `leave` or `close`. Contracts see its lock, its
+/// place, the value as it was found at the entry and as it is now, and how many remote accesses the entry made.
 pub struct Guard<V> {
     pub(crate) seat: LockSeat<V>,
     pub(crate) place: usize,

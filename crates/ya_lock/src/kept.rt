@@ -17,5 +17,6 @@ pub trait Kept {
     ghost done_same: { (place : ℕ) (a : Self) → done place a a };
 
     /// What one place does may have happened while another was away.
-    ghost since_done: { (place other : ℕ) (a b c : Self) → other ≢ place → since place a b → done other b c → since place a c };
+    ghost since_done: { (place other : ℕ) (a b c : Self)
+        → other ≢ place → since place a b → done other b c → since place a c };
 }

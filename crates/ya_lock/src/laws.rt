@@ -6,11 +6,11 @@ use crate::kept::Kept;
 use crate::rule::{LockTable, Ruled};
 use crate::view::View;
 
-/// Wherever the rule of a lock's table holds, and so at every moment between two atomic steps of its seats: the invariant
-/// of the core holds of the words and of the processes that the seats show, so whoever waits is owed a word; where some
-/// process takes part, one that does goes on by the words as they are; each place has one seat, and one seat at most is
-/// inside; the value lies home exactly where none is inside; what each place away has seen may have become, by other
-/// places, the value as it is; and the passes are made by one seat, before which nobody knows anything.
+/// Wherever the rule of a lock's table holds, and so at every moment between two atomic steps of its seats: the
+/// invariant of the core holds of the words and of the processes that the seats show, so whoever waits is owed a word;
+/// where some process takes part, one that does goes on by the words as they are; each place has one seat, and one seat
+/// at most is inside; the value lies home exactly where none is inside; what each place away has seen may have become,
+/// by other places, the value as it is; and the passes are made by one seat, before which nobody knows anything.
 pub fn rule<V: Kept, const L: u32>()
     requires { 1 ≤ L }
     ensures { (s : _) → ⟦<LockTable<V> as Ruled<Option<V>, View<V>, u32>>⟧.rule L s

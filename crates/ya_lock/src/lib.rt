@@ -11,15 +11,16 @@
 //! - [`TreeLock`] has 2 to the power of L places, L from 1 to 6. `new` gives the [`Pass`] of each.
 //! - A [`Pass`] is the right to enter from one place. It knows the value as its place has last seen it.
 //! - A [`Guard`] is a place that is inside. It has the value as it was found and as it is now.
-//! - The lent type says by [`Kept`] what places do to it: `since`, what may have come of a value by other places, and `done`,
-//!   what a place may leave of what it found. `enter` promises the first and `leave` asks for the second. So what a guard
-//!   finds can be traced to what its pass has seen, over any number of passages of others.
-//! - `confirm` spends a pass under an open guard and says what came of the value that it has seen; `close` ends the lock.
-//! - [`laws`] says what the rule of the lock's table means, at every moment between two atomic steps: the invariant of the
-//!   core, one seat inside at most, the value home exactly where none is.
+//! - The lent type says by [`Kept`] what places do to it: `since`, what may have come of a value by other places, and
+//!   `done`, what a place may leave of what it found. `enter` promises the first and `leave` asks for the second. So
+//!   what a guard finds can be traced to what its pass has seen, over any number of passages of others.
+//! - `confirm` spends a pass under an open guard and says what came of the value that it has seen; `close` ends the
+//!   lock.
+//! - [`laws`] says what the rule of the lock's table means, at every moment between two atomic steps: the invariant of
+//!   the core, one seat inside at most, the value home exactly where none is.
 //!
-//! `enter` alone may wait, and only `new` takes memory. That threads get in, and how soon, is only tested. What its contracts
-//! say, and the rule that ties each access to a step of the core, stand in `docs/LOCK.md`.
+//! `enter` alone may wait, and only `new` takes memory. That threads get in, and how soon, is only tested. What its
+//! contracts say, and the rule that ties each access to a step of the core, stand in `docs/LOCK.md`.
 #![tactic(auto)]
 
 mod guard;

@@ -27,8 +27,8 @@ impl<V: Kept + Drop, const L: u32> TreeLock<V, L> {
         shape
     }
 
-    /// A table whose words are 0 and whose slot is empty, with the seat that is to make the passes. The making word lies
-    /// at `making`.
+    /// A table whose words are 0 and whose slot is empty, with the seat that is to make the passes. The making word
+    /// lies at `making`.
     pub(crate) fn begun(
         alloc: Global,
         making: usize,

@@ -5,8 +5,8 @@ use crate::recall::Recall;
 use crate::rule::LockSeat;
 use std::marker::Model;
 
-/// The right to enter one lock from one place, while the place is away. Contracts see its lock, its place, the lent value
-/// as the pass has last seen it, and how many remote accesses its last passage made.
+/// The right to enter one lock from one place, while the place is away. Contracts see its lock, its place, the lent
+/// value as the pass has last seen it, and how many remote accesses its last passage made.
 #[derive(Drop)]
 pub struct Pass<V> {
     pub(crate) seat: LockSeat<V>,

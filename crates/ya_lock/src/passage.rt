@@ -27,8 +27,8 @@ pub enum Climb {
 }
 
 impl<V: Kept + Drop, const L: u32> TreeLock<V, L> {
-    /// Makes the accesses of an entry from that place until it is inside, and says how many of them were remote. Those of a
-    /// level whose other side is empty are written out, so that the point of each is known where it is compiled.
+    /// Makes the accesses of an entry from that place until it is inside, and says how many of them were remote. Those
+    /// of a level whose other side is empty are written out, so that the point of each is known where it is compiled.
     #[inline(always)]
     pub(crate) fn go_in<R: Wait>(
         &self,
@@ -66,8 +66,8 @@ impl<V: Kept + Drop, const L: u32> TreeLock<V, L> {
         unreachable!()
     }
 
-    /// Makes the accesses of a level where a rival competes, until it is won. Between two loads that find the place's spin
-    /// word as it was, it lets other threads go on.
+    /// Makes the accesses of a level where a rival competes, until it is won. Between two loads that find the place's
+    /// spin word as it was, it lets other threads go on.
     #[inline(never)]
     fn wait_in<R: Wait>(
         &self,

@@ -15,8 +15,8 @@ pub const SPACING: usize = 8;
 /// The lent value has the table's one slot.
 pub const SLOT: usize = 0;
 
-/// The rule, at a number of levels: the core's invariant holds of the words and of the processes that the seats show, and
-/// the value lies home exactly where no process is inside.
+/// The rule, at a number of levels: the core's invariant holds of the words and of the processes that the seats show,
+/// and the value lies home exactly where no process is inside.
 pub struct LockRule;
 
 impl<V: Kept> TableRule<Option<V>, View<V>, u32> for LockRule {

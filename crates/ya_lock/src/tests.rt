@@ -40,7 +40,8 @@ impl Kept for Marks {
 
     ghost done_same = { λ place a. adds_same place a.places.items };
 
-    ghost since_done = { λ place other a b c ne s d. grows_by_other place other a.places.items b.places.items c.places.items ne s d };
+    ghost since_done = { λ place other a b c ne s d.
+        grows_by_other place other a.places.items b.places.items c.places.items ne s d };
 }
 
 impl Marks {

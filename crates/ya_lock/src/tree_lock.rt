@@ -31,8 +31,8 @@ impl<V: Kept + Drop, const L: u32> Model for TreeLock<V, L> {
 }
 
 impl<V: Kept + Drop, const L: u32> TreeLock<V, L> {
-    /// A lock that lends the value, and the pass of each place in order. Each has seen the value as it is now. Where memory
-    /// runs out the value comes back.
+    /// A lock that lends the value, and the pass of each place in order. Each has seen the value as it is now. Where
+    /// memory runs out the value comes back.
     pub fn new(alloc: Global, value: V) -> Result<(TreeLock<V, L>, Vec<Pass<V>>), (V, NoMemory)>
         requires { (1 ≤ L) × (L ≤ 6) }
         ensures passes { IfOk result (λ made. IsDealt made.0 L value made.1.items) }
@@ -84,8 +84,8 @@ impl<V: Kept + Drop, const L: u32> TreeLock<V, L> {
         }
     }
 
-    /// Gives the value back as it is now, and lets the next one in. The place may have changed it as `done` says. It waits
-    /// for nobody, and makes at most three remote accesses a level.
+    /// Gives the value back as it is now, and lets the next one in. The place may have changed it as `done` says. It
+    /// waits for nobody, and makes at most three remote accesses a level.
     #[inline(always)]
     pub fn leave(&self, guard: Guard<V>) -> Pass<V>
         requires lock { guard.lock ≡ self.now }
@@ -117,8 +117,8 @@ impl<V: Kept + Drop, const L: u32> TreeLock<V, L> {
         }
     }
 
-    /// Spends an idle pass under an open guard, which stays as it is. What the guard found is what may have come, by other
-    /// places, of the value that the pass has seen. It waits for nobody.
+    /// Spends an idle pass under an open guard, which stays as it is. What the guard found is what may have come, by
+    /// other places, of the value that the pass has seen. It waits for nobody.
     pub fn confirm(&self, guard: Guard<V>, pass: Pass<V>) -> Guard<V>
         requires guard { guard.lock ≡ self.now }
         requires pass { pass.lock ≡ self.now }

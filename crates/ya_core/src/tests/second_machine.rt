@@ -1,5 +1,5 @@
-//! A second machine, written from the table of the steps in docs/LOCK.md over a map of named words. It shares no code with
-//! the crate.
+//! A second machine, written from the table of the steps in docs/LOCK.md over a map of named words. It shares no code
+//! with the crate.
 use std::alloc::Global;
 use std::collections::BTreeMap;
 use std::fmt::Write;

@@ -6,4 +6,5 @@ use Rattle.ya_core.proofs.laws.exclusion.Goals as goal
 
 pub returns : goal.returns
 returns g c =
-    λ levels events world some run p q. excludes levels p q world.state some (kept {X = X-type g.row.X} levels any_entry some events world run).sound
+    λ levels events world some run p q. excludes levels p q world.state some
+    (kept {X = X-type g.row.X} levels any_entry some events world run).sound

@@ -11,7 +11,8 @@ returns-clause-states g c = λ levels place s some is busy. someone_goes_on leve
 
 pub returns-clause-worlds : goal.returns-clause-worlds
 returns-clause-worlds g c = λ levels place events world some run busy.
-    let one = someone_goes_on levels world.state some (kept {X = X-type g.row.X} levels any_entry some events world run).sound place busy in
+    let one = someone_goes_on levels world.state some
+    (kept {X = X-type g.row.X} levels any_entry some events world run).sound place busy in
     let next = world_may_step levels one.place world one.step.in_tree in
     let same = one_outcome levels one.place world.state next.0.state one.after next.1.state one.step in
     record {

@@ -8,7 +8,8 @@ use Rattle.ya_core.proofs.machine.take_step.Goals as goal
 
 pub access-access-requires-clause-proper : goal.access-access-requires-clause-proper
 unfolding processes_of
-access-access-requires-clause-proper c = rw c.levels-levels.ensures.value (proper_here _ _ _ _ c.requires.room c.requires.machine)
+access-access-requires-clause-proper c =
+    rw c.levels-levels.ensures.value (proper_here _ _ _ _ c.requires.room c.requires.machine)
 
 pub perform-value-requires-clause-within : goal.perform-value-requires-clause-within
 unfolding processes_of
@@ -17,7 +18,8 @@ perform-value-requires-clause-within c =
 
 pub next-next-requires-clause-proper : goal.next-next-requires-clause-proper
 unfolding processes_of
-next-next-requires-clause-proper c = rw c.levels-levels.ensures.value (proper_here _ _ _ _ c.requires.room c.requires.machine)
+next-next-requires-clause-proper c =
+    rw c.levels-levels.ensures.value (proper_here _ _ _ _ c.requires.room c.requires.machine)
 
 pub returns : goal.returns
 unfolding processes_of
@@ -26,14 +28,22 @@ returns c =
     let words = c.args.words.now in
     let list = c.args.processes.now in
     let place = c.args.place in
-    let access : c.access-access.result ≡ access_of levels place (processes_of list place) = rw (c.access-access.ensures, c.levels-levels.ensures.value) refl in
-    let done : Accesses (access_of levels place (processes_of list place)) (words_of levels words) (words_of levels c.perform-value.new.words) =
-    subst (λ (a : Access). Accesses a (words_of levels words) (words_of levels c.perform-value.new.words)) access c.perform-value.ensures.words in
-    let value : c.perform-value.result ≡ value_of (words_of levels words) (access_of levels place (processes_of list place)) = c.perform-value.ensures.value ∙ ap (value_of (words_of levels words)) access in
-    let goes : c.next-next.result ≡ next_of levels place (processes_of list place) (value_of (words_of levels words) (access_of levels place (processes_of list place))) =
+    let access : c.access-access.result ≡ access_of levels place (processes_of list place) =
+    rw (c.access-access.ensures, c.levels-levels.ensures.value) refl in
+    let done : Accesses (access_of levels place (processes_of list place)) (words_of levels words)
+    (words_of levels c.perform-value.new.words) =
+    subst (λ (a : Access). Accesses a (words_of levels words)
+    (words_of levels c.perform-value.new.words)) access c.perform-value.ensures.words in
+    let value : c.perform-value.result ≡ value_of (words_of levels words)
+    (access_of levels place (processes_of list place)) =
+    c.perform-value.ensures.value ∙ ap (value_of (words_of levels words)) access in
+    let goes : c.next-next.result ≡ next_of levels place (processes_of list place)
+    (value_of (words_of levels words) (access_of levels place (processes_of list place))) =
     rw (c.next-next.ensures, c.levels-levels.ensures.value, value) refl in
     record {
-      machine = machine_stays levels place words list c.requires.room c.requires.machine c.perform-value.new.words c.next-next.result done goes c.perform-value.auto.words;
-      step = machine_steps levels place words list c.requires.room c.requires.machine c.perform-value.new.words c.next-next.result done goes;
+      machine = machine_stays levels place words list c.requires.room c.requires.machine c.perform-value.new.words
+          c.next-next.result done goes c.perform-value.auto.words;
+      step = machine_steps levels place words list c.requires.room c.requires.machine c.perform-value.new.words
+          c.next-next.result done goes;
       told = c.tell.ensures ∙ cc;
     }

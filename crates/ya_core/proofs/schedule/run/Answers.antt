@@ -23,12 +23,14 @@ loop-pick-preserved c =
     let within : pick < length picks = c.loop-pick-test.true in
     record {
       levels = c.step.ensures.levels ∙ c.loop-pick.invariant.levels;
-      run = rw (take_more picks pick 0 within, steps) (replays_more levels place opening before after (take pick picks) made c.loop-pick.invariant.run step);
+      run = rw (take_more picks pick 0 within, steps)
+          (replays_more levels place opening before after (take pick picks) made c.loop-pick.invariant.run step);
     }
 
 pub returns : goal.returns
 returns c =
     let picks = c.args.picks.now in
-    let whole : take c.loop-pick.pick-index picks ≡ picks = take_all c.loop-pick.pick-index picks (c.loop-pick-test.false) in
+    let whole : take c.loop-pick.pick-index picks ≡ picks =
+    take_all c.loop-pick.pick-index picks (c.loop-pick-test.false) in
     subst (λ xs. Replays c.args.shape opening xs c.loop-pick.steps.items) whole
     (state_of c.loop-pick.machine, c.loop-pick.invariant.run)

@@ -1,4 +1,5 @@
-use Rattle.ya_lock.proofs.Meanings.{shows_core, some_seat_goes_on, one_seat, one_inside, lies_home, is_fresh, made_by_one}
+use Rattle.ya_lock.proofs.Meanings.{shows_core, some_seat_goes_on, one_seat, one_inside, lies_home, is_fresh}
+use Rattle.ya_lock.proofs.Meanings.{made_by_one}
 use Rattle.ya_lock.proofs.laws.rule.Goals as goal
 
 pub returns : goal.returns

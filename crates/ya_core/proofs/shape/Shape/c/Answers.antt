@@ -10,7 +10,8 @@ returns-clause-value c = cc (c.nodes_below.ensures.value)
 
 pub returns-clause-within : goal.returns-clause-within
 unfolding number_of
-returns-clause-within c = rw (c.nodes_below.ensures.value) (number_within c.args.self.now (C c.args.level c.args.node c.args.side) c.requires)
+returns-clause-within c =
+    rw (c.nodes_below.ensures.value) (number_within c.args.self.now (C c.args.level c.args.node c.args.side) c.requires)
 
 pub overflow_add-result : goal.overflow_add-result
 overflow_add-result c = omega (arith, c.requires)

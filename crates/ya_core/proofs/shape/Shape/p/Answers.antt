@@ -9,4 +9,6 @@ returns-clause-value c = cc (c.places.ensures.value, c.places-2.ensures.value)
 
 pub returns-clause-within : goal.returns-clause-within
 unfolding number_of
-returns-clause-within c = rw (c.places.ensures.value, c.places-2.ensures.value) (number_within c.args.self.now (P c.args.level c.args.place) c.requires)
+returns-clause-within c =
+    rw (c.places.ensures.value, c.places-2.ensures.value)
+    (number_within c.args.self.now (P c.args.level c.args.place) c.requires)

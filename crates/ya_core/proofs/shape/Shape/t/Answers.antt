@@ -10,7 +10,9 @@ returns-clause-value c = cc (c.places.ensures.value, c.nodes_below.ensures.value
 
 pub returns-clause-within : goal.returns-clause-within
 unfolding number_of
-returns-clause-within c = rw (c.places.ensures.value, c.nodes_below.ensures.value) (number_within c.args.self.now (T c.args.level c.args.node) c.requires)
+returns-clause-within c =
+    rw (c.places.ensures.value, c.nodes_below.ensures.value)
+    (number_within c.args.self.now (T c.args.level c.args.node) c.requires)
 
 pub overflow_add-result-2 : goal.overflow_add-result-2
 overflow_add-result-2 c = omega (arith, c.requires)

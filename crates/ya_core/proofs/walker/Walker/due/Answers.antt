@@ -10,5 +10,6 @@ returns-clause-within c =
     let is : due_of w.shape w.place w.process w.begun ≡ Some c.access.result =
     rw (c.access.ensures, c.levels.ensures.value) (c.if-is_at_rest.ensures.goes refl w.shape w.place) in
     let within = due_within (walk w.shape w.place w.process w.begun w.remote) c.self.invariant in
-    let due_is : DueIsWithin w.shape (Some c.access.result) = subst (λ (d : Option Access). DueIsWithin w.shape d) is within in
+    let due_is : DueIsWithin w.shape (Some c.access.result) =
+    subst (λ (d : Option Access). DueIsWithin w.shape d) is within in
     subst (λ (v : Walk). DueIsWithin v.levels (Some c.access.result)) c.self.view_is due_is

@@ -11,7 +11,8 @@ go_in-remote-requires g c =
       (
         same,
         (
-          place_below c.pass.inside.seat.table_id c.self.inside.table.shared.table_id c.pass.inside.place g.row.L g.row.L (same ∙ sym c.self.view_is) c.self.invariant.words refl c.pass.invariant.in_tree,
+          place_below c.pass.inside.seat.table_id c.self.inside.table.shared.table_id c.pass.inside.place g.row.L
+              g.row.L (same ∙ sym c.self.view_is) c.self.invariant.words refl c.pass.invariant.in_tree,
           c.pass.invariant.process,
         ),
       ),
@@ -19,15 +20,20 @@ go_in-remote-requires g c =
 
 pub exchange-requires : goal.exchange-requires
 exchange-requires g c = (
-  c.go_in-remote.ensures.lock ∙ (ap (λ (q : IdlePass g.row.V.Denot). q.lock) c.pass.view_is ∙ (c.requires ∙ sym c.self.view_is)),
-  has_slot g.V.Kept.since c.pass.inside.place c.pass.inside.seen.value c.go_in-remote.new.seat.me c.go_in-remote.ensures.entered,
+  c.go_in-remote.ensures.lock
+      ∙ (ap (λ (q : IdlePass g.row.V.Denot). q.lock) c.pass.view_is ∙ (c.requires ∙ sym c.self.view_is)),
+  has_slot g.V.Kept.since c.pass.inside.place c.pass.inside.seen.value c.go_in-remote.new.seat.me
+      c.go_in-remote.ensures.entered,
 )
 
 pub invariant_of-result : goal.invariant_of-result
 invariant_of-result g c =
     let same = ap (λ (q : IdlePass g.row.V.Denot). q.lock) c.pass.view_is ∙ (c.requires ∙ sym c.self.view_is) in
     let x = c.exchange.ensures in
-    guarded g.V.Kept.since g.row.L c.pass.inside.place c.pass.inside.place c.go_in-remote.result c.pass.inside.seen.value c.in-Some.value c.of-found.result.value c.exchange.result
-    c.exchange.new.seat.table_id c.pass.inside.seat.table_id c.self.inside.table.shared.table_id c.go_in-remote.new.seat.me c.exchange.new.seat.me
-    (x.0 ∙ c.go_in-remote.ensures.lock) same c.self.invariant.words c.pass.invariant.in_tree refl c.go_in-remote.ensures.count
+    guarded g.V.Kept.since g.row.L c.pass.inside.place c.pass.inside.place c.go_in-remote.result
+    c.pass.inside.seen.value c.in-Some.value c.of-found.result.value c.exchange.result
+    c.exchange.new.seat.table_id c.pass.inside.seat.table_id c.self.inside.table.shared.table_id
+    c.go_in-remote.new.seat.me c.exchange.new.seat.me
+    (x.0 ∙ c.go_in-remote.ensures.lock) same c.self.invariant.words c.pass.invariant.in_tree refl
+    c.go_in-remote.ensures.count
     c.go_in-remote.ensures.entered x.2 c.in-Some.is x.3 c.of-found.ensures
