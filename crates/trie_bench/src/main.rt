@@ -103,6 +103,39 @@ fn count(rt: &HostRuntime) -> io::Result<u32> {
     Ok(FEW)
 }
 
+/// The time of an insertion.
+fn insert_all(
+    rt: &(impl Clock + CpuClock),
+    trie: &mut Trie<u64, Global>,
+    n: u32,
+) -> io::Result<Times> {
+    let mut draws = Draws { seed: 1 };
+    let watch = Stopwatch::start(rt)?;
+    for k in 0..n {
+        if let Some(p) = draws.prefix() {
+            let _ = trie.insert(p, u64::from(k));
+        }
+    }
+    watch.per_call(rt, n)
+}
+
+/// The time of a longest match, and the sum of the values that they find.
+fn look_up_each(
+    rt: &(impl Clock + CpuClock),
+    trie: &Trie<u64, Global>,
+    n: u32,
+) -> io::Result<(Times, u64)> {
+    let mut draws = Draws { seed: 2 };
+    let mut found = 0u64;
+    let watch = Stopwatch::start(rt)?;
+    for _ in 0..n {
+        if let Some((_, value)) = trie.longest(Addr(draws.next())) {
+            found = found.wrapping_add(*value);
+        }
+    }
+    Ok((watch.per_call(rt, n)?, found))
+}
+
 /// The time of a longest match where `BATCH` are asked for together, and the sum of the values that they find.
 fn look_up_together(
     rt: &(impl Clock + CpuClock),
@@ -133,32 +166,12 @@ fn look_up_together(
     Ok((watch.per_call(rt, n)?, found))
 }
 
-fn run(rt: &HostRuntime, alloc: Global, n: u32) -> io::Result<()> {
-    let mut trie: Trie<u64, Global> = Trie::new(alloc);
-
-    let mut draws = Draws { seed: 1 };
-    let watch = Stopwatch::start(rt)?;
-    for k in 0..n {
-        if let Some(p) = draws.prefix() {
-            let _ = trie.insert(p, u64::from(k));
-        }
-    }
-    let insert = watch.per_call(rt, n)?;
-    let len = trie.len();
-    let nodes = trie.nodes();
-
-    let mut draws = Draws { seed: 2 };
-    let mut found = 0u64;
-    let watch = Stopwatch::start(rt)?;
-    for _ in 0..n {
-        if let Some((_, value)) = trie.longest(Addr(draws.next())) {
-            found = found.wrapping_add(*value);
-        }
-    }
-    let longest = watch.per_call(rt, n)?;
-
-    let (together, same) = look_up_together(rt, &trie, n)?;
-
+/// The time of a removal.
+fn remove_all(
+    rt: &(impl Clock + CpuClock),
+    trie: &mut Trie<u64, Global>,
+    n: u32,
+) -> io::Result<Times> {
     let mut draws = Draws { seed: 1 };
     let watch = Stopwatch::start(rt)?;
     for _ in 0..n {
@@ -166,8 +179,16 @@ fn run(rt: &HostRuntime, alloc: Global, n: u32) -> io::Result<()> {
             let _ = trie.remove(p);
         }
     }
-    let remove = watch.per_call(rt, n)?;
+    watch.per_call(rt, n)
+}
 
+fn run(rt: &HostRuntime, alloc: Global, n: u32) -> io::Result<()> {
+    let mut trie: Trie<u64, Global> = Trie::new(alloc);
+    let insert = insert_all(rt, &mut trie, n)?;
+    let (len, nodes) = (trie.len(), trie.nodes());
+    let (longest, found) = look_up_each(rt, &trie, n)?;
+    let (together, same) = look_up_together(rt, &trie, n)?;
+    let remove = remove_all(rt, &mut trie, n)?;
     let left = trie.len();
     eprintln!(rt;
         "insert {} longest {} together {} remove {}",
