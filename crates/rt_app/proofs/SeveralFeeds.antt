@@ -11,7 +11,7 @@ use Rattle.rt_shared.specs.Table.{SharedId, HeldPass, ArePassesOf, Settles}
 use Rattle.rt_shared.specs.Visits.{Since, Uncut}
 use Rattle.rt_feed.specs.declared.report.Line.{Line}
 use Rattle.rt_feed.specs.declared.feeds.Feed.{Feed}
-use Rattle.rt_feed.specs.Answers.{has_refusal, has_fault}
+use Rattle.rt_feed.specs.Reports.{has_refusal, has_fault}
 use Rattle.rt_feed.specs.LineOutcomes.{LineOutcome, report_lines, some_refused, some_faulty}
 use Rattle.rt_feed.specs.Visits.{Visit, visit_of, entries}
 use Rattle.rt_feed.specs.Running.{RunsFeed, StopsWithin}

@@ -5,7 +5,7 @@ use Rattle.rt_rib.specs.Book.{Contents}
 use Rattle.rt_rib.specs.Journal.{IsLawfulJournal}
 use Rattle.rt_shared.specs.Table.{SharedId, HeldPass, ArePassesOf, Settles}
 use Rattle.rt_feed.specs.declared.report.Line.{Line}
-use Rattle.rt_feed.specs.Answers.{has_refusal, has_fault}
+use Rattle.rt_feed.specs.Reports.{has_refusal, has_fault}
 use Rattle.rt_feed.specs.LineOutcomes.{LineOutcome, report_lines}
 use Rattle.rt_app.specs.RunText.{ExplainsFrom}
 

@@ -4,7 +4,7 @@ ghost use Rattle.std.specs.Io.KnownBytes.{Appends};
 ghost use Rattle.rt_cidr.specs.Output.{AppendsBeginning, PassesOn};
 ghost use Rattle.rt_rib.specs.Book.{IsLimit};
 ghost use Rattle.std.specs.List.{list_any};
-ghost use Rattle.rt_feed.specs.Answers.{has_refusal, has_fault};
+ghost use Rattle.rt_feed.specs.Reports.{has_refusal, has_fault};
 ghost use Rattle.rt_feed.specs.Printed.{report_text, table_text};
 ghost use Rattle.rt_app.specs.RunText.{IsRunText, Leaves, reports_text};
 ghost use Rattle.rt_app.specs.Running.{HasRun, HaveRun, reports_status};

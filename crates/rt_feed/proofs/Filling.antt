@@ -6,7 +6,7 @@ use Rattle.std.proofs.lemmas.Grind.{take-set_at}
 use Rattle.std.proofs.lemmas.Bool.{cases_Bool}
 use Rattle.rt_shared.specs.declared.outcome.Outcome.{Outcome}
 use Rattle.rt_feed.specs.declared.report.Line.{Line}
-use Rattle.rt_feed.specs.Answers.{is_fault, IsRising}
+use Rattle.rt_feed.specs.Reports.{is_fault, IsRising}
 use Rattle.rt_feed.specs.LineOutcomes.{answer_of}
 use Rattle.rt_feed.specs.Filling.{filled}
 

@@ -1,4 +1,3 @@
-pub mod Answers
 pub mod CommandText
 pub mod Feeds
 pub mod Fields
@@ -8,6 +7,7 @@ pub mod Laws
 pub mod LineOutcomes
 pub mod Lines
 pub mod Printed
+pub mod Reports
 pub mod Running
 pub mod Versions
 pub mod Visits

@@ -21,7 +21,7 @@ pub enum Answer {
 }
 
 impl Answer {
-    ghost use Rattle.rt_feed.specs.Answers.{is_refusal, is_fault};
+    ghost use Rattle.rt_feed.specs.Reports.{is_refusal, is_fault};
 
     /// Whether a command was refused for want of memory.
     pub fn is_refusal(&self) -> bool
@@ -65,7 +65,7 @@ impl Model for Report {
 
     ghost Value = { List Line };
 
-    ghost use Rattle.rt_feed.specs.Answers.{IsRising};
+    ghost use Rattle.rt_feed.specs.Reports.{IsRising};
 
     ghost view = { λ report. report.lines.items };
 
@@ -73,7 +73,7 @@ impl Model for Report {
 }
 
 impl Report {
-    ghost use Rattle.rt_feed.specs.Answers.{IsRising, has_refusal, has_fault};
+    ghost use Rattle.rt_feed.specs.Reports.{IsRising, has_refusal, has_fault};
     ghost use Rattle.rt_feed.specs.Filling.{filled};
 
     /// A report without lines.

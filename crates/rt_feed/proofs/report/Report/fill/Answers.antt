@@ -1,6 +1,6 @@
 use Rattle.std.proofs.Common.{◌≡◌, ◌++◌, [], take, drop, length, sym, ap, subst, ◌∙◌, arith, append-nil}
 use Rattle.std.proofs.lemmas.List.{drop_all, take_all}
-use Rattle.rt_feed.specs.Answers.{IsRising}
+use Rattle.rt_feed.specs.Reports.{IsRising}
 use Rattle.rt_feed.proofs.Filling.{rising-refilled, length-refilled}
 use Rattle.rt_feed.proofs.report.Report.fill.Goals as goal
 
