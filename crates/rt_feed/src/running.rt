@@ -1,5 +1,5 @@
 //! A feed's text through a gate: its lines are read in order, and its commands asked in batches.
-ghost use Rattle.std.specs.Prelude.{◌≡◌, ◌≢◌, ◌<◌, ◌≤◌, [], ◌∷◌, length, All, IfOk, OnOk, OnErr};
+ghost use Rattle.std.specs.Prelude.{◌≡◌, ◌≢◌, ◌<◌, ◌≤◌, [], ◌∷◌, length, All, IsOk, IfOk, OnOk, OnErr};
 ghost use Rattle.rt_feed.specs.Running.{AnswersWaiting, Gathers, ReadsOneMore, RunsFeed, StopsWithin};
 
 use crate::feed_run::FeedRun;
@@ -29,6 +29,9 @@ pub fn run_feed<R: Wait, G: Gate>(
     ensures name { G.name gate.new ≡ G.name gate.old }
     ensures ok { IfOk result (λ report. RunsFeed G.holds batch text.now gate.old gate.new report) }
     ensures err { OnErr result (StopsWithin G.holds batch text.now gate.old gate.new) }
+
+    // Where there is no line to read, nothing is refused.
+    ensures nothing { text.now ≡ [] → IsOk result }
 {
     let (version, lines) = text_body(text);
     let mut run = FeedRun::new(alloc, version);

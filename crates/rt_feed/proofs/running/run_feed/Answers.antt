@@ -43,6 +43,12 @@ returns-in_err-read-clause-err g c =
     rw (fault.1, (c.in_err-read.ensures {u = tt}).err)
     (stopped g.G.Gate.holds c.args.batch c.args.text.now c.loop-line.rest.now c.loop-line.number c.args.gate.now c.loop-line.gate c.loop-line.run read.0 read.1)
 
+pub returns-in_err-read-clause-nothing : goal.returns-in_err-read-clause-nothing
+returns-in_err-read-clause-nothing g c empty =
+    let lines = length-outcomes c.args.text.now c.loop-line.rest.now _ c.loop-line.invariant.read.0.becomes in
+    let some = length-cut c.loop-line.rest.now c.in-Some.line.now c.in-Some.next.now (c.in-Some.ensures {u = tt}) in
+    absurd (omega (arith, lines, some, ap length empty))
+
 pub returns-clause-ok : goal.returns-clause-ok
 returns-clause-ok g c =
     let read = c.loop-line.invariant.read in
