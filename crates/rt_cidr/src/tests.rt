@@ -48,6 +48,27 @@ impl Write for Narrow {
     }
 }
 
+fn parse_prefix(rt: &impl Abort, text: &str) -> Prefix {
+    Prefix::parse(text.as_bytes()).expect(rt, text)
+}
+
+fn parse_address(rt: &impl Abort, text: &str) -> Addr {
+    Addr::parse(text.as_bytes()).expect(rt, text)
+}
+
+fn assert_prefix(rt: &impl Abort, text: &str, base: u32, len: u8) {
+    let prefix = parse_prefix(rt, text);
+    assert_eq!(rt; prefix.base(), base);
+    assert_eq!(rt; prefix.len(), len);
+    assert_eq!(rt; Prefix::new(base, len), Ok(prefix));
+}
+
+fn assert_prefix_text(rt: &impl Abort, alloc: Global, prefix: Prefix, text: &str) {
+    let mut written = Vec::new(alloc);
+    prefix.write_to(&mut written).expect(rt, text);
+    assert_eq!(rt; written.as_slice(), text.as_bytes());
+}
+
 #[test]
 fn reads_prefixes_and_writes_them_again(rt: HostRuntime) -> Result<(), Fail> {
     for (text, base, len) in [
@@ -57,14 +78,8 @@ fn reads_prefixes_and_writes_them_again(rt: HostRuntime) -> Result<(), Fail> {
         ("255.255.255.255/32", 4_294_967_295, 32),
         ("0.0.0.1/32", 1, 32),
     ] {
-        let prefix = Prefix::parse(text.as_bytes())?;
-        assert_eq!(rt; prefix.base(), base, "{text}");
-        assert_eq!(rt; prefix.len(), len, "{text}");
-        assert_eq!(rt; Prefix::new(base, len)?, prefix, "{text}");
-
-        let mut written = Vec::new(rt.alloc());
-        prefix.write_to(&mut written)?;
-        assert_eq!(rt; written.as_slice(), text.as_bytes(), "{text}");
+        assert_prefix(&rt, text, base, len);
+        assert_prefix_text(&rt, rt.alloc(), Prefix::new(base, len)?, text);
     }
     Ok(())
 }
@@ -102,21 +117,27 @@ fn refuses_prefixes(rt: HostRuntime) {
     assert_eq!(rt; Prefix::new(1, 31), Err(TextFault::Bits));
 }
 
+fn assert_address(rt: &impl Abort, alloc: Global, text: &str, address: Addr) {
+    assert_eq!(rt; Addr::parse(text.as_bytes()), Ok(address));
+    let mut written = Vec::new(alloc);
+    address.write_to(&mut written).expect(rt, text);
+    assert_eq!(rt; written.as_slice(), text.as_bytes());
+}
+
 #[test]
-fn reads_addresses_and_writes_them_again(rt: HostRuntime) -> Result<(), Fail> {
+fn reads_addresses_and_writes_them_again(rt: HostRuntime) {
     for (text, address) in [
         ("0.0.0.0", 0),
         ("192.0.2.1", 3_221_225_985),
         ("198.51.100.255", 3_325_256_959),
         ("255.255.255.255", 4_294_967_295),
     ] {
-        let read = Addr::parse(text.as_bytes())?;
-        assert_eq!(rt; read, Addr(address), "{text}");
-
-        let mut written = Vec::new(rt.alloc());
-        read.write_to(&mut written)?;
-        assert_eq!(rt; written.as_slice(), text.as_bytes(), "{text}");
+        assert_address(&rt, rt.alloc(), text, Addr(address));
     }
+}
+
+#[test]
+fn refuses_addresses(rt: HostRuntime) {
     for text in [
         "",
         "1.2.3",
@@ -133,7 +154,6 @@ fn reads_addresses_and_writes_them_again(rt: HostRuntime) -> Result<(), Fail> {
             "{text}"
         );
     }
-    Ok(())
 }
 
 #[test]
@@ -176,8 +196,8 @@ fn builds_a_short_text_from_its_back(rt: HostRuntime) -> Result<(), Fail> {
 }
 
 #[test]
-fn covers_and_contains(rt: HostRuntime) -> Result<(), Fail> {
-    let block = Prefix::parse(b"192.0.2.128/25")?;
+fn covers_addresses(rt: HostRuntime) {
+    let block = parse_prefix(&rt, "192.0.2.128/25");
     for (address, is_covered) in [
         ("192.0.2.127", false),
         ("192.0.2.128", true),
@@ -185,11 +205,16 @@ fn covers_and_contains(rt: HostRuntime) -> Result<(), Fail> {
         ("192.0.3.0", false),
     ] {
         assert_eq!(rt;
-            block.covers(Addr::parse(address.as_bytes())?),
+            block.covers(parse_address(&rt, address)),
             is_covered,
             "{address}"
         );
     }
+}
+
+#[test]
+fn contains_prefixes(rt: HostRuntime) {
+    let block = parse_prefix(&rt, "192.0.2.128/25");
     for (other, is_contained) in [
         ("192.0.2.128/25", true),
         ("192.0.2.128/26", true),
@@ -198,12 +223,11 @@ fn covers_and_contains(rt: HostRuntime) -> Result<(), Fail> {
         ("192.0.2.0/25", false),
     ] {
         assert_eq!(rt;
-            block.contains(&Prefix::parse(other.as_bytes())?),
+            block.contains(&parse_prefix(&rt, other)),
             is_contained,
             "{other}"
         );
     }
-    Ok(())
 }
 
 // A `put` that always answers a fault is seen here.
@@ -342,6 +366,11 @@ fn never_flushes_the_writer(rt: HostRuntime) -> Result<(), Fail> {
     Ok(())
 }
 
+/// The letter of this number, ten times.
+fn piece(number: u32) -> [u8; 10] {
+    [b'a' + (number % 26) as u8; 10]
+}
+
 /// Puts 20,000 pieces into the buffer, and behind one another into the list.
 fn put_pieces(
     rt: &impl Abort,
@@ -350,9 +379,8 @@ fn put_pieces(
     wanted: &mut Vec<u8>,
 ) {
     for i in 0u32..20_000 {
-        let piece = [b'a' + (i % 26) as u8; 10];
-        buffer.put(writer, &piece).expect(rt, "no fault");
-        wanted.extend_from_slice(&piece).expect(rt, "memory");
+        buffer.put(writer, &piece(i)).expect(rt, "no fault");
+        wanted.extend_from_slice(&piece(i)).expect(rt, "memory");
     }
 }
 
