@@ -19,17 +19,22 @@ impl<T> Recall<T> {
     pub fn of(x: &T) -> Recall<T>
         ensures { result.value ≡ x.now }
     {
-        let _ = x;
-        Recall {
-            marker: PhantomData,
-        }
+        Recall::made(x)
     }
 
     /// The same value.
     pub fn again(&self) -> Recall<T>
         ensures { result.value ≡ self.now.value }
     {
-        let _ = self;
+        Recall::made(self)
+    }
+
+    /// A value of what the reference shows: the proof of the call says which.
+    fn made<X>(x: &X) -> Recall<T>
+        ghost value: { T }
+        ensures { result.value ≡ value }
+    {
+        let _ = x;
         Recall {
             marker: PhantomData,
         }
