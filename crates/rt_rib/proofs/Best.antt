@@ -1,5 +1,5 @@
 -- What a look-up finds, in terms of what the set contains.
-use Rattle.std.proofs.Common.{◌≡◌, ◌≤◌, Bool, true, false, not, ltb, leb, inl, inr, List, [], ◌∷◌, get_or, Some, None, refl, ap, ◌∙◌, sym, subst, arith}
+use Rattle.std.proofs.Common.{◌≡◌, ◌≤◌, Bool, true, false, not, ltb, leb, inl, inr, List, [], ◌∷◌, get_or, Some, None, ap, ◌∙◌, sym, subst, arith}
 use Rattle.std.proofs.lemmas.Bool.{cases_Bool, cond-true, cond-false, both_ways, false_from_ne_true, and_parts, and_from, not-true, not_from_false, leb-true, le-leb, ltb-true, ltb-false, lt-ltb}
 use Rattle.std.specs.Prelude.{◌&&◌}
 use Rattle.std.proofs.lemmas.List.Elements.{All-contains, Contains-get_or}

@@ -9,7 +9,7 @@ use Rattle.rt_rib.specs.declared.commands.Reply.TheVariants.{Added}
 use Rattle.rt_rib.specs.Table.{has, put_in, take_out, IsTable}
 use Rattle.rt_rib.specs.Maps.{Map, routes_of, IsMap}
 use Rattle.rt_rib.specs.Book.{IsFeed}
-use Rattle.rt_rib.specs.Kept.{Held, AreCounts, IsCounted, IsKept, Serves}
+use Rattle.rt_rib.specs.Kept.{Held, IsCounted, IsKept, Serves}
 use Rattle.rt_rib.specs.declared.commands.Cmd.{Cmd}
 use Rattle.rt_rib.specs.declared.commands.Reply.{Reply}
 use Rattle.rt_rib.specs.declared.commands.Entry.{Entry}

@@ -1,16 +1,17 @@
 -- What an offer put in, replaced or taken out at a prefix makes of the routes of a map.
-use Rattle.std.proofs.Common.{◌≡◌, ℕ, Bool, true, false, cond, eqb, ◌⊎◌, ◌↔◌, inl, inr, List, [], ◌∷◌, Option, Some, None, refl, ap, ◌∙◌, sym, subst, arith}
-use Rattle.std.specs.Prelude.{Result, Ok, Err, OnOk, OnErr}
-use Rattle.std.specs.List.{All, Contains, list_any}
-use Rattle.std.proofs.lemmas.Bool.{both_ways, cond-true, cond-false, false_from_ne_true, and_parts, and_from, eqb-true, eq-eqb}
+use Rattle.std.proofs.Common.{◌≡◌, ℕ, Bool, true, false, cond, ◌⊎◌, ◌↔◌, inl, inr, List, [], ◌∷◌, Some, None, refl, ap, ◌∙◌, sym, subst, arith}
+use Rattle.std.specs.Prelude.{Result, Ok, Err, OnErr}
+use Rattle.std.specs.List.{Contains, list_any}
+use Rattle.std.proofs.lemmas.Bool.{both_ways, cond-true, cond-false, false_from_ne_true, eqb-true, eq-eqb}
 use Rattle.rt_cidr.specs.declared.prefixes.Prefix.{Prefix}
-use Rattle.rt_trie.specs.Map.{same_prefix, get, put, erase}
+use Rattle.rt_cidr.specs.Prefix.{same_prefix}
+use Rattle.rt_trie.specs.Map.{get, put, erase}
 use Rattle.rt_rib.specs.declared.routes.Route.{Route}
 use Rattle.rt_rib.specs.declared.offers.Offer.{Offer}
 use Rattle.rt_rib.specs.Offers.{is_from, IsOffers, HasGained, HasLost, HasSwapped}
-use Rattle.rt_rib.specs.Table.{is_of, has, put_in, take_out, IsTable}
+use Rattle.rt_rib.specs.Table.{is_of, has, put_in, take_out}
 use Rattle.rt_rib.specs.Maps.{Map, route_by, offer_of, routes_of, offers_in, offers_at, IsThere, IsMap, MapLaws}
-use Rattle.rt_rib.proofs.Lists.{list_any-none, list_any-at}
+use Rattle.rt_rib.proofs.Lists.{list_any-at}
 use Rattle.rt_rib.proofs.OfferLists.{IsRising-one}
 use Rattle.rt_rib.proofs.Order.{is_of-parts, is_of-from}
 use Rattle.rt_rib.proofs.Sets.{Contains-head, Contains-cases, Contains-none, put_in_adds, take_out_leaves_others}
@@ -221,10 +222,6 @@ first_gained o x = (
   (λ c. elim c [ inl none ↦ absurd (Contains-none x none) | inr here ↦ subst (Contains (o ∷ [])) here (Contains-head o []) ]),
 )
 
--- a feed without a route to the prefix has no offer there
-pub none_there : (laws : MapLaws) (m : Map) → IsMap m → (feed : ℕ) (p : Prefix) → has feed p (routes_of m) ≡ false → All (λ o. is_from feed o ≡ false) (offers_at m p)
-none_there laws m h feed p fresh = list_any-none (is_from feed) (offers_at m p) (sym (has-is laws m h feed p) ∙ fresh)
-
 -- a single offer is in order
 pub IsOffers-one : (o : Offer) → IsOffers (o ∷ [])
 IsOffers-one o = record { some = omega arith; rising = IsRising-one o }
@@ -243,7 +240,7 @@ module _ (laws : MapLaws) (m : Map) (h : IsMap m) (p : Prefix) where
 
 module _ (laws : MapLaws) (m : Map) (h : IsMap m) (p : Prefix) (old new : List Offer) (there : Some old ≡ get m p) where
   -- the offers that stand at the prefix
-  pub at_is : offers_at m p ≡ old
+  at_is : offers_at m p ≡ old
   at_is = ap offers_in (sym there)
 
   -- a feed has a route where it is among them
@@ -283,16 +280,6 @@ module _ (laws : MapLaws) (m : Map) (h : IsMap m) (p : Prefix) (old new : List O
 -- the only offer is the feed's, so the feed has one
 pub one_is_from : (feed : ℕ) (offers : List Offer) (o : Offer) → offers ≡ o ∷ [] → is_from feed o ≡ true → list_any (is_from feed) offers ≡ true
 one_is_from feed offers o only own = ap (list_any (is_from feed)) only ∙ list_any-at (is_from feed) (o ∷ []) 0 o (omega arith) own
-
--- what follows from what an answer brings
-pub on_ok : {T E P Q : Type 0} (r : Result T E) → (P → Q) → OnOk r P → OnOk r Q
-on_ok (Ok x) f h = f h
-on_ok (Err e) f h = h
-
--- and from what a refusal does
-pub on_err : {T E P Q : Type 0} (r : Result T E) → (P → Q) → OnErr r P → OnErr r Q
-on_err (Ok x) f h = h
-on_err (Err e) f h = f h
 
 -- what holds anyway holds on a refusal
 pub err_from : {T E P : Type 0} (r : Result T E) → P → OnErr r P

@@ -1,9 +1,9 @@
 -- The first prefix of a map and the next one, by the routes that it stands for.
-use Rattle.std.proofs.Common.{◌≡◌, ℕ, false, List, [], Option, Some, None, refl, sym, subst}
-use Rattle.std.specs.Prelude.{IsTrue, IsSome}
+use Rattle.std.proofs.Common.{◌≡◌, List, Option, Some, None, refl, sym, subst}
+use Rattle.std.specs.Prelude.{IsSome}
 use Rattle.std.specs.List.{Contains}
 use Rattle.rt_cidr.specs.declared.prefixes.Prefix.{Prefix}
-use Rattle.rt_trie.specs.Map.{before, get, first, next_after, IsStored}
+use Rattle.rt_trie.specs.Map.{first, next_after, IsStored}
 use Rattle.rt_trie.specs.Laws.{FirstIsLeast, NoneIsFirst, AfterIsNext, NoneIsAfter}
 use Rattle.rt_rib.specs.declared.routes.Route.{Route}
 use Rattle.rt_rib.specs.declared.offers.Offer.{Offer}

@@ -1,20 +1,21 @@
 -- The routes that a map from prefixes to offers stands for: what they contain, and that they are a table.
-use Rattle.std.proofs.Common.{◌≡◌, ℕ, ◌<◌, ◌≤◌, Bool, true, false, cond, eqb, ltb, ◌⊎◌, ◌↔◌, inl, inr, List, [], ◌∷◌, ◌++◌, length, get_or, Option, Some, None, refl, ap, ◌∙◌, sym, subst, arith, map}
-use Rattle.std.specs.Prelude.{IsTrue, ◌&&◌}
+use Rattle.std.proofs.Common.{◌≡◌, ℕ, Bool, true, false, eqb, ltb, ◌⊎◌, ◌↔◌, inl, inr, List, [], ◌∷◌, ◌++◌, get_or, Option, Some, None, refl, ap, ◌∙◌, sym, subst, arith, map}
+use Rattle.std.specs.Prelude.{IsTrue}
 use Rattle.std.specs.List.{All, AllPairs, Contains, list_any}
-use Rattle.std.proofs.lemmas.Bool.{cases_Bool, both_ways, cond-true, cond-false, false_from_ne_true, and_parts, and_from, eqb-true, eq-eqb, ltb-true}
-use Rattle.std.proofs.lemmas.List.Elements.{All-map, All-weaker, All-from_get_or, All-nil, Contains-append_left, Contains-append_right, Contains-append_cases, Contains-get_or}
+use Rattle.std.proofs.lemmas.Bool.{cases_Bool, both_ways, false_from_ne_true, and_parts, and_from, eqb-true, eq-eqb, ltb-true}
+use Rattle.std.proofs.lemmas.List.Elements.{All-map, Contains-append_left, Contains-append_right, Contains-append_cases, Contains-get_or}
 use Rattle.std.proofs.lemmas.List.Folds.{Any-from_list_any}
 use Rattle.std.proofs.lemmas.List.Kept.{AllPairs-cons}
 use Rattle.rt_cidr.specs.declared.prefixes.Prefix.{Prefix}
+use Rattle.rt_cidr.specs.Prefix.{same_prefix}
 use Rattle.rt_cidr.specs.Laws.{SamePrefix}
-use Rattle.rt_trie.specs.Map.{Pairs, same_prefix, before, get, put, erase, IsBeforeAll, IsOrdered, IsStored}
+use Rattle.rt_trie.specs.Map.{before, get, IsBeforeAll, IsOrdered}
 use Rattle.rt_rib.specs.declared.routes.Route.{Route}
 use Rattle.rt_rib.specs.declared.offers.Offer.{Offer}
 use Rattle.rt_rib.specs.Offers.{outranks, is_from, IsOffers, IsRising}
 use Rattle.rt_rib.specs.Table.{precedes, is_better, is_of, below_then, has, IsTable}
 use Rattle.rt_rib.specs.Maps.{Map, route_by, offer_of, routes_of, offers_in, offers_at, IsThere, IsMap, MapLaws}
-use Rattle.rt_rib.proofs.Lists.{AllPairs-append, AllPairs-head, AllPairs-tail, list_any-at, list_any-none, list_any-from_none}
+use Rattle.rt_rib.proofs.Lists.{AllPairs-append, AllPairs-head, AllPairs-tail, list_any-at, list_any-from_none}
 use Rattle.rt_rib.proofs.Order.{below_then-true, below_then-less, below_then-same, is_of-parts, is_of-from}
 use Rattle.rt_rib.proofs.Sets.{Contains-head, Contains-tail, Contains-cases, Contains-none, one_table_of_set}
 use Rattle.rt_rib.proofs.Tables.{Ordered, Apart}

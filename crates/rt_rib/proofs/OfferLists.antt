@@ -1,6 +1,6 @@
 -- How a list of offers in order changes as one is put in or taken out.
-use Rattle.std.proofs.Common.{◌≡◌, ℕ, zero, suc, ◌+◌, ◌<◌, ◌≤◌, Bool, true, false, not, ltb, eqb, ◌⊎◌, ◌↔◌, inl, inr, List, [], ◌∷◌, ◌++◌, length, get_or, Some, None, refl, ap, ◌∙◌, sym, subst, arith}
-use Rattle.std.proofs.lemmas.Bool.{cases_Bool, both_ways, cond-true, cond-false, not-true, not_from_true, not_from_false, false_from_ne_true, lt-ltb, ltb-true, ltb-false, eqb-true, eq-eqb, cases_lt}
+use Rattle.std.proofs.Common.{◌≡◌, ℕ, zero, suc, ◌+◌, ◌<◌, ◌≤◌, Bool, true, false, not, ltb, ◌⊎◌, ◌↔◌, inl, inr, List, [], ◌∷◌, length, get_or, Some, None, refl, ap, ◌∙◌, sym, subst, arith}
+use Rattle.std.proofs.lemmas.Bool.{both_ways, cond-true, cond-false, not-true, not_from_true, not_from_false, false_from_ne_true, lt-ltb, ltb-true, ltb-false, eqb-true, eq-eqb, cases_lt}
 use Rattle.std.proofs.lemmas.List.Elements.{All-cons, All-head, All-tail, All-nil, All-weaker, AllWithin-more, filter_passes}
 use Rattle.std.proofs.lemmas.List.{get_or_default}
 use Rattle.std.proofs.lemmas.List.Kept.{AllPairs-cons}
@@ -9,8 +9,8 @@ use Rattle.std.proofs.lemmas.List.Sums.{fails_before_first}
 use Rattle.std.specs.List.{All, AllPairs, AllWithin, Contains, filter, insert, remove, list_any, position, position_or_len}
 use Rattle.std.specs.Prelude.{is_some, Option}
 use Rattle.rt_rib.specs.declared.offers.Offer.{Offer}
-use Rattle.rt_rib.specs.Offers.{outranks, is_from, IsRising, IsOffers, IsPlaceFor, HasGained, HasLost, HasSwapped}
-use Rattle.rt_rib.proofs.Lists.{AllPairs-head, AllPairs-tail, filter-all, list_any-none, list_any-from_none, list_any-at}
+use Rattle.rt_rib.specs.Offers.{outranks, is_from, IsRising, IsPlaceFor, HasGained, HasLost, HasSwapped}
+use Rattle.rt_rib.proofs.Lists.{AllPairs-head, AllPairs-tail, filter-all, list_any-from_none, list_any-at}
 use Rattle.rt_rib.proofs.Order.{below_then-false, below_then-less, below_then-same, below_then-trans}
 use Rattle.rt_rib.proofs.Sets.{Contains-head, Contains-tail, Contains-cases, Contains-none, filter-keeps, filter-from}
 

@@ -2,8 +2,9 @@
 use Rattle.std.proofs.Common.{◌≡◌, ℕ, ◌<◌, Bool, true, false, eqb, ltb, ◌&&◌, ◌⊎◌, inl, inr, sym, arith}
 use Rattle.std.proofs.lemmas.Bool.{ltb-true, ltb-false, eqb-true, eqb-false, lt-ltb, le-ltb, eq-eqb, or_cases, or_parts, or_left, or_right, or_from, and_parts, and_cases, and_from, and_right, both_ways, cases_order, false_from_ne_true}
 use Rattle.rt_cidr.specs.declared.prefixes.Prefix.{Prefix}
+use Rattle.rt_cidr.specs.Prefix.{same_prefix}
 use Rattle.rt_rib.specs.declared.routes.Route.{Route}
-use Rattle.rt_rib.specs.Table.{below_then, is_better, precedes, is_of, same_prefix}
+use Rattle.rt_rib.specs.Table.{below_then, is_better, precedes, is_of}
 
 -- what a test in order says where it holds
 pub below_then-true : (a b : ℕ) (rest : Bool) → below_then a b rest ≡ true → (a < b) ⊎ ((a ≡ b) × (rest ≡ true))

@@ -1,23 +1,38 @@
 -- A feed's routes taken out prefix by prefix.
-use Rattle.std.proofs.Common.{◌≡◌, ℕ, ◌+◌, ◌-◌, ◌*◌, ◌^◌, ◌<◌, Bool, true, false, not, cond, eqb, ltb, suc, List, [], ◌∷◌, get_or, Option, Some, None, refl, ap, ◌∙◌, sym, subst, inl, inr, arith}
-use Rattle.std.specs.Prelude.{IsTrue, ◌&&◌}
-use Rattle.std.specs.List.{All, Contains, filter, count_by, list_any}
-use Rattle.std.proofs.lemmas.Bool.{cases_Bool, both_ways, cond-true, cond-false, false_from_ne_true, not_from_false, and_from, eq-eqb, eqb-true, ltb-true, ltb-false, lt-ltb}
+use Rattle.std.proofs.Common.{◌≡◌, ℕ, ◌+◌, ◌-◌, ◌*◌, ◌^◌, ◌<◌, Bool, true, false, not, cond, eqb, ltb, List, [], ◌∷◌, get_or, Option, Some, None, refl, ap, ◌∙◌, sym, subst, inl, inr, arith}
+use Rattle.std.specs.Prelude.{◌&&◌}
+use Rattle.std.specs.List.{Contains, filter, count_by}
+use Rattle.std.proofs.lemmas.Bool.{cases_Bool, both_ways, cond-true, cond-false, false_from_ne_true, not_from_false, and_from, eq-eqb, ltb-true, ltb-false, lt-ltb}
 use Rattle.std.proofs.lemmas.List.Elements.{All-weaker, Contains-get_or}
 use Rattle.std.proofs.lemmas.List.Sums.{sum_by-cons}
 use Rattle.rt_cidr.specs.declared.prefixes.Prefix.{Prefix}
-use Rattle.rt_trie.specs.Map.{same_prefix, before}
+use Rattle.rt_cidr.specs.Prefix.{same_prefix}
+use Rattle.rt_trie.specs.Map.{before}
 use Rattle.rt_rib.specs.declared.routes.Route.{Route}
 use Rattle.rt_rib.specs.declared.commands.Cmd.TheVariants.{Withdraw, Purge}
 use Rattle.rt_rib.specs.declared.commands.Reply.TheVariants.{Purged}
 use Rattle.rt_rib.specs.Table.{is_of, has, count_of, take_out, purge}
 use Rattle.rt_rib.specs.Maps.{IsFirst, IsNext}
 use Rattle.rt_rib.specs.Sequential.{reply_of, table_after}
-use Rattle.rt_rib.specs.Kept.{Held, Serves, IsAhead, HasPassed, left_of}
+use Rattle.rt_rib.specs.Kept.{Held, Serves}
 use Rattle.rt_rib.proofs.Lists.{filter-all, list_any-none}
 use Rattle.rt_rib.proofs.Order.{below_then-true, below_then-false, below_then-less, below_then-same}
 use Rattle.rt_rib.proofs.Steps.{held}
 use Rattle.rt_rib.proofs.Sets.{Contains-cases, Contains-none, take_out_leaves_others}
+
+-- the route's prefix doesn't come before the one at which a purge goes on; where it ends there is no such route
+abbrev pub IsAhead : Option Prefix → Route → Type 0
+IsAhead None r = ⊥
+IsAhead (Some p) r = before r.prefix p ≡ false
+
+-- all the feed's routes that are left are ahead
+abbrev pub HasPassed : ℕ → List Route → Option Prefix → Type 0
+HasPassed feed routes next = (r : Route) → Contains routes r → eqb r.feed feed ≡ true → IsAhead next r
+
+-- at most so many prefixes are left
+abbrev pub left_of : Option Prefix → ℕ
+left_of None = 0
+left_of (Some p) = 2 ^ 39 - (p.base * 64 + p.len) + 1
 
 -- what a filter keeps of what another one keeps all of
 filter-filter : {X : Type 0} (p q : X → Bool) → ((x : X) → p x ≡ true → q x ≡ true) → (xs : List X) → filter p (filter q xs) ≡ filter p xs

@@ -1,12 +1,10 @@
 -- What a table keeps beside its routes, and a book beside its journal.
-use Rattle.std.specs.Prelude.{◌≡◌, ℕ, ◌+◌, ◌-◌, ◌*◌, ◌^◌, ◌<◌, ◌≤◌, ◌==◌, true, false, List, Option, Some, None, length, sum, slice_index}
-use Rattle.std.specs.List.{All, Contains}
+use Rattle.std.specs.Prelude.{◌≡◌, ℕ, ◌+◌, ◌<◌, ◌≤◌, List, length, sum, slice_index}
+use Rattle.std.specs.List.{All}
 use Rattle.rt_rib.specs.declared.routes.Route.{Route}
 use Rattle.rt_rib.specs.declared.commands.Cmd.{Cmd}
 use Rattle.rt_rib.specs.declared.commands.Reply.{Reply}
 use Rattle.rt_rib.specs.declared.commands.Entry.{Entry}
-use Rattle.rt_cidr.specs.declared.prefixes.Prefix.{Prefix}
-use Rattle.rt_trie.specs.Map.{before}
 use Rattle.rt_rib.specs.Table.{count_of, IsTable}
 use Rattle.rt_rib.specs.Maps.{Map, routes_of, IsMap}
 use Rattle.rt_rib.specs.Sequential.{reply_of, table_after}
@@ -36,20 +34,6 @@ pub record IsCounted (limit : ℕ) (counts : List ℕ) (m : Map) : Type 0 where
   pub map : IsMap m
   pub table : IsTable (routes_of m)
   pub counted : AreCounts limit counts (routes_of m)
-
--- the route's prefix doesn't come before the one at which a purge goes on; where it ends there is no such route
-abbrev pub IsAhead : Option Prefix → Route → Type 0
-IsAhead None r = ⊥
-IsAhead (Some p) r = before r.prefix p ≡ false
-
--- all the feed's routes that are left are ahead
-abbrev pub HasPassed : ℕ → List Route → Option Prefix → Type 0
-HasPassed feed routes next = (r : Route) → Contains routes r → r.feed == feed ≡ true → IsAhead next r
-
--- at most so many prefixes are left
-abbrev pub left_of : Option Prefix → ℕ
-left_of None = 0
-left_of (Some p) = 2 ^ 39 - (p.base * 64 + p.len) + 1
 
 -- the journal is lawful, its entries are of feeds that there may be, and the routes are what it leaves
 pub record IsKept (held : Held) (journal : List Entry) : Type 0 where

@@ -1,5 +1,5 @@
 -- The offers of one prefix, as a list in order, and how they change.
-use Rattle.std.specs.Prelude.{◌≡◌, ℕ, ◌<◌, ◌≤◌, ◌≢◌, Bool, true, false, ◌==◌, nat_lt, List, [], ◌∷◌, length, ◌⊎◌, ◌↔◌}
+use Rattle.std.specs.Prelude.{◌≡◌, ℕ, ◌<◌, ◌≤◌, Bool, true, false, ◌==◌, nat_lt, List, [], ◌∷◌, length, ◌⊎◌, ◌↔◌}
 use Rattle.std.specs.List.{AllPairs, AllWithin, Contains, list_any}
 use Rattle.rt_rib.specs.declared.offers.Offer.{Offer}
 use Rattle.rt_rib.specs.declared.offers.Taken.{Taken}

@@ -3,11 +3,8 @@
 use Rattle.std.specs.Prelude.{◌≡◌, ℕ, Bool, true, false, not, ◌==◌, ◌&&◌, ◌||◌, nat_lt, List, ◌∷◌, ◌++◌, filter, count_by}
 use Rattle.std.specs.List.{list_any, AllPairs}
 use Rattle.rt_cidr.specs.declared.prefixes.Prefix.{Prefix}
+use Rattle.rt_cidr.specs.Prefix.{same_prefix}
 use Rattle.rt_rib.specs.declared.routes.Route.{Route}
-
--- whether two prefixes have one base and one length
-abbrev pub same_prefix : Prefix → Prefix → Bool
-same_prefix p q = p.base == q.base && p.len == q.len
 
 -- whether the route is this feed's to this prefix
 abbrev pub is_of : ℕ → Prefix → Route → Bool

@@ -4,7 +4,7 @@ ghost use Rattle.rt_rib.specs.Table.{has, put_in, take_out};
 ghost use Rattle.rt_rib.specs.LookUp.{look_up};
 ghost use Rattle.rt_rib.specs.Maps.{routes_of, offers_at, route_by, IsMap, IsFirst, IsNext, MapLaws};
 
-use crate::offers::{Offer, Offers, Taken, place_of};
+use crate::offers::{Offer, Offers, Taken};
 use crate::refused::Refused;
 use crate::routes::Route;
 use rt_cidr::laws::same_prefix;
@@ -45,7 +45,7 @@ pub(crate) fn has<A: Allocator + Copy>(map: &Map<A>, feed: u32, prefix: Prefix) 
     map_laws::<A>();
     match map.get(prefix) {
         None => false,
-        Some(offers) => place_of(offers.as_slice(), feed).is_some(),
+        Some(offers) => offers.has(feed),
     }
 }
 
@@ -61,15 +61,17 @@ pub(crate) fn best_of<A: Allocator + Copy>(map: &Map<A>, addr: Addr) -> Option<R
     }
 }
 
-/// Puts in the route of a feed that has none to its prefix. Where memory is refused the map is as it was.
+/// Puts in the route, unless its feed has one to its prefix, and answers whether it has. Where memory is refused the map is as
+/// it was.
 pub(crate) fn put_in<A: Allocator + Copy>(
     map: &mut Map<A>,
     alloc: A,
     route: Route,
-) -> Result<(), Refused>
-    requires map { IsMap map.old.pairs }
-    requires fresh { has route.feed route.prefix (routes_of map.old.pairs) ≡ false }
-    ensures ok { OnOk result (routes_of map.new.pairs ≡ put_in route (routes_of map.old.pairs)) }
+) -> Result<bool, Refused>
+    requires { IsMap map.old.pairs }
+    ensures had { IfOk result (λ had. had ≡ has route.feed route.prefix (routes_of map.old.pairs)) }
+    ensures kept { IfOk result (λ had. IsTrue had → map.new.pairs ≡ map.old.pairs) }
+    ensures more { IfOk result (λ had. had ≡ false → routes_of map.new.pairs ≡ put_in route (routes_of map.old.pairs)) }
     ensures refused { OnErr result (map.new.pairs ≡ map.old.pairs) }
     ensures map { IsMap map.new.pairs }
 {
@@ -80,10 +82,14 @@ pub(crate) fn put_in<A: Allocator + Copy>(
         hop: route.hop,
     };
     if let Some(offers) = map.get_mut(route.prefix) {
-        return offers.put(alloc, offer);
+        if offers.has(route.feed) {
+            return Ok(true);
+        }
+        offers.put(alloc, offer)?;
+        return Ok(false);
     }
     match map.insert(route.prefix, Offers::one(offer)) {
-        Ok(_) => Ok(()),
+        Ok(_) => Ok(false),
         Err(_) => Err(Refused),
     }
 }

@@ -74,6 +74,13 @@ impl<A: Allocator + Copy> Offers<A> {
         }
     }
 
+    /// Whether one of them is the feed's.
+    pub(crate) fn has(&self, feed: u32) -> bool
+        ensures { result ≡ list_any (is_from feed) self.now }
+    {
+        place_of(self.as_slice(), feed).is_some()
+    }
+
     /// Puts in the offer of a feed that has none. Where memory is refused the offers are as they were.
     pub(crate) fn put(&mut self, alloc: A, offer: Offer) -> Result<(), Refused>
         requires { All (λ o. is_from offer.feed o ≡ false) self.old }
@@ -177,7 +184,7 @@ fn comes_before(a: &Offer, b: &Offer) -> bool
 }
 
 /// Where the feed's offer stands, if it has one.
-pub(crate) fn place_of(offers: &[Offer], feed: u32) -> Option<usize>
+fn place_of(offers: &[Offer], feed: u32) -> Option<usize>
     ensures { result ≡ position (is_from feed) offers.now }
 {
     offers.iter().position(|offer| offer.feed == feed)

@@ -126,14 +126,16 @@ impl<A: Allocator + Copy> Table<A> {
             IfOk result (λ reply. Serves self.old self.new route.feed cmd reply) }
         ensures err { OnErr result (self.new ≡ self.old) }
     {
-        if map::has(&self.map, route.feed, route.prefix) {
-            return Ok(Reply::Exists);
-        }
         let own = (route.feed - 1) as usize;
         if self.counts[own] >= self.limit {
+            if map::has(&self.map, route.feed, route.prefix) {
+                return Ok(Reply::Exists);
+            }
             return Ok(Reply::Full);
         }
-        map::put_in(&mut self.map, self.alloc, route)?;
+        if map::put_in(&mut self.map, self.alloc, route)? {
+            return Ok(Reply::Exists);
+        }
         self.counts[own] += 1;
         Ok(Reply::Added)
     }

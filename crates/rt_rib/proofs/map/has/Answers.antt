@@ -1,9 +1,7 @@
 use Rattle.std.proofs.Common.{sym, ap, ◌∙◌}
-use Rattle.std.specs.List.{list_any, position}
-use Rattle.std.specs.Prelude.{is_some}
+use Rattle.std.specs.List.{list_any}
 use Rattle.rt_rib.specs.Offers.{is_from}
 use Rattle.rt_rib.specs.Maps.{offers_in}
-use Rattle.rt_rib.proofs.OfferLists.{position-is_some}
 use Rattle.rt_rib.proofs.MapRoutes.{has-is}
 use Rattle.rt_rib.proofs.map.has.Goals as goal
 
@@ -12,6 +10,4 @@ returns-in-None g c = sym (has-is c.map_laws.ensures c.args.map.now.pairs c.requ
 
 pub returns-in-Some : goal.returns-in-Some
 returns-in-Some g c =
-    let place = rw c.as_slice.ensures.offers at c.place_of.ensures in
-    let found = ap is_some place ∙ position-is_some (is_from c.args.feed) c.in-Some.offers.now in
-    c.is_some.ensures ∙ found ∙ sym (has-is c.map_laws.ensures c.args.map.now.pairs c.requires c.args.feed c.args.prefix ∙ ap (λ o. list_any (is_from c.args.feed) (offers_in o)) (sym c.in-Some.ensures))
+    c.has.ensures ∙ sym (has-is c.map_laws.ensures c.args.map.now.pairs c.requires c.args.feed c.args.prefix ∙ ap (λ o. list_any (is_from c.args.feed) (offers_in o)) (sym c.in-Some.ensures))

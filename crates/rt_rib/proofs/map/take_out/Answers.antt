@@ -1,5 +1,4 @@
-use Rattle.std.proofs.Common.{sym, ◌∙◌, refl}
-use Rattle.rt_rib.proofs.Lists.{list_any-at}
+use Rattle.std.proofs.Common.{sym, ◌∙◌}
 use Rattle.rt_rib.proofs.MapChanges.{none_had, is_had, unchanged, less, last_gone, last_map, one_is_from, IsMap-put}
 use Rattle.rt_rib.proofs.map.take_out.Goals as goal
 

@@ -1,7 +1,6 @@
 use Rattle.std.proofs.Common.{◌≡◌, refl, ap, sym, subst, ◌∙◌}
 use Rattle.rt_rib.specs.Table.{purge, take_out}
-use Rattle.rt_rib.specs.Kept.{HasPassed}
-use Rattle.rt_rib.proofs.Purges.{purge-take_out, withdrawn_is, passed-first, passed-next, passed-all, none_counted, purge_done, left-less}
+use Rattle.rt_rib.proofs.Purges.{HasPassed, purge-take_out, withdrawn_is, passed-first, passed-next, passed-all, none_counted, purge_done, left-less}
 use Rattle.rt_rib.proofs.table.Table.purge.Goals as goal
 
 pub loop-next-init : goal.loop-next-init

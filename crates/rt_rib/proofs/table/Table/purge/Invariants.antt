@@ -1,6 +1,6 @@
 use Rattle.std.proofs.Common.{◌≡◌}
 use Rattle.rt_rib.specs.Table.{purge}
-use Rattle.rt_rib.specs.Kept.{HasPassed, left_of}
+use Rattle.rt_rib.proofs.Purges.{HasPassed, left_of}
 use Rattle.rt_rib.proofs.table.Table.purge.Given as goal
 
 abbrev pub invariant-loop-next : goal.invariant-loop-next

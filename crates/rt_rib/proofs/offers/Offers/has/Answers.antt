@@ -1,0 +1,10 @@
+use Rattle.std.proofs.Common.{ap, ◌∙◌}
+use Rattle.std.specs.Prelude.{is_some}
+use Rattle.rt_rib.specs.Offers.{is_from}
+use Rattle.rt_rib.proofs.OfferLists.{position-is_some}
+use Rattle.rt_rib.proofs.offers.Offers.has.Goals as goal
+
+pub returns : goal.returns
+returns g c =
+    let place = rw c.as_slice.ensures.offers at c.place_of.ensures in
+    c.is_some.ensures ∙ ap is_some place ∙ position-is_some (is_from c.args.feed) c.args.self.now
