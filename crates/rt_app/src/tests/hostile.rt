@@ -36,7 +36,8 @@ fn alone<R: Threads + Wait + Sync + Abort>(
     let texts = one_text(alloc, text)?;
     let ran = run(rt, alloc, texts.as_slice(), 1, 1);
     let ends_so = ran.status == Ok(status) && ran.out.as_slice() == output.as_bytes();
-    assert!(rt; ends_so, "of {text:?}");
+    let beginning = &text[..text.len().min(130)];
+    assert!(rt; ends_so, "of {} bytes, {beginning:?}", text.len());
     Ok(())
 }
 
