@@ -1,6 +1,6 @@
 //! A second machine, written from the table of the steps in docs/LOCK.md over a map of named words. It shares no code
 //! with the crate.
-use std::alloc::Global;
+use std::alloc::{AllocError, Global};
 use std::collections::BTreeMap;
 use std::fmt::Write;
 use std::test::*;
@@ -49,21 +49,10 @@ impl Second {
     }
 
     pub fn step(&mut self, alloc: Global, place: usize) -> Result<Told, Fail> {
-        let mut stand = *self.stands.get(place).ok_or("a place")?;
-        if stand.point == IDLE {
-            (stand.point, stand.level) = (1, 1);
-        } else if stand.point == INSIDE {
-            (stand.point, stand.level) = (11, self.levels);
-        }
+        let stand = self.begun(*self.stands.get(place).ok_or("a place")?);
         let own = place as u64 + 1;
-        let word = self.word(alloc, place, stand)?;
-        let stored = match stand.point {
-            1 | 2 => Some(own),
-            3 | 11 => Some(0),
-            7 => Some(1),
-            13 => Some(2),
-            _ => None,
-        };
+        let word = word(alloc, place, stand)?;
+        let stored = stored(stand.point, own);
         let value = match stored {
             Some(value) => value,
             None => self.words.get(word.as_str()).copied().unwrap_or(0),
@@ -75,35 +64,26 @@ impl Second {
         if let Some(stands) = self.stands.get_mut(place) {
             *stands = next;
         }
-        let mark = match next.point {
-            IDLE => "out",
-            INSIDE => "inside",
-            _ => "",
-        };
         Ok(Told {
             word,
             store: stored.is_some(),
             value,
-            mark,
+            mark: mark(next.point),
         })
     }
 
-    /// The name of the word that the place is to load or store.
-    fn word(&self, alloc: Global, place: usize, stand: Stand) -> Result<String, Fail> {
-        let level = stand.level;
-        let node = place.checked_shr(level).unwrap_or(0);
-        let side = place.checked_shr(level.saturating_sub(1)).unwrap_or(0) % 2;
-        let rival = stand.rival.saturating_sub(1);
-        Ok(match stand.point {
-            1 | 11 => format!(in alloc; "C{level}.{node}.{side}")?,
-            4 => {
-                let other = 1 - side;
-                format!(in alloc; "C{level}.{node}.{other}")?
-            }
-            2 | 5 | 9 | 12 => format!(in alloc; "T{level}.{node}")?,
-            6 | 7 | 13 => format!(in alloc; "P{level}.{rival}")?,
-            _ => format!(in alloc; "P{level}.{place}")?,
-        })
+    /// Where a place stands that goes on: one that is idle or inside begins its way in or out.
+    fn begun(&self, stand: Stand) -> Stand {
+        let (point, level) = match stand.point {
+            IDLE => (1, 1),
+            INSIDE => (11, self.levels),
+            point => (point, stand.level),
+        };
+        Stand {
+            point,
+            level,
+            ..stand
+        }
     }
 
     /// Where the place stands after it loaded or stored the value.
@@ -146,5 +126,38 @@ impl Second {
             10 => 10,
             _ => point.wrapping_add(1),
         }
+    }
+}
+
+/// What a point stores, if it doesn't load.
+fn stored(point: u32, own: u64) -> Option<u64> {
+    match point {
+        1 | 2 => Some(own),
+        3 | 11 => Some(0),
+        7 => Some(1),
+        13 => Some(2),
+        _ => None,
+    }
+}
+
+fn mark(point: u32) -> &'static str {
+    match point {
+        IDLE => "out",
+        INSIDE => "inside",
+        _ => "",
+    }
+}
+
+/// The name of the word that the place is to load or store.
+fn word(alloc: Global, place: usize, stand: Stand) -> Result<String, AllocError> {
+    let level = stand.level;
+    let node = place.checked_shr(level).unwrap_or(0);
+    let side = place.checked_shr(level.saturating_sub(1)).unwrap_or(0) % 2;
+    match stand.point {
+        1 | 11 => format!(in alloc; "C{level}.{node}.{side}"),
+        4 => format!(in alloc; "C{level}.{node}.{}", 1 - side),
+        2 | 5 | 9 | 12 => format!(in alloc; "T{level}.{node}"),
+        6 | 7 | 13 => format!(in alloc; "P{level}.{}", stand.rival.saturating_sub(1)),
+        _ => format!(in alloc; "P{level}.{place}"),
     }
 }
