@@ -1,7 +1,7 @@
 #!/usr/bin/env python3
 """Refuses each request for memory in turn, and compares what comes out with a plain model.
 
-Usage: bench/refused_growth.py [YARIB LIBRARIES]. Needs rt, gcc and glibc; takes about a minute once all is built. The two
+Usage: bench/refused_growth.py [YARIB LIBRARIES]. Needs rt, gcc and glibc; takes some minutes once all is built. The two
 words name a built yarib and a built crates/refused_growth, which are else built first.
 
 Each case is run with its first request refused, then with its second, and so on until a run meets no refusal; and once more
