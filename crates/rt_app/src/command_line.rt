@@ -172,48 +172,63 @@ fn program<'a>(alloc: Global) -> Result<Command<'a>, AllocError> {
 }
 
 fn run_command<'a>(alloc: Global) -> Result<Command<'a>, AllocError> {
-    let limit = Arg::new(alloc, "limit")
+    Command::new(alloc, "run")
+        .about("Run the commands of feed files at once and print the replies and the table")
+        .after_help(RUN_NOTES)
+        .arg(limit(alloc))?
+        .arg(batch(alloc))?
+        .arg(files(alloc))
+}
+
+fn limit<'a>(alloc: Global) -> Arg<'a> {
+    Arg::new(alloc, "limit")
         .long("limit")
         .value_name("K")
         .value_parser(ValueParser::unsigned(1, 1_000_000))
         .default_value("65536")
-        .help("How many routes a feed may have, 1 to 1000000");
-    let batch = Arg::new(alloc, "batch")
+        .help("How many routes a feed may have, 1 to 1000000")
+}
+
+fn batch<'a>(alloc: Global) -> Arg<'a> {
+    Arg::new(alloc, "batch")
         .long("batch")
         .value_name("K")
         .value_parser(ValueParser::unsigned(1, 1024))
         .default_value("1")
-        .help("How many commands of a feed are asked at once, 1 to 1024");
-    let files = Arg::new(alloc, "files")
+        .help("How many commands of a feed are asked at once, 1 to 1024")
+}
+
+fn files<'a>(alloc: Global) -> Arg<'a> {
+    Arg::new(alloc, "files")
         .value_name("FILE")
         .required(true)
         .num_args(1..)
-        .help("Feed files, 1 to 64: one command a line");
-    Command::new(alloc, "run")
-        .about("Run the commands of feed files at once and print the replies and the table")
-        .after_help(RUN_NOTES)
-        .arg(limit)?
-        .arg(batch)?
-        .arg(files)
+        .help("Feed files, 1 to 64: one command a line")
 }
 
 fn replay_command<'a>(alloc: Global) -> Result<Command<'a>, AllocError> {
-    let levels = Arg::new(alloc, "levels")
+    Command::new(alloc, "replay")
+        .about("Show the atomic steps of the lock for one schedule, one a line")
+        .after_help(REPLAY_NOTES)
+        .arg(levels(alloc))?
+        .arg(picks(alloc))
+}
+
+fn levels<'a>(alloc: Global) -> Arg<'a> {
+    Arg::new(alloc, "levels")
         .long("levels")
         .value_name("L")
         .required(true)
         .value_parser(ValueParser::unsigned(0, 255))
-        .help("How many levels the tree has, 1 to 6");
-    let picks = Arg::new(alloc, "picks")
+        .help("How many levels the tree has, 1 to 6")
+}
+
+fn picks<'a>(alloc: Global) -> Arg<'a> {
+    Arg::new(alloc, "picks")
         .value_name("PICK")
         .num_args(0..)
         .value_parser(ValueParser::unsigned(0, 255))
-        .help("The place that takes the next step");
-    Command::new(alloc, "replay")
-        .about("Show the atomic steps of the lock for one schedule, one a line")
-        .after_help(REPLAY_NOTES)
-        .arg(levels)?
-        .arg(picks)
+        .help("The place that takes the next step")
 }
 
 fn run_request<'a>(alloc: Global, asked: &ArgMatches<'a>) -> Result<RunRequest<'a>, Refusal> {

@@ -2,7 +2,7 @@
 
 ghost use Rattle.std.specs.Prelude.{◌≡◌, length, vec_len, IfOk};
 
-use crate::command_line::{self, Refusal, Request};
+use crate::command_line::{self, Refusal, ReplayRequest, Request, RunRequest};
 use crate::faults::AppFault;
 use crate::replays::replay_text;
 use crate::runs::{MOST_TEXTS, run_texts};
@@ -90,24 +90,38 @@ fn carry_out<'a, R: Files + Threads + Wait + Sync + AllocGlobal, O: Write>(
     words: &'a [String],
     out: &mut O,
 ) -> Result<u8, Stop<'a>> {
-    let asked = match command_line::read(alloc, words) {
-        Ok(asked) => asked,
-        Err(Refusal::Shown(text)) => return shown(text.as_bytes(), out),
-        Err(Refusal::Misused(text)) => return Err(Stop::Misused(text)),
-        Err(Refusal::Memory) => return Err(NO_MEMORY),
-    };
-    let done = match asked {
-        Request::Run(asked) => {
-            if asked.files.len() > MOST_TEXTS {
-                return Err(Stop::TooMany);
-            }
-            let texts = read_files(rt, alloc, asked.files.as_slice())?;
-            let batch = asked.batch as usize;
-            run_texts(rt, alloc, texts.as_slice(), asked.limit, batch, out)
-        }
-        Request::Replay(asked) => { replay_text(alloc, asked.levels, asked.picks.as_slice(), out) }
-    };
-    match done {
+    match command_line::read(alloc, words) {
+        Ok(Request::Run(asked)) => run_files(rt, alloc, &asked, out),
+        Ok(Request::Replay(asked)) => show_replay(alloc, &asked, out),
+        Err(Refusal::Shown(text)) => shown(text.as_bytes(), out),
+        Err(Refusal::Misused(text)) => Err(Stop::Misused(text)),
+        Err(Refusal::Memory) => Err(NO_MEMORY),
+    }
+}
+
+fn run_files<'a, R: Files + Threads + Wait + Sync + AllocGlobal, O: Write>(
+    rt: &R,
+    alloc: Global,
+    asked: &RunRequest<'a>,
+    out: &mut O,
+) -> Result<u8, Stop<'a>> {
+    if asked.files.len() > MOST_TEXTS {
+        return Err(Stop::TooMany);
+    }
+    let texts = read_files(rt, alloc, asked.files.as_slice())?;
+    let batch = asked.batch as usize;
+    match run_texts(rt, alloc, texts.as_slice(), asked.limit, batch, out) {
+        Ok(status) => Ok(status),
+        Err(fault) => Err(Stop::Fault(fault)),
+    }
+}
+
+fn show_replay<'a, O: Write>(
+    alloc: Global,
+    asked: &ReplayRequest,
+    out: &mut O,
+) -> Result<u8, Stop<'a>> {
+    match replay_text(alloc, asked.levels, asked.picks.as_slice(), out) {
         Ok(status) => Ok(status),
         Err(fault) => Err(Stop::Fault(fault)),
     }
