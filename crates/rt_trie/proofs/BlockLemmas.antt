@@ -6,7 +6,7 @@ use Rattle.std.proofs.Common.{eqb}
 use Rattle.std.proofs.Math.Pow.{pow_mono}
 use Rattle.std.proofs.lemmas.Bool.{cases_lt, false≢true}
 use Rattle.std.proofs.lemmas.Bool.Decides.{eqb_tells, leb_tells}
-use Rattle.std.proofs.Math.Nat.{mul_assoc, dvd_trans, dvd-mul_right, dvd-mul_left_of_dvd, dvd-add, dvd-sub, dvd_of_mod-eq-zero, le_of_dvd, mul-div_cancel, mul-div_cancel_left, mul-le-mul_left, div-div-eq-div-mul}
+use Rattle.std.proofs.Math.Nat.{mul_assoc, dvd_trans, dvd-mul_right, dvd-mul_left_of_dvd, dvd-add, dvd-sub, dvd_of_mod-eq-zero, le_of_dvd, mul-div_cancel, mul-div_cancel_left, mul-le-mul_left, mul-le-mul_right, mul-lt-mul_of_pos_right, div-div-eq-div-mul}
 use Rattle.rt_cidr.specs.declared.prefixes.Prefix.{Prefix}
 use Rattle.rt_cidr.specs.declared.address.Addr.{Addr}
 use Rattle.rt_cidr.proofs.Promised.{size_pos}
@@ -193,6 +193,80 @@ bit_tells q a fits short c =
         | inr i ↦ absurd (i.1 (e ∙ b.1 ge))
       ],
     )
+
+-- how far from the base on, as a machine counts it, in 2^32ths of the prefix's addresses
+abbrev pub offset_of : ℕ → ℕ → ℕ → ℕ
+offset_of len base a = (a + (4294967296 - base)) % 4294967296 * 2 ^ len % 18446744073709551616
+
+-- all addresses of a prefix together
+whole_size : (len : ℕ) → len ≤ 32 → size_of len * 2 ^ len ≡ 4294967296
+whole_size len h =
+    let e : (32 - len) + len ≡ 32 = omega arith in
+    sym (pow-add 2 (32 - len) len) ∙ ap (λ n. 2 ^ n) e
+
+-- and half of them
+half_whole : (len : ℕ) → len < 32 → size_of len / 2 * 2 ^ len ≡ 2147483648
+half_whole len h =
+    let e : (32 - (len + 1)) + len ≡ 31 = omega arith in
+    let f : size_of len / 2 ≡ 2 ^ (32 - (len + 1)) = omega (arith, half_size len 32 h (omega arith)) in
+    ap (λ n. n * 2 ^ len) f ∙ sym (pow-add 2 (32 - (len + 1)) len) ∙ ap (λ n. 2 ^ n) e
+
+-- a prefix ends among the addresses
+past_fits : (q : Prefix) → past q ≤ 4294967296
+past_fits q =
+    let s = q.is_prefix.short in
+    let f = q.is_prefix.fits in
+    elim (cases_lt 0 q.len) [
+      | inl long ↦ block_end (size_of q.len) q.base 4294967296 (base_divides q q.len (omega arith) s) (size_divides 0 q.len long s).0 f
+      | inr none ↦
+          let e : q.len ≡ 0 = omega arith in
+          let c : q.base % 4294967296 ≡ 0 = subst (λ n. q.base % size_of n ≡ 0) e q.is_prefix.clear in
+          omega (arith, ap size_of e)
+    ]
+
+-- no product of these is cut off
+uncut : (d len : ℕ) → d < 4294967296 → len ≤ 32 → d * 2 ^ len % 18446744073709551616 ≡ d * 2 ^ len
+uncut d len h k =
+    let m : 2 ^ len ≤ 2 ^ 32 = pow_mono k in
+    omega (arith, mul-le-mul_left d m)
+
+pub offset_covered : (q : Prefix) (a : Addr) → a.0 < 4294967296 → (covers q a ≡ true) ↔ (offset_of q.len q.base a.0 < 4294967296)
+offset_covered q a fits =
+    let s = q.is_prefix.short in
+    let p = past_fits q in
+    let w = whole_size q.len s in
+    let d = (a.0 + (4294967296 - q.base)) % 4294967296 in
+    let b : d < 4294967296 = omega arith in
+    let u = uncut d q.len b s in
+    elim (covers_tells q a) [
+      | inl r ↦
+          let e : d < size_of q.len = omega (arith, r.1, r.2) in
+          (λ _. omega (arith, mul-lt-mul_of_pos_right e (pow_pos q.len)), λ _. r.0)
+      | inr r ↦
+          let e : size_of q.len ≤ d = elim r.1 [ inl lt ↦ omega arith | inr ge ↦ omega arith ] in
+          (λ t. absurd (false≢true (sym r.0 ∙ t)), λ t. absurd (omega (arith, mul-le-mul_right (2 ^ q.len) e)))
+    ]
+
+pub not_covered : (q : Prefix) (a : Addr) (offset : ℕ) → ((covers q a ≡ true) ↔ (offset < 4294967296)) → 4294967296 ≤ offset → covers q a ≡ false
+not_covered q a offset h k = elim (covers_tells q a) [ inl r ↦ absurd (omega (arith, h.0 r.0)) | inr r ↦ r.0 ]
+
+pub offset_half : (q : Prefix) (a : Addr) → covers q a ≡ true → q.len < 32 → (2147483648 ≤ offset_of q.len q.base a.0) ↔ (middle q ≤ a.0)
+offset_half q a covered short =
+    let s = q.is_prefix.short in
+    let p = past_fits q in
+    let r = range_of_covers q a covered in
+    let w = half_whole q.len short in
+    let d = (a.0 + (4294967296 - q.base)) % 4294967296 in
+    let b : d < 4294967296 = omega arith in
+    let u = uncut d q.len b s in
+    elim (cases_lt d (size_of q.len / 2)) [
+      | inl lt ↦
+          let m = mul-lt-mul_of_pos_right lt (pow_pos q.len) in
+          (λ t. absurd (omega (arith, m)), λ t. absurd (omega arith))
+      | inr ge ↦
+          let m = mul-le-mul_right (2 ^ q.len) ge in
+          (λ t. omega arith, λ t. omega (arith, m))
+    ]
 
 -- what the test of the half says
 pub in_upper : (q : Prefix) (r : Bool) (a : ℕ) → (q.len < 32 → (r ≡ true) ↔ (middle q ≤ a)) → (q.len ≡ 32 → r ≡ false) → r ≡ true

@@ -1,8 +1,10 @@
 -- The pairs of a lawful link lie where its root lies, and in order.
-use Rattle.std.proofs.Common.{◌≡◌, ℕ, ◌⊎◌, ◌+◌, ◌<◌, ◌≤◌, [], ◌++◌, Option, Some, None, true, false, inl, inr, refl, sym, subst, ap, ◌∙◌, arith}
+use Rattle.std.proofs.Common.{◌≡◌, ℕ, suc, ◌⊎◌, ◌↔◌, ◌+◌, ◌<◌, ◌≤◌, [], ◌++◌, Option, Some, None, true, false, cond, leb, inl, inr, refl, sym, subst, ap, ◌∙◌, arith}
 use Rattle.rt_cidr.specs.declared.prefixes.Prefix.{Prefix}
 use Rattle.std.specs.Prelude.{Box, IfNone, IfSome, is_some}
 use Rattle.std.proofs.lemmas.Bool.{cases_lt, false≢true}
+use Rattle.std.proofs.lemmas.Bool.Decides.{leb_tells}
+use Rattle.std.specs.Borrow.{Bor}
 use Rattle.std.specs.Box.{with_value}
 use Rattle.rt_cidr.specs.declared.address.Addr.{Addr}
 use Rattle.rt_cidr.specs.Prefix.{covers}
@@ -72,9 +74,6 @@ module _ {V A : Type 0} where
 pub own_key : (q : Prefix) → IsKeyOf q.len q.base q
 own_key q = record { len_is = refl; base_is = refl }
 
-pub key_short : (len base : ℕ) (q : Prefix) → IsKeyOf len base q → len ≤ 32
-key_short len base q k = let s = q.is_prefix.short in omega (arith, k.len_is)
-
 -- the link holds a node of this prefix, value and sides, and what stands below it is lawful
 pub record IsNode {V A : Type 0} (link : Link V A) (q : Prefix) (v : Option V) (left right : Link V A) : Type 0 where
   pub pairs_are : pairs link ≡ own_pair q v ++ (pairs left ++ pairs right)
@@ -100,10 +99,6 @@ module _ {V A : Type 0} where
   of_full {len} {base} b n link e f h = rw (f, e) (of_full_at len base b (subst IsLawfulBelow e h))
 
   -- the link keeps its node's key
-  pub key_of_leaf : {len base : ℕ} (b : Box (LeafNode V) A) (n : LeafNode V) (link : Link V A) → link ≡ Leaf len base b → n ≡ b.value → IsLawfulBelow link
-      → IsKeyOf len base n.prefix
-  key_of_leaf {len} {base} b n link e f h = let k : IsLawfulBelow (Leaf len base b) = subst IsLawfulBelow e h in rw f k
-
   pub key_of_fork : {len base : ℕ} (b : Box (ForkNode V A) A) (n : ForkNode V A) (link : Link V A) → link ≡ Fork len base b → n ≡ b.value → IsLawfulBelow link
       → IsKeyOf len base n.prefix
   key_of_fork {len} {base} b n link e f h = let k : IsLawfulBelow (Fork len base b) = subst IsLawfulBelow e h in rw f k.3
@@ -215,6 +210,26 @@ module _ {V A : Type 0} where
       ap (λ x. or_else (last_cover (pairs right) a) x) (sym e)
       ∙ sym (ap (λ x. or_else x best) (node_cover-upper link q v left right n a h)
       ∙ or_assoc (last_cover (pairs right) a) (last_cover (own_pair q v) a) best)
+
+  -- and it goes on where `side` says, of an address so far into the node's
+  pub step_side : (link : Link V A) (q : Prefix) (v : Option V) (left right below : Bor (Link V A)) (n : IsNode link q v left.now right.now) (a : Addr)
+      (best found : Option (Prefix × V)) (offset : ℕ) → (q.len < 32 → (2147483648 ≤ offset) ↔ (middle q ≤ a.0))
+      → (q.len ≡ 32 → offset < 2147483648) → below ≡ cond (leb (suc offset) 2147483648) left right
+      → or_else (last_cover (own_pair q v) a) best ≡ found
+      → or_else (last_cover (pairs below.now) a) found ≡ or_else (last_cover (pairs link) a) best
+  step_side link q v left right below n a best found offset half none e f =
+      let s = q.is_prefix.short in
+      elim (leb_tells (suc offset) 2147483648) [
+        | inl lo ↦
+            let b : below ≡ left = e ∙ ap (λ c. cond c left right) lo.0 in
+            rw b (step_lower link q v left.now right.now n a best found (λ short high. absurd (omega (arith, lo.1, (half short).1 high))) f)
+        | inr hi ↦
+            let b : below ≡ right = e ∙ ap (λ c. cond c left right) hi.0 in
+            rw b (step_upper link q v left.now right.now n a best found (elim (cases_lt q.len 32) [
+              | inl short ↦ (half short).0 (omega (arith, hi.1))
+              | inr ge ↦ absurd (omega (arith, hi.1, none (omega arith)))
+            ]) f)
+      ]
 
   -- where the node does not cover the address, the best so far is the answer
   pub step_none : (link : Link V A) (q : Prefix) (v : Option V) (left right : Link V A) (n : IsNode link q v left right) (a : Addr)

@@ -1,6 +1,6 @@
 //! The nodes of a trie, of three kinds, and the links that hold them.
 
-ghost use Rattle.std.specs.Prelude.{◌≡◌, ◌<◌, ◌≤◌, ◌↔◌, false, IsTrue};
+ghost use Rattle.std.specs.Prelude.{◌≡◌, ◌^◌, ◌<◌, ◌≤◌, ◌↔◌, nat_lt, if◌then◌else◌, false, IsTrue};
 ghost use Rattle.rt_cidr.specs.declared.prefixes.Prefix.{Prefix};
 ghost use Rattle.rt_cidr.specs.Prefix.{covers, same_prefix};
 ghost use Rattle.rt_trie.specs.Blocks.{middle, IsKeyOf, StandsAt};
@@ -98,14 +98,31 @@ pub(crate) fn middle(q: &Prefix) -> u64
     q.base() as u64 + (1u64 << (32 - q.len())) / 2
 }
 
-/// Whether the prefix of that length and base covers the address.
+// Where the upper half of a prefix's addresses begins, as `offset` counts them.
+const HALF: u64 = 1 << 31;
+
+/// Where a prefix's addresses end, as `offset` counts them.
+pub(crate) const END: u64 = 1 << 32;
+
+/// How far into the addresses of the prefix of that length and base the address lies, where all of them together count as
+/// 2^32, however many they are. At an address before them it is no less, as at one past them.
 #[inline(always)]
-pub(crate) fn covers(len: u8, base: u32, address: Addr) -> bool
+pub(crate) fn offset(len: u8, base: u32, address: u32) -> u64
     requires { len ≤ 32 }
-    ensures { (q : Prefix) → IsKeyOf len base q → result ≡ covers q address }
+    ensures covered { (q : Prefix) → IsKeyOf len base q → IsTrue (covers q (record { 0 = address })) ↔ result < 2 ^ 32 }
+    ensures half { (q : Prefix) → IsKeyOf len base q → IsTrue (covers q (record { 0 = address })) → q.len < 32
+        → 2 ^ 31 ≤ result ↔ middle q ≤ address }
+    ensures none { len ≡ 32 → result < 2 ^ 32 → result < 2 ^ 31 }
 {
-    let past = 32 - len;
-    u64::from(address.0) >> past == u64::from(base) >> past
+    u64::from(address.wrapping_sub(base)) << len
+}
+
+/// Of what lies on the two sides of a node, that on the side of the address so far into the node's addresses.
+#[inline(always)]
+pub(crate) fn side<T: Copy>(offset: u64, left: T, right: T) -> T
+    ensures { result ≡ (if nat_lt offset (2 ^ 31) then left else right) }
+{
+    if offset < HALF { left } else { right }
 }
 
 /// Whether that length and base are those of p.

@@ -6,7 +6,7 @@ ghost use Rattle.rt_trie.specs.Map.{get, first, next_after, pair_copied, IsLonge
 ghost use Rattle.rt_trie.specs.Links.{pairs, count, IsLawfulBelow, IsLawfulTrie};
 ghost use Rattle.rt_trie.specs.LookUps.{or_else, last_cover, sought, lane_at, lane_sought, work_of, AreLawful};
 
-use crate::nodes::{Link, Place, covers, in_upper_half, is_key_of, middle, place_of};
+use crate::nodes::{END, Link, Place, is_key_of, middle, offset, place_of, side};
 use rt_cidr::{Addr, Prefix};
 use std::alloc::Allocator;
 
@@ -88,36 +88,30 @@ pub(crate) fn step<'a, V, A: Allocator>(
     match link {
         Link::Empty => None,
         Link::Leaf(len, base, leaf) => {
-            if covers(*len, *base, address) {
+            if offset(*len, *base, address.0) < END {
                 let leaf = leaf.as_ref();
                 *best = Some((leaf.prefix, &leaf.value));
             }
             None
         }
         Link::Fork(len, base, fork) => {
-            if !covers(*len, *base, address) {
+            let offset = offset(*len, *base, address.0);
+            if offset >= END {
                 return None;
             }
             let fork = fork.as_ref();
-            if in_upper_half(*len, address.0) {
-                Some(&fork.right)
-            } else {
-                Some(&fork.left)
-            }
+            Some(side(offset, &fork.left, &fork.right))
         }
         Link::Full(len, base, full) => {
-            if !covers(*len, *base, address) {
+            let offset = offset(*len, *base, address.0);
+            if offset >= END {
                 return None;
             }
             let full = full.as_ref();
             if let Some(value) = &full.value {
                 *best = Some((full.prefix, value));
             }
-            if in_upper_half(*len, address.0) {
-                Some(&full.right)
-            } else {
-                Some(&full.left)
-            }
+            Some(side(offset, &full.left, &full.right))
         }
     }
 }
