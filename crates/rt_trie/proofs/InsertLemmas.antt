@@ -19,7 +19,7 @@ use Rattle.rt_trie.proofs.BlockLemmas.{lower_half}
 use Rattle.rt_trie.proofs.PairLemmas.{AllKeys, AllKeys-map, IsHigher, IsLower, IsOther, IsOther-higher, IsOther-lower, get-none, put-first, put-skip, put-front, put-here}
 use Rattle.rt_trie.proofs.NodeLemmas.{sides_higher, upper_higher, lower_lower, own_lower}
 use Rattle.rt_trie.proofs.PartLemmas.{child_of_parts}
-use Rattle.rt_trie.proofs.LinkLemmas.{if_some_map, if_some_is, IsNode, IsOn, IsView, pairs_within, sides_of, of_fork, of_full, own_key, key_of_full, node_get-unstored, get_left, get_right, get_own}
+use Rattle.rt_trie.proofs.LinkLemmas.{if_some_map, if_some_is, IsNode, IsOn, IsView, pairs_within, sides_of, of_fork, of_full, own_key, key_of_leaf, key_of_full, node_get-unstored, get_left, get_right, get_own}
 
 -- what is within a prefix lies in one of its halves
 pub half_above : (q p : Prefix) → StandsAt q p Above → q.base < middle p → IsChild p false q
@@ -330,6 +330,24 @@ module _ {V A : Type 0} where
       → IsNode old q (Some b.value.value) Empty Empty
   leaf_node b old q e f = subst (λ y. IsNode old y (Some b.value.value) Empty Empty) f
       (rw e (record { pairs_are = refl; root_is = refl; count_is = refl; halves = record { lower = tt; upper = tt }; left_lawful = (tt, tt); right_lawful = (tt, tt) }))
+
+  -- the value of a leaf, and what is in the slot, change places
+  pub insert_leaf : {len base : ℕ} (b : Box (LeafNode V) A) (m : LeafNode V) (old : Link V A) (n : ℕ) (p : Prefix) (given slot : Option V) (stored : V) → old ≡ Leaf len base b
+      → m ≡ b.value → IsLawfulTrie old → p ≡ m.prefix → given ≡ Some stored → slot ≡ Some m.value
+      → IsInserted old (Leaf len base (with_value b (record { prefix = m.prefix; value = stored }))) n n p given slot
+  insert_leaf {len} {base} b m old n p given slot stored e g h i same had =
+      let k = with_value b (record { prefix = m.prefix; value = stored }) in
+      let x = leaf_node b old m.prefix e (sym (ap (λ (y : LeafNode V). y.prefix) g)) in
+      let y : IsNode (Leaf len base k) m.prefix (Some stored) Empty Empty =
+      record { pairs_are = refl; root_is = refl; count_is = refl; halves = record { lower = tt; upper = tt }; left_lawful = (tt, tt); right_lawful = (tt, tt) } in
+      let put : IsPut old (Leaf len base k) m.prefix stored =
+      put_value old (Leaf len base k) m.prefix (Some b.value.value) stored Empty Empty x y (key_of_leaf b m old e g h.0, tt) in
+      record {
+        put = if_some_is given (IsPut old (Leaf len base k) p)
+            (λ v o. subst (λ z. IsPut old (Leaf len base k) z v) (sym i) (subst (IsPut old (Leaf len base k) m.prefix) (some_same (sym same ∙ o)) put));
+        had_is = had ∙ ap (λ (z : LeafNode V). Some z.value) g ∙ sym (get_own old m.prefix (Some b.value.value) Empty Empty x p i);
+        counted = omega (arith, x.count_is);
+      }
 
   pub leaf_absent : {len base : ℕ} (b : Box (LeafNode V) A) (old : Link V A) (q p : Prefix) → old ≡ Leaf len base b → b.value.prefix ≡ q
       → IsChild q false p ⊎ IsChild q true p → get (pairs old) p ≡ None

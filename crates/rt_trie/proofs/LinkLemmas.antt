@@ -18,7 +18,7 @@ use Rattle.rt_trie.specs.Map.{Pairs, same_prefix, get, first, next_after, before
 use Rattle.rt_trie.specs.Blocks.{IsKeyOf, IsWithin, IsChild, StandsAt, middle, past}
 use Rattle.rt_trie.specs.declared.nodes.Place.{Place}
 use Rattle.rt_trie.specs.declared.nodes.Place.TheVariants.{Here, Left, Right, Above, Apart}
-use Rattle.rt_trie.specs.Links.{own_pair, pairs, count, root, AreHalves, IsFilled, IsNeeded, IsLawfulBelow, IsLawfulTrie, IsForkOf}
+use Rattle.rt_trie.specs.Links.{own_pair, pairs, count, root, AreHalves, IsFilled, IsNeeded, IsLawfulBelow, IsLawfulTrie, IsForkOf, IsSeenFrom}
 use Rattle.rt_trie.proofs.OrderLemmas.{same_rank, same_tells, rank_of_before, rank_of_not_before}
 use Rattle.rt_cidr.proofs.Promised.{size_pos}
 use Rattle.rt_trie.proofs.NodeLemmas.{AreSides, get-lower, get-upper, get-here, get-past, IsOrdered-node, cover-lower, cover-upper, cover-none, after-lower, after-upper, after-all, after-past}
@@ -106,6 +106,25 @@ module _ {V A : Type 0} where
   pub key_of_full : {len base : ℕ} (b : Box (FullNode V A) A) (n : FullNode V A) (link : Link V A) → link ≡ Full len base b → n ≡ b.value → IsLawfulBelow link
       → IsKeyOf len base n.prefix
   key_of_full {len} {base} b n link e f h = let k : IsLawfulBelow (Full len base b) = subst IsLawfulBelow e h in rw f k.3
+
+  -- where a prefix stands, as seen from the link's two numbers, it stands as seen from the node
+  pub seen_from_leaf : {len base : ℕ} (b : Box (LeafNode V) A) (link : Link V A) (p : Prefix) (place : Place) → link ≡ Leaf len base b → IsLawfulBelow link
+      → ((q : Prefix) → IsKeyOf len base q → StandsAt q p place) → IsSeenFrom (Leaf len base b) base p place
+  seen_from_leaf b link p place e h s =
+      let k = key_of_leaf b b.value link e refl h in
+      record { node = b.value.prefix; root_is = refl; base_is = k.base_is; stands = s b.value.prefix k }
+
+  pub seen_from_fork : {len base : ℕ} (b : Box (ForkNode V A) A) (link : Link V A) (p : Prefix) (place : Place) → link ≡ Fork len base b → IsLawfulBelow link
+      → ((q : Prefix) → IsKeyOf len base q → StandsAt q p place) → IsSeenFrom (Fork len base b) base p place
+  seen_from_fork b link p place e h s =
+      let k = key_of_fork b b.value link e refl h in
+      record { node = b.value.prefix; root_is = refl; base_is = k.base_is; stands = s b.value.prefix k }
+
+  pub seen_from_full : {len base : ℕ} (b : Box (FullNode V A) A) (link : Link V A) (p : Prefix) (place : Place) → link ≡ Full len base b → IsLawfulBelow link
+      → ((q : Prefix) → IsKeyOf len base q → StandsAt q p place) → IsSeenFrom (Full len base b) base p place
+  seen_from_full b link p place e h s =
+      let k = key_of_full b b.value link e refl h in
+      record { node = b.value.prefix; root_is = refl; base_is = k.base_is; stands = s b.value.prefix k }
 
   pub sides_of : (link : Link V A) (q : Prefix) (v : Option V) (left right : Link V A) → IsNode link q v left right
       → AreSides q (pairs left) (pairs right)

@@ -7,7 +7,8 @@ use Rattle.rt_trie.specs.declared.nodes.LeafNode.{LeafNode}
 use Rattle.rt_trie.specs.declared.nodes.ForkNode.{ForkNode}
 use Rattle.rt_trie.specs.declared.nodes.FullNode.{FullNode}
 use Rattle.rt_trie.specs.Map.{Pairs}
-use Rattle.rt_trie.specs.Blocks.{IsChild, IsKeyOf}
+use Rattle.rt_trie.specs.declared.nodes.Place.{Place}
+use Rattle.rt_trie.specs.Blocks.{IsChild, IsKeyOf, StandsAt}
 
 -- a node's own pair, if it has a value
 abbrev pub own_pair : {V : Type 0} → Prefix → Option V → Pairs V
@@ -58,6 +59,13 @@ IsForkOf q Empty = ⊥
 IsForkOf q (Leaf len base b) = ⊥
 IsForkOf q (Fork' len base p prefix left right) = prefix ≡ q
 IsForkOf q (Full' len base p prefix v left right) = ⊥
+
+-- the link holds a node with this base, and p stands there as seen from it
+pub record IsSeenFrom {V A : Type 0} (link : Link V A) (base : ℕ) (p : Prefix) (place : Place) : Type 0 where
+  pub node : Prefix
+  pub root_is : root link ≡ Some node
+  pub base_is : base ≡ node.base
+  pub stands : StandsAt node p place
 
 -- the link holds a node
 abbrev pub IsFilled : {V A : Type 0} → Link V A → Type 0

@@ -7,7 +7,7 @@ ghost use Rattle.std.specs.Prelude.{◌≡◌, ◌≢◌, ℕ, ◌+◌, ◌/◌,
 ghost use Rattle.rt_trie.specs.declared.nodes.Link.TheVariants.{Empty};
 ghost use Rattle.rt_trie.specs.declared.nodes.Place.TheVariants.{Above, Apart};
 ghost use Rattle.rt_trie.specs.Blocks.{middle, IsChild, StandsAt, PartsAt};
-ghost use Rattle.rt_trie.specs.Links.{root, IsLawfulTrie, IsLeafOf, IsForkOf};
+ghost use Rattle.rt_trie.specs.Links.{IsLawfulTrie, IsLeafOf, IsForkOf, IsSeenFrom};
 ghost use Rattle.rt_trie.specs.Changes.{Inserts};
 
 use crate::nodes::{ForkNode, FullNode, LeafNode, Link, Place, middle, place_of};
@@ -31,39 +31,40 @@ pub(crate) fn insert<V: Drop, A: Allocator + Copy>(
 {
     match link {
         Link::Empty => plant(link, nodes, alloc, p, value),
-        Link::Leaf(_, _, leaf) => {
+        Link::Leaf(len, base, leaf) => {
+            let base = *base;
             let q = leaf.prefix;
-            match place_of(&q, &p) {
+            match place_of(*len, base, &p) {
                 Place::Here => {
                     exchange(&mut leaf.value, value);
                     true
                 }
                 Place::Left | Place::Right => grow(link, nodes, alloc, p, q, value),
-                Place::Above => cover(link, nodes, alloc, p, q, value),
-                Place::Apart => part(link, nodes, alloc, p, q, value),
+                Place::Above => cover(link, nodes, alloc, p, base, value),
+                Place::Apart => part(link, nodes, alloc, p, base, value),
             }
         }
-        Link::Fork(_, _, fork) => {
-            let q = fork.prefix;
-            match place_of(&q, &p) {
+        Link::Fork(len, base, fork) => {
+            let base = *base;
+            match place_of(*len, base, &p) {
                 Place::Here => fill(link, alloc, p, value),
                 Place::Left => insert(&mut fork.left, nodes, alloc, p, value),
                 Place::Right => insert(&mut fork.right, nodes, alloc, p, value),
-                Place::Above => cover(link, nodes, alloc, p, q, value),
-                Place::Apart => part(link, nodes, alloc, p, q, value),
+                Place::Above => cover(link, nodes, alloc, p, base, value),
+                Place::Apart => part(link, nodes, alloc, p, base, value),
             }
         }
-        Link::Full(_, _, full) => {
-            let q = full.prefix;
-            match place_of(&q, &p) {
+        Link::Full(len, base, full) => {
+            let base = *base;
+            match place_of(*len, base, &p) {
                 Place::Here => {
                     mem::swap(&mut full.value, value);
                     true
                 }
                 Place::Left => insert(&mut full.left, nodes, alloc, p, value),
                 Place::Right => insert(&mut full.right, nodes, alloc, p, value),
-                Place::Above => cover(link, nodes, alloc, p, q, value),
-                Place::Apart => part(link, nodes, alloc, p, q, value),
+                Place::Above => cover(link, nodes, alloc, p, base, value),
+                Place::Apart => part(link, nodes, alloc, p, base, value),
             }
         }
     }
@@ -246,19 +247,18 @@ fn fill<V: Drop, A: Allocator + Copy>(
     true
 }
 
-// A full node for p, with what was here on one of its sides.
+// A full node for p, with what was here, whose base this is, on one of its sides.
 #[inline(never)]
 fn cover<V: Drop, A: Allocator + Copy>(
     link: &mut Link<V, A>,
     nodes: &mut usize,
     alloc: A,
     p: Prefix,
-    q: Prefix,
+    base: u32,
     value: &mut Option<V>,
 ) -> bool
     requires lawful { IsLawfulTrie link.old }
-    requires root { root link.old ≡ Some q }
-    requires place { StandsAt q p Above }
+    requires seen { IsSeenFrom link.old base p Above }
     requires room { nodes.old + 2 < 2 ^ 64 }
     requires given { IsSome value.old }
     ensures { Inserts link.old link.new nodes.old nodes.new p value.old value.new result }
@@ -266,7 +266,7 @@ fn cover<V: Drop, A: Allocator + Copy>(
     let Some(mut full) = bare(alloc, p) else {
         return false;
     };
-    let (left, right) = on_side(&p, q.base(), mem::replace(link, Link::Empty));
+    let (left, right) = on_side(&p, base, mem::replace(link, Link::Empty));
     *full = FullNode {
         prefix: p,
         value: value.take(),
@@ -278,24 +278,23 @@ fn cover<V: Drop, A: Allocator + Copy>(
     true
 }
 
-// A fork where p and what was here part.
+// A fork where p and what was here, whose base this is, part.
 #[inline(never)]
 fn part<V: Drop, A: Allocator + Copy>(
     link: &mut Link<V, A>,
     nodes: &mut usize,
     alloc: A,
     p: Prefix,
-    q: Prefix,
+    base: u32,
     value: &mut Option<V>,
 ) -> bool
     requires lawful { IsLawfulTrie link.old }
-    requires root { root link.old ≡ Some q }
-    requires place { StandsAt q p Apart }
+    requires seen { IsSeenFrom link.old base p Apart }
     requires room { nodes.old + 2 < 2 ^ 64 }
     requires given { IsSome value.old }
     ensures { Inserts link.old link.new nodes.old nodes.new p value.old value.new result }
 {
-    let prefix = common(&p, &q);
+    let prefix = common(&p, base);
     let node = ForkNode {
         prefix,
         left: Link::Empty,
@@ -309,7 +308,7 @@ fn part<V: Drop, A: Allocator + Copy>(
     };
     let new = Link::of_leaf(new);
     let other = mem::replace(link, Link::Empty);
-    let (left, right) = if p.base() < q.base() {
+    let (left, right) = if p.base() < base {
         (new, other)
     } else {
         (other, new)
@@ -324,14 +323,14 @@ fn part<V: Drop, A: Allocator + Copy>(
     true
 }
 
-// The longest prefix that contains both of two that have no address in common.
-fn common(p: &Prefix, q: &Prefix) -> Prefix
-    requires { StandsAt q.now p.now Apart }
-    ensures { (p.now.base < q.now.base → PartsAt result p.now q.now) × (q.now.base ≤ p.now.base → PartsAt result q.now p.now) }
+// The longest prefix that contains both p and one with this base, which have no address in common.
+fn common(p: &Prefix, base: u32) -> Prefix
+    requires { (q : Prefix) × (base ≡ q.base) × StandsAt q p.now Apart }
+    ensures { (q : Prefix) → base ≡ q.base → StandsAt q p.now Apart
+        → (p.now.base < q.base → PartsAt result p.now q) × (q.base ≤ p.now.base → PartsAt result q p.now) }
 {
     let a = p.base();
-    let b = q.base();
-    let bit = highest_difference(a, b);
+    let bit = highest_difference(a, base);
     let base = (a as u64 >> (bit + 1)) << (bit + 1);
     let Ok(prefix) = Prefix::new(base as u32, 31 - bit) else {
         unreachable!()

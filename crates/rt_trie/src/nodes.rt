@@ -6,7 +6,7 @@ ghost use Rattle.rt_cidr.specs.Prefix.{covers, same_prefix};
 ghost use Rattle.rt_trie.specs.Blocks.{middle, IsKeyOf, StandsAt};
 ghost use Rattle.rt_trie.specs.Links.{leaf_link, fork_link, full_link, IsVacant};
 
-use rt_cidr::{Addr, Prefix};
+use rt_cidr::{Addr, Prefix, laws};
 use std::alloc::Allocator;
 
 /// A stored prefix with nothing below it.
@@ -145,19 +145,22 @@ pub(crate) fn in_upper_half(len: u8, address: u32) -> bool
     ((u64::from(address) << len) >> 31) % 2 == 1
 }
 
-/// Where p stands as seen from q.
-pub(crate) fn place_of(q: &Prefix, p: &Prefix) -> Place
-    ensures { StandsAt q.now p.now result }
+/// Where p stands as seen from the prefix of that length and base.
+#[inline(always)]
+pub(crate) fn place_of(len: u8, base: u32, p: &Prefix) -> Place
+    requires { len ≤ 32 }
+    ensures { (q : Prefix) → IsKeyOf len base q → StandsAt q p.now result }
 {
-    if q.len() < p.len() && q.covers(Addr(p.base())) {
-        if in_upper_half(q.len(), p.base()) {
+    if len < p.len() && covers(len, base, Addr(p.base())) {
+        if in_upper_half(len, p.base()) {
             Place::Right
         } else {
             Place::Left
         }
-    } else if q == p {
+    } else if is_key_of(len, base, p) {
+        laws::same_prefix();
         Place::Here
-    } else if p.contains(q) {
+    } else if p.len() <= len && p.covers(Addr(base)) {
         Place::Above
     } else {
         Place::Apart

@@ -33,23 +33,17 @@ pub(crate) fn remove<V: Drop, A: Allocator + Drop>(
                 None
             };
         }
-        Link::Fork(_, _, fork) => {
-            let q = fork.prefix;
-            match place_of(&q, &p) {
-                Place::Left => remove(&mut fork.left, nodes, p),
-                Place::Right => remove(&mut fork.right, nodes, p),
-                Place::Here | Place::Above | Place::Apart => return None,
-            }
-        }
-        Link::Full(_, _, full) => {
-            let q = full.prefix;
-            match place_of(&q, &p) {
-                Place::Here => full.value.take(),
-                Place::Left => remove(&mut full.left, nodes, p),
-                Place::Right => remove(&mut full.right, nodes, p),
-                Place::Above | Place::Apart => return None,
-            }
-        }
+        Link::Fork(len, base, fork) => match place_of(*len, *base, &p) {
+            Place::Left => remove(&mut fork.left, nodes, p),
+            Place::Right => remove(&mut fork.right, nodes, p),
+            Place::Here | Place::Above | Place::Apart => return None,
+        },
+        Link::Full(len, base, full) => match place_of(*len, *base, &p) {
+            Place::Here => full.value.take(),
+            Place::Left => remove(&mut full.left, nodes, p),
+            Place::Right => remove(&mut full.right, nodes, p),
+            Place::Above | Place::Apart => return None,
+        },
     };
     splice(link, nodes);
     gone

@@ -232,7 +232,7 @@ pub(crate) fn after<V, A: Allocator>(link: &Link<V, A>, p: Prefix) -> Option<Pre
         }
         Link::Fork(_, _, fork) => {
             let fork = fork.as_ref();
-            match place_of(&fork.prefix, &p) {
+            match place_of(fork.prefix.len(), fork.prefix.base(), &p) {
                 Place::Here | Place::Left => match after(&fork.left, p) {
                     None => first(&fork.right),
                     found => found,
@@ -243,7 +243,7 @@ pub(crate) fn after<V, A: Allocator>(link: &Link<V, A>, p: Prefix) -> Option<Pre
         }
         Link::Full(_, _, full) => {
             let full = full.as_ref();
-            match place_of(&full.prefix, &p) {
+            match place_of(full.prefix.len(), full.prefix.base(), &p) {
                 Place::Here | Place::Left => match after(&full.left, p) {
                     None => first(&full.right),
                     found => found,

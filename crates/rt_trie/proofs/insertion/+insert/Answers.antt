@@ -1,10 +1,9 @@
-use Rattle.std.proofs.Common.{◌≡◌, true, false, sym, subst, ◌∙◌}
-use Rattle.rt_trie.specs.declared.nodes.ForkNode.{ForkNode}
-use Rattle.rt_trie.specs.declared.nodes.FullNode.{FullNode}
-use Rattle.rt_trie.specs.Blocks.{IsChild}
+use Rattle.std.proofs.Common.{refl, sym, subst, inl, inr}
+use Rattle.rt_trie.specs.declared.nodes.Place.TheVariants.{Above, Apart}
+use Rattle.rt_trie.specs.Blocks.{StandsAt}
 use Rattle.rt_trie.specs.Changes.{Inserts}
-use Rattle.rt_trie.proofs.InsertLemmas.{insert_left, insert_right, insert_here}
-use Rattle.rt_trie.proofs.LinkLemmas.{view_fork, view_full}
+use Rattle.rt_trie.proofs.InsertLemmas.{insert_left, insert_right, insert_here, insert_leaf}
+use Rattle.rt_trie.proofs.LinkLemmas.{view_fork, view_full, key_of_leaf, key_of_fork, key_of_full, seen_from_leaf, seen_from_fork, seen_from_full}
 use Rattle.rt_trie.proofs.insertion.+insert.Goals as goal
 
 pub returns-in-Left-place_of : goal.returns-in-Left-place_of
@@ -12,7 +11,8 @@ returns-in-Left-place_of g t c =
     let d = c.deref_mut-in-Left-place_of in
     let m = d.result.now in
     let p = c.args.p in
-    let place = subst (λ (n : ForkNode _ _). IsChild n.prefix false p) (c.deref-in-Fork.ensures ∙ sym d.ensures.value) c.in-Left-place_of.ensures in
+    let key = key_of_fork c.in-Fork.fork m c.args.link.now c.in-Fork.is d.ensures.value c.requires.lawful.0 in
+    let place = c.in-Left-place_of.ensures m.prefix key in
     insert_left c.args.link.now m.prefix _ m.left m.right c.insert.new.link _ c.args.nodes.now _ p c.args.value.now _ c.insert.result
     (view_fork c.in-Fork.fork m c.args.link.now c.in-Fork.is d.ensures.value c.requires.lawful.0) c.requires.lawful place c.insert.ensures
 
@@ -21,7 +21,8 @@ returns-in-Right g t c =
     let d = c.deref_mut-in-Right in
     let m = d.result.now in
     let p = c.args.p in
-    let place = subst (λ (n : ForkNode _ _). IsChild n.prefix true p) (c.deref-in-Fork.ensures ∙ sym d.ensures.value) c.in-Right.ensures in
+    let key = key_of_fork c.in-Fork.fork m c.args.link.now c.in-Fork.is d.ensures.value c.requires.lawful.0 in
+    let place = c.in-Right.ensures m.prefix key in
     insert_right c.args.link.now m.prefix _ m.left m.right c.insert-in-Right.new.link _ c.args.nodes.now _ p c.args.value.now _ c.insert-in-Right.result
     (view_fork c.in-Fork.fork m c.args.link.now c.in-Fork.is d.ensures.value c.requires.lawful.0) c.requires.lawful place c.insert-in-Right.ensures
 
@@ -31,7 +32,8 @@ returns-in-Left-place_of-2 g t c =
     let m = d.result.now in
     let p = c.args.p in
     let k = c.insert-in-Left-place_of-2 in
-    let place = subst (λ (n : FullNode _ _). IsChild n.prefix false p) (c.deref-in-Full.ensures ∙ sym d.ensures.value) c.in-Left-place_of-2.ensures in
+    let key = key_of_full c.in-Full.full m c.args.link.now c.in-Full.is d.ensures.value c.requires.lawful.0 in
+    let place = c.in-Left-place_of-2.ensures m.prefix key in
     insert_left c.args.link.now m.prefix _ m.left m.right k.new.link _ c.args.nodes.now _ p c.args.value.now _ k.result
     (view_full c.in-Full.full m c.args.link.now c.in-Full.is d.ensures.value c.requires.lawful.0) c.requires.lawful place k.ensures
 
@@ -41,7 +43,8 @@ returns-in-Right-place_of g t c =
     let m = d.result.now in
     let p = c.args.p in
     let k = c.insert-in-Right-place_of in
-    let place = subst (λ (n : FullNode _ _). IsChild n.prefix true p) (c.deref-in-Full.ensures ∙ sym d.ensures.value) c.in-Right-place_of.ensures in
+    let key = key_of_full c.in-Full.full m c.args.link.now c.in-Full.is d.ensures.value c.requires.lawful.0 in
+    let place = c.in-Right-place_of.ensures m.prefix key in
     insert_right c.args.link.now m.prefix _ m.left m.right k.new.link _ c.args.nodes.now _ p c.args.value.now _ k.result
     (view_full c.in-Full.full m c.args.link.now c.in-Full.is d.ensures.value c.requires.lawful.0) c.requires.lawful place k.ensures
 
@@ -55,7 +58,50 @@ returns-in-Here-place_of-2 g t c =
     let d = c.deref_mut-in-Here-place_of-2 in
     let m = d.result.now in
     let p = c.args.p in
-    let place : p ≡ m.prefix =
-    subst (λ (n : FullNode _ _). p ≡ n.prefix) (c.deref-in-Full.ensures ∙ sym d.ensures.value) c.in-Here-place_of-2.ensures in
+    let place = c.in-Here-place_of-2.ensures m.prefix (key_of_full c.in-Full.full m c.args.link.now c.in-Full.is d.ensures.value c.requires.lawful.0) in
     insert_here c.in-Full.full m c.args.link.now c.args.nodes.now p c.args.value.now c.swap.new.x c.swap.new.y c.in-Full.is d.ensures.value
     c.requires.lawful place c.swap.ensures.x_after c.swap.ensures.y_after
+
+pub returns-in-Here : goal.returns-in-Here
+returns-in-Here g t c =
+    let d = c.deref_mut in
+    let m = d.result.now in
+    let place = c.in-Here.ensures m.prefix (key_of_leaf c.in-Leaf.leaf m c.args.link.now c.in-Leaf.is d.ensures.value c.requires.lawful.0) in
+    insert_leaf c.in-Leaf.leaf m c.args.link.now c.args.nodes.now c.args.p c.args.value.now c.exchange.new.value c.exchange.new.stored
+    c.in-Leaf.is d.ensures.value c.requires.lawful place c.exchange.ensures.stored c.exchange.ensures.had
+
+pub grow-requires-clause-below : goal.grow-requires-clause-below
+grow-requires-clause-below g t c =
+    let m = c.deref.result.now in
+    let p = c.args.p in
+    let place = c.place_of.ensures m.prefix (key_of_leaf c.in-Leaf.leaf m c.args.link.now c.in-Leaf.is c.deref.ensures c.requires.lawful.0) in
+    elim c.in-Left.is [ inl e ↦ inl (subst (StandsAt m.prefix p) e place) | inr e ↦ inr (subst (StandsAt m.prefix p) e place) ]
+
+pub cover-requires-clause-seen : goal.cover-requires-clause-seen
+cover-requires-clause-seen g t c =
+    seen_from_leaf c.in-Leaf.leaf c.args.link.now c.args.p Above c.in-Leaf.is c.requires.lawful.0 c.in-Above.ensures
+
+pub part-requires-clause-seen : goal.part-requires-clause-seen
+part-requires-clause-seen g t c =
+    seen_from_leaf c.in-Leaf.leaf c.args.link.now c.args.p Apart c.in-Leaf.is c.requires.lawful.0 c.in-Apart.ensures
+
+pub fill-requires-clause-fork : goal.fill-requires-clause-fork
+fill-requires-clause-fork g t c =
+    let f = c.in-Fork.fork in
+    sym (c.in-Here-place_of.ensures f.value.prefix (key_of_fork f f.value c.args.link.now c.in-Fork.is refl c.requires.lawful.0))
+
+pub cover-requires-in-Above-place_of-clause-seen : goal.cover-requires-in-Above-place_of-clause-seen
+cover-requires-in-Above-place_of-clause-seen g t c =
+    seen_from_fork c.in-Fork.fork c.args.link.now c.args.p Above c.in-Fork.is c.requires.lawful.0 c.in-Above-place_of.ensures
+
+pub part-requires-in-Apart-place_of-clause-seen : goal.part-requires-in-Apart-place_of-clause-seen
+part-requires-in-Apart-place_of-clause-seen g t c =
+    seen_from_fork c.in-Fork.fork c.args.link.now c.args.p Apart c.in-Fork.is c.requires.lawful.0 c.in-Apart-place_of.ensures
+
+pub cover-requires-in-Above-place_of-2-clause-seen : goal.cover-requires-in-Above-place_of-2-clause-seen
+cover-requires-in-Above-place_of-2-clause-seen g t c =
+    seen_from_full c.in-Full.full c.args.link.now c.args.p Above c.in-Full.is c.requires.lawful.0 c.in-Above-place_of-2.ensures
+
+pub part-requires-in-Apart-place_of-2-clause-seen : goal.part-requires-in-Apart-place_of-2-clause-seen
+part-requires-in-Apart-place_of-2-clause-seen g t c =
+    seen_from_full c.in-Full.full c.args.link.now c.args.p Apart c.in-Full.is c.requires.lawful.0 c.in-Apart-place_of-2.ensures

@@ -1,73 +1,70 @@
 use Rattle.std.proofs.Common.{◌≡◌, ◌<◌, true, subst, sym, ◌∙◌, inl, inr, arith}
-use Rattle.rt_trie.proofs.BlockLemmas.{longer_of, range_of_covers, outside_of_covers, contains_tells, lower_half, upper_half, ends_before, in_upper, not_upper}
+use Rattle.rt_trie.proofs.BlockLemmas.{longer_of, range_of_covers, outside_of_covers, lower_half, upper_half, ends_before, in_upper, not_upper}
 use Rattle.rt_trie.proofs.OrderLemmas.{same_tells}
 use Rattle.std.proofs.lemmas.Bool.{cases_lt, false≢true}
 use Rattle.rt_trie.specs.Blocks.{middle}
 use Rattle.rt_cidr.specs.Prefix.{covers}
 use Rattle.rt_trie.proofs.nodes.place_of.Goals as goal
-use Rattle.rt_trie.proofs.nodes.place_of.Goals.{else-len-via-then-len+else-covers, else-len-via-else-len}
-
-pub in_upper_half-requires : goal.in_upper_half-requires
-in_upper_half-requires c = let s = c.args.q.now.is_prefix.short in omega arith
+use Rattle.rt_trie.proofs.nodes.place_of.Goals.{else-len-via-then-len+else-covers, else-len-via-else-len, else-len-2-via-then-len-2+else-covers-2, else-len-2-via-else-len-2}
 
 pub returns-then-in_upper_half : goal.returns-then-in_upper_half
-returns-then-in_upper_half c =
-    let q = c.args.q.now in
+returns-then-in_upper_half c = λ q k.
     let p = c.args.p.now in
-    let r = range_of_covers q (record { 0 = c.base.result }) (sym c.if-covers.ensures) in
-    let e = sym c.len-then-covers.ensures in
-    let covered = subst (λ a. covers q (record { 0 = a }) ≡ true) (c.base.ensures ∙ sym c.base-then-covers.ensures) (sym c.if-covers.ensures) in
-    let m = in_upper q c.in_upper_half.result c.base-then-covers.result (c.in_upper_half.ensures.half q e covered)
-    (λ t. c.in_upper_half.ensures.none (sym e ∙ t)) c.if-in_upper_half.true in
-    record { long = omega arith; from = omega arith; to = upper_half q p (omega arith) (omega arith) }
+    let cover = sym (c.if-covers.ensures q k) in
+    let r = range_of_covers q (record { 0 = c.base.result }) cover in
+    let covered = subst (λ a. covers q (record { 0 = a }) ≡ true) (c.base.ensures ∙ sym c.base-then-covers.ensures) cover in
+    let m = in_upper q c.in_upper_half.result c.base-then-covers.result (c.in_upper_half.ensures.half q (sym k.len_is) covered)
+    (λ t. c.in_upper_half.ensures.none (k.len_is ∙ t)) c.if-in_upper_half.true in
+    record { long = omega (arith, k.len_is); from = omega arith; to = upper_half q p (omega (arith, k.len_is)) (omega arith) }
 
 pub returns-else-in_upper_half : goal.returns-else-in_upper_half
-returns-else-in_upper_half c =
-    let q = c.args.q.now in
+returns-else-in_upper_half c = λ q k.
     let p = c.args.p.now in
     let t = p.is_prefix.short in
-    let r = range_of_covers q (record { 0 = c.base.result }) (sym c.if-covers.ensures) in
-    let lt : q.len < 32 = omega arith in
-    let e = sym c.len-then-covers.ensures in
-    let covered = subst (λ a. covers q (record { 0 = a }) ≡ true) (c.base.ensures ∙ sym c.base-then-covers.ensures) (sym c.if-covers.ensures) in
+    let cover = sym (c.if-covers.ensures q k) in
+    let r = range_of_covers q (record { 0 = c.base.result }) cover in
+    let lt : q.len < 32 = omega (arith, k.len_is) in
+    let covered = subst (λ a. covers q (record { 0 = a }) ≡ true) (c.base.ensures ∙ sym c.base-then-covers.ensures) cover in
     let low : p.base < middle q = elim (cases_lt p.base (middle q)) [
       | inl l ↦ l
-      | inr ge ↦ absurd (not_upper q c.in_upper_half.result c.base-then-covers.result (c.in_upper_half.ensures.half q e covered) c.if-in_upper_half.false lt (omega arith))
+      | inr ge ↦ absurd (not_upper q c.in_upper_half.result c.base-then-covers.result
+          (c.in_upper_half.ensures.half q (sym k.len_is) covered) c.if-in_upper_half.false lt (omega arith))
     ] in
-    record { long = omega arith; from = omega arith; to = lower_half q p (omega arith) low }
+    record { long = omega (arith, k.len_is); from = omega arith; to = lower_half q p (omega (arith, k.len_is)) low }
 
-pub returns-then-contains : goal.returns-then-contains
-returns-then-contains c =
-    let q = c.args.q.now in
-    let p = c.args.p.now in
-    elim (contains_tells p q) [
-      | inl r ↦ elim (same_tells q p) [
-        | inl e ↦ absurd (false≢true (sym (sym e.0 ∙ sym c.if-eq.ensures)))
-        | inr n ↦
-            let longer : p.len < q.len = longer_of p q (r.1, r.2, r.3) n.1 in
-            record { long = omega arith; from = r.2; to = upper_half p q longer r.3 }
-      ]
-      | inr r ↦ absurd (false≢true (sym (c.if-contains.ensures ∙ r.0)))
+pub returns-then-is_key_of : goal.returns-then-is_key_of
+returns-then-is_key_of c = λ q k.
+    elim (same_tells q c.args.p.now) [
+      | inl e ↦ c.same_prefix.ensures c.args.p.now q (sym e.1) (sym e.2)
+      | inr n ↦ absurd (false≢true (sym n.0 ∙ sym (c.if-is_key_of.ensures q k)))
     ]
 
-pub returns-else-contains : goal.returns-else-contains
-returns-else-contains c =
-    let q = c.args.q.now in
+pub returns-then-covers-2 : goal.returns-then-covers-2
+returns-then-covers-2 c = λ q k.
+    let p = c.args.p.now in
+    let r = range_of_covers p (record { 0 = c.args.base }) (sym c.if-covers-2.ensures) in
+    elim (same_tells q p) [
+      | inl e ↦ absurd (false≢true (c.if-is_key_of.ensures q k ∙ e.0))
+      | inr n ↦
+          let longer : p.len < q.len = longer_of p q (omega (arith, k.len_is), omega (arith, k.base_is), omega (arith, k.base_is)) n.1 in
+          record { long = omega arith; from = omega (arith, k.base_is); to = upper_half p q longer (omega (arith, k.base_is)) }
+    ]
+
+pub returns-else-len-2 : goal.returns-else-len-2
+returns-else-len-2 c = λ q k.
     let p = c.args.p.now in
     elim c.else-len.branch [
       | else-len-via-then-len+else-covers w ↦
-          elim (outside_of_covers q (record { 0 = w.base.result }) (sym w.if-covers.ensures)) [
-            | inl lt ↦ inr (ends_before q p (omega arith) (omega arith))
+          elim (outside_of_covers q (record { 0 = w.base.result }) (sym (w.if-covers.ensures q k))) [
+            | inl lt ↦ inr (ends_before q p (omega (arith, k.len_is)) (omega arith))
             | inr ge ↦ inl (omega arith)
           ]
-      | else-len-via-else-len w ↦ elim (contains_tells p q) [
-        | inl r ↦ absurd (false≢true (c.if-contains.ensures ∙ r.0))
-        | inr r ↦ elim r.1 [
-          | inl short ↦ absurd (omega arith)
-          | inr out ↦ elim out [
-            | inl lt ↦ inl (ends_before p q (omega arith) lt)
-            | inr ge ↦ inr ge
-          ]
-        ]
+      | else-len-via-else-len w ↦ elim c.else-len-2.branch [
+        | else-len-2-via-then-len-2+else-covers-2 x ↦
+            elim (outside_of_covers p (record { 0 = c.args.base }) (sym x.if-covers-2.ensures)) [
+              | inl lt ↦ inl (ends_before p q (omega (arith, k.len_is)) (omega (arith, k.base_is)))
+              | inr ge ↦ inr (omega (arith, k.base_is))
+            ]
+        | else-len-2-via-else-len-2 x ↦ absurd (omega arith)
       ]
     ]
