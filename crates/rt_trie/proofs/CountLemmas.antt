@@ -40,12 +40,12 @@ module _ {V A : Type 0} where
   count_fits (Leaf i j b) len h on =
       let s = b.value.prefix.is_prefix.short in
       omega (arith, room_halves len (omega arith), pow_pos (33 - (len + 1)))
-  count_fits (Fork' i j p q left right) len h on =
+  count_fits (Fork' i j p left right q) len h on =
       let s = q.is_prefix.short in
       let l = count_fits left (q.len + 1) h.1.0 (long_root (root left) _ _ (q.len + 1) h.0.lower) in
       let r = count_fits right (q.len + 1) h.2.0 (long_root (root right) _ _ (q.len + 1) h.0.upper) in
       omega (arith, room_halves q.len s, room_mono len q.len on)
-  count_fits (Full' i j p q v left right) len h on =
+  count_fits (Full' i j p left right q v) len h on =
       let s = q.is_prefix.short in
       let l = count_fits left (q.len + 1) h.1.0 (long_root (root left) _ _ (q.len + 1) h.0.lower) in
       let r = count_fits right (q.len + 1) h.2.0 (long_root (root right) _ _ (q.len + 1) h.0.upper) in
@@ -63,9 +63,9 @@ module _ {V A : Type 0} where
   pub pairs_few : (link : Link V A) → length (pairs link) ≤ count link
   pairs_few Empty = omega arith
   pairs_few (Leaf i j b) = omega arith
-  pairs_few (Fork' i j p q left right) = omega (arith, pairs_few left, pairs_few right, length-append (pairs left) (pairs right))
-  pairs_few (Full' i j p q None left right) = omega (arith, pairs_few left, pairs_few right, length-append (pairs left) (pairs right))
-  pairs_few (Full' i j p q (Some v) left right) = omega (arith, pairs_few left, pairs_few right, length-append (pairs left) (pairs right))
+  pairs_few (Fork' i j p left right q) = omega (arith, pairs_few left, pairs_few right, length-append (pairs left) (pairs right))
+  pairs_few (Full' i j p left right q None) = omega (arith, pairs_few left, pairs_few right, length-append (pairs left) (pairs right))
+  pairs_few (Full' i j p left right q (Some v)) = omega (arith, pairs_few left, pairs_few right, length-append (pairs left) (pairs right))
 
   filled_pairs : (link : Link V A) → IsLawfulTrie link → IsFilled link → 1 ≤ length (pairs link)
   filled_pairs link h f = let i = filled_first link h f in first_some (pairs link) i.0 i.1
@@ -74,7 +74,7 @@ module _ {V A : Type 0} where
   pub nodes_few : (link : Link V A) → IsLawfulTrie link → count link ≤ 2 * length (pairs link) - 1
   nodes_few Empty h = omega arith
   nodes_few (Leaf i j b) h = omega arith
-  nodes_few (Fork' i j p q left right) h =
+  nodes_few (Fork' i j p left right q) h =
       omega (
         arith,
         nodes_few left h.0.1,
@@ -83,7 +83,7 @@ module _ {V A : Type 0} where
         filled_pairs right h.0.2 h.1.1,
         length-append (pairs left) (pairs right),
       )
-  nodes_few (Full' i j p q None left right) h =
+  nodes_few (Full' i j p left right q None) h =
       omega (
         arith,
         nodes_few left h.0.1,
@@ -92,7 +92,7 @@ module _ {V A : Type 0} where
         filled_pairs right h.0.2 h.1.1,
         length-append (pairs left) (pairs right),
       )
-  nodes_few (Full' i j p q (Some v) left right) h =
+  nodes_few (Full' i j p left right q (Some v)) h =
       omega (arith, nodes_few left h.0.1, nodes_few right h.0.2, length-append (pairs left) (pairs right))
 
 module _ {V : Type 0} where

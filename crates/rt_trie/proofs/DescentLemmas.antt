@@ -125,11 +125,11 @@ module _ {V A : Type 0} where
   pub found_get : (d : ℕ) (link : Link V A) (p : Prefix) → IsLawfulTrie link → IsDeep d link → found d link p ≡ get (pairs link) p
   found_get zero Empty p h deep = refl
   found_get zero (Leaf i j b) p h deep = let s = b.value.prefix.is_prefix.short in absurd (omega arith)
-  found_get zero (Fork' i j x q left right) p h deep = let s = q.is_prefix.short in absurd (omega arith)
-  found_get zero (Full' i j x q v left right) p h deep = let s = q.is_prefix.short in absurd (omega arith)
+  found_get zero (Fork' i j x left right q) p h deep = let s = q.is_prefix.short in absurd (omega arith)
+  found_get zero (Full' i j x left right q v) p h deep = let s = q.is_prefix.short in absurd (omega arith)
   found_get (suc d) Empty p h deep = refl
   found_get (suc d) (Leaf i j b) p h deep = refl
-  found_get (suc d) (Fork' i j x q left right) p h deep =
+  found_get (suc d) (Fork' i j x left right q) p h deep =
       let s = sides_at q left right h.0.0 h.0.1 h.0.2 in
       let l = found_get d left p h.0.1 (deep_lower d q left deep h.0.0.lower) in
       let r = found_get d right p h.0.2 (deep_upper d q right deep h.0.0.upper) in
@@ -143,7 +143,7 @@ module _ {V A : Type 0} where
           | inr hi ↦ rw (gt.0, hi.0) (r ∙ sym (get-upper q None (pairs left) (pairs right) s p gt.1 (omega arith)))
         ]
       ]
-  found_get (suc d) (Full' i j x q v left right) p h deep =
+  found_get (suc d) (Full' i j x left right q v) p h deep =
       let s = sides_at q left right h.0.0 h.0.1 h.0.2 in
       let l = found_get d left p h.0.1 (deep_lower d q left deep h.0.0.lower) in
       let r = found_get d right p h.0.2 (deep_upper d q right deep h.0.0.upper) in
@@ -178,8 +178,8 @@ module _ {V A : Type 0} where
   kept_filled : (l l' : Link V A) → IsKept l l' → IsFilled l → IsFilled l'
   kept_filled l l' i f = rw i.root_is f
 
-  kept_fork : (len base : ℕ) (x : _) (q : Prefix) (l r l' r' : Link V A) → IsLawfulTrie (Fork' len base x q l r) → IsKept l l' → IsKept r r'
-      → IsKept (Fork' len base x q l r) (Fork' len base x q l' r')
+  kept_fork : (len base : ℕ) (x : _) (q : Prefix) (l r l' r' : Link V A) → IsLawfulTrie (Fork' len base x l r q) → IsKept l l' → IsKept r r'
+      → IsKept (Fork' len base x l r q) (Fork' len base x l' r' q)
   kept_fork len base x q l r l' r' h i j = record {
     root_is = refl;
     count_is = omega (arith, i.count_is, j.count_is);
@@ -187,8 +187,8 @@ module _ {V A : Type 0} where
     len_is = omega (arith, i.len_is, j.len_is, length-append (pairs l) (pairs r), length-append (pairs l') (pairs r'));
   }
 
-  kept_full : (len base : ℕ) (x : _) (q : Prefix) (v v' : Option V) (l r l' r' : Link V A) → IsLawfulTrie (Full' len base x q v l r) → (v' ≡ None → v ≡ None)
-      → length (own_pair q v') ≡ length (own_pair q v) → IsKept l l' → IsKept r r' → IsKept (Full' len base x q v l r) (Full' len base x q v' l' r')
+  kept_full : (len base : ℕ) (x : _) (q : Prefix) (v v' : Option V) (l r l' r' : Link V A) → IsLawfulTrie (Full' len base x l r q v) → (v' ≡ None → v ≡ None)
+      → length (own_pair q v') ≡ length (own_pair q v) → IsKept l l' → IsKept r r' → IsKept (Full' len base x l r q v) (Full' len base x l' r' q v')
   kept_full len base x q v v' l r l' r' h n e i j = record {
     root_is = refl;
     count_is = omega (arith, i.count_is, j.count_is);
@@ -215,14 +215,14 @@ module _ {V A : Type 0} where
   written_kept zero link p w h = kept_same link h
   written_kept (suc d) Empty p w h = kept_same Empty h
   written_kept (suc d) (Leaf i j b) p w h = record { root_is = refl; count_is = refl; lawful = h; len_is = refl }
-  written_kept (suc d) (Fork' i j x q left right) p w h =
+  written_kept (suc d) (Fork' i j x left right q) p w h =
       let l = written_kept d left p w h.0.1 in
       let r = written_kept d right p w h.0.2 in
       let low = leb (suc p.base) (middle q) in
       kept_fork i j x q left right _ _ h
       (kept_cond (leb p.len q.len) left left _ (kept_same left h.0.1) (kept_cond low left (written d left p w) left l (kept_same left h.0.1)))
       (kept_cond (leb p.len q.len) right right _ (kept_same right h.0.2) (kept_cond low right right (written d right p w) (kept_same right h.0.2) r))
-  written_kept (suc d) (Full' i j x q v left right) p w h =
+  written_kept (suc d) (Full' i j x left right q v) p w h =
       let l = written_kept d left p w h.0.1 in
       let r = written_kept d right p w h.0.2 in
       let low = leb (suc p.base) (middle q) in
@@ -235,11 +235,11 @@ module _ {V A : Type 0} where
       → pairs (written d link p w) ≡ set_value (pairs link) p w
   written_pairs zero Empty p w h deep = refl
   written_pairs zero (Leaf i j b) p w h deep = let s = b.value.prefix.is_prefix.short in absurd (omega arith)
-  written_pairs zero (Fork' i j x q left right) p w h deep = let s = q.is_prefix.short in absurd (omega arith)
-  written_pairs zero (Full' i j x q v left right) p w h deep = let s = q.is_prefix.short in absurd (omega arith)
+  written_pairs zero (Fork' i j x left right q) p w h deep = let s = q.is_prefix.short in absurd (omega arith)
+  written_pairs zero (Full' i j x left right q v) p w h deep = let s = q.is_prefix.short in absurd (omega arith)
   written_pairs (suc d) Empty p w h deep = refl
   written_pairs (suc d) (Leaf i j b) p w h deep = refl
-  written_pairs (suc d) (Fork' i j x q left right) p w h deep =
+  written_pairs (suc d) (Fork' i j x left right q) p w h deep =
       let s = sides_at q left right h.0.0 h.0.1 h.0.2 in
       let l = written_pairs d left p w h.0.1 (deep_lower d q left deep h.0.0.lower) in
       let r = written_pairs d right p w h.0.2 (deep_upper d q right deep h.0.0.upper) in
@@ -251,7 +251,7 @@ module _ {V A : Type 0} where
               ∙ sym (set_upper q None (pairs left) (pairs right) s p w (omega arith)))
         ]
       ]
-  written_pairs (suc d) (Full' i j x q v left right) p w h deep =
+  written_pairs (suc d) (Full' i j x left right q v) p w h deep =
       let s = sides_at q left right h.0.0 h.0.1 h.0.2 in
       let l = written_pairs d left p w h.0.1 (deep_lower d q left deep h.0.0.lower) in
       let r = written_pairs d right p w h.0.2 (deep_upper d q right deep h.0.0.upper) in

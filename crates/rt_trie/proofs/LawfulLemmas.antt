@@ -33,14 +33,14 @@ module _ {V A : Type 0} where
   to_bits : (link : Link V A) → IsLawfulTrie link → IsLawfulByBits link
   to_bits Empty h = tt
   to_bits (Leaf i j b) h = h.0
-  to_bits (Fork' i j p q left right) h = (node_to_bits q None left right h.0.0 h.1, to_bits left h.0.1, to_bits right h.0.2, h.0.3)
-  to_bits (Full' i j p q v left right) h = (node_to_bits q v left right h.0.0 h.1, to_bits left h.0.1, to_bits right h.0.2, h.0.3)
+  to_bits (Fork' i j p left right q) h = (node_to_bits q None left right h.0.0 h.1, to_bits left h.0.1, to_bits right h.0.2, h.0.3)
+  to_bits (Full' i j p left right q v) h = (node_to_bits q v left right h.0.0 h.1, to_bits left h.0.1, to_bits right h.0.2, h.0.3)
 
   of_bits : (link : Link V A) → IsLawfulByBits link → IsLawfulTrie link
   of_bits Empty h = (tt, tt)
   of_bits (Leaf i j b) h = (h, tt)
-  of_bits (Fork' i j p q left right) h = ((halves_of_bits q None left right h.0, of_bits left h.1, of_bits right h.2, h.3), h.0.needed)
-  of_bits (Full' i j p q v left right) h = ((halves_of_bits q v left right h.0, of_bits left h.1, of_bits right h.2, h.3), h.0.needed)
+  of_bits (Fork' i j p left right q) h = ((halves_of_bits q None left right h.0, of_bits left h.1, of_bits right h.2, h.3), h.0.needed)
+  of_bits (Full' i j p left right q v) h = ((halves_of_bits q v left right h.0, of_bits left h.1, of_bits right h.2, h.3), h.0.needed)
 
   pub lawful_by_bits : (link : Link V A) → IsLawfulTrie link ↔ IsLawfulByBits link
   lawful_by_bits link = (to_bits link, of_bits link)

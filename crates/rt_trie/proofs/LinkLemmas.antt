@@ -62,11 +62,11 @@ module _ {V A : Type 0} where
   pub pairs_within : (link : Link V A) (lo hi len : ℕ) → IsLawfulBelow link → IsOn lo hi len link → AllWithin lo hi len (pairs link)
   pairs_within Empty lo hi len h on = tt
   pairs_within (Leaf i j b) lo hi len h on = (on, tt)
-  pairs_within (Fork' i j p q left right) lo hi len h on =
+  pairs_within (Fork' i j p left right q) lo hi len h on =
       node_within lo hi len q None (pairs left) (pairs right) on
       (pairs_within left q.base (middle q) (q.len + 1) h.1.0 h.0.lower)
       (pairs_within right (middle q) (past q) (q.len + 1) h.2.0 h.0.upper)
-  pairs_within (Full' i j p q v left right) lo hi len h on =
+  pairs_within (Full' i j p left right q v) lo hi len h on =
       node_within lo hi len q v (pairs left) (pairs right) on
       (pairs_within left q.base (middle q) (q.len + 1) h.1.0 h.0.lower)
       (pairs_within right (middle q) (past q) (q.len + 1) h.2.0 h.0.upper)
@@ -165,13 +165,13 @@ module _ {V A : Type 0} where
   pub pairs_ordered : (link : Link V A) → IsLawfulBelow link → IsOrdered (pairs link)
   pairs_ordered Empty h = tt
   pairs_ordered (Leaf i j b) h = (tt, tt)
-  pairs_ordered (Fork' i j p q left right) h =
+  pairs_ordered (Fork' i j p left right q) h =
       let s : AreSides q (pairs left) (pairs right) = record {
         lower = pairs_within left q.base (middle q) (q.len + 1) h.1.0 h.0.lower;
         upper = pairs_within right (middle q) (past q) (q.len + 1) h.2.0 h.0.upper;
       } in
       IsOrdered-node q None (pairs left) (pairs right) s (pairs_ordered left h.1.0) (pairs_ordered right h.2.0)
-  pairs_ordered (Full' i j p q v left right) h =
+  pairs_ordered (Full' i j p left right q v) h =
       let s : AreSides q (pairs left) (pairs right) = record {
         lower = pairs_within left q.base (middle q) (q.len + 1) h.1.0 h.0.lower;
         upper = pairs_within right (middle q) (past q) (q.len + 1) h.2.0 h.0.upper;
@@ -284,11 +284,11 @@ module _ {V A : Type 0} where
   pub filled_first : (link : Link V A) → IsLawfulTrie link → IsFilled link → (p : Prefix) × (first (pairs link) ≡ Some p)
   filled_first Empty h f = absurd (false≢true f)
   filled_first (Leaf i j b) h f = (b.value.prefix, refl)
-  filled_first (Fork' i j p q left right) h f =
+  filled_first (Fork' i j p left right q) h f =
       let i = filled_first left h.0.1 h.1.0 in
       (i.0, first-append (pairs left) (pairs right) ∙ ap (λ o. or_else o (first (pairs right))) i.1)
-  filled_first (Full' i j p q (Some v) left right) h f = (q, refl)
-  filled_first (Full' i j p q None left right) h f =
+  filled_first (Full' i j p left right q (Some v)) h f = (q, refl)
+  filled_first (Full' i j p left right q None) h f =
       let i = filled_first left h.0.1 h.1.0 in
       (i.0, first-append (pairs left) (pairs right) ∙ ap (λ o. or_else o (first (pairs right))) i.1)
 
@@ -360,8 +360,8 @@ module _ {V A : Type 0} where
 pub fork_absent : {V A : Type 0} (link : Link V A) (p : Prefix) → IsLawfulTrie link → IsForkOf p link → get (pairs link) p ≡ None
 fork_absent Empty p h f = refl
 fork_absent (Leaf i j b) p h f = absurd f
-fork_absent (Fork' i j q prefix left right) p h f =
-    let n : IsNode (Fork' i j q prefix left right) prefix None left right = record {
+fork_absent (Fork' i j q left right prefix) p h f =
+    let n : IsNode (Fork' i j q left right prefix) prefix None left right = record {
       pairs_are = refl;
       root_is = refl;
       count_is = refl;
@@ -369,8 +369,8 @@ fork_absent (Fork' i j q prefix left right) p h f =
       left_lawful = h.0.1;
       right_lawful = h.0.2;
     } in
-    node_get-unstored (Fork' i j q prefix left right) prefix left right n p (omega (arith, ap (λ (x : Prefix). x.len) f))
-fork_absent (Full' i j q prefix v left right) p h f = absurd f
+    node_get-unstored (Fork' i j q left right prefix) prefix left right n p (omega (arith, ap (λ (x : Prefix). x.len) f))
+fork_absent (Full' i j q left right prefix v) p h f = absurd f
 
 -- what holds of what an option holds, where it holds something
 pub if_some_map : {X : Type 0} (o : Option X) (P Q : X → Type 0) → ((x : X) → P x → Q x) → IfSome o P → IfSome o Q

@@ -193,26 +193,26 @@ none_each c = (λ s. absurd (false≢true s), λ n. elim n [ inl s ↦ absurd (f
 abbrev nodes_of : {V A : Type 0} → Link V A → Pairs (Unit {0})
 nodes_of Empty = []
 nodes_of (Leaf i j b) = own_pair b.value.prefix (Some tt)
-nodes_of (Fork' i j p q left right) = own_pair q (Some tt) ++ (nodes_of left ++ nodes_of right)
-nodes_of (Full' i j p q v left right) = own_pair q (Some tt) ++ (nodes_of left ++ nodes_of right)
+nodes_of (Fork' i j p left right q) = own_pair q (Some tt) ++ (nodes_of left ++ nodes_of right)
+nodes_of (Full' i j p left right q v) = own_pair q (Some tt) ++ (nodes_of left ++ nodes_of right)
 
 module _ {V A : Type 0} where
   nodes_count : (link : Link V A) → length (nodes_of link) ≡ count link
   nodes_count Empty = refl
   nodes_count (Leaf i j b) = refl
-  nodes_count (Fork' i j p q left right) =
+  nodes_count (Fork' i j p left right q) =
       omega (arith, nodes_count left, nodes_count right, length-append (nodes_of left) (nodes_of right))
-  nodes_count (Full' i j p q v left right) =
+  nodes_count (Full' i j p left right q v) =
       omega (arith, nodes_count left, nodes_count right, length-append (nodes_of left) (nodes_of right))
 
   nodes_within : (link : Link V A) (lo hi len : ℕ) → IsLawfulBelow link → IsOn lo hi len link → AllWithin lo hi len (nodes_of link)
   nodes_within Empty lo hi len h on = tt
   nodes_within (Leaf i j b) lo hi len h on = (on, tt)
-  nodes_within (Fork' i j p q left right) lo hi len h on =
+  nodes_within (Fork' i j p left right q) lo hi len h on =
       node_within lo hi len q (Some tt) (nodes_of left) (nodes_of right) on
       (nodes_within left q.base (middle q) (q.len + 1) h.1.0 h.0.lower)
       (nodes_within right (middle q) (past q) (q.len + 1) h.2.0 h.0.upper)
-  nodes_within (Full' i j p q v left right) lo hi len h on =
+  nodes_within (Full' i j p left right q v) lo hi len h on =
       node_within lo hi len q (Some tt) (nodes_of left) (nodes_of right) on
       (nodes_within left q.base (middle q) (q.len + 1) h.1.0 h.0.lower)
       (nodes_within right (middle q) (past q) (q.len + 1) h.2.0 h.0.upper)
@@ -220,13 +220,13 @@ module _ {V A : Type 0} where
   nodes_ordered : (link : Link V A) → IsLawfulBelow link → IsOrdered (nodes_of link)
   nodes_ordered Empty h = tt
   nodes_ordered (Leaf i j b) h = (tt, tt)
-  nodes_ordered (Fork' i j p q left right) h =
+  nodes_ordered (Fork' i j p left right q) h =
       let s : AreSides q (nodes_of left) (nodes_of right) = record {
         lower = nodes_within left q.base (middle q) (q.len + 1) h.1.0 h.0.lower;
         upper = nodes_within right (middle q) (past q) (q.len + 1) h.2.0 h.0.upper;
       } in
       IsOrdered-node q (Some tt) (nodes_of left) (nodes_of right) s (nodes_ordered left h.1.0) (nodes_ordered right h.2.0)
-  nodes_ordered (Full' i j p q v left right) h =
+  nodes_ordered (Full' i j p left right q v) h =
       let s : AreSides q (nodes_of left) (nodes_of right) = record {
         lower = nodes_within left q.base (middle q) (q.len + 1) h.1.0 h.0.lower;
         upper = nodes_within right (middle q) (past q) (q.len + 1) h.2.0 h.0.upper;
@@ -263,9 +263,9 @@ module _ {V A : Type 0} where
   nodes_each (Leaf i j b) h c =
       sides_each b.value.prefix (Some b.value.value) Empty Empty (record { lower = tt; upper = tt }) (tt, tt) (tt, tt) tt
       (none_each {V = V}) (none_each {V = V}) c
-  nodes_each (Fork' i j p q left right) h c =
+  nodes_each (Fork' i j p left right q) h c =
       sides_each q None left right h.0.0 h.0.1 h.0.2 h.1 (nodes_each left h.0.1) (nodes_each right h.0.2) c
-  nodes_each (Full' i j p q v left right) h c =
+  nodes_each (Full' i j p left right q v) h c =
       sides_each q v left right h.0.0 h.0.1 h.0.2 h.1 (nodes_each left h.0.1) (nodes_each right h.0.2) c
 
   -- the count of a lawful link's nodes

@@ -187,5 +187,5 @@ module _ {V A : Type 0} where
       let s : same_prefix b.value.prefix p ≡ true =
       same_rank b.value.prefix p (ap (λ (x : Prefix). x.base) h) (ap (λ (x : Prefix). x.len) h) in
       rw e (record { pairs_are = rw s refl; lawful = (tt, tt); stays = λ parent upper k. tt })
-  erased_leaf (Fork' i j x q left right) new p h e = absurd h
-  erased_leaf (Full' i j x q v left right) new p h e = absurd h
+  erased_leaf (Fork' i j x left right q) new p h e = absurd h
+  erased_leaf (Full' i j x left right q v) new p h e = absurd h

@@ -10,9 +10,9 @@ abbrev pub found : {V A : Type 0} → ℕ → Link V A → Prefix → Option V
 found zero link p = None
 found (suc d) Empty p = None
 found (suc d) (Leaf len base b) p = if same_prefix b.value.prefix p then Some b.value.value else None
-found (suc d) (Fork' len base x q left right) p =
+found (suc d) (Fork' len base x left right q) p =
     if nat_le p.len q.len then None else (if nat_lt p.base (middle q) then found d left p else found d right p)
-found (suc d) (Full' len base x q v left right) p =
+found (suc d) (Full' len base x left right q v) p =
     if nat_le p.len q.len then (if same_prefix q p then v else None) else (if nat_lt p.base (middle q) then found d left p else found d right p)
 
 -- w in the place of the value, if there is one
@@ -25,10 +25,10 @@ abbrev pub written : {V A : Type 0} → ℕ → Link V A → Prefix → V → Li
 written zero link p w = link
 written (suc d) Empty p w = Empty
 written (suc d) (Leaf len base b) p w = Leaf len base (record b { value = record b.value { value = if same_prefix b.value.prefix p then w else b.value.value } })
-written (suc d) (Fork' len base x q left right) p w =
-    Fork' len base x q (if nat_le p.len q.len then left else (if nat_lt p.base (middle q) then written d left p w else left))
-    (if nat_le p.len q.len then right else (if nat_lt p.base (middle q) then right else written d right p w))
-written (suc d) (Full' len base x q v left right) p w =
-    Full' len base x q (if nat_le p.len q.len then (if same_prefix q p then overwritten v w else v) else v)
-    (if nat_le p.len q.len then left else (if nat_lt p.base (middle q) then written d left p w else left))
-    (if nat_le p.len q.len then right else (if nat_lt p.base (middle q) then right else written d right p w))
+written (suc d) (Fork' len base x left right q) p w =
+    Fork' len base x (if nat_le p.len q.len then left else (if nat_lt p.base (middle q) then written d left p w else left))
+    (if nat_le p.len q.len then right else (if nat_lt p.base (middle q) then right else written d right p w)) q
+written (suc d) (Full' len base x left right q v) p w =
+    Full' len base x (if nat_le p.len q.len then left else (if nat_lt p.base (middle q) then written d left p w else left))
+    (if nat_le p.len q.len then right else (if nat_lt p.base (middle q) then right else written d right p w)) q
+    (if nat_le p.len q.len then (if same_prefix q p then overwritten v w else v) else v)

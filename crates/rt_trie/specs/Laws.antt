@@ -72,8 +72,8 @@ pub record IsLawfulNode {V A : Type 0} (q : Prefix) (v : Option V) (left right :
 abbrev pub IsLawfulByBits : {V A : Type 0} → Link V A → Type 0
 IsLawfulByBits Empty = Unit {0}
 IsLawfulByBits (Leaf len base b) = IsKeyOf len base b.value.prefix
-IsLawfulByBits (Fork' len base p q left right) = IsLawfulNode q None left right × IsLawfulByBits left × IsLawfulByBits right × IsKeyOf len base q
-IsLawfulByBits (Full' len base p q v left right) = IsLawfulNode q v left right × IsLawfulByBits left × IsLawfulByBits right × IsKeyOf len base q
+IsLawfulByBits (Fork' len base p left right q) = IsLawfulNode q None left right × IsLawfulByBits left × IsLawfulByBits right × IsKeyOf len base q
+IsLawfulByBits (Full' len base p left right q v) = IsLawfulNode q v left right × IsLawfulByBits left × IsLawfulByBits right × IsKeyOf len base q
 
 abbrev pub LawfulByBits : Type 0 → Type 0 → Type 0
 LawfulByBits V A = (link : Link V A) → IsLawfulTrie link ↔ IsLawfulByBits link

@@ -19,22 +19,22 @@ own_pair q (Some v) = (q, v) ∷ []
 abbrev pub pairs : {V A : Type 0} → Link V A → Pairs V
 pairs Empty = []
 pairs (Leaf len base b) = own_pair b.value.prefix (Some b.value.value)
-pairs (Fork' len base p q left right) = pairs left ++ pairs right
-pairs (Full' len base p q v left right) = own_pair q v ++ (pairs left ++ pairs right)
+pairs (Fork' len base p left right q) = pairs left ++ pairs right
+pairs (Full' len base p left right q v) = own_pair q v ++ (pairs left ++ pairs right)
 
 -- how many nodes
 abbrev pub count : {V A : Type 0} → Link V A → ℕ
 count Empty = 0
 count (Leaf len base b) = 1
-count (Fork' len base p q left right) = count left + count right + 1
-count (Full' len base p q v left right) = count left + count right + 1
+count (Fork' len base p left right q) = count left + count right + 1
+count (Full' len base p left right q v) = count left + count right + 1
 
 -- the prefix of the node that the link holds
 abbrev pub root : {V A : Type 0} → Link V A → Option Prefix
 root Empty = None
 root (Leaf len base b) = Some b.value.prefix
-root (Fork' len base p q left right) = Some q
-root (Full' len base p q v left right) = Some q
+root (Fork' len base p left right q) = Some q
+root (Full' len base p left right q v) = Some q
 
 -- a link to a node, with the node's key
 abbrev pub leaf_link : {V A : Type 0} → Box (LeafNode V) A → Link V A
@@ -50,15 +50,15 @@ full_link b = Full b.value.prefix.len b.value.prefix.base b
 abbrev pub IsLeafOf : {V A : Type 0} → Prefix → Link V A → Type 0
 IsLeafOf q Empty = ⊥
 IsLeafOf q (Leaf len base b) = b.value.prefix ≡ q
-IsLeafOf q (Fork' len base p prefix left right) = ⊥
-IsLeafOf q (Full' len base p prefix v left right) = ⊥
+IsLeafOf q (Fork' len base p left right prefix) = ⊥
+IsLeafOf q (Full' len base p left right prefix v) = ⊥
 
 -- the link holds a fork of this prefix
 abbrev pub IsForkOf : {V A : Type 0} → Prefix → Link V A → Type 0
 IsForkOf q Empty = ⊥
 IsForkOf q (Leaf len base b) = ⊥
-IsForkOf q (Fork' len base p prefix left right) = prefix ≡ q
-IsForkOf q (Full' len base p prefix v left right) = ⊥
+IsForkOf q (Fork' len base p left right prefix) = prefix ≡ q
+IsForkOf q (Full' len base p left right prefix v) = ⊥
 
 -- the link holds a node with this base, and p stands there as seen from it
 pub record IsSeenFrom {V A : Type 0} (link : Link V A) (base : ℕ) (p : Prefix) (place : Place) : Type 0 where
@@ -88,23 +88,23 @@ pub record AreHalves {V A : Type 0} (q : Prefix) (left right : Link V A) : Type 
 abbrev pub IsNeeded : {V A : Type 0} → Link V A → Type 0
 IsNeeded Empty = Unit {0}
 IsNeeded (Leaf len base b) = Unit {0}
-IsNeeded (Fork' len base p q left right) = IsFilled left × IsFilled right
-IsNeeded (Full' len base p q v left right) = IfNone v (IsFilled left × IsFilled right)
+IsNeeded (Fork' len base p left right q) = IsFilled left × IsFilled right
+IsNeeded (Full' len base p left right q v) = IfNone v (IsFilled left × IsFilled right)
 
 -- a node has neither a value nor two children
 abbrev pub IsLone : {V A : Type 0} → Link V A → Type 0
 IsLone Empty = ⊥
 IsLone (Leaf len base b) = ⊥
-IsLone (Fork' len base p q left right) = IsVacant left ⊎ IsVacant right
-IsLone (Full' len base p q v left right) = (v ≡ None) × (IsVacant left ⊎ IsVacant right)
+IsLone (Fork' len base p left right q) = IsVacant left ⊎ IsVacant right
+IsLone (Full' len base p left right q v) = (v ≡ None) × (IsVacant left ⊎ IsVacant right)
 
 -- what the link keeps is its node's key, and what stands below the node is lawful
 abbrev pub IsLawfulBelow : {V A : Type 0} → Link V A → Type 0
 IsLawfulBelow Empty = Unit {0}
 IsLawfulBelow (Leaf len base b) = IsKeyOf len base b.value.prefix
-IsLawfulBelow (Fork' len base p q left right) =
+IsLawfulBelow (Fork' len base p left right q) =
     AreHalves q left right × (IsLawfulBelow left × IsNeeded left) × (IsLawfulBelow right × IsNeeded right) × IsKeyOf len base q
-IsLawfulBelow (Full' len base p q v left right) =
+IsLawfulBelow (Full' len base p left right q v) =
     AreHalves q left right × (IsLawfulBelow left × IsNeeded left) × (IsLawfulBelow right × IsNeeded right) × IsKeyOf len base q
 
 -- every child is longer than its parent, contained in it and on the side of the next bit, every node without a value has

@@ -1,4 +1,6 @@
 //! The nodes of a trie, of three kinds, and the links that hold them.
+//!
+//! A node's sides stand first in its memory, so which of them a way down takes is a sum and no branch.
 
 ghost use Rattle.std.specs.Prelude.{◌≡◌, ◌^◌, ◌<◌, ◌≤◌, ◌↔◌, nat_lt, if◌then◌else◌, false, IsTrue};
 ghost use Rattle.rt_cidr.specs.declared.prefixes.Prefix.{Prefix};
@@ -20,9 +22,9 @@ pub(crate) struct LeafNode<V> {
 #[cycle(links)]
 #[derive(Drop)]
 pub(crate) struct ForkNode<V, A: Allocator> {
-    pub prefix: Prefix,
     pub left: Link<V, A>,
     pub right: Link<V, A>,
+    pub prefix: Prefix,
 }
 
 /// A stored prefix with others below it, or what is left of one: a removal takes no memory, so it makes no node of
@@ -30,10 +32,10 @@ pub(crate) struct ForkNode<V, A: Allocator> {
 #[cycle(links)]
 #[derive(Drop)]
 pub(crate) struct FullNode<V, A: Allocator> {
-    pub prefix: Prefix,
-    pub value: Option<V>,
     pub left: Link<V, A>,
     pub right: Link<V, A>,
+    pub prefix: Prefix,
+    pub value: Option<V>,
 }
 
 /// What the trie, or a node on one of its sides, holds: nothing, or a node in a box of its kind's size, and beside the box
