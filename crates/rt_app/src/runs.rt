@@ -17,6 +17,7 @@ use rt_rib::{Book, Route};
 use rt_shared::{FeedPass, SharedRib};
 use std::alloc::{AllocError, Global};
 use std::io::{self, Write};
+use std::mem::ManuallyDrop;
 use std::sync::Wait;
 use std::thread::Threads;
 
@@ -36,7 +37,7 @@ const FAULTY: u8 = 2;
 /// `batch` commands at once of one table, and writes to `w` each feed's report in order and then the table. Gives the
 /// status where all was written: 5 where some command was refused for want of memory, else 2 where some line was faulty,
 /// else 0. No text at all is F1 and want of memory outside of a command F3, and then nothing was written. After `Write` a
-/// beginning of such a text was written.
+/// beginning of such a text was written. The table's memory is left to the end of the process.
 pub fn run_texts<R: Threads + Wait + Sync, W: Write>(
     rt: &R,
     alloc: Global,
@@ -63,8 +64,12 @@ pub fn run_texts<R: Threads + Wait + Sync, W: Write>(
     let Ok(mut buffer) = OutputBuffer::new(alloc) else {
         return Err(AppFault::Run(RunFault::Memory));
     };
-    match write_run(w, &mut buffer, ran.reports.as_slice(), routes.as_slice()) {
-        Ok(()) => Ok(status_of(ran.reports.as_slice())),
+    let written = write_run(w, &mut buffer, ran.reports.as_slice(), routes.as_slice());
+    let status = status_of(ran.reports.as_slice());
+    // To free the table node by node would take a tenth of a run, and the system takes its pages back at once.
+    let _ = ManuallyDrop::new(ran.book);
+    match written {
+        Ok(()) => Ok(status),
         Err(_) => Err(AppFault::Write),
     }
 }
