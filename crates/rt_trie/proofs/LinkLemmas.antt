@@ -99,6 +99,10 @@ module _ {V A : Type 0} where
   of_full {len} {base} b n link e f h = rw (f, e) (of_full_at len base b (subst IsLawfulBelow e h))
 
   -- the link keeps its node's key
+  pub key_of_leaf : {len base : ℕ} (b : Box (LeafNode V) A) (n : LeafNode V) (link : Link V A) → link ≡ Leaf len base b → n ≡ b.value → IsLawfulBelow link
+      → IsKeyOf len base n.prefix
+  key_of_leaf {len} {base} b n link e f h = let k : IsLawfulBelow (Leaf len base b) = subst IsLawfulBelow e h in rw f k
+
   pub key_of_fork : {len base : ℕ} (b : Box (ForkNode V A) A) (n : ForkNode V A) (link : Link V A) → link ≡ Fork len base b → n ≡ b.value → IsLawfulBelow link
       → IsKeyOf len base n.prefix
   key_of_fork {len} {base} b n link e f h = let k : IsLawfulBelow (Fork len base b) = subst IsLawfulBelow e h in rw f k.3

@@ -127,6 +127,16 @@ pub(crate) fn side<T: Copy>(offset: u64, left: T, right: T) -> T
     if offset < HALF { left } else { right }
 }
 
+/// Whether the prefix of that length and base covers the address.
+#[inline(always)]
+pub(crate) fn covers(len: u8, base: u32, address: Addr) -> bool
+    requires { len ≤ 32 }
+    ensures { (q : Prefix) → IsKeyOf len base q → result ≡ covers q address }
+{
+    let past = 32 - len;
+    u64::from(address.0) >> past == u64::from(base) >> past
+}
+
 /// Whether that length and base are those of p.
 #[inline(always)]
 pub(crate) fn is_key_of(len: u8, base: u32, p: &Prefix) -> bool
