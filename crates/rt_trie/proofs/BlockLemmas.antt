@@ -2,11 +2,10 @@
 use Rattle.std.proofs.Common.{◌≡◌, ◌≢◌, ℕ, ◌+◌, ◌-◌, ◌*◌, ◌/◌, ◌^◌, ◌<◌, ◌≤◌, ◌⊎◌, inl, inr, ⊎_elim, ◌↔◌, ◌%◌, Bool, true, false, cond, refl, sym, subst, ap, ◌∙◌, arith, add-mul}
 use Rattle.std.proofs.lemmas.Nat.{pow_pos, pow-add, div-add-mod', mod_below, div-mul-add}
 use Rattle.std.specs.Int.{◌∣◌}
-use Rattle.std.proofs.Common.{eqb}
 use Rattle.std.proofs.Math.Pow.{pow_mono}
 use Rattle.std.proofs.lemmas.Bool.{cases_lt, false≢true}
 use Rattle.std.proofs.lemmas.Bool.Decides.{eqb_tells, leb_tells}
-use Rattle.std.proofs.Math.Nat.{mul_assoc, dvd_trans, dvd-mul_right, dvd-mul_left_of_dvd, dvd-add, dvd-sub, dvd_of_mod-eq-zero, le_of_dvd, mul-div_cancel, mul-div_cancel_left, mul-le-mul_left, mul-le-mul_right, mul-lt-mul_of_pos_right, div-div-eq-div-mul}
+use Rattle.std.proofs.Math.Nat.{mul_assoc, dvd_trans, dvd-mul_right, dvd-mul_left_of_dvd, dvd-add, dvd-sub, dvd_of_mod-eq-zero, le_of_dvd, mul-div_cancel_left, mul-le-mul_left, mul-le-mul_right, mul-lt-mul_of_pos_right}
 use Rattle.rt_cidr.specs.declared.prefixes.Prefix.{Prefix}
 use Rattle.rt_cidr.specs.declared.address.Addr.{Addr}
 use Rattle.rt_cidr.proofs.Promised.{size_pos}
@@ -162,38 +161,6 @@ next_bit q a short from to =
           ∙ omega arith,
     )
 
--- the bit after a length, by shifts
-high_bit : (a len : ℕ) → a < 2 ^ 32 → len < 32 → a * 2 ^ len % 18446744073709551616 / 2147483648 ≡ a / (size_of len / 2)
-high_bit a len fits short =
-    let k : len + (32 - (len + 1)) ≡ 31 = omega arith in
-    let e : 2147483648 ≡ 2 ^ len * 2 ^ (32 - (len + 1)) = sym (ap (λ n. 2 ^ n) k) ∙ pow-add 2 len (32 - (len + 1)) in
-    let le : len ≤ 32 = omega arith in
-    let m : 2 ^ len ≤ 2 ^ 32 = pow_mono le in
-    let small : a * 2 ^ len % 18446744073709551616 ≡ a * 2 ^ len = omega (arith, mul-le-mul_left a m) in
-    let half : size_of len / 2 ≡ 2 ^ (32 - (len + 1)) = omega (arith, half_size len 32 short (omega arith)) in
-    ap (λ n. n / 2147483648) small ∙ ap (λ n. a * 2 ^ len / n) e ∙ sym (div-div-eq-div-mul (a * 2 ^ len) (2 ^ len) (2 ^ (32 - (len + 1))))
-    ∙ ap (λ n. n / 2 ^ (32 - (len + 1))) (mul-div_cancel a (pow_pos len)) ∙ ap (λ n. a / n) (sym half)
-
--- it is set exactly where the address lies in the upper half
-pub bit_tells : (q : Prefix) (a : ℕ) → a < 2 ^ 32 → q.len < 32 → covers q (record { 0 = a }) ≡ true
-    → (eqb (a * 2 ^ q.len % 18446744073709551616 / 2147483648 % 2) 1 ≡ true) ↔ (middle q ≤ a)
-bit_tells q a fits short c =
-    let r = range_of_covers q (record { 0 = a }) c in
-    let b = next_bit q a short r.0 r.1 in
-    let e = ap (λ n. n % 2) (high_bit a q.len fits short) in (
-      λ t. elim (cases_lt a (middle q)) [
-        | inr ge ↦ ge
-        | inl lt ↦ elim (eqb_tells (a * 2 ^ q.len % 18446744073709551616 / 2147483648 % 2) 1) [
-          | inl i ↦ absurd (omega (arith, b.0 lt))
-          | inr i ↦ absurd (false≢true (sym i.0 ∙ t))
-        ]
-      ],
-      λ ge. elim (eqb_tells (a * 2 ^ q.len % 18446744073709551616 / 2147483648 % 2) 1) [
-        | inl i ↦ i.0
-        | inr i ↦ absurd (i.1 (e ∙ b.1 ge))
-      ],
-    )
-
 -- how far from the base on, as a machine counts it, in 2^32ths of the prefix's addresses
 abbrev pub offset_of : ℕ → ℕ → ℕ → ℕ
 offset_of len base a = (a + (4294967296 - base)) % 4294967296 * 2 ^ len % 18446744073709551616
@@ -267,17 +234,6 @@ offset_half q a covered short =
           let m = mul-le-mul_right (2 ^ q.len) ge in
           (λ t. omega arith, λ t. omega (arith, m))
     ]
-
--- what the test of the half says
-pub in_upper : (q : Prefix) (r : Bool) (a : ℕ) → (q.len < 32 → (r ≡ true) ↔ (middle q ≤ a)) → (q.len ≡ 32 → r ≡ false) → r ≡ true
-    → middle q ≤ a
-in_upper q r a half none h =
-    let s = q.is_prefix.short in
-    elim (cases_lt q.len 32) [ inl lt ↦ (half lt).0 h | inr ge ↦ absurd (false≢true (sym (none (omega arith)) ∙ h)) ]
-
-pub not_upper : (q : Prefix) (r : Bool) (a : ℕ) → (q.len < 32 → (r ≡ true) ↔ (middle q ≤ a)) → r ≡ false
-    → q.len < 32 → middle q ≤ a → ⊥
-not_upper q r a half h = λ lt ge. false≢true (sym h ∙ (half lt).1 ge)
 
 -- the halves by the bit
 pub child_reading : (parent c : Prefix) (upper : Bool)

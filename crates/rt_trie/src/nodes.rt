@@ -127,16 +127,6 @@ pub(crate) fn side<T: Copy>(offset: u64, left: T, right: T) -> T
     if offset < HALF { left } else { right }
 }
 
-/// Whether the prefix of that length and base covers the address.
-#[inline(always)]
-pub(crate) fn covers(len: u8, base: u32, address: Addr) -> bool
-    requires { len ≤ 32 }
-    ensures { (q : Prefix) → IsKeyOf len base q → result ≡ covers q address }
-{
-    let past = 32 - len;
-    u64::from(address.0) >> past == u64::from(base) >> past
-}
-
 /// Whether that length and base are those of p.
 #[inline(always)]
 pub(crate) fn is_key_of(len: u8, base: u32, p: &Prefix) -> bool
@@ -145,29 +135,18 @@ pub(crate) fn is_key_of(len: u8, base: u32, p: &Prefix) -> bool
     base == p.base() && len == p.len()
 }
 
-/// Whether an address that a prefix of that length covers lies in the upper half of those that it covers: whether the bit
-/// after the length is set. No bit is where the prefix covers but one address.
-#[inline(always)]
-pub(crate) fn in_upper_half(len: u8, address: u32) -> bool
-    requires { len ≤ 32 }
-    ensures half { (q : Prefix) → q.len ≡ len → IsTrue (covers q (record { 0 = address })) → q.len < 32
-        → IsTrue result ↔ middle q ≤ address }
-    ensures none { len ≡ 32 → result ≡ false }
-{
-    ((u64::from(address) << len) >> 31) % 2 == 1
-}
-
 /// Where p stands as seen from the prefix of that length and base.
 #[inline(always)]
 pub(crate) fn place_of(len: u8, base: u32, p: &Prefix) -> Place
     requires { len ≤ 32 }
     ensures { (q : Prefix) → IsKeyOf len base q → StandsAt q p.now result }
 {
-    if len < p.len() && covers(len, base, Addr(p.base())) {
-        if in_upper_half(len, p.base()) {
-            Place::Right
-        } else {
+    let offset = offset(len, base, p.base());
+    if len < p.len() && offset < END {
+        if offset < HALF {
             Place::Left
+        } else {
+            Place::Right
         }
     } else if is_key_of(len, base, p) {
         laws::same_prefix();
