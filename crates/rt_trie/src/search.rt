@@ -4,7 +4,7 @@ ghost use Rattle.std.specs.Prelude.{◌≡◌, ℕ, ◌+◌, ◌<◌, ◌≤◌,
 ghost use Rattle.std.specs.Option.{option_copied};
 ghost use Rattle.rt_trie.specs.Map.{get, first, next_after, pair_copied, IsLongest, AreLongest, address_at, answer_at};
 ghost use Rattle.rt_trie.specs.Links.{pairs, count, IsLawfulBelow, IsLawfulTrie};
-ghost use Rattle.rt_trie.specs.LookUps.{or_else, last_cover, sought, lane_at, lane_sought, work_of, AreLawful};
+ghost use Rattle.rt_trie.specs.LookUps.{or_else, last_cover, sought};
 
 use crate::nodes::{END, Link, Place, is_key_of, middle, offset, place_of, side};
 use rt_cidr::{Addr, Prefix};
@@ -137,7 +137,8 @@ pub(crate) fn longest_many<'a, V, A: Allocator>(
     }
 }
 
-// The answers of so many addresses from a place on, one in each lane.
+// The answers of so many addresses from a place on, one in each lane. The first lanes of the order go on, a step in each in
+// turn; one that has ended gives its place there to the last of them.
 fn longest_in_lanes<'a, V, A: Allocator>(
     root: &'a Link<V, A>,
     addresses: &[Addr],
@@ -153,44 +154,40 @@ fn longest_in_lanes<'a, V, A: Allocator>(
         → IsLongest (pairs root.now) (address_at addresses.now (start + j)) (answer_at answers.new (start + j)) }
     ensures rest { (k : ℕ) → k < start → answer_at answers.new k ≡ answer_at answers.old k }
 {
-    let mut lanes = [Some(root); LANES];
-    for k in start..start + size {
-        answers[k] = None;
+    let mut lanes = [root; LANES];
+    let mut order = [0; LANES];
+    for k in 0..size {
+        order[k] = k;
+        answers[start + k] = None;
     }
-    while advance(&mut lanes[..], addresses, answers, start, size) {}
+    let mut going = size;
+    let mut k = 0;
+    while going > 0 {
+        let lane = order[k];
+        match step(
+            lanes[lane],
+            addresses[start + lane],
+            &mut answers[start + lane],
+        ) {
+            Some(below) => {
+                lanes[lane] = below;
+                k += 1;
+            }
+            None => {
+                going -= 1;
+                order[k] = order[going];
+            }
+        }
+        k = turn(k, going);
+    }
 }
 
-// Takes one step in each lane that has not ended, and answers whether one goes on.
+// Whose turn is next of so many: that of k, or of the first where k is past the last.
 #[inline(always)]
-fn advance<'a, V, A: Allocator>(
-    lanes: &mut [Option<&'a Link<V, A>>],
-    addresses: &[Addr],
-    answers: &mut [Option<(Prefix, &'a V)>],
-    start: usize,
-    size: usize,
-) -> bool
-    requires lawful { AreLawful lanes.old size }
-    requires lanes { size ≤ length lanes.old }
-    requires within { start + size ≤ length addresses.now }
-    requires size { length answers.old ≡ length addresses.now }
-    ensures lawful { AreLawful lanes.new size }
-    ensures same { (j : ℕ) → j < size
-        → lane_sought lanes.new addresses.now answers.new start j ≡ lane_sought lanes.old addresses.now answers.old start j }
-    ensures rest { (k : ℕ) → k < start → answer_at answers.new k ≡ answer_at answers.old k }
-    ensures goes { IsTrue result → work_of lanes.new size < work_of lanes.old size }
-    ensures ends { result ≡ false → (j : ℕ) → j < size → lane_at lanes.new j ≡ None }
+fn turn(k: usize, going: usize) -> usize
+    ensures { 0 < going → result < going }
 {
-    let mut going = false;
-    for k in 0..size {
-        if let Some(link) = lanes[k] {
-            let next = step(link, addresses[start + k], &mut answers[start + k]);
-            if next.is_some() {
-                going = true;
-            }
-            lanes[k] = next;
-        }
-    }
-    going
+    if k < going { k } else { 0 }
 }
 
 /// The least prefix that is stored below the link, by base and then by length.

@@ -1,27 +1,26 @@
-use Rattle.std.proofs.Common.{◌≡◌, ℕ, ◌+◌, ◌<◌, ◌≤◌, None, length}
-use Rattle.rt_trie.specs.Links.{pairs}
-use Rattle.rt_trie.specs.LookUps.{last_cover, lane_sought, work_of, AreLawful}
-use Rattle.rt_trie.specs.Map.{address_at, answer_at}
+use Rattle.std.proofs.Common.{◌≡◌, ℕ, ◌+◌, ◌<◌, ◌≤◌, None, get_or, length}
+use Rattle.rt_trie.specs.Map.{answer_at}
+use Rattle.rt_trie.proofs.LaneLemmas.{AreOnTheWay, work_of}
 use Rattle.rt_trie.proofs.search.longest_in_lanes.Given as goal
 
--- there is no answer yet
+-- the first lanes are listed, and have no answer yet
 abbrev pub invariant-loop-k : goal.invariant-loop-k
 invariant-loop-k g l = record {
-  none : (k : ℕ) → l.start ≤ k → k < l.k → answer_at l.answers k ≡ None;
+  none : (j : ℕ) → j < l.k → answer_at l.answers (l.start + j) ≡ None;
+  listed : (j : ℕ) → j < l.k → get_or l.order j 0 ≡ j;
+  rest : (k : ℕ) → k < l.start → answer_at l.answers k ≡ answer_at l.fn.answers k;
+  order_long : l.size ≤ length l.order;
+  long : length l.answers ≡ length l.addresses;
+}
+
+-- each lane is on its way, and the turn is that of one that goes on
+abbrev pub invariant-loop-going : goal.invariant-loop-going
+invariant-loop-going g l = record {
+  way : AreOnTheWay l.root l.addresses l.start l.size l.lanes l.order l.going l.answers;
+  turn : 0 < l.going → l.k < l.going;
   rest : (k : ℕ) → k < l.start → answer_at l.answers k ≡ answer_at l.fn.answers k;
   long : length l.answers ≡ length l.addresses;
 }
 
--- each lane finds at last what there is
-abbrev pub invariant-loop-lanes : goal.invariant-loop-lanes
-invariant-loop-lanes g l = record {
-  lawful : AreLawful l.lanes l.size;
-  found : (j : ℕ) → j < l.size
-      → lane_sought l.lanes l.addresses l.answers l.start j ≡ last_cover (pairs l.root) (address_at l.addresses (l.start + j));
-  rest : (k : ℕ) → k < l.start → answer_at l.answers k ≡ answer_at l.fn.answers k;
-  lanes_long : l.size ≤ length l.lanes;
-  long : length l.answers ≡ length l.addresses;
-}
-
-abbrev pub decreases-loop-lanes : goal.decreases-loop-lanes
-decreases-loop-lanes g l = work_of l.lanes l.size
+abbrev pub decreases-loop-going : goal.decreases-loop-going
+decreases-loop-going g l = work_of l.lanes l.size + l.going
