@@ -4,7 +4,7 @@ use crate::program::Stop;
 use rt_feed::RunFault;
 use ya_core::ReplayFault;
 
-const FAULTS: [(AppFault, u8, &str); 7] = [
+static FAULTS: [(AppFault, u8, &str); 7] = [
     (AppFault::Run(RunFault::NoText), 3, "yarib: fault F1\n"),
     (AppFault::Run(RunFault::FeedCount), 3, "yarib: fault F2\n"),
     (AppFault::Run(RunFault::Memory), 5, "yarib: fault F3\n"),
@@ -24,10 +24,10 @@ const FAULTS: [(AppFault, u8, &str); 7] = [
 
 #[test]
 fn each_fault_has_its_status_and_text(rt: HostRuntime) {
-    for (fault, status, text) in FAULTS {
-        let stop = Stop::Fault(fault);
+    for (fault, status, text) in FAULTS.iter() {
+        let stop = Stop::Fault(*fault);
         let mut err = Vec::new(rt.alloc());
         let told = stop.tell(&mut err).is_ok() && err.as_slice() == text.as_bytes();
-        assert!(rt; told && stop.status() == status, "of {text:?}");
+        assert!(rt; told && stop.status() == *status, "of {text:?}");
     }
 }

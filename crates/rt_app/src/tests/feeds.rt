@@ -1,7 +1,10 @@
 //! Several feeds over one table, and batches.
 use crate::tests::rows::{BATCHED, EVERY_ROUTE, compare, one_text, run};
 use std::alloc::{AllocError, Global};
+use std::process::Abort;
+use std::sync::Wait;
 use std::test::Fail;
+use std::thread::Threads;
 
 /// The texts of feeds, in order.
 fn texts_of(alloc: Global, texts: &[&str]) -> Result<Vec<Vec<u8>>, AllocError> {
@@ -62,45 +65,67 @@ table 1
     },
 ];
 
+/// Runs the texts in batches of several sizes, and compares.
+fn compare_batches<R: Threads + Wait + Sync + Abort>(
+    rt: &R,
+    alloc: Global,
+    texts: &[Vec<u8>],
+    row: &Feeds,
+) {
+    for batch in [1, 2, 1024] {
+        compare(rt, alloc, texts, EVERY_ROUTE, batch, row.output, row.status);
+    }
+}
+
 #[test]
 fn feeds_meet_in_one_table(rt: HostRuntime) -> Result<(), Fail> {
     let alloc = rt.alloc();
     for row in FEEDS.iter() {
         let texts = texts_of(alloc, row.texts)?;
-        for batch in [1, 2, 1024] {
-            compare(
-                &rt,
-                alloc,
-                texts.as_slice(),
-                EVERY_ROUTE,
-                batch,
-                row.output,
-                row.status,
-            );
-        }
+        compare_batches(&rt, alloc, texts.as_slice(), row);
     }
     Ok(())
 }
 
-/// The texts of so many feeds that all offer one route, and what a run of them prints.
-fn meeting(alloc: Global, feeds: u32) -> Result<(Vec<Vec<u8>>, String), AllocError> {
+/// The texts of so many feeds that all offer one route.
+fn meeting(alloc: Global, feeds: u32) -> Result<Vec<Vec<u8>>, AllocError> {
     let mut texts = Vec::new(alloc);
-    let (mut output, mut rows) = (String::new(alloc), String::new(alloc));
     for feed in 1..=feeds {
-        let text = format!(in alloc; "add 10.0.0.0/8 5 192.0.2.{feed}\n")?;
-        texts.push(Vec::from_slice(alloc, text.as_bytes())?)?;
-        output.push_str(format!(in alloc; "{feed}:1 added\n")?.as_str())?;
-        let row = format!(in alloc; "10.0.0.0/8 feed {feed} pref 5 via 192.0.2.{feed}\n")?;
-        rows.push_str(row.as_str())?;
+        texts.push(offer_of(alloc, feed)?)?;
     }
-    output.push_str(format!(in alloc; "table {feeds}\n{rows}")?.as_str())?;
-    Ok((texts, output))
+    Ok(texts)
+}
+
+fn offer_of(alloc: Global, feed: u32) -> Result<Vec<u8>, AllocError> {
+    let text = format!(in alloc; "add 10.0.0.0/8 5 192.0.2.{feed}\n")?;
+    Vec::from_slice(alloc, text.as_bytes())
+}
+
+/// What a run of so many such feeds prints.
+fn met(alloc: Global, feeds: u32) -> Result<String, AllocError> {
+    let mut output = String::new(alloc);
+    for feed in 1..=feeds {
+        output.push_str(format!(in alloc; "{feed}:1 added\n")?.as_str())?;
+    }
+    put_table(alloc, feeds, &mut output)?;
+    Ok(output)
+}
+
+/// Puts the table that such feeds leave behind the output.
+fn put_table(alloc: Global, feeds: u32, output: &mut String) -> Result<(), AllocError> {
+    output.push_str(format!(in alloc; "table {feeds}\n")?.as_str())?;
+    for feed in 1..=feeds {
+        let row = format!(in alloc; "10.0.0.0/8 feed {feed} pref 5 via 192.0.2.{feed}\n")?;
+        output.push_str(row.as_str())?;
+    }
+    Ok(())
 }
 
 #[test]
 fn a_place_for_each_of_64_feeds(rt: HostRuntime) -> Result<(), Fail> {
     for feeds in [16, 17, 64] {
-        let (texts, output) = meeting(rt.alloc(), feeds)?;
+        let texts = meeting(rt.alloc(), feeds)?;
+        let output = met(rt.alloc(), feeds)?;
         compare(
             &rt,
             rt.alloc(),

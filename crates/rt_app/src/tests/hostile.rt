@@ -8,7 +8,7 @@ use std::test::Fail;
 use std::thread::Threads;
 
 /// Lines and their fault, as a text of this one line prints it.
-const FAULTY: [(&[u8], &str); 14] = [
+static FAULTY: [(&[u8], &str); 14] = [
     (b" dump", "E1"),
     (b"ADD 10.0.0.0/8 1 192.0.2.1", "E1"),
     (&[b'x'; 128], "E1"),
@@ -43,7 +43,7 @@ fn alone<R: Threads + Wait + Sync + Abort>(
 
 #[test]
 fn faults_are_told(rt: HostRuntime) -> Result<(), Fail> {
-    for (text, fault) in FAULTY {
+    for (text, fault) in FAULTY.iter() {
         let output = format!(in rt.alloc(); "1:1 fault {fault}\ntable 0\n")?;
         alone(&rt, rt.alloc(), text, output.as_str(), 2)?;
     }

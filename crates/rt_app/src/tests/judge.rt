@@ -18,6 +18,7 @@
 ghost use Rattle.std.specs.Prelude.{◌<◌, length, IfSome};
 
 use std::alloc::{AllocError, Global};
+use std::mem;
 
 /// A prefix, and what a feed offers for it: the texts as they were read, and in numbers what they are compared by.
 #[derive(Clone, Copy)]
@@ -76,50 +77,73 @@ pub fn explains(
     let mut rest = output;
     let mut feeds = Vec::new(alloc);
     for (i, text) in texts.iter().enumerate() {
-        match read_report(alloc, i.wrapping_add(1), text.as_str(), rest)? {
-            None => return Ok(false),
-            Some((asks, more)) => {
-                feeds.push(asks)?;
-                rest = more;
-            }
-        }
+        let mut asks = Vec::new(alloc);
+        let Some(more) = read_report(alloc, i.wrapping_add(1), text.as_str(), rest, &mut asks)?
+        else {
+            return Ok(false);
+        };
+        feeds.push(asks)?;
+        rest = more;
     }
     search(alloc, feeds.as_slice(), limit, batch, rest)
 }
 
-/// The feed's commands with their answers, where the output begins with a report of the feed, and the output after it.
+/// The output after the feed's report, where it begins with one. Puts the feed's commands with their answers into `asks`.
 fn read_report<'a>(
     alloc: Global,
     feed: usize,
     text: &'a str,
     output: &'a str,
-) -> Result<Option<(Vec<Ask<'a>>, &'a str)>, AllocError> {
+    asks: &mut Vec<Ask<'a>>,
+) -> Result<Option<&'a str>, AllocError> {
     let two = text.starts_with("version 2\n");
     let mut rest = output;
-    let mut asks = Vec::new(alloc);
     for (i, line) in text.split('\n').enumerate() {
-        if line.is_empty() || line.starts_with('#') || two && i == 0 {
+        if is_silent(line) || two && i == 0 {
             continue;
         }
         let Some((printed, more)) = rest.split_once('\n') else {
             return Ok(None);
         };
         rest = more;
-        let number = i.wrapping_add(1);
-        let heading = format!(in alloc; "{feed}:{number} ")?;
-        let Some(answer) = printed.strip_prefix(heading.as_str()) else {
+        let Some(answer) = answer_to(alloc, feed, i.wrapping_add(1), printed)? else {
             return Ok(None);
         };
-        match read_line(line, two) {
-            Some(said) => asks.push(Ask { said, answer })?,
-            None => {
-                if answer != "fault E1" {
-                    return Ok(None);
-                }
-            }
+        if !put_ask(line, two, answer, asks)? {
+            return Ok(None);
         }
     }
-    Ok(Some((asks, rest)))
+    Ok(Some(rest))
+}
+
+/// Whether the line is never answered.
+fn is_silent(line: &str) -> bool {
+    line.is_empty() || line.starts_with('#')
+}
+
+/// The answer that was printed, if it is one to the feed's line of this number.
+fn answer_to<'a>(
+    alloc: Global,
+    feed: usize,
+    number: usize,
+    printed: &'a str,
+) -> Result<Option<&'a str>, AllocError> {
+    let heading = format!(in alloc; "{feed}:{number} ")?;
+    Ok(printed.strip_prefix(heading.as_str()))
+}
+
+/// Puts what the line says behind the others, with its answer. Tells whether a line that says nothing has its fault.
+fn put_ask<'a>(
+    line: &'a str,
+    two: bool,
+    answer: &'a str,
+    asks: &mut Vec<Ask<'a>>,
+) -> Result<bool, AllocError> {
+    let Some(said) = read_line(line, two) else {
+        return Ok(answer == "fault E1");
+    };
+    asks.push(Ask { said, answer })?;
+    Ok(true)
 }
 
 /// What the line says, if its fields are good.
@@ -181,7 +205,15 @@ fn search(
         if state.left.iter().all(|asks| asks.is_empty()) {
             return is_printed(alloc, &state.table, printed);
         }
-        open_next(alloc, feeds, &state, limit, batch, &mut seen, &mut open)?;
+        open_next(
+            alloc,
+            feeds,
+            &state,
+            limit,
+            batch,
+            seen.as_mut_slice(),
+            &mut open,
+        )?;
     }
     Ok(false)
 }
@@ -216,21 +248,26 @@ fn open_next<'b, 'a>(
     state: &State<'b, 'a>,
     limit: usize,
     batch: usize,
-    seen: &mut Vec<bool>,
+    seen: &mut [bool],
     open: &mut Vec<State<'b, 'a>>,
 ) -> Result<(), AllocError> {
     for (i, asks) in state.left.iter().enumerate() {
         let Some(next) = after_visit(alloc, state, i, asks, limit, batch)? else {
             continue;
         };
-        if let Some(place) = seen.get_mut(number_of(next.left.as_slice(), feeds)) {
-            if !*place {
-                *place = true;
-                open.push(next)?;
-            }
+        if is_new(seen, number_of(next.left.as_slice(), feeds)) {
+            open.push(next)?;
         }
     }
     Ok(())
+}
+
+/// Whether no state of this number was seen. From then on it is.
+fn is_new(seen: &mut [bool], number: usize) -> bool {
+    match seen.get_mut(number) {
+        Some(place) => !mem::replace(place, true),
+        None => false,
+    }
 }
 
 /// The number of a state among all that the feeds may come to.
@@ -259,16 +296,31 @@ fn after_visit<'b, 'a>(
     }
     let (visit, rest) = asks.split_at(batch.min(asks.len()));
     let mut table = state.table.clone()?;
-    for ask in visit {
-        if !is_answered(alloc, &mut table, limit, place.wrapping_add(1), ask)? {
-            return Ok(None);
-        }
+    if !are_answered(alloc, &mut table, limit, place.wrapping_add(1), visit)? {
+        return Ok(None);
     }
     let mut left = state.left.clone()?;
     if let Some(asks) = left.get_mut(place) {
         *asks = rest;
     }
     Ok(Some(State { left, table }))
+}
+
+/// Whether the feed's commands are answered from the table as was printed, one after another. Changes the table as they
+/// say.
+fn are_answered<'a>(
+    alloc: Global,
+    table: &mut Vec<Row<'a>>,
+    limit: usize,
+    feed: usize,
+    visit: &[Ask<'a>],
+) -> Result<bool, AllocError> {
+    for ask in visit {
+        if !is_answered(alloc, table, limit, feed, ask)? {
+            return Ok(false);
+        }
+    }
+    Ok(true)
 }
 
 /// Whether the feed's command is answered from the table as was printed. Changes the table as the command says.

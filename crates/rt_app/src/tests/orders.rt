@@ -71,18 +71,38 @@ fn pause(
     Ok(())
 }
 
-/// A random text of so many lines, of either version, with comments before each.
-fn random_text(alloc: Global, state: &mut u64, lines: usize) -> Result<String, AllocError> {
+/// Puts so many random lines behind the text, with comments before each.
+fn random_lines(
+    alloc: Global,
+    state: &mut u64,
+    lines: usize,
+    text: &mut String,
+) -> Result<(), AllocError> {
     let comments = "#\n".repeat(alloc, 100)?;
+    for _ in 0..lines {
+        pause(state, comments.as_str(), HUNDREDS / lines.max(1), text)?;
+        random_line(alloc, state, text)?;
+    }
+    Ok(())
+}
+
+/// A random text of so many lines, of either version.
+fn random_text(alloc: Global, state: &mut u64, lines: usize) -> Result<String, AllocError> {
     let mut text = String::new(alloc);
     if draw(state) % 2 == 0 {
         text.push_str("version 2\n")?;
     }
-    for _ in 0..lines {
-        pause(state, comments.as_str(), HUNDREDS / lines.max(1), &mut text)?;
-        random_line(alloc, state, &mut text)?;
-    }
+    random_lines(alloc, state, lines, &mut text)?;
     Ok(text)
+}
+
+/// The texts' bytes.
+fn bytes_of(alloc: Global, texts: &[String]) -> Result<Vec<Vec<u8>>, AllocError> {
+    let mut owned = Vec::new(alloc);
+    for text in texts {
+        owned.push(Vec::from_slice(alloc, text.as_bytes())?)?;
+    }
+    Ok(owned)
 }
 
 /// What a run of these texts writes.
@@ -93,10 +113,7 @@ fn written<R: Threads + Wait + Sync + Abort>(
     limit: u32,
     batch: usize,
 ) -> Result<String, Fail> {
-    let mut owned = Vec::new(alloc);
-    for text in texts {
-        owned.push(Vec::from_slice(alloc, text.as_bytes())?)?;
-    }
+    let owned = bytes_of(alloc, texts)?;
     let ran = run(rt, alloc, owned.as_slice(), limit, batch);
     assert!(rt; ran.status.is_ok());
     Ok(String::from_str(alloc, str::from_utf8(ran.out.as_slice())?)?)
@@ -275,6 +292,19 @@ fn losing_a_withdrawal<R: Threads + Wait + Sync + Abort>(
     Ok(Some(with_answer(alloc, output.as_str(), lost.heading, "withdrawn")?))
 }
 
+/// Fails where some order of the visits of the drawn texts explains the output.
+fn refute<R: Abort>(
+    rt: &R,
+    alloc: Global,
+    drawn: &Drawn,
+    seed: u64,
+    output: &str,
+) -> Result<(), AllocError> {
+    let explained = explains_drawn(alloc, drawn, drawn.batch, output)?;
+    assert!(rt; !explained, "seed {seed}: {output}");
+    Ok(())
+}
+
 #[test]
 fn no_order_explains_a_lost_withdrawal(rt: HostRuntime) -> Result<(), Fail> {
     let alloc = rt.alloc();
@@ -283,8 +313,7 @@ fn no_order_explains_a_lost_withdrawal(rt: HostRuntime) -> Result<(), Fail> {
         let drawn = draw_texts(alloc, seed, 3, 9)?;
         if let Some(output) = losing_a_withdrawal(&rt, alloc, &drawn)? {
             lost = lost.wrapping_add(1);
-            let explained = explains_drawn(alloc, &drawn, drawn.batch, output.as_str())?;
-            assert!(rt; !explained, "seed {seed}: {output}");
+            refute(&rt, alloc, &drawn, seed, output.as_str())?;
         }
     }
     assert!(rt; lost >= 20, "{lost} withdrawals lost");
@@ -352,8 +381,7 @@ fn no_order_explains_swapped_replies(rt: HostRuntime) -> Result<(), Fail> {
         let ran = run_drawn(&rt, alloc, &drawn)?;
         if let Some(output) = swapping_replies(alloc, ran.as_str())? {
             swapped = swapped.wrapping_add(1);
-            let explained = explains_drawn(alloc, &drawn, drawn.batch, output.as_str())?;
-            assert!(rt; !explained, "seed {seed}: {output}");
+            refute(&rt, alloc, &drawn, seed, output.as_str())?;
         }
     }
     assert!(rt; swapped >= 50, "{swapped} replies swapped");
@@ -568,14 +596,19 @@ table 2
     },
 ];
 
+fn owned_texts(alloc: Global, texts: &[&str]) -> Result<Vec<String>, AllocError> {
+    let mut owned = Vec::new(alloc);
+    for text in texts {
+        owned.push(String::from_str(alloc, text)?)?;
+    }
+    Ok(owned)
+}
+
 #[test]
 fn the_judge_tells_what_an_order_explains(rt: HostRuntime) -> Result<(), Fail> {
     let alloc = rt.alloc();
     for judged in JUDGED.iter() {
-        let mut texts = Vec::new(alloc);
-        for text in judged.texts {
-            texts.push(String::from_str(alloc, text)?)?;
-        }
+        let texts = owned_texts(alloc, &judged.texts)?;
         let (batch, output) = (judged.batch, judged.output);
         let explained = explains(alloc, texts.as_slice(), 65_536, batch, output)?;
         assert!(rt; explained == judged.explained, "of {output:?}");

@@ -22,7 +22,7 @@ fn traces(rt: HostRuntime) {
 }
 
 /// Levels and picks that are refused. Faulty levels are told before a pick that is no place.
-const REFUSED: [(u32, &[u32], ReplayFault); 3] = [
+static REFUSED: [(u32, &[u32], ReplayFault); 3] = [
     (1, &[0, 1, 2], ReplayFault::Place),
     (0, &[200], ReplayFault::Levels),
     (7, &[200], ReplayFault::Levels),
@@ -30,10 +30,10 @@ const REFUSED: [(u32, &[u32], ReplayFault); 3] = [
 
 #[test]
 fn refused_schedules(rt: HostRuntime) {
-    for (levels, picks, fault) in REFUSED {
+    for (levels, picks, fault) in REFUSED.iter() {
         let mut out = Vec::new(rt.alloc());
-        let status = replay_text(rt.alloc(), levels, picks, &mut out);
-        let is_refused = status == Err(AppFault::Replay(fault)) && out.is_empty();
+        let status = replay_text(rt.alloc(), *levels, picks, &mut out);
+        let is_refused = status == Err(AppFault::Replay(*fault)) && out.is_empty();
         assert!(rt; is_refused, "{levels} levels");
     }
 }

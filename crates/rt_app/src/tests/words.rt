@@ -1,6 +1,6 @@
 //! Calls of the program by their words: the status, and what is written on both outputs.
 use crate::program::run_words;
-use std::alloc::Global;
+use std::alloc::{AllocError, Global};
 use std::fs;
 use std::io::{self, ErrorKind, Write};
 use std::process::Abort;
@@ -10,7 +10,7 @@ use std::test::Fail;
 use std::thread::Threads;
 
 /// The files that stand where the calls are made.
-const FILES: [(&str, &[u8]); 5] = [
+static FILES: [(&str, &[u8]); 5] = [
     ("empty.feed", b""),
     ("faulty.feed", b"frob\n"),
     ("one.feed", b"add 10.0.0.0/8 100 192.0.2.1\n"),
@@ -47,22 +47,27 @@ struct Ending {
     err: Vec<u8>,
 }
 
+fn owned_words(alloc: Global, words: &[&str]) -> Result<Vec<String>, AllocError> {
+    let mut owned = Vec::new(alloc);
+    for word in words {
+        owned.push(String::from_str(alloc, word)?)?;
+    }
+    Ok(owned)
+}
+
 fn run<R: Files + Threads + Wait + Sync + AllocGlobal>(
     rt: &R,
     words: &[&str],
 ) -> Result<Ending, Fail> {
-    let mut owned = Vec::new(rt.alloc());
-    for word in words {
-        owned.push(String::from_str(rt.alloc(), word)?)?;
-    }
+    let owned = owned_words(rt.alloc(), words)?;
     let (mut out, mut err) = (Vec::new(rt.alloc()), Vec::new(rt.alloc()));
     let status = run_words(rt, rt.alloc(), owned.as_slice(), &mut out, &mut err);
     Ok(Ending { status, out, err })
 }
 
 fn write_files<R: Files + AllocGlobal>(rt: &R) -> Result<(), Fail> {
-    for (name, bytes) in FILES {
-        fs::write(rt, name, bytes)?;
+    for (name, bytes) in FILES.iter() {
+        fs::write(rt, name, *bytes)?;
     }
     Ok(())
 }
@@ -100,12 +105,18 @@ fn calls_end_as_they_should(rt: HostRuntime) -> Result<(), Fail> {
     compare(&rt, &CALLS)
 }
 
-#[test]
-fn more_than_64_files_are_refused_unread(rt: HostRuntime) -> Result<(), Fail> {
-    let mut words = Vec::from_slice(rt.alloc(), &["yarib", "run"])?;
+/// The words of a run of 65 files.
+fn too_many(alloc: Global) -> Result<Vec<&'static str>, AllocError> {
+    let mut words = Vec::from_slice(alloc, &["yarib", "run"])?;
     for _ in 0..65 {
         words.push("nosuchfile")?;
     }
+    Ok(words)
+}
+
+#[test]
+fn more_than_64_files_are_refused_unread(rt: HostRuntime) -> Result<(), Fail> {
+    let words = too_many(rt.alloc())?;
     let ending = run(&rt, words.as_slice())?;
     assert!(rt; ending.status == 3 && ending.out.is_empty());
     assert!(rt; ending.err.as_slice() == b"yarib: more than 64 files\n".as_slice());
@@ -145,7 +156,7 @@ fn shows(alloc: Global, help: &[u8], printed: &[u8]) -> Result<bool, Fail> {
 }
 
 /// The command of each example of the help, the line that is typed, and its words.
-const EXAMPLES: [(&str, &str, &[&str]); 3] = [
+static EXAMPLES: [(&str, &str, &[&str]); 3] = [
     (
         "run",
         "$ yarib run one.feed\n",
@@ -163,16 +174,27 @@ const EXAMPLES: [(&str, &str, &[&str]); 3] = [
     ),
 ];
 
+/// The line that is typed, and what the call prints, which is done.
+fn on_screen<R: Files + Threads + Wait + Sync + AllocGlobal + Abort>(
+    rt: &R,
+    typed: &str,
+    words: &[&str],
+) -> Result<Vec<u8>, Fail> {
+    let ending = run(rt, words)?;
+    assert!(rt; ending.status == 0, "{typed}");
+    let mut printed = Vec::from_slice(rt.alloc(), typed.as_bytes())?;
+    printed.extend_from_slice(ending.out.as_slice())?;
+    Ok(printed)
+}
+
 #[test]
 fn the_examples_of_the_help_are_what_is_printed(rt: HostRuntime) -> Result<(), Fail> {
     write_files(&rt)?;
-    for (command, typed, words) in EXAMPLES {
+    for (command, typed, words) in EXAMPLES.iter() {
+        let printed = on_screen(&rt, typed, words)?;
         let help = run(&rt, &["yarib", command, "--help"])?;
-        let ending = run(&rt, words)?;
-        let mut printed = Vec::from_slice(rt.alloc(), typed.as_bytes())?;
-        printed.extend_from_slice(ending.out.as_slice())?;
         let is_shown = shows(rt.alloc(), help.out.as_slice(), printed.as_slice())?;
-        assert!(rt; ending.status == 0 && is_shown, "{typed}");
+        assert!(rt; is_shown, "{typed}");
     }
     Ok(())
 }
@@ -194,10 +216,7 @@ impl Write for Closed {
 #[test]
 fn closed_outputs(rt: HostRuntime) -> Result<(), Fail> {
     fs::write(&rt, "empty.feed", b"")?;
-    let mut words = Vec::new(rt.alloc());
-    for word in ["yarib", "run", "empty.feed"] {
-        words.push(String::from_str(rt.alloc(), word)?)?;
-    }
+    let words = owned_words(rt.alloc(), &["yarib", "run", "empty.feed"])?;
     let mut err = Vec::new(rt.alloc());
     let status = run_words(&rt, rt.alloc(), words.as_slice(), &mut Closed, &mut err);
     assert!(rt; status == 6 && err.as_slice() == b"yarib: cannot write\n".as_slice());
