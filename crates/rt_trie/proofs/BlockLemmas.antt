@@ -11,8 +11,12 @@ use Rattle.rt_cidr.specs.declared.address.Addr.{Addr}
 use Rattle.rt_cidr.proofs.Promised.{size_pos}
 use Rattle.rt_cidr.specs.Cidr.{size_of}
 use Rattle.rt_cidr.specs.Prefix.{covers, contains}
-use Rattle.rt_trie.specs.Blocks.{IsChild, middle, past}
+use Rattle.rt_trie.specs.Blocks.{IsKeyOf, IsChild, middle, middle_at, past}
 use Rattle.rt_trie.proofs.OrderLemmas.{rank}
+
+-- a prefix's middle is found by its key
+pub middle_of_key : {len base : ℕ} {q : Prefix} → IsKeyOf len base q → middle_at len base ≡ middle q
+middle_of_key k = rw (k.len_is, k.base_is) refl
 
 -- what is at most a number is below it or it
 lt_or_eq : (a b : ℕ) → a ≤ b → (a < b) ⊎ (a ≡ b)

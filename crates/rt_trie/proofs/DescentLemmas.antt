@@ -10,7 +10,7 @@ use Rattle.std.proofs.lemmas.Bool.Decides.{leb_tells}
 use Rattle.rt_cidr.specs.declared.prefixes.Prefix.{Prefix}
 use Rattle.rt_trie.specs.declared.nodes.Link.{Link, Empty, Leaf, Fork', Full'}
 use Rattle.rt_trie.specs.Map.{Pairs, same_prefix, get, put, IsOrdered}
-use Rattle.rt_trie.specs.Blocks.{IsChild, middle, past}
+use Rattle.rt_trie.specs.Blocks.{IsChild, is_key, middle, middle_at, past}
 use Rattle.rt_trie.specs.Links.{own_pair, pairs, count, root, AreHalves, IsChildLink, IsFilled, IsLawfulTrie}
 use Rattle.rt_trie.specs.Descent.{found, written, overwritten}
 use Rattle.rt_trie.specs.Contents.{Contents}
@@ -128,12 +128,12 @@ module _ {V A : Type 0} where
   found_get zero (Fork' i j x left right q) p h deep = let s = q.is_prefix.short in absurd (omega arith)
   found_get zero (Full' i j x left right q v) p h deep = let s = q.is_prefix.short in absurd (omega arith)
   found_get (suc d) Empty p h deep = refl
-  found_get (suc d) (Leaf i j b) p h deep = refl
+  found_get (suc d) (Leaf i j b) p h deep = rw (h.0.len_is, h.0.base_is) refl
   found_get (suc d) (Fork' i j x left right q) p h deep =
       let s = sides_at q left right h.0.0 h.0.1 h.0.2 in
       let l = found_get d left p h.0.1 (deep_lower d q left deep h.0.0.lower) in
       let r = found_get d right p h.0.2 (deep_upper d q right deep h.0.0.upper) in
-      elim (leb_tells p.len q.len) [
+      rw (h.0.3.len_is, h.0.3.base_is) (elim (leb_tells p.len q.len) [
         | inl le ↦ rw le.0 (sym (elim (same_tells q p) [
           | inl e ↦ get-here q None (pairs left) (pairs right) s p le.1 e.0
           | inr e ↦ get-past q None (pairs left) (pairs right) s p le.1 e.0
@@ -142,12 +142,12 @@ module _ {V A : Type 0} where
           | inl lo ↦ rw (gt.0, lo.0) (l ∙ sym (get-lower q None (pairs left) (pairs right) s p gt.1 lo.1))
           | inr hi ↦ rw (gt.0, hi.0) (r ∙ sym (get-upper q None (pairs left) (pairs right) s p gt.1 (omega arith)))
         ]
-      ]
+      ])
   found_get (suc d) (Full' i j x left right q v) p h deep =
       let s = sides_at q left right h.0.0 h.0.1 h.0.2 in
       let l = found_get d left p h.0.1 (deep_lower d q left deep h.0.0.lower) in
       let r = found_get d right p h.0.2 (deep_upper d q right deep h.0.0.upper) in
-      elim (leb_tells p.len q.len) [
+      rw (h.0.3.len_is, h.0.3.base_is) (elim (leb_tells p.len q.len) [
         | inl le ↦ elim (same_tells q p) [
           | inl e ↦ rw (le.0, e.0) (sym (get-here q v (pairs left) (pairs right) s p le.1 e.0))
           | inr e ↦ rw (le.0, e.0) (sym (get-past q v (pairs left) (pairs right) s p le.1 e.0))
@@ -156,7 +156,7 @@ module _ {V A : Type 0} where
           | inl lo ↦ rw (gt.0, lo.0) (l ∙ sym (get-lower q v (pairs left) (pairs right) s p gt.1 lo.1))
           | inr hi ↦ rw (gt.0, hi.0) (r ∙ sym (get-upper q v (pairs left) (pairs right) s p gt.1 (omega arith)))
         ]
-      ]
+      ])
 
   -- a change that keeps root, nodes, lawfulness and the number of pairs
   pub record IsKept (old new : Link V A) : Type 0 where
@@ -218,17 +218,17 @@ module _ {V A : Type 0} where
   written_kept (suc d) (Fork' i j x left right q) p w h =
       let l = written_kept d left p w h.0.1 in
       let r = written_kept d right p w h.0.2 in
-      let low = leb (suc p.base) (middle q) in
+      let low = leb (suc p.base) (middle_at i j) in
       kept_fork i j x q left right _ _ h
-      (kept_cond (leb p.len q.len) left left _ (kept_same left h.0.1) (kept_cond low left (written d left p w) left l (kept_same left h.0.1)))
-      (kept_cond (leb p.len q.len) right right _ (kept_same right h.0.2) (kept_cond low right right (written d right p w) (kept_same right h.0.2) r))
+      (kept_cond (leb p.len i) left left _ (kept_same left h.0.1) (kept_cond low left (written d left p w) left l (kept_same left h.0.1)))
+      (kept_cond (leb p.len i) right right _ (kept_same right h.0.2) (kept_cond low right right (written d right p w) (kept_same right h.0.2) r))
   written_kept (suc d) (Full' i j x left right q v) p w h =
       let l = written_kept d left p w h.0.1 in
       let r = written_kept d right p w h.0.2 in
-      let low = leb (suc p.base) (middle q) in
-      kept_full i j x q v _ left right _ _ h (some_kept (leb p.len q.len) (same_prefix q p) v w) (own_kept (leb p.len q.len) (same_prefix q p) q v w)
-      (kept_cond (leb p.len q.len) left left _ (kept_same left h.0.1) (kept_cond low left (written d left p w) left l (kept_same left h.0.1)))
-      (kept_cond (leb p.len q.len) right right _ (kept_same right h.0.2) (kept_cond low right right (written d right p w) (kept_same right h.0.2) r))
+      let low = leb (suc p.base) (middle_at i j) in
+      kept_full i j x q v _ left right _ _ h (some_kept (leb p.len i) (is_key i j p) v w) (own_kept (leb p.len i) (is_key i j p) q v w)
+      (kept_cond (leb p.len i) left left _ (kept_same left h.0.1) (kept_cond low left (written d left p w) left l (kept_same left h.0.1)))
+      (kept_cond (leb p.len i) right right _ (kept_same right h.0.2) (kept_cond low right right (written d right p w) (kept_same right h.0.2) r))
 
   -- a write is one in the list
   written_pairs : (d : ℕ) (link : Link V A) (p : Prefix) (w : V) → IsLawfulTrie link → IsDeep d link
@@ -238,25 +238,25 @@ module _ {V A : Type 0} where
   written_pairs zero (Fork' i j x left right q) p w h deep = let s = q.is_prefix.short in absurd (omega arith)
   written_pairs zero (Full' i j x left right q v) p w h deep = let s = q.is_prefix.short in absurd (omega arith)
   written_pairs (suc d) Empty p w h deep = refl
-  written_pairs (suc d) (Leaf i j b) p w h deep = refl
+  written_pairs (suc d) (Leaf i j b) p w h deep = rw (h.0.len_is, h.0.base_is) refl
   written_pairs (suc d) (Fork' i j x left right q) p w h deep =
       let s = sides_at q left right h.0.0 h.0.1 h.0.2 in
       let l = written_pairs d left p w h.0.1 (deep_lower d q left deep h.0.0.lower) in
       let r = written_pairs d right p w h.0.2 (deep_upper d q right deep h.0.0.upper) in
-      elim (leb_tells p.len q.len) [
+      rw (h.0.3.len_is, h.0.3.base_is) (elim (leb_tells p.len q.len) [
         | inl le ↦ rw le.0 (sym (set_here q None (pairs left) (pairs right) s p w le.1))
         | inr gt ↦ elim (leb_tells (suc p.base) (middle q)) [
           | inl lo ↦ rw (gt.0, lo.0) (ap (λ m. m ++ pairs right) l ∙ sym (set_lower q None (pairs left) (pairs right) s p w lo.1))
           | inr hi ↦ rw (gt.0, hi.0) (ap (λ m. pairs left ++ m) r
               ∙ sym (set_upper q None (pairs left) (pairs right) s p w (omega arith)))
         ]
-      ]
+      ])
   written_pairs (suc d) (Full' i j x left right q v) p w h deep =
       let s = sides_at q left right h.0.0 h.0.1 h.0.2 in
       let l = written_pairs d left p w h.0.1 (deep_lower d q left deep h.0.0.lower) in
       let r = written_pairs d right p w h.0.2 (deep_upper d q right deep h.0.0.upper) in
       let split = set_value-append (own_pair q v) (pairs left ++ pairs right) p w in
-      elim (leb_tells p.len q.len) [
+      rw (h.0.3.len_is, h.0.3.base_is) (elim (leb_tells p.len q.len) [
         | inl le ↦
             let rest = set_here q v (pairs left) (pairs right) s p w le.1 in
             elim (same_tells q p) [
@@ -275,7 +275,7 @@ module _ {V A : Type 0} where
                   ∙ sym (split ∙ ap (λ m. m ++ set_value (pairs left ++ pairs right) p w) mine
                   ∙ ap (λ m. own_pair q v ++ m) (set_upper q v (pairs left) (pairs right) s p w (omega arith))))
             ]
-      ]
+      ])
 
   -- 33 steps go past every node
   all_deep : (link : Link V A) → IsDeep 33 link

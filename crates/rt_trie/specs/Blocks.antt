@@ -1,17 +1,24 @@
 -- The addresses that a prefix covers, as a block of numbers cut in the middle.
-use Rattle.std.specs.Prelude.{◌≡◌, ℕ, Bool, true, false, ◌+◌, ◌/◌, ◌≤◌, ◌⊎◌}
+use Rattle.std.specs.Prelude.{◌≡◌, ℕ, Bool, true, false, ◌+◌, ◌/◌, ◌≤◌, ◌==◌, ◌&&◌, ◌⊎◌}
 use Rattle.rt_cidr.specs.declared.prefixes.Prefix.{Prefix}
 use Rattle.rt_cidr.specs.Cidr.{size_of}
 use Rattle.rt_trie.specs.declared.nodes.Place.{Place}
 use Rattle.rt_trie.specs.declared.nodes.Place.TheVariants.{Here, Left, Right, Above, Apart}
 
--- the first address of the upper half
+-- the first address of the upper half of those that the prefix of that length and base covers
+abbrev pub middle_at : ℕ → ℕ → ℕ
+middle_at len base = base + size_of len / 2
+
 abbrev pub middle : Prefix → ℕ
-middle q = q.base + size_of q.len / 2
+middle q = middle_at q.len q.base
 
 -- the first address that comes after those that are covered
 abbrev pub past : Prefix → ℕ
 past q = q.base + size_of q.len
+
+-- whether that length and base are p's
+abbrev pub is_key : ℕ → ℕ → Prefix → Bool
+is_key len base p = base == p.base && len == p.len
 
 -- the length and the base are the prefix's: its key
 pub record IsKeyOf (len base : ℕ) (q : Prefix) : Type 0 where

@@ -159,7 +159,7 @@ fn on_side<V, A: Allocator>(
     ensures left { base < middle parent.now → result ≡ (child, Empty) }
     ensures right { middle parent.now ≤ base → result ≡ (Empty, child) }
 {
-    if (base as u64) < middle(parent) {
+    if (base as u64) < middle(parent.len(), parent.base()) {
         (child, Link::Empty)
     } else {
         (Link::Empty, child)

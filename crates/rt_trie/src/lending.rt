@@ -7,7 +7,7 @@ ghost use Rattle.std.specs.Option.{option_copied_mut};
 ghost use Rattle.rt_trie.specs.Descent.{found};
 ghost use Rattle.rt_trie.specs.Lends.{lends_found};
 
-use crate::nodes::{Link, middle};
+use crate::nodes::{Link, is_key_of, middle};
 use rt_cidr::Prefix;
 use std::alloc::Allocator;
 use std::marker::PhantomData;
@@ -40,32 +40,32 @@ impl<L: Descent> Descent for Deeper<L> {
     ghost depth = { suc L.depth };
 
     fn find<V, A: Allocator>(link: &mut Link<V, A>, p: Prefix) -> Option<&mut V> {
-        match link {
+        match *link {
             Link::Empty => None,
-            Link::Leaf(_, _, leaf) => {
-                if leaf.prefix == p {
+            Link::Leaf(len, base, ref mut leaf) => {
+                if is_key_of(len, base, &p) {
                     Some(&mut leaf.value)
                 } else {
                     None
                 }
             }
-            Link::Fork(_, _, fork) => {
-                if p.len() <= fork.prefix.len() {
+            Link::Fork(len, base, ref mut fork) => {
+                if p.len() <= len {
                     None
-                } else if (p.base() as u64) < middle(&fork.prefix) {
+                } else if (p.base() as u64) < middle(len, base) {
                     L::find(&mut fork.left, p)
                 } else {
                     L::find(&mut fork.right, p)
                 }
             }
-            Link::Full(_, _, full) => {
-                if p.len() <= full.prefix.len() {
-                    if full.prefix == p {
+            Link::Full(len, base, ref mut full) => {
+                if p.len() <= len {
+                    if is_key_of(len, base, &p) {
                         full.value.as_mut()
                     } else {
                         None
                     }
-                } else if (p.base() as u64) < middle(&full.prefix) {
+                } else if (p.base() as u64) < middle(len, base) {
                     L::find(&mut full.left, p)
                 } else {
                     L::find(&mut full.right, p)

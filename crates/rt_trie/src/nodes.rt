@@ -5,7 +5,7 @@
 ghost use Rattle.std.specs.Prelude.{◌≡◌, ◌^◌, ◌<◌, ◌≤◌, ◌↔◌, nat_lt, if◌then◌else◌, false, IsTrue};
 ghost use Rattle.rt_cidr.specs.declared.prefixes.Prefix.{Prefix};
 ghost use Rattle.rt_cidr.specs.Prefix.{covers, same_prefix};
-ghost use Rattle.rt_trie.specs.Blocks.{middle, IsKeyOf, StandsAt};
+ghost use Rattle.rt_trie.specs.Blocks.{middle, middle_at, is_key, IsKeyOf, StandsAt};
 ghost use Rattle.rt_trie.specs.Links.{leaf_link, fork_link, full_link, IsVacant};
 
 use rt_cidr::{Addr, Prefix, laws};
@@ -92,12 +92,14 @@ impl<V, A: Allocator> Link<V, A> {
     }
 }
 
-/// The first address of the upper half of those that the prefix covers, or its base where it covers but one.
+/// The first address of the upper half of those that the prefix of that length and base covers, or its base where it covers
+/// but one.
 #[inline(always)]
-pub(crate) fn middle(q: &Prefix) -> u64
-    ensures { result ≡ middle q.now }
+pub(crate) fn middle(len: u8, base: u32) -> u64
+    requires { len ≤ 32 }
+    ensures { result ≡ middle_at len base }
 {
-    q.base() as u64 + (1u64 << (32 - q.len())) / 2
+    base as u64 + (1u64 << (32 - len)) / 2
 }
 
 // Where the upper half of a prefix's addresses begins, as `offset` counts them.
@@ -130,7 +132,8 @@ pub(crate) fn side<T: Copy>(offset: u64, left: T, right: T) -> T
 /// Whether that length and base are those of p.
 #[inline(always)]
 pub(crate) fn is_key_of(len: u8, base: u32, p: &Prefix) -> bool
-    ensures { (q : Prefix) → IsKeyOf len base q → result ≡ same_prefix q p.now }
+    ensures value { result ≡ is_key len base p.now }
+    ensures key { (q : Prefix) → IsKeyOf len base q → result ≡ same_prefix q p.now }
 {
     base == p.base() && len == p.len()
 }

@@ -26,12 +26,12 @@ pub(crate) fn get<V, A: Allocator>(root: &Link<V, A>, p: Prefix) -> Option<&V>
                     None
                 };
             }
-            Link::Fork(len, _, fork) => {
+            Link::Fork(len, base, fork) => {
                 if *len >= p.len() {
                     return None;
                 }
                 let fork = fork.as_ref();
-                link = if (p.base() as u64) < middle(&fork.prefix) {
+                link = if (p.base() as u64) < middle(*len, *base) {
                     &fork.left
                 } else {
                     &fork.right
@@ -46,7 +46,7 @@ pub(crate) fn get<V, A: Allocator>(root: &Link<V, A>, p: Prefix) -> Option<&V>
                     };
                 }
                 let full = full.as_ref();
-                link = if (p.base() as u64) < middle(&full.prefix) {
+                link = if (p.base() as u64) < middle(*len, *base) {
                     &full.left
                 } else {
                     &full.right

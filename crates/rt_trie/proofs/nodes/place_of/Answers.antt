@@ -34,7 +34,7 @@ pub returns-then-is_key_of : goal.returns-then-is_key_of
 returns-then-is_key_of c = λ q k.
     elim (same_tells q c.args.p.now) [
       | inl e ↦ c.same_prefix.ensures c.args.p.now q (sym e.1) (sym e.2)
-      | inr n ↦ absurd (false≢true (sym n.0 ∙ sym (c.if-is_key_of.ensures q k)))
+      | inr n ↦ absurd (false≢true (sym n.0 ∙ sym (c.if-is_key_of.ensures.key q k)))
     ]
 
 pub returns-then-covers : goal.returns-then-covers
@@ -42,7 +42,7 @@ returns-then-covers c = λ q k.
     let p = c.args.p.now in
     let r = range_of_covers p (record { 0 = c.args.base }) (sym c.if-covers.ensures) in
     elim (same_tells q p) [
-      | inl e ↦ absurd (false≢true (c.if-is_key_of.ensures q k ∙ e.0))
+      | inl e ↦ absurd (false≢true (c.if-is_key_of.ensures.key q k ∙ e.0))
       | inr n ↦
           let longer : p.len < q.len = longer_of p q (omega (arith, k.len_is), omega (arith, k.base_is), omega (arith, k.base_is)) n.1 in
           record { long = omega arith; from = omega (arith, k.base_is); to = upper_half p q longer (omega (arith, k.base_is)) }
