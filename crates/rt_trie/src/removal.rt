@@ -78,15 +78,27 @@ fn pluck<V: Drop, A: Allocator + Drop>(link: &mut Link<V, A>, nodes: &mut usize)
 }
 
 // Takes away a node that has no value and fewer than two branches; what stands below it moves up.
+#[inline(always)]
 fn splice<V: Drop, A: Allocator + Drop>(link: &mut Link<V, A>, nodes: &mut usize)
     requires lawful { IsLawfulBelow link.old }
     requires counted { count link.old ≤ nodes.old }
     ensures spliced { IsSpliced link.old link.new }
     ensures counted { nodes.new + count link.old ≡ nodes.old + count link.new }
 {
-    if is_needed(link) {
-        return;
+    if !is_needed(link) {
+        move_up(link, nodes);
     }
+}
+
+// Puts what stands below a node in its place. It is no part of the way back, which takes a smaller frame so.
+#[inline(never)]
+fn move_up<V: Drop, A: Allocator + Drop>(link: &mut Link<V, A>, nodes: &mut usize)
+    requires lone { IsLone link.old }
+    requires lawful { IsLawfulBelow link.old }
+    requires counted { count link.old ≤ nodes.old }
+    ensures spliced { IsSpliced link.old link.new }
+    ensures counted { nodes.new + count link.old ≡ nodes.old + count link.new }
+{
     let (left, right) = into_sides(mem::replace(link, Link::Empty));
     *link = if left.is_empty() { right } else { left };
     *nodes -= 1;
