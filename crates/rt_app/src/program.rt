@@ -55,14 +55,20 @@ impl Stop<'_> {
                 put(err, name.as_bytes())?;
                 put(err, b"\n")
             }
-            Stop::Fault(AppFault::Run(RunFault::NoText)) => put(err, b"yarib: fault F1\n"),
-            Stop::Fault(AppFault::Run(RunFault::FeedCount)) => put(err, b"yarib: fault F2\n"),
-            Stop::Fault(AppFault::Run(RunFault::Memory)) => put(err, b"yarib: fault F3\n"),
-            Stop::Fault(AppFault::Replay(ReplayFault::Place)) => put(err, b"yarib: fault P1\n"),
-            Stop::Fault(AppFault::Replay(ReplayFault::Levels)) => put(err, b"yarib: fault P2\n"),
-            Stop::Fault(AppFault::Replay(ReplayFault::Memory)) => put(err, b"yarib: fault P3\n"),
-            Stop::Fault(AppFault::Write) => put(err, b"yarib: cannot write\n"),
+            Stop::Fault(fault) => put(err, fault_text(*fault)),
         }
+    }
+}
+
+fn fault_text(fault: AppFault) -> &'static [u8] {
+    match fault {
+        AppFault::Run(RunFault::NoText) => b"yarib: fault F1\n",
+        AppFault::Run(RunFault::FeedCount) => b"yarib: fault F2\n",
+        AppFault::Run(RunFault::Memory) => b"yarib: fault F3\n",
+        AppFault::Replay(ReplayFault::Place) => b"yarib: fault P1\n",
+        AppFault::Replay(ReplayFault::Levels) => b"yarib: fault P2\n",
+        AppFault::Replay(ReplayFault::Memory) => b"yarib: fault P3\n",
+        AppFault::Write => b"yarib: cannot write\n",
     }
 }
 

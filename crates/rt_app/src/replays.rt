@@ -42,7 +42,6 @@ pub fn replay_text<W: Write>(
 }
 
 /// Writes the text of a replay that made these steps, after which that place is inside.
-#[tactic(auto, using(crate::proofs::Replaying::inside_fits))]
 fn write_replay<W: Write>(
     w: &mut W,
     buffer: &mut OutputBuffer,
@@ -55,10 +54,23 @@ fn write_replay<W: Write>(
     ensures err { OnErr result (AppendsBeginning (W.contents w.old) (W.contents w.new) (replay_text_of steps.now inside)) }
 {
     write_steps(w, buffer, steps)?;
+    write_inside(w, buffer, inside)?;
+    buffer.flush(w)
+}
+
+/// Puts the last line behind what the buffer holds.
+#[tactic(auto, using(crate::proofs::Replaying::inside_fits))]
+fn write_inside<W: Write>(
+    w: &mut W,
+    buffer: &mut OutputBuffer,
+    inside: Option<usize>,
+) -> Result<(), io::Error>
+    ensures ok { OnOk result (PassesOn (W.contents w.old) (W.contents w.new) buffer.old buffer.new (inside_text inside)) }
+    ensures err { OnErr result (AppendsBeginning (W.contents w.old) (W.contents w.new) (buffer.old ++ inside_text inside)) }
+{
     let mut text = ShortText::new();
     prepend_inside(&mut text, inside);
-    buffer.put(w, text.as_bytes())?;
-    buffer.flush(w)
+    buffer.put(w, text.as_bytes())
 }
 
 /// Puts the steps' lines behind what the buffer holds.
