@@ -202,3 +202,20 @@ only_one (x ∷ y ∷ offers) offer long read = absurd (omega arith)
 -- what holds of a single offer
 pub alone : (feed : ℕ) (offer : Offer) → is_from feed offer ≡ false → All (λ o. is_from feed o ≡ false) (offer ∷ [])
 alone feed offer e = All-cons (λ o. is_from feed o ≡ false) offer [] e (All-nil (λ o. is_from feed o ≡ false))
+
+module _ (one other : Offer) (fresh : is_from other.feed one ≡ false) where
+  -- an offer behind one that outranks it
+  pub IsRising-behind : outranks one other ≡ true → IsRising (one ∷ other ∷ [])
+  IsRising-behind e = IsRising-insert (one ∷ []) 1 other (IsRising-one one) (alone other.feed one fresh) (record {
+    within = omega arith;
+    before = λ k d l m. All-cons (λ o. outranks o other ≡ true) one [] e (All-nil (λ o. outranks o other ≡ true)) k d m;
+    behind = λ k d l m. absurd (omega arith);
+  })
+
+  -- an offer before one that does not outrank it
+  pub IsRising-before : outranks one other ≡ false → IsRising (other ∷ one ∷ [])
+  IsRising-before e = IsRising-insert (one ∷ []) 0 other (IsRising-one one) (alone other.feed one fresh) (record {
+    within = omega arith;
+    before = λ k d l m. absurd (omega arith);
+    behind = λ k d l m. All-cons (λ o. outranks o other ≡ false) one [] e (All-nil (λ o. outranks o other ≡ false)) k d m;
+  })

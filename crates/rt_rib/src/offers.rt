@@ -262,8 +262,11 @@ fn two<A: Allocator + Copy>(
     ensures rising { IfOk result (λ offers. IsRising offers.value.items) }
     ensures both { IfOk result (λ offers. length offers.value.items ≡ 2) }
 {
-    let mut offers = Vec::with_capacity(alloc, 2)?;
-    offers.push(one)?;
-    put_among(&mut offers, other)?;
+    let offers = if comes_before(&one, &other) {
+        [one, other]
+    } else {
+        [other, one]
+    };
+    let offers = Vec::from_array(alloc, offers)?;
     Ok(Box::new(alloc, offers)?)
 }

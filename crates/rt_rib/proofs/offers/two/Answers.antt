@@ -1,13 +1,20 @@
-use Rattle.rt_rib.proofs.OfferLists.{IsRising-one, alone}
+use Rattle.std.proofs.Common.{◌≡◌, [], ◌∷◌, ap, sym, ◌∙◌, arith}
+use Rattle.rt_rib.proofs.OfferLists.{Contains-insert, IsRising-behind, IsRising-before}
 use Rattle.rt_rib.proofs.offers.two.Goals as goal
-
-pub put_among-requires-clause-rising : goal.put_among-requires-clause-rising
-put_among-requires-clause-rising g c = rw (c.in_ok-push.ensures.items, c.in_ok-offers.ensures.items) (IsRising-one c.args.one)
-
-pub put_among-requires-clause-fresh : goal.put_among-requires-clause-fresh
-put_among-requires-clause-fresh g c = rw (c.in_ok-push.ensures.items, c.in_ok-offers.ensures.items) (alone c.args.other.feed c.args.one c.requires)
+use Rattle.rt_rib.proofs.offers.two.Goals.{then-comes_before, else-comes_before}
 
 pub returns-clause-gained : goal.returns-clause-gained
 returns-clause-gained g c =
-    let more = rw (c.in_ok-push.ensures.items, c.in_ok-offers.ensures.items) at c.in_ok-put_among.ensures.ok in
-    rw c.in_ok-new.ensures.ok more
+    let items : c.in_ok-new.field-0.value.items ≡ c.if-comes_before.offers = ap (λ v. v.items) c.in_ok-new.ensures.ok ∙ c.in_ok-offers.ensures.items in
+    elim c.if-comes_before.branch [
+      | then-comes_before w ↦ rw (items, w.offers-is) (λ o. Contains-insert (c.args.one ∷ []) 1 c.args.other o (omega arith))
+      | else-comes_before w ↦ rw (items, w.offers-is) (λ o. Contains-insert (c.args.one ∷ []) 0 c.args.other o (omega arith))
+    ]
+
+pub returns-clause-rising : goal.returns-clause-rising
+returns-clause-rising g c =
+    let items : c.in_ok-new.field-0.value.items ≡ c.if-comes_before.offers = ap (λ v. v.items) c.in_ok-new.ensures.ok ∙ c.in_ok-offers.ensures.items in
+    elim c.if-comes_before.branch [
+      | then-comes_before w ↦ rw (items, w.offers-is) (IsRising-behind c.args.one c.args.other c.requires (sym c.comes_before.ensures ∙ w.if-comes_before.true))
+      | else-comes_before w ↦ rw (items, w.offers-is) (IsRising-before c.args.one c.args.other c.requires (sym c.comes_before.ensures ∙ w.if-comes_before.false))
+    ]
