@@ -139,10 +139,13 @@ impl<T: Drop> From<AllocFailed<T>> for Refusal {
 
 /// Reads a command line, the program's name first.
 pub fn read<'a>(alloc: Global, words: &'a [String]) -> Result<Request<'a>, Refusal> {
-    let matches = match program(alloc)?.try_get_matches_from(words) {
-        Ok(matches) => matches,
-        Err(error) => return Err(refusal_of(alloc, &error)),
-    };
+    match program(alloc)?.try_get_matches_from(words) {
+        Ok(matches) => request_of(alloc, &matches),
+        Err(error) => Err(refusal_of(alloc, &error)),
+    }
+}
+
+fn request_of<'a>(alloc: Global, matches: &ArgMatches<'a>) -> Result<Request<'a>, Refusal> {
     match matches.subcommand() {
         Some(("replay", asked)) => Ok(Request::Replay(replay_request(alloc, asked)?)),
         Some((_, asked)) => Ok(Request::Run(run_request(alloc, asked)?)),
@@ -181,21 +184,13 @@ fn run_command<'a>(alloc: Global) -> Result<Command<'a>, AllocError> {
 }
 
 fn limit<'a>(alloc: Global) -> Arg<'a> {
-    Arg::new(alloc, "limit")
-        .long("limit")
-        .value_name("K")
-        .value_parser(ValueParser::unsigned(1, 1_000_000))
-        .default_value("65536")
-        .help("How many routes a feed may have, 1 to 1000000")
+    let help = "How many routes a feed may have, 1 to 1000000";
+    number(alloc, "limit", "K", 1, 1_000_000, help).default_value("65536")
 }
 
 fn batch<'a>(alloc: Global) -> Arg<'a> {
-    Arg::new(alloc, "batch")
-        .long("batch")
-        .value_name("K")
-        .value_parser(ValueParser::unsigned(1, 1024))
-        .default_value("1")
-        .help("How many commands of a feed are asked at once, 1 to 1024")
+    let help = "How many commands of a feed are asked at once, 1 to 1024";
+    number(alloc, "batch", "K", 1, 1024, help).default_value("1")
 }
 
 fn files<'a>(alloc: Global) -> Arg<'a> {
@@ -215,12 +210,8 @@ fn replay_command<'a>(alloc: Global) -> Result<Command<'a>, AllocError> {
 }
 
 fn levels<'a>(alloc: Global) -> Arg<'a> {
-    Arg::new(alloc, "levels")
-        .long("levels")
-        .value_name("L")
-        .required(true)
-        .value_parser(ValueParser::unsigned(0, 255))
-        .help("How many levels the tree has, 1 to 6")
+    let help = "How many levels the tree has, 1 to 6";
+    number(alloc, "levels", "L", 0, 255, help).required(true)
 }
 
 fn picks<'a>(alloc: Global) -> Arg<'a> {
@@ -229,6 +220,22 @@ fn picks<'a>(alloc: Global) -> Arg<'a> {
         .num_args(0..)
         .value_parser(ValueParser::unsigned(0, 255))
         .help("The place that takes the next step")
+}
+
+/// An option that takes a number from the least to the most.
+fn number<'a>(
+    alloc: Global,
+    name: &'a str,
+    value_name: &'a str,
+    least: u64,
+    most: u64,
+    help: &'a str,
+) -> Arg<'a> {
+    Arg::new(alloc, name)
+        .long(name)
+        .value_name(value_name)
+        .value_parser(ValueParser::unsigned(least, most))
+        .help(help)
 }
 
 fn run_request<'a>(alloc: Global, asked: &ArgMatches<'a>) -> Result<RunRequest<'a>, Refusal> {

@@ -1,5 +1,5 @@
 //! A run: feed texts in, their reports and the table out.
-ghost use Rattle.std.specs.Prelude.{◌≡◌, ◌↔◌, ℕ, ◌+◌, ◌≤◌, ◌++◌, ◌^◌, [], ◌∷◌, map, length, vec_len, vec_capacity, All, Some, None, IfOk, OnOk, OnErr, IsSome};
+ghost use Rattle.std.specs.Prelude.{◌≡◌, ◌≢◌, ◌↔◌, ℕ, List, ◌+◌, ◌≤◌, ◌++◌, ◌^◌, [], ◌∷◌, map, length, vec_len, vec_capacity, All, Some, None, IfOk, OnOk, OnErr, IsSome};
 ghost use Rattle.std.specs.Io.KnownBytes.{Appends};
 ghost use Rattle.rt_cidr.specs.Output.{AppendsBeginning, PassesOn};
 ghost use Rattle.rt_rib.specs.Book.{IsLimit};
@@ -58,20 +58,10 @@ pub fn run_texts<R: Threads + Wait + Sync, W: Write>(
     let Ok(ran) = run_all(rt, alloc, texts, limit, batch) else {
         return Err(AppFault::Run(RunFault::Memory));
     };
-    let Ok(routes) = ran.book.routes(alloc) else {
-        return Err(AppFault::Run(RunFault::Memory));
-    };
-    let Ok(mut buffer) = OutputBuffer::new(alloc) else {
-        return Err(AppFault::Run(RunFault::Memory));
-    };
-    let written = write_run(w, &mut buffer, ran.reports.as_slice(), routes.as_slice());
-    let status = status_of(ran.reports.as_slice());
+    let written = write_ran(alloc, &ran, w);
     // To free the table node by node would take a tenth of a run, and the system takes its pages back at once.
     let _ = ManuallyDrop::new(ran.book);
-    match written {
-        Ok(()) => Ok(status),
-        Err(_) => Err(AppFault::Write),
-    }
+    written
 }
 
 /// What a run has done: each feed's report, in order, and the book.
@@ -181,12 +171,31 @@ fn close_gates(
 }
 
 /// Puts the passes behind the others.
-fn put_behind(passes: &mut Vec<FeedPass>, more: Vec<FeedPass>)
+fn put_behind(passes: &mut Vec<FeedPass>, mut more: Vec<FeedPass>)
     requires { vec_len passes.old + vec_len more ≤ vec_capacity passes.old }
     ensures { passes.new.items ≡ passes.old.items ++ more.items }
 {
-    for pass in more {
-        passes.push_reserved(pass);
+    let Ok(()) = passes.append(&mut more) else {
+        unreachable!()
+    };
+}
+
+/// Writes what a run has done, and gives its status.
+fn write_ran<W: Write>(alloc: Global, ran: &Ran, w: &mut W) -> Result<u8, AppFault>
+    requires few { length ran.now.reports.items ≤ 64 }
+    ensures text { (texts : List (List ℕ)) (limit batch : ℕ) → HasRun texts limit batch ran.now.reports.items ran.now.book
+        → Leaves texts limit batch (W.contents w.old) (W.contents w.new) result }
+    ensures ran { result ≢ Err (AppFault.Run RunFault.NoText) }
+{
+    let Ok(routes) = ran.book.routes(alloc) else {
+        return Err(AppFault::Run(RunFault::Memory));
+    };
+    let Ok(mut buffer) = OutputBuffer::new(alloc) else {
+        return Err(AppFault::Run(RunFault::Memory));
+    };
+    match write_run(w, &mut buffer, ran.reports.as_slice(), routes.as_slice()) {
+        Ok(()) => Ok(status_of(ran.reports.as_slice())),
+        Err(_) => Err(AppFault::Write),
     }
 }
 
