@@ -74,6 +74,10 @@ module _ {V A : Type 0} where
 pub own_key : (q : Prefix) → IsKeyOf q.len q.base q
 own_key q = record { len_is = refl; base_is = refl }
 
+-- a key's length is no more than an address has bits
+pub key_short : {len base : ℕ} (q : Prefix) → IsKeyOf len base q → len ≤ 32
+key_short q k = let s = q.is_prefix.short in omega (arith, k.len_is)
+
 -- the link holds a node of this prefix, value and sides, and what stands below it is lawful
 pub record IsNode {V A : Type 0} (link : Link V A) (q : Prefix) (v : Option V) (left right : Link V A) : Type 0 where
   pub pairs_are : pairs link ≡ own_pair q v ++ (pairs left ++ pairs right)

@@ -1,8 +1,11 @@
-use Rattle.std.proofs.Common.{subst}
+use Rattle.std.proofs.Common.{length, subst, ap, ◌∙◌}
 use Rattle.rt_trie.specs.Contents.{Contents}
 use Rattle.rt_trie.specs.Map.{IsOrdered}
 use Rattle.rt_trie.proofs.LinkLemmas.{pairs_ordered}
 use Rattle.rt_trie.proofs.tries.Trie.len.Goals as goal
+
+pub returns-clause-len : goal.returns-clause-len
+returns-clause-len g c = c.self.invariant.len ∙ ap (λ (x : Contents _). length x.pairs) c.self.view_is
 
 pub returns-clause-ordered : goal.returns-clause-ordered
 returns-clause-ordered g c =

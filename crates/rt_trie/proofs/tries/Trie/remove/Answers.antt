@@ -1,9 +1,17 @@
 use Rattle.std.proofs.Common.{length, sym, ap, ◌∙◌, arith}
+use Rattle.rt_trie.specs.Contents.{Contents}
+use Rattle.rt_trie.specs.Map.{get, erase}
 use Rattle.rt_trie.specs.Links.{pairs}
 use Rattle.rt_trie.proofs.RemoveLemmas.{erase-absent}
 use Rattle.rt_trie.proofs.LinkLemmas.{none_of}
 use Rattle.rt_trie.proofs.CountLemmas.{length-erase_known}
 use Rattle.rt_trie.proofs.tries.Trie.remove.Goals as goal
+
+pub remove-gone-requires-clause-lawful : goal.remove-gone-requires-clause-lawful
+remove-gone-requires-clause-lawful g c = c.self.invariant.lawful
+
+pub remove-gone-requires-clause-counted : goal.remove-gone-requires-clause-counted
+remove-gone-requires-clause-counted g c = omega (arith, c.self.invariant.nodes)
 
 pub invariant_of-self : goal.invariant_of-self
 invariant_of-self g c =
@@ -30,3 +38,17 @@ invariant_of-self-else-is_some g c =
       len = omega (arith, c.self.invariant.len, ap length i.erased.pairs_are, ap length (erase-absent m c.args.p e));
       nodes = omega (arith, c.self.invariant.nodes, i.counted);
     }
+
+pub returns-then-is_some-clause-erased : goal.returns-then-is_some-clause-erased
+returns-then-is_some-clause-erased g c =
+    c.remove-gone.ensures.erased.pairs_are ∙ ap (λ (x : Contents _). erase x.pairs c.args.p) c.self.view_is
+
+pub returns-then-is_some-clause-had : goal.returns-then-is_some-clause-had
+returns-then-is_some-clause-had g c = c.remove-gone.ensures.value ∙ ap (λ (x : Contents _). get x.pairs c.args.p) c.self.view_is
+
+pub returns-else-is_some-clause-erased : goal.returns-else-is_some-clause-erased
+returns-else-is_some-clause-erased g c =
+    c.remove-gone.ensures.erased.pairs_are ∙ ap (λ (x : Contents _). erase x.pairs c.args.p) c.self.view_is
+
+pub returns-else-is_some-clause-had : goal.returns-else-is_some-clause-had
+returns-else-is_some-clause-had g c = c.remove-gone.ensures.value ∙ ap (λ (x : Contents _). get x.pairs c.args.p) c.self.view_is
