@@ -1,5 +1,5 @@
 -- The pairs of a lawful link lie where its root lies, and in order.
-use Rattle.std.proofs.Common.{◌≡◌, ℕ, suc, ◌⊎◌, ◌↔◌, ◌+◌, ◌<◌, ◌≤◌, [], ◌++◌, Option, Some, None, true, false, cond, leb, inl, inr, refl, sym, subst, ap, ◌∙◌, arith}
+use Rattle.std.proofs.Common.{◌≡◌, ℕ, suc, ◌⊎◌, ◌↔◌, ◌+◌, ◌<◌, ◌≤◌, [], ◌++◌, Option, Some, None, Bool, true, false, cond, leb, inl, inr, refl, sym, subst, ap, ◌∙◌, arith}
 use Rattle.rt_cidr.specs.declared.prefixes.Prefix.{Prefix}
 use Rattle.std.specs.Prelude.{Box, IfNone, IfSome, is_some}
 use Rattle.std.proofs.lemmas.Bool.{cases_lt, false≢true}
@@ -257,6 +257,16 @@ module _ {V A : Type 0} where
               | inr ge ↦ absurd (omega (arith, hi.1, none (omega arith)))
             ]) f)
       ]
+
+  -- at a link that is lawful, with fewer nodes
+  picked_below : (link : Link V A) (q : Prefix) (v : Option V) (left right below : Bor (Link V A)) (n : IsNode link q v left.now right.now) (lower : Bool)
+      → below ≡ cond lower left right → IsLawfulBelow below.now × (count below.now < count link)
+  picked_below link q v left right below n true e = rw e (n.left_lawful.0, omega (arith, n.count_is))
+  picked_below link q v left right below n false e = rw e (n.right_lawful.0, omega (arith, n.count_is))
+
+  pub side_below : (link : Link V A) (q : Prefix) (v : Option V) (left right below : Bor (Link V A)) (n : IsNode link q v left.now right.now) (offset : ℕ)
+      → below ≡ cond (leb (suc offset) 2147483648) left right → IsLawfulBelow below.now × (count below.now < count link)
+  side_below link q v left right below n offset e = picked_below link q v left right below n (leb (suc offset) 2147483648) e
 
   -- where the node does not cover the address, the best so far is the answer
   pub step_none : (link : Link V A) (q : Prefix) (v : Option V) (left right : Link V A) (n : IsNode link q v left right) (a : Addr)

@@ -4,7 +4,7 @@ use Rattle.rt_trie.specs.declared.nodes.Link.{Link}
 use Rattle.rt_trie.specs.declared.nodes.Place.TheVariants.{Left, Right}
 use Rattle.rt_trie.specs.Links.{count}
 use Rattle.rt_trie.proofs.RemoveLemmas.{IsHalfway, halfway_left, halfway_right, halfway_full_here, erased_of, erased_same, erased_leaf, fork_none, full_none}
-use Rattle.rt_trie.proofs.LinkLemmas.{key_of_fork, key_of_full, of_fork, of_full, view_fork, view_full, get_left, get_right, get_own}
+use Rattle.rt_trie.proofs.LinkLemmas.{key_short, key_of_fork, key_of_full, of_fork, of_full, view_fork, view_full, get_left, get_right, get_own}
 use Rattle.rt_trie.proofs.removal.+remove.Goals as goal
 use Rattle.rt_trie.proofs.removal.+remove.Goals.{in-Fork+in-Left, in-Fork+in-Right, in-Full+in-Here-place_of, in-Full+in-Left-place_of, in-Full+in-Right-place_of}
 
@@ -161,3 +161,13 @@ returns-clause-value g t c =
           w.gone-is ∙ w.take.ensures.value
           ∙ sym (get_own old m.prefix _ m.left m.right (of_full w.in-Full.full m old w.in-Full.is w.deref_mut-in-Here-place_of.ensures.value c.requires.lawful.0) p place)
     ]
+
+pub place_of-requires : goal.place_of-requires
+place_of-requires g t c =
+    let b = c.in-Fork.fork in
+    key_short b.value.prefix (key_of_fork b b.value c.args.link.now c.in-Fork.is refl c.requires.lawful.0)
+
+pub place_of-requires-in-Full : goal.place_of-requires-in-Full
+place_of-requires-in-Full g t c =
+    let b = c.in-Full.full in
+    key_short b.value.prefix (key_of_full b b.value c.args.link.now c.in-Full.is refl c.requires.lawful.0)

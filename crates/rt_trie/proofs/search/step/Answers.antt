@@ -1,7 +1,7 @@
 use Rattle.std.proofs.Common.{refl, sym, ap, ◌∙◌}
 use Rattle.rt_trie.specs.Map.{pair_copied}
 use Rattle.rt_trie.proofs.NodeLemmas.{best_stored, best_unstored}
-use Rattle.rt_trie.proofs.LinkLemmas.{none_unless, of_fork, of_full, key_of_fork, key_of_full, step_side, step_none}
+use Rattle.rt_trie.proofs.LinkLemmas.{none_unless, of_fork, of_full, key_short, key_of_leaf, key_of_fork, key_of_full, side_below, step_side, step_none}
 use Rattle.rt_trie.proofs.BlockLemmas.{not_covered}
 use Rattle.rt_trie.proofs.search.step.Goals as goal
 use Rattle.rt_trie.proofs.search.step.Goals.{in-Some, in_default}
@@ -43,3 +43,58 @@ returns-after-full-clause-sought g c =
       | in-Some w ↦ best_stored _ _ _ c.args.address _ w.in-Some.is covered ∙ sym (ap pair_copied w.best-is)
       | in_default w ↦ best_unstored _ _ c.args.address _ (none_unless m.value w.in_default.not-Some) ∙ sym (ap pair_copied w.best-is)
     ])
+
+pub offset-requires : goal.offset-requires
+offset-requires g c =
+    let b = c.in-Leaf.leaf in
+    key_short b.value.prefix (key_of_leaf b b.value c.args.link.now c.in-Leaf.is refl c.requires)
+
+pub offset-offset-requires : goal.offset-offset-requires
+offset-offset-requires g c =
+    let b = c.in-Fork.fork in
+    key_short b.value.prefix (key_of_fork b b.value c.args.link.now c.in-Fork.is refl c.requires)
+
+pub offset-offset-requires-in-Full : goal.offset-offset-requires-in-Full
+offset-offset-requires-in-Full g c =
+    let b = c.in-Full.full in
+    key_short b.value.prefix (key_of_full b b.value c.args.link.now c.in-Full.is refl c.requires)
+
+pub returns-then-offset-ge-END-clause-lawful : goal.returns-then-offset-ge-END-clause-lawful
+returns-then-offset-ge-END-clause-lawful g c = tt
+
+pub returns-then-offset-ge-END-clause-down : goal.returns-then-offset-ge-END-clause-down
+returns-then-offset-ge-END-clause-down g c = tt
+
+pub returns-then-offset-ge-END-2-clause-lawful : goal.returns-then-offset-ge-END-2-clause-lawful
+returns-then-offset-ge-END-2-clause-lawful g c = tt
+
+pub returns-then-offset-ge-END-2-clause-down : goal.returns-then-offset-ge-END-2-clause-down
+returns-then-offset-ge-END-2-clause-down g c = tt
+
+pub returns-in-Empty-clause-lawful : goal.returns-in-Empty-clause-lawful
+returns-in-Empty-clause-lawful g c = tt
+
+pub returns-in-Empty-clause-down : goal.returns-in-Empty-clause-down
+returns-in-Empty-clause-down g c = tt
+
+pub returns-after-offset-lt-END-clause-lawful : goal.returns-after-offset-lt-END-clause-lawful
+returns-after-offset-lt-END-clause-lawful g c = tt
+
+pub returns-after-offset-lt-END-clause-down : goal.returns-after-offset-lt-END-clause-down
+returns-after-offset-lt-END-clause-down g c = tt
+
+pub returns-else-offset-ge-END-clause-lawful : goal.returns-else-offset-ge-END-clause-lawful
+returns-else-offset-ge-END-clause-lawful g c =
+    (side_below _ _ _ _ _ _ (of_fork c.in-Fork.fork c.as_ref-fork.result.now c.args.link.now c.in-Fork.is c.as_ref-fork.ensures c.requires) c.offset-offset.result c.side.ensures).0
+
+pub returns-else-offset-ge-END-clause-down : goal.returns-else-offset-ge-END-clause-down
+returns-else-offset-ge-END-clause-down g c =
+    (side_below _ _ _ _ _ _ (of_fork c.in-Fork.fork c.as_ref-fork.result.now c.args.link.now c.in-Fork.is c.as_ref-fork.ensures c.requires) c.offset-offset.result c.side.ensures).1
+
+pub returns-after-full-clause-lawful : goal.returns-after-full-clause-lawful
+returns-after-full-clause-lawful g c =
+    (side_below _ _ _ _ _ _ (of_full c.in-Full.full c.as_ref-full.result.now c.args.link.now c.in-Full.is c.as_ref-full.ensures c.requires) c.offset-offset-in-Full.result c.side-in-Full.ensures).0
+
+pub returns-after-full-clause-down : goal.returns-after-full-clause-down
+returns-after-full-clause-down g c =
+    (side_below _ _ _ _ _ _ (of_full c.in-Full.full c.as_ref-full.result.now c.args.link.now c.in-Full.is c.as_ref-full.ensures c.requires) c.offset-offset-in-Full.result c.side-in-Full.ensures).1
