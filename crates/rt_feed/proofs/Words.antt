@@ -1,9 +1,11 @@
 -- The words of a command and the fields of its line.
-use Rattle.std.proofs.Common.{◌≡◌, ◌≢◌, ℕ, ◌+◌, ◌^◌, ◌<◌, ◌≤◌, ◌/◌, ◌%◌, List, [], ◌∷◌, ◌++◌, All, true, false, not, eqb, decimal, codes, length, length-append, sym, ap, ◌∙◌, slice_index_or, append_assoc, refl, arith}
+use Rattle.std.proofs.Common.{◌≡◌, ◌≢◌, ℕ, ◌+◌, ◌^◌, ◌<◌, ◌≤◌, ◌/◌, ◌%◌, List, [], ◌∷◌, ◌++◌, All, None, true, false, not, eqb, decimal, codes, length, length-append, sym, ap, ◌∙◌, slice_index_or, append_assoc, refl, arith}
 use Rattle.std.specs.List.{join_with_byte, list_all}
 use Rattle.std.proofs.lemmas.List.Splits.{join_with_byte-slice_split, slice_split_at, slice_split_none}
 use Rattle.std.proofs.lemmas.List.Elements.{All-nil, All-cons, All-append}
 use Rattle.std.proofs.lemmas.Bool.{and_parts, not-true, eqb-false}
+use Rattle.std.proofs.Math.Bool.{and-false}
+use Rattle.std.specs.Str.{bytes_eq}
 use Rattle.std.proofs.lemmas.Fmt.{length-decimal-le, decimal_by_steps}
 use Rattle.rt_cidr.specs.declared.prefixes.Prefix.{Prefix}
 use Rattle.rt_cidr.specs.Text.{dot, slash, address_text, prefix_text}
@@ -15,13 +17,30 @@ use Rattle.rt_rib.specs.declared.commands.Cmd.TheVariants.{Add, Replace, Withdra
 use Rattle.rt_feed.specs.declared.versions.Version.{Version}
 use Rattle.rt_feed.specs.CommandText.{space, words, route_words, command_text, HasHop, HasCommand}
 use Rattle.rt_feed.specs.Printed.{hop_text}
-use Rattle.rt_feed.specs.Grammar.{fields, is_skipped}
+use Rattle.rt_feed.specs.Grammar.{fields, is_skipped, kinds_after}
 use Rattle.rt_feed.proofs.Cutting.{is_unspaced}
 use Rattle.rt_feed.proofs.Printing.{hop_fits}
 
 -- a line whose fields are a command's words is the command's text
 pub line-from_words : (line : List ℕ) (cmd : Cmd) → fields line ≡ words cmd → line ≡ command_text cmd
 line-from_words line cmd is = sym (join_with_byte-slice_split space line) ∙ ap (join_with_byte space) is
+
+-- a text is no longer one
+shorter : (text longer : List ℕ) → length text < length longer → bytes_eq text longer ≡ false
+shorter text [] short = absurd (omega (arith, short))
+shorter [] (byte ∷ longer) short = refl
+shorter (a ∷ text) (b ∷ longer) short = rw (shorter text longer (omega (arith, short)), and-false) refl
+
+-- a text of fewer than three bytes is no command's name
+pub too_short : (version : Version) (name : List ℕ) → length name < 3 → kinds_after version name ≡ None
+too_short version name short = simp (
+  shorter name (codes "add") (omega (arith, short)),
+  shorter name (codes "replace") (omega (arith, short)),
+  shorter name (codes "withdraw") (omega (arith, short)),
+  shorter name (codes "lookup") (omega (arith, short)),
+  shorter name (codes "dump") (omega (arith, short)),
+  shorter name (codes "purge") (omega (arith, short)),
+) refl
 
 -- no byte is a space
 abbrev NoSpace : List ℕ → Type 0

@@ -56,7 +56,7 @@ fn put_line<W: Write>(
 /// Puts the table behind what the buffer holds: `table COUNT` and LF, and then each route of the list and LF. After a
 /// fault of the writer, which is handed on, what was written is a beginning of what was held and the table, and the
 /// buffer holds nothing any more. Takes no memory.
-#[tactic(auto, using(crate::proofs::Printing::count_fits, crate::proofs::Printing::row_fits))]
+#[tactic(auto, using(crate::proofs::Printing::count_fits))]
 pub fn write_table<W: Write>(
     w: &mut W,
     buffer: &mut OutputBuffer,
@@ -71,11 +71,27 @@ pub fn write_table<W: Write>(
     prepend_count(&mut text, routes.len());
     buffer.put(w, text.as_bytes())?;
     for route in routes {
-        text.clear();
-        prepend_row(&mut text, route);
-        buffer.put(w, text.as_bytes())?;
+        put_row(w, buffer, &mut text, route)?;
     }
     Ok(())
+}
+
+/// Puts one route of the table behind what the buffer holds. `text` is where it is rendered.
+#[tactic(auto, using(crate::proofs::Printing::row_fits))]
+fn put_row<W: Write>(
+    w: &mut W,
+    buffer: &mut OutputBuffer,
+    text: &mut ShortText,
+    route: &Route,
+) -> Result<(), io::Error>
+    ensures ok { OnOk result (PassesOn (W.contents w.old) (W.contents w.new)
+        buffer.old buffer.new (row_text route.now)) }
+    ensures err { OnErr result (AppendsBeginning (W.contents w.old) (W.contents w.new)
+        (buffer.old ++ row_text route.now)) }
+{
+    text.clear();
+    prepend_row(text, route);
+    buffer.put(w, text.as_bytes())
 }
 
 // Each function below puts its text in front.
