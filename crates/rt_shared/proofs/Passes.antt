@@ -31,6 +31,14 @@ pub all_front : {X : Type 0} (P : X → Type 0) (xs ys : List X) → All P (xs +
 all_front P [] ys all = All-nil P
 all_front P (x ∷ xs) ys all = All-cons P x xs (All-head P x (xs ++ ys) all) (all_front P xs ys (All-tail P x (xs ++ ys) all))
 
+-- the last pass is one of the table's
+pub last_of : (table : SharedId) (passes rest : List HeldPass) (last : HeldPass) → ArePassesOf table passes → passes ≡ rest ++ last ∷ [] → last.table ≡ table
+last_of table passes rest last are is = all_amid (λ (p : HeldPass). p.table ≡ table) rest [] last (subst (All (λ (p : HeldPass). p.table ≡ table)) is are.tables)
+
+-- the lock's own numbers fit
+pub spaced : 64 < 9223372036854775808
+spaced = omega arith
+
 -- what the lock says of its pass holds of the feed's
 pub since_of : (idle : IdlePass Lent) (pass : HeldPass) (now : Lent) → feed_of idle.place ≡ pass.feed → idle.seen.book.journal ≡ pass.seen → Grows idle.place idle.seen now → Since pass.feed pass.seen now.book.journal
 since_of idle pass now feed seen grows =
