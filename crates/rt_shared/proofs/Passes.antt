@@ -35,6 +35,11 @@ all_front P (x ∷ xs) ys all = All-cons P x xs (All-head P x (xs ++ ys) all) (a
 pub last_of : (table : SharedId) (passes rest : List HeldPass) (last : HeldPass) → ArePassesOf table passes → passes ≡ rest ++ last ∷ [] → last.table ≡ table
 last_of table passes rest last are is = all_amid (λ (p : HeldPass). p.table ≡ table) rest [] last (subst (All (λ (p : HeldPass). p.table ≡ table)) is are.tables)
 
+-- a pass of a table is one of its lock
+pub lock_of : (feed : ℕ) (pass : Option (IdlePass Lent)) (idle : IdlePass Lent) (held : HeldPass) (table own : SharedId) → pass ≡ Some idle → held_pass feed pass ≡ held → held.table ≡ table → own ≡ table → idle.lock ≡ own.lock
+lock_of feed pass idle held table own there view of self =
+    ap (λ (p : HeldPass). p.table.lock) (sym (ap (held_pass feed) there) ∙ view) ∙ ap (λ (t : SharedId). t.lock) (of ∙ sym self)
+
 -- the lock's own numbers fit
 pub spaced : 64 < 9223372036854775808
 spaced = omega arith

@@ -1,4 +1,4 @@
-use Rattle.std.proofs.Common.{◌≡◌, Some, ◌∙◌, sym, ap, subst, arith, append-nil, [], ◌++◌, rules, ℕ, List, length}
+use Rattle.std.proofs.Common.{◌≡◌, Some, ◌∙◌, sym, ap, subst, append-nil, [], ◌++◌, rules, ℕ, List, length}
 use Rattle.rt_rib.specs.declared.commands.Entry.{Entry}
 use Rattle.rt_rib.specs.Journal.{IsLawfulJournal}
 use Rattle.ya_lock.specs.Lock.{OpenGuard}
@@ -9,7 +9,7 @@ use Rattle.rt_shared.specs.Table.{HeldPass}
 use Rattle.rt_shared.specs.Pass.{IsThere}
 use Rattle.rt_shared.specs.Keeping.{since_same}
 use Rattle.rt_shared.proofs.Answered.{all_answered, nothing_answered}
-use Rattle.rt_shared.proofs.Passes.{seen_is_lawful}
+use Rattle.rt_shared.proofs.Passes.{lock_of, seen_is_lawful, spaced}
 use Rattle.rt_shared.proofs.shared_rib.SharedRib.apply_batch.Goals as goal
 
 pub returns-then-is_empty-clause-ok : goal.returns-then-is_empty-clause-ok
@@ -32,11 +32,13 @@ returns-then-is_empty-clause-ok g c =
 pub leave-requires : goal.leave-requires
 leave-requires g c =
     let s = c.serve_all.ensures in
-    let there : IsThere c.pass.inside.feed (Some c.in-Some.idle) = subst (IsThere c.pass.inside.feed) {y = Some c.in-Some.idle} (cc) c.pass.invariant in
+    let is : c.pass.inside.pass ≡ Some c.in-Some.idle = cc in
+    let there : IsThere c.pass.inside.feed (Some c.in-Some.idle) = subst (IsThere c.pass.inside.feed) is c.pass.invariant in
     let feed : c.pass.inside.feed ≡ feed_of c.enter-guard.result.place = there.0 ∙ ap feed_of (sym (ap (λ (x : OpenGuard Lent). x.place) c.enter-guard.ensures.guard)) in
     let value : c.get_mut.result.now ≡ c.enter-guard.result.found = c.get_mut.ensures.value ∙ ap (λ (x : OpenGuard Lent). x.value) c.enter-guard.ensures.guard in
-    let lock : c.enter-guard.result.lock ≡ c.self.inside.lock = search rules in (
-      omega arith,
+    let lock : c.enter-guard.result.lock ≡ c.self.inside.lock =
+    ap (λ (x : OpenGuard Lent). x.lock) c.enter-guard.ensures.guard ∙ lock_of c.pass.inside.feed c.pass.inside.pass c.in-Some.idle c.args.pass.now c.args.self.now _ is c.pass.view_is c.requires c.self.view_is in (
+      spaced,
       (
         lock,
         record {
