@@ -1,11 +1,9 @@
 -- Whatever happens, the content holds what each place made, in order, and each entry followed lawfully.
 use Rattle.std.proofs.Common.{◌≡◌, ◌≢◌, ℕ, ◌≤◌, ◌==◌, Bool, true, false, refl, arith, ap, sym, ◌∙◌, subst, ◌⊎◌, inl}
-use Rattle.std.proofs.Common.{inr, if◌then◌else◌, IsTrue, List, [], ◌∷◌, ◌++◌, append_assoc}
+use Rattle.std.proofs.Common.{inr, if◌then◌else◌, List, [], ◌∷◌, ◌++◌, append_assoc}
 use Rattle.std.proofs.lemmas.Bool.Decides.{nat_tests}
 use Rattle.std.proofs.lemmas.List.{append-nil}
-use Rattle.ya_core.specs.declared.process.Process.{Process}
-use Rattle.ya_core.specs.declared.process.Process.TheVariants.{Idle, Entering, Inside, Leaving}
-use Rattle.ya_core.specs.Steps.{State, next_of, access_of, value_of}
+use Rattle.ya_core.specs.Steps.{next_of, access_of, value_of}
 use Rattle.ya_core.specs.Soundness.{IsSound}
 use Rattle.ya_core.specs.Worlds.{Marked, World, Event, Steps, Appends, opening_world, WorldSteps, WorldAppends, Happens}
 use Rattle.ya_core.specs.Worlds.{Runs, IsReached, entries_of, FollowsFrom, IsLawful, is_inside, IsInside, any_entry}

@@ -95,11 +95,6 @@ op_of_due levels place (Leaving level point) begun = op_of_access levels (access
 abbrev pub op_of : Walk → Op
 op_of w = op_of_due w.levels w.place w.process w.begun
 
--- the level whose first access is due on the way in
-abbrev pub level_begun_of : Process → Option ℕ
-level_begun_of (Entering level E1) = Some level
-level_begun_of _ = None
-
 -- how many remote accesses a level can still cost on the way in
 abbrev pub entry_cost : Entry → ℕ
 entry_cost E1 = 7

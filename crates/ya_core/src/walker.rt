@@ -1,12 +1,11 @@
 //! One process that is told what it loaded.
 ghost use Rattle.std.specs.Prelude.{◌≡◌, ◌↔◌, ℕ, ◌+◌, ◌-◌, ◌*◌, ◌^◌, ◌<◌, ◌≤◌, true, false, IsTrue, IsFalse};
 ghost use Rattle.ya_core.specs.declared.process.Process.TheVariants.{Idle, Inside, Entering};
-ghost use Rattle.ya_core.specs.declared.process.Entry.TheVariants.{E1};
 ghost use Rattle.ya_core.specs.Tree.{node_of, side_of};
 ghost use Rattle.ya_core.specs.Steps.{access_of};
 ghost use Rattle.ya_core.specs.Walks.{IsWalk, walk, op_of, due, Fits, IsStore, CanStand, cost_of, walk_after, budget};
 ghost use Rattle.ya_core.specs.Walks.{MovesOn, OpIsWithin};
-ghost use Rattle.ya_core.specs.Walks.{level_begun_of, DueIsWithin, IsTold, LevelIsSmall, due_of};
+ghost use Rattle.ya_core.specs.Walks.{DueIsWithin, IsTold, LevelIsSmall, due_of};
 
 use crate::process::{Entry, Process};
 use crate::shape::Shape;
@@ -99,31 +98,28 @@ impl Walker {
         }
     }
 
-    /// The process of that place at the first access of a level on its way in, after so many remote accesses.
+    /// The process of that place at that point of a level on its way in, after so many remote accesses.
     #[inline(always)]
-    pub fn entering(shape: Shape, place: usize, level: u32, remote: u64) -> Walker
-        requires { IsWalk (walk shape place (Entering level E1) false remote) }
-        ensures { result ≡ walk shape place (Entering level E1) false remote }
+    pub fn entering(shape: Shape, place: usize, level: u32, point: Entry, remote: u64) -> Walker
+        requires { IsWalk (walk shape place (Entering level point) false remote) }
+        ensures { result ≡ walk shape place (Entering level point) false remote }
     {
         Walker {
             shape,
             place,
-            process: Process::Entering(level, Entry::E1),
+            process: Process::Entering(level, point),
             begun: false,
             remote,
         }
     }
 
-    /// The level whose first access is due on the way in; none at any other point, and none where the process is idle.
+    /// Where the process stands.
     #[inline(always)]
-    pub fn level_begun(&self) -> Option<u32>
-        ensures value { result ≡ level_begun_of self.now.process }
+    pub fn process(&self) -> Process
+        ensures value { result ≡ self.now.process }
         ensures proper { IsWalk self.now }
     {
-        match self.process {
-            Process::Entering(level, Entry::E1) => Some(level),
-            _ => None,
-        }
+        self.process
     }
 
     /// What the process asks for. The number of a word is below the number of words.

@@ -1,7 +1,8 @@
 //! The way in and the way out: each access is one step of a walker of the core, by the seat of its place.
-ghost use Rattle.std.specs.Prelude.{◌≡◌, ◌≢◌, ℕ, [], ◌+◌, ◌*◌, ◌^◌, ◌<◌, ◌≤◌, IfSome};
-ghost use Rattle.ya_core.specs.declared.process.Process.TheVariants.{Idle};
-ghost use Rattle.ya_core.specs.Walks.{IsWalk, op_of, walk_after, MovesOn, budget};
+ghost use Rattle.std.specs.Prelude.{◌≡◌, ◌≢◌, ℕ, [], ◌+◌, ◌*◌, ◌^◌, ◌<◌, ◌≤◌, false, IfSome};
+ghost use Rattle.ya_core.specs.declared.process.Process.TheVariants.{Idle, Entering};
+ghost use Rattle.ya_core.specs.declared.process.Entry.TheVariants.{E5};
+ghost use Rattle.ya_core.specs.Walks.{IsWalk, walk, op_of, walk_after, MovesOn, budget, points_ahead};
 ghost use Rattle.ya_core.specs.Worlds.{is_inside};
 ghost use Rattle.ya_lock.specs.declared.view.View.TheVariants.{Member};
 ghost use Rattle.ya_lock.specs.Moves.{IsReady, Goes};
@@ -15,7 +16,7 @@ use crate::rule::{LockSeat, SPACING};
 use crate::tree_lock::TreeLock;
 use crossbeam_utils::Backoff;
 use std::sync::Wait;
-use ya_core::{Op, Walker};
+use ya_core::{Entry, Exit, Op, Process, Walker};
 
 /// Where an entry has come to, after so many remote accesses.
 #[derive(Clone, Copy)]
@@ -52,47 +53,103 @@ impl<V: Kept + Drop, const L: u32> TreeLock<V, L> {
             self.come(seat, &mut walker, seen);
             self.come(seat, &mut walker, seen);
             self.come(seat, &mut walker, seen);
-            let climb = match self.climbed(seat, &walker, seen) {
-                Some(climb) => climb,
-                None => self.wait_in(rt, seat, walker, seen),
+            let remote = walker.remote();
+            let climb = match walker.process() {
+                Process::Entering(level, Entry::E5(rival)) => {
+                    Some(self.compete(rt, seat, place, level, rival, remote, seen))
+                }
+                _ => self.climbed(seat, &walker, seen),
             };
             match climb {
-                Climb::Level(level, remote) => {
-                    walker = Walker::entering(Self::shape(), place, level, remote);
+                Some(Climb::Level(level, remote)) => {
+                    walker = Walker::entering(Self::shape(), place, level, Entry::E1, remote);
                 }
-                Climb::Inside(remote) => return remote,
+                Some(Climb::Inside(remote)) => return remote,
+                None => {}
             }
         }
         unreachable!()
     }
 
-    /// Makes the accesses of a level where a rival competes, until it is won. Between two loads that find the place's
-    /// spin word as it was, it lets other threads go on.
+    /// Makes the accesses of a level where a rival competes, until it is won. They are written out too.
     #[inline(never)]
-    fn wait_in<R: Wait>(
+    fn compete<R: Wait>(
         &self,
         rt: &R,
         seat: &mut LockSeat<V>,
-        mut walker: Walker,
+        place: usize,
+        level: u32,
+        rival: usize,
+        remote: u64,
         seen: &Recall<V>,
     ) -> Climb
         requires lock { seat.old.table_id ≡ self.now }
-        requires levels { walker.levels ≡ L }
-        requires coming { IsComing V.since seen.now.value walker seat.old.me }
+        requires proper { IsWalk (walk L place (Entering level (E5 rival)) false remote) }
+        requires coming { seat.old.me ≡ (Member place (Entering level (E5 rival)) seen.now.value, []) }
         ensures lock { seat.new.table_id ≡ seat.old.table_id }
-        ensures climbed { HasClimbed V.since L walker.place seen.now.value result seat.new.me }
+        ensures climbed { HasClimbed V.since L place seen.now.value result seat.new.me }
     {
-        let backoff = Backoff::new();
+        let mut walker =
+            Walker::entering(Self::shape(), place, level, Entry::E5(rival), remote);
+        self.come(seat, &mut walker, seen);
+        if let Some(climb) = self.climbed(seat, &walker, seen) {
+            return climb;
+        }
+        self.come(seat, &mut walker, seen);
+        if let Process::Entering(_, Entry::E7(_)) = walker.process() {
+            self.come(seat, &mut walker, seen);
+        }
+        let mut walker = self.spin(rt, seat, place, walker, seen);
+        if let Process::Entering(level, Entry::E9) = walker.process() {
+            walker = Walker::entering(Self::shape(), place, level, Entry::E9, walker.remote());
+            self.come(seat, &mut walker, seen);
+        }
         for _ in rt.forever() {
             if let Some(climb) = self.climbed(seat, &walker, seen) {
                 return climb;
             }
-            let due = walker.op();
-            self.come(seat, &mut walker, seen);
-            if walker.op() == due {
+            walker = self.spin(rt, seat, place, walker, seen);
+        }
+        unreachable!()
+    }
+
+    /// Loads its spin word while the process waits for it, and lets other threads go on between two loads. A process
+    /// that doesn't wait stays where it stands.
+    #[inline(never)]
+    fn spin<R: Wait>(
+        &self,
+        rt: &R,
+        seat: &mut LockSeat<V>,
+        place: usize,
+        walker: Walker,
+        seen: &Recall<V>,
+    ) -> Walker
+        requires lock { seat.old.table_id ≡ self.now }
+        requires levels { walker.levels ≡ L }
+        requires place { walker.place ≡ place }
+        requires coming { IsComing V.since seen.now.value walker seat.old.me }
+        ensures lock { seat.new.table_id ≡ seat.old.table_id }
+        ensures levels { result.levels ≡ L }
+        ensures place { result.place ≡ place }
+        ensures coming { IsComing V.since seen.now.value result seat.new.me }
+    {
+        let mut walker = walker;
+        let backoff = Backoff::new();
+        for _ in rt.forever() {
+            let remote = walker.remote();
+            match walker.process() {
+                Process::Entering(level, Entry::E8) => {
+                    walker = Walker::entering(Self::shape(), place, level, Entry::E8, remote);
+                    self.come(seat, &mut walker, seen);
+                }
+                Process::Entering(level, Entry::E10) => {
+                    walker = Walker::entering(Self::shape(), place, level, Entry::E10, remote);
+                    self.come(seat, &mut walker, seen);
+                }
+                _ => return walker,
+            }
+            if matches!(walker.process(), Process::Entering(_, Entry::E8 | Entry::E10)) {
                 backoff.snooze();
-            } else {
-                backoff.reset();
             }
         }
         unreachable!()
@@ -106,16 +163,15 @@ impl<V: Kept + Drop, const L: u32> TreeLock<V, L> {
         ensures { IfSome result
             (λ climb. HasClimbed V.since L walker.now.place seen.now.value climb seat.now.me) }
     {
-        if let Some(level) = walker.level_begun() {
-            return Some(Climb::Level(level, walker.remote()));
+        match walker.process() {
+            Process::Entering(level, Entry::E1) => Some(Climb::Level(level, walker.remote())),
+            Process::Inside => Some(Climb::Inside(walker.remote())),
+            _ => None,
         }
-        if matches!(walker.op(), Op::Inside) {
-            return Some(Climb::Inside(walker.remote()));
-        }
-        None
     }
 
-    /// Makes the accesses of an exit until its place is idle, and says how many of all since the entry were remote.
+    /// Makes the accesses of an exit until its place is idle, and says how many of all since the entry were remote. As on
+    /// the way in, those of a level are written out: who came last is read, a rival is woken, the next level is given free.
     #[inline(always)]
     pub(crate) fn go_out(&self, seat: &mut LockSeat<V>, mut walker: Walker, seen: &Recall<V>) -> u64
         requires lock { seat.old.table_id ≡ self.now }
@@ -127,7 +183,11 @@ impl<V: Kept + Drop, const L: u32> TreeLock<V, L> {
         ensures most { result ≤ walker.remote + budget walker }
     {
         loop {
-            if matches!(walker.op(), Op::Idle) {
+            self.go(seat, &mut walker, seen);
+            if let Process::Leaving(_, Exit::X3(_)) = walker.process() {
+                self.go(seat, &mut walker, seen);
+            }
+            if let Process::Idle = walker.process() {
                 return walker.remote();
             }
             self.go(seat, &mut walker, seen);
@@ -151,24 +211,26 @@ impl<V: Kept + Drop, const L: u32> TreeLock<V, L> {
         }
     }
 
-    /// The next access of an exit, which is not over yet.
+    /// The next access of an exit; none where the place is idle.
     #[inline(always)]
     fn go(&self, seat: &mut LockSeat<V>, walker: &mut Walker, seen: &Recall<V>)
         requires lock { seat.old.table_id ≡ self.now }
         requires levels { walker.old.levels ≡ L }
         requires going { IsGoing seen.now.value walker.old seat.old.me }
-        requires due { op_of walker.old ≢ Op.Idle }
         ensures lock { seat.new.table_id ≡ seat.old.table_id }
         ensures levels { walker.new.levels ≡ L }
         ensures place { walker.new.place ≡ walker.old.place }
         ensures going { IsGoing seen.now.value walker.new seat.new.me }
-        ensures onward { MovesOn walker.old walker.new }
+        ensures onward { op_of walker.old ≢ Op.Idle → points_ahead walker.new < points_ahead walker.old }
+        ensures ahead { points_ahead walker.new ≤ points_ahead walker.old }
         ensures least { walker.old.remote ≤ walker.new.remote }
         ensures budget { walker.new.remote + budget walker.new
             ≤ walker.old.remote + budget walker.old }
     {
         let due = walker.op();
-        self.step(seat, walker, due);
+        if !matches!(due, Op::Idle) {
+            self.step(seat, walker, due);
+        }
     }
 
     /// The access that is due to the walker, which `due` names, by its seat.

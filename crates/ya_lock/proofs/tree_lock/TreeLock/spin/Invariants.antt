@@ -1,11 +1,11 @@
 use Rattle.std.proofs.Common.{◌≡◌}
 use Rattle.ya_lock.specs.Lock.{IsComing}
-use Rattle.ya_lock.proofs.tree_lock.TreeLock.wait_in.Given as goal
+use Rattle.ya_lock.proofs.tree_lock.TreeLock.spin.Given as goal
 
 abbrev pub invariant-loop : goal.invariant-loop
 invariant-loop g l = record {
   lock : l.seat.table_id ≡ l.self;
   levels : l.walker.levels ≡ g.row.L;
-  place : l.walker.place ≡ l.initial.walker.place;
+  place : l.walker.place ≡ l.place;
   coming : IsComing g.V.Kept.since l.seen.value l.walker l.seat.me;
 }
