@@ -89,8 +89,7 @@ impl<V: Kept + Drop, const L: u32> TreeLock<V, L> {
         ensures lock { seat.new.table_id ≡ seat.old.table_id }
         ensures climbed { HasClimbed V.since L place seen.now.value result seat.new.me }
     {
-        let mut walker =
-            Walker::entering(Self::shape(), place, level, Entry::E5(rival), remote);
+        let mut walker = Walker::entering(Self::shape(), place, level, Entry::E5(rival), remote);
         self.come(seat, &mut walker, seen);
         if let Some(climb) = self.climbed(seat, &walker, seen) {
             return climb;
@@ -148,7 +147,10 @@ impl<V: Kept + Drop, const L: u32> TreeLock<V, L> {
                 }
                 _ => return walker,
             }
-            if matches!(walker.process(), Process::Entering(_, Entry::E8 | Entry::E10)) {
+            if matches!(
+                walker.process(),
+                Process::Entering(_, Entry::E8 | Entry::E10)
+            ) {
                 backoff.snooze();
             }
         }
