@@ -1,8 +1,7 @@
 //! The way in and the way out: each access is one step of a walker of the core, by the seat of its place.
-ghost use Rattle.std.specs.Prelude.{◌≡◌, ◌≢◌, ℕ, [], ◌+◌, ◌*◌, ◌^◌, ◌<◌, ◌≤◌, false, IfSome};
-ghost use Rattle.ya_core.specs.declared.process.Process.TheVariants.{Idle, Entering};
-ghost use Rattle.ya_core.specs.declared.process.Entry.TheVariants.{E5};
-ghost use Rattle.ya_core.specs.Walks.{IsWalk, walk, op_of, walk_after, MovesOn, budget, points_ahead};
+ghost use Rattle.std.specs.Prelude.{◌≡◌, ◌≢◌, ℕ, [], ◌+◌, ◌*◌, ◌^◌, ◌<◌, ◌≤◌, IfSome};
+ghost use Rattle.ya_core.specs.declared.process.Process.TheVariants.{Idle};
+ghost use Rattle.ya_core.specs.Walks.{IsWalk, op_of, walk_after, MovesOn, budget, points_ahead};
 ghost use Rattle.ya_core.specs.Worlds.{is_inside};
 ghost use Rattle.ya_lock.specs.declared.view.View.TheVariants.{Member};
 ghost use Rattle.ya_lock.specs.Moves.{IsReady, Goes};
@@ -53,19 +52,15 @@ impl<V: Kept + Drop, const L: u32> TreeLock<V, L> {
             self.come(seat, &mut walker, seen);
             self.come(seat, &mut walker, seen);
             self.come(seat, &mut walker, seen);
-            let remote = walker.remote();
-            let climb = match walker.process() {
-                Process::Entering(level, Entry::E5(rival)) => {
-                    Some(self.compete(rt, seat, place, level, rival, remote, seen))
-                }
-                _ => self.climbed(seat, &walker, seen),
+            let climb = match self.climbed(seat, &walker, seen) {
+                Some(climb) => climb,
+                None => self.compete(rt, seat, place, walker, seen),
             };
             match climb {
-                Some(Climb::Level(level, remote)) => {
+                Climb::Level(level, remote) => {
                     walker = Walker::entering(Self::shape(), place, level, Entry::E1, remote);
                 }
-                Some(Climb::Inside(remote)) => return remote,
-                None => {}
+                Climb::Inside(remote) => return remote,
             }
         }
         unreachable!()
@@ -78,25 +73,27 @@ impl<V: Kept + Drop, const L: u32> TreeLock<V, L> {
         rt: &R,
         seat: &mut LockSeat<V>,
         place: usize,
-        level: u32,
-        rival: usize,
-        remote: u64,
+        mut walker: Walker,
         seen: &Recall<V>,
     ) -> Climb
         requires lock { seat.old.table_id ≡ self.now }
-        requires proper { IsWalk (walk L place (Entering level (E5 rival)) false remote) }
-        requires coming { seat.old.me ≡ (Member place (Entering level (E5 rival)) seen.now.value, []) }
+        requires levels { walker.levels ≡ L }
+        requires place { walker.place ≡ place }
+        requires coming { IsComing V.since seen.now.value walker seat.old.me }
         ensures lock { seat.new.table_id ≡ seat.old.table_id }
         ensures climbed { HasClimbed V.since L place seen.now.value result seat.new.me }
     {
-        let mut walker = Walker::entering(Self::shape(), place, level, Entry::E5(rival), remote);
-        self.come(seat, &mut walker, seen);
-        if let Some(climb) = self.climbed(seat, &walker, seen) {
-            return climb;
-        }
-        self.come(seat, &mut walker, seen);
-        if let Process::Entering(_, Entry::E7(_)) = walker.process() {
+        if let Process::Entering(level, Entry::E5(rival)) = walker.process() {
+            let remote = walker.remote();
+            walker = Walker::entering(Self::shape(), place, level, Entry::E5(rival), remote);
             self.come(seat, &mut walker, seen);
+            if let Some(climb) = self.climbed(seat, &walker, seen) {
+                return climb;
+            }
+            self.come(seat, &mut walker, seen);
+            if let Process::Entering(_, Entry::E7(_)) = walker.process() {
+                self.come(seat, &mut walker, seen);
+            }
         }
         let mut walker = self.spin(rt, seat, place, walker, seen);
         if let Process::Entering(level, Entry::E9) = walker.process() {
