@@ -1,6 +1,6 @@
 //! The same program in plain Rust, std alone: what the benchmark compares `yarib run` with.
-//! One thread takes the files in turn, each as a feed of version 1; a trie of boxes holds the offers of each prefix, a list
-//! the journal; parsing without a crate, output in one large write.
+//! One thread takes the files in turn, each as a feed; a trie of boxes holds the offers of each prefix, a list the journal;
+//! parsing without a crate, output in one large write.
 use std::io::Write;
 use std::{env, fs, io, mem};
 
@@ -21,10 +21,16 @@ impl Prefix {
 }
 
 #[derive(Clone, Copy)]
+enum Hop {
+    Address(u32),
+    Discard,
+}
+
+#[derive(Clone, Copy)]
 struct Offer {
     feed: u32,
     pref: u32,
-    hop: u32,
+    hop: Hop,
 }
 
 /// The offers of a prefix by preference and feed.
@@ -133,6 +139,23 @@ fn take(link: &mut Option<Box<Node>>, p: Prefix, feed: u32) {
     }
 }
 
+/// Takes all of the feed's offers out in one walk, and the nodes that nothing needs any more; `left` of them are still to come.
+fn take_all(link: &mut Option<Box<Node>>, feed: u32, left: &mut usize) {
+    let Some(node) = link else { return };
+    if *left == 0 {
+        return;
+    }
+    if node.offers.has(feed) {
+        node.offers.take(feed);
+        *left -= 1;
+    }
+    node.sides.iter_mut().for_each(|side| take_all(side, feed, left));
+    if node.offers.as_slice().is_empty() && node.sides.iter().any(|side| side.is_none()) {
+        let [left, right] = mem::take(&mut node.sides);
+        *link = left.or(right);
+    }
+}
+
 fn longest(root: &Option<Box<Node>>, address: u32) -> Option<(Prefix, Offer)> {
     let mut best = None;
     let mut link = root;
@@ -153,11 +176,12 @@ fn longest(root: &Option<Box<Node>>, address: u32) -> Option<(Prefix, Offer)> {
 
 #[derive(Clone, Copy)]
 enum Command {
-    Add(Prefix, u32, u32),
-    Replace(Prefix, u32, u32),
+    Add(Prefix, u32, Hop),
+    Replace(Prefix, u32, Hop),
     Withdraw(Prefix),
     Lookup(u32),
     Dump,
+    Purge,
 }
 
 #[derive(Clone, Copy)]
@@ -171,6 +195,7 @@ enum Reply {
     Found(Prefix, Offer),
     NoRoute,
     Dumped(usize),
+    Purged(usize),
 }
 
 /// One answered command of the journal, which nobody reads here.
@@ -235,6 +260,12 @@ impl Table {
                 None => Reply::NoRoute,
             },
             Command::Dump => Reply::Dumped(self.len),
+            Command::Purge => {
+                let gone = self.counts[own];
+                take_all(&mut self.root, feed, &mut self.counts[own]);
+                self.len -= gone;
+                Reply::Purged(gone)
+            }
         }
     }
 }
@@ -271,7 +302,14 @@ fn prefix(text: &[u8]) -> Result<Prefix, &'static str> {
     Ok(Prefix { base, len: len as u8 })
 }
 
-fn parse(line: &[u8]) -> Result<Command, &'static str> {
+fn hop(text: &[u8], is_second: bool) -> Option<Hop> {
+    if is_second && text == b"discard" {
+        return Some(Hop::Discard);
+    }
+    address(text).map(Hop::Address)
+}
+
+fn parse(line: &[u8], is_second: bool) -> Result<Command, &'static str> {
     if line.len() > 128 {
         return Err("E8");
     }
@@ -279,15 +317,17 @@ fn parse(line: &[u8]) -> Result<Command, &'static str> {
     let mut fields = [&line[..0]; 5];
     let count = fields.iter_mut().zip(words.by_ref()).map(|(field, word)| *field = word).count();
     match &fields[..count] {
-        [word @ (b"add" | b"replace"), at, pref, hop] => {
+        [word @ (b"add" | b"replace"), at, pref, to] => {
             let prefix = prefix(at)?;
             let pref = decimal(pref).filter(|pref| *pref < 1 << 32).ok_or("E6")? as u32;
-            let hop = address(hop).ok_or("E7")?;
+            let hop = hop(to, is_second).ok_or("E7")?;
             Ok(if word == b"add" { Command::Add(prefix, pref, hop) } else { Command::Replace(prefix, pref, hop) })
         }
         [b"withdraw", at] => Ok(Command::Withdraw(prefix(at)?)),
         [b"lookup", at] => Ok(Command::Lookup(address(at).ok_or("E3")?)),
         [b"dump"] => Ok(Command::Dump),
+        [b"purge"] if is_second => Ok(Command::Purge),
+        [b"purge", ..] if is_second => Err("E2"),
         [b"add" | b"replace" | b"withdraw" | b"lookup" | b"dump", ..] => Err("E2"),
         _ => Err("E1"),
     }
@@ -301,7 +341,10 @@ fn show_address(out: &mut Vec<u8>, address: u32) {
 fn show_route(out: &mut Vec<u8>, prefix: Prefix, offer: Offer) {
     show_address(out, prefix.base);
     write!(out, "/{} feed {} pref {} via ", prefix.len, offer.feed, offer.pref).unwrap();
-    show_address(out, offer.hop);
+    match offer.hop {
+        Hop::Address(hop) => show_address(out, hop),
+        Hop::Discard => out.extend_from_slice(b"discard"),
+    }
 }
 
 fn show_reply(out: &mut Vec<u8>, reply: Reply) {
@@ -318,6 +361,7 @@ fn show_reply(out: &mut Vec<u8>, reply: Reply) {
             return show_route(out, prefix, offer);
         }
         Reply::Dumped(count) => return write!(out, "dumped {count}").unwrap(),
+        Reply::Purged(count) => return write!(out, "purged {count}").unwrap(),
     };
     out.extend_from_slice(word);
 }
@@ -338,12 +382,13 @@ fn main() -> io::Result<()> {
     let mut out = Vec::new();
     for (feed, text) in (1..).zip(&texts) {
         let whole = text.strip_suffix(b"\n").unwrap_or(text);
-        for (number, line) in (1..).zip(whole.split(|byte| *byte == b'\n')) {
+        let is_second = whole.split(|byte| *byte == b'\n').next() == Some(b"version 2");
+        for (number, line) in (1..).zip(whole.split(|byte| *byte == b'\n')).skip(usize::from(is_second)) {
             if line.is_empty() || line[0] == b'#' && line.len() <= 128 {
                 continue;
             }
             write!(out, "{feed}:{number} ")?;
-            match parse(line) {
+            match parse(line, is_second) {
                 Ok(command) => show_reply(&mut out, table.apply(feed, command)),
                 Err(fault) => write!(out, "fault {fault}")?,
             }
