@@ -13,7 +13,6 @@ ghost use Rattle.rt_shared.specs.Laws.{SinceAgain, AnsweredInPieces, UncutAtFirs
 use crate::lent::Lent;
 use crate::sequential::SequentialTable;
 use rt_rib::laws::{lawful_by_entry, left_by_entry, look_up_finds_best};
-use rt_rib::{Cmd, Reply};
 use ya_core::laws::{content, exclusion};
 use ya_lock::laws::rule;
 
@@ -64,7 +63,7 @@ pub fn headline<const LIMIT: u32>()
     ensures table { (levels : ℕ) (world : World Act) → IsRunTo LIMIT levels world → IsTable (table_left LIMIT (journal_of world.content)) }
     ensures best { (levels : ℕ) (world : World Act) → IsRunTo LIMIT levels world → FindsBest LIMIT (journal_of world.content) }
 {
-    exclusion::<(Cmd, Reply)>();
+    exclusion();
     content::<SequentialTable<LIMIT>>();
     journal::<LIMIT>();
     left_by_entry();

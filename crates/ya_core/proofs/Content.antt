@@ -3,10 +3,10 @@ use Rattle.std.proofs.Common.{◌≡◌, ◌≢◌, ℕ, ◌≤◌, ◌==◌, Bo
 use Rattle.std.proofs.Common.{inr, if◌then◌else◌, List, [], ◌∷◌, ◌++◌, append_assoc}
 use Rattle.std.proofs.lemmas.Bool.Decides.{nat_tests}
 use Rattle.std.proofs.lemmas.List.{append-nil}
-use Rattle.ya_core.specs.Steps.{next_of, access_of, value_of}
+use Rattle.ya_core.specs.Steps.{State, LeadTo, next_of, access_of, value_of}
 use Rattle.ya_core.specs.Soundness.{IsSound}
 use Rattle.ya_core.specs.Worlds.{Marked, World, Event, Steps, Appends, opening_world, WorldSteps, WorldAppends, Happens}
-use Rattle.ya_core.specs.Worlds.{Runs, IsReached, entries_of, FollowsFrom, IsLawful, is_inside, IsInside, any_entry}
+use Rattle.ya_core.specs.Worlds.{Runs, IsReached, entries_of, FollowsFrom, IsLawful, is_inside, IsInside, any_entry, places_of}
 use Rattle.ya_core.proofs.Level.{or_else}
 use Rattle.ya_core.proofs.Invariant.{keeps, opens, is_inside_is, excludes}
 
@@ -274,3 +274,19 @@ any_run levels ok (Appends place entry ∷ events) old new run = (
   },
   any_run levels ok events run.0 new run.2,
 )
+
+-- the state of a world is the one to which its steps lead
+pub steps_lead : {X : Type 0} (levels : ℕ) (ok : List (Marked X) → Marked X → Type 0) (events : List (Event X))
+    (old new : World X) → Runs levels ok old events new → LeadTo levels old.state (places_of events) new.state
+steps_lead levels ok [] old new run = ap (λ w. w.state) run
+steps_lead levels ok (Steps place ∷ events) old new run =
+    (run.0.state, run.1.state, steps_lead levels ok events run.0 new run.2)
+steps_lead levels ok (Appends place entry ∷ events) old new run =
+    subst (λ s. LeadTo levels s (places_of events) new.state) run.1.state (steps_lead levels ok events run.0 new run.2)
+
+-- each state to which places lead is sound
+pub sound_after : (levels : ℕ) (places : List ℕ) (old new : State) → 1 ≤ levels → IsSound levels old
+    → LeadTo levels old places new → IsSound levels new
+sound_after levels [] old new some is lead = subst (IsSound levels) (sym lead) is
+sound_after levels (place ∷ places) old new some is lead =
+    sound_after levels places lead.0 new some (keeps levels place old lead.0 some is lead.1) lead.2

@@ -1,5 +1,5 @@
 -- The steps of one process, and what each makes of all words and all processes.
-use Rattle.std.specs.Prelude.{◌≡◌, ◌≢◌, ℕ, ◌+◌, ◌-◌, ◌^◌, ◌<◌, ◌==◌, nat_lt, if◌then◌else◌}
+use Rattle.std.specs.Prelude.{◌≡◌, ◌≢◌, ℕ, ◌+◌, ◌-◌, ◌^◌, ◌<◌, ◌==◌, nat_lt, if◌then◌else◌, List, [], ◌∷◌}
 use Rattle.ya_core.specs.declared.word.Word.{Word}
 use Rattle.ya_core.specs.declared.word.Word.TheVariants.{C, T, P}
 use Rattle.ya_core.specs.declared.word.Access.{Access}
@@ -100,3 +100,9 @@ pub record StepsTo (levels place : ℕ) (old new : State) : Type 0 where
       new.processes place ≡ next_of levels place (old.processes place)
       (value_of old.words (access_of levels place (old.processes place)))
   pub others : (other : ℕ) → other ≢ place → new.processes other ≡ old.processes other
+
+-- these places step one after another, and so lead from the one state to the other
+abbrev pub LeadTo : ℕ → State → List ℕ → State → Type 0
+LeadTo levels old [] new = new ≡ old
+LeadTo levels old (place ∷ places) new =
+    (next : State) × StepsTo levels place old next × LeadTo levels next places new

@@ -81,6 +81,12 @@ Runs {X} levels may old (event ∷ events) new =
 abbrev pub IsReached : {X : Type 0} → ℕ → (List (Marked X) → Marked X → Type 0) → List (Event X) → World X → Type 0
 IsReached levels may events world = Runs levels may opening_world events world
 
+-- the places that step in these events
+abbrev pub places_of : {X : Type 0} → List (Event X) → List ℕ
+places_of [] = []
+places_of (Steps place ∷ events) = place ∷ places_of events
+places_of (Appends place entry ∷ events) = places_of events
+
 -- any entry may follow
 abbrev pub any_entry : {X : Type 0} → List (Marked X) → Marked X → Type 0
 any_entry before entry = Unit {0}

@@ -4,14 +4,14 @@
 ghost use Rattle.std.specs.Prelude.{◌≡◌, ◌≢◌, ℕ, ◌+◌, ◌*◌, ◌^◌, ◌<◌, ◌≤◌, List, ◌∷◌, ◌++◌};
 ghost use Rattle.ya_core.specs.declared.word.Word.{Word};
 ghost use Rattle.ya_core.specs.Tree.{IsWord, number_of, count_of_words};
-ghost use Rattle.ya_core.specs.Steps.{State, StepsTo, opening, access_of, value_of};
+ghost use Rattle.ya_core.specs.Steps.{State, StepsTo, LeadTo, opening, access_of, value_of};
 ghost use Rattle.ya_core.specs.Soundness.{IsSound};
 ghost use Rattle.ya_core.specs.declared.process.Process.TheVariants as process;
 ghost use Rattle.ya_core.specs.Progress.{SomeoneGoesOn, SomeoneGoesOnIn, LevelStep, announces};
 ghost use Rattle.ya_core.specs.Progress.{LevelSees, HasNotWon, times_overtaken};
 ghost use Rattle.ya_core.specs.Walks.{Walk, IsWalk, Enters, Leaves, Goes, AccessIsWithin, MayFind};
 ghost use Rattle.ya_core.specs.Worlds.{Marked, World, Event, WorldSteps, WorldAppends};
-ghost use Rattle.ya_core.specs.Worlds.{IsReached, IsInside, IsLawful, any_entry, entries_of};
+ghost use Rattle.ya_core.specs.Worlds.{IsReached, IsInside, IsLawful, any_entry, entries_of, places_of};
 
 /// The invariant holds at the start, and each step of any place keeps it, in a tree of any number of levels.
 pub fn soundness()
@@ -52,11 +52,12 @@ pub fn freedom<X>()
         → IsInside old.state place → (new : World X) × WorldAppends any_entry place entry old new }
 {}
 
-/// At most one place is inside, in every world that any list of events leads to, whatever the entries are.
-pub fn exclusion<X>()
-    ensures { (levels : ℕ) (events : List (Event X)) (world : World X)
-        → 1 ≤ levels → IsReached levels any_entry events world
-        → (p q : ℕ) → IsInside world.state p → IsInside world.state q → p ≡ q }
+/// At most one place is inside, in every state to which any list of places leads that step one after another. So it is
+/// in every world, whatever the entries are: its state is one of these, as `content` (`state`) says.
+pub fn exclusion()
+    ensures { (levels : ℕ) (places : List ℕ) (s : State)
+        → 1 ≤ levels → LeadTo levels opening places s
+        → (p q : ℕ) → IsInside s p → IsInside s q → p ≡ q }
 {}
 
 /// Nobody waits for ever in vain: where the invariant holds and some place takes part, some place that takes part has a
@@ -99,8 +100,11 @@ pub trait Accept {
 
 /// In every world that any list of events leads to, the entries of each place in the content are those that it made, in
 /// order. Where each entry was acceptable to the copy that it was appended to, each is so to the entries before it;
-/// such a run is a run like any other.
+/// such a run is a run like any other. Whatever is appended, the world's state is the one to which its steps lead.
 pub fn content<K: Accept>()
+    ensures state { (levels : ℕ) (events : List (Event K.Entry)) (world : World K.Entry)
+        → IsReached levels any_entry events world
+        → LeadTo levels opening (places_of events) world.state }
     ensures kept { (levels : ℕ) (events : List (Event K.Entry)) (world : World K.Entry)
         → 1 ≤ levels → IsReached levels any_entry events world
         → (place : ℕ) → entries_of place world.content ≡ world.made place }

@@ -133,7 +133,7 @@ fn laws_can_be_called() {
     laws::numbers();
     laws::accesses();
     laws::freedom::<u64>();
-    laws::exclusion::<u64>();
+    laws::exclusion();
     laws::no_deadlock::<u64>();
     laws::one_overtaking();
     laws::access_count();

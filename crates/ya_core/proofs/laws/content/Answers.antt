@@ -1,6 +1,9 @@
 use Rattle.ya_core.specs.Worlds.{any_entry, opening_world}
-use Rattle.ya_core.proofs.Content.{kept, any_run}
+use Rattle.ya_core.proofs.Content.{kept, any_run, steps_lead}
 use Rattle.ya_core.proofs.laws.content.Goals as goal
+
+pub returns-clause-state : goal.returns-clause-state
+returns-clause-state g c = λ levels events world run. steps_lead levels any_entry events opening_world world run
 
 pub returns-clause-kept : goal.returns-clause-kept
 returns-clause-kept g c = λ levels events world some run. (kept levels any_entry some events world run).made
