@@ -69,7 +69,7 @@ nearer_exit levels level place (X3 rival) value = omega (arith, points_left leve
 
 -- a step takes a process to a later point or level, but for a load that found a waiting process its own spin word
 -- unchanged
-nearer : (levels place : ℕ) (x : Process) (begun : Bool) (value : ℕ) → 1 ≤ levels → IsProper levels place x
+pub nearer : (levels place : ℕ) (x : Process) (begun : Bool) (value : ℕ) → 1 ≤ levels → IsProper levels place x
     → IsTold (due_of levels place x begun) value
     → (points_of levels (next_of levels place x value) false < points_of levels x begun)
     ⊎ (IsTrue (is_waiting x) × (next_of levels place x value ≡ x))

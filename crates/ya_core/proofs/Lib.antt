@@ -10,6 +10,7 @@ pub mod LevelSteps
 pub mod Invariant
 pub mod Content
 pub mod Deadlock
+pub mod Arrival
 pub mod Overtaking
 pub mod Outcomes
 pub mod NamedWords

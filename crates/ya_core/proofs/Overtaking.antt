@@ -1,5 +1,5 @@
--- At a node nobody is overtaken twice: once the other side won, a place that waits is named by T only where each rival
--- that is past holds the node.
+-- At a node, from its store of T, nobody is overtaken twice: once the other side won, a place that waits is named by T
+-- only where each rival that is past holds the node.
 use Rattle.std.proofs.Common.{◌≡◌, ◌≢◌, ℕ, ◌+◌, ◌-◌, ◌≤◌, ◌==◌, ◌&&◌, not, Bool, true, false, nat_lt, refl, arith, ap}
 use Rattle.std.proofs.Common.{sym, ◌∙◌, subst, ◌⊎◌, inl, inr, if◌then◌else◌, IsTrue, List, [], ◌∷◌, ◌++◌}
 use Rattle.std.proofs.lemmas.Bool.Decides.{nat_tests}

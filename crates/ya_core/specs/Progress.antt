@@ -1,10 +1,12 @@
--- What is said of progress: some place that takes part can go on, and at a node nobody is overtaken twice.
+-- What is said of progress: some place that takes part can go on, some schedule leads one to its goal, and at a node,
+-- from its store of T, nobody is overtaken twice.
 use Rattle.std.specs.Prelude.{◌≡◌, ◌≢◌, ℕ, ◌+◌, ◌==◌, Bool, true, false, not, ◌&&◌, if◌then◌else◌, List, [], ◌∷◌}
+use Rattle.std.specs.Prelude.{◌⊎◌}
 use Rattle.ya_core.specs.declared.process.Entry.TheVariants.{E2}
 use Rattle.ya_core.specs.declared.process.Process.{Process}
-use Rattle.ya_core.specs.declared.process.Process.TheVariants.{Idle, Entering}
+use Rattle.ya_core.specs.declared.process.Process.TheVariants.{Idle, Entering, Inside}
 use Rattle.ya_core.specs.Tree.{node_of, side_of}
-use Rattle.ya_core.specs.Steps.{State, StepsTo}
+use Rattle.ya_core.specs.Steps.{State, StepsTo, LeadTo}
 use Rattle.ya_core.specs.Worlds.{World, WorldSteps}
 
 -- some place that takes part has a step that changes its process
@@ -14,6 +16,17 @@ pub record SomeoneGoesOn (levels : ℕ) (s : State) : Type 0 where
   pub after : State
   pub step : StepsTo levels place s after
   pub goes_on : after.processes place ≢ s.processes place
+
+-- some finite schedule leads a place that takes part to its goal: its last step takes that place inside, or to idle
+pub record SomeoneArrives (levels : ℕ) (s : State) : Type 0 where
+  pub place : ℕ
+  pub busy : s.processes place ≢ Idle
+  pub places : List ℕ
+  pub before : State
+  pub lead : LeadTo levels s places before
+  pub after : State
+  pub last : StepsTo levels place before after
+  pub arrives : (after.processes place ≡ Inside) ⊎ (after.processes place ≡ Idle)
 
 -- the same in a world
 pub record SomeoneGoesOnIn {X : Type 0} (levels : ℕ) (world : World X) : Type 0 where

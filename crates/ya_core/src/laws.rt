@@ -7,7 +7,7 @@ ghost use Rattle.ya_core.specs.Tree.{IsWord, number_of, count_of_words};
 ghost use Rattle.ya_core.specs.Steps.{State, StepsTo, LeadTo, opening, access_of, value_of};
 ghost use Rattle.ya_core.specs.Soundness.{IsSound};
 ghost use Rattle.ya_core.specs.declared.process.Process.TheVariants as process;
-ghost use Rattle.ya_core.specs.Progress.{SomeoneGoesOn, SomeoneGoesOnIn, LevelStep, announces};
+ghost use Rattle.ya_core.specs.Progress.{SomeoneGoesOn, SomeoneArrives, SomeoneGoesOnIn, LevelStep, announces};
 ghost use Rattle.ya_core.specs.Progress.{LevelSees, HasNotWon, times_overtaken};
 ghost use Rattle.ya_core.specs.Walks.{Walk, IsWalk, Enters, Leaves, Goes, AccessIsWithin, MayFind};
 ghost use Rattle.ya_core.specs.Worlds.{Marked, World, Event, WorldSteps, WorldAppends};
@@ -60,12 +60,16 @@ pub fn exclusion()
         → (p q : ℕ) → IsInside s p → IsInside s q → p ≡ q }
 {}
 
-/// Nobody waits for ever in vain: where the invariant holds and some place takes part, some place that takes part has a
-/// step that changes its process. So it is in every world that any list of events leads to.
+/// The lock never deadlocks: where the invariant holds and some place takes part, some place that takes part has a step
+/// that changes its process, and some finite schedule takes one inside, or to idle. So it is of each step in every world
+/// that any list of events leads to.
 pub fn no_deadlock<X>()
     ensures states { (levels place : ℕ) (s : State)
         → 1 ≤ levels → IsSound levels s → s.processes place ≢ process.Idle
         → SomeoneGoesOn levels s }
+    ensures schedule { (levels place : ℕ) (s : State)
+        → 1 ≤ levels → IsSound levels s → s.processes place ≢ process.Idle
+        → SomeoneArrives levels s }
     ensures worlds { (levels place : ℕ) (events : List (Event X)) (world : World X)
         → 1 ≤ levels → IsReached levels any_entry events world
         → world.state.processes place ≢ process.Idle → SomeoneGoesOnIn levels world }
