@@ -1,6 +1,6 @@
 -- What is found on a way down is the map's, and a write there is the map's.
 use Rattle.std.proofs.Common.{◌≡◌, ℕ, zero, suc, ◌+◌, ◌<◌, ◌≤◌, Bool, true, false, cond, [], ◌∷◌, ◌++◌, length, Option, Some, None, inl, inr, refl, sym, ap, ◌∙◌, arith, length-append}
-use Rattle.std.specs.Prelude.{IfSome, IfNone}
+use Rattle.std.specs.Prelude.{IfSome, IfNone, is_some}
 use Rattle.std.proofs.Common.{leb}
 use Rattle.std.specs.Borrow.{MutBor}
 use Rattle.std.specs.Option.{ghost_name_of, option_copied_mut}
@@ -14,6 +14,7 @@ use Rattle.rt_trie.specs.Blocks.{IsChild, is_key, middle, middle_at, past}
 use Rattle.rt_trie.specs.Links.{own_pair, pairs, count, root, AreHalves, IsChildLink, IsFilled, IsLawfulTrie}
 use Rattle.rt_trie.specs.Descent.{found, written, overwritten}
 use Rattle.rt_trie.specs.Contents.{Contents}
+use Rattle.rt_trie.specs.Tree.{tree_of}
 use Rattle.rt_trie.specs.TrieLends.{with_value}
 use Rattle.rt_trie.proofs.OrderLemmas.{same_tells, before_tells}
 use Rattle.rt_trie.proofs.PairLemmas.{AllKeys, AllKeys-map, IsOther, IsHigher, IsLower, IsOther-higher, IsOther-lower, get-none}
@@ -158,15 +159,16 @@ module _ {V A : Type 0} where
         ]
       ])
 
-  -- a change that keeps root, nodes, lawfulness and the number of pairs
+  -- a change that keeps the nodes, lawfulness and the number of pairs
   pub record IsKept (old new : Link V A) : Type 0 where
     pub root_is : root new ≡ root old
     pub count_is : count new ≡ count old
+    pub tree_is : tree_of new ≡ tree_of old
     pub lawful : IsLawfulTrie new
     pub len_is : length (pairs new) ≡ length (pairs old)
 
   kept_same : (link : Link V A) → IsLawfulTrie link → IsKept link link
-  kept_same link h = record { root_is = refl; count_is = refl; lawful = h; len_is = refl }
+  kept_same link h = record { root_is = refl; count_is = refl; tree_is = refl; lawful = h; len_is = refl }
 
   kept_cond : (c : Bool) (old a b : Link V A) → IsKept old a → IsKept old b → IsKept old (cond c a b)
   kept_cond true old a b h k = h
@@ -183,6 +185,7 @@ module _ {V A : Type 0} where
   kept_fork len base x q l r l' r' h i j = record {
     root_is = refl;
     count_is = omega (arith, i.count_is, j.count_is);
+    tree_is = rw (i.tree_is, j.tree_is) refl;
     lawful = ((kept_halves q l r l' r' h.0.0 i j, i.lawful, j.lawful, h.0.3), (kept_filled l l' i h.1.0, kept_filled r r' j h.1.1));
     len_is = omega (arith, i.len_is, j.len_is, length-append (pairs l) (pairs r), length-append (pairs l') (pairs r'));
   }
@@ -192,6 +195,7 @@ module _ {V A : Type 0} where
   kept_full len base x q v v' l r l' r' h n e i j = record {
     root_is = refl;
     count_is = omega (arith, i.count_is, j.count_is);
+    tree_is = rw (i.tree_is, j.tree_is, valued v v' e) refl;
     lawful = ((kept_halves q l r l' r' h.0.0 i j, i.lawful, j.lawful, h.0.3), needed v v' n h.1);
     len_is = omega (
       arith,
@@ -210,11 +214,17 @@ module _ {V A : Type 0} where
       needed None None n h = (kept_filled l l' i h.0, kept_filled r r' j h.1)
       needed (Some y) None n h = absurd (let e : Some y ≡ None = n refl in cc)
 
+      valued : (v v' : Option V) → length (own_pair q v') ≡ length (own_pair q v) → is_some v' ≡ is_some v
+      valued None None e = refl
+      valued (Some y) (Some z) e = refl
+      valued None (Some z) e = absurd (omega (arith, e))
+      valued (Some y) None e = absurd (omega (arith, e))
+
   -- a write keeps the link lawful, with its nodes and its pairs
   pub written_kept : (d : ℕ) (link : Link V A) (p : Prefix) (w : V) → IsLawfulTrie link → IsKept link (written d link p w)
   written_kept zero link p w h = kept_same link h
   written_kept (suc d) Empty p w h = kept_same Empty h
-  written_kept (suc d) (Leaf i j b) p w h = record { root_is = refl; count_is = refl; lawful = h; len_is = refl }
+  written_kept (suc d) (Leaf i j b) p w h = record { root_is = refl; count_is = refl; tree_is = refl; lawful = h; len_is = refl }
   written_kept (suc d) (Fork' i j x left right q) p w h =
       let l = written_kept d left p w h.0.1 in
       let r = written_kept d right p w h.0.2 in
@@ -296,7 +306,7 @@ same_readings (Some r) F G u v e h = ap (λ f. inl (r.ghost_name, f)) (fun_ext (
 
 -- what a link holds, for its trie's callers
 abbrev pub held : {V A : Type 0} → Link V A → Contents V
-held link = record { pairs = pairs link; nodes = count link }
+held link = record { pairs = pairs link; nodes = count link; tree = tree_of link }
 
 module _ {V A : Type 0} where
   -- a write where a value stands puts it there
@@ -305,8 +315,10 @@ module _ {V A : Type 0} where
   written_is d link p w v e h at =
       let same : pairs (written d link p w) ≡ put (pairs link) p w =
       written_pairs d link p w h (rw e (all_deep link)) ∙ sym (put-stored (pairs link) p w v (pairs_ordered link h.0) at) in
-      let kept : count (written d link p w) ≡ count link = (written_kept d link p w h).count_is in
-      rw (same, kept) refl
+      let kept = written_kept d link p w h in
+      let many : count (written d link p w) ≡ count link = kept.count_is in
+      let tree : tree_of (written d link p w) ≡ tree_of link = kept.tree_is in
+      rw (same, many, tree) refl
 
   -- so what is lent of the link is lent of what it holds
   pub lent : (d : ℕ) (link : Link V A) (p : Prefix) (o : Option (MutBor V)) (t : Contents V) → d ≡ 33 → IsLawfulTrie link → held link ≡ t

@@ -16,4 +16,5 @@ pub mod PairLemmas
 pub mod PartLemmas
 pub mod RemoveLemmas
 pub mod StoredLemmas
+pub mod TreeLemmas
 pub mod WalkLemmas

@@ -5,12 +5,15 @@ pub mod Blocks
 pub mod Changes
 pub mod Contents
 pub mod Descent
+pub mod Lawful
 pub mod Laws
 pub mod Lends
 pub mod Links
 pub mod LookUps
 pub mod Map
 pub mod Nodes
+pub mod Tree
+pub mod TreeCode
 pub mod Trie
 pub mod TrieLends
 pub mod Walks

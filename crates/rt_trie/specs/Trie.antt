@@ -3,10 +3,11 @@ use Rattle.std.specs.Prelude.{◌≡◌, length}
 use Rattle.rt_trie.specs.declared.tries.Trie.TheInside.{Inside}
 use Rattle.rt_trie.specs.Links.{pairs, count, IsLawfulTrie}
 use Rattle.rt_trie.specs.Contents.{Contents}
+use Rattle.rt_trie.specs.Tree.{tree_of}
 
--- the pairs and the number of nodes
+-- the pairs, the number of nodes, and the nodes
 abbrev pub contents_of : {V A : Type 0} → Inside V A → Contents V
-contents_of t = record { pairs = pairs t.root; nodes = count t.root }
+contents_of t = record { pairs = pairs t.root; nodes = count t.root; tree = tree_of t.root }
 
 -- the trie is lawful, and its counts are right
 pub record IsSound {V A : Type 0} (t : Inside V A) : Type 0 where

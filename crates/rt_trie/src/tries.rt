@@ -5,6 +5,7 @@ ghost use Rattle.std.specs.Borrow.{sem};
 ghost use Rattle.std.specs.Option.{option_copied, option_copied_mut};
 ghost use Rattle.rt_trie.specs.Map.{get, put, erase, first, next_after, pair_copied, IsOrdered, IsLongest, AreLongest};
 ghost use Rattle.rt_trie.specs.Nodes.{CountsNodes};
+ghost use Rattle.rt_trie.specs.Lawful.{IsLawful};
 
 use crate::lending::{Descent, WayDown};
 use crate::nodes::Link;
@@ -30,6 +31,11 @@ impl<V, A: Allocator> Model for Trie<V, A> {
     ghost use Rattle.rt_trie.specs.Contents.{Contents};
 
     ghost Value = { Contents V };
+
+    ghost use Rattle.std.specs.Coded.{codes};
+    ghost use Rattle.rt_trie.specs.TreeCode.{tree_code};
+
+    ghost coded = { Prim.hlevel (codes, tree_code) };
 
     ghost use Rattle.rt_trie.specs.Trie.{contents_of, IsSound};
 
@@ -69,6 +75,8 @@ impl<V: Drop, A: Allocator + Copy> Trie<V, A> {
         ensures nodes { result ≡ self.now.nodes }
         ensures counted { CountsNodes self.now.pairs result }
         ensures bound { result ≤ 2 * length self.now.pairs - 1 }
+        // They are those of a lawful trie, and values stand at the stored prefixes alone.
+        ensures lawful { IsLawful self.now }
     {
         self.nodes
     }

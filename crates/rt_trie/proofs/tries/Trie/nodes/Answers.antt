@@ -4,6 +4,8 @@ use Rattle.rt_trie.specs.Links.{count}
 use Rattle.rt_trie.specs.Nodes.{CountsNodes}
 use Rattle.rt_trie.proofs.CountLemmas.{nodes_few}
 use Rattle.rt_trie.proofs.NodeCountLemmas.{counts_nodes}
+use Rattle.rt_trie.specs.Lawful.{IsLawful}
+use Rattle.rt_trie.proofs.TreeLemmas.{held_is_lawful}
 use Rattle.rt_trie.proofs.tries.Trie.nodes.Goals as goal
 
 pub returns-clause-counted : goal.returns-clause-counted
@@ -14,3 +16,6 @@ returns-clause-counted g c =
 pub returns-clause-bound : goal.returns-clause-bound
 returns-clause-bound g c =
     omega (arith, c.self.invariant.nodes, nodes_few c.self.inside.root c.self.invariant.lawful, ap (λ (x : Contents _). length x.pairs) c.self.view_is)
+
+pub returns-clause-lawful : goal.returns-clause-lawful
+returns-clause-lawful g c = subst (λ (x : Contents _). IsLawful x) c.self.view_is (held_is_lawful c.self.inside.root c.self.invariant.lawful)
