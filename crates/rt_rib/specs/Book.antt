@@ -1,11 +1,17 @@
 -- What contracts see of a book.
-use Rattle.std.specs.Prelude.{◌≡◌, ℕ, ◌≤◌, List, [], ◌∷◌, ◌++◌}
+use Rattle.std.specs.Prelude.{◌≡◌, ℕ, ◌+◌, ◌≤◌, ◌⊎◌, List, [], ◌∷◌, ◌++◌}
+use Rattle.rt_trie.specs.Contents as rt_trie
+use Rattle.rt_trie.specs.Lawful.{IsLawful}
 use Rattle.rt_rib.specs.declared.routes.Route.{Route}
+use Rattle.rt_rib.specs.declared.offers.Offer.{Offer}
 use Rattle.rt_rib.specs.declared.commands.Cmd.{Cmd}
+use Rattle.rt_rib.specs.declared.commands.Cmd.TheVariants.{Add}
 use Rattle.rt_rib.specs.declared.commands.Reply.{Reply}
 use Rattle.rt_rib.specs.declared.commands.Entry.{Entry}
 use Rattle.rt_rib.specs.Sequential.{reply_of}
 use Rattle.rt_rib.specs.Journal.{table_left}
+use Rattle.rt_rib.specs.Table.{IsTable}
+use Rattle.rt_rib.specs.Maps.{routes_of, IsMap}
 
 -- a feed may have so many routes
 abbrev pub IsLimit : ℕ → Type 0
@@ -15,16 +21,46 @@ IsLimit limit = (1 ≤ limit) × (limit ≤ 1000000)
 abbrev pub IsFeed : ℕ → Type 0
 IsFeed feed = (1 ≤ feed) × (feed ≤ 64)
 
--- how many routes a feed may have, and every answered command
+-- what a trie of offers shows: each prefix with its offers, and the nodes
+abbrev pub OfferTrie : Type 0
+OfferTrie = rt_trie.Contents (List Offer)
+
+-- how many routes a feed may have, every answered command, the trie of the routes, and for how many entries more there is room
 pub record Contents : Type 0 where
   pub limit : ℕ
   pub journal : List Entry
+  pub trie : OfferTrie
+  pub room : ℕ
 
 -- the routes of the book: what its journal leaves
 abbrev pub table_of : Contents → List Route
 table_of book = table_left book.limit book.journal
 
--- the command is answered as the sequential table answers it, and the journal has gained the one entry at its end
+-- the trie is lawful, each of its prefixes has offers, the best first, and the routes that it holds, read off prefix by
+-- prefix and offer by offer, are exactly those that the journal leaves, none of them twice
+pub record HoldsRoutesLeft (book : Contents) : Type 0 where
+  pub lawful : IsLawful book.trie
+  pub map : IsMap book.trie.pairs
+  pub exactly : routes_of book.trie.pairs ≡ table_of book
+  pub once : IsTable (table_of book)
+
+-- the command is answered as the sequential table answers it, and the journal has gained the one entry at its end, which
+-- takes room for one at most
 pub record Applies (old new : Contents) (feed : ℕ) (cmd : Cmd) (reply : Reply) : Type 0 where
   pub replied : reply ≡ reply_of old.limit (table_of old) feed cmd
-  pub journaled : new ≡ record old { journal = old.journal ++ record { feed = feed; cmd = cmd; reply = reply } ∷ [] }
+  pub limited : new.limit ≡ old.limit
+  pub journaled : new.journal ≡ old.journal ++ record { feed = feed; cmd = cmd; reply = reply } ∷ []
+  pub roomy : old.room ≤ new.room + 1
+
+-- an `add`, which alone may want memory for its route
+abbrev pub IsAdd : Cmd → Type 0
+IsAdd (Add prefix pref hop) = Unit {0}
+IsAdd _ = ⊥
+
+-- limit, journal and trie are as they were, no room is lost, and there was none or the command is an `add`
+pub record Refuses (old new : Contents) (cmd : Cmd) : Type 0 where
+  pub limited : new.limit ≡ old.limit
+  pub journaled : new.journal ≡ old.journal
+  pub kept : new.trie ≡ old.trie
+  pub roomy : old.room ≤ new.room
+  pub wanted : (old.room ≡ 0) ⊎ IsAdd cmd

@@ -5,16 +5,33 @@ use Rattle.rt_rib.specs.declared.routes.Route.{Route}
 use Rattle.rt_rib.specs.declared.commands.Cmd.{Cmd}
 use Rattle.rt_rib.specs.declared.commands.Reply.{Reply}
 use Rattle.rt_rib.specs.declared.commands.Entry.{Entry}
+use Rattle.rt_trie.specs.Lawful.{IsLawful}
 use Rattle.rt_rib.specs.Table.{count_of, IsTable}
 use Rattle.rt_rib.specs.Maps.{Map, routes_of, IsMap}
 use Rattle.rt_rib.specs.Sequential.{reply_of, table_after}
 use Rattle.rt_rib.specs.Journal.{table_left, IsLawfulJournal}
-use Rattle.rt_rib.specs.Book.{IsLimit, IsFeed}
+use Rattle.rt_rib.specs.Book.{IsLimit, IsFeed, OfferTrie}
 
 -- how many routes a feed may have, and the routes
 pub record Held : Type 0 where
   pub limit : ℕ
   pub routes : List Route
+
+-- these, and the trie that holds the routes
+pub record Stored : Type 0 where
+  pub limit : ℕ
+  pub routes : List Route
+  pub trie : OfferTrie
+
+abbrev pub held_of : Stored → Held
+held_of t = record { limit = t.limit; routes = t.routes }
+
+-- the trie is lawful, its map is one, and its routes are the table's
+pub record IsStored (t : Stored) : Type 0 where
+  pub lawful : IsLawful t.trie
+  pub map : IsMap t.trie.pairs
+  pub routes : routes_of t.trie.pairs ≡ t.routes
+  pub table : IsTable t.routes
 
 -- the sequential table gives this reply to the command, and goes from the old routes to the new ones
 pub record Serves (old new : Held) (feed : ℕ) (cmd : Cmd) (reply : Reply) : Type 0 where

@@ -10,9 +10,10 @@ use crate::table::Table;
 use std::alloc::Allocator;
 use std::marker::Model;
 
-/// A routing table with the journal of every command that it answered. Contracts see a book as its limit and its
-/// journal. The journal is lawful: each reply is the sequential table's, in the set of routes that the entries
-/// before it leave, and each entry is of a feed from 1 to 64. The routes are the set that the whole journal leaves.
+/// A routing table with the journal of every command that it answered. Contracts see a book as its limit, its journal,
+/// the trie that holds its routes, and for how many entries more the journal has room. The journal is lawful: each reply
+/// is the sequential table's, in the set of routes that the entries before it leave, and each entry is of a feed from 1
+/// to 64. The trie is lawful too, and holds the set that the whole journal leaves.
 #[derive(Drop)]
 pub struct Book<A: Allocator + Copy> {
     table: Table<A>,
@@ -20,26 +21,37 @@ pub struct Book<A: Allocator + Copy> {
 }
 
 impl<A: Allocator + Copy> Model for Book<A> {
+    ghost use Rattle.std.specs.Prelude.{◌-◌, vec_len, vec_capacity};
+    ghost use Rattle.std.specs.Coded.{codes};
+    ghost use Rattle.rt_trie.specs.TreeCode.{tree_code};
     ghost use Rattle.rt_rib.specs.Book.{Contents};
 
     ghost Value = { Contents };
 
-    ghost use Rattle.rt_rib.specs.Kept.{IsKept};
+    ghost coded = { Prim.hlevel (codes, tree_code) };
 
-    ghost view = { λ b. record { limit = b.table.limit; journal = b.journal.items } };
+    ghost use Rattle.rt_rib.specs.Kept.{held_of, IsKept};
 
-    ghost invariant = { λ b. IsKept b.table b.journal.items };
+    ghost view = { λ b. record {
+      limit = b.table.limit;
+      journal = b.journal.items;
+      trie = b.table.trie;
+      room = vec_capacity b.journal - vec_len b.journal;
+    } };
+
+    ghost invariant = { λ b. IsKept (held_of b.table) b.journal.items };
 }
 
 impl<A: Allocator + Copy> Book<A> {
     ghost use Rattle.rt_rib.specs.Journal.{IsLawfulJournal};
     ghost use Rattle.rt_rib.specs.Table.{IsTable};
-    ghost use Rattle.rt_rib.specs.Book.{table_of, Applies};
+    ghost use Rattle.rt_rib.specs.Book.{table_of, Applies, Refuses, HoldsRoutesLeft};
 
     /// An empty book in which each feed may have so many routes. It takes no memory.
     pub fn new(alloc: A, limit: u32) -> Book<A>
         requires { IsLimit limit }
-        ensures { result ≡ record { limit = limit; journal = [] } }
+        ensures limit { result.limit ≡ limit }
+        ensures journal { result.journal ≡ [] }
     {
         Book {
             table: Table::new(alloc, limit),
@@ -48,16 +60,25 @@ impl<A: Allocator + Copy> Book<A> {
     }
 
     /// Answers a command of the feed and keeps command and reply as one entry at the journal's end. Every command may
-    /// want memory: M1 is `Refused`, and then routes and journal are as they were.
+    /// want memory for that entry, and an `add` for its route: M1 is `Refused`, and then routes and journal are as they
+    /// were.
     pub fn apply(&mut self, feed: u32, cmd: Cmd) -> Result<Reply, Refused>
         requires { IsFeed feed }
         ensures ok { IfOk result (λ reply. Applies self.old self.new feed cmd reply) }
-        ensures err { OnErr result (self.new ≡ self.old) }
+        ensures err { OnErr result (Refuses self.old self.new cmd) }
     {
         self.journal.try_reserve(1)?;
         let reply = self.table.apply(feed, cmd)?;
         self.journal.push_reserved(Entry { feed, cmd, reply });
         Ok(reply)
+    }
+
+    /// The trie of any book is lawful, and holds exactly the routes that the journal leaves, none of them twice. Calling
+    /// this makes it known, and it does nothing.
+    pub fn holds(&self)
+        ensures { HoldsRoutesLeft self.now }
+    {
+        self.table.holds();
     }
 
     /// Reads what the first [`AHEAD`](crate::AHEAD) of these commands will go down to, all at once, so that `apply` finds it in cache. In a

@@ -72,7 +72,7 @@ pub(crate) fn put_in<A: Allocator + Copy>(
     ensures had { IfOk result (λ had. had ≡ has route.feed route.prefix (routes_of map.old.pairs)) }
     ensures kept { IfOk result (λ had. IsTrue had → map.new.pairs ≡ map.old.pairs) }
     ensures more { IfOk result (λ had. had ≡ false → routes_of map.new.pairs ≡ put_in route (routes_of map.old.pairs)) }
-    ensures refused { OnErr result (map.new.pairs ≡ map.old.pairs) }
+    ensures refused { OnErr result (map.new ≡ map.old) }
     ensures map { IsMap map.new.pairs }
 {
     map_laws::<A>();

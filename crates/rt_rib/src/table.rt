@@ -2,9 +2,9 @@
 ghost use Rattle.std.specs.Prelude.{◌≡◌, ◌^◌, ◌<◌, [], length, sum, IfOk, OnErr};
 ghost use Rattle.rt_rib.specs.declared.commands.Cmd.TheVariants.{Add, Replace, Withdraw, Purge};
 ghost use Rattle.rt_rib.specs.Table.{count_of, IsTable};
-ghost use Rattle.rt_rib.specs.Book.{IsLimit, IsFeed};
+ghost use Rattle.rt_rib.specs.Book.{IsLimit, IsFeed, IsAdd};
 ghost use Rattle.rt_rib.specs.Maps.{IsFirst, IsNext};
-ghost use Rattle.rt_rib.specs.Kept.{Serves};
+ghost use Rattle.rt_rib.specs.Kept.{held_of, IsStored, Serves};
 
 use crate::ahead;
 use crate::commands::{Cmd, Reply};
@@ -18,7 +18,7 @@ use std::alloc::Allocator;
 use std::marker::Model;
 
 /// The sequential table: a set of routes, at most one for each pair of prefix and feed, and no more for each feed
-/// than the limit. Contracts see its limit and its routes in dump order.
+/// than the limit. Contracts see its limit, its routes in dump order, and the trie that holds them.
 #[derive(Drop)]
 pub(crate) struct Table<A: Allocator + Copy> {
     limit: u32,
@@ -30,12 +30,16 @@ pub(crate) struct Table<A: Allocator + Copy> {
 }
 
 impl<A: Allocator + Copy> Model for Table<A> {
-    ghost use Rattle.rt_rib.specs.Kept.{Held, IsCounted};
+    ghost use Rattle.std.specs.Coded.{codes};
+    ghost use Rattle.rt_trie.specs.TreeCode.{tree_code};
+    ghost use Rattle.rt_rib.specs.Kept.{Stored, IsCounted};
     ghost use Rattle.rt_rib.specs.Maps.{routes_of};
 
-    ghost Value = { Held };
+    ghost Value = { Stored };
 
-    ghost view = { λ t. record { limit = t.limit; routes = routes_of t.map.pairs } };
+    ghost coded = { Prim.hlevel (codes, tree_code) };
+
+    ghost view = { λ t. record { limit = t.limit; routes = routes_of t.map.pairs; trie = t.map } };
 
     ghost invariant = { λ t. IsCounted t.limit t.counts t.map.pairs };
 }
@@ -44,7 +48,7 @@ impl<A: Allocator + Copy> Table<A> {
     /// The empty table. It takes no memory.
     pub(crate) fn new(alloc: A, limit: u32) -> Table<A>
         requires { IsLimit limit }
-        ensures { result ≡ record { limit = limit; routes = [] } }
+        ensures { held_of result ≡ record { limit = limit; routes = [] } }
     {
         let counts = [0; FEEDS];
         Table {
@@ -53,6 +57,13 @@ impl<A: Allocator + Copy> Table<A> {
             map: Trie::new(alloc),
             alloc,
         }
+    }
+
+    /// The trie is lawful and holds the table's routes. This makes it known, and does nothing.
+    pub(crate) fn holds(&self)
+        ensures { IsStored self.now }
+    {
+        let _ = self.map.nodes();
     }
 
     /// How many routes there are.
@@ -90,11 +101,12 @@ impl<A: Allocator + Copy> Table<A> {
         self.map.nodes()
     }
 
-    /// Answers a command of the feed. Where memory is refused, the table stays as it was.
+    /// Answers a command of the feed. Only an `add` wants memory, and where it is refused the table stays as it was.
     pub(crate) fn apply(&mut self, feed: u32, cmd: Cmd) -> Result<Reply, Refused>
         requires { IsFeed feed }
-        ensures ok { IfOk result (λ reply. Serves self.old self.new feed cmd reply) }
+        ensures ok { IfOk result (λ reply. Serves (held_of self.old) (held_of self.new) feed cmd reply) }
         ensures err { OnErr result (self.new ≡ self.old) }
+        ensures wanted { OnErr result (IsAdd cmd) }
     {
         match cmd {
             Cmd::Add { prefix, pref, hop } => self.add(Route {
@@ -123,7 +135,7 @@ impl<A: Allocator + Copy> Table<A> {
     fn add(&mut self, route: Route) -> Result<Reply, Refused>
         requires { IsFeed route.feed }
         ensures ok { let cmd = Add route.prefix route.pref route.hop in
-            IfOk result (λ reply. Serves self.old self.new route.feed cmd reply) }
+            IfOk result (λ reply. Serves (held_of self.old) (held_of self.new) route.feed cmd reply) }
         ensures err { OnErr result (self.new ≡ self.old) }
     {
         let own = (route.feed - 1) as usize;
@@ -144,7 +156,7 @@ impl<A: Allocator + Copy> Table<A> {
     fn replace(&mut self, route: Route) -> Reply
         requires { IsFeed route.feed }
         ensures { let cmd = Replace route.prefix route.pref route.hop in
-            Serves self.old self.new route.feed cmd result }
+            Serves (held_of self.old) (held_of self.new) route.feed cmd result }
     {
         if !map::replace(&mut self.map, route) {
             return Reply::Missing;
@@ -155,7 +167,7 @@ impl<A: Allocator + Copy> Table<A> {
     /// Takes the feed's route of this prefix out.
     fn withdraw(&mut self, feed: u32, prefix: Prefix) -> Reply
         requires { IsFeed feed }
-        ensures { Serves self.old self.new feed (Withdraw prefix) result }
+        ensures { Serves (held_of self.old) (held_of self.new) feed (Withdraw prefix) result }
     {
         if !map::take_out(&mut self.map, feed, prefix) {
             return Reply::Missing;
@@ -167,7 +179,7 @@ impl<A: Allocator + Copy> Table<A> {
     /// Takes all of the feed's routes out: prefix by prefix, until the feed has none.
     fn purge(&mut self, feed: u32) -> Reply
         requires { IsFeed feed }
-        ensures { Serves self.old self.new feed Purge result }
+        ensures { Serves (held_of self.old) (held_of self.new) feed Purge result }
     {
         let gone = self.count(feed);
         let mut next = self.first();

@@ -1,6 +1,6 @@
-use Rattle.std.proofs.Common.{sym, ◌∙◌, refl}
+use Rattle.std.proofs.Common.{sym, ap, ◌∙◌, refl}
 use Rattle.rt_rib.specs.Offers.{is_from}
-use Rattle.rt_rib.specs.Maps.{offer_of}
+use Rattle.rt_rib.specs.Maps.{Map, offer_of}
 use Rattle.rt_rib.proofs.Lists.{list_any-none}
 use Rattle.rt_rib.proofs.MapChanges.{none_had, is_had, more, unchanged, first_added, IsMap-put, IsOffers-one, err_from}
 use Rattle.rt_rib.proofs.map.put_in.Goals as goal
@@ -23,7 +23,8 @@ returns-then-has-clause-map g c =
 pub returns-in_err-put-clause-refused : goal.returns-in_err-put-clause-refused
 returns-in_err-put-clause-refused g c =
     err_from c.from_residual.result
-    (unchanged c.map_laws.ensures c.args.map.now.pairs c.requires c.args.route.prefix c.in-Some.offers.now c.put.new.self c.in-Some.ensures.value c.in_err-put.ensures.refused)
+    (ap (λ (pairs : Map). record c.args.map.now { pairs = pairs })
+    (unchanged c.map_laws.ensures c.args.map.now.pairs c.requires c.args.route.prefix c.in-Some.offers.now c.put.new.self c.in-Some.ensures.value c.in_err-put.ensures.refused))
 
 pub returns-in_err-put-clause-map : goal.returns-in_err-put-clause-map
 returns-in_err-put-clause-map g c = IsMap-put c.map_laws.ensures c.args.map.now.pairs c.requires c.args.route.prefix c.put.new.self c.put.ensures.lawful

@@ -1,7 +1,8 @@
+use Rattle.rt_rib.specs.Kept.{held_of}
 use Rattle.rt_rib.proofs.Kept.{IsKept-push}
 use Rattle.rt_rib.proofs.book.Book.apply.Goals as goal
 
 pub invariant_of-self-2 : goal.invariant_of-self-2
 invariant_of-self-2 g c =
-    IsKept-push c.self.inside.table c.apply.new.self c.self.inside.journal.items c.push_reserved.new.self.items c.args.feed c.args.cmd c.in_ok-reply.reply
+    IsKept-push (held_of c.self.inside.table) (held_of c.apply.new.self) c.self.inside.journal.items c.push_reserved.new.self.items c.args.feed c.args.cmd c.in_ok-reply.reply
     c.requires c.self.invariant c.in_ok-reply.ensures.ok (rw c.in_ok-try_reserve.ensures.items at c.push_reserved.ensures.items)

@@ -1,7 +1,8 @@
 use Rattle.std.proofs.Common.{sym, ap, subst, ◌∙◌}
 use Rattle.rt_rib.specs.declared.commands.Cmd.TheVariants.{Add}
 use Rattle.rt_rib.specs.declared.commands.Reply.TheVariants.{Exists}
-use Rattle.rt_rib.specs.Kept.{Serves}
+use Rattle.rt_rib.specs.Book.{OfferTrie}
+use Rattle.rt_rib.specs.Kept.{Stored, Serves}
 use Rattle.rt_rib.specs.Maps.{routes_of}
 use Rattle.rt_rib.proofs.Counts.{AreCounts-own}
 use Rattle.rt_rib.proofs.Kept.{kept_counted, added_counted, added_serves}
@@ -25,11 +26,13 @@ pub put_in-requires : goal.put_in-requires
 put_in-requires g c = c.self.invariant.map
 
 pub invariant_of-self : goal.invariant_of-self
-invariant_of-self g c = kept_counted c.self.inside.limit c.self.inside.counts c.self.inside.map.pairs c.put_in.new.map.pairs c.self.invariant c.in_err-put_in.ensures.refused
+invariant_of-self g c = kept_counted c.self.inside.limit c.self.inside.counts c.self.inside.map.pairs c.put_in.new.map.pairs c.self.invariant (ap (λ (m : OfferTrie). m.pairs) c.in_err-put_in.ensures.refused)
 
 pub returns-in_err-put_in-clause-err : goal.returns-in_err-put_in-clause-err
 returns-in_err-put_in-clause-err g c =
-    err_from c.from_residual.result (ap (λ n. held c.self.inside.limit (routes_of n)) c.in_err-put_in.ensures.refused ∙ c.self.view_is)
+    let limit = c.self.inside.limit in
+    let shown : OfferTrie → Stored = λ m. record { limit = limit; routes = routes_of m.pairs; trie = m } in
+    err_from c.from_residual.result (ap shown c.in_err-put_in.ensures.refused ∙ c.self.view_is)
 
 pub invariant_of-self-then-branch : goal.invariant_of-self-then-branch
 invariant_of-self-then-branch g c = kept_counted c.self.inside.limit c.self.inside.counts c.self.inside.map.pairs c.put_in.new.map.pairs c.self.invariant (c.in_ok-put_in.ensures.kept c.if-branch.true)

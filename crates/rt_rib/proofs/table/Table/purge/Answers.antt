@@ -1,5 +1,6 @@
 use Rattle.std.proofs.Common.{◌≡◌, refl, ap, sym, subst, ◌∙◌}
 use Rattle.rt_rib.specs.Table.{purge, take_out}
+use Rattle.rt_rib.specs.Kept.{held_of}
 use Rattle.rt_rib.proofs.Purges.{HasPassed, purge-take_out, withdrawn_is, passed-first, passed-next, passed-all, none_counted, purge_done, left-less}
 use Rattle.rt_rib.proofs.table.Table.purge.Goals as goal
 
@@ -24,10 +25,10 @@ loop-next-smaller g c = rw c.in-Some.is (left-less c.withdraw.new.self.routes c.
 
 pub returns-then-count-eq0 : goal.returns-then-count-eq0
 returns-then-count-eq0 g c =
-    purge_done c.args.self.now c.loop-next.self c.args.feed c.count-gone.result c.loop-next.invariant.same_limit c.loop-next.invariant.others
+    purge_done (held_of c.args.self.now) (held_of c.loop-next.self) c.args.feed c.count-gone.result c.loop-next.invariant.same_limit c.loop-next.invariant.others
     (none_counted c.args.feed c.loop-next.self.routes (sym c.count.ensures ∙ c.if-count-eq0.true)) c.count-gone.ensures
 
 pub returns-in_default : goal.returns-in_default
 returns-in_default g c =
-    purge_done c.args.self.now c.loop-next.self c.args.feed c.count-gone.result c.loop-next.invariant.same_limit c.loop-next.invariant.others
+    purge_done (held_of c.args.self.now) (held_of c.loop-next.self) c.args.feed c.count-gone.result c.loop-next.invariant.same_limit c.loop-next.invariant.others
     (passed-all c.args.feed c.loop-next.self.routes (subst (HasPassed c.args.feed c.loop-next.self.routes) c.in_default.is c.loop-next.invariant.passed)) c.count-gone.ensures
