@@ -11,21 +11,21 @@ use Rattle.ya_lock.proofs.Makings.{one_value}
 
 module _ {V : Type 0} where
   -- there is a slot to take it from
-  pub has_slot : (since : ℕ → V → V → Type 0) (place : ℕ) (seen : V) (me : Me (std.Option V) (View V))
-      → HasEntered since place seen me → (x : std.Option V) × (me.1 ≡ (0, x) ∷ rest me.1)
-  has_slot since place seen me h =
+  pub has_slot : (since : ℕ → V → V → Type 0) (place : ℕ) (seen : V) (remote : ℕ) (me : Me (std.Option V) (View V))
+      → HasEntered since place seen remote me → (x : std.Option V) × (me.1 ≡ (0, x) ∷ rest me.1)
+  has_slot since place seen remote me h =
       (Some h.0, ap (λ (m : Me (std.Option V) (View V)). m.1) h.2 ∙ (λ i. (0, Some h.0) ∷ rest (sym h.2 i).1))
 
   -- what was taken is what was found, and the slot is left empty
-  pub taken : (since : ℕ → V → V → Type 0) (place : ℕ) (seen value : V) (x : std.Option V)
-      (me after : Me (std.Option V) (View V)) → HasEntered since place seen me → me.1 ≡ (0, x) ∷ rest me.1
+  pub taken : (since : ℕ → V → V → Type 0) (place : ℕ) (seen value : V) (remote : ℕ) (x : std.Option V)
+      (me after : Me (std.Option V) (View V)) → HasEntered since place seen remote me → me.1 ≡ (0, x) ∷ rest me.1
       → x ≡ Some value
       → after ≡ (me.0, (0, None) ∷ rest me.1)
-      → (after ≡ (Member place Inside value, (0, None) ∷ [])) × since place seen value
-  taken since place seen value x me after h slot is new =
+      → (after ≡ (Member place Inside value remote, (0, None) ∷ [])) × since place seen value
+  taken since place seen value remote x me after h slot is new =
       let own : me.1 ≡ (0, Some h.0) ∷ [] = ap (λ (m : Me (std.Option V) (View V)). m.1) h.2 in
       let same : h.0 ≡ value = one_value h.0 value (sym own ∙ (slot ∙ (λ i. (0, is i) ∷ rest (own i)))) in (
-        new ∙ (λ i. ((h.2 i).0, (0, None) ∷ rest (own i))) ∙ (λ i. (Member place Inside (same i), (0, None) ∷ [])),
+        new ∙ (λ i. ((h.2 i).0, (0, None) ∷ rest (own i))) ∙ (λ i. (Member place Inside (same i) remote, (0, None) ∷ [])),
         let P : V → Type 0 = λ v. since place seen v in subst P same h.1,
       )
 
@@ -33,13 +33,13 @@ module _ {V : Type 0} where
   pub guarded : (since : ℕ → V → V → Type 0) (levels place here remote : ℕ) (seen value recalled : V) (x : std.Option V)
       (lock old own : LockId) (me after : Me (std.Option V) (View V))
       → lock ≡ old → old ≡ own → HasTree own levels → HasPlace old place → here ≡ place → remote ≤ 7 * levels
-      → HasEntered since here seen me → me.1 ≡ (0, x) ∷ rest me.1 → x ≡ Some value
+      → HasEntered since here seen remote me → me.1 ≡ (0, x) ∷ rest me.1 → x ≡ Some value
       → after ≡ (me.0, (0, None) ∷ rest me.1) → recalled ≡ value → IsWithin lock place recalled remote after
   guarded since levels place here remote seen value recalled x lock old own me after e f tree is_place at most h slot is
       new recall =
-      let t = taken since here seen value x me after h slot is new in
+      let t = taken since here seen value remote x me after h slot is new in
       record {
-        process = t.0 ∙ (λ i. (Member (at i) Inside (sym recall i), (0, None) ∷ []));
+        process = t.0 ∙ (λ i. (Member (at i) Inside (sym recall i) remote, (0, None) ∷ []));
         in_tree = subst (λ (l : LockId). HasPlace l place) (sym e) is_place;
         count = λ levels' tree'. subst (λ (l : ℕ). remote ≤ 7 * l)
             (sym (one_tree lock own levels' levels (e ∙ f) tree' tree)) most;

@@ -110,14 +110,14 @@ module _ {V : Type 0} (since : ℕ → V → V → Type 0) (levels : ℕ) where
     λ k le. let g = f.3 k le in
         (g.0, away_later x place content k value later (no_place x place id k here g.0) g.1),
   )
-  other_fits s t x id place process content now is word here later seat (Member k p value) ne f =
+  other_fits s t x id place process content now is word here later seat (Member k p value count) ne f =
       let other = other_place x place id k seat here f.1 ne in (
         (λ e. f.0 (sym word ∙ e)),
         f.1,
         moved_else x.processes place process k other ∙ f.2,
         knows_later x place content k value (is_inside p) later other (ap is_inside f.2) f.3,
       )
-  other_fits s t x id place process content now is word here later seat (Confirmer k value j seen) ne f =
+  other_fits s t x id place process content now is word here later seat (Confirmer k value j seen count) ne f =
       let other = other_place x place id k seat here f.1 ne in
       let both = inside_later x place content k j value seen later other (ap is_inside f.2) f.3 f.4 in (
         (λ e. f.0 (sym word ∙ e)),
@@ -167,26 +167,26 @@ module _ {V : Type 0} (since : ℕ → V → V → Type 0) (levels : ℕ) where
 
   -- a process goes on, and its seat knows the value next
   pub goes_on : (s : St) (x : Picture V) → Obeys since levels s x
-      → (id place : ℕ) (before process : Process) (value next now then' : V) (content : Option V) (row : List ℕ)
+      → (id place : ℕ) (before process : Process) (value next now then' : V) (count total : ℕ) (content : Option V) (row : List ℕ)
       (homes : List (Option (std.Option V)))
-      → get_elem? s.views id ≡ some (Member place before value)
+      → get_elem? s.views id ≡ some (Member place before value count)
       → slice_index s.words (making_index levels) ≢ 0 → x.seat_of place ≡ some id → x.content ≡ some now
       → content ≡ some then'
       → length row ≡ length s.words → slice_index row (making_index levels) ≡ slice_index s.words (making_index levels)
       → IsSound levels (record { words = words_in levels row; processes = moved x.processes place process })
       → Lies since (moved x.processes place process) homes content
       → Knows since content place (is_inside process) next → Later x place content
-      → Obeys since levels record { words = row; homes = homes; views = set s.views id (Member place process next) }
+      → Obeys since levels record { words = row; homes = homes; views = set s.views id (Member place process next total) }
       (gone_on x place process content)
-  goes_on s x o id place before process value next now then' content row homes at' begun here was is long word sound
+  goes_on s x o id place before process value next now then' count total content row homes at' begun here was is long word sound
       lies knows later =
-      let t : St = record { words = row; homes = homes; views = set s.views id (Member place process next) } in
+      let t : St = record { words = row; homes = homes; views = set s.views id (Member place process next total) } in
       record {
         wide = long ∙ o.wide;
         unmade = λ e. absurd (begun (sym word ∙ e));
         before = λ e. absurd (some-ne-none then' (sym is ∙ e));
-        seated = λ k seat e. sits_still s.views id (Member place before value)
-            (Member place process next) at' refl k seat (o.seated k seat e);
+        seated = λ k seat e. sits_still s.views id (Member place before value count)
+            (Member place process next total) at' refl k seat (o.seated k seat e);
         absent = λ k e. moved_else x.processes place process k (no_place x place id k here e) ∙ o.absent k e;
         sound = sound;
         lies = lies;
@@ -195,7 +195,7 @@ module _ {V : Type 0} (since : ℕ → V → V → Type 0) (levels : ℕ) where
             ((λ e. begun (sym word ∙ e)), here ∙ ap some (sym p.0), moved_here x.processes place process, knows))
             (λ p. other_fits s t x id place process content now was word here later seat view p.0
             (o.fits seat view p.1))
-            (at_set s.views id seat (Member place process next) view at);
+            (at_set s.views id seat (Member place process next total) view at);
       }
 
   -- the same picture fits where the making word stays set, and the slot stays while the maker waits for it
@@ -207,8 +207,8 @@ module _ {V : Type 0} (since : ℕ → V → V → Type 0) (levels : ℕ) where
   refits s t x begun seat Maker slot f = (begun f.0, f.1, f.2, slot f.1 ∙ f.3)
   refits s t x begun seat Filler slot f = (begun f.0, f.1, f.2, ap length (slot f.1) ∙ f.3)
   refits s t x begun seat (Dealer first value) slot f = (begun f.0, f.1, f.2, f.3)
-  refits s t x begun seat (Member place process value) slot f = (begun f.0, f.1, f.2, f.3)
-  refits s t x begun seat (Confirmer place value other seen) slot f = (begun f.0, f.1, f.2, f.3, f.4)
+  refits s t x begun seat (Member place process value count) slot f = (begun f.0, f.1, f.2, f.3)
+  refits s t x begun seat (Confirmer place value other seen count) slot f = (begun f.0, f.1, f.2, f.3, f.4)
   refits s t x begun seat Spent slot f = begun f
 
   -- what a load that changes no word has to show

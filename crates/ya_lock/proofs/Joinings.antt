@@ -84,13 +84,13 @@ module _ {V : Type 0} (since : ℕ → V → V → Type 0) (levels : ℕ) where
     f.2,
     λ k le. let g = f.3 k le in (freed_none x place k g.0, g.1),
   )
-  freed_fits s t x id place here words homes seat (Member p process value) ne f = (
+  freed_fits s t x id place here words homes seat (Member p process value count) ne f = (
     subst (λ (r : List ℕ). slice_index r (making_index levels) ≢ 0) (sym words) f.0,
     freed_else x place p (other_place x place id p seat here f.1 ne) ∙ f.1,
     f.2,
     f.3,
   )
-  freed_fits s t x id place here words homes seat (Confirmer p value other seen) ne f = (
+  freed_fits s t x id place here words homes seat (Confirmer p value other seen count) ne f = (
     subst (λ (r : List ℕ). slice_index r (making_index levels) ≢ 0) (sym words) f.0,
     freed_else x place p (other_place x place id p seat here f.1 ne) ∙ f.1,
     f.2,
@@ -101,16 +101,16 @@ module _ {V : Type 0} (since : ℕ → V → V → Type 0) (levels : ℕ) where
       subst (λ (r : List ℕ). slice_index r (making_index levels) ≢ 0) (sym words) f
 
   -- the seat of an idle process is joined to that of the one inside
-  pub joins : (id place : ℕ) (value : V) (rival other : ℕ) (seen : V)
-      → Joins (Rule since levels) id (Member place Inside value) rival (Member other Idle seen)
-      (Confirmer place value other seen) Spent
-  joins id place value rival other seen s rule at ne at' =
+  pub joins : (id place : ℕ) (value : V) (count rival other : ℕ) (seen : V) (last : ℕ)
+      → Joins (Rule since levels) id (Member place Inside value count) rival (Member other Idle seen last)
+      (Confirmer place value other seen count) Spent
+  joins id place value count rival other seen last s rule at ne at' =
       let x : Picture V = rule.0 in let o = rule.1 in
-      let w : View V = Confirmer place value other seen in
-      let f = o.fits id (Member place Inside value) at in
-      let old : get_elem? s.views rival ≡ some (Member other Idle seen) =
-      ⊎_elim (λ p. absurd (ne p.0)) (λ p. p.1) (at_set s.views id rival w (Member other Idle seen) at') in
-      let g = o.fits rival (Member other Idle seen) old in
+      let w : View V = Confirmer place value other seen count in
+      let f = o.fits id (Member place Inside value count) at in
+      let old : get_elem? s.views rival ≡ some (Member other Idle seen last) =
+      ⊎_elim (λ p. absurd (ne p.0)) (λ p. p.1) (at_set s.views id rival w (Member other Idle seen last) at') in
+      let g = o.fits rival (Member other Idle seen last) old in
       let t : St = record { words = s.words; homes = s.homes; views = set (set s.views id w) rival Spent } in
       let y : Picture V = freed x other in (
         y,
@@ -118,9 +118,9 @@ module _ {V : Type 0} (since : ℕ → V → V → Type 0) (levels : ℕ) where
           wide = o.wide;
           unmade = o.unmade;
           before = λ e. absurd (some-ne-none value (sym f.3 ∙ e));
-          seated = λ k seat e. sits_else since levels (set s.views id w) rival (Member other Idle seen) Spent at' k seat
+          seated = λ k seat e. sits_else since levels (set s.views id w) rival (Member other Idle seen last) Spent at' k seat
               (λ same. some-ne-none seat (sym e ∙ freed_here x other k (sym (some-injective other k same))))
-              (sits_still since levels s.views id (Member place Inside value) w at refl k seat
+              (sits_still since levels s.views id (Member place Inside value count) w at refl k seat
               (o.seated k seat (freed_was x other k seat e)));
           absent = freed_absent x other g.2 o.absent;
           sound = o.sound;
@@ -143,13 +143,13 @@ module _ {V : Type 0} (since : ℕ → V → V → Type 0) (levels : ℕ) where
       )
 
   -- it learns what may have come of the value that the other has seen
-  pub learns : (slots id i place : ℕ) (value : V) (other : ℕ) (seen : V) (me : Me (std.Option V) (View V))
-      → me.0 ≡ Confirmer place value other seen
+  pub learns : (slots id i place : ℕ) (value : V) (other : ℕ) (seen : V) (count : ℕ) (me : Me (std.Option V) (View V))
+      → me.0 ≡ Confirmer place value other seen count
       → Allows (Rule since levels) slots id me i (λ n. n) (λ n then'. Learns since me.0 me.1 then')
-  learns slots id i place value other seen me is s rule wide at small =
+  learns slots id i place value other seen count me is s rule wide at small =
       let x : Picture V = rule.0 in let o = rule.1 in let f =
-      o.fits id (Confirmer place value other seen) (at ∙ ap some is) in
-      let w : View V = Member place Inside value in
+      o.fits id (Confirmer place value other seen count) (at ∙ ap some is) in
+      let w : View V = Member place Inside value count in
       let t : St = record { words = s.words; homes = s.homes; views = set s.views id w } in (
         w,
         keeps,
@@ -160,7 +160,7 @@ module _ {V : Type 0} (since : ℕ → V → V → Type 0) (levels : ℕ) where
             wide = o.wide;
             unmade = o.unmade;
             before = o.before;
-            seated = λ k seat e. sits_still since levels s.views id (Confirmer place value other seen) w
+            seated = λ k seat e. sits_still since levels s.views id (Confirmer place value other seen count) w
                 (at ∙ ap some is) refl k seat (o.seated k seat e);
             absent = o.absent;
             sound = o.sound;

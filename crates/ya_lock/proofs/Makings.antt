@@ -88,8 +88,8 @@ module _ {V : Type 0} (since : ℕ → V → V → Type 0) (since_same : (place 
   strangers s t x y seat Maker e f = absurd (f.0 e)
   strangers s t x y seat Filler e f = absurd (f.0 e)
   strangers s t x y seat (Dealer first value) e f = absurd (f.0 e)
-  strangers s t x y seat (Member place process value) e f = absurd (f.0 e)
-  strangers s t x y seat (Confirmer place value other seen) e f = absurd (f.0 e)
+  strangers s t x y seat (Member place process value count) e f = absurd (f.0 e)
+  strangers s t x y seat (Confirmer place value other seen count) e f = absurd (f.0 e)
   strangers s t x y seat Spent e f = absurd (f e)
 
   -- the swap of 1 into the making word
@@ -214,9 +214,9 @@ module _ {V : Type 0} (since : ℕ → V → V → Type 0) (since_same : (place 
   given_fits s t x y id o m c begun seat Maker ne f = absurd (other_maker x id seat m f.1 ne)
   given_fits s t x y id o m c begun seat Filler ne f = absurd (other_maker x id seat m f.1 ne)
   given_fits s t x y id o m c begun seat (Dealer first value) ne f = absurd (other_maker x id seat m f.1 ne)
-  given_fits s t x y id o m c begun seat (Member place process value) ne f =
+  given_fits s t x y id o m c begun seat (Member place process value count) ne f =
       absurd (some-ne-none seat (sym f.1 ∙ o.before c place))
-  given_fits s t x y id o m c begun seat (Confirmer place value other seen) ne f =
+  given_fits s t x y id o m c begun seat (Confirmer place value other seen count) ne f =
       absurd (some-ne-none seat (sym f.1 ∙ o.before c place))
   given_fits s t x y id o m c begun seat Spent ne f = begun
 
@@ -299,13 +299,13 @@ module _ {V : Type 0} (since : ℕ → V → V → Type 0) (since_same : (place 
   dealt_fits s t x id place number m free words homes seat Filler ne f = absurd (other_maker x id seat m f.1 ne)
   dealt_fits s t x id place number m free words homes seat (Dealer first value) ne f =
       absurd (other_maker x id seat m f.1 ne)
-  dealt_fits s t x id place number m free words homes seat (Member p process value) ne f = (
+  dealt_fits s t x id place number m free words homes seat (Member p process value count) ne f = (
     subst (λ (r : List ℕ). slice_index r (making_index levels) ≢ 0) (sym words) f.0,
     seated_else x place number p (unseated x place p seat free f.1) ∙ f.1,
     f.2,
     f.3,
   )
-  dealt_fits s t x id place number m free words homes seat (Confirmer p value other seen) ne f = (
+  dealt_fits s t x id place number m free words homes seat (Confirmer p value other seen count) ne f = (
     subst (λ (r : List ℕ). slice_index r (making_index levels) ≢ 0) (sym words) f.0,
     seated_else x place number p (unseated x place p seat free f.1) ∙ f.1,
     f.2,
@@ -329,17 +329,17 @@ module _ {V : Type 0} (since : ℕ → V → V → Type 0) (since_same : (place 
       → get_elem? views id ≡ some (Dealer first value) → (x : Picture V)
       → (x.seat_of k ≡ some seat → Sits since levels views k seat) → Dec (k ≡ place)
       → (seated x place (length (set views id (Dealer (first + 1) value)))).seat_of k ≡ some seat
-      → Sits since levels (set views id (Dealer (first + 1) value) ++ Member place Idle value ∷ []) k seat
+      → Sits since levels (set views id (Dealer (first + 1) value) ++ Member place Idle value 0 ∷ []) k seat
   dealt_sits views id first value place k seat at x sits (yes same) e =
       let n : ℕ = length (set views id (Dealer (first + 1) value)) in
       let number : n ≡ seat =
       some-injective n seat (sym (seated_here x place n) ∙ (ap (seated x place n).seat_of (sym same) ∙ e)) in (
-        Member place Idle value,
-        at_last (set views id (Dealer (first + 1) value)) (Member place Idle value) seat number,
+        Member place Idle value 0,
+        at_last (set views id (Dealer (first + 1) value)) (Member place Idle value 0) seat number,
         ap some (sym same),
       )
   dealt_sits views id first value place k seat at x sits (no ne) e =
-      sits_longer since levels (set views id (Dealer (first + 1) value)) (Member place Idle value) k seat
+      sits_longer since levels (set views id (Dealer (first + 1) value)) (Member place Idle value 0) k seat
       (sits_still since levels views id (Dealer first value) (Dealer (first + 1) value) at refl k seat
       (sits (sym (seated_else x place (length (set views id (Dealer (first + 1) value))) k ne) ∙ e)))
 
@@ -347,26 +347,26 @@ module _ {V : Type 0} (since : ℕ → V → V → Type 0) (since_same : (place 
   ended_sits : (views : List (View V)) (x : Picture V) (id place : ℕ) (value : V) (k seat : ℕ)
       → get_elem? views id ≡ some (Dealer place value) → (x.seat_of k ≡ some seat → Sits since levels views k seat)
       → Dec (k ≡ place) → (seated x place id).seat_of k ≡ some seat
-      → Sits since levels (set views id (Member place Idle value)) k seat
+      → Sits since levels (set views id (Member place Idle value 0)) k seat
   ended_sits views x id place value k seat at sits (yes same) e =
       let number : id ≡ seat =
       some-injective id seat (sym (seated_here x place id) ∙ (ap (seated x place id).seat_of (sym same) ∙ e)) in (
-        Member place Idle value,
-        ap (λ (j : ℕ). get_elem? (set views id (Member place Idle value)) j) (sym number)
-            ∙ set_at views id (Dealer place value) (Member place Idle value) at,
+        Member place Idle value 0,
+        ap (λ (j : ℕ). get_elem? (set views id (Member place Idle value 0)) j) (sym number)
+            ∙ set_at views id (Dealer place value) (Member place Idle value 0) at,
         ap some (sym same),
       )
   ended_sits views x id place value k seat at sits (no ne) e =
-      sits_else since levels views id (Dealer place value) (Member place Idle value) at k seat
+      sits_else since levels views id (Dealer place value) (Member place Idle value 0) at k seat
       (λ h. some-ne-none k (sym h)) (sits (sym (seated_else x place id k ne) ∙ e))
 
   -- the dealer splits off the pass of its first place
   pub splits : (id place : ℕ) (value : V) → place + 1 < 2 ^ levels
-      → Splits (Rule since levels) id (Dealer place value) (Dealer (place + 1) value) (Member place Idle value)
+      → Splits (Rule since levels) id (Dealer place value) (Dealer (place + 1) value) (Member place Idle value 0)
   splits id place value room s rule at =
       let x : Picture V = rule.0 in let o = rule.1 in let f = o.fits id (Dealer place value) at in
       let views : List (View V) = set s.views id (Dealer (place + 1) value) in
-      let t : St = record { words = s.words; homes = s.homes; views = views ++ Member place Idle value ∷ [] } in
+      let t : St = record { words = s.words; homes = s.homes; views = views ++ Member place Idle value 0 ∷ [] } in
       let here = f.3 place (omega arith) in
       let y : Picture V = seated x place (length views) in (
         y,
@@ -392,7 +392,7 @@ module _ {V : Type 0} (since : ℕ → V → V → Type 0) (since_same : (place 
               (at_set s.views id seat (Dealer (place + 1) value) view old))
               (λ p. subst (λ (v : View V). Fits since levels t y seat v) p.1
               (f.0, seated_here x place (length views) ∙ ap some (sym p.0), o.absent place here.0, here.1))
-              (at_end views (Member place Idle value) view seat there);
+              (at_end views (Member place Idle value 0) view seat there);
         },
       )
 
@@ -401,7 +401,7 @@ module _ {V : Type 0} (since : ℕ → V → V → Type 0) (since_same : (place 
       → Allows (Rule since levels) slots id me i (λ n. n) (λ n then'. Ends me.0 me.1 then')
   ends slots id i place value me is s rule wide at small =
       let x : Picture V = rule.0 in let o = rule.1 in let f = o.fits id (Dealer place value) (at ∙ ap some is) in
-      let w : View V = Member place Idle value in
+      let w : View V = Member place Idle value 0 in
       let t : St = record { words = s.words; homes = s.homes; views = set s.views id w } in
       let here = f.3 place (omega arith) in
       let y : Picture V = seated x place id in (

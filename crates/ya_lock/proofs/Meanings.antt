@@ -33,14 +33,14 @@ module _ {V : Type 0} (since : ℕ → V → V → Type 0) (levels : ℕ) where
   shown_by s x seat place process value Maker e f = absurd e
   shown_by s x seat place process value Filler e f = absurd e
   shown_by s x seat place process value (Dealer first v) e f = absurd e
-  shown_by s x seat place process value (Member p y v) e f = record {
+  shown_by s x seat place process value (Member p y v count) e f = record {
     sits = ap x.seat_of (sym e.0) ∙ f.1;
     is = ap x.processes (sym e.0) ∙ (f.2 ∙ e.1);
     knows = subst (λ (k : ℕ). Knows since x.content k (is_inside process) value) e.0
         (subst (λ (z : Process). Knows since x.content p (is_inside z) value) e.1
         (subst (λ (w : V). Knows since x.content p (is_inside y) w) e.2 f.3));
   }
-  shown_by s x seat place process value (Confirmer p v other seen) e f = record {
+  shown_by s x seat place process value (Confirmer p v other seen count) e f = record {
     sits = ap x.seat_of (sym e.0) ∙ f.1;
     is = ap x.processes (sym e.0) ∙ (f.2 ∙ e.1);
     knows = subst (λ (k : ℕ). Knows since x.content k (is_inside process) value) e.0
@@ -61,8 +61,8 @@ module _ {V : Type 0} (since : ℕ → V → V → Type 0) (levels : ℕ) where
   of_place Maker place e = absurd (some-ne-none place (sym e))
   of_place Filler place e = absurd (some-ne-none place (sym e))
   of_place (Dealer first v) place e = absurd (some-ne-none place (sym e))
-  of_place (Member p y v) place e = (y, (v, (some-injective p place e, refl, refl)))
-  of_place (Confirmer p v other seen) place e = (Inside, (v, (some-injective p place e, refl, refl)))
+  of_place (Member p y v count) place e = (y, (v, (some-injective p place e, refl, refl)))
+  of_place (Confirmer p v other seen count) place e = (Inside, (v, (some-injective p place e, refl, refl)))
   of_place Spent place e = absurd (some-ne-none place (sym e))
 
   -- a place that no view has is idle
@@ -184,8 +184,8 @@ module _ {V : Type 0} (since : ℕ → V → V → Type 0) (levels : ℕ) where
   only_strangers s x seat Maker zero f = absurd (f.0 zero)
   only_strangers s x seat Filler zero f = absurd (f.0 zero)
   only_strangers s x seat (Dealer first value) zero f = absurd (f.0 zero)
-  only_strangers s x seat (Member place process value) zero f = absurd (f.0 zero)
-  only_strangers s x seat (Confirmer place value other seen) zero f = absurd (f.0 zero)
+  only_strangers s x seat (Member place process value count) zero f = absurd (f.0 zero)
+  only_strangers s x seat (Confirmer place value other seen count) zero f = absurd (f.0 zero)
   only_strangers s x seat Spent zero f = absurd (f zero)
 
   -- the picture has one maker
@@ -195,8 +195,8 @@ module _ {V : Type 0} (since : ℕ → V → V → Type 0) (levels : ℕ) where
   makes s x seat Maker h f = f.1
   makes s x seat Filler h f = f.1
   makes s x seat (Dealer first value) h f = f.1
-  makes s x seat (Member place process value) h f = absurd h
-  makes s x seat (Confirmer place value other seen) h f = absurd h
+  makes s x seat (Member place process value count) h f = absurd h
+  makes s x seat (Confirmer place value other seen count) h f = absurd h
   makes s x seat Spent h f = absurd h
 
   -- which has no content before the value is given
@@ -206,8 +206,8 @@ module _ {V : Type 0} (since : ℕ → V → V → Type 0) (levels : ℕ) where
   fills s x seat Maker h f = f.2
   fills s x seat Filler h f = f.2
   fills s x seat (Dealer first value) h f = absurd h
-  fills s x seat (Member place process value) h f = absurd h
-  fills s x seat (Confirmer place value other seen) h f = absurd h
+  fills s x seat (Member place process value count) h f = absurd h
+  fills s x seat (Confirmer place value other seen count) h f = absurd h
   fills s x seat Spent h f = absurd h
 
   -- the passes are made by one seat

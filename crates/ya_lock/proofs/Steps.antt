@@ -11,7 +11,7 @@ use Rattle.ya_core.specs.declared.word.Word.{Word}
 use Rattle.ya_core.specs.declared.word.Access.{Access}
 use Rattle.ya_core.specs.declared.word.Access.TheVariants.{Load, Store}
 use Rattle.ya_core.specs.declared.process.Process.{Process}
-use Rattle.ya_core.specs.declared.process.Process.TheVariants.{Inside}
+use Rattle.ya_core.specs.declared.process.Process.TheVariants.{Idle, Entering, Inside, Leaving}
 use Rattle.ya_core.specs.Tree.{IsWord}
 use Rattle.ya_core.specs.Steps as core
 use Rattle.ya_core.specs.Steps.{StepsTo, Accesses, access_of, next_of, value_of}
@@ -22,7 +22,7 @@ use Rattle.ya_lock.specs.declared.view.View.{View}
 use Rattle.ya_lock.specs.declared.view.View.TheVariants.{Member}
 use Rattle.ya_lock.specs.Rule.{index_of, making_index, words_in, Picture, Knows, Lies, Fits, Obeys, Rule}
 use Rattle.ya_core.specs.Worlds.{is_inside}
-use Rattle.ya_lock.specs.Moves.{left_by, Slots, Carries, Goes, IsReady}
+use Rattle.ya_lock.specs.Moves.{left_by, Slots, Carries, Goes, IsReady, HasMade, count_after}
 use Rattle.ya_core.specs.Walks.{MayFind}
 use Rattle.ya_core.proofs.Promised.{keeps as kept_by_step, finds, is_inside_is, excludes}
 use Rattle.ya_lock.proofs.Words.{index_below, word_in, word_set, word_set_other, word_kept}
@@ -55,6 +55,14 @@ pub none_true : (b : Bool) → (b ≡ true → ⊥) → b ≡ false
 none_true true h = absurd (h refl)
 none_true false h = refl
 
+-- the view of a process has some count
+pub counted : {V : Type 0} (place : ℕ) (value : V) (process : Process) (remote : ℕ) (view : View V)
+    → HasMade place value process remote view → (count : ℕ) × (view ≡ Member place process value count)
+counted place value Idle remote view h = (h.0, h.1)
+counted place value (Entering level point) remote view h = (remote, h)
+counted place value Inside remote view h = (remote, h)
+counted place value (Leaving level point) remote view h = (remote, h)
+
 module _ {V : Type 0} (since done : ℕ → V → V → Type 0) (since_same : (place : ℕ) (a : V) → since place a a)
     (since_done : (place other : ℕ) (a b c : V) → other ≢ place → since place a b → done other b c → since place a c)
     (levels : ℕ) (least : 1 ≤ levels) where
@@ -77,6 +85,10 @@ module _ {V : Type 0} (since done : ℕ → V → V → Type 0) (since_same : (p
   -- the access that is due to a place
   abbrev due : Picture V → ℕ → Access
   due x place = access_of levels place (x.processes place)
+
+  -- the remote accesses of that place after its step
+  abbrev total : Picture V → ℕ → ℕ → ℕ
+  total x place count = count_after levels place (x.processes place) count
 
   -- that is a step of the core
   steps_to : (s : St) (x : Picture V) (place i : ℕ) → place < 2 ^ levels → IsWord levels (word_of (due x place))
@@ -124,21 +136,21 @@ module _ {V : Type 0} (since done : ℕ → V → V → Type 0) (since_same : (p
       let both : true ≡ false = sym h ∙ (ap is_inside (sym (moved_else x.processes place p' k ne)) ∙ e) in cc)
 
   -- what a step has to show
-  abbrev Answer : St → Picture V → ℕ → ℕ → V → ℕ → ℕ → Slots V → Type 0
-  Answer s x id place value i n slots =
+  abbrev Answer : St → Picture V → ℕ → ℕ → V → ℕ → ℕ → ℕ → Slots V → Type 0
+  Answer s x id place value count i n slots =
       (w : View V) × (a : Act (std.Option V)) × Valid s.homes slots a × Rule since levels (stepped s i n id slots w a)
-      × Goes since levels n (Member place (x.processes place) value) slots (w, carried_after slots a)
+      × Goes since levels n (Member place (x.processes place) value count) slots (w, carried_after slots a)
 
   -- the process goes inside: it takes the value
-  wins : (s : St) (x : Picture V) → Obeys since levels s x → (id place i n : ℕ) (value : V) (slots : Slots V)
-      → get_elem? s.views id ≡ some (Member place (x.processes place) value)
-      → Fits since levels s x id (Member place (x.processes place) value)
+  wins : (s : St) (x : Picture V) → Obeys since levels s x → (id place i n : ℕ) (value : V) (count : ℕ) (slots : Slots V)
+      → get_elem? s.views id ≡ some (Member place (x.processes place) value count)
+      → Fits since levels s x id (Member place (x.processes place) value count)
       → length (set s.words i n) ≡ length s.words
       → slice_index (set s.words i n) (making_index levels) ≡ slice_index s.words (making_index levels)
       → IsSound levels (core_after s x place i n) → IsTold (Some (due x place)) n
       → is_inside (x.processes place) ≡ false → is_inside (next_of levels place (x.processes place) n) ≡ true
-      → Knows since x.content place false value → slots ≡ [] → Answer s x id place value i n slots
-  wins s x o id place i n value slots at f long word sound found was is knows ready =
+      → Knows since x.content place false value → slots ≡ [] → Answer s x id place value count i n slots
+  wins s x o id place i n value count slots at f long word sound found was is knows ready =
       let p' : Process = next_of levels place (x.processes place) n in
       let now : V = knows.0 in
       let there : is_inside (moved x.processes place p' place) ≡ true =
@@ -155,12 +167,12 @@ module _ {V : Type 0} (since done : ℕ → V → V → Type 0) (since_same : (p
       let after : Lies since (moved x.processes place p') (set s.homes 0 none) x.content =
       subst (λ (c : Option V). Lies since (moved x.processes place p') (set s.homes 0 none) c) (sym knows.1)
       ((λ away. let both : true ≡ false = sym there ∙ away place in cc), λ k e. out) in (
-        Member place p' now,
+        Member place p' now (total x place count),
         takes 0 (Some now),
         ap (λ (h : List (Option (std.Option V))). get_elem? h 0) home,
         (
           gone_on since levels x place p' x.content,
-          goes_on since levels s x o id place (x.processes place) p' value now now now x.content (set s.words i n)
+          goes_on since levels s x o id place (x.processes place) p' value now now now count (total x place count) x.content (set s.words i n)
               (set s.homes 0 none) at f.0 f.1 knows.1 knows.1 long word sound after
               (subst (λ (b : Bool). Knows since x.content place b now) (sym is) knows.1) (Same refl),
         ),
@@ -187,22 +199,22 @@ module _ {V : Type 0} (since done : ℕ → V → V → Type 0) (since_same : (p
   )
 
   -- the process goes on, neither into the inside nor out of it
-  passes : (s : St) (x : Picture V) → Obeys since levels s x → (id place i n : ℕ) (value : V) (slots : Slots V)
-      → get_elem? s.views id ≡ some (Member place (x.processes place) value)
-      → Fits since levels s x id (Member place (x.processes place) value)
+  passes : (s : St) (x : Picture V) → Obeys since levels s x → (id place i n : ℕ) (value : V) (count : ℕ) (slots : Slots V)
+      → get_elem? s.views id ≡ some (Member place (x.processes place) value count)
+      → Fits since levels s x id (Member place (x.processes place) value count)
       → length (set s.words i n) ≡ length s.words
       → slice_index (set s.words i n) (making_index levels) ≡ slice_index s.words (making_index levels)
       → IsSound levels (core_after s x place i n) → IsTold (Some (due x place)) n
       → is_inside (x.processes place) ≡ false → is_inside (next_of levels place (x.processes place) n) ≡ false
-      → Knows since x.content place false value → Answer s x id place value i n slots
-  passes s x o id place i n value slots at f long word sound found was is knows =
+      → Knows since x.content place false value → Answer s x id place value count i n slots
+  passes s x o id place i n value count slots at f long word sound found was is knows =
       let p' : Process = next_of levels place (x.processes place) n in (
-        Member place p' value,
+        Member place p' value (total x place count),
         keeps,
         tt,
         (
           gone_on since levels x place p' x.content,
-          goes_on since levels s x o id place (x.processes place) p' value value knows.0 knows.0 x.content
+          goes_on since levels s x o id place (x.processes place) p' value value knows.0 knows.0 count (total x place count) x.content
               (set s.words i n) s.homes at f.0 f.1 knows.1 knows.1 long word sound
               (same_lies x place p' s.homes x.content was is o.lies)
               (subst (λ (b : Bool). Knows since x.content place b value) (sym is) knows) (Same refl),
@@ -219,16 +231,16 @@ module _ {V : Type 0} (since done : ℕ → V → V → Type 0) (since_same : (p
       )
 
   -- the process leaves the inside: it gives the value home
-  releases : (s : St) (x : Picture V) → Obeys since levels s x → (id place i n : ℕ) (value : V) (slots : Slots V)
-      → get_elem? s.views id ≡ some (Member place (x.processes place) value)
-      → Fits since levels s x id (Member place (x.processes place) value)
+  releases : (s : St) (x : Picture V) → Obeys since levels s x → (id place i n : ℕ) (value : V) (count : ℕ) (slots : Slots V)
+      → get_elem? s.views id ≡ some (Member place (x.processes place) value count)
+      → Fits since levels s x id (Member place (x.processes place) value count)
       → length (set s.words i n) ≡ length s.words
       → slice_index (set s.words i n) (making_index levels) ≡ slice_index s.words (making_index levels)
       → IsSound levels (core_of s x) → IsSound levels (core_after s x place i n) → IsTold (Some (due x place)) n
       → is_inside (x.processes place) ≡ true
       → Knows since x.content place true value → IsReady done true place value slots
-      → Answer s x id place value i n slots
-  releases s x o id place i n value slots at f long word before sound found was knows ready =
+      → Answer s x id place value count i n slots
+  releases s x o id place i n value count slots at f long word before sound found was knows ready =
       let p' : Process = next_of levels place (x.processes place) n in
       let next : V = ready.0 in
       let is : is_inside p' ≡ false = leaves levels place n (x.processes place) (is_inside_is _ was) in
@@ -242,12 +254,12 @@ module _ {V : Type 0} (since done : ℕ → V → V → Type 0) (since_same : (p
         (λ away. back),
         (λ k e. absurd (alone k (stays_inside x place p' k is e) (inside x place p' k is e))),
       ) in (
-        Member place p' next,
+        Member place p' next (total x place count),
         gives,
         tt,
         (
           gone_on since levels x place p' (some next),
-          goes_on since levels s x o id place (x.processes place) p' value next value next (some next)
+          goes_on since levels s x o id place (x.processes place) p' value next value next count (total x place count) (some next)
               (set s.words i n) homes at f.0 f.1 knows refl long word sound after
               (subst (λ (b : Bool). Knows since (some next) place b next) (sym is) (next, refl, since_same place next))
               (Changed alone
@@ -271,31 +283,31 @@ module _ {V : Type 0} (since done : ℕ → V → V → Type 0) (since_same : (p
       )
 
   -- by whether the process is inside before and after
-  by_case : (s : St) (x : Picture V) → Obeys since levels s x → (id place i n : ℕ) (value : V) (slots : Slots V)
-      → get_elem? s.views id ≡ some (Member place (x.processes place) value)
-      → Fits since levels s x id (Member place (x.processes place) value)
+  by_case : (s : St) (x : Picture V) → Obeys since levels s x → (id place i n : ℕ) (value : V) (count : ℕ) (slots : Slots V)
+      → get_elem? s.views id ≡ some (Member place (x.processes place) value count)
+      → Fits since levels s x id (Member place (x.processes place) value count)
       → length (set s.words i n) ≡ length s.words
       → slice_index (set s.words i n) (making_index levels) ≡ slice_index s.words (making_index levels)
       → IsSound levels (core_of s x) → IsSound levels (core_after s x place i n) → IsTold (Some (due x place)) n
       → (before after : Bool) → is_inside (x.processes place) ≡ before
       → is_inside (next_of levels place (x.processes place) n) ≡ after
       → Knows since x.content place before value → IsReady done before place value slots
-      → Answer s x id place value i n slots
-  by_case s x o id place i n value slots at f long word was sound found true after e h knows ready =
-      releases s x o id place i n value slots at f long word was sound found e knows ready
-  by_case s x o id place i n value slots at f long word was sound found false true e h knows ready =
-      wins s x o id place i n value slots at f long word sound found e h knows ready
-  by_case s x o id place i n value slots at f long word was sound found false false e h knows ready =
-      passes s x o id place i n value slots at f long word sound found e h knows
+      → Answer s x id place value count i n slots
+  by_case s x o id place i n value count slots at f long word was sound found true after e h knows ready =
+      releases s x o id place i n value count slots at f long word was sound found e knows ready
+  by_case s x o id place i n value count slots at f long word was sound found false true e h knows ready =
+      wins s x o id place i n value count slots at f long word sound found e h knows ready
+  by_case s x o id place i n value count slots at f long word was sound found false false e h knows ready =
+      passes s x o id place i n value count slots at f long word sound found e h knows
 
   -- the step that is due keeps the rule
-  answers : (s : St) (x : Picture V) → Obeys since levels s x → (id place i : ℕ) (value : V) (slots : Slots V)
-      → get_elem? s.views id ≡ some (Member place (x.processes place) value)
+  answers : (s : St) (x : Picture V) → Obeys since levels s x → (id place i : ℕ) (value : V) (count : ℕ) (slots : Slots V)
+      → get_elem? s.views id ≡ some (Member place (x.processes place) value count)
       → place < 2 ^ levels → IsWord levels (word_of (due x place)) → i ≡ index_of levels (word_of (due x place))
       → IsReady done (is_inside (x.processes place)) place value slots
-      → Answer s x id place value i (left_by (due x place) (slice_index s.words i)) slots
-  answers s x o id place i value slots at room word index ready =
-      let f = o.fits id (Member place (x.processes place) value) at in
+      → Answer s x id place value count i (left_by (due x place) (slice_index s.words i)) slots
+  answers s x o id place i value count slots at room word index ready =
+      let f = o.fits id (Member place (x.processes place) value count) at in
       let n : ℕ = left_by (due x place) (slice_index s.words i) in
       let m : ℕ = making_index levels in
       let long : ℕ = length s.words in
@@ -303,31 +315,32 @@ module _ {V : Type 0} (since done : ℕ → V → V → Type 0) (since_same : (p
       let j : ℕ = index_of levels (word_of (due x place)) in
       let below : j + 8 ≤ m = index_below levels (word_of (due x place)) word in
       let index' : i ≡ j = index in
-      by_case s x o id place i n value slots at f (length-set s.words i n)
+      by_case s x o id place i n value count slots at f (length-set s.words i n)
       (get_or-set_other s.words i m n 0 (λ e. omega arith)) o.sound
       (kept_by_step levels place (core_of s x) (core_after s x place i n) least o.sound
       (steps_to s x place i room word index (let l : i < long = omega arith in l)))
       (may_find s x place i o.sound (due x place) refl word index) _ _ refl refl f.3 ready
 
   -- whatever the table is, the seat of a process may make the access that is due
-  pub allows : (slots id i place : ℕ) (process : Process) (value : V) (me : Me (std.Option V) (View V)) (a : Access)
+  pub allows : (slots id i place : ℕ) (process : Process) (value : V) (count : ℕ) (me : Me (std.Option V) (View V)) (a : Access)
       → access_of levels place process ≡ a → place < 2 ^ levels
-      → IsWord levels (word_of a) → i ≡ index_of levels (word_of a) → me.0 ≡ Member place process value
+      → IsWord levels (word_of a) → i ≡ index_of levels (word_of a) → me.0 ≡ Member place process value count
       → IsReady done (is_inside process) place value me.1
       → Allows (Rule since levels) slots id me i (left_by a)
       (λ n then'. Goes since levels (left_by a n) me.0 me.1 then')
-  allows slots id i place process value me a is room word index e ready s rule wide at small =
+  allows slots id i place process value count me a is room word index e ready s rule wide at small =
       let x : Picture V = rule.0 in
       let n : ℕ = slice_index s.words i in
-      let f : x.processes place ≡ process = (rule.1.fits id (Member place process value) (at ∙ ap some e)).2 in
-      let e' : me.0 ≡ Member place (x.processes place) value = e ∙ ap (λ (p : Process). Member place p value) (sym f) in
+      let f : x.processes place ≡ process = (rule.1.fits id (Member place process value count) (at ∙ ap some e)).2 in
+      let e' : me.0 ≡ Member place (x.processes place) value count =
+      e ∙ ap (λ (p : Process). Member place p value count) (sym f) in
       let is' : due x place ≡ a = ap (λ (p : Process). access_of levels place p) f ∙ is in
       let G : View V → Access → Type 0 = λ v b.
       (w : View V) × (t : Act (std.Option V)) × Valid s.homes me.1 t
       × Rule since levels (stepped s i (left_by b n) id me.1 w t)
       × Goes since levels (left_by b n) v me.1 (w, carried_after me.1 t) in
-      subst (λ (v : View V). G v a) (sym e') (subst (λ (b : Access). G (Member place (x.processes place) value) b) is'
-      (answers s x rule.1 id place i value me.1 (at ∙ ap some e') room
+      subst (λ (v : View V). G v a) (sym e') (subst (λ (b : Access). G (Member place (x.processes place) value count) b) is'
+      (answers s x rule.1 id place i value count me.1 (at ∙ ap some e') room
       (subst (λ (b : Access). IsWord levels (word_of b)) (sym is') word)
       (index ∙ ap (λ (b : Access). index_of levels (word_of b)) (sym is'))
       (subst (λ (p : Process). IsReady done (is_inside p) place value me.1) (sym f) ready)))

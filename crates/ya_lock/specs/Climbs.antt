@@ -15,5 +15,5 @@ module _ {V : Type 0} where
   -- the seat's process stands at the first access of the level, or its place has entered, after so many remote accesses
   abbrev pub HasClimbed : (ℕ → V → V → Type 0) → ℕ → ℕ → V → Climb → Me (std.Option V) (View V) → Type 0
   HasClimbed since levels place seen (climb.Level level remote) me =
-      (me ≡ (Member place (Entering level E1) seen, [])) × IsWalk (walk levels place (Entering level E1) false remote)
-  HasClimbed since levels place seen (climb.Inside remote) me = HasEntered since place seen me × (remote ≤ 7 * levels)
+      (me ≡ (Member place (Entering level E1) seen remote, [])) × IsWalk (walk levels place (Entering level E1) false remote)
+  HasClimbed since levels place seen (climb.Inside remote) me = HasEntered since place seen remote me × (remote ≤ 7 * levels)

@@ -15,8 +15,8 @@ use Rattle.ya_lock.specs.Rule.{words_in, making_index}
 module _ {V : Type 0} where
   -- the view is that of the place's process, which has seen the value or, inside, found it
   abbrev pub IsOf : View V → ℕ → Process → V → Type 0
-  IsOf (Member place process value) p x v = (place ≡ p) × (process ≡ x) × (value ≡ v)
-  IsOf (Confirmer place value other seen) p x v = (place ≡ p) × (Inside ≡ x) × (value ≡ v)
+  IsOf (Member place process value count) p x v = (place ≡ p) × (process ≡ x) × (value ≡ v)
+  IsOf (Confirmer place value other seen count) p x v = (place ≡ p) × (Inside ≡ x) × (value ≡ v)
   IsOf _ p x v = ⊥
 
   -- the seat is to make the passes, and hasn't given the value yet

@@ -4,9 +4,10 @@ use Rattle.std.specs.Prelude as std
 use Rattle.atomic_table.specs.Table.{Me}
 use Rattle.ya_core.specs.declared.word.Access.{Access}
 use Rattle.ya_core.specs.declared.word.Access.TheVariants.{Load, Store}
+use Rattle.ya_core.specs.declared.process.Process.{Process}
 use Rattle.ya_core.specs.declared.process.Process.TheVariants.{Idle, Inside}
 use Rattle.ya_core.specs.Steps.{access_of, next_of}
-use Rattle.ya_core.specs.Walks.{IsTold}
+use Rattle.ya_core.specs.Walks.{IsTold, cost_of}
 use Rattle.ya_lock.specs.declared.view.View.{View}
 use Rattle.ya_lock.specs.declared.view.View.TheVariants.{Maker, Filler, Dealer, Member, Confirmer}
 use Rattle.ya_core.specs.Worlds.{is_inside}
@@ -20,7 +21,23 @@ abbrev pub left_by : Access → ℕ → ℕ
 left_by (Load word) found = found
 left_by (Store word value) found = value
 
+-- the remote accesses of a process since its last entry began: the next access of an idle one begins an entry
+abbrev pub count_from : Process → ℕ → ℕ
+count_from Idle last = 0
+count_from _ count = count
+
+-- with the access that is due, which counts where it is remote
+abbrev pub count_after : ℕ → ℕ → Process → ℕ → ℕ
+count_after levels place process count =
+    count_from process count + cost_of place (access_of levels place process)
+
 module _ {V : Type 0} where
+  -- the view is that of the place's process which has seen the value, and which has made so many remote accesses since
+  -- its entry began; an idle one has made none of the next entry, and any number in its last passage
+  abbrev pub HasMade : ℕ → V → Process → ℕ → View V → Type 0
+  HasMade place value Idle remote view = (last : ℕ) × (view ≡ Member place Idle value last) × (remote ≡ 0)
+  HasMade place value process remote view = view ≡ Member place process value remote
+
   -- a process that is to leave the inside has put a value in the slot which its place may leave of what it found; every
   -- other one has no slot
   abbrev pub IsReady : (done : ℕ → V → V → Type 0) → Bool → ℕ → V → Slots V → Type 0
@@ -43,7 +60,7 @@ module _ {V : Type 0} where
 
   -- it deals the pass of its first place, which it keeps no longer
   abbrev pub dealt : View V → View V
-  dealt (Dealer first value) = Member first Idle value
+  dealt (Dealer first value) = Member first Idle value 0
   dealt view = view
 
   -- what it keeps: the places behind that one
@@ -53,12 +70,12 @@ module _ {V : Type 0} where
 
   -- it becomes the pass of its last place
   abbrev pub Ends : View V → Slots V → Me (std.Option V) (View V) → Type 0
-  Ends (Dealer first value) slots me = me ≡ (Member first Idle value, slots)
+  Ends (Dealer first value) slots me = me ≡ (Member first Idle value 0, slots)
   Ends _ slots me = Unit {0}
 
   -- the process inside takes in an idle one
   abbrev pub joined : View V → View V → View V
-  joined (Member place process value) (Member other process' seen) = Confirmer place value other seen
+  joined (Member place process value count) (Member other process' seen last) = Confirmer place value other seen count
   joined view other = view
 
   module _ (since : ℕ → V → V → Type 0) where
@@ -69,16 +86,17 @@ module _ {V : Type 0} where
     Carries false true place value slots next slots' = since place value next × (slots' ≡ (0, Some next) ∷ [])
     Carries false false place value slots next slots' = (next ≡ value) × (slots' ≡ slots)
 
-    -- a process takes the step that is due: it finds what can stand there, and goes on as the core says
+    -- a process takes the step that is due: it finds what can stand there, goes on as the core says, and its remote
+    -- accesses are counted
     abbrev pub Goes : ℕ → ℕ → View V → Slots V → Me (std.Option V) (View V) → Type 0
-    Goes levels found (Member place process value) slots me =
+    Goes levels found (Member place process value count) slots me =
         IsTold (Some (access_of levels place process)) found
-        × ((next : V) × (me.0 ≡ Member place (next_of levels place process found) next)
+        × ((next : V) × (me.0 ≡ Member place (next_of levels place process found) next (count_after levels place process count))
         × Carries (is_inside process) (is_inside (next_of levels place process found)) place value slots next me.1)
     Goes levels found _ slots me = Unit {0}
 
     -- the process inside learns what may have come of the value that the other has seen
     abbrev pub Learns : View V → Slots V → Me (std.Option V) (View V) → Type 0
-    Learns (Confirmer place value other seen) slots me =
-        since other seen value × (me ≡ (Member place Inside value, slots))
+    Learns (Confirmer place value other seen count) slots me =
+        since other seen value × (me ≡ (Member place Inside value count, slots))
     Learns _ slots me = Unit {0}

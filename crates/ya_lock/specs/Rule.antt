@@ -29,8 +29,8 @@ words_in levels row word = if is_word levels word then slice_index row (index_of
 
 -- the place of a view that is a process's
 abbrev pub place_of : {V : Type 0} → View V → Option ℕ
-place_of (Member place process value) = some place
-place_of (Confirmer place value other seen) = some place
+place_of (Member place process value count) = some place
+place_of (Confirmer place value other seen count) = some place
 place_of _ = none
 
 -- what all seats together show: the seat of each place, where one has its process; each place's process; the seat that
@@ -67,10 +67,10 @@ module _ {V : Type 0} (since : ℕ → V → V → Type 0) where
     Fits seat (Dealer first value) =
         IsBegun × (x.maker ≡ some seat) × (first < 2 ^ levels)
         × ((place : ℕ) → first ≤ place → (x.seat_of place ≡ none) × Knows x.content place false value)
-    Fits seat (Member place process value) =
+    Fits seat (Member place process value count) =
         IsBegun × (x.seat_of place ≡ some seat) × (x.processes place ≡ process)
         × Knows x.content place (is_inside process) value
-    Fits seat (Confirmer place value other seen) =
+    Fits seat (Confirmer place value other seen count) =
         IsBegun × (x.seat_of place ≡ some seat) × (x.processes place ≡ Inside) × Knows x.content place true value
         × Knows x.content other false seen
     Fits seat Spent = IsBegun

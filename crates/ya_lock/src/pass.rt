@@ -27,7 +27,7 @@ impl<V> Model for Pass<V> {
       remote = p.remote;
     } };
 
-    ghost invariant = { λ p. IsAtHome p.seat.table_id p.place p.seen.value p.seat.me };
+    ghost invariant = { λ p. IsAtHome p.seat.table_id p.place p.seen.value p.remote p.seat.me };
 }
 
 impl<V> Pass<V> {

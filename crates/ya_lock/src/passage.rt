@@ -4,7 +4,7 @@ ghost use Rattle.ya_core.specs.declared.process.Process.TheVariants.{Idle};
 ghost use Rattle.ya_core.specs.Walks.{IsWalk, op_of, walk_after, MovesOn, budget, points_ahead};
 ghost use Rattle.ya_core.specs.Worlds.{is_inside};
 ghost use Rattle.ya_lock.specs.declared.view.View.TheVariants.{Member};
-ghost use Rattle.ya_lock.specs.Moves.{IsReady, Goes};
+ghost use Rattle.ya_lock.specs.Moves.{HasMade, IsReady, Goes};
 ghost use Rattle.ya_lock.specs.Climbs.{HasClimbed};
 ghost use Rattle.ya_lock.specs.Lock.{HasEntered, IsComing, IsGoing};
 
@@ -39,9 +39,9 @@ impl<V: Kept + Drop, const L: u32> TreeLock<V, L> {
     ) -> u64
         requires lock { seat.old.table_id ≡ self.now }
         requires place { place < 2 ^ L }
-        requires idle { seat.old.me ≡ (Member place Idle seen.now.value, []) }
+        requires idle { (last : ℕ) × (seat.old.me ≡ (Member place Idle seen.now.value last, [])) }
         ensures lock { seat.new.table_id ≡ seat.old.table_id }
-        ensures entered { HasEntered V.since place seen.now.value seat.new.me }
+        ensures entered { HasEntered V.since place seen.now.value result seat.new.me }
         ensures count { result ≤ 7 * L }
     {
         let _ = &self.table;
@@ -177,7 +177,7 @@ impl<V: Kept + Drop, const L: u32> TreeLock<V, L> {
         requires levels { walker.levels ≡ L }
         requires going { IsGoing seen.now.value walker seat.old.me }
         ensures lock { seat.new.table_id ≡ seat.old.table_id }
-        ensures idle { seat.new.me ≡ (Member walker.place Idle seen.now.value, []) }
+        ensures idle { seat.new.me ≡ (Member walker.place Idle seen.now.value result, []) }
         ensures least { walker.remote ≤ result }
         ensures most { result ≤ walker.remote + budget walker }
     {
@@ -239,7 +239,7 @@ impl<V: Kept + Drop, const L: u32> TreeLock<V, L> {
         requires due { (due ≡ op_of walker.old) × (due ≢ Op.Inside) × (due ≢ Op.Idle) }
         requires proper { IsWalk walker.old }
         requires ready { (value : V)
-            × (seat.old.me.0 ≡ Member walker.old.place walker.old.process value)
+            × HasMade walker.old.place value walker.old.process walker.old.remote seat.old.me.0
             × IsReady V.done (is_inside walker.old.process) walker.old.place value seat.old.me.1 }
         ensures lock { seat.new.table_id ≡ seat.old.table_id }
         ensures goes { (found : ℕ)

@@ -11,11 +11,12 @@ pub enum View<V> {
     Filler,
     /// It gave the value home, and is to make the passes of the places from this one on. The value that it gave.
     Dealer(usize, V),
-    /// A process: its place, where it stands, and the value that it has seen or, inside, that it found.
-    Member(usize, Process, V),
+    /// A process: its place, where it stands, the value that it has seen or, inside, that it found, and how many remote
+    /// accesses it has made since its last entry began.
+    Member(usize, Process, V, u64),
     /// A process inside which has joined an idle one: its place and the value that it found, then the place of the
-    /// other and the value that the other has seen.
-    Confirmer(usize, V, usize, V),
+    /// other and the value that the other has seen, and how many remote accesses the one inside has made.
+    Confirmer(usize, V, usize, V, u64),
     /// It was joined to another seat.
     Spent,
 }

@@ -22,10 +22,10 @@ join_seat-requires g c =
       omega (arith, own.words),
       subst (λ (v : View V). J c.self.inside.table.shared.key v other.seat.me.0)
           (sym (ap (λ (m : M). m.0) c.guard.invariant.process))
-          (subst (λ (w : View V). J c.self.inside.table.shared.key (Member one.place Inside one.found.value) w)
+          (subst (λ (w : View V). J c.self.inside.table.shared.key (Member one.place Inside one.found.value one.remote) w)
           (sym (ap (λ (m : M). m.0) c.pass.invariant.process))
-          (joins g.V.Kept.since c.self.inside.table.shared.key one.seat.id one.place one.found.value other.seat.id
-          other.place other.seen.value)),
+          (joins g.V.Kept.since c.self.inside.table.shared.key one.seat.id one.place one.found.value one.remote other.seat.id
+          other.place other.seen.value other.remote)),
     )
 
 pub load-requires : goal.load-requires
@@ -36,7 +36,7 @@ load-requires g c =
       j.0 ∙ (ap (λ (q : OpenGuard V). q.lock) c.guard.view_is ∙ (c.requires.guard ∙ sym c.self.view_is)),
       omega (arith, own.words),
       learns g.V.Kept.since c.self.inside.table.shared.key c.self.inside.table.shared.table_id.slots
-          c.join_seat.new.seat.id 0 one.place one.found.value other.place other.seen.value
+          c.join_seat.new.seat.id 0 one.place one.found.value other.place other.seen.value one.remote
           c.join_seat.new.seat.me
           (ap (λ (m : M). m.0) j.2 ∙ (λ i. joined (c.guard.invariant.process i).0 (c.pass.invariant.process i).0)),
     )

@@ -13,7 +13,7 @@ go_in-remote-requires g c =
         (
           place_below c.pass.inside.seat.table_id c.self.inside.table.shared.table_id c.pass.inside.place g.row.L
               g.row.L (same ∙ sym c.self.view_is) c.self.invariant.words refl c.pass.invariant.in_tree,
-          c.pass.invariant.process,
+          (c.pass.inside.remote, c.pass.invariant.process),
         ),
       ),
     )
@@ -22,7 +22,8 @@ pub exchange-requires : goal.exchange-requires
 exchange-requires g c = (
   c.go_in-remote.ensures.lock
       ∙ (ap (λ (q : IdlePass g.row.V.Denot). q.lock) c.pass.view_is ∙ (c.requires ∙ sym c.self.view_is)),
-  has_slot g.V.Kept.since c.pass.inside.place c.pass.inside.seen.value c.go_in-remote.new.seat.me
+  has_slot g.V.Kept.since c.pass.inside.place c.pass.inside.seen.value c.go_in-remote.result
+      c.go_in-remote.new.seat.me
       c.go_in-remote.ensures.entered,
 )
 

@@ -8,7 +8,7 @@ use Rattle.ya_lock.specs.declared.view.View.{View}
 use Rattle.ya_lock.specs.Rule.{index_of, making_index, Rule}
 use Rattle.ya_lock.specs.Moves.{Goes}
 use Rattle.ya_lock.proofs.Words.{making_small, index_below, index_is}
-use Rattle.ya_lock.proofs.Steps.{allows}
+use Rattle.ya_lock.proofs.Steps.{counted, allows}
 use Rattle.ya_core.proofs.Promised.{load_due, store_due}
 use Rattle.ya_lock.proofs.tree_lock.TreeLock.step.Goals as goal
 
@@ -38,6 +38,7 @@ load-value-requires g c =
     own.words ∙ ap (λ (l : ℕ). making_index l + 1) (sym same) in
     let id : ℕ = c.args.seat.now.id in let slots : ℕ = c.self.inside.table.shared.table_id.slots in
     let me : Me (Option g.row.V.Denot) (View g.row.V.Denot) = c.args.seat.now.me in
+    let made = counted w.place c.requires.ready.0 w.process w.remote me.0 c.requires.ready.1 in
     let G : ℕ → ℕ → Type 0 =
     λ l k. Allows (Rule g.V.Kept.since k) slots id me i (λ n. n)
     (λ n then'. Goes g.V.Kept.since l n me.0 me.1 then') in (
@@ -45,8 +46,8 @@ load-value-requires g c =
       omega arith,
       subst (λ (k : ℕ). G g.row.L k) (sym own.told) (subst (λ (l : ℕ). G l l) same
           (allows g.V.Kept.since g.V.Kept.done g.V.Kept.since_same g.V.Kept.since_done w.levels p.least slots id i
-          w.place w.process c.requires.ready.0 me (Load a.0) a.1 p.in_tree word index
-          c.requires.ready.1 c.requires.ready.2)),
+          w.place w.process c.requires.ready.0 made.0 me (Load a.0) a.1 p.in_tree word index
+          made.1 c.requires.ready.2)),
     )
 
 pub overflow_mul-number-in-Store : goal.overflow_mul-number-in-Store
@@ -75,6 +76,7 @@ store-requires g c =
     own.words ∙ ap (λ (l : ℕ). making_index l + 1) (sym same) in
     let id : ℕ = c.args.seat.now.id in let slots : ℕ = c.self.inside.table.shared.table_id.slots in
     let me : Me (Option g.row.V.Denot) (View g.row.V.Denot) = c.args.seat.now.me in
+    let made = counted w.place c.requires.ready.0 w.process w.remote me.0 c.requires.ready.1 in
     let G : ℕ → ℕ → Type 0 =
     λ l k. Allows (Rule g.V.Kept.since k) slots id me i (λ _. c.in-Store.value)
     (λ _ then'. Goes g.V.Kept.since l c.in-Store.value me.0 me.1 then') in (
@@ -82,6 +84,6 @@ store-requires g c =
       omega arith,
       subst (λ (k : ℕ). G g.row.L k) (sym own.told) (subst (λ (l : ℕ). G l l) same
           (allows g.V.Kept.since g.V.Kept.done g.V.Kept.since_same g.V.Kept.since_done w.levels p.least slots id i
-          w.place w.process c.requires.ready.0 me (Store a.0 c.in-Store.value) a.1 p.in_tree word index
-          c.requires.ready.1 c.requires.ready.2)),
+          w.place w.process c.requires.ready.0 made.0 me (Store a.0 c.in-Store.value) a.1 p.in_tree word index
+          made.1 c.requires.ready.2)),
     )
