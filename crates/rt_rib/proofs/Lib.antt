@@ -18,3 +18,4 @@ pub mod MapOrder
 pub mod Purges
 pub mod MapChanges
 pub mod MapLookUps
+pub mod Examples

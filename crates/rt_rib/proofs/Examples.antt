@@ -1,0 +1,366 @@
+-- Examples by which definitions are tested, each under a line with the definition's name. Both sides are computed.
+use Rattle.std.proofs.Common.{◌≡◌, ℕ, Bool, true, false, Option, Some, None, List, [], ◌∷◌, ◌++◌, refl, arith}
+use Rattle.rt_cidr.specs.declared.address.Addr.{Addr}
+use Rattle.rt_cidr.specs.declared.prefixes.Prefix.{Prefix}
+use Rattle.rt_rib.specs.declared.routes.Hop.{Hop}
+use Rattle.rt_rib.specs.declared.routes.Hop.TheVariants.{Via, Discard}
+use Rattle.rt_rib.specs.declared.routes.Route.{Route}
+use Rattle.rt_rib.specs.declared.commands.Cmd.{Cmd}
+use Rattle.rt_rib.specs.declared.commands.Cmd.TheVariants.{Add, Replace, Withdraw, Lookup, Dump, Purge}
+use Rattle.rt_rib.specs.declared.commands.Reply.{Reply}
+use Rattle.rt_rib.specs.declared.commands.Reply.TheVariants.{Added, Exists, Full, Replaced, Withdrawn, Missing, Found, NoRoute, Dumped, Purged}
+use Rattle.rt_rib.specs.declared.commands.Entry.{Entry}
+use Rattle.rt_rib.specs.Table.{is_of, has, count_of, is_better, precedes, put_in, take_out, purge, IsTable}
+use Rattle.rt_rib.specs.LookUp.{matching, longest_of, best, look_up}
+use Rattle.rt_rib.specs.Sequential.{reply_of, table_after}
+use Rattle.rt_rib.specs.Journal.{table_left, IsAnswered, IsLawfulJournal}
+use Rattle.rt_rib.specs.Book.{IsLimit}
+use Rattle.rt_rib.specs.Laws.{IsBestMatch, is_own, feed_entries}
+use Rattle.rt_rib.proofs.Tables.{IsTable-nil, IsTable-put_in}
+use Rattle.rt_rib.proofs.Best.{look_up_finds_best}
+use Rattle.rt_rib.proofs.Journals.{IsLawfulJournal-nil, IsLawfulJournal-push}
+
+-- prefixes of the examples: all addresses, 10.0.0.0/8, 10.0.0.0/16, 10.1.0.0/16, and the last address by itself
+abbrev everything : Prefix
+everything = record { base = 0; len = 0; is_prefix = record { short = omega arith; fits = omega arith; clear = refl } }
+
+abbrev ten_8 : Prefix
+ten_8 = record { base = 167772160; len = 8; is_prefix = record { short = omega arith; fits = omega arith; clear = refl } }
+
+abbrev ten_0_16 : Prefix
+ten_0_16 = record { base = 167772160; len = 16; is_prefix = record { short = omega arith; fits = omega arith; clear = refl } }
+
+abbrev ten_1_16 : Prefix
+ten_1_16 = record { base = 167837696; len = 16; is_prefix = record { short = omega arith; fits = omega arith; clear = refl } }
+
+abbrev last_32 : Prefix
+last_32 = record { base = 4294967295; len = 32; is_prefix = record { short = omega arith; fits = omega arith; clear = refl } }
+
+-- addresses: 10.1.2.3, 10.2.3.4, 198.51.100.7, and the last one
+abbrev at_10_1_2_3 : Addr
+at_10_1_2_3 = record { 0 = 167838211 }
+
+abbrev at_10_2_3_4 : Addr
+at_10_2_3_4 = record { 0 = 167904004 }
+
+abbrev at_198_51_100_7 : Addr
+at_198_51_100_7 = record { 0 = 3325256711 }
+
+abbrev at_last : Addr
+at_last = record { 0 = 4294967295 }
+
+-- a feed's route to a prefix with a preference, and the three of the tutorial's first feed
+abbrev route : Prefix → ℕ → ℕ → Route
+route prefix feed pref = record { prefix = prefix; feed = feed; pref = pref; hop = Discard }
+
+abbrev nested : List Route
+nested = route everything 1 200 ∷ route ten_8 1 100 ∷ route ten_1_16 1 100 ∷ []
+
+-- what a feed asked, and what it was answered
+abbrev entry : ℕ → Cmd → Reply → Entry
+entry feed cmd reply = record { feed = feed; cmd = cmd; reply = reply }
+
+-- feed 1 looks an address up before and after it puts a route to it in, where a feed may have one route
+abbrev two_look_ups : Reply → List Entry
+two_look_ups first =
+    entry 1 (Lookup at_10_1_2_3) first ∷ entry 1 (Add ten_8 5 Discard) Added
+    ∷ entry 1 (Lookup at_10_1_2_3) (Found (route ten_8 1 5)) ∷ []
+
+-- is_of
+own_route_to_the_prefix : is_of 1 ten_8 (route ten_8 1 5) ≡ true
+own_route_to_the_prefix = refl
+
+not_another_feeds : is_of 2 ten_8 (route ten_8 1 5) ≡ false
+not_another_feeds = refl
+
+not_to_a_longer_prefix : is_of 1 ten_8 (route ten_1_16 1 5) ≡ false
+not_to_a_longer_prefix = refl
+
+-- has
+has_its_own : has 64 last_32 (route ten_8 1 5 ∷ route last_32 64 5 ∷ []) ≡ true
+has_its_own = refl
+
+has_no_other_feeds : has 64 ten_8 (route ten_8 1 5 ∷ route last_32 64 5 ∷ []) ≡ false
+has_no_other_feeds = refl
+
+-- count_of
+three_are_of_feed_1 : count_of 1 (route ten_8 2 5 ∷ nested) ≡ 3
+three_are_of_feed_1 = refl
+
+one_is_of_feed_2 : count_of 2 (route ten_8 2 5 ∷ nested) ≡ 1
+one_is_of_feed_2 = refl
+
+-- is_better
+lesser_preference_is_better : is_better (route ten_8 64 4) (route ten_8 1 5) ≡ true
+lesser_preference_is_better = refl
+
+greater_preference_is_not : is_better (route ten_8 1 5) (route ten_8 64 4) ≡ false
+greater_preference_is_not = refl
+
+of_equal_preference_the_lesser_feed_is : is_better (route ten_8 1 5) (route ten_8 64 5) ≡ true
+of_equal_preference_the_lesser_feed_is = refl
+
+nothing_is_better_than_itself : is_better (route ten_8 1 5) (route ten_8 1 5) ≡ false
+nothing_is_better_than_itself = refl
+
+-- precedes
+by_base_first : precedes (route everything 64 9) (route ten_8 1 0) ≡ true
+by_base_first = refl
+
+by_length_before_preference :
+    precedes (route ten_8 2 100) (record { prefix = ten_0_16; feed = 1; pref = 0; hop = Discard }) ≡ true
+by_length_before_preference = refl
+
+by_preference_before_feed : precedes (route ten_8 2 30) (route ten_8 1 50) ≡ true
+by_preference_before_feed = refl
+
+by_feed_last : precedes (route ten_8 2 30) (route ten_8 1 30) ≡ false
+by_feed_last = refl
+
+-- put_in
+put_in_stands_in_dump_order :
+    put_in (route ten_8 2 30) (route ten_8 1 50 ∷ route ten_1_16 1 10 ∷ []) ≡ route ten_8 2 30 ∷ route ten_8 1 50 ∷ route ten_1_16 1 10 ∷ []
+put_in_stands_in_dump_order = refl
+
+put_in_goes_behind_what_precedes_it : put_in (route last_32 1 0) nested ≡ nested ++ route last_32 1 0 ∷ []
+put_in_goes_behind_what_precedes_it = refl
+
+-- take_out
+take_out_leaves_the_other_feeds : take_out 1 ten_8 (route ten_8 2 30 ∷ route ten_8 1 50 ∷ []) ≡ route ten_8 2 30 ∷ []
+take_out_leaves_the_other_feeds = refl
+
+take_out_leaves_the_other_prefixes : take_out 1 ten_1_16 nested ≡ route everything 1 200 ∷ route ten_8 1 100 ∷ []
+take_out_leaves_the_other_prefixes = refl
+
+-- purge
+purge_leaves_the_other_feeds : purge 1 (route ten_8 2 30 ∷ nested) ≡ route ten_8 2 30 ∷ []
+purge_leaves_the_other_feeds = refl
+
+purge_of_none : purge 3 nested ≡ nested
+purge_of_none = refl
+
+-- IsTable
+what_was_put_in_is_a_table : IsTable (put_in (route ten_8 1 50) (put_in (route ten_1_16 1 10) []))
+what_was_put_in_is_a_table = IsTable-put_in (route ten_8 1 50) (put_in (route ten_1_16 1 10) []) refl (IsTable-put_in (route ten_1_16 1 10) [] refl IsTable-nil)
+
+another_order_is_no_table : ¬ IsTable (route ten_1_16 1 10 ∷ route ten_8 1 50 ∷ [])
+another_order_is_no_table h = let same = h.ordered 0 1 (route ten_8 1 50) (omega arith) (omega arith) in cc
+
+two_of_one_feed_and_prefix_are_no_table : ¬ IsTable (route ten_8 1 10 ∷ route ten_8 1 50 ∷ [])
+two_of_one_feed_and_prefix_are_no_table h = let same = h.single 0 1 (route ten_8 1 50) (omega arith) (omega arith) in cc
+
+-- matching
+matching_leaves_the_prefixes_that_cover : matching at_10_2_3_4 nested ≡ route everything 1 200 ∷ route ten_8 1 100 ∷ []
+matching_leaves_the_prefixes_that_cover = refl
+
+every_prefix_may_match : matching at_10_1_2_3 nested ≡ nested
+every_prefix_may_match = refl
+
+-- longest_of
+longest_of_leaves_the_longest : longest_of nested ≡ route ten_1_16 1 100 ∷ []
+longest_of_leaves_the_longest = refl
+
+longest_of_leaves_all_of_one_length :
+    longest_of (route everything 1 0 ∷ route ten_8 1 50 ∷ route ten_8 2 30 ∷ []) ≡ route ten_8 1 50 ∷ route ten_8 2 30 ∷ []
+longest_of_leaves_all_of_one_length = refl
+
+-- best
+best_is_the_least_preference : best (route ten_8 1 50 ∷ route ten_8 2 30 ∷ []) ≡ Some (route ten_8 2 30)
+best_is_the_least_preference = refl
+
+best_of_a_tie_is_the_least_feed : best (route ten_8 64 30 ∷ route ten_8 2 30 ∷ []) ≡ Some (route ten_8 2 30)
+best_of_a_tie_is_the_least_feed = refl
+
+best_of_none_is_none : best [] ≡ None
+best_of_none_is_none = refl
+
+-- look_up
+look_up_takes_the_longest_prefix : look_up at_10_1_2_3 nested ≡ Some (route ten_1_16 1 100)
+unfolding look_up
+look_up_takes_the_longest_prefix = refl
+
+look_up_takes_a_shorter_that_covers : look_up at_10_2_3_4 nested ≡ Some (route ten_8 1 100)
+unfolding look_up
+look_up_takes_a_shorter_that_covers = refl
+
+look_up_takes_the_default : look_up at_198_51_100_7 nested ≡ Some (route everything 1 200)
+unfolding look_up
+look_up_takes_the_default = refl
+
+look_up_goes_by_length_before_preference :
+    look_up at_10_1_2_3 (route ten_8 1 0 ∷ route ten_1_16 2 9 ∷ []) ≡ Some (route ten_1_16 2 9)
+unfolding look_up
+look_up_goes_by_length_before_preference = refl
+
+look_up_of_the_last_address : look_up at_last (route last_32 1 9 ∷ []) ≡ Some (route last_32 1 9)
+unfolding look_up
+look_up_of_the_last_address = refl
+
+look_up_finds_nothing_where_nothing_covers : look_up at_198_51_100_7 (route ten_8 1 5 ∷ route last_32 1 9 ∷ []) ≡ None
+unfolding look_up
+look_up_finds_nothing_where_nothing_covers = refl
+
+-- reply_of
+add_where_there_is_room : reply_of 2 (route ten_8 1 5 ∷ []) 1 (Add ten_1_16 5 Discard) ≡ Added
+unfolding reply_of
+add_where_there_is_room = refl
+
+add_exists_before_full : reply_of 1 (route ten_8 1 5 ∷ []) 1 (Add ten_8 9 Discard) ≡ Exists
+unfolding reply_of
+add_exists_before_full = refl
+
+add_full : reply_of 1 (route ten_8 1 5 ∷ []) 1 (Add ten_1_16 5 Discard) ≡ Full
+unfolding reply_of
+add_full = refl
+
+the_limit_is_of_one_feed : reply_of 1 (route ten_8 1 5 ∷ []) 2 (Add ten_8 5 Discard) ≡ Added
+unfolding reply_of
+the_limit_is_of_one_feed = refl
+
+replace_its_own : reply_of 9 nested 1 (Replace ten_8 5 Discard) ≡ Replaced
+unfolding reply_of
+replace_its_own = refl
+
+replace_no_other_feeds : reply_of 9 nested 2 (Replace ten_8 5 Discard) ≡ Missing
+unfolding reply_of
+replace_no_other_feeds = refl
+
+withdraw_its_own : reply_of 9 nested 1 (Withdraw ten_8) ≡ Withdrawn
+unfolding reply_of
+withdraw_its_own = refl
+
+withdraw_no_other_feeds : reply_of 9 nested 2 (Withdraw ten_8) ≡ Missing
+unfolding reply_of
+withdraw_no_other_feeds = refl
+
+look_up_of_any_feed : reply_of 9 nested 64 (Lookup at_10_2_3_4) ≡ Found (route ten_8 1 100)
+unfolding reply_of look_up
+look_up_of_any_feed = refl
+
+look_up_in_an_empty_table : reply_of 9 [] 1 (Lookup at_last) ≡ NoRoute
+unfolding reply_of look_up
+look_up_in_an_empty_table = refl
+
+dump_counts_all : reply_of 9 (route ten_8 2 5 ∷ nested) 1 Dump ≡ Dumped 4
+unfolding reply_of
+dump_counts_all = refl
+
+purge_counts_its_own : reply_of 9 (route ten_8 2 5 ∷ nested) 2 Purge ≡ Purged 1
+unfolding reply_of
+purge_counts_its_own = refl
+
+-- table_after
+added : table_after 2 (route ten_8 1 50 ∷ []) 2 (Add ten_8 30 Discard) ≡ route ten_8 2 30 ∷ route ten_8 1 50 ∷ []
+unfolding table_after
+added = refl
+
+not_added_where_it_exists : table_after 2 (route ten_8 1 50 ∷ []) 1 (Add ten_8 30 Discard) ≡ route ten_8 1 50 ∷ []
+unfolding table_after
+not_added_where_it_exists = refl
+
+not_added_where_it_is_full : table_after 1 (route ten_8 1 50 ∷ []) 1 (Add ten_1_16 30 Discard) ≡ route ten_8 1 50 ∷ []
+unfolding table_after
+not_added_where_it_is_full = refl
+
+replaced_at_its_new_place :
+    table_after 2 (route ten_8 2 30 ∷ route ten_8 1 50 ∷ []) 2 (Replace ten_8 60 Discard) ≡ route ten_8 1 50 ∷ route ten_8 2 60 ∷ []
+unfolding table_after
+replaced_at_its_new_place = refl
+
+not_replaced_where_it_is_missing : table_after 9 nested 2 (Replace ten_8 60 Discard) ≡ nested
+unfolding table_after
+not_replaced_where_it_is_missing = refl
+
+the_next_stands_in_when_the_best_is_withdrawn :
+    look_up at_10_2_3_4 (table_after 9 (route ten_8 2 30 ∷ route ten_8 1 50 ∷ []) 2 (Withdraw ten_8)) ≡ Some (route ten_8 1 50)
+unfolding table_after look_up
+the_next_stands_in_when_the_best_is_withdrawn = refl
+
+a_look_up_leaves_all : table_after 9 nested 1 (Lookup at_last) ≡ nested
+unfolding table_after
+a_look_up_leaves_all = refl
+
+a_dump_leaves_all : table_after 9 nested 1 Dump ≡ nested
+unfolding table_after
+a_dump_leaves_all = refl
+
+a_purge_leaves_the_other_feeds : table_after 9 (route ten_8 2 30 ∷ nested) 1 Purge ≡ route ten_8 2 30 ∷ []
+unfolding table_after
+a_purge_leaves_the_other_feeds = refl
+
+-- table_left
+of_no_entry : table_left 9 [] ≡ []
+unfolding table_left
+of_no_entry = refl
+
+of_a_look_up_and_an_add : table_left 1 (two_look_ups NoRoute) ≡ route ten_8 1 5 ∷ []
+unfolding table_left table_after
+of_a_look_up_and_an_add = refl
+
+whatever_the_replies_say :
+    table_left 1 (entry 1 (Add ten_8 5 Discard) Full ∷ entry 1 (Add ten_1_16 5 Discard) Added ∷ []) ≡ route ten_8 1 5 ∷ []
+unfolding table_left table_after
+whatever_the_replies_say = refl
+
+-- IsAnswered
+answered_exists : IsAnswered 1 (entry 1 (Add ten_8 5 Discard) Added ∷ []) (entry 1 (Add ten_8 5 Discard) Exists)
+unfolding table_left table_after reply_of
+answered_exists = refl
+
+not_answered_added_twice :
+    ¬ IsAnswered 1 (entry 1 (Add ten_8 5 Discard) Added ∷ []) (entry 1 (Add ten_8 5 Discard) Added)
+unfolding table_left table_after reply_of
+not_answered_added_twice h = cc
+
+-- IsLawfulJournal
+a_lawful_journal : IsLawfulJournal 1 (two_look_ups NoRoute)
+unfolding table_left table_after reply_of look_up
+a_lawful_journal =
+    let first = IsLawfulJournal-push 1 [] (entry 1 (Lookup at_10_1_2_3) NoRoute) (IsLawfulJournal-nil 1) refl in
+    let second = IsLawfulJournal-push 1 _ (entry 1 (Add ten_8 5 Discard) Added) first refl in
+    IsLawfulJournal-push 1 _ (entry 1 (Lookup at_10_1_2_3) (Found (route ten_8 1 5))) second refl
+
+one_reply_of_it_changed : ¬ IsLawfulJournal 1 (two_look_ups (Found (route ten_8 1 5)))
+unfolding table_left table_after reply_of look_up
+one_reply_of_it_changed h = let first = h.answered [] (entry 1 (Lookup at_10_1_2_3) (Found (route ten_8 1 5))) _ refl in cc
+
+one_entry_of_it_left_out : ¬ IsLawfulJournal 1 (entry 1 (Lookup at_10_1_2_3) (Found (route ten_8 1 5)) ∷ [])
+unfolding table_left table_after reply_of look_up
+one_entry_of_it_left_out h = let first = h.answered [] (entry 1 (Lookup at_10_1_2_3) (Found (route ten_8 1 5))) [] refl in cc
+
+-- IsBestMatch
+the_longest_is_the_best_match : IsBestMatch at_10_2_3_4 (route ten_8 2 30 ∷ []) (route ten_8 2 30)
+unfolding look_up
+the_longest_is_the_best_match = let both = (look_up_finds_best at_10_2_3_4 (put_in (route ten_8 2 30) []) (IsTable-put_in (route ten_8 2 30) [] refl IsTable-nil)).0 (route ten_8 2 30) in both.0 refl
+
+a_shorter_is_no_best_match : ¬ IsBestMatch at_10_1_2_3 nested (route ten_8 1 100)
+a_shorter_is_no_best_match h = omega (arith, h.longest (route ten_1_16 1 100) (2, omega arith, refl) refl)
+
+one_of_greater_preference_is_no_best_match :
+    ¬ IsBestMatch at_10_2_3_4 (route ten_8 2 30 ∷ route ten_8 1 50 ∷ []) (route ten_8 1 50)
+one_of_greater_preference_is_no_best_match h = let better = h.best (route ten_8 2 30) (0, omega arith, refl) refl refl in cc
+
+-- is_own
+an_add_is_its_own : is_own (Add ten_8 5 Discard) ≡ true
+an_add_is_its_own = refl
+
+a_look_up_is_not : is_own (Lookup at_last) ≡ false
+a_look_up_is_not = refl
+
+a_purge_is_its_own : is_own Purge ≡ true
+a_purge_is_its_own = refl
+
+-- feed_entries
+entries_of_one_feed :
+    feed_entries 2 (entry 1 Dump (Dumped 0) ∷ entry 2 Dump (Dumped 0) ∷ entry 64 Purge (Purged 0) ∷ []) ≡ entry 2 Dump (Dumped 0) ∷ []
+entries_of_one_feed = refl
+
+-- IsLimit
+limit_of_one : IsLimit 1
+limit_of_one = (omega arith, omega arith)
+
+greatest_limit : IsLimit 1000000
+greatest_limit = (omega arith, omega arith)
+
+no_limit_of_none : ¬ IsLimit 0
+no_limit_of_none h = omega (arith, h.0)
