@@ -5,7 +5,7 @@ use Rattle.std.proofs.Common.{◌∙◌, subst, ◌⊎◌, inl, inr, IsTrue, [],
 use Rattle.std.proofs.lemmas.Bool.Decides.{nat_tests}
 use Rattle.ya_core.specs.declared.process.Process.{Process}
 use Rattle.ya_core.specs.declared.process.Process.TheVariants.{Idle, Entering, Inside, Leaving}
-use Rattle.ya_core.specs.Steps.{State, StepsTo, access_of, value_of}
+use Rattle.ya_core.specs.Steps.{State, access_of, next_of, value_of}
 use Rattle.ya_core.specs.Soundness.{IsSound}
 use Rattle.ya_core.specs.Walks.{points_of, is_waiting, MayFind, due_of, IsTold}
 use Rattle.ya_core.specs.Progress.{SomeoneGoesOn, SomeoneArrives}
@@ -52,19 +52,17 @@ told levels place (Entering level point) value found = found
 told levels place Inside value found = found
 told levels place (Leaving level point) value found = found
 
--- so a step takes its place nearer to its goal, or leaves it waiting
-pub comes_nearer : (levels place : ℕ) (old new : State) → 1 ≤ levels → IsSound levels old
-    → StepsTo levels place old new
-    → (points_of levels (new.processes place) false < points_of levels (old.processes place) true)
-    ⊎ (IsTrue (is_waiting (old.processes place)) × (new.processes place ≡ old.processes place))
-comes_nearer levels place old new some is step =
-    subst
-    (λ x. (points_of levels x false < points_of levels (old.processes place) true)
-    ⊎ (IsTrue (is_waiting (old.processes place)) × (x ≡ old.processes place))) (sym step.process)
-    (nearer levels place (old.processes place) true
-    (value_of old.words (access_of levels place (old.processes place))) some (is.proper place)
-    (told levels place (old.processes place) (value_of old.words (access_of levels place (old.processes place)))
-    (finds levels place old (old.processes place) is refl)))
+-- so the step that is due takes its place nearer to its goal, or leaves it waiting
+pub may_come_nearer : (levels place : ℕ) (s : State) → 1 ≤ levels → IsSound levels s
+    → (points_of levels (next_of levels place (s.processes place)
+    (value_of s.words (access_of levels place (s.processes place)))) false < points_of levels (s.processes place) true)
+    ⊎ (IsTrue (is_waiting (s.processes place)) × (next_of levels place (s.processes place)
+    (value_of s.words (access_of levels place (s.processes place))) ≡ s.processes place))
+may_come_nearer levels place s some is =
+    nearer levels place (s.processes place) true (value_of s.words (access_of levels place (s.processes place))) some
+    (is.proper place)
+    (told levels place (s.processes place) (value_of s.words (access_of levels place (s.processes place)))
+    (finds levels place s (s.processes place) is refl))
 
 -- a process has arrived, or has the same points ahead whether it is told to go on or not
 arrived_or : (levels : ℕ) (x : Process)
@@ -85,23 +83,26 @@ module _ (levels : ℕ) (some : 1 ≤ levels) where
   unfolding ahead
   arrives zero place s is busy less = absurd (omega (arith, less))
   arrives (suc fuel) place s is busy less =
-      cases (λ t is busy less. arrives fuel one.place t is busy less) (arrived_or levels (one.after.processes one.place))
+      cases (λ t is busy less. arrives fuel one.place t is busy less)
+      (arrived_or levels (one.after.processes one.place))
     where
       one : SomeoneGoesOn levels s
       one = someone_goes_on levels s some is place busy
 
       nearer_by_one : points_of levels (one.after.processes one.place) false
           < points_of levels (s.processes one.place) true
-      nearer_by_one = by_step (comes_nearer levels one.place s one.after some is one.step)
+      nearer_by_one = subst (λ x. points_of levels x false < points_of levels (s.processes one.place) true)
+          (sym one.step.process) (by_step (may_come_nearer levels one.place s some is))
         where
-          by_step : (points_of levels (one.after.processes one.place) false
-              < points_of levels (s.processes one.place) true)
-              ⊎ (IsTrue (is_waiting (s.processes one.place))
-              × (one.after.processes one.place ≡ s.processes one.place))
-              → points_of levels (one.after.processes one.place) false
-              < points_of levels (s.processes one.place) true
+          next : Process
+          next = next_of levels one.place (s.processes one.place)
+              (value_of s.words (access_of levels one.place (s.processes one.place)))
+
+          by_step : (points_of levels next false < points_of levels (s.processes one.place) true)
+              ⊎ (IsTrue (is_waiting (s.processes one.place)) × (next ≡ s.processes one.place))
+              → points_of levels next false < points_of levels (s.processes one.place) true
           by_step (inl falls) = falls
-          by_step (inr waits) = absurd (one.goes_on waits.1)
+          by_step (inr waits) = absurd (one.goes_on (one.step.process ∙ waits.1))
 
       cases : ((t : State) → IsSound levels t → t.processes one.place ≢ Idle → ahead t < fuel
           → SomeoneArrives levels t)

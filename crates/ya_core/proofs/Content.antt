@@ -6,7 +6,8 @@ use Rattle.std.proofs.lemmas.List.{append-nil}
 use Rattle.ya_core.specs.Steps.{State, LeadTo, next_of, access_of, value_of}
 use Rattle.ya_core.specs.Soundness.{IsSound}
 use Rattle.ya_core.specs.Worlds.{Marked, World, Event, Steps, Appends, opening_world, WorldSteps, WorldAppends, Happens}
-use Rattle.ya_core.specs.Worlds.{Runs, IsReached, entries_of, FollowsFrom, IsLawful, is_inside, IsInside, any_entry, places_of}
+use Rattle.ya_core.specs.Worlds.{Runs, IsReached, entries_of, FollowsFrom, IsLawful, is_inside, IsInside, any_entry}
+use Rattle.ya_core.specs.Worlds.{places_of}
 use Rattle.ya_core.proofs.Level.{or_else}
 use Rattle.ya_core.proofs.Invariant.{keeps, opens, is_inside_is, excludes}
 

@@ -21,7 +21,7 @@ use Rattle.ya_core.proofs.Phases.{phase_here, competes_at}
 use Rattle.ya_core.proofs.Outcomes.{may_step}
 
 -- a process that won a level is not on its way in there, and one that left it not on its way out at a later point
-won_elsewhere : (levels level : ℕ) (point : Entry) → won levels level ≢ Entering level point
+pub won_elsewhere : (levels level : ℕ) (point : Entry) → won levels level ≢ Entering level point
 won_elsewhere levels level point =
     either (λ x. x ≢ Entering level point) (nat_lt level levels) _ _
     (λ _ e. (let same : level + 1 ≡ level = cc in absurd (omega (arith, same)))) (λ _ e. cc)
@@ -43,6 +43,11 @@ awake levels level place stands point h = cases (nat_lt level stands) (level == 
     cases true d k = absurd cc
     cases false true k = k
     cases false false k = absurd cc
+
+-- the place is stuck at a level: it waits for a 1 or a 2 that isn't there
+pub data IsStuck (s : State) (q level : ℕ) : Type 0 where
+  Asleep : s.processes q ≡ Entering level E8 → s.words (P level q) ≡ 0 → IsStuck s q level
+  Outside : s.processes q ≡ Entering level E10 → s.words (P level q) ≢ 2 → IsStuck s q level
 
 module _ (levels : ℕ) (s : State) (some : 1 ≤ levels) (is : IsSound levels s) where
   -- a place that takes part is one of the tree
@@ -71,14 +76,9 @@ module _ (levels : ℕ) (s : State) (some : 1 ≤ levels) (is : IsSound levels s
             (sym next.1.process ∙ same));
       }
 
-  -- it is stuck at a level: it waits for a 1 or a 2 that isn't there
-  data IsStuck (q level : ℕ) : Type 0 where
-    Asleep : s.processes q ≡ Entering level E8 → s.words (P level q) ≡ 0 → IsStuck q level
-    Outside : s.processes q ≡ Entering level E10 → s.words (P level q) ≢ 2 → IsStuck q level
-
   -- a place that takes part goes on or is stuck
   goes_in : (q level : ℕ) (point : Entry) → s.processes q ≡ Entering level point
-      → SomeoneGoesOn levels s ⊎ ((level : ℕ) × IsStuck q level)
+      → SomeoneGoesOn levels s ⊎ ((level : ℕ) × IsStuck s q level)
   goes_in q level E1 e = inl (goes q (Entering level E1) e (λ i. cc) (λ i. cc))
   goes_in q level E2 e = inl (goes q (Entering level E2) e (λ i. cc) (λ i. cc))
   goes_in q level E3 e = inl (goes q (Entering level E3) e (λ i. cc) (λ i. cc))
@@ -96,7 +96,7 @@ module _ (levels : ℕ) (s : State) (some : 1 ≤ levels) (is : IsSound levels s
   goes_in q level (E7 rival) e = inl (goes q (Entering level (E7 rival)) e (λ i. cc) (λ i. cc))
   goes_in q level E8 e = cases (s.words (P level q) == 0) refl
     where
-      cases : (b : Bool) → (s.words (P level q) == 0) ≡ b → SomeoneGoesOn levels s ⊎ ((level : ℕ) × IsStuck q level)
+      cases : (b : Bool) → (s.words (P level q) == 0) ≡ b → SomeoneGoesOn levels s ⊎ ((level : ℕ) × IsStuck s q level)
       cases true asleep = inr (level, Asleep e (grind (arith, nat_tests)))
       cases false woken =
           inl (goes q (Entering level E8) e (λ i. cc)
@@ -108,7 +108,7 @@ module _ (levels : ℕ) (s : State) (some : 1 ≤ levels) (is : IsSound levels s
       (λ _. won_elsewhere levels level E9)))
   goes_in q level E10 e = cases (s.words (P level q) == 2) refl
     where
-      cases : (b : Bool) → (s.words (P level q) == 2) ≡ b → SomeoneGoesOn levels s ⊎ ((level : ℕ) × IsStuck q level)
+      cases : (b : Bool) → (s.words (P level q) == 2) ≡ b → SomeoneGoesOn levels s ⊎ ((level : ℕ) × IsStuck s q level)
       cases true let_in =
           inl (goes q (Entering level E10) e (λ i. cc)
           (either (λ x. x ≢ Entering level E10) (s.words (P level q) == 2) _ _ (λ _. won_elsewhere levels level E10)
@@ -116,7 +116,7 @@ module _ (levels : ℕ) (s : State) (some : 1 ≤ levels) (is : IsSound levels s
       cases false out = inr (level, Outside e (grind (arith, nat_tests)))
 
   goes_or_stuck : (q : ℕ) (x : Process) → s.processes q ≡ x → x ≢ Idle
-      → SomeoneGoesOn levels s ⊎ ((level : ℕ) × IsStuck q level)
+      → SomeoneGoesOn levels s ⊎ ((level : ℕ) × IsStuck s q level)
   goes_or_stuck q Idle e busy = absurd (busy refl)
   goes_or_stuck q (Entering level point) e busy = goes_in q level point e
   goes_or_stuck q Inside e busy = inl (goes q Inside e busy (λ i. cc))
@@ -135,7 +135,7 @@ module _ (levels : ℕ) (s : State) (some : 1 ≤ levels) (is : IsSound levels s
       subst (λ x. IsTrue (competes (phase_of levels level x))) idle h in cc
 
   -- one who is stuck stands at a level of the tree, and waits there
-  stuck_at : (q level : ℕ) → IsStuck q level
+  pub stuck_at : (q level : ℕ) → IsStuck s q level
       → (point : Entry) × (s.processes q ≡ Entering level point) × (1 ≤ level) × (level ≤ levels)
   stuck_at q level (Asleep e none) =
       let proper : IsProper levels q (Entering level E8) = subst (IsProper levels q) e (is.proper q) in
@@ -145,17 +145,17 @@ module _ (levels : ℕ) (s : State) (some : 1 ≤ levels) (is : IsSound levels s
       (E10, e, proper.least, proper.most)
 
   -- what is owed to one who is stuck
-  owed_to : (q level : ℕ) → IsStuck q level
+  pub owed_to : (q level : ℕ) → IsStuck s q level
       → IsOwed (node_of level) (side_of level) (λ p. phase_of levels level (s.processes p)) (λ n. s.words (T level n))
       (λ p. s.words (P level p)) q
   owed_to q level stuck = let at = stuck_at q level stuck in is.owed level at.2 at.3 q
 
-  phase_is : (q level : ℕ) (point : Entry) → s.processes q ≡ Entering level point
+  pub phase_is : (q level : ℕ) (point : Entry) → s.processes q ≡ Entering level point
       → phase_of levels level (s.processes q) ≡ entry_phase point
   phase_is q level point e = ap (λ x. phase_of levels level x) e ∙ phase_here level (entry_phase point)
 
   -- one who is stuck is not to wake another
-  never_wakes : (q level place other : ℕ) → IsStuck q other
+  pub never_wakes : (q level place other : ℕ) → IsStuck s q other
       → IsTrue (is_to_wake place (phase_of levels level (s.processes q))) → ⊥
   never_wakes q level place other (Asleep e none) h =
       let k : IsTrue (is_to_wake place (entry_phase E8)) =
@@ -166,7 +166,7 @@ module _ (levels : ℕ) (s : State) (some : 1 ≤ levels) (is : IsSound levels s
       cc
 
   -- where another announced itself last, one who is stuck is owed a 1 by a rival that goes on
-  first : (p level : ℕ) → IsStuck p level → s.words (T level (node_of level p)) ≢ p + 1 → SomeoneGoesOn levels s
+  first : (p level : ℕ) → IsStuck s p level → s.words (T level (node_of level p)) ≢ p + 1 → SomeoneGoesOn levels s
   first p level (Asleep e none) other =
       by_waker ((owed_to p level (Asleep e none)).owed_one other (ap saw_itself_last (phase_is p level E8 e)) none)
     where
@@ -177,14 +177,14 @@ module _ (levels : ℕ) (s : State) (some : 1 ≤ levels) (is : IsSound levels s
           (λ idle. (let k : IsTrue (is_to_wake p (phase_of levels level Idle)) = subst
           (λ x. IsTrue (is_to_wake p (phase_of levels level x))) idle rival.2 in cc)))
         where
-          cases : SomeoneGoesOn levels s ⊎ ((other : ℕ) × IsStuck rival.0 other) → SomeoneGoesOn levels s
+          cases : SomeoneGoesOn levels s ⊎ ((other : ℕ) × IsStuck s rival.0 other) → SomeoneGoesOn levels s
           cases (inl goes_on) = goes_on
           cases (inr stuck) = absurd (never_wakes rival.0 level p stuck.0 stuck.1 rival.2)
   first p level (Outside e apart) other =
       absurd (apart ((owed_to p level (Outside e apart)).has_two other (ap awaits_two (phase_is p level E10 e))))
 
   -- who announced itself last, and is stuck, has a rival that takes part
-  last : (p level : ℕ) → IsStuck p level
+  pub last : (p level : ℕ) → IsStuck s p level
       → SomeRival (node_of level) (side_of level) (λ q. phase_of levels level (s.processes q)) p competes
   last p level (Asleep e none) =
       let rival = (owed_to p level (Asleep e none)).unwoken (ap awaits_one (phase_is p level E8 e)) none in (
@@ -207,7 +207,7 @@ module _ (levels : ℕ) (s : State) (some : 1 ≤ levels) (is : IsSound levels s
       )
 
   -- a rival that takes part and is stuck is stuck there or higher up
-  stuck_above : (q level other : ℕ) → IsTrue (competes (phase_of levels level (s.processes q))) → IsStuck q other
+  stuck_above : (q level other : ℕ) → IsTrue (competes (phase_of levels level (s.processes q))) → IsStuck s q other
       → level ≤ other
   stuck_above q level other h (Asleep e none) =
       competes_at level other (entry_phase E8) (subst (λ x. IsTrue (competes (phase_of levels level x))) e h)
@@ -215,8 +215,8 @@ module _ (levels : ℕ) (s : State) (some : 1 ≤ levels) (is : IsSound levels s
       competes_at level other (entry_phase E10) (subst (λ x. IsTrue (competes (phase_of levels level x))) e h)
 
   -- one who is stuck has a rival that goes on, or is stuck there and not last, or higher up
-  one_up : (p level : ℕ) → IsStuck p level
-      → ((q other : ℕ) → level < other → other ≤ levels → IsStuck q other → SomeoneGoesOn levels s)
+  one_up : (p level : ℕ) → IsStuck s p level
+      → ((q other : ℕ) → level < other → other ≤ levels → IsStuck s q other → SomeoneGoesOn levels s)
       → SomeoneGoesOn levels s
   one_up p level stuck higher = by_turn (s.words (T level (node_of level p)) == p + 1) refl
     where
@@ -230,14 +230,14 @@ module _ (levels : ℕ) (s : State) (some : 1 ≤ levels) (is : IsSound levels s
         where
           by_rival : s.words (T level (node_of level p)) ≡ p + 1 → (q : ℕ) → node_of level p ≡ node_of level q
               → side_of level p ≢ side_of level q → IsTrue (competes (phase_of levels level (s.processes q)))
-              → SomeoneGoesOn levels s ⊎ ((other : ℕ) × IsStuck q other) → SomeoneGoesOn levels s
+              → SomeoneGoesOn levels s ⊎ ((other : ℕ) × IsStuck s q other) → SomeoneGoesOn levels s
           by_rival turn_is q nodes sides h (inl goes_on) = goes_on
           by_rival turn_is q nodes sides h (inr above) = by_level above.0 above.1 (above.0 == level) refl
             where
-              by_level : (other : ℕ) → IsStuck q other → (b : Bool) → (other == level) ≡ b → SomeoneGoesOn levels s
+              by_level : (other : ℕ) → IsStuck s q other → (b : Bool) → (other == level) ≡ b → SomeoneGoesOn levels s
               by_level other still true one =
                   let same : other ≡ level = grind (arith, nat_tests) in
-                  first q level (subst (IsStuck q) same still)
+                  first q level (subst (IsStuck s q) same still)
                   (λ own_turn. sides
                   (ap (side_of level)
                   (let two : q + 1 ≡ p + 1 = sym own_turn ∙ ap (λ n. s.words (T level n)) (sym nodes) ∙ turn_is in
@@ -248,7 +248,7 @@ module _ (levels : ℕ) (s : State) (some : 1 ≤ levels) (is : IsSound levels s
                   higher q other (grind (arith, apart, up)) (stuck_at q other still).3 still
 
   -- so by how many levels lie above
-  frees : (above p level : ℕ) → levels ≤ level + above → IsStuck p level → SomeoneGoesOn levels s
+  frees : (above p level : ℕ) → levels ≤ level + above → IsStuck s p level → SomeoneGoesOn levels s
   frees zero p level enough stuck =
       one_up p level stuck (λ q other more most still. absurd (omega (arith, enough, most, more)))
   frees (suc n) p level enough stuck =
@@ -258,6 +258,6 @@ module _ (levels : ℕ) (s : State) (some : 1 ≤ levels) (is : IsSound levels s
   pub someone_goes_on : (place : ℕ) → s.processes place ≢ Idle → SomeoneGoesOn levels s
   someone_goes_on place busy = cases (goes_or_stuck place (s.processes place) refl busy)
     where
-      cases : SomeoneGoesOn levels s ⊎ ((level : ℕ) × IsStuck place level) → SomeoneGoesOn levels s
+      cases : SomeoneGoesOn levels s ⊎ ((level : ℕ) × IsStuck s place level) → SomeoneGoesOn levels s
       cases (inl goes_on) = goes_on
       cases (inr stuck) = frees levels place stuck.0 (omega arith) stuck.1

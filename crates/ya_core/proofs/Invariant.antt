@@ -32,7 +32,7 @@ zero_or : (n : ℕ) → (n ≡ 0) ⊎ (1 ≤ n)
 zero_or n = grind arith
 
 -- at most one place competes on a side of a node: it holds the node below, which one place at most holds
-alone_at : (levels place level : ℕ) (s : State) → IsSound levels s → 1 ≤ level → level ≤ levels
+pub alone_at : (levels place level : ℕ) (s : State) → IsSound levels s → 1 ≤ level → level ≤ levels
     → (1 < level → IsTrue (holds (phase_of levels (level - 1) (s.processes place))))
     → (q : ℕ) → node_of level q ≡ node_of level place → side_of level q ≡ side_of level place
     → IsTrue (competes (phase_of levels level (s.processes q))) → q ≡ place

@@ -11,6 +11,8 @@ pub mod Invariant
 pub mod Content
 pub mod Deadlock
 pub mod Arrival
+pub mod Rivalry
+pub mod Starvation
 pub mod Overtaking
 pub mod Outcomes
 pub mod NamedWords

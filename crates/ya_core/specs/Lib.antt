@@ -6,3 +6,4 @@ pub mod FlatRow
 pub mod Machines
 pub mod Worlds
 pub mod Progress
+pub mod Fairness

@@ -1,7 +1,7 @@
 //! What holds of every run of the lock's core, whatever the order in which the places step: laws of the definitions by
 //! which the walker and the machine are specified. Each is a function with an empty body, whose contract is the law.
 
-ghost use Rattle.std.specs.Prelude.{◌≡◌, ◌≢◌, ℕ, ◌+◌, ◌*◌, ◌^◌, ◌<◌, ◌≤◌, List, ◌∷◌, ◌++◌};
+ghost use Rattle.std.specs.Prelude.{◌≡◌, ◌≢◌, ℕ, ◌+◌, ◌*◌, ◌^◌, ◌<◌, ◌≤◌, ◌⊎◌, IsTrue, List, ◌∷◌, ◌++◌};
 ghost use Rattle.ya_core.specs.declared.word.Word.{Word};
 ghost use Rattle.ya_core.specs.Tree.{IsWord, number_of, count_of_words};
 ghost use Rattle.ya_core.specs.Steps.{State, StepsTo, LeadTo, opening, access_of, value_of};
@@ -9,6 +9,7 @@ ghost use Rattle.ya_core.specs.Soundness.{IsSound};
 ghost use Rattle.ya_core.specs.declared.process.Process.TheVariants as process;
 ghost use Rattle.ya_core.specs.Progress.{SomeoneGoesOn, SomeoneArrives, SomeoneGoesOnIn, LevelStep, announces};
 ghost use Rattle.ya_core.specs.Progress.{LevelSees, HasNotWon, times_overtaken};
+ghost use Rattle.ya_core.specs.Fairness.{IsRunOf, IsFair, Eventually, is_on_way_in, is_on_way_out};
 ghost use Rattle.ya_core.specs.Walks.{Walk, IsWalk, Enters, Leaves, Goes, AccessIsWithin, MayFind};
 ghost use Rattle.ya_core.specs.Worlds.{Marked, World, Event, WorldSteps, WorldAppends};
 ghost use Rattle.ya_core.specs.Worlds.{IsReached, IsInside, IsLawful, any_entry, entries_of, places_of};
@@ -61,8 +62,8 @@ pub fn exclusion()
 {}
 
 /// The lock never deadlocks: where the invariant holds and some place takes part, some place that takes part has a step
-/// that changes its process, and some finite schedule takes one inside, or to idle. So it is of each step in every world
-/// that any list of events leads to.
+/// that changes its process, and some finite schedule takes one inside, or to idle. In every world that any list of
+/// events leads to such a step is there.
 pub fn no_deadlock<X>()
     ensures states { (levels place : ℕ) (s : State)
         → 1 ≤ levels → IsSound levels s → s.processes place ≢ process.Idle
@@ -73,6 +74,26 @@ pub fn no_deadlock<X>()
     ensures worlds { (levels place : ℕ) (events : List (Event X)) (world : World X)
         → 1 ≤ levels → IsReached levels any_entry events world
         → world.state.processes place ≢ process.Idle → SomeoneGoesOnIn levels world }
+{}
+
+/// Nobody starves: in the run of a fair schedule a place that is on its way in is inside then or later, and one that is
+/// inside or on its way out is idle then or later. A schedule is fair where each place that isn't idle takes a step then
+/// or later. Each schedule of places of the tree has a run, and one alone.
+pub fn starvation_freedom()
+    ensures inside { (levels : ℕ) (schedule : ℕ → ℕ) (states : ℕ → State)
+        → 1 ≤ levels → IsRunOf levels schedule states → IsFair schedule states
+        → (place time : ℕ) → IsTrue (is_on_way_in ((states time).processes place))
+        → Eventually time (λ later. IsInside (states later) place) }
+    ensures idle { (levels : ℕ) (schedule : ℕ → ℕ) (states : ℕ → State)
+        → 1 ≤ levels → IsRunOf levels schedule states → IsFair schedule states
+        → (place time : ℕ)
+        → IsInside (states time) place ⊎ IsTrue (is_on_way_out ((states time).processes place))
+        → Eventually time (λ later. (states later).processes place ≡ process.Idle) }
+    ensures run { (levels : ℕ) (schedule : ℕ → ℕ) → ((time : ℕ) → schedule time < 2 ^ levels)
+        → (states : ℕ → State) × IsRunOf levels schedule states }
+    ensures one { (levels : ℕ) (schedule : ℕ → ℕ) (states other : ℕ → State)
+        → IsRunOf levels schedule states → IsRunOf levels schedule other
+        → (time : ℕ) → other time ≡ states time }
 {}
 
 /// In every run, from a place's store of T at a node until it wins that node, the other side wins the node at most

@@ -135,6 +135,7 @@ fn laws_can_be_called() {
     laws::freedom::<u64>();
     laws::exclusion();
     laws::no_deadlock::<u64>();
+    laws::starvation_freedom();
     laws::one_overtaking();
     laws::access_count();
     laws::content::<Anything>();

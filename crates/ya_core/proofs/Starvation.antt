@@ -1,0 +1,590 @@
+-- Under a fair schedule nobody starves: who is stuck has one rival that competes at its node, which comes nearer with
+-- each of its steps, until the word is there; and who isn't stuck comes nearer itself.
+use Rattle.std.proofs.Common.{◌≡◌, ◌≢◌, ℕ, zero, suc, ◌+◌, ◌-◌, ◌^◌, ◌<◌, ◌≤◌, ◌==◌, Bool, true, false, refl, arith, ap}
+use Rattle.std.proofs.Common.{sym}
+use Rattle.std.proofs.Common.{◌∙◌, subst, ◌⊎◌, inl, inr, IsTrue, nat_lt}
+use Rattle.std.proofs.lemmas.Bool.Decides.{nat_tests}
+use Rattle.ya_core.specs.declared.process.Entry.{Entry}
+use Rattle.ya_core.specs.declared.process.Entry.TheVariants.{E1, E2, E3, E4, E5, E6, E7, E8, E9, E10}
+use Rattle.ya_core.specs.declared.process.Exit.TheVariants.{X1, X2, X3}
+use Rattle.ya_core.specs.declared.process.Process.{Process}
+use Rattle.ya_core.specs.declared.process.Process.TheVariants.{Idle, Entering, Inside, Leaving}
+use Rattle.ya_core.specs.Tree.{AreRivals}
+use Rattle.ya_core.specs.Steps.{State, StepsTo, opening, value_of, access_of, next_of, entry_next, won, left}
+use Rattle.ya_core.specs.Soundness.{phase_of, entry_phase, IsProper, IsSound}
+use Rattle.ya_core.specs.Walks.{points_of, entry_points}
+use Rattle.ya_core.specs.Fairness.{IsRunOf, IsFair, Eventually, is_on_way_in, is_on_way_out}
+use Rattle.ya_core.specs.Worlds.{IsInside, is_inside}
+use Rattle.ya_core.proofs.Properness.{either}
+use Rattle.ya_core.proofs.Level.{competes}
+use Rattle.ya_core.proofs.Phases.{competes_at}
+use Rattle.ya_core.proofs.Invariant.{keeps, opens, is_inside_is}
+use Rattle.ya_core.proofs.Outcomes.{may_step, one_outcome}
+use Rattle.ya_core.proofs.Deadlock.{IsStuck, stuck_at, last}
+use Rattle.ya_core.proofs.Rivalry.{nearer_or_stuck, not_both, not_both_stuck, stands_still, stuck_before}
+use Rattle.ya_core.proofs.Rivalry.{still_competes, stuck_level}
+
+-- at a level one to ten points are ahead on the way in
+few_points : (point : Entry) → (1 ≤ entry_points point) × (entry_points point ≤ 10)
+few_points E1 = (omega arith, omega arith)
+few_points E2 = (omega arith, omega arith)
+few_points E3 = (omega arith, omega arith)
+few_points E4 = (omega arith, omega arith)
+few_points (E5 rival) = (omega arith, omega arith)
+few_points (E6 rival) = (omega arith, omega arith)
+few_points (E7 rival) = (omega arith, omega arith)
+few_points E8 = (omega arith, omega arith)
+few_points E9 = (omega arith, omega arith)
+few_points E10 = (omega arith, omega arith)
+
+-- on the way out the same number of points is ahead whether it is told to go on or not
+same_points : (levels : ℕ) (x : Process) → IsTrue (is_on_way_out x) → points_of levels x false ≡ points_of levels x true
+same_points levels Idle way = absurd cc
+same_points levels Inside way = absurd cc
+same_points levels (Entering level point) way = absurd cc
+same_points levels (Leaving level point) way = refl
+
+-- where the way in at a level leads: to a point of that level, or on, or inside
+abbrev Onward : ℕ → Process → Type 0
+Onward level x = ((point : Entry) × (x ≡ Entering level point)) ⊎ ((x ≡ Entering (level + 1) E1) ⊎ (x ≡ Inside))
+
+won_onward : (levels level : ℕ) → Onward level (won levels level)
+won_onward levels level =
+    either (Onward level) (nat_lt level levels) _ _ (λ _. inr (inl refl)) (λ _. inr (inr refl))
+
+onward : (levels level place : ℕ) (point : Entry) (value : ℕ)
+    → Onward level (entry_next levels level place point value)
+onward levels level place E1 value = inl (E2, refl)
+onward levels level place E2 value = inl (E3, refl)
+onward levels level place E3 value = inl (E4, refl)
+onward levels level place E4 value =
+    either (Onward level) (value == 0) _ _ (λ _. won_onward levels level) (λ _. inl (E5 (value - 1), refl))
+onward levels level place (E5 rival) value =
+    either (Onward level) (value == place + 1) _ _ (λ _. inl (E6 rival, refl)) (λ _. won_onward levels level)
+onward levels level place (E6 rival) value =
+    either (Onward level) (value == 0) _ _ (λ _. inl (E7 rival, refl)) (λ _. inl (E8, refl))
+onward levels level place (E7 rival) value = inl (E8, refl)
+onward levels level place E8 value =
+    either (Onward level) (value == 0) _ _ (λ _. inl (E8, refl)) (λ _. inl (E9, refl))
+onward levels level place E9 value =
+    either (Onward level) (value == place + 1) _ _ (λ _. inl (E10, refl)) (λ _. won_onward levels level)
+onward levels level place E10 value =
+    either (Onward level) (value == 2) _ _ (λ _. won_onward levels level) (λ _. inl (E10, refl))
+
+-- it is inside or on its way out
+abbrev is_past_the_root : Process → Bool
+is_past_the_root Inside = true
+is_past_the_root (Leaving level point) = true
+is_past_the_root _ = false
+
+-- from there a step leads on the way out, or to idle
+abbrev Outward : Process → Type 0
+Outward x = (x ≡ Idle) ⊎ IsTrue (is_on_way_out x)
+
+left_outward : (level : ℕ) → Outward (left level)
+left_outward level = either Outward (nat_lt 1 level) _ _ (λ _. inr refl) (λ _. inl refl)
+
+outward : (levels place : ℕ) (x : Process) (value : ℕ) → IsTrue (is_past_the_root x)
+    → Outward (next_of levels place x value)
+outward levels place Idle value past = absurd cc
+outward levels place (Entering level point) value past = absurd cc
+outward levels place Inside value past = inr refl
+outward levels place (Leaving level X1) value past = inr refl
+outward levels place (Leaving level X2) value past =
+    either Outward (value == place + 1) _ _ (λ _. left_outward level) (λ _. inr refl)
+outward levels place (Leaving level (X3 rival)) value past = left_outward level
+
+past_by_out : (x : Process) → IsTrue (is_on_way_out x) → IsTrue (is_past_the_root x)
+past_by_out Idle way = absurd cc
+past_by_out Inside way = absurd cc
+past_by_out (Entering level point) way = absurd cc
+past_by_out (Leaving level point) way = refl
+
+module _ (levels : ℕ) (some : 1 ≤ levels) (schedule : ℕ → ℕ) (states : ℕ → State)
+    (sound : (time : ℕ) → IsSound levels (states time))
+    (step : (time : ℕ) → StepsTo levels (schedule time) (states time) (states (time + 1)))
+    (fair : (place time : ℕ) → (states time).processes place ≢ Idle
+    → Eventually time (λ later. schedule later ≡ place)) where
+  -- the process of a place at a time
+  abbrev at : ℕ → ℕ → Process
+  at place time = (states time).processes place
+
+  -- what is so at a later time is so at a time later than an earlier one
+  sooner : (So : ℕ → Type 0) (time later : ℕ) → time ≤ later → Eventually later So → Eventually time So
+  sooner So time later less found = (found.0, omega (arith, less, found.1), found.2)
+
+  -- what each step keeps, or ends with something else, holds at a later time, or it ended before
+  until : (While So : ℕ → Type 0) → ((n : ℕ) → While n → So (n + 1) ⊎ While (n + 1)) → (d n m : ℕ) → m ≡ n + d
+      → While n → Eventually n So ⊎ While m
+  until While So keeps zero n m e holds = inr (subst While (let same : n ≡ m = omega (arith, e) in same) holds)
+  until While So keeps (suc d) n m e holds =
+      by_step (keeps n holds) (λ holds. until While So keeps d (n + 1) m (omega (arith, e)) holds)
+    where
+      by_step : So (n + 1) ⊎ While (n + 1) → (While (n + 1) → Eventually (n + 1) So ⊎ While m)
+          → Eventually n So ⊎ While m
+      by_step (inl ends) rest = inl (n + 1, omega arith, ends)
+      by_step (inr goes) rest = by_rest (rest goes)
+        where
+          by_rest : Eventually (n + 1) So ⊎ While m → Eventually n So ⊎ While m
+          by_rest (inl found) = inl (sooner So n (n + 1) (omega arith) found)
+          by_rest (inr holds) = inr holds
+
+  -- what each step keeps ends where each step of one place takes that place nearer to something
+  module _ (q : ℕ) (While So : ℕ → Type 0) (points : Process → ℕ) (busy : (n : ℕ) → While n → at q n ≢ Idle)
+      (keeps : (n : ℕ) → While n → So (n + 1) ⊎ While (n + 1))
+      (falls : (n : ℕ) → While n → While (n + 1) → schedule n ≡ q → points (at q (n + 1)) < points (at q n)) where
+    -- up to its next step
+    to_step : (fuel : ℕ) → ((n : ℕ) → points (at q n) < fuel → While n → Eventually n So) → (d n m : ℕ) → m ≡ n + d
+        → schedule m ≡ q → points (at q n) < fuel + 1 → While n → Eventually n So
+    to_step fuel again zero n m e picks less holds =
+        by_step (keeps n holds)
+      where
+        by_step : So (n + 1) ⊎ While (n + 1) → Eventually n So
+        by_step (inl ends) = (n + 1, omega arith, ends)
+        by_step (inr goes) =
+            let same : m ≡ n = omega (arith, e) in
+            let now : schedule n ≡ q = subst (λ k. schedule k ≡ q) same picks in
+            let nearer = falls n holds goes now in
+            sooner So n (n + 1) (omega arith) (again (n + 1) (omega (arith, nearer, less)) goes)
+    to_step fuel again (suc d) n m e picks less holds =
+        by_step (keeps n holds) (λ less goes. to_step fuel again d (n + 1) m (omega (arith, e)) picks less goes)
+      where
+        by_step : So (n + 1) ⊎ While (n + 1)
+            → (points (at q (n + 1)) < fuel + 1 → While (n + 1) → Eventually (n + 1) So) → Eventually n So
+        by_step (inl ends) rest = (n + 1, omega arith, ends)
+        by_step (inr goes) rest = sooner So n (n + 1) (omega arith) (by_place (schedule n == q) refl)
+          where
+            by_place : (b : Bool) → (schedule n == q) ≡ b → Eventually (n + 1) So
+            by_place true own =
+                let now : schedule n ≡ q = grind (arith, nat_tests) in
+                let nearer = falls n holds goes now in again (n + 1) (omega (arith, nearer, less)) goes
+            by_place false other =
+                let apart : q ≢ schedule n = grind (arith, nat_tests) in
+                let same : points (at q (n + 1)) ≡ points (at q n) = ap points ((step n).others q apart) in
+                rest (omega (arith, same, less)) goes
+
+    within : (fuel n : ℕ) → points (at q n) < fuel → While n → Eventually n So
+    within zero n less holds = absurd (omega (arith, less))
+    within (suc fuel) n less holds =
+        let next = fair q n (busy n holds) in
+        to_step fuel (λ n less holds. within fuel n less holds) (next.0 - n) n next.0 (omega (arith, next.1)) next.2
+        (omega (arith, less)) holds
+
+    ends : (n : ℕ) → While n → Eventually n So
+    ends n holds = within (points (at q n) + 1) n (omega arith) holds
+
+  -- the process of a place that is picked goes on as its row says, any other stays
+  stepped : (p n : ℕ) → schedule n ≡ p
+      → at p (n + 1) ≡ next_of levels p (at p n) (value_of (states n).words (access_of levels p (at p n)))
+  stepped p n picks =
+      subst
+      (λ q. at q (n + 1) ≡ next_of levels q (at q n) (value_of (states n).words (access_of levels q (at q n)))) picks
+      (step n).process
+
+  stayed : (p n : ℕ) → schedule n ≢ p → at p (n + 1) ≡ at p n
+  stayed p n other = (step n).others p (λ same. other (sym same))
+
+  -- a place isn't stuck at a time
+  abbrev IsFree : ℕ → ℕ → Type 0
+  IsFree p n = (l : ℕ) → IsStuck (states n) p l → ⊥
+
+  -- it is so or stuck
+  free_or_stuck : (p n : ℕ) → IsFree p n ⊎ ((l : ℕ) × IsStuck (states n) p l)
+  free_or_stuck p n = by_step (nearer_or_stuck levels some (states n) (sound n) p)
+    where
+      by_step : (points_of levels (next_of levels p (at p n)
+          (value_of (states n).words (access_of levels p (at p n)))) false < points_of levels (at p n) true)
+          ⊎ ((l : ℕ) × IsStuck (states n) p l) → IsFree p n ⊎ ((l : ℕ) × IsStuck (states n) p l)
+      by_step (inl less) = inl (λ l stuck. not_both levels some (states n) (sound n) p l stuck less)
+      by_step (inr stuck) = inr stuck
+
+  -- the step of one who isn't stuck takes it nearer
+  comes_nearer : (p n : ℕ) → IsFree p n → schedule n ≡ p
+      → points_of levels (at p (n + 1)) false < points_of levels (at p n) true
+  comes_nearer p n ready picks = subst (λ x. points_of levels x false < points_of levels (at p n) true)
+      (sym (stepped p n picks)) (by_step (nearer_or_stuck levels some (states n) (sound n) p))
+    where
+      by_step : (points_of levels (next_of levels p (at p n)
+          (value_of (states n).words (access_of levels p (at p n)))) false < points_of levels (at p n) true)
+          ⊎ ((l : ℕ) × IsStuck (states n) p l)
+          → points_of levels (next_of levels p (at p n)
+          (value_of (states n).words (access_of levels p (at p n)))) false < points_of levels (at p n) true
+      by_step (inl less) = less
+      by_step (inr stuck) = absurd (ready stuck.0 stuck.1)
+
+  -- a process stands so, and isn't stuck
+  abbrev Ready : ℕ → Process → ℕ → Type 0
+  Ready p x n = (at p n ≡ x) × IsFree p n
+
+  -- a place came nearer than that point
+  abbrev Nearer : (p level : ℕ) → Entry → ℕ → Type 0
+  Nearer p level point n =
+      (points_of levels (at p n) false < points_of levels (Entering level point) false) × Onward level (at p n)
+
+  -- one that isn't stuck on its way in comes nearer at some time
+  goes_on : (p level : ℕ) (point : Entry) (n : ℕ) → Ready p (Entering level point) n
+      → Eventually n (Nearer p level point)
+  goes_on p level point n ready =
+      ends p (Ready p (Entering level point)) (Nearer p level point) (λ x. points_of levels x false)
+      (λ n ready idle. (let both = sym ready.0 ∙ idle in cc)) keeps
+      (λ n ready later picks. absurd (moves n ready later picks)) n ready
+    where
+      nearer_now : (n : ℕ) → Ready p (Entering level point) n → schedule n ≡ p
+          → points_of levels (at p (n + 1)) false < points_of levels (Entering level point) false
+      nearer_now n ready picks =
+          subst (λ x. points_of levels (at p (n + 1)) false < points_of levels x true) ready.0
+          (comes_nearer p n ready.1 picks)
+
+      moves : (n : ℕ) → Ready p (Entering level point) n → Ready p (Entering level point) (n + 1) → schedule n ≡ p → ⊥
+      moves n ready later picks =
+          let less = nearer_now n ready picks in
+          let same : points_of levels (at p (n + 1)) false ≡ points_of levels (Entering level point) false =
+          ap (λ x. points_of levels x false) later.0 in omega (arith, less, same)
+
+      keeps : (n : ℕ) → Ready p (Entering level point) n
+          → Nearer p level point (n + 1) ⊎ Ready p (Entering level point) (n + 1)
+      keeps n ready = by_place (schedule n == p) refl
+        where
+          by_place : (b : Bool) → (schedule n == p) ≡ b
+              → Nearer p level point (n + 1) ⊎ Ready p (Entering level point) (n + 1)
+          by_place true own =
+              let picks : schedule n ≡ p = grind (arith, nat_tests) in
+              let v = value_of (states n).words (access_of levels p (at p n)) in
+              let now : at p (n + 1) ≡ entry_next levels level p point v =
+              stepped p n picks ∙ ap (λ x. next_of levels p x v) ready.0 in
+              inl (nearer_now n ready picks, subst (Onward level) (sym now) (onward levels level p point v))
+          by_place false other =
+              let apart : schedule n ≢ p = grind (arith, nat_tests) in
+              inr (
+                stayed p n apart ∙ ready.0,
+                λ l stuck. ready.1 l
+                    (stuck_before levels some (states n) (sound n) (schedule n) (states (n + 1)) (step n)
+                    (sound (n + 1)) p l apart stuck),
+              )
+
+  -- who is past the root is idle at some time, or what is to end before ended
+  module _ (p : ℕ) (While So : ℕ → Type 0) (keeps : (n : ℕ) → While n → So (n + 1) ⊎ While (n + 1))
+      (busy : (n : ℕ) → While n → at p n ≡ Idle → So n) where
+    abbrev Leaves : ℕ → Type 0
+    Leaves n = While n × IsTrue (is_past_the_root (at p n))
+
+    leaves_idle : (n : ℕ) → Leaves n → at p n ≢ Idle
+    leaves_idle n leaves idle = let none = subst (λ x. IsTrue (is_past_the_root x)) idle leaves.1 in cc
+
+    leaves_ready : (n : ℕ) → Leaves n → IsFree p n
+    leaves_ready n leaves l stuck =
+        let here = stuck_at levels (states n) some (sound n) p l stuck in
+        let none = subst (λ x. IsTrue (is_past_the_root x)) here.1 leaves.1 in cc
+
+    leaves_out : (n : ℕ) → Leaves n → schedule n ≡ p → Outward (at p (n + 1))
+    leaves_out n leaves picks =
+        subst Outward (sym (stepped p n picks))
+        (outward levels p (at p n) (value_of (states n).words (access_of levels p (at p n))) leaves.1)
+
+    leaves_keeps : (n : ℕ) → Leaves n → So (n + 1) ⊎ Leaves (n + 1)
+    leaves_keeps n leaves = by_step (keeps n leaves.0)
+      where
+        by_place : While (n + 1) → (b : Bool) → (schedule n == p) ≡ b → So (n + 1) ⊎ Leaves (n + 1)
+        by_place goes true own = by_out (leaves_out n leaves (grind (arith, nat_tests)))
+          where
+            by_out : Outward (at p (n + 1)) → So (n + 1) ⊎ Leaves (n + 1)
+            by_out (inl idle) = inl (busy (n + 1) goes idle)
+            by_out (inr way) = inr (goes, past_by_out (at p (n + 1)) way)
+        by_place goes false other =
+            let same : at p (n + 1) ≡ at p n = stayed p n (grind (arith, nat_tests)) in
+            inr (goes, subst (λ x. IsTrue (is_past_the_root x)) (sym same) leaves.1)
+
+        by_step : So (n + 1) ⊎ While (n + 1) → So (n + 1) ⊎ Leaves (n + 1)
+        by_step (inl ends) = inl ends
+        by_step (inr goes) = by_place goes (schedule n == p) refl
+
+    leaves_falls : (n : ℕ) → Leaves n → Leaves (n + 1) → schedule n ≡ p
+        → points_of levels (at p (n + 1)) true < points_of levels (at p n) true
+    leaves_falls n leaves later picks = by_out (leaves_out n leaves picks)
+      where
+        by_out : Outward (at p (n + 1)) → points_of levels (at p (n + 1)) true < points_of levels (at p n) true
+        by_out (inl idle) = absurd (leaves_idle (n + 1) later idle)
+        by_out (inr way) =
+            let less = comes_nearer p n (leaves_ready n leaves) picks in
+            let same = same_points levels (at p (n + 1)) way in omega (arith, less, same)
+
+    goes_out : (n : ℕ) → While n → IsTrue (is_past_the_root (at p n)) → Eventually n So
+    goes_out n goes past =
+        ends p Leaves So (λ x. points_of levels x true) leaves_idle leaves_keeps leaves_falls n (goes, past)
+
+  -- one who is stuck at a level, and the rival that competes there
+  module _ (p q level : ℕ) (point : Entry) (rivals : AreRivals level p q) where
+    record HeldUp (n : ℕ) : Type 0 where
+      stands : at p n ≡ Entering level point
+      stuck : IsStuck (states n) p level
+      competing : IsTrue (competes (phase_of levels level (at q n)))
+
+    -- it stays so until the word is there
+    held_keeps : (n : ℕ) → HeldUp n → Ready p (Entering level point) (n + 1) ⊎ HeldUp (n + 1)
+    held_keeps n held = by_state (free_or_stuck p (n + 1))
+      where
+        same : at p (n + 1) ≡ Entering level point
+        same = stands_still levels some (states n) (sound n) (schedule n) (states (n + 1)) (step n) (sound (n + 1)) p
+            level held.stuck ∙ held.stands
+
+        by_state : IsFree p (n + 1) ⊎ ((l : ℕ) × IsStuck (states (n + 1)) p l)
+            → Ready p (Entering level point) (n + 1) ⊎ HeldUp (n + 1)
+        by_state (inl ready) = inl (same, ready)
+        by_state (inr stuck) =
+            let one : stuck.0 ≡ level = stuck_level (states (n + 1)) p stuck.0 level point same stuck.1 in
+            let still : IsStuck (states (n + 1)) p level = subst (IsStuck (states (n + 1)) p) one stuck.1 in
+            inr (record {
+              stands = same;
+              stuck = still;
+              competing =
+                  still_competes levels some (states n) (sound n) (schedule n) (states (n + 1)) (step n)
+                  (sound (n + 1)) p level q still rivals held.competing;
+            })
+
+    not_idle : (n : ℕ) → HeldUp n → at q n ≢ Idle
+    not_idle n held idle =
+        let away : IsTrue (competes (phase_of levels level Idle)) =
+        subst (λ x. IsTrue (competes (phase_of levels level x))) idle held.competing in cc
+
+    -- a rival that is past the root goes out, and lets it in on its way
+    by_leaving : (n : ℕ) → HeldUp n → IsTrue (is_past_the_root (at q n)) → Eventually n (Ready p (Entering level point))
+    by_leaving =
+        goes_out q HeldUp (Ready p (Entering level point)) held_keeps (λ n held idle. absurd (not_idle n held idle))
+
+    -- a rival that holds the level comes inside, as was shown already, and goes out
+    by_holding : (n : ℕ) → HeldUp n → Eventually n (λ m. at q m ≡ Inside)
+        → Eventually n (Ready p (Entering level point))
+    by_holding n held inside =
+        by_then
+        (until HeldUp (Ready p (Entering level point)) held_keeps (inside.0 - n) n inside.0 (omega (arith, inside.1))
+        held)
+      where
+        by_then : Eventually n (Ready p (Entering level point)) ⊎ HeldUp inside.0
+            → Eventually n (Ready p (Entering level point))
+        by_then (inl found) = found
+        by_then (inr still) =
+            sooner (Ready p (Entering level point)) n inside.0 inside.1
+            (by_leaving inside.0 still (subst (λ x. IsTrue (is_past_the_root x)) (sym inside.2) refl))
+
+    -- the rival is at the level
+    abbrev Here : ℕ → Type 0
+    Here n = HeldUp n × ((there : Entry) × (at q n ≡ Entering level there))
+
+    -- it has won the level
+    abbrev Gone : ℕ → Type 0
+    Gone n = HeldUp n × ((at q n ≡ Entering (level + 1) E1) ⊎ (at q n ≡ Inside))
+
+    -- a rival at the level wins it, since it isn't stuck, or the word is there before
+    by_competing : (n : ℕ) → Here n → Eventually n (λ m. Ready p (Entering level point) m ⊎ Gone m)
+    by_competing =
+        ends q Here (λ m. Ready p (Entering level point) m ⊎ Gone m) (λ x. points_of levels x false)
+        (λ n here. not_idle n here.0) keeps falls
+      where
+        keeps : (n : ℕ) → Here n → (Ready p (Entering level point) (n + 1) ⊎ Gone (n + 1)) ⊎ Here (n + 1)
+        keeps n here = by_step (held_keeps n here.0)
+          where
+            by_place : HeldUp (n + 1) → (b : Bool) → (schedule n == q) ≡ b
+                → (Ready p (Entering level point) (n + 1) ⊎ Gone (n + 1)) ⊎ Here (n + 1)
+            by_place held true own =
+                let v = value_of (states n).words (access_of levels q (at q n)) in
+                let now : at q (n + 1) ≡ entry_next levels level q here.1.0 v =
+                stepped q n (grind (arith, nat_tests)) ∙ ap (λ x. next_of levels q x v) here.1.1 in
+                by_next (subst (Onward level) (sym now) (onward levels level q here.1.0 v))
+              where
+                by_next : Onward level (at q (n + 1))
+                    → (Ready p (Entering level point) (n + 1) ⊎ Gone (n + 1)) ⊎ Here (n + 1)
+                by_next (inl there) = inr (held, there)
+                by_next (inr gone) = inl (inr (held, gone))
+            by_place held false other =
+                inr (held, (here.1.0, stayed q n (grind (arith, nat_tests)) ∙ here.1.1))
+
+            by_step : Ready p (Entering level point) (n + 1) ⊎ HeldUp (n + 1)
+                → (Ready p (Entering level point) (n + 1) ⊎ Gone (n + 1)) ⊎ Here (n + 1)
+            by_step (inl ready) = inl (inl ready)
+            by_step (inr held) = by_place held (schedule n == q) refl
+
+        falls : (n : ℕ) → Here n → Here (n + 1) → schedule n ≡ q
+            → points_of levels (at q (n + 1)) false < points_of levels (at q n) false
+        falls n here later picks =
+            let less = comes_nearer q n ready picks in
+            let same : points_of levels (at q n) true ≡ points_of levels (at q n) false =
+            ap (λ x. points_of levels x true) here.1.1 ∙ sym (ap (λ x. points_of levels x false) here.1.1) in
+            omega (arith, less, same)
+          where
+            ready : IsFree q n
+            ready l stuck =
+                let one : l ≡ level = stuck_level (states n) q l level here.1.0 here.1.1 stuck in
+                not_both_stuck levels some (states n) (sound n) p q level here.0.stuck
+                (subst (IsStuck (states n) q) one stuck) rivals
+
+    -- so wherever the rival stands, the word is there at some time
+    module _ (fuel : ℕ) (enough : points_of levels (Entering level point) false < fuel + 1)
+        (again : (n k l : ℕ) (there : Entry) → at k n ≡ Entering l there
+        → points_of levels (Entering l there) false < fuel → Eventually n (λ m. at k m ≡ Inside)) where
+      -- the rival stands higher up
+      above : (n l : ℕ) (there : Entry) → HeldUp n → level < l → at q n ≡ Entering l there
+          → Eventually n (Ready p (Entering level point))
+      above n l there held more e =
+          let proper : IsProper levels q (Entering l there) = subst (IsProper levels q) e ((sound n).proper q) in
+          by_holding n held
+          (again n q l there e
+          (omega (arith, enough, more, proper.most, (few_points there).1, (few_points point).0)))
+
+      -- the rival stands at the level
+      from_here : (n : ℕ) → Here n → Eventually n (Ready p (Entering level point))
+      from_here n here = by_end (by_competing n here)
+        where
+          by_end : Eventually n (λ m. Ready p (Entering level point) m ⊎ Gone m)
+              → Eventually n (Ready p (Entering level point))
+          by_end found = by_case found.2
+            where
+              by_case : Ready p (Entering level point) found.0 ⊎ Gone found.0
+                  → Eventually n (Ready p (Entering level point))
+              by_case (inl ready) = (found.0, found.1, ready)
+              by_case (inr gone) = sooner (Ready p (Entering level point)) n found.0 found.1 (by_won gone.1)
+                where
+                  by_won : (at q found.0 ≡ Entering (level + 1) E1) ⊎ (at q found.0 ≡ Inside)
+                      → Eventually found.0 (Ready p (Entering level point))
+                  by_won (inl up) = above found.0 (level + 1) E1 gone.0 (omega arith) up
+                  by_won (inr inside) =
+                      by_leaving found.0 gone.0 (subst (λ x. IsTrue (is_past_the_root x)) (sym inside) refl)
+
+      -- in whatever phase
+      is_freed : (n : ℕ) → HeldUp n → Eventually n (Ready p (Entering level point))
+      is_freed n held = by_process (at q n) refl
+        where
+          by_process : (x : Process) → at q n ≡ x → Eventually n (Ready p (Entering level point))
+          by_process Idle e = absurd (not_idle n held e)
+          by_process Inside e = by_leaving n held (subst (λ x. IsTrue (is_past_the_root x)) (sym e) refl)
+          by_process (Leaving l there) e = by_leaving n held (subst (λ x. IsTrue (is_past_the_root x)) (sym e) refl)
+          by_process (Entering l there) e = by_level (l == level) refl
+            where
+              by_level : (b : Bool) → (l == level) ≡ b → Eventually n (Ready p (Entering level point))
+              by_level true one =
+                  let same : l ≡ level = grind (arith, nat_tests) in
+                  from_here n (held, (there, e ∙ ap (λ k. Entering k there) same))
+              by_level false other =
+                  let apart : l ≢ level = grind (arith, nat_tests) in
+                  let up : level ≤ l = competes_at level l (entry_phase there)
+                  (subst (λ x. IsTrue (competes (phase_of levels level x))) e held.competing) in
+                  above n l there held (omega (arith, apart, up)) e
+
+  -- a place that is on its way in comes inside at some time
+  comes_in : (fuel n p level : ℕ) (point : Entry) → at p n ≡ Entering level point
+      → points_of levels (Entering level point) false < fuel → Eventually n (λ m. at p m ≡ Inside)
+  comes_in zero n p level point e less = absurd (omega (arith, less))
+  comes_in (suc fuel) n p level point e less =
+      by_state (λ n k l there e less. comes_in fuel n k l there e less) (free_or_stuck p n)
+    where
+      on : ((n k l : ℕ) (there : Entry) → at k n ≡ Entering l there
+          → points_of levels (Entering l there) false < fuel → Eventually n (λ m. at k m ≡ Inside))
+          → (m : ℕ) → n ≤ m → Ready p (Entering level point) m → Eventually n (λ m. at p m ≡ Inside)
+      on again m later ready =
+          sooner (λ m. at p m ≡ Inside) n m later (by_step (goes_on p level point m ready))
+        where
+          by_step : Eventually m (Nearer p level point) → Eventually m (λ m. at p m ≡ Inside)
+          by_step found = sooner (λ m. at p m ≡ Inside) m found.0 found.1 (by_next found.2.1)
+            where
+              by_entry : (l : ℕ) (there : Entry) → at p found.0 ≡ Entering l there
+                  → Eventually found.0 (λ m. at p m ≡ Inside)
+              by_entry l there e =
+                  let same : points_of levels (at p found.0) false ≡ points_of levels (Entering l there) false =
+                  ap (λ x. points_of levels x false) e in
+                  again found.0 p l there e (omega (arith, same, found.2.0, less))
+
+              by_next : Onward level (at p found.0) → Eventually found.0 (λ m. at p m ≡ Inside)
+              by_next (inl there) = by_entry level there.0 there.1
+              by_next (inr (inl up)) = by_entry (level + 1) E1 up
+              by_next (inr (inr inside)) = (found.0, omega arith, inside)
+
+      by_state : ((n k l : ℕ) (there : Entry) → at k n ≡ Entering l there
+          → points_of levels (Entering l there) false < fuel → Eventually n (λ m. at k m ≡ Inside))
+          → IsFree p n ⊎ ((l : ℕ) × IsStuck (states n) p l) → Eventually n (λ m. at p m ≡ Inside)
+      by_state again (inl ready) = on again n (omega arith) (e, ready)
+      by_state again (inr stuck) =
+          let one : stuck.0 ≡ level = stuck_level (states n) p stuck.0 level point e stuck.1 in
+          let here : IsStuck (states n) p level = subst (IsStuck (states n) p) one stuck.1 in
+          let rival = last levels (states n) some (sound n) p level here in
+          let freed = is_freed p rival.0 level point rival.1 fuel (omega (arith, less)) again n
+          (record { stands = e; stuck = here; competing = rival.2 }) in
+          on again freed.0 freed.1 freed.2
+
+  -- so wherever it stands
+  pub comes_inside : (p n : ℕ) → IsTrue (is_on_way_in (at p n)) → Eventually n (λ m. at p m ≡ Inside)
+  comes_inside p n way = by_process (at p n) refl way
+    where
+      by_process : (x : Process) → at p n ≡ x → IsTrue (is_on_way_in x) → Eventually n (λ m. at p m ≡ Inside)
+      by_process Idle e way = absurd cc
+      by_process Inside e way = absurd cc
+      by_process (Leaving level point) e way = absurd cc
+      by_process (Entering level point) e way =
+          comes_in (points_of levels (Entering level point) false + 1) n p level point e (omega arith)
+
+  -- and one that is inside, or on its way out, is idle at some time
+  pub goes_idle : (p n : ℕ) → (at p n ≡ Inside) ⊎ IsTrue (is_on_way_out (at p n)) → Eventually n (λ m. at p m ≡ Idle)
+  goes_idle p n way =
+      goes_out p (λ n. Unit {0}) (λ m. at p m ≡ Idle) (λ n _. inr tt) (λ n _ idle. idle) n tt (by_way way)
+    where
+      by_way : (at p n ≡ Inside) ⊎ IsTrue (is_on_way_out (at p n)) → IsTrue (is_past_the_root (at p n))
+      by_way (inl inside) = subst (λ x. IsTrue (is_past_the_root x)) (sym inside) refl
+      by_way (inr out) = past_by_out (at p n) out
+
+-- each state of a run is sound
+sound_at : (levels : ℕ) (schedule : ℕ → ℕ) (states : ℕ → State) → 1 ≤ levels → IsRunOf levels schedule states
+    → (time : ℕ) → IsSound levels (states time)
+sound_at levels schedule states some run zero = subst (IsSound levels) (sym run.start) (opens levels)
+sound_at levels schedule states some run (suc n) =
+    subst (λ k. IsSound levels (states k)) (let next : n + 1 ≡ suc n = omega arith in next)
+    (keeps levels (schedule n) (states n) (states (n + 1)) some (sound_at levels schedule states some run n)
+    (run.steps n))
+
+pub enters : (levels : ℕ) (schedule : ℕ → ℕ) (states : ℕ → State) → 1 ≤ levels → IsRunOf levels schedule states
+    → IsFair schedule states → (place time : ℕ) → IsTrue (is_on_way_in ((states time).processes place))
+    → Eventually time (λ later. IsInside (states later) place)
+enters levels schedule states some run fair place time way =
+    let found = comes_inside levels some schedule states (sound_at levels schedule states some run) run.steps fair place
+    time way in (found.0, found.1, ap is_inside found.2)
+
+pub leaves : (levels : ℕ) (schedule : ℕ → ℕ) (states : ℕ → State) → 1 ≤ levels → IsRunOf levels schedule states
+    → IsFair schedule states → (place time : ℕ)
+    → IsInside (states time) place ⊎ IsTrue (is_on_way_out ((states time).processes place))
+    → Eventually time (λ later. (states later).processes place ≡ Idle)
+leaves levels schedule states some run fair place time way =
+    goes_idle levels some schedule states (sound_at levels schedule states some run) run.steps fair place time
+    (by_way way)
+  where
+    by_way : IsInside (states time) place ⊎ IsTrue (is_on_way_out ((states time).processes place))
+        → ((states time).processes place ≡ Inside) ⊎ IsTrue (is_on_way_out ((states time).processes place))
+    by_way (inl inside) = inl (is_inside_is ((states time).processes place) inside)
+    by_way (inr out) = inr out
+
+-- the run that a schedule picks
+states_of : (levels : ℕ) (schedule : ℕ → ℕ) → ((time : ℕ) → schedule time < 2 ^ levels) → ℕ → State
+states_of levels schedule within zero = opening
+states_of levels schedule within (suc n) =
+    (may_step levels (schedule n) (states_of levels schedule within n) (within n)).0
+
+pub run_of : (levels : ℕ) (schedule : ℕ → ℕ) → ((time : ℕ) → schedule time < 2 ^ levels)
+    → (states : ℕ → State) × IsRunOf levels schedule states
+unfolding states_of
+run_of levels schedule within = (
+  states_of levels schedule within,
+  record {
+    start = refl;
+    steps = λ n.
+        subst
+        (λ k. StepsTo levels (schedule n) (states_of levels schedule within n) (states_of levels schedule within k))
+        (let next : suc n ≡ n + 1 = omega arith in next)
+        (may_step levels (schedule n) (states_of levels schedule within n) (within n)).1;
+  },
+)
+
+-- and no other
+pub one_run : (levels : ℕ) (schedule : ℕ → ℕ) (states other : ℕ → State) → IsRunOf levels schedule states
+    → IsRunOf levels schedule other → (time : ℕ) → other time ≡ states time
+one_run levels schedule states other run also zero = also.start ∙ sym run.start
+one_run levels schedule states other run also (suc n) =
+    subst (λ k. other k ≡ states k) (let next : n + 1 ≡ suc n = omega arith in next)
+    (one_outcome levels (schedule n) (states n) (other (n + 1)) (states (n + 1))
+    (subst (λ s. StepsTo levels (schedule n) s (other (n + 1))) (one_run levels schedule states other run also n)
+    (also.steps n)) (run.steps n))
