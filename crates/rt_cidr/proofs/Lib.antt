@@ -7,3 +7,4 @@ pub mod Ranges
 pub mod Texts
 pub mod ShortTexts
 pub mod Outputs
+pub mod Examples

@@ -8,3 +8,4 @@ pub mod UncutVisits
 pub mod Printing
 pub mod OneAnswer
 pub mod OneCut
+pub mod Examples

@@ -1,0 +1,271 @@
+-- Examples by which definitions are tested, each under a line with the definition's name. Both sides are computed, but for
+-- the texts that are written for numbers, which have one spelling each.
+use Rattle.std.proofs.Common.{◌≡◌, ℕ, Bool, true, false, List, [], ◌∷◌, ◌++◌, ◌||◌, Ok, Err, codes, decimal, eqb, refl, ap, ◌∙◌, arith}
+use Rattle.std.proofs.lemmas.Bool.{eq-eqb, or_right}
+use Rattle.std.proofs.lemmas.List.Folds.{list_any-append}
+use Rattle.std.specs.List.{list_any}
+use Rattle.rt_cidr.specs.declared.address.Addr.{Addr}
+use Rattle.rt_cidr.specs.declared.prefixes.Prefix.{Prefix}
+use Rattle.rt_cidr.specs.declared.prefixes.TextFault.TheVariants.{Text, Length, Bits}
+use Rattle.rt_cidr.specs.Cidr.{size_of, IsPrefix}
+use Rattle.rt_cidr.specs.Prefix.{covers, same_prefix}
+use Rattle.rt_cidr.specs.Text.{dot, slash, IsDecimal, IsOctetText, IsAddressText, IsPrefixText, address_text, prefix_text}
+use Rattle.rt_cidr.specs.Reading.{ReadsPrefix}
+use Rattle.rt_cidr.proofs.Texts.{decimal_is_decimal, decimal_one_text, address_text_is_address, address_one_text, address_one_number, prefix_text_is_pair, pair_one_text, pair_one_value}
+
+-- 0.0.0.0/0, 10.0.0.0/8, 255.255.255.255/32
+abbrev everything : Prefix
+everything = record { base = 0; len = 0; is_prefix = record { short = omega arith; fits = omega arith; clear = refl } }
+
+abbrev pub ten_8 : Prefix
+ten_8 = record { base = 167772160; len = 8; is_prefix = record { short = omega arith; fits = omega arith; clear = refl } }
+
+abbrev last_32 : Prefix
+last_32 = record { base = 4294967295; len = 32; is_prefix = record { short = omega arith; fits = omega arith; clear = refl } }
+
+-- the address of this number
+abbrev at : ℕ → Addr
+at n = record { 0 = n }
+
+-- size_of
+all_addresses : size_of 0 ≡ 4294967296
+all_addresses = refl
+
+one_address : size_of 32 ≡ 1
+one_address = refl
+
+-- IsPrefix
+a_prefix_of_8_bits : IsPrefix 167772160 8
+a_prefix_of_8_bits = record { short = omega arith; fits = omega arith; clear = refl }
+
+pub a_bit_past_the_length_is_set : ¬ IsPrefix 167772161 8
+a_bit_past_the_length_is_set h = let none = h.clear in cc
+
+no_prefix_of_33_bits : ¬ IsPrefix 0 33
+no_prefix_of_33_bits h = omega (arith, h.short)
+
+-- covers
+the_first_of_its_addresses : covers ten_8 (at 167772160) ≡ true
+the_first_of_its_addresses = refl
+
+the_last_of_its_addresses : covers ten_8 (at 184549375) ≡ true
+the_last_of_its_addresses = refl
+
+the_address_before : covers ten_8 (at 167772159) ≡ false
+the_address_before = refl
+
+the_address_behind : covers ten_8 (at 184549376) ≡ false
+the_address_behind = refl
+
+length_0_covers_every_address : covers everything (at 4294967295) ≡ true
+length_0_covers_every_address = refl
+
+length_32_covers_one : covers last_32 (at 4294967294) ≡ false
+length_32_covers_one = refl
+
+-- same_prefix
+the_same : same_prefix ten_8 ten_8 ≡ true
+the_same = refl
+
+of_another_base : same_prefix everything ten_8 ≡ false
+of_another_base = refl
+
+-- IsDecimal
+pub decimal_0 : IsDecimal (codes "0") 0
+decimal_0 = record { digits = (omega arith, (omega arith, tt)); value = refl; no_leading_zero = λ _. refl }
+
+pub decimal_1 : IsDecimal (codes "1") 1
+decimal_1 = record { digits = (omega arith, (omega arith, tt)); value = refl; no_leading_zero = λ _. refl }
+
+pub decimal_2 : IsDecimal (codes "2") 2
+decimal_2 = record { digits = (omega arith, (omega arith, tt)); value = refl; no_leading_zero = λ _. refl }
+
+pub decimal_3 : IsDecimal (codes "3") 3
+decimal_3 = record { digits = (omega arith, (omega arith, tt)); value = refl; no_leading_zero = λ _. refl }
+
+pub decimal_8 : IsDecimal (codes "8") 8
+decimal_8 = record { digits = (omega arith, (omega arith, tt)); value = refl; no_leading_zero = λ _. refl }
+
+pub decimal_10 : IsDecimal (codes "10") 10
+decimal_10 = record { digits = (omega arith, (omega arith, (omega arith, tt))); value = refl; no_leading_zero = λ zero. cc }
+
+pub decimal_33 : IsDecimal (codes "33") 33
+decimal_33 = record { digits = (omega arith, (omega arith, (omega arith, tt))); value = refl; no_leading_zero = λ zero. cc }
+
+pub decimal_100 : IsDecimal (codes "100") 100
+decimal_100 = record { digits = (omega arith, (omega arith, (omega arith, (omega arith, tt)))); value = refl; no_leading_zero = λ zero. cc }
+
+pub decimal_192 : IsDecimal (codes "192") 192
+decimal_192 = record { digits = (omega arith, (omega arith, (omega arith, (omega arith, tt)))); value = refl; no_leading_zero = λ zero. cc }
+
+pub decimal_255 : IsDecimal (codes "255") 255
+decimal_255 = record { digits = (omega arith, (omega arith, (omega arith, (omega arith, tt)))); value = refl; no_leading_zero = λ zero. cc }
+
+pub decimal_4294967296 : IsDecimal (codes "4294967296") 4294967296
+decimal_4294967296 = record { digits = (omega arith, (omega arith, (omega arith, (omega arith, (omega arith, (omega arith, (omega arith, (omega arith, (omega arith, (omega arith, (omega arith, tt))))))))))); value = refl; no_leading_zero = λ zero. cc }
+
+no_leading_zero : ¬ IsDecimal (codes "08") 8
+no_leading_zero h = let one = h.no_leading_zero refl in cc
+
+no_digit_at_all : (n : ℕ) → ¬ IsDecimal [] n
+no_digit_at_all n h = omega (arith, h.digits.0)
+
+no_sign : (n : ℕ) → ¬ IsDecimal (codes "+1") n
+no_sign n h = omega (arith, h.digits.1.0)
+
+-- IsOctetText
+the_greatest_octet : IsOctetText (codes "255") 255
+the_greatest_octet = record { spelled = decimal_255; fits = omega arith }
+
+no_octet_of_256 : (n : ℕ) → ¬ IsOctetText (codes "256") n
+no_octet_of_256 n h = let value = h.spelled.value in omega (arith, h.fits)
+
+-- IsAddressText
+pub address_10_0_0_0 : IsAddressText (codes "10.0.0.0") 167772160
+address_10_0_0_0 = record {
+  first_text = codes "10";
+  first = 10;
+  is_first = record { spelled = decimal_10; fits = omega arith };
+  second_text = codes "0";
+  second = 0;
+  is_second = record { spelled = decimal_0; fits = omega arith };
+  third_text = codes "0";
+  third = 0;
+  is_third = record { spelled = decimal_0; fits = omega arith };
+  fourth_text = codes "0";
+  fourth = 0;
+  is_fourth = record { spelled = decimal_0; fits = omega arith };
+  joined = refl;
+  value = refl;
+}
+
+pub address_10_0_0_1 : IsAddressText (codes "10.0.0.1") 167772161
+address_10_0_0_1 = record {
+  first_text = codes "10";
+  first = 10;
+  is_first = record { spelled = decimal_10; fits = omega arith };
+  second_text = codes "0";
+  second = 0;
+  is_second = record { spelled = decimal_0; fits = omega arith };
+  third_text = codes "0";
+  third = 0;
+  is_third = record { spelled = decimal_0; fits = omega arith };
+  fourth_text = codes "1";
+  fourth = 1;
+  is_fourth = record { spelled = decimal_1; fits = omega arith };
+  joined = refl;
+  value = refl;
+}
+
+pub address_192_0_2_1 : IsAddressText (codes "192.0.2.1") 3221225985
+address_192_0_2_1 = record {
+  first_text = codes "192";
+  first = 192;
+  is_first = record { spelled = decimal_192; fits = omega arith };
+  second_text = codes "0";
+  second = 0;
+  is_second = record { spelled = decimal_0; fits = omega arith };
+  third_text = codes "2";
+  third = 2;
+  is_third = record { spelled = decimal_2; fits = omega arith };
+  fourth_text = codes "1";
+  fourth = 1;
+  is_fourth = record { spelled = decimal_1; fits = omega arith };
+  joined = refl;
+  value = refl;
+}
+
+pub the_last_address : IsAddressText (codes "255.255.255.255") 4294967295
+the_last_address = record {
+  first_text = codes "255";
+  first = 255;
+  is_first = record { spelled = decimal_255; fits = omega arith };
+  second_text = codes "255";
+  second = 255;
+  is_second = record { spelled = decimal_255; fits = omega arith };
+  third_text = codes "255";
+  third = 255;
+  is_third = record { spelled = decimal_255; fits = omega arith };
+  fourth_text = codes "255";
+  fourth = 255;
+  is_fourth = record { spelled = decimal_255; fits = omega arith };
+  joined = refl;
+  value = refl;
+}
+
+the_first_octet_is_the_most_significant : ¬ IsAddressText (codes "10.0.0.0") 10
+the_first_octet_is_the_most_significant h = let same = address_one_number (codes "10.0.0.0") 167772160 10 address_10_0_0_0 h in cc
+
+-- IsPrefixText
+pub pair_10_0_0_0_8 : IsPrefixText (codes "10.0.0.0/8") 167772160 8
+pair_10_0_0_0_8 = record { address_part = codes "10.0.0.0"; len_part = codes "8"; is_address = address_10_0_0_0; is_len = decimal_8; joined = refl }
+
+pub pair_10_0_0_1_8 : IsPrefixText (codes "10.0.0.1/8") 167772161 8
+pair_10_0_0_1_8 = record { address_part = codes "10.0.0.1"; len_part = codes "8"; is_address = address_10_0_0_1; is_len = decimal_8; joined = refl }
+
+pub pair_10_0_0_1_33 : IsPrefixText (codes "10.0.0.1/33") 167772161 33
+pair_10_0_0_1_33 = record { address_part = codes "10.0.0.1"; len_part = codes "33"; is_address = address_10_0_0_1; is_len = decimal_33; joined = refl }
+
+-- address_text
+pub written_192_0_2_1 : address_text 3221225985 ≡ codes "192.0.2.1"
+written_192_0_2_1 = address_one_text (address_text 3221225985) (codes "192.0.2.1") 3221225985 (address_text_is_address 3221225985 (omega arith)) address_192_0_2_1
+
+written_last : address_text 4294967295 ≡ codes "255.255.255.255"
+written_last = address_one_text (address_text 4294967295) (codes "255.255.255.255") 4294967295 (address_text_is_address 4294967295 (omega arith)) the_last_address
+
+-- prefix_text
+pub written_10_0_0_0_8 : prefix_text 167772160 8 ≡ codes "10.0.0.0/8"
+written_10_0_0_0_8 = pair_one_text (prefix_text 167772160 8) (codes "10.0.0.0/8") 167772160 8 (prefix_text_is_pair 167772160 8 (omega arith) (omega arith)) pair_10_0_0_0_8
+
+-- what is written for these numbers
+pub written_0 : decimal 0 ≡ codes "0"
+written_0 = decimal_one_text (decimal 0) (codes "0") 0 (decimal_is_decimal 0 (omega arith)) decimal_0
+
+pub written_1 : decimal 1 ≡ codes "1"
+written_1 = decimal_one_text (decimal 1) (codes "1") 1 (decimal_is_decimal 1 (omega arith)) decimal_1
+
+pub written_100 : decimal 100 ≡ codes "100"
+written_100 = decimal_one_text (decimal 100) (codes "100") 100 (decimal_is_decimal 100 (omega arith)) decimal_100
+
+-- whether a byte stands in a text
+abbrev pub has_byte : ℕ → List ℕ → Bool
+has_byte mark text = list_any (λ byte. eqb byte mark) text
+
+-- a text that has the mark somewhere has it
+has_byte-joined : (mark : ℕ) (front rest : List ℕ) → has_byte mark (front ++ mark ∷ rest) ≡ true
+has_byte-joined mark front rest =
+    list_any-append (λ byte. eqb byte mark) front (mark ∷ rest)
+    ∙ or_right (has_byte mark front) (eqb mark mark || has_byte mark rest)
+    (ap (λ b. b || has_byte mark rest) (eq-eqb mark mark refl))
+
+-- a text without a dot is no address's, and none without a dot or a slash is a prefix's
+pub no_address_without_a_dot : (text : List ℕ) (address : ℕ) → has_byte dot text ≡ false → ¬ IsAddressText text address
+no_address_without_a_dot text address none h =
+    let some = ap (has_byte dot) h.joined ∙ has_byte-joined dot h.first_text _ in cc
+
+pub no_prefix_without_a_slash : (text : List ℕ) (address len : ℕ) → has_byte slash text ≡ false → ¬ IsPrefixText text address len
+no_prefix_without_a_slash text address len none h =
+    let some = ap (has_byte slash) h.joined ∙ has_byte-joined slash h.address_part h.len_part in cc
+
+pub no_prefix_without_a_dot : (text : List ℕ) (address len : ℕ) → has_byte dot text ≡ false → ¬ IsPrefixText text address len
+no_prefix_without_a_dot text address len none h =
+    let address_has = ap (has_byte dot) h.is_address.joined ∙ has_byte-joined dot h.is_address.first_text _ in
+    let both = ap (has_byte dot) h.joined ∙ list_any-append (λ byte. eqb byte dot) h.address_part (slash ∷ h.len_part) in
+    let some : has_byte dot text ≡ true = both ∙ ap (λ b. b || has_byte dot (slash ∷ h.len_part)) address_has in cc
+
+-- ReadsPrefix
+reads_10_0_0_0_8 : ReadsPrefix (codes "10.0.0.0/8") (Ok ten_8)
+reads_10_0_0_0_8 = pair_10_0_0_0_8
+
+no_length_is_no_prefix : ReadsPrefix (codes "10.0.0.0") (Err Text)
+no_length_is_no_prefix = λ address len. no_prefix_without_a_slash (codes "10.0.0.0") address len refl
+
+pub length_before_bits : ReadsPrefix (codes "10.0.0.1/33") (Err Length)
+length_before_bits = (167772161, 33, pair_10_0_0_1_33, omega arith)
+
+not_bits_before_length : ¬ ReadsPrefix (codes "10.0.0.1/33") (Err Bits)
+not_bits_before_length (address, len, is, short, none) =
+    let same = pair_one_value (codes "10.0.0.1/33") address 167772161 len 33 is pair_10_0_0_1_33 in omega (arith, same.1)
+
+pub bit_past_the_length : ReadsPrefix (codes "10.0.0.1/8") (Err Bits)
+bit_past_the_length = (167772161, 8, pair_10_0_0_1_8, omega arith, a_bit_past_the_length_is_set)
