@@ -12,6 +12,7 @@ pub mod Links
 pub mod LookUps
 pub mod Map
 pub mod Nodes
+pub mod OneProof
 pub mod Tree
 pub mod TreeCode
 pub mod Trie
