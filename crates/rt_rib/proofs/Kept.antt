@@ -8,8 +8,8 @@ use Rattle.rt_rib.specs.declared.commands.Cmd.TheVariants.{Add}
 use Rattle.rt_rib.specs.declared.commands.Reply.TheVariants.{Added}
 use Rattle.rt_rib.specs.Table.{has, put_in, take_out, IsTable}
 use Rattle.rt_rib.specs.Maps.{Map, routes_of, IsMap}
-use Rattle.rt_rib.specs.Book.{IsFeed}
-use Rattle.rt_rib.specs.Kept.{Held, IsCounted, IsKept, Serves}
+use Rattle.rt_rib.specs.Book.{IsFeed, HoldsRoutesLeft}
+use Rattle.rt_rib.specs.Kept.{Held, Stored, held_of, IsCounted, IsKept, IsStored, Serves}
 use Rattle.rt_rib.specs.declared.commands.Cmd.{Cmd}
 use Rattle.rt_rib.specs.declared.commands.Reply.{Reply}
 use Rattle.rt_rib.specs.declared.commands.Entry.{Entry}
@@ -95,3 +95,12 @@ IsKept-push old new journal more feed cmd reply is_feed h serves is =
       kept = ap (λ t. table_after old.limit t feed cmd) h.kept ∙ sym (table_left-push old.limit journal e);
     } in
     rw (serves.changed, is) next
+
+-- a trie that holds the table's routes holds those that the journal leaves
+pub holds_left : (t : Stored) (journal : List Entry) (room : ℕ) → IsStored t → IsKept (held_of t) journal → HoldsRoutesLeft (record { limit = t.limit; journal = journal; trie = t.trie; room = room })
+holds_left t journal room stored h = record {
+  lawful = stored.lawful;
+  map = stored.map;
+  exactly = stored.routes ∙ h.kept;
+  once = subst IsTable h.kept stored.table;
+}

@@ -7,4 +7,5 @@ pub mod Kept
 pub mod Maps
 pub mod Laws
 pub mod Offers
+pub mod OneProof
 pub mod Few

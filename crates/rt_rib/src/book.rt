@@ -52,9 +52,12 @@ impl<A: Allocator + Copy> Book<A> {
         requires { IsLimit limit }
         ensures limit { result.limit ≡ limit }
         ensures journal { result.journal ≡ [] }
+        ensures holds { HoldsRoutesLeft result }
     {
+        let table = Table::new(alloc, limit);
+        table.holds();
         Book {
-            table: Table::new(alloc, limit),
+            table,
             journal: Vec::new(alloc),
         }
     }
@@ -66,9 +69,12 @@ impl<A: Allocator + Copy> Book<A> {
         requires { IsFeed feed }
         ensures ok { IfOk result (λ reply. Applies self.old self.new feed cmd reply) }
         ensures err { OnErr result (Refuses self.old self.new cmd) }
+        ensures holds { HoldsRoutesLeft self.new }
     {
+        self.table.holds();
         self.journal.try_reserve(1)?;
         let reply = self.table.apply(feed, cmd)?;
+        self.table.holds();
         self.journal.push_reserved(Entry { feed, cmd, reply });
         Ok(reply)
     }

@@ -1,0 +1,14 @@
+-- That a book's trie holds the routes left has one proof at most, so a ghost field may keep it.
+use Rattle.std.specs.Prelude.{◌≡◌, List}
+use Rattle.std.specs.Coded.{Coded-set, coded_list}
+use Rattle.std.proofs.Props.{props}
+use Rattle.rt_trie.specs.OneProof.{IsLawful-prop, IsOrdered-prop}
+use Rattle.rt_rib.specs.declared.routes.Route.{Route}
+use Rattle.rt_rib.specs.contracts.routes.Route as route
+use Rattle.rt_rib.specs.Book.{Contents, HoldsRoutesLeft}
+
+routes_set : (a b : List Route) → IsProp (a ≡ b)
+routes_set = Coded-set (coded_list route.the_row.coded)
+
+pub HoldsRoutesLeft-prop : (book : Contents) → IsProp (HoldsRoutesLeft book)
+HoldsRoutesLeft-prop book = hlevel (props, IsLawful-prop, IsOrdered-prop, routes_set)
