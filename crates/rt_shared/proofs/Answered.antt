@@ -4,7 +4,7 @@ use Rattle.std.proofs.lemmas.List.Elements.{All-nil, All-cons}
 use Rattle.rt_rib.specs.declared.commands.Cmd.{Cmd}
 use Rattle.rt_rib.specs.declared.commands.Entry.{Entry}
 use Rattle.rt_rib.specs.declared.commands.Reply.{Reply}
-use Rattle.rt_rib.specs.Book.{Applies, Contents}
+use Rattle.rt_rib.specs.Book.{Applies, Refuses}
 use Rattle.rt_shared.specs.declared.outcome.Outcome.{Outcome}
 use Rattle.rt_shared.specs.declared.outcome.Outcome.TheVariants.{Did, Refused}
 use Rattle.rt_shared.specs.Visits.{answered, AreServed, AllBy}
@@ -48,16 +48,16 @@ nothing_answered feed (cmd ∷ cmds) = refl
 
 -- a book that has answered a command, or refused it, has added what is the feed's
 pub adds_applied : {E : Type 0} (place feed : ℕ) (cmd : Cmd) (old new : Lent) (r : Result Reply E) → feed ≡ feed_of place → new.feeds ≡ old.feeds
-    → IfOk r (λ reply. Applies old.book new.book feed cmd reply) → OnErr r (new.book ≡ old.book) → Adds place old new
+    → IfOk r (λ reply. Applies old.book new.book feed cmd reply) → OnErr r (Refuses old.book new.book cmd) → Adds place old new
 adds_applied place feed cmd old new (Ok reply) is feeds did refused = record {
-  same = record { limit = ap (λ (b : Contents). b.limit) did.journaled; feeds = feeds };
+  same = record { limit = did.limited; feeds = feeds };
   own = record { feed = feed; cmd = cmd; reply = reply } ∷ [];
-  added = ap (λ (b : Contents). b.journal) did.journaled;
+  added = did.journaled;
   by_feed = All-cons (λ (e : Entry). e.feed ≡ feed_of place) (record { feed = feed; cmd = cmd; reply = reply }) [] is (All-nil _);
 }
 adds_applied place feed cmd old new (Err fault) is feeds did refused = record {
-  same = record { limit = ap (λ (b : Contents). b.limit) refused; feeds = feeds };
+  same = record { limit = refused.limited; feeds = feeds };
   own = [];
-  added = ap (λ (b : Contents). b.journal) refused ∙ sym (append-nil old.book.journal);
+  added = refused.journaled ∙ sym (append-nil old.book.journal);
   by_feed = All-nil _;
 }

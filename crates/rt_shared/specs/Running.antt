@@ -1,26 +1,39 @@
--- What the running lock says of the lent book, at every moment between two atomic steps.
+-- The sentence that everything serves, said of the running lock at any moment between two atomic steps.
 use Rattle.std.specs.Prelude.{◌≡◌, ℕ, List, [], ◌∷◌, Some}
 use Rattle.std.specs.Prelude as std
 use mathlib.Core.Option.{some}
 use Rattle.atomic_table.specs.Table.{State}
+use Rattle.ya_core.specs.declared.process.Process.{Process}
 use Rattle.ya_lock.specs.declared.view.View.{View}
-use Rattle.ya_lock.specs.Meaning.{IsAway}
-use Rattle.rt_rib.specs.Table.{IsTable}
-use Rattle.rt_rib.specs.Journal.{table_left, IsLawfulJournal}
+use Rattle.ya_lock.specs.Meaning.{HasProcess, IsAway, NoneInside, OneInside}
+use Rattle.rt_rib.specs.Book.{HoldsRoutesLeft}
+use Rattle.rt_rib.specs.Journal.{IsLawfulJournal}
 use Rattle.rt_shared.specs.declared.lent.Lent.{Lent}
 use Rattle.rt_shared.specs.Lent.{feed_of}
 use Rattle.rt_shared.specs.Visits.{Since}
 
--- the words, the lent book and the views of all seats
+-- the words, the slot of the lent book, and the views of all seats
 abbrev pub Moment : Type 0
 Moment = State (std.Option Lent) (View Lent)
 
--- the book lies home
+-- the book lies in its slot
 abbrev pub IsHome : Moment → Lent → Type 0
-IsHome s book = s.homes ≡ some (Some book) ∷ []
+IsHome s lent = s.homes ≡ some (Some lent) ∷ []
 
--- its journal is lawful, its routes are a table, and what each pass away has seen begins its journal, with no entry of that pass's feed behind
-pub record IsExplained (s : Moment) (lent : Lent) : Type 0 where
+-- some seat has the process of a place, so a pass was made
+abbrev pub HasPass : Moment → Type 0
+HasPass s = (seat place : ℕ) × ((process : Process) × ((seen : Lent) × HasProcess s seat place process seen))
+
+-- a book lies in its slot; its trie is lawful and holds exactly the routes left by its journal; the journal is lawful; and
+-- what each pass away has seen begins the journal, with no entry of that pass's feed behind
+pub record IsAtRest (s : Moment) : Type 0 where
+  pub lent : Lent
+  pub home : IsHome s lent
+  pub holds : HoldsRoutesLeft lent.book
   pub lawful : IsLawfulJournal lent.book.limit lent.book.journal
-  pub table : IsTable (table_left lent.book.limit lent.book.journal)
   pub since : (seat place : ℕ) (seen : Lent) → IsAway s seat place seen → Since (feed_of place) seen.book.journal lent.book.journal
+
+-- no two are inside; and whenever none is, by the words and the views of all seats, the book is at rest
+pub record MeetsHeadline (s : Moment) : Type 0 where
+  pub exclusion : OneInside s
+  pub at_rest : HasPass s → NoneInside s → IsAtRest s

@@ -7,7 +7,7 @@ ghost use Rattle.ya_core.specs.Worlds.{World};
 ghost use Rattle.rt_shared.specs.Headline.{Act, IsRunTo, journal_of, NoTwoInside, HasAllMade, FindsBest};
 ghost use Rattle.ya_lock.specs.Rule.{Rule};
 ghost use Rattle.rt_shared.specs.Lent.{Grows};
-ghost use Rattle.rt_shared.specs.Running.{Moment, IsHome, IsExplained};
+ghost use Rattle.rt_shared.specs.Running.{Moment, MeetsHeadline};
 ghost use Rattle.rt_shared.specs.Laws.{SinceAgain, AnsweredInPieces, UncutAtFirst, UncutSince, UncutByVisit, EntriesOfVisits, EntriesSince, PassesKept};
 
 use crate::lent::Lent;
@@ -55,7 +55,8 @@ pub fn journal<const LIMIT: u32>()
 /// The headline. In every interleaving of any number of atomic steps, by at most 2 to the power of `levels` processes, no
 /// two are inside; each feed's entries in the journal are those that it made, in order; the journal is lawful, so every
 /// reply is the sequential table's; the routes that it leaves are a table; and what a look-up found is the best feed's
-/// route of the longest matching prefix.
+/// route of the longest matching prefix. A world of the core has no memory in which nodes could lie, but a journal alone:
+/// so the table that it leaves stands here for the trie, which is the running lock's, as [`running`] says.
 pub fn headline<const LIMIT: u32>()
     ensures exclusion { (levels : ℕ) (world : World Act) → IsRunTo LIMIT levels world → NoTwoInside world }
     ensures made { (levels : ℕ) (world : World Act) → IsRunTo LIMIT levels world → HasAllMade world }
@@ -70,13 +71,16 @@ pub fn headline<const LIMIT: u32>()
     look_up_finds_best();
 }
 
-/// The same sentence of the running table, between any two atomic steps of its feeds: whenever the book lies home, and so
-/// whenever no feed is inside, its journal is lawful, its routes are a table, and what each pass away has seen begins the
-/// journal, with no entry of that pass's feed behind. That the book keeps the routes that its journal leaves is its type's.
+/// The same sentence of the running table, between any two atomic steps of its feeds. No two are inside. And whenever
+/// none is inside, by the words and the views of all seats, once a pass was made: the lent book lies in its slot; its trie
+/// is lawful and holds exactly the routes left by its journal; the journal is lawful; and what each pass away has seen
+/// begins it, with no entry of that pass's feed behind.
+///
+/// Of these clauses `exclusion`, `home` and `since` are the lock's, of such a moment alone; `holds` and `lawful` are true
+/// of every lent book, whose type keeps them.
 pub fn running<const L: u32>()
     requires { 1 ≤ L }
-    ensures { (s : Moment) (lent : Lent) → Rule Grows L s → IsHome s lent → IsExplained s lent }
+    ensures { (s : Moment) → Rule Grows L s → MeetsHeadline s }
 {
     rule::<Lent, L>();
-    left_by_entry();
 }

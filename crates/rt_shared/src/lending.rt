@@ -1,6 +1,6 @@
 //! What a feed does to the lent book.
 ghost use Rattle.std.specs.Prelude.{◌≡◌, ℕ, ◌+◌, ◌<◌, ◌≤◌, IfOk, OnErr, [], ◌∷◌, ◌++◌, vec_len, vec_capacity, length};
-ghost use Rattle.rt_rib.specs.Book.{Applies, IsLimit};
+ghost use Rattle.rt_rib.specs.Book.{Applies, Refuses, IsLimit};
 ghost use Rattle.rt_shared.specs.Visits.{answered, AreServed};
 ghost use Rattle.rt_shared.specs.Lent.{Grows, Adds, IsSameBut};
 ghost use Rattle.rt_shared.specs.Keeping.{grows_same, adds_same, grows_by_other};
@@ -28,7 +28,9 @@ impl Lent {
     // An empty book for so many feeds.
     pub(crate) fn new(alloc: Global, limit: u32, feeds: u32) -> Lent
         requires { IsLimit limit × (feeds ≤ 64) }
-        ensures { (result.book ≡ record { limit = limit; journal = [] }) × (result.feeds ≡ feeds) }
+        ensures limit { result.book.limit ≡ limit }
+        ensures journal { result.book.journal ≡ [] }
+        ensures feeds { result.feeds ≡ feeds }
     {
         lawful_by_entry();
         Lent {
@@ -42,7 +44,7 @@ impl Lent {
         requires { (1 ≤ feed) × (feed ≤ self.old.feeds) }
         ensures feeds { self.new.feeds ≡ self.old.feeds }
         ensures ok { IfOk result (λ reply. Applies self.old.book self.new.book feed cmd reply) }
-        ensures err { OnErr result (self.new.book ≡ self.old.book) }
+        ensures err { OnErr result (Refuses self.old.book self.new.book cmd) }
     {
         lawful_by_entry();
         self.book.apply(feed, cmd)

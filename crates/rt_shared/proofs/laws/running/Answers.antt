@@ -1,9 +1,17 @@
-use Rattle.rt_shared.proofs.Runs.{leaves_table}
 use Rattle.rt_shared.proofs.laws.running.Goals as goal
 
 pub returns : goal.returns
-returns g c = λ s lent holds home. record {
-  lawful = lent.lawful;
-  table = leaves_table c.left_by_entry.ensures lent.book.limit lent.book.journal;
-  since = λ seat place seen away. (((c.rule.ensures s holds).fresh seat place seen lent away).0 home).since;
-}
+returns g c = λ s holds.
+    let lock = c.rule.ensures s holds in
+    record {
+      exclusion = lock.exclusion;
+      at_rest = λ pass none.
+          let home = lock.value.1 pass.0 pass.1 pass.2.0 pass.2.1.0 pass.2.1.1 none in
+          record {
+            lent = home.0;
+            home = home.1;
+            holds = home.0.holds;
+            lawful = home.0.lawful;
+            since = λ seat place seen away. ((lock.fresh seat place seen home.0 away).0 home.1).since;
+          };
+    }
