@@ -15,6 +15,7 @@ pub mod OrderLemmas
 pub mod PairLemmas
 pub mod PartLemmas
 pub mod RemoveLemmas
+pub mod SiftLemmas
 pub mod StoredLemmas
 pub mod TreeLemmas
 pub mod WalkLemmas

@@ -107,7 +107,7 @@ module _ {V A : Type 0} where
     pub below : IsLawfulBelow mid
     pub root_is : root mid ≡ root old
 
-  made_below_full : (len base : ℕ) (b : Box (FullNode V A) A) (q : Prefix) (w : Option V) (l r : Link V A) → IsKeyOf len base q → b.value.prefix ≡ q
+  pub made_below_full : (len base : ℕ) (b : Box (FullNode V A) A) (q : Prefix) (w : Option V) (l r : Link V A) → IsKeyOf len base q → b.value.prefix ≡ q
       → b.value.value ≡ w → b.value.left ≡ l → b.value.right ≡ r → AreHalves q l r → IsLawfulTrie l → IsLawfulTrie r
       → IsNode (Full len base b) q w l r × IsLawfulBelow (Full len base b)
   made_below_full len base b q w l r key e f i j h k m = (

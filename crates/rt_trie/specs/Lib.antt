@@ -15,6 +15,7 @@ pub mod Nodes
 pub mod OneProof
 pub mod Tree
 pub mod TreeCode
+pub mod Sifted
 pub mod Trie
 pub mod TrieLends
 pub mod Walks

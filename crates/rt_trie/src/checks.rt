@@ -1,7 +1,9 @@
 //! What the clauses leave open: that insertions succeed, that what is refused changes nothing to be seen, worked
 //! examples, and a long run beside a plain list.
 
-use crate::{Trie, Walk};
+ghost use Rattle.std.specs.Prelude.{nat_eq, false};
+
+use crate::{Sieve, Trie, Walk};
 use linked_list_allocator::LocalHeap;
 use rt_cidr::{Addr, Prefix};
 use std::alloc::{Allocator, Global};
@@ -477,6 +479,16 @@ impl PlainList {
         Some(self.pairs.remove(k).1)
     }
 
+    fn retain(&mut self, rt: &impl Abort, alloc: Global, sieve: &mut impl Sieve<u32>) {
+        let mut kept = Vec::new(alloc);
+        for pair in &mut self.pairs {
+            if sieve.is_done() || sieve.keeps(pair.0, &mut pair.1) {
+                kept.push(*pair).expect(rt, "memory");
+            }
+        }
+        self.pairs = kept;
+    }
+
     fn longest(&self, a: Addr) -> Option<(Prefix, u32)> {
         let mut best: Option<(Prefix, u32)> = None;
         for pair in &self.pairs {
@@ -537,6 +549,136 @@ fn random_changes_beside_a_sorted_list(rt: HostRuntime) {
             assert_eq!(&rt; longest(&trie, a), list.longest(a));
         }
     }
+}
+
+// Numbers each pair that it is shown, and keeps one of four of them, by lot, until it was shown so many.
+#[derive(Drop)]
+struct Lots {
+    seed: u64,
+    left: u32,
+}
+
+impl Sieve<u32> for Lots {
+    ghost done = { λ s. nat_eq s.left 0 };
+
+    ghost judges = { λ s p v t w stays. Unit {0} };
+
+    fn is_done(&self) -> bool {
+        self.left == 0
+    }
+
+    fn keeps(&mut self, prefix: Prefix, value: &mut u32) -> bool {
+        self.left -= 1;
+        self.seed = next_number(self.seed ^ u64::from(prefix.base()));
+        *value = self.left;
+        self.seed >> 40 & 3 == 0
+    }
+}
+
+// Sieves both, from one seed and to one end.
+fn sieve_both<A: Allocator + Copy>(
+    rt: &impl Abort,
+    alloc: Global,
+    trie: &mut Trie<u32, A>,
+    list: &mut PlainList,
+    seed: u64,
+    left: u32,
+) {
+    let mut one = Lots { seed, left };
+    let mut other = Lots { seed, left };
+    trie.retain(&mut one);
+    list.retain(rt, alloc, &mut other);
+    assert_eq!(rt; (one.seed, one.left), (other.seed, other.left));
+    assert_pairs(rt, trie, &list.pairs);
+}
+
+#[test]
+fn sieves_beside_a_sorted_list(rt: HostRuntime) {
+    let mut trie = Trie::new(rt.alloc());
+    let mut list = PlainList {
+        pairs: Vec::new(rt.alloc()),
+    };
+    let mut seed = 5u64;
+    for step in 0..6_000u32 {
+        seed = next_number(seed);
+        let bits = (seed >> 33) as u32;
+        let p = covering(&rt, (seed >> 16 & 0xe1c0_0307) as u32, bits);
+        change_both(&rt, &mut trie, &mut list, p, Some(step));
+        if step % 60 == 59 {
+            // Some stop before the end, and some see all.
+            sieve_both(&rt, rt.alloc(), &mut trie, &mut list, seed, bits & 0x7f);
+        }
+    }
+    sieve_both(&rt, rt.alloc(), &mut trie, &mut list, seed, 0);
+}
+
+// Gives up all but the prefixes of one length.
+#[derive(Drop)]
+struct OfLength {
+    len: u8,
+}
+
+impl<V> Sieve<V> for OfLength {
+    ghost done = { λ s. false };
+
+    ghost judges = { λ s p v t w stays. Unit {0} };
+
+    fn is_done(&self) -> bool {
+        false
+    }
+
+    fn keeps(&mut self, prefix: Prefix, _value: &mut V) -> bool {
+        prefix.len() == self.len
+    }
+}
+
+#[test]
+fn a_sieve_needs_no_memory(rt: HostRuntime) -> Result<(), Fail> {
+    let heap = LocalHeap::new(rt.alloc(), 2_048)?;
+    let mut trie: Trie<u32, &LocalHeap> = Trie::new(&heap);
+    let texts = [
+        "0.0.0.0/0",
+        "10.0.0.0/8",
+        "10.1.0.0/16",
+        "10.1.2.0/24",
+        "10.2.0.0/16",
+        "192.0.2.0/24",
+    ];
+    let pairs = numbered(&rt, rt.alloc(), &texts);
+    put_all(&rt, &mut trie, &pairs);
+    let mut blocks = Vec::new(rt.alloc());
+    take_the_rest(&rt, &heap, &mut blocks);
+    trie.retain(&mut OfLength { len: 16 });
+    assert_counts(&rt, &trie, 2, 3);
+    assert_value(&rt, &trie, prefix(&rt, "10.1.0.0/16"), Some(3));
+    assert_value(&rt, &trie, prefix(&rt, "10.2.0.0/16"), Some(5));
+    take_the_rest(&rt, &heap, &mut blocks);
+    trie.retain(&mut OfLength { len: 8 });
+    assert_counts(&rt, &trie, 0, 0);
+    Ok(())
+}
+
+// Values that lie in a region of their own: what the region has in use are the values that were not dropped.
+#[test]
+fn a_sieve_drops_each_value_that_it_gives_up(rt: HostRuntime) -> Result<(), Fail> {
+    let heap = LocalHeap::new(rt.alloc(), 65_536)?;
+    let one = {
+        let _value = Box::new(&heap, 0u32)?;
+        heap.used()
+    };
+    let mut trie: Trie<Box<u32, &LocalHeap>, Global> = Trie::new(rt.alloc());
+    for k in 1..65u32 {
+        let value = Box::new(&heap, k)?;
+        assert!(&rt; trie.insert(eighth(&rt, k), value).is_ok());
+        let value = Box::new(&heap, k)?;
+        assert!(&rt; trie.insert(covering(&rt, k << 24, 16), value).is_ok());
+    }
+    assert_eq!(&rt; heap.used(), one.wrapping_mul(128));
+    trie.retain(&mut OfLength { len: 16 });
+    assert_eq!(&rt; (trie.len(), heap.used()), (64, one.wrapping_mul(64)));
+    trie.retain(&mut OfLength { len: 32 });
+    assert_eq!(&rt; (trie.len(), heap.used()), (0, 0));
+    Ok(())
 }
 
 // Looks all addresses up together, and compares each answer with that of the address alone.

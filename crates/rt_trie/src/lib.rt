@@ -26,8 +26,10 @@ mod lending;
 mod nodes;
 mod removal;
 mod search;
+mod sifting;
 mod tries;
 mod walks;
 
+pub use sifting::Sieve;
 pub use tries::Trie;
 pub use walks::Walk;

@@ -79,7 +79,7 @@ fn pluck<V: Drop, A: Allocator + Drop>(link: &mut Link<V, A>, nodes: &mut usize)
 
 // Takes away a node that has no value and fewer than two branches; what stands below it moves up.
 #[inline(always)]
-fn splice<V: Drop, A: Allocator + Drop>(link: &mut Link<V, A>, nodes: &mut usize)
+pub(crate) fn splice<V: Drop, A: Allocator + Drop>(link: &mut Link<V, A>, nodes: &mut usize)
     requires lawful { IsLawfulBelow link.old }
     requires counted { count link.old ≤ nodes.old }
     ensures spliced { IsSpliced link.old link.new }

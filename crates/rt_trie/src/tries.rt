@@ -6,9 +6,11 @@ ghost use Rattle.std.specs.Option.{option_copied, option_copied_mut};
 ghost use Rattle.rt_trie.specs.Map.{get, put, erase, first, next_after, pair_copied, IsOrdered, IsLongest, AreLongest};
 ghost use Rattle.rt_trie.specs.Nodes.{CountsNodes};
 ghost use Rattle.rt_trie.specs.Lawful.{IsLawful};
+ghost use Rattle.rt_trie.specs.Sifted.{IsSifted};
 
 use crate::lending::{Descent, WayDown};
 use crate::nodes::Link;
+use crate::sifting::{self, Sieve};
 use crate::walks::Walk;
 use crate::{insertion, removal, search};
 use rt_cidr::{Addr, Prefix};
@@ -126,6 +128,15 @@ impl<V: Drop, A: Allocator + Copy> Trie<V, A> {
             self.len -= 1;
         }
         gone
+    }
+
+    /// Shows the sieve the pairs, each once, by base and then by length, until it is done, and takes out those that it gives
+    /// up. The others stay, each with the value that the sieve made of it. It takes no memory, and visits each node once.
+    pub fn retain<S: Sieve<V>>(&mut self, sieve: &mut S)
+        ensures sifted { IsSifted S.done S.judges sieve.old sieve.new self.old.pairs self.new.pairs }
+        ensures ordered { IsOrdered self.new.pairs }
+    {
+        sifting::retain(&mut self.root, &mut self.nodes, &mut self.len, sieve);
     }
 
     /// The stored prefix of the greatest length among those that cover the address, with its value (RFC 1812, section

@@ -1,0 +1,101 @@
+use Rattle.std.proofs.Common.{◌≡◌, ◌+◌, ◌++◌, None, length, sym, ap, ◌∙◌, arith, length-append}
+use Rattle.rt_trie.specs.Links.{pairs, own_pair}
+use Rattle.rt_trie.proofs.SiftLemmas.{IsHalfSifted, sifted_none, sifted_done, link_same, leaf_goes, leaf_stays, half_fork, half_full, sifted_of, node_length}
+use Rattle.rt_trie.proofs.LinkLemmas.{of_fork, of_full, view_fork}
+use Rattle.rt_trie.proofs.sifting.+retain.Goals as goal
+use Rattle.rt_trie.proofs.sifting.+retain.Goals.{in-Fork, in-Full}
+
+pub returns-then-is_done-clause-sifted : goal.returns-then-is_done-clause-sifted
+returns-then-is_done-clause-sifted g t c =
+    let done = g.S.Sieve.done in
+    let judges = g.S.Sieve.judges in
+    link_same done judges c.args.sieve.now c.args.link.now c.requires.lawful
+    (sifted_done done judges c.args.sieve.now (pairs c.args.link.now) (sym c.is_done.ensures ∙ c.if-is_done.true))
+
+pub returns-in-Empty-clause-sifted : goal.returns-in-Empty-clause-sifted
+returns-in-Empty-clause-sifted g t c =
+    let done = g.S.Sieve.done in
+    let judges = g.S.Sieve.judges in
+    link_same done judges c.args.sieve.now c.args.link.now c.requires.lawful (rw c.in-Empty.is (sifted_none done judges c.args.sieve.now))
+
+pub returns-then-not-keeps-clause-sifted : goal.returns-then-not-keeps-clause-sifted
+returns-then-not-keeps-clause-sifted g t c =
+    leaf_goes g.S.Sieve.done g.S.Sieve.judges c.args.sieve.now c.keeps.new.self c.in-Leaf.leaf c.args.link.now c.keeps.new.value c.in-Leaf.is
+    (sym c.is_done.ensures ∙ c.if-is_done.false)
+    (rw (c.deref.ensures, c.deref_mut.ensures.value, c.if-not-keeps.true) at c.keeps.ensures)
+
+pub returns-else-not-keeps-clause-sifted : goal.returns-else-not-keeps-clause-sifted
+returns-else-not-keeps-clause-sifted g t c =
+    leaf_stays g.S.Sieve.done g.S.Sieve.judges c.args.sieve.now c.keeps.new.self c.in-Leaf.leaf c.deref_mut.result.now c.args.link.now c.keeps.new.value c.in-Leaf.is
+    c.deref_mut.ensures.value c.requires.lawful (sym c.is_done.ensures ∙ c.if-is_done.false)
+    (rw (c.deref.ensures, c.deref_mut.ensures.value, c.if-not-keeps.false) at c.keeps.ensures)
+
+pub splice-requires-clause-lawful : goal.splice-requires-clause-lawful
+splice-requires-clause-lawful g t c =
+    let done = g.S.Sieve.done in
+    let judges = g.S.Sieve.judges in
+    let old = c.args.link.now in
+    let s = c.args.sieve.now in
+    elim c.match-link.branch [
+      | in-Fork w ↦
+          let m = w.as_mut-fork.result.now in
+          rw w.link-is (IsHalfSifted.below (half_fork done judges s w.retain.new.sieve w.retain-in-Fork.new.sieve old m.prefix m.left m.right
+          w.retain.new.link w.retain-in-Fork.new.link _
+          (view_fork w.in-Fork.fork m old w.in-Fork.is w.as_mut-fork.ensures.value c.requires.lawful.0) w.retain.ensures.sifted w.retain-in-Fork.ensures.sifted))
+      | in-Full w ↦
+          let m = w.as_mut-full.result.now in
+          rw w.link-is (IsHalfSifted.below (half_full done judges s w.retain_own.new.sieve w.retain-in-Full.new.sieve w.retain-in-Full-2.new.sieve w.in-Full.full m old
+          w.retain_own.new.value w.retain-in-Full.new.link w.retain-in-Full-2.new.link w.in-Full.is w.as_mut-full.ensures.value c.requires.lawful
+          w.retain_own.ensures.sifted w.retain-in-Full.ensures.sifted w.retain-in-Full-2.ensures.sifted))
+    ]
+
+pub returns-clause-sifted : goal.returns-clause-sifted
+returns-clause-sifted g t c =
+    let done = g.S.Sieve.done in
+    let judges = g.S.Sieve.judges in
+    let old = c.args.link.now in
+    let s = c.args.sieve.now in
+    let half : IsHalfSifted done judges s c.match-link.sieve old c.match-link.link = elim c.match-link.branch [
+      | in-Fork w ↦
+          let m = w.as_mut-fork.result.now in
+          rw (w.link-is, w.sieve-is) (half_fork done judges s w.retain.new.sieve w.retain-in-Fork.new.sieve old m.prefix m.left m.right
+          w.retain.new.link w.retain-in-Fork.new.link _
+          (view_fork w.in-Fork.fork m old w.in-Fork.is w.as_mut-fork.ensures.value c.requires.lawful.0) w.retain.ensures.sifted w.retain-in-Fork.ensures.sifted)
+      | in-Full w ↦
+          let m = w.as_mut-full.result.now in
+          rw (w.link-is, w.sieve-is) (half_full done judges s w.retain_own.new.sieve w.retain-in-Full.new.sieve w.retain-in-Full-2.new.sieve w.in-Full.full m old
+          w.retain_own.new.value w.retain-in-Full.new.link w.retain-in-Full-2.new.link w.in-Full.is w.as_mut-full.ensures.value c.requires.lawful
+          w.retain_own.ensures.sifted w.retain-in-Full.ensures.sifted w.retain-in-Full-2.ensures.sifted)
+    ] in
+    sifted_of done judges s c.match-link.sieve old c.match-link.link c.splice.new.link half c.splice.ensures.spliced
+
+pub returns-clause-len : goal.returns-clause-len
+returns-clause-len g t c =
+    let old = c.args.link.now in
+    let whole : c.match-link.len + length (pairs old) ≡ c.args.len.now + length (pairs c.match-link.link) = elim c.match-link.branch [
+      | in-Fork w ↦
+          let m = w.as_mut-fork.result.now in
+          let node = of_fork w.in-Fork.fork m old w.in-Fork.is w.as_mut-fork.ensures.value c.requires.lawful.0 in
+          rw (w.link-is, w.len-is) (omega (
+            arith,
+            node_length old m.prefix None m.left m.right node,
+            w.retain.ensures.len,
+            w.retain-in-Fork.ensures.len,
+            length-append (pairs w.retain.new.link) (pairs w.retain-in-Fork.new.link),
+          ))
+      | in-Full w ↦
+          let m = w.as_mut-full.result.now in
+          let node = of_full w.in-Full.full m old w.in-Full.is w.as_mut-full.ensures.value c.requires.lawful.0 in
+          let l = pairs w.retain-in-Full.new.link in
+          let r = pairs w.retain-in-Full-2.new.link in
+          rw (w.link-is, w.len-is) (omega (
+            arith,
+            node_length old m.prefix m.value m.left m.right node,
+            w.retain_own.ensures.len,
+            w.retain-in-Full.ensures.len,
+            w.retain-in-Full-2.ensures.len,
+            length-append (own_pair m.prefix w.retain_own.new.value) (l ++ r),
+            length-append l r,
+          ))
+    ] in
+    omega (arith, whole, ap length c.splice.ensures.spliced.pairs_are)

@@ -1,0 +1,33 @@
+-- What is left of a map once a sieve was shown its pairs.
+use Rattle.std.specs.Prelude.{◌≡◌, Bool, true, false, IsTrue, [], ◌∷◌, ◌⊎◌}
+use Rattle.rt_cidr.specs.declared.prefixes.Prefix.{Prefix}
+use Rattle.rt_trie.specs.declared.nodes.Link.{Link}
+use Rattle.rt_trie.specs.Map.{Pairs}
+use Rattle.rt_trie.specs.Links.{pairs, IsLawfulTrie}
+use Rattle.rt_trie.specs.Changes.{StaysChild}
+
+-- what is left, with the pair before it or without
+abbrev pub with_pair : {V : Type 0} → Bool → Prefix → V → Pairs V → Pairs V
+with_pair true p v rest = (p, v) ∷ rest
+with_pair false p v rest = rest
+
+module _ {V S : Type 0} (is_done : S → Bool) (judges : S → Prefix → V → S → V → Bool → Type 0) where
+  -- the sieve was shown the pair and went from s to t; with the value that it made of it the pair stays, or it goes
+  pub record IsJudged (s t : S) (p : Prefix) (v : V) (rest new : Pairs V) : Type 0 where
+    pub made : V
+    pub stays : Bool
+    pub judged : judges s p v t made stays
+    pub left : new ≡ with_pair stays p made rest
+
+  -- the pairs were shown to the sieve one by one, until it was done: it went from s to t, and `new` is what is left
+  abbrev pub IsSifted : S → S → Pairs V → Pairs V → Type 0
+  IsSifted s t [] new = (t ≡ s) × (new ≡ [])
+  IsSifted s t ((p, v) ∷ rest) new =
+      (IsTrue (is_done s) × (t ≡ s) × (new ≡ (p, v) ∷ rest))
+      ⊎ ((is_done s ≡ false) × (next : S) × (left : Pairs V) × IsJudged s next p v left new × IsSifted next t rest left)
+
+  -- the pairs of the link were: it is lawful, and a child on each side where it was one
+  pub record IsSiftedLink {A : Type 0} (s t : S) (old new : Link V A) : Type 0 where
+    pub sifted : IsSifted s t (pairs old) (pairs new)
+    pub lawful : IsLawfulTrie new
+    pub stays : StaysChild old new
