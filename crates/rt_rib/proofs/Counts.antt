@@ -1,7 +1,7 @@
 -- The counts of a table's routes, as routes come and go.
 use Rattle.std.proofs.Common.{◌≡◌, ℕ, ◌+◌, ◌-◌, ◌*◌, ◌<◌, ◌≤◌, Bool, true, false, not, cond, eqb, List, [], ◌∷◌, length, length-append, get_or, replicate, refl, sym, subst, ap, ◌∙◌, get_or-set_same, get_or-set_other, inl, inr, arith}
 use Rattle.std.proofs.Math.ListN.{set, length-set}
-use Rattle.std.proofs.lemmas.Bool.{cases_eq, eq-eqb, ne_eqb, cases_Bool, both_ways, false_from_ne_true, cond-true, cond-false}
+use Rattle.std.proofs.lemmas.Bool.{cases_eq, eq-eqb, ne_eqb, cases_Bool, both_ways, false_from_ne_true, not_from_false, eqb-true, cond-true, cond-false}
 use Rattle.std.proofs.lemmas.List.Sums.{sum_by-cons, sum_by-set, sum_by-le, sum_by-append, length-filter}
 use Rattle.std.proofs.lemmas.List.Filters.{sum_by-filter_both}
 use Rattle.std.proofs.lemmas.List.Folds.{Any-from_list_any}
@@ -9,7 +9,7 @@ use Rattle.std.proofs.lemmas.List.{get_or_default, get_or-replicate, length-repl
 use Rattle.std.specs.List.{All, Contains, filter, count_by}
 use Rattle.rt_cidr.specs.declared.prefixes.Prefix.{Prefix}
 use Rattle.rt_rib.specs.declared.routes.Route.{Route}
-use Rattle.rt_rib.specs.Table.{count_of, precedes, is_of, has, put_in, take_out, IsTable}
+use Rattle.rt_rib.specs.Table.{count_of, precedes, is_of, has, put_in, take_out, purge, IsTable}
 use Rattle.rt_rib.specs.Book.{IsFeed}
 use Rattle.rt_rib.specs.Kept.{AreCounts}
 use Rattle.rt_rib.proofs.Lists.{list_any-from_none}
@@ -63,7 +63,7 @@ module _ {X : Type 0} (p : X → Bool) where
       ]
 
   -- those that pass a test, and those that fail it
-  count-both : (xs : List X) → length xs ≡ length (filter (λ x. not (p x)) xs) + count_by p xs
+  pub count-both : (xs : List X) → length xs ≡ length (filter (λ x. not (p x)) xs) + count_by p xs
   count-both [] = refl
   count-both (x ∷ xs) =
       let rest = count-both xs in
@@ -193,6 +193,38 @@ module _ (limit : ℕ) (counts : List ℕ) (t u : List Route) (own : ℕ) (insid
         let fewer = more.own in
         omega arith;
   }
+
+  -- the feed's count is none, where all of its routes went
+  pub AreCounts-purged : AreCounts limit counts t → u ≡ purge (own + 1) t → AreCounts limit (set counts own 0) u
+  AreCounts-purged h is =
+      let p : Route → Bool = λ r. eqb r.feed (own + 1) in
+      record {
+        many = length-set counts own 0 ∙ many;
+        each = λ i l. elim (cases_eq i own) [
+          | inl same ↦
+              ap (λ k. get_or (set counts own 0) k 0) same ∙ get_or-set_same counts own 0 0 (omega arith)
+              ∙ sym (ap (λ k. count_of (k + 1) u) same ∙ ap (count_of (own + 1)) is ∙ count-failing p t)
+          | inr other ↦
+              get_or-set_other counts own i 0 0 other ∙ h.each i l
+              ∙ sym (ap (count_of (i + 1)) is ∙ count-kept_whole (λ r. not (p r)) (λ r. eqb r.feed (i + 1)) (λ r e.
+              not_from_false (p r) (ne_eqb r.feed (own + 1) (λ same. other (let mine = eqb-true r.feed (i + 1) e in omega arith)))) t)
+        ];
+        within = λ i l. elim (cases_eq i own) [
+          | inl same ↦
+              let there = get_or-set_same counts own 0 0 (omega arith) in
+              let at = ap (λ k. get_or (set counts own 0) k 0) same in
+              omega arith
+          | inr other ↦ let there = get_or-set_other counts own i 0 0 other in let low = h.within i l in omega arith
+        ];
+        all = omega (
+          arith,
+          sum_by-set (λ x. x) counts own 0 0 (omega arith),
+          h.all,
+          h.each own inside,
+          count-both p t,
+          ap length is,
+        );
+      }
 
 -- as many routes of each feed
 pub AreCounts-same : (limit : ℕ) (counts : List ℕ) (t u : List Route) → AreCounts limit counts t → ((feed : ℕ) → count_of feed u ≡ count_of feed t) → length u ≡ length t → AreCounts limit counts u

@@ -4,9 +4,9 @@ use Rattle.std.proofs.Math.ListN.{set}
 use Rattle.std.proofs.lemmas.List.Elements.{All-push}
 use Rattle.rt_cidr.specs.declared.prefixes.Prefix.{Prefix}
 use Rattle.rt_rib.specs.declared.routes.Route.{Route}
-use Rattle.rt_rib.specs.declared.commands.Cmd.TheVariants.{Add}
-use Rattle.rt_rib.specs.declared.commands.Reply.TheVariants.{Added}
-use Rattle.rt_rib.specs.Table.{has, put_in, take_out, IsTable}
+use Rattle.rt_rib.specs.declared.commands.Cmd.TheVariants.{Add, Purge}
+use Rattle.rt_rib.specs.declared.commands.Reply.TheVariants.{Added, Purged}
+use Rattle.rt_rib.specs.Table.{has, put_in, take_out, purge, IsTable}
 use Rattle.rt_rib.specs.Maps.{Map, routes_of, IsMap}
 use Rattle.rt_rib.specs.Book.{IsFeed, HoldsRoutesLeft}
 use Rattle.rt_rib.specs.Kept.{Held, Stored, held_of, IsCounted, IsKept, IsStored, Serves}
@@ -16,9 +16,9 @@ use Rattle.rt_rib.specs.declared.commands.Entry.{Entry}
 use Rattle.rt_rib.specs.Sequential.{reply_of, table_after}
 use Rattle.rt_rib.specs.Journal.{table_left}
 use Rattle.rt_rib.proofs.Journals.{IsLawfulJournal-push, table_left-push}
-use Rattle.rt_rib.proofs.Tables.{IsTable-put_in, IsTable-take_out, has-take_out}
-use Rattle.rt_rib.proofs.Counts.{HasMore, HasMore-put_in, HasMore-take_out, HasMore-both, AreCounts-more, AreCounts-less, AreCounts-same, AreCounts-own}
-use Rattle.rt_rib.proofs.Steps.{held, added}
+use Rattle.rt_rib.proofs.Tables.{IsTable-put_in, IsTable-take_out, IsTable-purge, has-take_out}
+use Rattle.rt_rib.proofs.Counts.{HasMore, HasMore-put_in, HasMore-take_out, HasMore-both, AreCounts-more, AreCounts-less, AreCounts-purged, AreCounts-same, AreCounts-own}
+use Rattle.rt_rib.proofs.Steps.{held, added, purged}
 
 -- the feed's place among the counts
 own_place : (feed : ℕ) → IsFeed feed → (feed - 1 < 64) × (feed ≡ feed - 1 + 1)
@@ -79,6 +79,22 @@ module _ (limit : ℕ) (counts : List ℕ) (m : Map) (h : IsCounted limit counts
           table = subst IsTable (sym is) (IsTable-put_in r rest (has-take_out r.feed r.prefix (routes_of m)) (IsTable-take_out r.feed r.prefix (routes_of m) h.table));
           counted = AreCounts-same limit counts (routes_of m) (routes_of n) h.counted (HasMore-both r.feed rest (routes_of m) (routes_of n) less more) (more.all ∙ sym less.all);
         }
+
+  module _ (feed : ℕ) (is_feed : IsFeed feed) (n : Map) (map : IsMap n) (is : routes_of n ≡ purge feed (routes_of m)) where
+    -- without the feed's routes it is a table, and its count is none
+    pub purged_counted : IsCounted limit (set counts (feed - 1) 0) n
+    purged_counted =
+        let own = own_place feed is_feed in
+        record {
+          limited = h.limited;
+          map = map;
+          table = subst IsTable (sym is) (IsTable-purge feed (routes_of m) h.table);
+          counted = AreCounts-purged limit counts (routes_of m) (routes_of n) (feed - 1) own.0 many h.counted (is ∙ ap (λ f. purge f (routes_of m)) own.1);
+        }
+
+    -- and that is what the sequential table does
+    pub purged_serves : Serves (held limit (routes_of m)) (held limit (routes_of n)) feed Purge (Purged (get_or counts (feed - 1) 0))
+    purged_serves = purged limit (routes_of m) feed (get_or counts (feed - 1) 0) (AreCounts-own limit counts (routes_of m) feed h.counted is_feed) (routes_of n) is
 
 -- a map that is as it was
 pub kept_counted : (limit : ℕ) (counts : List ℕ) (m n : Map) → IsCounted limit counts m → n ≡ m → IsCounted limit counts n

@@ -14,7 +14,6 @@ pub mod Feeds
 pub mod Best
 pub mod OfferLists
 pub mod MapRoutes
-pub mod MapOrder
 pub mod Purges
 pub mod MapChanges
 pub mod MapLookUps

@@ -9,7 +9,7 @@ use Rattle.std.proofs.lemmas.List.Sums.{fails_before_first}
 use Rattle.std.specs.List.{All, AllPairs, AllWithin, Contains, filter, insert, remove, list_any, position, position_or_len}
 use Rattle.std.specs.Prelude.{is_some, Option}
 use Rattle.rt_rib.specs.declared.offers.Offer.{Offer}
-use Rattle.rt_rib.specs.Offers.{outranks, is_from, IsRising, IsPlaceFor, HasGained, HasLost, HasSwapped}
+use Rattle.rt_rib.specs.Offers.{outranks, is_from, IsRising, IsPlaceFor, HasGained, HasSwapped, without}
 use Rattle.rt_rib.proofs.Lists.{AllPairs-head, AllPairs-tail, filter-all, list_any-from_none, list_any-at}
 use Rattle.rt_rib.proofs.Order.{below_then-false, below_then-less, below_then-same, below_then-trans}
 use Rattle.rt_rib.proofs.Sets.{Contains-head, Contains-tail, Contains-cases, Contains-none, filter-keeps, filter-from}
@@ -79,6 +79,10 @@ module _ {X : Type 0} where
     by_place : (o : Option ℕ) → position p xs ≡ o → is_some o ≡ list_any p xs
     by_place None e = sym (position-none p xs e)
     by_place (Some i) e = sym (position-some p xs i e).1
+
+-- the new offers are the old ones but for the feed's
+abbrev pub HasLost : List Offer → List Offer → ℕ → Type 0
+HasLost old new feed = (o : Offer) → Contains new o ↔ (Contains old o × (is_from feed o ≡ false))
 
 -- what outranks one that outranks a third outranks that
 pub outranks-trans : (a b c : Offer) → outranks a b ≡ true → outranks b c ≡ true → outranks a c ≡ true
@@ -166,18 +170,21 @@ without-is feed (x ∷ offers) (suc i) d single within is =
     cond-true (not (is_from feed x)) (x ∷ filter (λ o. not (is_from feed o)) offers) (filter (λ o. not (is_from feed o)) offers) (not_from_false (is_from feed x) other)
     ∙ ap (λ z. x ∷ z) (without-is feed offers i d (AllPairs-tail (λ a b. is_from b.feed a ≡ false) x offers single) (omega arith) is)
 
-module _ (feed : ℕ) (offers : List Offer) (h : IsRising offers) (place : ℕ) (found : position (is_from feed) offers ≡ Some place) where
-  -- the offer at the place of the feed's is taken out: that is what is lost
-  pub lost : HasLost offers (remove offers place) feed
-  lost o =
-      let at = position-Some (is_from feed) offers place o found in
-      let other = λ (x : Offer). not (is_from feed x) in
-      let same : filter other offers ≡ remove offers place = without-is feed offers place o h.single at.0 at.1 in (
-        (λ c. let both = filter-from other offers o (subst (λ l. Contains l o) (sym same) c) in (both.0, not-true (is_from feed o) both.1)),
-        (λ c. subst (λ l. Contains l o) same (filter-keeps other offers o c.0 (not_from_false (is_from feed o) c.1))),
-      )
+-- the offer at the place of the feed's is taken out: the others are left
+pub left_is : (feed : ℕ) (offers : List Offer) → IsRising offers → (place : ℕ) → position (is_from feed) offers ≡ Some place → remove offers place ≡ without feed offers
+left_is feed [] h place found = cc
+left_is feed (x ∷ offers) h place found = let at = position-Some (is_from feed) (x ∷ offers) place x found in sym (without-is feed (x ∷ offers) place x h.single at.0 at.1)
 
-  -- so none of the feed is left
+-- what is left contains the others
+pub lost : (feed : ℕ) (old new : List Offer) → new ≡ without feed old → HasLost old new feed
+lost feed old new same o =
+    let other = λ (x : Offer). not (is_from feed x) in (
+      (λ c. let both = filter-from other old o (subst (λ l. Contains l o) same c) in (both.0, not-true (is_from feed o) both.1)),
+      (λ c. subst (λ l. Contains l o) (sym same) (filter-keeps other old o c.0 (not_from_false (is_from feed o) c.1))),
+    )
+
+module _ (feed : ℕ) (offers : List Offer) (h : IsRising offers) (place : ℕ) (found : position (is_from feed) offers ≡ Some place) where
+  -- none of the feed is left
   pub none_left : All (λ o. is_from feed o ≡ false) (remove offers place)
   none_left k d l =
       let at = position-Some (is_from feed) offers place d found in

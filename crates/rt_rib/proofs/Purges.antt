@@ -1,68 +1,31 @@
--- A feed's routes taken out prefix by prefix.
-use Rattle.std.proofs.Common.{◌≡◌, ℕ, ◌+◌, ◌-◌, ◌*◌, ◌^◌, ◌<◌, Bool, true, false, not, cond, eqb, ltb, List, [], ◌∷◌, get_or, Option, Some, None, refl, ap, ◌∙◌, sym, subst, inl, inr, arith}
-use Rattle.std.specs.Prelude.{◌&&◌}
-use Rattle.std.specs.List.{Contains, filter, count_by}
-use Rattle.std.proofs.lemmas.Bool.{cases_Bool, both_ways, cond-true, cond-false, false_from_ne_true, not_from_false, and_from, eq-eqb, ltb-true, ltb-false, lt-ltb}
-use Rattle.std.proofs.lemmas.List.Elements.{All-weaker, Contains-get_or}
-use Rattle.std.proofs.lemmas.List.Sums.{sum_by-cons}
+-- A feed's routes taken out of the map in one walk.
+use Rattle.std.proofs.Common.{◌≡◌, ℕ, zero, suc, ◌+◌, ◌-◌, Bool, true, false, not, cond, eqb, List, [], ◌∷◌, ◌++◌, length, get_or, refl, ap, ◌∙◌, sym, subst, inl, inr, arith, map}
+use Rattle.std.specs.List.{Contains, count_by}
+use Rattle.std.proofs.lemmas.Bool.{cases_Bool, cond-true, cond-false, not_from_false, eqb-true}
+use Rattle.std.proofs.lemmas.List.Elements.{Contains-get_or, filter-append}
+use Rattle.std.proofs.lemmas.List.Sums.{sum_by-cons, sum_by-append}
 use Rattle.rt_cidr.specs.declared.prefixes.Prefix.{Prefix}
-use Rattle.rt_cidr.specs.Prefix.{same_prefix}
-use Rattle.rt_trie.specs.Map.{before}
+use Rattle.rt_trie.specs.Map.{IsOrdered}
+use Rattle.rt_trie.specs.Sifted.{with_pair, IsSifted}
 use Rattle.rt_rib.specs.declared.routes.Route.{Route}
-use Rattle.rt_rib.specs.declared.commands.Cmd.TheVariants.{Withdraw, Purge}
-use Rattle.rt_rib.specs.declared.commands.Reply.TheVariants.{Purged}
-use Rattle.rt_rib.specs.Table.{is_of, has, count_of, take_out, purge}
-use Rattle.rt_rib.specs.Maps.{IsFirst, IsNext}
-use Rattle.rt_rib.specs.Sequential.{reply_of, table_after}
-use Rattle.rt_rib.specs.Kept.{Held, Serves}
+use Rattle.rt_rib.specs.declared.offers.Offer.{Offer}
+use Rattle.rt_rib.specs.declared.offers.Taken.TheVariants.{Missing, Last, Gone}
+use Rattle.rt_rib.specs.declared.purge.Purging.{Purging}
+use Rattle.rt_rib.specs.Offers.{is_from, without, IsOffers, TakesOut}
+use Rattle.rt_rib.specs.Purges.{is_over, AreOthers, IsPurged}
+use Rattle.rt_rib.specs.Table.{count_of, purge}
+use Rattle.rt_rib.specs.Maps.{Map, route_by, routes_of, IsMap, MapLaws}
+use Rattle.rt_rib.proofs.Counts.{count-both}
 use Rattle.rt_rib.proofs.Lists.{filter-all, list_any-none}
-use Rattle.rt_rib.proofs.Order.{below_then-true, below_then-false, below_then-less, below_then-same}
-use Rattle.rt_rib.proofs.Steps.{held}
-use Rattle.rt_rib.proofs.Sets.{Contains-cases, Contains-none, take_out_leaves_others}
-
--- the route's prefix doesn't come before the one at which a purge goes on; where it ends there is no such route
-abbrev pub IsAhead : Option Prefix → Route → Type 0
-IsAhead None r = ⊥
-IsAhead (Some p) r = before r.prefix p ≡ false
-
--- all the feed's routes that are left are ahead
-abbrev pub HasPassed : ℕ → List Route → Option Prefix → Type 0
-HasPassed feed routes next = (r : Route) → Contains routes r → eqb r.feed feed ≡ true → IsAhead next r
-
--- at most so many prefixes are left
-abbrev pub left_of : Option Prefix → ℕ
-left_of None = 0
-left_of (Some p) = 2 ^ 39 - (p.base * 64 + p.len) + 1
-
--- what a filter keeps of what another one keeps all of
-filter-filter : {X : Type 0} (p q : X → Bool) → ((x : X) → p x ≡ true → q x ≡ true) → (xs : List X) → filter p (filter q xs) ≡ filter p xs
-filter-filter p q only [] = refl
-filter-filter p q only (x ∷ xs) =
-    let rest = filter-filter p q only xs in
-    elim (cases_Bool (q x)) [
-      | inl stays ↦ ap (filter p) (cond-true (q x) (x ∷ filter q xs) (filter q xs) stays) ∙ ap (λ z. cond (p x) (x ∷ z) z) rest
-      | inr goes ↦
-          let fails : p x ≡ false = false_from_ne_true (p x) (λ e. both_ways (q x) goes (only x e)) in
-          ap (filter p) (cond-false (q x) (x ∷ filter q xs) (filter q xs) goes) ∙ rest ∙ sym (cond-false (p x) (x ∷ filter p xs) (filter p xs) fails)
-    ]
-
--- a route less of the feed's leaves the same of the others'
-pub purge-take_out : (feed : ℕ) (p : Prefix) (t : List Route) → purge feed (take_out feed p t) ≡ purge feed t
-purge-take_out feed p t =
-    filter-filter (λ (r : Route). not (eqb r.feed feed)) (λ (r : Route). not (is_of feed p r))
-    (λ r other. not_from_false (is_of feed p r) (apart (eqb r.feed feed) (same_prefix r.prefix p) other)) t where
-      -- another feed's route is not this one's
-      apart : (a b : Bool) → not a ≡ true → (a && b) ≡ false
-      apart true b e = cc
-      apart false b e = refl
+use Rattle.rt_rib.proofs.Sets.{Contains-tail, Contains-cases, Contains-none}
 
 -- nothing goes where no route is the feed's
-pub purge-none : (feed : ℕ) (t : List Route) → ((r : Route) → Contains t r → eqb r.feed feed ≡ false) → purge feed t ≡ t
+purge-none : (feed : ℕ) (t : List Route) → ((r : Route) → Contains t r → eqb r.feed feed ≡ false) → purge feed t ≡ t
 purge-none feed t none =
     filter-all (λ (r : Route). not (eqb r.feed feed)) t (λ k d l. not_from_false (eqb (get_or t k d).feed feed) (none (get_or t k d) (Contains-get_or t k d l)))
 
 -- no route is the feed's where it has none by its count
-pub none_counted : (feed : ℕ) (t : List Route) → count_of feed t ≡ 0 → (r : Route) → Contains t r → eqb r.feed feed ≡ false
+none_counted : (feed : ℕ) (t : List Route) → count_of feed t ≡ 0 → (r : Route) → Contains t r → eqb r.feed feed ≡ false
 none_counted feed t none r c = none_by (λ (x : Route). eqb x.feed feed) t none r c where
   -- the same of any test
   none_by : {X : Type 0} (p : X → Bool) (xs : List X) → count_by p xs ≡ 0 → (x : X) → Contains xs x → p x ≡ false
@@ -76,68 +39,108 @@ none_counted feed t none r c = none_by (λ (x : Route). eqb x.feed feed) t none 
             elim (Contains-cases y xs x d) [ inl here ↦ subst (λ z. p z ≡ false) here fails | inr later ↦ none_by p xs (omega arith) x later ]
       ]
 
--- a prefix that is neither before another nor that one comes after it
-comes_after : (a b : Prefix) → before a b ≡ false → same_prefix a b ≡ false → before b a ≡ true
-comes_after a b e other =
-    elim (below_then-false a.base b.base (ltb a.len b.len) e) [
-      | inl less ↦ below_then-less b.base a.base (ltb b.len a.len) less
-      | inr same ↦
-          let len = ltb-false a.len b.len same.1 in
-          let differ : a.len ≡ b.len → ⊥ = λ l. both_ways (same_prefix a b) other (and_from (eqb a.base b.base) (eqb a.len b.len) (eq-eqb a.base b.base same.0) (eq-eqb a.len b.len l)) in
-          below_then-same b.base a.base (ltb b.len a.len) (sym same.0) (lt-ltb b.len a.len (omega arith))
+-- the feed's routes to one prefix are its offers
+purge-routes : (feed : ℕ) (p : Prefix) (offers : List Offer) → purge feed (map (route_by p) offers) ≡ map (route_by p) (without feed offers)
+purge-routes feed p [] = refl
+purge-routes feed p (o ∷ offers) =
+    let rest = purge-routes feed p offers in
+    elim (cases_Bool (is_from feed o)) [ inl own ↦ rw own rest | inr other ↦ rw other (ap (λ z. route_by p o ∷ z) rest) ]
+
+-- and as many
+count-routes : (feed : ℕ) (p : Prefix) (offers : List Offer) → count_of feed (map (route_by p) offers) ≡ count_by (is_from feed) offers
+count-routes feed p [] = refl
+count-routes feed p (o ∷ offers) =
+    sum_by-cons (λ (r : Route). cond (eqb r.feed feed) 1 0) (route_by p o) (map (route_by p) offers)
+    ∙ ap (λ n. cond (is_from feed o) 1 0 + n) (count-routes feed p offers) ∙ sym (sum_by-cons (λ x. cond (is_from feed x) 1 0) o offers)
+
+-- the routes of a prefix that stays where there are other offers, and of what is left behind it
+kept_routes : (stays : Bool) (p : Prefix) (others made : List Offer) (left : Map) → AreOthers others made stays
+    → routes_of (with_pair stays p made left) ≡ map (route_by p) others ++ routes_of left
+kept_routes true p others made left h = rw h.0 refl
+kept_routes false p others made left h = rw h refl
+
+-- its offers are in order, where those of what is left are
+kept_offers : (stays : Bool) (p : Prefix) (others made : List Offer) (left : Map) → AreOthers others made stays
+    → ((q : Prefix) (offers : List Offer) → Contains left (q, offers) → IsOffers offers)
+    → (q : Prefix) (offers : List Offer) → Contains (with_pair stays p made left) (q, offers) → IsOffers offers
+kept_offers true p others made left h rest q offers c = elim (Contains-cases (p, made) left (q, offers) c) [
+  | inl here ↦ let P : Prefix × List Offer → Type 0 = λ z. IsOffers z.1 in subst P here h.1
+  | inr later ↦ rest q offers later
+]
+kept_offers false p others made left h rest q offers c = rest q offers c
+
+-- what a purge does with a pair that it is shown
+abbrev pub Purges : Purging → Prefix → List Offer → Purging → List Offer → Bool → Type 0
+Purges s p old t new stays = IsPurged s t old new stays
+
+-- a purge that knows how many routes its feed has takes all of them out
+pub purged_routes : (s t : Purging) (m n : Map) → IsSifted is_over Purges s t m n → s.left ≡ count_of s.feed (routes_of m) → routes_of n ≡ purge s.feed (routes_of m)
+purged_routes s t [] n h e = rw h.1 refl
+purged_routes s t ((p, offers) ∷ rest) n h e =
+    let all = routes_of ((p, offers) ∷ rest) in
+    elim h [
+      | inl i ↦
+          let none : count_of s.feed all ≡ 0 = sym e ∙ eqb-true s.left 0 i.0 in
+          rw i.2 (sym (purge-none s.feed all (none_counted s.feed all none)))
+      | inr i ↦
+          let is = i.3.judged in
+          let counted : i.1.left ≡ count_of s.feed (routes_of rest) =
+          omega (arith, is.fewer, e, sum_by-append (λ (r : Route). cond (eqb r.feed s.feed) 1 0) (map (route_by p) offers) (routes_of rest), count-routes s.feed p offers) in
+          let left : routes_of i.2 ≡ purge s.feed (routes_of rest) = rw is.same_feed at (purged_routes i.1 t rest i.2 i.4 (rw is.same_feed counted)) in
+          ap routes_of i.3.left
+          ∙ kept_routes i.3.stays p (without s.feed offers) i.3.made i.2 is.others
+          ∙ ap (λ z. map (route_by p) (without s.feed offers) ++ z) left
+          ∙ ap (λ z. z ++ purge s.feed (routes_of rest)) (sym (purge-routes s.feed p offers))
+          ∙ sym (filter-append (λ (r : Route). not (eqb r.feed s.feed)) (map (route_by p) offers) (routes_of rest))
     ]
 
--- at the first prefix none is passed
-pub passed-first : (feed : ℕ) (t : List Route) (o : Option Prefix) → IsFirst t o → HasPassed feed t o
-passed-first feed t None h = λ r c own. h r c
-passed-first feed t (Some q) h = λ r c own. h r c
-
--- and at the next one, once the feed's route to this one is out
-pub passed-next : (feed : ℕ) (t u : List Route) (p : Prefix) (o : Option Prefix) → HasPassed feed t (Some p) → u ≡ take_out feed p t → IsNext u p o → HasPassed feed u o
-passed-next feed t u p o h is next = λ r c own.
-    let left = (take_out_leaves_others feed p r t).0 (subst (λ l. Contains l r) is c) in
-    let other : same_prefix r.prefix p ≡ false =
-    false_from_ne_true (same_prefix r.prefix p) (λ same. both_ways (is_of feed p r) left.1 (and_from (eqb r.feed feed) (same_prefix r.prefix p) own same)) in
-    let later = comes_after r.prefix p (h r left.0 own) other in
-    ahead o next r c later where
-      -- by whether there is a next one
-      ahead : (o' : Option Prefix) → IsNext u p o' → (r : Route) → Contains u r → before p r.prefix ≡ true → IsAhead o' r
-      ahead None n r c later = both_ways (before p r.prefix) (n r c) later
-      ahead (Some q) n r c later = n.1 r c later
-
--- once all are passed the feed has none
-pub passed-all : (feed : ℕ) (t : List Route) → HasPassed feed t None → (r : Route) → Contains t r → eqb r.feed feed ≡ false
-passed-all feed t h r c = false_from_ne_true (eqb r.feed feed) (λ own. h r c own)
-
--- what a withdrawal leaves, whether or not the feed had the route
-pub withdrawn_is : (limit : ℕ) (t : List Route) (feed : ℕ) (p : Prefix) → table_after limit t feed (Withdraw p) ≡ take_out feed p t
-unfolding table_after
-withdrawn_is limit t feed p = elim (cases_Bool (has feed p t)) [
-  | inl there ↦ cond-true (has feed p t) (take_out feed p t) t there
-  | inr fresh ↦
-      cond-false (has feed p t) (take_out feed p t) t fresh
-      ∙ sym (filter-all (λ (r : Route). not (is_of feed p r)) t
-      (All-weaker (λ r. is_of feed p r ≡ false) (λ r. not (is_of feed p r) ≡ true) (λ r. not_from_false (is_of feed p r)) t (list_any-none (is_of feed p) t fresh)))
+-- and leaves the others in order
+purged_offers : (s t : Purging) (m n : Map) → IsSifted is_over Purges s t m n → ((q : Prefix) (offers : List Offer) → Contains m (q, offers) → IsOffers offers)
+    → (q : Prefix) (offers : List Offer) → Contains n (q, offers) → IsOffers offers
+purged_offers s t [] n h each q offers c = absurd (Contains-none (q, offers) (subst (λ l. Contains l (q, offers)) h.1 c))
+purged_offers s t ((p, old) ∷ rest) n h each q offers c = elim h [
+  | inl i ↦ each q offers (subst (λ l. Contains l (q, offers)) i.2 c)
+  | inr i ↦
+      let tail : (x : Prefix) (others : List Offer) → Contains rest (x, others) → IsOffers others = λ x others d. each x others (Contains-tail (p, old) rest (x, others) d) in
+      kept_offers i.3.stays p (without s.feed old) i.3.made i.2 i.3.judged.others (purged_offers i.1 t rest i.2 i.4 tail) q offers
+      (subst (λ l. Contains l (q, offers)) i.3.left c)
 ]
 
--- there are fewer prefixes after a later one
-pub left-less : (t : List Route) (p : Prefix) (o : Option Prefix) → IsNext t p o → left_of o < left_of (Some p)
-left-less t p None next = omega arith
-left-less t p (Some q) next =
-    let short = q.is_prefix.short in
-    let fits = q.is_prefix.fits in
-    let small = p.is_prefix.short in
-    elim (below_then-true p.base q.base (ltb p.len q.len) next.0) [
-      | inl less ↦ omega arith
-      | inr same ↦ let len = ltb-true p.len q.len same.1 in let base = same.0 in omega arith
-    ]
+pub purged_map : MapLaws → (s t : Purging) (m n : Map) → IsSifted is_over Purges s t m n → IsMap m → IsOrdered n → IsMap n
+purged_map laws s t m n h is order = record {
+  ordered = order;
+  each = λ p offers e. purged_offers s t m n h (λ q others c. is.each q others ((laws.found m q others is.ordered).0 c)) p offers ((laws.found n p offers order).1 e);
+}
 
--- once others are as they were and the feed has none, all of its routes went out
-pub purge_done : (old now : Held) (feed gone : ℕ) → now.limit ≡ old.limit → purge feed now.routes ≡ purge feed old.routes → ((r : Route) → Contains now.routes r → eqb r.feed feed ≡ false) → gone ≡ count_of feed old.routes → Serves old now feed Purge (Purged gone)
-unfolding reply_of table_after
-purge_done old now feed gone same others none are =
-    let left : now.routes ≡ purge feed old.routes = sym (purge-none feed now.routes none) ∙ others in
+-- the feed has no offer for the prefix
+pub offers_missing : (s : Purging) (old new : List Offer) → TakesOut old new s.feed Missing → IsOffers new → IsPurged s s old new true
+offers_missing s old new h lawful =
+    let all : without s.feed old ≡ old =
+    filter-all (λ o. not (is_from s.feed o)) old (λ k d l. not_from_false (is_from s.feed (get_or old k d)) (list_any-none (is_from s.feed) old h.1 k d l)) in
     record {
-      replied = ap Purged are;
-      changed = ap (λ l. held l now.routes) same ∙ ap (held old.limit) left;
+      same_feed = refl;
+      fewer = omega (arith, count-both (is_from s.feed) old, ap length all);
+      others = (h.0 ∙ sym all, lawful);
     }
+
+-- one route less is left, where some are
+pub one_less : (n : ℕ) → eqb n 0 ≡ false → n - 1 + 1 ≡ n
+one_less zero e = cc
+one_less (suc n) e = omega arith
+
+-- it has one of several
+pub offers_gone : (s t : Purging) (old new : List Offer) → t.feed ≡ s.feed → t.left + 1 ≡ s.left → TakesOut old new s.feed Gone → IsOffers new → IsPurged s t old new true
+offers_gone s t old new same fewer h lawful = record {
+  same_feed = same;
+  fewer = omega (arith, fewer, count-both (is_from s.feed) old, ap length h.0, h.2);
+  others = (h.0, lawful);
+}
+
+-- it has the only one
+pub offers_last : (s t : Purging) (old new : List Offer) → t.feed ≡ s.feed → t.left + 1 ≡ s.left → TakesOut old new s.feed Last → IsPurged s t old new false
+offers_last s t old new same fewer h =
+    let o = h.1.0 in
+    let none : without s.feed (o ∷ []) ≡ [] = rw h.1.2 refl in
+    let one = count-both (is_from s.feed) (o ∷ []) in
+    let nothing = ap length none in
+    rw h.1.1 (record { same_feed = same; fewer = omega (arith, fewer, one, nothing); others = none })

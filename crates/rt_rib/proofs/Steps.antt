@@ -1,12 +1,12 @@
 -- What the sequential table says of each command, case by case.
-use Rattle.std.proofs.Common.{◌≡◌, ℕ, ◌<◌, ◌≤◌, true, false, List, Some, None, refl, length}
+use Rattle.std.proofs.Common.{◌≡◌, ℕ, ◌<◌, ◌≤◌, true, false, List, Some, None, refl, ap, length}
 use Rattle.std.proofs.lemmas.Bool.{le-leb, lt-leb}
 use Rattle.rt_cidr.specs.declared.address.Addr.{Addr}
 use Rattle.rt_cidr.specs.declared.prefixes.Prefix.{Prefix}
 use Rattle.rt_rib.specs.declared.routes.Route.{Route}
-use Rattle.rt_rib.specs.declared.commands.Cmd.TheVariants.{Add, Replace, Withdraw, Lookup, Dump}
-use Rattle.rt_rib.specs.declared.commands.Reply.TheVariants.{Added, Exists, Full, Replaced, Withdrawn, Missing, Found, NoRoute, Dumped}
-use Rattle.rt_rib.specs.Table.{has, count_of, put_in, take_out}
+use Rattle.rt_rib.specs.declared.commands.Cmd.TheVariants.{Add, Replace, Withdraw, Lookup, Dump, Purge}
+use Rattle.rt_rib.specs.declared.commands.Reply.TheVariants.{Added, Exists, Full, Replaced, Withdrawn, Missing, Found, NoRoute, Dumped, Purged}
+use Rattle.rt_rib.specs.Table.{has, count_of, put_in, take_out, purge}
 use Rattle.rt_rib.specs.LookUp.{look_up}
 use Rattle.rt_rib.specs.Sequential.{reply_of, table_after}
 use Rattle.rt_rib.specs.Kept.{Held, Serves}
@@ -51,6 +51,11 @@ module _ (limit : ℕ) (t : List Route) (feed : ℕ) where
   pub withdrawn : (p : Prefix) → has feed p t ≡ true → (u : List Route) → u ≡ take_out feed p t → Serves (held limit t) (held limit u) feed (Withdraw p) Withdrawn
   unfolding reply_of table_after
   withdrawn p there u is = record { replied = rw there; changed = rw (is, there) }
+
+  -- a purge
+  pub purged : (gone : ℕ) → gone ≡ count_of feed t → (u : List Route) → u ≡ purge feed t → Serves (held limit t) (held limit u) feed Purge (Purged gone)
+  unfolding reply_of table_after
+  purged gone are u is = record { replied = ap Purged are; changed = rw is refl }
 
   -- a look-up of an address that no prefix covers
   pub unfound : (addr : Addr) → None ≡ look_up addr t → Serves (held limit t) (held limit t) feed (Lookup addr) NoRoute

@@ -8,4 +8,5 @@ pub mod Maps
 pub mod Laws
 pub mod Offers
 pub mod OneProof
+pub mod Purges
 pub mod Few

@@ -1,9 +1,9 @@
 -- A map from prefixes to their offers, and the routes that it stands for.
-use Rattle.std.specs.Prelude.{◌≡◌, false, IsTrue, List, [], ◌∷◌, ◌++◌, Option, Some, None, map}
+use Rattle.std.specs.Prelude.{◌≡◌, List, [], ◌∷◌, ◌++◌, Option, Some, None, map}
 use Rattle.std.specs.List.{Contains}
 use Rattle.rt_cidr.specs.declared.prefixes.Prefix.{Prefix}
 use Rattle.rt_cidr.specs.Laws.{SamePrefix}
-use Rattle.rt_trie.specs.Map.{Pairs, get, before, IsOrdered}
+use Rattle.rt_trie.specs.Map.{Pairs, get, IsOrdered}
 use Rattle.rt_trie.specs.Laws.{PutIsSeen, EraseIsSeen, PutKeepsOrder, EraseKeepsOrder, PairsAreFound, MapHasOneList}
 use Rattle.rt_rib.specs.declared.routes.Route.{Route}
 use Rattle.rt_rib.specs.declared.offers.Offer.{Offer}
@@ -41,17 +41,6 @@ IsThere m r = Contains (offers_at m r.prefix) (offer_of r)
 pub record IsMap (m : Map) : Type 0 where
   pub ordered : IsOrdered m
   pub each : (p : Prefix) (offers : List Offer) → get m p ≡ Some offers → IsOffers offers
-
--- no route is of a prefix before this one, or there is no route
-abbrev pub IsFirst : List Route → Option Prefix → Type 0
-IsFirst routes None = (r : Route) → ¬ Contains routes r
-IsFirst routes (Some q) = (r : Route) → Contains routes r → before r.prefix q ≡ false
-
--- q comes after p, and no route is of a prefix between, or none is of one after p
-abbrev pub IsNext : List Route → Prefix → Option Prefix → Type 0
-IsNext routes p None = (r : Route) → Contains routes r → before p r.prefix ≡ false
-IsNext routes p (Some q) =
-    IsTrue (before p q) × ((r : Route) → Contains routes r → IsTrue (before p r.prefix) → before r.prefix q ≡ false)
 
 -- what the laws of the map and of prefixes say, of offers
 pub record MapLaws : Type 0 where

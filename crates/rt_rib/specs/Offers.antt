@@ -1,5 +1,5 @@
 -- The offers of one prefix, as a list in order, and how they change.
-use Rattle.std.specs.Prelude.{◌≡◌, ℕ, ◌<◌, ◌≤◌, Bool, true, false, ◌==◌, nat_lt, List, [], ◌∷◌, length, ◌⊎◌, ◌↔◌}
+use Rattle.std.specs.Prelude.{◌≡◌, ℕ, ◌<◌, ◌≤◌, ◌+◌, Bool, true, false, not, ◌==◌, nat_lt, List, [], ◌∷◌, length, filter, ◌⊎◌, ◌↔◌}
 use Rattle.std.specs.List.{AllPairs, AllWithin, Contains, list_any}
 use Rattle.rt_rib.specs.declared.offers.Offer.{Offer}
 use Rattle.rt_rib.specs.declared.offers.Taken.{Taken}
@@ -34,9 +34,9 @@ pub record IsPlaceFor (offer : Offer) (offers : List Offer) (place : ℕ) : Type
 abbrev pub HasGained : List Offer → List Offer → Offer → Type 0
 HasGained old new offer = (o : Offer) → Contains new o ↔ (Contains old o ⊎ (offer ≡ o))
 
--- the new offers are the old ones but for the feed's
-abbrev pub HasLost : List Offer → List Offer → ℕ → Type 0
-HasLost old new feed = (o : Offer) → Contains new o ↔ (Contains old o × (is_from feed o ≡ false))
+-- the offers but for the feed's
+abbrev pub without : ℕ → List Offer → List Offer
+without feed offers = filter (λ o. not (is_from feed o)) offers
 
 -- where its feed had one, the offer stands for it, and else the offers are the same
 abbrev pub HasSwapped : List Offer → List Offer → Offer → Bool → Type 0
@@ -48,4 +48,4 @@ HasSwapped old new offer true =
 abbrev pub TakesOut : List Offer → List Offer → ℕ → Taken → Type 0
 TakesOut old new feed Missing = (new ≡ old) × (list_any (is_from feed) old ≡ false)
 TakesOut old new feed Last = (new ≡ old) × ((o : Offer) × (old ≡ o ∷ []) × (is_from feed o ≡ true))
-TakesOut old new feed Gone = HasLost old new feed × (list_any (is_from feed) old ≡ true)
+TakesOut old new feed Gone = (new ≡ without feed old) × (list_any (is_from feed) old ≡ true) × (length new + 1 ≡ length old)

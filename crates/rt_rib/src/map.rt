@@ -2,7 +2,7 @@
 ghost use Rattle.std.specs.Prelude.{◌≡◌, ◌++◌, false, IsTrue, IfOk, OnOk, OnErr, map};
 ghost use Rattle.rt_rib.specs.Table.{has, put_in, take_out};
 ghost use Rattle.rt_rib.specs.LookUp.{look_up};
-ghost use Rattle.rt_rib.specs.Maps.{routes_of, offers_at, route_by, IsMap, IsFirst, IsNext, MapLaws};
+ghost use Rattle.rt_rib.specs.Maps.{routes_of, offers_at, route_by, IsMap, MapLaws};
 
 use crate::offers::{Offer, Offers, Taken};
 use crate::refused::Refused;
@@ -10,14 +10,14 @@ use crate::routes::Route;
 use rt_cidr::laws::same_prefix;
 use rt_cidr::{Addr, Prefix};
 use rt_trie::Trie;
-use rt_trie::laws::{changes, least, one_list};
+use rt_trie::laws::{changes, one_list};
 use std::alloc::Allocator;
 
 /// A map from prefixes to what is offered for them.
 pub(crate) type Map<A> = Trie<Offers<A>, A>;
 
 /// What the laws of the map and of prefixes say, of offers. It does nothing.
-fn map_laws<A: Allocator + Copy>()
+pub(crate) fn map_laws<A: Allocator + Copy>()
     ensures { MapLaws }
 {
     changes::<Offers<A>>();
@@ -138,26 +138,6 @@ pub(crate) fn take_out<A: Allocator + Copy>(map: &mut Map<A>, feed: u32, prefix:
             true
         }
     }
-}
-
-/// The least prefix that a route has, by base and then by length.
-pub(crate) fn first<A: Allocator + Copy>(map: &Map<A>) -> Option<Prefix>
-    requires { IsMap map.now.pairs }
-    ensures { IsFirst (routes_of map.now.pairs) result }
-{
-    map_laws::<A>();
-    least::<Offers<A>>();
-    map.first()
-}
-
-/// The least prefix after this one that a route has.
-pub(crate) fn after<A: Allocator + Copy>(map: &Map<A>, prefix: Prefix) -> Option<Prefix>
-    requires { IsMap map.now.pairs }
-    ensures { IsNext (routes_of map.now.pairs) prefix result }
-{
-    map_laws::<A>();
-    least::<Offers<A>>();
-    map.after(prefix)
 }
 
 /// Appends the routes that the offers make of a prefix.

@@ -1,7 +1,7 @@
 //! What the feeds offer for one prefix, the best offer first. One offer is the common case and takes no memory of its own.
 ghost use Rattle.std.specs.Prelude.{◌≡◌, ◌<◌, ◌+◌, false, [], ◌∷◌, length, IsTrue, IsOk, IfOk, OnOk, OnErr, position, vec_len, vec_capacity};
 ghost use Rattle.std.specs.List.{All, list_any};
-ghost use Rattle.rt_rib.specs.Offers.{outranks, is_from, IsRising, IsOffers, IsPlaceFor, HasGained, HasLost, HasSwapped, TakesOut};
+ghost use Rattle.rt_rib.specs.Offers.{outranks, is_from, IsRising, IsOffers, IsPlaceFor, HasGained, HasSwapped, TakesOut, without};
 
 use crate::refused::Refused;
 use crate::routes::Hop;
@@ -240,7 +240,7 @@ fn take_among<A: Allocator + Copy>(offers: &mut Vec<Offer, A>, feed: u32) -> boo
     requires { IsRising offers.old.items }
     ensures had { result ≡ list_any (is_from feed) offers.old.items }
     ensures kept { result ≡ false → offers.new.items ≡ offers.old.items }
-    ensures lost { IsTrue result → HasLost offers.old.items offers.new.items feed }
+    ensures left { IsTrue result → offers.new.items ≡ without feed offers.old.items }
     ensures fewer { IsTrue result → vec_len offers.new + 1 ≡ vec_len offers.old }
     ensures rising { IsRising offers.new.items }
 {

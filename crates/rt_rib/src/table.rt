@@ -1,17 +1,16 @@
 //! The sequential table: its routes as offers in a map, how many each feed has, and the answers to commands.
 ghost use Rattle.std.specs.Prelude.{◌≡◌, ◌^◌, ◌<◌, [], length, sum, IfOk, OnErr};
 ghost use Rattle.rt_rib.specs.declared.commands.Cmd.TheVariants.{Add, Replace, Withdraw, Purge};
-ghost use Rattle.rt_rib.specs.Table.{count_of, IsTable};
+ghost use Rattle.rt_rib.specs.Table.{IsTable};
 ghost use Rattle.rt_rib.specs.Book.{IsLimit, IsFeed, IsAdd};
-ghost use Rattle.rt_rib.specs.Maps.{IsFirst, IsNext};
 ghost use Rattle.rt_rib.specs.Kept.{held_of, IsStored, Serves};
 
-use crate::ahead;
 use crate::commands::{Cmd, Reply};
 use crate::limits::FEEDS;
 use crate::map::{self, Map};
 use crate::refused::Refused;
 use crate::routes::Route;
+use crate::{ahead, purge};
 use rt_cidr::Prefix;
 use rt_trie::Trie;
 use std::alloc::Allocator;
@@ -71,14 +70,6 @@ impl<A: Allocator + Copy> Table<A> {
         ensures { result ≡ length self.now.routes }
     {
         total(&self.counts)
-    }
-
-    /// How many routes the feed has.
-    fn count(&self, feed: u32) -> u32
-        requires { IsFeed feed }
-        ensures { result ≡ count_of feed self.now.routes }
-    {
-        self.counts[(feed - 1) as usize]
     }
 
     /// The routes in dump order.
@@ -176,35 +167,16 @@ impl<A: Allocator + Copy> Table<A> {
         Reply::Withdrawn
     }
 
-    /// Takes all of the feed's routes out: prefix by prefix, until the feed has none.
+    /// Takes all of the feed's routes out.
     fn purge(&mut self, feed: u32) -> Reply
         requires { IsFeed feed }
         ensures { Serves (held_of self.old) (held_of self.new) feed Purge result }
     {
-        let gone = self.count(feed);
-        let mut next = self.first();
-        while let Some(prefix) = next {
-            if self.count(feed) == 0 {
-                break;
-            }
-            let _ = self.withdraw(feed, prefix);
-            next = self.after(prefix);
-        }
+        let own = (feed - 1) as usize;
+        let gone = self.counts[own];
+        purge::purge(&mut self.map, feed, gone);
+        self.counts[own] = 0;
         Reply::Purged(gone)
-    }
-
-    /// The least prefix that a route has, by base and then by length.
-    fn first(&self) -> Option<Prefix>
-        ensures { IsFirst self.now.routes result }
-    {
-        map::first(&self.map)
-    }
-
-    /// The least prefix after this one that a route has.
-    fn after(&self, prefix: Prefix) -> Option<Prefix>
-        ensures { IsNext self.now.routes prefix result }
-    {
-        map::after(&self.map, prefix)
     }
 }
 

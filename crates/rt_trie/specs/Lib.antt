@@ -13,9 +13,9 @@ pub mod LookUps
 pub mod Map
 pub mod Nodes
 pub mod OneProof
+pub mod Sifted
 pub mod Tree
 pub mod TreeCode
-pub mod Sifted
 pub mod Trie
 pub mod TrieLends
 pub mod Walks

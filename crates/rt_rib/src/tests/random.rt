@@ -53,6 +53,16 @@ impl Dice {
         Prefix::new(base, len)
     }
 
+    /// A route of one of some ten thousand prefixes.
+    fn any_add(&mut self) -> Result<Cmd, TextFault> {
+        let past = self.roll(17) as u32;
+        let base = (self.roll(0x1_0000) as u32) << 16 >> past << past;
+        let prefix = Prefix::new(base, (32 - past) as u8)?;
+        let pref = self.roll(3) as u32;
+        let hop = Hop::Discard;
+        Ok(Cmd::Add { prefix, pref, hop })
+    }
+
     fn cmd(&mut self) -> Result<Cmd, TextFault> {
         let pref = self.roll(3) as u32;
         let hop = match self.roll(4) {
@@ -182,5 +192,35 @@ fn two_hundred_thousand_commands(rt: HostRuntime) -> Result<(), Fail> {
         }
     }
     assert_eq!(rt; book.journal().len(), 200_000);
+    Ok(())
+}
+
+/// Sixty routes, each of one of the feeds.
+fn sixty_adds(
+    rt: &impl Abort,
+    alloc: Global,
+    dice: &mut Dice,
+    book: &mut Book<Global>,
+    plain: &mut Plain,
+) -> Result<(), Fail> {
+    for _ in 0..60u32 {
+        let feed = FEEDS[dice.roll(4)];
+        let cmd = dice.any_add()?;
+        ask_both(rt, alloc, book, plain, feed, cmd)?;
+    }
+    Ok(())
+}
+
+#[test]
+fn purges_among_many_prefixes(rt: HostRuntime) -> Result<(), Fail> {
+    let mut dice = Dice(11);
+    let mut book = Book::new(rt.alloc(), 1_000);
+    let mut plain = Plain::new(rt.alloc(), 1_000);
+    for _ in 0..40u32 {
+        sixty_adds(&rt, rt.alloc(), &mut dice, &mut book, &mut plain)?;
+        let feed = FEEDS[dice.roll(4)];
+        ask_both(&rt, rt.alloc(), &mut book, &mut plain, feed, Cmd::Purge)?;
+        compare_routes(&rt, rt.alloc(), &book, &plain)?;
+    }
     Ok(())
 }

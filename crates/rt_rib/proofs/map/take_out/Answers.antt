@@ -1,5 +1,6 @@
 use Rattle.std.proofs.Common.{sym, ◌∙◌}
 use Rattle.rt_rib.proofs.MapChanges.{none_had, is_had, unchanged, less, last_gone, last_map, one_is_from, IsMap-put}
+use Rattle.rt_rib.proofs.OfferLists.{lost}
 use Rattle.rt_rib.proofs.map.take_out.Goals as goal
 
 pub returns-in-None-clause-had : goal.returns-in-None-clause-had
@@ -22,7 +23,8 @@ returns-in-Gone-clause-had g c =
 
 pub returns-in-Gone-clause-gone : goal.returns-in-Gone-clause-gone
 returns-in-Gone-clause-gone g c =
-    λ some. less c.map_laws.ensures c.args.map.now.pairs c.requires c.args.prefix c.in-Some.offers.now c.take_out-taken.new.self c.in-Some.ensures.value c.in-Gone.ensures.lawful c.args.feed c.in-Gone.ensures.taken.0
+    λ some. less c.map_laws.ensures c.args.map.now.pairs c.requires c.args.prefix c.in-Some.offers.now c.take_out-taken.new.self c.in-Some.ensures.value c.in-Gone.ensures.lawful c.args.feed
+    (lost c.args.feed c.in-Some.offers.now c.take_out-taken.new.self c.in-Gone.ensures.taken.0)
 
 pub returns-in-Gone-clause-map : goal.returns-in-Gone-clause-map
 returns-in-Gone-clause-map g c = IsMap-put c.map_laws.ensures c.args.map.now.pairs c.requires c.args.prefix c.take_out-taken.new.self c.in-Gone.ensures.lawful

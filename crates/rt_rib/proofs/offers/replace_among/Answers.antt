@@ -1,6 +1,6 @@
 use Rattle.std.proofs.Common.{sym}
 use Rattle.rt_rib.specs.Offers.{is_from}
-use Rattle.rt_rib.proofs.OfferLists.{position-none, position-some, IsRising-remove, none_left, lost, swapped}
+use Rattle.rt_rib.proofs.OfferLists.{position-none, position-some, IsRising-remove, none_left, left_is, lost, swapped}
 use Rattle.rt_rib.proofs.offers.replace_among.Goals as goal
 
 pub returns-in_default-clause-had : goal.returns-in_default-clause-had
@@ -28,5 +28,6 @@ returns-clause-had g c =
 pub returns-clause-swapped : goal.returns-clause-swapped
 returns-clause-swapped g c =
     let found = rw c.deref.ensures.value at c.in-Some.ensures in
-    let less = lost c.args.offer.feed c.args.offers.now.items c.requires c.in-Some.place (sym found) in
-    swapped c.args.offers.now.items c.remove.new.self.items c.put_among.new.offers.items c.args.offer (rw c.remove.ensures.items less) c.in-Ok.ensures.ok
+    let left = left_is c.args.offer.feed c.args.offers.now.items c.requires c.in-Some.place (sym found) in
+    let less = lost c.args.offer.feed c.args.offers.now.items c.remove.new.self.items (rw c.remove.ensures.items left) in
+    swapped c.args.offers.now.items c.remove.new.self.items c.put_among.new.offers.items c.args.offer less c.in-Ok.ensures.ok

@@ -9,9 +9,12 @@ returns-then-len-eq1-clause-taken g c =
     let one : length c.take_among.new.offers.items ≡ 1 = omega (arith, counted, kept) in
     let read = rw c.deref-then-len-eq1.ensures at c.index-offer.ensures in
     let same = only_one c.take_among.new.offers.items c.index-offer.result.now one read in
-    let lost = rw c.deref_mut.ensures.value at (c.if-not-take_among.ensures.lost refl) in
-    rw c.in-Many.is (rw same at lost, sym (rw c.deref_mut.ensures.value at c.if-not-take_among.ensures.had))
+    let left = rw c.deref_mut.ensures.value at (c.if-not-take_among.ensures.left refl) in
+    let fewer = rw c.deref_mut.ensures.value at (c.if-not-take_among.ensures.fewer refl) in
+    rw c.in-Many.is (rw same at left, sym (rw c.deref_mut.ensures.value at c.if-not-take_among.ensures.had), omega (arith, one, fewer))
 
 pub returns-else-len-eq1-clause-taken : goal.returns-else-len-eq1-clause-taken
 returns-else-len-eq1-clause-taken g c =
-    rw c.in-Many.is (rw c.deref_mut.ensures.value at (c.if-not-take_among.ensures.lost refl), sym (rw c.deref_mut.ensures.value at c.if-not-take_among.ensures.had))
+    let left = rw c.deref_mut.ensures.value at (c.if-not-take_among.ensures.left refl) in
+    let fewer = rw c.deref_mut.ensures.value at (c.if-not-take_among.ensures.fewer refl) in
+    rw c.in-Many.is (left, sym (rw c.deref_mut.ensures.value at c.if-not-take_among.ensures.had), omega (arith, fewer, c.take_among.new.offers.ok.0, c.in-Many.offers.value.ok.0))

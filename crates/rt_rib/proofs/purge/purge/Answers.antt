@@ -1,0 +1,10 @@
+use Rattle.rt_rib.proofs.Purges.{purged_routes, purged_map}
+use Rattle.rt_rib.proofs.purge.purge.Goals as goal
+
+pub returns-clause-gone : goal.returns-clause-gone
+returns-clause-gone g c =
+    purged_routes _ c.retain.new.sieve c.args.map.now.pairs c.retain.new.self.pairs c.retain.ensures.sifted c.requires.count
+
+pub returns-clause-map : goal.returns-clause-map
+returns-clause-map g c =
+    purged_map c.map_laws.ensures _ c.retain.new.sieve c.args.map.now.pairs c.retain.new.self.pairs c.retain.ensures.sifted c.requires.map c.retain.ensures.ordered

@@ -1,0 +1,20 @@
+-- What a purge makes of the offers of a prefix that it is shown.
+use Rattle.std.specs.Prelude.{◌≡◌, ◌+◌, Bool, true, false, nat_eq, List, [], count_by}
+use Rattle.rt_rib.specs.declared.offers.Offer.{Offer}
+use Rattle.rt_rib.specs.declared.purge.Purging.{Purging}
+use Rattle.rt_rib.specs.Offers.{is_from, without, IsOffers}
+
+-- whether the feed has no more routes
+abbrev pub is_over : Purging → Bool
+is_over purge = nat_eq purge.left 0
+
+-- the offers but for the feed's: they stay where there are any
+abbrev pub AreOthers : List Offer → List Offer → Bool → Type 0
+AreOthers others new true = (new ≡ others) × IsOffers new
+AreOthers others new false = others ≡ []
+
+-- the purge is of the same feed, which has as many routes left as before but for those of this prefix; these are gone
+pub record IsPurged (purge next : Purging) (old new : List Offer) (stays : Bool) : Type 0 where
+  pub same_feed : next.feed ≡ purge.feed
+  pub fewer : next.left + count_by (is_from purge.feed) old ≡ purge.left
+  pub others : AreOthers (without purge.feed old) new stays

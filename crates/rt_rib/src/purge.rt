@@ -1,0 +1,56 @@
+//! Taking all of a feed's routes out of the map in one walk.
+ghost use Rattle.std.specs.Prelude.{◌≡◌};
+ghost use Rattle.rt_rib.specs.Table.{count_of, purge};
+ghost use Rattle.rt_rib.specs.Maps.{routes_of, IsMap};
+ghost use Rattle.rt_rib.specs.Purges.{is_over, IsPurged};
+
+use crate::map::{Map, map_laws};
+use crate::offers::{Offers, Taken};
+use rt_cidr::Prefix;
+use rt_trie::Sieve;
+use std::alloc::Allocator;
+
+/// A purge on its way through the map.
+#[derive(Drop)]
+struct Purging {
+    feed: u32,
+    /// How many routes of the feed are still to come.
+    left: u32,
+}
+
+impl<A: Allocator + Copy> Sieve<Offers<A>> for Purging {
+    ghost done = { is_over };
+
+    ghost judges = { λ s p v t w stays. IsPurged s t v w stays };
+
+    fn is_done(&self) -> bool {
+        self.left == 0
+    }
+
+    fn keeps(&mut self, _prefix: Prefix, offers: &mut Offers<A>) -> bool {
+        match offers.take_out(self.feed) {
+            Taken::Missing => true,
+            Taken::Gone => {
+                self.left -= 1;
+                true
+            }
+            Taken::Last => {
+                self.left -= 1;
+                false
+            }
+        }
+    }
+}
+
+/// Takes all routes of the feed out, of which there are so many. It goes no further than the last of them, and takes no
+/// memory.
+pub(crate) fn purge<A: Allocator + Copy>(map: &mut Map<A>, feed: u32, count: u32)
+    requires map { IsMap map.old.pairs }
+    requires count { count ≡ count_of feed (routes_of map.old.pairs) }
+    ensures gone { routes_of map.new.pairs ≡ purge feed (routes_of map.old.pairs) }
+    ensures map { IsMap map.new.pairs }
+{
+    map_laws::<A>();
+    let mut purge = Purging { feed, left: count };
+    map.retain(&mut purge);
+}
