@@ -51,7 +51,7 @@ pub data IsStuck (s : State) (q level : ℕ) : Type 0 where
 
 module _ (levels : ℕ) (s : State) (some : 1 ≤ levels) (is : IsSound levels s) where
   -- a place that takes part is one of the tree
-  in_tree : (q : ℕ) (x : Process) → s.processes q ≡ x → x ≢ Idle → q < 2 ^ levels
+  pub in_tree : (q : ℕ) (x : Process) → s.processes q ≡ x → x ≢ Idle → q < 2 ^ levels
   in_tree q Idle e busy = absurd (busy refl)
   in_tree q (Entering level point) e busy =
       (let proper : IsProper levels q (Entering level point) = subst (IsProper levels q) e (is.proper q) in

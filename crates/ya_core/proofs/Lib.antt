@@ -10,7 +10,6 @@ pub mod LevelSteps
 pub mod Invariant
 pub mod Content
 pub mod Deadlock
-pub mod Arrival
 pub mod Rivalry
 pub mod Starvation
 pub mod Overtaking

@@ -15,14 +15,14 @@ use Rattle.ya_core.specs.Tree.{node_of, side_of, AreRivals}
 use Rattle.ya_core.specs.Steps.{State, StepsTo, Accesses, value_of, access_of, next_of, won}
 use Rattle.ya_core.specs.Soundness.{Phase, claims, is_past, waits, holds, awaits_two, saw_itself_last, is_to_wake}
 use Rattle.ya_core.specs.Soundness.{wakes_next, phase_of, entry_phase, IsProper, IsSound, SomeRival}
-use Rattle.ya_core.specs.Walks.{points_of, is_waiting}
+use Rattle.ya_core.specs.Walks.{points_of, is_waiting, MayFind, due_of, IsTold}
 use Rattle.ya_core.proofs.Places.{side_below}
 use Rattle.ya_core.proofs.Level.{by_phases, competes, one_a_side}
 use Rattle.ya_core.proofs.Phases.{acts_at, frame_phase, holds_below}
-use Rattle.ya_core.proofs.Invariant.{alone_at}
+use Rattle.ya_core.proofs.Invariant.{alone_at, finds}
 use Rattle.ya_core.proofs.Deadlock.{IsStuck, Asleep, Outside, stuck_at, owed_to, phase_is, never_wakes, last}
 use Rattle.ya_core.proofs.Deadlock.{won_elsewhere}
-use Rattle.ya_core.proofs.Arrival.{may_come_nearer}
+use Rattle.ya_core.proofs.Counting.{nearer}
 
 -- a store of a word P changes that word alone
 spin_stored : (old new : State) (h q v level p : ℕ) → Accesses (Store (P h q) v) old.words new.words
@@ -82,6 +82,26 @@ spin_after levels old new r level p apart step =
             ⊎ ((h ≡ level) × (rival ≡ p) × (new.words (P level p) ≡ 2)) → SpinAfter old new r level p
         by_store (inl same) = inl same
         by_store (inr stored) = inr (inl stored.2)
+
+-- a process that is told to go on is told what its access may find
+told : (levels place : ℕ) (x : Process) (value : ℕ) → MayFind (access_of levels place x) value
+    → IsTold (due_of levels place x true) value
+told levels place Idle value found = found
+told levels place (Entering level point) value found = found
+told levels place Inside value found = found
+told levels place (Leaving level point) value found = found
+
+-- so the step that is due takes its place nearer to its goal, or leaves it waiting
+may_come_nearer : (levels place : ℕ) (s : State) → 1 ≤ levels → IsSound levels s
+    → (points_of levels (next_of levels place (s.processes place)
+    (value_of s.words (access_of levels place (s.processes place)))) false < points_of levels (s.processes place) true)
+    ⊎ (IsTrue (is_waiting (s.processes place)) × (next_of levels place (s.processes place)
+    (value_of s.words (access_of levels place (s.processes place))) ≡ s.processes place))
+may_come_nearer levels place s some is =
+    nearer levels place (s.processes place) true (value_of s.words (access_of levels place (s.processes place))) some
+    (is.proper place)
+    (told levels place (s.processes place) (value_of s.words (access_of levels place (s.processes place)))
+    (finds levels place s (s.processes place) is refl))
 
 -- who is to wake another claims
 claims_is_to_wake : (p : ℕ) (x : Phase) → IsTrue (is_to_wake p x) → IsTrue (claims x)

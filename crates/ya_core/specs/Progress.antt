@@ -1,10 +1,9 @@
--- What is said of progress: some place that takes part can go on, some schedule leads one to its goal, and at a node,
--- from its store of T, nobody is overtaken twice.
+-- What is said of progress: some place that takes part can go on, some finite schedule leads to what is wanted, and at
+-- a node, from its store of T, nobody is overtaken twice.
 use Rattle.std.specs.Prelude.{◌≡◌, ◌≢◌, ℕ, ◌+◌, ◌==◌, Bool, true, false, not, ◌&&◌, if◌then◌else◌, List, [], ◌∷◌}
-use Rattle.std.specs.Prelude.{◌⊎◌}
 use Rattle.ya_core.specs.declared.process.Entry.TheVariants.{E2}
 use Rattle.ya_core.specs.declared.process.Process.{Process}
-use Rattle.ya_core.specs.declared.process.Process.TheVariants.{Idle, Entering, Inside}
+use Rattle.ya_core.specs.declared.process.Process.TheVariants.{Idle, Entering}
 use Rattle.ya_core.specs.Tree.{node_of, side_of}
 use Rattle.ya_core.specs.Steps.{State, StepsTo, LeadTo}
 use Rattle.ya_core.specs.Worlds.{World, WorldSteps}
@@ -17,16 +16,9 @@ pub record SomeoneGoesOn (levels : ℕ) (s : State) : Type 0 where
   pub step : StepsTo levels place s after
   pub goes_on : after.processes place ≢ s.processes place
 
--- some finite schedule leads a place that takes part to its goal: its last step takes that place inside, or to idle
-pub record SomeoneArrives (levels : ℕ) (s : State) : Type 0 where
-  pub place : ℕ
-  pub busy : s.processes place ≢ Idle
-  pub places : List ℕ
-  pub before : State
-  pub lead : LeadTo levels s places before
-  pub after : State
-  pub last : StepsTo levels place before after
-  pub arrives : (after.processes place ≡ Inside) ⊎ (after.processes place ≡ Idle)
+-- some finite schedule leads from the state to one that is so
+abbrev pub CanLeadTo : ℕ → State → (State → Type 0) → Type 0
+CanLeadTo levels s So = (places : List ℕ) × (after : State) × LeadTo levels s places after × So after
 
 -- the same in a world
 pub record SomeoneGoesOnIn {X : Type 0} (levels : ℕ) (world : World X) : Type 0 where

@@ -7,7 +7,7 @@ ghost use Rattle.ya_core.specs.Tree.{IsWord, number_of, count_of_words};
 ghost use Rattle.ya_core.specs.Steps.{State, StepsTo, LeadTo, opening, access_of, value_of};
 ghost use Rattle.ya_core.specs.Soundness.{IsSound};
 ghost use Rattle.ya_core.specs.declared.process.Process.TheVariants as process;
-ghost use Rattle.ya_core.specs.Progress.{SomeoneGoesOn, SomeoneArrives, SomeoneGoesOnIn, LevelStep, announces};
+ghost use Rattle.ya_core.specs.Progress.{SomeoneGoesOn, SomeoneGoesOnIn, CanLeadTo, LevelStep, announces};
 ghost use Rattle.ya_core.specs.Progress.{LevelSees, HasNotWon, times_overtaken};
 ghost use Rattle.ya_core.specs.Fairness.{IsRunOf, IsFair, Eventually, is_on_way_in, is_on_way_out};
 ghost use Rattle.ya_core.specs.Walks.{Walk, IsWalk, Enters, Leaves, Goes, AccessIsWithin, MayFind};
@@ -62,23 +62,26 @@ pub fn exclusion()
 {}
 
 /// The lock never deadlocks: where the invariant holds and some place takes part, some place that takes part has a step
-/// that changes its process, and some finite schedule takes one inside, or to idle. In every world that any list of
-/// events leads to such a step is there.
+/// that changes its process. So it is in every world that any list of events leads to. Where the invariant holds, some
+/// finite schedule leads each place that is on its way in inside, and each that is inside or on its way out to idle.
 pub fn no_deadlock<X>()
     ensures states { (levels place : ℕ) (s : State)
         → 1 ≤ levels → IsSound levels s → s.processes place ≢ process.Idle
         → SomeoneGoesOn levels s }
-    ensures schedule { (levels place : ℕ) (s : State)
-        → 1 ≤ levels → IsSound levels s → s.processes place ≢ process.Idle
-        → SomeoneArrives levels s }
+    ensures way_in { (levels place : ℕ) (s : State)
+        → 1 ≤ levels → IsSound levels s → IsTrue (is_on_way_in (s.processes place))
+        → CanLeadTo levels s (λ after. IsInside after place) }
+    ensures way_out { (levels place : ℕ) (s : State)
+        → 1 ≤ levels → IsSound levels s → IsInside s place ⊎ IsTrue (is_on_way_out (s.processes place))
+        → CanLeadTo levels s (λ after. after.processes place ≡ process.Idle) }
     ensures worlds { (levels place : ℕ) (events : List (Event X)) (world : World X)
         → 1 ≤ levels → IsReached levels any_entry events world
         → world.state.processes place ≢ process.Idle → SomeoneGoesOnIn levels world }
 {}
 
 /// Nobody starves: in the run of a fair schedule a place that is on its way in is inside then or later, and one that is
-/// inside or on its way out is idle then or later. A schedule is fair where each place that isn't idle takes a step then
-/// or later. Each schedule of places of the tree has a run, and one alone.
+/// inside or on its way out is idle then or later. A schedule is fair where each place that isn't idle takes a step
+/// then or later. Each schedule of places of the tree has a run, and one alone, and some schedule is fair.
 pub fn starvation_freedom()
     ensures inside { (levels : ℕ) (schedule : ℕ → ℕ) (states : ℕ → State)
         → 1 ≤ levels → IsRunOf levels schedule states → IsFair schedule states
@@ -94,6 +97,8 @@ pub fn starvation_freedom()
     ensures one { (levels : ℕ) (schedule : ℕ → ℕ) (states other : ℕ → State)
         → IsRunOf levels schedule states → IsRunOf levels schedule other
         → (time : ℕ) → other time ≡ states time }
+    ensures fair { (levels : ℕ) → 1 ≤ levels
+        → (schedule : ℕ → ℕ) × (states : ℕ → State) × IsRunOf levels schedule states × IsFair schedule states }
 {}
 
 /// In every run, from a place's store of T at a node until it wins that node, the other side wins the node at most

@@ -1,4 +1,4 @@
-use Rattle.ya_core.proofs.Starvation.{enters, leaves, run_of, one_run}
+use Rattle.ya_core.proofs.Starvation.{enters, leaves, run_of, one_run, some_fair}
 use Rattle.ya_core.proofs.laws.starvation_freedom.Goals as goal
 
 pub returns-clause-inside : goal.returns-clause-inside
@@ -12,3 +12,6 @@ returns-clause-run c = run_of
 
 pub returns-clause-one : goal.returns-clause-one
 returns-clause-one c = one_run
+
+pub returns-clause-fair : goal.returns-clause-fair
+returns-clause-fair c = some_fair
