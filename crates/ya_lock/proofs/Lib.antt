@@ -7,3 +7,4 @@ pub mod Deals
 pub mod Heights
 pub mod Entries
 pub mod Meanings
+pub mod Climbing

@@ -1,11 +1,13 @@
 //! The way in and the way out: each access is one step of a walker of the core, by the seat of its place.
-ghost use Rattle.std.specs.Prelude.{◌≡◌, ◌≢◌, ℕ, [], ◌+◌, ◌*◌, ◌^◌, ◌<◌, ◌≤◌, IfSome};
-ghost use Rattle.ya_core.specs.declared.process.Process.TheVariants.{Idle};
-ghost use Rattle.ya_core.specs.Walks.{IsWalk, op_of, walk_after, MovesOn, budget, points_ahead};
+ghost use Rattle.std.specs.Prelude.{◌≡◌, ◌≢◌, ℕ, true, false, [], ◌+◌, ◌*◌, ◌^◌, ◌<◌, ◌≤◌, IfSome, None};
+ghost use Rattle.ya_core.specs.declared.process.Process.TheVariants.{Idle, Entering, Inside};
+ghost use Rattle.ya_core.specs.declared.process.Entry.TheVariants.{E5};
+ghost use Rattle.ya_core.specs.Steps.{next_of};
+ghost use Rattle.ya_core.specs.Walks.{IsWalk, op_of, walk_after, MovesOn, budget, points_ahead, points_of, is_waiting};
 ghost use Rattle.ya_core.specs.Worlds.{is_inside};
 ghost use Rattle.ya_lock.specs.declared.view.View.TheVariants.{Member};
 ghost use Rattle.ya_lock.specs.Moves.{HasMade, IsReady, Goes};
-ghost use Rattle.ya_lock.specs.Climbs.{HasClimbed};
+ghost use Rattle.ya_lock.specs.Climbs.{HasClimbed, HasPassed, IsBelow, climb_points};
 ghost use Rattle.ya_lock.specs.Lock.{HasEntered, IsComing, IsGoing};
 
 use crate::kept::Kept;
@@ -47,7 +49,7 @@ impl<V: Kept + Drop, const L: u32> TreeLock<V, L> {
         let _ = &self.table;
         let mut walker = Walker::new(Self::shape(), place);
         walker.begin_entry();
-        for _ in rt.forever() {
+        loop {
             self.come(seat, &mut walker, seen);
             self.come(seat, &mut walker, seen);
             self.come(seat, &mut walker, seen);
@@ -63,54 +65,59 @@ impl<V: Kept + Drop, const L: u32> TreeLock<V, L> {
                 Climb::Inside(remote) => return remote,
             }
         }
-        unreachable!()
     }
 
-    /// Makes the accesses of a level where a rival competes, until it is won. They are written out too.
+    /// Makes the accesses of a level where a rival competes, until it is won. They are written out too. The rival was
+    /// read at e4; `spin` alone waits, at e8 and e10.
     #[inline(never)]
     fn compete<R: Wait>(
         &self,
         rt: &R,
         seat: &mut LockSeat<V>,
         place: usize,
-        mut walker: Walker,
+        walker: Walker,
         seen: &Recall<V>,
     ) -> Climb
         requires lock { seat.old.table_id ≡ self.now }
         requires levels { walker.levels ≡ L }
         requires place { walker.place ≡ place }
         requires coming { IsComing V.since seen.now.value walker seat.old.me }
+        requires competes { (level rival : ℕ) × (walker.process ≡ Entering level (E5 rival)) }
         ensures lock { seat.new.table_id ≡ seat.old.table_id }
         ensures climbed { HasClimbed V.since L place seen.now.value result seat.new.me }
+        ensures onward { climb_points L result < points_ahead walker }
     {
-        if let Process::Entering(level, Entry::E5(rival)) = walker.process() {
-            let remote = walker.remote();
-            walker = Walker::entering(Self::shape(), place, level, Entry::E5(rival), remote);
-            self.come(seat, &mut walker, seen);
-            if let Some(climb) = self.climbed(seat, &walker, seen) {
-                return climb;
-            }
-            self.come(seat, &mut walker, seen);
-            if let Process::Entering(_, Entry::E7(_)) = walker.process() {
-                self.come(seat, &mut walker, seen);
-            }
+        let Process::Entering(level, Entry::E5(rival)) = walker.process() else {
+            unreachable!()
+        };
+        let remote = walker.remote();
+        let mut walker = Walker::entering(Self::shape(), place, level, Entry::E5(rival), remote);
+        self.come(seat, &mut walker, seen);
+        if let Some(climb) = self.climbed(seat, &walker, seen) {
+            return climb;
         }
-        let mut walker = self.spin(rt, seat, place, walker, seen);
-        if let Process::Entering(level, Entry::E9) = walker.process() {
-            walker = Walker::entering(Self::shape(), place, level, Entry::E9, walker.remote());
+        self.come(seat, &mut walker, seen);
+        if let Process::Entering(_, Entry::E7(_)) = walker.process() {
             self.come(seat, &mut walker, seen);
         }
-        for _ in rt.forever() {
-            if let Some(climb) = self.climbed(seat, &walker, seen) {
-                return climb;
-            }
-            walker = self.spin(rt, seat, place, walker, seen);
+        let waited = self.spin(rt, seat, place, walker, seen);
+        let Process::Entering(level, Entry::E9) = waited.process() else {
+            unreachable!()
+        };
+        let mut walker = Walker::entering(Self::shape(), place, level, Entry::E9, waited.remote());
+        self.come(seat, &mut walker, seen);
+        if let Some(climb) = self.climbed(seat, &walker, seen) {
+            return climb;
         }
-        unreachable!()
+        let walker = self.spin(rt, seat, place, walker, seen);
+        let Some(climb) = self.climbed(seat, &walker, seen) else {
+            unreachable!()
+        };
+        climb
     }
 
-    /// Loads its spin word while the process waits for it, and lets other threads go on between two loads. A process
-    /// that doesn't wait stays where it stands.
+    /// Waits: loads the spin word of its process until the process may go on, and lets other threads go on between two
+    /// loads.
     #[inline(never)]
     fn spin<R: Wait>(
         &self,
@@ -124,10 +131,12 @@ impl<V: Kept + Drop, const L: u32> TreeLock<V, L> {
         requires levels { walker.levels ≡ L }
         requires place { walker.place ≡ place }
         requires coming { IsComing V.since seen.now.value walker seat.old.me }
+        requires waits { is_waiting walker.process ≡ true }
         ensures lock { seat.new.table_id ≡ seat.old.table_id }
         ensures levels { result.levels ≡ L }
         ensures place { result.place ≡ place }
         ensures coming { IsComing V.since seen.now.value result seat.new.me }
+        ensures passed { HasPassed L walker.process result.process }
     {
         let mut walker = walker;
         let backoff = Backoff::new();
@@ -159,8 +168,10 @@ impl<V: Kept + Drop, const L: u32> TreeLock<V, L> {
     fn climbed(&self, seat: &LockSeat<V>, walker: &Walker, seen: &Recall<V>) -> Option<Climb>
         requires levels { walker.now.levels ≡ L }
         requires coming { IsComing V.since seen.now.value walker.now seat.now.me }
-        ensures { IfSome result
+        ensures some { IfSome result
             (λ climb. HasClimbed V.since L walker.now.place seen.now.value climb seat.now.me) }
+        ensures none { result ≡ None → IsBelow walker.now.process }
+        ensures points { IfSome result (λ climb. climb_points L climb ≡ points_of L walker.now.process false) }
     {
         match walker.process() {
             Process::Entering(level, Entry::E1) => Some(Climb::Level(level, walker.remote())),
@@ -193,21 +204,23 @@ impl<V: Kept + Drop, const L: u32> TreeLock<V, L> {
         }
     }
 
-    /// The next access of an entry; none where the place is inside.
+    /// The next access of an entry.
     #[inline(always)]
     fn come(&self, seat: &mut LockSeat<V>, walker: &mut Walker, seen: &Recall<V>)
         requires lock { seat.old.table_id ≡ self.now }
         requires levels { walker.old.levels ≡ L }
         requires coming { IsComing V.since seen.now.value walker.old seat.old.me }
+        requires under_way { walker.old.process ≢ Inside }
         ensures lock { seat.new.table_id ≡ seat.old.table_id }
         ensures levels { walker.new.levels ≡ L }
         ensures place { walker.new.place ≡ walker.old.place }
         ensures coming { IsComing V.since seen.now.value walker.new seat.new.me }
+        ensures next { (found : ℕ)
+            × (walker.new.process ≡ next_of L walker.old.place walker.old.process found) }
+        ensures onward { MovesOn walker.old walker.new }
     {
         let due = walker.op();
-        if !matches!(due, Op::Inside) {
-            self.step(seat, walker, due);
-        }
+        self.step(seat, walker, due);
     }
 
     /// The next access of an exit; none where the place is idle.

@@ -187,13 +187,43 @@ fn two_threads_count(rt: HostRuntime) -> Result<(), Fail> {
     Ok(())
 }
 
+// Whether a thread for each place makes so many marks, none of them lost.
+fn all_are_counted<R: Threads + Wait + Sync, const L: u32>(
+    rt: &R,
+    alloc: Global,
+    times: usize,
+) -> Result<bool, Fail>
+    requires { (1 ≤ L) × (L ≤ 6) }
+{
+    let marks = by_all::<_, L>(rt, alloc, times)?;
+    let places = 1usize << L;
+    let each = (0..places).all(|place| marks.count(place) == times);
+    Ok(each && marks.places.len() == places.wrapping_mul(times))
+}
+
 #[test]
-fn eight_threads_count(rt: HostRuntime) -> Result<(), Fail> {
-    let marks = by_all::<_, 3>(&rt, rt.alloc(), 200)?;
-    assert_eq!(rt; marks.places.len(), 1_600);
-    for place in 0..8 {
-        assert_eq!(rt; marks.count(place), 200);
-    }
+fn a_thread_for_each_place_counts(rt: HostRuntime) -> Result<(), Fail> {
+    assert!(rt; all_are_counted::<_, 1>(&rt, rt.alloc(), 500)?);
+    assert!(rt; all_are_counted::<_, 2>(&rt, rt.alloc(), 300)?);
+    assert!(rt; all_are_counted::<_, 3>(&rt, rt.alloc(), 200)?);
+    assert!(rt; all_are_counted::<_, 4>(&rt, rt.alloc(), 100)?);
+    assert!(rt; all_are_counted::<_, 5>(&rt, rt.alloc(), 50)?);
+    assert!(rt; all_are_counted::<_, 6>(&rt, rt.alloc(), 25)?);
+    Ok(())
+}
+
+#[test]
+fn two_locks_are_open_at_once(rt: HostRuntime) -> Result<(), Fail> {
+    let (one, mut passes) = made::<Number, 2>(rt.alloc(), Number(7))?;
+    let pass = passes.pop().ok_or("a pass")?;
+    let (two, mut others) = made::<Number, 2>(rt.alloc(), Number(8))?;
+    let other = others.pop().ok_or("a pass of the other")?;
+    let guard = one.enter(&rt, pass);
+    let inner = two.enter(&rt, other);
+    assert_eq!(rt; (guard.get().0, inner.get().0), (7, 8));
+    let _ = two.leave(inner);
+    let value = one.close(guard);
+    assert_eq!(rt; value.0, 7);
     Ok(())
 }
 
@@ -224,8 +254,10 @@ fn confirmed<R: Wait, const L: u32>(rt: &R, alloc: Global) -> Result<usize, Fail
 #[test]
 fn an_open_guard_keeps_no_other_pass_from_being_confirmed(rt: HostRuntime) -> Result<(), Fail> {
     assert_eq!(rt; confirmed::<_, 1>(&rt, rt.alloc())?, 1);
+    assert_eq!(rt; confirmed::<_, 2>(&rt, rt.alloc())?, 3);
     assert_eq!(rt; confirmed::<_, 3>(&rt, rt.alloc())?, 7);
     assert_eq!(rt; confirmed::<_, 4>(&rt, rt.alloc())?, 15);
+    assert_eq!(rt; confirmed::<_, 5>(&rt, rt.alloc())?, 31);
     assert_eq!(rt; confirmed::<_, 6>(&rt, rt.alloc())?, 63);
     Ok(())
 }

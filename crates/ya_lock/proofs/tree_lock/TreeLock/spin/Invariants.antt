@@ -1,4 +1,5 @@
-use Rattle.std.proofs.Common.{◌≡◌}
+use Rattle.std.proofs.Common.{◌≡◌, ◌⊎◌}
+use Rattle.ya_lock.specs.Climbs.{HasPassed}
 use Rattle.ya_lock.specs.Lock.{IsComing}
 use Rattle.ya_lock.proofs.tree_lock.TreeLock.spin.Given as goal
 
@@ -8,4 +9,6 @@ invariant-loop g l = record {
   levels : l.walker.levels ≡ g.row.L;
   place : l.walker.place ≡ l.place;
   coming : IsComing g.V.Kept.since l.seen.value l.walker l.seat.me;
+  waits : (l.walker.process ≡ l.initial.walker.process)
+      ⊎ HasPassed g.row.L l.initial.walker.process l.walker.process;
 }
