@@ -12,6 +12,7 @@ pub mod Content
 pub mod Deadlock
 pub mod Rivalry
 pub mod Starvation
+pub mod Schedules
 pub mod Overtaking
 pub mod Outcomes
 pub mod NamedWords

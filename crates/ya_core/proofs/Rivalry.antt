@@ -1,8 +1,7 @@
 -- Two at a node, of whom one is stuck: the other is the one rival that competes there, is not stuck itself, and stays
 -- the one until the word is there.
 use Rattle.std.proofs.Common.{◌≡◌, ◌≢◌, ℕ, ◌+◌, ◌-◌, ◌<◌, ◌≤◌, ◌==◌, Bool, true, false, refl, arith, ap, sym, ◌∙◌}
-use Rattle.std.proofs.Common.{subst}
-use Rattle.std.proofs.Common.{◌⊎◌, inl, inr, IsTrue, if◌then◌else◌}
+use Rattle.std.proofs.Common.{subst, ◌⊎◌, inl, inr, IsTrue, if◌then◌else◌}
 use Rattle.std.proofs.lemmas.Bool.Decides.{nat_tests}
 use Rattle.ya_core.specs.declared.word.Word.TheVariants.{C, T, P}
 use Rattle.ya_core.specs.declared.word.Access.TheVariants.{Store}

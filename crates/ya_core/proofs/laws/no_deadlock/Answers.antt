@@ -3,7 +3,7 @@ use Rattle.ya_core.specs.contracts.laws.no_deadlock.{X-type}
 use Rattle.std.proofs.Common.{ap, sym, ◌∙◌}
 use Rattle.ya_core.proofs.Content.{kept}
 use Rattle.ya_core.proofs.Deadlock.{someone_goes_on}
-use Rattle.ya_core.proofs.Starvation.{can_enter_from, can_leave_from}
+use Rattle.ya_core.proofs.Schedules.{can_enter_from, can_leave_from}
 use Rattle.ya_core.proofs.Outcomes.{world_may_step, one_outcome}
 use Rattle.ya_core.proofs.laws.no_deadlock.Goals as goal
 

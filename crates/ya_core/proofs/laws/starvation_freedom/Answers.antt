@@ -1,4 +1,4 @@
-use Rattle.ya_core.proofs.Starvation.{enters, leaves, run_of, one_run, some_fair}
+use Rattle.ya_core.proofs.Schedules.{enters, leaves, run_of, one_run, some_fair}
 use Rattle.ya_core.proofs.laws.starvation_freedom.Goals as goal
 
 pub returns-clause-inside : goal.returns-clause-inside
