@@ -9,9 +9,10 @@
 //! book.apply(2, Cmd::Lookup { addr })?; // Found, with the route of feed 1
 //! ```
 //!
-//! A contract sees a book as two things: how many routes a feed may have, and the journal of every answered command. Its type
-//! keeps that the journal is lawful: each reply is the sequential table's (`specs/Sequential.antt`) in the set of routes that
-//! the entries before it leave, and each entry is of a feed from 1 to 64. The routes are what the journal leaves, and
+//! A contract sees a book as four things: how many routes a feed may have, the journal of every answered command, the trie of
+//! the routes, and for how many entries more the journal has room. Its type keeps that the journal is lawful: each reply is the
+//! sequential table's (`specs/Sequential.antt`) in the set of routes that the entries before it leave, and each entry is of a
+//! feed from 1 to 64. The trie is lawful and holds exactly the routes that the journal leaves ([`Book::holds`]), and
 //! [`Book::routes`] gives them in dump order. [`laws`] says what holds of every set of routes and of every journal.
 //!
 //! The routes lie in a trie: under each prefix what is offered for it, the best offer first (`src/map.rt`, `src/offers.rt`). So
@@ -19,7 +20,7 @@
 //! once, up to the last route of its feed (`src/purge.rt`). Who has several commands at
 //! hand lets the trie wait for the memory of all of them at once by [`Book::read_ahead`] (`src/ahead.rt`).
 //!
-//! Only tested, since no clause says it: that a command succeeds where there is memory, and how many nodes the trie has.
+//! Only tested, since no clause says it: that a command succeeds where there is memory, and whose memory a list takes.
 #![tactic(auto)]
 
 mod ahead;

@@ -1,6 +1,8 @@
+mod memory;
 mod plain;
 mod random;
 mod refusals;
+mod sizes;
 
 use crate::offers::Offers;
 use crate::*;

@@ -5,7 +5,7 @@ use Rattle.rt_rib.specs.declared.commands.Cmd.{Cmd}
 use Rattle.rt_rib.specs.declared.commands.Reply.{Reply}
 use Rattle.rt_rib.specs.declared.commands.Entry.{Entry}
 use Rattle.rt_rib.specs.declared.refused.Refused.{Refused}
-use Rattle.rt_rib.specs.Book.{Contents, Applies}
+use Rattle.rt_rib.specs.Book.{Contents, Applies, Refuses}
 use Rattle.rt_shared.specs.declared.outcome.Outcome.{Outcome}
 use Rattle.rt_feed.specs.Visits.{Visit, reply_to, visit_of, joined, entries}
 use Rattle.walkthrough.specs.Gate.{HasVisits}
@@ -59,14 +59,14 @@ holds_same old new visits held e = holds_more old new visits [] held (e ∙ sym 
 -- a command that the book answered is a visit of its own
 pub holds_answer : (cmd : Cmd) (old new : Contents) (result : Result Reply Refused) → IfOk result (λ reply. Applies old new 1 cmd reply)
     → IfOk result (λ reply. (visits : List Visit) → HasVisits old.journal visits → HasVisits new.journal (visits ++ ((cmd, reply) ∷ []) ∷ []))
-holds_answer cmd old new (Ok reply) a = λ visits held. holds_more old.journal new.journal visits ((cmd, reply) ∷ []) held (ap (λ (b : Contents). b.journal) a.journaled)
+holds_answer cmd old new (Ok reply) a = λ visits held. holds_more old.journal new.journal visits ((cmd, reply) ∷ []) held a.journaled
 holds_answer cmd old new (Err e) a = tt
 
 -- one that it refused is none
-pub holds_refusal : (old new : Contents) (result : Result Reply Refused) → OnErr result (new ≡ old)
+pub holds_refusal : (cmd : Cmd) (old new : Contents) (result : Result Reply Refused) → OnErr result (Refuses old new cmd)
     → OnErr result ((visits : List Visit) → HasVisits old.journal visits → HasVisits new.journal (visits ++ [] ∷ []))
-holds_refusal old new (Ok reply) e = tt
-holds_refusal old new (Err refused) e = λ visits held. holds_same old.journal new.journal visits held (ap (λ (b : Contents). b.journal) e)
+holds_refusal cmd old new (Ok reply) e = tt
+holds_refusal cmd old new (Err refused) e = λ visits held. holds_same old.journal new.journal visits held e.journaled
 
 -- an error before any command was asked: nothing was put behind, and the visit is empty
 pub holds_no_batch : {X E : Type 0} (r : Result X E) (journal : List Entry) (before after : List Outcome) → after ≡ before

@@ -1,5 +1,4 @@
-use Rattle.std.proofs.Common.{ap, []}
-use Rattle.rt_rib.specs.Book.{Contents}
+use Rattle.std.proofs.Common.{[]}
 use Rattle.walkthrough.proofs.gate.run_alone.Goals as goal
 
 pub returns : goal.returns
@@ -9,5 +8,5 @@ returns g c = let ran = c.in_ok-report.ensures.ok in record {
   reported = ran.reported;
   pieces = ran.asks.pieces;
   cut = ran.asks.cut;
-  journaled = ran.asks.gained [] (ap (λ (b : Contents). b.journal) c.new.ensures);
+  journaled = ran.asks.gained [] c.new.ensures.journal;
 }

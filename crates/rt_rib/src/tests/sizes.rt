@@ -1,0 +1,87 @@
+//! A book at its greatest sizes and values: where memory is ample, each command is answered.
+use super::{add, addr, ask, prefix, route, via};
+use crate::*;
+use rt_cidr::Addr;
+use std::test::Fail;
+
+/// The greatest number that a feed may have.
+const LAST_FEED: u32 = 64;
+
+/// How many routes the large table has: more than 65,536.
+const ROUTES: u32 = 66_000;
+
+/// How many entries the long journal has: more than 200,000.
+const ENTRIES: u32 = 210_000;
+
+#[test]
+fn the_greatest_values_are_answered(rt: HostRuntime) -> Result<(), Fail> {
+    let mut book = Book::new(rt.alloc(), 1_000_000);
+    let addr = addr(255, 255, 255, 255);
+    let route = Route {
+        prefix: prefix(&rt, addr, 32),
+        feed: LAST_FEED,
+        pref: u32::MAX,
+        hop: via(64),
+    };
+    let Route {
+        prefix,
+        pref,
+        hop,
+        ..
+    } = route;
+    let rows = [
+        (Cmd::Add { prefix, pref, hop }, Reply::Added),
+        (Cmd::Replace { prefix, pref, hop }, Reply::Replaced),
+        (Cmd::Lookup { addr }, Reply::Found(route)),
+        (Cmd::Dump, Reply::Dumped(1)),
+        (Cmd::Withdraw { prefix }, Reply::Withdrawn),
+        (Cmd::Purge, Reply::Purged(0)),
+    ];
+    for (cmd, reply) in rows {
+        ask(&rt, &mut book, (LAST_FEED, cmd, reply))?;
+    }
+    Ok(())
+}
+
+#[test]
+fn every_feed_offers_one_prefix(rt: HostRuntime) -> Result<(), Fail> {
+    let mut book = Book::new(rt.alloc(), 1);
+    let wide = prefix(&rt, addr(10, 0, 0, 0), 8);
+    for feed in 1..=64u8 {
+        ask(
+            &rt,
+            &mut book,
+            (feed as u32, add(wide, 5, feed), Reply::Added),
+        )?;
+    }
+    let best = Reply::Found(route(wide, 1, 5));
+    let addr = addr(10, 1, 2, 3);
+    ask(&rt, &mut book, (LAST_FEED, Cmd::Lookup { addr }, best))?;
+    assert_eq!(rt; book.routes(rt.alloc())?.len(), 64);
+    Ok(())
+}
+
+#[test]
+fn more_than_65_536_routes_are_listed_and_purged(rt: HostRuntime) -> Result<(), Fail> {
+    let mut book = Book::new(rt.alloc(), 1_000_000);
+    for k in 0..ROUTES {
+        let narrow = prefix(&rt, Addr(k.wrapping_mul(256)), 24);
+        assert_eq!(rt; book.apply(LAST_FEED, add(narrow, 1, 1)), Ok(Reply::Added));
+    }
+    assert_eq!(rt; book.routes(rt.alloc())?.len(), ROUTES as usize);
+    assert_eq!(rt;
+        book.apply(LAST_FEED, Cmd::Purge),
+        Ok(Reply::Purged(ROUTES))
+    );
+    Ok(())
+}
+
+#[test]
+fn more_than_200_000_entries_are_kept(rt: HostRuntime) -> Result<(), Fail> {
+    let mut book = Book::new(rt.alloc(), 1);
+    for _ in 0..ENTRIES {
+        let _ = book.apply(LAST_FEED, Cmd::Dump)?;
+    }
+    assert_eq!(rt; book.journal().len(), ENTRIES as usize);
+    Ok(())
+}
