@@ -351,7 +351,8 @@ a_purge_is_its_own = refl
 
 -- feed_entries
 entries_of_one_feed :
-    feed_entries 2 (entry 1 Dump (Dumped 0) ∷ entry 2 Dump (Dumped 0) ∷ entry 64 Purge (Purged 0) ∷ []) ≡ entry 2 Dump (Dumped 0) ∷ []
+    feed_entries 2 (entry 1 Dump (Dumped 0) ∷ entry 2 (Lookup at_last) NoRoute ∷ entry 64 Purge (Purged 0) ∷ [])
+    ≡ entry 2 (Lookup at_last) NoRoute ∷ []
 entries_of_one_feed = refl
 
 -- IsLimit

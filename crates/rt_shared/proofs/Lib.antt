@@ -5,3 +5,4 @@ pub mod Passes
 pub mod Uncutting
 pub mod Runs
 pub mod Testing
+pub mod Examples

@@ -18,3 +18,4 @@ pub mod Outcomes
 pub mod NamedWords
 pub mod MachineSteps
 pub mod DueAccess
+pub mod Examples

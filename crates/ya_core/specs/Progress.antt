@@ -77,6 +77,7 @@ abbrev pub is_rival : ℕ → ℕ → ℕ → Bool
 is_rival level place other =
     (node_of level other == node_of level place) && not (side_of level other == side_of level place)
 
+-- the deed wins the node
 abbrev pub is_win : Deed → Bool
 is_win Wins = true
 is_win _ = false

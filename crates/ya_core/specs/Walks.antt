@@ -38,6 +38,7 @@ due_of levels place (Entering level point) begun = Some (access_of levels place 
 due_of levels place Inside begun = if begun then Some (access_of levels place Inside) else None
 due_of levels place (Leaving level point) begun = Some (access_of levels place (Leaving level point))
 
+-- the access that is due to a walk
 abbrev pub due : Walk → Option Access
 due w = due_of w.levels w.place w.process w.begun
 
@@ -70,6 +71,7 @@ cost_of_word place (C level node side) = 1
 cost_of_word place (T level node) = 1
 cost_of_word place (P level owner) = if owner == place then 0 else 1
 
+-- how many remote accesses an access is, 0 or 1
 abbrev pub cost_of : ℕ → Access → ℕ
 cost_of place (Load word) = cost_of_word place word
 cost_of place (Store word value) = cost_of_word place word
