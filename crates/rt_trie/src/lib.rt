@@ -24,6 +24,8 @@ mod checks;
 mod insertion;
 pub mod laws;
 mod lending;
+#[cfg(test)]
+mod memory_checks;
 mod nodes;
 mod removal;
 mod search;
