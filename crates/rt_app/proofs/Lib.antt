@@ -1,6 +1,6 @@
 pub mod Replaying
 pub mod Numbered
-pub mod TwoTexts
+pub mod Buffered
 pub mod Pushing
 pub mod SeveralFeeds
 pub mod SameTables

@@ -1,8 +1,9 @@
--- The texts of numbered items, one after another, as they are put behind what a buffer holds.
+-- The texts of numbered items, one after another, as they are written.
 use Rattle.std.proofs.Common.{◌≡◌, ℕ, ◌+◌, ◌<◌, List, [], ◌∷◌, ◌++◌, length, take, drop, get_or, refl, sym, ap, ◌∙◌, arith, append_assoc, append-nil, add-zero, add-one, length-take, take-append-drop, Option}
 use Rattle.std.proofs.Math.Seq.{take-suc}
-use Rattle.rt_cidr.specs.Output.{AppendsBeginning, PassesOn}
-use Rattle.rt_cidr.proofs.Promised.{begins_longer, passes_on-begins, passes_on-more}
+use Rattle.std.specs.Io.KnownBytes.{Appends}
+use Rattle.rt_cidr.specs.Output.{AppendsBeginning}
+use Rattle.rt_cidr.proofs.Promised.{appends_after, begins_after, begins_longer}
 
 -- the text of one item under its number, and of all of them from this number on
 module _ {X : Type 0} (one : ℕ → X → List ℕ) (all : ℕ → List X → List ℕ) (none : (number : ℕ) → all number [] ≡ [])
@@ -31,14 +32,13 @@ module _ {X : Type 0} (one : ℕ → X → List ℕ) (all : ℕ → List X → L
           ∙ ap (λ text. text ++ all (1 + length (take (k + 1) xs)) (drop (k + 1) xs)) all-take,
     )
 
-    module _ (a b c : Option (List ℕ)) (held held' : List ℕ) (first : PassesOn a b held held' (all 1 (take k xs))) where
+    module _ (a b c : Option (List ℕ)) (first : Appends a b (all 1 (take k xs))) where
       -- the next item's text is put behind those before it
-      pub passes_next : (held'' : List ℕ) → PassesOn b c held' held'' (one (k + 1) x) → PassesOn a c held held'' (all 1 (take (k + 1) xs))
-      passes_next held'' second = rw all-take (passes_on-more a b c held held' held'' _ _ first second)
+      pub appends_next : Appends b c (one (k + 1) x) → Appends a c (all 1 (take (k + 1) xs))
+      appends_next second = rw all-take (appends_after a b c _ _ first second)
 
       -- a fault within it leaves a beginning of all texts
-      pub begins_all : AppendsBeginning b c (held' ++ one (k + 1) x) → AppendsBeginning a c (held ++ all 1 xs)
+      pub begins_all : AppendsBeginning b c (one (k + 1) x) → AppendsBeginning a c (all 1 xs)
       begins_all second =
           let (rest, whole) = all-rest in
-          let so_far = passes_on-begins a b c held held' _ (one (k + 1) x) first second in
-          rw (whole, ← append_assoc held (all 1 (take k xs) ++ one (k + 1) x) rest) (begins_longer a c _ rest so_far)
+          rw whole (begins_longer a c _ rest (begins_after a b c _ (one (k + 1) x) first second))

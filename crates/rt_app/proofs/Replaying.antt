@@ -6,21 +6,22 @@ use Rattle.ya_core.specs.declared.step.Mark.{Mark}
 use Rattle.ya_core.specs.declared.step.Mark.TheVariants.{Plain, Inside, Out}
 use Rattle.ya_core.specs.declared.word.Word.{Word}
 use Rattle.ya_core.specs.declared.word.Word.TheVariants.{C, T, P}
-use Rattle.rt_cidr.specs.Output.{AppendsBeginning, PassesOn}
+use Rattle.std.specs.Io.KnownBytes.{Appends}
+use Rattle.rt_cidr.specs.Output.{AppendsBeginning}
 use Rattle.rt_cidr.proofs.Promised.{length-decimal}
-use Rattle.rt_app.specs.ReplayText.{level_text, word_text, mark_text, sign_text, step_text, steps_text, inside_text}
+use Rattle.rt_app.specs.ReplayText.{level_text, word_text, mark_text, sign_text, step_text, steps_text, inside_text, replay_text_of}
 use Rattle.rt_app.proofs.Numbered as numbered
 
-module _ (steps : List Step) (k : ℕ) (d : Step) (here : k < length steps) (a b c : Option (List ℕ)) (held held' held'' : List ℕ) (first : PassesOn a b held held' (steps_text 1 (take k steps))) where
+module _ (steps : List Step) (k : ℕ) (d : Step) (here : k < length steps) (a b c : Option (List ℕ)) (first : Appends a b (steps_text 1 (take k steps))) where
   -- the next step's line is put behind those before it
-  pub passes_next : PassesOn b c held' held'' (step_text (k + 1) (get_or steps k d)) → PassesOn a c held held'' (steps_text 1 (take (k + 1) steps))
-  passes_next second =
-      numbered.passes_next step_text steps_text (λ n. refl) (λ n x xs. refl) steps k (get_or steps k d) here (get_or_default steps k d (get_or steps k d) here) a b c held held' first held'' second
+  pub appends_next : Appends b c (step_text (k + 1) (get_or steps k d)) → Appends a c (steps_text 1 (take (k + 1) steps))
+  appends_next second =
+      numbered.appends_next step_text steps_text (λ n. refl) (λ n x xs. refl) steps k (get_or steps k d) here (get_or_default steps k d (get_or steps k d) here) a b c first second
 
   -- a fault within it leaves a beginning of all lines
-  pub begins_all : AppendsBeginning b c (held' ++ step_text (k + 1) (get_or steps k d)) → AppendsBeginning a c (held ++ steps_text 1 steps)
+  pub begins_all : AppendsBeginning b c (step_text (k + 1) (get_or steps k d)) → AppendsBeginning a c (steps_text 1 steps)
   begins_all second =
-      numbered.begins_all step_text steps_text (λ n. refl) (λ n x xs. refl) steps k (get_or steps k d) here (get_or_default steps k d (get_or steps k d) here) a b c held held' first second
+      numbered.begins_all step_text steps_text (λ n. refl) (λ n x xs. refl) steps k (get_or steps k d) here (get_or_default steps k d (get_or steps k d) here) a b c first second
 
 -- how long the lines are at most
 level_fits : (letter : List ℕ) (level index : ℕ) → length (level_text letter level index) ≤ length letter + 129
@@ -65,3 +66,9 @@ pub inside_fits : (inside : Option ℕ) → length (inside_text inside) ≤ 80
 unfolding inside_text
 inside_fits None = omega arith
 inside_fits (Some place) = let digits = length-decimal place in simp length-append (omega arith)
+
+-- no replay's text is empty
+pub replay_text-some : (steps : List Step) (inside : Option ℕ) → 0 < length (replay_text_of steps inside)
+unfolding inside_text
+replay_text-some steps None = simp length-append (omega arith)
+replay_text-some steps (Some place) = simp length-append (omega arith)

@@ -1,5 +1,5 @@
 -- The text that a run of feeds writes: one lawful journal explains every reply in it, and the table at its end.
-use Rattle.std.specs.Prelude.{◌≡◌, ℕ, ◌+◌, ◌≤◌, if◌then◌else◌, List, [], ◌∷◌, ◌++◌, All, length, map, Option, Result, Ok, Err}
+use Rattle.std.specs.Prelude.{◌≡◌, ◌≢◌, ℕ, ◌+◌, ◌≤◌, if◌then◌else◌, List, [], ◌∷◌, ◌++◌, All, length, map, Option, Result, Ok, Err}
 use Rattle.std.specs.List.{list_any}
 use Rattle.std.specs.Io.KnownBytes.{Appends}
 use Rattle.rt_cidr.specs.Output.{AppendsBeginning}
@@ -12,6 +12,7 @@ use Rattle.rt_feed.specs.declared.report.Line.{Line}
 use Rattle.rt_feed.specs.LineOutcomes.{LineOutcome, Becomes, report_lines, asked_of, some_refused, some_faulty}
 use Rattle.rt_feed.specs.Visits.{IsCut, visit_of, entries}
 use Rattle.rt_feed.specs.Printed.{report_text, table_text}
+use Rattle.rt_feed.specs.declared.faults.RunFault.TheVariants as fault
 use Rattle.rt_app.specs.declared.faults.AppFault.{AppFault}
 use Rattle.rt_app.specs.declared.faults.AppFault.TheVariants.{Run, Replay, Write}
 
@@ -53,10 +54,11 @@ pub record IsRunText (texts : List (List ℕ)) (limit batch : ℕ) (bytes : List
   pub printed : bytes ≡ reports_text 1 (map (report_lines 1) outcomes) ++ table_text (table_left limit journal)
   pub is_status : status ≡ status_of outcomes
 
--- what a run leaves in its writer: such a text; nothing where it was refused; a beginning of such a text where it could not be written
+-- what a run leaves in its writer: such a text; nothing where it was refused, which it never is as F2; a beginning of
+-- such a text where it could not be written
 abbrev pub Leaves : List (List ℕ) → ℕ → ℕ → Option (List ℕ) → Option (List ℕ) → Result ℕ AppFault → Type 0
 Leaves texts limit batch old new (Ok status) = (bytes : List ℕ) × IsRunText texts limit batch bytes status × Appends old new bytes
-Leaves texts limit batch old new (Err (Run fault)) = new ≡ old
+Leaves texts limit batch old new (Err (Run refusal)) = (refusal ≢ fault.FeedCount) × (new ≡ old)
 Leaves texts limit batch old new (Err (Replay fault)) = ⊥
 Leaves texts limit batch old new (Err Write) =
     (bytes : List ℕ) × (status : ℕ) × IsRunText texts limit batch bytes status × AppendsBeginning old new bytes

@@ -1,13 +1,13 @@
 //! The text of a replay: the atomic steps of one schedule of the lock, one a line.
 ghost use Rattle.std.specs.Prelude.{◌≡◌, ◌↔◌, ◌≤◌, ◌<◌, ◌++◌, ◌^◌, [], length, codes, decimal, Any, OnOk, OnErr};
 ghost use Rattle.std.specs.Io.KnownBytes.{Appends};
-ghost use Rattle.rt_cidr.specs.Output.{AppendsBeginning, PassesOn};
+ghost use Rattle.rt_cidr.specs.Output.{AppendsBeginning};
 ghost use Rattle.rt_cidr.specs.ShortText.{Fits};
 ghost use Rattle.rt_app.specs.ReplayText.{level_text, word_text, mark_text, sign_text, step_text, steps_text, inside_next, inside_after, inside_text, replay_text_of, LeavesReplay};
 ghost use Rattle.ya_core.specs.Tree.{HasShape};
 
 use crate::faults::AppFault;
-use rt_cidr::{OutputBuffer, ShortText};
+use rt_cidr::{OutputBuffer, OutputRoom, ShortText, put};
 use std::alloc::Global;
 use std::io::{self, Write};
 use ya_core::{Mark, ReplayFault, Step, Word, replay};
@@ -31,64 +31,72 @@ pub fn replay_text<W: Write>(
         Ok(steps) => steps,
         Err(fault) => return Err(AppFault::Replay(fault)),
     };
-    let Ok(mut buffer) = OutputBuffer::new(alloc) else {
+    let Ok(room) = OutputRoom::new(alloc) else {
         return Err(AppFault::Replay(ReplayFault::Memory));
     };
     let inside = inside_place(steps.as_slice());
-    match write_replay(w, &mut buffer, steps.as_slice(), inside) {
+    match write_replay(w, room, steps.as_slice(), inside) {
         Ok(()) => Ok(0),
         Err(_) => Err(AppFault::Write),
     }
 }
 
-/// Writes the text of a replay that made these steps, after which that place is inside.
+/// Writes the text of a replay that made these steps, after which that place is inside, in few large writes. Takes no
+/// memory.
 fn write_replay<W: Write>(
     w: &mut W,
-    buffer: &mut OutputBuffer,
+    room: OutputRoom,
     steps: &[Step],
     inside: Option<usize>,
 ) -> Result<(), io::Error>
-    requires empty { buffer.old ≡ [] }
+    requires empty { room ≡ [] }
     requires numbered { length steps.now < 2 ^ 63 }
     ensures ok { OnOk result (Appends (W.contents w.old) (W.contents w.new) (replay_text_of steps.now inside)) }
     ensures err { OnErr result (AppendsBeginning (W.contents w.old) (W.contents w.new) (replay_text_of steps.now inside)) }
 {
-    write_steps(w, buffer, steps)?;
-    write_inside(w, buffer, inside)?;
-    buffer.flush(w)
+    let mut buffer = OutputBuffer::new(w, room);
+    if let Err(fault) = write_lines(&mut buffer, steps, inside) {
+        let _ = buffer.into_writer();
+        return Err(fault);
+    }
+    let flushed = buffer.flush();
+    let _ = buffer.into_writer();
+    flushed
 }
 
-/// Puts the last line behind what the buffer holds.
+/// Writes the text of a replay that made these steps, after which that place is inside.
+fn write_lines<W: Write>(w: &mut W, steps: &[Step], inside: Option<usize>) -> Result<(), io::Error>
+    requires numbered { length steps.now < 2 ^ 63 }
+    ensures ok { OnOk result (Appends (W.contents w.old) (W.contents w.new) (replay_text_of steps.now inside)) }
+    ensures err { OnErr result (AppendsBeginning (W.contents w.old) (W.contents w.new) (replay_text_of steps.now inside)) }
+{
+    write_steps(w, steps)?;
+    write_inside(w, inside)
+}
+
+/// Writes the last line.
 #[tactic(auto, using(crate::proofs::Replaying::inside_fits))]
-fn write_inside<W: Write>(
-    w: &mut W,
-    buffer: &mut OutputBuffer,
-    inside: Option<usize>,
-) -> Result<(), io::Error>
-    ensures ok { OnOk result (PassesOn (W.contents w.old) (W.contents w.new) buffer.old buffer.new (inside_text inside)) }
-    ensures err { OnErr result (AppendsBeginning (W.contents w.old) (W.contents w.new) (buffer.old ++ inside_text inside)) }
+fn write_inside<W: Write>(w: &mut W, inside: Option<usize>) -> Result<(), io::Error>
+    ensures ok { OnOk result (Appends (W.contents w.old) (W.contents w.new) (inside_text inside)) }
+    ensures err { OnErr result (AppendsBeginning (W.contents w.old) (W.contents w.new) (inside_text inside)) }
 {
     let mut text = ShortText::new();
     prepend_inside(&mut text, inside);
-    buffer.put(w, text.as_bytes())
+    put(w, text.as_bytes())
 }
 
-/// Puts the steps' lines behind what the buffer holds.
+/// Writes the steps' lines.
 #[tactic(auto, using(crate::proofs::Replaying::step_fits))]
-fn write_steps<W: Write>(
-    w: &mut W,
-    buffer: &mut OutputBuffer,
-    steps: &[Step],
-) -> Result<(), io::Error>
+fn write_steps<W: Write>(w: &mut W, steps: &[Step]) -> Result<(), io::Error>
     requires numbered { length steps.now < 2 ^ 63 }
-    ensures ok { OnOk result (PassesOn (W.contents w.old) (W.contents w.new) buffer.old buffer.new (steps_text 1 steps.now)) }
-    ensures err { OnErr result (AppendsBeginning (W.contents w.old) (W.contents w.new) (buffer.old ++ steps_text 1 steps.now)) }
+    ensures ok { OnOk result (Appends (W.contents w.old) (W.contents w.new) (steps_text 1 steps.now)) }
+    ensures err { OnErr result (AppendsBeginning (W.contents w.old) (W.contents w.new) (steps_text 1 steps.now)) }
 {
     let mut text = ShortText::new();
     for (index, step) in steps.iter().enumerate() {
         text.clear();
         prepend_step(&mut text, index as u64 + 1, step);
-        buffer.put(w, text.as_bytes())?;
+        put(w, text.as_bytes())?;
     }
     Ok(())
 }

@@ -1,7 +1,7 @@
 //! A run: feed texts in, their reports and the table out.
 ghost use Rattle.std.specs.Prelude.{◌≡◌, ◌≢◌, ◌↔◌, ℕ, List, ◌+◌, ◌≤◌, ◌++◌, ◌^◌, [], ◌∷◌, map, length, vec_len, vec_capacity, All, Some, None, IfOk, OnOk, OnErr, IsSome};
 ghost use Rattle.std.specs.Io.KnownBytes.{Appends};
-ghost use Rattle.rt_cidr.specs.Output.{AppendsBeginning, PassesOn};
+ghost use Rattle.rt_cidr.specs.Output.{AppendsBeginning};
 ghost use Rattle.rt_rib.specs.Book.{IsLimit};
 ghost use Rattle.std.specs.List.{list_any};
 ghost use Rattle.rt_feed.specs.Reports.{has_refusal, has_fault};
@@ -11,7 +11,7 @@ ghost use Rattle.rt_app.specs.Running.{HasRun, HaveRun, reports_status};
 ghost use Rattle.rt_shared.specs.Table.{ArePassesOf};
 
 use crate::faults::AppFault;
-use rt_cidr::OutputBuffer;
+use rt_cidr::{OutputBuffer, OutputRoom};
 use rt_feed::{Feed, Report, RunFault, TableGate, run_feeds, write_report, write_table};
 use rt_rib::{Book, Route};
 use rt_shared::{FeedPass, SharedRib};
@@ -190,10 +190,10 @@ fn write_ran<W: Write>(alloc: Global, ran: &Ran, w: &mut W) -> Result<u8, AppFau
     let Ok(routes) = ran.book.routes(alloc) else {
         return Err(AppFault::Run(RunFault::Memory));
     };
-    let Ok(mut buffer) = OutputBuffer::new(alloc) else {
+    let Ok(room) = OutputRoom::new(alloc) else {
         return Err(AppFault::Run(RunFault::Memory));
     };
-    match write_run(w, &mut buffer, ran.reports.as_slice(), routes.as_slice()) {
+    match write_run(w, room, ran.reports.as_slice(), routes.as_slice()) {
         Ok(()) => Ok(status_of(ran.reports.as_slice())),
         Err(_) => Err(AppFault::Write),
     }
@@ -202,32 +202,43 @@ fn write_ran<W: Write>(alloc: Global, ran: &Ran, w: &mut W) -> Result<u8, AppFau
 /// Writes the reports, the k-th as feed k's, and then the table, in few large writes. Takes no memory.
 fn write_run<W: Write>(
     w: &mut W,
-    buffer: &mut OutputBuffer,
+    room: OutputRoom,
     reports: &[Report],
     routes: &[Route],
 ) -> Result<(), io::Error>
-    requires empty { buffer.old ≡ [] }
+    requires empty { room ≡ [] }
     requires few { length reports.now ≤ 64 }
     ensures ok { OnOk result (Appends (W.contents w.old) (W.contents w.new) (reports_text 1 reports.now ++ table_text routes.now)) }
     ensures err { OnErr result (AppendsBeginning (W.contents w.old) (W.contents w.new) (reports_text 1 reports.now ++ table_text routes.now)) }
 {
-    write_reports(w, buffer, reports)?;
-    write_table(w, buffer, routes)?;
-    buffer.flush(w)
+    let mut buffer = OutputBuffer::new(w, room);
+    if let Err(fault) = write_all(&mut buffer, reports, routes) {
+        let _ = buffer.into_writer();
+        return Err(fault);
+    }
+    let flushed = buffer.flush();
+    let _ = buffer.into_writer();
+    flushed
 }
 
-/// Puts the reports behind what the buffer holds, the k-th as feed k's.
-fn write_reports<W: Write>(
-    w: &mut W,
-    buffer: &mut OutputBuffer,
-    reports: &[Report],
-) -> Result<(), io::Error>
+/// Writes the reports, the k-th as feed k's, and then the table.
+fn write_all<W: Write>(w: &mut W, reports: &[Report], routes: &[Route]) -> Result<(), io::Error>
     requires few { length reports.now ≤ 64 }
-    ensures ok { OnOk result (PassesOn (W.contents w.old) (W.contents w.new) buffer.old buffer.new (reports_text 1 reports.now)) }
-    ensures err { OnErr result (AppendsBeginning (W.contents w.old) (W.contents w.new) (buffer.old ++ reports_text 1 reports.now)) }
+    ensures ok { OnOk result (Appends (W.contents w.old) (W.contents w.new) (reports_text 1 reports.now ++ table_text routes.now)) }
+    ensures err { OnErr result (AppendsBeginning (W.contents w.old) (W.contents w.new) (reports_text 1 reports.now ++ table_text routes.now)) }
+{
+    write_reports(w, reports)?;
+    write_table(w, routes)
+}
+
+/// Writes the reports, the k-th as feed k's.
+fn write_reports<W: Write>(w: &mut W, reports: &[Report]) -> Result<(), io::Error>
+    requires few { length reports.now ≤ 64 }
+    ensures ok { OnOk result (Appends (W.contents w.old) (W.contents w.new) (reports_text 1 reports.now)) }
+    ensures err { OnErr result (AppendsBeginning (W.contents w.old) (W.contents w.new) (reports_text 1 reports.now)) }
 {
     for (index, report) in reports.iter().enumerate() {
-        write_report(w, buffer, index as u32 + 1, report)?;
+        write_report(w, index as u32 + 1, report)?;
     }
     Ok(())
 }

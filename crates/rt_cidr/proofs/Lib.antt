@@ -7,4 +7,5 @@ pub mod Ranges
 pub mod Texts
 pub mod ShortTexts
 pub mod Outputs
+pub mod Buffers
 pub mod Examples

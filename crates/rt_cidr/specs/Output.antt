@@ -1,5 +1,5 @@
 -- What stands in a writer when text was sent to it, at once or through a buffer.
-use Rattle.std.specs.Prelude.{◌≡◌, ℕ, ◌<◌, List, ◌++◌, length, take, Option}
+use Rattle.std.specs.Prelude.{ℕ, ◌<◌, List, ◌∷◌, ◌++◌, length, take, Option, Some, None, if◌then◌else◌, nat_le}
 use Rattle.std.specs.Io.KnownBytes.{Appends}
 
 -- after a fault: known contents grew by a beginning of the bytes, and never by all of them
@@ -8,8 +8,11 @@ pub record AppendsBeginning (old new : Option (List ℕ)) (bytes : List ℕ) : T
   pub within : count < length bytes
   pub appended : Appends old new (take count bytes)
 
--- text was put behind what a buffer held: a part of both has gone to the writer, and the buffer holds the rest
-pub record PassesOn (old new : Option (List ℕ)) (held held' text : List ℕ) : Type 0 where
-  pub gone : List ℕ
-  pub appended : Appends old new gone
-  pub rest : held ++ text ≡ gone ++ held'
+-- the contents of a buffer over a writer: what lies in the writer and then what the buffer holds, where the writer tells
+-- of its bytes, and still has as many as it began with. In front stand the name of the reference to the writer and how
+-- many bytes the writer began with, since a call that writes to any writer promises nothing but its contents
+abbrev pub buffered : ℕ → Option (List ℕ) → Option (List ℕ) → List ℕ → Option (List ℕ)
+buffered name (Some began) (Some below) held =
+    if nat_le (length began) (length below) then Some (name ∷ length began ∷ (below ++ held)) else None
+buffered name (Some began) None held = None
+buffered name None below held = None

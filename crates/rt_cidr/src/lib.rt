@@ -12,15 +12,16 @@
 //!
 //! Contracts see an [`Addr`] as its 32 bits and a [`Prefix`] as its base and its length, with the fact that it is one.
 //! A [`ShortText`] is the list of its bytes: each printer puts its text in front, and asks for room by that text alone.
-//! An [`OutputBuffer`] is the list of the bytes that it holds and that are not yet written.
+//! An [`OutputBuffer`] is a writer over another one: its contents are what lies there and then what it holds.
 //!
-//! No call takes memory but `OutputBuffer::new`. A writer may take any part of what it is given; that it never tells of
+//! No call takes memory but `OutputRoom::new`. A writer may take any part of what it is given; that it never tells of
 //! more than that is a clause of std's `Write`, so an implementation that does is refused where it is written.
 //!
 //! Only tested: which error a writer's fault is, that no writer is flushed, and that a buffer goes out in few writes.
 #![tactic(auto)]
 
 mod address;
+mod buffer;
 mod decimals;
 pub mod laws;
 mod output;
@@ -28,8 +29,9 @@ mod prefixes;
 mod short_text;
 
 pub use address::Addr;
+pub use buffer::{OUTPUT_BYTES, OutputBuffer, OutputRoom};
 pub use decimals::decimal_u32;
-pub use output::{OUTPUT_BYTES, OutputBuffer, put};
+pub use output::put;
 pub use prefixes::{Prefix, TextFault};
 pub use short_text::{SHORT_TEXT_BYTES, ShortText};
 

@@ -1,6 +1,6 @@
 //! Texts read and written, and writers that take a byte a call, fail or hold too little.
 use super::*;
-use std::alloc::Global;
+use std::alloc::{AllocError, Global};
 use std::io::{self, ErrorKind, Write};
 use std::process::Abort;
 use std::test::Fail;
@@ -280,37 +280,97 @@ fn write_values(rt: &impl Abort, alloc: Global, kind: ErrorKind) {
     assert_fault(rt, prefix.write_to(&mut failing(alloc, kind)), kind);
 }
 
-fn flush_held(rt: &impl Abort, alloc: Global, buffer: &mut OutputBuffer, kind: ErrorKind) {
+fn flush_held(rt: &impl Abort, alloc: Global, kind: ErrorKind) -> Result<(), AllocError> {
     let mut writer = failing(alloc, kind);
-    buffer.put(&mut writer, b"held").expect(rt, "room");
-    assert_fault(rt, buffer.flush(&mut writer), kind);
+    let mut buffer = OutputBuffer::new(&mut writer, OutputRoom::new(alloc)?);
+    put(&mut buffer, b"held").expect(rt, "room");
+    assert_fault(rt, buffer.flush(), kind);
+    Ok(())
 }
 
 // Where a text has no room, the fault is that of writing what was held, or that of writing the text.
 fn overfill(
     rt: &impl Abort,
     alloc: Global,
-    buffer: &mut OutputBuffer,
     held: &[u8],
     long: &[u8],
     kind: ErrorKind,
-) {
+) -> Result<(), AllocError> {
     let mut writer = failing(alloc, kind);
-    buffer.put(&mut writer, held).expect(rt, "room");
-    assert_fault(rt, buffer.put(&mut writer, long), kind);
+    let mut buffer = OutputBuffer::new(&mut writer, OutputRoom::new(alloc)?);
+    put(&mut buffer, held).expect(rt, "room");
+    assert_fault(rt, put(&mut buffer, long), kind);
+    Ok(())
 }
 
 // A `write_to`, or a call of a buffer, that answers another fault than the writer's is seen here.
 #[test]
 fn hands_on_the_fault_of_what_it_writes(rt: HostRuntime) -> Result<(), Fail> {
-    let long = Vec::from_elem(rt.alloc(), b'x', OUTPUT_BYTES + 1)?;
+    let long = Vec::from_elem(rt.alloc(), b'x', OUTPUT_BYTES + 10)?;
     for kind in [ErrorKind::BrokenPipe, ErrorKind::Interrupted] {
         write_values(&rt, rt.alloc(), kind);
-        let mut buffer = OutputBuffer::new(rt.alloc())?;
-        flush_held(&rt, rt.alloc(), &mut buffer, kind);
-        overfill(&rt, rt.alloc(), &mut buffer, b"held", &long, kind);
-        overfill(&rt, rt.alloc(), &mut buffer, b"", &long, kind);
+        flush_held(&rt, rt.alloc(), kind)?;
+        overfill(&rt, rt.alloc(), b"held", &long, kind)?;
+        overfill(&rt, rt.alloc(), b"", &long, kind)?;
     }
+    Ok(())
+}
+
+/// Fails at its first call and then at each second one, and else takes two bytes.
+#[derive(Drop)]
+struct Faltering {
+    taken: Vec<u8>,
+    calls: u32,
+}
+
+impl Write for Faltering {
+    fn write(&mut self, buf: &[u8]) -> io::Result<usize> {
+        self.calls = self.calls.saturating_add(1);
+        if self.calls % 2 == 1 {
+            return Err(io::Error::from(ErrorKind::Interrupted));
+        }
+        let count = buf.len().min(2);
+        self.taken.extend_from_slice(&buf[..count])?;
+        Ok(count)
+    }
+
+    fn flush(&mut self) -> io::Result<()> {
+        Err(io::Error::from(ErrorKind::Other))
+    }
+}
+
+// What a fault leaves is held, so that a buffer which is flushed again and again writes each byte once. One that tries
+// again by itself, as std's does after `Interrupted`, is seen here.
+#[test]
+fn holds_what_a_fault_leaves(rt: HostRuntime) -> Result<(), Fail> {
+    let mut writer = Faltering {
+        taken: Vec::new(rt.alloc()),
+        calls: 0,
+    };
+    let mut buffer = OutputBuffer::new(&mut writer, OutputRoom::new(rt.alloc())?);
+    put(&mut buffer, b"10.0.0.0/8")?;
+    for _ in 0u32..5 {
+        assert_fault(&rt, buffer.flush(), ErrorKind::Interrupted);
+    }
+    // The last two bytes go out by the call after the fifth fault.
+    let last = buffer.flush();
+    drop(buffer);
+    assert_eq!(rt; writer.taken.as_slice(), b"10.0.0.0/8".as_slice());
+    assert!(rt; last.is_ok());
+    assert_eq!(rt; writer.calls, 10);
+    Ok(())
+}
+
+// A buffer that is dropped writes nothing, and one that is flushed while it holds nothing doesn't either.
+#[test]
+fn writes_when_it_is_told_to(rt: HostRuntime) -> Result<(), Fail> {
+    let mut writer = Unflushed::new(rt.alloc());
+    let mut buffer = OutputBuffer::new(&mut writer, OutputRoom::new(rt.alloc())?);
+    buffer.flush()?;
+    assert_eq!(rt; buffer.write(b"")?, 0);
+    assert_eq!(rt; buffer.write(b"10.0.0.0/8")?, 10);
+    drop(buffer);
+    assert_eq!(rt; writer.calls, 0);
     Ok(())
 }
 
@@ -356,9 +416,9 @@ impl Write for Unflushed {
 fn never_flushes_the_writer(rt: HostRuntime) -> Result<(), Fail> {
     let mut writer = Unflushed::new(rt.alloc());
     put(&mut writer, b"10.0.0.0/8")?;
-    let mut buffer = OutputBuffer::new(rt.alloc())?;
-    buffer.put(&mut writer, b" via 192.0.2.1")?;
-    buffer.flush(&mut writer)?;
+    let mut buffer = OutputBuffer::new(&mut writer, OutputRoom::new(rt.alloc())?);
+    put(&mut buffer, b" via 192.0.2.1")?;
+    buffer.flush()?;
     assert_eq!(rt;
         writer.taken.as_slice(),
         b"10.0.0.0/8 via 192.0.2.1".as_slice()
@@ -371,15 +431,10 @@ fn piece(number: u32) -> [u8; 10] {
     [b'a' + (number % 26) as u8; 10]
 }
 
-/// Puts 20,000 pieces into the buffer, and behind one another into the list.
-fn put_pieces(
-    rt: &impl Abort,
-    buffer: &mut OutputBuffer,
-    writer: &mut Unflushed,
-    wanted: &mut Vec<u8>,
-) {
+/// Puts 20,000 pieces into the writer, and behind one another into the list.
+fn put_pieces(rt: &impl Abort, w: &mut impl Write, wanted: &mut Vec<u8>) {
     for i in 0u32..20_000 {
-        buffer.put(writer, &piece(i)).expect(rt, "no fault");
+        put(w, &piece(i)).expect(rt, "no fault");
         wanted.extend_from_slice(&piece(i)).expect(rt, "memory");
     }
 }
@@ -388,18 +443,25 @@ fn put_pieces(
 #[test]
 fn gathers_pieces_into_few_large_writes(rt: HostRuntime) -> Result<(), Fail> {
     let mut writer = Unflushed::new(rt.alloc());
-    let mut buffer = OutputBuffer::new(rt.alloc())?;
     let mut wanted = Vec::new(rt.alloc());
-    put_pieces(&rt, &mut buffer, &mut writer, &mut wanted);
+    let mut buffer = OutputBuffer::new(&mut writer, OutputRoom::new(rt.alloc())?);
+    put_pieces(&rt, &mut buffer, &mut wanted);
+    let _ = buffer.into_writer();
     assert_eq!(rt; writer.calls, 3);
-    buffer.flush(&mut writer)?;
-    assert_eq!(rt; writer.calls, 4);
-    assert_eq!(rt; writer.taken.as_slice(), wanted.as_slice());
 
+    let mut writer = Unflushed::new(rt.alloc());
+    let mut wanted = Vec::new(rt.alloc());
+    let mut buffer = OutputBuffer::new(&mut writer, OutputRoom::new(rt.alloc())?);
+    put_pieces(&rt, &mut buffer, &mut wanted);
+    buffer.flush()?;
     // A text that is longer than the buffer goes out at once, behind what was held.
-    buffer.put(&mut writer, b"held")?;
-    buffer.put(&mut writer, wanted.as_slice())?;
+    put(&mut buffer, b"held")?;
+    put(&mut buffer, wanted.as_slice())?;
+    drop(buffer);
     assert_eq!(rt; writer.calls, 6);
     assert_eq!(rt; writer.taken.len(), 400_004);
+    assert_eq!(rt; &writer.taken[..200_000], wanted.as_slice());
+    assert_eq!(rt; &writer.taken[200_000..200_004], b"held".as_slice());
+    assert_eq!(rt; &writer.taken[200_004..], wanted.as_slice());
     Ok(())
 }

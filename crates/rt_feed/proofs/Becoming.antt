@@ -84,12 +84,12 @@ becomes-alike text left outcomes others same is =
       refl,
     )
 
--- the first of some lines became what they became
+-- the first of some lines became what they became, and so did the others
 become-first : (version : Version) (lines left : List ℕ) (outcomes more : List LineOutcome) → LinesBecome version lines (outcomes ++ more) left
-    → (middle : List ℕ) × LinesBecome version lines outcomes middle
-become-first version lines left [] more is = (lines, refl)
+    → (middle : List ℕ) × LinesBecome version lines outcomes middle × LinesBecome version middle more left
+become-first version lines left [] more is = (lines, refl, is)
 become-first version lines left (outcome ∷ outcomes) more (line, next, cut, reads, is) =
-    let first = become-first version next left outcomes more is in (first.0, (line, next, cut, reads, first.1))
+    let first = become-first version next left outcomes more is in (first.0, (line, next, cut, reads, first.1), first.2)
 
 -- what follows the heading
 behind_heading : (version : Version) (earlier more read : List LineOutcome) → (heading version ++ earlier) ++ more ≡ heading version ++ read → read ≡ earlier ++ more
@@ -97,11 +97,11 @@ behind_heading One earlier more read is = sym is
 behind_heading Two earlier more read is = cc
 
 pub becomes-first : (text left : List ℕ) (outcomes earlier more : List LineOutcome) → (is : Becomes text (outcomes ++ more) left) → outcomes ≡ heading is.version ++ earlier
-    → (middle : List ℕ) × Becomes text outcomes middle
+    → (middle : List ℕ) × (begun : Becomes text outcomes middle) × (begun.version ≡ is.version) × LinesBecome begun.version middle more left
 becomes-first text left outcomes earlier more is begins =
     let parts : is.read ≡ earlier ++ more = behind_heading is.version earlier more is.read (ap (λ os. os ++ more) (sym begins) ∙ is.joined) in
     let first = become-first is.version is.lines left earlier more (subst (λ os. LinesBecome is.version is.lines os left) parts is.become) in
-    (first.0, record { version = is.version; lines = is.lines; read = earlier; body = is.body; become = first.1; joined = begins })
+    (first.0, record { version = is.version; lines = is.lines; read = earlier; body = is.body; become = first.1; joined = begins }, refl, first.2)
 
 not_nil : (line : List ℕ) → line ≢ [] → 0 < length line
 not_nil [] ne = absurd (ne refl)

@@ -1,10 +1,11 @@
--- How long a printed line is at most, and what is in a writer and its buffer after several texts.
+-- How long a printed line is at most, and what is in a writer after several texts.
 use Rattle.std.proofs.Common.{◌≡◌, ℕ, suc, ◌+◌, ◌<◌, ◌≤◌, List, ◌∷◌, ◌++◌, length, take, drop, get_or, codes, [], Option, arith, length-append, append_assoc, sym, ap, ◌∙◌, append-nil, add-one}
 use Rattle.std.proofs.Math.Seq.{split_at, take-suc}
 use Rattle.std.specs.List.{flat_map}
 use Rattle.std.proofs.lemmas.Grind.{flat_map-append}
-use Rattle.rt_cidr.specs.Output.{AppendsBeginning, PassesOn}
-use Rattle.rt_cidr.proofs.Promised.{begins_longer, passes_on-begins, passes_on-more}
+use Rattle.std.specs.Io.KnownBytes.{Appends}
+use Rattle.rt_cidr.specs.Output.{AppendsBeginning}
+use Rattle.rt_cidr.proofs.Promised.{appends_after, begins_after, begins_longer}
 use Rattle.rt_cidr.proofs.Promised.{length-decimal, length-address_text, length-prefix_text}
 use Rattle.rt_rib.specs.declared.routes.Route.{Route}
 use Rattle.rt_rib.specs.declared.routes.Hop.{Hop}
@@ -78,24 +79,23 @@ unfolding count_text
 count_fits count = let digits = length-decimal count in simp length-append (omega arith)
 
 -- a fault within one of several texts after a first one leaves a beginning of them all
-pub begins_all : {X : Type 0} (a b c : Option (List ℕ)) (held held' head : List ℕ) (text : X → List ℕ) (xs : List X) (i : ℕ) (x : X) →
-    i < length xs → x ≡ get_or xs i x → PassesOn a b held held' (head ++ flat_map text (take i xs)) →
-    AppendsBeginning b c (held' ++ text x) → AppendsBeginning a c (held ++ (head ++ flat_map text xs))
-begins_all {X} a b c held held' head text xs i x here is first second =
+pub begins_all : {X : Type 0} (a b c : Option (List ℕ)) (head : List ℕ) (text : X → List ℕ) (xs : List X) (i : ℕ) (x : X) →
+    i < length xs → x ≡ get_or xs i x → Appends a b (head ++ flat_map text (take i xs)) →
+    AppendsBeginning b c (text x) → AppendsBeginning a c (head ++ flat_map text xs)
+begins_all {X} a b c head text xs i x here is first second =
     let rest = flat_map text (drop (suc i) xs) in
     let whole : head ++ flat_map text xs ≡ ((head ++ flat_map text (take i xs)) ++ text x) ++ rest =
     ap (λ (ys : List X). head ++ flat_map text ys) (split_at xs i x here ∙ ap (λ y. take i xs ++ y ∷ drop (suc i) xs) (sym is)) ∙
     (ap (λ ys. head ++ ys) (flat_map-append text (take i xs) (x ∷ drop (suc i) xs)) ∙ simp append_assoc) in
-    rw (whole, ← append_assoc held ((head ++ flat_map text (take i xs)) ++ text x) rest)
-    (begins_longer a c _ rest (passes_on-begins a b c held held' _ (text x) first second))
+    rw whole (begins_longer a c _ rest (begins_after a b c _ (text x) first second))
 
 -- one of several texts after a first one is put behind those before it
-pub passes_next : {X : Type 0} (a b c : Option (List ℕ)) (held held' held'' head : List ℕ) (text : X → List ℕ) (xs : List X) (i : ℕ) (x : X) →
-    i < length xs → x ≡ get_or xs i x → PassesOn a b held held' (head ++ flat_map text (take i xs)) →
-    PassesOn b c held' held'' (text x) → PassesOn a c held held'' (head ++ flat_map text (take (i + 1) xs))
-passes_next {X} a b c held held' held'' head text xs i x here is first second =
+pub appends_next : {X : Type 0} (a b c : Option (List ℕ)) (head : List ℕ) (text : X → List ℕ) (xs : List X) (i : ℕ) (x : X) →
+    i < length xs → x ≡ get_or xs i x → Appends a b (head ++ flat_map text (take i xs)) →
+    Appends b c (text x) → Appends a c (head ++ flat_map text (take (i + 1) xs))
+appends_next {X} a b c head text xs i x here is first second =
     let next : flat_map text (take (i + 1) xs) ≡ flat_map text (take i xs) ++ text x =
     ap (flat_map text) (ap (λ n. take n xs) (add-one i) ∙ take-suc xs i x here ∙ ap (λ y. take i xs ++ y ∷ []) (sym is)) ∙
     (flat_map-append text (take i xs) (x ∷ []) ∙ ap (λ ys. flat_map text (take i xs) ++ ys) (append-nil (text x))) in
     rw (next, ← append_assoc head (flat_map text (take i xs)) (text x))
-    (passes_on-more a b c held held' held'' (head ++ flat_map text (take i xs)) (text x) first second)
+    (appends_after a b c (head ++ flat_map text (take i xs)) (text x) first second)

@@ -18,7 +18,7 @@ use Rattle.rt_feed.specs.Lines.{CutsLine}
 use Rattle.rt_feed.specs.LineOutcomes.{LineOutcome, skipped, faulty, asked, reading, Becomes, heading, answer_of, line_answer, numbered, report_lines, asked_by, asked_of}
 use Rattle.rt_feed.specs.Visits.{Visit, Gains, joined, piece_of, visit_of, AnswersBatch}
 use Rattle.rt_feed.specs.Filling.{filled}
-use Rattle.rt_feed.specs.Running.{RunsFeed, StopsWithin, AnswersWaiting, HasRead}
+use Rattle.rt_feed.specs.Running.{RunsFeed, StopsWithin, IsTold, AnswersWaiting, HasRead}
 use Rattle.rt_feed.proofs.Becoming.{becomes-push, becomes-at, becomes-alike, becomes-first, report_lines-append, report_lines-push, asked_of-append}
 use Rattle.rt_feed.proofs.Filling.{filled-none, filled-fault, filled-given}
 
@@ -335,10 +335,11 @@ all_asked holds batch text number start gate new run report read few answers =
       reported = done.reported;
     }
 
--- the text was read so far, and no more is asked
-pub stopped : {G : Type 0} (holds : G → List Visit → Type 0) (batch : ℕ) (text left : List ℕ) (number : ℕ) (start gate : G) (run : FeedRun)
-    → HasRead holds batch text left number start gate run → length run.gathered.items < batch → StopsWithin holds batch text start gate
-stopped holds batch text left number start gate run read few =
+-- the text was read so far, and no more is asked, though this line is left
+pub stopped : {G : Type 0} (holds : G → List Visit → Type 0) (batch : ℕ) (text left line next : List ℕ) (number : ℕ) (start gate : G) (run : FeedRun)
+    → HasRead holds batch text left number start gate run → length run.gathered.items < batch → CutsLine left line next → IsTold run.version line
+    → StopsWithin holds batch text start gate
+stopped holds batch text left line next number start gate run read few cut told =
     let first = becomes-first text left read.settled read.earlier read.waiting read.becomes (read.headed ∙ ap (λ v. heading v ++ read.earlier) (sym read.versioned)) in
     record {
       outcomes = read.settled;
@@ -356,4 +357,11 @@ stopped holds batch text left number start gate run read few =
         };
         gained = read.gained;
       };
+      more = read.waiting;
+      rest = left;
+      become = first.3;
+      line = line;
+      next = next;
+      cut = cut;
+      told = subst (λ v. IsTold v line) (sym (first.2 ∙ read.versioned)) told;
     }

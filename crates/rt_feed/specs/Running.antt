@@ -1,5 +1,5 @@
 -- What running a feed's text through a gate does.
-use Rattle.std.specs.Prelude.{◌≡◌, ◌⊎◌, ℕ, ◌+◌, ◌<◌, List, [], ◌∷◌, ◌++◌, All, length, map, take, drop, zip}
+use Rattle.std.specs.Prelude.{◌≡◌, ◌≢◌, ◌⊎◌, ℕ, ◌+◌, ◌<◌, List, [], ◌∷◌, ◌++◌, All, length, map, take, drop, zip, None}
 use Rattle.rt_rib.specs.declared.commands.Cmd.{Cmd}
 use Rattle.rt_shared.specs.declared.outcome.Outcome.{Outcome}
 use Rattle.rt_shared.specs.declared.outcome.Outcome.TheVariants.{Refused}
@@ -7,7 +7,9 @@ use Rattle.rt_feed.specs.declared.report.Line.{Line}
 use Rattle.rt_feed.specs.declared.report.Answer.TheVariants as answer
 use Rattle.rt_feed.specs.declared.feed_run.FeedRun.{FeedRun}
 use Rattle.rt_feed.specs.Lines.{CutsLine}
-use Rattle.rt_feed.specs.LineOutcomes.{LineOutcome, Becomes, heading, report_lines, asked_of}
+use Rattle.rt_feed.specs.declared.versions.Version.{Version}
+use Rattle.rt_feed.specs.Grammar.{AnswersLine}
+use Rattle.rt_feed.specs.LineOutcomes.{LineOutcome, LinesBecome, Becomes, reading, line_answer, heading, report_lines, asked_of}
 use Rattle.rt_feed.specs.Visits.{Visit, Gains, IsCut, joined, piece_of, visit_of}
 use Rattle.rt_feed.specs.Filling.{filled}
 
@@ -24,11 +26,22 @@ pub record RunsFeed {G : Type 0} (holds : G → List Visit → Type 0) (batch : 
   pub asks : AsksLines holds batch text outcomes [] old new
   pub reported : report ≡ report_lines 1 outcomes
 
--- a beginning of the text was asked so
+-- read by this version the line is a command or faulty, so that a report has an answer for it
+abbrev pub IsTold : Version → List ℕ → Type 0
+IsTold version line = (outcome : LineOutcome) × AnswersLine version line (reading outcome) × (line_answer outcome ≢ None)
+
+-- a beginning of the text was asked so; more lines follow, and then one that is not skipped
 pub record StopsWithin {G : Type 0} (holds : G → List Visit → Type 0) (batch : ℕ) (text : List ℕ) (old new : G) : Type 0 where
   pub outcomes : List LineOutcome
   pub left : List ℕ
   pub asks : AsksLines holds batch text outcomes left old new
+  pub more : List LineOutcome
+  pub rest : List ℕ
+  pub become : LinesBecome asks.becomes.version left more rest
+  pub line : List ℕ
+  pub next : List ℕ
+  pub cut : CutsLine rest line next
+  pub told : IsTold asks.becomes.version line
 
 -- the commands that wait have been asked, in one visit if there are any, and the report has what became of them, from
 -- this place on

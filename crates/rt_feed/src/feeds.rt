@@ -12,7 +12,7 @@ use std::thread;
 use std::thread::Threads;
 
 /// A feed: the gate that answers it and, after a run, its report.
-#[derive(Drop)]
+#[derive(Debug, Drop)]
 pub struct Feed<G> {
     /// What answers its commands.
     pub gate: G,
@@ -22,7 +22,7 @@ pub struct Feed<G> {
 
 /// Runs each text through the gate of the feed of the same number, each on a thread of its own, and joins them all. Where
 /// no thread can be made they run one after another.
-pub fn run_feeds<R: Threads + Wait + Sync, G: Gate + Send>(
+pub fn run_feeds<R: Threads + Wait + Sync, G: Gate>(
     rt: &R,
     alloc: Global,
     texts: &[Vec<u8>],

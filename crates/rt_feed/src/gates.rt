@@ -7,8 +7,8 @@ use rt_shared::Outcome;
 use std::sync::Wait;
 
 /// Answers the commands of one feed. A gate has a name, which no call changes, and holds visits: what each call
-/// answered, in order. A command that was refused is in no visit.
-pub trait Gate {
+/// answered, in order. A command that was refused is in no visit. A gate can go to a thread.
+pub trait Gate: Send {
     /// What names a gate.
     ghost Name: { Type 0 };
 

@@ -1,97 +1,74 @@
-//! Reports and the table as text. Each line is built in a short text, and goes to the writer through an output buffer.
+//! Reports and the table as text. Each line is built in a short text, and goes to the writer at once.
 ghost use Rattle.std.specs.Prelude.{◌≡◌, ◌++◌, [], IsOk, OnOk, OnErr};
-ghost use Rattle.rt_cidr.specs.Output.{AppendsBeginning, PassesOn};
+ghost use Rattle.std.specs.Io.KnownBytes.{Appends};
+ghost use Rattle.rt_cidr.specs.Output.{AppendsBeginning};
 ghost use Rattle.rt_cidr.specs.ShortText.{Fits};
 ghost use Rattle.rt_feed.specs.Printed.{hop_text, route_text, reply_text, fault_text, answer_text, line_text, report_text, row_text, count_text, table_text};
 
 use crate::parse::LineFault;
 use crate::report::{Answer, Line, Report};
-use rt_cidr::{OutputBuffer, ShortText};
+use rt_cidr::{ShortText, put};
 use rt_rib::{Hop, Reply, Route};
 use std::io::{self, Write};
 
-/// Puts the report of the feed of this number behind what the buffer holds: for each line `FEED:LINE `, its answer and
-/// LF. After a fault of the writer, which is handed on, what was written is a beginning of what was held and the report,
-/// and the buffer holds nothing any more. Takes no memory.
-pub fn write_report<W: Write>(
-    w: &mut W,
-    buffer: &mut OutputBuffer,
-    feed: u32,
-    report: &Report,
-) -> Result<(), io::Error>
-    ensures ok { OnOk result (PassesOn (W.contents w.old) (W.contents w.new)
-        buffer.old buffer.new (report_text feed report.now)) }
-    ensures err { OnErr result (AppendsBeginning (W.contents w.old) (W.contents w.new)
-        (buffer.old ++ report_text feed report.now)) }
+/// Writes the report of the feed of this number: for each line `FEED:LINE `, its answer and LF. A fault is the writer's, as
+/// `put` hands it on; what was written is then a beginning of the report. Takes no memory, and makes a `write` or more for
+/// each line: a writer whose calls are dear goes into an `OutputBuffer`.
+pub fn write_report<W: Write>(w: &mut W, feed: u32, report: &Report) -> Result<(), io::Error>
+    ensures ok { OnOk result (Appends (W.contents w.old) (W.contents w.new) (report_text feed report.now)) }
+    ensures err { OnErr result (AppendsBeginning (W.contents w.old) (W.contents w.new) (report_text feed report.now)) }
 
     // Where there is no line to write, nothing fails.
     ensures nothing { report.now ≡ [] → IsOk result }
 {
     let mut text = ShortText::new();
     for line in report.lines() {
-        put_line(w, buffer, &mut text, feed, line)?;
+        put_line(w, &mut text, feed, line)?;
     }
     Ok(())
 }
 
-/// Puts one line of a report behind what the buffer holds. `text` is where it is rendered.
+/// Writes one line of a report. `text` is where it is rendered.
 #[tactic(auto, using(crate::proofs::Printing::line_fits))]
 fn put_line<W: Write>(
     w: &mut W,
-    buffer: &mut OutputBuffer,
     text: &mut ShortText,
     feed: u32,
     line: &Line,
 ) -> Result<(), io::Error>
-    ensures ok { OnOk result (PassesOn (W.contents w.old) (W.contents w.new)
-        buffer.old buffer.new (line_text feed line.now)) }
-    ensures err { OnErr result (AppendsBeginning (W.contents w.old) (W.contents w.new)
-        (buffer.old ++ line_text feed line.now)) }
+    ensures ok { OnOk result (Appends (W.contents w.old) (W.contents w.new) (line_text feed line.now)) }
+    ensures err { OnErr result (AppendsBeginning (W.contents w.old) (W.contents w.new) (line_text feed line.now)) }
 {
     text.clear();
     prepend_line(text, feed, line);
-    buffer.put(w, text.as_bytes())
+    put(w, text.as_bytes())
 }
 
-/// Puts the table behind what the buffer holds: `table COUNT` and LF, and then each route of the list and LF. After a
-/// fault of the writer, which is handed on, what was written is a beginning of what was held and the table, and the
-/// buffer holds nothing any more. Takes no memory.
+/// Writes the table: `table COUNT` and LF, and then each route of the list and LF. A fault is the writer's, as `put` hands
+/// it on; what was written is then a beginning of the table. Takes no memory, and makes a `write` or more for each line.
 #[tactic(auto, using(crate::proofs::Printing::count_fits))]
-pub fn write_table<W: Write>(
-    w: &mut W,
-    buffer: &mut OutputBuffer,
-    routes: &[Route],
-) -> Result<(), io::Error>
-    ensures ok { OnOk result (PassesOn (W.contents w.old) (W.contents w.new)
-        buffer.old buffer.new (table_text routes.now)) }
-    ensures err { OnErr result (AppendsBeginning (W.contents w.old) (W.contents w.new)
-        (buffer.old ++ table_text routes.now)) }
+pub fn write_table<W: Write>(w: &mut W, routes: &[Route]) -> Result<(), io::Error>
+    ensures ok { OnOk result (Appends (W.contents w.old) (W.contents w.new) (table_text routes.now)) }
+    ensures err { OnErr result (AppendsBeginning (W.contents w.old) (W.contents w.new) (table_text routes.now)) }
 {
     let mut text = ShortText::new();
     prepend_count(&mut text, routes.len());
-    buffer.put(w, text.as_bytes())?;
+    put(w, text.as_bytes())?;
     for route in routes {
-        put_row(w, buffer, &mut text, route)?;
+        put_row(w, &mut text, route)?;
     }
     Ok(())
 }
 
-/// Puts one route of the table behind what the buffer holds. `text` is where it is rendered.
+/// Writes one route of the table. `text` is where it is rendered.
 #[tactic(auto, using(crate::proofs::Printing::row_fits))]
-fn put_row<W: Write>(
-    w: &mut W,
-    buffer: &mut OutputBuffer,
-    text: &mut ShortText,
-    route: &Route,
-) -> Result<(), io::Error>
-    ensures ok { OnOk result (PassesOn (W.contents w.old) (W.contents w.new)
-        buffer.old buffer.new (row_text route.now)) }
-    ensures err { OnErr result (AppendsBeginning (W.contents w.old) (W.contents w.new)
-        (buffer.old ++ row_text route.now)) }
+fn put_row<W: Write>(w: &mut W, text: &mut ShortText, route: &Route) -> Result<(), io::Error>
+    ensures ok { OnOk result (Appends (W.contents w.old) (W.contents w.new) (row_text route.now)) }
+    ensures err { OnErr result (AppendsBeginning (W.contents w.old) (W.contents w.new) (row_text route.now)) }
 {
     text.clear();
     prepend_row(text, route);
-    buffer.put(w, text.as_bytes())
+    put(w, text.as_bytes())
 }
 
 // Each function below puts its text in front.

@@ -1,6 +1,6 @@
 //! A feed's text through a gate: its lines are read in order, and its commands asked in batches.
 ghost use Rattle.std.specs.Prelude.{◌≡◌, ◌≢◌, ◌<◌, ◌≤◌, [], ◌∷◌, length, All, IsOk, IfOk, OnOk, OnErr};
-ghost use Rattle.rt_feed.specs.Running.{AnswersWaiting, Gathers, ReadsOneMore, RunsFeed, StopsWithin};
+ghost use Rattle.rt_feed.specs.Running.{AnswersWaiting, Gathers, IsTold, ReadsOneMore, RunsFeed, StopsWithin};
 
 use crate::feed_run::FeedRun;
 use crate::gates::Gate;
@@ -17,7 +17,7 @@ use std::sync::Wait;
 /// else the commands that are gathered when there are that many, or the text ends. Lines that are skipped or faulty take
 /// no place in a batch. A command that is refused for want of memory is reported so, as is each one of a batch that is
 /// refused (M2). M3: `Refused` where the report or the batch could not grow; the gate was then asked the commands of a
-/// beginning of the text.
+/// beginning of the text, and some line that is not skipped is left.
 pub fn run_feed<R: Wait, G: Gate>(
     rt: &R,
     alloc: Global,
@@ -75,7 +75,7 @@ impl FeedRun {
         requires { All (λ earlier. earlier.number < number) self.old.report }
         ensures name { G.name gate.new ≡ G.name gate.old }
         ensures ok { OnOk result (ReadsOneMore G.holds batch number line.now gate.old gate.new self.old self.new) }
-        ensures err { OnErr result (gate.new ≡ gate.old) }
+        ensures err { OnErr result ((gate.new ≡ gate.old) × IsTold self.old.version line.now) }
     {
         match parse_line(line, self.version) {
             Err(fault) => {

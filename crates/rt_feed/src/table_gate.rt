@@ -4,6 +4,7 @@ ghost use Rattle.std.specs.Prelude.{◌≡◌};
 use crate::gates::Gate;
 use rt_rib::{Cmd, Refused, Reply};
 use rt_shared::{FeedPass, Outcome, SharedRib};
+use std::fmt;
 use std::marker::Model;
 use std::sync::Wait;
 
@@ -40,6 +41,14 @@ impl<'a, const L: u32> TableGate<'a, L> {
         ensures { result ≡ self.entry }
     {
         self.pass
+    }
+}
+
+impl<'a, const L: u32> fmt::Debug for TableGate<'a, L> {
+    fn fmt<F: fmt::Write>(&self, f: &mut fmt::Formatter<F>) -> fmt::Result {
+        f.debug_struct("TableGate")
+            .field("feed", &self.pass.feed())
+            .finish_non_exhaustive()
     }
 }
 

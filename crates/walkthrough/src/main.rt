@@ -11,7 +11,7 @@ mod shared;
 mod trie;
 
 use anyhow::Result;
-use rt_cidr::{Addr, OutputBuffer, Prefix};
+use rt_cidr::{Addr, Prefix};
 use rt_feed::{write_report, write_table};
 use rt_rib::{Cmd, Hop, Reply};
 use std::alloc::Global;
@@ -68,16 +68,14 @@ fn tell_together<R: Threads + Wait + Sync, W: Write>(
     let (first, second) = (tally.first, tally.second);
     writeln!(out, "place 0 counted {first}, place 1 {second}")?;
 
-    let mut buffer = OutputBuffer::new(alloc)?;
     let first = [add(b"10.0.0.0/8", 20, b"192.0.2.1")?, Cmd::Dump];
     let second = [add(b"10.0.0.0/8", 10, b"192.0.2.2")?];
     let routes = shared::routes_of_both(rt, alloc, &first, &second)?;
-    write_table(out, &mut buffer, &routes)?;
+    write_table(out, &routes)?;
 
     let text = b"add 10.0.0.0/8 100 192.0.2.1\nlookup 10.1.2.3\n";
     let (report, book) = gate::run_alone(rt, alloc, text)?;
-    write_report(out, &mut buffer, 1, &report)?;
-    buffer.flush(out)?;
+    write_report(out, 1, &report)?;
     let entries = book.journal().len();
     writeln!(out, "entries in the journal: {entries}")?;
     Ok(())

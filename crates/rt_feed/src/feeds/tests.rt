@@ -1,7 +1,6 @@
 //! Feeds through gates that record, refuse and wait for one another.
 use super::*;
 use crate::print::write_report;
-use rt_cidr::OutputBuffer;
 use rt_rib::{Cmd, Refused, Reply};
 use rt_shared::Outcome;
 use std::alloc::AllocError;
@@ -98,9 +97,7 @@ fn new_recording(alloc: Global) -> Recording {
 /// The text of the report as feed 1's.
 fn text_of(alloc: Global, report: &Report) -> Result<Vec<u8>, Fail> {
     let mut text = Vec::new(alloc);
-    let mut buffer = OutputBuffer::new(alloc)?;
-    write_report(&mut text, &mut buffer, 1, report)?;
-    buffer.flush(&mut text)?;
+    write_report(&mut text, 1, report)?;
     Ok(text)
 }
 

@@ -17,22 +17,15 @@ fn route(prefix: &[u8], pref: u32, hop: &[u8]) -> Result<Route, TextFault> {
 }
 
 /// Writes the report as feed 1's, and then the table.
-fn write_both<W: Write>(
-    alloc: Global,
-    w: &mut W,
-    report: &Report,
-    routes: &[Route],
-) -> io::Result<()> {
-    let mut buffer = OutputBuffer::new(alloc)?;
-    write_report(w, &mut buffer, 1, report)?;
-    write_table(w, &mut buffer, routes)?;
-    buffer.flush(w)
+fn write_both<W: Write>(w: &mut W, report: &Report, routes: &[Route]) -> io::Result<()> {
+    write_report(w, 1, report)?;
+    write_table(w, routes)
 }
 
 /// What that prints.
 fn printed(alloc: Global, answers: &[Answer], routes: &[Route]) -> Result<Vec<u8>, Fail> {
     let mut out = Vec::new(alloc);
-    write_both(alloc, &mut out, &report_of(alloc, answers)?, routes)?;
+    write_both(&mut out, &report_of(alloc, answers)?, routes)?;
     Ok(out)
 }
 
@@ -116,7 +109,7 @@ fn prints_a_withdrawal_and_a_count(rt: HostRuntime) -> Result<(), Fail> {
     let alloc = rt.alloc();
     let (report, routes) = withdrawing(alloc)?;
     let mut out = Vec::new(alloc);
-    write_both(alloc, &mut out, &report, &routes)?;
+    write_both(&mut out, &report, &routes)?;
     assert_eq!(rt; out.as_slice(), WITHDRAWING);
     Ok(())
 }
@@ -160,9 +153,7 @@ fn prints_every_other_answer(rt: HostRuntime) -> Result<(), Fail> {
 64:16 fault E8
 ";
     let mut out = Vec::new(alloc);
-    let mut buffer = OutputBuffer::new(alloc)?;
-    write_report(&mut out, &mut buffer, 64, &report_of(alloc, &answers)?)?;
-    buffer.flush(&mut out)?;
+    write_report(&mut out, 64, &report_of(alloc, &answers)?)?;
     assert_eq!(rt; out.as_slice(), text.as_slice());
     Ok(())
 }
@@ -227,7 +218,7 @@ fn writes_a_byte_a_call(rt: HostRuntime) -> Result<(), Fail> {
         each: 1,
         room: usize::MAX,
     };
-    write_both(alloc, &mut out, &report, &routes)?;
+    write_both(&mut out, &report, &routes)?;
     assert_eq!(rt; out.taken.as_slice(), WITHDRAWING);
     Ok(())
 }
@@ -242,7 +233,7 @@ fn stops_at_a_fault_after_each_byte(rt: HostRuntime) -> Result<(), Fail> {
             each: 7,
             room,
         };
-        assert!(rt; write_both(alloc, &mut out, &report, &routes).is_err());
+        assert!(rt; write_both(&mut out, &report, &routes).is_err());
         assert_eq!(rt; out.taken.as_slice(), &WITHDRAWING[..room]);
     }
     Ok(())
@@ -258,7 +249,7 @@ fn hands_on_the_writers_fault(rt: HostRuntime) -> Result<(), Fail> {
     };
     let report = report_of(alloc, &[Answer::Refused])?;
     let interrupted = |e: io::Error| e.kind() == ErrorKind::Interrupted;
-    assert!(rt; write_both(alloc, &mut out, &report, &[]).is_err_and(interrupted));
+    assert!(rt; write_both(&mut out, &report, &[]).is_err_and(interrupted));
     assert_eq!(rt; out.taken.as_slice(), b"1:".as_slice());
     Ok(())
 }
@@ -314,7 +305,7 @@ fn prints_hundreds_of_thousands_of_lines(rt: HostRuntime) -> Result<(), Fail> {
     push_table(&mut wanted, count)?;
     let routes = vec![in alloc; ten; count]?;
     let mut out = Vec::new(alloc);
-    write_both(alloc, &mut out, &dumped(alloc, count)?, routes.as_slice())?;
+    write_both(&mut out, &dumped(alloc, count)?, routes.as_slice())?;
     assert!(rt; out.as_slice() == wanted.as_slice());
     Ok(())
 }

@@ -22,3 +22,9 @@ returns-clause-text g c texts limit batch ran =
       run_text texts limit batch c.args.ran.now.reports.items c.args.ran.now.book _ ran refl,
       rw (← routes, ← c.as_slice.ensures.value, ← c.as_slice-2.ensures.value) (c.in-Err.ensures {u = tt}).err,
     )
+
+pub returns-in_default-clause-text : goal.returns-in_default-clause-text
+returns-in_default-clause-text g c texts limit batch ran = (λ same. absurd cc, refl)
+
+pub returns-in_default-new-clause-text : goal.returns-in_default-new-clause-text
+returns-in_default-new-clause-text g c texts limit batch ran = (λ same. absurd cc, refl)

@@ -2,16 +2,16 @@ use Rattle.std.proofs.Common.{refl}
 use Rattle.std.proofs.lemmas.Result.{err_from_is_err_and}
 use Rattle.rt_feed.specs.Printed.{report_text}
 use Rattle.rt_app.specs.RunText.{reports_text}
-use Rattle.rt_app.proofs.Numbered.{begins_all, passes_next}
+use Rattle.rt_app.proofs.Numbered.{begins_all, appends_next}
 use Rattle.rt_app.proofs.runs.write_reports.Goals as goal
 
 pub returns-in_err-write_report-clause-err : goal.returns-in_err-write_report-clause-err
 returns-in_err-write_report-clause-err g c =
     let fault = err_from_is_err_and c.from_residual.result c.from_residual.ensures.1 in
     rw fault.1 (begins_all report_text reports_text (λ n. refl) (λ n x xs. refl) c.args.reports.now c.loop-index.index c.index-reports-index.result c.loop-index-test.true c.index-reports-index.is _ _ _
-    c.args.buffer.now c.loop-index.buffer c.loop-index.invariant c.in_err-write_report.ensures.err)
+    c.loop-index.invariant c.in_err-write_report.ensures.err)
 
 pub loop-index-preserved : goal.loop-index-preserved
 loop-index-preserved g c =
-    passes_next report_text reports_text (λ n. refl) (λ n x xs. refl) c.args.reports.now c.loop-index.index c.index-reports-index.result c.loop-index-test.true c.index-reports-index.is _ _ _
-    c.args.buffer.now c.loop-index.buffer c.loop-index.invariant c.write_report.new.buffer c.in_ok-write_report.ensures.ok
+    appends_next report_text reports_text (λ n. refl) (λ n x xs. refl) c.args.reports.now c.loop-index.index c.index-reports-index.result c.loop-index-test.true c.index-reports-index.is _ _ _
+    c.loop-index.invariant c.in_ok-write_report.ensures.ok

@@ -1,23 +1,17 @@
-use Rattle.std.proofs.lemmas.Result.{err_from_is_err_and, IfOk-weaker, IfErr-weaker}
-use Rattle.rt_app.proofs.TwoTexts.{stops_first, stops_second, stops_last, goes_out}
+use Rattle.std.proofs.Common.{rules, ap, ◌∙◌}
+use Rattle.std.proofs.lemmas.Result.{IfErr-weaker}
+use Rattle.rt_app.proofs.Buffered.{stops_within, stops_at_the_end, run_text-some}
 use Rattle.rt_app.proofs.runs.write_run.Goals as goal
 
-pub returns-in_err-write_reports-clause-err : goal.returns-in_err-write_reports-clause-err
-returns-in_err-write_reports-clause-err g c =
-    let fault = err_from_is_err_and c.from_residual.result c.from_residual.ensures.1 in
-    rw fault.1 (stops_first _ _ c.args.buffer.now _ _ c.requires.empty c.in_err-write_reports.ensures.err)
-
-pub returns-in_err-write_table-clause-err : goal.returns-in_err-write_table-clause-err
-returns-in_err-write_table-clause-err g c =
-    let fault = err_from_is_err_and c.from_residual-in_err-write_table.result c.from_residual-in_err-write_table.ensures.1 in
-    rw fault.1 (stops_second _ _ _ c.args.buffer.now c.write_reports.new.buffer _ _ c.requires.empty c.in_ok-write_reports.ensures.ok c.in_err-write_table.ensures.err)
-
-pub returns-clause-ok : goal.returns-clause-ok
-returns-clause-ok g c =
-    IfOk-weaker c.flush.result _ _
-    (λ _ rest. goes_out _ _ _ _ c.args.buffer.now c.write_reports.new.buffer c.write_table.new.buffer _ _ c.requires.empty c.in_ok-write_reports.ensures.ok c.in_ok-write_table.ensures.ok rest) c.flush.ensures.ok
+pub returns-in-Err-clause-err : goal.returns-in-Err-clause-err
+returns-in-Err-clause-err g c =
+    let made = c.new-buffer.ensures in
+    stops_within c.new-buffer.result.writer.ghost_name c.write_all.new.w.writer.ghost_name _ _ _ _ _ _ _ _ _ (ap g.W.Write.contents made.began) (ap g.W.Write.contents made.over.1) (made.held ∙ c.requires.empty)
+    c.in-Err.ensures.err (λ same. ap g.W.Write.contents {y = c.write_all.new.w.writer.now} (search rules))
 
 pub returns-clause-err : goal.returns-clause-err
 returns-clause-err g c =
-    IfErr-weaker c.flush.result _ _
-    (λ _ begun. stops_last _ _ _ _ c.args.buffer.now c.write_reports.new.buffer c.write_table.new.buffer _ _ c.requires.empty c.in_ok-write_reports.ensures.ok c.in_ok-write_table.ensures.ok begun) c.flush.ensures.err
+    let made = c.new-buffer.ensures in
+    IfErr-weaker c.flush-flushed.result _ _
+    (λ _ some. stops_at_the_end c.new-buffer.result.writer.ghost_name c.flush-flushed.new.self.writer.ghost_name _ _ _ _ _ _ _ _ _ (ap g.W.Write.contents made.began) (ap g.W.Write.contents made.over.1) (made.held ∙ c.requires.empty) _
+    c.in_default.ensures.ok c.flush-flushed.ensures.bytes some (run_text-some _ _) (λ same. ap g.W.Write.contents {y = c.flush-flushed.new.self.writer.now} (search rules))) c.flush-flushed.ensures.err

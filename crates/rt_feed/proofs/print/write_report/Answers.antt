@@ -1,18 +1,17 @@
 use Rattle.std.proofs.Common.{[]}
 use Rattle.std.proofs.lemmas.Result.{err_from_is_err_and}
 use Rattle.rt_feed.specs.Printed.{line_text}
-use Rattle.rt_feed.proofs.Printing.{begins_all, passes_next}
+use Rattle.rt_feed.proofs.Printing.{begins_all, appends_next}
 use Rattle.rt_feed.proofs.print.write_report.Goals as goal
 
 pub returns-in_err-put_line-clause-err : goal.returns-in_err-put_line-clause-err
 returns-in_err-put_line-clause-err g c =
     let fault = err_from_is_err_and c.from_residual.result c.from_residual.ensures.1 in
-    let begun = c.in_err-put_line.ensures.err in
     rw (fault.1, ← c.lines-line-items.ensures.lines)
-    (begins_all _ _ _ c.args.buffer.now c.loop-line.buffer [] (line_text c.args.feed) _ c.loop-line.line-index c.line-item.result c.loop-line-test.true c.line-item.is
-    c.loop-line.invariant begun)
+    (begins_all _ _ _ [] (line_text c.args.feed) _ c.loop-line.line-index c.line-item.result c.loop-line-test.true c.line-item.is
+    c.loop-line.invariant c.in_err-put_line.ensures.err)
 
 pub loop-line-preserved : goal.loop-line-preserved
 loop-line-preserved g c =
-    passes_next _ _ _ c.args.buffer.now c.loop-line.buffer c.put_line.new.buffer [] (line_text c.args.feed) _ c.loop-line.line-index c.line-item.result c.loop-line-test.true c.line-item.is
+    appends_next _ _ _ [] (line_text c.args.feed) _ c.loop-line.line-index c.line-item.result c.loop-line-test.true c.line-item.is
     c.loop-line.invariant c.in_ok-put_line.ensures.ok

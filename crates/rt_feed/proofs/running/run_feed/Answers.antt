@@ -34,14 +34,16 @@ overflow_add-number g c =
 pub read-requires : goal.read-requires
 read-requires g c =
     let read = c.loop-line.invariant.read.0 in
-    λ k d here. omega (arith, read.counted, (subst (All (λ (line : Line). line.number < 1 + length (read.settled ++ read.waiting))) (sym read.reported) (report_lines-below 1 _)) k d here)
+    (c.type_bounds.send-G, λ k d here. omega (arith, read.counted, (subst (All (λ (line : Line). line.number < 1 + length (read.settled ++ read.waiting))) (sym read.reported) (report_lines-below 1 _)) k d here))
 
 pub returns-in_err-read-clause-err : goal.returns-in_err-read-clause-err
 returns-in_err-read-clause-err g c =
     let fault = err_from_is_err_and c.from_residual.result c.from_residual.ensures.1 in
     let read = c.loop-line.invariant.read in
-    rw (fault.1, (c.in_err-read.ensures {u = tt}).err)
-    (stopped g.G.Gate.holds c.args.batch c.args.text.now c.loop-line.rest.now c.loop-line.number c.args.gate.now c.loop-line.gate c.loop-line.run read.0 read.1)
+    let stops = (c.in_err-read.ensures {u = tt}).err in
+    rw (fault.1, stops.0)
+    (stopped g.G.Gate.holds c.args.batch c.args.text.now c.loop-line.rest.now c.in-Some.line.now c.in-Some.next.now c.loop-line.number c.args.gate.now c.loop-line.gate c.loop-line.run
+    read.0 read.1 (c.in-Some.ensures {u = tt}) stops.1)
 
 pub returns-in_err-read-clause-nothing : goal.returns-in_err-read-clause-nothing
 returns-in_err-read-clause-nothing g c empty =

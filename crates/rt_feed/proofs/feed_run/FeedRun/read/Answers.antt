@@ -1,3 +1,4 @@
+use Rattle.std.proofs.lemmas.Result.{err_from_is_err_and}
 use Rattle.std.proofs.Common.{◌≡◌, [], ◌∷◌, length, refl, sym, ap, ◌∙◌, append-nil, length-append, arith}
 use Rattle.rt_shared.specs.declared.outcome.Outcome.TheVariants.{Refused}
 use Rattle.rt_feed.specs.LineOutcomes.{skipped, faulty, asked}
@@ -39,3 +40,13 @@ returns-else-len-batch-clause-ok g c text rest left earlier start next (so_far, 
     (rw c.in-Some.is at (c.in-Ok.ensures {u = tt})) refl gathers.reported gathers.first gathers.gathered gathers.version in
     let count : c.len.result ≡ length run.gathered.items = c.len.ensures ∙ run.gathered.ok.0 in
     (before, omega (arith, few, count, c.if-len-batch.false, ap length gathers.gathered, length-append c.args.self.now.gathered.items (cmd ∷ [])))
+
+pub returns-in_err-push-in-Err-clause-err : goal.returns-in_err-push-in-Err-clause-err
+returns-in_err-push-in-Err-clause-err g c =
+    let fault = err_from_is_err_and c.from_residual.result c.from_residual.ensures.1 in
+    rw fault.1 (refl, (faulty c.in-Err.fault, c.in-Err.ensures {u = tt}, λ none. absurd cc))
+
+pub returns-in_err-gather-in-Some-clause-err : goal.returns-in_err-gather-in-Some-clause-err
+returns-in_err-gather-in-Some-clause-err g c =
+    let fault = err_from_is_err_and c.from_residual-in_err-gather-in-Some.result c.from_residual-in_err-gather-in-Some.ensures.1 in
+    rw fault.1 (refl, (asked c.in-Some.cmd Refused, rw c.in-Some.is at (c.in-Ok.ensures {u = tt}), λ none. absurd cc))

@@ -1,6 +1,6 @@
 use Rattle.std.proofs.Common.{◌≤◌, ◌-◌, length, take}
 use Rattle.std.specs.Io.KnownBytes.{Appends}
-use Rattle.rt_cidr.proofs.output.put.Given as goal
+use Rattle.rt_cidr.proofs.output.put_counted.Given as goal
 
 -- the bytes so far were appended
 abbrev pub invariant-loop-done : goal.invariant-loop-done

@@ -1,0 +1,170 @@
+//! A writer that gathers text, so that it goes out in few large writes.
+ghost use Rattle.std.specs.Prelude.{◌≡◌, ℕ, ◌+◌, ◌<◌, ◌≤◌, List, [], ◌++◌, drop, length, vec_len, vec_capacity, IfOk, OnOk, OnErr};
+ghost use Rattle.std.specs.Io.{WritesAtMost};
+ghost use Rattle.std.specs.Io.KnownBytes.{Keeps, WriteAppends};
+ghost use Rattle.rt_cidr.specs.Output.{buffered};
+ghost use Rattle.rt_cidr.specs.declared.buffer.TheConstants.{OUTPUT_BYTES};
+
+use crate::output::put_counted;
+use std::alloc::{AllocError, Global};
+use std::io::{self, Write};
+use std::marker::Model;
+use std::snapshot::Snapshot;
+
+/// How many bytes an output buffer holds at most.
+pub const OUTPUT_BYTES: usize = 65_536;
+
+/// All the memory of an output buffer. Contracts see the bytes that are held there.
+#[derive(Drop)]
+pub struct OutputRoom {
+    bytes: Vec<u8>,
+}
+
+impl Model for OutputRoom {
+    ghost use Rattle.std.specs.Prelude.{ℕ, ◌≤◌, List, vec_len, vec_capacity};
+    ghost use Rattle.rt_cidr.specs.declared.buffer.TheConstants.{OUTPUT_BYTES};
+
+    ghost Value = { List ℕ };
+
+    ghost view = { λ room. room.bytes.items };
+
+    ghost invariant = { λ room.
+        (vec_len room.bytes ≤ OUTPUT_BYTES) × (OUTPUT_BYTES ≤ vec_capacity room.bytes) };
+}
+
+impl OutputRoom {
+    /// Room that holds nothing. Refused only for want of memory.
+    pub fn new(alloc: Global) -> Result<OutputRoom, AllocError>
+        ensures { IfOk result (λ room. room ≡ []) }
+    {
+        let bytes = Vec::with_capacity(alloc, OUTPUT_BYTES)?;
+        Ok(OutputRoom { bytes })
+    }
+
+    fn as_bytes(&self) -> &[u8]
+        ensures { result.now ≡ self.now }
+    {
+        self.bytes.as_slice()
+    }
+
+    /// How many bytes more it can hold.
+    fn left(&self) -> usize
+        ensures { length self.now + result ≡ OUTPUT_BYTES }
+    {
+        OUTPUT_BYTES - self.bytes.len()
+    }
+
+    /// Puts the text at the end.
+    fn append(&mut self, text: &[u8])
+        requires room { length self.old + length text.now ≤ OUTPUT_BYTES }
+        ensures { self.new ≡ self.old ++ text.now }
+    {
+        let Ok(()) = self.bytes.extend_from_slice(text) else {
+            unreachable!()
+        };
+    }
+
+    /// Takes so many bytes out at the front.
+    fn remove_front(&mut self, count: usize)
+        requires { count ≤ length self.old }
+        ensures { self.new ≡ drop count self.old }
+    {
+        remove_front(&mut self.bytes, count);
+    }
+}
+
+/// Takes so many bytes out at the front.
+fn remove_front(bytes: &mut Vec<u8>, count: usize)
+    requires { count ≤ vec_len bytes.old }
+    ensures items { bytes.new.items ≡ drop count bytes.old.items }
+    ensures len { vec_len bytes.new ≤ vec_len bytes.old }
+    ensures capacity { vec_capacity bytes.new ≡ vec_capacity bytes.old }
+{
+    let left = bytes.len() - count;
+    bytes.as_mut_slice().copy_within(count.., 0);
+    bytes.truncate(left);
+}
+
+/// Text on its way to a writer, gathered so that it goes out in few large writes. It is a writer itself, and takes no
+/// memory. What a fault leaves unwritten stays held, so that after any fault what lies in the writer below is a beginning
+/// of what the buffer was given. What is held when it is dropped is never written: `flush` it first.
+///
+/// Its contents, where those of the writer are known, are what lies in the writer and then what it holds, behind two
+/// numbers by which a caller knows it again after a call that writes to any writer (`buffered`).
+#[derive(Drop)]
+pub struct OutputBuffer<'w, W> {
+    writer: &'w mut W,
+    held: OutputRoom,
+    /// The writer when the buffer was made. It has no bytes: clauses alone read it.
+    began: Snapshot<W>,
+}
+
+impl<'w, W: Write> OutputBuffer<'w, W> {
+    /// A buffer over the writer.
+    pub fn new(writer: &'w mut W, room: OutputRoom) -> OutputBuffer<'w, W>
+        ensures over { (result.writer.ghost_name ≡ writer.entry.ghost_name) × (result.writer.now ≡ writer.entry.now) }
+        ensures held { result.held ≡ room }
+        ensures began { result.began.value ≡ writer.entry.now }
+    {
+        let began = Snapshot::of(writer);
+        OutputBuffer {
+            writer,
+            held: room,
+            began,
+        }
+    }
+
+    /// The writer. What is held is given up.
+    pub fn into_writer(self) -> &'w mut W
+        ensures { (result.ghost_name ≡ self.entry.writer.ghost_name) × (result.now ≡ self.entry.writer.now) }
+    {
+        let OutputBuffer {
+            writer,
+            held: _,
+            began: _,
+        } = self;
+        writer
+    }
+
+    /// Writes what is held. What a fault leaves unwritten stays held.
+    fn send(&mut self) -> Result<(), io::Error>
+        ensures kept { Keeps
+            (buffered self.old.writer.ghost_name (W.contents self.old.began.value) (W.contents self.old.writer.now) self.old.held)
+            (buffered self.new.writer.ghost_name (W.contents self.new.began.value) (W.contents self.new.writer.now) self.new.held) }
+        ensures ok { OnOk result (self.new.held ≡ []) }
+        ensures err { OnErr result (0 < length self.new.held) }
+    {
+        let (written, outcome) = put_counted(self.writer, self.held.as_bytes());
+        self.held.remove_front(written);
+        outcome
+    }
+}
+
+impl<'w, W: Write> Write for OutputBuffer<'w, W> {
+    ghost contents = { λ b. buffered b.writer.ghost_name (W.contents b.began.value) (W.contents b.writer.now) b.held };
+
+    /// Takes all of the text where there is room for it, if need be once what is held was written. Of a text that is
+    /// longer than the whole buffer it takes what one `write` of the writer below takes.
+    fn write(&mut self, text: &[u8]) -> io::Result<usize> {
+        if self.held.left() < text.len() {
+            self.send()?;
+            if OUTPUT_BYTES < text.len() {
+                return self.writer.write(text);
+            }
+        }
+        self.held.append(text);
+        Ok(text.len())
+    }
+
+    /// Writes what is held. The writer below is not flushed. What a fault leaves unwritten stays held, and it is never
+    /// nothing.
+    fn flush(&mut self) -> io::Result<()>
+        ensures bytes { Keeps
+            (buffered self.old.writer.ghost_name (W.contents self.old.began.value) (W.contents self.old.writer.now) self.old.held)
+            (buffered self.new.writer.ghost_name (W.contents self.new.began.value) (W.contents self.new.writer.now) self.new.held) }
+        ensures ok { OnOk result (self.new.held ≡ []) }
+        ensures err { OnErr result (0 < length self.new.held) }
+    {
+        self.send()
+    }
+}
