@@ -5,7 +5,7 @@ Usage: bench/trie.py [ROUNDS [PREFIXES..]]. Needs rt and rustc. The program crat
 turn, ROUNDS times (5 if left out) over each number of prefixes (3,000, 30,000 and 500,000 if left out; a small number is
 run more often). The table has a row for each call, with the least of the times in nanoseconds and the ratio: on the clock,
 and of the processor, for the user and the system. `together` is a look-up where 64 are asked for at once, beside the plain
-trie's single one. Then how many nodes the trie has, and how many bytes a prefix the plain one asked for.
+trie's single one; `retain` is a walk that takes out one of a thousand, for each prefix. Then how many nodes the trie has, and how many bytes a prefix the plain one asked for.
 """
 import pathlib
 import subprocess
@@ -41,12 +41,18 @@ def compare(programs, prefixes, rounds):
     """Runs both in turn over so many prefixes and prints a row for each call, from their least times."""
     runs = [[figures(program, prefixes) for program in programs] for _ in range(rounds)]
     proved, plain = runs[0]
-    for agreed in ("prefixes", "found", "left"):
+    for agreed in ("prefixes", "found", "kept", "left"):
         if proved[agreed] != plain[agreed]:
             sys.exit(f"bench/trie.py: the programs disagree on {agreed}")
     if proved["same"] != proved["found"]:
         sys.exit("bench/trie.py: look-ups together find something else")
-    for call, beside in (("insert", "insert"), ("longest", "longest"), ("together", "longest"), ("remove", "remove")):
+    for call, beside in (
+        ("insert", "insert"),
+        ("longest", "longest"),
+        ("together", "longest"),
+        ("retain", "retain"),
+        ("remove", "remove"),
+    ):
         row = f"{prefixes:8} {call:8}"
         for kind in ("", "_cpu"):
             ours = min(run[0][call + kind] for run in runs)

@@ -117,6 +117,27 @@ impl Trie {
         gone
     }
 
+    fn retain(&mut self, keeps: &mut impl FnMut(Prefix, &mut u64) -> bool) {
+        Self::retain_at(&mut self.root, &mut self.len, keeps);
+    }
+
+    fn retain_at(link: &mut Option<Box<Node>>, len: &mut usize, keeps: &mut impl FnMut(Prefix, &mut u64) -> bool) {
+        let Some(node) = link else { return };
+        if let Some(value) = &mut node.value {
+            if !keeps(node.prefix, value) {
+                node.value = None;
+                *len -= 1;
+            }
+        }
+        let [left, right] = &mut node.sides;
+        Self::retain_at(left, len, keeps);
+        Self::retain_at(right, len, keeps);
+        if node.value.is_none() && (node.sides[0].is_none() || node.sides[1].is_none()) {
+            let [left, right] = std::mem::take(&mut node.sides);
+            *link = if left.is_none() { right } else { left };
+        }
+    }
+
     fn remove_at(link: &mut Option<Box<Node>>, p: Prefix) -> Option<u64> {
         let node = link.as_mut()?;
         let gone = if node.prefix == p {
@@ -216,13 +237,17 @@ fn main() {
         }
     }
     let longest = watch.per_call(n);
+    let watch = Stopwatch::start();
+    trie.retain(&mut |_, value| !value.is_multiple_of(1_000));
+    let retain = watch.per_call(n);
+    let kept = trie.len;
     let mut draws = Draws { seed: 1 };
     let watch = Stopwatch::start();
     for _ in 0..n {
         trie.remove(draws.prefix());
     }
     let remove = watch.per_call(n);
-    eprintln!("insert {} longest {} remove {}", insert.0, longest.0, remove.0);
-    eprintln!("insert_cpu {} longest_cpu {} remove_cpu {}", insert.1, longest.1, remove.1);
-    eprintln!("prefixes {len} asked {asked} found {found} left {}", trie.len);
+    eprintln!("insert {} longest {} retain {} remove {}", insert.0, longest.0, retain.0, remove.0);
+    eprintln!("insert_cpu {} longest_cpu {} retain_cpu {} remove_cpu {}", insert.1, longest.1, retain.1, remove.1);
+    eprintln!("prefixes {len} asked {asked} found {found} kept {kept} left {}", trie.len);
 }

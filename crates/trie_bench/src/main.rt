@@ -1,10 +1,13 @@
-//! Times an insertion, a longest match and a removal over many prefixes, of lengths as a real table has them. Its one
-//! argument is how many prefixes it draws; the times go to standard error, in nanoseconds for each call: on the clock, and
-//! as `_cpu` of the processor, for the user and the system.
+//! Times an insertion, a longest match, a walk that takes out one of a thousand, and a removal over many prefixes, of
+//! lengths as a real table has them. Its one argument is how many prefixes it draws; the times go to standard error, in
+//! nanoseconds for each call, and of the walk for each prefix: on the clock, and as `_cpu` of the processor, for the user
+//! and the system.
 #![tactic(auto)]
 
+ghost use Rattle.std.specs.Prelude.{false};
+
 use rt_cidr::{Addr, Prefix};
-use rt_trie::Trie;
+use rt_trie::{Sieve, Trie};
 use std::alloc::Global;
 use std::rt::Clock;
 use std::time::{CpuClock, Duration, Instant};
@@ -166,6 +169,35 @@ fn look_up_together(
     Ok((watch.per_call(rt, n)?, found))
 }
 
+/// Gives up one of a thousand values.
+#[derive(Drop)]
+struct Thousandths;
+
+impl Sieve<u64> for Thousandths {
+    ghost done = { λ s. false };
+
+    ghost judges = { λ s p v t w stays. Unit {0} };
+
+    fn is_done(&self) -> bool {
+        false
+    }
+
+    fn keeps(&mut self, _prefix: Prefix, value: &mut u64) -> bool {
+        !value.is_multiple_of(1_000)
+    }
+}
+
+/// The time of a walk that takes out one of a thousand, for each prefix.
+fn retain_most(
+    rt: &(impl Clock + CpuClock),
+    trie: &mut Trie<u64, Global>,
+    n: u32,
+) -> io::Result<Times> {
+    let watch = Stopwatch::start(rt)?;
+    trie.retain(&mut Thousandths);
+    watch.per_call(rt, n)
+}
+
 /// The time of a removal.
 fn remove_all(
     rt: &(impl Clock + CpuClock),
@@ -188,17 +220,19 @@ fn run(rt: &HostRuntime, alloc: Global, n: u32) -> io::Result<()> {
     let (len, nodes) = (trie.len(), trie.nodes());
     let (longest, found) = look_up_each(rt, &trie, n)?;
     let (together, same) = look_up_together(rt, &trie, n)?;
+    let retain = retain_most(rt, &mut trie, n)?;
+    let kept = trie.len();
     let remove = remove_all(rt, &mut trie, n)?;
     let left = trie.len();
     eprintln!(rt;
-        "insert {} longest {} together {} remove {}",
-        insert.clock, longest.clock, together.clock, remove.clock
+        "insert {} longest {} together {} retain {} remove {}",
+        insert.clock, longest.clock, together.clock, retain.clock, remove.clock
     )?;
     eprintln!(rt;
-        "insert_cpu {} longest_cpu {} together_cpu {} remove_cpu {}",
-        insert.cpu, longest.cpu, together.cpu, remove.cpu
+        "insert_cpu {} longest_cpu {} together_cpu {} retain_cpu {} remove_cpu {}",
+        insert.cpu, longest.cpu, together.cpu, retain.cpu, remove.cpu
     )?;
-    eprintln!(rt; "prefixes {len} nodes {nodes} found {found} same {same} left {left}")
+    eprintln!(rt; "prefixes {len} nodes {nodes} found {found} same {same} kept {kept} left {left}")
 }
 
 fn main(rt: HostRuntime) -> io::Result<()> {
