@@ -1,8 +1,9 @@
 -- Examples by which definitions are tested, each under a line with the definition's name. Both sides are computed.
-use Rattle.std.proofs.Common.{◌≡◌, ℕ, true, false, Some, None, List, [], ◌∷◌, ◌++◌, refl, arith}
+use Rattle.std.proofs.Common.{◌≡◌, ℕ, ◌+◌, true, false, Some, None, List, [], ◌∷◌, ◌++◌, refl, arith}
 use Rattle.rt_cidr.specs.declared.address.Addr.{Addr}
 use Rattle.rt_cidr.specs.declared.prefixes.Prefix.{Prefix}
-use Rattle.rt_rib.specs.declared.routes.Hop.TheVariants.{Discard}
+use Rattle.rt_rib.specs.declared.routes.Hop.{Hop}
+use Rattle.rt_rib.specs.declared.routes.Hop.TheVariants.{Via, Discard}
 use Rattle.rt_rib.specs.declared.routes.Route.{Route}
 use Rattle.rt_rib.specs.declared.commands.Cmd.{Cmd}
 use Rattle.rt_rib.specs.declared.commands.Cmd.TheVariants.{Add, Replace, Withdraw, Lookup, Dump, Purge}
@@ -48,7 +49,7 @@ at_198_51_100_7 = record { 0 = 3325256711 }
 abbrev at_last : Addr
 at_last = record { 0 = 4294967295 }
 
--- a feed's route to a prefix with a preference, and the three of the tutorial's first feed
+-- a feed's route to a prefix with a preference, and three whose prefixes contain one another
 abbrev route : Prefix → ℕ → ℕ → Route
 route prefix feed pref = record { prefix = prefix; feed = feed; pref = pref; hop = Discard }
 
@@ -64,6 +65,34 @@ abbrev two_look_ups : Reply → List Entry
 two_look_ups first =
     entry 1 (Lookup at_10_1_2_3) first ∷ entry 1 (Add ten_8 5 Discard) Added
     ∷ entry 1 (Lookup at_10_1_2_3) (Found (route ten_8 1 5)) ∷ []
+
+-- what the three files of the tutorial ask, one after another, and what they are answered
+abbrev ten_2_16 : Prefix
+ten_2_16 = record { base = 167903232; len = 16; is_prefix = record { short = omega arith; fits = omega arith; clear = refl } }
+
+abbrev ten_3_16 : Prefix
+ten_3_16 = record { base = 167968768; len = 16; is_prefix = record { short = omega arith; fits = omega arith; clear = refl } }
+
+abbrev ten_9_16 : Prefix
+ten_9_16 = record { base = 168361984; len = 16; is_prefix = record { short = omega arith; fits = omega arith; clear = refl } }
+
+abbrev at_10_9_0_1 : Addr
+at_10_9_0_1 = record { 0 = 168361985 }
+
+abbrev via_192_0_2 : ℕ → Hop
+via_192_0_2 last = Via (record { 0 = 3221225984 + last })
+
+abbrev route_via : Prefix → ℕ → ℕ → Hop → Route
+route_via prefix feed pref hop = record { prefix = prefix; feed = feed; pref = pref; hop = hop }
+
+abbrev tutorial : List Entry
+tutorial =
+    entry 1 (Add ten_8 50 (via_192_0_2 1)) Added ∷ entry 1 (Add ten_1_16 10 (via_192_0_2 1)) Added
+    ∷ entry 1 (Lookup at_10_1_2_3) (Found (route_via ten_1_16 1 10 (via_192_0_2 1)))
+    ∷ entry 2 (Add ten_8 20 (via_192_0_2 2)) Added ∷ entry 2 (Add ten_2_16 20 (via_192_0_2 2)) Added
+    ∷ entry 2 Purge (Purged 2) ∷ entry 2 (Add ten_8 30 (via_192_0_2 2)) Added
+    ∷ entry 3 (Add ten_9_16 10 Discard) Added ∷ entry 3 (Add ten_3_16 10 (via_192_0_2 3)) Added
+    ∷ entry 3 (Withdraw ten_3_16) Withdrawn ∷ entry 3 (Lookup at_10_9_0_1) (Found (route_via ten_9_16 3 10 Discard)) ∷ []
 
 -- is_of
 own_route_to_the_prefix : is_of 1 ten_8 (route ten_8 1 5) ≡ true
@@ -301,6 +330,13 @@ whatever_the_replies_say :
 unfolding table_left table_after
 whatever_the_replies_say = refl
 
+the_table_of_the_tutorial :
+    table_left 65536 tutorial
+    ≡ route_via ten_8 2 30 (via_192_0_2 2) ∷ route_via ten_8 1 50 (via_192_0_2 1)
+    ∷ route_via ten_1_16 1 10 (via_192_0_2 1) ∷ route_via ten_9_16 3 10 Discard ∷ []
+unfolding table_left table_after
+the_table_of_the_tutorial = refl
+
 -- IsAnswered
 answered_exists : IsAnswered 1 (entry 1 (Add ten_8 5 Discard) Added ∷ []) (entry 1 (Add ten_8 5 Discard) Exists)
 unfolding table_left table_after reply_of
@@ -318,6 +354,21 @@ a_lawful_journal =
     let first = IsLawfulJournal-push 1 [] (entry 1 (Lookup at_10_1_2_3) NoRoute) (IsLawfulJournal-nil 1) refl in
     let second = IsLawfulJournal-push 1 _ (entry 1 (Add ten_8 5 Discard) Added) first refl in
     IsLawfulJournal-push 1 _ (entry 1 (Lookup at_10_1_2_3) (Found (route ten_8 1 5))) second refl
+
+the_journal_of_the_tutorial : IsLawfulJournal 65536 tutorial
+unfolding table_left table_after reply_of look_up
+the_journal_of_the_tutorial =
+    let e1 = IsLawfulJournal-push 65536 [] (entry 1 (Add ten_8 50 (via_192_0_2 1)) Added) (IsLawfulJournal-nil 65536) refl in
+    let e2 = IsLawfulJournal-push 65536 _ (entry 1 (Add ten_1_16 10 (via_192_0_2 1)) Added) e1 refl in
+    let e3 = IsLawfulJournal-push 65536 _ (entry 1 (Lookup at_10_1_2_3) (Found (route_via ten_1_16 1 10 (via_192_0_2 1)))) e2 refl in
+    let e4 = IsLawfulJournal-push 65536 _ (entry 2 (Add ten_8 20 (via_192_0_2 2)) Added) e3 refl in
+    let e5 = IsLawfulJournal-push 65536 _ (entry 2 (Add ten_2_16 20 (via_192_0_2 2)) Added) e4 refl in
+    let e6 = IsLawfulJournal-push 65536 _ (entry 2 Purge (Purged 2)) e5 refl in
+    let e7 = IsLawfulJournal-push 65536 _ (entry 2 (Add ten_8 30 (via_192_0_2 2)) Added) e6 refl in
+    let e8 = IsLawfulJournal-push 65536 _ (entry 3 (Add ten_9_16 10 Discard) Added) e7 refl in
+    let e9 = IsLawfulJournal-push 65536 _ (entry 3 (Add ten_3_16 10 (via_192_0_2 3)) Added) e8 refl in
+    let e10 = IsLawfulJournal-push 65536 _ (entry 3 (Withdraw ten_3_16) Withdrawn) e9 refl in
+    IsLawfulJournal-push 65536 _ (entry 3 (Lookup at_10_9_0_1) (Found (route_via ten_9_16 3 10 Discard))) e10 refl
 
 one_reply_of_it_changed : ¬ IsLawfulJournal 1 (two_look_ups (Found (route ten_8 1 5)))
 unfolding table_left table_after reply_of look_up

@@ -176,8 +176,8 @@ steps_to levels place s room = record {
 }
 
 -- StepsTo
-place_1_steps : StepsTo 1 1 opening (after 1 1 opening)
-place_1_steps = steps_to 1 1 opening (omega arith)
+place_1_steps : (s : State) × StepsTo 1 1 opening s
+place_1_steps = (after 1 1 opening, steps_to 1 1 opening (omega arith))
 
 no_place_outside_of_the_tree : (s : State) → ¬ StepsTo 1 2 opening s
 no_place_outside_of_the_tree s h = omega (arith, h.in_tree)
