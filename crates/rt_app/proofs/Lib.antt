@@ -5,3 +5,4 @@ pub mod Pushing
 pub mod SeveralFeeds
 pub mod SameTables
 pub mod WhoIsInside
+pub mod Examples

@@ -26,7 +26,7 @@ use Rattle.rt_feed.specs.LineOutcomes.{skipped, faulty, asked, report_lines, ask
 use Rattle.rt_feed.specs.Visits.{visit_of, piece_of, IsCut}
 use Rattle.rt_feed.specs.Printed.{hop_text, reply_text, answer_text, line_text, count_text, table_text}
 
--- the address 192.0.2.1, and the route's command that the tutorial begins with
+-- the address 192.0.2.1, and the command of the first line of examples/first.feed
 abbrev at_192_0_2_1 : Addr
 at_192_0_2_1 = record { 0 = 3221225985 }
 
