@@ -244,13 +244,16 @@ def large_texts(yarib, folder):
         print(f"a line of {megabytes:4} MB: {seconds:5.2f} s, {seconds / megabytes * 1e3:4.2f} ns and {peak / megabytes / 1e6:4.2f} bytes a byte", flush=True)
 
 
-def main():
-    words = [word for word in sys.argv[1:] if word != "--large"]
+def built(words):
+    """The built program that the words name, or else ./yarib's, which is built first where a source is newer."""
     if words:
-        yarib = pathlib.Path(words[0]).resolve()
-    else:
-        subprocess.run([TOP / "yarib", "--version"], check=True, stdout=subprocess.DEVNULL)
-        yarib = TOP / "out" / "yarib"
+        return pathlib.Path(words[0]).resolve()
+    subprocess.run([TOP / "yarib", "--version"], check=True, stdout=subprocess.DEVNULL)
+    return TOP / "out" / "yarib"
+
+
+def main():
+    yarib = built([word for word in sys.argv[1:] if word != "--large"])
     with tempfile.TemporaryDirectory() as made:
         folder = pathlib.Path(made)
         files(yarib, folder)

@@ -1,0 +1,381 @@
+#!/usr/bin/env python3
+"""Calls the program by its words, and compares the status and both outputs of each call with what they have to be.
+
+Usage: bench/command_line.py [YARIB]. Builds ./yarib first unless a built program is named. Linux, python3.
+
+Outputs of the program's own are compared whole, to the byte. Of a text of the library that reads the command line, no more is
+wanted than that it is a fault that names the word; the help pages are compared with those of bench/help. A replay is compared
+with a model of the tree, written from docs/FORMATS.md. How many commands are asked at once is seen by another feed: its
+`dump`s change only where a batch of the one and a batch of the other end.
+"""
+import math
+import os
+import pathlib
+import random
+import subprocess
+import sys
+import tempfile
+
+from hostile import ROW, ROW_OUT, TOP, built, close_all, expect, failures, run
+
+CANNOT_WRITE = (6, "", "yarib: cannot write\n")
+
+
+def route(feed, prefix="10.0.0.0/8", pref=100, hop="192.0.2.1"):
+    return f"{prefix} feed {feed} pref {pref} via {hop}\n"
+
+
+def table(*routes):
+    return f"table {len(routes)}\n" + "".join(routes)
+
+
+def misused(what, found, *parts):
+    """A refused command line: status 3, nothing on standard output, and a fault that has these parts."""
+    status, out, err = found
+    is_fault = err.startswith("error: ") and err.endswith("\n\nFor more information, try '--help'.\n")
+    expect(what, (status, out, is_fault and all(part in err for part in parts), err if not is_fault else ""), (3, "", True, ""))
+
+
+# Files
+
+
+def file_order(yarib):
+    for name, hop in (("one", 1), ("two", 2), ("three", 3)):
+        pathlib.Path(f"{name}.feed").write_text(f"add 10.{hop}.0.0/16 7 192.0.2.{hop}\n")
+    for order in ((1, 2, 3), (3, 1, 2), (2, 3, 1), (3, 2, 1)):
+        names = [("one", "two", "three")[hop - 1] + ".feed" for hop in order]
+        routes = [route(order.index(hop) + 1, f"10.{hop}.0.0/16", 7, f"192.0.2.{hop}") for hop in (1, 2, 3)]
+        expect(f"the files {names}", run([yarib, "run", *names]), (0, "1:1 added\n2:1 added\n3:1 added\n" + table(*routes), ""))
+
+
+def many_files(yarib):
+    names = []
+    for feed in range(1, 66):
+        names.append(f"{feed}.feed")
+        pathlib.Path(names[-1]).write_text(f"add 10.0.0.0/8 {100 - feed} 192.0.2.{feed}\n")
+    for count in (63, 64):
+        added = "".join(f"{feed}:1 added\n" for feed in range(1, count + 1))
+        routes = [route(feed, pref=100 - feed, hop=f"192.0.2.{feed}") for feed in range(count, 0, -1)]
+        expect(f"{count} files", run([yarib, "run", *names[:count]]), (0, added + table(*routes), ""))
+    too_many = (3, "", "yarib: more than 64 files\n")
+    expect("65 files", run([yarib, "run", *names]), too_many)
+    expect("65 files, the first missing", run([yarib, "run", "missing", *names[:64]]), too_many)
+
+
+def unreadable(yarib):
+    os.mkdir("folder")
+    cannot = lambda name: (4, "", f"yarib: cannot read {name}\n")
+    expect("two missing files", run([yarib, "run", "no", "nor"]), cannot("no"))
+    expect("two missing files, the other first", run([yarib, "run", "nor", "no"]), cannot("nor"))
+    expect("a missing file behind a readable one", run([yarib, "run", "row.feed", "no", "nor"]), cannot("no"))
+    expect("a faulty file and a missing one", run([yarib, "run", "faulty.feed", "no"]), cannot("no"))
+    expect("a folder", run([yarib, "run", "folder"]), cannot("folder"))
+    expect("a folder before a missing file", run([yarib, "run", "row.feed", "folder", "no"]), cannot("folder"))
+    expect("a file as a folder", run([yarib, "run", "row.feed/x"]), cannot("row.feed/x"))
+    expect("the empty name", run([yarib, "run", ""]), cannot(""))
+    for name in ("no such file", "né.feed", "x" * 300, "/no/such/file", "-", "it's $HOME"):
+        expect(f"the missing file {name[:20]!r}", run([yarib, "run", name]), cannot(name))
+    expect("missing behind --", run([yarib, "run", "--", "--limit"]), cannot("--limit"))
+
+
+def names(yarib):
+    long = "d" * 150 + "/" + "f" * 149
+    os.mkdir("d" * 150)
+    for name in ("a name.feed", "é.feed", " ", "it's $HOME", "ＡＢＣ", long, os.path.abspath("absolute.feed")):
+        pathlib.Path(name).write_text(ROW)
+        expect(f"the file {name[:20]!r}", run([yarib, "run", name]), (0, ROW_OUT, ""))
+    for name in ("-", "--", "--limit", "-h"):
+        pathlib.Path(name).write_text(ROW)
+        expect(f"the file {name} behind --", run([yarib, "run", "--", name]), (0, ROW_OUT, ""))
+    expect("the file - is no standard input", run([yarib, "run", "-"], input=b"frob\n"), (0, ROW_OUT, ""))
+    expect("-- behind the file", run([yarib, "run", "row.feed", "--"]), (0, ROW_OUT, ""))
+    misused("-- alone", run([yarib, "run", "--"]), "<FILE>")
+    no_text = (3, "", "yarib: arguments are not UTF-8\n")
+    for words in ([b"run", b"\xff.feed"], [b"run", b"row.feed", b"\xc3"], [b"\x80"], [b"replay", b"--levels", b"\xf0\x9f"]):
+        expect(f"words that are no text: {words}", run([yarib, *words]), no_text)
+
+
+def texts(yarib):
+    """Files with CR, without a last LF, and empty."""
+    cases = [
+        ("add 10.0.0.0/8 100 192.0.2.1\r\n", 2, "1:1 fault E7\ntable 0\n"),
+        ("dump\r\n", 2, "1:1 fault E1\ntable 0\n"),
+        ("\r\n", 2, "1:1 fault E1\ntable 0\n"),
+        ("dump\rdump\n", 2, "1:1 fault E1\ntable 0\n"),
+        (ROW[:-1], 0, ROW_OUT),
+        (ROW + "dump", 0, "1:1 added\n1:2 dumped 1\n" + table(route(1))),
+        (ROW + "\n", 0, ROW_OUT),
+        ("", 0, "table 0\n"),
+        ("\n", 0, "table 0\n"),
+        ("# note", 0, "table 0\n"),
+        ("\ufeffdump\n", 2, "1:1 fault E1\ntable 0\n"),
+        ("dump\0\n", 2, "1:1 fault E1\ntable 0\n"),
+    ]
+    for text, status, out in cases:
+        pathlib.Path("text.feed").write_bytes(text.encode())
+        expect(f"the text {text!r}", run([yarib, "run", "text.feed"]), (status, out, ""))
+    out = "1:1 added\n3:1 added\n" + table(route(1), route(3))
+    expect("an empty file between two", run([yarib, "run", "row.feed", "empty.feed", "row.feed"]), (0, out, ""))
+
+
+# Numbers
+
+
+def limits(yarib):
+    lines = [f"add 10.{k}.0.0/16 1 192.0.2.1\n" for k in range(1, 5)]
+    pathlib.Path("four.feed").write_text("".join(lines))
+    for limit in (1, 2, 3, 4, 5, 1_000_000, None):
+        kept = min(limit or 4, 4)
+        answers = lambda feed: "".join(f"{feed}:{k} {'added' if k <= kept else 'full'}\n" for k in range(1, 5))
+        routes = [route(feed, f"10.{k}.0.0/16", 1) for k in range(1, kept + 1) for feed in (1, 2)]
+        words = [] if limit is None else ["--limit", str(limit)]
+        for more in ([], ["--batch", "3"], ["--batch", "1024"]):
+            ended = run([yarib, "run", *words, *more, "four.feed", "four.feed"])
+            expect(f"{words} {more}", ended, (0, answers(1) + answers(2) + table(*routes), ""))
+            ended = run([yarib, "run", "four.feed", *more, "four.feed", *words])
+            expect(f"{words} {more} behind the files", ended, (0, answers(1) + answers(2) + table(*routes), ""))
+    for limit in ("0", "1000001", "4294967297", "18446744073709551617", "-1", "x", "", "1.0", "0x1", "1 "):
+        misused(f"--limit {limit!r}", run([yarib, "run", f"--limit={limit}", "row.feed"]), f"'{limit}'" if limit else "", "--limit")
+    for batch in ("0", "1025", "4294967297", "18446744073709551617", "-1", "x", ""):
+        misused(f"--batch {batch!r}", run([yarib, "run", f"--batch={batch}", "row.feed"]), f"'{batch}'" if batch else "", "--batch")
+    misused("--limit without a number", run([yarib, "run", "--limit"]), "--limit")
+    misused("--limit without a number, before --batch", run([yarib, "run", "--limit", "--batch", "1", "row.feed"]), "--limit")
+    misused("--limit before run", run([yarib, "--limit", "1", "run", "row.feed"]), "--limit")
+
+
+def batches(yarib):
+    """Each batch has an effect that no other has: the dumps of a second feed change at its multiples alone, and to those."""
+    expect("--batch 1000", batch_seen(yarib, ["--batch", "1000"], 1000), 1000)
+    for batch in (1, 2, 64, 1024):
+        expect(f"--batch {batch}", batch_seen(yarib, ["--batch", str(batch)], batch), batch)
+    expect("no --batch", batch_seen(yarib, [], 1), 1)
+    expect("--batch behind --limit", batch_seen(yarib, ["--limit", "1000000", "--batch", "5"], 5), 5)
+    expect("--limit behind --batch", batch_seen(yarib, ["--batch", "7", "--limit", "70000"], 7), 7)
+
+
+def batch_seen(yarib, words, batch):
+    """The greatest number that divides each change between two dumps of a feed, in up to 40 runs beside one that adds."""
+    count = batch * max(48, 16_384 // batch)
+    pathlib.Path("adds.feed").write_text("".join(f"add 10.{k >> 8}.{k & 255}.0/24 1 192.0.2.1\n" for k in range(count)))
+    pathlib.Path("dumps.feed").write_text("dump\n" * count)
+    added = [f"1:{line} added" for line in range(1, count + 1)]
+    divides = 0
+    for _ in range(40):
+        status, out, err = run([yarib, "run", *words, "adds.feed", "dumps.feed"])
+        lines = out.splitlines()
+        if (status, err, lines[:count]) != (0, "", added):
+            return "a route was not added"
+        dumped = [int(line.rpartition(" ")[2]) for line in lines[count : 2 * count]]
+        for at in range(1, count):
+            if dumped[at - 1] != dumped[at]:
+                divides = math.gcd(divides, at, dumped[at - 1], dumped[at])
+        if divides and divides <= batch:
+            break
+    return divides
+
+
+def twice(yarib):
+    for first, second in (("1", "2"), ("2", "2")):
+        for name in ("--limit", "--batch"):
+            misused(f"{name} twice", run([yarib, "run", name, first, name, second, "row.feed"]), name)
+            misused(f"{name} before and behind", run([yarib, "run", name, first, "row.feed", name, second]), name)
+        misused("--levels twice", run([yarib, "replay", "--levels", first, "--levels", second, "0"]), "--levels")
+
+
+# Replays
+
+
+class Tree:
+    """All places of a tree of so many levels. Each takes one atomic step at a time, by the rows of docs/FORMATS.md."""
+
+    def __init__(self, levels):
+        self.levels, self.words, self.inside = levels, {}, None
+        self.places = [self.passages(place) for place in range(2**levels)]
+
+    def store(self, word, value):
+        self.words[word] = value
+        return f"{word} := {value}"
+
+    def load(self, word):
+        value = self.words.get(word, 0)
+        return value, f"{word} = {value}"
+
+    def passages(self, place):
+        while True:
+            for level in range(1, self.levels + 1):
+                yield from self.enter(level, place, " inside" if level == self.levels else "")
+            for level in range(self.levels, 0, -1):
+                yield from self.leave(level, place, " out" if level == 1 else "")
+
+    def enter(self, level, place, mark):
+        node, side, own = place >> level, place >> level - 1 & 1, place + 1
+        last, spin = f"T{level}.{node}", f"P{level}.{place}"
+        yield self.store(f"C{level}.{node}.{side}", own)
+        yield self.store(last, own)
+        yield self.store(spin, 0)
+        rival, text = self.load(f"C{level}.{node}.{1 - side}")
+        if rival == 0:
+            yield text + mark
+            return
+        yield text
+        announced, text = self.load(last)
+        if announced != own:
+            yield text + mark
+            return
+        yield text
+        waits, text = self.load(f"P{level}.{rival - 1}")
+        yield text
+        if waits == 0:
+            yield self.store(f"P{level}.{rival - 1}", 1)
+        waits = 0
+        while waits == 0:
+            waits, text = self.load(spin)
+            yield text
+        announced, text = self.load(last)
+        if announced != own:
+            yield text + mark
+            return
+        yield text
+        while True:
+            waits, text = self.load(spin)
+            if waits == 2:
+                yield text + mark
+                return
+            yield text
+
+    def leave(self, level, place, mark):
+        node, side, own = place >> level, place >> level - 1 & 1, place + 1
+        yield self.store(f"C{level}.{node}.{side}", 0)
+        announced, text = self.load(f"T{level}.{node}")
+        if announced == own:
+            yield text + mark
+            return
+        yield text
+        yield self.store(f"P{level}.{announced - 1}", 2) + mark
+
+    def text(self, picks):
+        lines = []
+        for number, place in enumerate(picks, 1):
+            step = next(self.places[place])
+            lines.append(f"{number} p{place} {step}\n")
+            if step.endswith(" inside"):
+                self.inside = place
+            elif self.inside == place:
+                self.inside = None
+        return "".join(lines) + f"inside {'none' if self.inside is None else f'p{self.inside}'}\n"
+
+
+def replays(yarib):
+    def compare(levels, picks, *shown):
+        words = list(shown or map(str, picks))
+        ended = run([yarib, "replay", "--levels", str(levels), *words])
+        expect(f"a replay of {levels} levels: {' '.join(words)[:60]}", ended, (0, Tree(levels).text(picks), ""))
+
+    for levels in range(1, 7):
+        last = 2**levels - 1
+        compare(levels, [last] * (7 * levels))
+        compare(levels, [0] * 3 + [last] * 3 + [0])
+        compare(levels, [])
+        compare(levels, [7 % 2**levels] * 13)
+        expect(f"no place of {levels} levels", run([yarib, "replay", "--levels", str(levels), "0", str(last + 1)]), (3, "", "yarib: fault P1\n"))
+        choice = random.Random(levels)
+        compare(levels, [choice.randrange(2**levels) for _ in range(300)])
+        compare(levels, [choice.choice((0, last)) for _ in range(300)])
+    compare(6, [0, 9, 10, 63, 7], "0", "9", "10", "63", "7")
+    compare(1, [1, 0, 1], "--", "1", "0", "1")
+    choice = random.Random(1000)
+    compare(6, [choice.randrange(64) for _ in range(1000)])
+    compare(2, [choice.randrange(4) for _ in range(1000)])
+    for pick in ("64", "99", "100", "200", "255"):
+        expect(f"the pick {pick}", run([yarib, "replay", "--levels", "6", "63", pick]), (3, "", "yarib: fault P1\n"))
+    for pick in ("256", "1000", "-1", "x", "", "1.5", "18446744073709551616"):
+        misused(f"the pick {pick!r}", run([yarib, "replay", "--levels", "6", "--", "63", pick]), f"'{pick}'")
+    for levels in ("0", "7", "8", "64", "255"):
+        for picks in ([], ["0"], ["200"]):
+            expect(f"{levels} levels, {picks}", run([yarib, "replay", "--levels", levels, *picks]), (3, "", "yarib: fault P2\n"))
+    for levels in ("256", "-1", "x", "", "4294967297"):
+        misused(f"{levels!r} levels", run([yarib, "replay", f"--levels={levels}", "0"]), f"'{levels}'" if levels else "", "--levels")
+    misused("no levels", run([yarib, "replay", "0"]), "--levels")
+
+
+# Help, version and what is no command
+
+
+def pages(yarib):
+    page = lambda name: (TOP / "bench" / "help" / f"{name}.txt").read_text()
+    for words in (["--help"], ["-h"], ["help"]):
+        expect(f"{words}", run([yarib, *words]), (0, page("yarib"), ""))
+    for name in ("run", "replay"):
+        for words in ([name, "--help"], [name, "-h"], ["help", name], [name, "--help", "row.feed"]):
+            expect(f"{words}", run([yarib, *words]), (0, page(name), ""))
+    for words in (["--version"], ["-V"]):
+        expect(f"{words}", run([yarib, *words]), (0, "yarib 0.1.0\n", ""))
+    expect("no word", run([yarib]), (3, "", page("yarib")))
+    for words, part in ((["walk"], "'walk'"), (["help", "walk"], "'walk'"), (["row.feed"], "'row.feed'"), (["run"], "<FILE>"),
+                        (["run", "--frob", "row.feed"], "'--frob'"), (["replay", "--limit", "1"], "'--limit'"), ([""], "''"),
+                        (["RUN", "row.feed"], "'RUN'"), (["--frob"], "'--frob'"), (["run", "--levels", "1", "row.feed"], "'--levels'")):
+        misused(f"{words}", run([yarib, *words]), part)
+
+
+# What the help says of a fault, and a line that has it; and of a status, and a call that ends with it.
+FAULTS = [
+    ("E1 no command", "frob"), ("E2 number of fields", "dump x"), ("E3 prefix or address", "lookup 256.0.0.1"),
+    ("E3 prefix or address", "withdraw 10.0.0/8"), ("E4 prefix length", "withdraw 10.0.0.0/33"),
+    ("E5 bits past the length", "withdraw 10.0.0.1/8"), ("E6 preference", "add 10.0.0.0/8 4294967296 192.0.2.1"),
+    ("E7 next hop", "add 10.0.0.0/8 1 192.0.2.256"), ("E7 next hop", "add 10.0.0.0/8 1 discard"), ("E8 over 128 bytes", "#" * 129),
+]
+STATUSES = [
+    ("0 done", ["row.feed"]), ("2 faulty line", ["faulty.feed"]), ("3 command line", ["--frob"]),
+    ("4 unreadable file", ["missing"]), ("6 output not written", ["row.feed"]),
+]
+
+
+def help_is_true(yarib):
+    help_text = run([yarib, "run", "--help"])[1]
+    for said, line in FAULTS:
+        pathlib.Path("text.feed").write_text(line + "\n")
+        expect(f"the fault of {line[:40]!r}", run([yarib, "run", "text.feed"]), (2, f"1:1 fault {said[:2]}\ntable 0\n", ""))
+        expect(f"the help says {said}", f" {said}" in help_text, True)
+    for said, words in STATUSES:
+        with open("/dev/full" if said[0] == "6" else "/dev/null", "w") as output:
+            expect(f"the status of {said}", run([yarib, "run", *words], stdout=output)[0], int(said[0]))
+        expect(f"the help says {said}", f" {said}" in help_text, True)
+    pathlib.Path("text.feed").write_text("#" * 128 + "\nversion 2\nadd 10.0.0.0/8 1 discard\npurge\n")
+    expect("version 2 on a later line", run([yarib, "run", "text.feed"]), (2, "1:2 fault E1\n1:3 fault E7\n1:4 fault E1\ntable 0\n", ""))
+    pathlib.Path("text.feed").write_text("version 2\nadd 10.0.0.0/8 1 discard\nreplace 10.0.0.0/8 2 discard\npurge\n" + ROW)
+    out = "1:2 added\n1:3 replaced\n1:4 purged 1\n1:5 added\n" + table(route(1))
+    expect("version 2", run([yarib, "run", "text.feed"]), (0, out, ""))
+
+
+def closed_outputs(yarib):
+    calls = (["--help"], ["help", "run"], ["run", "--help"], ["replay", "--help"], ["--version"], ["-V"], ["replay", "--levels", "6"],
+             ["replay", "--levels", "2", *["3"] * 12], ["run", "row.feed"], ["run", "empty.feed"], ["run", "faulty.feed"])
+    for words in calls:
+        closed = run([yarib, *words], stdout=None, preexec_fn=lambda: os.close(1))
+        expect(f"{words} to a closed output", closed, CANNOT_WRITE)
+        with open("/dev/full", "w") as full:
+            expect(f"{words} to a full output", run([yarib, *words], stdout=full), CANNOT_WRITE)
+        expect(f"{words} where nothing is open", run([yarib, *words], stdout=None, stderr=None, preexec_fn=close_all), (6, "", ""))
+    # What has nothing for standard output doesn't meet it.
+    for words, wanted in ((["run", "missing"], (4, "", "yarib: cannot read missing\n")), (["replay", "--levels", "7"], (3, "", "yarib: fault P2\n"))):
+        expect(f"{words} to a closed output", run([yarib, *words], stdout=None, preexec_fn=lambda: os.close(1)), wanted)
+
+
+def main():
+    program = built(sys.argv[1:])
+    with tempfile.TemporaryDirectory() as apart, tempfile.TemporaryDirectory() as folder:
+        # The help says by which name the program was called.
+        yarib = pathlib.Path(apart) / "yarib"
+        yarib.symlink_to(program)
+        os.chdir(folder)
+        for name, text in (("row", ROW), ("empty", ""), ("faulty", "frob\n")):
+            pathlib.Path(f"{name}.feed").write_text(text)
+        for rows in (file_order, many_files, unreadable, names, texts, limits, batches, twice, replays, pages, help_is_true, closed_outputs):
+            rows(yarib)
+            print(f"{rows.__name__.replace('_', ' ')}: done", flush=True)
+        os.chdir("/")
+    sys.exit(f"{len(failures)} wrong" if failures else 0)
+
+
+if __name__ == "__main__":
+    main()

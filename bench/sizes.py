@@ -1,0 +1,146 @@
+#!/usr/bin/env python3
+"""Runs of sizes at which a needless refusal would show: the whole output of each is compared with a plain model.
+
+Usage: bench/sizes.py [YARIB]. Builds ./yarib first unless a built program is named. Linux, python3, 2 GB of memory.
+
+That a call which wants memory gets it where there is some, no clause can say. So: a million routes of one feed and more than a
+million lines, entries and answers; each number of files from 1 to 64, with as many offers of one prefix; feeds with other
+texts of their own; batches about the sizes at which lists grow; the greatest numbers and the last address.
+"""
+import os
+import pathlib
+import sys
+import tempfile
+
+from hostile import built, expect, failures, run
+from refused_growth import address, run_text
+
+MOST = 1_000_000
+
+
+def compare(what, ended, status, out):
+    """As expect, but for outputs too long to be shown: the first line that differs is."""
+    if (ended[0], ended[2]) == (status, "") and ended[1] == out:
+        return
+    found, wanted = ended[1].splitlines(), out.splitlines()
+    at = next((at for at, pair in enumerate(zip(found, wanted)) if pair[0] != pair[1]), min(len(found), len(wanted)))
+    expect(what, (ended[0], ended[2][:200], at + 1, found[at : at + 1]), (status, "", at + 1, wanted[at : at + 1]))
+
+
+def million(yarib):
+    """A feed that fills its limit with single addresses in no order, the last one among them, and goes on."""
+    bases = [0xFFFF_FFFF - at * 2_654_435_761 % 2**32 for at in range(MOST)]
+    prefs = [0xFFFF_FFFF - at % 7 for at in range(MOST)]
+    lines = [f"add {address(base)}/32 {pref} 192.0.2.1\n" for base, pref in zip(bases, prefs)]
+    shown = lambda at: f"{address(bases[at])}/32 feed 1 pref {prefs[at]} via 192.0.2.1"
+    answers = ["added"] * MOST
+    rest = [
+        ("add 0.0.0.0/0 1 192.0.2.1", "full"),
+        ("lookup 255.255.255.255", "route " + shown(0)),
+        (f"lookup {address(bases[-1])}", "route " + shown(MOST - 1)),
+        ("dump", f"dumped {MOST}"),
+        ("withdraw 255.255.255.255/32", "withdrawn"),
+        ("lookup 255.255.255.255", "no route"),
+        ("add 255.255.255.255/32 4294967295 192.0.2.1", "added"),
+        ("add 255.255.255.255/32 4294967295 192.0.2.1", "exists"),
+    ]
+    text = "version 2\n" + "".join(lines) + "".join(line + "\n" for line, _ in rest)
+    answers += [answer for _, answer in rest]
+    report = "".join(f"1:{at} {answer}\n" for at, answer in enumerate(answers, 2))
+    order = sorted(range(MOST), key=bases.__getitem__)
+    pathlib.Path("million.feed").write_text(text)
+    words = [yarib, "run", "--limit", str(MOST), "--batch", "1024", "million.feed"]
+    compare("a million routes", run(words), 0, report + f"table {MOST}\n" + "".join(shown(at) + "\n" for at in order))
+    at = len(answers) + 2
+    pathlib.Path("million.feed").write_text(text + "purge\npurge\ndump\nadd 0.0.0.0/0 0 discard\n")
+    left = f"1:{at} purged {MOST}\n1:{at + 1} purged 0\n1:{at + 2} dumped 0\n1:{at + 3} added\ntable 1\n0.0.0.0/0 feed 1 pref 0 via discard\n"
+    compare("a purge of a million routes", run(words), 0, report + left)
+
+
+def of_one_feed(count):
+    """A text of so many lines: routes that nest, in both kinds of hop, and what is asked of them."""
+    lines = ["version 2"]
+    for at in range(count):
+        base = address(0x0A00_0000 + (at * 40_503 % 65_536 << 8))
+        lines.append((f"add {base}/24 {at} 192.0.2.1", f"add {base}/32 {2**32 - 1 - at} discard", f"lookup {base}", f"dump",
+                      f"replace {base}/24 1 discard", f"withdraw {base}/28", f"# {at}", f"add {base}/24 1 192.0.2.2")[at % 8])
+    return "".join(line + "\n" for line in lines)
+
+
+def batches(yarib):
+    text = of_one_feed(2_100)
+    out = run_text([text], set())
+    pathlib.Path("batch.feed").write_text(text)
+    for batch in [*range(1, 10), 15, 16, 17, 31, 32, 33, 63, 64, 65, 127, 128, 129, 255, 256, 257, 511, 512, 513, 700, 1023, 1024]:
+        compare(f"in batches of {batch}", run([yarib, "run", "--batch", str(batch), "batch.feed"]), 0, out)
+    # A batch of just so many commands, and one of a command less and more than the text has.
+    for count in [*range(1, 10), 255, 256, 257, 1023, 1024]:
+        pathlib.Path("count.feed").write_text("dump\n" * count)
+        out = "".join(f"1:{line} dumped 0\n" for line in range(1, count + 1)) + "table 0\n"
+        for batch in {max(count - 1, 1), count, min(count + 1, 1024)}:
+            compare(f"{count} commands in batches of {batch}", run([yarib, "run", "--batch", str(batch), "count.feed"]), 0, out)
+
+
+def purges(yarib):
+    for count in (1, 1_023, 1_024, 1_025, 5_000, 65_536):
+        adds = [f"add 10.{at >> 8}.{at & 255}.0/24 1 192.0.2.1\n" for at in range(count)]
+        pathlib.Path("purge.feed").write_text("version 2\n" + "".join(adds) + "purge\ndump\n")
+        report = "".join(f"1:{line} added\n" for line in range(2, count + 2))
+        out = report + f"1:{count + 2} purged {count}\n1:{count + 3} dumped 0\ntable 0\n"
+        compare(f"a purge of {count}", run([yarib, "run", "--batch", "64", "purge.feed"]), 0, out)
+
+
+def feeds(yarib):
+    """From 1 to 64 feeds: each offers one prefix and the last address, and has routes of its own."""
+    texts = []
+    for feed in range(1, 65):
+        texts.append(f"""version 2
+add 10.0.0.0/8 {(65 - feed) // 2} 192.0.2.{feed}
+add 255.255.255.255/32 4294967295 discard
+add {feed + 10}.0.0.0/8 {feed} 192.0.2.1
+lookup {feed + 10}.1.2.3
+replace 255.255.255.255/32 4294967294 192.0.2.{feed}
+withdraw {feed + 10}.0.0.0/8
+add {feed + 10}.128.0.0/9 0 discard
+""")
+        pathlib.Path(f"{feed}.feed").write_text(texts[-1])
+    names = [f"{feed}.feed" for feed in range(1, 65)]
+    for count in range(1, 65):
+        for batch in ("1", "3", "1024") if count in (1, 2, 5, 9, 17, 40, 64) else ("2",):
+            ended = run([yarib, "run", "--batch", batch, *names[:count]])
+            compare(f"{count} feeds in batches of {batch}", ended, 0, run_text(texts[:count], set()))
+    pathlib.Path("empty.feed").write_text("")
+    pathlib.Path("last.feed").write_text("dump\n" + texts[-1].replace("version 2\n", "").replace("discard", "192.0.2.9") + "dump\n")
+    answers = ["dumped 0", "added", "added", "added", "route 74.0.0.0/8 feed 64 pref 64 via 192.0.2.1", "replaced", "withdrawn", "added", "dumped 3"]
+    report = "".join(f"64:{line} {answer}\n" for line, answer in enumerate(answers, 1))
+    routes = ["10.0.0.0/8 feed 64 pref 0 via 192.0.2.64", "74.128.0.0/9 feed 64 pref 0 via 192.0.2.9",
+              "255.255.255.255/32 feed 64 pref 4294967294 via 192.0.2.64"]
+    wanted = report + "table 3\n" + "".join(line + "\n" for line in routes)
+    compare("feed 64 alone asks", run([yarib, "run", *["empty.feed"] * 63, "last.feed"]), 0, wanted)
+
+
+def many_offers(yarib):
+    """300,000 routes of three feeds, the same prefixes for each."""
+    bases = [address(0x0100_0000 + (at * 40_503 % 100_000 << 8)) for at in range(100_000)]
+    for feed in range(1, 4):
+        pathlib.Path(f"{feed}.feed").write_text("".join(f"add {base}/24 {9 - feed} 192.0.2.{feed}\n" for base in bases))
+    report = "".join(f"{feed}:{line} added\n" for feed in range(1, 4) for line in range(1, 100_001))
+    offers = lambda base: "".join(f"{base}/24 feed {feed} pref {9 - feed} via 192.0.2.{feed}\n" for feed in (3, 2, 1))
+    sorted_bases = [address(0x0100_0000 + (at << 8)) for at in range(100_000)]
+    ended = run([yarib, "run", "--limit", "100000", "--batch", "256", "1.feed", "2.feed", "3.feed"])
+    compare("300,000 routes of three feeds", ended, 0, report + "table 300000\n" + "".join(map(offers, sorted_bases)))
+
+
+def main():
+    yarib = built(sys.argv[1:])
+    with tempfile.TemporaryDirectory() as folder:
+        os.chdir(folder)
+        for rows in (batches, purges, feeds, many_offers, million):
+            rows(yarib)
+            print(f"{rows.__name__.replace('_', ' ')}: done", flush=True)
+        os.chdir("/")
+    sys.exit(f"{len(failures)} wrong" if failures else 0)
+
+
+if __name__ == "__main__":
+    main()
