@@ -44,9 +44,14 @@ in_one_piece : Uncut 1 ((dump 1 ∷ purge 1 ∷ []) ∷ []) (dump 2 ∷ dump 1 �
 in_one_piece = (dump 2 ∷ [], dump 2 ∷ [], refl, none_by_1, both_by_1, none_by_1)
 
 in_two_visits : Uncut 1 ((dump 1 ∷ []) ∷ (purge 1 ∷ []) ∷ []) (dump 1 ∷ dump 2 ∷ purge 1 ∷ [])
-in_two_visits =
-    ([], dump 2 ∷ purge 1 ∷ [], refl, All-nil (λ e. e.feed ≢ 1), All-cons (λ e. e.feed ≡ 1) (dump 1) [] refl (All-nil (λ e. e.feed ≡ 1)),
-    (dump 2 ∷ [], [], refl, none_by_1, All-cons (λ e. e.feed ≡ 1) (purge 1) [] refl (All-nil (λ e. e.feed ≡ 1)), All-nil (λ e. e.feed ≢ 1)))
+in_two_visits = (
+  [],
+  dump 2 ∷ purge 1 ∷ [],
+  refl,
+  All-nil (λ e. e.feed ≢ 1),
+  All-cons (λ e. e.feed ≡ 1) (dump 1) [] refl (All-nil (λ e. e.feed ≡ 1)),
+  (dump 2 ∷ [], [], refl, none_by_1, All-cons (λ e. e.feed ≡ 1) (purge 1) [] refl (All-nil (λ e. e.feed ≡ 1)), All-nil (λ e. e.feed ≢ 1)),
+)
 
 one_between : ¬ Uncut 1 ((dump 1 ∷ purge 1 ∷ []) ∷ []) (dump 1 ∷ dump 2 ∷ purge 1 ∷ [])
 one_between h = no_piece h.0 h.1 h.2 h.3
