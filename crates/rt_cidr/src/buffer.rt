@@ -15,7 +15,7 @@ use std::snapshot::Snapshot;
 pub const OUTPUT_BYTES: usize = 65_536;
 
 /// All the memory of an output buffer. Contracts see the bytes that are held there.
-#[derive(Drop)]
+#[derive(Debug, Drop)]
 pub struct OutputRoom {
     bytes: Vec<u8>,
 }

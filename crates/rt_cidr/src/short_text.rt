@@ -9,7 +9,7 @@ pub const SHORT_TEXT_BYTES: usize = 512;
 
 /// A text of at most 512 bytes, built from its back to its front, since the digits of a number come last digit first.
 /// Contracts see its bytes. No call takes memory.
-#[derive(Drop)]
+#[derive(Debug, Drop)]
 pub struct ShortText {
     buf: [u8; SHORT_TEXT_BYTES],
     start: usize,

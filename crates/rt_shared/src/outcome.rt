@@ -2,7 +2,7 @@
 use rt_rib::Reply;
 
 /// What came of a command.
-#[derive(Debug, Clone, Copy, PartialEq)]
+#[derive(Clone, Copy, PartialEq, Eq, Debug)]
 pub enum Outcome {
     /// It was answered, and stands in the journal with this reply.
     Did(Reply),

@@ -38,7 +38,7 @@ impl<T: Drop> From<AllocFailed<T>> for NoMemory {
 ///
 /// Contracts see it as its rows: its levels, its words in one flat row and its processes by place. `state_of` shows
 /// them as words by name and processes by place, in which the lock's invariant always holds.
-#[derive(Drop)]
+#[derive(Debug, Drop)]
 pub struct Machine {
     shape: Shape,
     words: Vec<u64>,
