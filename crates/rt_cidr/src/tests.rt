@@ -419,6 +419,7 @@ fn never_flushes_the_writer(rt: HostRuntime) -> Result<(), Fail> {
     let mut buffer = OutputBuffer::new(&mut writer, OutputRoom::new(rt.alloc())?);
     put(&mut buffer, b" via 192.0.2.1")?;
     buffer.flush()?;
+    drop(buffer);
     assert_eq!(rt;
         writer.taken.as_slice(),
         b"10.0.0.0/8 via 192.0.2.1".as_slice()
@@ -459,9 +460,9 @@ fn gathers_pieces_into_few_large_writes(rt: HostRuntime) -> Result<(), Fail> {
     put(&mut buffer, wanted.as_slice())?;
     drop(buffer);
     assert_eq!(rt; writer.calls, 6);
-    assert_eq!(rt; writer.taken.len(), 400_004);
-    assert_eq!(rt; &writer.taken[..200_000], wanted.as_slice());
-    assert_eq!(rt; &writer.taken[200_000..200_004], b"held".as_slice());
-    assert_eq!(rt; &writer.taken[200_004..], wanted.as_slice());
+    let mut all = Vec::from_slice(rt.alloc(), wanted.as_slice())?;
+    all.extend_from_slice(b"held")?;
+    all.extend_from_slice(wanted.as_slice())?;
+    assert_eq!(rt; writer.taken.as_slice(), all.as_slice());
     Ok(())
 }
