@@ -17,14 +17,14 @@ use Rattle.rt_rib.proofs.Sets.{Contains-head, Contains-tail, Contains-cases, Con
 use Rattle.rt_rib.proofs.Covering.{base_at, covers-base}
 
 -- what is contained passes a test that all pass
-list_all-contained : {X : Type 0} (p : X → Bool) (xs : List X) (x : X) → list_all p xs ≡ true → Contains xs x → p x ≡ true
+pub list_all-contained : {X : Type 0} (p : X → Bool) (xs : List X) (x : X) → list_all p xs ≡ true → Contains xs x → p x ≡ true
 list_all-contained p [] x e c = absurd (Contains-none x c)
 list_all-contained p (y ∷ xs) x e c =
     let parts = and_parts (p y) (list_all p xs) e in
     elim (Contains-cases y xs x c) [ inl here ↦ ap p (sym here) ∙ parts.0 | inr later ↦ list_all-contained p xs x parts.1 later ]
 
 -- and all pass a test that whatever is contained passes
-list_all-from_contained : {X : Type 0} (p : X → Bool) (xs : List X) → ((x : X) → Contains xs x → p x ≡ true) → list_all p xs ≡ true
+pub list_all-from_contained : {X : Type 0} (p : X → Bool) (xs : List X) → ((x : X) → Contains xs x → p x ≡ true) → list_all p xs ≡ true
 list_all-from_contained p xs h = list_all-from p xs (λ k d l. h (get_or xs k d) (Contains-get_or xs k d l))
 
 -- a test that something passes finds something that passes

@@ -11,7 +11,7 @@ use Rattle.rt_rib.specs.declared.commands.Reply.{Reply}
 use Rattle.rt_rib.specs.declared.commands.Reply.TheVariants.{Added, Exists, Full, Replaced, Withdrawn, Missing, Found, NoRoute, Dumped, Purged}
 use Rattle.rt_rib.specs.declared.commands.Entry.{Entry}
 use Rattle.rt_rib.specs.Table.{is_of, has, count_of, is_better, precedes, put_in, take_out, purge, IsTable}
-use Rattle.rt_rib.specs.LookUp.{matching, longest_of, best, look_up}
+use Rattle.rt_rib.specs.LookUp.{matching, longest_of, best, look_up, best_routes}
 use Rattle.rt_rib.specs.Sequential.{reply_of, table_after}
 use Rattle.rt_rib.specs.Journal.{table_left, IsAnswered, IsLawfulJournal}
 use Rattle.rt_rib.specs.Book.{IsLimit}
@@ -227,6 +227,17 @@ look_up_of_the_last_address = refl
 look_up_finds_nothing_where_nothing_covers : look_up at_198_51_100_7 (route ten_8 1 5 ∷ route last_32 1 9 ∷ []) ≡ None
 unfolding look_up
 look_up_finds_nothing_where_nothing_covers = refl
+
+-- best_routes
+best_routes_leaves_one_of_each_prefix :
+    best_routes (route everything 1 200 ∷ route ten_8 2 30 ∷ route ten_8 1 50 ∷ route ten_1_16 1 100 ∷ []) ≡ route everything 1 200 ∷ route ten_8 2 30 ∷ route ten_1_16 1 100 ∷ []
+best_routes_leaves_one_of_each_prefix = refl
+
+best_routes_of_a_tie_is_the_least_feed : best_routes (route ten_8 2 30 ∷ route ten_8 64 30 ∷ []) ≡ route ten_8 2 30 ∷ []
+best_routes_of_a_tie_is_the_least_feed = refl
+
+best_routes_tells_prefixes_of_one_base_apart : best_routes (route ten_8 1 5 ∷ route ten_0_16 2 9 ∷ []) ≡ route ten_8 1 5 ∷ route ten_0_16 2 9 ∷ []
+best_routes_tells_prefixes_of_one_base_apart = refl
 
 -- reply_of
 add_where_there_is_room : reply_of 2 (route ten_8 1 5 ∷ []) 1 (Add ten_1_16 5 Discard) ≡ Added

@@ -17,4 +17,5 @@ pub mod MapRoutes
 pub mod Purges
 pub mod MapChanges
 pub mod MapLookUps
+pub mod BestRoutes
 pub mod Examples

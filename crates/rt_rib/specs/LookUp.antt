@@ -1,8 +1,8 @@
 -- The look-up as three filters of a set (RFC 1812, section 5.2.4.3): Basic Match, Longest Match, and the vendor's policy.
-use Rattle.std.specs.Prelude.{not, nat_le, List, Option, filter, find}
+use Rattle.std.specs.Prelude.{◌&&◌, not, nat_le, List, Option, filter, find}
 use Rattle.std.specs.List.{list_all}
 use Rattle.rt_cidr.specs.declared.address.Addr.{Addr}
-use Rattle.rt_cidr.specs.Prefix.{covers}
+use Rattle.rt_cidr.specs.Prefix.{covers, same_prefix}
 use Rattle.rt_rib.specs.declared.routes.Route.{Route}
 use Rattle.rt_rib.specs.Table.{is_better}
 
@@ -21,3 +21,7 @@ best routes = find (λ r. list_all (λ s. not (is_better s r)) routes) routes
 -- the best of the longest of those that match
 unfoldable pub look_up : Addr → List Route → Option Route
 look_up addr routes = best (longest_of (matching addr routes))
+
+-- the routes to whose prefix no other of them is better
+abbrev pub best_routes : List Route → List Route
+best_routes routes = filter (λ r. list_all (λ s. not (same_prefix s.prefix r.prefix && is_better s r)) routes) routes

@@ -1,5 +1,5 @@
 -- A map from prefixes to their offers, and the routes that it stands for.
-use Rattle.std.specs.Prelude.{◌≡◌, List, [], ◌∷◌, ◌++◌, Option, Some, None, map}
+use Rattle.std.specs.Prelude.{◌≡◌, ℕ, List, [], ◌∷◌, ◌++◌, Option, Some, None, map, slice_index_or}
 use Rattle.std.specs.List.{Contains}
 use Rattle.rt_cidr.specs.declared.prefixes.Prefix.{Prefix}
 use Rattle.rt_cidr.specs.Laws.{SamePrefix}
@@ -32,6 +32,10 @@ offers_in (Some offers) = offers
 
 abbrev pub offers_at : Map → Prefix → List Offer
 offers_at m p = offers_in (get m p)
+
+-- the route at a place of the answers to look-ups
+abbrev pub route_at : List (Option Route) → ℕ → Option Route
+route_at answers k = slice_index_or answers k None
 
 -- the map has, at the route's prefix, an offer of its feed with its preference and next hop
 abbrev pub IsThere : Map → Route → Type 0

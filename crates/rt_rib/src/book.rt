@@ -1,5 +1,5 @@
 //! The book: a table with the journal of all that it answered, and nothing but what keeps the two in step.
-ghost use Rattle.std.specs.Prelude.{◌≡◌, [], IfOk, OnErr};
+ghost use Rattle.std.specs.Prelude.{◌≡◌, [], length, map, IfOk, OnErr};
 ghost use Rattle.std.specs.List.{All};
 ghost use Rattle.rt_rib.specs.Book.{IsLimit, IsFeed};
 
@@ -7,6 +7,7 @@ use crate::commands::{Cmd, Entry, Reply};
 use crate::refused::Refused;
 use crate::routes::Route;
 use crate::table::Table;
+use rt_cidr::Addr;
 use std::alloc::Allocator;
 use std::marker::Model;
 
@@ -45,6 +46,7 @@ impl<A: Allocator + Copy> Model for Book<A> {
 impl<A: Allocator + Copy> Book<A> {
     ghost use Rattle.rt_rib.specs.Journal.{IsLawfulJournal};
     ghost use Rattle.rt_rib.specs.Table.{IsTable};
+    ghost use Rattle.rt_rib.specs.LookUp.{look_up};
     ghost use Rattle.rt_rib.specs.Book.{table_of, Applies, Refuses, HoldsRoutesLeft};
 
     /// An empty book in which each feed may have so many routes. It takes no memory.
@@ -92,6 +94,17 @@ impl<A: Allocator + Copy> Book<A> {
     /// memory.
     pub fn read_ahead(&self, cmds: &[Cmd]) {
         self.table.read_ahead(cmds);
+    }
+
+    /// For each address, in order, the best route of the longest prefix that covers it, as `Cmd::Lookup` would answer it, or
+    /// `None` where no prefix covers it: the answers take the place of what stood in their list, which is as long as that of
+    /// the addresses. The look-ups go on eight at a time, so that one waits for memory while the others do, which is faster in
+    /// a table that doesn't lie in cache. It changes nothing in the book, its journal neither, and takes no memory.
+    pub fn look_up(&self, addresses: &[Addr], answers: &mut [Option<Route>])
+        requires { length answers.old ≡ length addresses.now }
+        ensures { answers.new ≡ map (λ addr. look_up addr (table_of self.now)) addresses.now }
+    {
+        self.table.look_up(addresses, answers);
     }
 
     /// The routes in dump order, by base, then length, then preference, then feed, in memory of the allocator. M1:

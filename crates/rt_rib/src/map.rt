@@ -1,14 +1,13 @@
 //! The map from prefixes to their offers: the routes that it stands for, and how they change.
 ghost use Rattle.std.specs.Prelude.{◌≡◌, ◌++◌, false, IsTrue, IfOk, OnOk, OnErr, map};
 ghost use Rattle.rt_rib.specs.Table.{has, put_in, take_out};
-ghost use Rattle.rt_rib.specs.LookUp.{look_up};
 ghost use Rattle.rt_rib.specs.Maps.{routes_of, offers_at, route_by, IsMap, MapLaws};
 
 use crate::offers::{Offer, Offers, Taken};
 use crate::refused::Refused;
 use crate::routes::Route;
+use rt_cidr::Prefix;
 use rt_cidr::laws::same_prefix;
-use rt_cidr::{Addr, Prefix};
 use rt_trie::Trie;
 use rt_trie::laws::{changes, one_list};
 use std::alloc::Allocator;
@@ -46,18 +45,6 @@ pub(crate) fn has<A: Allocator + Copy>(map: &Map<A>, feed: u32, prefix: Prefix) 
     match map.get(prefix) {
         None => false,
         Some(offers) => offers.has(feed),
-    }
-}
-
-/// The best route of the longest prefix that covers the address.
-pub(crate) fn best_of<A: Allocator + Copy>(map: &Map<A>, addr: Addr) -> Option<Route>
-    requires { IsMap map.now.pairs }
-    ensures { result ≡ look_up addr (routes_of map.now.pairs) }
-{
-    map_laws::<A>();
-    match map.longest(addr) {
-        None => None,
-        Some((prefix, offers)) => Some(route_by(prefix, &offers.as_slice()[0])),
     }
 }
 

@@ -1,5 +1,10 @@
 //! Routes: plain data, as callers see it.
+ghost use Rattle.std.specs.Prelude.{◌≡◌};
+ghost use Rattle.rt_rib.specs.Table.{IsTable};
+ghost use Rattle.rt_rib.specs.LookUp.{best_routes};
+
 use rt_cidr::{Addr, Prefix};
+use std::alloc::Allocator;
 
 /// Where packets to a route's addresses go.
 #[derive(Clone, Copy, PartialEq, Eq, Debug)]
@@ -22,4 +27,13 @@ pub struct Route {
     pub pref: u32,
     /// The next hop.
     pub hop: Hop,
+}
+
+/// Keeps of routes in dump order, as [`Book::routes`](crate::Book::routes) gives them, the best one of each prefix, which
+/// is the one that a look-up would give; the others go. The order stays, and no memory is taken.
+pub fn keep_best<A: Allocator>(routes: &mut Vec<Route, A>)
+    requires { IsTable routes.old.items }
+    ensures { routes.new.items ≡ best_routes routes.old.items }
+{
+    routes.dedup_by(|later, first| later.prefix == first.prefix);
 }

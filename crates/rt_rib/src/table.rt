@@ -1,7 +1,8 @@
 //! The sequential table: its routes as offers in a map, how many each feed has, and the answers to commands.
-ghost use Rattle.std.specs.Prelude.{◌≡◌, ◌^◌, ◌<◌, [], length, sum, IfOk, OnErr};
+ghost use Rattle.std.specs.Prelude.{◌≡◌, ◌^◌, ◌<◌, [], length, map, sum, IfOk, OnErr};
 ghost use Rattle.rt_rib.specs.declared.commands.Cmd.TheVariants.{Add, Replace, Withdraw, Purge};
 ghost use Rattle.rt_rib.specs.Table.{IsTable};
+ghost use Rattle.rt_rib.specs.LookUp.{look_up};
 ghost use Rattle.rt_rib.specs.Book.{IsLimit, IsFeed, IsAdd};
 ghost use Rattle.rt_rib.specs.Kept.{held_of, IsStored, Serves};
 
@@ -10,8 +11,8 @@ use crate::limits::FEEDS;
 use crate::map::{self, Map};
 use crate::refused::Refused;
 use crate::routes::Route;
-use crate::{ahead, purge};
-use rt_cidr::Prefix;
+use crate::{ahead, lookups, purge};
+use rt_cidr::{Addr, Prefix};
 use rt_trie::Trie;
 use std::alloc::Allocator;
 use std::marker::Model;
@@ -81,6 +82,14 @@ impl<A: Allocator + Copy> Table<A> {
         map::routes(&self.map, alloc, count as usize)
     }
 
+    /// The best route of the longest prefix that covers each address.
+    pub(crate) fn look_up(&self, addresses: &[Addr], answers: &mut [Option<Route>])
+        requires { length answers.old ≡ length addresses.now }
+        ensures { answers.new ≡ map (λ addr. look_up addr self.now.routes) addresses.now }
+    {
+        lookups::best_of_each(&self.map, addresses, answers);
+    }
+
     /// Reads what the first few of the commands will go down to.
     pub(crate) fn read_ahead(&self, cmds: &[Cmd]) {
         ahead::read_ahead(&self.map, cmds);
@@ -113,7 +122,7 @@ impl<A: Allocator + Copy> Table<A> {
                 hop,
             })),
             Cmd::Withdraw { prefix } => Ok(self.withdraw(feed, prefix)),
-            Cmd::Lookup { addr } => Ok(match map::best_of(&self.map, addr) {
+            Cmd::Lookup { addr } => Ok(match lookups::best_of(&self.map, addr) {
                 Some(route) => Reply::Found(route),
                 None => Reply::NoRoute,
             }),

@@ -1,3 +1,4 @@
+mod lookups;
 mod memory;
 mod plain;
 mod random;

@@ -47,6 +47,7 @@ fn a_new_book_and_what_reads_take_no_memory(rt: HostRuntime) -> Result<(), Fail>
     for k in 0..1_000u32 {
         let addr = Addr(k.wrapping_mul(0x0123_4567));
         book.read_ahead(&[Cmd::Lookup { addr }]);
+        book.look_up(&[addr; 20], &mut [None; 20]);
         let _ = book.apply(1, Cmd::Lookup { addr })?;
         let _ = book.apply(1, Cmd::Dump)?;
         let _ = book.apply(

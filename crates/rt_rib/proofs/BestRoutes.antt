@@ -1,0 +1,191 @@
+-- In a table the first route to each prefix is the best one to it.
+use Rattle.std.proofs.Common.{◌≡◌, ◌<◌, ◌≤◌, true, false, not, eqb, ◌⊎◌, inl, inr, List, [], ◌∷◌, refl, ap, ◌∙◌, sym, subst, arith}
+use Rattle.std.specs.Prelude.{Bool, ◌&&◌}
+use Rattle.std.proofs.lemmas.Bool.{cases_Bool, cond-true, cond-false, both_ways, false_from_ne_true, and_parts, and_from, and_cases, and_left, not-true, not_from_false, eqb-true, eq-eqb}
+use Rattle.std.proofs.lemmas.List.Elements.{All-cons, All-head, All-tail, All-contains}
+use Rattle.std.proofs.lemmas.List.Filters.{All-dedup}
+use Rattle.std.proofs.lemmas.List.Kept.{AllPairs-cons, AllPairs-filter, Contains-from_dedup}
+use Rattle.std.specs.List.{All, AllPairs, Contains, dedup, filter, list_all}
+use Rattle.rt_cidr.specs.declared.prefixes.Prefix.{Prefix}
+use Rattle.rt_cidr.specs.Prefix.{same_prefix}
+use Rattle.rt_rib.specs.declared.routes.Route.{Route}
+use Rattle.rt_rib.specs.Table.{below_then, is_better, precedes, IsTable}
+use Rattle.rt_rib.specs.LookUp.{best_routes}
+use Rattle.rt_rib.proofs.Lists.{AllPairs-head, AllPairs-tail}
+use Rattle.rt_rib.proofs.Order.{below_then-true, is_better-itself, is_better-trans}
+use Rattle.rt_rib.proofs.Tables.{Ordered, Apart}
+use Rattle.rt_rib.proofs.Sets.{Contains-head, Contains-tail, Contains-cases, Contains-none, filter-keeps, filter-from, one_table_of_set}
+use Rattle.rt_rib.proofs.Best.{list_all-contained, list_all-from_contained}
+
+module _ {X : Type 0} (R : X → X → Type 0) where
+  -- the second of a list left out
+  AllPairs-skip : (k x : X) (xs : List X) → AllPairs R (k ∷ x ∷ xs) → AllPairs R (k ∷ xs)
+  AllPairs-skip k x xs h = AllPairs-cons R k xs (All-tail (R k) x xs (AllPairs-head R k (x ∷ xs) h)) (AllPairs-tail R x xs (AllPairs-tail R k (x ∷ xs) h))
+
+  -- what holds of each two elements holds of each two that are left
+  AllPairs-dedup : (E : X → X → Bool) (k : X) (xs : List X) → AllPairs R (k ∷ xs) → AllPairs R (dedup E (k ∷ xs))
+  AllPairs-dedup E k [] h = h
+  AllPairs-dedup E k (x ∷ xs) h = elim (cases_Bool (E x k)) [
+    | inl same ↦ subst (AllPairs R) (sym (cond-true (E x k) (dedup E (k ∷ xs)) (k ∷ dedup E (x ∷ xs)) same)) (AllPairs-dedup E k xs (AllPairs-skip k x xs h))
+    | inr other ↦
+        subst (AllPairs R) (sym (cond-false (E x k) (dedup E (k ∷ xs)) (k ∷ dedup E (x ∷ xs)) other))
+        (AllPairs-cons R k (dedup E (x ∷ xs)) (All-dedup E (R k) (x ∷ xs) (AllPairs-head R k (x ∷ xs) h)) (AllPairs-dedup E x xs (AllPairs-tail R k (x ∷ xs) h)))
+  ]
+
+-- whether two routes are to one prefix
+abbrev pub to_one : Route → Route → Bool
+to_one r s = same_prefix r.prefix s.prefix
+
+-- base and length of routes to one prefix
+one-parts : (r s : Route) → to_one r s ≡ true → (r.prefix.base ≡ s.prefix.base) × (r.prefix.len ≡ s.prefix.len)
+one-parts r s e =
+    let both = and_parts (eqb r.prefix.base s.prefix.base) (eqb r.prefix.len s.prefix.len) e in
+    (eqb-true r.prefix.base s.prefix.base both.0, eqb-true r.prefix.len s.prefix.len both.1)
+
+-- routes of one base and length are to one prefix
+one-from : (r s : Route) → r.prefix.base ≡ s.prefix.base → r.prefix.len ≡ s.prefix.len → to_one r s ≡ true
+one-from r s b l = and_from (eqb r.prefix.base s.prefix.base) (eqb r.prefix.len s.prefix.len) (eq-eqb r.prefix.base s.prefix.base b) (eq-eqb r.prefix.len s.prefix.len l)
+
+-- and so are those of which each is to the prefix of a third
+one-over : (r s t : Route) → to_one s r ≡ true → to_one s t ≡ true → to_one r t ≡ true
+one-over r s t x y = let a = one-parts s r x in let b = one-parts s t y in one-from r t (sym a.0 ∙ b.0) (sym a.1 ∙ b.1)
+
+-- what precedes a route to its prefix is better
+better-first : (r s : Route) → precedes r s ≡ true → to_one s r ≡ true → is_better r s ≡ true
+better-first r s e one =
+    let parts = one-parts s r one in
+    let base = parts.0 in
+    let len = parts.1 in
+    elim (below_then-true r.prefix.base s.prefix.base (below_then r.prefix.len s.prefix.len (is_better r s)) e) [
+      | inl less ↦ absurd (omega arith)
+      | inr same ↦ elim (below_then-true r.prefix.len s.prefix.len (is_better r s) same.1) [ inl shorter ↦ absurd (omega arith) | inr also ↦ also.1 ]
+    ]
+
+-- the base is no greater, and where it is the same the length is no greater
+abbrev IsUpTo : Prefix → Prefix → Type 0
+IsUpTo p q = (p.base < q.base) ⊎ ((p.base ≡ q.base) × (p.len ≤ q.len))
+
+up_to : (r s : Route) → precedes r s ≡ true → IsUpTo r.prefix s.prefix
+up_to r s e = elim (below_then-true r.prefix.base s.prefix.base (below_then r.prefix.len s.prefix.len (is_better r s)) e) [
+  | inl less ↦ inl less
+  | inr same ↦ inr (same.0, elim (below_then-true r.prefix.len s.prefix.len (is_better r s) same.1) [ inl shorter ↦ omega arith | inr also ↦ let l = also.0 in omega arith ])
+]
+
+-- what stands between two routes to one prefix is to it too
+one-between : (k x r : Route) → IsUpTo k.prefix x.prefix → IsUpTo x.prefix r.prefix → to_one k r ≡ true → to_one x k ≡ true
+one-between k x r low high one =
+    let parts = one-parts k r one in
+    let base = parts.0 in
+    let len = parts.1 in
+    elim low [
+      | inl a ↦ elim high [ inl b ↦ absurd (omega arith) | inr b ↦ let c = b.0 in absurd (omega arith) ]
+      | inr a ↦ elim high [
+        | inl b ↦ let c = a.0 in absurd (omega arith)
+        | inr b ↦ let c = a.0 in let d = a.1 in let f = b.0 in let g = b.1 in one-from x k (omega arith) (omega arith)
+      ]
+    ]
+
+-- no route to its prefix is better than one that is left
+left-best : (k : Route) (xs : List Route) → AllPairs Ordered (k ∷ xs) → (r s : Route) → Contains (dedup to_one (k ∷ xs)) r → Contains (k ∷ xs) s → to_one s r ≡ true → is_better s r ≡ false
+left-best k [] h r s c d e = elim (Contains-cases k [] r c) [
+  | inr none ↦ absurd (Contains-none r none)
+  | inl here ↦ elim (Contains-cases k [] s d) [
+    | inr none ↦ absurd (Contains-none s none)
+    | inl also ↦ subst (λ z. is_better z r ≡ false) also (subst (λ z. is_better k z ≡ false) here (is_better-itself k))
+  ]
+]
+left-best k (x ∷ xs) h r s c d e =
+    let first = AllPairs-head Ordered k (x ∷ xs) h in
+    let next = All-head (Ordered k) x xs first in
+    elim (cases_Bool (to_one x k)) [
+      | inl same ↦
+          let left = subst (λ l. Contains l r) (cond-true (to_one x k) (dedup to_one (k ∷ xs)) (k ∷ dedup to_one (x ∷ xs)) same) c in
+          let rest = left-best k xs (AllPairs-skip Ordered k x xs h) r in
+          elim (Contains-cases k (x ∷ xs) s d) [
+            | inl here ↦ rest s left (subst (Contains (k ∷ xs)) here (Contains-head k xs)) e
+            | inr later ↦ elim (Contains-cases x xs s later) [
+              | inl here ↦
+                  let one : to_one x r ≡ true = ap (λ z. to_one z r) here ∙ e in
+                  let none = rest k left (Contains-head k xs) (one-over k x r same one) in
+                  false_from_ne_true (is_better s r) (λ yes.
+                  both_ways (is_better k r) none (is_better-trans k x r (better-first k x next same) (ap (λ z. is_better z r) here ∙ yes)))
+              | inr behind ↦ rest s left (Contains-tail k xs s behind) e
+            ]
+          ]
+      | inr other ↦
+          let left = subst (λ l. Contains l r) (cond-false (to_one x k) (dedup to_one (k ∷ xs)) (k ∷ dedup to_one (x ∷ xs)) other) c in
+          elim (Contains-cases k (dedup to_one (x ∷ xs)) r left) [
+            | inl top ↦ elim (Contains-cases k (x ∷ xs) s d) [
+              | inl here ↦ subst (λ z. is_better z r ≡ false) here (subst (λ z. is_better k z ≡ false) top (is_better-itself k))
+              | inr later ↦
+                  let before : precedes k s ≡ true = All-contains (Ordered k) (x ∷ xs) s first later in
+                  let better = better-first k s before (ap (to_one s) top ∙ e) in
+                  subst (λ z. is_better s z ≡ false) top
+                  (false_from_ne_true (is_better s k) (λ yes. both_ways (is_better k k) (is_better-itself k) (is_better-trans k s k better yes)))
+            ]
+            | inr kept ↦ elim (Contains-cases k (x ∷ xs) s d) [
+              | inl here ↦
+                  let after : IsUpTo x.prefix r.prefix =
+                  elim (Contains-cases x xs r (Contains-from_dedup to_one (x ∷ xs) r kept)) [
+                    | inl same ↦ subst (λ z. IsUpTo x.prefix z.prefix) same (inr (refl, omega arith))
+                    | inr behind ↦ up_to x r (All-contains (Ordered x) xs r (AllPairs-head Ordered x xs (AllPairs-tail Ordered k (x ∷ xs) h)) behind)
+                  ] in
+                  absurd (both_ways (to_one x k) other (one-between k x r (up_to k x next) after (ap (λ z. to_one z r) here ∙ e)))
+              | inr later ↦ left-best x xs (AllPairs-tail Ordered k (x ∷ xs) h) r s kept later e
+            ]
+          ]
+    ]
+
+-- a route is left where no route to its prefix is better
+best-left : (k : Route) (xs : List Route) → AllPairs Ordered (k ∷ xs) → (r : Route) → Contains (k ∷ xs) r → ((s : Route) → Contains (k ∷ xs) s → to_one s r ≡ true → is_better s r ≡ false) → Contains (dedup to_one (k ∷ xs)) r
+best-left k [] h r c best = c
+best-left k (x ∷ xs) h r c best =
+    let next = All-head (Ordered k) x xs (AllPairs-head Ordered k (x ∷ xs) h) in
+    elim (cases_Bool (to_one x k)) [
+      | inl same ↦
+          let rest : Contains (k ∷ xs) r → Contains (dedup to_one (k ∷ xs)) r = λ d. best-left k xs (AllPairs-skip Ordered k x xs h) r d (λ s i e. best s (elim (Contains-cases k xs s i) [
+            | inl here ↦ subst (Contains (k ∷ x ∷ xs)) here (Contains-head k (x ∷ xs))
+            | inr behind ↦ Contains-tail k (x ∷ xs) s (Contains-tail x xs s behind)
+          ]) e) in
+          subst (λ l. Contains l r) (sym (cond-true (to_one x k) (dedup to_one (k ∷ xs)) (k ∷ dedup to_one (x ∷ xs)) same))
+          (elim (Contains-cases k (x ∷ xs) r c) [
+            | inl here ↦ rest (subst (Contains (k ∷ xs)) here (Contains-head k xs))
+            | inr later ↦ elim (Contains-cases x xs r later) [
+              | inl here ↦
+                  let none = best k (Contains-head k (x ∷ xs)) (subst (λ z. to_one k z ≡ true) here (one-over k x x same (one-from x x refl refl))) in
+                  absurd (both_ways (is_better k r) none (subst (λ z. is_better k z ≡ true) here (better-first k x next same)))
+              | inr behind ↦ rest (Contains-tail k xs r behind)
+            ]
+          ])
+      | inr other ↦
+          subst (λ l. Contains l r) (sym (cond-false (to_one x k) (dedup to_one (k ∷ xs)) (k ∷ dedup to_one (x ∷ xs)) other))
+          (elim (Contains-cases k (x ∷ xs) r c) [
+            | inl here ↦ subst (Contains (k ∷ dedup to_one (x ∷ xs))) here (Contains-head k (dedup to_one (x ∷ xs)))
+            | inr later ↦ Contains-tail k (dedup to_one (x ∷ xs)) r (best-left x xs (AllPairs-tail Ordered k (x ∷ xs) h) r later (λ s d. best s (Contains-tail k (x ∷ xs) s d)))
+          ])
+    ]
+
+-- one route is better than another to its prefix
+abbrev surpasses : Route → Route → Bool
+surpasses s r = to_one s r && is_better s r
+
+-- what is left are the best routes
+pub dedup-best : (t : List Route) → IsTable t → dedup to_one t ≡ best_routes t
+dedup-best [] h = refl
+dedup-best (k ∷ xs) h =
+    let t = k ∷ xs in
+    let is_best = λ (r : Route). list_all (λ (s : Route). not (surpasses s r)) t in
+    let unbeaten : (r : Route) → is_best r ≡ true → (s : Route) → Contains t s → to_one s r ≡ true → is_better s r ≡ false =
+    λ r e s d one. false_from_ne_true (is_better s r) (λ yes.
+    both_ways (surpasses s r) (not-true (surpasses s r) (list_all-contained (λ (s : Route). not (surpasses s r)) t s e d)) (and_from (to_one s r) (is_better s r) one yes)) in
+    one_table_of_set (dedup to_one t) (best_routes t)
+    (record { ordered = AllPairs-dedup Ordered to_one k xs h.ordered; single = AllPairs-dedup Apart to_one k xs h.single })
+    (record { ordered = AllPairs-filter Ordered is_best t h.ordered; single = AllPairs-filter Apart is_best t h.single })
+    (λ r. (
+      (λ c.
+          filter-keeps is_best t r (Contains-from_dedup to_one t r c)
+          (list_all-from_contained (λ (s : Route). not (surpasses s r)) t (λ s d. not_from_false (surpasses s r) (false_from_ne_true (surpasses s r) (λ yes.
+          let parts = and_parts (to_one s r) (is_better s r) yes in
+          both_ways (is_better s r) (left-best k xs h.ordered r s c d parts.0) parts.1))))),
+      (λ c. let from = filter-from is_best t r c in best-left k xs h.ordered r from.0 (unbeaten r from.1)),
+    ))

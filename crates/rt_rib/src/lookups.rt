@@ -1,0 +1,74 @@
+//! Look-ups in the map: of one address, or of many whose ways down are taken together.
+ghost use Rattle.std.specs.Prelude.{◌≡◌, ℕ, ◌+◌, ◌<◌, ◌≤◌, length, map};
+ghost use Rattle.rt_cidr.specs.declared.address.Addr.{Addr};
+ghost use Rattle.rt_trie.specs.Map.{pair_copied, address_at, IsLongest};
+ghost use Rattle.rt_rib.specs.LookUp.{look_up};
+ghost use Rattle.rt_rib.specs.Maps.{Map, routes_of, route_at, IsMap};
+
+use crate::ahead::AHEAD;
+use crate::map::{Map, map_laws, route_by};
+use crate::offers::Offers;
+use crate::routes::Route;
+use rt_cidr::{Addr, Prefix};
+use std::alloc::Allocator;
+
+/// The best route to the prefix that is the longest match of an address, if there is one.
+fn best_at<A: Allocator + Copy>(longest: Option<(Prefix, &Offers<A>)>) -> Option<Route>
+    ensures { (m : Map) (addr : Addr) → IsMap m → IsLongest m addr (pair_copied longest.entry)
+        → result ≡ look_up addr (routes_of m) }
+{
+    map_laws::<A>();
+    match longest {
+        None => None,
+        Some((prefix, offers)) => Some(route_by(prefix, &offers.as_slice()[0])),
+    }
+}
+
+/// The best route of the longest prefix that covers the address.
+pub(crate) fn best_of<A: Allocator + Copy>(map: &Map<A>, addr: Addr) -> Option<Route>
+    requires { IsMap map.now.pairs }
+    ensures { result ≡ look_up addr (routes_of map.now.pairs) }
+{
+    best_at(map.longest(addr))
+}
+
+/// `best_of` of each address: the answers take the place of what stood in the list.
+pub(crate) fn best_of_each<A: Allocator + Copy>(
+    trie: &Map<A>,
+    addresses: &[Addr],
+    answers: &mut [Option<Route>],
+)
+    requires map { IsMap trie.now.pairs }
+    requires size { length answers.old ≡ length addresses.now }
+    ensures { answers.new ≡ map (λ addr. look_up addr (routes_of trie.now.pairs)) addresses.now }
+{
+    let mut start = 0;
+    while start < addresses.len() {
+        let size = (addresses.len() - start).min(AHEAD);
+        best_of_few(trie, addresses, answers, start, size);
+        start += size;
+    }
+}
+
+/// The answers of so many addresses from a place on, whose ways down are taken together.
+fn best_of_few<A: Allocator + Copy>(
+    trie: &Map<A>,
+    addresses: &[Addr],
+    answers: &mut [Option<Route>],
+    start: usize,
+    size: usize,
+)
+    requires map { IsMap trie.now.pairs }
+    requires few { size ≤ 8 }
+    requires within { start + size ≤ length addresses.now }
+    requires size { length answers.old ≡ length addresses.now }
+    ensures each { (j : ℕ) → j < size
+        → route_at answers.new (start + j) ≡ look_up (address_at addresses.now (start + j)) (routes_of trie.now.pairs) }
+    ensures rest { (k : ℕ) → k < start → route_at answers.new k ≡ route_at answers.old k }
+{
+    let mut longest = [None; AHEAD];
+    trie.longest_many(&addresses[start..start + size], &mut longest[..size]);
+    for k in 0..size {
+        answers[start + k] = best_at(longest[k]);
+    }
+}
