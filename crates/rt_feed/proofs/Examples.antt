@@ -10,6 +10,7 @@ use Rattle.rt_cidr.specs.Text.{IsDecimal, IsAddressText, IsPrefixText}
 use Rattle.rt_cidr.proofs.Promised.{ten_8, pair_10_0_0_1_33, pair_10_0_0_1_8, length_before_bits, bit_past_the_length, a_bit_past_the_length_is_set}
 use Rattle.rt_cidr.proofs.Promised.{written_192_0_2_1, written_10_0_0_0_8, written_0, written_1, written_100, decimal_4294967296, no_address_without_a_dot, no_prefix_without_a_dot}
 use Rattle.rt_cidr.proofs.Promised.{decimal_is_decimal, decimal_one_number, address_text_is_address, pair_one_value, prefix_is_written}
+use Rattle.rt_rib.specs.declared.routes.Route.{Route}
 use Rattle.rt_rib.specs.declared.routes.Hop.TheVariants.{Via, Discard}
 use Rattle.rt_rib.specs.declared.commands.Cmd.{Cmd}
 use Rattle.rt_rib.specs.declared.commands.Cmd.TheVariants.{Add, Lookup, Dump, Purge}
@@ -20,11 +21,12 @@ use Rattle.rt_feed.specs.declared.report.Answer.TheVariants as answer
 use Rattle.rt_feed.specs.declared.versions.Version.TheVariants.{One, Two}
 use Rattle.rt_feed.specs.CommandText.{command_text, HasCommand}
 use Rattle.rt_feed.specs.Grammar.{prefix, preference, hop, address, is_skipped, fields, kinds_after, IsOfKind, AnswersLine}
+use Rattle.rt_feed.specs.Addresses.{AnswersAddressLine}
 use Rattle.rt_feed.specs.Lines.{lf, CutsLine}
 use Rattle.rt_feed.specs.Versions.{IsBody}
 use Rattle.rt_feed.specs.LineOutcomes.{skipped, faulty, asked, report_lines, asked_of, some_refused, some_faulty}
 use Rattle.rt_feed.specs.Visits.{visit_of, piece_of, IsCut}
-use Rattle.rt_feed.specs.Printed.{hop_text, reply_text, answer_text, line_text, count_text, table_text}
+use Rattle.rt_feed.specs.Printed.{hop_text, reply_text, answer_text, line_text, count_text, row_text, route_text, rows_text, table_text, found_text}
 
 -- the address 192.0.2.1, and the command of the first line of examples/first.feed
 abbrev at_192_0_2_1 : Addr
@@ -168,6 +170,19 @@ a_comment_of_128_bytes = (omega arith, refl)
 one_byte_more_is_E8_whatever_it_says : AnswersLine One (codes "#################################################################################################################################") (Err fault.LineLength)
 one_byte_more_is_E8_whatever_it_says = inl (omega arith, refl)
 
+-- AnswersAddressLine
+an_address_alone : AnswersAddressLine (codes "192.0.2.1") (Ok (Some at_192_0_2_1))
+an_address_alone = (omega arith, sym written_192_0_2_1)
+
+a_comment_names_no_address : AnswersAddressLine (codes "# 192.0.2.1") (Ok None)
+a_comment_names_no_address = (omega arith, refl)
+
+what_is_no_address_is_E3 : AnswersAddressLine (codes "10") (Err fault.Text)
+what_is_no_address_is_E3 = inr (omega arith, refl, no_address_10, refl)
+
+a_comment_of_129_bytes_is_E8 : AnswersAddressLine (codes "#################################################################################################################################") (Err fault.LineLength)
+a_comment_of_129_bytes_is_E8 = inl (omega arith, refl)
+
 -- a text without LF is a line's
 unbroken : (text : List ℕ) → list_any (λ byte. eqb byte lf) text ≡ false → All (λ byte. byte ≢ lf) text
 unbroken [] none = All-nil (λ byte. byte ≢ lf)
@@ -268,7 +283,28 @@ a_line_of_a_report : line_text 1 (record { number = 100; answer = answer.Did Add
 unfolding line_text answer_text reply_text
 a_line_of_a_report = rw (written_1, written_100) refl
 
+-- the route of that command, as feed 1's
+abbrev route_10 : Route
+route_10 = record { prefix = ten_8; feed = 1; pref = 100; hop = Via at_192_0_2_1 }
+
+-- rows_text
+no_rows : rows_text [] ≡ []
+no_rows = refl
+
+one_row : rows_text (route_10 ∷ []) ≡ codes "10.0.0.0/8 feed 1 pref 100 via 192.0.2.1\n"
+unfolding row_text route_text
+one_row = rw (written_10_0_0_0_8, written_1, written_100, written_192_0_2_1) refl
+
 -- table_text
 the_empty_table : table_text [] ≡ codes "table 0\n"
 unfolding count_text
 the_empty_table = rw written_0 refl
+
+-- found_text
+a_route_was_found : found_text at_192_0_2_1 (Some route_10) ≡ codes "192.0.2.1 route 10.0.0.0/8 feed 1 pref 100 via 192.0.2.1\n"
+unfolding found_text reply_text route_text
+a_route_was_found = rw (written_10_0_0_0_8, written_1, written_100, written_192_0_2_1) refl
+
+no_route_was_found : found_text at_192_0_2_1 None ≡ codes "192.0.2.1 no route\n"
+unfolding found_text reply_text
+no_route_was_found = rw written_192_0_2_1 refl

@@ -7,5 +7,6 @@ pub mod RunSteps
 pub mod UncutVisits
 pub mod Printing
 pub mod OneAnswer
+pub mod OneAddress
 pub mod OneCut
 pub mod Examples

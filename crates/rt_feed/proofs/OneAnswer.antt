@@ -33,7 +33,7 @@ one_prefix texts p q same =
     let read : ReadsPrefix (prefix_text q.base q.len) (Ok p) = subst (λ text. IsPrefixText text p.base p.len) same (texts.prefix_written p) in
     let equal = texts.prefix_again q (Ok p) read in cc
 
-one_address : Texts → (a b : Addr) → a.0 < 2 ^ 32 → b.0 < 2 ^ 32 → address_text a.0 ≡ address_text b.0 → a ≡ b
+pub one_address : Texts → (a b : Addr) → a.0 < 2 ^ 32 → b.0 < 2 ^ 32 → address_text a.0 ≡ address_text b.0 → a ≡ b
 one_address texts a b fits others same =
     let read : ReadsAddress (address_text b.0) (Ok a) = subst (λ text. IsAddressText text a.0) same (texts.address_written a.0 fits) in
     let equal = texts.address_again b (Ok a) others read in cc

@@ -2,8 +2,10 @@
 use Rattle.std.proofs.Common.{◌≡◌, ℕ, suc, ◌+◌, ◌<◌, ◌≤◌, List, ◌∷◌, ◌++◌, length, take, drop, get_or, codes, [], Option, arith, length-append, append_assoc, sym, ap, ◌∙◌, append-nil, add-one}
 use Rattle.std.proofs.Math.Seq.{split_at, take-suc}
 use Rattle.std.specs.List.{flat_map}
+use Rattle.std.specs.Option.{option_map_or}
 use Rattle.std.proofs.lemmas.Grind.{flat_map-append}
 use Rattle.std.specs.Io.KnownBytes.{Appends}
+use Rattle.rt_cidr.specs.declared.address.Addr.{Addr}
 use Rattle.rt_cidr.specs.Output.{AppendsBeginning}
 use Rattle.rt_cidr.proofs.Promised.{appends_after, begins_after, begins_longer}
 use Rattle.rt_cidr.proofs.Promised.{length-decimal, length-address_text, length-prefix_text}
@@ -17,7 +19,7 @@ use Rattle.rt_feed.specs.declared.parse.LineFault.TheVariants as fault
 use Rattle.rt_feed.specs.declared.report.Line.{Line}
 use Rattle.rt_feed.specs.declared.report.Answer.{Answer}
 use Rattle.rt_feed.specs.declared.report.Answer.TheVariants.{Did, Refused, Fault}
-use Rattle.rt_feed.specs.Printed.{hop_text, route_text, reply_text, fault_text, answer_text, line_text, row_text, count_text}
+use Rattle.rt_feed.specs.Printed.{hop_text, route_text, reply_text, fault_text, answer_text, line_text, row_text, count_text, found_text}
 
 pub hop_fits : (hop : Hop) → length (hop_text hop) ≤ 15
 hop_fits (Via address) = length-address_text address.0
@@ -77,6 +79,13 @@ row_fits route = omega (arith, length-append (route_text route) (codes "\n"), ro
 pub count_fits : (count : ℕ) → length (count_text count) ≤ 400
 unfolding count_text
 count_fits count = let digits = length-decimal count in simp length-append (omega arith)
+
+pub found_fits : (addr : Addr) (found : Option Route) → length (found_text addr found) ≤ 400
+unfolding found_text
+found_fits addr found =
+    let address = length-address_text addr.0 in
+    let answer = reply_fits (option_map_or Found found NoRoute) in
+    simp length-append (omega arith)
 
 -- a fault within one of several texts after a first one leaves a beginning of them all
 pub begins_all : {X : Type 0} (a b c : Option (List ℕ)) (head : List ℕ) (text : X → List ℕ) (xs : List X) (i : ℕ) (x : X) →

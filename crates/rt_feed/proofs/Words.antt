@@ -3,7 +3,7 @@ use Rattle.std.proofs.Common.{◌≡◌, ◌≢◌, ℕ, ◌+◌, ◌^◌, ◌<�
 use Rattle.std.specs.List.{join_with_byte, list_all}
 use Rattle.std.proofs.lemmas.List.Splits.{join_with_byte-slice_split, slice_split_at, slice_split_none}
 use Rattle.std.proofs.lemmas.List.Elements.{All-nil, All-cons, All-append}
-use Rattle.std.proofs.lemmas.Bool.{and_parts, not-true, eqb-false}
+use Rattle.std.proofs.lemmas.Bool.{and_parts, not-true, eqb-false, ne_eqb}
 use Rattle.std.proofs.Math.Bool.{and-false}
 use Rattle.std.specs.Str.{bytes_eq}
 use Rattle.std.proofs.lemmas.Fmt.{length-decimal-le, decimal_by_steps}
@@ -17,7 +17,7 @@ use Rattle.rt_rib.specs.declared.commands.Cmd.TheVariants.{Add, Replace, Withdra
 use Rattle.rt_feed.specs.declared.versions.Version.{Version}
 use Rattle.rt_feed.specs.CommandText.{space, words, route_words, command_text, HasHop, HasCommand}
 use Rattle.rt_feed.specs.Printed.{hop_text}
-use Rattle.rt_feed.specs.Grammar.{fields, is_skipped, kinds_after}
+use Rattle.rt_feed.specs.Grammar.{hash, fields, is_skipped, kinds_after}
 use Rattle.rt_feed.proofs.Cutting.{is_unspaced}
 use Rattle.rt_feed.proofs.Printing.{hop_fits}
 
@@ -148,7 +148,19 @@ first_digit =
     (λ n one rest. omega arith)
     (λ n digits more first rest. rw append_assoc (first ((48 + n % 10) ∷ rest)))
 
--- so no address is spelled `discard`
+-- so a line that begins with one is not skipped
+not_skipped-decimal : (n : ℕ) → n < 2 ^ 64 → (rest : List ℕ) → is_skipped (decimal n ++ rest) ≡ false
+not_skipped-decimal =
+    decimal_by_steps (λ n digits. (rest : List ℕ) → is_skipped (digits ++ rest) ≡ false)
+    (λ n one rest. ne_eqb (48 + n) hash (λ same. omega (arith, same)))
+    (λ n digits more first rest. rw append_assoc (first ((48 + n % 10) ∷ rest)))
+
+-- such as an address's text
+pub not_skipped-address_text : (address : ℕ) → address < 2 ^ 32 → is_skipped (address_text address) ≡ false
+unfolding address_text
+not_skipped-address_text address small = not_skipped-decimal (address / 2 ^ 24 % 256) (omega arith) _
+
+-- and no address is spelled `discard`
 pub address-ne-discard : (address : ℕ) → address < 2 ^ 32 → address_text address ≢ codes "discard"
 unfolding address_text
 address-ne-discard address small is =

@@ -1,11 +1,13 @@
 -- What the grammar of lines and the cut of a text into lines promise of every line and every text.
 use Rattle.std.specs.Prelude.{◌≡◌, ◌↔◌, ℕ, List, [], map, Option, Some, Ok}
 use Rattle.std.specs.declared.result.Result.{Result}
+use Rattle.rt_cidr.specs.declared.address.Addr.{Addr}
 use Rattle.rt_rib.specs.declared.commands.Cmd.{Cmd}
 use Rattle.rt_feed.specs.declared.parse.LineFault.{LineFault}
 use Rattle.rt_feed.specs.declared.versions.Version.{Version}
 use Rattle.rt_feed.specs.declared.versions.Version.TheVariants.{One}
 use Rattle.rt_feed.specs.CommandText.{command_text, HasCommand}
+use Rattle.rt_feed.specs.Addresses.{AnswersAddressLine}
 use Rattle.rt_feed.specs.Grammar.{AnswersLine}
 use Rattle.rt_feed.specs.Lines.{CutsLine}
 use Rattle.rt_feed.specs.Versions.{TellsTwo}
@@ -16,6 +18,11 @@ abbrev pub LineHasOneAnswer : Type 0
 LineHasOneAnswer =
     (version : Version) (line : List ℕ) (one two : Result (Option Cmd) LineFault) →
     AnswersLine version line one → AnswersLine version line two → one ≡ two
+
+-- and so has a line of a text of addresses
+abbrev pub AddressLineHasOneAnswer : Type 0
+AddressLineHasOneAnswer =
+    (line : List ℕ) (one two : Result (Option Addr) LineFault) → AnswersAddressLine line one → AnswersAddressLine line two → one ≡ two
 
 -- the text of a command reads as that command, in texts of every version that has it
 abbrev pub CommandIsReadAgain : Type 0

@@ -1,3 +1,4 @@
+pub mod Addresses
 pub mod CommandText
 pub mod Feeds
 pub mod Fields

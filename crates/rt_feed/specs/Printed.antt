@@ -1,6 +1,8 @@
--- The texts that are written: routes, answers, the lines of a report, the table.
-use Rattle.std.specs.Prelude.{ℕ, List, ◌++◌, length, codes, decimal}
+-- The texts that are written: routes, answers, the lines of a report, the table, what look-ups found.
+use Rattle.std.specs.Prelude.{ℕ, List, ◌++◌, length, codes, decimal, Option}
 use Rattle.std.specs.List.{flat_map}
+use Rattle.std.specs.Option.{option_map_or}
+use Rattle.rt_cidr.specs.declared.address.Addr.{Addr}
 use Rattle.rt_cidr.specs.Text.{address_text, prefix_text}
 use Rattle.rt_rib.specs.declared.routes.Route.{Route}
 use Rattle.rt_rib.specs.declared.routes.Hop.{Hop}
@@ -71,6 +73,15 @@ row_text route = route_text route ++ codes "\n"
 unfoldable pub count_text : ℕ → List ℕ
 count_text count = codes "table " ++ (decimal count ++ codes "\n")
 
+-- the table's routes in order
+abbrev pub rows_text : List Route → List ℕ
+rows_text routes = flat_map row_text routes
+
 -- the table: `table COUNT`, and then the routes in order
 abbrev pub table_text : List Route → List ℕ
-table_text routes = count_text (length routes) ++ flat_map row_text routes
+table_text routes = count_text (length routes) ++ rows_text routes
+
+-- the address that was looked up, and then `route` and the route that was found, or `no route`
+unfoldable pub found_text : Addr → Option Route → List ℕ
+found_text addr found =
+    address_text addr.0 ++ (codes " " ++ (reply_text (option_map_or Found found NoRoute) ++ codes "\n"))

@@ -1,9 +1,18 @@
 //! Laws of the feed text. Each function does nothing: its contract is the law, for all lines and texts.
-ghost use Rattle.rt_feed.specs.Laws.{LineHasOneAnswer, CommandIsReadAgain, OnlyItsTextIsRead, OlderTextsStay, TextHasOneCut, TextHasOneReading};
+ghost use Rattle.rt_feed.specs.Laws.{LineHasOneAnswer, AddressLineHasOneAnswer, CommandIsReadAgain, OnlyItsTextIsRead, OlderTextsStay, TextHasOneCut, TextHasOneReading};
 
 /// What `parse_line` answers is the only answer that its contract allows.
 pub fn one_answer()
     ensures { LineHasOneAnswer }
+{
+    rt_cidr::laws::one_answer();
+    rt_cidr::laws::written();
+    rt_cidr::laws::read_again();
+}
+
+/// What `parse_address_line` answers is the only answer that its contract allows.
+pub fn one_address()
+    ensures { AddressLineHasOneAnswer }
 {
     rt_cidr::laws::one_answer();
     rt_cidr::laws::written();

@@ -22,6 +22,7 @@
 //! reader agrees with a second one on hostile lines.
 #![tactic(auto)]
 
+mod addresses;
 mod faults;
 mod feed_run;
 mod feeds;
@@ -35,12 +36,13 @@ mod running;
 mod table_gate;
 mod versions;
 
+pub use addresses::parse_address_line;
 pub use faults::RunFault;
 pub use feeds::{Feed, run_feeds};
 pub use gates::Gate;
 pub use lines::next_line;
 pub use parse::{LINE_BYTES, LineFault, parse_line};
-pub use print::{write_report, write_table};
+pub use print::{write_found, write_report, write_rows, write_table};
 pub use report::{Answer, Line, Report};
 pub use rt_shared::Outcome;
 pub use running::run_feed;

@@ -1,5 +1,5 @@
 //! One line of a feed's text, and what is wrong with it.
-ghost use Rattle.std.specs.Prelude.{◌≡◌, ◌≢◌, ◌∷◌, ◌<◌, ◌^◌, [], length, codes, decimal, IsTrue, ◌↔◌, None, MatchOption, MatchResult};
+ghost use Rattle.std.specs.Prelude.{◌≡◌, ◌≢◌, ◌∷◌, ◌<◌, ◌≤◌, ◌^◌, [], length, codes, decimal, IsTrue, ◌↔◌, None, MatchOption, MatchResult};
 ghost use Rattle.rt_cidr.specs.Text.{address_text, prefix_text};
 ghost use Rattle.rt_feed.specs.CommandText.{HasHop};
 ghost use Rattle.rt_feed.specs.Printed.{hop_text};
@@ -66,17 +66,26 @@ enum Name {
 pub fn parse_line(line: &[u8], version: Version) -> Result<Option<Cmd>, LineFault>
     ensures { AnswersLine version line.now result }
 {
-    if line.len() > LINE_BYTES {
-        return Err(LineFault::LineLength);
-    }
-    if is_skipped(line) {
+    if says_nothing(line)? {
         return Ok(None);
     }
     let command = parse_fields(line, version)?;
     Ok(Some(command))
 }
 
-/// Whether the line asks nothing.
+/// Whether the line is skipped. A line that is too long is E8, whatever it says.
+pub(crate) fn says_nothing(line: &[u8]) -> Result<bool, LineFault>
+    ensures { MatchResult result
+        (λ skipped. (length line.now ≤ 128) × (skipped ≡ is_skipped line.now))
+        (λ answer. (128 < length line.now) × (answer ≡ LineFault.LineLength)) }
+{
+    if line.len() > LINE_BYTES {
+        return Err(LineFault::LineLength);
+    }
+    Ok(is_skipped(line))
+}
+
+/// Whether the line is empty or a comment.
 fn is_skipped(line: &[u8]) -> bool
     ensures { result ≡ is_skipped line.now }
 {
@@ -286,7 +295,7 @@ fn is_discard(field: &[u8], version: Version) -> bool
 }
 
 /// The address that the field is.
-fn parse_address(field: &[u8]) -> Result<Addr, LineFault>
+pub(crate) fn parse_address(field: &[u8]) -> Result<Addr, LineFault>
     ensures { MatchResult result
         (λ address. (address.0 < 2 ^ 32) × (field.now ≡ address_text address.0))
         (λ answer. IsFaulty Kind.address field.now answer) }

@@ -1,13 +1,13 @@
-//! Reports and the table as text. Each line is built in a short text, and goes to the writer at once.
+//! Reports, the table and what look-ups found, as text. Each line is built in a short text, and goes to the writer at once.
 ghost use Rattle.std.specs.Prelude.{◌≡◌, ◌++◌, [], IsOk, OnOk, OnErr};
 ghost use Rattle.std.specs.Io.KnownBytes.{Appends};
 ghost use Rattle.rt_cidr.specs.Output.{AppendsBeginning};
 ghost use Rattle.rt_cidr.specs.ShortText.{Fits};
-ghost use Rattle.rt_feed.specs.Printed.{hop_text, route_text, reply_text, fault_text, answer_text, line_text, report_text, row_text, count_text, table_text};
+ghost use Rattle.rt_feed.specs.Printed.{hop_text, route_text, reply_text, fault_text, answer_text, line_text, report_text, row_text, rows_text, count_text, table_text, found_text};
 
 use crate::parse::LineFault;
 use crate::report::{Answer, Line, Report};
-use rt_cidr::{ShortText, put};
+use rt_cidr::{Addr, ShortText, put};
 use rt_rib::{Hop, Reply, Route};
 use std::io::{self, Write};
 
@@ -54,6 +54,19 @@ pub fn write_table<W: Write>(w: &mut W, routes: &[Route]) -> Result<(), io::Erro
     let mut text = ShortText::new();
     prepend_count(&mut text, routes.len());
     put(w, text.as_bytes())?;
+    write_rows(w, routes)
+}
+
+/// Writes the table's routes alone, without its first line: each route of the list and LF. A fault is the writer's, as `put`
+/// hands it on; what was written is then a beginning of the routes. Takes no memory, and makes a `write` or more for each line.
+pub fn write_rows<W: Write>(w: &mut W, routes: &[Route]) -> Result<(), io::Error>
+    ensures ok { OnOk result (Appends (W.contents w.old) (W.contents w.new) (rows_text routes.now)) }
+    ensures err { OnErr result (AppendsBeginning (W.contents w.old) (W.contents w.new) (rows_text routes.now)) }
+
+    // Where there is no route to write, nothing fails.
+    ensures nothing { routes.now ≡ [] → IsOk result }
+{
+    let mut text = ShortText::new();
     for route in routes {
         put_row(w, &mut text, route)?;
     }
@@ -68,6 +81,19 @@ fn put_row<W: Write>(w: &mut W, text: &mut ShortText, route: &Route) -> Result<(
 {
     text.clear();
     prepend_row(text, route);
+    put(w, text.as_bytes())
+}
+
+/// Writes what a look-up of the address found: `ADDR route PREFIX feed F pref P via HOP`, or `ADDR no route`, and LF. A fault
+/// is the writer's, as `put` hands it on; what was written is then a beginning of that line. Takes no memory, and makes a
+/// `write` or more.
+#[tactic(auto, using(crate::proofs::Printing::found_fits))]
+pub fn write_found<W: Write>(w: &mut W, addr: Addr, found: Option<Route>) -> Result<(), io::Error>
+    ensures ok { OnOk result (Appends (W.contents w.old) (W.contents w.new) (found_text addr found)) }
+    ensures err { OnErr result (AppendsBeginning (W.contents w.old) (W.contents w.new) (found_text addr found)) }
+{
+    let mut text = ShortText::new();
+    prepend_found(&mut text, addr, found);
     put(w, text.as_bytes())
 }
 
@@ -106,6 +132,21 @@ fn prepend_row(text: &mut ShortText, route: &Route)
 {
     text.prepend(b"\n");
     prepend_route(text, route);
+}
+
+/// What a look-up of the address found, with its LF.
+#[tactic(auto, using(rt_cidr::proofs::Promised::prepending), unfolding(crate::specs::Printed::found_text))]
+fn prepend_found(text: &mut ShortText, addr: Addr, found: Option<Route>)
+    requires room { Fits (found_text addr found) text.old }
+    ensures { text.new ≡ found_text addr found ++ text.old }
+{
+    text.prepend(b"\n");
+    match found {
+        Some(route) => prepend_reply(text, &Reply::Found(route)),
+        None => prepend_reply(text, &Reply::NoRoute),
+    }
+    text.prepend(b" ");
+    addr.prepend_to(text);
 }
 
 /// What a line was answered.
