@@ -15,7 +15,7 @@ use Rattle.rt_feed.specs.Versions.{TellsTwo}
 use Rattle.rt_feed.specs.Lines.{CutsLine}
 use Rattle.rt_feed.specs.LineOutcomes.{skipped, faulty, asked, LineOutcome}
 use Rattle.rt_feed.specs.Printed.{line_text, answer_text, reply_text, count_text}
-use Rattle.rt_app.specs.RunText.{IsRunText, status_of}
+use Rattle.rt_app.specs.RunText.{IsHistory, IsRunText, status_of}
 
 -- status_of
 all_was_done : status_of ((skipped ∷ asked Dump (Did (Dumped 0)) ∷ []) ∷ [] ∷ []) ≡ 0
@@ -66,13 +66,10 @@ of_version_1 rest h = elim h.ended [
   | inr whole ↦ cc
 ]
 
--- IsRunText
-the_run_of_a_dump : IsRunText (text ∷ []) 1 1 (codes "1:1 dumped 0\ntable 0\n") 0
-unfolding table_left table_after reply_of line_text answer_text reply_text count_text
-the_run_of_a_dump = record {
-  journal = entry ∷ [];
+-- IsHistory
+the_history_of_a_dump : IsHistory (text ∷ []) 1 1 (entry ∷ []) (lines ∷ [])
+the_history_of_a_dump = record {
   lawful = lawful;
-  outcomes = lines ∷ [];
   explained = (
     record {
       becomes = record {
@@ -97,6 +94,15 @@ the_run_of_a_dump = record {
     tt,
   );
   no_other = All-cons (λ (e : Entry). (1 ≤ e.feed) × (e.feed ≤ 1)) entry [] (omega arith, omega arith) (All-nil (λ (e : Entry). (1 ≤ e.feed) × (e.feed ≤ 1)));
+}
+
+-- IsRunText
+the_run_of_a_dump : IsRunText (text ∷ []) 1 1 (codes "1:1 dumped 0\ntable 0\n") 0
+unfolding table_left table_after reply_of line_text answer_text reply_text count_text
+the_run_of_a_dump = record {
+  journal = entry ∷ [];
+  outcomes = lines ∷ [];
+  history = the_history_of_a_dump;
   printed = rw (written_1, written_0) refl;
   is_status = refl;
 }

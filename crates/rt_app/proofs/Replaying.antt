@@ -1,5 +1,5 @@
 -- The lines of a replay, one step further, and how long they are at most.
-use Rattle.std.proofs.Common.{ℕ, ◌+◌, ◌<◌, ◌≤◌, List, ◌++◌, length, take, get_or, refl, arith, length-append, codes, Bool, true, false, Option, None, Some}
+use Rattle.std.proofs.Common.{ℕ, ◌+◌, ◌<◌, ◌≤◌, List, length, take, get_or, refl, arith, length-append, codes, Bool, true, false, Option, None, Some}
 use Rattle.std.proofs.lemmas.List.{get_or_default}
 use Rattle.ya_core.specs.declared.step.Step.{Step}
 use Rattle.ya_core.specs.declared.step.Mark.{Mark}

@@ -27,8 +27,8 @@ use Rattle.rt_feed.specs.Laws.{TextHasOneReading}
 use Rattle.rt_feed.specs.LineOutcomes.{LineOutcome, skipped, faulty, asked, reading, asked_of, some_refused, some_faulty}
 use Rattle.rt_feed.specs.Visits.{Visit, IsCut, visit_of, reply_to, joined, piece_of, entries}
 use Rattle.rt_feed.specs.Printed.{table_text}
-use Rattle.rt_app.specs.RunText.{Explains, ExplainsFrom, status_of}
-use Rattle.rt_app.specs.SameTable.{commands, Asks, left_alone, IsAnsweredAlone, printed_reports, EndsInUnion, AnswersAlone, EndInOneTable}
+use Rattle.rt_app.specs.RunText.{Explains, ExplainsFrom, IsHistory, status_of}
+use Rattle.rt_app.specs.SameTable.{commands, Asks, left_alone, IsUnion, IsAnsweredAlone, printed_reports, EndsInUnion, AnswersAlone, EndInOneTable}
 
 -- what a line asks shows in what it says
 abbrev asked_in : Result (Option Cmd) LineFault → List Cmd
@@ -291,68 +291,76 @@ from_own : (feed : ℕ) (r : Route) (table : List Route) → Contains (feed_rout
 from_own feed r table c =
     All-contains (Contains table) (feed_routes feed table) r (All-filter (λ s. s.feed == feed) (Contains table) table (All-contains_itself table)) c
 
-pub ends_in_union : FeedsStandAlone → LeftByEntry → EntriesOfVisits → TextHasOneReading → EndsInUnion
-ends_in_union alone left law once texts limit batch bytes status run not =
-    let journal = run.journal in
+-- what a journal leaves is the union of what each text leaves by itself
+pub left_union : FeedsStandAlone → LeftByEntry → EntriesOfVisits → TextHasOneReading → (texts : List (List ℕ)) (limit batch : ℕ) (journal : List Entry)
+    (outcomes : List (List LineOutcome)) → IsHistory texts limit batch journal outcomes → list_any some_refused outcomes ≡ false → IsUnion texts limit (table_left limit journal)
+left_union alone left law once texts limit batch journal outcomes history none =
     let table = table_left limit journal in
     let any : Entry = record { feed = 0; cmd = Dump; reply = NoRoute } in
-    let none = none_refused run.outcomes status run.is_status not in
-    let of_feed = λ (k : ℕ) (text : List ℕ) (is : slice_get texts k ≡ Some text). of_text batch 1 k (k + 1) journal texts run.outcomes text (omega arith) run.explained is in
-    let routes = λ (k : ℕ) (text : List ℕ) (here : IsOfFeed batch (k + 1) k journal run.outcomes text).
-    routes_alone alone law limit batch (k + 1) journal text here.lines Dump here.explains (none_of_one run.outcomes k here.lines none here.stands) in (
-      table,
-      record {
-        table = (left limit journal any).0;
-        contains = λ r. (
-          (λ c.
-              let own : Contains (feed_routes r.feed table) r = among_own r table c in
-              elim (has_text journal (length texts) r.feed run.no_other (feed_entries r.feed journal) refl) [
-                | inl empty ↦
-                    absurd (nothing r (subst (λ l. Contains l r) ((alone limit r.feed journal Dump).0 ∙ (ap (table_left limit) empty ∙ (left limit [] any).1)) own))
-                | inr within ↦
-                    let k = r.feed - 1 in
-                    let number : r.feed ≡ k + 1 = omega arith in
-                    let text = at_place texts k (omega arith) in
-                    let here = of_feed k text.0 text.1 in (
-                      k,
-                      (
-                        text.0,
-                        commands (asked_of here.lines),
-                        text.1,
-                        (here.lines, here.explains.becomes, refl),
-                        subst (λ l. Contains l r) (ap (λ f. feed_routes f table) number ∙ routes k text.0 here) own,
-                      ),
-                    )
-              ]),
-          (λ some.
-              let k = some.0 in
-              let text = some.1.0 in
-              let here = of_feed k text some.1.2 in
-              let same = one_asking once text some.1.1 (commands (asked_of here.lines)) some.1.3 (here.lines, here.explains.becomes, refl) in
-              let own = subst (λ l. Contains l r) (ap (left_alone limit (k + 1)) same ∙ sym (routes k text here)) some.1.4 in
-              from_own (k + 1) r table own),
-        );
-      },
-      run.printed,
-    )
+    let of_feed = λ (k : ℕ) (text : List ℕ) (is : slice_get texts k ≡ Some text). of_text batch 1 k (k + 1) journal texts outcomes text (omega arith) history.explained is in
+    let routes = λ (k : ℕ) (text : List ℕ) (here : IsOfFeed batch (k + 1) k journal outcomes text).
+    routes_alone alone law limit batch (k + 1) journal text here.lines Dump here.explains (none_of_one outcomes k here.lines none here.stands) in
+    record {
+      table = (left limit journal any).0;
+      contains = λ r. (
+        (λ c.
+            let own : Contains (feed_routes r.feed table) r = among_own r table c in
+            elim (has_text journal (length texts) r.feed history.no_other (feed_entries r.feed journal) refl) [
+              | inl empty ↦
+                  absurd (nothing r (subst (λ l. Contains l r) ((alone limit r.feed journal Dump).0 ∙ (ap (table_left limit) empty ∙ (left limit [] any).1)) own))
+              | inr within ↦
+                  let k = r.feed - 1 in
+                  let number : r.feed ≡ k + 1 = omega arith in
+                  let text = at_place texts k (omega arith) in
+                  let here = of_feed k text.0 text.1 in (
+                    k,
+                    (
+                      text.0,
+                      commands (asked_of here.lines),
+                      text.1,
+                      (here.lines, here.explains.becomes, refl),
+                      subst (λ l. Contains l r) (ap (λ f. feed_routes f table) number ∙ routes k text.0 here) own,
+                    ),
+                  )
+            ]),
+        (λ some.
+            let k = some.0 in
+            let text = some.1.0 in
+            let here = of_feed k text some.1.2 in
+            let same = one_asking once text some.1.1 (commands (asked_of here.lines)) some.1.3 (here.lines, here.explains.becomes, refl) in
+            let own = subst (λ l. Contains l r) (ap (left_alone limit (k + 1)) same ∙ sym (routes k text here)) some.1.4 in
+            from_own (k + 1) r table own),
+      );
+    }
+
+pub ends_in_union : FeedsStandAlone → LeftByEntry → EntriesOfVisits → TextHasOneReading → EndsInUnion
+ends_in_union alone left law once texts limit batch bytes status run not = (
+  table_left limit run.journal,
+  left_union alone left law once texts limit batch run.journal run.outcomes run.history (none_refused run.outcomes status run.is_status not),
+  run.printed,
+)
+
+-- and a set has one table
+pub one_union : OneTableOfSet → (texts : List (List ℕ)) (limit : ℕ) (one other : List Route) → IsUnion texts limit one → IsUnion texts limit other → other ≡ one
+one_union one_table texts limit one other here there =
+    one_table other one there.table here.table (λ r. (
+      (λ c. (here.contains r).1 ((there.contains r).0 c)),
+      (λ c. (there.contains r).1 ((here.contains r).0 c)),
+    ))
 
 pub answers_alone : FeedsStandAlone → EntriesOfVisits → AnswersAlone
 answers_alone alone law texts limit batch bytes status run not k lines is =
     let none = none_refused run.outcomes status run.is_status not in
-    let within : k < length texts = omega (arith, slice_get_within run.outcomes k lines is, as_many batch 1 run.journal texts run.outcomes run.explained) in
+    let within : k < length texts = omega (arith, slice_get_within run.outcomes k lines is, as_many batch 1 run.journal texts run.outcomes run.history.explained) in
     let text = at_place texts k within in
-    let here = of_text batch 1 k (k + 1) run.journal texts run.outcomes text.0 (omega arith) run.explained text.1 in
+    let here = of_text batch 1 k (k + 1) run.journal texts run.outcomes text.0 (omega arith) run.history.explained text.1 in
     let same : here.lines ≡ lines = (let a = here.stands in cc) in
     subst (λ l. IsAnsweredAlone limit (k + 1) (asked_of l)) same
-    (answered_alone alone law limit batch (k + 1) run.journal text.0 here.lines run.lawful here.explains (none_of_one run.outcomes k here.lines none here.stands))
+    (answered_alone alone law limit batch (k + 1) run.journal text.0 here.lines run.history.lawful here.explains (none_of_one run.outcomes k here.lines none here.stands))
 
 pub end_in_one_table : EndsInUnion → OneTableOfSet → EndInOneTable
 end_in_one_table ends one texts limit batch batch' bytes bytes' status status' run run' not not' =
     let here = ends texts limit batch bytes status run not in
     let there = ends texts limit batch' bytes' status' run' not' in
-    let same : there.0 ≡ here.0 =
-    one there.0 here.0 there.1.table here.1.table (λ r. (
-      (λ c. (here.1.contains r).1 ((there.1.contains r).0 c)),
-      (λ c. (there.1.contains r).1 ((here.1.contains r).0 c)),
-    )) in
+    let same : there.0 ≡ here.0 = one_union one texts limit here.0 there.0 here.1 there.1 in
     (here.0, here.2, there.2 ∙ ap (λ t. printed_reports run'.outcomes ++ table_text t) same)

@@ -249,10 +249,12 @@ module _ {V : Type 0} (items : V → List ℕ) (texts : List V) (table : SharedI
           let all = all_explained items batch 1 journal texts reports n_reports explained_at in
           record {
             limited = limited;
-            lawful = rw journaled settled.lawful;
             outcomes = all.outcomes;
-            explained = rw journaled all.explained;
-            no_other = rw (journaled, length-map texts items) no_other;
+            history = record {
+              lawful = rw journaled settled.lawful;
+              explained = rw journaled all.explained;
+              no_other = rw (journaled, length-map texts items) no_other;
+            };
             reported = all.reported;
             counted = n_reports ∙ sym (length-map texts items);
           }
@@ -275,10 +277,8 @@ pub run_text : (texts : List (List ℕ)) (limit batch : ℕ) (reports : List (Li
     → bytes ≡ reports_text 1 reports ++ table_text (table_of book) → IsRunText texts limit batch bytes (reports_status reports)
 run_text texts limit batch reports book bytes ran printed = record {
   journal = book.journal;
-  lawful = ran.lawful;
   outcomes = ran.outcomes;
-  explained = ran.explained;
-  no_other = ran.no_other;
+  history = ran.history;
   printed = rw (printed, ran.reported, ran.limited) refl;
   is_status = rw ran.reported (reports_status-lines ran.outcomes);
 }

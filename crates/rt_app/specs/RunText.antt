@@ -43,14 +43,18 @@ status_of outcomes =
     if list_any some_refused outcomes then 5
     else if list_any some_faulty outcomes then 2 else 0
 
--- the bytes are a run's text for these texts, where each feed may have so many routes and is answered so many commands
--- at once, and this is its status
-pub record IsRunText (texts : List (List ℕ)) (limit batch : ℕ) (bytes : List ℕ) (status : ℕ) : Type 0 where
-  pub journal : List Entry
+-- the journal is lawful, where each feed may have so many routes; it explains what the lines of each text became, where
+-- so many commands are answered at once; and it has no entry of another feed
+pub record IsHistory (texts : List (List ℕ)) (limit batch : ℕ) (journal : List Entry) (outcomes : List (List LineOutcome)) : Type 0 where
   pub lawful : IsLawfulJournal limit journal
-  pub outcomes : List (List LineOutcome)
   pub explained : ExplainsFrom batch 1 journal texts outcomes
   pub no_other : All (λ e. (1 ≤ e.feed) × (e.feed ≤ length texts)) journal
+
+-- the bytes are the text of a run of these texts, with its reports and its table, and this is its status
+pub record IsRunText (texts : List (List ℕ)) (limit batch : ℕ) (bytes : List ℕ) (status : ℕ) : Type 0 where
+  pub journal : List Entry
+  pub outcomes : List (List LineOutcome)
+  pub history : IsHistory texts limit batch journal outcomes
   pub printed : bytes ≡ reports_text 1 (map (report_lines 1) outcomes) ++ table_text (table_left limit journal)
   pub is_status : status ≡ status_of outcomes
 

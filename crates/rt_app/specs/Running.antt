@@ -1,21 +1,18 @@
 -- What a run of feeds has done before its text is written.
-use Rattle.std.specs.Prelude.{◌≡◌, ℕ, ◌≤◌, if◌then◌else◌, List, All, length, map}
+use Rattle.std.specs.Prelude.{◌≡◌, ℕ, if◌then◌else◌, List, length, map}
 use Rattle.std.specs.List.{list_any}
 use Rattle.rt_rib.specs.Book.{Contents}
-use Rattle.rt_rib.specs.Journal.{IsLawfulJournal}
 use Rattle.rt_shared.specs.Table.{SharedId, HeldPass, ArePassesOf, Settles}
 use Rattle.rt_feed.specs.declared.report.Line.{Line}
 use Rattle.rt_feed.specs.Reports.{has_refusal, has_fault}
 use Rattle.rt_feed.specs.LineOutcomes.{LineOutcome, report_lines}
-use Rattle.rt_app.specs.RunText.{ExplainsFrom}
+use Rattle.rt_app.specs.RunText.{IsHistory}
 
 -- the texts were run to their ends, and these are the reports and the book
 pub record HasRun (texts : List (List ℕ)) (limit batch : ℕ) (reports : List (List Line)) (book : Contents) : Type 0 where
   pub limited : book.limit ≡ limit
-  pub lawful : IsLawfulJournal limit book.journal
   pub outcomes : List (List LineOutcome)
-  pub explained : ExplainsFrom batch 1 book.journal texts outcomes
-  pub no_other : All (λ e. (1 ≤ e.feed) × (e.feed ≤ length texts)) book.journal
+  pub history : IsHistory texts limit batch book.journal outcomes
   pub reported : reports ≡ map (report_lines 1) outcomes
   pub counted : length reports ≡ length texts
 

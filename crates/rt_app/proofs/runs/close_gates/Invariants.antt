@@ -1,4 +1,4 @@
-use Rattle.std.proofs.Common.{◌≡◌, ◌+◌, ◌≤◌, length, map, Some, vec_len, vec_capacity}
+use Rattle.std.proofs.Common.{◌≡◌, ◌≤◌, map, Some, vec_capacity}
 use Rattle.rt_app.proofs.runs.close_gates.Given as goal
 
 -- the passes and the reports of the feeds so far, and room for the others

@@ -1,4 +1,4 @@
-use Rattle.std.proofs.Common.{◌≡◌, ◌+◌, ◌≤◌, length, map, None, vec_len, vec_capacity}
+use Rattle.std.proofs.Common.{◌≡◌, ◌≤◌, map, None, vec_len, vec_capacity}
 use Rattle.rt_app.proofs.runs.open_gates.Given as goal
 
 -- a feed for each pass so far, and room for the others
