@@ -1,6 +1,6 @@
 -- Examples by which definitions are tested, each under a line with the definition's name. Both sides are computed, but for
 -- the texts that are written for numbers, which have one spelling each.
-use Rattle.std.proofs.Common.{◌≡◌, ℕ, Bool, true, false, List, [], ◌∷◌, ◌++◌, ◌||◌, Ok, Err, codes, decimal, eqb, refl, ap, ◌∙◌, arith}
+use Rattle.std.proofs.Common.{◌≡◌, ℕ, Bool, true, false, List, [], ◌∷◌, ◌++◌, ◌||◌, Some, Ok, Err, codes, decimal, take, eqb, refl, ap, subst, ◌∙◌, arith}
 use Rattle.std.proofs.lemmas.Bool.{eq-eqb, or_right}
 use Rattle.std.proofs.lemmas.List.Folds.{list_any-append}
 use Rattle.std.specs.List.{list_any}
@@ -8,8 +8,9 @@ use Rattle.rt_cidr.specs.declared.address.Addr.{Addr}
 use Rattle.rt_cidr.specs.declared.prefixes.Prefix.{Prefix}
 use Rattle.rt_cidr.specs.declared.prefixes.TextFault.TheVariants.{Text, Length, Bits}
 use Rattle.rt_cidr.specs.Cidr.{size_of, IsPrefix}
-use Rattle.rt_cidr.specs.Prefix.{covers, same_prefix}
-use Rattle.rt_cidr.specs.Text.{dot, slash, IsDecimal, IsOctetText, IsAddressText, IsPrefixText, address_text, prefix_text}
+use Rattle.rt_cidr.specs.Output.{AppendsBeginning}
+use Rattle.rt_cidr.specs.Prefix.{covers, contains, same_prefix}
+use Rattle.rt_cidr.specs.Text.{dot, slash, zero_digit, IsDecimal, IsOctetText, IsAddressText, IsPrefixText, address_text, prefix_text}
 use Rattle.rt_cidr.specs.Reading.{ReadsPrefix}
 use Rattle.rt_cidr.proofs.Texts.{decimal_is_decimal, decimal_one_text, address_text_is_address, address_one_text, address_one_number, prefix_text_is_pair, pair_one_text, pair_one_value}
 
@@ -69,6 +70,31 @@ the_same = refl
 
 of_another_base : same_prefix everything ten_8 ≡ false
 of_another_base = refl
+
+-- contains
+itself : contains ten_8 ten_8 ≡ true
+itself = refl
+
+a_longer_one_in_it : contains everything last_32 ≡ true
+a_longer_one_in_it = refl
+
+no_shorter_one : contains ten_8 everything ≡ false
+no_shorter_one = refl
+
+none_beside_it : contains ten_8 last_32 ≡ false
+none_beside_it = refl
+
+-- zero_digit
+the_byte_of_a_zero : codes "0" ≡ zero_digit ∷ []
+the_byte_of_a_zero = refl
+
+-- dot
+the_byte_of_a_dot : codes "." ≡ dot ∷ []
+the_byte_of_a_dot = refl
+
+-- slash
+the_byte_of_a_slash : codes "/" ≡ slash ∷ []
+the_byte_of_a_slash = refl
 
 -- IsDecimal
 pub decimal_0 : IsDecimal (codes "0") 0
@@ -252,6 +278,18 @@ no_prefix_without_a_dot text address len none h =
     let address_has = ap (has_byte dot) h.is_address.joined ∙ has_byte-joined dot h.is_address.first_text _ in
     let both = ap (has_byte dot) h.joined ∙ list_any-append (λ byte. eqb byte dot) h.address_part (slash ∷ h.len_part) in
     let some : has_byte dot text ≡ true = both ∙ ap (λ b. b || has_byte dot (slash ∷ h.len_part)) address_has in cc
+
+-- AppendsBeginning
+two_bytes_of_three : AppendsBeginning (Some (codes "a")) (Some (codes "abc")) (codes "bcd")
+two_bytes_of_three = record { count = 2; within = omega arith; appended = refl }
+
+none_of_them : AppendsBeginning (Some (codes "a")) (Some (codes "a")) (codes "b")
+none_of_them = record { count = 0; within = omega arith; appended = refl }
+
+never_all_of_them : ¬ AppendsBeginning (Some []) (Some (codes "b")) (codes "b")
+never_all_of_them h =
+    let zero : h.count ≡ 0 = omega (arith, h.within) in
+    let same = subst (λ n. codes "b" ≡ [] ++ take n (codes "b")) zero h.appended in cc
 
 -- ReadsPrefix
 reads_10_0_0_0_8 : ReadsPrefix (codes "10.0.0.0/8") (Ok ten_8)

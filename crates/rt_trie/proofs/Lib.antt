@@ -3,6 +3,7 @@ pub mod Crossing
 pub mod BlockLemmas
 pub mod CountLemmas
 pub mod DescentLemmas
+pub mod Examples
 pub mod InsertLemmas
 pub mod LaneLemmas
 pub mod LawfulLemmas
