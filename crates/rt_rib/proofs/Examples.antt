@@ -1,5 +1,7 @@
 -- Examples by which definitions are tested, each under a line with the definition's name. Both sides are computed.
-use Rattle.std.proofs.Common.{◌≡◌, ℕ, ◌+◌, true, false, Some, None, List, [], ◌∷◌, ◌++◌, refl, arith}
+use Rattle.std.proofs.Common.{◌≡◌, ℕ, ◌+◌, Bool, true, false, if◌then◌else◌, Some, None, List, [], ◌∷◌, ◌++◌, refl, subst, arith}
+use Rattle.std.proofs.lemmas.List.Elements.{All-nil, All-cons}
+use Rattle.std.proofs.lemmas.List.Kept.{AllPairs-cons}
 use Rattle.rt_cidr.specs.declared.address.Addr.{Addr}
 use Rattle.rt_cidr.specs.declared.prefixes.Prefix.{Prefix}
 use Rattle.rt_rib.specs.declared.routes.Hop.{Hop}
@@ -10,15 +12,21 @@ use Rattle.rt_rib.specs.declared.commands.Cmd.TheVariants.{Add, Replace, Withdra
 use Rattle.rt_rib.specs.declared.commands.Reply.{Reply}
 use Rattle.rt_rib.specs.declared.commands.Reply.TheVariants.{Added, Exists, Full, Replaced, Withdrawn, Missing, Found, NoRoute, Dumped, Purged}
 use Rattle.rt_rib.specs.declared.commands.Entry.{Entry}
-use Rattle.rt_rib.specs.Table.{is_of, has, count_of, is_better, precedes, put_in, take_out, purge, IsTable}
+use Rattle.rt_trie.specs.Map.{get, same_prefix}
+use Rattle.rt_trie.specs.Tree.{Tree, Vacant, Node}
+use Rattle.rt_rib.specs.declared.offers.Offer.{Offer}
+use Rattle.rt_rib.specs.Offers.{outranks, is_from, IsRising, IsOffers}
+use Rattle.rt_rib.specs.Maps.{Map, route_by, routes_of, IsMap}
+use Rattle.rt_rib.specs.Table.{below_then, is_of, has, count_of, is_better, precedes, put_in, take_out, purge, IsTable}
 use Rattle.rt_rib.specs.LookUp.{matching, longest_of, best, look_up, best_routes}
 use Rattle.rt_rib.specs.Sequential.{reply_of, table_after}
 use Rattle.rt_rib.specs.Journal.{table_left, IsAnswered, IsLawfulJournal}
-use Rattle.rt_rib.specs.Book.{IsLimit}
+use Rattle.rt_rib.specs.Book.{IsLimit, Contents, OfferTrie, table_of, HoldsRoutesLeft}
 use Rattle.rt_rib.specs.Laws.{IsBestMatch, is_own, feed_entries}
 use Rattle.rt_rib.proofs.Tables.{IsTable-nil, IsTable-put_in}
 use Rattle.rt_rib.proofs.Best.{look_up_finds_best}
-use Rattle.rt_rib.proofs.Journals.{IsLawfulJournal-nil, IsLawfulJournal-push}
+use Rattle.rt_rib.proofs.OfferLists.{IsRising-one}
+use Rattle.rt_rib.proofs.Journals.{IsTable-left, IsLawfulJournal-nil, IsLawfulJournal-push}
 
 -- prefixes of the examples: all addresses, 10.0.0.0/8, 10.0.0.0/16, 10.1.0.0/16, and the last address by itself
 abbrev everything : Prefix
@@ -117,6 +125,19 @@ three_are_of_feed_1 = refl
 
 one_is_of_feed_2 : count_of 2 (route ten_8 2 5 ∷ nested) ≡ 1
 one_is_of_feed_2 = refl
+
+-- below_then
+below_whatever_the_rest : below_then 1 2 false ≡ true
+below_whatever_the_rest = refl
+
+where_equal_the_rest_decides : below_then 2 2 true ≡ true
+where_equal_the_rest_decides = refl
+
+equal_is_not_below : below_then 2 2 false ≡ false
+equal_is_not_below = refl
+
+above_whatever_the_rest : below_then 3 2 true ≡ false
+above_whatever_the_rest = refl
 
 -- is_better
 lesser_preference_is_better : is_better (route ten_8 64 4) (route ten_8 1 5) ≡ true
@@ -426,3 +447,126 @@ greatest_limit = (omega arith, omega arith)
 
 no_limit_of_none : ¬ IsLimit 0
 no_limit_of_none h = omega (arith, h.0)
+
+-- what a feed offers, and a map of two prefixes
+abbrev offer : ℕ → ℕ → Offer
+offer feed pref = record { feed = feed; pref = pref; hop = Discard }
+
+abbrev two_prefixes : Map
+two_prefixes = (ten_8, offer 2 30 ∷ offer 1 50 ∷ []) ∷ (ten_1_16, offer 1 10 ∷ []) ∷ []
+
+-- outranks
+lesser_preference_outranks : outranks (offer 64 4) (offer 1 5) ≡ true
+lesser_preference_outranks = refl
+
+of_equal_preference_the_lesser_feed_outranks : outranks (offer 1 5) (offer 64 5) ≡ true
+of_equal_preference_the_lesser_feed_outranks = refl
+
+nothing_outranks_itself : outranks (offer 1 5) (offer 1 5) ≡ false
+nothing_outranks_itself = refl
+
+-- is_from
+from_its_feed : is_from 64 (offer 64 5) ≡ true
+from_its_feed = refl
+
+from_no_other : is_from 1 (offer 64 5) ≡ false
+from_no_other = refl
+
+-- IsRising
+two_rise : IsRising (offer 2 30 ∷ offer 1 50 ∷ [])
+two_rise = record {
+  ordered = AllPairs-cons (λ a b. outranks a b ≡ true) (offer 2 30) (offer 1 50 ∷ []) (All-cons (λ b. outranks (offer 2 30) b ≡ true) (offer 1 50) [] refl (All-nil (λ b. outranks (offer 2 30) b ≡ true))) (IsRising-one (offer 1 50)).ordered;
+  single = AllPairs-cons (λ a b. is_from b.feed a ≡ false) (offer 2 30) (offer 1 50 ∷ []) (All-cons (λ b. is_from b.feed (offer 2 30) ≡ false) (offer 1 50) [] refl (All-nil (λ b. is_from b.feed (offer 2 30) ≡ false))) (IsRising-one (offer 1 50)).single;
+}
+
+the_best_comes_first : ¬ IsRising (offer 1 50 ∷ offer 2 30 ∷ [])
+the_best_comes_first h = let same = h.ordered 0 1 (offer 1 50) (omega arith) (omega arith) in cc
+
+a_feed_has_one_offer : ¬ IsRising (offer 1 30 ∷ offer 1 50 ∷ [])
+a_feed_has_one_offer h = let same = h.single 0 1 (offer 1 30) (omega arith) (omega arith) in cc
+
+-- IsOffers
+two_are_offers : IsOffers (offer 2 30 ∷ offer 1 50 ∷ [])
+two_are_offers = record { some = omega arith; rising = two_rise }
+
+none_is_not : ¬ IsOffers []
+none_is_not h = omega (arith, h.some)
+
+-- whatever stands at a prefix of the map are offers, where those of its first prefix and of the rest are
+each_of : (q : Prefix) (first : List Offer) (rest : Map) → IsOffers first
+    → ((p : Prefix) (offers : List Offer) → get rest p ≡ Some offers → IsOffers offers)
+    → (p : Prefix) (offers : List Offer) → get ((q, first) ∷ rest) p ≡ Some offers → IsOffers offers
+each_of q first rest is others p offers found = by (same_prefix q p) found
+  where
+    by : (same : Bool) → (if same then Some first else get rest p) ≡ Some offers → IsOffers offers
+    by true found = let one : first ≡ offers = cc in subst IsOffers one is
+    by false found = others p offers found
+
+-- IsMap
+a_map_of_two_prefixes : IsMap two_prefixes
+a_map_of_two_prefixes = record {
+  ordered = ((refl, tt), (tt, tt));
+  each =
+      each_of ten_8 (offer 2 30 ∷ offer 1 50 ∷ []) ((ten_1_16, offer 1 10 ∷ []) ∷ []) two_are_offers
+      (each_of ten_1_16 (offer 1 10 ∷ []) [] (record { some = omega arith; rising = IsRising-one (offer 1 10) }) (λ p offers found. cc));
+}
+
+no_prefix_without_offers : ¬ IsMap ((ten_8, []) ∷ [])
+no_prefix_without_offers h = none_is_not (h.each ten_8 [] refl)
+
+no_prefix_twice : ¬ IsMap ((ten_8, offer 2 30 ∷ []) ∷ (ten_8, offer 1 50 ∷ []) ∷ [])
+no_prefix_twice h = let same = h.ordered.0.0 in cc
+
+-- route_by
+the_route_of_an_offer : route_by ten_8 (offer 2 30) ≡ route ten_8 2 30
+the_route_of_an_offer = refl
+
+-- routes_of
+routes_prefix_by_prefix : routes_of two_prefixes ≡ route ten_8 2 30 ∷ route ten_8 1 50 ∷ route ten_1_16 1 10 ∷ []
+routes_prefix_by_prefix = refl
+
+-- a book with this trie, after feed 1 and then feed 2 put routes in
+abbrev book_with : OfferTrie → Contents
+book_with trie = record {
+  limit = 2;
+  journal = entry 1 (Add ten_8 50 Discard) Added ∷ entry 1 (Add ten_1_16 10 Discard) Added ∷ entry 2 (Add ten_8 30 Discard) Added ∷ [];
+  trie = trie;
+  room = 0;
+}
+
+abbrev two_nodes : Tree
+two_nodes = Node ten_8 true (Node ten_1_16 true Vacant Vacant) Vacant
+
+-- table_of
+what_the_journal_leaves :
+    table_of (book_with (record { pairs = []; nodes = 0; tree = Vacant })) ≡ route ten_8 2 30 ∷ route ten_8 1 50 ∷ route ten_1_16 1 10 ∷ []
+unfolding table_left table_after
+what_the_journal_leaves = refl
+
+-- HoldsRoutesLeft
+holds_what_the_journal_leaves : HoldsRoutesLeft (book_with (record { pairs = two_prefixes; nodes = 2; tree = two_nodes }))
+unfolding table_left table_after
+holds_what_the_journal_leaves = record {
+  lawful = record {
+    tree = (
+      record { needed = λ e. cc; lower = record { longer = omega arith; contained = refl; next_bit = refl }; upper = tt },
+      (record { needed = λ e. cc; lower = tt; upper = tt }, tt, tt),
+      tt,
+    );
+    stored = refl;
+    count = refl;
+  };
+  map = a_map_of_two_prefixes;
+  exactly = refl;
+  once = IsTable-left 2 (book_with (record { pairs = two_prefixes; nodes = 2; tree = two_nodes })).journal;
+}
+
+a_route_was_lost : ¬ HoldsRoutesLeft (book_with (record { pairs = (ten_8, offer 1 50 ∷ []) ∷ (ten_1_16, offer 1 10 ∷ []) ∷ []; nodes = 2; tree = two_nodes }))
+unfolding table_left table_after
+a_route_was_lost h = let exactly = h.exactly in cc
+
+a_node_too_many_was_counted : ¬ HoldsRoutesLeft (book_with (record { pairs = two_prefixes; nodes = 3; tree = two_nodes }))
+a_node_too_many_was_counted h = let count = h.lawful.count in cc
+
+a_node_without_its_value : ¬ HoldsRoutesLeft (book_with (record { pairs = two_prefixes; nodes = 2; tree = Node ten_8 false (Node ten_1_16 true Vacant Vacant) Vacant }))
+a_node_without_its_value h = let stored = h.lawful.stored in cc
