@@ -1,19 +1,21 @@
 -- Examples by which definitions are tested, each under a line with the definition's name. Both sides are computed.
-use Rattle.std.proofs.Common.{◌≡◌, ◌≢◌, ℕ, ◌^◌, ◌<◌, Bool, true, false, if◌then◌else◌, List, [], ◌∷◌, ◌++◌, ◌==◌, ◌&&◌, refl, ap, arith}
+use Rattle.std.proofs.Common.{◌≡◌, ◌≢◌, ℕ, zero, suc, ◌+◌, ◌^◌, ◌<◌, ◌≤◌, Bool, true, false, if◌then◌else◌, List, [], ◌∷◌, ◌++◌, ◌==◌, ◌&&◌, Some, None, inl, inr, map, refl, ap, subst, ◌∙◌, arith}
 use Rattle.std.proofs.lemmas.Bool.{false_from_ne_true, eq-eqb, eqb-true, ne_eqb, and_from, and_parts}
 use Rattle.ya_core.specs.declared.word.Word.{Word}
 use Rattle.ya_core.specs.declared.word.Word.TheVariants.{C, T, P}
 use Rattle.ya_core.specs.declared.word.Access.{Access}
 use Rattle.ya_core.specs.declared.word.Access.TheVariants.{Load, Store}
-use Rattle.ya_core.specs.declared.process.Entry.TheVariants.{E1, E2, E3, E4, E5, E6, E8, E10}
-use Rattle.ya_core.specs.declared.process.Exit.TheVariants.{X2, X3}
+use Rattle.ya_core.specs.declared.process.Entry.TheVariants.{E1, E2, E3, E4, E5, E6, E7, E8, E9, E10}
+use Rattle.ya_core.specs.declared.process.Exit.TheVariants.{X1, X2, X3}
 use Rattle.ya_core.specs.declared.process.Process.{Process}
 use Rattle.ya_core.specs.declared.process.Process.TheVariants.{Idle, Entering, Inside, Leaving}
-use Rattle.ya_core.specs.Tree.{node_of, side_of}
-use Rattle.ya_core.specs.Steps.{State, StepsTo, Accesses, opening, access_of, next_of, value_of}
-use Rattle.ya_core.specs.Walks.{cost_of_word}
-use Rattle.ya_core.specs.Progress.{Announces, Wins, Neither, deed_of, is_rival, times_overtaken}
-use Rattle.ya_core.specs.Worlds.{World, Event, Steps, Appends, IsInside, IsReached, Runs, Happens, any_entry, is_inside, opening_world}
+use Rattle.ya_core.specs.Tree.{node_of, side_of, nodes_below, number_of, count_of_words}
+use Rattle.ya_core.specs.FlatRow.{is_word}
+use Rattle.ya_core.specs.Steps.{State, StepsTo, LeadTo, Accesses, opening, entry_access, exit_access, access_of, won, left, entry_next, exit_next, next_of, value_of}
+use Rattle.ya_core.specs.Walks.{walk, due_of, due, CanStand, cost_of_word, cost_of, walk_after, MayFind, IsTold, Goes, Enters, Leaves}
+use Rattle.ya_core.specs.Progress.{SomeoneGoesOn, CanLeadTo, SomeoneGoesOnIn, Announces, Wins, Neither, is_entering, is_to_announce, deed_of, announces, LevelSees, HasNotWon, is_rival, is_win, times_overtaken}
+use Rattle.ya_core.specs.Fairness.{IsRunOf, IsFair, Eventually, is_on_way_in, is_on_way_out}
+use Rattle.ya_core.specs.Worlds.{Marked, World, Event, Steps, Appends, WorldSteps, WorldAppends, IsInside, IsReached, Runs, Happens, any_entry, is_inside, opening_world}
 
 -- node_of
 two_neighbours_share_a_leaf : node_of 1 2 ≡ node_of 1 3
@@ -109,6 +111,272 @@ once_by_the_rival :
 unfolding node_of side_of
 once_by_the_rival = refl
 
+-- entry_access
+the_points_of_the_way_in :
+    map (entry_access 1 2) (E1 ∷ E2 ∷ E3 ∷ E4 ∷ E5 3 ∷ E6 3 ∷ E7 3 ∷ E8 ∷ E9 ∷ E10 ∷ [])
+    ≡ Store (C 1 1 0) 3 ∷ Store (T 1 1) 3 ∷ Store (P 1 2) 0 ∷ Load (C 1 1 1) ∷ Load (T 1 1) ∷ Load (P 1 3) ∷ Store (P 1 3) 1
+    ∷ Load (P 1 2) ∷ Load (T 1 1) ∷ Load (P 1 2) ∷ []
+unfolding node_of side_of
+the_points_of_the_way_in = refl
+
+-- exit_access
+the_points_of_the_way_out : map (exit_access 1 2) (X1 ∷ X2 ∷ X3 3 ∷ []) ≡ Store (C 1 1 0) 0 ∷ Load (T 1 1) ∷ Store (P 1 3) 2 ∷ []
+unfolding node_of side_of
+the_points_of_the_way_out = refl
+
+-- entry_next
+what_a_store_loads_leads_nowhere_else : entry_next 2 1 3 E1 0 ≡ entry_next 2 1 3 E1 7
+what_a_store_loads_leads_nowhere_else = refl
+
+a_rival_that_sleeps_is_woken : entry_next 2 1 3 (E6 2) 0 ≡ Entering 1 (E7 2)
+a_rival_that_sleeps_is_woken = refl
+
+one_that_is_awake_is_not : entry_next 2 1 3 (E6 2) 1 ≡ Entering 1 E8
+one_that_is_awake_is_not = refl
+
+it_waits_to_be_woken : entry_next 2 1 3 E8 0 ≡ Entering 1 E8
+it_waits_to_be_woken = refl
+
+woken_it_looks_again : entry_next 2 1 3 E8 1 ≡ Entering 1 E9
+woken_it_looks_again = refl
+
+still_the_last_it_waits_to_be_let_in : entry_next 2 1 3 E9 4 ≡ Entering 1 E10
+still_the_last_it_waits_to_be_let_in = refl
+
+no_longer_the_last_it_has_won : entry_next 2 1 3 E9 3 ≡ Entering 2 E1
+no_longer_the_last_it_has_won = refl
+
+-- won
+from_the_leaf_on_to_the_root : won 2 1 ≡ Entering 2 E1
+from_the_leaf_on_to_the_root = refl
+
+from_the_root_inside : won 2 2 ≡ Inside
+from_the_root_inside = refl
+
+-- exit_next
+its_claim_given_up : exit_next 1 3 X1 0 ≡ Leaving 1 X2
+its_claim_given_up = refl
+
+the_last_to_announce_itself_was_itself : exit_next 1 3 X2 4 ≡ Idle
+the_last_to_announce_itself_was_itself = refl
+
+it_was_the_rival : exit_next 1 3 X2 3 ≡ Leaving 1 (X3 2)
+it_was_the_rival = refl
+
+-- left
+from_the_root_down_to_the_leaf : left 2 ≡ Leaving 1 X1
+from_the_root_down_to_the_leaf = refl
+
+from_the_leaf_to_idle : left 1 ≡ Idle
+from_the_leaf_to_idle = refl
+
+-- nodes_below
+no_level_is_below_the_leaves : nodes_below 2 1 ≡ 0
+no_level_is_below_the_leaves = refl
+
+two_leaves_below_the_root : nodes_below 2 2 ≡ 2
+two_leaves_below_the_root = refl
+
+-- number_of
+the_root_comes_behind_the_leaves : number_of 2 (C 2 0 1) ≡ 5
+unfolding number_of
+the_root_comes_behind_the_leaves = refl
+
+words_T_behind_words_C : number_of 2 (T 1 0) ≡ 6
+unfolding number_of
+words_T_behind_words_C = refl
+
+words_P_behind_words_T : number_of 2 (P 1 0) ≡ 9
+unfolding number_of
+words_P_behind_words_T = refl
+
+the_last_word : number_of 2 (P 2 3) ≡ 16
+unfolding number_of
+the_last_word = refl
+
+-- count_of_words
+seventeen_words : count_of_words 2 ≡ 17
+unfolding count_of_words
+seventeen_words = refl
+
+-- is_word
+the_root_is_one_node : is_word 2 (C 2 0 1) ≡ true
+the_root_is_one_node = refl
+
+it_has_no_second : is_word 2 (C 2 1 0) ≡ false
+it_has_no_second = refl
+
+a_node_has_two_sides : is_word 2 (C 1 1 2) ≡ false
+a_node_has_two_sides = refl
+
+a_word_P_for_each_place_and_level : is_word 2 (P 2 3) ≡ true
+a_word_P_for_each_place_and_level = refl
+
+no_level_0 : is_word 2 (T 0 0) ≡ false
+no_level_0 = refl
+
+-- value_of
+a_load_tells_the_word : value_of (λ word. 9) (Load (T 1 0)) ≡ 9
+a_load_tells_the_word = refl
+
+a_store_what_it_stores : value_of (λ word. 9) (Store (T 1 0) 4) ≡ 4
+a_store_what_it_stores = refl
+
+-- cost_of
+a_load_of_its_own_spin_word : cost_of 3 (Load (P 1 3)) ≡ 0
+a_load_of_its_own_spin_word = refl
+
+a_store_in_anothers : cost_of 3 (Store (P 1 2) 2) ≡ 1
+a_store_in_anothers = refl
+
+a_claim_is_remote : cost_of 3 (Store (C 1 1 1) 4) ≡ 1
+a_claim_is_remote = refl
+
+-- CanStand
+nil_in_a_claim : CanStand (C 1 1 0) 0
+nil_in_a_claim = inl refl
+
+place_2_on_its_side : CanStand (C 1 1 0) 3
+unfolding node_of side_of
+place_2_on_its_side = inr (omega arith, refl, refl)
+
+place_3_not_on_that_side : ¬ CanStand (C 1 1 0) 4
+unfolding node_of side_of
+place_3_not_on_that_side (inl nil) = cc
+place_3_not_on_that_side (inr h) = let side = h.2 in cc
+
+no_nil_in_a_word_T : ¬ CanStand (T 1 1) 0
+no_nil_in_a_word_T h = omega (arith, h.0)
+
+no_3_in_a_spin_word : ¬ CanStand (P 1 2) 3
+no_3_in_a_spin_word h = omega (arith, h)
+
+-- MayFind
+a_store_may_be_told_anything : MayFind (Store (P 1 2) 2) 9
+a_store_may_be_told_anything = tt
+
+a_load_what_can_stand : ¬ MayFind (Load (P 1 2)) 9
+a_load_what_can_stand h = omega (arith, h)
+
+-- IsTold
+no_value_where_nothing_is_due : ¬ IsTold None 0
+no_value_where_nothing_is_due h = h
+
+-- due_of
+nothing_is_due_to_one_that_is_idle : due_of 1 0 Idle false ≡ None
+nothing_is_due_to_one_that_is_idle = refl
+
+told_to_go_on_it_claims_its_side : due_of 1 0 Idle true ≡ Some (Store (C 1 0 0) 1)
+unfolding node_of side_of
+told_to_go_on_it_claims_its_side = refl
+
+-- due
+on_its_way_it_need_not_be_told : due (walk 1 0 (Entering 1 E10) false 0) ≡ Some (Load (P 1 0))
+on_its_way_it_need_not_be_told = refl
+
+-- walk_after
+a_remote_access_is_counted : walk_after (walk 1 0 Idle true 0) 0 ≡ walk 1 0 (Entering 1 E2) false 1
+unfolding node_of side_of
+a_remote_access_is_counted = refl
+
+one_of_its_own_spin_word_is_not : walk_after (walk 1 0 (Entering 1 E10) false 7) 2 ≡ walk 1 0 Inside false 7
+one_of_its_own_spin_word_is_not = refl
+
+-- Enters
+an_entry_begins : Enters (walk 1 0 Idle true 0)
+an_entry_begins = record { process = refl; begun = refl; uncounted = refl }
+
+not_before_it_is_told : ¬ Enters (walk 1 0 Idle false 0)
+not_before_it_is_told h = let begun = h.begun in cc
+
+-- Leaves
+an_exit_begins : Leaves (walk 1 0 Inside true 3)
+an_exit_begins = record { process = refl; begun = refl }
+
+not_from_idle : ¬ Leaves (walk 1 0 Idle true 3)
+not_from_idle h = let process = h.process in cc
+
+-- Goes
+alone_three_on_the_way_in : Goes (walk 1 0 Idle true 0) (1 ∷ 1 ∷ 0 ∷ 0 ∷ []) (walk 1 0 Inside false 3)
+unfolding node_of side_of
+alone_three_on_the_way_in = (tt, (tt, (tt, (inl refl, refl))))
+
+seven_where_it_competes : Goes (walk 1 0 Idle true 0) (1 ∷ 1 ∷ 0 ∷ 2 ∷ 1 ∷ 0 ∷ 1 ∷ 1 ∷ 1 ∷ 2 ∷ []) (walk 1 0 Inside false 7)
+unfolding node_of side_of
+seven_where_it_competes =
+    (tt, (tt, (tt, (inr (omega arith, refl, refl), ((omega arith, refl), (omega arith, (tt, (omega arith, ((omega arith, refl), (omega arith, refl))))))))))
+
+three_more_on_the_way_out : Goes (walk 1 0 Inside true 7) (0 ∷ 2 ∷ 2 ∷ []) (walk 1 0 Idle false 10)
+unfolding node_of side_of
+three_more_on_the_way_out = (tt, ((omega arith, refl), (tt, refl)))
+
+-- is_inside
+one_inside_is : is_inside Inside ≡ true
+one_inside_is = refl
+
+one_at_the_root_is_not_yet : is_inside (Entering 2 E10) ≡ false
+one_at_the_root_is_not_yet = refl
+
+-- is_on_way_in
+on_its_way_in : is_on_way_in (Entering 1 E1) ≡ true
+on_its_way_in = refl
+
+inside_no_more : is_on_way_in Inside ≡ false
+inside_no_more = refl
+
+-- is_on_way_out
+on_its_way_out : is_on_way_out (Leaving 2 X1) ≡ true
+on_its_way_out = refl
+
+inside_not_yet : is_on_way_out Inside ≡ false
+inside_not_yet = refl
+
+-- opening
+all_words_are_0 : opening.words (T 1 0) ≡ 0
+all_words_are_0 = refl
+
+all_places_are_idle : opening.processes 3 ≡ Idle
+all_places_are_idle = refl
+
+-- is_to_announce
+at_e2_it_is : is_to_announce 1 (Entering 1 E2) ≡ true
+at_e2_it_is = refl
+
+at_another_level_it_is_not : is_to_announce 2 (Entering 1 E2) ≡ false
+at_another_level_it_is_not = refl
+
+-- is_entering
+on_its_way_in_at_the_level : is_entering 2 (Entering 2 E8) ≡ true
+on_its_way_in_at_the_level = refl
+
+inside_it_is_not : is_entering 2 Inside ≡ false
+inside_it_is_not = refl
+
+-- is_win
+a_win : is_win Wins ≡ true
+a_win = refl
+
+an_announcement_is_none : is_win Announces ≡ false
+an_announcement_is_none = refl
+
+-- announces
+place_2_announces_itself : announces 2 ≡ record { place = 2; deed = Announces }
+place_2_announces_itself = refl
+
+-- HasNotWon
+another_has_won : HasNotWon 2 (record { place = 3; deed = Wins } ∷ announces 2 ∷ [])
+another_has_won = (λ same. cc, (λ same. λ win. cc, tt))
+
+it_has_won_itself : ¬ HasNotWon 2 (announces 3 ∷ record { place = 2; deed = Wins } ∷ [])
+it_has_won_itself h = h.1.0 refl refl
+
+-- Eventually
+then_or_later : Eventually 3 (λ time. time ≡ 3)
+then_or_later = (3, omega arith, refl)
+
+not_earlier : ¬ Eventually 4 (λ time. time ≡ 3)
+not_earlier h = omega (arith, h.1, h.2)
+
 -- whether two words are one
 abbrev same_word : Word → Word → Bool
 same_word (C h n s) (C k m d) = h == k && (n == m && s == d)
@@ -175,6 +443,16 @@ steps_to levels place s room = record {
   others = set-other place _ s.processes;
 }
 
+-- Accesses
+a_load_changes_no_word : Accesses (Load (T 1 0)) (λ word. 9) (λ word. 9)
+a_load_changes_no_word = λ other. refl
+
+a_store_changes_its_word : ¬ Accesses (Store (T 1 0) 4) (λ word. 9) (λ word. 9)
+a_store_changes_its_word h = let stored = h.0 in cc
+
+a_store_changes_no_other : ¬ Accesses (Store (T 1 0) 4) (λ word. 9) (λ word. 4)
+a_store_changes_no_other h = let same = h.1 (T 2 0) (λ e. cc) in cc
+
 -- StepsTo
 place_1_steps : (s : State) × StepsTo 1 1 opening s
 place_1_steps = (after 1 1 opening, steps_to 1 1 opening (omega arith))
@@ -182,8 +460,121 @@ place_1_steps = (after 1 1 opening, steps_to 1 1 opening (omega arith))
 no_place_outside_of_the_tree : (s : State) → ¬ StepsTo 1 2 opening s
 no_place_outside_of_the_tree s h = omega (arith, h.in_tree)
 
+-- the state after these places stepped, one after another
+abbrev all_after : ℕ → List ℕ → State → State
+all_after levels [] s = s
+all_after levels (place ∷ places) s = all_after levels places (after levels place s)
+
+abbrev AllIn : ℕ → List ℕ → Type 0
+AllIn levels [] = Unit {0}
+AllIn levels (place ∷ places) = place < 2 ^ levels × AllIn levels places
+
+leads_to : (levels : ℕ) (places : List ℕ) (s : State) → AllIn levels places → LeadTo levels s places (all_after levels places s)
+leads_to levels [] s within = refl
+leads_to levels (place ∷ places) s within =
+    (after levels place s, steps_to levels place s within.0, leads_to levels places (after levels place s) within.1)
+
+-- place 2 is none of a tree of one level, and stays idle
+stays_idle : (places : List ℕ) (s t : State) → s.processes 2 ≡ Idle → LeadTo 1 s places t → t.processes 2 ≡ Idle
+stays_idle [] s t idle same = ap (λ (state : State). state.processes 2) same ∙ idle
+stays_idle (place ∷ places) s t idle (next, step, rest) =
+    stays_idle places next t (step.others 2 (λ same. omega (arith, step.in_tree, same)) ∙ idle) rest
+
+-- LeadTo
+four_steps_of_place_0 : LeadTo 1 opening (0 ∷ 0 ∷ 0 ∷ 0 ∷ []) (all_after 1 (0 ∷ 0 ∷ 0 ∷ 0 ∷ []) opening)
+four_steps_of_place_0 = leads_to 1 (0 ∷ 0 ∷ 0 ∷ 0 ∷ []) opening (omega arith, (omega arith, (omega arith, (omega arith, tt))))
+
+no_step_no_change : (s : State) → LeadTo 1 opening [] s → s ≡ opening
+no_step_no_change s h = h
+
+-- IsInside
+after_four_steps_it_is : IsInside (all_after 1 (0 ∷ 0 ∷ 0 ∷ 0 ∷ []) opening) 0
+unfolding node_of side_of
+after_four_steps_it_is = refl
+
+after_three_it_is_not : ¬ IsInside (all_after 1 (0 ∷ 0 ∷ 0 ∷ []) opening) 0
+unfolding node_of side_of
+after_three_it_is_not h = cc
+
+-- CanLeadTo
+place_0_can_come_inside : CanLeadTo 1 opening (λ s. IsInside s 0)
+unfolding node_of side_of
+place_0_can_come_inside =
+    (0 ∷ 0 ∷ 0 ∷ 0 ∷ [], all_after 1 (0 ∷ 0 ∷ 0 ∷ 0 ∷ []) opening, four_steps_of_place_0, refl)
+
+place_2_can_not : ¬ CanLeadTo 1 opening (λ s. IsInside s 2)
+place_2_can_not (places, s, leads, inside) =
+    let idle = stays_idle places opening s refl leads in
+    let none : is_inside (s.processes 2) ≡ false = ap is_inside idle in cc
+
+-- SomeoneGoesOn
+one_that_has_begun_goes_on : SomeoneGoesOn 1 (after 1 0 opening)
+unfolding node_of side_of
+one_that_has_begun_goes_on = record {
+  place = 0;
+  busy = λ e. cc;
+  after = after 1 0 (after 1 0 opening);
+  step = steps_to 1 0 (after 1 0 opening) (omega arith);
+  goes_on = λ e. cc;
+}
+
+nobody_where_all_are_idle : ¬ SomeoneGoesOn 1 opening
+nobody_where_all_are_idle h = h.busy refl
+
+-- LevelSees
+a_claim_and_then_an_announcement : LevelSees 1 1 opening (record { place = 0; deed = Neither } ∷ announces 0 ∷ [])
+unfolding node_of side_of
+a_claim_and_then_an_announcement = (
+  after 1 0 opening,
+  steps_to 1 0 opening (omega arith),
+  refl,
+  (after 1 0 (after 1 0 opening), steps_to 1 0 (after 1 0 opening) (omega arith), refl, tt),
+)
+
+no_win_by_the_first_step : ¬ LevelSees 1 1 opening (record { place = 0; deed = Wins } ∷ [])
+no_win_by_the_first_step h = let deed = h.2 in cc
+
+-- place 0 steps at all times
+abbrev alone : ℕ → State
+alone zero = opening
+alone (suc time) = after 1 0 (alone time)
+
+others_stay_idle : (place time : ℕ) → place ≢ 0 → (alone time).processes place ≡ Idle
+others_stay_idle place zero other = refl
+others_stay_idle place (suc time) other = set-other 0 _ (alone time).processes place other ∙ others_stay_idle place time other
+
+-- place 0 steps once, and then place 1 at all times
+abbrev once : ℕ → ℕ
+once zero = 0
+once (suc time) = 1
+
+not_again : (time : ℕ) → 1 ≤ time → once time ≢ 0
+not_again zero later same = omega (arith, later)
+not_again (suc time) later same = cc
+
+-- IsRunOf
+the_run_of_place_0 : IsRunOf 1 (λ time. 0) alone
+the_run_of_place_0 = record {
+  start = refl;
+  steps = λ time. subst (λ next. StepsTo 1 0 (alone time) (alone next)) (let next : suc time ≡ time + 1 = omega arith in next) (steps_to 1 0 (alone time) (omega arith));
+}
+
+each_step_counts : ¬ IsRunOf 1 (λ time. 0) (λ time. opening)
+each_step_counts h = let step = h.steps 0 in let process = step.process in cc
+
+-- IsFair
+fair_to_place_0 : IsFair (λ time. 0) alone
+fair_to_place_0 zero time busy = (time, omega arith, refl)
+fair_to_place_0 (suc other) time busy = absurd (busy (others_stay_idle (suc other) time (λ same. cc)))
+
+unfair_to_place_0 : (states : ℕ → State) → IsRunOf 1 once states → ¬ IsFair once states
+unfair_to_place_0 states run fair =
+    let first = subst (λ s. (states 1).processes 0 ≡ next_of 1 0 (s.processes 0) (value_of s.words (access_of 1 0 (s.processes 0)))) run.start (run.steps 0).process in
+    let begun : (states 1).processes 0 ≡ Entering 1 E2 = first in
+    let again = fair 0 1 (λ idle. cc) in not_again again.0 again.1 again.2
+
 -- the world after an event
-abbrev stepped : ℕ → World ℕ → State → Bool → Bool → World ℕ
+abbrev stepped : {X : Type 0} → ℕ → World X → State → Bool → Bool → World X
 stepped place world state was is = record {
   state = state;
   content = if was then world.copies place else world.content;
@@ -192,10 +583,10 @@ stepped place world state was is = record {
   made = set place (if was then world.made place ++ world.doing place else world.made place) world.made;
 }
 
-abbrev stepped_to : ℕ → World ℕ → State → World ℕ
+abbrev stepped_to : {X : Type 0} → ℕ → World X → State → World X
 stepped_to place world state = stepped place world state (is_inside (world.state.processes place)) (is_inside (state.processes place))
 
-abbrev appended : ℕ → ℕ → World ℕ → World ℕ
+abbrev appended : {X : Type 0} → ℕ → X → World X → World X
 appended place entry world = record {
   state = world.state;
   content = world.content;
@@ -204,50 +595,52 @@ appended place entry world = record {
   made = world.made;
 }
 
-abbrev follows : ℕ → Event ℕ → World ℕ → World ℕ
+abbrev follows : {X : Type 0} → ℕ → Event X → World X → World X
 follows levels (Steps place) world = stepped_to place world (after levels place world.state)
 follows levels (Appends place entry) world = appended place entry world
 
-abbrev May : ℕ → Event ℕ → World ℕ → Type 0
-May levels (Steps place) world = place < 2 ^ levels
-May levels (Appends place entry) world = IsInside world.state place
-
-happens : (levels : ℕ) (event : Event ℕ) (world : World ℕ) → May levels event world → Happens levels any_entry event world (follows levels event world)
-happens levels (Steps place) world room = record {
-  state = steps_to levels place world.state room;
-  copy = set-itself place _ world.copies;
-  doing = set-itself place _ world.doing;
-  content = refl;
-  made = set-itself place _ world.made;
-  others_copy = set-other place _ world.copies;
-  others_doing = set-other place _ world.doing;
-  others_made = set-other place _ world.made;
-}
-happens levels (Appends place entry) world inside = record {
-  inside = inside;
-  may_follow = tt;
-  state = refl;
-  content = refl;
-  copy = set-itself place _ world.copies;
-  doing = set-itself place _ world.doing;
-  made = refl;
-  others_copy = set-other place _ world.copies;
-  others_doing = set-other place _ world.doing;
-  others_made = λ other apart. refl;
-}
-
--- the world after these events, if all of them may happen
-abbrev follow : ℕ → List (Event ℕ) → World ℕ → World ℕ
+-- the world after these events
+abbrev pub follow : {X : Type 0} → ℕ → List (Event X) → World X → World X
 follow levels [] world = world
 follow levels (event ∷ events) world = follow levels events (follows levels event world)
 
-abbrev AllMay : ℕ → List (Event ℕ) → World ℕ → Type 0
-AllMay levels [] world = Unit {0}
-AllMay levels (event ∷ events) world = May levels event world × AllMay levels events (follows levels event world)
+module _ {X : Type 0} (levels : ℕ) (may : List (Marked X) → Marked X → Type 0) where
+  -- they may happen one after another
+  abbrev pub MayHappen : Event X → World X → Type 0
+  MayHappen (Steps place) world = place < 2 ^ levels
+  MayHappen (Appends place entry) world = IsInside world.state place × may (world.copies place) (place, entry)
 
-runs : (levels : ℕ) (events : List (Event ℕ)) (world : World ℕ) → AllMay levels events world → Runs levels any_entry world events (follow levels events world)
-runs levels [] world may = refl
-runs levels (event ∷ events) world may = (follows levels event world, happens levels event world may.0, runs levels events (follows levels event world) may.1)
+  abbrev pub AllMayHappen : List (Event X) → World X → Type 0
+  AllMayHappen [] world = Unit {0}
+  AllMayHappen (event ∷ events) world = MayHappen event world × AllMayHappen events (follows levels event world)
+
+  pub happens : (event : Event X) (world : World X) → MayHappen event world → Happens levels may event world (follows levels event world)
+  happens (Steps place) world room = record {
+    state = steps_to levels place world.state room;
+    copy = set-itself place _ world.copies;
+    doing = set-itself place _ world.doing;
+    content = refl;
+    made = set-itself place _ world.made;
+    others_copy = set-other place _ world.copies;
+    others_doing = set-other place _ world.doing;
+    others_made = set-other place _ world.made;
+  }
+  happens (Appends place entry) world inside = record {
+    inside = inside.0;
+    may_follow = inside.1;
+    state = refl;
+    content = refl;
+    copy = set-itself place _ world.copies;
+    doing = set-itself place _ world.doing;
+    made = refl;
+    others_copy = set-other place _ world.copies;
+    others_doing = set-other place _ world.doing;
+    others_made = λ other apart. refl;
+  }
+
+  pub runs : (events : List (Event X)) (world : World X) → AllMayHappen events world → Runs levels may world events (follow levels events world)
+  runs [] world all = refl
+  runs (event ∷ events) world all = (follows levels event world, happens event world all.0, runs events (follows levels event world) all.1)
 
 -- place 0 and then place 1 goes inside and makes an entry
 abbrev one_after_the_other : List (Event ℕ)
@@ -262,12 +655,68 @@ both_compete =
     ∷ Steps 1 ∷ Steps 1 ∷ Steps 1 ∷ Steps 1 ∷ Steps 0 ∷ Steps 0 ∷ Steps 0
     ∷ Steps 1 ∷ Steps 1 ∷ Steps 1 ∷ Appends 1 8 ∷ Steps 1 ∷ Steps 1 ∷ []
 
+-- place 0 is inside, and its copy has an entry
+abbrev one_inside : World ℕ
+one_inside = follow 1 (Steps 0 ∷ Steps 0 ∷ Steps 0 ∷ Steps 0 ∷ Appends 0 7 ∷ []) opening_world
+
+-- opening_world
+nothing_was_made : (opening_world {X = ℕ}).content ≡ []
+nothing_was_made = refl
+
+-- WorldAppends
+to_its_copy : WorldAppends any_entry 0 9 one_inside (appended 0 9 one_inside)
+unfolding node_of side_of
+to_its_copy = happens 1 any_entry (Appends 0 9) one_inside (refl, tt)
+
+nothing_from_outside : (world : World ℕ) → ¬ WorldAppends any_entry 1 9 one_inside world
+unfolding node_of side_of
+nothing_from_outside world h = let inside = h.inside in cc
+
+-- WorldSteps
+its_entry_is_in_no_content_yet : one_inside.content ≡ []
+unfolding node_of side_of
+its_entry_is_in_no_content_yet = refl
+
+one_that_leaves_writes_its_copy : (world : World ℕ) → WorldSteps 1 0 one_inside world → world.content ≡ (0, 7) ∷ []
+unfolding node_of side_of
+one_that_leaves_writes_its_copy world h = h.content
+
+another_that_steps_writes_nothing : (world : World ℕ) → WorldSteps 1 1 one_inside world → world.content ≡ []
+unfolding node_of side_of
+another_that_steps_writes_nothing world h = h.content
+
+-- Happens
+an_entry_of_one_inside : Happens 1 any_entry (Appends 0 9) one_inside (appended 0 9 one_inside)
+an_entry_of_one_inside = to_its_copy
+
+-- Runs
+no_event_no_change : (world : World ℕ) → Runs 1 any_entry one_inside [] world → world ≡ one_inside
+no_event_no_change world h = h
+
+-- any_entry
+whatever_came_before : any_entry {X = ℕ} ((0, 7) ∷ []) (1, 8)
+whatever_came_before = tt
+
+-- SomeoneGoesOnIn
+one_inside_goes_on : SomeoneGoesOnIn 1 one_inside
+unfolding node_of side_of
+one_inside_goes_on = record {
+  place = 0;
+  busy = λ e. cc;
+  after = follows 1 (Steps 0) one_inside;
+  step = happens 1 any_entry (Steps 0) one_inside (omega arith);
+  goes_on = λ e. cc;
+}
+
+nobody_at_the_start : ¬ SomeoneGoesOnIn 1 (opening_world {X = ℕ})
+nobody_at_the_start h = h.busy refl
+
 -- IsReached
 both_make_an_entry : (world : World ℕ) × IsReached 1 any_entry one_after_the_other world × (world.content ≡ (0, 7) ∷ (1, 8) ∷ [])
 unfolding node_of side_of
 both_make_an_entry = (
   follow 1 one_after_the_other opening_world,
-  runs 1 one_after_the_other opening_world (omega arith, (omega arith, (omega arith, (omega arith, (refl, (omega arith, (omega arith, (omega arith, (omega arith, (omega arith, (omega arith, (refl, (omega arith, (omega arith, tt)))))))))))))),
+  runs 1 any_entry one_after_the_other opening_world (omega arith, (omega arith, (omega arith, (omega arith, ((refl, tt), (omega arith, (omega arith, (omega arith, (omega arith, (omega arith, (omega arith, ((refl, tt), (omega arith, (omega arith, tt)))))))))))))),
   refl,
 )
 
@@ -275,6 +724,6 @@ both_make_an_entry_where_they_compete : (world : World ℕ) × IsReached 1 any_e
 unfolding node_of side_of
 both_make_an_entry_where_they_compete = (
   follow 1 both_compete opening_world,
-  runs 1 both_compete opening_world (omega arith, (omega arith, (omega arith, (omega arith, (omega arith, (omega arith, (omega arith, (omega arith, (omega arith, (refl, (omega arith, (omega arith, (omega arith, (omega arith, (omega arith, (omega arith, (omega arith, (omega arith, (omega arith, (omega arith, (refl, (omega arith, (omega arith, tt))))))))))))))))))))))),
+  runs 1 any_entry both_compete opening_world (omega arith, (omega arith, (omega arith, (omega arith, (omega arith, (omega arith, (omega arith, (omega arith, (omega arith, ((refl, tt), (omega arith, (omega arith, (omega arith, (omega arith, (omega arith, (omega arith, (omega arith, (omega arith, (omega arith, (omega arith, ((refl, tt), (omega arith, (omega arith, tt))))))))))))))))))))))),
   refl,
 )
