@@ -1,9 +1,12 @@
--- Where the first accesses of a level lead.
-use Rattle.std.proofs.Common.{◌≡◌, ℕ, ◌+◌, ◌-◌, ◌==◌, nat_lt, Bool, true, false, if◌then◌else◌, ap, ◌∙◌, subst, ⊎_elim}
+-- Where the first accesses of a level lead, and which places a process wakes.
+use Rattle.std.proofs.Common.{◌≡◌, ℕ, ◌+◌, ◌-◌, ◌^◌, ◌<◌, ◌==◌, nat_lt, Bool, true, false, if◌then◌else◌, ap, ◌∙◌, subst, ⊎_elim}
 use Rattle.ya_core.specs.declared.process.Process.{Process}
-use Rattle.ya_core.specs.declared.process.Process.TheVariants.{Idle, Entering, Inside}
-use Rattle.ya_core.specs.declared.process.Entry.TheVariants.{E1, E2, E3, E4, E5}
-use Rattle.ya_core.specs.Steps.{won, next_of}
+use Rattle.ya_core.specs.declared.process.Process.TheVariants.{Idle, Entering, Inside, Leaving}
+use Rattle.ya_core.specs.declared.process.Entry.TheVariants.{E1, E2, E3, E4, E5, E7}
+use Rattle.ya_core.specs.declared.process.Exit.TheVariants.{X3}
+use Rattle.ya_core.specs.Steps.{won, access_of, next_of}
+use Rattle.ya_core.specs.Walks.{Walk, IsWalk, AccessIsWithin}
+use Rattle.ya_core.proofs.Promised.{within_access}
 use Rattle.ya_lock.specs.Climbs.{IsAtFoot, IsBelow}
 
 -- one access leads from a process to the other
@@ -37,6 +40,20 @@ from_second levels level q r s one two three four is a b c below =
     let at_four : three ≡ Entering level E4 = (known levels r two (Entering level E3) three at_three b).1 in
     let d = known levels s three (Entering level E4) four at_four c in
     rival_by levels level d.0 four (d.0 == 0) d.1 below
+
+-- the rival that a process is to wake is a place of the tree
+pub woken_in_tree : (w : Walk) (levels level rival : ℕ) → IsWalk w → w.levels ≡ levels
+    → w.process ≡ Entering level (E7 rival) → rival < 2 ^ levels
+woken_in_tree w levels level rival h e is = subst (λ (l : ℕ). rival < 2 ^ l) e
+    (subst (λ (p : Process). AccessIsWithin w.levels (access_of w.levels w.place p)) is
+    (within_access w.levels w.place w.process h.least h.in_tree h.proper)).2
+
+-- and so is the one that it is to let in
+pub let_in_tree : (w : Walk) (levels level rival : ℕ) → IsWalk w → w.levels ≡ levels
+    → w.process ≡ Leaving level (X3 rival) → rival < 2 ^ levels
+let_in_tree w levels level rival h e is = subst (λ (l : ℕ). rival < 2 ^ l) e
+    (subst (λ (p : Process). AccessIsWithin w.levels (access_of w.levels w.place p)) is
+    (within_access w.levels w.place w.process h.least h.in_tree h.proper)).2
 
 -- four accesses from the foot of a level lead to e5 where they don't win it
 pub competes : (levels p q r s : ℕ) (foot one two three four : Process) → IsAtFoot foot → LeadsTo levels p foot one

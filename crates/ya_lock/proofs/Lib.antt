@@ -2,6 +2,7 @@ pub mod Words
 pub mod Frames
 pub mod Steps
 pub mod Makings
+pub mod Rings
 pub mod Joinings
 pub mod Deals
 pub mod Heights

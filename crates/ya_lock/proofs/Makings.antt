@@ -1,5 +1,5 @@
 -- The steps by which `new` makes the passes keep the rule.
-use Rattle.std.proofs.Common.{◌≡◌, ◌≢◌, ℕ, zero, suc, ◌+◌, ◌^◌, ◌<◌, eqb, true, false, cond, List, [], ◌∷◌, ◌++◌}
+use Rattle.std.proofs.Common.{◌≡◌, ◌≢◌, ℕ, zero, suc, ◌+◌, ◌*◌, ◌^◌, ◌<◌, ◌≤◌, eqb, true, false, cond, List, [], ◌∷◌, ◌++◌}
 use Rattle.std.proofs.Common.{length, set, sym, refl, ap, ◌∙◌, subst, arith, slice_index, None, Some, replicate, inl}
 use Rattle.std.proofs.Common.{inr, ⊎_elim, ◌⊎◌, eq-eqb, ne_eqb}
 use Rattle.std.specs.Prelude as std
@@ -16,11 +16,11 @@ use Rattle.ya_core.specs.declared.process.Process.TheVariants.{Idle}
 use Rattle.ya_core.specs.Soundness.{IsSound}
 use Rattle.ya_lock.specs.declared.view.View.{View}
 use Rattle.ya_lock.specs.declared.view.View.TheVariants.{Stranger, Maker, Filler, Dealer, Member, Confirmer, Spent}
-use Rattle.ya_lock.specs.Rule.{making_index, words_in, Picture, Lies, Fits, Obeys, Rule}
+use Rattle.ya_lock.specs.Rule.{making_index, row_length, words_in, Picture, Lies, Fits, Obeys, Rule}
 use Rattle.ya_core.specs.Worlds.{is_inside}
 use Rattle.ya_lock.specs.Moves.{Slots, Begins, Takes, Gives, Ends}
 use Rattle.ya_core.proofs.Promised.{opens as opens_sound}
-use Rattle.ya_lock.proofs.Words.{words_zero, words_beyond}
+use Rattle.ya_lock.proofs.Words.{words_zero, words_behind}
 use Rattle.ya_lock.proofs.Frames.{refits, looks, Sits, sits_still, sits_else, sits_longer, set_at}
 
 -- the view that came last, or one that was there
@@ -64,7 +64,7 @@ module _ {V : Type 0} (since : ℕ → V → V → Type 0) (since_same : (place 
   first_fits s (suc j) view at = absurd (some-ne-none view (sym at))
 
   -- a new table, whose words are 0 and whose slot is empty
-  pub opens : (n : ℕ) → n ≡ making_index levels + 1 → Rule since levels (opening (replicate n 0) (None ∷ []) Stranger)
+  pub opens : (n : ℕ) → n ≡ row_length levels → Rule since levels (opening (replicate n 0) (None ∷ []) Stranger)
   unfolding nothing
   opens n long = (
     nothing,
@@ -97,13 +97,13 @@ module _ {V : Type 0} (since : ℕ → V → V → Type 0) (since_same : (place 
       → Arrives (Rule since levels) slots (making_index levels) (λ _. 1) (λ found me. Begins found me)
   begins_at slots s rule wide small =
       let x : Picture V = rule.0 in let o = rule.1 in let m : ℕ = making_index levels in let n : ℕ = length s.words in
-      let long : n ≡ m + 1 = o.wide in
+      let places : ℕ = 2 ^ levels in let long : n ≡ m + 8 * (1 + places) = o.wide in
       let set_now : slice_index (set s.words m 1) m ≡ 1 = get_or-set_same s.words m 1 0 (omega arith) in
       let begun : slice_index (set s.words m 1) m ≢ 0 = λ e. let one : ◌≡◌ {A = ℕ} 1 0 = sym set_now ∙ e in
       absurd (omega arith) in
       let sound : IsSound levels record { words = words_in levels (set s.words m 1); processes = x.processes } =
       subst (λ (words : Word → ℕ). IsSound levels record { words = words; processes = x.processes })
-      (sym (words_beyond levels s.words 1)) o.sound in
+      (sym (words_behind levels m s.words 1 (let here : m ≤ m = omega arith in here))) o.sound in
       elim (ℕ_discrete (slice_index s.words m) 0) [
         | yes z ↦
             let t : St = record { words = set s.words m 1; homes = s.homes; views = s.views ++ Maker ∷ [] } in

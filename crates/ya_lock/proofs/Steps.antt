@@ -1,5 +1,5 @@
 -- The step that is due to a process keeps the rule, and tells what it tells.
-use Rattle.std.proofs.Common.{◌≡◌, ◌≢◌, ℕ, ◌+◌, ◌^◌, ◌<◌, ◌≤◌, Bool, true, false, List, [], ◌∷◌, length, set, sym, refl}
+use Rattle.std.proofs.Common.{◌≡◌, ◌≢◌, ℕ, ◌+◌, ◌*◌, ◌^◌, ◌<◌, ◌≤◌, Bool, true, false, List, [], ◌∷◌, length, set, sym, refl}
 use Rattle.std.proofs.Common.{ap, ◌∙◌, subst, arith, slice_index, Some}
 use Rattle.std.specs.Prelude as std
 use Rattle.std.proofs.lemmas.List.{length-set, get_or-set_other}
@@ -311,7 +311,7 @@ module _ {V : Type 0} (since done : ℕ → V → V → Type 0) (since_same : (p
       let n : ℕ = left_by (due x place) (slice_index s.words i) in
       let m : ℕ = making_index levels in
       let long : ℕ = length s.words in
-      let wide : long ≡ m + 1 = o.wide in
+      let places : ℕ = 2 ^ levels in let wide : long ≡ m + 8 * (1 + places) = o.wide in
       let j : ℕ = index_of levels (word_of (due x place)) in
       let below : j + 8 ≤ m = index_below levels (word_of (due x place)) word in
       let index' : i ≡ j = index in

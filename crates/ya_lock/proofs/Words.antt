@@ -11,7 +11,7 @@ use Rattle.std.proofs.lemmas.List.{get_or-replicate, length-replicate, set-get_o
 use Rattle.ya_core.specs.declared.word.Word.{Word}
 use Rattle.ya_core.specs.Tree.{IsWord, number_of, count_of_words}
 use Rattle.ya_core.specs.FlatRow.{is_word}
-use Rattle.ya_lock.specs.Rule.{index_of, making_index, words_in}
+use Rattle.ya_lock.specs.Rule.{index_of, making_index, bell_index, row_length, words_in}
 use Rattle.ya_core.proofs.Promised.{is_word_true, word_is}
 
 -- the words of the tree lie before the making word, a cache line each
@@ -76,19 +76,19 @@ pub words_zero : (levels n : ℕ) → words_in levels (replicate n 0) ≡ (λ w.
 words_zero levels n = λ i w. zeros_by levels n w (is_word levels w) refl i
 
 -- by whether it is a word of the tree
-beyond_by : (levels : ℕ) (row : List ℕ) (n : ℕ) (w : Word) (b : Bool) → is_word levels w ≡ b
-    → words_in levels (set row (making_index levels) n) w ≡ words_in levels row w
+behind_by : (levels i : ℕ) (row : List ℕ) (n : ℕ) (w : Word) (b : Bool) → making_index levels ≤ i → is_word levels w ≡ b
+    → words_in levels (set row i n) w ≡ words_in levels row w
 unfolding words_in
-beyond_by levels row n w true is =
-    let i : ℕ = index_of levels w in let m : ℕ = making_index levels in let l : i + 8 ≤ m =
+behind_by levels i row n w true behind is =
+    let j : ℕ = index_of levels w in let m : ℕ = making_index levels in let l : j + 8 ≤ m =
     index_below levels w (word_is levels w is) in
-    rw is (get_or-set_other row m i n 0 (λ e. omega arith))
-beyond_by levels row n w false is = rw is refl
+    rw is (get_or-set_other row i j n 0 (λ e. omega arith))
+behind_by levels i row n w false behind is = rw is refl
 
--- the making word is no word of the tree
-pub words_beyond : (levels : ℕ) (row : List ℕ) (n : ℕ)
-    → words_in levels (set row (making_index levels) n) ≡ words_in levels row
-words_beyond levels row n = λ i w. beyond_by levels row n w (is_word levels w) refl i
+-- the making word and the bells are no words of the tree
+pub words_behind : (levels i : ℕ) (row : List ℕ) (n : ℕ) → making_index levels ≤ i
+    → words_in levels (set row i n) ≡ words_in levels row
+words_behind levels i row n behind = λ k w. behind_by levels i row n w (is_word levels w) behind refl k
 
 -- the row is short
 pub making_small : (levels : ℕ) → levels ≤ 6 → making_index levels ≤ 4584
@@ -107,24 +107,38 @@ pub index_is : (levels : ℕ) (w : Word) → 8 * number_of levels w ≡ index_of
 unfolding index_of
 index_is levels w = refl
 
--- a higher tree has more words
-less_making : (a b : ℕ) → a < b → making_index a < making_index b
+-- where a bell lies
+pub bell_is : (levels place : ℕ) → 8 * (count_of_words levels + 1 + place) ≡ bell_index levels place
+unfolding making_index bell_index
+bell_is levels place = omega arith
+
+-- the bells lie behind the making word, in the row
+pub bell_behind : (levels place : ℕ) → making_index levels < bell_index levels place
+unfolding bell_index
+bell_behind levels place = omega arith
+
+pub bell_within : (levels place : ℕ) → place < 2 ^ levels → bell_index levels place < row_length levels
+unfolding bell_index
+bell_within levels place h = let places : ℕ = 2 ^ levels in let below : place < places = h in omega arith
+
+-- the row of a higher tree is longer
+longer_row : (a b : ℕ) → a < b → row_length a < row_length b
 unfolding making_index count_of_words
-less_making a b h =
+longer_row a b h =
     let x : ℕ = 2 ^ a in let y : ℕ = 2 ^ b in let less : x < y = pow-lt h in let some : 1 ≤ x = pow_pos a in
     let wide : a * x ≤ b * x = mul-le-mul_right x (let le : a ≤ b = omega arith in le) in let high : b * x ≤ b * y =
     mul-le-mul_left b (let le : x ≤ y = omega arith in le) in omega arith
 
 -- by which of the two is higher
-same_by : (a b : ℕ) → making_index a ≡ making_index b → Dec (a < b) → Dec (b < a) → a ≡ b
+same_by : (a b : ℕ) → row_length a ≡ row_length b → Dec (a < b) → Dec (b < a) → a ≡ b
 same_by a b e (yes h) d =
-    let m : ℕ = making_index a in let n : ℕ = making_index b in let less : m < n = less_making a b h in let is : m ≡ n =
-    e in absurd (omega arith)
+    let m : ℕ = row_length a in let n : ℕ = row_length b in let less : m < n = longer_row a b h in let is : m ≡ n = e in
+    absurd (omega arith)
 same_by a b e (no h) (yes k) =
-    let m : ℕ = making_index a in let n : ℕ = making_index b in let less : n < m = less_making b a k in let is : m ≡ n =
-    e in absurd (omega arith)
+    let m : ℕ = row_length a in let n : ℕ = row_length b in let less : n < m = longer_row b a k in let is : m ≡ n = e in
+    absurd (omega arith)
 same_by a b e (no h) (no k) = omega arith
 
--- trees of as many words are of one height
-pub same_height : (a b : ℕ) → making_index a ≡ making_index b → a ≡ b
+-- trees whose rows are of one length are of one height
+pub same_height : (a b : ℕ) → row_length a ≡ row_length b → a ≡ b
 same_height a b e = same_by a b e (dec_lt a b) (dec_lt b a)

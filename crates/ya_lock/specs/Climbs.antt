@@ -42,3 +42,7 @@ abbrev pub HasPassed : ℕ → Process → Process → Type 0
 HasPassed levels (Entering level E8) after = after ≡ Entering level E9
 HasPassed levels (Entering level E10) after = after ≡ won levels level
 HasPassed levels _ after = ⊥
+
+-- one look at its spin word: it still waits, or its wait is over
+abbrev pub HasLooked : ℕ → Process → Process → Type 0
+HasLooked levels before after = (after ≡ before) ⊎ HasPassed levels before after

@@ -9,7 +9,7 @@ use Rattle.ya_core.specs.declared.process.Process.TheVariants.{Idle, Entering, I
 use Rattle.ya_core.specs.Walks.{Walk}
 use Rattle.ya_lock.specs.declared.view.View.{View}
 use Rattle.ya_lock.specs.declared.view.View.TheVariants.{Member}
-use Rattle.ya_lock.specs.Rule.{making_index}
+use Rattle.ya_lock.specs.Rule.{row_length}
 
 -- which lock it is: that of no other lock is the same
 abbrev pub LockId : Type 0
@@ -48,9 +48,9 @@ pub record IsDealt {V : Type 0} (lock : LockId) (levels : ℕ) (value : V) (pass
   pub count : length passes ≡ 2 ^ levels
   pub each : (place : ℕ) → place < 2 ^ levels → slice_get passes place ≡ Some (new_pass lock place value)
 
--- the table has the words of a tree of this many levels, and the making word
+-- the table has the words of a tree of this many levels, the making word, and the bells
 abbrev pub HasTree : LockId → ℕ → Type 0
-HasTree lock levels = lock.words ≡ making_index levels + 1
+HasTree lock levels = lock.words ≡ row_length levels
 
 -- the place is one of the tree's
 pub record HasPlace (lock : LockId) (place : ℕ) : Type 0 where

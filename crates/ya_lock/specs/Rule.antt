@@ -23,6 +23,14 @@ index_of levels word = 8 * number_of levels word
 unfoldable pub making_index : ℕ → ℕ
 making_index levels = 8 * count_of_words levels
 
+-- where the bell of a place lies, behind the making word, a cache line apart as well
+unfoldable pub bell_index : ℕ → ℕ → ℕ
+bell_index levels place = making_index levels + 8 * (1 + place)
+
+-- how many words the row has: those of the tree, the making word, and a bell for each place
+abbrev pub row_length : ℕ → ℕ
+row_length levels = making_index levels + 8 * (1 + 2 ^ levels)
+
 -- what the words of the tree hold
 unfoldable pub words_in : ℕ → List ℕ → Word → ℕ
 words_in levels row word = if is_word levels word then slice_index row (index_of levels word) else 0
@@ -78,7 +86,7 @@ module _ {V : Type 0} (since : ℕ → V → V → Type 0) where
     -- the picture is what the words, the value and the views show
     pub record Obeys : Type 0 where
       -- making: while the making word is 0 the slot is empty, and before the value was given no seat has a process
-      pub wide : length s.words ≡ making_index levels + 1
+      pub wide : length s.words ≡ row_length levels
       pub unmade : slice_index s.words (making_index levels) ≡ 0 → (x.content ≡ none) × (s.homes ≡ some None ∷ [])
       pub before : x.content ≡ none → (place : ℕ) → x.seat_of place ≡ none
       -- lock: the seat of a place has its process, a place without a seat is idle, and the invariant of the core holds

@@ -23,6 +23,7 @@
 //! contracts say, and the rule that ties each access to a step of the core, stand in `docs/LOCK.md`.
 #![tactic(auto)]
 
+mod bell;
 mod guard;
 mod kept;
 pub mod laws;

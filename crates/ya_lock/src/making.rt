@@ -8,7 +8,7 @@ use crate::kept::Kept;
 use crate::pass::Pass;
 use crate::plays::{Begin, Deal, End};
 use crate::recall::Recall;
-use crate::rule::{LockSeat, LockTable};
+use crate::rule::{LockSeat, LockTable, SPACING};
 use crate::tree_lock::TreeLock;
 use atomic_table::Table;
 use std::alloc::Global;
@@ -28,7 +28,7 @@ impl<V: Kept + Drop, const L: u32> TreeLock<V, L> {
     }
 
     /// A table whose words are 0 and whose slot is empty, with the seat that is to make the passes. The making word
-    /// lies at `making`.
+    /// lies at `making`, and behind it the bells.
     pub(crate) fn begun(
         alloc: Global,
         making: usize,
@@ -40,7 +40,8 @@ impl<V: Kept + Drop, const L: u32> TreeLock<V, L> {
         ensures lock { IfOk result (λ made. made.1.table_id ≡ made.0.shared.table_id) }
         ensures maker { IfOk result (λ made. made.1.me ≡ (Maker, [])) }
     {
-        let Ok(words) = Vec::from_elem(alloc, 0u64, making + 1) else {
+        let bells = Self::shape().places();
+        let Ok(words) = Vec::from_elem(alloc, 0u64, making + SPACING * (1 + bells)) else {
             return Err(NoMemory);
         };
         let Ok((table, _stranger)) = Table::vacant(alloc, words.as_slice(), 1, &L) else {

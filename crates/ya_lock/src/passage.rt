@@ -7,9 +7,10 @@ ghost use Rattle.ya_core.specs.Walks.{IsWalk, op_of, walk_after, MovesOn, budget
 ghost use Rattle.ya_core.specs.Worlds.{is_inside};
 ghost use Rattle.ya_lock.specs.declared.view.View.TheVariants.{Member};
 ghost use Rattle.ya_lock.specs.Moves.{HasMade, IsReady, Goes};
-ghost use Rattle.ya_lock.specs.Climbs.{HasClimbed, HasPassed, IsBelow, climb_points};
+ghost use Rattle.ya_lock.specs.Climbs.{HasClimbed, HasPassed, HasLooked, IsBelow, climb_points};
 ghost use Rattle.ya_lock.specs.Lock.{HasEntered, IsComing, IsGoing};
 
+use crate::bell::PATIENCE;
 use crate::kept::Kept;
 use crate::plays::Go;
 use crate::recall::Recall;
@@ -26,6 +27,17 @@ pub enum Climb {
     Level(u32, u64),
     /// Inside.
     Inside(u64),
+}
+
+/// Whether the process waits: it loads its own spin word until a rival has stored in it.
+#[inline(always)]
+pub(crate) fn waits(walker: &Walker) -> bool
+    ensures { result ≡ is_waiting walker.now.process }
+{
+    matches!(
+        walker.process(),
+        Process::Entering(_, Entry::E8 | Entry::E10)
+    )
 }
 
 impl<V: Kept + Drop, const L: u32> TreeLock<V, L> {
@@ -97,8 +109,9 @@ impl<V: Kept + Drop, const L: u32> TreeLock<V, L> {
             return climb;
         }
         self.come(seat, &mut walker, seen);
-        if let Process::Entering(_, Entry::E7(_)) = walker.process() {
+        if let Process::Entering(_, Entry::E7(rival)) = walker.process() {
             self.come(seat, &mut walker, seen);
+            self.ring(seat, rival);
         }
         let waited = self.spin(rt, seat, place, walker, seen);
         let Process::Entering(level, Entry::E9) = waited.process() else {
@@ -139,28 +152,59 @@ impl<V: Kept + Drop, const L: u32> TreeLock<V, L> {
         ensures passed { HasPassed L walker.process result.process }
     {
         let mut walker = walker;
+        let mut patience = PATIENCE;
         let backoff = Backoff::new();
         for _ in rt.forever() {
-            let remote = walker.remote();
-            match walker.process() {
-                Process::Entering(level, Entry::E8) => {
-                    walker = Walker::entering(Self::shape(), place, level, Entry::E8, remote);
-                    self.come(seat, &mut walker, seen);
+            walker = self.look(seat, place, walker, seen);
+            if waits(&walker) {
+                if patience == 0 {
+                    walker = self.sleep(rt, seat, place, walker, seen);
+                } else {
+                    patience -= 1;
+                    backoff.snooze();
                 }
-                Process::Entering(level, Entry::E10) => {
-                    walker = Walker::entering(Self::shape(), place, level, Entry::E10, remote);
-                    self.come(seat, &mut walker, seen);
-                }
-                _ => return walker,
             }
-            if matches!(
-                walker.process(),
-                Process::Entering(_, Entry::E8 | Entry::E10)
-            ) {
-                backoff.snooze();
+            if !waits(&walker) {
+                return walker;
             }
         }
         unreachable!()
+    }
+
+    /// Loads the spin word once: its process has gone on, or stands where it stood.
+    #[inline(always)]
+    pub(crate) fn look(
+        &self,
+        seat: &mut LockSeat<V>,
+        place: usize,
+        walker: Walker,
+        seen: &Recall<V>,
+    ) -> Walker
+        requires lock { seat.old.table_id ≡ self.now }
+        requires levels { walker.levels ≡ L }
+        requires place { walker.place ≡ place }
+        requires coming { IsComing V.since seen.now.value walker seat.old.me }
+        requires waits { is_waiting walker.process ≡ true }
+        ensures lock { seat.new.table_id ≡ seat.old.table_id }
+        ensures levels { result.levels ≡ L }
+        ensures place { result.place ≡ place }
+        ensures coming { IsComing V.since seen.now.value result seat.new.me }
+        ensures looked { HasLooked L walker.process result.process }
+    {
+        let remote = walker.remote();
+        match walker.process() {
+            Process::Entering(level, Entry::E8) => {
+                let mut walker = Walker::entering(Self::shape(), place, level, Entry::E8, remote);
+                self.come(seat, &mut walker, seen);
+                walker
+            }
+            Process::Entering(level, Entry::E10) => {
+                let mut walker = Walker::entering(Self::shape(), place, level, Entry::E10, remote);
+                self.come(seat, &mut walker, seen);
+                walker
+            }
+            _ => unreachable!(),
+        }
     }
 
     /// What the walker has climbed, where it is at the first access of a level or inside.
@@ -194,8 +238,9 @@ impl<V: Kept + Drop, const L: u32> TreeLock<V, L> {
     {
         loop {
             self.go(seat, &mut walker, seen);
-            if let Process::Leaving(_, Exit::X3(_)) = walker.process() {
+            if let Process::Leaving(_, Exit::X3(rival)) = walker.process() {
                 self.go(seat, &mut walker, seen);
+                self.ring(seat, rival);
             }
             if let Process::Idle = walker.process() {
                 return walker.remote();

@@ -1,4 +1,5 @@
 //! What each step of a seat tells its thread. These types are for the proofs alone.
+ghost use Rattle.std.specs.Prelude.{◌≡◌};
 ghost use Rattle.ya_lock.specs.declared.view.View.TheVariants.{Spent};
 ghost use Rattle.ya_lock.specs.Moves.{Begins, Takes, Gives, Ends, dealt, kept, joined, Goes, Learns};
 
@@ -48,6 +49,13 @@ pub struct Go<const L: u32>;
 
 impl<V: Kept, const L: u32> Play<Option<V>, View<V>> for Go<L> {
     ghost then = { λ step before found after. Goes V.since L found before.0 before.1 after };
+}
+
+/// The store in a bell, by which nobody learns anything.
+pub struct Ring;
+
+impl<V> Play<Option<V>, View<V>> for Ring {
+    ghost then = { λ step before found after. after ≡ before };
 }
 
 /// The load by which a process inside takes in an idle one.

@@ -3,8 +3,8 @@ use Rattle.ya_core.specs.Walks.{budget, points_ahead}
 use Rattle.ya_lock.specs.Lock.{IsGoing}
 use Rattle.ya_lock.proofs.tree_lock.TreeLock.go_out.Given as goal
 
-abbrev pub invariant-loop-seat : goal.invariant-loop-seat
-invariant-loop-seat g l = record {
+abbrev pub invariant-loop-rival : goal.invariant-loop-rival
+invariant-loop-rival g l = record {
   lock : l.seat.table_id ≡ l.self;
   levels : l.walker.levels ≡ g.row.L;
   place : l.walker.place ≡ l.initial.walker.place;
@@ -13,5 +13,5 @@ invariant-loop-seat g l = record {
   most : l.walker.remote + budget l.walker ≤ l.initial.walker.remote + budget l.initial.walker;
 }
 
-abbrev pub decreases-loop-seat : goal.decreases-loop-seat
-decreases-loop-seat g l = points_ahead l.walker
+abbrev pub decreases-loop-rival : goal.decreases-loop-rival
+decreases-loop-rival g l = points_ahead l.walker

@@ -1,5 +1,4 @@
-use Rattle.std.proofs.Common.{◌≡◌, ◌⊎◌}
-use Rattle.ya_lock.specs.Climbs.{HasPassed}
+use Rattle.std.proofs.Common.{◌≡◌}
 use Rattle.ya_lock.specs.Lock.{IsComing}
 use Rattle.ya_lock.proofs.tree_lock.TreeLock.spin.Given as goal
 
@@ -9,6 +8,5 @@ invariant-loop g l = record {
   levels : l.walker.levels ≡ g.row.L;
   place : l.walker.place ≡ l.place;
   coming : IsComing g.V.Kept.since l.seen.value l.walker l.seat.me;
-  waits : (l.walker.process ≡ l.initial.walker.process)
-      ⊎ HasPassed g.row.L l.initial.walker.process l.walker.process;
+  still : l.walker.process ≡ l.initial.walker.process;
 }

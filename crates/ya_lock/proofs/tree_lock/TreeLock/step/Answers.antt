@@ -1,11 +1,11 @@
-use Rattle.std.proofs.Common.{arith, ◌≡◌, ℕ, ◌+◌, ◌*◌, ◌≤◌, sym, ap, ◌∙◌, subst, Option}
+use Rattle.std.proofs.Common.{arith, ◌≡◌, ℕ, ◌+◌, ◌*◌, ◌^◌, ◌≤◌, sym, ap, ◌∙◌, subst, Option}
 use Rattle.atomic_table.specs.Table.{Me, Allows}
 use Rattle.ya_core.specs.declared.word.Access.TheVariants.{Load, Store}
 use Rattle.ya_core.specs.Tree.{IsWord}
 use Rattle.ya_core.specs.Walks.{AccessIsWithin}
 use Rattle.ya_core.proofs.Promised.{within_access}
 use Rattle.ya_lock.specs.declared.view.View.{View}
-use Rattle.ya_lock.specs.Rule.{index_of, making_index, Rule}
+use Rattle.ya_lock.specs.Rule.{index_of, making_index, row_length, Rule}
 use Rattle.ya_lock.specs.Moves.{Goes}
 use Rattle.ya_lock.proofs.Words.{making_small, index_below, index_is}
 use Rattle.ya_lock.proofs.Steps.{counted, allows}
@@ -34,8 +34,9 @@ load-value-requires g c =
     let index : i ≡ index_of w.levels a.0 = ap (λ (k : ℕ). 8 * k) a.2 ∙ index_is w.levels a.0 in
     let m : ℕ = making_index w.levels in let j : ℕ = index_of w.levels a.0 in let below : j + 8 ≤ m =
     index_below w.levels a.0 word in let index' : i ≡ j = index in
-    let wide : c.self.inside.table.shared.table_id.words ≡ m + 1 =
-    own.words ∙ ap (λ (l : ℕ). making_index l + 1) (sym same) in
+    let places : ℕ = 2 ^ w.levels in
+    let wide : c.self.inside.table.shared.table_id.words ≡ m + 8 * (1 + places) =
+    own.words ∙ ap row_length (sym same) in
     let id : ℕ = c.args.seat.now.id in let slots : ℕ = c.self.inside.table.shared.table_id.slots in
     let me : Me (Option g.row.V.Denot) (View g.row.V.Denot) = c.args.seat.now.me in
     let made = counted w.place c.requires.ready.0 w.process w.remote me.0 c.requires.ready.1 in
@@ -72,8 +73,9 @@ store-requires g c =
     let index : i ≡ index_of w.levels a.0 = ap (λ (k : ℕ). 8 * k) a.2 ∙ index_is w.levels a.0 in
     let m : ℕ = making_index w.levels in let j : ℕ = index_of w.levels a.0 in let below : j + 8 ≤ m =
     index_below w.levels a.0 word in let index' : i ≡ j = index in
-    let wide : c.self.inside.table.shared.table_id.words ≡ m + 1 =
-    own.words ∙ ap (λ (l : ℕ). making_index l + 1) (sym same) in
+    let places : ℕ = 2 ^ w.levels in
+    let wide : c.self.inside.table.shared.table_id.words ≡ m + 8 * (1 + places) =
+    own.words ∙ ap row_length (sym same) in
     let id : ℕ = c.args.seat.now.id in let slots : ℕ = c.self.inside.table.shared.table_id.slots in
     let me : Me (Option g.row.V.Denot) (View g.row.V.Denot) = c.args.seat.now.me in
     let made = counted w.place c.requires.ready.0 w.process w.remote me.0 c.requires.ready.1 in
