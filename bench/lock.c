@@ -1,16 +1,23 @@
-// The lock's algorithm in plain C: the same words, steps and order, each access sequentially consistent, and the same
-// backing off between two loads of a spin word. Its arguments are the passages in all, the levels and the threads; it times
+// The lock's algorithm in plain C: the same words, steps and order, each access sequentially consistent, the same backing off
+// between two loads of a spin word, and the same bells, by which places sleep that wait for long. Its arguments are the passages in all, the levels and the threads; it times
 // them as the lock's benchmark does, in one line on standard error.
+#define _GNU_SOURCE
+#include <linux/futex.h>
 #include <pthread.h>
 #include <sched.h>
 #include <stdatomic.h>
 #include <stdint.h>
 #include <stdio.h>
 #include <stdlib.h>
+#include <sys/syscall.h>
 #include <time.h>
+#include <unistd.h>
 
 #ifndef SPACING
 #define SPACING 8
+#endif
+#ifndef PATIENCE
+#define PATIENCE 37
 #endif
 
 typedef _Atomic uint64_t word;
@@ -32,14 +39,42 @@ static word *t_word(struct tree *t, int h, uint64_t node) { return at(t, 2 * (t-
 
 static word *p_word(struct tree *t, int h, uint64_t place) { return at(t, 3 * (t->places - 1) + (h - 1) * t->places + place); }
 
+// A place's bell lies behind the tree and the making word of the lock, which this one has no use for.
+static word *bell_word(struct tree *t, uint64_t place) { return at(t, 3 * (t->places - 1) + t->levels * t->places + 1 + place); }
+
 // As crossbeam's Backoff: it spins for a while, twice as long each time, and then yields.
-static void snooze(unsigned *step) {
-    if (*step <= 6) {
-        for (unsigned i = 0; i < 1u << *step; i++) __builtin_ia32_pause();
+static void snooze(unsigned step) {
+    if (step <= 6) {
+        for (unsigned i = 0; i < 1u << step; i++) __builtin_ia32_pause();
     } else {
         sched_yield();
     }
-    if (*step <= 10) ++*step;
+}
+
+// Waits until the spin word is at least so much: for a while by looking again and again, and then asleep.
+static void wait_for(struct tree *t, uint64_t place, word *spin, uint64_t least) {
+    word *bell = bell_word(t, place);
+    for (unsigned step = 0; atomic_load(spin) < least; step++) {
+        if (step < PATIENCE) {
+            snooze(step);
+            continue;
+        }
+        atomic_store(bell, 1);
+        if (atomic_load(spin) < least) {
+            syscall(SYS_futex, bell, FUTEX_WAIT_PRIVATE, 1, 0, 0, 0);
+        } else {
+            atomic_store(bell, 0);
+        }
+    }
+}
+
+// Wakes a place that sleeps, once its spin word was stored in.
+static void ring(struct tree *t, uint64_t place) {
+    word *bell = bell_word(t, place);
+    if (atomic_load(bell) == 1) {
+        atomic_store(bell, 0);
+        syscall(SYS_futex, bell, FUTEX_WAKE_PRIVATE, 1, 0, 0, 0);
+    }
 }
 
 static void enter_level(struct tree *t, int h, uint64_t p) {
@@ -51,19 +86,23 @@ static void enter_level(struct tree *t, int h, uint64_t p) {
     uint64_t r = atomic_load(c_word(t, h, node, 1 - side));
     if (r == 0 || atomic_load(turn) != u) return;
     word *other = p_word(t, h, r - 1);
-    if (atomic_load(other) == 0) atomic_store(other, 1);
-    unsigned step = 0;
-    while (atomic_load(mine) < 1) snooze(&step);
+    if (atomic_load(other) == 0) {
+        atomic_store(other, 1);
+        ring(t, r - 1);
+    }
+    wait_for(t, p, mine, 1);
     if (atomic_load(turn) != u) return;
-    step = 0;
-    while (atomic_load(mine) != 2) snooze(&step);
+    wait_for(t, p, mine, 2);
 }
 
 static void leave_level(struct tree *t, int h, uint64_t p) {
     uint64_t u = p + 1, node = p >> h, side = (p >> (h - 1)) & 1;
     atomic_store(c_word(t, h, node, side), 0);
     uint64_t r = atomic_load(t_word(t, h, node));
-    if (r != u) atomic_store(p_word(t, h, r - 1), 2);
+    if (r != u) {
+        atomic_store(p_word(t, h, r - 1), 2);
+        ring(t, r - 1);
+    }
 }
 
 struct job {
@@ -84,7 +123,7 @@ static void *run(void *arg) {
 
 static void times(int levels, unsigned threads, uint64_t passages) {
     struct tree t = {.levels = levels, .places = 1ull << levels};
-    uint64_t words = 3 * (t.places - 1) + levels * t.places;
+    uint64_t words = 3 * (t.places - 1) + levels * t.places + 1 + t.places;
     t.words = aligned_alloc(64, (words * SPACING + 8) / 8 * 64);
     for (uint64_t i = 0; i < words * SPACING; i++) atomic_init(&t.words[i], 0);
     pthread_t id[64];

@@ -1,13 +1,15 @@
-//! Locks at work: values that go in and come out, threads that count, and passes that are confirmed.
+//! Locks at work: values that go in and come out, threads that count and that sleep, and passes that are confirmed.
 ghost use Rattle.std.specs.Prelude.{◌≡◌, ◌≢◌, ℕ, ◌+◌, ◌^◌, ◌<◌, ◌≤◌, [], ◌∷◌, ◌++◌, length, vec_len, IfOk, All};
 ghost use Rattle.ya_lock.specs.Marking.{Grows, Adds, grows_same, adds_same, grows_by_other};
 
 use crate::{Kept, NoMemory, Pass, TreeLock};
 use std::alloc::Global;
+use std::rt::{Clock, CpuClock};
 use std::sync::Wait;
 use std::test::Fail;
-use std::thread;
 use std::thread::Threads;
+use std::time::Duration;
+use std::{hint, thread};
 
 /// A number that any place may change in any way.
 #[derive(Debug, Drop, PartialEq)]
@@ -78,19 +80,45 @@ fn made<V: Kept + Drop, const L: u32>(
     }
 }
 
+// What a place does inside before it makes its mark.
+#[derive(Clone, Copy)]
+enum Hold {
+    Nothing,
+    // It spins, longer each time and then shortly again: all others come to sleep, or almost do.
+    Spins,
+    // It sleeps, and so do all others.
+    Sleeps,
+}
+
+impl Hold {
+    fn keep<R: Clock>(self, rt: &R, round: usize) {
+        match self {
+            Hold::Nothing => {}
+            Hold::Spins => {
+                for _ in 0..round % 512 {
+                    hint::spin_loop();
+                }
+            }
+            Hold::Sleeps => thread::sleep(rt, Duration::from_micros(200)),
+        }
+    }
+}
+
 // Enters as often as that, and makes a mark each time.
-fn mark<R: Wait, const L: u32>(
+fn mark<R: Wait + Clock, const L: u32>(
     rt: &R,
     lock: &TreeLock<Marks, L>,
     pass: Pass<Marks>,
     times: usize,
+    hold: Hold,
 ) -> Pass<Marks>
     requires { pass.lock ≡ lock.now }
     ensures { result.lock ≡ lock.now }
 {
     let mut pass = pass;
-    for _ in 0..times {
+    for round in 0..times {
         let mut guard = lock.enter(rt, pass);
+        hold.keep(rt, round);
         let place = guard.place();
         guard.get_mut().add(place);
         pass = lock.leave(guard);
@@ -142,30 +170,37 @@ fn settle<R: Wait, const L: u32>(
 }
 
 // The marks of two threads, which make so many each.
-fn by_two<R: Threads + Wait + Sync>(rt: &R, alloc: Global, times: usize) -> Result<Marks, Fail> {
+fn by_two<R: Threads + Wait + Clock + Sync>(
+    rt: &R,
+    alloc: Global,
+    times: usize,
+) -> Result<Marks, Fail> {
     let (lock, mut passes) = made::<Marks, 1>(alloc, Marks::new(alloc))?;
     let second = passes.pop().ok_or("a second pass")?;
     let first = passes.pop().ok_or("a first pass")?;
     let shared = &lock;
     let (first, second) = thread::join(
         rt,
-        move || mark(rt, shared, first, times),
-        move || mark(rt, shared, second, times),
+        move || mark(rt, shared, first, times, Hold::Nothing),
+        move || mark(rt, shared, second, times, Hold::Nothing),
     );
     let guard = lock.enter(rt, first);
     let guard = lock.confirm(guard, second);
     Ok(lock.close(guard))
 }
 
-// The marks of a thread for each place, which make so many each.
-fn by_all<R: Threads + Wait + Sync, const L: u32>(
+// The marks of so many threads, or of one for each place where those are fewer, which make so many each.
+fn by_all<R: Threads + Wait + Clock + Sync, const L: u32>(
     rt: &R,
     alloc: Global,
+    threads: usize,
     times: usize,
+    hold: Hold,
 ) -> Result<Marks, Fail>
     requires { (1 ≤ L) × (L ≤ 6) }
 {
-    let (lock, passes) = made::<Marks, L>(alloc, Marks::new(alloc))?;
+    let (lock, mut passes) = made::<Marks, L>(alloc, Marks::new(alloc))?;
+    passes.truncate(threads);
     let shared = &lock;
     let passes = thread::map_vec(
         rt,
@@ -173,7 +208,7 @@ fn by_all<R: Threads + Wait + Sync, const L: u32>(
         &|pass: Pass<Marks>| -> Pass<Marks>
             requires { pass.lock ≡ shared.now }
             ensures { result.lock ≡ shared.entry.now }
-        { mark(rt, shared, pass, times) },
+        { mark(rt, shared, pass, times, hold) },
     )?;
     let (_, marks) = settle(rt, lock, passes).ok_or("a pass")?;
     Ok(marks)
@@ -187,28 +222,109 @@ fn two_threads_count(rt: HostRuntime) -> Result<(), Fail> {
     Ok(())
 }
 
-// Whether a thread for each place makes so many marks, none of them lost.
-fn all_are_counted<R: Threads + Wait + Sync, const L: u32>(
+// Whether so many threads, or one for each place where those are fewer, make so many marks each, none of them lost.
+fn all_are_counted<R: Threads + Wait + Clock + Sync, const L: u32>(
     rt: &R,
     alloc: Global,
+    threads: usize,
     times: usize,
+    hold: Hold,
 ) -> Result<bool, Fail>
     requires { (1 ≤ L) × (L ≤ 6) }
 {
-    let marks = by_all::<_, L>(rt, alloc, times)?;
-    let places = 1usize << L;
+    let marks = by_all::<_, L>(rt, alloc, threads, times, hold)?;
+    let places = threads.min(1usize << L);
     let each = (0..places).all(|place| marks.count(place) == times);
     Ok(each && marks.places.len() == places.wrapping_mul(times))
 }
 
 #[test]
 fn a_thread_for_each_place_counts(rt: HostRuntime) -> Result<(), Fail> {
-    assert!(rt; all_are_counted::<_, 1>(&rt, rt.alloc(), 500)?);
-    assert!(rt; all_are_counted::<_, 2>(&rt, rt.alloc(), 300)?);
-    assert!(rt; all_are_counted::<_, 3>(&rt, rt.alloc(), 200)?);
-    assert!(rt; all_are_counted::<_, 4>(&rt, rt.alloc(), 100)?);
-    assert!(rt; all_are_counted::<_, 5>(&rt, rt.alloc(), 50)?);
-    assert!(rt; all_are_counted::<_, 6>(&rt, rt.alloc(), 25)?);
+    assert!(rt; all_are_counted::<_, 1>(&rt, rt.alloc(), 64, 500, Hold::Nothing)?);
+    assert!(rt; all_are_counted::<_, 2>(&rt, rt.alloc(), 64, 300, Hold::Nothing)?);
+    assert!(rt; all_are_counted::<_, 3>(&rt, rt.alloc(), 64, 200, Hold::Nothing)?);
+    assert!(rt; all_are_counted::<_, 4>(&rt, rt.alloc(), 64, 100, Hold::Nothing)?);
+    assert!(rt; all_are_counted::<_, 5>(&rt, rt.alloc(), 64, 50, Hold::Nothing)?);
+    assert!(rt; all_are_counted::<_, 6>(&rt, rt.alloc(), 64, 25, Hold::Nothing)?);
+    Ok(())
+}
+
+// Whether 2, 8 and 64 threads at each height make so many marks each, fewer where they are many.
+fn all_heights_are_counted<R: Threads + Wait + Clock + Sync>(
+    rt: &R,
+    alloc: Global,
+    times: usize,
+    hold: Hold,
+) -> Result<bool, Fail> {
+    let mut all = true;
+    for threads in [2, 8, 64] {
+        let each = times / threads;
+        all &= all_are_counted::<_, 1>(rt, alloc, threads, each, hold)?;
+        all &= all_are_counted::<_, 2>(rt, alloc, threads, each, hold)?;
+        all &= all_are_counted::<_, 3>(rt, alloc, threads, each, hold)?;
+        all &= all_are_counted::<_, 4>(rt, alloc, threads, each, hold)?;
+        all &= all_are_counted::<_, 5>(rt, alloc, threads, each, hold)?;
+        all &= all_are_counted::<_, 6>(rt, alloc, threads, each, hold)?;
+    }
+    Ok(all)
+}
+
+#[test]
+fn threads_that_sleep_are_woken(rt: HostRuntime) -> Result<(), Fail> {
+    assert!(rt; all_heights_are_counted(&rt, rt.alloc(), 256, Hold::Sleeps)?);
+    Ok(())
+}
+
+#[test]
+fn no_wake_is_lost(rt: HostRuntime) -> Result<(), Fail> {
+    assert!(rt; all_heights_are_counted(&rt, rt.alloc(), 4_096, Hold::Spins)?);
+    Ok(())
+}
+
+// Is inside for a fifth of a second.
+fn stay<R: Wait + Clock, const L: u32>(rt: &R, lock: &TreeLock<Marks, L>, pass: Pass<Marks>)
+    requires { pass.lock ≡ lock.now }
+{
+    let guard = lock.enter(rt, pass);
+    thread::sleep(rt, Duration::from_millis(200));
+    let _ = lock.leave(guard);
+}
+
+// The processor time of a passage that begins a little later.
+fn time_of<R: Wait + Clock + CpuClock, const L: u32>(
+    rt: &R,
+    lock: &TreeLock<Marks, L>,
+    pass: Pass<Marks>,
+) -> Option<Duration>
+    requires { pass.lock ≡ lock.now }
+{
+    thread::sleep(rt, Duration::from_millis(20));
+    let before = rt.thread_cpu_time().ok()?;
+    let guard = lock.enter(rt, pass);
+    let _ = lock.leave(guard);
+    rt.thread_cpu_time().ok()?.checked_sub(before)
+}
+
+// The processor time of a thread that waits for another which is inside for a fifth of a second.
+fn time_of_a_wait<R: Threads + Wait + Clock + CpuClock + Sync>(
+    rt: &R,
+    alloc: Global,
+) -> Result<Duration, Fail> {
+    let (lock, mut passes) = made::<Marks, 1>(alloc, Marks::new(alloc))?;
+    let second = passes.pop().ok_or("a second pass")?;
+    let first = passes.pop().ok_or("a first pass")?;
+    let shared = &lock;
+    let ((), time) = thread::join(
+        rt,
+        move || stay(rt, shared, first),
+        move || time_of(rt, shared, second),
+    );
+    Ok(time.ok_or("a clock")?)
+}
+
+#[test]
+fn a_thread_that_waits_leaves_the_processor_to_others(rt: HostRuntime) -> Result<(), Fail> {
+    assert!(rt; time_of_a_wait(&rt, rt.alloc())? < Duration::from_millis(50));
     Ok(())
 }
 
