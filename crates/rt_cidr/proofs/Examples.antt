@@ -1,6 +1,6 @@
 -- Examples by which definitions are tested, each under a line with the definition's name. Both sides are computed, but for
 -- the texts that are written for numbers, which have one spelling each.
-use Rattle.std.proofs.Common.{◌≡◌, ℕ, Bool, true, false, List, [], ◌∷◌, ◌++◌, ◌||◌, Some, Ok, Err, codes, decimal, take, eqb, refl, ap, subst, ◌∙◌, arith}
+use Rattle.std.proofs.Common.{◌≡◌, ℕ, ◌+◌, ◌*◌, ◌^◌, ◌<◌, Bool, true, false, List, [], ◌∷◌, ◌++◌, ◌||◌, Some, Ok, Err, codes, decimal, take, eqb, refl, ap, subst, ◌∙◌, arith}
 use Rattle.std.proofs.lemmas.Bool.{eq-eqb, or_right}
 use Rattle.std.proofs.lemmas.List.Folds.{list_any-append}
 use Rattle.std.specs.List.{list_any}
@@ -307,3 +307,125 @@ not_bits_before_length (address, len, is, short, none) =
 
 pub bit_past_the_length : ReadsPrefix (codes "10.0.0.1/8") (Err Bits)
 bit_past_the_length = (167772161, 8, pair_10_0_0_1_8, omega arith, a_bit_past_the_length_is_set)
+
+-- texts of the tutorial's feeds, and what is written for their numbers, addresses and prefixes
+decimal_4 : IsDecimal (codes "4") 4
+decimal_4 = record { digits = (omega arith, (omega arith, tt)); value = refl; no_leading_zero = λ _. refl }
+
+decimal_5 : IsDecimal (codes "5") 5
+decimal_5 = record { digits = (omega arith, (omega arith, tt)); value = refl; no_leading_zero = λ _. refl }
+
+decimal_6 : IsDecimal (codes "6") 6
+decimal_6 = record { digits = (omega arith, (omega arith, tt)); value = refl; no_leading_zero = λ _. refl }
+
+decimal_9 : IsDecimal (codes "9") 9
+decimal_9 = record { digits = (omega arith, (omega arith, tt)); value = refl; no_leading_zero = λ _. refl }
+
+decimal_16 : IsDecimal (codes "16") 16
+decimal_16 = record { digits = (omega arith, (omega arith, (omega arith, tt))); value = refl; no_leading_zero = λ zero. cc }
+
+decimal_20 : IsDecimal (codes "20") 20
+decimal_20 = record { digits = (omega arith, (omega arith, (omega arith, tt))); value = refl; no_leading_zero = λ zero. cc }
+
+decimal_30 : IsDecimal (codes "30") 30
+decimal_30 = record { digits = (omega arith, (omega arith, (omega arith, tt))); value = refl; no_leading_zero = λ zero. cc }
+
+decimal_50 : IsDecimal (codes "50") 50
+decimal_50 = record { digits = (omega arith, (omega arith, (omega arith, tt))); value = refl; no_leading_zero = λ zero. cc }
+
+four_octets : (a b c d : List ℕ) (x y z w : ℕ) → IsOctetText a x → IsOctetText b y → IsOctetText c z → IsOctetText d w
+    → IsAddressText (a ++ dot ∷ (b ++ dot ∷ (c ++ dot ∷ d))) (x * 2 ^ 24 + y * 2 ^ 16 + z * 2 ^ 8 + w)
+four_octets a b c d x y z w first second third fourth = record {
+  first_text = a;
+  first = x;
+  is_first = first;
+  second_text = b;
+  second = y;
+  is_second = second;
+  third_text = c;
+  third = z;
+  is_third = third;
+  fourth_text = d;
+  fourth = w;
+  is_fourth = fourth;
+  joined = refl;
+  value = refl;
+}
+
+address_10_1_0_0 : IsAddressText (codes "10.1.0.0") 167837696
+address_10_1_0_0 = four_octets (codes "10") (codes "1") (codes "0") (codes "0") 10 1 0 0 (record { spelled = decimal_10; fits = omega arith }) (record { spelled = decimal_1; fits = omega arith }) (record { spelled = decimal_0; fits = omega arith }) (record { spelled = decimal_0; fits = omega arith })
+
+address_10_2_0_0 : IsAddressText (codes "10.2.0.0") 167903232
+address_10_2_0_0 = four_octets (codes "10") (codes "2") (codes "0") (codes "0") 10 2 0 0 (record { spelled = decimal_10; fits = omega arith }) (record { spelled = decimal_2; fits = omega arith }) (record { spelled = decimal_0; fits = omega arith }) (record { spelled = decimal_0; fits = omega arith })
+
+address_10_3_0_0 : IsAddressText (codes "10.3.0.0") 167968768
+address_10_3_0_0 = four_octets (codes "10") (codes "3") (codes "0") (codes "0") 10 3 0 0 (record { spelled = decimal_10; fits = omega arith }) (record { spelled = decimal_3; fits = omega arith }) (record { spelled = decimal_0; fits = omega arith }) (record { spelled = decimal_0; fits = omega arith })
+
+address_10_9_0_0 : IsAddressText (codes "10.9.0.0") 168361984
+address_10_9_0_0 = four_octets (codes "10") (codes "9") (codes "0") (codes "0") 10 9 0 0 (record { spelled = decimal_10; fits = omega arith }) (record { spelled = decimal_9; fits = omega arith }) (record { spelled = decimal_0; fits = omega arith }) (record { spelled = decimal_0; fits = omega arith })
+
+address_192_0_2_2 : IsAddressText (codes "192.0.2.2") 3221225986
+address_192_0_2_2 = four_octets (codes "192") (codes "0") (codes "2") (codes "2") 192 0 2 2 (record { spelled = decimal_192; fits = omega arith }) (record { spelled = decimal_0; fits = omega arith }) (record { spelled = decimal_2; fits = omega arith }) (record { spelled = decimal_2; fits = omega arith })
+
+address_192_0_2_3 : IsAddressText (codes "192.0.2.3") 3221225987
+address_192_0_2_3 = four_octets (codes "192") (codes "0") (codes "2") (codes "3") 192 0 2 3 (record { spelled = decimal_192; fits = omega arith }) (record { spelled = decimal_0; fits = omega arith }) (record { spelled = decimal_2; fits = omega arith }) (record { spelled = decimal_3; fits = omega arith })
+
+address_10_1_2_3 : IsAddressText (codes "10.1.2.3") 167838211
+address_10_1_2_3 = four_octets (codes "10") (codes "1") (codes "2") (codes "3") 10 1 2 3 (record { spelled = decimal_10; fits = omega arith }) (record { spelled = decimal_1; fits = omega arith }) (record { spelled = decimal_2; fits = omega arith }) (record { spelled = decimal_3; fits = omega arith })
+
+address_10_9_0_1 : IsAddressText (codes "10.9.0.1") 168361985
+address_10_9_0_1 = four_octets (codes "10") (codes "9") (codes "0") (codes "1") 10 9 0 1 (record { spelled = decimal_10; fits = omega arith }) (record { spelled = decimal_9; fits = omega arith }) (record { spelled = decimal_0; fits = omega arith }) (record { spelled = decimal_1; fits = omega arith })
+
+written_as_address : (text : List ℕ) (address : ℕ) → address < 2 ^ 32 → IsAddressText text address → address_text address ≡ text
+written_as_address text address fits is = address_one_text (address_text address) text address (address_text_is_address address fits) is
+
+pub written_192_0_2_2 : address_text 3221225986 ≡ codes "192.0.2.2"
+written_192_0_2_2 = written_as_address (codes "192.0.2.2") 3221225986 (omega arith) address_192_0_2_2
+
+pub written_192_0_2_3 : address_text 3221225987 ≡ codes "192.0.2.3"
+written_192_0_2_3 = written_as_address (codes "192.0.2.3") 3221225987 (omega arith) address_192_0_2_3
+
+pub written_10_1_2_3 : address_text 167838211 ≡ codes "10.1.2.3"
+written_10_1_2_3 = written_as_address (codes "10.1.2.3") 167838211 (omega arith) address_10_1_2_3
+
+pub written_10_9_0_1 : address_text 168361985 ≡ codes "10.9.0.1"
+written_10_9_0_1 = written_as_address (codes "10.9.0.1") 168361985 (omega arith) address_10_9_0_1
+
+pub written_10_1_0_0_16 : prefix_text 167837696 16 ≡ codes "10.1.0.0/16"
+written_10_1_0_0_16 = pair_one_text (prefix_text 167837696 16) (codes "10.1.0.0/16") 167837696 16 (prefix_text_is_pair 167837696 16 (omega arith) (omega arith)) (record { address_part = codes "10.1.0.0"; len_part = codes "16"; is_address = address_10_1_0_0; is_len = decimal_16; joined = refl })
+
+pub written_10_2_0_0_16 : prefix_text 167903232 16 ≡ codes "10.2.0.0/16"
+written_10_2_0_0_16 = pair_one_text (prefix_text 167903232 16) (codes "10.2.0.0/16") 167903232 16 (prefix_text_is_pair 167903232 16 (omega arith) (omega arith)) (record { address_part = codes "10.2.0.0"; len_part = codes "16"; is_address = address_10_2_0_0; is_len = decimal_16; joined = refl })
+
+pub written_10_3_0_0_16 : prefix_text 167968768 16 ≡ codes "10.3.0.0/16"
+written_10_3_0_0_16 = pair_one_text (prefix_text 167968768 16) (codes "10.3.0.0/16") 167968768 16 (prefix_text_is_pair 167968768 16 (omega arith) (omega arith)) (record { address_part = codes "10.3.0.0"; len_part = codes "16"; is_address = address_10_3_0_0; is_len = decimal_16; joined = refl })
+
+pub written_10_9_0_0_16 : prefix_text 168361984 16 ≡ codes "10.9.0.0/16"
+written_10_9_0_0_16 = pair_one_text (prefix_text 168361984 16) (codes "10.9.0.0/16") 168361984 16 (prefix_text_is_pair 168361984 16 (omega arith) (omega arith)) (record { address_part = codes "10.9.0.0"; len_part = codes "16"; is_address = address_10_9_0_0; is_len = decimal_16; joined = refl })
+
+pub written_2 : decimal 2 ≡ codes "2"
+written_2 = decimal_one_text (decimal 2) (codes "2") 2 (decimal_is_decimal 2 (omega arith)) decimal_2
+
+pub written_3 : decimal 3 ≡ codes "3"
+written_3 = decimal_one_text (decimal 3) (codes "3") 3 (decimal_is_decimal 3 (omega arith)) decimal_3
+
+pub written_4 : decimal 4 ≡ codes "4"
+written_4 = decimal_one_text (decimal 4) (codes "4") 4 (decimal_is_decimal 4 (omega arith)) decimal_4
+
+pub written_5 : decimal 5 ≡ codes "5"
+written_5 = decimal_one_text (decimal 5) (codes "5") 5 (decimal_is_decimal 5 (omega arith)) decimal_5
+
+pub written_6 : decimal 6 ≡ codes "6"
+written_6 = decimal_one_text (decimal 6) (codes "6") 6 (decimal_is_decimal 6 (omega arith)) decimal_6
+
+pub written_10 : decimal 10 ≡ codes "10"
+written_10 = decimal_one_text (decimal 10) (codes "10") 10 (decimal_is_decimal 10 (omega arith)) decimal_10
+
+pub written_20 : decimal 20 ≡ codes "20"
+written_20 = decimal_one_text (decimal 20) (codes "20") 20 (decimal_is_decimal 20 (omega arith)) decimal_20
+
+pub written_30 : decimal 30 ≡ codes "30"
+written_30 = decimal_one_text (decimal 30) (codes "30") 30 (decimal_is_decimal 30 (omega arith)) decimal_30
+
+pub written_50 : decimal 50 ≡ codes "50"
+written_50 = decimal_one_text (decimal 50) (codes "50") 50 (decimal_is_decimal 50 (omega arith)) decimal_50

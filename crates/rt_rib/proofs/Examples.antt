@@ -32,20 +32,20 @@ use Rattle.rt_rib.proofs.Journals.{IsTable-left, IsLawfulJournal-nil, IsLawfulJo
 abbrev everything : Prefix
 everything = record { base = 0; len = 0; is_prefix = record { short = omega arith; fits = omega arith; clear = refl } }
 
-abbrev ten_8 : Prefix
+abbrev pub ten_8 : Prefix
 ten_8 = record { base = 167772160; len = 8; is_prefix = record { short = omega arith; fits = omega arith; clear = refl } }
 
 abbrev ten_0_16 : Prefix
 ten_0_16 = record { base = 167772160; len = 16; is_prefix = record { short = omega arith; fits = omega arith; clear = refl } }
 
-abbrev ten_1_16 : Prefix
+abbrev pub ten_1_16 : Prefix
 ten_1_16 = record { base = 167837696; len = 16; is_prefix = record { short = omega arith; fits = omega arith; clear = refl } }
 
 abbrev last_32 : Prefix
 last_32 = record { base = 4294967295; len = 32; is_prefix = record { short = omega arith; fits = omega arith; clear = refl } }
 
 -- addresses: 10.1.2.3, 10.2.3.4, 198.51.100.7, and the last one
-abbrev at_10_1_2_3 : Addr
+abbrev pub at_10_1_2_3 : Addr
 at_10_1_2_3 = record { 0 = 167838211 }
 
 abbrev at_10_2_3_4 : Addr
@@ -65,7 +65,7 @@ abbrev nested : List Route
 nested = route everything 1 200 ∷ route ten_8 1 100 ∷ route ten_1_16 1 100 ∷ []
 
 -- what a feed asked, and what it was answered
-abbrev entry : ℕ → Cmd → Reply → Entry
+abbrev pub entry : ℕ → Cmd → Reply → Entry
 entry feed cmd reply = record { feed = feed; cmd = cmd; reply = reply }
 
 -- feed 1 looks an address up before and after it puts a route to it in, where a feed may have one route
@@ -75,25 +75,25 @@ two_look_ups first =
     ∷ entry 1 (Lookup at_10_1_2_3) (Found (route ten_8 1 5)) ∷ []
 
 -- what the three files of the tutorial ask, one after another, and what they are answered
-abbrev ten_2_16 : Prefix
+abbrev pub ten_2_16 : Prefix
 ten_2_16 = record { base = 167903232; len = 16; is_prefix = record { short = omega arith; fits = omega arith; clear = refl } }
 
-abbrev ten_3_16 : Prefix
+abbrev pub ten_3_16 : Prefix
 ten_3_16 = record { base = 167968768; len = 16; is_prefix = record { short = omega arith; fits = omega arith; clear = refl } }
 
-abbrev ten_9_16 : Prefix
+abbrev pub ten_9_16 : Prefix
 ten_9_16 = record { base = 168361984; len = 16; is_prefix = record { short = omega arith; fits = omega arith; clear = refl } }
 
-abbrev at_10_9_0_1 : Addr
+abbrev pub at_10_9_0_1 : Addr
 at_10_9_0_1 = record { 0 = 168361985 }
 
-abbrev via_192_0_2 : ℕ → Hop
+abbrev pub via_192_0_2 : ℕ → Hop
 via_192_0_2 last = Via (record { 0 = 3221225984 + last })
 
-abbrev route_via : Prefix → ℕ → ℕ → Hop → Route
+abbrev pub route_via : Prefix → ℕ → ℕ → Hop → Route
 route_via prefix feed pref hop = record { prefix = prefix; feed = feed; pref = pref; hop = hop }
 
-abbrev tutorial : List Entry
+abbrev pub tutorial : List Entry
 tutorial =
     entry 1 (Add ten_8 50 (via_192_0_2 1)) Added ∷ entry 1 (Add ten_1_16 10 (via_192_0_2 1)) Added
     ∷ entry 1 (Lookup at_10_1_2_3) (Found (route_via ten_1_16 1 10 (via_192_0_2 1)))
@@ -362,7 +362,7 @@ whatever_the_replies_say :
 unfolding table_left table_after
 whatever_the_replies_say = refl
 
-the_table_of_the_tutorial :
+pub the_table_of_the_tutorial :
     table_left 65536 tutorial
     ≡ route_via ten_8 2 30 (via_192_0_2 2) ∷ route_via ten_8 1 50 (via_192_0_2 1)
     ∷ route_via ten_1_16 1 10 (via_192_0_2 1) ∷ route_via ten_9_16 3 10 Discard ∷ []
@@ -387,7 +387,7 @@ a_lawful_journal =
     let second = IsLawfulJournal-push 1 _ (entry 1 (Add ten_8 5 Discard) Added) first refl in
     IsLawfulJournal-push 1 _ (entry 1 (Lookup at_10_1_2_3) (Found (route ten_8 1 5))) second refl
 
-the_journal_of_the_tutorial : IsLawfulJournal 65536 tutorial
+pub the_journal_of_the_tutorial : IsLawfulJournal 65536 tutorial
 unfolding table_left table_after reply_of look_up
 the_journal_of_the_tutorial =
     let e1 = IsLawfulJournal-push 65536 [] (entry 1 (Add ten_8 50 (via_192_0_2 1)) Added) (IsLawfulJournal-nil 65536) refl in

@@ -9,3 +9,4 @@ pub mod Heights
 pub mod Entries
 pub mod Meanings
 pub mod Climbing
+pub mod Examples

@@ -1,0 +1,249 @@
+-- Examples by which definitions are tested, each under a line with the definition's name. Both sides are computed. The
+-- value that the lock lends is a number here, which others can only raise.
+use Rattle.std.proofs.Common.{◌≡◌, ℕ, zero, suc, ◌≤◌, List, [], ◌∷◌, ◌++◌, ◌∙◌, refl, sym, subst, arith, None, Some, replicate, set}
+use Rattle.std.specs.Prelude as std
+use mathlib.Core.Option.{Option, none, some, some-injective, some-ne-none}
+use lib.ListN.{get_elem?}
+use Rattle.atomic_table.specs.Table.{State}
+use Rattle.ya_core.specs.declared.word.Word.{Word}
+use Rattle.ya_core.specs.declared.word.Word.TheVariants.{C, P}
+use Rattle.ya_core.specs.declared.process.Entry.TheVariants.{E8}
+use Rattle.ya_core.specs.declared.process.Process.{Process}
+use Rattle.ya_core.specs.declared.process.Process.TheVariants.{Idle, Entering, Inside}
+use Rattle.ya_core.specs.Tree.{node_of, side_of, number_of, count_of_words}
+use Rattle.ya_core.specs.Soundness.{IsSound}
+use Rattle.ya_core.proofs.Promised.{opens}
+use Rattle.ya_lock.specs.declared.view.View.{View}
+use Rattle.ya_lock.specs.declared.view.View.TheVariants.{Stranger, Maker, Filler, Dealer, Member, Confirmer, Spent}
+use Rattle.ya_lock.specs.Rule.{index_of, making_index, words_in}
+use Rattle.ya_lock.specs.Meaning.{IsOf, IsFilling, IsMaking, HasProcess, IsAway, NoneInside, ShowsCore, GoesOn, SomeSeatGoesOn}
+use Rattle.ya_lock.specs.Meaning.{OneSeatAPlace, OneInside, LiesHome, IsFresh, IsMadeByOne, IsLockState}
+use Rattle.ya_lock.proofs.Words.{words_zero, words_beyond}
+
+-- index_of
+the_last_word_of_one_level : index_of 1 (P 1 1) ≡ 32
+unfolding index_of number_of
+the_last_word_of_one_level = refl
+
+-- making_index
+a_cache_line_behind_it : making_index 1 ≡ 40
+unfolding making_index count_of_words
+a_cache_line_behind_it = refl
+
+-- words_in
+what_lies_at_its_index : words_in 1 (replicate 32 0 ++ 9 ∷ []) (P 1 1) ≡ 9
+unfolding words_in index_of number_of
+what_lies_at_its_index = refl
+
+a_word_that_the_tree_has_not : words_in 1 (replicate 41 9) (C 1 1 0) ≡ 0
+unfolding words_in
+a_word_that_the_tree_has_not = refl
+
+-- IsOf
+a_place_away_has_seen_a_value : IsOf {V = ℕ} (Member 1 (Entering 1 E8) 5 4) 1 (Entering 1 E8) 5
+a_place_away_has_seen_a_value = (refl, refl, refl)
+
+one_that_has_joined_another_is_inside : IsOf {V = ℕ} (Confirmer 0 7 1 5 3) 0 Inside 7
+one_that_has_joined_another_is_inside = (refl, refl, refl)
+
+a_stranger_has_no_process : ¬ IsOf {V = ℕ} Stranger 0 Idle 7
+a_stranger_has_no_process h = h
+
+-- IsFilling
+with_the_empty_slot : IsFilling {V = ℕ} Filler
+with_the_empty_slot = tt
+
+no_more_once_it_gave_the_value : ¬ IsFilling {V = ℕ} (Dealer 0 7)
+no_more_once_it_gave_the_value h = h
+
+-- IsMaking
+while_it_deals_the_passes : IsMaking {V = ℕ} (Dealer 1 7)
+while_it_deals_the_passes = tt
+
+a_member_makes_none : ¬ IsMaking {V = ℕ} (Member 0 Idle 7 0)
+a_member_makes_none h = h
+
+-- moments of a table of one level, all words of whose tree are 0: both places are away; place 0 is inside and place 1
+-- waits; place 1 waits, and nobody is inside
+abbrev moment : List (Option (std.Option ℕ)) → List (View ℕ) → State (std.Option ℕ) (View ℕ)
+moment homes views = record { words = set (replicate 41 0) (making_index 1) 1; homes = homes; views = views }
+
+abbrev both_away : State (std.Option ℕ) (View ℕ)
+both_away = moment (some (Some 7) ∷ []) (Member 0 Idle 7 0 ∷ Member 1 Idle 5 0 ∷ [])
+
+abbrev one_inside : State (std.Option ℕ) (View ℕ)
+one_inside = moment (none ∷ []) (Member 0 Inside 7 3 ∷ Member 1 (Entering 1 E8) 5 4 ∷ [])
+
+abbrev stuck : State (std.Option ℕ) (View ℕ)
+stuck = moment (some (Some 7) ∷ []) (Member 1 (Entering 1 E8) 5 4 ∷ [])
+
+abbrev two_inside : State (std.Option ℕ) (View ℕ)
+two_inside = moment (none ∷ []) (Member 0 Inside 7 3 ∷ Member 1 Inside 7 4 ∷ [])
+
+-- HasProcess
+seat_1_has_place_1 : HasProcess one_inside 1 1 (Entering 1 E8) 5
+seat_1_has_place_1 = (Member 1 (Entering 1 E8) 5 4, refl, (refl, refl, refl))
+
+there_is_no_seat_2 : ¬ HasProcess one_inside 2 0 Idle 7
+there_is_no_seat_2 h = some-ne-none h.0 (sym h.1)
+
+-- IsAway
+place_1_is : IsAway one_inside 1 1 5
+place_1_is = (Entering 1 E8, λ same. cc, seat_1_has_place_1)
+
+-- the seat's view is this one
+is_view : (s : State (std.Option ℕ) (View ℕ)) (seat : ℕ) (view other : View ℕ) (place : ℕ) (process : Process) (value : ℕ)
+    → get_elem? s.views seat ≡ some other → (has : HasProcess s seat place process value) → get_elem? s.views seat ≡ some view → IsOf view place process value
+is_view s seat view other place process value at has found =
+    subst (λ v. IsOf v place process value) (some-injective has.0 view (sym has.1 ∙ found)) has.2
+
+place_0_is_not : ¬ IsAway one_inside 0 0 7
+place_0_is_not (process, away, has) =
+    let is = is_view one_inside 0 (Member 0 Inside 7 3) (Member 0 Inside 7 3) 0 process 7 refl has refl in away (sym is.1)
+
+-- what each seat shows where both are away
+away_both : (seat place : ℕ) (process : Process) (value : ℕ) → HasProcess both_away seat place process value
+    → (seat ≡ place) × (Idle ≡ process) × (value ≤ 7)
+away_both zero place process value has =
+    let is = is_view both_away 0 (Member 0 Idle 7 0) (Member 0 Idle 7 0) place process value refl has refl in (is.0, is.1, omega (arith, is.2))
+away_both (suc zero) place process value has =
+    let is = is_view both_away 1 (Member 1 Idle 5 0) (Member 1 Idle 5 0) place process value refl has refl in (is.0, is.1, omega (arith, is.2))
+away_both (suc (suc seat)) place process value has = absurd (some-ne-none has.0 (sym has.1))
+
+-- NoneInside
+none_where_both_are_away : NoneInside both_away
+none_where_both_are_away seat place value has = let idle = (away_both seat place Inside value has).1 in cc
+
+one_is : ¬ NoneInside one_inside
+one_is h = h 0 0 7 (Member 0 Inside 7 3, refl, (refl, refl, refl))
+
+-- GoesOn
+an_idle_process_goes_on : GoesOn both_away 1 0 Idle
+unfolding node_of side_of
+an_idle_process_goes_on same = cc
+
+one_that_waits_for_a_1_does_not : ¬ GoesOn stuck 1 1 (Entering 1 E8)
+unfolding words_in index_of number_of making_index count_of_words
+one_that_waits_for_a_1_does_not goes_on = goes_on refl
+
+-- SomeSeatGoesOn
+nobody_takes_part : SomeSeatGoesOn both_away 1
+nobody_takes_part seat place process value has busy = absurd (busy (sym (away_both seat place process value has).1))
+
+one_that_waits_for_nobody : ¬ SomeSeatGoesOn stuck 1
+one_that_waits_for_nobody h =
+    let found = h 0 1 (Entering 1 E8) 5 (Member 1 (Entering 1 E8) 5 4, refl, (refl, refl, refl)) (λ same. cc) in
+    alone found.0 found.1 found.2.0 found.2.1.0 found.2.1.1 found.2.1.3
+  where
+    alone : (seat place : ℕ) (process : Process) (value : ℕ) → HasProcess stuck seat place process value → ¬ GoesOn stuck 1 place process
+    alone zero place process value has goes_on =
+        let is = is_view stuck 0 (Member 1 (Entering 1 E8) 5 4) (Member 1 (Entering 1 E8) 5 4) place process value refl has refl in
+        one_that_waits_for_a_1_does_not (subst (GoesOn stuck 1 1) (sym is.1) (subst (λ q. GoesOn stuck 1 q process) (sym is.0) goes_on))
+    alone (suc seat) place process value has goes_on = some-ne-none has.0 (sym has.1)
+
+-- OneSeatAPlace
+each_has_its_own : OneSeatAPlace both_away
+each_has_its_own one other place x y v w a b = (away_both one place x v a).0 ∙ sym (away_both other place y w b).0
+
+not_two_of_place_0 : ¬ OneSeatAPlace (moment (some (Some 7) ∷ []) (Member 0 Idle 7 0 ∷ Member 0 Idle 7 0 ∷ []))
+not_two_of_place_0 h =
+    let same = h 0 1 0 Idle Idle 7 7 (Member 0 Idle 7 0, refl, (refl, refl, refl)) (Member 0 Idle 7 0, refl, (refl, refl, refl)) in omega (arith, same)
+
+-- OneInside
+none_inside : OneInside both_away
+none_inside one other p q v w a b = absurd (none_where_both_are_away one p v a)
+
+not_two : ¬ OneInside two_inside
+not_two h = let same = h 0 1 0 1 7 7 (Member 0 Inside 7 3, refl, (refl, refl, refl)) (Member 1 Inside 7 4, refl, (refl, refl, refl)) in omega (arith, same)
+
+-- LiesHome
+at_home_where_both_are_away : LiesHome both_away
+at_home_where_both_are_away = (λ seat place value has. absurd (none_where_both_are_away seat place value has), λ seat place process value has away. (7, refl))
+
+out_where_one_is_inside : LiesHome one_inside
+out_where_one_is_inside = (λ seat place value has. refl, λ seat place process value has away. absurd (one_is away))
+
+not_at_home_where_one_is : ¬ LiesHome (moment (some (Some 7) ∷ []) one_inside.views)
+not_at_home_where_one_is h = let out = h.0 0 0 7 (Member 0 Inside 7 3, refl, (refl, refl, refl)) in cc
+
+not_out_where_none_is : ¬ LiesHome (moment (none ∷ []) both_away.views)
+not_out_where_none_is h =
+    let home = h.1 0 0 Idle 7 (Member 0 Idle 7 0, refl, (refl, refl, refl)) none_where_both_are_away in let out = home.1 in cc
+
+-- what others may have made of a number while a place was away
+abbrev raised : ℕ → ℕ → ℕ → Type 0
+raised place seen now = seen ≤ now
+
+-- IsFresh
+raised_since_it_was_seen : IsFresh both_away raised
+raised_since_it_was_seen seat place seen now away = (
+  λ home. let same : 7 ≡ now = cc in let seen_of = (away_both seat place away.0 seen away.2).2 in omega (arith, same, seen_of),
+  λ one other has. absurd (none_where_both_are_away one other now has),
+)
+
+not_lowered : ¬ IsFresh (moment (some (Some 4) ∷ []) both_away.views) raised
+not_lowered h =
+    let fresh = (h 1 1 5 4 (Idle, λ same. cc, (Member 1 Idle 5 0, refl, (refl, refl, refl)))).0 refl in omega (arith, fresh)
+
+-- no seat makes passes where both are away
+no_maker : (seat : ℕ) (view : View ℕ) → get_elem? both_away.views seat ≡ some view → ¬ IsMaking view
+no_maker zero view at making = subst IsMaking (sym (some-injective (Member 0 Idle 7 0) view at)) making
+no_maker (suc zero) view at making = subst IsMaking (sym (some-injective (Member 1 Idle 5 0) view at)) making
+no_maker (suc (suc seat)) view at making = some-ne-none view (sym at)
+
+filling_is_making : (view : View ℕ) → IsFilling view → IsMaking view
+filling_is_making Maker filling = tt
+filling_is_making Filler filling = tt
+filling_is_making Stranger filling = absurd filling
+filling_is_making (Dealer first value) filling = tt
+filling_is_making (Member place process value count) filling = absurd filling
+filling_is_making (Confirmer place value other seen count) filling = absurd filling
+filling_is_making Spent filling = absurd filling
+
+-- IsMadeByOne
+made_and_dealt : IsMadeByOne both_away 1
+unfolding making_index count_of_words
+made_and_dealt = record {
+  strangers = λ unmade. let none : 1 ≡ 0 = unmade in absurd (omega (arith, none));
+  empty = λ unmade. let none : 1 ≡ 0 = unmade in absurd (omega (arith, none));
+  one_maker = λ one other v w at making there also. absurd (no_maker one v at making);
+  unfilled = λ seat view at filling. absurd (no_maker seat view at (filling_is_making view filling));
+  undealt = λ seat first given at. absurd (no_maker seat (Dealer first given) at tt);
+}
+
+not_by_two : ¬ IsMadeByOne (moment (some None ∷ []) (Maker ∷ Maker ∷ [])) 1
+not_by_two h = let same = h.one_maker 0 1 Maker Maker refl tt refl tt in omega (arith, same)
+
+nobody_knows_anything_before : ¬ IsMadeByOne {V = ℕ} (record { words = replicate 41 0; homes = some None ∷ []; views = Member 0 Idle 7 0 ∷ [] }) 1
+unfolding making_index count_of_words
+nobody_knows_anything_before h = let stranger = h.strangers refl 0 (Member 0 Idle 7 0) refl in cc
+
+-- ShowsCore
+all_idle : ShowsCore both_away 1
+all_idle = (
+  λ place. Idle,
+  subst (λ (words : Word → ℕ). IsSound 1 record { words = words; processes = λ place. Idle }) (sym (words_beyond 1 (replicate 41 0) 1 ∙ words_zero 1 41)) (opens 1),
+  λ seat place process value has. (away_both seat place process value has).1,
+  λ place none. refl,
+)
+
+not_two_of_the_core : ¬ ShowsCore (moment (some (Some 7) ∷ []) (Member 0 Idle 7 0 ∷ Member 0 Inside 7 0 ∷ [])) 1
+not_two_of_the_core h =
+    let first = h.2 0 0 Idle 7 (Member 0 Idle 7 0, refl, (refl, refl, refl)) in
+    let second = h.2 1 0 Inside 7 (Member 0 Inside 7 0, refl, (refl, refl, refl)) in
+    let both : Idle ≡ Inside = sym first ∙ second in cc
+
+-- IsLockState
+where_both_are_away : IsLockState raised 1 both_away
+where_both_are_away = record {
+  core = all_idle;
+  progress = nobody_takes_part;
+  places = each_has_its_own;
+  exclusion = none_inside;
+  value = at_home_where_both_are_away;
+  fresh = raised_since_it_was_seen;
+  making = made_and_dealt;
+}
+
+not_where_two_are_inside : ¬ IsLockState raised 1 two_inside
+not_where_two_are_inside h = not_two h.exclusion
