@@ -1,32 +1,36 @@
 -- Examples by which definitions are tested, each under a line with the definition's name. Both sides are computed, but for
 -- the texts that are written for numbers, which have one spelling each.
-use Rattle.std.proofs.Common.{◌≡◌, ◌≢◌, ℕ, true, false, List, [], ◌∷◌, ◌++◌, length, eqb, Some, None, Ok, Err, inl, inr, codes, refl, sym, ap, ◌∙◌, subst, arith}
+use Rattle.std.proofs.Common.{◌≡◌, ◌≢◌, ℕ, true, false, List, [], ◌∷◌, ◌++◌, length, map, slice_index, eqb, Some, None, Ok, Err, inl, inr, codes, refl, sym, ap, ◌∙◌, subst, arith}
 use Rattle.std.proofs.lemmas.Bool.{or_parts, eqb-false}
 use Rattle.std.proofs.lemmas.List.Elements.{All-nil, All-cons}
 use Rattle.std.specs.List.{All, list_any}
 use Rattle.rt_cidr.specs.declared.address.Addr.{Addr}
+use Rattle.rt_cidr.specs.declared.prefixes.TextFault.{TextFault}
 use Rattle.rt_cidr.specs.declared.prefixes.TextFault.TheVariants.{Text, Length, Bits}
 use Rattle.rt_cidr.specs.Text.{IsDecimal, IsAddressText, IsPrefixText}
-use Rattle.rt_cidr.proofs.Promised.{ten_8, pair_10_0_0_1_33, pair_10_0_0_1_8, length_before_bits, bit_past_the_length, a_bit_past_the_length_is_set}
-use Rattle.rt_cidr.proofs.Promised.{written_192_0_2_1, written_10_0_0_0_8, written_0, written_1, written_100, decimal_4294967296, no_address_without_a_dot, no_prefix_without_a_dot}
+use Rattle.rt_cidr.proofs.Promised.{pair_10_0_0_1_33, pair_10_0_0_1_8, length_before_bits, bit_past_the_length, a_bit_past_the_length_is_set}
+use Rattle.rt_cidr.proofs.Promised.{written_192_0_2_1, written_10_0_0_0_8, written_0, written_1, written_2, written_3, written_4, written_5, written_10, written_20, written_30, written_50, written_100, decimal_4294967296, no_address_without_a_dot, no_prefix_without_a_dot}
 use Rattle.rt_cidr.proofs.Promised.{decimal_is_decimal, decimal_one_number, address_text_is_address, pair_one_value, prefix_is_written}
+use Rattle.rt_cidr.proofs.Promised.{written_192_0_2_2, written_192_0_2_3, written_10_1_2_3, written_10_9_0_1, written_10_1_0_0_16, written_10_2_0_0_16, written_10_3_0_0_16, written_10_9_0_0_16}
+use Rattle.rt_rib.proofs.Promised.{ten_8, ten_1_16, ten_2_16, ten_3_16, ten_9_16, at_10_1_2_3, at_10_9_0_1, via_192_0_2, route_via}
 use Rattle.rt_rib.specs.declared.routes.Route.{Route}
 use Rattle.rt_rib.specs.declared.routes.Hop.TheVariants.{Via, Discard}
 use Rattle.rt_rib.specs.declared.commands.Cmd.{Cmd}
-use Rattle.rt_rib.specs.declared.commands.Cmd.TheVariants.{Add, Lookup, Dump, Purge}
-use Rattle.rt_rib.specs.declared.commands.Reply.TheVariants.{Added, Dumped}
+use Rattle.rt_rib.specs.declared.commands.Cmd.TheVariants.{Add, Replace, Withdraw, Lookup, Dump, Purge}
+use Rattle.rt_rib.specs.declared.commands.Reply.TheVariants.{Added, Exists, Full, Replaced, Withdrawn, Missing, Found, NoRoute, Dumped, Purged}
 use Rattle.rt_shared.specs.declared.outcome.Outcome.TheVariants as outcome
+use Rattle.rt_feed.specs.declared.parse.LineFault.{LineFault}
 use Rattle.rt_feed.specs.declared.parse.LineFault.TheVariants as fault
 use Rattle.rt_feed.specs.declared.report.Answer.TheVariants as answer
 use Rattle.rt_feed.specs.declared.versions.Version.TheVariants.{One, Two}
-use Rattle.rt_feed.specs.CommandText.{command_text, HasCommand}
-use Rattle.rt_feed.specs.Grammar.{prefix, preference, hop, address, is_skipped, fields, kinds_after, IsOfKind, AnswersLine}
+use Rattle.rt_feed.specs.CommandText.{space, words, route_words, command_text, HasHop, HasCommand}
+use Rattle.rt_feed.specs.Grammar.{prefix, preference, hop, address, hash, is_skipped, fields, route_kinds, purge_kinds, kinds_after, prefix_fault, IsOfKind, IsFaultOf, IsFirstFault, IsFaultAmong, IsFaultAfter, IsFaultOfFields, AnswersLine}
 use Rattle.rt_feed.specs.Addresses.{AnswersAddressLine}
 use Rattle.rt_feed.specs.Lines.{lf, CutsLine}
-use Rattle.rt_feed.specs.Versions.{IsBody}
-use Rattle.rt_feed.specs.LineOutcomes.{skipped, faulty, asked, report_lines, asked_of, some_refused, some_faulty}
-use Rattle.rt_feed.specs.Visits.{visit_of, piece_of, IsCut}
-use Rattle.rt_feed.specs.Printed.{hop_text, reply_text, answer_text, line_text, count_text, row_text, route_text, rows_text, table_text, found_text}
+use Rattle.rt_feed.specs.Versions.{TellsTwo, IsBody}
+use Rattle.rt_feed.specs.LineOutcomes.{LineOutcome, skipped, faulty, asked, reading, heading, LinesBecome, Becomes, line_answer, answer_of, numbered, report_lines, asked_by, asked_of, was_refused, was_faulty, some_refused, some_faulty}
+use Rattle.rt_feed.specs.Visits.{visit_of, reply_to, entries, joined, piece_of, IsCut}
+use Rattle.rt_feed.specs.Printed.{hop_text, route_text, reply_text, fault_text, answer_text, line_text, report_text, row_text, count_text, rows_text, table_text, found_text}
 
 -- the address 192.0.2.1, and the command of the first line of examples/first.feed
 abbrev at_192_0_2_1 : Addr
@@ -34,6 +38,42 @@ at_192_0_2_1 = record { 0 = 3221225985 }
 
 abbrev add_10 : Cmd
 add_10 = Add ten_8 100 (Via at_192_0_2_1)
+
+-- space
+the_byte_of_a_space : codes " " ≡ space ∷ []
+the_byte_of_a_space = refl
+
+-- hash
+the_byte_of_a_comment : codes "#" ≡ hash ∷ []
+the_byte_of_a_comment = refl
+
+-- lf
+the_byte_of_a_line_feed : codes "\n" ≡ lf ∷ []
+the_byte_of_a_line_feed = refl
+
+-- route_words
+a_prefix_a_preference_and_a_hop : route_words ten_8 100 Discard ≡ codes "10.0.0.0/8" ∷ codes "100" ∷ codes "discard" ∷ []
+a_prefix_a_preference_and_a_hop = rw (written_10_0_0_0_8, written_100) refl
+
+-- words
+words_of_a_withdrawal : words (Withdraw ten_8) ≡ codes "withdraw" ∷ codes "10.0.0.0/8" ∷ []
+words_of_a_withdrawal = rw written_10_0_0_0_8 refl
+
+words_of_a_replacement : words (Replace ten_8 100 Discard) ≡ codes "replace" ∷ route_words ten_8 100 Discard
+words_of_a_replacement = refl
+
+words_of_a_purge : words Purge ≡ codes "purge" ∷ []
+words_of_a_purge = refl
+
+-- HasHop
+an_address_in_version_1 : HasHop One (Via at_192_0_2_1)
+an_address_in_version_1 = omega arith
+
+discard_in_version_2 : HasHop Two Discard
+discard_in_version_2 = refl
+
+no_discard_in_version_1 : ¬ HasHop One Discard
+no_discard_in_version_1 h = cc
 
 -- command_text
 the_text_of_an_add : command_text add_10 ≡ codes "add 10.0.0.0/8 100 192.0.2.1"
@@ -85,7 +125,22 @@ a_purge_in_version_2 = refl
 names_are_in_small_letters : kinds_after Two (codes "Dump") ≡ None
 names_are_in_small_letters = refl
 
--- what is no field of a kind, and what is
+-- route_kinds
+of_version_2 : route_kinds Two ≡ prefix ∷ preference ∷ hop Two ∷ []
+of_version_2 = refl
+
+-- purge_kinds
+a_word_of_version_2 : purge_kinds Two ≡ Some []
+a_word_of_version_2 = refl
+
+no_word_of_version_1 : purge_kinds One ≡ None
+no_word_of_version_1 = refl
+
+-- prefix_fault
+E3_E4_and_E5 : map prefix_fault (Text ∷ Length ∷ Bits ∷ []) ≡ fault.Text ∷ fault.PrefixLength ∷ fault.PrefixBits ∷ []
+E3_E4_and_E5 = refl
+
+-- IsOfKind
 no_prefix_33 : ¬ IsOfKind prefix (codes "10.0.0.1/33")
 no_prefix_33 (p, same) =
     let is : IsPrefixText (codes "10.0.0.1/33") p.base p.len = subst (λ text. IsPrefixText text p.base p.len) (sym same) (prefix_is_written p) in
@@ -112,16 +167,73 @@ preference_too_large (pref, fits, same) =
     let one = decimal_one_number (codes "4294967296") pref 4294967296 is decimal_4294967296 in
     omega (arith, fits, one)
 
-no_discard_in_version_1 : ¬ IsOfKind (hop One) (codes "discard")
-no_discard_in_version_1 (Via a, fits, same) =
+discard_is_no_hop_in_version_1 : ¬ IsOfKind (hop One) (codes "discard")
+discard_is_no_hop_in_version_1 (Via a, fits, same) =
     no_address_without_a_dot (codes "discard") a.0 refl (subst (λ text. IsAddressText text a.0) (sym same) (address_text_is_address a.0 fits))
-no_discard_in_version_1 (Discard, has, same) = cc
+discard_is_no_hop_in_version_1 (Discard, has, same) = cc
 
 is_10 : IsOfKind prefix (codes "10.0.0.0/8")
 is_10 = (ten_8, sym written_10_0_0_0_8)
 
 is_100 : IsOfKind preference (codes "100")
 is_100 = (100, omega arith, sym written_100)
+
+is_no_hop : ¬ IsOfKind (hop Two) (codes "10")
+is_no_hop (Via a, fits, same) =
+    no_address_without_a_dot (codes "10") a.0 refl (subst (λ text. IsAddressText text a.0) (sym same) (address_text_is_address a.0 fits))
+is_no_hop (Discard, has, same) = cc
+
+-- IsFaultOf
+a_length_of_33_is_E4 : IsFaultOf prefix (codes "10.0.0.1/33") fault.PrefixLength
+a_length_of_33_is_E4 = (Length, length_before_bits, refl)
+
+a_preference_is_E6 : IsFaultOf preference (codes "x") fault.Preference
+a_preference_is_E6 = refl
+
+an_address_is_E3 : IsFaultOf address (codes "10") fault.Text
+an_address_is_E3 = refl
+
+an_address_is_not_E7 : ¬ IsFaultOf address (codes "10") fault.Hop
+an_address_is_not_E7 h = cc
+
+-- no fault of a prefix is one of a preference
+of_a_prefix : (reason : TextFault) → fault.Preference ≢ prefix_fault reason
+of_a_prefix Text same = cc
+of_a_prefix Length same = cc
+of_a_prefix Bits same = cc
+
+-- IsFirstFault
+the_first_from_the_left : IsFirstFault (prefix ∷ preference ∷ []) (codes "10.0.0.1/33" ∷ codes "4294967296" ∷ []) fault.PrefixLength
+the_first_from_the_left = inl (no_prefix_33, a_length_of_33_is_E4)
+
+the_second_where_the_first_is_right : IsFirstFault (prefix ∷ preference ∷ []) (codes "10.0.0.0/8" ∷ codes "4294967296" ∷ []) fault.Preference
+the_second_where_the_first_is_right = inr (is_10, inl (preference_too_large, refl))
+
+not_the_second_before_the_first : ¬ IsFirstFault (prefix ∷ preference ∷ []) (codes "10.0.0.1/33" ∷ codes "4294967296" ∷ []) fault.Preference
+not_the_second_before_the_first (inl first) = of_a_prefix first.1.0 first.1.2
+not_the_second_before_the_first (inr second) = no_prefix_33 second.0
+
+-- IsFaultAmong
+a_field_too_few : IsFaultAmong (prefix ∷ []) [] fault.FieldCount
+a_field_too_few = inl ((λ same. omega (arith, same)), refl)
+
+one_too_many_before_the_first : ¬ IsFaultAmong (address ∷ []) (codes "10" ∷ codes "x" ∷ []) fault.Text
+one_too_many_before_the_first (inl many) = let same = many.1 in cc
+one_too_many_before_the_first (inr as_many) = let same : 2 ≡ 1 = as_many.0 in omega (arith, same)
+
+-- IsFaultAfter
+no_command : IsFaultAfter None [] fault.Command
+no_command = refl
+
+a_command_with_a_field_too_few : IsFaultAfter (Some (prefix ∷ [])) [] fault.FieldCount
+a_command_with_a_field_too_few = a_field_too_few
+
+-- IsFaultOfFields
+a_withdrawal_of_nothing : IsFaultOfFields One (codes "withdraw" ∷ []) fault.FieldCount
+a_withdrawal_of_nothing = a_field_too_few
+
+no_fault_of_no_field : (answer : LineFault) → ¬ IsFaultOfFields One [] answer
+no_fault_of_no_field answer h = h
 
 -- AnswersLine
 an_add : AnswersLine One (codes "add 10.0.0.0/8 100 192.0.2.1") (Ok (Some add_10))
@@ -159,10 +271,13 @@ a_preference_too_large_is_E6_before_E7 : AnswersLine One (codes "add 10.0.0.0/8 
 a_preference_too_large_is_E6_before_E7 = inr (omega arith, refl, inr (refl, inr (is_10, inl (preference_too_large, refl))))
 
 a_discard_is_E7_in_version_1 : AnswersLine One (codes "add 10.0.0.0/8 100 discard") (Err fault.Hop)
-a_discard_is_E7_in_version_1 = inr (omega arith, refl, inr (refl, inr (is_10, inr (is_100, inl (no_discard_in_version_1, refl)))))
+a_discard_is_E7_in_version_1 = inr (omega arith, refl, inr (refl, inr (is_10, inr (is_100, inl (discard_is_no_hop_in_version_1, refl)))))
 
 a_discard_is_a_hop_in_version_2 : AnswersLine Two (codes "add 10.0.0.0/8 100 discard") (Ok (Some (Add ten_8 100 Discard)))
 a_discard_is_a_hop_in_version_2 = ((omega arith, refl), sym the_text_of_a_discard)
+
+no_hop_is_E7_in_version_2 : AnswersLine Two (codes "add 10.0.0.0/8 100 10") (Err fault.Hop)
+no_hop_is_E7_in_version_2 = inr (omega arith, refl, inr (refl, inr (is_10, inr (is_100, inl (is_no_hop, refl)))))
 
 a_comment_of_128_bytes : AnswersLine One (codes "################################################################################################################################") (Ok None)
 a_comment_of_128_bytes = (omega arith, refl)
@@ -208,9 +323,58 @@ nothing_has_no_line line left h = elim h.ended [
   | inr whole ↦ whole.1 (sym whole.0)
 ]
 
+-- TellsTwo
+the_first_line_and_no_more : TellsTwo (codes "version 2\npurge") (codes "purge")
+the_first_line_and_no_more = record { unbroken = unbroken (codes "version 2") refl; ended = inl refl }
+
+a_text_of_that_line_alone : TellsTwo (codes "version 2") []
+a_text_of_that_line_alone = record { unbroken = unbroken (codes "version 2") refl; ended = inr (refl, (λ e. cc), refl) }
+
+not_with_a_space_behind : (rest : List ℕ) → ¬ TellsTwo (codes "version 2 \npurge") rest
+not_with_a_space_behind rest h = elim h.ended [
+  | inl ended ↦ let tenth : 32 ≡ 10 = ap (λ text. slice_index text 9) ended in omega (arith, tenth)
+  | inr whole ↦ let tenth : 32 ≡ 0 = ap (λ text. slice_index text 9) whole.0 in omega (arith, tenth)
+]
+
 -- IsBody
 version_2_is_told_by_the_first_line : IsBody (codes "version 2\npurge") Two (codes "purge")
 version_2_is_told_by_the_first_line = record { unbroken = unbroken (codes "version 2") refl; ended = inl refl }
+
+version_1_has_all_lines : IsBody (codes "purge") One (codes "purge")
+version_1_has_all_lines = (
+  λ rest h. elim h.ended [
+    | inl ended ↦ let first : 112 ≡ 118 = ap (λ text. slice_index text 0) ended in omega (arith, first)
+    | inr whole ↦ let first : 112 ≡ 118 = ap (λ text. slice_index text 0) whole.0 in omega (arith, first)
+  ],
+  refl,
+)
+
+-- reading
+what_a_line_asks_whatever_became_of_it :
+    map reading (skipped ∷ faulty fault.Command ∷ asked Dump outcome.Refused ∷ []) ≡ Ok None ∷ Err fault.Command ∷ Ok (Some Dump) ∷ []
+what_a_line_asks_whatever_became_of_it = refl
+
+-- heading
+the_line_that_tells_version_2_is_skipped : heading Two ≡ skipped ∷ []
+the_line_that_tells_version_2_is_skipped = refl
+
+no_line_tells_version_1 : heading One ≡ []
+no_line_tells_version_1 = refl
+
+-- answer_of
+done_or_refused : map answer_of (outcome.Did Added ∷ outcome.Refused ∷ []) ≡ answer.Did Added ∷ answer.Refused ∷ []
+done_or_refused = refl
+
+-- line_answer
+a_fault_is_told_and_a_comment_is_not : map line_answer (skipped ∷ faulty fault.Hop ∷ []) ≡ None ∷ Some (answer.Fault fault.Hop) ∷ []
+a_fault_is_told_and_a_comment_is_not = refl
+
+-- numbered
+with_its_number : numbered 7 (Some answer.Refused) ≡ record { number = 7; answer = answer.Refused } ∷ []
+with_its_number = refl
+
+no_line_without_an_answer : numbered 7 None ≡ []
+no_line_without_an_answer = refl
 
 -- report_lines
 each_line_has_its_number :
@@ -218,9 +382,30 @@ each_line_has_its_number :
     ≡ record { number = 2; answer = answer.Fault fault.Command } ∷ record { number = 3; answer = answer.Did (Dumped 0) } ∷ record { number = 4; answer = answer.Refused } ∷ []
 each_line_has_its_number = refl
 
+-- asked_by
+a_refused_command_was_asked : asked_by (asked Dump outcome.Refused) ≡ (Dump, outcome.Refused) ∷ []
+a_refused_command_was_asked = refl
+
+a_faulty_line_asked_nothing : asked_by (faulty fault.Hop) ≡ []
+a_faulty_line_asked_nothing = refl
+
 -- asked_of
 the_commands_alone : asked_of (skipped ∷ faulty fault.Command ∷ asked Dump (outcome.Did (Dumped 0)) ∷ []) ≡ (Dump, outcome.Did (Dumped 0)) ∷ []
 the_commands_alone = refl
+
+-- was_refused
+one_that_was_done_was_not : was_refused (asked Dump (outcome.Did (Dumped 0))) ≡ false
+one_that_was_done_was_not = refl
+
+one_for_want_of_memory_was : was_refused (asked Dump outcome.Refused) ≡ true
+one_for_want_of_memory_was = refl
+
+-- was_faulty
+a_comment_was_not : was_faulty skipped ≡ false
+a_comment_was_not = refl
+
+a_line_without_a_hop_was : was_faulty (faulty fault.Hop) ≡ true
+a_line_without_a_hop_was = refl
 
 -- some_refused
 one_was_refused : some_refused (asked Dump (outcome.Did (Dumped 0)) ∷ asked Dump outcome.Refused ∷ []) ≡ true
@@ -236,6 +421,17 @@ one_was_faulty = refl
 a_refusal_is_no_fault : some_faulty (asked Dump outcome.Refused ∷ []) ≡ false
 a_refusal_is_no_fault = refl
 
+-- reply_to
+with_its_reply : reply_to Dump (outcome.Did (Dumped 0)) ≡ (Dump, Dumped 0) ∷ []
+with_its_reply = refl
+
+none_where_it_was_refused : reply_to Dump outcome.Refused ≡ []
+none_where_it_was_refused = refl
+
+-- entries
+as_entries_of_feed_64 : entries 64 ((Dump, Dumped 0) ∷ (Purge, Purged 2) ∷ []) ≡ record { feed = 64; cmd = Dump; reply = Dumped 0 } ∷ record { feed = 64; cmd = Purge; reply = Purged 2 } ∷ []
+as_entries_of_feed_64 = refl
+
 -- visit_of
 what_was_refused_is_no_part_of_it : visit_of ((Dump, outcome.Did (Dumped 0)) ∷ (Purge, outcome.Refused) ∷ (Dump, outcome.Did (Dumped 1)) ∷ []) ≡ (Dump, Dumped 0) ∷ (Dump, Dumped 1) ∷ []
 what_was_refused_is_no_part_of_it = refl
@@ -246,6 +442,17 @@ first_is_whole : {X : Type 0} (size : ℕ) (piece other : List X) (more whole : 
 first_is_whole size piece other more [] [] full same = cc
 first_is_whole size piece other more [] (x ∷ xs) full same = cc
 first_is_whole size piece other more (one ∷ whole) last full same = let first : piece ≡ one = cc in ap length first ∙ full 0 one (omega arith)
+
+-- joined
+one_after_another : joined {X = ℕ} ((1 ∷ 2 ∷ []) ∷ [] ∷ (3 ∷ []) ∷ []) ≡ 1 ∷ 2 ∷ 3 ∷ []
+one_after_another = refl
+
+-- piece_of
+a_piece_by_itself : piece_of {X = ℕ} (3 ∷ []) ≡ (3 ∷ []) ∷ []
+a_piece_by_itself = refl
+
+no_piece_that_is_empty : piece_of {X = ℕ} [] ≡ []
+no_piece_that_is_empty = refl
 
 -- IsCut
 three_in_pieces_of_two : IsCut {X = ℕ} 2 (1 ∷ 2 ∷ 3 ∷ []) ((1 ∷ 2 ∷ []) ∷ (3 ∷ []) ∷ [])
@@ -278,10 +485,60 @@ an_address_as_next_hop = written_192_0_2_1
 discard_as_next_hop : hop_text Discard ≡ codes "discard"
 discard_as_next_hop = refl
 
+-- reply_text
+replies_of_one_word : map reply_text (Added ∷ Exists ∷ Full ∷ Replaced ∷ Withdrawn ∷ Missing ∷ []) ≡ codes "added" ∷ codes "exists" ∷ codes "full" ∷ codes "replaced" ∷ codes "withdrawn" ∷ codes "missing" ∷ []
+unfolding reply_text
+replies_of_one_word = refl
+
+nothing_found : reply_text NoRoute ≡ codes "no route"
+unfolding reply_text
+nothing_found = refl
+
+counts_in_decimal : map reply_text (Dumped 100 ∷ Purged 0 ∷ []) ≡ codes "dumped 100" ∷ codes "purged 0" ∷ []
+unfolding reply_text
+counts_in_decimal = rw (written_100, written_0) refl
+
+a_found_route : reply_text (Found (route_via ten_1_16 1 10 (via_192_0_2 1))) ≡ codes "route 10.1.0.0/16 feed 1 pref 10 via 192.0.2.1"
+unfolding reply_text route_text
+a_found_route = rw (written_10_1_0_0_16, written_192_0_2_1, written_10, written_1) refl
+
+-- fault_text
+E1_to_E8 :
+    map fault_text (fault.Command ∷ fault.FieldCount ∷ fault.Text ∷ fault.PrefixLength ∷ fault.PrefixBits ∷ fault.Preference ∷ fault.Hop ∷ fault.LineLength ∷ [])
+    ≡ codes "fault E1" ∷ codes "fault E2" ∷ codes "fault E3" ∷ codes "fault E4" ∷ codes "fault E5" ∷ codes "fault E6" ∷ codes "fault E7" ∷ codes "fault E8" ∷ []
+unfolding fault_text
+E1_to_E8 = refl
+
+-- answer_text
+a_reply_a_refusal_and_a_fault : map answer_text (answer.Did Added ∷ answer.Refused ∷ answer.Fault fault.Text ∷ []) ≡ codes "added" ∷ codes "refused" ∷ codes "fault E3" ∷ []
+unfolding answer_text reply_text fault_text
+a_reply_a_refusal_and_a_fault = refl
+
+-- route_text
+a_route_that_discards : route_text (route_via ten_9_16 3 10 Discard) ≡ codes "10.9.0.0/16 feed 3 pref 10 via discard"
+unfolding route_text
+a_route_that_discards = rw (written_10_9_0_0_16, written_10, written_3) refl
+
 -- line_text
 a_line_of_a_report : line_text 1 (record { number = 100; answer = answer.Did Added }) ≡ codes "1:100 added\n"
 unfolding line_text answer_text reply_text
 a_line_of_a_report = rw (written_1, written_100) refl
+
+-- report_text
+two_lines_of_feed_1 :
+    report_text 1 (record { number = 2; answer = answer.Did Added } ∷ record { number = 5; answer = answer.Fault fault.Hop } ∷ []) ≡ codes "1:2 added\n1:5 fault E7\n"
+unfolding line_text answer_text reply_text fault_text
+two_lines_of_feed_1 = rw (written_1, written_2, written_5) refl
+
+-- row_text
+a_row : row_text (route_via ten_8 2 30 (via_192_0_2 2)) ≡ codes "10.0.0.0/8 feed 2 pref 30 via 192.0.2.2\n"
+unfolding row_text route_text
+a_row = rw (written_10_0_0_0_8, written_192_0_2_2, written_30, written_2) refl
+
+-- count_text
+the_count_of_four : count_text 4 ≡ codes "table 4\n"
+unfolding count_text
+the_count_of_four = rw written_4 refl
 
 -- the route of that command, as feed 1's
 abbrev route_10 : Route
@@ -299,6 +556,151 @@ one_row = rw (written_10_0_0_0_8, written_1, written_100, written_192_0_2_1) ref
 the_empty_table : table_text [] ≡ codes "table 0\n"
 unfolding count_text
 the_empty_table = rw written_0 refl
+
+a_table_of_two :
+    table_text (route_via ten_8 2 30 (via_192_0_2 2) ∷ route_via ten_9_16 3 10 Discard ∷ [])
+    ≡ codes "table 2\n10.0.0.0/8 feed 2 pref 30 via 192.0.2.2\n10.9.0.0/16 feed 3 pref 10 via discard\n"
+unfolding count_text row_text route_text
+a_table_of_two = rw (written_10_0_0_0_8, written_10_9_0_0_16, written_192_0_2_2, written_2, written_3, written_10, written_30) refl
+
+-- the three files of the tutorial, and what became of their lines
+abbrev pub north : List ℕ
+north = codes "# Has a way to all of 10.0.0.0/8, and a better one to a part of it.\nadd 10.0.0.0/8 50 192.0.2.1\nadd 10.1.0.0/16 10 192.0.2.1\nlookup 10.1.2.3\n"
+
+abbrev pub north_read : List LineOutcome
+north_read =
+    skipped
+    ∷ asked (Add ten_8 50 (via_192_0_2 1)) (outcome.Did Added)
+    ∷ asked (Add ten_1_16 10 (via_192_0_2 1)) (outcome.Did Added)
+    ∷ asked (Lookup at_10_1_2_3) (outcome.Did (Found (route_via ten_1_16 1 10 (via_192_0_2 1)))) ∷ []
+
+abbrev pub south_lines : List ℕ
+south_lines = codes "# Loses its neighbour, takes back all that it said, and comes up again with one way.\nadd 10.0.0.0/8 20 192.0.2.2\nadd 10.2.0.0/16 20 192.0.2.2\npurge\nadd 10.0.0.0/8 30 192.0.2.2\n"
+
+abbrev pub south : List ℕ
+south = codes "version 2\n" ++ south_lines
+
+abbrev pub south_read : List LineOutcome
+south_read =
+    skipped
+    ∷ asked (Add ten_8 20 (via_192_0_2 2)) (outcome.Did Added)
+    ∷ asked (Add ten_2_16 20 (via_192_0_2 2)) (outcome.Did Added)
+    ∷ asked Purge (outcome.Did (Purged 2))
+    ∷ asked (Add ten_8 30 (via_192_0_2 2)) (outcome.Did Added) ∷ []
+
+abbrev pub east_lines : List ℕ
+east_lines = codes "# Discards what nobody is to reach, and takes back one way.\nadd 10.9.0.0/16 10 discard\nadd 10.3.0.0/16 10 192.0.2.3\nwithdraw 10.3.0.0/16\nlookup 10.9.0.1\n"
+
+abbrev pub east : List ℕ
+east = codes "version 2\n" ++ east_lines
+
+abbrev pub east_read : List LineOutcome
+east_read =
+    skipped
+    ∷ asked (Add ten_9_16 10 Discard) (outcome.Did Added)
+    ∷ asked (Add ten_3_16 10 (via_192_0_2 3)) (outcome.Did Added)
+    ∷ asked (Withdraw ten_3_16) (outcome.Did Withdrawn)
+    ∷ asked (Lookup at_10_9_0_1) (outcome.Did (Found (route_via ten_9_16 3 10 Discard))) ∷ []
+
+-- a line that an LF ends is cut there
+cut : (line left : List ℕ) → list_any (λ byte. eqb byte lf) line ≡ false → CutsLine (line ++ lf ∷ left) line left
+cut line left none = record { unbroken = unbroken line none; ended = inl refl }
+
+-- LinesBecome
+lines_of_north : LinesBecome One north north_read []
+lines_of_north = (
+  codes "# Has a way to all of 10.0.0.0/8, and a better one to a part of it.",
+  _,
+  cut (codes "# Has a way to all of 10.0.0.0/8, and a better one to a part of it.") _ refl,
+  (omega arith, refl),
+  (
+    codes "add 10.0.0.0/8 50 192.0.2.1",
+    _,
+    cut (codes "add 10.0.0.0/8 50 192.0.2.1") _ refl,
+    ((omega arith, omega arith), rw (written_10_0_0_0_8, written_50, written_192_0_2_1) refl),
+    (
+      codes "add 10.1.0.0/16 10 192.0.2.1",
+      _,
+      cut (codes "add 10.1.0.0/16 10 192.0.2.1") _ refl,
+      ((omega arith, omega arith), rw (written_10_1_0_0_16, written_10, written_192_0_2_1) refl),
+      (codes "lookup 10.1.2.3", _, cut (codes "lookup 10.1.2.3") _ refl, (omega arith, rw written_10_1_2_3 refl), refl),
+    ),
+  ),
+)
+
+lines_of_south : LinesBecome Two south_lines south_read []
+lines_of_south = (
+  codes "# Loses its neighbour, takes back all that it said, and comes up again with one way.",
+  _,
+  cut (codes "# Loses its neighbour, takes back all that it said, and comes up again with one way.") _ refl,
+  (omega arith, refl),
+  (
+    codes "add 10.0.0.0/8 20 192.0.2.2",
+    _,
+    cut (codes "add 10.0.0.0/8 20 192.0.2.2") _ refl,
+    ((omega arith, omega arith), rw (written_10_0_0_0_8, written_20, written_192_0_2_2) refl),
+    (
+      codes "add 10.2.0.0/16 20 192.0.2.2",
+      _,
+      cut (codes "add 10.2.0.0/16 20 192.0.2.2") _ refl,
+      ((omega arith, omega arith), rw (written_10_2_0_0_16, written_20, written_192_0_2_2) refl),
+      (
+        codes "purge",
+        _,
+        cut (codes "purge") _ refl,
+        (refl, refl),
+        (codes "add 10.0.0.0/8 30 192.0.2.2", _, cut (codes "add 10.0.0.0/8 30 192.0.2.2") _ refl, ((omega arith, omega arith), rw (written_10_0_0_0_8, written_30, written_192_0_2_2) refl), refl),
+      ),
+    ),
+  ),
+)
+
+lines_of_east : LinesBecome Two east_lines east_read []
+lines_of_east = (
+  codes "# Discards what nobody is to reach, and takes back one way.",
+  _,
+  cut (codes "# Discards what nobody is to reach, and takes back one way.") _ refl,
+  (omega arith, refl),
+  (
+    codes "add 10.9.0.0/16 10 discard",
+    _,
+    cut (codes "add 10.9.0.0/16 10 discard") _ refl,
+    ((omega arith, refl), rw (written_10_9_0_0_16, written_10) refl),
+    (
+      codes "add 10.3.0.0/16 10 192.0.2.3",
+      _,
+      cut (codes "add 10.3.0.0/16 10 192.0.2.3") _ refl,
+      ((omega arith, omega arith), rw (written_10_3_0_0_16, written_10, written_192_0_2_3) refl),
+      (
+        codes "withdraw 10.3.0.0/16",
+        _,
+        cut (codes "withdraw 10.3.0.0/16") _ refl,
+        (tt, rw written_10_3_0_0_16 refl),
+        (codes "lookup 10.9.0.1", _, cut (codes "lookup 10.9.0.1") _ refl, (omega arith, rw written_10_9_0_1 refl), refl),
+      ),
+    ),
+  ),
+)
+
+no_line_left_out : ¬ LinesBecome One (codes "dump\n") [] []
+no_line_left_out same = cc
+
+-- north's first byte is none of `version 2`
+north_tells_no_version : (rest : List ℕ) → ¬ TellsTwo north rest
+north_tells_no_version rest h = elim h.ended [
+  | inl ended ↦ let first : 35 ≡ 118 = ap (λ text. slice_index text 0) ended in omega (arith, first)
+  | inr whole ↦ let first : 35 ≡ 118 = ap (λ text. slice_index text 0) whole.0 in omega (arith, first)
+]
+
+-- Becomes
+pub what_north_becomes : Becomes north north_read []
+what_north_becomes = record { version = One; lines = north; read = north_read; body = (north_tells_no_version, refl); become = lines_of_north; joined = refl }
+
+pub what_south_becomes : Becomes south (skipped ∷ south_read) []
+what_south_becomes = record { version = Two; lines = south_lines; read = south_read; body = cut (codes "version 2") south_lines refl; become = lines_of_south; joined = refl }
+
+pub what_east_becomes : Becomes east (skipped ∷ east_read) []
+what_east_becomes = record { version = Two; lines = east_lines; read = east_read; body = cut (codes "version 2") east_lines refl; become = lines_of_east; joined = refl }
 
 -- found_text
 a_route_was_found : found_text at_192_0_2_1 (Some route_10) ≡ codes "192.0.2.1 route 10.0.0.0/8 feed 1 pref 100 via 192.0.2.1\n"
