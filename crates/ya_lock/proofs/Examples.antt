@@ -18,7 +18,7 @@ use Rattle.ya_lock.specs.declared.view.View.TheVariants.{Stranger, Maker, Filler
 use Rattle.ya_lock.specs.Rule.{index_of, making_index, words_in}
 use Rattle.ya_lock.specs.Meaning.{IsOf, IsFilling, IsMaking, HasProcess, IsAway, NoneInside, ShowsCore, GoesOn, SomeSeatGoesOn}
 use Rattle.ya_lock.specs.Meaning.{OneSeatAPlace, OneInside, LiesHome, IsFresh, IsMadeByOne, IsLockState}
-use Rattle.ya_lock.proofs.Words.{words_zero, words_beyond}
+use Rattle.ya_lock.proofs.Words.{words_zero, words_behind}
 
 -- index_of
 the_last_word_of_one_level : index_of 1 (P 1 1) ≡ 32
@@ -222,7 +222,7 @@ nobody_knows_anything_before h = let stranger = h.strangers refl 0 (Member 0 Idl
 all_idle : ShowsCore both_away 1
 all_idle = (
   λ place. Idle,
-  subst (λ (words : Word → ℕ). IsSound 1 record { words = words; processes = λ place. Idle }) (sym (words_beyond 1 (replicate 41 0) 1 ∙ words_zero 1 41)) (opens 1),
+  subst (λ (words : Word → ℕ). IsSound 1 record { words = words; processes = λ place. Idle }) (sym (words_behind 1 (making_index 1) (replicate 41 0) 1 (omega arith) ∙ words_zero 1 41)) (opens 1),
   λ seat place process value has. (away_both seat place process value has).1,
   λ place none. refl,
 )
