@@ -82,7 +82,7 @@ impl<V: Kept + Drop, const L: u32> TreeLock<V, L> {
     /// Makes the accesses of a level where a rival competes, until it is won. They are written out too. The rival was
     /// read at e4; `spin` alone waits, at e8 and e10.
     #[inline(never)]
-    fn compete<R: Wait>(
+    pub(crate) fn compete<R: Wait>(
         &self,
         rt: &R,
         seat: &mut LockSeat<V>,
@@ -209,7 +209,12 @@ impl<V: Kept + Drop, const L: u32> TreeLock<V, L> {
 
     /// What the walker has climbed, where it is at the first access of a level or inside.
     #[inline(always)]
-    fn climbed(&self, seat: &LockSeat<V>, walker: &Walker, seen: &Recall<V>) -> Option<Climb>
+    pub(crate) fn climbed(
+        &self,
+        seat: &LockSeat<V>,
+        walker: &Walker,
+        seen: &Recall<V>,
+    ) -> Option<Climb>
         requires levels { walker.now.levels ≡ L }
         requires coming { IsComing V.since seen.now.value walker.now seat.now.me }
         ensures some { IfSome result
@@ -251,7 +256,7 @@ impl<V: Kept + Drop, const L: u32> TreeLock<V, L> {
 
     /// The next access of an entry.
     #[inline(always)]
-    fn come(&self, seat: &mut LockSeat<V>, walker: &mut Walker, seen: &Recall<V>)
+    pub(crate) fn come(&self, seat: &mut LockSeat<V>, walker: &mut Walker, seen: &Recall<V>)
         requires lock { seat.old.table_id ≡ self.now }
         requires levels { walker.old.levels ≡ L }
         requires coming { IsComing V.since seen.now.value walker.old seat.old.me }

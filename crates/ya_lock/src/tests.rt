@@ -10,6 +10,7 @@ use std::test::Fail;
 use std::thread::Threads;
 use std::time::Duration;
 use std::{hint, thread};
+use ya_core::Walker;
 
 /// A number that any place may change in any way.
 #[derive(Debug, Drop, PartialEq)]
@@ -95,7 +96,7 @@ impl Hold {
         match self {
             Hold::Nothing => {}
             Hold::Spins => {
-                for _ in 0..round % 512 {
+                for _ in 0..round.wrapping_mul(61) % 2048 {
                     hint::spin_loop();
                 }
             }
@@ -249,36 +250,62 @@ fn a_thread_for_each_place_counts(rt: HostRuntime) -> Result<(), Fail> {
     Ok(())
 }
 
-// Whether 2, 8 and 64 threads at each height make so many marks each, fewer where they are many.
+// Whether so many threads at each height make so many marks each.
 fn all_heights_are_counted<R: Threads + Wait + Clock + Sync>(
     rt: &R,
     alloc: Global,
+    threads: usize,
     times: usize,
     hold: Hold,
 ) -> Result<bool, Fail> {
-    let mut all = true;
-    for threads in [2, 8, 64] {
-        let each = times / threads;
-        all &= all_are_counted::<_, 1>(rt, alloc, threads, each, hold)?;
-        all &= all_are_counted::<_, 2>(rt, alloc, threads, each, hold)?;
-        all &= all_are_counted::<_, 3>(rt, alloc, threads, each, hold)?;
-        all &= all_are_counted::<_, 4>(rt, alloc, threads, each, hold)?;
-        all &= all_are_counted::<_, 5>(rt, alloc, threads, each, hold)?;
-        all &= all_are_counted::<_, 6>(rt, alloc, threads, each, hold)?;
-    }
+    let mut all = all_are_counted::<_, 1>(rt, alloc, threads, times, hold)?;
+    all &= all_are_counted::<_, 2>(rt, alloc, threads, times, hold)?;
+    all &= all_are_counted::<_, 3>(rt, alloc, threads, times, hold)?;
+    all &= all_are_counted::<_, 4>(rt, alloc, threads, times, hold)?;
+    all &= all_are_counted::<_, 5>(rt, alloc, threads, times, hold)?;
+    all &= all_are_counted::<_, 6>(rt, alloc, threads, times, hold)?;
     Ok(all)
 }
 
 #[test]
 fn threads_that_sleep_are_woken(rt: HostRuntime) -> Result<(), Fail> {
-    assert!(rt; all_heights_are_counted(&rt, rt.alloc(), 256, Hold::Sleeps)?);
+    assert!(rt; all_heights_are_counted(&rt, rt.alloc(), 2, 100, Hold::Sleeps)?);
+    assert!(rt; all_heights_are_counted(&rt, rt.alloc(), 8, 25, Hold::Sleeps)?);
+    assert!(rt; all_heights_are_counted(&rt, rt.alloc(), 64, 4, Hold::Sleeps)?);
     Ok(())
 }
 
 #[test]
 fn no_wake_is_lost(rt: HostRuntime) -> Result<(), Fail> {
-    assert!(rt; all_heights_are_counted(&rt, rt.alloc(), 4_096, Hold::Spins)?);
+    assert!(rt; all_heights_are_counted(&rt, rt.alloc(), 2, 10_000, Hold::Spins)?);
+    assert!(rt; all_heights_are_counted(&rt, rt.alloc(), 8, 500, Hold::Spins)?);
+    assert!(rt; all_heights_are_counted(&rt, rt.alloc(), 64, 60, Hold::Spins)?);
     Ok(())
+}
+
+// Comes in so slowly that a rival which finds it there sleeps until it has announced itself.
+fn come_slowly<R: Wait + Clock>(rt: &R, lock: &TreeLock<Marks, 1>, pass: Pass<Marks>) -> bool
+    requires { pass.lock ≡ lock.now }
+{
+    let _ = &lock.table;
+    let Pass {
+        mut seat,
+        place,
+        remote: _,
+        seen,
+    } = pass;
+    let mut walker = Walker::new(TreeLock::<Marks, 1>::shape(), place);
+    walker.begin_entry();
+    lock.come(&mut seat, &mut walker, &seen);
+    thread::sleep(rt, Duration::from_millis(50));
+    lock.come(&mut seat, &mut walker, &seen);
+    lock.come(&mut seat, &mut walker, &seen);
+    lock.come(&mut seat, &mut walker, &seen);
+    let competes = lock.climbed(&seat, &walker, &seen).is_none();
+    if competes {
+        let _ = lock.compete(rt, &mut seat, place, walker, &seen);
+    }
+    competes
 }
 
 // Is inside for a fifth of a second.
@@ -320,6 +347,29 @@ fn time_of_a_wait<R: Threads + Wait + Clock + CpuClock + Sync>(
         move || time_of(rt, shared, second),
     );
     Ok(time.ok_or("a clock")?)
+}
+
+// Whether a place that sleeps until its rival announces itself comes in, and the rival after it.
+fn both_come_in<R: Threads + Wait + Clock + CpuClock + Sync>(
+    rt: &R,
+    alloc: Global,
+) -> Result<bool, Fail> {
+    let (lock, mut passes) = made::<Marks, 1>(alloc, Marks::new(alloc))?;
+    let second = passes.pop().ok_or("a second pass")?;
+    let first = passes.pop().ok_or("a first pass")?;
+    let shared = &lock;
+    let (competed, time) = thread::join(
+        rt,
+        move || come_slowly(rt, shared, first),
+        move || time_of(rt, shared, second),
+    );
+    Ok(competed && time.is_some())
+}
+
+#[test]
+fn a_place_that_sleeps_is_woken_by_a_rival_that_came_later(rt: HostRuntime) -> Result<(), Fail> {
+    assert!(rt; both_come_in(&rt, rt.alloc())?);
+    Ok(())
 }
 
 #[test]
