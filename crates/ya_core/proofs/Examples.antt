@@ -432,10 +432,10 @@ abbrev gone_from : ℕ → ℕ → State → Process → State
 gone_from levels place s process =
     gone place s (access_of levels place process) (next_of levels place process (value_of s.words (access_of levels place process)))
 
-abbrev after : ℕ → ℕ → State → State
+abbrev pub after : ℕ → ℕ → State → State
 after levels place s = gone_from levels place s (s.processes place)
 
-steps_to : (levels place : ℕ) (s : State) → place < 2 ^ levels → StepsTo levels place s (after levels place s)
+pub steps_to : (levels place : ℕ) (s : State) → place < 2 ^ levels → StepsTo levels place s (after levels place s)
 steps_to levels place s room = record {
   in_tree = room;
   words = words_after_are (access_of levels place (s.processes place)) s.words;
