@@ -16,8 +16,8 @@ use Rattle.rt_feed.specs.declared.faults.RunFault.TheVariants as fault
 use Rattle.rt_app.specs.declared.faults.AppFault.{AppFault}
 use Rattle.rt_app.specs.declared.faults.AppFault.TheVariants.{Run, Replay, Write}
 
--- the feed's whole text became these lines. Its commands are cut into pieces of `batch`, and what was answered of each
--- piece stands uncut in the journal, in this order, which has no other entry of the feed
+-- the feed's whole text became these lines. Its commands are cut into pieces of `batch`, what was answered of each piece
+-- stands uncut in the journal, in this order, and no other entry of the journal is the feed's
 pub record Explains (batch feed : ℕ) (journal : List Entry) (text : List ℕ) (lines : List LineOutcome) : Type 0 where
   pub becomes : Becomes text lines []
   pub pieces : List (List (Cmd × Outcome))
@@ -58,8 +58,8 @@ pub record IsRunText (texts : List (List ℕ)) (limit batch : ℕ) (bytes : List
   pub printed : bytes ≡ reports_text 1 (map (report_lines 1) outcomes) ++ table_text (table_left limit journal)
   pub is_status : status ≡ status_of outcomes
 
--- what a run leaves in its writer: such a text; nothing where it was refused, which it never is as F2; a beginning of
--- such a text where it could not be written
+-- what a run leaves in its writer: such a text; nothing where it was refused, which it never is as F2, nor as a replay is;
+-- a beginning of such a text where it could not be written
 abbrev pub Leaves : List (List ℕ) → ℕ → ℕ → Option (List ℕ) → Option (List ℕ) → Result ℕ AppFault → Type 0
 Leaves texts limit batch old new (Ok status) = (bytes : List ℕ) × IsRunText texts limit batch bytes status × Appends old new bytes
 Leaves texts limit batch old new (Err (Run refusal)) = (refusal ≢ fault.FeedCount) × (new ≡ old)

@@ -52,13 +52,13 @@ EndsInUnion =
     (texts : List (List ℕ)) (limit batch : ℕ) (bytes : List ℕ) (status : ℕ) (run : IsRunText texts limit batch bytes status) → status ≢ 5
     → (union : List Route) × IsUnion texts limit union × (bytes ≡ printed_reports run.outcomes ++ table_text union)
 
--- and each feed's commands on its own routes were answered as if there were no other feed
+-- there each feed's commands on its own routes were answered as if there were no other feed
 abbrev pub AnswersAlone : Type 0
 AnswersAlone =
     (texts : List (List ℕ)) (limit batch : ℕ) (bytes : List ℕ) (status : ℕ) (run : IsRunText texts limit batch bytes status) → status ≢ 5
     → (k : ℕ) (lines : List LineOutcome) → slice_get run.outcomes k ≡ Some lines → IsAnsweredAlone limit (k + 1) (asked_of lines)
 
--- so two runs of the same texts and limit end in one table, whatever their batches and however their threads ran
+-- so two such runs of the same texts and limit end in one table, whatever their batches and however their threads ran
 abbrev pub EndInOneTable : Type 0
 EndInOneTable =
     (texts : List (List ℕ)) (limit batch batch' : ℕ) (bytes bytes' : List ℕ) (status status' : ℕ)

@@ -37,7 +37,7 @@ abbrev pub HasHop : Version → Hop → Type 0
 HasHop version (Via address) = address.0 < 2 ^ 32
 HasHop version Discard = version ≡ Two
 
--- texts of this version have the command: `purge` came with version 2; its numbers have 32 bits
+-- texts of this version have the command: `purge` came with version 2; a preference and an address have 32 bits
 abbrev pub HasCommand : Version → Cmd → Type 0
 HasCommand version (Add prefix pref hop) = (pref < 2 ^ 32) × HasHop version hop
 HasCommand version (Replace prefix pref hop) = (pref < 2 ^ 32) × HasHop version hop

@@ -13,10 +13,11 @@ use Rattle.rt_rib.specs.Offers.{IsOffers}
 abbrev pub Map : Type 0
 Map = Pairs (List Offer)
 
--- the route that an offer makes of a prefix, and what a route offers for its prefix
+-- the route that an offer makes of a prefix
 abbrev pub route_by : Prefix → Offer → Route
 route_by p o = record { prefix = p; feed = o.feed; pref = o.pref; hop = o.hop }
 
+-- what a route offers for its prefix
 abbrev pub offer_of : Route → Offer
 offer_of r = record { feed = r.feed; pref = r.pref; hop = r.hop }
 

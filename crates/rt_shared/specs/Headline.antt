@@ -28,7 +28,8 @@ journal_of content = map (λ x. entry_of x.0 x.1) content
 abbrev pub IsSequential : ℕ → List (Marked Act) → Marked Act → Type 0
 IsSequential limit earlier x = IsAnswered limit (journal_of earlier) (entry_of x.0 x.1)
 
--- some list of events leads to the world, in which each command was so answered in the copy that it was appended to
+-- in a tree of at least one level some list of events leads to the world, and each command was so answered in the copy
+-- that it was appended to
 abbrev pub IsRunTo : (limit levels : ℕ) → World Act → Type 0
 IsRunTo limit levels world = (1 ≤ levels) × (events : List (Event Act)) × IsReached levels (IsSequential limit) events world
 

@@ -8,7 +8,7 @@ use Rattle.rt_shared.specs.Visits.{AllBy, Since}
 abbrev pub feed_of : ℕ → ℕ
 feed_of place = place + 1
 
--- nothing but the journal has changed
+-- the limit and the number of feeds are the same
 pub record IsSameBut (a b : Lent) : Type 0 where
   pub limit : b.book.limit ≡ a.book.limit
   pub feeds : b.feeds ≡ a.feeds

@@ -33,7 +33,7 @@ pub record IsAtRest (s : Moment) : Type 0 where
   pub lawful : IsLawfulJournal lent.book.limit lent.book.journal
   pub since : (seat place : ℕ) (seen : Lent) → IsAway s seat place seen → Since (feed_of place) seen.book.journal lent.book.journal
 
--- no two are inside; and whenever none is, by the words and the views of all seats, the book is at rest
+-- no two are inside; and once a pass was made, whenever none is inside, by the views of all seats, the book is at rest
 pub record MeetsHeadline (s : Moment) : Type 0 where
   pub exclusion : OneInside s
   pub at_rest : HasPass s → NoneInside s → IsAtRest s

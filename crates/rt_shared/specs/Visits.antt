@@ -10,7 +10,7 @@ use Rattle.rt_shared.specs.declared.outcome.Outcome.TheVariants.{Did, Refused}
 abbrev pub AllBy : ℕ → List Entry → Type 0
 AllBy feed entries = All (λ e. e.feed ≡ feed) entries
 
--- none of them is
+-- none of these entries is the feed's
 abbrev pub NoneBy : ℕ → List Entry → Type 0
 NoneBy feed entries = All (λ e. e.feed ≢ feed) entries
 

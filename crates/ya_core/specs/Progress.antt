@@ -20,7 +20,7 @@ pub record SomeoneGoesOn (levels : ℕ) (s : State) : Type 0 where
 abbrev pub CanLeadTo : ℕ → State → (State → Type 0) → Type 0
 CanLeadTo levels s So = (places : List ℕ) × (after : State) × LeadTo levels s places after × So after
 
--- the same in a world
+-- some place that takes part has a step of the world that changes its process
 pub record SomeoneGoesOnIn {X : Type 0} (levels : ℕ) (world : World X) : Type 0 where
   pub place : ℕ
   pub busy : world.state.processes place ≢ Idle
@@ -39,7 +39,7 @@ abbrev pub is_entering : ℕ → Process → Bool
 is_entering level (Entering stands point) = level == stands
 is_entering level _ = false
 
--- it is to announce itself there
+-- the process is to announce itself at the level
 abbrev pub is_to_announce : ℕ → Process → Bool
 is_to_announce level (Entering stands E2) = level == stands
 is_to_announce level _ = false

@@ -92,7 +92,7 @@ abbrev pub Accesses : Access → (Word → ℕ) → (Word → ℕ) → Type 0
 Accesses (Load word) old new = (other : Word) → new other ≡ old other
 Accesses (Store word value) old new = (new word ≡ value) × ((other : Word) → other ≢ word → new other ≡ old other)
 
--- one atomic step of the place: its access happens, it goes on by the value, and all other processes stay
+-- one atomic step of a place of the tree: its access happens, it goes on by the value, and all other processes stay
 pub record StepsTo (levels place : ℕ) (old new : State) : Type 0 where
   pub in_tree : place < 2 ^ levels
   pub words : Accesses (access_of levels place (old.processes place)) old.words new.words

@@ -210,7 +210,7 @@ abbrev pub Goes : Walk → List ℕ → Walk → Type 0
 Goes w [] v = v ≡ w
 Goes w (value ∷ values) v = IsTold (due w) value × Goes (walk_after w value) values v
 
--- the walk of a place that was idle and was told to go on, of which no remote access is counted yet
+-- the walk of a place that is idle and was told to go on, of which no remote access is counted yet
 pub record Enters (w : Walk) : Type 0 where
   pub process : w.process ≡ Idle
   pub begun : w.begun ≡ true

@@ -39,8 +39,8 @@ pub data Event (X : Type 0) : Type 0 where
 abbrev pub opening_world : {X : Type 0} → World X
 opening_world {X} = record { state = opening; content = []; copies = λ _. []; doing = λ _. []; made = λ _. [] }
 
--- a step: the one that wins the root copies the content, and the one that gives up the root writes the copy over the
--- content, whole
+-- a step of the place: the one that wins the root copies the content, and nothing is done yet in this passage; the one that
+-- gives up the root writes the copy over the content, whole, and what was done is made
 pub record WorldSteps {X : Type 0} (levels place : ℕ) (old new : World X) : Type 0 where
   pub state : StepsTo levels place old.state new.state
   pub copy : new.copies place ≡ (if is_inside (new.state.processes place) then old.content else old.copies place)
@@ -66,12 +66,12 @@ pub record WorldAppends {X : Type 0} (may : List (Marked X) → Marked X → Typ
   pub others_doing : (other : ℕ) → other ≢ place → new.doing other ≡ old.doing other
   pub others_made : (other : ℕ) → other ≢ place → new.made other ≡ old.made other
 
--- one event
+-- the event leads from the old world to the new one
 abbrev pub Happens : {X : Type 0} → ℕ → (List (Marked X) → Marked X → Type 0) → Event X → World X → World X → Type 0
 Happens levels may (Steps place) old new = WorldSteps levels place old new
 Happens levels may (Appends place entry) old new = WorldAppends may place entry old new
 
--- any list of events, one after another
+-- these events, one after another, lead from the old world to the new one
 abbrev pub Runs : {X : Type 0} → ℕ → (List (Marked X) → Marked X → Type 0) → World X → List (Event X) → World X → Type 0
 Runs {X} levels may old [] new = new ≡ old
 Runs {X} levels may old (event ∷ events) new =

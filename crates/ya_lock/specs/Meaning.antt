@@ -19,28 +19,28 @@ module _ {V : Type 0} where
   IsOf (Confirmer place value other seen count) p x v = (place ≡ p) × (Inside ≡ x) × (value ≡ v)
   IsOf _ p x v = ⊥
 
-  -- the seat is to make the passes, and hasn't given the value yet
+  -- a seat of this view is to make the passes, and hasn't given the value yet
   abbrev pub IsFilling : View V → Type 0
   IsFilling Maker = Unit {0}
   IsFilling Filler = Unit {0}
   IsFilling _ = ⊥
 
-  -- it is to make the passes of the places from some one on
+  -- a seat of this view is to make the passes, or those of the places from some one on
   abbrev pub IsMaking : View V → Type 0
   IsMaking (Dealer first value) = Unit {0}
   IsMaking view = IsFilling view
 
   module _ (s : State (std.Option V) (View V)) where
-    -- the seat has the process of the place
+    -- the seat's view is that of the place's process, which has seen the value or, inside, found it
     abbrev pub HasProcess : ℕ → ℕ → Process → V → Type 0
     HasProcess seat place process value =
         (view : View V) × (get_elem? s.views seat ≡ some view) × IsOf view place process value
 
-    -- it has one that isn't inside
+    -- the seat has the place's process, which isn't inside and has seen the value
     abbrev pub IsAway : ℕ → ℕ → V → Type 0
     IsAway seat place value = (process : Process) × (process ≢ Inside) × HasProcess seat place process value
 
-    -- no seat has one that is inside
+    -- no seat has a process that is inside
     abbrev pub NoneInside : Type 0
     NoneInside = (seat place : ℕ) (value : V) → ¬ HasProcess seat place Inside value
 
@@ -53,11 +53,12 @@ module _ {V : Type 0} where
         × ((place : ℕ) → ((seat : ℕ) (process : Process) (value : V) → ¬ HasProcess seat place process value)
         → processes place ≡ Idle)
 
-    -- where some seat's process takes part, some seat has one that takes part and goes on by the words as they are
+    -- by the words as they are, a step of the place's process leads to another process
     abbrev pub GoesOn : ℕ → ℕ → Process → Type 0
     GoesOn levels place process =
         next_of levels place process (value_of (words_in levels s.words) (access_of levels place process)) ≢ process
 
+    -- where some seat's process takes part, some seat has one that takes part and goes on
     abbrev pub SomeSeatGoesOn : ℕ → Type 0
     SomeSeatGoesOn levels =
         (seat place : ℕ) (process : Process) (value : V) → HasProcess seat place process value → process ≢ Idle
@@ -87,8 +88,8 @@ module _ {V : Type 0} where
         → ((s.homes ≡ some (Some now) ∷ [] → since place seen now)
         × ((one other : ℕ) → HasProcess one other Inside now → since place seen now))
 
-    -- how the passes are made: nobody knows anything and the slot is empty until one seat, the only one, begins to; it
-    -- has all places from the next one on to itself
+    -- how the passes are made: while the making word is 0 nobody knows anything and the slot is empty; one seat makes
+    -- them; until it gave the value no seat has a process, and then none has that of a place whose pass is still to be made
     pub record IsMadeByOne (levels : ℕ) : Type 0 where
       pub strangers : slice_index s.words (making_index levels) ≡ 0 → (seat : ℕ) (view : View V)
           → get_elem? s.views seat ≡ some view → view ≡ Stranger

@@ -15,7 +15,7 @@ use Rattle.ya_core.specs.Worlds.{is_inside}
 use Rattle.ya_lock.specs.declared.view.View.{View}
 use Rattle.ya_lock.specs.declared.view.View.TheVariants.{Stranger, Maker, Filler, Dealer, Member, Confirmer, Spent}
 
--- the words of the tree lie a cache line apart, in the order of their numbers, and behind them lies the making word
+-- where a word of the tree lies: in the order of their numbers, a cache line apart
 unfoldable pub index_of : ℕ → Word → ℕ
 index_of levels word = 8 * number_of levels word
 
