@@ -8,12 +8,12 @@ use Rattle.rt_cidr.proofs.Promised.{written_0, written_1, written_2, written_3, 
 use Rattle.rt_rib.specs.declared.routes.Hop.TheVariants.{Discard}
 use Rattle.rt_rib.specs.declared.routes.Route.{Route}
 use Rattle.rt_rib.specs.declared.commands.Cmd.{Cmd}
-use Rattle.rt_rib.specs.declared.commands.Cmd.TheVariants.{Add, Withdraw, Lookup, Dump, Purge}
-use Rattle.rt_rib.specs.declared.commands.Reply.TheVariants.{Added, Exists, Withdrawn, Found, Dumped, Purged}
+use Rattle.rt_rib.specs.declared.commands.Cmd.TheVariants.{Add, Dump, Purge}
+use Rattle.rt_rib.specs.declared.commands.Reply.TheVariants.{Added, Exists, Dumped}
 use Rattle.rt_rib.specs.declared.commands.Entry.{Entry}
 use Rattle.rt_rib.specs.Sequential.{reply_of, table_after}
 use Rattle.rt_rib.specs.Journal.{table_left, IsAnswered, IsLawfulJournal}
-use Rattle.rt_rib.proofs.Promised.{ten_8, ten_1_16, ten_2_16, ten_3_16, ten_9_16, at_10_1_2_3, at_10_9_0_1, via_192_0_2, route_via, entry, tutorial, the_journal_of_the_tutorial, the_table_of_the_tutorial}
+use Rattle.rt_rib.proofs.Promised.{ten_8, ten_2_16, ten_9_16, via_192_0_2, route_via, tutorial, the_journal_of_the_tutorial, the_table_of_the_tutorial}
 use Rattle.rt_shared.specs.Visits.{Uncut}
 use Rattle.rt_shared.specs.declared.outcome.Outcome.{Outcome}
 use Rattle.rt_shared.specs.declared.outcome.Outcome.TheVariants.{Did, Refused}

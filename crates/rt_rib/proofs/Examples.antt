@@ -1,5 +1,5 @@
 -- Examples by which definitions are tested, each under a line with the definition's name. Both sides are computed.
-use Rattle.std.proofs.Common.{◌≡◌, ℕ, ◌+◌, Bool, true, false, if◌then◌else◌, Some, None, List, [], ◌∷◌, ◌++◌, refl, subst, arith}
+use Rattle.std.proofs.Common.{◌≡◌, ℕ, ◌+◌, Bool, true, false, if◌then◌else◌, Some, None, List, [], ◌∷◌, ◌++◌, refl, sym, subst, arith}
 use Rattle.std.proofs.lemmas.List.Elements.{All-nil, All-cons}
 use Rattle.std.proofs.lemmas.List.Kept.{AllPairs-cons}
 use Rattle.rt_cidr.specs.declared.address.Addr.{Addr}
@@ -570,3 +570,15 @@ a_node_too_many_was_counted h = let count = h.lawful.count in cc
 
 a_node_without_its_value : ¬ HoldsRoutesLeft (book_with (record { pairs = two_prefixes; nodes = 2; tree = Node ten_8 false (Node ten_1_16 true Vacant Vacant) Vacant }))
 a_node_without_its_value h = let stored = h.lawful.stored in cc
+
+-- a book without a route
+abbrev pub empty_book : List Entry → Contents
+empty_book journal = record { limit = 1; journal = journal; trie = record { pairs = []; nodes = 0; tree = Vacant }; room = 0 }
+
+pub holds_no_route : (journal : List Entry) → table_left 1 journal ≡ [] → HoldsRoutesLeft (empty_book journal)
+holds_no_route journal none = record {
+  lawful = record { tree = tt; stored = refl; count = refl };
+  map = record { ordered = tt; each = λ p offers found. cc };
+  exactly = sym none;
+  once = IsTable-left 1 journal;
+}

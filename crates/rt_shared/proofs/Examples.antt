@@ -1,11 +1,31 @@
 -- Examples by which definitions are tested, each under a line with the definition's name. Both sides are computed.
-use Rattle.std.proofs.Common.{◌≡◌, ◌≢◌, ℕ, List, [], ◌∷◌, ◌++◌, refl, sym, ap, arith}
+use Rattle.std.proofs.Common.{◌≡◌, ◌≢◌, ℕ, zero, suc, ◌≤◌, None, Some, List, [], ◌∷◌, ◌++◌, refl, sym, ap, subst, arith}
+use Rattle.std.specs.Prelude as std
+use mathlib.Core.Option.{Option, none, some, some-injective, some-ne-none}
 use Rattle.std.proofs.lemmas.List.Elements.{All-nil, All-cons}
-use Rattle.rt_rib.specs.declared.commands.Cmd.TheVariants.{Dump, Purge}
-use Rattle.rt_rib.specs.declared.commands.Reply.TheVariants.{Dumped, Purged}
+use Rattle.ya_core.specs.declared.process.Process.{Process}
+use Rattle.ya_core.specs.declared.process.Process.TheVariants.{Idle, Inside}
+use Rattle.ya_core.specs.Tree.{node_of, side_of}
+use Rattle.ya_core.specs.Steps.{opening}
+use Rattle.ya_core.specs.Worlds.{World, Event, Steps, Appends, opening_world}
+use Rattle.ya_core.proofs.Promised.{follow, runs}
+use Rattle.ya_lock.specs.declared.view.View.TheVariants.{Member}
+use Rattle.ya_lock.specs.Meaning.{IsOf, HasProcess}
+use Rattle.rt_rib.specs.declared.routes.Hop.TheVariants.{Discard}
+use Rattle.rt_rib.specs.declared.routes.Route.{Route}
+use Rattle.rt_rib.specs.declared.commands.Cmd.TheVariants.{Add, Lookup, Dump, Purge}
+use Rattle.rt_rib.specs.declared.commands.Reply.TheVariants.{Added, Found, Dumped, Purged}
 use Rattle.rt_rib.specs.declared.commands.Entry.{Entry}
+use Rattle.rt_rib.specs.LookUp.{look_up}
+use Rattle.rt_rib.specs.Sequential.{reply_of, table_after}
+use Rattle.rt_rib.specs.Journal.{table_left, IsLawfulJournal}
+use Rattle.rt_rib.proofs.Promised.{ten_8, at_10_1_2_3, route_via, entry, empty_book, holds_no_route, IsLawfulJournal-nil, IsLawfulJournal-push}
+use Rattle.rt_shared.specs.declared.lent.Lent.{Lent}
 use Rattle.rt_shared.specs.declared.outcome.Outcome.TheVariants.{Did, Refused}
+use Rattle.rt_shared.specs.Lent.{feed_of, IsSameBut, Grows}
 use Rattle.rt_shared.specs.Visits.{AllBy, NoneBy, Since, answered, Uncut}
+use Rattle.rt_shared.specs.Headline.{Act, entry_of, journal_of, IsSequential, IsRunTo, NoTwoInside, HasAllMade, FindsBest}
+use Rattle.rt_shared.specs.Running.{Moment, HasPass, IsHome, IsAtRest, MeetsHeadline}
 
 -- entries of feed 1 and of feed 2
 abbrev dump : ℕ → Entry
@@ -14,18 +34,26 @@ dump feed = record { feed = feed; cmd = Dump; reply = Dumped 0 }
 abbrev purge : ℕ → Entry
 purge feed = record { feed = feed; cmd = Purge; reply = Purged 0 }
 
+-- NoneBy
 none_by_1 : NoneBy 1 (dump 2 ∷ [])
 none_by_1 = All-cons (λ e. e.feed ≢ 1) (dump 2) [] (λ same. cc) (All-nil (λ e. e.feed ≢ 1))
 
+one_by_1_is : ¬ NoneBy 1 (dump 2 ∷ dump 1 ∷ [])
+one_by_1_is h = h 1 (dump 1) (omega arith) refl
+
+-- AllBy
 both_by_1 : AllBy 1 (dump 1 ∷ purge 1 ∷ [])
 both_by_1 = All-cons (λ e. e.feed ≡ 1) (dump 1) (purge 1 ∷ []) refl (All-cons (λ e. e.feed ≡ 1) (purge 1) [] refl (All-nil (λ e. e.feed ≡ 1)))
+
+one_by_2_is_not : ¬ AllBy 1 (dump 1 ∷ dump 2 ∷ [])
+one_by_2_is_not h = let feed : 2 ≡ 1 = h 1 (dump 1) (omega arith) in omega (arith, feed)
 
 -- Since
 others_have_come : Since 1 (dump 1 ∷ []) (dump 1 ∷ dump 2 ∷ [])
 others_have_come = record { others = dump 2 ∷ []; grown = refl; by_others = none_by_1 }
 
-not_its_own : ¬ Since 1 [] (dump 1 ∷ [])
-not_its_own h = let same : h.others ≡ dump 1 ∷ [] = sym h.grown in h.by_others 0 (dump 1) (rw same (omega arith)) (rw same refl)
+not_its_own : (feed : ℕ) → ¬ Since feed [] (dump feed ∷ [])
+not_its_own feed h = let same : h.others ≡ dump feed ∷ [] = sym h.grown in h.by_others 0 (dump feed) (rw same (omega arith)) (rw same refl)
 
 -- answered
 what_was_refused_has_no_entry : answered 1 (Dump ∷ Purge ∷ Purge ∷ []) (Did (Dumped 0) ∷ Refused ∷ Did (Purged 0) ∷ []) ≡ dump 1 ∷ purge 1 ∷ []
@@ -33,11 +61,11 @@ what_was_refused_has_no_entry = refl
 
 -- an entry of feed 2 stands between the two
 no_piece : (before rest : List Entry) → dump 1 ∷ dump 2 ∷ purge 1 ∷ [] ≡ before ++ (dump 1 ∷ purge 1 ∷ rest) → ¬ NoneBy 1 before
-no_piece [] rest same none =
+no_piece [] rest same free =
     let second : dump 2 ≡ purge 1 = cc in
     let feeds : ◌≡◌ {A = ℕ} 2 1 = ap (λ (one : Entry). one.feed) second in
     omega (arith, feeds)
-no_piece (e ∷ before) rest same none = let first : e ≡ dump 1 = cc in none 0 e (omega arith) (ap (λ (one : Entry). one.feed) first)
+no_piece (e ∷ before) rest same free = let first : e ≡ dump 1 = cc in free 0 e (omega arith) (ap (λ (one : Entry). one.feed) first)
 
 -- Uncut
 in_one_piece : Uncut 1 ((dump 1 ∷ purge 1 ∷ []) ∷ []) (dump 2 ∷ dump 1 ∷ purge 1 ∷ dump 2 ∷ [])
@@ -55,3 +83,168 @@ in_two_visits = (
 
 one_between : ¬ Uncut 1 ((dump 1 ∷ purge 1 ∷ []) ∷ []) (dump 1 ∷ dump 2 ∷ purge 1 ∷ [])
 one_between h = no_piece h.0 h.1 h.2 h.3
+
+-- feed_of
+the_first_place_is_feed_1s : feed_of 0 ≡ 1
+the_first_place_is_feed_1s = refl
+
+-- entry_of
+the_last_place_is_feed_64s : entry_of 63 (Dump, Dumped 0) ≡ dump 64
+the_last_place_is_feed_64s = refl
+
+-- feed 1 puts a route in and feed 2 looks an address up, where both compete for the lock
+abbrev its_route : Route
+its_route = route_via ten_8 1 5 Discard
+
+abbrev both_compete : List (Event Act)
+both_compete =
+    Steps 0 ∷ Steps 1 ∷ Steps 0 ∷ Steps 1 ∷ Steps 0 ∷ Steps 1 ∷ Steps 0 ∷ Steps 1 ∷ Steps 0 ∷ Appends 0 (Add ten_8 5 Discard, Added)
+    ∷ Steps 1 ∷ Steps 1 ∷ Steps 1 ∷ Steps 1 ∷ Steps 0 ∷ Steps 0 ∷ Steps 0
+    ∷ Steps 1 ∷ Steps 1 ∷ Steps 1 ∷ Appends 1 (Lookup at_10_1_2_3, Found its_route) ∷ Steps 1 ∷ Steps 1 ∷ []
+
+abbrev after_both : World Act
+after_both = follow 1 both_compete opening_world
+
+-- journal_of
+an_add_and_then_a_look_up :
+    journal_of after_both.content ≡ entry 1 (Add ten_8 5 Discard) Added ∷ entry 2 (Lookup at_10_1_2_3) (Found its_route) ∷ []
+unfolding node_of side_of
+an_add_and_then_a_look_up = refl
+
+-- IsSequential
+an_empty_table_is_dumped_as_0 : IsSequential 1 [] (0, (Dump, Dumped 0))
+unfolding table_left reply_of
+an_empty_table_is_dumped_as_0 = refl
+
+not_as_1 : ¬ IsSequential 1 [] (0, (Dump, Dumped 1))
+unfolding table_left reply_of
+not_as_1 h = cc
+
+-- IsRunTo
+a_run_in_which_both_are_answered : IsRunTo 1 1 after_both
+unfolding node_of side_of table_left table_after reply_of look_up
+a_run_in_which_both_are_answered = (
+  omega arith,
+  both_compete,
+  runs 1 (IsSequential 1) both_compete opening_world (omega arith, (omega arith, (omega arith, (omega arith, (omega arith, (omega arith, (omega arith, (omega arith, (omega arith, ((refl, refl), (omega arith, (omega arith, (omega arith, (omega arith, (omega arith, (omega arith, (omega arith, (omega arith, (omega arith, (omega arith, ((refl, refl), (omega arith, (omega arith, tt))))))))))))))))))))))),
+)
+
+no_tree_of_no_level : (world : World Act) → ¬ IsRunTo 1 0 world
+no_tree_of_no_level world h = omega (arith, h.0)
+
+-- NoTwoInside
+nobody_at_the_start : NoTwoInside opening_world
+nobody_at_the_start p q one other = cc
+
+not_where_all_are : ¬ NoTwoInside (record { state = record { words = λ word. 0; processes = λ place. Inside }; content = []; copies = λ place. []; doing = λ place. []; made = λ place. [] })
+not_where_all_are h = let same = h 0 1 refl refl in omega (arith, same)
+
+-- HasAllMade
+nothing_at_the_start : HasAllMade opening_world
+nothing_at_the_start place = refl
+
+no_entry_that_nobody_made : ¬ HasAllMade (record { state = opening; content = (0, (Dump, Dumped 0)) ∷ []; copies = λ place. []; doing = λ place. []; made = λ place. [] })
+no_entry_that_nobody_made h = let entries = h 0 in cc
+
+-- FindsBest
+no_look_up_no_wrong_one : FindsBest 1 (dump 1 ∷ [])
+no_look_up_no_wrong_one feed addr r [] later same =
+    let first : dump 1 ≡ entry feed (Lookup addr) (Found r) = cc in
+    let asked : Dump ≡ Lookup addr = ap (λ (e : Entry). e.cmd) first in cc
+no_look_up_no_wrong_one feed addr r (e ∷ []) later same = cc
+no_look_up_no_wrong_one feed addr r (e ∷ f ∷ earlier) later same = cc
+
+nothing_in_an_empty_table : ¬ FindsBest 1 (entry 1 (Lookup at_10_1_2_3) (Found its_route) ∷ [])
+unfolding table_left
+nothing_in_an_empty_table h = let match = h 1 at_10_1_2_3 its_route [] [] refl in omega (arith, match.contained.1)
+
+-- a dump leaves no route
+no_route_by_a_dump : table_left 1 (dump 2 ∷ []) ≡ []
+unfolding table_left table_after
+no_route_by_a_dump = refl
+
+no_route_at_the_start : table_left 1 [] ≡ []
+unfolding table_left
+no_route_at_the_start = refl
+
+lawful_dump : IsLawfulJournal 1 (dump 2 ∷ [])
+unfolding table_left reply_of
+lawful_dump = IsLawfulJournal-push 1 [] (dump 2) (IsLawfulJournal-nil 1) refl
+
+-- the lent book at the start, and after a dump by feed 2
+abbrev new : Lent
+new = record { book = empty_book []; feeds = 2; lawful = IsLawfulJournal-nil 1; holds = holds_no_route [] no_route_at_the_start; of_feeds = All-nil (λ (e : Entry). (1 ≤ e.feed) × (e.feed ≤ 2)); few = omega arith }
+
+abbrev dumped : Lent
+dumped = record { book = empty_book (dump 2 ∷ []); feeds = 2; lawful = lawful_dump; holds = holds_no_route (dump 2 ∷ []) no_route_by_a_dump; of_feeds = All-cons (λ (e : Entry). (1 ≤ e.feed) × (e.feed ≤ 2)) (dump 2) [] (omega arith, omega arith) (All-nil (λ (e : Entry). (1 ≤ e.feed) × (e.feed ≤ 2))); few = omega arith }
+
+-- IsSameBut
+the_journal_alone_has_changed : IsSameBut new dumped
+the_journal_alone_has_changed = record { limit = refl; feeds = refl }
+
+by_feed_2 : Since 1 [] (dump 2 ∷ [])
+by_feed_2 = record { others = dump 2 ∷ []; grown = refl; by_others = none_by_1 }
+
+-- Grows
+while_the_first_place_was_away : Grows 0 new dumped
+while_the_first_place_was_away = record { same = the_journal_alone_has_changed; since = by_feed_2 }
+
+not_while_the_second_was : ¬ Grows 1 new dumped
+not_while_the_second_was h = not_its_own 2 h.since
+
+-- both passes are away, and the second place's feed was answered since the first was last inside
+abbrev moment : List (Option (std.Option Lent)) → Moment
+moment homes = record { words = []; homes = homes; views = Member 0 Idle new 0 ∷ Member 1 Idle dumped 3 ∷ [] }
+
+abbrev at_rest : Moment
+at_rest = moment (some (Some dumped) ∷ [])
+
+-- HasPass
+the_first_has_one : HasPass at_rest
+the_first_has_one = (0, 0, (Idle, (new, (Member 0 Idle new 0, refl, (refl, refl, refl)))))
+
+none_before_they_are_made : ¬ HasPass (record { words = []; homes = some None ∷ []; views = [] })
+none_before_they_are_made (seat, place, (process, (seen, has))) = some-ne-none has.0 (sym has.1)
+
+-- IsHome
+it_lies_there : IsHome at_rest dumped
+it_lies_there = refl
+
+not_where_it_was_taken : ¬ IsHome (moment (none ∷ [])) dumped
+not_where_it_was_taken h = cc
+
+-- what each seat shows
+seen_by : (homes : List (Option (std.Option Lent))) (seat place : ℕ) (process : Process) (seen : Lent) → HasProcess (moment homes) seat place process seen
+    → (Idle ≡ process) × Since (feed_of place) seen.book.journal (dump 2 ∷ [])
+seen_by homes zero place process seen has =
+    let is = subst (λ view. IsOf view place process seen) (some-injective has.0 (Member 0 Idle new 0) (sym has.1)) has.2 in
+    (is.1, subst (λ (lent : Lent). Since (feed_of place) lent.book.journal (dump 2 ∷ [])) is.2 (subst (λ p. Since (feed_of p) [] (dump 2 ∷ [])) is.0 by_feed_2))
+seen_by homes (suc zero) place process seen has =
+    let is = subst (λ view. IsOf view place process seen) (some-injective has.0 (Member 1 Idle dumped 3) (sym has.1)) has.2 in
+    (is.1, subst (λ (lent : Lent). Since (feed_of place) lent.book.journal (dump 2 ∷ [])) is.2 (record { others = []; grown = refl; by_others = All-nil (λ e. e.feed ≢ feed_of place) }))
+seen_by homes (suc (suc seat)) place process seen has = absurd (some-ne-none has.0 (sym has.1))
+
+-- IsAtRest
+the_dump_was_seen_by_its_feed : IsAtRest at_rest
+the_dump_was_seen_by_its_feed = record {
+  lent = dumped;
+  home = refl;
+  holds = holds_no_route (dump 2 ∷ []) no_route_by_a_dump;
+  lawful = lawful_dump;
+  since = λ seat place seen away. (seen_by (some (Some dumped) ∷ []) seat place away.0 seen away.2).1;
+}
+
+not_with_the_book_out : ¬ IsAtRest (moment (none ∷ []))
+not_with_the_book_out h = let home = h.home in cc
+
+-- MeetsHeadline
+both_away : MeetsHeadline at_rest
+both_away = record {
+  exclusion = λ one other p q v w a b. let idle = (seen_by (some (Some dumped) ∷ []) one p Inside v a).0 in cc;
+  at_rest = λ pass nobody. the_dump_was_seen_by_its_feed;
+}
+
+not_with_the_book_out_where_nobody_is_inside : ¬ MeetsHeadline (moment (none ∷ []))
+not_with_the_book_out_where_nobody_is_inside h =
+    not_with_the_book_out (h.at_rest (0, 0, (Idle, (new, (Member 0 Idle new 0, refl, (refl, refl, refl)))))
+    (λ seat place value has. let idle = (seen_by (none ∷ []) seat place Inside value has).0 in cc))

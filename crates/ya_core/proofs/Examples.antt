@@ -447,6 +447,9 @@ steps_to levels place s room = record {
 a_load_changes_no_word : Accesses (Load (T 1 0)) (λ word. 9) (λ word. 9)
 a_load_changes_no_word = λ other. refl
 
+not_the_word_that_it_loads : ¬ Accesses (Load (T 1 0)) (λ word. 9) (λ word. 4)
+not_the_word_that_it_loads h = let same = h (T 1 0) in cc
+
 a_store_changes_its_word : ¬ Accesses (Store (T 1 0) 4) (λ word. 9) (λ word. 9)
 a_store_changes_its_word h = let stored = h.0 in cc
 
