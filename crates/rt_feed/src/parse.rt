@@ -22,13 +22,13 @@ const DISCARD: &[u8] = b"discard";
 /// `FieldCount`, and then the first fault of the fields from the left.
 #[derive(Clone, Copy, PartialEq, Eq, Debug, Error)]
 pub enum LineFault {
-    /// E1: the first field is none of the five commands.
+    /// E1: the first field names no command of the text's version.
     #[error("E1: the first field is no command")]
     Command,
     /// E2: the command takes another number of fields.
     #[error("E2: the command takes another number of fields")]
     FieldCount,
-    /// E3: a field is not of the form of a prefix or, in a `lookup`, of an address.
+    /// E3: a field is not of the form of a prefix or, in a `lookup`, of an address; in a text of addresses a whole line is not.
     #[error("E3: the field is no prefix or address")]
     Text,
     /// E4: the prefix's length is over 32.
@@ -40,8 +40,8 @@ pub enum LineFault {
     /// E6: the preference is no decimal from 0 to 4294967295.
     #[error("E6: the preference is no decimal from 0 to 4294967295")]
     Preference,
-    /// E7: the next hop is no address.
-    #[error("E7: the next hop is no address")]
+    /// E7: the next hop is neither an address nor, in version 2, `discard`.
+    #[error("E7: the next hop is neither an address nor, in version 2, `discard`")]
     Hop,
     /// E8: the line has over 128 bytes, whatever it says.
     #[error("E8: the line has over 128 bytes")]
