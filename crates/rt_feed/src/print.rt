@@ -12,8 +12,9 @@ use rt_rib::{Hop, Reply, Route};
 use std::io::{self, Write};
 
 /// Writes the report of the feed of this number: for each line `FEED:LINE `, its answer and LF. A fault is the writer's, as
-/// `put` hands it on; what was written is then a beginning of the report. Takes no memory, and makes a `write` or more for
-/// each line: a writer whose calls are dear goes into an `OutputBuffer`.
+/// `put` hands it on; what was written is then a beginning of the report. Takes no memory, and makes one `write` for each
+/// line, more where the writer takes less of it, and no other call: a writer whose calls are dear goes into an
+/// `OutputBuffer`.
 pub fn write_report<W: Write>(w: &mut W, feed: u32, report: &Report) -> Result<(), io::Error>
     ensures ok { OnOk result (Appends (W.contents w.old) (W.contents w.new) (report_text feed report.now)) }
     ensures err { OnErr result (AppendsBeginning (W.contents w.old) (W.contents w.new) (report_text feed report.now)) }
@@ -45,7 +46,7 @@ fn put_line<W: Write>(
 }
 
 /// Writes the table: `table COUNT` and LF, and then each route of the list and LF. A fault is the writer's, as `put` hands
-/// it on; what was written is then a beginning of the table. Takes no memory, and makes a `write` or more for each line.
+/// it on; what was written is then a beginning of the table. Takes no memory, and calls the writer as `write_report` does.
 #[tactic(auto, using(crate::proofs::Printing::count_fits))]
 pub fn write_table<W: Write>(w: &mut W, routes: &[Route]) -> Result<(), io::Error>
     ensures ok { OnOk result (Appends (W.contents w.old) (W.contents w.new) (table_text routes.now)) }
@@ -58,7 +59,8 @@ pub fn write_table<W: Write>(w: &mut W, routes: &[Route]) -> Result<(), io::Erro
 }
 
 /// Writes the table's routes alone, without its first line: each route of the list and LF. A fault is the writer's, as `put`
-/// hands it on; what was written is then a beginning of the routes. Takes no memory, and makes a `write` or more for each line.
+/// hands it on; what was written is then a beginning of the routes. Takes no memory, and calls the writer as `write_report`
+/// does.
 pub fn write_rows<W: Write>(w: &mut W, routes: &[Route]) -> Result<(), io::Error>
     ensures ok { OnOk result (Appends (W.contents w.old) (W.contents w.new) (rows_text routes.now)) }
     ensures err { OnErr result (AppendsBeginning (W.contents w.old) (W.contents w.new) (rows_text routes.now)) }
@@ -85,8 +87,8 @@ fn put_row<W: Write>(w: &mut W, text: &mut ShortText, route: &Route) -> Result<(
 }
 
 /// Writes what a look-up of the address found: `ADDR route PREFIX feed F pref P via HOP`, or `ADDR no route`, and LF. A fault
-/// is the writer's, as `put` hands it on; what was written is then a beginning of that line. Takes no memory, and makes a
-/// `write` or more.
+/// is the writer's, as `put` hands it on; what was written is then a beginning of that line. Takes no memory, and calls the
+/// writer as `write_report` does.
 #[tactic(auto, using(crate::proofs::Printing::found_fits))]
 pub fn write_found<W: Write>(w: &mut W, addr: Addr, found: Option<Route>) -> Result<(), io::Error>
     ensures ok { OnOk result (Appends (W.contents w.old) (W.contents w.new) (found_text addr found)) }
@@ -235,3 +237,5 @@ fn fault_word(fault: LineFault) -> &'static [u8; 8]
 
 #[cfg(test)]
 mod tests;
+#[cfg(test)]
+mod writers;

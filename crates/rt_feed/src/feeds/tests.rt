@@ -131,6 +131,22 @@ fn faulty_and_skipped_lines_take_no_place_in_a_batch(rt: HostRuntime) -> Result<
     Ok(())
 }
 
+// A run that gives up beyond a million lines or answers, or that wants the room of a whole batch before it has the
+// commands, is seen here.
+#[test]
+fn a_batch_may_have_more_than_a_million_commands(rt: HostRuntime) -> Result<(), Fail> {
+    let count = 1_000_001;
+    let mut text = Vec::new(rt.alloc());
+    for _ in 0..count {
+        text.extend_from_slice(b"dump\n")?;
+    }
+    let mut gate = new_recording(rt.alloc());
+    let report = run_feed(&rt, rt.alloc(), text.as_slice(), usize::MAX, &mut gate)?;
+    assert_eq!(rt; gate.lengths.as_slice(), [count].as_slice());
+    assert_eq!(rt; report.lines().len(), count);
+    Ok(())
+}
+
 #[test]
 fn a_run_without_texts_or_with_other_feeds_asks_nothing(rt: HostRuntime) -> Result<(), Fail> {
     let mut feeds = Vec::new(rt.alloc());

@@ -164,3 +164,54 @@ fn no_version_has_more(rt: HostRuntime) {
         assert_answer(&rt, line, Version::Two, Err(two));
     }
 }
+
+#[test]
+fn faults_have_their_texts(rt: HostRuntime) -> Result<(), Fail> {
+    let faults = [
+        (
+            LineFault::Command,
+            "E1: the first field is no command",
+            "Command",
+        ),
+        (
+            LineFault::FieldCount,
+            "E2: the command takes another number of fields",
+            "FieldCount",
+        ),
+        (
+            LineFault::Text,
+            "E3: the field is no prefix or address",
+            "Text",
+        ),
+        (
+            LineFault::PrefixLength,
+            "E4: the prefix's length is over 32",
+            "PrefixLength",
+        ),
+        (
+            LineFault::PrefixBits,
+            "E5: a bit past the prefix's length is set",
+            "PrefixBits",
+        ),
+        (
+            LineFault::Preference,
+            "E6: the preference is no decimal from 0 to 4294967295",
+            "Preference",
+        ),
+        (
+            LineFault::Hop,
+            "E7: the next hop is neither an address nor, in version 2, `discard`",
+            "Hop",
+        ),
+        (
+            LineFault::LineLength,
+            "E8: the line has over 128 bytes",
+            "LineLength",
+        ),
+    ];
+    for (fault, shown, name) in faults {
+        assert_eq!(rt; format!(in rt.alloc(); "{fault}")?.as_str(), shown);
+        assert_eq!(rt; format!(in rt.alloc(); "{fault:?}")?.as_str(), name);
+    }
+    Ok(())
+}

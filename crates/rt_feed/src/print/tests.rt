@@ -1,13 +1,12 @@
-//! Printed reports and tables, byte for byte, and writers that fail.
+//! Printed reports, tables and answers of look-ups, byte for byte.
 use super::*;
 use crate::report::tests::report_of;
 use rt_cidr::{Addr, Prefix, TextFault};
 use std::alloc::{AllocError, Global};
-use std::io::ErrorKind;
 use std::test::Fail;
 
 /// A route of feed 1.
-fn route(prefix: &[u8], pref: u32, hop: &[u8]) -> Result<Route, TextFault> {
+pub(super) fn route(prefix: &[u8], pref: u32, hop: &[u8]) -> Result<Route, TextFault> {
     Ok(Route {
         prefix: Prefix::parse(prefix)?,
         feed: 1,
@@ -177,80 +176,52 @@ table 1
 }
 
 #[test]
+fn prints_what_was_found(rt: HostRuntime) -> Result<(), Fail> {
+    let ten = route(b"10.0.0.0/8", u32::MAX, b"192.0.2.1")?;
+    let discard = Route {
+        feed: 64,
+        hop: Hop::Discard,
+        ..route(b"0.0.0.0/0", 0, b"192.0.2.1")?
+    };
+    let found = [
+        (Addr(167772161), Some(ten)),
+        (Addr(0), None),
+        (Addr(u32::MAX), Some(discard)),
+    ];
+    let text = b"10.0.0.1 route 10.0.0.0/8 feed 1 pref 4294967295 via 192.0.2.1
+0.0.0.0 no route
+255.255.255.255 route 0.0.0.0/0 feed 64 pref 0 via discard
+";
+    let mut out = Vec::new(rt.alloc());
+    for (addr, route) in found {
+        write_found(&mut out, addr, route)?;
+    }
+    assert_eq!(rt; out.as_slice(), text.as_slice());
+    Ok(())
+}
+
+#[test]
+fn prints_rows_alone(rt: HostRuntime) -> Result<(), Fail> {
+    let ten = route(b"10.0.0.0/8", 10, b"192.0.2.1")?;
+    let other = route(b"10.2.0.0/16", 10, b"192.0.2.3")?;
+    let mut out = Vec::new(rt.alloc());
+    write_rows(&mut out, &[])?;
+    assert!(rt; out.is_empty());
+    write_rows(&mut out, &[ten, other, ten])?;
+    let text = b"10.0.0.0/8 feed 1 pref 10 via 192.0.2.1
+10.2.0.0/16 feed 1 pref 10 via 192.0.2.3
+10.0.0.0/8 feed 1 pref 10 via 192.0.2.1
+";
+    assert_eq!(rt; out.as_slice(), text.as_slice());
+    Ok(())
+}
+
+#[test]
 fn prints_an_empty_table(rt: HostRuntime) -> Result<(), Fail> {
     assert_eq!(rt;
         printed(rt.alloc(), &[], &[])?.as_slice(),
         b"table 0\n".as_slice()
     );
-    Ok(())
-}
-
-/// Takes at most `each` bytes a call and `room` bytes in all, and then fails.
-#[derive(Drop)]
-struct Narrow {
-    taken: Vec<u8>,
-    each: usize,
-    room: usize,
-}
-
-impl Write for Narrow {
-    fn write(&mut self, buf: &[u8]) -> io::Result<usize> {
-        if self.room == 0 {
-            return Err(io::Error::from(ErrorKind::Interrupted));
-        }
-        let count = buf.len().min(self.each).min(self.room);
-        self.taken.extend_from_slice(&buf[..count])?;
-        self.room -= count;
-        Ok(count)
-    }
-
-    fn flush(&mut self) -> io::Result<()> {
-        Ok(())
-    }
-}
-
-#[test]
-fn writes_a_byte_a_call(rt: HostRuntime) -> Result<(), Fail> {
-    let alloc = rt.alloc();
-    let (report, routes) = withdrawing(alloc)?;
-    let mut out = Narrow {
-        taken: Vec::new(alloc),
-        each: 1,
-        room: usize::MAX,
-    };
-    write_both(&mut out, &report, &routes)?;
-    assert_eq!(rt; out.taken.as_slice(), WITHDRAWING);
-    Ok(())
-}
-
-#[test]
-fn stops_at_a_fault_after_each_byte(rt: HostRuntime) -> Result<(), Fail> {
-    let alloc = rt.alloc();
-    let (report, routes) = withdrawing(alloc)?;
-    for room in 0..WITHDRAWING.len() {
-        let mut out = Narrow {
-            taken: Vec::new(alloc),
-            each: 7,
-            room,
-        };
-        assert!(rt; write_both(&mut out, &report, &routes).is_err());
-        assert_eq!(rt; out.taken.as_slice(), &WITHDRAWING[..room]);
-    }
-    Ok(())
-}
-
-#[test]
-fn hands_on_the_writers_fault(rt: HostRuntime) -> Result<(), Fail> {
-    let alloc = rt.alloc();
-    let mut out = Narrow {
-        taken: Vec::new(alloc),
-        each: 1,
-        room: 2,
-    };
-    let report = report_of(alloc, &[Answer::Refused])?;
-    let interrupted = |e: io::Error| e.kind() == ErrorKind::Interrupted;
-    assert!(rt; write_both(&mut out, &report, &[]).is_err_and(interrupted));
-    assert_eq!(rt; out.taken.as_slice(), b"1:".as_slice());
     Ok(())
 }
 
