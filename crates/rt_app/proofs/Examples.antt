@@ -1,6 +1,6 @@
 -- Examples by which definitions are tested, each under a line with the definition's name. Both sides are computed, but for
 -- the texts that are written for numbers, which have one spelling each.
-use Rattle.std.proofs.Common.{◌≡◌, ◌≢◌, ℕ, ◌≤◌, ◌==◌, ◌&&◌, nat_le, Bool, true, false, if◌then◌else◌, Some, Ok, Err, List, [], ◌∷◌, ◌++◌, length, map, filter, inl, inr, codes, refl, sym, ap, subst, arith}
+use Rattle.std.proofs.Common.{◌≡◌, ◌≢◌, ℕ, ◌≤◌, ◌==◌, ◌&&◌, nat_le, Bool, true, false, if◌then◌else◌, Some, None, Ok, Err, List, [], ◌∷◌, ◌++◌, length, map, filter, inl, inr, codes, refl, sym, ap, subst, arith}
 use Rattle.std.specs.List.{All, list_any, list_all}
 use Rattle.std.proofs.lemmas.Bool.{and_parts, eqb-true, eqb-false, leb-true}
 use Rattle.std.proofs.lemmas.List.Elements.{All-nil, All-cons}
@@ -9,7 +9,7 @@ use Rattle.rt_rib.specs.declared.routes.Hop.TheVariants.{Discard}
 use Rattle.rt_rib.specs.declared.routes.Route.{Route}
 use Rattle.rt_rib.specs.declared.commands.Cmd.{Cmd}
 use Rattle.rt_rib.specs.declared.commands.Cmd.TheVariants.{Add, Dump, Purge}
-use Rattle.rt_rib.specs.declared.commands.Reply.TheVariants.{Added, Exists, Dumped}
+use Rattle.rt_rib.specs.declared.commands.Reply.TheVariants.{Added, Exists, Full, Dumped}
 use Rattle.rt_rib.specs.declared.commands.Entry.{Entry}
 use Rattle.rt_rib.specs.Sequential.{reply_of, table_after}
 use Rattle.rt_rib.specs.Journal.{table_left, IsAnswered, IsLawfulJournal}
@@ -18,6 +18,7 @@ use Rattle.rt_shared.specs.Visits.{Uncut}
 use Rattle.rt_shared.specs.declared.outcome.Outcome.{Outcome}
 use Rattle.rt_shared.specs.declared.outcome.Outcome.TheVariants.{Did, Refused}
 use Rattle.rt_feed.specs.declared.parse.LineFault.TheVariants as fault
+use Rattle.rt_feed.specs.declared.report.Line.{Line}
 use Rattle.rt_feed.specs.declared.versions.Version.TheVariants.{One}
 use Rattle.rt_feed.specs.Versions.{TellsTwo}
 use Rattle.rt_feed.specs.Lines.{CutsLine}
@@ -28,6 +29,7 @@ use Rattle.rt_feed.specs.declared.faults.RunFault.TheVariants as run
 use Rattle.rt_feed.proofs.Promised.{north, north_read, south, south_read, east, east_read, what_north_becomes, what_south_becomes, what_east_becomes}
 use Rattle.rt_app.specs.declared.faults.AppFault.TheVariants.{Run, Write}
 use Rattle.rt_app.specs.RunText.{Explains, ExplainsFrom, reports_text, IsHistory, IsRunText, status_of, Leaves}
+use Rattle.rt_app.specs.TableText.{tally_of, tallies_status}
 use Rattle.rt_app.specs.SameTable.{commands, Asks, left_alone, LeavesAlone, IsUnion, IsAnsweredAlone, printed_reports}
 
 -- commands
@@ -99,6 +101,28 @@ some_line_was_faulty = refl
 
 a_refusal_before_a_fault : status_of ((faulty fault.Hop ∷ []) ∷ (asked Dump Refused ∷ []) ∷ []) ≡ 5
 a_refusal_before_a_fault = refl
+
+-- a line's fault, as a report tells it
+abbrev a_fault : Line
+a_fault = record { number = 1; answer = answer.Fault fault.Hop }
+
+-- tally_of
+faults_and_an_add_over_the_limit : tally_of (a_fault ∷ record { number = 2; answer = answer.Did Full } ∷ record { number = 5; answer = answer.Fault fault.Text } ∷ [])
+    ≡ record { faulty = 2; first_faulty = Some a_fault; full = 1; refused = 0 }
+faults_and_an_add_over_the_limit = refl
+
+all_was_taken : tally_of (record { number = 1; answer = answer.Did (Dumped 0) } ∷ []) ≡ record { faulty = 0; first_faulty = None; full = 0; refused = 0 }
+all_was_taken = refl
+
+-- tallies_status
+nothing_left_out : tallies_status (record { faulty = 0; first_faulty = None; full = 0; refused = 0 } ∷ []) ≡ 0
+nothing_left_out = refl
+
+an_add_was_over_the_limit : tallies_status (record { faulty = 0; first_faulty = None; full = 1; refused = 0 } ∷ []) ≡ 2
+an_add_was_over_the_limit = refl
+
+a_refusal_before_what_was_left_out : tallies_status (record { faulty = 1; first_faulty = Some a_fault; full = 1; refused = 0 } ∷ record { faulty = 0; first_faulty = None; full = 0; refused = 1 } ∷ []) ≡ 5
+a_refusal_before_what_was_left_out = refl
 
 -- a text of one line, and its entry
 abbrev text : List ℕ

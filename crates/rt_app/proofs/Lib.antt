@@ -1,6 +1,8 @@
 pub mod Replaying
 pub mod Numbered
 pub mod Buffered
+pub mod Answering
+pub mod Outputs
 pub mod Pushing
 pub mod SeveralFeeds
 pub mod SameTables

@@ -1,6 +1,8 @@
 -- Why the table of a run, and the replies on a feed's own routes, are what each feed's commands give by themselves.
-use Rattle.std.proofs.Common.{◌≡◌, ◌≢◌, ℕ, zero, suc, ◌+◌, ◌-◌, ◌<◌, ◌≤◌, ◌⊎◌, inl, inr, true, false, Option, Some, None, Ok, Err, List, [], ◌∷◌, ◌++◌, Bool, All, length, map, take, drop, refl, sym, ap, subst, ◌∙◌, arith, append_assoc, append-nil, eqb-true}
-use Rattle.std.specs.Prelude.{fold, if◌then◌else◌}
+use Rattle.std.proofs.Common.{◌≡◌, ◌≢◌, ℕ, zero, suc, ◌+◌, ◌-◌, ◌<◌, ◌≤◌, ◌⊎◌, inl, inr, true, false, Option, Some, None, Ok, Err, List, [], ◌∷◌, ◌++◌, Bool, All, length, map, take, drop, refl, sym, ap, subst, ◌∙◌, arith, append_assoc, append-nil, zero-add, eqb-true}
+use Rattle.std.specs.Prelude.{fold, if◌then◌else◌, nat_lt, count_by, cond, ◌||◌}
+use Rattle.std.proofs.lemmas.Bool.Decides.{nat_tests}
+use Rattle.std.proofs.lemmas.List.Sums.{sum_by-cons}
 use Rattle.std.specs.declared.result.Result.{Result}
 use Rattle.std.specs.List.{slice_get, list_any, flat_map, filter, Contains}
 use Rattle.std.proofs.lemmas.Bool.{cases_Bool, eq-eqb, cond-true, cond-false, false≢true, or_parts}
@@ -24,11 +26,16 @@ use Rattle.rt_shared.specs.declared.outcome.Outcome.TheVariants as outcome
 use Rattle.rt_shared.specs.Laws.{EntriesOfVisits}
 use Rattle.rt_feed.specs.declared.parse.LineFault.{LineFault}
 use Rattle.rt_feed.specs.Laws.{TextHasOneReading}
-use Rattle.rt_feed.specs.LineOutcomes.{LineOutcome, skipped, faulty, asked, reading, asked_of, some_refused, some_faulty}
+use Rattle.rt_feed.specs.LineOutcomes.{LineOutcome, skipped, faulty, asked, reading, asked_of, report_lines, some_refused, some_faulty}
+use Rattle.rt_feed.specs.declared.report.Line.{Line}
+use Rattle.rt_feed.specs.Reports.{is_refusal}
+use Rattle.rt_feed.proofs.Promised.{has_refusal-report_lines}
 use Rattle.rt_feed.specs.Visits.{Visit, IsCut, visit_of, reply_to, joined, piece_of, entries}
 use Rattle.rt_feed.specs.Printed.{table_text}
 use Rattle.rt_app.specs.RunText.{Explains, ExplainsFrom, IsHistory, status_of}
-use Rattle.rt_app.specs.SameTable.{commands, Asks, left_alone, IsUnion, IsAnsweredAlone, printed_reports, EndsInUnion, AnswersAlone, EndInOneTable}
+use Rattle.rt_app.specs.SameTable.{commands, Asks, left_alone, IsUnion, IsAnsweredAlone, printed_reports, EndsInUnion, AnswersAlone, EndInOneTable, ShowsUnion, ShowOneTable}
+use Rattle.rt_app.specs.TableText.{tally_of, tallies_status}
+use Rattle.rt_app.specs.TableText as tally
 
 -- what a line asks shows in what it says
 abbrev asked_in : Result (Option Cmd) LineFault → List Cmd
@@ -252,12 +259,14 @@ none_of_one [] k lines none is = absurd (cc)
 none_of_one (first ∷ outcomes) zero lines none is = let same : first ≡ lines = cc in ap some_refused (sym same) ∙ (or_parts (some_refused first) (list_any some_refused outcomes) none).0
 none_of_one (first ∷ outcomes) (suc k) lines none is = none_of_one outcomes k lines ((or_parts (some_refused first) (list_any some_refused outcomes) none).1) is
 
--- the status tells that none was
+-- a status that is 5 where something is so tells that it is not
+not_5 : (is : Bool) (other status : ℕ) → status ≡ (if is then 5 else other) → status ≢ 5 → is ≡ false
+not_5 true other status e not = absurd (not e)
+not_5 false other status e not = refl
+
+-- so the status of a run tells that none was
 none_refused : (outcomes : List (List LineOutcome)) (status : ℕ) → status ≡ status_of outcomes → status ≢ 5 → list_any some_refused outcomes ≡ false
-none_refused outcomes status is not = elim (cases_Bool (list_any some_refused outcomes)) [
-  | inl some ↦ absurd (not (is ∙ cond-true (list_any some_refused outcomes) 5 (if list_any some_faulty outcomes then 2 else 0) some))
-  | inr none ↦ none
-]
+none_refused outcomes status = not_5 (list_any some_refused outcomes) (if list_any some_faulty outcomes then 2 else 0) status
 
 -- a feed that has an entry has a text
 has_text : (journal : List Entry) (n feed : ℕ) → All (λ e. (1 ≤ e.feed) × (e.feed ≤ n)) journal → (own : List Entry) → feed_entries feed journal ≡ own
@@ -364,3 +373,37 @@ end_in_one_table ends one texts limit batch batch' bytes bytes' status status' r
     let there = ends texts limit batch' bytes' status' run' not' in
     let same : there.0 ≡ here.0 = one_union one texts limit here.0 there.0 here.1 there.1 in
     (here.0, here.2, there.2 ∙ ap (λ t. printed_reports run'.outcomes ++ table_text t) same)
+
+-- a count is above 0 where something passes the test
+one_is_some : (n : ℕ) → nat_lt 0 (1 + n) ≡ true
+one_is_some n = grind (arith, nat_tests)
+
+counts_more : (is rest : Bool) (n : ℕ) → nat_lt 0 n ≡ rest → nat_lt 0 (cond is 1 0 + n) ≡ (is || rest)
+counts_more true rest n counted = one_is_some n
+counts_more false rest n counted = ap (λ m. nat_lt 0 m) (zero-add n) ∙ counted
+
+counts_some : {X : Type 0} (test : X → Bool) (xs : List X) → nat_lt 0 (count_by test xs) ≡ list_any test xs
+counts_some test [] = refl
+counts_some test (x ∷ xs) = ap (λ m. nat_lt 0 m) (sum_by-cons (λ y. cond (test y) 1 0) x xs) ∙ counts_more (test x) (list_any test xs) (count_by test xs) (counts_some test xs)
+
+-- so tallies tell of a refused command where there is one
+tallies_refused : (outcomes : List (List LineOutcome)) → list_any tally.some_refused (map tally_of (map (report_lines 1) outcomes)) ≡ list_any some_refused outcomes
+tallies_refused [] = refl
+tallies_refused (lines ∷ outcomes) =
+    ap (λ b. b || list_any tally.some_refused (map tally_of (map (report_lines 1) outcomes))) (counts_some (λ (line : Line). is_refusal line.answer) (report_lines 1 lines) ∙ has_refusal-report_lines 1 lines)
+    ∙ ap (λ b. some_refused lines || b) (tallies_refused outcomes)
+
+pub shows_union : FeedsStandAlone → LeftByEntry → EntriesOfVisits → TextHasOneReading → ShowsUnion
+shows_union alone left law once texts limit batch text_of bytes taken is not =
+    let status = is.told.is_status ∙ ap tallies_status is.told.tallied in
+    let none = sym (tallies_refused is.outcomes) ∙ not_5 (list_any tally.some_refused (map tally_of (map (report_lines 1) is.outcomes))) _ taken.status status not in (
+      table_left limit is.journal,
+      left_union alone left law once texts limit batch is.journal is.outcomes is.history none,
+      is.shown,
+    )
+
+pub show_one_table : ShowsUnion → OneTableOfSet → ShowOneTable
+show_one_table shows one texts limit batch batch' text_of bytes bytes' taken taken' is is' not not' =
+    let here = shows texts limit batch text_of bytes taken is not in
+    let there = shows texts limit batch' text_of bytes' taken' is' not' in
+    here.2 ∙ (ap text_of (sym (one_union one texts limit here.0 there.0 here.1 there.1)) ∙ sym there.2)

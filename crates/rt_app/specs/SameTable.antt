@@ -11,7 +11,9 @@ use Rattle.rt_shared.specs.declared.outcome.Outcome.{Outcome}
 use Rattle.rt_shared.specs.declared.outcome.Outcome.TheVariants.{Did}
 use Rattle.rt_feed.specs.LineOutcomes.{LineOutcome, Becomes, report_lines, asked_of}
 use Rattle.rt_feed.specs.Printed.{table_text}
+use Rattle.rt_app.specs.declared.tallies.Taken.{Taken}
 use Rattle.rt_app.specs.RunText.{IsRunText, reports_text}
+use Rattle.rt_app.specs.TableText.{IsShown}
 
 -- the commands, whatever became of them
 abbrev pub commands : List (Cmd × Outcome) → List Cmd
@@ -64,3 +66,17 @@ EndInOneTable =
     (texts : List (List ℕ)) (limit batch batch' : ℕ) (bytes bytes' : List ℕ) (status status' : ℕ)
     (run : IsRunText texts limit batch bytes status) (run' : IsRunText texts limit batch' bytes' status') → status ≢ 5 → status' ≢ 5
     → (table : List Route) × (bytes ≡ printed_reports run.outcomes ++ table_text table) × (bytes' ≡ printed_reports run'.outcomes ++ table_text table)
+
+-- where no command was refused for want of memory, what is told of a run's table is told of the union
+abbrev pub ShowsUnion : Type 0
+ShowsUnion =
+    (texts : List (List ℕ)) (limit batch : ℕ) (text_of : List Route → List ℕ) (bytes : List ℕ) (taken : Taken)
+    → IsShown texts limit batch text_of bytes taken → taken.status ≢ 5
+    → (union : List Route) × IsUnion texts limit union × (bytes ≡ text_of union)
+
+-- so two runs of the same texts and limit tell the same bytes in one way, whatever their batches and however their threads ran
+abbrev pub ShowOneTable : Type 0
+ShowOneTable =
+    (texts : List (List ℕ)) (limit batch batch' : ℕ) (text_of : List Route → List ℕ) (bytes bytes' : List ℕ) (taken taken' : Taken)
+    → IsShown texts limit batch text_of bytes taken → IsShown texts limit batch' text_of bytes' taken' → taken.status ≢ 5 → taken'.status ≢ 5
+    → bytes ≡ bytes'

@@ -1,6 +1,6 @@
 //! What holds of every run of feeds, however its threads ran. Each function is a theorem: calling it makes its clause
 //! known, and it does nothing.
-ghost use Rattle.rt_app.specs.SameTable.{EndsInUnion, AnswersAlone, EndInOneTable};
+ghost use Rattle.rt_app.specs.SameTable.{EndsInUnion, AnswersAlone, EndInOneTable, ShowsUnion, ShowOneTable};
 
 use rt_feed::laws::one_reading;
 use rt_rib::laws::{feeds_stand_alone, left_by_entry, one_table_of_set};
@@ -30,5 +30,25 @@ pub fn end_in_one_table()
     ensures { EndInOneTable }
 {
     ends_in_union();
+    one_table_of_set();
+}
+
+/// Where no command was refused for want of memory, `lookup_texts` and `table_texts` tell of the union: so what they write is
+/// a function of the texts, the limit and what is asked alone.
+pub fn shows_union()
+    ensures { ShowsUnion }
+{
+    feeds_stand_alone();
+    left_by_entry();
+    visits();
+    one_reading();
+}
+
+/// So two runs of the same texts and limit write the same bytes where the same is asked, whatever their batches and however
+/// their threads ran.
+pub fn show_one_table()
+    ensures { ShowOneTable }
+{
+    shows_union();
     one_table_of_set();
 }

@@ -20,9 +20,12 @@
 mod command_line;
 mod faults;
 pub mod laws;
+mod output;
 mod program;
 mod replays;
 mod runs;
+mod shown;
+mod tallies;
 
 pub use faults::AppFault;
 pub use program::run_words;
@@ -30,10 +33,12 @@ pub use replays::replay_text;
 use rt_cidr::put;
 pub use rt_feed::RunFault;
 pub use runs::{MOST_TEXTS, run_texts};
+pub use shown::{lookup_texts, table_texts};
 use std::alloc::Global;
 use std::env;
 use std::io::{self, ErrorKind, Write};
 use std::process::ExitCode;
+pub use tallies::{Taken, Tally};
 
 fn main(rt: HostRuntime) -> ExitCode {
     let alloc = rt.alloc();

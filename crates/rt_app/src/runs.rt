@@ -1,22 +1,19 @@
 //! A run: feed texts in, their reports and the table out.
-ghost use Rattle.std.specs.Prelude.{◌≡◌, ◌≢◌, ◌↔◌, ℕ, List, ◌+◌, ◌≤◌, ◌++◌, ◌^◌, [], ◌∷◌, map, length, vec_len, vec_capacity, All, Some, None, IfOk, OnOk, OnErr, IsSome};
-ghost use Rattle.std.specs.Io.KnownBytes.{Appends};
-ghost use Rattle.rt_cidr.specs.Output.{AppendsBeginning};
+ghost use Rattle.std.specs.Prelude.{◌≡◌, ◌≢◌, ◌↔◌, ℕ, List, ◌+◌, ◌≤◌, ◌++◌, [], map, length, vec_len, vec_capacity, All, Some, None, IfOk, IsSome};
 ghost use Rattle.rt_rib.specs.Book.{IsLimit};
 ghost use Rattle.std.specs.List.{list_any};
 ghost use Rattle.rt_feed.specs.Reports.{has_refusal, has_fault};
-ghost use Rattle.rt_feed.specs.Printed.{report_text, table_text};
-ghost use Rattle.rt_app.specs.RunText.{IsRunText, Leaves, reports_text};
+ghost use Rattle.rt_app.specs.RunText.{Leaves};
 ghost use Rattle.rt_app.specs.Running.{HasRun, HaveRun, reports_status};
 ghost use Rattle.rt_shared.specs.Table.{ArePassesOf};
 
 use crate::faults::AppFault;
-use rt_cidr::{OutputBuffer, OutputRoom};
-use rt_feed::{Feed, Report, RunFault, TableGate, run_feeds, write_report, write_table};
-use rt_rib::{Book, Route};
+use crate::output::{Output, write_output};
+use rt_feed::{Feed, Report, RunFault, TableGate, run_feeds};
+use rt_rib::Book;
 use rt_shared::{FeedPass, SharedRib};
 use std::alloc::{AllocError, Global};
-use std::io::{self, Write};
+use std::io::Write;
 use std::mem::ManuallyDrop;
 use std::sync::Wait;
 use std::thread::Threads;
@@ -52,11 +49,9 @@ pub fn run_texts<R: Threads + Wait + Sync, W: Write>(
     ensures text { Leaves (map (λ text. text.items) texts.now) limit batch (W.contents w.old) (W.contents w.new) result }
     ensures no_text { (result ≡ Err (AppFault.Run RunFault.NoText)) ↔ (texts.now ≡ []) }
 {
-    if texts.is_empty() {
-        return Err(AppFault::Run(RunFault::NoText));
-    }
-    let Ok(ran) = run_all(rt, alloc, texts, limit, batch) else {
-        return Err(AppFault::Run(RunFault::Memory));
+    let ran = match run_all(rt, alloc, texts, limit, batch) {
+        Ok(ran) => ran,
+        Err(refusal) => return Err(AppFault::Run(refusal)),
     };
     let written = write_ran(alloc, &ran, w);
     // To free the table node by node would take a tenth of a run, and the system takes its pages back at once.
@@ -66,28 +61,36 @@ pub fn run_texts<R: Threads + Wait + Sync, W: Write>(
 
 /// What a run has done: each feed's report, in order, and the book.
 #[derive(Drop)]
-struct Ran {
-    reports: Vec<Report>,
-    book: Book<Global>,
+pub(crate) struct Ran {
+    pub(crate) reports: Vec<Report>,
+    pub(crate) book: Book<Global>,
 }
 
-/// Runs the texts over one table.
-fn run_all<R: Threads + Wait + Sync>(
+/// Runs the texts over one table. No text at all is F1, and want of memory outside of a command F3.
+pub(crate) fn run_all<R: Threads + Wait + Sync>(
     rt: &R,
     alloc: Global,
     texts: &[Vec<u8>],
     limit: u32,
     batch: usize,
-) -> Result<Ran, AllocError>
+) -> Result<Ran, RunFault>
     requires limited { IsLimit limit }
     requires few { length texts.now ≤ 64 }
     requires batched { 1 ≤ batch }
-    ensures { IfOk result (λ ran. HasRun (map (λ text. text.items) texts.now) limit batch ran.reports.items ran.book) }
+    ensures ran { IfOk result (λ ran. HasRun (map (λ text. text.items) texts.now) limit batch ran.reports.items ran.book) }
+    ensures refused { result ≢ Err RunFault.FeedCount }
+    ensures no_text { (result ≡ Err RunFault.NoText) ↔ (texts.now ≡ []) }
 {
+    if texts.is_empty() {
+        return Err(RunFault::NoText);
+    }
     let Ok((table, passes)) = SharedRib::<LEVELS>::new(alloc, limit) else {
-        return Err(AllocError);
+        return Err(RunFault::Memory);
     };
-    let Ended { passes, reports } = run_passes(rt, alloc, &table, passes, texts, batch)?;
+    let Ok(ended) = run_passes(rt, alloc, &table, passes, texts, batch) else {
+        return Err(RunFault::Memory);
+    };
+    let Ended { passes, reports } = ended;
     let book = table.settle(rt, passes);
     Ok(Ran { reports, book })
 }
@@ -190,57 +193,11 @@ fn write_ran<W: Write>(alloc: Global, ran: &Ran, w: &mut W) -> Result<u8, AppFau
     let Ok(routes) = ran.book.routes(alloc) else {
         return Err(AppFault::Run(RunFault::Memory));
     };
-    let Ok(room) = OutputRoom::new(alloc) else {
-        return Err(AppFault::Run(RunFault::Memory));
-    };
-    match write_run(w, room, ran.reports.as_slice(), routes.as_slice()) {
-        Ok(()) => Ok(status_of(ran.reports.as_slice())),
-        Err(_) => Err(AppFault::Write),
+    let reports = ran.reports.as_slice();
+    match write_output(alloc, Output::Run(reports, routes.as_slice()), w) {
+        Ok(()) => Ok(status_of(reports)),
+        Err(fault) => Err(fault),
     }
-}
-
-/// Writes the reports, the k-th as feed k's, and then the table, in few large writes. Takes no memory.
-fn write_run<W: Write>(
-    w: &mut W,
-    room: OutputRoom,
-    reports: &[Report],
-    routes: &[Route],
-) -> Result<(), io::Error>
-    requires empty { room ≡ [] }
-    requires few { length reports.now ≤ 64 }
-    ensures ok { OnOk result (Appends (W.contents w.old) (W.contents w.new) (reports_text 1 reports.now ++ table_text routes.now)) }
-    ensures err { OnErr result (AppendsBeginning (W.contents w.old) (W.contents w.new) (reports_text 1 reports.now ++ table_text routes.now)) }
-{
-    let mut buffer = OutputBuffer::new(w, room);
-    if let Err(fault) = write_all(&mut buffer, reports, routes) {
-        let _ = buffer.into_writer();
-        return Err(fault);
-    }
-    let flushed = buffer.flush();
-    let _ = buffer.into_writer();
-    flushed
-}
-
-/// Writes the reports, the k-th as feed k's, and then the table.
-fn write_all<W: Write>(w: &mut W, reports: &[Report], routes: &[Route]) -> Result<(), io::Error>
-    requires few { length reports.now ≤ 64 }
-    ensures ok { OnOk result (Appends (W.contents w.old) (W.contents w.new) (reports_text 1 reports.now ++ table_text routes.now)) }
-    ensures err { OnErr result (AppendsBeginning (W.contents w.old) (W.contents w.new) (reports_text 1 reports.now ++ table_text routes.now)) }
-{
-    write_reports(w, reports)?;
-    write_table(w, routes)
-}
-
-/// Writes the reports, the k-th as feed k's.
-fn write_reports<W: Write>(w: &mut W, reports: &[Report]) -> Result<(), io::Error>
-    requires few { length reports.now ≤ 64 }
-    ensures ok { OnOk result (Appends (W.contents w.old) (W.contents w.new) (reports_text 1 reports.now)) }
-    ensures err { OnErr result (AppendsBeginning (W.contents w.old) (W.contents w.new) (reports_text 1 reports.now)) }
-{
-    for (index, report) in reports.iter().enumerate() {
-        write_report(w, index as u32 + 1, report)?;
-    }
-    Ok(())
 }
 
 /// The status of reports whose text was written.

@@ -3,7 +3,7 @@ use Rattle.std.proofs.lemmas.Result.{err_from_is_err_and}
 use Rattle.rt_feed.specs.Printed.{report_text}
 use Rattle.rt_app.specs.RunText.{reports_text}
 use Rattle.rt_app.proofs.Numbered.{begins_all, appends_next}
-use Rattle.rt_app.proofs.runs.write_reports.Goals as goal
+use Rattle.rt_app.proofs.output.write_reports.Goals as goal
 
 pub returns-in_err-write_report-clause-err : goal.returns-in_err-write_report-clause-err
 returns-in_err-write_report-clause-err g c =

@@ -1,6 +1,6 @@
 use Rattle.std.proofs.lemmas.Result.{IfErr-weaker}
 use Rattle.rt_cidr.proofs.Promised.{begins_after}
-use Rattle.rt_app.proofs.runs.write_all.Goals as goal
+use Rattle.rt_app.proofs.output.write_run.Goals as goal
 
 pub returns-clause-err : goal.returns-clause-err
 returns-clause-err g c =
