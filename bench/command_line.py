@@ -305,7 +305,7 @@ def pages(yarib):
     page = lambda name: (TOP / "bench" / "help" / f"{name}.txt").read_text()
     for words in (["--help"], ["-h"], ["help"]):
         expect(f"{words}", run([yarib, *words]), (0, page("yarib"), ""))
-    for name in ("run", "replay"):
+    for name in ("run", "lookup", "table", "replay"):
         for words in ([name, "--help"], [name, "-h"], ["help", name], [name, "--help", "row.feed"]):
             expect(f"{words}", run([yarib, *words]), (0, page(name), ""))
     for words in (["--version"], ["-V"]):
@@ -347,8 +347,91 @@ def help_is_true(yarib):
     expect("version 2", run([yarib, "run", "text.feed"]), (0, out, ""))
 
 
+# What the finished table says
+
+
+def best_of(routes, address):
+    """The route of the longest prefix that covers the address; of these that of the least preference, and then feed."""
+    covering = [r for r in routes if (address ^ r[0]) >> 32 - r[1] == 0] if routes else []
+    return min(covering, key=lambda r: (-r[1], r[2], r[3]), default=None)
+
+
+def dotted(number):
+    return ".".join(str(number >> shift & 255) for shift in (24, 16, 8, 0))
+
+
+def shown(route):
+    base, length, pref, feed, hop = route
+    return f"{dotted(base)}/{length} feed {feed} pref {pref} via {hop}\n"
+
+
+def finished_tables(yarib):
+    """Look-ups and lists of random feeds, beside a plain list; the same with any batch, and with the files' faults told."""
+    choice = random.Random(27)
+    routes, names = [], []
+    for feed in range(1, 7):
+        name, had, text = f"shown{feed}.feed", set(), ""
+        for line in range(300):
+            length = choice.choice((0, 8, 12, 16, 20, 24, 31, 32))
+            base = choice.choice((10 << 24, 172 << 24)) + choice.randrange(1 << 16) >> 32 - length << 32 - length if length else 0
+            pref = choice.randrange(4)
+            if (base, length) in had:
+                continue
+            had.add((base, length))
+            routes.append((base, length, pref, feed, f"192.0.2.{feed}"))
+            text += f"add {dotted(base)}/{length} {pref} 192.0.2.{feed}\nlookup 10.0.0.1\n"
+        pathlib.Path(name).write_text(text)
+        names.append(name)
+    addresses = [choice.choice((10 << 24, 172 << 24, 192 << 24)) + choice.randrange(1 << 16) for _ in range(2_000)]
+    pathlib.Path("asked.txt").write_text("# asked\n\n" + "".join(dotted(address) + "\n" for address in addresses))
+    answers = "".join(f"{dotted(address)} " + (f"route {shown(found)}" if (found := best_of(routes, address)) else "no route\n") for address in addresses)
+    in_order = sorted(routes, key=lambda r: (r[0], r[1], r[2], r[3]))
+    best = [r for place, r in enumerate(in_order) if place == 0 or in_order[place - 1][:2] != r[:2]]
+    for words in ([], ["--batch", "1"], ["--batch", "1024"], ["--limit", "1000000"]):
+        expect(f"2,000 addresses {words}", run([yarib, "lookup", *words, "--addresses", "asked.txt", *names]), (0, answers, ""))
+        expect(f"the routes {words}", run([yarib, "table", *words, *names]), (0, "".join(map(shown, in_order)), ""))
+        expect(f"the best routes {words}", run([yarib, "table", *words, "--best", *names]), (0, "".join(map(shown, best)), ""))
+    for count in (1, 255, 256, 257, 513):
+        many = [word for address in addresses[:count] for word in ("--address", dotted(address))]
+        first = "".join(answers.splitlines(keepends=True)[:count])
+        expect(f"{count} addresses", run([yarib, "lookup", *many, *names]), (0, first, ""))
+    ended = run([yarib, "lookup", "--addresses", "/dev/stdin", *names], input=pathlib.Path("asked.txt").read_bytes())
+    expect("addresses from a pipe", ended, (0, answers, ""))
+
+
+def not_taken(yarib):
+    """What standard error tells of each file, and the status."""
+    pathlib.Path("three.feed").write_text(ROW + "frob\nadd 11.0.0.0/8 1 192.0.2.1\nadd 12.0.0.0/8 1 192.0.2.1\nlookup 1\n")
+    pathlib.Path("asked.txt").write_text("10.0.0.1\n" + "#" * 129 + "\nx\n10.0.0.2\n")
+    answer = "10.0.0.1 route " + route(1)
+    faulty = "yarib: three.feed: faulty lines: 2, the first 2: E1: the first field is no command\n"
+    over = "yarib: three.feed: adds over the limit: 2\n"
+    asked = "yarib: asked.txt: faulty lines: 2, the first 2: E8: the line has over 128 bytes\n"
+    one = ["--limit", "1"]
+    expect("faulty lines", run([yarib, "lookup", "--address", "10.0.0.1", "three.feed"]), (2, answer, faulty))
+    expect("faulty lines and adds over the limit", run([yarib, "lookup", *one, "--address", "10.0.0.1", "three.feed"]), (2, answer, faulty + over))
+    expect("the same of a table", run([yarib, "table", *one, "three.feed", "row.feed"]), (2, route(1) + route(2), faulty + over))
+    both = answer + "10.0.0.2" + answer[8:]
+    expect("faulty addresses", run([yarib, "lookup", "--addresses", "asked.txt", "row.feed"]), (2, both, asked))
+    expect("faults of all files", run([yarib, "lookup", *one, "--addresses", "asked.txt", "three.feed"]), (2, both, asked + faulty + over))
+    for word in ("10.0.0.256", "", "10.0.0.1/32", "10.0.0.01", " 10.0.0.1", "x"):
+        ended = run([yarib, "lookup", "--address", "10.0.0.1", f"--address={word}", "missing"])
+        expect(f"the address {word!r}", ended, (3, "", f"yarib: no address: {word}\n"))
+    expect("no address", run([yarib, "lookup", "row.feed"]), (3, "", "yarib: no address is asked for: give --address or --addresses\n"))
+    for command in (["lookup", "--address", "10.0.0.1"], ["table"]):
+        expect(f"{command} of a missing file", run([yarib, *command, "row.feed", "missing"]), (4, "", "yarib: cannot read missing\n"))
+        expect(f"{command} of 65 files", run([yarib, *command, *["missing"] * 65]), (3, "", "yarib: more than 64 files\n"))
+        misused(f"{command} of no file", run([yarib, *command]), "<FILE>")
+        misused(f"{command} with --limit 0", run([yarib, *command, "--limit", "0", "row.feed"]), "--limit")
+    expect("a missing text of addresses", run([yarib, "lookup", "--addresses", "missing", "row.feed"]), (4, "", "yarib: cannot read missing\n"))
+    misused("--best of a look-up", run([yarib, "lookup", "--best", "--address", "10.0.0.1", "row.feed"]), "--best")
+    misused("--address of a table", run([yarib, "table", "--address", "10.0.0.1", "row.feed"]), "--address")
+    misused("--best of a run", run([yarib, "run", "--best", "row.feed"]), "--best")
+
+
 def closed_outputs(yarib):
-    calls = (["--help"], ["help", "run"], ["run", "--help"], ["replay", "--help"], ["--version"], ["-V"], ["replay", "--levels", "6"],
+    calls = (["lookup", "--help"], ["table", "--help"], ["lookup", "--address", "10.0.0.1", "row.feed"], ["table", "row.feed"],
+             ["--help"], ["help", "run"], ["run", "--help"], ["replay", "--help"], ["--version"], ["-V"], ["replay", "--levels", "6"],
              ["replay", "--levels", "2", *["3"] * 12], ["run", "row.feed"], ["run", "empty.feed"], ["run", "faulty.feed"])
     for words in calls:
         closed = run([yarib, *words], stdout=None, preexec_fn=lambda: os.close(1))
@@ -357,7 +440,7 @@ def closed_outputs(yarib):
             expect(f"{words} to a full output", run([yarib, *words], stdout=full), CANNOT_WRITE)
         expect(f"{words} where nothing is open", run([yarib, *words], stdout=None, stderr=None, preexec_fn=close_all), (6, "", ""))
     # What has nothing for standard output doesn't meet it.
-    for words, wanted in ((["run", "missing"], (4, "", "yarib: cannot read missing\n")), (["replay", "--levels", "7"], (3, "", "yarib: fault P2\n"))):
+    for words, wanted in ((["table", "empty.feed"], (0, "", "")), (["run", "missing"], (4, "", "yarib: cannot read missing\n")), (["replay", "--levels", "7"], (3, "", "yarib: fault P2\n"))):
         expect(f"{words} to a closed output", run([yarib, *words], stdout=None, preexec_fn=lambda: os.close(1)), wanted)
 
 
@@ -370,7 +453,7 @@ def main():
         os.chdir(folder)
         for name, text in (("row", ROW), ("empty", ""), ("faulty", "frob\n")):
             pathlib.Path(f"{name}.feed").write_text(text)
-        for rows in (file_order, many_files, unreadable, names, texts, limits, batches, twice, replays, pages, help_is_true, closed_outputs):
+        for rows in (file_order, many_files, unreadable, names, texts, limits, batches, twice, replays, finished_tables, not_taken, pages, help_is_true, closed_outputs):
             rows(yarib)
             print(f"{rows.__name__.replace('_', ' ')}: done", flush=True)
         os.chdir("/")

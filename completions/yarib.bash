@@ -3,19 +3,21 @@ _yarib() {
   local word=${COMP_WORDS[COMP_CWORD]} before=${COMP_WORDS[COMP_CWORD - 1]} options
   COMPREPLY=()
   if [ "$COMP_CWORD" -eq 1 ]; then
-    mapfile -t COMPREPLY < <(compgen -W "run replay help --help --version" -- "$word")
+    mapfile -t COMPREPLY < <(compgen -W "run lookup table replay help --help --version" -- "$word")
     return
   fi
   case ${COMP_WORDS[1]}:$before in
-    run:--limit | run:--batch | replay:--levels) return ;;
+    run:--limit | run:--batch | lookup:--limit | lookup:--batch | lookup:--address | table:--limit | table:--batch | replay:--levels) return ;;
   esac
   case ${COMP_WORDS[1]} in
     run) options="--limit --batch --help" ;;
+    lookup) options="--address --addresses --limit --batch --help" ;;
+    table) options="--best --limit --batch --help" ;;
     replay) options="--levels --help" ;;
-    help) options="run replay" ;;
+    help) options="run lookup table replay" ;;
     *) return ;;
   esac
-  if [ "${COMP_WORDS[1]}" = run ] && [[ $word != -* ]]; then
+  if [[ ${COMP_WORDS[1]} = @(run|lookup|table) && $word != -* ]]; then
     compopt -o filenames
     mapfile -t COMPREPLY < <(compgen -f -- "$word")
   else

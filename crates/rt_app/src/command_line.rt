@@ -5,7 +5,7 @@ ghost use Rattle.rt_rib.specs.Book.{IsLimit};
 
 use clap::builder::ValueParser;
 use clap::error::ErrorKind;
-use clap::{Arg, ArgMatches, Command, Error};
+use clap::{Arg, ArgAction, ArgMatches, Command, Error};
 use rt_rib::limit_ok;
 use std::alloc::{AllocError, AllocFailed, Global};
 
@@ -21,6 +21,7 @@ Commands, one a line; an empty line and one that begins with # are skipped:
   lookup ADDR              the best route of the longest prefix that covers it
   dump                     the number of routes of all feeds
   purge                    take out all routes of this feed (version 2)
+PREF is 0 to 4294967295, and the least wins; of equal ones the first file's.
 Where the first line is `version 2`, HOP is an address or discard.
 
 Faults, the first that a line has:
@@ -32,8 +33,9 @@ Exit status, the greatest that applies:
   0 done   2 faulty line   3 command line   4 unreadable file
   5 memory refused   6 output not written
 
-A feed has at most 65536 routes if --limit is left out; further adds are
-answered full, with status 0. A full table needs --limit 1000000.
+A feed has at most 65536 routes if --limit is left out, and at most 1000000 in
+any case. Each add beyond is answered full, with status 0: look for full in the
+report. `lookup` and `table` tell of such adds on standard error, with status 2.
 
 Example, where one.feed says `add 10.0.0.0/8 100 192.0.2.1`:
   $ yarib run one.feed
@@ -48,6 +50,61 @@ Several feeds, where two.feed says `add 10.0.0.0/8 50 192.0.2.2`:
   table 2
   10.0.0.0/8 feed 2 pref 50 via 192.0.2.2
   10.0.0.0/8 feed 1 pref 100 via 192.0.2.1
+";
+
+/// What `lookup --help` says of the addresses, the answers, what is told of the files, and the exit status.
+const LOOKUP_NOTES: &str = "\
+Each address has one line, in order, when all feeds have ended: those of
+--address, and then those of --addresses, one a line. An empty line and one that
+begins with # are skipped.
+  ADDR route PREFIX feed F pref P via HOP   of the longest prefix that covers
+                                            it, the route of the least P
+  ADDR no route                             no prefix covers it
+
+Standard error tells of each file what was not taken, one line a kind:
+  yarib: FILE: faulty lines: N, the first LINE: FAULT
+  yarib: FILE: adds over the limit: N
+  yarib: FILE: commands refused for want of memory: N
+
+Exit status, the greatest that applies:
+  0 done   2 faulty line, or add over the limit   3 command line
+  4 unreadable file   5 memory refused   6 output not written
+
+A feed has at most 65536 routes if --limit is left out, and at most 1000000 in
+any case. `run --help` has the commands of feed files and the faults.
+
+Example, where one.feed says `add 10.0.0.0/8 100 192.0.2.1`:
+  $ yarib lookup --address 10.1.2.3 --address 11.0.0.1 one.feed
+  10.1.2.3 route 10.0.0.0/8 feed 1 pref 100 via 192.0.2.1
+  11.0.0.1 no route
+";
+
+/// What `table --help` says of the routes, what is told of the files, and the exit status.
+const TABLE_NOTES: &str = "\
+Each route has one line, when all feeds have ended, sorted by base address,
+length, preference and feed; with --best only the one of each prefix that a
+look-up would give:
+  PREFIX feed F pref P via HOP
+
+Standard error tells of each file what was not taken, one line a kind:
+  yarib: FILE: faulty lines: N, the first LINE: FAULT
+  yarib: FILE: adds over the limit: N
+  yarib: FILE: commands refused for want of memory: N
+
+Exit status, the greatest that applies:
+  0 done   2 faulty line, or add over the limit   3 command line
+  4 unreadable file   5 memory refused   6 output not written
+
+A feed has at most 65536 routes if --limit is left out, and at most 1000000 in
+any case. `run --help` has the commands of feed files and the faults.
+
+Example, where one.feed says `add 10.0.0.0/8 100 192.0.2.1`, and two.feed
+`add 10.0.0.0/8 50 192.0.2.2`:
+  $ yarib table one.feed two.feed
+  10.0.0.0/8 feed 2 pref 50 via 192.0.2.2
+  10.0.0.0/8 feed 1 pref 100 via 192.0.2.1
+  $ yarib table --best one.feed two.feed
+  10.0.0.0/8 feed 2 pref 50 via 192.0.2.2
 ";
 
 /// What `replay --help` says of a step's line, its words and marks, and the exit status.
@@ -80,14 +137,21 @@ Example:
   inside p0
 ";
 
-/// How many commands of a feed are asked at once, where the command line does not say.
+/// How many commands of a feed `run` asks at once, where the command line does not say.
 pub const DEFAULT_BATCH: u32 = 1;
+
+/// How many `lookup` and `table` ask at once, where it does not say: no order shows in what they write.
+pub const UNSEEN_BATCH: u32 = 256;
 
 /// What the words of a command line ask for.
 #[derive(Drop)]
 pub enum Request<'a> {
     /// To run feed files.
     Run(RunRequest<'a>),
+    /// To look addresses up in the table that feed files leave.
+    Lookup(LookupRequest<'a>),
+    /// To list the routes of the table that feed files leave.
+    Table(TableRequest<'a>),
     /// To show the steps of one schedule of the lock.
     Replay(ReplayRequest),
 }
@@ -103,6 +167,26 @@ pub struct RunRequest<'a> {
     pub files: Vec<&'a str>,
     pub ghost limited: { IsLimit limit },
     pub ghost batched: { 1 ≤ batch },
+}
+
+/// Which addresses to look up, after which feed files.
+#[derive(Drop)]
+pub struct LookupRequest<'a> {
+    /// The feed files.
+    pub run: RunRequest<'a>,
+    /// The texts of the addresses that stand on the command line.
+    pub addresses: Vec<&'a str>,
+    /// The name of the file that has further addresses.
+    pub more: Option<&'a str>,
+}
+
+/// Which routes to list, after which feed files.
+#[derive(Drop)]
+pub struct TableRequest<'a> {
+    /// The feed files.
+    pub run: RunRequest<'a>,
+    /// Whether only the best route of each prefix is listed.
+    pub only_best: bool,
 }
 
 /// Which schedule to show.
@@ -148,7 +232,9 @@ pub fn read<'a>(alloc: Global, words: &'a [String]) -> Result<Request<'a>, Refus
 fn request_of<'a>(alloc: Global, matches: &ArgMatches<'a>) -> Result<Request<'a>, Refusal> {
     match matches.subcommand() {
         Some(("replay", asked)) => Ok(Request::Replay(replay_request(alloc, asked)?)),
-        Some((_, asked)) => Ok(Request::Run(run_request(alloc, asked)?)),
+        Some(("lookup", asked)) => Ok(Request::Lookup(lookup_request(alloc, asked)?)),
+        Some(("table", asked)) => Ok(Request::Table(table_request(alloc, asked)?)),
+        Some((_, asked)) => Ok(Request::Run(run_request(alloc, asked, DEFAULT_BATCH)?)),
         None => Err(Refusal::Memory),
     }
 }
@@ -171,6 +257,8 @@ fn program<'a>(alloc: Global) -> Result<Command<'a>, AllocError> {
         .subcommand_required(true)
         .arg_required_else_help(true)
         .subcommand(run_command(alloc)?)?
+        .subcommand(lookup_command(alloc)?)?
+        .subcommand(table_command(alloc)?)?
         .subcommand(replay_command(alloc)?)
 }
 
@@ -179,8 +267,51 @@ fn run_command<'a>(alloc: Global) -> Result<Command<'a>, AllocError> {
         .about("Run the commands of feed files at once and print the replies and the table")
         .after_help(RUN_NOTES)
         .arg(limit(alloc))?
-        .arg(batch(alloc))?
+        .arg(batch(alloc, "1"))?
         .arg(files(alloc))
+}
+
+fn lookup_command<'a>(alloc: Global) -> Result<Command<'a>, AllocError> {
+    Command::new(alloc, "lookup")
+        .about("Run feed files, and answer for each address from the table that they leave")
+        .after_help(LOOKUP_NOTES)
+        .arg(limit(alloc))?
+        .arg(batch(alloc, "256"))?
+        .arg(address(alloc))?
+        .arg(addresses(alloc))?
+        .arg(files(alloc))
+}
+
+fn table_command<'a>(alloc: Global) -> Result<Command<'a>, AllocError> {
+    Command::new(alloc, "table")
+        .about("Run feed files, and print the routes of the table that they leave")
+        .after_help(TABLE_NOTES)
+        .arg(best(alloc))?
+        .arg(limit(alloc))?
+        .arg(batch(alloc, "256"))?
+        .arg(files(alloc))
+}
+
+fn address<'a>(alloc: Global) -> Arg<'a> {
+    Arg::new(alloc, "address")
+        .long("address")
+        .value_name("ADDR")
+        .action(ArgAction::Append)
+        .help("An address to look up; may be given again")
+}
+
+fn addresses<'a>(alloc: Global) -> Arg<'a> {
+    Arg::new(alloc, "addresses")
+        .long("addresses")
+        .value_name("FILE")
+        .help("A file of further addresses, one a line")
+}
+
+fn best<'a>(alloc: Global) -> Arg<'a> {
+    Arg::new(alloc, "best")
+        .long("best")
+        .action(ArgAction::SetTrue)
+        .help("Print only the best route of each prefix")
 }
 
 fn limit<'a>(alloc: Global) -> Arg<'a> {
@@ -188,9 +319,9 @@ fn limit<'a>(alloc: Global) -> Arg<'a> {
     number(alloc, "limit", "K", 1, 1_000_000, help).default_value("65536")
 }
 
-fn batch<'a>(alloc: Global) -> Arg<'a> {
+fn batch<'a>(alloc: Global, unless_given: &'a str) -> Arg<'a> {
     let help = "How many commands of a feed are asked at once, 1 to 1024";
-    number(alloc, "batch", "K", 1, 1024, help).default_value("1")
+    number(alloc, "batch", "K", 1, 1024, help).default_value(unless_given)
 }
 
 fn files<'a>(alloc: Global) -> Arg<'a> {
@@ -238,13 +369,44 @@ fn number<'a>(
         .help(help)
 }
 
-fn run_request<'a>(alloc: Global, asked: &ArgMatches<'a>) -> Result<RunRequest<'a>, Refusal> {
-    let mut files = Vec::new(alloc);
-    if let Some(names) = asked.get_strs("files") {
-        for name in names {
-            files.push(*name)?;
+fn lookup_request<'a>(alloc: Global, asked: &ArgMatches<'a>) -> Result<LookupRequest<'a>, Refusal> {
+    Ok(LookupRequest {
+        run: run_request(alloc, asked, UNSEEN_BATCH)?,
+        addresses: texts_of(alloc, asked, "address")?,
+        more: asked.get_str("addresses"),
+    })
+}
+
+fn table_request<'a>(alloc: Global, asked: &ArgMatches<'a>) -> Result<TableRequest<'a>, Refusal> {
+    Ok(TableRequest {
+        run: run_request(alloc, asked, UNSEEN_BATCH)?,
+        only_best: asked.get_flag("best"),
+    })
+}
+
+/// The texts that were given for the argument, in order.
+fn texts_of<'a>(
+    alloc: Global,
+    asked: &ArgMatches<'a>,
+    name: &str,
+) -> Result<Vec<&'a str>, Refusal> {
+    let mut texts = Vec::new(alloc);
+    if let Some(given) = asked.get_strs(name) {
+        for text in given {
+            texts.push(*text)?;
         }
     }
+    Ok(texts)
+}
+
+fn run_request<'a>(
+    alloc: Global,
+    asked: &ArgMatches<'a>,
+    batch: u32,
+) -> Result<RunRequest<'a>, Refusal>
+    requires { 1 ≤ batch }
+{
+    let files = texts_of(alloc, asked, "files")?;
     let limit = asked
         .get_one::<u32>("limit")
         .filter(|limit| limit_ok(*limit))
@@ -252,7 +414,7 @@ fn run_request<'a>(alloc: Global, asked: &ArgMatches<'a>) -> Result<RunRequest<'
     let batch = asked
         .get_one::<u32>("batch")
         .filter(|batch| *batch >= 1)
-        .unwrap_or(DEFAULT_BATCH);
+        .unwrap_or(batch);
     Ok(RunRequest {
         limit,
         batch,

@@ -1,6 +1,9 @@
 //! The program over its words: reads the files, runs them, and turns each outcome into a status and a text.
 
-ghost use Rattle.std.specs.Prelude.{◌≡◌, length, vec_len, IfOk};
+mod showing;
+mod telling;
+
+ghost use Rattle.std.specs.Prelude.{◌≡◌, ◌≤◌, length, vec_len, IfOk};
 
 use crate::command_line::{self, Refusal, ReplayRequest, Request, RunRequest};
 use crate::faults::AppFault;
@@ -8,7 +11,8 @@ use crate::replays::replay_text;
 use crate::runs::{MOST_TEXTS, run_texts};
 use rt_cidr::put;
 use rt_feed::RunFault;
-use std::alloc::{AllocFailed, Global};
+use showing::{show_answers, show_routes};
+use std::alloc::{AllocError, AllocFailed, Global};
 use std::fs;
 use std::io::{self, ErrorKind, Write};
 use std::rt::Files;
@@ -23,6 +27,10 @@ enum Stop<'a> {
     Misused(String),
     /// There are more files than a run takes. None was read.
     TooMany,
+    /// No address is asked for.
+    NothingAsked,
+    /// A word that should be an address is none.
+    NoAddress(&'a str),
     /// A file could not be opened or read.
     Unreadable(&'a str),
     /// The work was refused or could not be written.
@@ -31,11 +39,23 @@ enum Stop<'a> {
 
 const NO_MEMORY: Stop<'static> = Stop::Fault(AppFault::Run(RunFault::Memory));
 
+impl From<AllocError> for Stop<'_> {
+    fn from(_error: AllocError) -> Self {
+        NO_MEMORY
+    }
+}
+
+impl<T: Drop> From<AllocFailed<T>> for Stop<'_> {
+    fn from(_error: AllocFailed<T>) -> Self {
+        NO_MEMORY
+    }
+}
+
 impl Stop<'_> {
     /// The exit status.
     fn status(&self) -> u8 {
         match self {
-            Stop::Misused(_) | Stop::TooMany => 3,
+            Stop::Misused(_) | Stop::TooMany | Stop::NothingAsked | Stop::NoAddress(_) => 3,
             Stop::Unreadable(_) => 4,
             Stop::Fault(AppFault::Run(RunFault::NoText | RunFault::FeedCount)) => 3,
             Stop::Fault(AppFault::Run(RunFault::Memory)) => 5,
@@ -50,14 +70,22 @@ impl Stop<'_> {
         match self {
             Stop::Misused(text) => put(err, text.as_bytes()),
             Stop::TooMany => put(err, b"yarib: more than 64 files\n"),
-            Stop::Unreadable(name) => {
-                put(err, b"yarib: cannot read ")?;
-                put(err, name.as_bytes())?;
-                put(err, b"\n")
-            }
+            Stop::NothingAsked => put(err, NOTHING_ASKED),
+            Stop::NoAddress(word) => tell_of(err, b"no address: ", word),
+            Stop::Unreadable(name) => tell_of(err, b"cannot read ", name),
             Stop::Fault(fault) => put(err, fault_text(*fault)),
         }
     }
+}
+
+const NOTHING_ASKED: &[u8] = b"yarib: no address is asked for: give --address or --addresses\n";
+
+/// Writes what is the matter, and with which word of the command line.
+fn tell_of<E: Write>(err: &mut E, what: &[u8], word: &str) -> Result<(), io::Error> {
+    put(err, b"yarib: ")?;
+    put(err, what)?;
+    put(err, word.as_bytes())?;
+    put(err, b"\n")
 }
 
 fn fault_text(fault: AppFault) -> &'static [u8] {
@@ -81,7 +109,7 @@ pub fn run_words<R: Files + Threads + Wait + Sync + AllocGlobal, O: Write, E: Wr
     out: &mut O,
     err: &mut E,
 ) -> u8 {
-    match carry_out(rt, alloc, words, out) {
+    match carry_out(rt, alloc, words, out, err) {
         Ok(status) => status,
         Err(stop) => {
             let _ = stop.tell(err);
@@ -90,14 +118,22 @@ pub fn run_words<R: Files + Threads + Wait + Sync + AllocGlobal, O: Write, E: Wr
     }
 }
 
-fn carry_out<'a, R: Files + Threads + Wait + Sync + AllocGlobal, O: Write>(
+fn carry_out<'a, R, O, E>(
     rt: &R,
     alloc: Global,
     words: &'a [String],
     out: &mut O,
-) -> Result<u8, Stop<'a>> {
+    err: &mut E,
+) -> Result<u8, Stop<'a>>
+where
+    R: Files + Threads + Wait + Sync + AllocGlobal,
+    O: Write,
+    E: Write,
+{
     match command_line::read(alloc, words) {
         Ok(Request::Run(asked)) => run_files(rt, alloc, &asked, out),
+        Ok(Request::Lookup(asked)) => show_answers(rt, alloc, &asked, out, err),
+        Ok(Request::Table(asked)) => show_routes(rt, alloc, &asked, out, err),
         Ok(Request::Replay(asked)) => show_replay(alloc, &asked, out),
         Err(Refusal::Shown(text)) => shown(text.as_bytes(), out),
         Err(Refusal::Misused(text)) => Err(Stop::Misused(text)),
@@ -111,10 +147,7 @@ fn run_files<'a, R: Files + Threads + Wait + Sync + AllocGlobal, O: Write>(
     asked: &RunRequest<'a>,
     out: &mut O,
 ) -> Result<u8, Stop<'a>> {
-    if asked.files.len() > MOST_TEXTS {
-        return Err(Stop::TooMany);
-    }
-    let texts = read_files(rt, alloc, asked.files.as_slice())?;
+    let texts = read_feeds(rt, alloc, asked)?;
     let batch = asked.batch as usize;
     match run_texts(rt, alloc, texts.as_slice(), asked.limit, batch, out) {
         Ok(status) => Ok(status),
@@ -140,6 +173,20 @@ fn shown<'a, O: Write>(text: &[u8], out: &mut O) -> Result<u8, Stop<'a>> {
     }
 }
 
+/// The texts of the feed files, of which none is read where there are more than a run takes.
+fn read_feeds<'a, R: Files + AllocGlobal>(
+    rt: &R,
+    alloc: Global,
+    asked: &RunRequest<'a>,
+) -> Result<Vec<Vec<u8>>, Stop<'a>>
+    ensures { IfOk result (λ texts. vec_len texts ≤ 64) }
+{
+    if asked.files.len() > MOST_TEXTS {
+        return Err(Stop::TooMany);
+    }
+    read_files(rt, alloc, asked.files.as_slice())
+}
+
 fn read_files<'a, R: Files + AllocGlobal>(
     rt: &R,
     alloc: Global,
@@ -149,16 +196,17 @@ fn read_files<'a, R: Files + AllocGlobal>(
 {
     let mut texts = Vec::new(alloc);
     for name in names {
-        match fs::read(rt, *name) {
-            Ok(text) => match texts.push(text) {
-                Ok(()) => {}
-                Err(_) => return Err(NO_MEMORY),
-            },
-            Err(fault) if fault.kind() == ErrorKind::OutOfMemory => return Err(NO_MEMORY),
-            Err(_) => return Err(Stop::Unreadable(name)),
-        }
+        texts.push(read_file(rt, name)?)?;
     }
     Ok(texts)
+}
+
+fn read_file<'a, R: Files + AllocGlobal>(rt: &R, name: &'a str) -> Result<Vec<u8>, Stop<'a>> {
+    match fs::read(rt, name) {
+        Ok(text) => Ok(text),
+        Err(fault) if fault.kind() == ErrorKind::OutOfMemory => Err(NO_MEMORY),
+        Err(_) => Err(Stop::Unreadable(name)),
+    }
 }
 
 #[cfg(test)]

@@ -6,5 +6,6 @@ mod judge;
 mod orders;
 mod replays;
 mod rows;
+mod shown;
 mod words;
 mod writers;

@@ -1,7 +1,9 @@
 //! Each fault has its status and its text. The other ways to stop are rows of the calls.
 use crate::faults::AppFault;
 use crate::program::Stop;
-use rt_feed::RunFault;
+use crate::program::telling::tell_tally;
+use crate::tallies::Tally;
+use rt_feed::{Answer, Line, LineFault, RunFault};
 use ya_core::ReplayFault;
 
 static FAULTS: [(AppFault, u8, &str); 7] = [
@@ -30,4 +32,34 @@ fn each_fault_has_its_status_and_text(rt: HostRuntime) {
         let told = stop.tell(&mut err).is_ok() && err.as_slice() == text.as_bytes();
         assert!(rt; told && stop.status() == *status, "of {text:?}");
     }
+}
+
+/// A tally of three kinds is told in three lines, and one of none in none.
+#[test]
+fn what_was_not_taken_is_told(rt: HostRuntime) {
+    let first = Line {
+        number: 3,
+        answer: Answer::Fault(LineFault::Preference),
+    };
+    let some = Tally {
+        faulty: 2,
+        first_faulty: Some(first),
+        full: 7,
+        refused: 1,
+    };
+    let none = Tally {
+        faulty: 0,
+        first_faulty: None,
+        full: 0,
+        refused: 0,
+    };
+    let mut err = Vec::new(rt.alloc());
+    tell_tally(&mut err, "a.feed", &some);
+    tell_tally(&mut err, "b.feed", &none);
+    let told =
+        "yarib: a.feed: faulty lines: 2, the first 3: E6: the preference is no decimal from 0 to 4294967295
+yarib: a.feed: adds over the limit: 7
+yarib: a.feed: commands refused for want of memory: 1
+";
+    assert!(rt; err.as_slice() == told.as_bytes());
 }

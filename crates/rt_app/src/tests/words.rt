@@ -41,10 +41,10 @@ struct Call {
 
 /// What a call of the program gave.
 #[derive(Drop)]
-struct Ending {
-    status: u8,
-    out: Vec<u8>,
-    err: Vec<u8>,
+pub struct Ending {
+    pub status: u8,
+    pub out: Vec<u8>,
+    pub err: Vec<u8>,
 }
 
 fn owned_words(alloc: Global, words: &[&str]) -> Result<Vec<String>, AllocError> {
@@ -55,7 +55,8 @@ fn owned_words(alloc: Global, words: &[&str]) -> Result<Vec<String>, AllocError>
     Ok(owned)
 }
 
-fn run<R: Files + Threads + Wait + Sync + AllocGlobal>(
+/// Calls the program.
+pub fn run<R: Files + Threads + Wait + Sync + AllocGlobal>(
     rt: &R,
     words: &[&str],
 ) -> Result<Ending, Fail> {
@@ -156,7 +157,30 @@ fn shows(alloc: Global, help: &[u8], printed: &[u8]) -> Result<bool, Fail> {
 }
 
 /// The command of each example of the help, the line that is typed, and its words.
-static EXAMPLES: [(&str, &str, &[&str]); 3] = [
+static EXAMPLES: [(&str, &str, &[&str]); 6] = [
+    (
+        "lookup",
+        "$ yarib lookup --address 10.1.2.3 --address 11.0.0.1 one.feed\n",
+        &[
+            "yarib",
+            "lookup",
+            "--address",
+            "10.1.2.3",
+            "--address",
+            "11.0.0.1",
+            "one.feed",
+        ],
+    ),
+    (
+        "table",
+        "$ yarib table one.feed two.feed\n",
+        &["yarib", "table", "one.feed", "two.feed"],
+    ),
+    (
+        "table",
+        "$ yarib table --best one.feed two.feed\n",
+        &["yarib", "table", "--best", "one.feed", "two.feed"],
+    ),
     (
         "run",
         "$ yarib run one.feed\n",
@@ -464,8 +488,9 @@ inside none
             "4 unreadable file",
             "5 memory refused",
             "6 output not written",
+            "the least wins",
             "at most 65536 routes",
-            "--limit 1000000",
+            "at most 1000000",
             "$ yarib run one.feed\n  1:1 added\n  table 1\n",
             "  10.0.0.0/8 feed 1 pref 100 via 192.0.2.1\n",
         ]),

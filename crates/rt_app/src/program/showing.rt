@@ -1,0 +1,129 @@
+//! `lookup` and `table`: what the table says that feed files leave, and what of the files was not taken.
+
+use super::telling::{FaultyLines, tell_faulty, tell_tally};
+use super::{Stop, read_feeds, read_file};
+use crate::command_line::{LookupRequest, TableRequest};
+use crate::shown::{lookup_texts, table_texts};
+use crate::tallies::{NOT_TAKEN, Taken};
+use rt_cidr::Addr;
+use rt_feed::{next_line, parse_address_line};
+use std::alloc::{AllocError, Global};
+use std::io::Write;
+use std::rt::Files;
+use std::sync::Wait;
+use std::thread::Threads;
+
+/// The addresses that are asked, and the faulty lines of their file.
+#[derive(Drop)]
+struct Asked {
+    addresses: Vec<Addr>,
+    faulty: FaultyLines,
+}
+
+/// Answers for each address that the command line names, and then for each of their file.
+pub(super) fn show_answers<'a, R, O, E>(
+    rt: &R,
+    alloc: Global,
+    request: &LookupRequest<'a>,
+    out: &mut O,
+    err: &mut E,
+) -> Result<u8, Stop<'a>>
+where
+    R: Files + Threads + Wait + Sync + AllocGlobal,
+    O: Write,
+    E: Write,
+{
+    let run = &request.run;
+    let mut asked = named_addresses(alloc, request)?;
+    let texts = read_feeds(rt, alloc, run)?;
+    if let Some(name) = request.more {
+        let text = read_file(rt, name)?;
+        add_addresses(text.as_slice(), &mut asked)?;
+        tell_faulty(err, name, asked.faulty);
+    }
+    let batch = run.batch as usize;
+    let addresses = asked.addresses.as_slice();
+    match lookup_texts(
+        rt,
+        alloc,
+        texts.as_slice(),
+        run.limit,
+        batch,
+        addresses,
+        out,
+    ) {
+        Ok(taken) => {
+            let status = tell_taken(err, run.files.as_slice(), &taken);
+            Ok(if status == 0 && asked.faulty.count > 0 {
+                NOT_TAKEN
+            } else {
+                status
+            })
+        }
+        Err(fault) => Err(Stop::Fault(fault)),
+    }
+}
+
+/// Lists the routes, or only the best of each prefix.
+pub(super) fn show_routes<'a, R, O, E>(
+    rt: &R,
+    alloc: Global,
+    request: &TableRequest<'a>,
+    out: &mut O,
+    err: &mut E,
+) -> Result<u8, Stop<'a>>
+where
+    R: Files + Threads + Wait + Sync + AllocGlobal,
+    O: Write,
+    E: Write,
+{
+    let run = &request.run;
+    let texts = read_feeds(rt, alloc, run)?;
+    let batch = run.batch as usize;
+    let best = request.only_best;
+    match table_texts(rt, alloc, texts.as_slice(), run.limit, batch, best, out) {
+        Ok(taken) => Ok(tell_taken(err, run.files.as_slice(), &taken)),
+        Err(fault) => Err(Stop::Fault(fault)),
+    }
+}
+
+/// Tells of each file what was not taken, and gives the status.
+fn tell_taken<E: Write>(err: &mut E, names: &[&str], taken: &Taken) -> u8 {
+    for (name, tally) in names.iter().zip(taken.tallies.iter()) {
+        tell_tally(err, name, tally);
+    }
+    taken.status
+}
+
+/// The addresses of the command line.
+fn named_addresses<'a>(alloc: Global, request: &LookupRequest<'a>) -> Result<Asked, Stop<'a>> {
+    if request.addresses.is_empty() && request.more.is_none() {
+        return Err(Stop::NothingAsked);
+    }
+    let mut addresses = Vec::new(alloc);
+    for word in &request.addresses {
+        let Ok(address) = Addr::parse(word.as_bytes()) else {
+            return Err(Stop::NoAddress(word));
+        };
+        addresses.push(address)?;
+    }
+    let faulty = FaultyLines::none();
+    Ok(Asked { addresses, faulty })
+}
+
+/// Puts the addresses of a text behind the others, and counts its faulty lines.
+fn add_addresses(text: &[u8], asked: &mut Asked) -> Result<(), AllocError> {
+    let mut rest = text;
+    for number in 1..usize::MAX {
+        let Some((line, behind)) = next_line(rest) else {
+            break;
+        };
+        match parse_address_line(line) {
+            Ok(Some(address)) => asked.addresses.push(address)?,
+            Ok(None) => {}
+            Err(fault) => asked.faulty.put(number, fault),
+        }
+        rest = behind;
+    }
+    Ok(())
+}

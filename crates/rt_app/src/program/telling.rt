@@ -1,0 +1,70 @@
+//! What of a file was not taken, for standard error: one line a kind. A fault of standard error itself is dropped.
+
+use crate::tallies::Tally;
+use rt_feed::{Answer, LineFault};
+use std::io::Write;
+
+/// The faulty lines of a file.
+#[derive(Clone, Copy)]
+pub(super) struct FaultyLines {
+    /// How many there are.
+    pub(super) count: usize,
+    /// The number of the first, from 1, and its fault.
+    first: Option<(usize, LineFault)>,
+}
+
+impl FaultyLines {
+    pub(super) fn none() -> FaultyLines {
+        FaultyLines {
+            count: 0,
+            first: None,
+        }
+    }
+
+    /// Counts a line more.
+    pub(super) fn put(&mut self, number: usize, fault: LineFault) {
+        self.count = self.count.saturating_add(1);
+        self.first = self.first.or(Some((number, fault)));
+    }
+
+    /// Those of a feed's text.
+    fn of(tally: &Tally) -> FaultyLines {
+        let first = match tally.first_faulty {
+            Some(line) => match line.answer {
+                Answer::Fault(fault) => Some((line.number, fault)),
+                Answer::Did(_) | Answer::Refused => None,
+            },
+            None => None,
+        };
+        FaultyLines {
+            count: tally.faulty,
+            first,
+        }
+    }
+}
+
+/// Tells how many lines of the file were faulty, and which was the first.
+pub(super) fn tell_faulty<E: Write>(err: &mut E, name: &str, faulty: FaultyLines) {
+    if let Some((number, fault)) = faulty.first {
+        let count = faulty.count;
+        let _ = writeln!(
+            err,
+            "yarib: {name}: faulty lines: {count}, the first {number}: {fault}"
+        );
+    }
+}
+
+/// Tells what of a feed's file was not taken.
+pub(super) fn tell_tally<E: Write>(err: &mut E, name: &str, tally: &Tally) {
+    tell_faulty(err, name, FaultyLines::of(tally));
+    tell_count(err, name, "adds over the limit", tally.full);
+    let refused = "commands refused for want of memory";
+    tell_count(err, name, refused, tally.refused);
+}
+
+/// Tells how many there were, if any.
+fn tell_count<E: Write>(err: &mut E, name: &str, what: &str, count: usize) {
+    if count > 0 {
+        let _ = writeln!(err, "yarib: {name}: {what}: {count}");
+    }
+}
