@@ -1,10 +1,15 @@
 -- Examples by which definitions are tested, each under a line with the definition's name. Both sides are computed, but for
 -- the texts that are written for numbers, which have one spelling each.
-use Rattle.std.proofs.Common.{◌≡◌, ◌≢◌, ℕ, ◌≤◌, ◌==◌, ◌&&◌, nat_le, Bool, true, false, if◌then◌else◌, Some, None, Ok, Err, List, [], ◌∷◌, ◌++◌, length, map, filter, inl, inr, codes, refl, sym, ap, subst, arith}
+use Rattle.std.proofs.Common.{◌≡◌, ◌≢◌, ℕ, ◌<◌, ◌≤◌, ◌==◌, ◌&&◌, nat_le, Bool, true, false, if◌then◌else◌, Some, None, Ok, Err, List, [], ◌∷◌, ◌++◌, length, map, filter, take, drop, inl, inr, codes, refl, sym, ap, subst, arith}
 use Rattle.std.specs.List.{All, list_any, list_all}
 use Rattle.std.proofs.lemmas.Bool.{and_parts, eqb-true, eqb-false, leb-true}
 use Rattle.std.proofs.lemmas.List.Elements.{All-nil, All-cons}
 use Rattle.rt_cidr.proofs.Promised.{written_0, written_1, written_2, written_3, written_4, written_5, written_6, written_10, written_30, written_50, written_10_0_0_0_8, written_10_1_0_0_16, written_10_9_0_0_16, written_192_0_2_1, written_192_0_2_2}
+use Rattle.ya_core.specs.declared.word.Word.TheVariants.{C, T, P}
+use Rattle.ya_core.specs.declared.step.Mark.TheVariants.{Plain, Inside, Out}
+use Rattle.ya_core.specs.declared.step.Step.{Step}
+use Rattle.ya_core.specs.declared.schedule.ReplayFault.TheVariants as replay
+use Rattle.ya_core.specs.Steps.{opening}
 use Rattle.rt_rib.specs.declared.routes.Hop.TheVariants.{Discard}
 use Rattle.rt_rib.specs.declared.routes.Route.{Route}
 use Rattle.rt_rib.specs.declared.commands.Cmd.{Cmd}
@@ -13,7 +18,7 @@ use Rattle.rt_rib.specs.declared.commands.Reply.TheVariants.{Added, Exists, Full
 use Rattle.rt_rib.specs.declared.commands.Entry.{Entry}
 use Rattle.rt_rib.specs.Sequential.{reply_of, table_after}
 use Rattle.rt_rib.specs.Journal.{table_left, IsAnswered, IsLawfulJournal}
-use Rattle.rt_rib.proofs.Promised.{ten_8, ten_2_16, ten_9_16, via_192_0_2, route_via, tutorial, the_journal_of_the_tutorial, the_table_of_the_tutorial}
+use Rattle.rt_rib.proofs.Promised.{entry, ten_8, ten_1_16, ten_2_16, ten_9_16, via_192_0_2, route_via, tutorial, the_journal_of_the_tutorial, the_table_of_the_tutorial}
 use Rattle.rt_shared.specs.Visits.{Uncut}
 use Rattle.rt_shared.specs.declared.outcome.Outcome.{Outcome}
 use Rattle.rt_shared.specs.declared.outcome.Outcome.TheVariants.{Did, Refused}
@@ -22,13 +27,15 @@ use Rattle.rt_feed.specs.declared.report.Line.{Line}
 use Rattle.rt_feed.specs.declared.versions.Version.TheVariants.{One}
 use Rattle.rt_feed.specs.Versions.{TellsTwo}
 use Rattle.rt_feed.specs.Lines.{CutsLine}
+use Rattle.rt_feed.specs.Visits.{joined, piece_of, visit_of, entries}
 use Rattle.rt_feed.specs.LineOutcomes.{skipped, faulty, asked, LineOutcome, asked_of, report_lines, some_refused, some_faulty}
 use Rattle.rt_feed.specs.Printed.{line_text, answer_text, reply_text, route_text, row_text, count_text, table_text}
 use Rattle.rt_feed.specs.declared.report.Answer.TheVariants as answer
 use Rattle.rt_feed.specs.declared.faults.RunFault.TheVariants as run
 use Rattle.rt_feed.proofs.Promised.{north, north_read, south, south_read, east, east_read, what_north_becomes, what_south_becomes, what_east_becomes}
-use Rattle.rt_app.specs.declared.faults.AppFault.TheVariants.{Run, Write}
+use Rattle.rt_app.specs.declared.faults.AppFault.TheVariants.{Run, Replay, Write}
 use Rattle.rt_app.specs.RunText.{Explains, ExplainsFrom, reports_text, IsHistory, IsRunText, status_of, Leaves}
+use Rattle.rt_app.specs.ReplayText.{level_text, word_text, mark_text, sign_text, step_text, steps_text, enters, inside_after, inside_text, replay_text_of, IsReplayText, LeavesReplay}
 use Rattle.rt_app.specs.TableText.{tally_of, tallies_status}
 use Rattle.rt_app.specs.SameTable.{commands, Asks, left_alone, LeavesAlone, IsUnion, IsAnsweredAlone, printed_reports}
 
@@ -235,9 +242,15 @@ abbrev ones : List (Cmd × Outcome) → List (List (Cmd × Outcome))
 ones [] = []
 ones (one ∷ others) = (one ∷ []) ∷ ones others
 
-all_ones : (pairs : List (Cmd × Outcome)) → All (λ piece. length piece ≡ 1) (ones pairs)
+all_ones : (all : List (Cmd × Outcome)) → All (λ piece. length piece ≡ 1) (ones all)
 all_ones [] = All-nil (λ piece. length piece ≡ 1)
 all_ones (one ∷ others) = All-cons (λ piece. length piece ≡ 1) (one ∷ []) (ones others) refl (all_ones others)
+
+-- and in pieces of two
+abbrev pairs : List (Cmd × Outcome) → List (List (Cmd × Outcome))
+pairs [] = []
+pairs (one ∷ []) = (one ∷ []) ∷ []
+pairs (one ∷ other ∷ others) = (one ∷ other ∷ []) ∷ pairs others
 
 -- Explains
 the_lines_of_north : Explains 1 1 tutorial north north_read
@@ -263,6 +276,45 @@ the_lines_of_east = record {
   cut = record { whole = ones (asked_of east_read); last = []; full = all_ones (asked_of east_read); fewer = omega arith; is_joined = refl; is_cut = refl };
   uncut = each_alone 3 tutorial;
 }
+
+the_same_lines_in_pieces_of_two : Explains 2 1 tutorial north north_read
+the_same_lines_in_pieces_of_two = record {
+  becomes = what_north_becomes;
+  pieces = pairs (asked_of north_read);
+  cut = record {
+    whole = take 1 (pairs (asked_of north_read));
+    last = drop 2 (asked_of north_read);
+    full = All-cons (λ piece. length piece ≡ 2) (take 2 (asked_of north_read)) [] refl (All-nil (λ piece. length piece ≡ 2));
+    fewer = omega arith;
+    is_joined = refl;
+    is_cut = refl;
+  };
+  uncut = (
+    [],
+    drop 2 tutorial,
+    refl,
+    All-nil (λ (e : Entry). e.feed ≢ 1),
+    All-cons (λ (e : Entry). e.feed ≡ 1) (entry 1 (Add ten_8 50 (via_192_0_2 1)) Added) (entry 1 (Add ten_1_16 10 (via_192_0_2 1)) Added ∷ []) refl
+        (All-cons (λ (e : Entry). e.feed ≡ 1) (entry 1 (Add ten_1_16 10 (via_192_0_2 1)) Added) [] refl (All-nil (λ (e : Entry). e.feed ≡ 1))),
+    each_alone 1 (drop 2 tutorial),
+  );
+}
+
+-- a command that was answered in a piece has its entry
+no_entry : (pieces whole : List (List (Cmd × Outcome))) (last : List (Cmd × Outcome)) → All (λ piece. length piece ≡ 1) whole → length last < 1
+    → (Dump, Did (Dumped 0)) ∷ [] ≡ joined whole ++ last → pieces ≡ whole ++ piece_of last → ¬ Uncut 1 (map (λ piece. entries 1 (visit_of piece)) pieces) []
+no_entry pieces whole (one ∷ others) full fewer same cut uncut = omega (arith, fewer)
+no_entry pieces [] [] full fewer same cut uncut = cc
+no_entry pieces ([] ∷ whole) [] full fewer same cut uncut = let one : 0 ≡ 1 = full 0 [] (omega arith) in omega (arith, one)
+no_entry pieces ((one ∷ others) ∷ whole) [] full fewer same cut uncut =
+    let first : (Dump, Did (Dumped 0)) ≡ one = cc in
+    let all = subst (λ pieces. Uncut 1 (map (λ piece. entries 1 (visit_of piece)) pieces) []) cut uncut in
+    let its = subst (λ (one : Cmd × Outcome). Uncut 1 (map (λ piece. entries 1 (visit_of piece)) ((one ∷ others) ∷ (whole ++ []))) []) (sym first) all in
+    nothing_else its.0 dumped (entries 1 (visit_of others) ++ its.1) its.2
+
+-- Explains
+not_by_an_empty_journal : ¬ Explains 1 1 [] text lines
+not_by_an_empty_journal h = no_entry h.pieces h.cut.whole h.cut.last h.cut.full h.cut.fewer h.cut.is_joined h.cut.is_cut h.uncut
 
 -- ExplainsFrom
 each_by_its_feed : ExplainsFrom 1 1 tutorial (north ∷ south ∷ east ∷ []) (north_read ∷ (skipped ∷ south_read) ∷ (skipped ∷ east_read) ∷ [])
@@ -339,3 +391,85 @@ never_as_F2 h = h.0 refl
 
 never_without_a_text : ¬ Leaves (text ∷ []) 1 1 (Some []) (Some []) (Ok 0)
 never_without_a_text (bytes, is, same) = let none : [] ≡ bytes = same in nothing_printed_is_no_run (text ∷ []) 1 1 0 (subst (λ b. IsRunText (text ∷ []) 1 1 b 0) (sym none) is)
+
+-- level_text
+a_letter_a_level_and_a_place : level_text (codes "P") 1 0 ≡ codes "P1.0"
+unfolding level_text
+a_letter_a_level_and_a_place = rw (written_1, written_0) refl
+
+-- word_text
+a_claim_has_a_side : word_text (C 1 0 1) ≡ codes "C1.0.1"
+unfolding word_text level_text
+a_claim_has_a_side = rw (written_1, written_0) refl
+
+-- mark_text
+inside_and_out : map mark_text (Plain ∷ Inside ∷ Out ∷ []) ≡ codes "\n" ∷ codes " inside\n" ∷ codes " out\n" ∷ []
+unfolding mark_text
+inside_and_out = refl
+
+-- sign_text
+a_store_and_a_load : map sign_text (true ∷ false ∷ []) ≡ codes " := " ∷ codes " = " ∷ []
+unfolding sign_text
+a_store_and_a_load = refl
+
+-- the four steps by which place 0 comes inside where nobody competes
+abbrev four_steps : List Step
+four_steps =
+    record { place = 0; word = C 1 0 0; store = true; value = 1; mark = Plain } ∷ record { place = 0; word = T 1 0; store = true; value = 1; mark = Plain }
+    ∷ record { place = 0; word = P 1 0; store = true; value = 0; mark = Plain } ∷ record { place = 0; word = C 1 0 1; store = false; value = 0; mark = Inside } ∷ []
+
+abbrev four_lines : List ℕ
+four_lines = codes "1 p0 C1.0.0 := 1\n2 p0 T1.0 := 1\n3 p0 P1.0 := 0\n4 p0 C1.0.1 = 0 inside\n"
+
+-- step_text
+a_load_that_wins_the_root : step_text 4 (record { place = 0; word = C 1 0 1; store = false; value = 0; mark = Inside }) ≡ codes "4 p0 C1.0.1 = 0 inside\n"
+unfolding step_text word_text level_text sign_text mark_text
+a_load_that_wins_the_root = rw (written_0, written_1, written_4) refl
+
+-- steps_text
+lines_are_numbered_from_1 : steps_text 1 four_steps ≡ four_lines
+unfolding step_text word_text level_text sign_text mark_text
+lines_are_numbered_from_1 = rw (written_0, written_1, written_2, written_3, written_4) refl
+
+-- enters
+who_wins_the_root_does : map enters (Plain ∷ Inside ∷ Out ∷ []) ≡ false ∷ true ∷ false ∷ []
+who_wins_the_root_does = refl
+
+-- inside_after
+the_place_that_won : inside_after four_steps ≡ Some 0
+the_place_that_won = refl
+
+nobody_after_its_next_step : inside_after (four_steps ++ record { place = 0; word = C 1 0 0; store = true; value = 0; mark = Plain } ∷ []) ≡ None
+nobody_after_its_next_step = refl
+
+still_after_anothers_step : inside_after (four_steps ++ record { place = 1; word = C 1 0 1; store = true; value = 2; mark = Plain } ∷ []) ≡ Some 0
+still_after_anothers_step = refl
+
+-- inside_text
+nobody_is : inside_text None ≡ codes "inside none\n"
+unfolding inside_text
+nobody_is = refl
+
+place_1_is : inside_text (Some 1) ≡ codes "inside p1\n"
+unfolding inside_text
+place_1_is = rw written_1 refl
+
+-- replay_text_of
+lines_and_who_is_inside : replay_text_of four_steps (Some 0) ≡ four_lines ++ codes "inside p0\n"
+unfolding inside_text step_text word_text level_text sign_text mark_text
+lines_and_who_is_inside = rw (written_0, written_1, written_2, written_3, written_4) refl
+
+-- IsReplayText
+nothing_picked : IsReplayText 1 [] (codes "inside none\n")
+unfolding inside_text
+nothing_picked = record { steps = []; last = opening; taken = refl; inside = None; told = λ place. (λ same. cc, λ is. cc); printed = refl }
+
+-- LeavesReplay
+its_text_and_status_0 : LeavesReplay 1 [] (Some []) (Some (codes "inside none\n")) (Ok 0)
+its_text_and_status_0 = (refl, codes "inside none\n", nothing_picked, refl)
+
+no_other_status : ¬ LeavesReplay 1 [] (Some []) (Some (codes "inside none\n")) (Ok 2)
+no_other_status h = let status : 2 ≡ 0 = h.0 in omega (arith, status)
+
+nothing_where_it_was_refused_as_a_replay : LeavesReplay 1 (2 ∷ []) (Some []) (Some []) (Err (Replay replay.Place))
+nothing_where_it_was_refused_as_a_replay = refl
