@@ -50,7 +50,8 @@ pub record IsHistory (texts : List (List ℕ)) (limit batch : ℕ) (journal : Li
   pub explained : ExplainsFrom batch 1 journal texts outcomes
   pub no_other : All (λ e. (1 ≤ e.feed) × (e.feed ≤ length texts)) journal
 
--- the bytes are the text of a run of these texts, with its reports and its table, and this is its status
+-- the bytes are the text of a run of these texts: of some journal and what it says that their lines became, the reports and the
+-- table that the journal leaves; and this is its status
 pub record IsRunText (texts : List (List ℕ)) (limit batch : ℕ) (bytes : List ℕ) (status : ℕ) : Type 0 where
   pub journal : List Entry
   pub outcomes : List (List LineOutcome)

@@ -22,6 +22,6 @@ best routes = find (λ r. list_all (λ s. not (is_better s r)) routes) routes
 unfoldable pub look_up : Addr → List Route → Option Route
 look_up addr routes = best (longest_of (matching addr routes))
 
--- the routes to whose prefix no other of them is better
+-- those routes of the list than which no other of the same prefix is better
 abbrev pub best_routes : List Route → List Route
 best_routes routes = filter (λ r. list_all (λ s. not (same_prefix s.prefix r.prefix && is_better s r)) routes) routes
