@@ -46,7 +46,8 @@ table 2
 0.0.0.0 no route
 ";
 
-/// Takes at most `each` bytes a call and `room` bytes in all, and then fails as the system does with this number.
+/// Takes at most `each` bytes a call. After `room` bytes it fails once, as the system does with this number, and then goes
+/// on.
 #[derive(Drop)]
 struct Narrow {
     taken: Vec<u8>,
@@ -58,6 +59,7 @@ struct Narrow {
 impl Write for Narrow {
     fn write(&mut self, buf: &[u8]) -> io::Result<usize> {
         if self.room == 0 {
+            self.room = usize::MAX;
             return Err(io::Error::from_raw_os_error(self.code));
         }
         let count = buf.len().min(self.each).min(self.room);
