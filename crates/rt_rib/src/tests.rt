@@ -5,7 +5,7 @@ mod random;
 mod refusals;
 mod sizes;
 
-use crate::offers::Offers;
+use crate::offers::{Offer, Offers};
 use crate::*;
 use rt_cidr::{Addr, Prefix};
 use std::alloc::{Allocator, Global};
@@ -231,6 +231,7 @@ fn a_purged_feed_starts_anew(rt: HostRuntime) -> Result<(), Fail> {
 
 #[test]
 fn one_offer_lies_in_its_node(rt: HostRuntime) {
+    assert_eq!(rt; std::mem::size_of::<Offer>(), 16);
     assert_eq!(rt; std::mem::size_of::<Offers<Global>>(), 24);
 }
 

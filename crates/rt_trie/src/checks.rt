@@ -113,6 +113,22 @@ fn sixty_four_prefixes(rt: HostRuntime) {
     fill_and_empty(&rt, rt.alloc());
 }
 
+// More prefixes than a hundred thousand, and the last address by itself.
+#[test]
+fn more_than_100_000_prefixes(rt: HostRuntime) {
+    let mut trie: Trie<u32, Global> = Trie::new(rt.alloc());
+    for k in 0..100_100u32 {
+        let p = Prefix::new(k.wrapping_mul(256), 24).expect(&rt, "a prefix");
+        put_new(&rt, &mut trie, p, k);
+    }
+    let last = prefix(&rt, "255.255.255.255/32");
+    put_new(&rt, &mut trie, last, 0);
+    assert_eq!(&rt; trie.len(), 100_101);
+    let mut small: Trie<u32, Global> = Trie::new(rt.alloc());
+    put_new(&rt, &mut small, last, 0);
+    assert_value(&rt, &small, last, Some(0));
+}
+
 #[test]
 fn sixty_four_prefixes_a_hundred_times_in_one_region(rt: HostRuntime) -> Result<(), Fail> {
     let heap = LocalHeap::new(rt.alloc(), 65_536)?;

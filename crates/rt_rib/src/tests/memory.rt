@@ -1,8 +1,10 @@
-//! How much memory a book holds, in a region that counts it, beside that of a book with as long a journal and no route.
+//! How often a book asks for memory and how much it holds, beside a book with as long a journal and no route.
 use super::{add, ask, prefix, via};
 use crate::*;
+use counted_memory::Counted;
 use linked_list_allocator::LocalHeap;
 use rt_cidr::{Addr, Prefix};
+use std::alloc::Allocator;
 use std::process::Abort;
 use std::test::Fail;
 
@@ -20,10 +22,10 @@ fn nth(rt: &impl Abort, k: u32) -> Prefix {
 }
 
 /// Each feed adds a route to each prefix; the other book gains as many entries.
-fn fill<'h>(
+fn fill<A: Allocator + Copy>(
     rt: &impl Abort,
-    book: &mut Book<&'h LocalHeap>,
-    idle: &mut Book<&'h LocalHeap>,
+    book: &mut Book<A>,
+    idle: &mut Book<A>,
 ) -> Result<(), Refused> {
     for feed in 1..=FEEDS {
         for k in 0..PREFIXES {
@@ -35,35 +37,56 @@ fn fill<'h>(
     Ok(())
 }
 
+/// Asks both books, of which the other one has no route.
+fn ask_both<A: Allocator + Copy>(
+    book: &mut Book<A>,
+    idle: &mut Book<A>,
+    feed: u32,
+    cmd: Cmd,
+) -> Result<(), Refused> {
+    if feed_ok(feed) {
+        let _ = book.apply(feed, cmd)?;
+        let _ = idle.apply(1, Cmd::Dump)?;
+    }
+    Ok(())
+}
+
 #[test]
-fn a_new_book_and_what_reads_take_no_memory(rt: HostRuntime) -> Result<(), Fail> {
-    let heap = LocalHeap::new(rt.alloc(), REGION)?;
-    let other = LocalHeap::new(rt.alloc(), REGION)?;
-    let mut book = Book::new(&heap, 100);
+fn nothing_but_the_journal_and_an_add_asks_for_memory(rt: HostRuntime) -> Result<(), Fail> {
+    let memory = Counted::new(rt.alloc());
+    let other = Counted::new(rt.alloc());
+    let mut book = Book::new(&memory, 100);
     let mut idle = Book::new(&other, 100);
-    assert_eq!(rt; heap.used(), 0);
+    assert_eq!(rt; memory.asked(), 0);
     fill(&rt, &mut book, &mut idle)?;
-    let routes = heap.used().wrapping_sub(other.used());
+    let routes = memory.asked().wrapping_sub(other.asked());
     for k in 0..1_000u32 {
         let addr = Addr(k.wrapping_mul(0x0123_4567));
+        let prefix = nth(&rt, k % PREFIXES);
+        let (pref, hop) = (k, via(1));
         book.read_ahead(&[Cmd::Lookup { addr }]);
         book.look_up(&[addr; 20], &mut [None; 20]);
-        let _ = book.apply(1, Cmd::Lookup { addr })?;
-        let _ = book.apply(1, Cmd::Dump)?;
-        let _ = book.apply(
-            1,
-            Cmd::Replace {
-                prefix: nth(&rt, k % PREFIXES),
-                pref: k,
-                hop: via(1),
-            },
-        )?;
-        for _ in 0..3u32 {
-            let _ = idle.apply(1, Cmd::Dump)?;
+        book.holds();
+        for cmd in [
+            Cmd::Lookup { addr },
+            Cmd::Dump,
+            Cmd::Replace { prefix, pref, hop },
+        ] {
+            ask_both(&mut book, &mut idle, 1, cmd)?;
         }
     }
+    for feed in 1..=FEEDS {
+        for k in 0..PREFIXES {
+            let prefix = nth(&rt, k);
+            if k % 2 == 0 {
+                ask_both(&mut book, &mut idle, feed as u32, Cmd::Withdraw { prefix })?;
+            }
+        }
+        ask_both(&mut book, &mut idle, feed as u32, Cmd::Purge)?;
+    }
     assert_eq!(rt; book.journal().len(), idle.journal().len());
-    assert_eq!(rt; heap.used().wrapping_sub(other.used()), routes);
+    assert_eq!(rt; book.nodes(), 0);
+    assert_eq!(rt; memory.asked().wrapping_sub(other.asked()), routes);
     Ok(())
 }
 

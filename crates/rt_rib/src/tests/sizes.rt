@@ -2,6 +2,7 @@
 use super::{add, addr, ask, prefix, route, via};
 use crate::*;
 use rt_cidr::Addr;
+use std::process::Abort;
 use std::test::Fail;
 
 /// The greatest number that a feed may have.
@@ -10,35 +11,53 @@ const LAST_FEED: u32 = 64;
 /// How many routes the large table has: more than 65,536.
 const ROUTES: u32 = 66_000;
 
-/// How many entries the long journal has: more than 200,000.
-const ENTRIES: u32 = 210_000;
+/// How many entries the long journal has: more than a million, and no fewer than the room that it has after its last growth but
+/// one, so that it has grown beyond a million.
+const ENTRIES: u32 = 1_050_000;
 
-#[test]
-fn the_greatest_values_are_answered(rt: HostRuntime) -> Result<(), Fail> {
-    let mut book = Book::new(rt.alloc(), 1_000_000);
-    let addr = addr(255, 255, 255, 255);
-    let route = Route {
-        prefix: prefix(&rt, addr, 32),
+/// How many entries the large table's journal has before the purge: as many as it has room for, which is a power of two.
+const FULL: usize = 131_072;
+
+/// The last address and feed, and the greatest preference.
+fn greatest(rt: &impl Abort) -> Route {
+    Route {
+        prefix: prefix(rt, addr(255, 255, 255, 255), 32),
         feed: LAST_FEED,
         pref: u32::MAX,
         hop: via(64),
-    };
+    }
+}
+
+/// Each command of the last feed with the greatest values, what it is answered in an empty table, and what one after the other.
+fn rows(route: Route) -> [(Cmd, Reply, Reply); 6] {
     let Route {
         prefix,
         pref,
         hop,
         ..
     } = route;
-    let rows = [
-        (Cmd::Add { prefix, pref, hop }, Reply::Added),
-        (Cmd::Replace { prefix, pref, hop }, Reply::Replaced),
-        (Cmd::Lookup { addr }, Reply::Found(route)),
-        (Cmd::Dump, Reply::Dumped(1)),
-        (Cmd::Withdraw { prefix }, Reply::Withdrawn),
-        (Cmd::Purge, Reply::Purged(0)),
-    ];
-    for (cmd, reply) in rows {
+    let addr = Addr(prefix.base());
+    [
+        (Cmd::Add { prefix, pref, hop }, Reply::Added, Reply::Added),
+        (
+            Cmd::Replace { prefix, pref, hop },
+            Reply::Missing,
+            Reply::Replaced,
+        ),
+        (Cmd::Lookup { addr }, Reply::NoRoute, Reply::Found(route)),
+        (Cmd::Dump, Reply::Dumped(0), Reply::Dumped(1)),
+        (Cmd::Withdraw { prefix }, Reply::Missing, Reply::Withdrawn),
+        (Cmd::Purge, Reply::Purged(0), Reply::Purged(0)),
+    ]
+}
+
+#[test]
+fn the_greatest_values_are_answered(rt: HostRuntime) -> Result<(), Fail> {
+    let mut book = Book::new(rt.alloc(), 1_000_000);
+    for (cmd, alone, reply) in rows(greatest(&rt)) {
         ask(&rt, &mut book, (LAST_FEED, cmd, reply))?;
+        // Each by itself, where the journal has no room yet.
+        ask(&rt, &mut Book::new(rt.alloc(), 1), (LAST_FEED, cmd, alone))?;
     }
     Ok(())
 }
@@ -69,6 +88,9 @@ fn more_than_65_536_routes_are_listed_and_purged(rt: HostRuntime) -> Result<(), 
         assert_eq!(rt; book.apply(LAST_FEED, add(narrow, 1, 1)), Ok(Reply::Added));
     }
     assert_eq!(rt; book.routes(rt.alloc())?.len(), ROUTES as usize);
+    for _ in book.journal().len()..FULL {
+        let _ = book.apply(LAST_FEED, Cmd::Dump)?;
+    }
     assert_eq!(rt;
         book.apply(LAST_FEED, Cmd::Purge),
         Ok(Reply::Purged(ROUTES))
@@ -77,11 +99,14 @@ fn more_than_65_536_routes_are_listed_and_purged(rt: HostRuntime) -> Result<(), 
 }
 
 #[test]
-fn more_than_200_000_entries_are_kept(rt: HostRuntime) -> Result<(), Fail> {
+fn more_than_a_million_entries_are_kept(rt: HostRuntime) -> Result<(), Fail> {
     let mut book = Book::new(rt.alloc(), 1);
     for _ in 0..ENTRIES {
-        let _ = book.apply(LAST_FEED, Cmd::Dump)?;
+        let _ = book.apply(1, Cmd::Dump)?;
     }
-    assert_eq!(rt; book.journal().len(), ENTRIES as usize);
+    for (cmd, _, reply) in rows(greatest(&rt)) {
+        ask(&rt, &mut book, (LAST_FEED, cmd, reply))?;
+    }
+    assert_eq!(rt; book.journal().len(), 1_050_006);
     Ok(())
 }
