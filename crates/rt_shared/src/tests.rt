@@ -343,3 +343,129 @@ fn a_batch_has_an_outcome_for_each_command(rt: HostRuntime) -> Result<(), Fail> 
     assert_eq!(rt; book.journal().len(), 3);
     Ok(())
 }
+
+/// A batch of each of these sizes is asked.
+static SIZES: [usize; 22] = [
+    1, 2, 3, 4, 5, 6, 7, 8, 9, 16, 17, 64, 65, 255, 256, 257, 512, 513, 1_024, 1_025, 2_000, 4_097,
+];
+
+/// So many commands of feed 1, each kind in turn.
+fn commands(alloc: Global, count: u32) -> Result<Vec<Cmd>, Fail> {
+    let mut cmds = Vec::new(alloc);
+    for j in 0..count {
+        cmds.push(cmd_of(1, j)?)?;
+    }
+    Ok(cmds)
+}
+
+/// Asks the commands at once: none is refused.
+fn ask_at_once<R: Wait + Abort, const L: u32>(
+    rt: &R,
+    alloc: Global,
+    table: &SharedRib<L>,
+    pass: &mut FeedPass,
+    cmds: &[Cmd],
+)
+    requires { pass.old.table ≡ table.now }
+    ensures { (pass.new.table ≡ pass.old.table) × (pass.new.feed ≡ pass.old.feed) }
+{
+    let mut out = Vec::new(alloc);
+    assert_eq!(rt; table.apply_batch(rt, pass, cmds, &mut out), Ok(()));
+    let refused = out.iter().position(|outcome| *outcome == Outcome::Refused);
+    assert_eq!(rt; refused, None, "of {} commands", cmds.len());
+}
+
+/// Asks the commands one by one: none is refused.
+fn ask_in_turn<R: Wait + Abort, const L: u32>(
+    rt: &R,
+    table: &SharedRib<L>,
+    pass: &mut FeedPass,
+    cmds: &[Cmd],
+)
+    requires { pass.old.table ≡ table.now }
+    ensures { (pass.new.table ≡ pass.old.table) × (pass.new.feed ≡ pass.old.feed) }
+{
+    for (index, cmd) in cmds.iter().enumerate() {
+        let answer = table.apply(rt, pass, *cmd);
+        assert!(rt; answer.is_ok(), "command {index}");
+    }
+}
+
+/// Asks a batch of each size, and tells how many commands that were.
+fn ask_sizes<R: Wait + Abort, const L: u32>(
+    rt: &R,
+    alloc: Global,
+    table: &SharedRib<L>,
+    pass: &mut FeedPass,
+    cmds: &[Cmd],
+) -> usize
+    requires { pass.old.table ≡ table.now }
+    ensures { (pass.new.table ≡ pass.old.table) × (pass.new.feed ≡ pass.old.feed) }
+{
+    let mut asked = 0usize;
+    for size in SIZES {
+        ask_at_once(rt, alloc, table, pass, &cmds[..size.min(cmds.len())]);
+        asked = asked.wrapping_add(size);
+    }
+    asked
+}
+
+#[test]
+fn batches_of_each_size_are_answered(rt: HostRuntime) -> Result<(), Fail> {
+    let cmds = commands(rt.alloc(), 4_097)?;
+    let (table, mut first, second) = pair(rt.alloc(), 5)?;
+    let asked = ask_sizes(&rt, rt.alloc(), &table, &mut first, &cmds);
+    ask_in_turn(&rt, &table, &mut first, &cmds);
+    let book = settle_both(&rt, rt.alloc(), table, first, second)?;
+    assert_eq!(rt; book.journal().len(), asked.wrapping_add(cmds.len()));
+    assert!(rt; is_explained(rt.alloc(), 5, &book)?);
+    Ok(())
+}
+
+/// How many routes the large table has: more than 65,536.
+const ROUTES: u32 = 66_000;
+
+/// Adds that many routes of feed 1, all at once.
+fn add_routes<R: Wait + Abort, const L: u32>(
+    rt: &R,
+    alloc: Global,
+    table: &SharedRib<L>,
+    pass: &mut FeedPass,
+) -> Result<(), Fail>
+    requires { pass.old.table ≡ table.now }
+    ensures { (pass.new.table ≡ pass.old.table) × (pass.new.feed ≡ pass.old.feed) }
+{
+    let mut cmds = Vec::new(alloc);
+    for k in 0..ROUTES {
+        cmds.push(add(Prefix::new(k.wrapping_mul(256), 24)?, k))?;
+    }
+    ask_at_once(rt, alloc, table, pass, &cmds);
+    Ok(())
+}
+
+#[test]
+fn more_than_65_536_routes_are_shared(rt: HostRuntime) -> Result<(), Fail> {
+    let (table, mut first, mut second) = pair(rt.alloc(), 1_000_000)?;
+    add_routes(&rt, rt.alloc(), &table, &mut first)?;
+    // The second feed has asked nothing before.
+    let listed = table.routes(&rt, rt.alloc(), &mut second)?;
+    assert_eq!(rt; listed.len(), ROUTES as usize);
+    let book = settle_both(&rt, rt.alloc(), table, first, second)?;
+    assert_eq!(rt; book.routes(rt.alloc())?, listed);
+    Ok(())
+}
+
+#[test]
+fn tables_of_each_size_are_made(rt: HostRuntime) -> Result<(), Fail> {
+    let alloc = rt.alloc();
+    let feeds = [
+        SharedRib::<1>::new(alloc, 1)?.1.len(),
+        SharedRib::<2>::new(alloc, 65_536)?.1.len(),
+        SharedRib::<3>::new(alloc, 65_537)?.1.len(),
+        SharedRib::<4>::new(alloc, 100_000)?.1.len(),
+        SharedRib::<5>::new(alloc, 999_999)?.1.len(),
+        SharedRib::<6>::new(alloc, 1_000_000)?.1.len(),
+    ];
+    assert_eq!(rt; feeds, [2, 4, 8, 16, 32, 64]);
+    Ok(())
+}
