@@ -1,4 +1,6 @@
 //! Feeds through gates that record, refuse and wait for one another.
+ghost use Rattle.std.specs.Prelude.{◌≤◌};
+
 use super::*;
 use crate::print::write_report;
 use rt_rib::{Cmd, Refused, Reply};
@@ -7,6 +9,12 @@ use std::alloc::AllocError;
 use std::process::Abort;
 use std::sync::atomic::{AtomicU64, Ordering};
 use std::test::Fail;
+
+/// How many commands are asked at once.
+const BATCH: usize = 3;
+
+/// What such a batch is answered.
+const ANSWERS: [Outcome; BATCH] = [Outcome::Did(Reply::Dumped(0)); BATCH];
 
 /// Answers each command alone but the second, which it refuses, as a dump of no route. Refuses every batch (M2), and
 /// records how many commands each had.
@@ -43,23 +51,37 @@ impl Gate for Recording {
     }
 }
 
-/// Holds its call until so many gates were called, and then answers; refuses where that does not come to pass.
+/// Gates that go on together: how many there are, how many were called, and how many have given up.
 #[derive(Drop)]
-struct Meeting<'a> {
-    called: &'a AtomicU64,
+struct Gathering {
     gates: u64,
+    called: AtomicU64,
+    given_up: AtomicU64,
 }
 
-/// Whether so many gates were called, after some turns of waiting.
-fn have_met(called: &AtomicU64, gates: u64) -> bool {
-    called.fetch_add(1, Ordering::SeqCst);
-    for _ in 0..1_000_000 {
-        if called.load(Ordering::SeqCst) >= gates {
-            return true;
+impl Gathering {
+    /// Waits until all gates were called, and answers whether that came to pass. One that has waited for long gives up,
+    /// and then so do all: a run of one gate after another ends, with refusals.
+    fn have_met(&self) -> bool {
+        self.called.fetch_add(1, Ordering::SeqCst);
+        for _ in 0..5_000_000 {
+            if self.called.load(Ordering::SeqCst) >= self.gates {
+                return true;
+            }
+            if self.given_up.load(Ordering::SeqCst) > 0 {
+                return false;
+            }
+            thread::yield_now();
         }
-        thread::yield_now();
+        self.given_up.fetch_add(1, Ordering::SeqCst);
+        false
     }
-    false
+}
+
+/// Holds its one call until each of its gathering was called, and then answers; refuses where that does not come to pass.
+#[derive(Drop)]
+struct Meeting<'a> {
+    gathering: &'a Gathering,
 }
 
 impl<'a> Gate for Meeting<'a> {
@@ -70,7 +92,7 @@ impl<'a> Gate for Meeting<'a> {
     ghost holds = { λ _ _. Unit {0} };
 
     fn apply<R: Wait>(&mut self, _rt: &R, _cmd: Cmd) -> Result<Reply, Refused> {
-        if have_met(self.called, self.gates) {
+        if self.gathering.have_met() {
             Ok(Reply::Dumped(0))
         } else {
             Err(Refused)
@@ -80,10 +102,17 @@ impl<'a> Gate for Meeting<'a> {
     fn apply_batch<R: Wait>(
         &mut self,
         _rt: &R,
-        _cmds: &[Cmd],
-        _out: &mut Vec<Outcome>,
+        cmds: &[Cmd],
+        out: &mut Vec<Outcome>,
     ) -> Result<(), Refused> {
-        Err(Refused)
+        if cmds.len() > BATCH {
+            return Err(Refused);
+        }
+        if !self.gathering.have_met() {
+            return Err(Refused);
+        }
+        out.extend_from_slice(&ANSWERS[..cmds.len()])?;
+        Ok(())
     }
 }
 
@@ -169,41 +198,56 @@ fn a_run_without_texts_or_with_other_feeds_asks_nothing(rt: HostRuntime) -> Resu
     Ok(())
 }
 
-/// As many texts of one command as gates, each gate before one of them.
+/// As many texts of so many commands as gates, each gate before one of them.
 fn feeds_that_meet<'a>(
     alloc: Global,
-    called: &'a AtomicU64,
-    gates: u64,
+    gathering: &'a Gathering,
+    commands: usize,
 ) -> Result<(Vec<Vec<u8>>, Vec<Feed<Meeting<'a>>>), AllocError> {
+    let text = "dump\n".repeat(alloc, commands)?;
     let mut texts = Vec::new(alloc);
     let mut feeds = Vec::new(alloc);
-    for _ in 0..gates {
-        texts.push(Vec::from_slice(alloc, b"dump\n")?)?;
+    for _ in 0..gathering.gates {
+        texts.push(Vec::from_slice(alloc, text.as_bytes())?)?;
         feeds.push(Feed {
-            gate: Meeting { called, gates },
+            gate: Meeting { gathering },
             report: None,
         })?;
     }
     Ok((texts, feeds))
 }
 
-/// Each feed has a report of one line, which was not refused.
-fn assert_answered(rt: &impl Abort, feeds: &[Feed<Meeting<'_>>]) {
-    for feed in feeds {
+/// Runs so many feeds, each of which asks so many commands at once. Each has a report of its lines, none refused.
+fn assert_meet<R: Threads + Wait + Sync + Abort>(
+    rt: &R,
+    alloc: Global,
+    gates: u64,
+    commands: usize,
+) -> Result<(), AllocError>
+    requires { 1 ≤ commands }
+{
+    let gathering = Gathering {
+        gates,
+        called: AtomicU64::new(0),
+        given_up: AtomicU64::new(0),
+    };
+    let (texts, mut feeds) = feeds_that_meet(alloc, &gathering, commands)?;
+    let ran = run_feeds(rt, alloc, texts.as_slice(), commands, feeds.as_mut_slice());
+    assert_eq!(rt; ran, Ok(()), "{gates} feeds");
+    assert_eq!(rt; gathering.called.load(Ordering::SeqCst), gates);
+    for feed in feeds.as_slice() {
         let report = feed.report.as_ref().expect(rt, "a report");
-        assert!(rt; !report.has_refusal() && report.lines().len() == 1);
+        assert!(rt; !report.has_refusal(), "{gates} feeds, {commands} at once");
+        assert_eq!(rt; report.lines().len(), commands);
     }
+    Ok(())
 }
 
 #[test]
 fn feeds_are_asked_at_the_same_time(rt: HostRuntime) -> Result<(), Fail> {
-    for gates in [2, 16] {
-        let called = AtomicU64::new(0);
-        let (texts, mut feeds) = feeds_that_meet(rt.alloc(), &called, gates)?;
-        let ran = run_feeds(&rt, rt.alloc(), texts.as_slice(), 1, feeds.as_mut_slice());
-        assert_eq!(rt; ran, Ok(()));
-        assert_eq!(rt; feeds.len() as u64, gates);
-        assert_answered(&rt, feeds.as_slice());
+    for gates in [2, 3, 16, 17, 63, 64] {
+        assert_meet(&rt, rt.alloc(), gates, 1)?;
+        assert_meet(&rt, rt.alloc(), gates, BATCH)?;
     }
     Ok(())
 }
