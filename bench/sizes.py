@@ -43,6 +43,8 @@ def million(yarib):
         ("lookup 255.255.255.255", "no route"),
         ("add 255.255.255.255/32 4294967295 192.0.2.1", "added"),
         ("add 255.255.255.255/32 4294967295 192.0.2.1", "exists"),
+        # Beyond 2^20 entries the journal has to grow once more.
+        *[("dump", f"dumped {MOST}")] * 50_000,
     ]
     text = "version 2\n" + "".join(lines) + "".join(line + "\n" for line, _ in rest)
     answers += [answer for _, answer in rest]
