@@ -1,0 +1,73 @@
+/* Counts requests for memory. Loaded before a program by LD_PRELOAD, it keeps in the file of descriptor COUNT_IN how many
+   requests there were (malloc, calloc, realloc and the aligned ones), how many blocks and bytes of them are held, how many
+   writes to standard output there were, and how many requests before each of those. It rests on names of glibc. */
+#define _GNU_SOURCE
+#include <dlfcn.h>
+#include <malloc.h>
+#include <stdatomic.h>
+#include <stdlib.h>
+#include <sys/mman.h>
+#include <unistd.h>
+
+extern void *__libc_malloc(size_t), *__libc_calloc(size_t, size_t), *__libc_realloc(void *, size_t),
+    *__libc_memalign(size_t, size_t);
+extern void __libc_free(void *);
+
+enum { WRITES = 1000 };
+
+struct counts {
+  atomic_ulong requests, blocks, bytes, writes;
+  unsigned long at_write[WRITES];
+};
+
+static struct counts unread, *counts = &unread;
+
+__attribute__((constructor)) static void begin(void) {
+  const char *descriptor = getenv("COUNT_IN");
+  if (descriptor == NULL) return;
+  void *shared = mmap(NULL, sizeof *counts, PROT_READ | PROT_WRITE, MAP_SHARED, atoi(descriptor), 0);
+  if (shared != MAP_FAILED) counts = shared;
+}
+
+static void *made(void *block) {
+  counts->requests++;
+  if (block != NULL) {
+    counts->blocks++;
+    counts->bytes += malloc_usable_size(block);
+  }
+  return block;
+}
+
+void *malloc(size_t size) { return made(__libc_malloc(size)); }
+
+void *calloc(size_t count, size_t size) { return made(__libc_calloc(count, size)); }
+
+void *memalign(size_t align, size_t size) { return made(__libc_memalign(align, size)); }
+
+void *aligned_alloc(size_t align, size_t size) { return memalign(align, size); }
+
+void free(void *block) {
+  if (block != NULL) {
+    counts->blocks--;
+    counts->bytes -= malloc_usable_size(block);
+  }
+  __libc_free(block);
+}
+
+void *realloc(void *old, size_t size) {
+  size_t before = old == NULL ? 0 : malloc_usable_size(old);
+  void *block = __libc_realloc(old, size);
+  counts->requests++;
+  if (block == NULL) return NULL;
+  counts->blocks += old == NULL;
+  counts->bytes += malloc_usable_size(block) - before;
+  return block;
+}
+
+ssize_t write(int descriptor, const void *from, size_t size) {
+  static ssize_t (*real)(int, const void *, size_t);
+  if (real == NULL) real = (ssize_t (*)(int, const void *, size_t))dlsym(RTLD_NEXT, "write");
+  unsigned long place = descriptor == 1 ? counts->writes++ : WRITES;
+  if (place < WRITES) counts->at_write[place] = counts->requests;
+  return real(descriptor, from, size);
+}
