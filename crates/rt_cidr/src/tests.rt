@@ -157,6 +157,19 @@ fn refuses_addresses(rt: HostRuntime) {
 }
 
 #[test]
+fn faults_have_their_texts(rt: HostRuntime) -> Result<(), Fail> {
+    for (fault, shown, name) in [
+        (TextFault::Text, "the text is not of the form", "Text"),
+        (TextFault::Length, "the length is over 32", "Length"),
+        (TextFault::Bits, "a bit past the length is set", "Bits"),
+    ] {
+        assert_eq!(rt; format!(in rt.alloc(); "{fault}")?.as_str(), shown);
+        assert_eq!(rt; format!(in rt.alloc(); "{fault:?}")?.as_str(), name);
+    }
+    Ok(())
+}
+
+#[test]
 fn reads_and_writes_decimals(rt: HostRuntime) {
     for (text, number) in [
         ("0", Some(0)),

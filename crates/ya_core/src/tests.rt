@@ -117,6 +117,19 @@ fn schedules_are_refused_in_order(rt: HostRuntime) -> Result<(), Fail> {
     Ok(())
 }
 
+#[test]
+fn faults_have_their_texts(rt: HostRuntime) -> Result<(), Fail> {
+    for (fault, shown, name) in [
+        (ReplayFault::Place, "fault P1", "Place"),
+        (ReplayFault::Levels, "fault P2", "Levels"),
+        (ReplayFault::Memory, "fault P3", "Memory"),
+    ] {
+        assert_eq!(rt; format!(in rt.alloc(); "{fault}")?.as_str(), shown);
+        assert_eq!(rt; format!(in rt.alloc(); "{fault:?}")?.as_str(), name);
+    }
+    Ok(())
+}
+
 /// Entries that may follow in any order.
 struct Anything;
 
