@@ -1,9 +1,11 @@
-//! Reading ahead: the ways down the trie that several commands will take are taken together, before the first of them is
-//! answered, so that what each has to wait for comes while the others wait too.
+//! Reading ahead: the ways that several commands will take, down the trie and to what is offered there, are taken together,
+//! before the first of them is answered, so that what each has to wait for comes while the others wait too.
 
 use crate::commands::Cmd;
+use crate::limits::FEEDS;
 use crate::map::Map;
-use rt_cidr::Addr;
+use crate::offers::Offers;
+use rt_cidr::{Addr, Prefix};
 use std::alloc::Allocator;
 
 /// How many commands are read ahead for at once: as many ways as the trie goes down in turn.
@@ -24,6 +26,28 @@ pub(crate) fn read_ahead<A: Allocator + Copy>(map: &Map<A>, cmds: &[Cmd]) {
         aims[k] = aim_of(cmds[k]);
     }
     map.longest_many(&aims[..count], &mut met[..count]);
+    reach(&met[..count]);
+}
+
+/// Reads the first of the offers of each prefix, where a list of them lies apart. None is of a feed over 64, but the compiler
+/// doesn't know that, nor when the loop would end without it: so it can't leave the reads out.
+fn reach<A: Allocator + Copy>(met: &[Option<(Prefix, &Offers<A>)>]) {
+    let mut left = met.len();
+    while left > 0 {
+        let feed = first_feed(met[left - 1]);
+        left = if feed > FEEDS { left / 2 } else { left - 1 };
+    }
+}
+
+/// The feed of the best of the offers.
+fn first_feed<A: Allocator + Copy>(met: Option<(Prefix, &Offers<A>)>) -> usize {
+    match met {
+        Some((_, offers)) => {
+            let best = offers.as_slice()[0];
+            best.feed as usize
+        }
+        None => 0,
+    }
 }
 
 /// The address to which the command goes down, if it goes down at all.
