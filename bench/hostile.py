@@ -1,12 +1,12 @@
 #!/usr/bin/env python3
 """Runs the program in hostile surroundings: little memory, files that are none, outputs that take nothing, very long texts.
 
-Usage: bench/hostile.py [--large] [YARIB]. Builds ./yarib first unless a built program is named. Linux, python3.
+Usage: bench/hostile.py [--large [--store]] [YARIB]. Builds ./yarib first unless a built program is named. Linux, python3.
 
 Little memory: the program is run under rising limits of its address space. It must end as with ample memory, or with status 5
 and nothing on standard output, or with status 5 and what the model of refused_growth.py prints without the commands that it
 says were refused; never by a signal. Limits under which it can't be loaded at all are left out. With --large (some minutes, and up to 8 GB of memory) texts
-of 1 to 10 million lines and lines of 100 MB to 1 GB are run, and time and memory for a line or a byte are printed.
+of 1 to 10 million lines and lines of 100 MB to 1 GB are run, and time and memory for a line or a byte are printed; --store keeps these figures in bench/figures/.
 """
 import contextlib
 import os
@@ -19,6 +19,7 @@ import sys
 import tempfile
 import time
 
+import figures
 from refused_growth import files as text_files, own_text, run_text
 
 TOP = pathlib.Path(__file__).resolve().parent.parent
@@ -230,18 +231,27 @@ def fill(path, piece, times):
 
 
 def large_texts(yarib, folder):
+    """Prints a row for each text: what a unit of it takes, a line or a byte."""
     path = folder / "long.feed"
+    rows = []
+
+    def add_row(text, unit, units, seconds, peak):
+        row = {"text": text, "unit": unit, "seconds": round(seconds, 2), "time": seconds / units * 1e9, "peak": peak / units}
+        rows.append(row)
+        print(f"{text:20} {seconds:6.2f} s, {row['time']:6.1f} ns and {row['peak']:6.2f} bytes a {unit}", flush=True)
+
     lines = AGAIN * 25_000
     for millions in (1, 2, 5, 10):
         fill(path, lines, 10 * millions)
         seconds, peak, status, end = measured([yarib, "run", "--batch", "256", path])
         expect(f"{millions} million lines", (status, end[-8:]), (0, "table 0\n"))
-        print(f"{millions:2} million lines: {seconds:6.2f} s, {seconds / millions:5.2f} µs and {peak / millions / 1e6:4.0f} bytes a line", flush=True)
+        add_row(f"{millions} million lines", "line", millions * 1_000_000, seconds, peak)
     for megabytes in (100, 200, 500, 1_000):
         fill(path, "x" * 1_000_000, megabytes)
         seconds, peak, status, end = measured([yarib, "run", path])
         expect(f"a line of {megabytes} MB", (status, end), (2, "1:1 fault E8\ntable 0\n"))
-        print(f"a line of {megabytes:4} MB: {seconds:5.2f} s, {seconds / megabytes * 1e3:4.2f} ns and {peak / megabytes / 1e6:4.2f} bytes a byte", flush=True)
+        add_row(f"a line of {megabytes} MB", "byte", megabytes * 1_000_000, seconds, peak)
+    figures.keep("large", 1, rows)
 
 
 def built(words):
@@ -253,7 +263,7 @@ def built(words):
 
 
 def main():
-    yarib = built([word for word in sys.argv[1:] if word != "--large"])
+    yarib = built([word for word in figures.words() if word != "--large"])
     with tempfile.TemporaryDirectory() as made:
         folder = pathlib.Path(made)
         files(yarib, folder)

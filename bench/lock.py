@@ -1,10 +1,10 @@
 #!/usr/bin/env python3
 """Times passages of the lock, of the same algorithm in C and of std's mutex, in turn.
 
-Usage: bench/lock.py [ROUNDS [PASSAGES]]. Needs rt, gcc and pthreads. Each case runs the program crates/lock_bench, bench/lock.c
+Usage: bench/lock.py [--store] [ROUNDS [PASSAGES]]. Needs rt, gcc and pthreads. Each case runs the program crates/lock_bench, bench/lock.c
 and the mutex one after another, ROUNDS times (9 if left out), each with so many passages (200,000 if left out). For each case
 the least time of a passage is printed, in nanoseconds, and its ratio to C: time on the clock, and time of the processors (user
-and system).
+and system). --store keeps the figures in bench/figures/.
 """
 import os
 import pathlib
@@ -12,6 +12,8 @@ import statistics
 import subprocess
 import sys
 import tempfile
+
+import figures
 
 ROOT = pathlib.Path(__file__).resolve().parent.parent
 CRATE = ROOT / "crates" / "lock_bench"
@@ -52,17 +54,26 @@ def times(rounds, passages, programs, levels, threads):
 
 
 def main():
-    rounds = int(sys.argv[1]) if len(sys.argv) > 1 else 9
-    passages = int(sys.argv[2]) if len(sys.argv) > 2 else 200_000
+    words = figures.words()
+    rounds = int(words[0]) if words else 9
+    passages = int(words[1]) if len(words) > 1 else 200_000
+    rows = []
     with tempfile.TemporaryDirectory() as folder:
         programs = build(pathlib.Path(folder))
         print("               on the clock                       of the processors")
         print("levels threads     lock        C    mutex lock/C     lock        C    mutex lock/C")
         for levels, threads in ALONE + TOGETHER:
+            clock, processors = times(rounds, passages, programs, levels, threads)
             row = f"{levels:>6} {threads:>7}"
-            for lock, plain, mutex in times(rounds, passages, programs, levels, threads):
+            for lock, plain, mutex in (clock, processors):
                 row += f" {lock:>8.1f} {plain:>8.1f} {mutex:>8.1f} {lock / plain:>6.2f}"
             print(row, flush=True)
+            rows.append({"levels": levels, "threads": threads, "clock": rounded(clock), "processors": rounded(processors)})
+    figures.keep("lock", rounds, rows)
+
+
+def rounded(times):
+    return [round(time, 1) for time in times]
 
 
 if __name__ == "__main__":

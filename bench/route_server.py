@@ -1,12 +1,13 @@
 #!/usr/bin/env python3
 """Times `yarib run` under a route server's load beside the same program in plain Rust.
 
-Usage: bench/route_server.py [ROUNDS [PREFIXES]]. Needs a built program (./yarib --version builds it), rustc and python3.
-Each of 1, 4, 16 and 64 files announces the same PREFIXES prefixes (100,000 if left out) in an order and with preferences of its
-own, then withdraws a tenth and replaces a tenth of them; the last file takes back all it has by `purge`. Both programs run in
-turn, ROUNDS times (3 if left out), on one processor, on two and on all, in batches of 256. Prints for each the least time on the
-clock and of the processors (user and system), and the ratios, and fails where the outputs differ: no answer here depends on how
-the threads ran.
+Usage: bench/route_server.py [--store] [ROUNDS [PREFIXES]], or bench/route_server.py --batches [--store] [ROUNDS]. Needs a built
+program (./yarib --version builds it), rustc and python3. Each of 1, 4, 16 and 64 files announces the same PREFIXES prefixes
+(100,000 if left out) in an order and with preferences of its own, then withdraws a tenth and replaces a tenth of them; the last
+file takes back all it has by `purge`. Both programs run in turn, ROUNDS times (3 if left out), on one processor, on two and on
+all, in batches of 256; with --batches of 20,000 prefixes, in batches of 1, 16 and 256. Prints for each the least time on the
+clock and of the processors (user and system) and the peak memory, with the ratios, and fails where the outputs differ: no answer
+here depends on how the threads ran. --store keeps the figures in bench/figures/.
 """
 import os
 import pathlib
@@ -15,9 +16,9 @@ import subprocess
 import sys
 import tempfile
 
+import figures
 import run
 
-BATCH = 256
 FILES = (1, 4, 16, 64)
 
 
@@ -41,39 +42,52 @@ def feeds(count, prefixes):
     return (feed(number, count, prefixes) for number in range(1, count + 1))
 
 
-def compare(paths, processors, programs, rounds):
-    """Runs both programs on the files in turn, on these processors alone, and prints one row."""
+def compare(paths, processors, batch, programs, rounds):
+    """Runs both programs on the files in turn, on these processors alone, prints one row and gives its measures."""
     yarib, peer = programs
     every = os.sched_getaffinity(0)
     os.sched_setaffinity(0, processors)
     runs = []
     for _ in range(rounds):
-        ours = run.measure([yarib, "run", "--limit", "1000000", "--batch", str(BATCH), *paths], True)
+        ours = run.measure([yarib, "run", "--limit", "1000000", "--batch", str(batch), *paths], True)
         runs.append((ours, run.measure([peer, *paths], True)))
     os.sched_setaffinity(0, every)
     if runs[0][0][3] != runs[0][1][3]:
         sys.exit(f"{len(paths)} files: the outputs differ")
-    row = f"{len(paths):2} files on {len(processors):2} processors"
-    for title, field in (("clock", 0), ("processors", 1)):
-        ours, theirs = (min(each[program][field] for each in runs) for program in (0, 1))
-        row += f" | {title} {ours:6.2f} / {theirs:6.2f} s = {ours / theirs:4.2f}"
-    print(row, flush=True)
+    measures = run.measured(runs)
+    print(f"{len(paths):2} files on {len(processors):2} processors, batch {batch:3}{run.shown(measures)}", flush=True)
+    return measures
+
+
+def compare_files(folder, count, batches, programs, rounds):
+    """A row for each number of files, of processors, and batch."""
+    every = sorted(os.sched_getaffinity(0))
+    rows = []
+    for files in FILES:
+        (folder / str(files)).mkdir()
+        paths = run.write(folder / str(files), lambda: feeds(files, run.real_prefixes(count, random.Random(1))))
+        lines = run.count_lines(paths)
+        for some in (1, 2, len(every)):
+            for batch in batches:
+                about = {"files": files, "lines": lines, "on": some, "batch": batch}
+                rows.append({**about, **compare(paths, every[:some], batch, programs, rounds)})
+        for path in paths:
+            path.unlink()
+    return rows
 
 
 def main():
-    rounds = int(sys.argv[1]) if len(sys.argv) > 1 else 3
-    count = int(sys.argv[2]) if len(sys.argv) > 2 else 100_000
+    words = [word for word in figures.words() if word != "--batches"]
+    rounds = int(words[0]) if words else 3
+    count = int(words[1]) if len(words) > 1 else 100_000
     subprocess.run([run.TOP / "yarib", "--version"], check=True, stdout=subprocess.DEVNULL)
-    every = sorted(os.sched_getaffinity(0))
     with tempfile.TemporaryDirectory() as made:
-        peer = pathlib.Path(made) / "peer"
-        subprocess.run(["rustc", "--edition", "2021", "-O", "-o", peer, run.TOP / "bench" / "peer.rs"], check=True)
-        for files in FILES:
-            folder = pathlib.Path(made) / str(files)
-            folder.mkdir()
-            paths = run.write(folder, lambda: feeds(files, run.real_prefixes(count, random.Random(1))))
-            for some in (1, 2, len(every)):
-                compare(paths, every[:some], (run.TOP / "out" / "yarib", peer), rounds)
+        folder = pathlib.Path(made)
+        programs = run.TOP / "out" / "yarib", run.build_peer(folder)
+        if "--batches" in sys.argv:
+            figures.keep("batches", rounds, compare_files(folder, 20_000, (1, 16, 256), programs, rounds))
+        else:
+            figures.keep("route_server", rounds, compare_files(folder, count, (256,), programs, rounds))
 
 
 if __name__ == "__main__":

@@ -1,11 +1,13 @@
 #!/usr/bin/env python3
 """Times `yarib run` beside the same program in plain Rust, on inputs that it makes.
 
-Usage: bench/run.py [ROUNDS [PREFIXES]]. Needs a built program (./yarib --version builds it), rustc and python3.
-Both programs run in turn, ROUNDS times (5 if left out) over each input; the big ones have PREFIXES prefixes (500,000 if left
-out) with the lengths of a real table. The plain program has one thread and takes the files in turn. Prints for each input the
-least time on the clock, the least time of the processors (user and system) and the peak memory of both, with the ratios, and
+Usage: bench/run.py [--store] [ROUNDS [PREFIXES]], or bench/run.py --sizes [--store] [ROUNDS]. Needs a built program
+(./yarib --version builds it), rustc and python3. Both programs run in turn, ROUNDS times (5 if left out) over each input; the
+big ones have PREFIXES prefixes (500,000 if left out) with the lengths of a real table. With --sizes one table that changes is
+run alone, at 10,000 to 1,000,000 prefixes. The plain program has one thread and takes the files in turn. Prints for each input
+the least time on the clock, the least time of the processors (user and system) and the peak memory of both, with the ratios, and
 fails where their outputs differ: whole for one file, the table for several, whose look-ups depend on how the threads ran.
+--store keeps the figures in bench/figures/.
 """
 import hashlib
 import os
@@ -16,7 +18,10 @@ import sys
 import tempfile
 import time
 
+import figures
+
 TOP = pathlib.Path(__file__).resolve().parent.parent
+SIZES = (10_000, 30_000, 100_000, 300_000, 1_000_000)
 
 
 def address(number):
@@ -127,8 +132,30 @@ def write(folder, files):
     return sorted(folder.iterdir())
 
 
+def count_lines(paths):
+    """How many lines the files have. What reads them is a process of its own, for the same reason."""
+    counted = subprocess.run(["wc", "-l", *paths], check=True, capture_output=True, text=True).stdout
+    return sum(int(row.split()[0]) for row in counted.splitlines()[: len(paths)])
+
+
+def measured(runs):
+    """The least of each measure of both programs: milliseconds on the clock and of the processors, and megabytes."""
+    measures = {}
+    for title, field, scale in (("clock", 0, 1e3), ("processors", 1, 1e3), ("memory", 2, 1e-6)):
+        measures[title] = [round(min(run[program][field] for run in runs) * scale, 1) for program in (0, 1)]
+    return measures
+
+
+def shown(measures):
+    """The measures as a part of a printed row."""
+    return "".join(
+        f" | {title} {ours:7.0f} / {theirs:7.0f} {'MB' if title == 'memory' else 'ms'} = {ours / theirs:4.2f}"
+        for title, (ours, theirs) in measures.items()
+    )
+
+
 def compare(name, paths, batch, programs, rounds):
-    """Runs both programs on the files in turn and prints one row."""
+    """Runs both programs on the files in turn, prints one row and gives its measures."""
     yarib, peer = programs
     runs = []
     for _ in range(rounds):
@@ -136,36 +163,56 @@ def compare(name, paths, batch, programs, rounds):
         runs.append((ours, measure([peer, *paths], len(paths) == 1)))
     if runs[0][0][3] != runs[0][1][3]:
         sys.exit(f"{name}: the outputs differ")
-    row = f"{name:34} batch {batch:3}"
-    for title, field, scale, unit in (("clock", 0, 1e3, "ms"), ("processors", 1, 1e3, "ms"), ("memory", 2, 1e-6, "MB")):
-        ours, theirs = (min(run[program][field] for run in runs) for program in (0, 1))
-        row += f" | {title} {ours * scale:6.0f} / {theirs * scale:6.0f} {unit} = {ours / theirs:4.2f}"
-    print(row, flush=True)
+    measures = measured(runs)
+    print(f"{name:34} batch {batch:3}{shown(measures)}", flush=True)
+    return measures
+
+
+def build_peer(folder):
+    """The path of the program in plain Rust, built in the folder."""
+    peer = folder / "peer"
+    subprocess.run(["rustc", "--edition", "2021", "-O", "-o", peer, TOP / "bench" / "peer.rs"], check=True)
+    return peer
+
+
+def compare_inputs(folder, inputs, programs, rounds):
+    """A row for each input and each of its batches."""
+    rows = []
+    for number, (name, about, files, batches) in enumerate(inputs):
+        (folder / str(number)).mkdir()
+        paths = write(folder / str(number), files)
+        lines = count_lines(paths)
+        for batch in batches:
+            rows.append({**about, "lines": lines, "batch": batch, **compare(name, paths, batch, programs, rounds)})
+        for path in paths:
+            path.unlink()
+    return rows
 
 
 def main():
-    rounds = int(sys.argv[1]) if len(sys.argv) > 1 else 5
-    count = int(sys.argv[2]) if len(sys.argv) > 2 else 500_000
+    words = [word for word in figures.words() if word != "--sizes"]
+    rounds = int(words[0]) if words else 5
+    count = int(words[1]) if len(words) > 1 else 500_000
     subprocess.run([TOP / "yarib", "--version"], check=True, stdout=subprocess.DEVNULL)
     inputs = [
-        ("one prefix, then look-ups of it", lambda: [one_prefix(200_000)], [1, 256]),
-        ("a table in random order", lambda: [real_table(count, False)], [1, 256]),
-        ("a table in rising order", lambda: [real_table(count, True)], [1, 256]),
-        ("a table that changes", lambda: [changing_table(count)], [1, 256]),
-        ("the same dealt to 4 files", lambda: deal(changing_table(count), 4), [1, 256]),
-        ("the same dealt to 64 files", lambda: deal(changing_table(count), 64), [1, 256]),
+        ("one prefix, then look-ups of it", lambda: [one_prefix(200_000)]),
+        ("a table in random order", lambda: [real_table(count, False)]),
+        ("a table in rising order", lambda: [real_table(count, True)]),
+        ("a table that changes", lambda: [changing_table(count)]),
+        ("the same dealt to 4 files", lambda: deal(changing_table(count), 4)),
+        ("the same dealt to 64 files", lambda: deal(changing_table(count), 64)),
     ]
+    if "--sizes" in sys.argv:
+        inputs = [
+            (f"a table that changes, {size:,}", {"prefixes": size}, lambda size=size: [changing_table(size)], [1, 16, 256])
+            for size in SIZES
+        ]
+    else:
+        inputs = [(name, {"input": name}, files, [1, 256]) for name, files in inputs]
     with tempfile.TemporaryDirectory() as made:
-        peer = pathlib.Path(made) / "peer"
-        subprocess.run(["rustc", "--edition", "2021", "-O", "-o", peer, TOP / "bench" / "peer.rs"], check=True)
-        for number, (name, files, batches) in enumerate(inputs):
-            folder = pathlib.Path(made) / str(number)
-            folder.mkdir()
-            paths = write(folder, files)
-            for batch in batches:
-                compare(name, paths, batch, (TOP / "out" / "yarib", peer), rounds)
-            for path in paths:
-                path.unlink()
+        folder = pathlib.Path(made)
+        rows = compare_inputs(folder, inputs, (TOP / "out" / "yarib", build_peer(folder)), rounds)
+    figures.keep("sizes" if "--sizes" in sys.argv else "run", rounds, rows)
 
 
 if __name__ == "__main__":

@@ -1,17 +1,19 @@
 #!/usr/bin/env python3
 """Times commands of the shared table of 64 feeds beside those of a book under std's mutex, in turn.
 
-Usage: bench/shared.py [ROUNDS [COMMANDS]]. Needs rt. Each case runs the program crates/shared_bench for the table and for the
+Usage: bench/shared.py [--store] [ROUNDS [COMMANDS]]. Needs rt. Each case runs the program crates/shared_bench for the table and for the
 mutex one after the other, ROUNDS times (9 if left out), each with so many commands in all (200,000 if left out). For each case
 the nanoseconds of a command are printed, on the clock and of the processors (user and system), and their ratios to the mutex:
 the least of one thread, whom other work can only slow down, and the middle one of several, of which single rounds differ much.
-The last rows are of two processors alone.
+The last rows are of two processors alone. --store keeps the figures in bench/figures/.
 """
 import os
 import pathlib
 import statistics
 import subprocess
 import sys
+
+import figures
 
 ROOT = pathlib.Path(__file__).resolve().parent.parent
 CRATE = ROOT / "crates" / "shared_bench"
@@ -42,31 +44,29 @@ def timed(program, commands, is_table, threads, batch, processors):
 
 
 def compare(program, rounds, commands, threads, batch, processors):
-    """Prints one row, and gives the table's nanoseconds a command on the clock."""
+    """Prints one row, and gives its measures."""
     runs = [[timed(program, commands, is_table, threads, batch, processors) for is_table in (1, 0)] for _ in range(rounds)]
     pick = min if threads == 1 else statistics.median
     row = f"{len(processors):>10} {threads:>7} {batch:>5}"
-    figures = [[pick(run[case][kind] for run in runs) for case in (0, 1)] for kind in (0, 1)]
-    for table, mutex in figures:
+    measures = [[round(pick(run[case][kind] for run in runs), 1) for case in (0, 1)] for kind in (0, 1)]
+    for table, mutex in measures:
         row += f" {table:>9.0f} {mutex:>8.0f} {table / mutex:>6.2f}"
     print(row, flush=True)
-    return figures[0][0]
+    about = {"on": len(processors), "threads": threads, "batch": batch}
+    return {**about, "clock": measures[0], "processors": measures[1]}
 
 
 def main():
-    rounds = int(sys.argv[1]) if len(sys.argv) > 1 else 9
-    commands = int(sys.argv[2]) if len(sys.argv) > 2 else 200_000
+    words = figures.words()
+    rounds = int(words[0]) if words else 9
+    commands = int(words[1]) if len(words) > 1 else 200_000
     program = build()
     every = os.sched_getaffinity(0)
+    two = set(sorted(every)[:2])
     print("                            on the clock              of the processors")
     print("processors threads batch     table    mutex  ratio     table    mutex  ratio")
-    for threads, batch in CASES:
-        compare(program, rounds, commands, threads, batch, every)
-    two = set(sorted(every)[:2])
-    times = {(threads, batch): compare(program, rounds, commands, threads, batch, two) for threads, batch in ON_TWO}
-    for batch in (1, 256):
-        rate = times[2, batch] / times[64, batch]
-        print(f"on two processors, batches of {batch}: 64 threads make {rate:.2f} of the commands a second of two")
+    cases = [(*case, every) for case in CASES] + [(*case, two) for case in ON_TWO]
+    figures.keep("shared", rounds, [compare(program, rounds, commands, *case) for case in cases])
 
 
 if __name__ == "__main__":

@@ -1,16 +1,19 @@
 #!/usr/bin/env python3
 """Times the trie beside one in plain Rust, over the same prefixes, in one run.
 
-Usage: bench/trie.py [ROUNDS [PREFIXES..]]. Needs rt and rustc. The program crates/trie_bench and bench/trie_peer.rs run in
+Usage: bench/trie.py [--store] [ROUNDS [PREFIXES..]]. Needs rt and rustc. The program crates/trie_bench and bench/trie_peer.rs run in
 turn, ROUNDS times (5 if left out) over each number of prefixes (3,000, 30,000 and 500,000 if left out; a small number is
 run more often). The table has a row for each call, with the least of the times in nanoseconds and the ratio: on the clock,
 and of the processor, for the user and the system. `together` is a look-up where 64 are asked for at once, beside the plain
 trie's single one; `retain` is a walk that takes out one of a thousand, for each prefix. Then how many nodes the trie has, and how many bytes a prefix the plain one asked for.
+--store keeps the figures in bench/figures/.
 """
 import pathlib
 import subprocess
 import sys
 import tempfile
+
+import figures
 
 ROOT = pathlib.Path(__file__).resolve().parent.parent
 CRATE = ROOT / "crates" / "trie_bench"
@@ -28,7 +31,7 @@ def build(folder):
     return proved, plain
 
 
-def figures(program, prefixes):
+def timed(program, prefixes):
     """The figures that a program prints, by name."""
     run = subprocess.run([program, str(prefixes)], capture_output=True, text=True)
     if run.returncode != 0:
@@ -38,14 +41,15 @@ def figures(program, prefixes):
 
 
 def compare(programs, prefixes, rounds):
-    """Runs both in turn over so many prefixes and prints a row for each call, from their least times."""
-    runs = [[figures(program, prefixes) for program in programs] for _ in range(rounds)]
+    """Runs both in turn over so many prefixes, prints a row for each call, from their least times, and gives the rows."""
+    runs = [[timed(program, prefixes) for program in programs] for _ in range(rounds)]
     proved, plain = runs[0]
     for agreed in ("prefixes", "found", "kept", "left"):
         if proved[agreed] != plain[agreed]:
             sys.exit(f"bench/trie.py: the programs disagree on {agreed}")
     if proved["same"] != proved["found"]:
         sys.exit("bench/trie.py: look-ups together find something else")
+    rows = []
     for call, beside in (
         ("insert", "insert"),
         ("longest", "longest"),
@@ -53,23 +57,27 @@ def compare(programs, prefixes, rounds):
         ("retain", "retain"),
         ("remove", "remove"),
     ):
-        row = f"{prefixes:8} {call:8}"
-        for kind in ("", "_cpu"):
-            ours = min(run[0][call + kind] for run in runs)
-            theirs = min(run[1][beside + kind] for run in runs)
-            row += f" {ours:8} {theirs:8} {ours / theirs:6.2f}"
-        print(row)
+        row = {"prefixes": prefixes, "call": call}
+        for measure, kind in (("clock", ""), ("processors", "_cpu")):
+            row[measure] = [min(run[0][call + kind] for run in runs), min(run[1][beside + kind] for run in runs)]
+        rows.append(row)
+        pairs = (row["clock"], row["processors"])
+        print(f"{prefixes:8} {call:8}" + "".join(f" {ours:8} {theirs:8} {ours / theirs:6.2f}" for ours, theirs in pairs), flush=True)
     print(f"{prefixes:8} {proved['nodes']} nodes; plain Rust asked for {plain['asked'] / plain['prefixes']:.1f} bytes a prefix")
+    return rows
 
 
 def main():
-    rounds = int(sys.argv[1]) if len(sys.argv) > 1 else 5
-    sizes = [int(word) for word in sys.argv[2:]] or [3_000, 30_000, 500_000]
+    words = figures.words()
+    rounds = int(words[0]) if words else 5
+    sizes = [int(word) for word in words[1:]] or [3_000, 30_000, 500_000]
+    rows = []
     with tempfile.TemporaryDirectory() as folder:
         programs = build(pathlib.Path(folder))
         print(f"{'prefixes':8} {'call':8} {'clock':>8} {'plain':>8} {'ratio':>6} {'cpu':>8} {'plain':>8} {'ratio':>6}")
         for prefixes in sizes:
-            compare(programs, prefixes, rounds * max(1, 100_000 // prefixes))
+            rows += compare(programs, prefixes, rounds * max(1, 100_000 // prefixes))
+    figures.keep("trie", rounds, rows)
 
 
 if __name__ == "__main__":

@@ -4,60 +4,21 @@
 Usage: docs/pictures/draw_table.py [--check] [PROGRAM]. Without a program it runs ./yarib at the top of the repository.
 Writes trie.svg and way.svg beside itself, or with --check compares them with what it would write.
 """
-import html
 import pathlib
 import re
 import subprocess
 import sys
 import tempfile
 
-HERE = pathlib.Path(__file__).resolve().parent
-TOP = HERE.parent.parent
+from picture import BLUE, GREEN, INK, PALE_GREEN, QUIET, Picture, settle
+
+TOP = pathlib.Path(__file__).resolve().parent.parent.parent
 PROGRAM = next((word for word in sys.argv[1:] if word != "--check"), TOP / "yarib")
-INK, QUIET, BLUE, GREEN, PALE_GREEN = "#222", "#777", "#1f5fa8", "#1a7f37", "#dafbe1"
 
 
 def yarib(*words):
     """What the program prints."""
     return subprocess.run([PROGRAM, *words], check=True, capture_output=True, text=True).stdout
-
-
-class Picture:
-    """Shapes on a white ground."""
-
-    def __init__(self, width, height, title):
-        self.size, self.title, self.shapes = (width, height), title, []
-
-    def text(self, x, y, words, anchor="middle", size=13, fill=INK, weight="normal"):
-        self.shapes.append(
-            f'<text x="{x:g}" y="{y:g}" text-anchor="{anchor}" font-size="{size}" fill="{fill}" '
-            f'font-weight="{weight}">{html.escape(words)}</text>'
-        )
-
-    def line(self, x1, y1, x2, y2, stroke=QUIET, arrow=False):
-        end = ' marker-end="url(#arrow)"' if arrow else ""
-        self.shapes.append(
-            f'<line x1="{x1:g}" y1="{y1:g}" x2="{x2:g}" y2="{y2:g}" stroke="{stroke}" stroke-width="1.5"{end}/>'
-        )
-
-    def box(self, x, y, width, height, fill="#ffffff", stroke=INK, dash=False):
-        dashed = ' stroke-dasharray="5 4"' if dash else ""
-        self.shapes.append(
-            f'<rect x="{x:g}" y="{y:g}" width="{width:g}" height="{height:g}" rx="6" fill="{fill}" '
-            f'stroke="{stroke}" stroke-width="1.2"{dashed}/>'
-        )
-
-    def svg(self):
-        width, height = self.size
-        head = (
-            f'<svg xmlns="http://www.w3.org/2000/svg" width="{width}" height="{height}" '
-            f'viewBox="0 0 {width} {height}" font-family="Helvetica, Arial, sans-serif">\n'
-            f"<title>{html.escape(self.title)}</title>\n"
-            '<defs><marker id="arrow" viewBox="0 0 8 8" refX="8" refY="4" markerWidth="7" markerHeight="7" '
-            f'orient="auto"><path d="M0 0 L8 4 L0 8 z" fill="{QUIET}"/></marker></defs>\n'
-            f'<rect width="{width}" height="{height}" fill="#ffffff"/>\n'
-        )
-        return head + "\n".join(self.shapes) + "\n</svg>\n"
 
 
 def prefixes(commands):
@@ -155,17 +116,4 @@ def way():
     return picture
 
 
-def main():
-    stale = []
-    for file, picture in (("trie", trie()), ("way", way())):
-        path = HERE / f"{file}.svg"
-        if "--check" in sys.argv:
-            if not path.exists() or path.read_text() != picture.svg():
-                stale.append(path.name)
-        else:
-            path.write_text(picture.svg())
-    if stale:
-        sys.exit(f"draw_table.py: no longer true, draw them again: {', '.join(stale)}")
-
-
-main()
+settle("draw_table.py", [("trie", trie()), ("way", way())])
