@@ -82,12 +82,13 @@ def trie():
     return picture
 
 
-# Each stop of a command on its way, with the function that a reader can look up and the file that it stands in.
+# Each stop of a look-up on its way, where commands are asked one by one, with the function that a reader can look up and
+# the crate that it stands in.
 WAY = [
     ("a line of a feed file", "", ""),
-    ("cut and read", "parse_line", "rt_feed"),
-    ("gathered into batches", "run_feed", "rt_feed"),
-    ("asked of the table", "apply_batch", "rt_shared"),
+    ("parsed", "parse_line", "rt_feed"),
+    ("asked of the feed's gate", "run_feed", "rt_feed"),
+    ("asked of the shared table", "apply", "rt_shared"),
     ("enter the lock", "enter", "ya_lock"),
     ("answered and journaled", "apply", "rt_rib"),
     ("the longest match", "longest", "rt_trie"),
@@ -97,8 +98,8 @@ WAY = [
 
 
 def way():
-    """The way of one command through the crates."""
-    picture = Picture(640, 40 + 62 * len(WAY), "The way of a command through the crates")
+    """The way of one look-up through the crates."""
+    picture = Picture(640, 40 + 62 * len(WAY), "The way of a look-up through the crates, where each command is asked by itself")
     for stop, (what, function, crate) in enumerate(WAY):
         y = 20 + 62 * stop
         if function and not any(
