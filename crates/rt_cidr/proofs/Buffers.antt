@@ -55,18 +55,7 @@ begins_so xs ys held text parts longer =
     ∙ take-append-add xs text (length ys - length xs)
 
 module _ (name name' : ℕ) (a b c d : Option (List ℕ)) (held text : List ℕ) (same : name ≡ name' → d ≡ c) where
-  -- what a new buffer was given lies in the writer below, once it holds nothing
-  pub goes_out : Appends (buffered name a a []) (buffered name' b c held) text → held ≡ [] → Appends a d text
-  goes_out gains none = cases a gains
-    where
-      cases : (a : Option (List ℕ)) → Appends (buffered name a a []) (buffered name' b c held) text → Appends a d text
-      cases None gains = tt
-      cases (Some xs) gains =
-          let is = shows name name' xs b c held text gains in
-          let all : is.bytes ≡ xs ++ text = sym (append-nil is.bytes) ∙ ap (λ held. is.bytes ++ held) (sym none) ∙ is.parts in
-          rw (same is.one, is.is_below) all
-
-  -- a beginning of it lies there, where a part of it is held
+  -- a beginning of what a new buffer was given lies in the writer below, where a part of it is held
   pub stops_held : Appends (buffered name a a []) (buffered name' b c held) text → 0 < length held → 0 < length text → AppendsBeginning a d text
   stops_held gains some given = cases a gains
     where

@@ -9,7 +9,7 @@ pub use Rattle.rt_cidr.proofs.ShortTexts.{length-decimal, length-address_text, l
 -- what is in a writer after one text and then another, and after a fault
 pub use Rattle.rt_cidr.proofs.Outputs.{appends_after, begins_after, begins_longer}
 -- what is in a writer when text went to it through a buffer
-pub use Rattle.rt_cidr.proofs.Buffers.{goes_out, stops, stops_held}
+pub use Rattle.rt_cidr.proofs.Buffers.{stops, stops_held}
 -- texts of the examples, and what is no text
 pub use Rattle.rt_cidr.proofs.Examples.{ten_8, pair_10_0_0_1_33, pair_10_0_0_1_8, length_before_bits, bit_past_the_length, a_bit_past_the_length_is_set}
 pub use Rattle.rt_cidr.proofs.Examples.{written_192_0_2_1, written_10_0_0_0_8, written_0, written_1, written_2, written_3, written_4, written_5, written_6, written_10, written_20, written_30, written_50, written_100, decimal_4294967296, no_address_without_a_dot, no_prefix_without_a_dot, no_prefix_without_a_slash}
