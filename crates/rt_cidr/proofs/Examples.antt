@@ -146,78 +146,56 @@ the_greatest_octet = record { spelled = decimal_255; fits = omega arith }
 no_octet_of_256 : (n : ℕ) → ¬ IsOctetText (codes "256") n
 no_octet_of_256 n h = let value = h.spelled.value in omega (arith, h.fits)
 
+-- addresses are of these octets
+octet_0 : IsOctetText (codes "0") 0
+octet_0 = record { spelled = decimal_0; fits = omega arith }
+
+octet_1 : IsOctetText (codes "1") 1
+octet_1 = record { spelled = decimal_1; fits = omega arith }
+
+octet_2 : IsOctetText (codes "2") 2
+octet_2 = record { spelled = decimal_2; fits = omega arith }
+
+octet_3 : IsOctetText (codes "3") 3
+octet_3 = record { spelled = decimal_3; fits = omega arith }
+
+octet_10 : IsOctetText (codes "10") 10
+octet_10 = record { spelled = decimal_10; fits = omega arith }
+
+octet_192 : IsOctetText (codes "192") 192
+octet_192 = record { spelled = decimal_192; fits = omega arith }
+
+four_octets : {a b c d : List ℕ} {x y z w : ℕ} → IsOctetText a x → IsOctetText b y → IsOctetText c z → IsOctetText d w
+    → IsAddressText (a ++ dot ∷ (b ++ dot ∷ (c ++ dot ∷ d))) (x * 2 ^ 24 + y * 2 ^ 16 + z * 2 ^ 8 + w)
+four_octets {a} {b} {c} {d} {x} {y} {z} {w} first second third fourth = record {
+  first_text = a;
+  first = x;
+  is_first = first;
+  second_text = b;
+  second = y;
+  is_second = second;
+  third_text = c;
+  third = z;
+  is_third = third;
+  fourth_text = d;
+  fourth = w;
+  is_fourth = fourth;
+  joined = refl;
+  value = refl;
+}
+
 -- IsAddressText
 pub address_10_0_0_0 : IsAddressText (codes "10.0.0.0") 167772160
-address_10_0_0_0 = record {
-  first_text = codes "10";
-  first = 10;
-  is_first = record { spelled = decimal_10; fits = omega arith };
-  second_text = codes "0";
-  second = 0;
-  is_second = record { spelled = decimal_0; fits = omega arith };
-  third_text = codes "0";
-  third = 0;
-  is_third = record { spelled = decimal_0; fits = omega arith };
-  fourth_text = codes "0";
-  fourth = 0;
-  is_fourth = record { spelled = decimal_0; fits = omega arith };
-  joined = refl;
-  value = refl;
-}
+address_10_0_0_0 = four_octets octet_10 octet_0 octet_0 octet_0
 
 pub address_10_0_0_1 : IsAddressText (codes "10.0.0.1") 167772161
-address_10_0_0_1 = record {
-  first_text = codes "10";
-  first = 10;
-  is_first = record { spelled = decimal_10; fits = omega arith };
-  second_text = codes "0";
-  second = 0;
-  is_second = record { spelled = decimal_0; fits = omega arith };
-  third_text = codes "0";
-  third = 0;
-  is_third = record { spelled = decimal_0; fits = omega arith };
-  fourth_text = codes "1";
-  fourth = 1;
-  is_fourth = record { spelled = decimal_1; fits = omega arith };
-  joined = refl;
-  value = refl;
-}
+address_10_0_0_1 = four_octets octet_10 octet_0 octet_0 octet_1
 
 pub address_192_0_2_1 : IsAddressText (codes "192.0.2.1") 3221225985
-address_192_0_2_1 = record {
-  first_text = codes "192";
-  first = 192;
-  is_first = record { spelled = decimal_192; fits = omega arith };
-  second_text = codes "0";
-  second = 0;
-  is_second = record { spelled = decimal_0; fits = omega arith };
-  third_text = codes "2";
-  third = 2;
-  is_third = record { spelled = decimal_2; fits = omega arith };
-  fourth_text = codes "1";
-  fourth = 1;
-  is_fourth = record { spelled = decimal_1; fits = omega arith };
-  joined = refl;
-  value = refl;
-}
+address_192_0_2_1 = four_octets octet_192 octet_0 octet_2 octet_1
 
 pub the_last_address : IsAddressText (codes "255.255.255.255") 4294967295
-the_last_address = record {
-  first_text = codes "255";
-  first = 255;
-  is_first = record { spelled = decimal_255; fits = omega arith };
-  second_text = codes "255";
-  second = 255;
-  is_second = record { spelled = decimal_255; fits = omega arith };
-  third_text = codes "255";
-  third = 255;
-  is_third = record { spelled = decimal_255; fits = omega arith };
-  fourth_text = codes "255";
-  fourth = 255;
-  is_fourth = record { spelled = decimal_255; fits = omega arith };
-  joined = refl;
-  value = refl;
-}
+the_last_address = four_octets the_greatest_octet the_greatest_octet the_greatest_octet the_greatest_octet
 
 the_first_octet_is_the_most_significant : ¬ IsAddressText (codes "10.0.0.0") 10
 the_first_octet_is_the_most_significant h = let same = address_one_number (codes "10.0.0.0") 167772160 10 address_10_0_0_0 h in cc
@@ -333,48 +311,32 @@ decimal_30 = record { digits = (omega arith, (omega arith, (omega arith, tt))); 
 decimal_50 : IsDecimal (codes "50") 50
 decimal_50 = record { digits = (omega arith, (omega arith, (omega arith, tt))); value = refl; no_leading_zero = λ zero. cc }
 
-four_octets : (a b c d : List ℕ) (x y z w : ℕ) → IsOctetText a x → IsOctetText b y → IsOctetText c z → IsOctetText d w
-    → IsAddressText (a ++ dot ∷ (b ++ dot ∷ (c ++ dot ∷ d))) (x * 2 ^ 24 + y * 2 ^ 16 + z * 2 ^ 8 + w)
-four_octets a b c d x y z w first second third fourth = record {
-  first_text = a;
-  first = x;
-  is_first = first;
-  second_text = b;
-  second = y;
-  is_second = second;
-  third_text = c;
-  third = z;
-  is_third = third;
-  fourth_text = d;
-  fourth = w;
-  is_fourth = fourth;
-  joined = refl;
-  value = refl;
-}
+octet_9 : IsOctetText (codes "9") 9
+octet_9 = record { spelled = decimal_9; fits = omega arith }
 
 address_10_1_0_0 : IsAddressText (codes "10.1.0.0") 167837696
-address_10_1_0_0 = four_octets (codes "10") (codes "1") (codes "0") (codes "0") 10 1 0 0 (record { spelled = decimal_10; fits = omega arith }) (record { spelled = decimal_1; fits = omega arith }) (record { spelled = decimal_0; fits = omega arith }) (record { spelled = decimal_0; fits = omega arith })
+address_10_1_0_0 = four_octets octet_10 octet_1 octet_0 octet_0
 
 address_10_2_0_0 : IsAddressText (codes "10.2.0.0") 167903232
-address_10_2_0_0 = four_octets (codes "10") (codes "2") (codes "0") (codes "0") 10 2 0 0 (record { spelled = decimal_10; fits = omega arith }) (record { spelled = decimal_2; fits = omega arith }) (record { spelled = decimal_0; fits = omega arith }) (record { spelled = decimal_0; fits = omega arith })
+address_10_2_0_0 = four_octets octet_10 octet_2 octet_0 octet_0
 
 address_10_3_0_0 : IsAddressText (codes "10.3.0.0") 167968768
-address_10_3_0_0 = four_octets (codes "10") (codes "3") (codes "0") (codes "0") 10 3 0 0 (record { spelled = decimal_10; fits = omega arith }) (record { spelled = decimal_3; fits = omega arith }) (record { spelled = decimal_0; fits = omega arith }) (record { spelled = decimal_0; fits = omega arith })
+address_10_3_0_0 = four_octets octet_10 octet_3 octet_0 octet_0
 
 address_10_9_0_0 : IsAddressText (codes "10.9.0.0") 168361984
-address_10_9_0_0 = four_octets (codes "10") (codes "9") (codes "0") (codes "0") 10 9 0 0 (record { spelled = decimal_10; fits = omega arith }) (record { spelled = decimal_9; fits = omega arith }) (record { spelled = decimal_0; fits = omega arith }) (record { spelled = decimal_0; fits = omega arith })
+address_10_9_0_0 = four_octets octet_10 octet_9 octet_0 octet_0
 
 address_192_0_2_2 : IsAddressText (codes "192.0.2.2") 3221225986
-address_192_0_2_2 = four_octets (codes "192") (codes "0") (codes "2") (codes "2") 192 0 2 2 (record { spelled = decimal_192; fits = omega arith }) (record { spelled = decimal_0; fits = omega arith }) (record { spelled = decimal_2; fits = omega arith }) (record { spelled = decimal_2; fits = omega arith })
+address_192_0_2_2 = four_octets octet_192 octet_0 octet_2 octet_2
 
 address_192_0_2_3 : IsAddressText (codes "192.0.2.3") 3221225987
-address_192_0_2_3 = four_octets (codes "192") (codes "0") (codes "2") (codes "3") 192 0 2 3 (record { spelled = decimal_192; fits = omega arith }) (record { spelled = decimal_0; fits = omega arith }) (record { spelled = decimal_2; fits = omega arith }) (record { spelled = decimal_3; fits = omega arith })
+address_192_0_2_3 = four_octets octet_192 octet_0 octet_2 octet_3
 
 address_10_1_2_3 : IsAddressText (codes "10.1.2.3") 167838211
-address_10_1_2_3 = four_octets (codes "10") (codes "1") (codes "2") (codes "3") 10 1 2 3 (record { spelled = decimal_10; fits = omega arith }) (record { spelled = decimal_1; fits = omega arith }) (record { spelled = decimal_2; fits = omega arith }) (record { spelled = decimal_3; fits = omega arith })
+address_10_1_2_3 = four_octets octet_10 octet_1 octet_2 octet_3
 
 address_10_9_0_1 : IsAddressText (codes "10.9.0.1") 168361985
-address_10_9_0_1 = four_octets (codes "10") (codes "9") (codes "0") (codes "1") 10 9 0 1 (record { spelled = decimal_10; fits = omega arith }) (record { spelled = decimal_9; fits = omega arith }) (record { spelled = decimal_0; fits = omega arith }) (record { spelled = decimal_1; fits = omega arith })
+address_10_9_0_1 = four_octets octet_10 octet_9 octet_0 octet_1
 
 written_as_address : (text : List ℕ) (address : ℕ) → address < 2 ^ 32 → IsAddressText text address → address_text address ≡ text
 written_as_address text address fits is = address_one_text (address_text address) text address (address_text_is_address address fits) is
