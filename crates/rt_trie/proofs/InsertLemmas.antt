@@ -12,14 +12,14 @@ use Rattle.rt_trie.specs.declared.nodes.FullNode.{FullNode}
 use Rattle.rt_trie.specs.Map.{get, put}
 use Rattle.rt_trie.specs.declared.nodes.Place.TheVariants.{Above, Apart}
 use Rattle.rt_trie.specs.Blocks.{IsKeyOf, IsWithin, IsChild, StandsAt, PartsAt, middle, past}
-use Rattle.rt_trie.specs.Links.{own_pair, pairs, count, root, leaf_link, fork_link, full_link, AreHalves, IsChildLink, IsFilled, IsLawfulTrie}
+use Rattle.rt_trie.specs.Links.{own_pair, pairs, count, root, leaf_link, fork_link, full_link, AreHalves, IsChildLink, IsFilled, IsLawfulTrie, IsNode}
 use Rattle.rt_trie.specs.Changes.{IsPut, IsInserted, IsRefused, Inserts}
 use Rattle.rt_cidr.proofs.Promised.{size_pos}
 use Rattle.rt_trie.proofs.BlockLemmas.{lower_half}
 use Rattle.rt_trie.proofs.PairLemmas.{AllKeys, AllKeys-map, IsHigher, IsLower, IsOther, IsOther-higher, IsOther-lower, get-none, put-first, put-skip, put-front, put-here}
 use Rattle.rt_trie.proofs.NodeLemmas.{sides_higher, upper_higher, lower_lower, own_lower}
 use Rattle.rt_trie.proofs.PartLemmas.{child_of_parts}
-use Rattle.rt_trie.proofs.LinkLemmas.{if_some_map, if_some_is, IsNode, IsOn, IsView, pairs_within, sides_of, of_fork, of_full, own_key, key_of_leaf, key_of_full, node_get-unstored, get_left, get_right, get_own}
+use Rattle.rt_trie.proofs.LinkLemmas.{if_some_map, if_some_is, IsOn, IsView, pairs_within, sides_of, of_fork, of_full, own_key, key_of_leaf, key_of_full, node_get-unstored, get_left, get_right, get_own}
 
 -- what is within a prefix lies in one of its halves
 pub half_above : (q p : Prefix) → StandsAt q p Above → q.base < middle p → IsChild p false q

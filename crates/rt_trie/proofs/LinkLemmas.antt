@@ -5,6 +5,7 @@ use Rattle.std.specs.Prelude.{Box, IfNone, IfSome, is_some}
 use Rattle.std.proofs.lemmas.Bool.{cases_lt, false≢true}
 use Rattle.std.proofs.lemmas.Bool.Decides.{leb_tells}
 use Rattle.std.specs.Borrow.{Bor}
+use Rattle.std.specs.Option.{option_copied}
 use Rattle.std.specs.Box.{with_value}
 use Rattle.rt_cidr.specs.declared.address.Addr.{Addr}
 use Rattle.rt_cidr.specs.Prefix.{covers}
@@ -18,7 +19,7 @@ use Rattle.rt_trie.specs.Map.{Pairs, same_prefix, get, first, next_after, before
 use Rattle.rt_trie.specs.Blocks.{IsKeyOf, IsWithin, IsChild, StandsAt, middle, past}
 use Rattle.rt_trie.specs.declared.nodes.Place.{Place}
 use Rattle.rt_trie.specs.declared.nodes.Place.TheVariants.{Here, Left, Right, Above, Apart}
-use Rattle.rt_trie.specs.Links.{own_pair, pairs, count, root, AreHalves, IsFilled, IsNeeded, IsLawfulBelow, IsLawfulTrie, IsForkOf, IsSeenFrom}
+use Rattle.rt_trie.specs.Links.{own_pair, pairs, count, root, AreHalves, IsFilled, IsNeeded, IsLawfulBelow, IsLawfulTrie, IsNode, IsForkOf, IsSeenFrom}
 use Rattle.rt_trie.proofs.OrderLemmas.{same_rank, same_tells, rank_of_before, rank_of_not_before}
 use Rattle.rt_cidr.proofs.Promised.{size_pos}
 use Rattle.rt_trie.proofs.NodeLemmas.{AreSides, get-lower, get-upper, get-here, get-past, IsOrdered-node, cover-lower, cover-upper, cover-none, after-lower, after-upper, after-all, after-past}
@@ -78,15 +79,6 @@ own_key q = record { len_is = refl; base_is = refl }
 pub key_short : {len base : ℕ} (q : Prefix) → IsKeyOf len base q → len ≤ 32
 key_short q k = let s = q.is_prefix.short in omega (arith, k.len_is)
 
--- the link holds a node of this prefix, value and sides, and what stands below it is lawful
-pub record IsNode {V A : Type 0} (link : Link V A) (q : Prefix) (v : Option V) (left right : Link V A) : Type 0 where
-  pub pairs_are : pairs link ≡ own_pair q v ++ (pairs left ++ pairs right)
-  pub root_is : root link ≡ Some q
-  pub count_is : count link ≡ count left + count right + 1
-  pub halves : AreHalves q left right
-  pub left_lawful : IsLawfulTrie left
-  pub right_lawful : IsLawfulTrie right
-
 module _ {V A : Type 0} where
   of_fork_at : (len base : ℕ) (b : Box (ForkNode V A) A) → IsLawfulBelow (Fork len base b) → IsNode (Fork len base b) b.value.prefix None b.value.left b.value.right
   of_fork_at len base b h = record { pairs_are = refl; root_is = refl; count_is = refl; halves = h.0; left_lawful = h.1; right_lawful = h.2 }
@@ -140,6 +132,15 @@ module _ {V A : Type 0} where
     lower = pairs_within left q.base (middle q) (q.len + 1) n.left_lawful.0 n.halves.lower;
     upper = pairs_within right (middle q) (past q) (q.len + 1) n.right_lawful.0 n.halves.upper;
   }
+
+  -- each side is lawful, with fewer nodes
+  pub below_left : (link : Link V A) (q : Prefix) (v : Option V) (left right : Link V A) → IsNode link q v left right
+      → IsLawfulTrie left × (count left < count link)
+  below_left link q v left right n = (n.left_lawful, omega (arith, n.count_is))
+
+  pub below_right : (link : Link V A) (q : Prefix) (v : Option V) (left right : Link V A) → IsNode link q v left right
+      → IsLawfulTrie right × (count right < count link)
+  below_right link q v left right n = (n.right_lawful, omega (arith, n.count_is))
 
   -- the look-up goes to one side, or ends here
   pub node_get-lower : (link : Link V A) (q : Prefix) (v : Option V) (left right : Link V A) (n : IsNode link q v left right) (p : Prefix)
@@ -310,12 +311,18 @@ module _ {V A : Type 0} where
       let i = filled_first left h.0.1 h.1.0 in
       (i.0, first-append (pairs left) (pairs right) ∙ ap (λ o. or_else o (first (pairs right))) i.1)
 
+  -- the first pair of a node with a value is its own
+  pub first_own : (link : Link V A) (q : Prefix) (v : Option (Bor V)) (left right : Link V A) → IsNode link q (option_copied v) left right → true ≡ is_some v
+      → first (pairs link) ≡ Some q
+  first_own link q None left right n h = absurd (false≢true (sym h))
+  first_own link q (Some x) left right n h = ap first n.pairs_are
+
   -- the first pair of a node without a value is the first on its left
-  pub first_left : (link : Link V A) (q : Prefix) (left right : Link V A) → IsNode link q None left right → IsFilled left
+  pub first_left : (link : Link V A) (q : Prefix) (v : Option V) (left right : Link V A) → IsNode link q v left right → v ≡ None → IsFilled left
       → first (pairs link) ≡ first (pairs left)
-  first_left link q left right n f =
+  first_left link q v left right n e f =
       let i = filled_first left n.left_lawful f in
-      ap first n.pairs_are ∙ first-append (pairs left) (pairs right) ∙ ap (λ o. or_else o (first (pairs right))) i.1 ∙ sym i.1
+      ap first n.pairs_are ∙ ap (λ v. first (own_pair q v ++ (pairs left ++ pairs right))) e ∙ first-append (pairs left) (pairs right) ∙ ap (λ o. or_else o (first (pairs right))) i.1 ∙ sym i.1
 
 pub none_unless : {X : Type 0} (o : Option X) → ((x : X) → o ≡ Some x → ⊥) → o ≡ None
 none_unless None h = refl

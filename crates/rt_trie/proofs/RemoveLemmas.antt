@@ -11,13 +11,13 @@ use Rattle.rt_trie.specs.declared.nodes.Place.{Place}
 use Rattle.rt_trie.specs.declared.nodes.Place.TheVariants.{Here, Left, Right, Above, Apart}
 use Rattle.rt_trie.proofs.InsertLemmas.{get_above, get_apart}
 use Rattle.rt_trie.specs.Blocks.{IsKeyOf, StandsAt, IsChild, middle, past}
-use Rattle.rt_trie.specs.Links.{own_pair, pairs, root, AreHalves, IsVacant, IsLone, IsLeafOf, IsLawfulBelow, IsLawfulTrie}
+use Rattle.rt_trie.specs.Links.{own_pair, pairs, root, AreHalves, IsVacant, IsLone, IsLeafOf, IsLawfulBelow, IsLawfulTrie, IsNode}
 use Rattle.rt_trie.specs.Changes.{IsErased, IsSpliced, AreSidesOf}
 use Rattle.rt_trie.proofs.OrderLemmas.{same_tells, same_rank}
 use Rattle.rt_cidr.proofs.Promised.{size_pos}
 use Rattle.rt_trie.proofs.PairLemmas.{AllKeys-map, IsOther, IsHigher, IsLower, IsOther-higher, IsOther-lower, erase-skip, erase-none, erase-front, erase-here}
 use Rattle.rt_trie.proofs.NodeLemmas.{upper_higher, lower_lower, own_other, sides_higher}
-use Rattle.rt_trie.proofs.LinkLemmas.{if_some_map, IsNode, IsView, within_lower, within_upper, sides_of, of_fork, of_full, key_of_full, node_get-unstored}
+use Rattle.rt_trie.proofs.LinkLemmas.{if_some_map, IsView, within_lower, within_upper, sides_of, of_fork, of_full, key_of_full, node_get-unstored}
 
 -- a child of a child on a side is a child there
 child_lower : (parent : Prefix) (upper : Bool) (q x : Prefix) → IsChild parent upper q → IsChild q false x → IsChild parent upper x

@@ -9,10 +9,10 @@ use Rattle.rt_trie.specs.declared.nodes.Link.TheVariants.{Full}
 use Rattle.rt_trie.specs.declared.nodes.LeafNode.{LeafNode}
 use Rattle.rt_trie.specs.declared.nodes.FullNode.{FullNode}
 use Rattle.rt_trie.specs.Map.{Pairs}
-use Rattle.rt_trie.specs.Links.{own_pair, pairs, root, AreHalves, IsLawfulBelow, IsLawfulTrie}
+use Rattle.rt_trie.specs.Links.{own_pair, pairs, root, AreHalves, IsLawfulBelow, IsLawfulTrie, IsNode}
 use Rattle.rt_trie.specs.Changes.{IsSpliced, StaysChild}
 use Rattle.rt_trie.specs.Sifted.{with_pair, IsSifted, IsSiftedLink}
-use Rattle.rt_trie.proofs.LinkLemmas.{IsNode, IsView, of_leaf, of_full, key_of_leaf, key_of_full}
+use Rattle.rt_trie.proofs.LinkLemmas.{IsView, of_leaf, of_full, key_of_leaf, key_of_full}
 use Rattle.rt_trie.proofs.RemoveLemmas.{made_below_full}
 
 -- a list that is joined to what is left stands behind it

@@ -4,12 +4,12 @@ use Rattle.std.proofs.Common.{true, false, inl, inr}
 use Rattle.std.proofs.lemmas.Bool.{cases_lt}
 use Rattle.std.specs.Prelude.{IfSome, IsSomeAnd}
 use Rattle.rt_trie.specs.Blocks.{IsChild}
-use Rattle.rt_trie.proofs.LinkLemmas.{if_some_map, IsNode}
+use Rattle.rt_trie.proofs.LinkLemmas.{if_some_map}
 use Rattle.std.specs.Borrow.{Bor}
 use Rattle.rt_cidr.specs.declared.prefixes.Prefix.{Prefix}
 use Rattle.rt_trie.specs.declared.nodes.Link.{Link}
 use Rattle.rt_trie.specs.Aside.{link_at}
-use Rattle.rt_trie.specs.Links.{own_pair, pairs, count, root, IsLawfulBelow}
+use Rattle.rt_trie.specs.Links.{own_pair, pairs, count, root, IsLawfulBelow, IsNode}
 use Rattle.rt_trie.specs.Walks.{pairs_of, rest_of, IsFrom, IsAside}
 
 -- how much work a link is: one, and two for each of its nodes
@@ -101,6 +101,19 @@ module _ {V A : Type 0} where
       let one : m - 1 + 1 ≡ suc (m - 1) = omega arith in
       walk_step xs ys m (m - 1 + 2) (m - 1) link left right q v a em en at (node (last_from xs m (m - 1) link a em at).0.0) r
       (subst (λ j. link_at ys j ≡ Some left) one l) below size
+
+  -- a link without pairs is passed over
+  empty_step : (xs : List (Bor (Link V A))) (m k : ℕ) (link : Link V A) → IsAside xs m → m ≡ suc k → link_at xs k ≡ Some link → pairs link ≡ []
+      → IsAside xs k × (rest_of xs k ≡ rest_of xs m) × (weight_of xs k < weight_of xs m)
+  empty_step xs m k link a em at e = (
+    record { size = a.size; few = omega (arith, a.few); each = λ j h. a.each j (omega arith) },
+    rw (em, at) (ap (λ t. t ++ rest_of xs k) (sym e)),
+    rw (em, at) (omega arith),
+  )
+
+  pub empty_at : (xs : List (Bor (Link V A))) (m : ℕ) (link : Link V A) → IsAside xs m → 0 < m → link_at xs (m - 1) ≡ Some link → pairs link ≡ []
+      → IsAside xs (m - 1) × (rest_of xs (m - 1) ≡ rest_of xs m) × (weight_of xs (m - 1) < weight_of xs m)
+  empty_at xs m link a pos at e = empty_step xs m (m - 1) link a (omega arith) at e
 
   -- a leaf is given
   pub leaf_step : (xs : List (Bor (Link V A))) (m k : ℕ) (link : Link V A) (x : Prefix × V) → m ≡ suc k → link_at xs k ≡ Some link

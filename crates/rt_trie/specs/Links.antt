@@ -1,11 +1,14 @@
 -- What a link holds: its pairs in order, how many nodes, and when it is lawful.
 use Rattle.std.specs.Prelude.{◌≡◌, ℕ, Bool, Box, true, false, ◌+◌, ◌++◌, [], ◌∷◌, Option, Some, None, IfSome, IfNone, IsSome, IsNone, ◌⊎◌}
+use Rattle.std.specs.Option.{option_copied}
 use Rattle.rt_cidr.specs.declared.prefixes.Prefix.{Prefix}
 use Rattle.rt_trie.specs.declared.nodes.Link.{Link, Empty, Leaf, Fork', Full'}
 use Rattle.rt_trie.specs.declared.nodes.Link.TheVariants.{Fork, Full}
 use Rattle.rt_trie.specs.declared.nodes.LeafNode.{LeafNode}
 use Rattle.rt_trie.specs.declared.nodes.ForkNode.{ForkNode}
 use Rattle.rt_trie.specs.declared.nodes.FullNode.{FullNode}
+use Rattle.rt_trie.specs.declared.nodes.NodeView.{NodeView}
+use Rattle.rt_trie.specs.declared.nodes.NodeView.TheVariants.{Vacant, Single, Branch}
 use Rattle.rt_trie.specs.Map.{Pairs}
 use Rattle.rt_trie.specs.declared.nodes.Place.{Place}
 use Rattle.rt_trie.specs.Blocks.{IsChild, IsKeyOf, StandsAt}
@@ -111,3 +114,20 @@ IsLawfulBelow (Full' len base p left right q v) =
 -- two children, and every link keeps its node's key
 abbrev pub IsLawfulTrie : {V A : Type 0} → Link V A → Type 0
 IsLawfulTrie link = IsLawfulBelow link × IsNeeded link
+
+-- the link holds a node of this prefix, value and sides, and what stands below it is lawful
+pub record IsNode {V A : Type 0} (link : Link V A) (q : Prefix) (v : Option V) (left right : Link V A) : Type 0 where
+  pub pairs_are : pairs link ≡ own_pair q v ++ (pairs left ++ pairs right)
+  pub root_is : root link ≡ Some q
+  pub count_is : count link ≡ count left + count right + 1
+  pub halves : AreHalves q left right
+  pub left_lawful : IsLawfulTrie left
+  pub right_lawful : IsLawfulTrie right
+
+-- the view is of the node that the link holds, where what stands below it is lawful: its pairs, or its prefix, value and sides
+abbrev pub IsNodeView : {V A : Type 0} → Link V A → NodeView V A → Type 0
+IsNodeView link Vacant = pairs link ≡ []
+IsNodeView link (Single q v) = pairs link ≡ (q, v.now) ∷ []
+IsNodeView link (Branch q v left right) =
+    (IsLawfulBelow link → IsNode link q (option_copied v) left.now right.now)
+    × (IsNeeded link → option_copied v ≡ None → IsFilled left.now × IsFilled right.now)

@@ -6,7 +6,7 @@ ghost use Rattle.std.specs.Prelude.{◌≡◌, ◌^◌, ◌<◌, ◌≤◌, ◌�
 ghost use Rattle.rt_cidr.specs.declared.prefixes.Prefix.{Prefix};
 ghost use Rattle.rt_cidr.specs.Prefix.{covers, same_prefix};
 ghost use Rattle.rt_trie.specs.Blocks.{middle, middle_at, is_key, IsKeyOf, StandsAt};
-ghost use Rattle.rt_trie.specs.Links.{leaf_link, fork_link, full_link, IsVacant};
+ghost use Rattle.rt_trie.specs.Links.{leaf_link, fork_link, full_link, IsVacant, IsNodeView};
 
 use rt_cidr::{Addr, Prefix, laws};
 use std::alloc::Allocator;
@@ -49,6 +49,17 @@ pub(crate) enum Link<V, A: Allocator> {
     Full(u8, u32, Box<FullNode<V, A>, A>),
 }
 
+/// What a link holds, with a fork and a full node seen alike.
+#[derive(Drop)]
+pub(crate) enum NodeView<'a, V, A: Allocator> {
+    /// No node.
+    Vacant,
+    /// A leaf: its prefix and its value.
+    Single(Prefix, &'a V),
+    /// A fork or a full node: its prefix, its value if it has one, and what its left and its right side hold.
+    Branch(Prefix, Option<&'a V>, &'a Link<V, A>, &'a Link<V, A>),
+}
+
 /// Where a prefix stands as seen from another.
 pub(crate) enum Place {
     /// It is the other.
@@ -68,6 +79,28 @@ impl<V, A: Allocator> Link<V, A> {
         ensures { IsTrue result ↔ IsVacant self.now }
     {
         matches!(self, Link::Empty)
+    }
+
+    /// What the link holds.
+    #[inline(always)]
+    pub fn view(&self) -> NodeView<'_, V, A>
+        ensures { IsNodeView self.now result }
+    {
+        match self {
+            Link::Empty => NodeView::Vacant,
+            Link::Leaf(_, _, leaf) => {
+                let leaf = leaf.as_ref();
+                NodeView::Single(leaf.prefix, &leaf.value)
+            }
+            Link::Fork(_, _, fork) => {
+                let fork = fork.as_ref();
+                NodeView::Branch(fork.prefix, None, &fork.left, &fork.right)
+            }
+            Link::Full(_, _, full) => {
+                let full = full.as_ref();
+                NodeView::Branch(full.prefix, full.value.as_ref(), &full.left, &full.right)
+            }
+        }
     }
 
     /// The link to a leaf.

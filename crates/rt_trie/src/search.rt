@@ -6,7 +6,7 @@ ghost use Rattle.rt_trie.specs.Map.{get, first, next_after, pair_copied, IsLonge
 ghost use Rattle.rt_trie.specs.Links.{pairs, count, IsLawfulBelow, IsLawfulTrie};
 ghost use Rattle.rt_trie.specs.LookUps.{or_else, last_cover, sought};
 
-use crate::nodes::{END, Link, Place, is_key_of, middle, offset, place_of, side};
+use crate::nodes::{END, Link, NodeView, Place, is_key_of, middle, offset, place_of, side};
 use rt_cidr::{Addr, Prefix};
 use std::alloc::Allocator;
 
@@ -197,16 +197,14 @@ pub(crate) fn first<V, A: Allocator>(root: &Link<V, A>) -> Option<Prefix>
 {
     let mut link = root;
     loop {
-        match link {
-            Link::Empty => return None,
-            Link::Leaf(_, _, leaf) => return Some(leaf.as_ref().prefix),
-            Link::Fork(_, _, fork) => link = &fork.as_ref().left,
-            Link::Full(_, _, full) => {
-                let full = full.as_ref();
-                if full.value.is_some() {
-                    return Some(full.prefix);
+        match link.view() {
+            NodeView::Vacant => return None,
+            NodeView::Single(prefix, _) => return Some(prefix),
+            NodeView::Branch(prefix, value, left, _) => {
+                if value.is_some() {
+                    return Some(prefix);
                 }
-                link = &full.left;
+                link = left;
             }
         }
     }
@@ -217,36 +215,17 @@ pub(crate) fn after<V, A: Allocator>(link: &Link<V, A>, p: Prefix) -> Option<Pre
     requires { IsLawfulTrie link.now }
     ensures { result ≡ next_after (pairs link.now) p }
 {
-    match link {
-        Link::Empty => None,
-        Link::Leaf(_, _, leaf) => {
-            let leaf = leaf.as_ref();
-            if p < leaf.prefix {
-                Some(leaf.prefix)
-            } else {
-                None
-            }
-        }
-        Link::Fork(_, _, fork) => {
-            let fork = fork.as_ref();
-            match place_of(fork.prefix.len(), fork.prefix.base(), &p) {
-                Place::Here | Place::Left => match after(&fork.left, p) {
-                    None => first(&fork.right),
+    match link.view() {
+        NodeView::Vacant => None,
+        NodeView::Single(stored, _) => { if p < stored { Some(stored) } else { None } }
+        NodeView::Branch(prefix, _, left, right) => {
+            match place_of(prefix.len(), prefix.base(), &p) {
+                Place::Here | Place::Left => match after(left, p) {
+                    None => first(right),
                     found => found,
                 },
-                Place::Right => after(&fork.right, p),
-                Place::Above | Place::Apart => if p < fork.prefix { first(link) } else { None },
-            }
-        }
-        Link::Full(_, _, full) => {
-            let full = full.as_ref();
-            match place_of(full.prefix.len(), full.prefix.base(), &p) {
-                Place::Here | Place::Left => match after(&full.left, p) {
-                    None => first(&full.right),
-                    found => found,
-                },
-                Place::Right => after(&full.right, p),
-                Place::Above | Place::Apart => if p < full.prefix { first(link) } else { None },
+                Place::Right => after(right, p),
+                Place::Above | Place::Apart => if p < prefix { first(link) } else { None },
             }
         }
     }

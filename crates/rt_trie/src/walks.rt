@@ -3,7 +3,7 @@
 ghost use Rattle.std.specs.Prelude.{◌≡◌, ℕ, ◌+◌, ◌<◌, Some, length};
 ghost use Rattle.rt_trie.specs.Aside.{link_at};
 
-use crate::nodes::Link;
+use crate::nodes::{Link, NodeView};
 use rt_cidr::Prefix;
 use std::alloc::Allocator;
 use std::marker::Model;
@@ -56,23 +56,14 @@ impl<'a, V, A: Allocator> Iterator for Walk<'a, V, A> {
         while self.len > 0 {
             self.len -= 1;
             let at = self.len;
-            match link_at(&self.aside[..], at) {
-                Link::Empty => {}
-                Link::Leaf(_, _, leaf) => {
-                    let leaf = leaf.as_ref();
-                    return Some((leaf.prefix, &leaf.value));
-                }
-                Link::Fork(_, _, fork) => {
-                    let fork = fork.as_ref();
-                    put_sides(&mut self.aside[..], at, &fork.right, &fork.left);
+            match link_at(&self.aside[..], at).view() {
+                NodeView::Vacant => {}
+                NodeView::Single(prefix, value) => return Some((prefix, value)),
+                NodeView::Branch(prefix, value, left, right) => {
+                    put_sides(&mut self.aside[..], at, right, left);
                     self.len = at + 2;
-                }
-                Link::Full(_, _, full) => {
-                    let full = full.as_ref();
-                    put_sides(&mut self.aside[..], at, &full.right, &full.left);
-                    self.len = at + 2;
-                    if let Some(value) = &full.value {
-                        return Some((full.prefix, value));
+                    if let Some(value) = value {
+                        return Some((prefix, value));
                     }
                 }
             }

@@ -1,10 +1,11 @@
-use Rattle.std.proofs.Common.{◌≡◌, Option, None, Some, refl, sym, ap, ◌∙◌}
+use Rattle.std.proofs.Common.{◌≡◌, Option, None, Some, refl, sym, ap, ◌∙◌, arith}
 use Rattle.rt_cidr.specs.declared.prefixes.Prefix.{Prefix}
 use Rattle.rt_trie.specs.LookUps.{or_else}
-use Rattle.rt_trie.specs.Map.{first}
+use Rattle.std.specs.Prelude.{Bool, true, false, [], ◌∷◌, if◌then◌else◌}
+use Rattle.rt_trie.specs.Map.{Pairs, before, first, next_after}
 use Rattle.rt_trie.specs.Links.{pairs}
 use Rattle.rt_trie.proofs.OrderLemmas.{lt_before}
-use Rattle.rt_trie.proofs.LinkLemmas.{of_fork, of_full, node_after-lower, node_after-upper, node_after-all, node_after-none}
+use Rattle.rt_trie.proofs.LinkLemmas.{node_after-lower, node_after-upper, node_after-all, node_after-none, below_left, below_right}
 use Rattle.rt_trie.proofs.search.+after.Goals as goal
 
 -- the answer on the left stands, where there is one
@@ -12,69 +13,64 @@ found_first : (o d : Option Prefix) → (o ≡ None → ⊥) → o ≡ or_else o
 found_first None d h = absurd (h refl)
 found_first (Some x) d h = refl
 
+-- what comes after p of a single pair
+after_single : {V : Type 0} (m : Pairs V) (p q : Prefix) (v : V) (comes : Bool) → m ≡ (q, v) ∷ [] → before p q ≡ comes
+    → next_after m p ≡ (if comes then Some q else None)
+after_single m p q v comes e h = ap (λ m. next_after m p) e ∙ ap (λ comes. if comes then Some q else None) h
+
+pub returns-in-Vacant : goal.returns-in-Vacant
+returns-in-Vacant g t c = sym (ap (λ m. next_after m c.args.p) c.in-Vacant.ensures)
+
+pub returns-then-lt : goal.returns-then-lt
+returns-then-lt g t c =
+    let q = c.in-Single.stored in
+    sym (after_single _ c.args.p q _ true c.in-Single.ensures (sym (lt_before c.args.p q) ∙ sym c.if-lt.ensures))
+
+pub returns-else-lt : goal.returns-else-lt
+returns-else-lt g t c =
+    let q = c.in-Single.stored in
+    sym (after_single _ c.args.p q _ false c.in-Single.ensures (sym (lt_before c.args.p q) ∙ sym c.if-lt.ensures))
+
 pub returns-in-None : goal.returns-in-None
 returns-in-None g t c =
-    let m = c.as_ref-fork.result.now in
-    let n = of_fork c.in-Fork.fork m c.args.link.now c.in-Fork.is c.as_ref-fork.ensures c.requires.0 in
-    c.first.ensures ∙ ap (λ o. or_else o (first (pairs m.right))) (sym c.in-None.is ∙ c.after.ensures)
-    ∙ sym (node_after-lower _ _ _ _ _ n c.args.p _ (c.place_of.ensures m.prefix (record { len_is = c.len.ensures; base_is = c.base.ensures })) c.in-Here.is)
+    let b = c.in-Branch in
+    let n = b.ensures.0 c.requires.0 in
+    c.first.ensures ∙ ap (λ o. or_else o (first (pairs b.right.now))) (sym c.in-None.is ∙ c.after.ensures)
+    ∙ sym (node_after-lower _ _ _ _ _ n c.args.p _ (c.place_of.ensures b.prefix (record { len_is = c.len.ensures; base_is = c.base.ensures })) c.in-Here.is)
 
 pub returns-in_default : goal.returns-in_default
 returns-in_default g t c =
-    let m = c.as_ref-fork.result.now in
-    let n = of_fork c.in-Fork.fork m c.args.link.now c.in-Fork.is c.as_ref-fork.ensures c.requires.0 in
-    found_first c.after.result (first (pairs m.right)) c.in_default.not-None ∙ ap (λ o. or_else o (first (pairs m.right))) c.after.ensures
-    ∙ sym (node_after-lower _ _ _ _ _ n c.args.p _ (c.place_of.ensures m.prefix (record { len_is = c.len.ensures; base_is = c.base.ensures })) c.in-Here.is)
+    let b = c.in-Branch in
+    let n = b.ensures.0 c.requires.0 in
+    found_first c.after.result (first (pairs b.right.now)) c.in_default.not-None ∙ ap (λ o. or_else o (first (pairs b.right.now))) c.after.ensures
+    ∙ sym (node_after-lower _ _ _ _ _ n c.args.p _ (c.place_of.ensures b.prefix (record { len_is = c.len.ensures; base_is = c.base.ensures })) c.in-Here.is)
 
 pub returns-in-Right : goal.returns-in-Right
 returns-in-Right g t c =
-    let m = c.as_ref-fork.result.now in
-    let n = of_fork c.in-Fork.fork m c.args.link.now c.in-Fork.is c.as_ref-fork.ensures c.requires.0 in
-    c.after-in-Right.ensures ∙ sym (node_after-upper _ _ _ _ _ n c.args.p _ (c.place_of.ensures m.prefix (record { len_is = c.len.ensures; base_is = c.base.ensures })) c.in-Right.is)
+    let b = c.in-Branch in
+    let n = b.ensures.0 c.requires.0 in
+    c.after-in-Right.ensures ∙ sym (node_after-upper _ _ _ _ _ n c.args.p _ (c.place_of.ensures b.prefix (record { len_is = c.len.ensures; base_is = c.base.ensures })) c.in-Right.is)
 
 pub returns-then-lt-2 : goal.returns-then-lt-2
 returns-then-lt-2 g t c =
-    let m = c.as_ref-fork.result.now in
-    let n = of_fork c.in-Fork.fork m c.args.link.now c.in-Fork.is c.as_ref-fork.ensures c.requires.0 in
+    let b = c.in-Branch in
+    let n = b.ensures.0 c.requires.0 in
     c.first-then-lt-2.ensures
-    ∙ sym (node_after-all _ _ _ _ _ n c.args.p (sym (lt_before c.args.p m.prefix) ∙ sym c.if-lt-2.ensures))
+    ∙ sym (node_after-all _ _ _ _ _ n c.args.p (sym (lt_before c.args.p b.prefix) ∙ sym c.if-lt-2.ensures))
 
 pub returns-else-lt-2 : goal.returns-else-lt-2
 returns-else-lt-2 g t c =
-    let m = c.as_ref-fork.result.now in
-    let n = of_fork c.in-Fork.fork m c.args.link.now c.in-Fork.is c.as_ref-fork.ensures c.requires.0 in
-    sym (node_after-none _ _ _ _ _ n c.args.p _ (c.place_of.ensures m.prefix (record { len_is = c.len.ensures; base_is = c.base.ensures })) c.in-Above.is (sym (lt_before c.args.p m.prefix) ∙ sym c.if-lt-2.ensures))
+    let b = c.in-Branch in
+    let n = b.ensures.0 c.requires.0 in
+    sym (node_after-none _ _ _ _ _ n c.args.p _ (c.place_of.ensures b.prefix (record { len_is = c.len.ensures; base_is = c.base.ensures })) c.in-Above.is (sym (lt_before c.args.p b.prefix) ∙ sym c.if-lt-2.ensures))
 
-pub returns-in-None-after : goal.returns-in-None-after
-returns-in-None-after g t c =
-    let m = c.as_ref-full.result.now in
-    let n = of_full c.in-Full.full m c.args.link.now c.in-Full.is c.as_ref-full.ensures c.requires.0 in
-    c.first-in-None-after.ensures ∙ ap (λ o. or_else o (first (pairs m.right))) (sym c.in-None-after.is ∙ c.after-in-Here-place_of.ensures)
-    ∙ sym (node_after-lower _ _ _ _ _ n c.args.p _ (c.place_of-in-Full.ensures m.prefix (record { len_is = c.len-in-Full.ensures; base_is = c.base-in-Full.ensures })) c.in-Here-place_of.is)
+pub after-requires : goal.after-requires
+after-requires g t c = λ κs l.
+    let b = below_left _ _ _ _ _ (c.in-Branch.ensures.0 c.requires.0) in (omega (arith, b.1, c.decreases), (l.0, (l.1, b.0)))
 
-pub returns-in_default-after : goal.returns-in_default-after
-returns-in_default-after g t c =
-    let m = c.as_ref-full.result.now in
-    let n = of_full c.in-Full.full m c.args.link.now c.in-Full.is c.as_ref-full.ensures c.requires.0 in
-    found_first c.after-in-Here-place_of.result (first (pairs m.right)) c.in_default-after.not-None
-    ∙ ap (λ o. or_else o (first (pairs m.right))) c.after-in-Here-place_of.ensures
-    ∙ sym (node_after-lower _ _ _ _ _ n c.args.p _ (c.place_of-in-Full.ensures m.prefix (record { len_is = c.len-in-Full.ensures; base_is = c.base-in-Full.ensures })) c.in-Here-place_of.is)
+pub after-requires-in-Right : goal.after-requires-in-Right
+after-requires-in-Right g t c = λ κs l.
+    let b = below_right _ _ _ _ _ (c.in-Branch.ensures.0 c.requires.0) in (omega (arith, b.1, c.decreases), (l.0, (l.1, b.0)))
 
-pub returns-in-Right-place_of : goal.returns-in-Right-place_of
-returns-in-Right-place_of g t c =
-    let m = c.as_ref-full.result.now in
-    let n = of_full c.in-Full.full m c.args.link.now c.in-Full.is c.as_ref-full.ensures c.requires.0 in
-    c.after-in-Right-place_of.ensures ∙ sym (node_after-upper _ _ _ _ _ n c.args.p _ (c.place_of-in-Full.ensures m.prefix (record { len_is = c.len-in-Full.ensures; base_is = c.base-in-Full.ensures })) c.in-Right-place_of.is)
-
-pub returns-then-lt-3 : goal.returns-then-lt-3
-returns-then-lt-3 g t c =
-    let m = c.as_ref-full.result.now in
-    let n = of_full c.in-Full.full m c.args.link.now c.in-Full.is c.as_ref-full.ensures c.requires.0 in
-    c.first-then-lt-3.ensures
-    ∙ sym (node_after-all _ _ _ _ _ n c.args.p (sym (lt_before c.args.p m.prefix) ∙ sym c.if-lt-3.ensures))
-
-pub returns-else-lt-3 : goal.returns-else-lt-3
-returns-else-lt-3 g t c =
-    let m = c.as_ref-full.result.now in
-    let n = of_full c.in-Full.full m c.args.link.now c.in-Full.is c.as_ref-full.ensures c.requires.0 in
-    sym (node_after-none _ _ _ _ _ n c.args.p _ (c.place_of-in-Full.ensures m.prefix (record { len_is = c.len-in-Full.ensures; base_is = c.base-in-Full.ensures })) c.in-Above-place_of.is (sym (lt_before c.args.p m.prefix) ∙ sym c.if-lt-3.ensures))
+pub first-requires : goal.first-requires
+first-requires g t c = (below_right _ _ _ _ _ (c.in-Branch.ensures.0 c.requires.0)).0

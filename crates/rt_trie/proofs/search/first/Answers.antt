@@ -1,23 +1,27 @@
-use Rattle.std.proofs.Common.{subst, ◌∙◌}
-use Rattle.rt_trie.proofs.LinkLemmas.{IsNode, of_fork, of_full, fork_filled, full_filled, first_left, none_of}
+use Rattle.std.proofs.Common.{sym, ap, ◌∙◌}
+use Rattle.std.specs.Option.{option_copied}
+use Rattle.rt_trie.specs.Map.{first}
+use Rattle.rt_trie.proofs.LinkLemmas.{first_own, first_left, none_of, below_left}
 use Rattle.rt_trie.proofs.search.first.Goals as goal
 
-pub loop-link-preserved-in-Fork : goal.loop-link-preserved-in-Fork
-loop-link-preserved-in-Fork g c =
-    let i = c.loop-link.invariant in
-    let m = c.as_ref-in-Fork.result.now in
-    let n = of_fork c.in-Fork.fork m c.loop-link.link.now c.in-Fork.is c.as_ref-in-Fork.ensures i.lawful.0 in
-    let f = fork_filled c.in-Fork.fork m c.loop-link.link.now c.in-Fork.is c.as_ref-in-Fork.ensures i.lawful.1 in
-    record { lawful = n.left_lawful; same = i.same ∙ first_left _ _ _ _ n f.0 }
+pub returns-in-Vacant : goal.returns-in-Vacant
+returns-in-Vacant g c = sym (c.loop-prefix.invariant.same ∙ ap first c.in-Vacant.ensures)
 
-pub loop-link-preserved : goal.loop-link-preserved
-loop-link-preserved g c =
-    let i = c.loop-link.invariant in
-    let m = c.as_ref-full.result.now in
-    let e = none_of m.value c.if-is_some.ensures in
-    let n = of_full c.in-Full.full m c.loop-link.link.now c.in-Full.is c.as_ref-full.ensures i.lawful.0 in
-    let f = full_filled c.in-Full.full m c.loop-link.link.now c.in-Full.is c.as_ref-full.ensures i.lawful.1 e in
-    record {
-      lawful = n.left_lawful;
-      same = i.same ∙ first_left _ _ _ _ (subst (λ o. IsNode c.loop-link.link.now m.prefix o m.left m.right) e n) f.0;
-    }
+pub returns-in-Single : goal.returns-in-Single
+returns-in-Single g c = sym (c.loop-prefix.invariant.same ∙ ap first c.in-Single.ensures)
+
+pub returns-then-is_some : goal.returns-then-is_some
+returns-then-is_some g c =
+    let i = c.loop-prefix.invariant in
+    sym (i.same ∙ first_own _ _ c.in-Branch.value _ _ (c.in-Branch.ensures.0 i.lawful.0) c.if-is_some.ensures)
+
+pub loop-prefix-smaller : goal.loop-prefix-smaller
+loop-prefix-smaller g c = (below_left _ _ _ _ _ (c.in-Branch.ensures.0 c.loop-prefix.invariant.lawful.0)).1
+
+pub loop-prefix-preserved : goal.loop-prefix-preserved
+loop-prefix-preserved g c =
+    let i = c.loop-prefix.invariant in
+    let b = c.in-Branch in
+    let n = b.ensures.0 i.lawful.0 in
+    let e = ap option_copied (none_of b.value c.if-is_some.ensures) in
+    record { lawful = n.left_lawful; same = i.same ∙ first_left _ _ _ _ _ n e (b.ensures.1 i.lawful.1 e).0 }
