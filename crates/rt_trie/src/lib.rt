@@ -19,17 +19,15 @@
 //! and that what an insertion made is given back where it is refused a later box.
 #![tactic(auto)]
 
-#[cfg(test)]
-mod checks;
 mod insertion;
 pub mod laws;
 mod lending;
-#[cfg(test)]
-mod memory_checks;
 mod nodes;
 mod removal;
 mod search;
 mod sifting;
+#[cfg(test)]
+mod tests;
 mod tries;
 mod walks;
 

@@ -1,6 +1,7 @@
 //! How often each call of a trie asks for memory, which for all but a new prefix is never, and how much is in use once prefixes
 //! have gone.
 
+use super::{STORED, prefix};
 use crate::Trie;
 use counted_memory::Counted;
 use linked_list_allocator::LocalHeap;
@@ -9,25 +10,12 @@ use std::alloc::{Allocator, Global};
 use std::process::Abort;
 use std::test::Fail;
 
-static STORED: [&str; 6] = [
-    "0.0.0.0/0",
-    "10.0.0.0/8",
-    "10.1.0.0/16",
-    "10.1.2.0/24",
-    "10.2.0.0/16",
-    "192.0.2.0/24",
-];
-
 static ABSENT: [&str; 4] = [
     "0.0.0.0/1",
     "10.0.0.0/14",
     "10.1.2.3/32",
     "255.255.255.255/32",
 ];
-
-fn prefix(rt: &impl Abort, text: &str) -> Prefix {
-    Prefix::parse(text.as_bytes()).expect(rt, "a prefix")
-}
 
 // Puts in each prefix that is not stored, with the value 1.
 fn fill<A: Allocator + Copy>(rt: &impl Abort, trie: &mut Trie<u32, A>) {
