@@ -3,7 +3,7 @@
 //! The value comes in a slot, and what stood in its place is left there. So the way down carries a `bool` alone, each call
 //! of it is its function's last act, and what it may change at its end stands in functions of their own: it becomes a loop.
 
-ghost use Rattle.std.specs.Prelude.{◌≡◌, ◌≢◌, ℕ, ◌+◌, ◌/◌, ◌<◌, ◌≤◌, ◌^◌, ◌⊎◌, false, true, None, Some, IsSome, IfSome, IfNone};
+ghost use Rattle.std.specs.Prelude.{◌≡◌, ◌≢◌, ◌+◌, ◌/◌, ◌<◌, ◌≤◌, ◌^◌, ◌⊎◌, false, true, None, Some, IsSome, IfSome, IfNone};
 ghost use Rattle.rt_trie.specs.declared.nodes.Link.TheVariants.{Empty};
 ghost use Rattle.rt_trie.specs.declared.nodes.Place.TheVariants.{Above, Apart};
 ghost use Rattle.rt_trie.specs.Blocks.{middle, IsChild, StandsAt, PartsAt};
@@ -15,56 +15,63 @@ use rt_cidr::Prefix;
 use std::alloc::Allocator;
 use std::mem;
 
-/// Puts the value at p below the link, and leaves what stood there in its slot. Where memory is refused the answer is
-/// `false`, and nothing has changed.
+/// A pair to put in: its prefix, and its value in a slot, in which what stood at the prefix is left. With it go the memory
+/// for nodes, and how many nodes the trie has.
+#[derive(Drop)]
+pub(crate) struct NewPair<V, A: Allocator> {
+    pub prefix: Prefix,
+    pub value: Option<V>,
+    pub alloc: A,
+    pub nodes: usize,
+}
+
+/// Puts the pair in below the link. Where memory is refused the answer is `false`, and nothing has changed.
 pub(crate) fn insert<V: Drop, A: Allocator + Copy>(
     link: &mut Link<V, A>,
-    nodes: &mut usize,
-    alloc: A,
-    p: Prefix,
-    value: &mut Option<V>,
+    pair: &mut NewPair<V, A>,
 ) -> bool
     requires lawful { IsLawfulTrie link.old }
-    requires room { nodes.old + 2 < 2 ^ 64 }
-    requires given { IsSome value.old }
-    ensures { Inserts link.old link.new nodes.old nodes.new p value.old value.new result }
+    requires room { pair.old.nodes + 2 < 2 ^ 64 }
+    requires given { IsSome pair.old.value }
+    ensures { Inserts link.old link.new pair.old.nodes pair.new.nodes pair.old.prefix pair.old.value pair.new.value result }
 {
+    let p = pair.prefix;
     match link {
-        Link::Empty => plant(link, nodes, alloc, p, value),
+        Link::Empty => plant(link, pair),
         Link::Leaf(len, base, leaf) => {
             let base = *base;
             let q = leaf.prefix;
             match place_of(*len, base, &p) {
                 Place::Here => {
-                    exchange(&mut leaf.value, value);
+                    exchange(&mut leaf.value, &mut pair.value);
                     true
                 }
-                Place::Left | Place::Right => grow(link, nodes, alloc, p, q, value),
-                Place::Above => cover(link, nodes, alloc, p, base, value),
-                Place::Apart => part(link, nodes, alloc, p, base, value),
+                Place::Left | Place::Right => grow(link, pair, q),
+                Place::Above => cover(link, pair, base),
+                Place::Apart => part(link, pair, base),
             }
         }
         Link::Fork(len, base, fork) => {
             let base = *base;
             match place_of(*len, base, &p) {
-                Place::Here => fill(link, alloc, p, value),
-                Place::Left => insert(&mut fork.left, nodes, alloc, p, value),
-                Place::Right => insert(&mut fork.right, nodes, alloc, p, value),
-                Place::Above => cover(link, nodes, alloc, p, base, value),
-                Place::Apart => part(link, nodes, alloc, p, base, value),
+                Place::Here => fill(link, pair),
+                Place::Left => insert(&mut fork.left, pair),
+                Place::Right => insert(&mut fork.right, pair),
+                Place::Above => cover(link, pair, base),
+                Place::Apart => part(link, pair, base),
             }
         }
         Link::Full(len, base, full) => {
             let base = *base;
             match place_of(*len, base, &p) {
                 Place::Here => {
-                    mem::swap(&mut full.value, value);
+                    mem::swap(&mut full.value, &mut pair.value);
                     true
                 }
-                Place::Left => insert(&mut full.left, nodes, alloc, p, value),
-                Place::Right => insert(&mut full.right, nodes, alloc, p, value),
-                Place::Above => cover(link, nodes, alloc, p, base, value),
-                Place::Apart => part(link, nodes, alloc, p, base, value),
+                Place::Left => insert(&mut full.left, pair),
+                Place::Right => insert(&mut full.right, pair),
+                Place::Above => cover(link, pair, base),
+                Place::Apart => part(link, pair, base),
             }
         }
     }
@@ -85,23 +92,18 @@ fn exchange<V: Drop>(stored: &mut V, value: &mut Option<V>)
 
 // A leaf where nothing was.
 #[inline(never)]
-fn plant<V: Drop, A: Allocator + Copy>(
-    link: &mut Link<V, A>,
-    nodes: &mut usize,
-    alloc: A,
-    p: Prefix,
-    value: &mut Option<V>,
-) -> bool
+fn plant<V: Drop, A: Allocator + Copy>(link: &mut Link<V, A>, pair: &mut NewPair<V, A>) -> bool
     requires empty { link.old ≡ Empty }
-    requires room { nodes.old + 2 < 2 ^ 64 }
-    requires given { IsSome value.old }
-    ensures { Inserts link.old link.new nodes.old nodes.new p value.old value.new result }
+    requires room { pair.old.nodes + 2 < 2 ^ 64 }
+    requires given { IsSome pair.old.value }
+    ensures { Inserts link.old link.new pair.old.nodes pair.new.nodes pair.old.prefix pair.old.value pair.new.value result }
 {
-    let Some(leaf) = leaf_of(alloc, p, value) else {
+    let p = pair.prefix;
+    let Some(leaf) = leaf_of(pair.alloc, p, &mut pair.value) else {
         return false;
     };
     *link = Link::of_leaf(leaf);
-    *nodes += 1;
+    pair.nodes += 1;
     true
 }
 
@@ -170,25 +172,23 @@ fn on_side<V, A: Allocator>(
 #[inline(never)]
 fn grow<V: Drop, A: Allocator + Copy>(
     link: &mut Link<V, A>,
-    nodes: &mut usize,
-    alloc: A,
-    p: Prefix,
+    pair: &mut NewPair<V, A>,
     q: Prefix,
-    value: &mut Option<V>,
 ) -> bool
     requires leaf { IsLeafOf q link.old }
-    requires below { IsChild q false p ⊎ IsChild q true p }
-    requires room { nodes.old + 2 < 2 ^ 64 }
-    requires given { IsSome value.old }
-    ensures { Inserts link.old link.new nodes.old nodes.new p value.old value.new result }
+    requires below { IsChild q false pair.old.prefix ⊎ IsChild q true pair.old.prefix }
+    requires room { pair.old.nodes + 2 < 2 ^ 64 }
+    requires given { IsSome pair.old.value }
+    ensures { Inserts link.old link.new pair.old.nodes pair.new.nodes pair.old.prefix pair.old.value pair.new.value result }
 {
-    let Some(mut full) = bare(alloc, q) else {
+    let p = pair.prefix;
+    let Some(mut full) = bare(pair.alloc, q) else {
         return false;
     };
     let Link::Leaf(_, _, mut leaf) = mem::replace(link, Link::Empty) else {
         unreachable!()
     };
-    let Some(given) = value.take() else {
+    let Some(given) = pair.value.take() else {
         unreachable!()
     };
     let LeafNode {
@@ -209,24 +209,20 @@ fn grow<V: Drop, A: Allocator + Copy>(
         right,
     };
     *link = Link::of_full(full);
-    *nodes += 1;
+    pair.nodes += 1;
     true
 }
 
 // The fork at p becomes a full node, as its prefix is stored now.
 #[inline(never)]
-fn fill<V: Drop, A: Allocator + Copy>(
-    link: &mut Link<V, A>,
-    alloc: A,
-    p: Prefix,
-    value: &mut Option<V>,
-) -> bool
+fn fill<V: Drop, A: Allocator + Copy>(link: &mut Link<V, A>, pair: &mut NewPair<V, A>) -> bool
     requires lawful { IsLawfulTrie link.old }
-    requires fork { IsForkOf p link.old }
-    requires given { IsSome value.old }
-    ensures { (n : ℕ) → Inserts link.old link.new n n p value.old value.new result }
+    requires fork { IsForkOf pair.old.prefix link.old }
+    requires given { IsSome pair.old.value }
+    ensures { Inserts link.old link.new pair.old.nodes pair.new.nodes pair.old.prefix pair.old.value pair.new.value result }
 {
-    let Some(mut full) = bare(alloc, p) else {
+    let p = pair.prefix;
+    let Some(mut full) = bare(pair.alloc, p) else {
         return false;
     };
     let Link::Fork(_, _, fork) = mem::replace(link, Link::Empty) else {
@@ -239,7 +235,7 @@ fn fill<V: Drop, A: Allocator + Copy>(
     } = Box::into_inner(fork);
     *full = FullNode {
         prefix: p,
-        value: value.take(),
+        value: pair.value.take(),
         left,
         right,
     };
@@ -251,30 +247,28 @@ fn fill<V: Drop, A: Allocator + Copy>(
 #[inline(never)]
 fn cover<V: Drop, A: Allocator + Copy>(
     link: &mut Link<V, A>,
-    nodes: &mut usize,
-    alloc: A,
-    p: Prefix,
+    pair: &mut NewPair<V, A>,
     base: u32,
-    value: &mut Option<V>,
 ) -> bool
     requires lawful { IsLawfulTrie link.old }
-    requires seen { IsSeenFrom link.old base p Above }
-    requires room { nodes.old + 2 < 2 ^ 64 }
-    requires given { IsSome value.old }
-    ensures { Inserts link.old link.new nodes.old nodes.new p value.old value.new result }
+    requires seen { IsSeenFrom link.old base pair.old.prefix Above }
+    requires room { pair.old.nodes + 2 < 2 ^ 64 }
+    requires given { IsSome pair.old.value }
+    ensures { Inserts link.old link.new pair.old.nodes pair.new.nodes pair.old.prefix pair.old.value pair.new.value result }
 {
-    let Some(mut full) = bare(alloc, p) else {
+    let p = pair.prefix;
+    let Some(mut full) = bare(pair.alloc, p) else {
         return false;
     };
     let (left, right) = on_side(&p, base, mem::replace(link, Link::Empty));
     *full = FullNode {
         prefix: p,
-        value: value.take(),
+        value: pair.value.take(),
         left,
         right,
     };
     *link = Link::of_full(full);
-    *nodes += 1;
+    pair.nodes += 1;
     true
 }
 
@@ -282,28 +276,26 @@ fn cover<V: Drop, A: Allocator + Copy>(
 #[inline(never)]
 fn part<V: Drop, A: Allocator + Copy>(
     link: &mut Link<V, A>,
-    nodes: &mut usize,
-    alloc: A,
-    p: Prefix,
+    pair: &mut NewPair<V, A>,
     base: u32,
-    value: &mut Option<V>,
 ) -> bool
     requires lawful { IsLawfulTrie link.old }
-    requires seen { IsSeenFrom link.old base p Apart }
-    requires room { nodes.old + 2 < 2 ^ 64 }
-    requires given { IsSome value.old }
-    ensures { Inserts link.old link.new nodes.old nodes.new p value.old value.new result }
+    requires seen { IsSeenFrom link.old base pair.old.prefix Apart }
+    requires room { pair.old.nodes + 2 < 2 ^ 64 }
+    requires given { IsSome pair.old.value }
+    ensures { Inserts link.old link.new pair.old.nodes pair.new.nodes pair.old.prefix pair.old.value pair.new.value result }
 {
+    let p = pair.prefix;
     let prefix = common(&p, base);
     let node = ForkNode {
         prefix,
         left: Link::Empty,
         right: Link::Empty,
     };
-    let Some(mut fork) = Box::new(alloc, node).ok() else {
+    let Some(mut fork) = Box::new(pair.alloc, node).ok() else {
         return false;
     };
-    let Some(new) = leaf_of(alloc, p, value) else {
+    let Some(new) = leaf_of(pair.alloc, p, &mut pair.value) else {
         return false;
     };
     let new = Link::of_leaf(new);
@@ -319,7 +311,7 @@ fn part<V: Drop, A: Allocator + Copy>(
         right,
     };
     *link = Link::of_fork(fork);
-    *nodes += 2;
+    pair.nodes += 2;
     true
 }
 

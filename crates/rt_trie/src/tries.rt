@@ -8,6 +8,7 @@ ghost use Rattle.rt_trie.specs.Nodes.{CountsNodes};
 ghost use Rattle.rt_trie.specs.Lawful.{IsLawful};
 ghost use Rattle.rt_trie.specs.Sifted.{IsSifted};
 
+use crate::insertion::NewPair;
 use crate::lending::{Descent, WayDown};
 use crate::nodes::Link;
 use crate::sifting::{self, Sieve};
@@ -107,14 +108,22 @@ impl<V: Drop, A: Allocator + Copy> Trie<V, A> {
         ensures refused { IfErr result (λ back. (back ≡ v) × (self.new ≡ self.old)) }
         ensures stored_succeeds { IsSome (get self.old.pairs p) → IsOk result }
     {
-        let mut slot = Some(v);
-        if insertion::insert(&mut self.root, &mut self.nodes, self.alloc, p, &mut slot) {
-            if slot.is_none() {
+        let mut pair = NewPair {
+            prefix: p,
+            value: Some(v),
+            alloc: self.alloc,
+            nodes: self.nodes,
+        };
+        if insertion::insert(&mut self.root, &mut pair) {
+            self.nodes = pair.nodes;
+            if pair.value.is_none() {
                 self.len += 1;
             }
-            return Ok(slot);
+            return Ok(pair.value);
         }
-        let Some(back) = slot else { unreachable!() };
+        let Some(back) = pair.value else {
+            unreachable!()
+        };
         Err(back)
     }
 

@@ -12,56 +12,56 @@ pub returns-in-Left-place_of : goal.returns-in-Left-place_of
 returns-in-Left-place_of g t c =
     let d = c.deref_mut-in-Left-place_of in
     let m = d.result.now in
-    let p = c.args.p in
+    let p = c.args.pair.now.prefix in
     let key = key_of_fork c.in-Fork.fork m c.args.link.now c.in-Fork.is d.ensures.value c.requires.lawful.0 in
     let place = c.in-Left-place_of.ensures m.prefix key in
-    insert_left c.args.link.now m.prefix _ m.left m.right c.insert.new.link _ c.args.nodes.now _ p c.args.value.now _ c.insert.result
+    insert_left c.args.link.now m.prefix _ m.left m.right c.insert.new.link _ c.args.pair.now.nodes _ p c.args.pair.now.value _ c.insert.result
     (view_fork c.in-Fork.fork m c.args.link.now c.in-Fork.is d.ensures.value c.requires.lawful.0) c.requires.lawful place c.insert.ensures
 
 pub returns-in-Right : goal.returns-in-Right
 returns-in-Right g t c =
     let d = c.deref_mut-in-Right in
     let m = d.result.now in
-    let p = c.args.p in
+    let p = c.args.pair.now.prefix in
     let key = key_of_fork c.in-Fork.fork m c.args.link.now c.in-Fork.is d.ensures.value c.requires.lawful.0 in
     let place = c.in-Right.ensures m.prefix key in
-    insert_right c.args.link.now m.prefix _ m.left m.right c.insert-in-Right.new.link _ c.args.nodes.now _ p c.args.value.now _ c.insert-in-Right.result
+    insert_right c.args.link.now m.prefix _ m.left m.right c.insert-in-Right.new.link _ c.args.pair.now.nodes _ p c.args.pair.now.value _ c.insert-in-Right.result
     (view_fork c.in-Fork.fork m c.args.link.now c.in-Fork.is d.ensures.value c.requires.lawful.0) c.requires.lawful place c.insert-in-Right.ensures
 
 pub returns-in-Left-place_of-2 : goal.returns-in-Left-place_of-2
 returns-in-Left-place_of-2 g t c =
     let d = c.deref_mut-in-Left-place_of-2 in
     let m = d.result.now in
-    let p = c.args.p in
+    let p = c.args.pair.now.prefix in
     let k = c.insert-in-Left-place_of-2 in
     let key = key_of_full c.in-Full.full m c.args.link.now c.in-Full.is d.ensures.value c.requires.lawful.0 in
     let place = c.in-Left-place_of-2.ensures m.prefix key in
-    insert_left c.args.link.now m.prefix _ m.left m.right k.new.link _ c.args.nodes.now _ p c.args.value.now _ k.result
+    insert_left c.args.link.now m.prefix _ m.left m.right k.new.link _ c.args.pair.now.nodes _ p c.args.pair.now.value _ k.result
     (view_full c.in-Full.full m c.args.link.now c.in-Full.is d.ensures.value c.requires.lawful.0) c.requires.lawful place k.ensures
 
 pub returns-in-Right-place_of : goal.returns-in-Right-place_of
 returns-in-Right-place_of g t c =
     let d = c.deref_mut-in-Right-place_of in
     let m = d.result.now in
-    let p = c.args.p in
+    let p = c.args.pair.now.prefix in
     let k = c.insert-in-Right-place_of in
     let key = key_of_full c.in-Full.full m c.args.link.now c.in-Full.is d.ensures.value c.requires.lawful.0 in
     let place = c.in-Right-place_of.ensures m.prefix key in
-    insert_right c.args.link.now m.prefix _ m.left m.right k.new.link _ c.args.nodes.now _ p c.args.value.now _ k.result
+    insert_right c.args.link.now m.prefix _ m.left m.right k.new.link _ c.args.pair.now.nodes _ p c.args.pair.now.value _ k.result
     (view_full c.in-Full.full m c.args.link.now c.in-Full.is d.ensures.value c.requires.lawful.0) c.requires.lawful place k.ensures
 
 pub returns-in-Here-place_of : goal.returns-in-Here-place_of
 returns-in-Here-place_of g t c =
-    let n = c.args.nodes.now in
-    subst (λ l. Inserts l c.fill.new.link n n c.args.p c.args.value.now c.fill.new.value c.fill.result) (sym c.in-Fork.is) (c.fill.ensures n)
+    let k = c.fill in
+    subst (λ l. Inserts l k.new.link c.args.pair.now.nodes k.new.pair.nodes c.args.pair.now.prefix c.args.pair.now.value k.new.pair.value k.result) (sym c.in-Fork.is) k.ensures
 
 pub returns-in-Here-place_of-2 : goal.returns-in-Here-place_of-2
 returns-in-Here-place_of-2 g t c =
     let d = c.deref_mut-in-Here-place_of-2 in
     let m = d.result.now in
-    let p = c.args.p in
+    let p = c.args.pair.now.prefix in
     let place = c.in-Here-place_of-2.ensures m.prefix (key_of_full c.in-Full.full m c.args.link.now c.in-Full.is d.ensures.value c.requires.lawful.0) in
-    insert_here c.in-Full.full m c.args.link.now c.args.nodes.now p c.args.value.now c.swap.new.x c.swap.new.y c.in-Full.is d.ensures.value
+    insert_here c.in-Full.full m c.args.link.now c.args.pair.now.nodes p c.args.pair.now.value c.swap.new.x c.swap.new.y c.in-Full.is d.ensures.value
     c.requires.lawful place c.swap.ensures.x_after c.swap.ensures.y_after
 
 pub returns-in-Here : goal.returns-in-Here
@@ -69,23 +69,23 @@ returns-in-Here g t c =
     let d = c.deref_mut in
     let m = d.result.now in
     let place = c.in-Here.ensures m.prefix (key_of_leaf c.in-Leaf.leaf m c.args.link.now c.in-Leaf.is d.ensures.value c.requires.lawful.0) in
-    insert_leaf c.in-Leaf.leaf m c.args.link.now c.args.nodes.now c.args.p c.args.value.now c.exchange.new.value c.exchange.new.stored
+    insert_leaf c.in-Leaf.leaf m c.args.link.now c.args.pair.now.nodes c.args.pair.now.prefix c.args.pair.now.value c.exchange.new.value c.exchange.new.stored
     c.in-Leaf.is d.ensures.value c.requires.lawful place c.exchange.ensures.stored c.exchange.ensures.had
 
 pub grow-requires-clause-below : goal.grow-requires-clause-below
 grow-requires-clause-below g t c =
     let m = c.deref.result.now in
-    let p = c.args.p in
+    let p = c.args.pair.now.prefix in
     let place = c.place_of.ensures m.prefix (key_of_leaf c.in-Leaf.leaf m c.args.link.now c.in-Leaf.is c.deref.ensures c.requires.lawful.0) in
     elim c.in-Left.is [ inl e ↦ inl (subst (StandsAt m.prefix p) e place) | inr e ↦ inr (subst (StandsAt m.prefix p) e place) ]
 
 pub cover-requires-clause-seen : goal.cover-requires-clause-seen
 cover-requires-clause-seen g t c =
-    seen_from_leaf c.in-Leaf.leaf c.args.link.now c.args.p Above c.in-Leaf.is c.requires.lawful.0 c.in-Above.ensures
+    seen_from_leaf c.in-Leaf.leaf c.args.link.now c.args.pair.now.prefix Above c.in-Leaf.is c.requires.lawful.0 c.in-Above.ensures
 
 pub part-requires-clause-seen : goal.part-requires-clause-seen
 part-requires-clause-seen g t c =
-    seen_from_leaf c.in-Leaf.leaf c.args.link.now c.args.p Apart c.in-Leaf.is c.requires.lawful.0 c.in-Apart.ensures
+    seen_from_leaf c.in-Leaf.leaf c.args.link.now c.args.pair.now.prefix Apart c.in-Leaf.is c.requires.lawful.0 c.in-Apart.ensures
 
 pub fill-requires-clause-fork : goal.fill-requires-clause-fork
 fill-requires-clause-fork g t c =
@@ -94,19 +94,19 @@ fill-requires-clause-fork g t c =
 
 pub cover-requires-in-Above-place_of-clause-seen : goal.cover-requires-in-Above-place_of-clause-seen
 cover-requires-in-Above-place_of-clause-seen g t c =
-    seen_from_fork c.in-Fork.fork c.args.link.now c.args.p Above c.in-Fork.is c.requires.lawful.0 c.in-Above-place_of.ensures
+    seen_from_fork c.in-Fork.fork c.args.link.now c.args.pair.now.prefix Above c.in-Fork.is c.requires.lawful.0 c.in-Above-place_of.ensures
 
 pub part-requires-in-Apart-place_of-clause-seen : goal.part-requires-in-Apart-place_of-clause-seen
 part-requires-in-Apart-place_of-clause-seen g t c =
-    seen_from_fork c.in-Fork.fork c.args.link.now c.args.p Apart c.in-Fork.is c.requires.lawful.0 c.in-Apart-place_of.ensures
+    seen_from_fork c.in-Fork.fork c.args.link.now c.args.pair.now.prefix Apart c.in-Fork.is c.requires.lawful.0 c.in-Apart-place_of.ensures
 
 pub cover-requires-in-Above-place_of-2-clause-seen : goal.cover-requires-in-Above-place_of-2-clause-seen
 cover-requires-in-Above-place_of-2-clause-seen g t c =
-    seen_from_full c.in-Full.full c.args.link.now c.args.p Above c.in-Full.is c.requires.lawful.0 c.in-Above-place_of-2.ensures
+    seen_from_full c.in-Full.full c.args.link.now c.args.pair.now.prefix Above c.in-Full.is c.requires.lawful.0 c.in-Above-place_of-2.ensures
 
 pub part-requires-in-Apart-place_of-2-clause-seen : goal.part-requires-in-Apart-place_of-2-clause-seen
 part-requires-in-Apart-place_of-2-clause-seen g t c =
-    seen_from_full c.in-Full.full c.args.link.now c.args.p Apart c.in-Full.is c.requires.lawful.0 c.in-Apart-place_of-2.ensures
+    seen_from_full c.in-Full.full c.args.link.now c.args.pair.now.prefix Apart c.in-Full.is c.requires.lawful.0 c.in-Apart-place_of-2.ensures
 
 pub plant-requires-clause-room : goal.plant-requires-clause-room
 plant-requires-clause-room g t c = c.requires.room
@@ -201,34 +201,34 @@ place_of-requires-in-Full g t c =
 pub returns-in-Left : goal.returns-in-Left
 returns-in-Left g t c =
     let k = c.grow in
-    subst (λ l. Inserts l k.new.link c.args.nodes.now k.new.nodes c.args.p c.args.value.now k.new.value k.result) (sym c.in-Leaf.is) k.ensures
+    subst (λ l. Inserts l k.new.link c.args.pair.now.nodes k.new.pair.nodes c.args.pair.now.prefix c.args.pair.now.value k.new.pair.value k.result) (sym c.in-Leaf.is) k.ensures
 
 pub returns-in-Above : goal.returns-in-Above
 returns-in-Above g t c =
     let k = c.cover in
-    subst (λ l. Inserts l k.new.link c.args.nodes.now k.new.nodes c.args.p c.args.value.now k.new.value k.result) (sym c.in-Leaf.is) k.ensures
+    subst (λ l. Inserts l k.new.link c.args.pair.now.nodes k.new.pair.nodes c.args.pair.now.prefix c.args.pair.now.value k.new.pair.value k.result) (sym c.in-Leaf.is) k.ensures
 
 pub returns-in-Apart : goal.returns-in-Apart
 returns-in-Apart g t c =
     let k = c.part in
-    subst (λ l. Inserts l k.new.link c.args.nodes.now k.new.nodes c.args.p c.args.value.now k.new.value k.result) (sym c.in-Leaf.is) k.ensures
+    subst (λ l. Inserts l k.new.link c.args.pair.now.nodes k.new.pair.nodes c.args.pair.now.prefix c.args.pair.now.value k.new.pair.value k.result) (sym c.in-Leaf.is) k.ensures
 
 pub returns-in-Above-place_of : goal.returns-in-Above-place_of
 returns-in-Above-place_of g t c =
     let k = c.cover-in-Above-place_of in
-    subst (λ l. Inserts l k.new.link c.args.nodes.now k.new.nodes c.args.p c.args.value.now k.new.value k.result) (sym c.in-Fork.is) k.ensures
+    subst (λ l. Inserts l k.new.link c.args.pair.now.nodes k.new.pair.nodes c.args.pair.now.prefix c.args.pair.now.value k.new.pair.value k.result) (sym c.in-Fork.is) k.ensures
 
 pub returns-in-Apart-place_of : goal.returns-in-Apart-place_of
 returns-in-Apart-place_of g t c =
     let k = c.part-in-Apart-place_of in
-    subst (λ l. Inserts l k.new.link c.args.nodes.now k.new.nodes c.args.p c.args.value.now k.new.value k.result) (sym c.in-Fork.is) k.ensures
+    subst (λ l. Inserts l k.new.link c.args.pair.now.nodes k.new.pair.nodes c.args.pair.now.prefix c.args.pair.now.value k.new.pair.value k.result) (sym c.in-Fork.is) k.ensures
 
 pub returns-in-Above-place_of-2 : goal.returns-in-Above-place_of-2
 returns-in-Above-place_of-2 g t c =
     let k = c.cover-in-Above-place_of-2 in
-    subst (λ l. Inserts l k.new.link c.args.nodes.now k.new.nodes c.args.p c.args.value.now k.new.value k.result) (sym c.in-Full.is) k.ensures
+    subst (λ l. Inserts l k.new.link c.args.pair.now.nodes k.new.pair.nodes c.args.pair.now.prefix c.args.pair.now.value k.new.pair.value k.result) (sym c.in-Full.is) k.ensures
 
 pub returns-in-Apart-place_of-2 : goal.returns-in-Apart-place_of-2
 returns-in-Apart-place_of-2 g t c =
     let k = c.part-in-Apart-place_of-2 in
-    subst (λ l. Inserts l k.new.link c.args.nodes.now k.new.nodes c.args.p c.args.value.now k.new.value k.result) (sym c.in-Full.is) k.ensures
+    subst (λ l. Inserts l k.new.link c.args.pair.now.nodes k.new.pair.nodes c.args.pair.now.prefix c.args.pair.now.value k.new.pair.value k.result) (sym c.in-Full.is) k.ensures
