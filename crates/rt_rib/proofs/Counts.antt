@@ -9,6 +9,7 @@ use Rattle.std.proofs.lemmas.List.{get_or_default, get_or-replicate, length-repl
 use Rattle.std.specs.List.{All, Contains, filter, count_by}
 use Rattle.rt_cidr.specs.declared.prefixes.Prefix.{Prefix}
 use Rattle.rt_rib.specs.declared.routes.Route.{Route}
+use Rattle.rt_rib.specs.declared.limits.TheConstants.{MOST_FEEDS}
 use Rattle.rt_rib.specs.Table.{count_of, precedes, is_of, has, put_in, take_out, purge, IsTable}
 use Rattle.rt_rib.specs.Book.{IsFeed}
 use Rattle.rt_rib.specs.Kept.{AreCounts}
@@ -138,7 +139,7 @@ AreCounts-own limit counts t feed h is =
     let at : feed - 1 + 1 ≡ feed = omega arith in
     h.each (feed - 1) (omega arith) ∙ ap (λ f. count_of f t) at
 
-module _ (limit : ℕ) (counts : List ℕ) (t u : List Route) (own : ℕ) (inside : own < 64) (many : length counts ≡ 64) where
+module _ (limit : ℕ) (counts : List ℕ) (t u : List Route) (own : ℕ) (inside : own < MOST_FEEDS) (many : length counts ≡ MOST_FEEDS) where
   -- the feed's count raised by one, where it has one route more
   pub AreCounts-more : AreCounts limit counts t → HasMore (own + 1) t u → get_or counts own 0 < limit → AreCounts limit (set counts own (get_or counts own 0 + 1)) u
   AreCounts-more h more room = record {
@@ -236,7 +237,7 @@ AreCounts-same limit counts t u h each all = record {
 }
 
 -- there are at most so many routes as the feeds' limits allow together
-pub AreCounts-length : (limit : ℕ) (counts : List ℕ) (t : List Route) → AreCounts limit counts t → length t ≤ 64 * limit
+pub AreCounts-length : (limit : ℕ) (counts : List ℕ) (t : List Route) → AreCounts limit counts t → length t ≤ MOST_FEEDS * limit
 AreCounts-length limit counts t h =
     let many = h.many in
     let low : All (λ x. x ≤ limit) counts = λ k d l. let same = get_or_default counts k d 0 l in let within = h.within k (omega arith) in omega arith in
@@ -250,10 +251,10 @@ zero_at : (n i limit : ℕ) → i < n → get_or (replicate n 0) i 0 ≤ limit
 zero_at n i limit l = rw (get_or-replicate {A = ℕ} n i 0 0 l) (omega arith)
 
 -- no routes, and so none of any feed
-pub AreCounts-nil : (limit : ℕ) → AreCounts limit (replicate 64 0) []
+pub AreCounts-nil : (limit : ℕ) → AreCounts limit (replicate MOST_FEEDS 0) []
 AreCounts-nil limit = record {
-  many = length-replicate {A = ℕ} 64 0;
-  each = λ i l. get_or-replicate 64 i 0 0 l;
-  within = λ i l. zero_at 64 i limit l;
+  many = length-replicate {A = ℕ} MOST_FEEDS 0;
+  each = λ i l. get_or-replicate MOST_FEEDS i 0 0 l;
+  within = λ i l. zero_at MOST_FEEDS i limit l;
   all = refl;
 }

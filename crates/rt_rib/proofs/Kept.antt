@@ -6,6 +6,7 @@ use Rattle.rt_cidr.specs.declared.prefixes.Prefix.{Prefix}
 use Rattle.rt_rib.specs.declared.routes.Route.{Route}
 use Rattle.rt_rib.specs.declared.commands.Cmd.TheVariants.{Add, Purge}
 use Rattle.rt_rib.specs.declared.commands.Reply.TheVariants.{Added, Purged}
+use Rattle.rt_rib.specs.declared.limits.TheConstants.{MOST_FEEDS}
 use Rattle.rt_rib.specs.Table.{has, put_in, take_out, purge, IsTable}
 use Rattle.rt_rib.specs.Maps.{Map, routes_of, IsMap}
 use Rattle.rt_rib.specs.Book.{IsFeed, HoldsRoutesLeft}
@@ -21,10 +22,10 @@ use Rattle.rt_rib.proofs.Counts.{HasMore, HasMore-put_in, HasMore-take_out, HasM
 use Rattle.rt_rib.proofs.Steps.{held, added, purged}
 
 -- the feed's place among the counts
-own_place : (feed : ℕ) → IsFeed feed → (feed - 1 < 64) × (feed ≡ feed - 1 + 1)
+own_place : (feed : ℕ) → IsFeed feed → (feed - 1 < MOST_FEEDS) × (feed ≡ feed - 1 + 1)
 own_place feed is = let low = is.0 in let high = is.1 in (omega arith, omega arith)
 
-module _ (limit : ℕ) (counts : List ℕ) (m : Map) (h : IsCounted limit counts m) (many : length counts ≡ 64) where
+module _ (limit : ℕ) (counts : List ℕ) (m : Map) (h : IsCounted limit counts m) (many : length counts ≡ MOST_FEEDS) where
   module _ (r : Route) (feed : IsFeed r.feed) (fresh : has r.feed r.prefix (routes_of m) ≡ false) (room : get_or counts (r.feed - 1) 0 < limit) (n : Map) (map : IsMap n) (is : routes_of n ≡ put_in r (routes_of m)) where
     -- with the route it is a table, and the raised count is right
     pub added_counted : IsCounted limit (set counts (r.feed - 1) (get_or counts (r.feed - 1) 0 + 1)) n

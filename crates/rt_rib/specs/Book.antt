@@ -8,6 +8,7 @@ use Rattle.rt_rib.specs.declared.commands.Cmd.{Cmd}
 use Rattle.rt_rib.specs.declared.commands.Cmd.TheVariants.{Add}
 use Rattle.rt_rib.specs.declared.commands.Reply.{Reply}
 use Rattle.rt_rib.specs.declared.commands.Entry.{Entry}
+use Rattle.rt_rib.specs.declared.limits.TheConstants.{MOST_FEEDS, MOST_ROUTES}
 use Rattle.rt_rib.specs.Sequential.{reply_of}
 use Rattle.rt_rib.specs.Journal.{table_left}
 use Rattle.rt_rib.specs.Table.{IsTable}
@@ -15,11 +16,11 @@ use Rattle.rt_rib.specs.Maps.{routes_of, IsMap}
 
 -- a feed may have so many routes
 abbrev pub IsLimit : ℕ → Type 0
-IsLimit limit = (1 ≤ limit) × (limit ≤ 1000000)
+IsLimit limit = (1 ≤ limit) × (limit ≤ MOST_ROUTES)
 
 -- a feed may have this number
 abbrev pub IsFeed : ℕ → Type 0
-IsFeed feed = (1 ≤ feed) × (feed ≤ 64)
+IsFeed feed = (1 ≤ feed) × (feed ≤ MOST_FEEDS)
 
 -- what a trie of offers shows: each prefix with its offers, and the nodes
 abbrev pub OfferTrie : Type 0

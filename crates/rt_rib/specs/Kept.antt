@@ -6,6 +6,7 @@ use Rattle.rt_rib.specs.declared.commands.Cmd.{Cmd}
 use Rattle.rt_rib.specs.declared.commands.Reply.{Reply}
 use Rattle.rt_rib.specs.declared.commands.Entry.{Entry}
 use Rattle.rt_trie.specs.Lawful.{IsLawful}
+use Rattle.rt_rib.specs.declared.limits.TheConstants.{MOST_FEEDS}
 use Rattle.rt_rib.specs.Table.{count_of, IsTable}
 use Rattle.rt_rib.specs.Maps.{Map, routes_of, IsMap}
 use Rattle.rt_rib.specs.Sequential.{reply_of, table_after}
@@ -40,9 +41,9 @@ pub record Serves (old new : Held) (feed : ℕ) (cmd : Cmd) (reply : Reply) : Ty
 
 -- for each feed, how many of the routes are its own: no more than the limit, and there are no others
 pub record AreCounts (limit : ℕ) (counts : List ℕ) (routes : List Route) : Type 0 where
-  pub many : length counts ≡ 64
-  pub each : (i : ℕ) → i < 64 → slice_index counts i ≡ count_of (i + 1) routes
-  pub within : (i : ℕ) → i < 64 → slice_index counts i ≤ limit
+  pub many : length counts ≡ MOST_FEEDS
+  pub each : (i : ℕ) → i < MOST_FEEDS → slice_index counts i ≡ count_of (i + 1) routes
+  pub within : (i : ℕ) → i < MOST_FEEDS → slice_index counts i ≤ limit
   pub all : sum counts ≡ length routes
 
 -- the map is one, its routes are a table, and the counts are theirs

@@ -2,7 +2,7 @@
 //! before the first of them is answered, so that what each has to wait for comes while the others wait too.
 
 use crate::commands::Cmd;
-use crate::limits::FEEDS;
+use crate::limits::MOST_FEEDS;
 use crate::map::Map;
 use crate::offers::Offers;
 use rt_cidr::{Addr, Prefix};
@@ -29,13 +29,17 @@ pub(crate) fn read_ahead<A: Allocator + Copy>(map: &Map<A>, cmds: &[Cmd]) {
     reach(&met[..count]);
 }
 
-/// Reads the first of the offers of each prefix, where a list of them lies apart. None is of a feed over 64, but the compiler
-/// doesn't know that, nor when the loop would end without it: so it can't leave the reads out.
+/// Reads the first of the offers of each prefix, where a list of them lies apart. None is of a feed over `MOST_FEEDS`, but the
+/// compiler doesn't know that, nor when the loop would end without it: so it can't leave the reads out.
 fn reach<A: Allocator + Copy>(met: &[Option<(Prefix, &Offers<A>)>]) {
     let mut left = met.len();
     while left > 0 {
         let feed = first_feed(met[left - 1]);
-        left = if feed > FEEDS { left / 2 } else { left - 1 };
+        left = if feed > MOST_FEEDS {
+            left / 2
+        } else {
+            left - 1
+        };
     }
 }
 

@@ -41,6 +41,6 @@ mod tests;
 pub use ahead::AHEAD;
 pub use book::Book;
 pub use commands::{Cmd, Entry, Reply};
-pub use limits::{feed_ok, limit_ok};
+pub use limits::{MOST_FEEDS, MOST_ROUTES, feed_ok, limit_ok};
 pub use refused::Refused;
 pub use routes::{Hop, Route, keep_best};

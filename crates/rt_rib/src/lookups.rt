@@ -59,7 +59,7 @@ fn best_of_few<A: Allocator + Copy>(
     size: usize,
 )
     requires map { IsMap trie.now.pairs }
-    requires few { size ≤ 8 }
+    requires few { size ≤ AHEAD }
     requires within { start + size ≤ length addresses.now }
     requires size { length answers.old ≡ length addresses.now }
     ensures each { (j : ℕ) → j < size

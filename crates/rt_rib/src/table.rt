@@ -7,7 +7,7 @@ ghost use Rattle.rt_rib.specs.Book.{IsLimit, IsFeed, IsAdd};
 ghost use Rattle.rt_rib.specs.Kept.{held_of, IsStored, Serves};
 
 use crate::commands::{Cmd, Reply};
-use crate::limits::FEEDS;
+use crate::limits::MOST_FEEDS;
 use crate::map::{self, Map};
 use crate::refused::Refused;
 use crate::routes::Route;
@@ -23,7 +23,7 @@ use std::marker::Model;
 pub(crate) struct Table<A: Allocator + Copy> {
     limit: u32,
     /// How many routes each feed has, that of feed 1 first.
-    counts: [u32; FEEDS],
+    counts: [u32; MOST_FEEDS],
     /// The routes, as what is offered for each prefix.
     map: Map<A>,
     alloc: A,
@@ -50,7 +50,7 @@ impl<A: Allocator + Copy> Table<A> {
         requires { IsLimit limit }
         ensures { held_of result ≡ record { limit = limit; routes = [] } }
     {
-        let counts = [0; FEEDS];
+        let counts = [0; MOST_FEEDS];
         Table {
             limit,
             counts,
