@@ -1,6 +1,6 @@
 -- How a list of offers in order changes as one is put in or taken out.
 use Rattle.std.proofs.Common.{◌≡◌, ℕ, zero, suc, ◌+◌, ◌<◌, ◌≤◌, Bool, true, false, not, ltb, ◌⊎◌, ◌↔◌, inl, inr, List, [], ◌∷◌, length, get_or, Some, None, refl, ap, ◌∙◌, sym, subst, arith}
-use Rattle.std.proofs.lemmas.Bool.{both_ways, cond-true, cond-false, not-true, not_from_true, not_from_false, false_from_ne_true, lt-ltb, ltb-true, ltb-false, eqb-true, eq-eqb, cases_lt}
+use Rattle.std.proofs.lemmas.Bool.{both_ways, cond-true, cond-false, not-true, not_from_true, not_from_false, false_from_ne_true, lt-ltb, eqb-true, eq-eqb, cases_lt}
 use Rattle.std.proofs.lemmas.List.Elements.{All-cons, All-head, All-tail, All-nil, All-weaker, AllWithin-more, filter_passes}
 use Rattle.std.proofs.lemmas.List.{get_or_default}
 use Rattle.std.proofs.lemmas.List.Kept.{AllPairs-cons}
@@ -11,7 +11,7 @@ use Rattle.std.specs.Prelude.{is_some, Option}
 use Rattle.rt_rib.specs.declared.offers.Offer.{Offer}
 use Rattle.rt_rib.specs.Offers.{outranks, is_from, IsRising, IsPlaceFor, HasGained, HasSwapped, without}
 use Rattle.rt_rib.proofs.Lists.{AllPairs-head, AllPairs-tail, filter-all, list_any-from_none, list_any-at}
-use Rattle.rt_rib.proofs.Order.{below_then-false, below_then-less, below_then-same, below_then-trans}
+use Rattle.rt_rib.proofs.Order.{by_preference-trans, by_preference-other}
 use Rattle.rt_rib.proofs.Sets.{Contains-head, Contains-tail, Contains-cases, Contains-none, filter-keeps, filter-from}
 
 module _ {X : Type 0} where
@@ -86,21 +86,11 @@ HasLost old new feed = (o : Offer) → Contains new o ↔ (Contains old o × (is
 
 -- what outranks one that outranks a third outranks that
 pub outranks-trans : (a b c : Offer) → outranks a b ≡ true → outranks b c ≡ true → outranks a c ≡ true
-outranks-trans a b c =
-    below_then-trans a.pref b.pref c.pref (ltb a.feed b.feed) (ltb b.feed c.feed) (ltb a.feed c.feed)
-    (λ x y. let p = ltb-true a.feed b.feed x in let q = ltb-true b.feed c.feed y in lt-ltb a.feed c.feed (omega arith))
+outranks-trans a b c = by_preference-trans a.pref b.pref c.pref a.feed b.feed c.feed
 
 -- of offers of two feeds one outranks the other
 outranks-other : (a b : Offer) → outranks b a ≡ false → is_from a.feed b ≡ false → outranks a b ≡ true
-outranks-other a b e other =
-    elim (below_then-false b.pref a.pref (ltb b.feed a.feed) e) [
-      | inl less ↦ below_then-less a.pref b.pref (ltb a.feed b.feed) less
-      | inr same ↦
-          let p = same.0 in
-          let f = ltb-false b.feed a.feed same.1 in
-          let differ : b.feed ≡ a.feed → ⊥ = λ g. both_ways (is_from a.feed b) other (eq-eqb b.feed a.feed g) in
-          below_then-same a.pref b.pref (ltb a.feed b.feed) (omega arith) (lt-ltb a.feed b.feed (omega arith))
-    ]
+outranks-other a b e other = by_preference-other a.pref b.pref a.feed b.feed e (λ f. both_ways (is_from a.feed b) other (eq-eqb b.feed a.feed f))
 
 -- which of two feeds an offer is from, turned
 is_from-flip : (a b : Offer) → is_from b.feed a ≡ false → is_from a.feed b ≡ false

@@ -46,11 +46,22 @@ below_then-trans a b c p q r rest x y =
       ]
     ]
 
+-- three in order by preference and then by feed
+pub by_preference-trans : (p q s f g h : ℕ) → below_then p q (ltb f g) ≡ true → below_then q s (ltb g h) ≡ true → below_then p s (ltb f h) ≡ true
+by_preference-trans p q s f g h =
+    below_then-trans p q s (ltb f g) (ltb g h) (ltb f h) (λ x y. let a = ltb-true f g x in let b = ltb-true g h y in lt-ltb f h (omega arith))
+
+-- of two of different feeds, the one that does not stand behind stands before
+pub by_preference-other : (p q f g : ℕ) → below_then q p (ltb g f) ≡ false → (g ≡ f → ⊥) → below_then p q (ltb f g) ≡ true
+by_preference-other p q f g e other =
+    elim (below_then-false q p (ltb g f) e) [
+      | inl less ↦ below_then-less p q (ltb f g) less
+      | inr same ↦ let prefs = same.0 in let feeds = ltb-false g f same.1 in below_then-same p q (ltb f g) (omega arith) (lt-ltb f g (omega arith))
+    ]
+
 -- what is better than a better one is better
 pub is_better-trans : (r s t : Route) → is_better r s ≡ true → is_better s t ≡ true → is_better r t ≡ true
-is_better-trans r s t =
-    below_then-trans r.pref s.pref t.pref (ltb r.feed s.feed) (ltb s.feed t.feed) (ltb r.feed t.feed)
-    (λ x y. let a = ltb-true r.feed s.feed x in let b = ltb-true s.feed t.feed y in lt-ltb r.feed t.feed (omega arith))
+is_better-trans r s t = by_preference-trans r.pref s.pref t.pref r.feed s.feed t.feed
 
 -- what precedes r precedes what r precedes
 pub precedes-trans : (r s t : Route) → precedes r s ≡ true → precedes s t ≡ true → precedes r t ≡ true
@@ -58,17 +69,6 @@ precedes-trans r s t =
     below_then-trans r.prefix.base s.prefix.base t.prefix.base
     (below_then r.prefix.len s.prefix.len (is_better r s)) (below_then s.prefix.len t.prefix.len (is_better s t)) (below_then r.prefix.len t.prefix.len (is_better r t))
     (below_then-trans r.prefix.len s.prefix.len t.prefix.len (is_better r s) (is_better s t) (is_better r t) (is_better-trans r s t))
-
--- of two routes that are not of one feed and prefix one precedes the other
-is_better-other : (r s : Route) → is_better s r ≡ false → (s.feed ≡ r.feed → ⊥) → is_better r s ≡ true
-is_better-other r s e other =
-    elim (below_then-false s.pref r.pref (ltb s.feed r.feed) e) [
-      | inl less ↦ below_then-less r.pref s.pref (ltb r.feed s.feed) less
-      | inr same ↦
-          let p = same.0 in
-          let f = ltb-false s.feed r.feed same.1 in
-          below_then-same r.pref s.pref (ltb r.feed s.feed) (omega arith) (lt-ltb r.feed s.feed (omega arith))
-    ]
 
 -- feed, base and length of a feed's route to a prefix
 pub is_of-parts : (feed : ℕ) (p : Prefix) (r : Route) → is_of feed p r ≡ true → (r.feed ≡ feed) × (r.prefix.base ≡ p.base) × (r.prefix.len ≡ p.len)
@@ -95,7 +95,7 @@ precedes-other r s e other =
             | inl less ↦ below_then-less r.prefix.len s.prefix.len (is_better r s) less
             | inr len ↦
                 below_then-same r.prefix.len s.prefix.len (is_better r s) (sym len.0)
-                (is_better-other r s len.1 (λ f. both_ways (is_of r.feed r.prefix s) other (is_of-from r.feed r.prefix s f base.0 len.0)))
+                (by_preference-other r.pref s.pref r.feed s.feed len.1 (λ f. both_ways (is_of r.feed r.prefix s) other (is_of-from r.feed r.prefix s f base.0 len.0)))
           ])
     ]
 
