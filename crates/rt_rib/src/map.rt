@@ -1,7 +1,7 @@
 //! The map from prefixes to their offers: the routes that it stands for, and how they change.
 ghost use Rattle.std.specs.Prelude.{◌≡◌, ◌++◌, false, IsTrue, IfOk, OnOk, OnErr, map};
 ghost use Rattle.rt_rib.specs.Table.{has, put_in, take_out};
-ghost use Rattle.rt_rib.specs.Maps.{routes_of, offers_at, route_by, IsMap, MapLaws};
+ghost use Rattle.rt_rib.specs.Maps.{routes_of, offers_at, route_by, offer_of, IsMap, MapLaws};
 
 use crate::offers::{Offer, Offers, Taken};
 use crate::refused::Refused;
@@ -36,6 +36,17 @@ pub(crate) fn route_by(prefix: Prefix, offer: &Offer) -> Route
     }
 }
 
+/// What a route offers for its prefix.
+fn offer_of(route: &Route) -> Offer
+    ensures { result ≡ offer_of route.now }
+{
+    Offer {
+        feed: route.feed,
+        pref: route.pref,
+        hop: route.hop,
+    }
+}
+
 /// Whether the feed has a route to the prefix.
 pub(crate) fn has<A: Allocator + Copy>(map: &Map<A>, feed: u32, prefix: Prefix) -> bool
     requires { IsMap map.now.pairs }
@@ -63,11 +74,7 @@ pub(crate) fn put_in<A: Allocator + Copy>(
     ensures map { IsMap map.new.pairs }
 {
     map_laws::<A>();
-    let offer = Offer {
-        feed: route.feed,
-        pref: route.pref,
-        hop: route.hop,
-    };
+    let offer = offer_of(&route);
     if let Some(offers) = map.get_mut(route.prefix) {
         if offers.has(route.feed) {
             return Ok(true);
@@ -92,11 +99,7 @@ pub(crate) fn replace<A: Allocator + Copy>(map: &mut Map<A>, route: Route) -> bo
     ensures map { IsMap map.new.pairs }
 {
     map_laws::<A>();
-    let offer = Offer {
-        feed: route.feed,
-        pref: route.pref,
-        hop: route.hop,
-    };
+    let offer = offer_of(&route);
     match map.get_mut(route.prefix) {
         None => false,
         Some(offers) => offers.replace(offer),

@@ -6,7 +6,7 @@ use Rattle.rt_rib.proofs.MapChanges.{none_had, is_had, more, unchanged, first_ad
 use Rattle.rt_rib.proofs.map.put_in.Goals as goal
 
 pub put-requires : goal.put-requires
-put-requires g c = list_any-none (is_from c.args.route.feed) c.in-Some.offers.now (sym c.has.ensures ∙ c.if-has.false)
+put-requires g c = rw c.offer_of-offer.ensures (list_any-none (is_from c.args.route.feed) c.in-Some.offers.now (sym c.has.ensures ∙ c.if-has.false))
 
 pub returns-then-has-clause-had : goal.returns-then-has-clause-had
 returns-then-has-clause-had g c =
@@ -38,7 +38,7 @@ returns-in-Some-clause-more g c =
     λ fresh.
     more c.map_laws.ensures c.args.map.now.pairs c.requires c.args.route.prefix c.in-Some.offers.now c.put.new.self c.in-Some.ensures.value c.put.ensures.lawful (offer_of c.args.route)
     (is_had c.map_laws.ensures c.args.map.now.pairs c.requires c.args.route.prefix c.in-Some.offers.now c.put.new.self c.in-Some.ensures.value c.args.route.feed ∙ sym c.has.ensures ∙ c.if-has.false)
-    c.in_ok-put.ensures.ok
+    (rw c.offer_of-offer.ensures at c.in_ok-put.ensures.ok)
 
 pub returns-in-Some-clause-map : goal.returns-in-Some-clause-map
 returns-in-Some-clause-map g c = IsMap-put c.map_laws.ensures c.args.map.now.pairs c.requires c.args.route.prefix c.put.new.self c.put.ensures.lawful
@@ -49,8 +49,8 @@ returns-in-Ok-clause-had g c = sym (none_had c.map_laws.ensures c.args.map.now.p
 pub returns-in-Ok-clause-more : goal.returns-in-Ok-clause-more
 returns-in-Ok-clause-more g c =
     λ fresh.
-    rw (c.in-Ok.ensures.put, c.one.ensures) (first_added c.map_laws.ensures c.args.map.now.pairs c.requires c.args.route.prefix (offer_of c.args.route) c.in_default.ensures.value)
+    rw (c.in-Ok.ensures.put, c.one.ensures, c.offer_of-offer.ensures) (first_added c.map_laws.ensures c.args.map.now.pairs c.requires c.args.route.prefix (offer_of c.args.route) c.in_default.ensures.value)
 
 pub returns-in-Ok-clause-map : goal.returns-in-Ok-clause-map
 returns-in-Ok-clause-map g c =
-    rw (c.in-Ok.ensures.put, c.one.ensures) (IsMap-put c.map_laws.ensures c.args.map.now.pairs c.requires c.args.route.prefix _ (IsOffers-one (offer_of c.args.route)))
+    rw (c.in-Ok.ensures.put, c.one.ensures, c.offer_of-offer.ensures) (IsMap-put c.map_laws.ensures c.args.map.now.pairs c.requires c.args.route.prefix _ (IsOffers-one (offer_of c.args.route)))
