@@ -1,7 +1,7 @@
 //! The sequential table as its definition says it, over a plain list in no order: each command goes through the
 //! whole list, and a look-up filters it three times.
 use crate::commands::{Cmd, Reply};
-use crate::routes::Route;
+use crate::routes::{Hop, Route};
 use rt_cidr::{Addr, Prefix};
 use std::alloc::{AllocError, Global};
 
@@ -9,6 +9,15 @@ use std::alloc::{AllocError, Global};
 pub(super) struct Plain {
     limit: usize,
     routes: Vec<Route>,
+}
+
+fn route(feed: u32, prefix: Prefix, pref: u32, hop: Hop) -> Route {
+    Route {
+        prefix,
+        feed,
+        pref,
+        hop,
+    }
 }
 
 fn is_of(route: &Route, feed: u32, prefix: Prefix) -> bool {
@@ -51,12 +60,7 @@ impl Plain {
                 if self.count(feed) >= self.limit {
                     return Ok(Reply::Full);
                 }
-                self.routes.push(Route {
-                    prefix,
-                    feed,
-                    pref,
-                    hop,
-                })?;
+                self.routes.push(route(feed, prefix, pref, hop))?;
                 Ok(Reply::Added)
             }
             Cmd::Replace { prefix, pref, hop } => {
@@ -64,12 +68,7 @@ impl Plain {
                     return Ok(Reply::Missing);
                 }
                 self.take_out(feed, prefix);
-                self.routes.push(Route {
-                    prefix,
-                    feed,
-                    pref,
-                    hop,
-                })?;
+                self.routes.push(route(feed, prefix, pref, hop))?;
                 Ok(Reply::Replaced)
             }
             Cmd::Withdraw { prefix } => {
