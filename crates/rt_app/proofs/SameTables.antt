@@ -16,7 +16,6 @@ use Rattle.rt_rib.specs.declared.routes.Route.{Route}
 use Rattle.rt_rib.specs.declared.commands.Cmd.{Cmd}
 use Rattle.rt_rib.specs.declared.commands.Cmd.TheVariants.{Dump}
 use Rattle.rt_rib.specs.declared.commands.Reply.{Reply}
-use Rattle.rt_rib.specs.declared.commands.Reply.TheVariants.{NoRoute}
 use Rattle.rt_rib.specs.declared.commands.Entry.{Entry}
 use Rattle.rt_rib.specs.Sequential.{reply_of, table_after}
 use Rattle.rt_rib.specs.Journal.{IsLawfulJournal, table_left}
@@ -305,18 +304,17 @@ pub left_union : FeedsStandAlone → LeftByEntry → EntriesOfVisits → TextHas
     (outcomes : List (List LineOutcome)) → IsHistory texts limit batch journal outcomes → list_any some_refused outcomes ≡ false → IsUnion texts limit (table_left limit journal)
 left_union alone left law once texts limit batch journal outcomes history none =
     let table = table_left limit journal in
-    let any : Entry = record { feed = 0; cmd = Dump; reply = NoRoute } in
     let of_feed = λ (k : ℕ) (text : List ℕ) (is : slice_get texts k ≡ Some text). of_text batch 1 k (k + 1) journal texts outcomes text (omega arith) history.explained is in
     let routes = λ (k : ℕ) (text : List ℕ) (here : IsOfFeed batch (k + 1) k journal outcomes text).
     routes_alone alone law limit batch (k + 1) journal text here.lines Dump here.explains (none_of_one outcomes k here.lines none here.stands) in
     record {
-      table = (left limit journal any).0;
+      table = left.table limit journal;
       contains = λ r. (
         (λ c.
             let own : Contains (feed_routes r.feed table) r = among_own r table c in
             elim (has_text journal (length texts) r.feed history.no_other (feed_entries r.feed journal) refl) [
               | inl empty ↦
-                  absurd (nothing r (subst (λ l. Contains l r) ((alone limit r.feed journal Dump).0 ∙ (ap (table_left limit) empty ∙ (left limit [] any).1)) own))
+                  absurd (nothing r (subst (λ l. Contains l r) ((alone limit r.feed journal Dump).0 ∙ (ap (table_left limit) empty ∙ left.empty limit)) own))
               | inr within ↦
                   let k = r.feed - 1 in
                   let number : r.feed ≡ k + 1 = omega arith in

@@ -10,17 +10,17 @@ use Rattle.rt_rib.proofs.Journals.{IsTable-left, table_left-nil, table_left-push
 
 -- what a journal leaves, entry by entry
 pub left_by_entry : LeftByEntry
-left_by_entry limit journal e = (IsTable-left limit journal, table_left-nil limit, table_left-push limit journal e)
+left_by_entry = record { table = IsTable-left; empty = table_left-nil; step = table_left-push }
 
 -- what makes a journal lawful, entry by entry
 pub lawful_by_entry : LawfulByEntry
-lawful_by_entry limit journal e = (
-  IsLawfulJournal-nil limit,
-  (
+lawful_by_entry = record {
+  empty = IsLawfulJournal-nil;
+  step = λ limit journal e. (
     (λ h. (IsLawfulJournal-front limit journal (e ∷ []) h, IsLawfulJournal-last limit journal e h)),
     (λ both. IsLawfulJournal-push limit journal e both.0 both.1),
-  ),
-)
+  );
+}
 
 -- an entry of its parts
 entry : ℕ → Cmd → Reply → Entry

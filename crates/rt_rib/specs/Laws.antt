@@ -39,15 +39,18 @@ LookUpFindsBest =
     (addr : Addr) (table : List Route) → IsTable table → ((r : Route) → (look_up addr table ≡ Some r) ↔ IsBestMatch addr table r)
     × ((look_up addr table ≡ None) ↔ ((s : Route) → Contains table s → covers s.prefix addr ≡ false))
 
--- what a journal leaves is a table; of no entry it is the empty one, and of one entry more what its command leaves
-abbrev pub LeftByEntry : Type 0
-LeftByEntry =
-    (limit : ℕ) (journal : List Entry) (e : Entry) → IsTable (table_left limit journal) × (table_left limit [] ≡ []) × (table_left limit (journal ++ e ∷ []) ≡ table_after limit (table_left limit journal) e.feed e.cmd)
+-- what a journal leaves is a table: the empty one where it has no entry, and after one entry more what that entry's command
+-- leaves
+pub record LeftByEntry : Type 0 where
+  pub table : (limit : ℕ) (journal : List Entry) → IsTable (table_left limit journal)
+  pub empty : (limit : ℕ) → table_left limit [] ≡ []
+  pub step : (limit : ℕ) (journal : List Entry) (e : Entry) → table_left limit (journal ++ e ∷ []) ≡ table_after limit (table_left limit journal) e.feed e.cmd
 
--- a journal is lawful where it was so before its last entry, and that is answered as the sequential table answers it
-abbrev pub LawfulByEntry : Type 0
-LawfulByEntry =
-    (limit : ℕ) (journal : List Entry) (e : Entry) → IsLawfulJournal limit [] × (IsLawfulJournal limit (journal ++ e ∷ []) ↔ (IsLawfulJournal limit journal × IsAnswered limit journal e))
+-- a journal without an entry is lawful, and one with an entry more where it was so before, and the entry is answered as the
+-- sequential table answers it
+pub record LawfulByEntry : Type 0 where
+  pub empty : (limit : ℕ) → IsLawfulJournal limit []
+  pub step : (limit : ℕ) (journal : List Entry) (e : Entry) → IsLawfulJournal limit (journal ++ e ∷ []) ↔ (IsLawfulJournal limit journal × IsAnswered limit journal e)
 
 -- the commands of a journal, each with the feed that asked
 abbrev pub asked : List Entry → List (ℕ × Cmd)

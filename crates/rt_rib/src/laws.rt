@@ -23,14 +23,13 @@ pub fn look_up_finds_best()
     ensures { LookUpFindsBest }
 {}
 
-/// What a journal leaves is a table. It is the empty one before the first entry, and each entry leaves what its
-/// command leaves.
+/// What a journal leaves is a table: the empty one before the first entry, and after each entry what its command leaves.
 pub fn left_by_entry()
     ensures { LeftByEntry }
 {}
 
-/// A journal is lawful where it was so before its last entry, and that entry's reply is the sequential table's in the
-/// set that the others leave.
+/// The journal without an entry is lawful. Any other is so where it was before its last entry, and that entry's reply is
+/// the sequential table's in the set that the others leave.
 pub fn lawful_by_entry()
     ensures { LawfulByEntry }
 {}

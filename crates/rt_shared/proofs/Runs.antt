@@ -4,11 +4,10 @@ use Rattle.std.specs.Option.{option_map_or}
 use Rattle.std.proofs.lemmas.List.{map-append}
 use Rattle.std.proofs.lemmas.Bool.{eq-eqb, ne_eqb}
 use Rattle.std.proofs.lemmas.Bool.Decides.{eqb_tells}
-use Rattle.rt_rib.specs.Table.{IsTable}
 use Rattle.ya_core.specs.Worlds.{Marked, FollowsFrom, entries_of}
 use Rattle.rt_cidr.specs.declared.address.Addr.{Addr}
 use Rattle.rt_rib.specs.declared.routes.Route.{Route}
-use Rattle.rt_rib.specs.declared.commands.Cmd.TheVariants.{Lookup, Dump}
+use Rattle.rt_rib.specs.declared.commands.Cmd.TheVariants.{Lookup}
 use Rattle.rt_rib.specs.declared.commands.Reply.TheVariants.{Found, NoRoute}
 use Rattle.rt_rib.specs.declared.commands.Entry.{Entry}
 use Rattle.rt_rib.specs.LookUp.{look_up}
@@ -18,17 +17,13 @@ use Rattle.rt_rib.specs.Laws.{LawfulByEntry, LeftByEntry, LookUpFindsBest, feed_
 use Rattle.rt_shared.specs.Lent.{feed_of}
 use Rattle.rt_shared.specs.Headline.{Act, entry_of, journal_of, IsSequential, FindsBest}
 
--- the journal of nothing is lawful
-pub lawful_at_first : LawfulByEntry → (limit : ℕ) → IsLawfulJournal limit []
-lawful_at_first law limit = (law limit [] (record { feed = 0; cmd = Dump; reply = NoRoute })).0
-
 -- entries that follow a lawful journal, each answered by the sequential table, leave it lawful
 pub lawful_from : LawfulByEntry → (limit : ℕ) (before content : List (Marked Act)) → FollowsFrom (IsSequential limit) before content → IsLawfulJournal limit (journal_of before)
     → IsLawfulJournal limit (journal_of (before ++ content))
 lawful_from law limit before [] follows lawful = subst (λ (l : List (Marked Act)). IsLawfulJournal limit (journal_of l)) (sym (append-nil before)) lawful
 lawful_from law limit before (x ∷ content) follows lawful =
     let next : IsLawfulJournal limit (journal_of (before ++ x ∷ [])) =
-    subst (IsLawfulJournal limit) (sym (map-append (λ (y : Marked Act). entry_of y.0 y.1) before (x ∷ []))) ((law limit (journal_of before) (entry_of x.0 x.1)).1.1 (lawful, follows.0)) in
+    subst (IsLawfulJournal limit) (sym (map-append (λ (y : Marked Act). entry_of y.0 y.1) before (x ∷ []))) ((law.step limit (journal_of before) (entry_of x.0 x.1)).1 (lawful, follows.0)) in
     subst (λ (l : List (Marked Act)). IsLawfulJournal limit (journal_of l)) (append_assoc before (x ∷ []) content) (lawful_from law limit (before ++ x ∷ []) content follows.1 next)
 
 -- the entries of a place are those of its feed
@@ -40,10 +35,6 @@ entries_same place (x ∷ content) = elim (eqb_tells x.0 place) [
   | inr h ↦ rw (ne_eqb (feed_of x.0) (feed_of place) (λ e. h.1 (omega arith)), h.0) (entries_same place content)
 ]
 
--- what a journal leaves is a table
-pub leaves_table : LeftByEntry → (limit : ℕ) (journal : List Entry) → IsTable (table_left limit journal)
-leaves_table law limit journal = (law limit journal (record { feed = 0; cmd = Dump; reply = NoRoute })).0
-
 -- a look-up that was answered with a route found that one
 found_it : (limit feed : ℕ) (table : List Route) (addr : Addr) (r : Route) (found : Option Route) → Found r ≡ option_map_or Found found NoRoute → found ≡ Some r
 found_it limit feed table addr r (Some s) e = cc
@@ -53,4 +44,4 @@ pub finds_best : LookUpFindsBest → LeftByEntry → (limit : ℕ) (journal : Li
 unfolding reply_of
 finds_best law leaves limit journal lawful feed addr r earlier later is =
     let e = lawful.answered earlier (record { feed = feed; cmd = Lookup addr; reply = Found r }) later is in
-    ((law addr (table_left limit earlier) (leaves_table leaves limit earlier)).0 r).0 (found_it limit feed (table_left limit earlier) addr r (look_up addr (table_left limit earlier)) e)
+    ((law addr (table_left limit earlier) (leaves.table limit earlier)).0 r).0 (found_it limit feed (table_left limit earlier) addr r (look_up addr (table_left limit earlier)) e)

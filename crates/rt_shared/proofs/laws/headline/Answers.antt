@@ -1,7 +1,7 @@
 use Rattle.std.proofs.Common.{ap, ◌∙◌, map}
 use Rattle.ya_core.specs.Worlds.{places_of}
 use Rattle.rt_shared.specs.Headline.{entry_of, journal_of}
-use Rattle.rt_shared.proofs.Runs.{entries_same, finds_best, leaves_table}
+use Rattle.rt_shared.proofs.Runs.{entries_same, finds_best}
 use Rattle.rt_shared.proofs.laws.headline.Goals as goal
 
 pub returns-clause-exclusion : goal.returns-clause-exclusion
@@ -16,7 +16,7 @@ pub returns-clause-lawful : goal.returns-clause-lawful
 returns-clause-lawful g c = c.journal.ensures
 
 pub returns-clause-table : goal.returns-clause-table
-returns-clause-table g c = λ levels world run. leaves_table c.left_by_entry.ensures g.row.LIMIT (journal_of world.content)
+returns-clause-table g c = λ levels world run. c.left_by_entry.ensures.table g.row.LIMIT (journal_of world.content)
 
 pub returns-clause-best : goal.returns-clause-best
 returns-clause-best g c = λ levels world run. finds_best c.look_up_finds_best.ensures c.left_by_entry.ensures g.row.LIMIT (journal_of world.content) (c.journal.ensures levels world run)
