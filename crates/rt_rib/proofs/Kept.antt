@@ -21,7 +21,7 @@ use Rattle.rt_rib.proofs.Tables.{IsTable-put_in, IsTable-take_out, IsTable-purge
 use Rattle.rt_rib.proofs.Counts.{HasMore, HasMore-put_in, HasMore-take_out, HasMore-both, AreCounts-more, AreCounts-less, AreCounts-purged, AreCounts-same, AreCounts-own}
 use Rattle.rt_rib.proofs.Steps.{held, added, purged}
 
--- the feed's place among the counts
+-- which count is the feed's
 own_place : (feed : ℕ) → IsFeed feed → (feed - 1 < MOST_FEEDS) × (feed ≡ feed - 1 + 1)
 own_place feed is = let low = is.0 in let high = is.1 in (omega arith, omega arith)
 

@@ -160,7 +160,7 @@ without-is feed (x ∷ offers) (suc i) d single within is =
     cond-true (not (is_from feed x)) (x ∷ filter (λ o. not (is_from feed o)) offers) (filter (λ o. not (is_from feed o)) offers) (not_from_false (is_from feed x) other)
     ∙ ap (λ z. x ∷ z) (without-is feed offers i d (AllPairs-tail (λ a b. is_from b.feed a ≡ false) x offers single) (omega arith) is)
 
--- the offer at the place of the feed's is taken out: the others are left
+-- without the one at the place of the feed's, the offers are the others
 pub left_is : (feed : ℕ) (offers : List Offer) → IsRising offers → (place : ℕ) → position (is_from feed) offers ≡ Some place → remove offers place ≡ without feed offers
 left_is feed [] h place found = cc
 left_is feed (x ∷ offers) h place found = let at = position-Some (is_from feed) (x ∷ offers) place x found in sym (without-is feed (x ∷ offers) place x h.single at.0 at.1)
@@ -183,7 +183,7 @@ module _ (feed : ℕ) (offers : List Offer) (h : IsRising offers) (place : ℕ) 
       subst (All (λ o. is_from feed o ≡ false)) same
       (All-weaker (λ o. other o ≡ true) (λ o. is_from feed o ≡ false) (λ o. not-true (is_from feed o)) (filter other offers) (filter_passes other offers)) k d l
 
--- a feed's offer put in the place of its other one
+-- a feed's offer put in for its other one
 pub swapped : (old rest new : List Offer) (offer : Offer) → HasLost old rest offer.feed → HasGained rest new offer → HasSwapped old new offer true
 swapped old rest new offer less more o = (
   (λ c. elim ((more o).0 c) [ inl there ↦ inl ((less o).0 there) | inr here ↦ inr here ]),

@@ -26,7 +26,8 @@ IsFeed feed = (1 ≤ feed) × (feed ≤ MOST_FEEDS)
 abbrev pub OfferTrie : Type 0
 OfferTrie = rt_trie.Contents (List Offer)
 
--- how many routes a feed may have, every answered command, the trie of the routes, and for how many entries more there is room
+-- what contracts see of a book: how many routes a feed may have, every answered command, the trie of the routes, and for how many
+-- entries more the journal has room
 pub record Contents : Type 0 where
   pub limit : ℕ
   pub journal : List Entry
@@ -58,7 +59,8 @@ abbrev pub IsAdd : Cmd → Type 0
 IsAdd (Add prefix pref hop) = Unit {0}
 IsAdd _ = ⊥
 
--- limit, journal and trie are as they were, no room is lost, and there was none or the command is an `add`
+-- the command was refused for memory: limit, journal and trie are as they were, no room is lost, and there was none or the
+-- command is an `add`
 pub record Refuses (old new : Contents) (cmd : Cmd) : Type 0 where
   pub limited : new.limit ≡ old.limit
   pub journaled : new.journal ≡ old.journal

@@ -1,4 +1,4 @@
--- What a table keeps beside its routes, and a book beside its journal.
+-- A table as its clauses see it, and what the types `Table` and `Book` keep of what is in them.
 use Rattle.std.specs.Prelude.{◌≡◌, ℕ, ◌+◌, ◌<◌, ◌≤◌, List, length, sum, slice_index}
 use Rattle.std.specs.List.{All}
 use Rattle.rt_rib.specs.declared.routes.Route.{Route}
@@ -13,28 +13,29 @@ use Rattle.rt_rib.specs.Sequential.{reply_of, table_after}
 use Rattle.rt_rib.specs.Journal.{table_left, IsLawfulJournal}
 use Rattle.rt_rib.specs.Book.{IsLimit, IsFeed, OfferTrie}
 
--- how many routes a feed may have, and the routes
+-- what a command reads and may change: how many routes a feed may have, and the routes
 pub record Held : Type 0 where
   pub limit : ℕ
   pub routes : List Route
 
--- these, and the trie that holds the routes
+-- what contracts see of a `Table`: that, and the trie that holds the routes
 pub record Stored : Type 0 where
   pub limit : ℕ
   pub routes : List Route
   pub trie : OfferTrie
 
+-- the part of it that a command reads and may change
 abbrev pub held_of : Stored → Held
 held_of t = record { limit = t.limit; routes = t.routes }
 
--- the trie is lawful, its map is one, and its routes are the table's
+-- the trie is lawful, its pairs are prefixes with offers in order, and their routes are the table's
 pub record IsStored (t : Stored) : Type 0 where
   pub lawful : IsLawful t.trie
   pub map : IsMap t.trie.pairs
   pub routes : routes_of t.trie.pairs ≡ t.routes
   pub table : IsTable t.routes
 
--- the sequential table gives this reply to the command, and goes from the old routes to the new ones
+-- the command was answered as the sequential table answers it, and the routes are what it leaves there
 pub record Serves (old new : Held) (feed : ℕ) (cmd : Cmd) (reply : Reply) : Type 0 where
   pub replied : reply ≡ reply_of old.limit old.routes feed cmd
   pub changed : new ≡ record old { routes = table_after old.limit old.routes feed cmd }
@@ -46,14 +47,14 @@ pub record AreCounts (limit : ℕ) (counts : List ℕ) (routes : List Route) : T
   pub within : (i : ℕ) → i < MOST_FEEDS → slice_index counts i ≤ limit
   pub all : sum counts ≡ length routes
 
--- the map is one, its routes are a table, and the counts are theirs
+-- what `Table` keeps: a limit that there may be, a map whose offers are in order and whose routes are a table, and their counts
 pub record IsCounted (limit : ℕ) (counts : List ℕ) (m : Map) : Type 0 where
   pub limited : IsLimit limit
   pub map : IsMap m
   pub table : IsTable (routes_of m)
   pub counted : AreCounts limit counts (routes_of m)
 
--- the journal is lawful, its entries are of feeds that there may be, and the routes are what it leaves
+-- what `Book` keeps: the journal is lawful, its entries are of feeds that there may be, and the routes are what it leaves
 pub record IsKept (held : Held) (journal : List Entry) : Type 0 where
   pub feeds : All (λ e. IsFeed e.feed) journal
   pub lawful : IsLawfulJournal held.limit journal

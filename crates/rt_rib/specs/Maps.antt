@@ -9,7 +9,7 @@ use Rattle.rt_rib.specs.declared.routes.Route.{Route}
 use Rattle.rt_rib.specs.declared.offers.Offer.{Offer}
 use Rattle.rt_rib.specs.Offers.{IsOffers}
 
--- prefixes with their offers
+-- each prefix that has offers, with these
 abbrev pub Map : Type 0
 Map = Pairs (List Offer)
 
@@ -26,19 +26,20 @@ abbrev pub routes_of : Map → List Route
 routes_of [] = []
 routes_of ((p, offers) ∷ rest) = map (route_by p) offers ++ routes_of rest
 
--- the offers at a prefix, none where nothing stands there
+-- what was found at a prefix as a list, which is empty where nothing was
 abbrev pub offers_in : Option (List Offer) → List Offer
 offers_in None = []
 offers_in (Some offers) = offers
 
+-- the offers of the map at a prefix
 abbrev pub offers_at : Map → Prefix → List Offer
 offers_at m p = offers_in (get m p)
 
--- the route at a place of the answers to look-ups
+-- the route at an index of the answers to look-ups, if there is one
 abbrev pub route_at : List (Option Route) → ℕ → Option Route
 route_at answers k = slice_index_or answers k None
 
--- the map has, at the route's prefix, an offer of its feed with its preference and next hop
+-- the map holds the route: what stands at its prefix contains what it offers
 abbrev pub IsThere : Map → Route → Type 0
 IsThere m r = Contains (offers_at m r.prefix) (offer_of r)
 
@@ -47,7 +48,7 @@ pub record IsMap (m : Map) : Type 0 where
   pub ordered : IsOrdered m
   pub each : (p : Prefix) (offers : List Offer) → get m p ≡ Some offers → IsOffers offers
 
--- what the laws of the map and of prefixes say, of offers
+-- what the laws of rt_trie say of maps with offers, and rt_cidr's of equal prefixes
 pub record MapLaws : Type 0 where
   pub put : PutIsSeen (List Offer)
   pub erase : EraseIsSeen (List Offer)

@@ -6,7 +6,7 @@ use Rattle.rt_rib.specs.declared.offers.Taken.{Taken}
 use Rattle.rt_rib.specs.declared.offers.Taken.TheVariants.{Missing, Last, Gone}
 use Rattle.rt_rib.specs.Table.{below_then}
 
--- whether a is of lesser preference, and where that is equal of lesser feed
+-- whether the first is preferred: it is of lesser preference, and where that is equal of lesser feed
 abbrev pub outranks : Offer → Offer → Bool
 outranks a b = below_then a.pref b.pref (nat_lt a.feed b.feed)
 
@@ -19,12 +19,12 @@ pub record IsRising (offers : List Offer) : Type 0 where
   pub ordered : AllPairs (λ a b. outranks a b ≡ true) offers
   pub single : AllPairs (λ a b. is_from b.feed a ≡ false) offers
 
--- there is an offer, and they rise
+-- what stands at a prefix of the map: at least one offer, and all in that order
 pub record IsOffers (offers : List Offer) : Type 0 where
   pub some : 0 < length offers
   pub rising : IsRising offers
 
--- the offers before the place outrank this one, and no others do
+-- where the offer belongs: those before that index outrank it, and no others do
 pub record IsPlaceFor (offer : Offer) (offers : List Offer) (place : ℕ) : Type 0 where
   pub within : place ≤ length offers
   pub before : AllWithin (λ o. outranks o offer ≡ true) offers 0 place
@@ -38,13 +38,15 @@ HasGained old new offer = (o : Offer) → Contains new o ↔ (Contains old o ⊎
 abbrev pub without : ℕ → List Offer → List Offer
 without feed offers = filter (λ o. not (is_from feed o)) offers
 
--- where its feed had one, the offer stands for it, and else the offers are the same
+-- what became of the offers as a feed's was to be replaced, and whether it had one: with true the new one stands for the old one,
+-- and else the offers are as they were
 abbrev pub HasSwapped : List Offer → List Offer → Offer → Bool → Type 0
 HasSwapped old new offer false = new ≡ old
 HasSwapped old new offer true =
     (o : Offer) → Contains new o ↔ ((Contains old o × (is_from offer.feed o ≡ false)) ⊎ (offer ≡ o))
 
--- the feed had none; it has the only one, which is left; or its offer is gone
+-- what became of the offers as the feed's was to be taken out: it had none, and they are as they were; it has the only one, and
+-- that stays; or its offer is gone
 abbrev pub TakesOut : List Offer → List Offer → ℕ → Taken → Type 0
 TakesOut old new feed Missing = (new ≡ old) × (list_any (is_from feed) old ≡ false)
 TakesOut old new feed Last = (new ≡ old) × ((o : Offer) × (old ≡ o ∷ []) × (is_from feed o ≡ true))

@@ -4,16 +4,16 @@ use Rattle.rt_rib.specs.declared.offers.Offer.{Offer}
 use Rattle.rt_rib.specs.declared.purge.Purging.{Purging}
 use Rattle.rt_rib.specs.Offers.{is_from, without, IsOffers}
 
--- whether the feed has no more routes
+-- whether no route of the feed is still to come
 abbrev pub is_over : Purging → Bool
 is_over purge = nat_eq purge.left 0
 
--- the offers but for the feed's: they stay where there are any
+-- what the sieve does with a prefix, given the offers of the other feeds: it stays with just these, or goes as there are none
 abbrev pub AreOthers : List Offer → List Offer → Bool → Type 0
 AreOthers others new true = (new ≡ others) × IsOffers new
 AreOthers others new false = others ≡ []
 
--- the purge is of the same feed, which has as many routes left as before but for those of this prefix; these are gone
+-- the purge goes on for the same feed, with as many routes to come as before but for those of this prefix, and these are gone
 pub record IsPurged (purge next : Purging) (old new : List Offer) (stays : Bool) : Type 0 where
   pub same_feed : next.feed ≡ purge.feed
   pub fewer : next.left + count_by (is_from purge.feed) old ≡ purge.left

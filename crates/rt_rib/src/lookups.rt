@@ -50,7 +50,7 @@ pub(crate) fn best_of_each<A: Allocator + Copy>(
     }
 }
 
-/// The answers of so many addresses from a place on, whose ways down are taken together.
+/// The answers to so many addresses from an index on, whose ways down are taken together.
 fn best_of_few<A: Allocator + Copy>(
     trie: &Map<A>,
     addresses: &[Addr],

@@ -88,8 +88,7 @@ pub(crate) fn put_in<A: Allocator + Copy>(
     }
 }
 
-/// Puts the route in the place of the feed's other one to its prefix, if there is one, and answers whether there is. It
-/// takes no memory.
+/// Replaces the feed's route to the prefix by this one, if there is one, and answers whether there is. It takes no memory.
 pub(crate) fn replace<A: Allocator + Copy>(map: &mut Map<A>, route: Route) -> bool
     requires { IsMap map.old.pairs }
     ensures had { result ≡ has route.feed route.prefix (routes_of map.old.pairs) }

@@ -47,7 +47,7 @@ impl<A: Allocator + Copy> Model for Offers<A> {
 pub(crate) enum Taken {
     /// The feed has none.
     Missing,
-    /// It is the only one, and was left.
+    /// It is the only one, and stays.
     Last,
     /// It is gone.
     Gone,
@@ -91,7 +91,7 @@ impl<A: Allocator + Copy> Offers<A> {
         self.few.put(alloc, offer)
     }
 
-    /// Puts the offer in the place of the feed's other one, if it has one, and answers whether it has. It takes no memory.
+    /// Replaces the feed's offer by this one, if it has one, and answers whether it has. It takes no memory.
     pub(crate) fn replace(&mut self, offer: Offer) -> bool
         ensures had { result ≡ list_any (is_from offer.feed) self.old }
         ensures swapped { HasSwapped self.old self.new offer result }
@@ -130,7 +130,7 @@ impl<A: Allocator + Copy> Few<A> {
         }
     }
 
-    /// Puts the offer in the place of the feed's other one, if it has one, and answers whether it has.
+    /// Replaces the feed's offer by this one, if it has one, and answers whether it has.
     fn replace(&mut self, offer: Offer) -> bool
         requires { IsFew self.old }
         ensures had { result ≡ list_any (is_from offer.feed) (items self.old) }
@@ -183,14 +183,14 @@ fn comes_before(a: &Offer, b: &Offer) -> bool
     a.pref < b.pref || a.pref == b.pref && a.feed < b.feed
 }
 
-/// Where the feed's offer stands, if it has one.
+/// The index of the feed's offer, if it has one.
 fn place_of(offers: &[Offer], feed: u32) -> Option<usize>
     ensures { result ≡ position (is_from feed) offers.now }
 {
     offers.iter().position(|offer| offer.feed == feed)
 }
 
-/// Where the offer belongs.
+/// The index at which the offer belongs.
 fn place_for(offers: &[Offer], offer: &Offer) -> usize
     requires { IsRising offers.now }
     ensures { IsPlaceFor offer.now offers.now result }
@@ -202,7 +202,7 @@ fn place_for(offers: &[Offer], offer: &Offer) -> usize
     place
 }
 
-/// Puts in the offer of a feed that has none, at its place.
+/// Puts in the offer of a feed that has none, where it belongs.
 fn put_among<A: Allocator + Copy>(offers: &mut Vec<Offer, A>, offer: Offer) -> Result<(), Refused>
     requires rising { IsRising offers.old.items }
     requires fresh { All (λ o. is_from offer.feed o ≡ false) offers.old.items }
@@ -217,7 +217,7 @@ fn put_among<A: Allocator + Copy>(offers: &mut Vec<Offer, A>, offer: Offer) -> R
     Ok(())
 }
 
-/// Puts the offer in the place of the feed's other one, if it has one, and answers whether it has.
+/// Replaces the feed's offer by this one, if it has one, and answers whether it has.
 fn replace_among<A: Allocator + Copy>(offers: &mut Vec<Offer, A>, offer: Offer) -> bool
     requires { IsRising offers.old.items }
     ensures had { result ≡ list_any (is_from offer.feed) offers.old.items }

@@ -99,7 +99,7 @@ impl Dice {
     }
 }
 
-/// The place of each kind of reply in a count.
+/// The index of each kind of reply in a count.
 fn kind(reply: Reply) -> usize
     ensures { result < 10 }
 {
