@@ -101,6 +101,10 @@ module _ (limit : ℕ) (counts : List ℕ) (m : Map) (h : IsCounted limit counts
 pub kept_counted : (limit : ℕ) (counts : List ℕ) (m n : Map) → IsCounted limit counts m → n ≡ m → IsCounted limit counts n
 kept_counted limit counts m n h same = subst (IsCounted limit counts) (sym same) h
 
+-- and a command that such a map served
+pub kept_serves : (limit : ℕ) (m n : Map) (feed : ℕ) (cmd : Cmd) (reply : Reply) → n ≡ m → Serves (held limit (routes_of m)) (held limit (routes_of m)) feed cmd reply → Serves (held limit (routes_of m)) (held limit (routes_of n)) feed cmd reply
+kept_serves limit m n feed cmd reply same h = subst (λ x. Serves (held limit (routes_of m)) (held limit (routes_of x)) feed cmd reply) (sym same) h
+
 -- a journal goes on with the entry of what the table serves
 pub IsKept-push : (old new : Held) (journal more : List Entry) (feed : ℕ) (cmd : Cmd) (reply : Reply) → IsFeed feed → IsKept old journal → Serves old new feed cmd reply → more ≡ journal ++ record { feed = feed; cmd = cmd; reply = reply } ∷ [] → IsKept new more
 IsKept-push old new journal more feed cmd reply is_feed h serves is =

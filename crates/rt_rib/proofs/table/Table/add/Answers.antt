@@ -1,12 +1,10 @@
-use Rattle.std.proofs.Common.{sym, ap, subst, ◌∙◌}
-use Rattle.rt_rib.specs.declared.commands.Cmd.TheVariants.{Add}
-use Rattle.rt_rib.specs.declared.commands.Reply.TheVariants.{Exists}
+use Rattle.std.proofs.Common.{sym, ap, ◌∙◌}
 use Rattle.rt_rib.specs.Book.{OfferTrie}
-use Rattle.rt_rib.specs.Kept.{Stored, Serves}
+use Rattle.rt_rib.specs.Kept.{Stored}
 use Rattle.rt_rib.specs.Maps.{routes_of}
 use Rattle.rt_rib.proofs.Counts.{AreCounts-own}
-use Rattle.rt_rib.proofs.Kept.{kept_counted, added_counted, added_serves}
-use Rattle.rt_rib.proofs.Steps.{held, exists, full}
+use Rattle.rt_rib.proofs.Kept.{kept_counted, kept_serves, added_counted, added_serves}
+use Rattle.rt_rib.proofs.Steps.{exists, full}
 use Rattle.rt_rib.proofs.MapChanges.{err_from}
 use Rattle.rt_rib.proofs.table.Table.add.Goals as goal
 
@@ -40,8 +38,8 @@ invariant_of-self-then-branch g c = kept_counted c.self.inside.limit c.self.insi
 pub returns-then-branch-clause-ok : goal.returns-then-branch-clause-ok
 returns-then-branch-clause-ok g c =
     rw (← c.self.view_is)
-    (subst (λ n. Serves (held c.self.inside.limit (routes_of c.self.inside.map.pairs)) (held c.self.inside.limit (routes_of n)) c.args.route.feed (Add c.args.route.prefix c.args.route.pref c.args.route.hop) Exists)
-    (sym (c.in_ok-put_in.ensures.kept c.if-branch.true)) (exists c.self.inside.limit (routes_of c.self.inside.map.pairs) c.args.route (sym c.in_ok-put_in.ensures.had ∙ c.if-branch.true)))
+    (kept_serves c.self.inside.limit c.self.inside.map.pairs c.put_in.new.map.pairs _ _ _ (c.in_ok-put_in.ensures.kept c.if-branch.true)
+    (exists c.self.inside.limit (routes_of c.self.inside.map.pairs) c.args.route (sym c.in_ok-put_in.ensures.had ∙ c.if-branch.true)))
 
 pub invariant_of-self-2 : goal.invariant_of-self-2
 invariant_of-self-2 g c =

@@ -1,10 +1,7 @@
-use Rattle.std.proofs.Common.{refl, sym, subst}
-use Rattle.rt_rib.specs.declared.commands.Cmd.TheVariants.{Replace}
-use Rattle.rt_rib.specs.declared.commands.Reply.TheVariants.{Missing}
-use Rattle.rt_rib.specs.Kept.{Serves}
+use Rattle.std.proofs.Common.{refl, sym}
 use Rattle.rt_rib.specs.Maps.{routes_of}
-use Rattle.rt_rib.proofs.Kept.{kept_counted, replaced_counted}
-use Rattle.rt_rib.proofs.Steps.{held, unreplaced, replaced}
+use Rattle.rt_rib.proofs.Kept.{kept_counted, kept_serves, replaced_counted}
+use Rattle.rt_rib.proofs.Steps.{unreplaced, replaced}
 use Rattle.rt_rib.proofs.table.Table.replace.Goals as goal
 
 pub replace-requires : goal.replace-requires
@@ -16,8 +13,8 @@ invariant_of-self g c = kept_counted c.self.inside.limit c.self.inside.counts c.
 pub returns-then-not-replace : goal.returns-then-not-replace
 returns-then-not-replace g c =
     rw (← c.self.view_is)
-    (subst (λ n. Serves (held c.self.inside.limit (routes_of c.self.inside.map.pairs)) (held c.self.inside.limit (routes_of n)) c.args.route.feed (Replace c.args.route.prefix c.args.route.pref c.args.route.hop) Missing)
-    (sym (c.if-not-replace.ensures.kept refl)) (unreplaced c.self.inside.limit (routes_of c.self.inside.map.pairs) c.args.route (sym c.if-not-replace.ensures.had)))
+    (kept_serves c.self.inside.limit c.self.inside.map.pairs c.replace.new.map.pairs _ _ _ (c.if-not-replace.ensures.kept refl)
+    (unreplaced c.self.inside.limit (routes_of c.self.inside.map.pairs) c.args.route (sym c.if-not-replace.ensures.had)))
 
 pub invariant_of-self-2 : goal.invariant_of-self-2
 invariant_of-self-2 g c =

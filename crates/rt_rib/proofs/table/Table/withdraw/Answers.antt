@@ -1,10 +1,7 @@
-use Rattle.std.proofs.Common.{refl, sym, subst, arith}
-use Rattle.rt_rib.specs.declared.commands.Cmd.TheVariants.{Withdraw}
-use Rattle.rt_rib.specs.declared.commands.Reply.TheVariants.{Missing}
-use Rattle.rt_rib.specs.Kept.{Serves}
+use Rattle.std.proofs.Common.{refl, sym, arith}
 use Rattle.rt_rib.specs.Maps.{routes_of}
-use Rattle.rt_rib.proofs.Kept.{kept_counted, withdrawn_counted, withdrawn_one}
-use Rattle.rt_rib.proofs.Steps.{held, unwithdrawn, withdrawn}
+use Rattle.rt_rib.proofs.Kept.{kept_counted, kept_serves, withdrawn_counted, withdrawn_one}
+use Rattle.rt_rib.proofs.Steps.{unwithdrawn, withdrawn}
 use Rattle.rt_rib.proofs.table.Table.withdraw.Goals as goal
 
 pub take_out-requires : goal.take_out-requires
@@ -16,8 +13,8 @@ invariant_of-self g c = kept_counted c.self.inside.limit c.self.inside.counts c.
 pub returns-then-not-take_out : goal.returns-then-not-take_out
 returns-then-not-take_out g c =
     rw (← c.self.view_is)
-    (subst (λ n. Serves (held c.self.inside.limit (routes_of c.self.inside.map.pairs)) (held c.self.inside.limit (routes_of n)) c.args.feed (Withdraw c.args.prefix) Missing)
-    (sym (c.if-not-take_out.ensures.kept refl)) (unwithdrawn c.self.inside.limit (routes_of c.self.inside.map.pairs) c.args.feed c.args.prefix (sym c.if-not-take_out.ensures.had)))
+    (kept_serves c.self.inside.limit c.self.inside.map.pairs c.take_out.new.map.pairs _ _ _ (c.if-not-take_out.ensures.kept refl)
+    (unwithdrawn c.self.inside.limit (routes_of c.self.inside.map.pairs) c.args.feed c.args.prefix (sym c.if-not-take_out.ensures.had)))
 
 pub overflow_sub-self : goal.overflow_sub-self
 overflow_sub-self g c = c.requires.0
