@@ -89,9 +89,9 @@ impl<A: Allocator + Copy> Book<A> {
         self.table.holds();
     }
 
-    /// Reads what the first [`AHEAD`](crate::AHEAD) of these commands will go down to, all at once, so that `apply` finds it in cache. In a
-    /// table that doesn't lie in cache this makes a batch faster. It answers nothing and changes nothing, and takes no
-    /// memory.
+    /// Reads what the first [`AHEAD`](crate::AHEAD) of these commands will go down to, all at once, so that `apply` finds it
+    /// in cache. In a table that doesn't lie in cache this makes a batch faster. It answers nothing and changes nothing, and
+    /// takes no memory.
     pub fn read_ahead(&self, cmds: &[Cmd]) {
         self.table.read_ahead(cmds);
     }
