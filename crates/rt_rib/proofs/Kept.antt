@@ -9,8 +9,8 @@ use Rattle.rt_rib.specs.declared.commands.Reply.TheVariants.{Added, Purged}
 use Rattle.rt_rib.specs.declared.limits.TheConstants.{MOST_FEEDS}
 use Rattle.rt_rib.specs.Table.{has, put_in, take_out, purge, IsTable}
 use Rattle.rt_rib.specs.Maps.{Map, routes_of, IsMap}
-use Rattle.rt_rib.specs.Book.{IsFeed, HoldsRoutesLeft}
-use Rattle.rt_rib.specs.Kept.{Held, Stored, held_of, IsCounted, IsKept, IsStored, Serves}
+use Rattle.rt_rib.specs.Book.{IsFeed, HoldsRoutes}
+use Rattle.rt_rib.specs.Kept.{Held, Stored, held_of, IsCounted, IsKept, Serves}
 use Rattle.rt_rib.specs.declared.commands.Cmd.{Cmd}
 use Rattle.rt_rib.specs.declared.commands.Reply.{Reply}
 use Rattle.rt_rib.specs.declared.commands.Entry.{Entry}
@@ -118,10 +118,5 @@ IsKept-push old new journal more feed cmd reply is_feed h serves is =
     rw (serves.changed, is) next
 
 -- a trie that holds the table's routes holds those that the journal leaves
-pub holds_left : (t : Stored) (journal : List Entry) (room : ℕ) → IsStored t → IsKept (held_of t) journal → HoldsRoutesLeft (record { limit = t.limit; journal = journal; trie = t.trie; room = room })
-holds_left t journal room stored h = record {
-  lawful = stored.lawful;
-  map = stored.map;
-  exactly = stored.routes ∙ h.kept;
-  once = subst IsTable h.kept stored.table;
-}
+pub holds_left : (t : Stored) (journal : List Entry) → HoldsRoutes t.trie t.routes → IsKept (held_of t) journal → HoldsRoutes t.trie (table_left t.limit journal)
+holds_left t journal holds h = subst (HoldsRoutes t.trie) h.kept holds

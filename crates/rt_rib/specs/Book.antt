@@ -39,12 +39,16 @@ abbrev pub table_of : Contents → List Route
 table_of book = table_left book.limit book.journal
 
 -- the trie is lawful, each of its prefixes has offers, the best first, and the routes that it holds, read off prefix by
--- prefix and offer by offer, are exactly those that the journal leaves, none of them twice
-pub record HoldsRoutesLeft (book : Contents) : Type 0 where
-  pub lawful : IsLawful book.trie
-  pub map : IsMap book.trie.pairs
-  pub exactly : routes_of book.trie.pairs ≡ table_of book
-  pub once : IsTable (table_of book)
+-- prefix and offer by offer, are exactly these, none of them twice
+pub record HoldsRoutes (trie : OfferTrie) (routes : List Route) : Type 0 where
+  pub lawful : IsLawful trie
+  pub map : IsMap trie.pairs
+  pub exactly : routes_of trie.pairs ≡ routes
+  pub once : IsTable routes
+
+-- the trie of the book holds the routes that the journal leaves
+abbrev pub HoldsRoutesLeft : Contents → Type 0
+HoldsRoutesLeft book = HoldsRoutes book.trie (table_of book)
 
 -- the command is answered as the sequential table answers it, and the journal has gained the one entry at its end, which
 -- takes room for one at most

@@ -5,7 +5,6 @@ use Rattle.rt_rib.specs.declared.routes.Route.{Route}
 use Rattle.rt_rib.specs.declared.commands.Cmd.{Cmd}
 use Rattle.rt_rib.specs.declared.commands.Reply.{Reply}
 use Rattle.rt_rib.specs.declared.commands.Entry.{Entry}
-use Rattle.rt_trie.specs.Lawful.{IsLawful}
 use Rattle.rt_rib.specs.declared.limits.TheConstants.{MOST_FEEDS}
 use Rattle.rt_rib.specs.Table.{count_of, IsTable}
 use Rattle.rt_rib.specs.Maps.{Map, routes_of, IsMap}
@@ -27,13 +26,6 @@ pub record Stored : Type 0 where
 -- the part of it that a command reads and may change
 abbrev pub held_of : Stored → Held
 held_of t = record { limit = t.limit; routes = t.routes }
-
--- the trie is lawful, its pairs are prefixes with offers in order, and their routes are the table's
-pub record IsStored (t : Stored) : Type 0 where
-  pub lawful : IsLawful t.trie
-  pub map : IsMap t.trie.pairs
-  pub routes : routes_of t.trie.pairs ≡ t.routes
-  pub table : IsTable t.routes
 
 -- the command was answered as the sequential table answers it, and the routes are what it leaves there
 pub record Serves (old new : Held) (feed : ℕ) (cmd : Cmd) (reply : Reply) : Type 0 where

@@ -5,10 +5,13 @@ use Rattle.std.proofs.Props.{props}
 use Rattle.rt_trie.specs.OneProof.{IsLawful-prop, IsOrdered-prop}
 use Rattle.rt_rib.specs.declared.routes.Route.{Route}
 use Rattle.rt_rib.specs.contracts.routes.Route as route
-use Rattle.rt_rib.specs.Book.{Contents, HoldsRoutesLeft}
+use Rattle.rt_rib.specs.Book.{Contents, OfferTrie, table_of, HoldsRoutes, HoldsRoutesLeft}
 
 routes_set : (a b : List Route) → IsProp (a ≡ b)
 routes_set = Coded-set (coded_list route.the_row.coded)
 
+HoldsRoutes-prop : (trie : OfferTrie) (routes : List Route) → IsProp (HoldsRoutes trie routes)
+HoldsRoutes-prop trie routes = hlevel (props, IsLawful-prop, IsOrdered-prop, routes_set)
+
 pub HoldsRoutesLeft-prop : (book : Contents) → IsProp (HoldsRoutesLeft book)
-HoldsRoutesLeft-prop book = hlevel (props, IsLawful-prop, IsOrdered-prop, routes_set)
+HoldsRoutesLeft-prop book = HoldsRoutes-prop book.trie (table_of book)

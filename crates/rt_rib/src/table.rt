@@ -3,8 +3,8 @@ ghost use Rattle.std.specs.Prelude.{◌≡◌, ◌^◌, ◌<◌, [], length, map
 ghost use Rattle.rt_rib.specs.declared.commands.Cmd.TheVariants.{Add, Replace, Withdraw, Purge};
 ghost use Rattle.rt_rib.specs.Table.{IsTable};
 ghost use Rattle.rt_rib.specs.LookUp.{look_up};
-ghost use Rattle.rt_rib.specs.Book.{IsLimit, IsFeed, IsAdd};
-ghost use Rattle.rt_rib.specs.Kept.{held_of, IsStored, Serves};
+ghost use Rattle.rt_rib.specs.Book.{IsLimit, IsFeed, IsAdd, HoldsRoutes};
+ghost use Rattle.rt_rib.specs.Kept.{held_of, Serves};
 
 use crate::commands::{Cmd, Reply};
 use crate::limits::MOST_FEEDS;
@@ -61,7 +61,7 @@ impl<A: Allocator + Copy> Table<A> {
 
     /// The trie is lawful and holds the table's routes. This makes it known, and does nothing.
     pub(crate) fn holds(&self)
-        ensures { IsStored self.now }
+        ensures { HoldsRoutes self.now.trie self.now.routes }
     {
         let _ = self.map.nodes();
     }

@@ -8,4 +8,4 @@ invariant_of-self-2 g c =
     c.requires c.self.invariant c.in_ok-reply.ensures.ok (rw c.in_ok-try_reserve.ensures.items at c.push_reserved.ensures.items)
 
 pub returns-clause-holds : goal.returns-clause-holds
-returns-clause-holds g c = holds_left c.apply.new.self c.push_reserved.new.self.items _ c.holds-2.ensures (invariant_of-self-2 g c)
+returns-clause-holds g c = holds_left c.apply.new.self c.push_reserved.new.self.items c.holds-2.ensures (invariant_of-self-2 g c)

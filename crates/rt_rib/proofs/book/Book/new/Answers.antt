@@ -9,4 +9,4 @@ invariant_of-result g c =
     rw (c.new-table.ensures, c.new.ensures.items) (record { feeds = All-nil _; lawful = IsLawfulJournal-nil c.args.limit; kept = sym (table_left-nil c.args.limit) })
 
 pub returns-clause-holds : goal.returns-clause-holds
-returns-clause-holds g c = holds_left c.new-table.result c.new.result.items _ c.holds.ensures (invariant_of-result g c)
+returns-clause-holds g c = holds_left c.new-table.result c.new.result.items c.holds.ensures (invariant_of-result g c)
