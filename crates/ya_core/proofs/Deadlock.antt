@@ -15,8 +15,8 @@ use Rattle.ya_core.specs.Soundness.{Away, Holding, waits, awaits_one, saw_itself
 use Rattle.ya_core.specs.Soundness.{is_to_wake, phase_at, phase_of, entry_phase, IsProper, IsSound, IsOwed, SomeRival}
 use Rattle.ya_core.specs.Progress.{SomeoneGoesOn}
 use Rattle.ya_core.proofs.Properness.{either}
-use Rattle.ya_core.proofs.Level.{competes}
-use Rattle.ya_core.proofs.Wake.{competes_unwoken, competes_outside}
+use Rattle.ya_core.proofs.PhaseKinds.{competes}
+use Rattle.ya_core.proofs.PhaseKinds.{competes_unwoken, competes_outside}
 use Rattle.ya_core.proofs.Phases.{phase_here, competes_at}
 use Rattle.ya_core.proofs.Outcomes.{may_step}
 

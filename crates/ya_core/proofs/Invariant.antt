@@ -19,7 +19,8 @@ use Rattle.ya_core.specs.Walks.{MayFind, CanStand}
 use Rattle.ya_core.specs.Worlds.{IsInside, is_inside}
 use Rattle.ya_core.proofs.Places.{node_below, node_of_place, node_of_root}
 use Rattle.ya_core.proofs.Properness.{proper_next}
-use Rattle.ya_core.proofs.Level.{competes, or_else, level_stays, one_holds}
+use Rattle.ya_core.proofs.PhaseKinds.{competes}
+use Rattle.ya_core.proofs.Level.{or_else, level_stays, one_holds}
 use Rattle.ya_core.proofs.Phases.{acts_at, phase_here, phase_below, phase_away, phase_won, phase_left, frame_phase}
 use Rattle.ya_core.proofs.Phases.{access_level, words_stay, holds_below}
 use Rattle.ya_core.proofs.Wake.{owed_stays}

@@ -1,59 +1,15 @@
 -- One level: what each kind of step keeps of it. `node` and `side` say where each place competes.
-use Rattle.std.proofs.Common.{◌≡◌, ◌≢◌, ℕ, ◌+◌, ◌-◌, ◌<◌, ◌==◌, ◌||◌, not, Bool, true, false, refl, arith, sym, ◌∙◌}
+use Rattle.std.proofs.Common.{◌≡◌, ◌≢◌, ℕ, ◌+◌, ◌-◌, ◌<◌, ◌==◌, Bool, true, false, refl, arith, ap, sym, ◌∙◌}
 use Rattle.std.proofs.Common.{subst, ◌≤◌, ◌⊎◌, inl, inr, IsTrue}
 use Rattle.std.proofs.Math.Path.{fun_ext}
 use Rattle.std.proofs.lemmas.Bool.Decides.{nat_tests}
 use Rattle.ya_core.specs.declared.process.Entry.{Entry}
 use Rattle.ya_core.specs.declared.process.Entry.TheVariants.{E4}
-use Rattle.ya_core.specs.Soundness.{Phase, Away, Named, Announced, Waiting, Holding, Parting, Freeing, claims, is_past}
-use Rattle.ya_core.specs.Soundness.{waits, holds, parts, IsSoundLevel}
+use Rattle.ya_core.specs.Soundness.{Phase, Away, Named, Announced, Waiting, Holding, Parting, claims, is_past, waits}
+use Rattle.ya_core.specs.Soundness.{holds, parts, IsSoundLevel}
 use Rattle.ya_core.specs.Tree.{Rivals}
-
--- at this phase the second kind has what the first has
-abbrev pub Also : (kind other : Phase → Bool) → Phase → Type 0
-Also kind other x = IsTrue (other x || not (kind x))
-
--- so one kind is within another where it is so at each of the seven phases
-pub by_phases : (kind other : Phase → Bool) → Also kind other Away → Also kind other Named → Also kind other Announced
-    → ((point : Entry) → Also kind other (Waiting point)) → Also kind other Holding
-    → Also kind other Parting → ((rival : ℕ) → Also kind other (Freeing rival)) → (x : Phase) → IsTrue (kind x)
-    → IsTrue (other x)
-by_phases kind other away named announced waiting holding parting freeing x = has (kind x) (other x) (at x)
-  where
-    at : (x : Phase) → Also kind other x
-    at Away = away
-    at Named = named
-    at Announced = announced
-    at (Waiting point) = waiting point
-    at Holding = holding
-    at Parting = parting
-    at (Freeing rival) = freeing rival
-
-    has : (a b : Bool) → IsTrue (b || not a) → IsTrue a → IsTrue b
-    has a true both h = refl
-    has true false both h = absurd cc
-    has false false both h = absurd cc
-
--- one who holds or is past claims, and one who holds or waits is past
-pub claims_holds : (x : Phase) → IsTrue (holds x) → IsTrue (claims x)
-claims_holds = by_phases holds claims refl refl refl (λ point. refl) refl refl (λ rival. refl)
-
-is_past_holds : (x : Phase) → IsTrue (holds x) → IsTrue (is_past x)
-is_past_holds = by_phases holds is_past refl refl refl (λ point. refl) refl refl (λ rival. refl)
-
-pub claims_is_past : (x : Phase) → IsTrue (is_past x) → IsTrue (claims x)
-claims_is_past = by_phases is_past claims refl refl refl (λ point. refl) refl refl (λ rival. refl)
-
-pub is_past_waits : (x : Phase) → IsTrue (waits x) → IsTrue (is_past x)
-is_past_waits = by_phases waits is_past refl refl refl (λ point. refl) refl refl (λ rival. refl)
-
--- it takes part at the node
-abbrev pub competes : Phase → Bool
-competes Away = false
-competes _ = true
-
-pub competes_claims : (x : Phase) → IsTrue (claims x) → IsTrue (competes x)
-competes_claims = by_phases claims competes refl refl refl (λ point. refl) refl refl (λ rival. refl)
+use Rattle.ya_core.proofs.PhaseKinds.{claims_holds, is_past_holds, claims_is_past, is_past_waits, competes}
+use Rattle.ya_core.proofs.PhaseKinds.{competes_claims}
 
 -- the two phases are alike for the clauses on claim, turn, waiter and spin
 pub record Alike (x y : Phase) : Type 0 where
@@ -194,33 +150,73 @@ module _ (node side : ℕ → ℕ) (phase : ℕ → Phase) (claim : ℕ → ℕ 
       ))
 
   module _ (p : ℕ) (phase' : ℕ → Phase) (same : Same p phase phase') where
+    -- the clause on claims after the step
+    abbrev KeepsClaims : (ℕ → ℕ → ℕ) → Type 0
+    KeepsClaims claim' = ((q : ℕ) → IsTrue (claims (phase' q)) → claim' (node q) (side q) ≡ q + 1)
+        × ((n s q : ℕ) → claim' n s ≡ q + 1 → (node q ≡ n) × (side q ≡ s) × IsTrue (claims (phase' q)))
+
+    -- where no word C changes it stays, if the place claims as before
+    keeps_claims : claims (phase' p) ≡ claims (phase p) → KeepsClaims claim
+    keeps_claims claiming = (
+      λ q h. grind (arith, same q, claiming, is.claimed q),
+      λ n s q h. (
+        claimant_node n s q h,
+        claimant_side n s q h,
+        grind (arith, same q, claiming, claimant_claims n s q h),
+      ),
+    )
+
+    -- each rival of the place that is past announced itself last
+    abbrev RivalsAreLast : Type 0
+    RivalsAreLast = (q : ℕ) → node p ≡ node q → side p ≢ side q → IsTrue (is_past (phase q)) → turn (node p) ≡ q + 1
+
+    -- what a step leaves alone that changes no word T, and no word P but the place's own: the other clauses stay, where
+    -- they hold of the place itself
+    frame : (claim' : ℕ → ℕ → ℕ) (spin' : ℕ → ℕ) → KeepsClaims claim'
+        → (IsTrue (is_past (phase' p)) → IsTrue (is_past (phase p)))
+        → (IsTrue (parts (phase' p)) → turn (node p) ≢ 0)
+        → (IsTrue (holds (phase' p)) → RivalsAreLast)
+        → (IsTrue (waits (phase' p)) → spin' p ≡ 2 → RivalsAreLast)
+        → spin' p ≤ 2 → SameWords p spin spin'
+        → IsSoundLevel node side phase' claim' turn spin'
+    frame claim' spin' claiming past parting holding waiting range others =
+        record {
+          claimed = claiming.0;
+          claimant = claiming.1;
+          below = is.below;
+          announced = λ q h. grind (arith, same q, past, is.announced q);
+          parting = λ q h. grind (arith, same q, parting, is.parting q);
+          one_of_two = λ q r rivals hq hr. let nodes = rivals.0 in let sides = rivals.1 in
+              grind (arith, same q, same r, past, one_of_two_at q r nodes sides);
+          waiter = λ q r rivals hq hr. let nodes = rivals.0 in let sides = rivals.1 in
+              grind (arith, same q, same r, past, λ (h : IsTrue (holds (phase' p))). holding h r, waiter_at q r nodes sides);
+          in_range = λ q. grind (arith, others q, is.in_range q);
+          let_in = λ q r rivals hq two hr. let nodes = rivals.0 in let sides = rivals.1 in
+              grind (arith, same q, same r, others q, past, λ (h : IsTrue (waits (phase' p))) (at : spin' p ≡ 2). waiting h at r, let_in_at q r nodes sides);
+        }
+
+    -- the place wins, holds on or waits on as before: then its rivals are last as they were
+    still_holds : IsTrue (holds (phase p)) → RivalsAreLast
+    still_holds h q nodes sides hq = waiter_at p q nodes sides h hq
+
+    still_waits : IsTrue (waits (phase p)) → spin p ≡ 2 → RivalsAreLast
+    still_waits h at q nodes sides hq = let_in_at p q nodes sides h at hq
+
+    -- a step that changes no word of the level keeps it, where the place is of no kind of which it wasn't before
+    stays : claims (phase' p) ≡ claims (phase p) → (IsTrue (is_past (phase' p)) → IsTrue (is_past (phase p)))
+        → (IsTrue (parts (phase' p)) → IsTrue (parts (phase p)))
+        → (IsTrue (holds (phase' p)) → IsTrue (holds (phase p)))
+        → (IsTrue (waits (phase' p)) → IsTrue (waits (phase p)))
+        → IsSoundLevel node side phase' claim turn spin
+    stays claiming past parting holding waiting =
+        frame claim spin (keeps_claims claiming) past (λ h. is.parting p (parting h)) (λ h. still_holds (holding h))
+        (λ h. still_waits (waiting h)) (is.in_range p) (λ q. inr refl)
+
     -- a step that keeps what the clauses see of the place keeps them
     pub alike : Alike (phase' p) (phase p) → IsSoundLevel node side phase' claim turn spin
     alike here =
-        record {
-          claimed = λ q h. is.claimed q (sym (at q).claiming ∙ h);
-          claimant = λ n s q h. (
-            claimant_node n s q h,
-            claimant_side n s q h,
-            (at q).claiming ∙ claimant_claims n s q h,
-          );
-          below = is.below;
-          announced = λ q h. is.announced q (sym (at q).past ∙ h);
-          parting = λ q h. is.parting q (sym (at q).parting ∙ h);
-          one_of_two = λ q r rivals hq hr. is.one_of_two q r rivals (sym (at q).past ∙ hq) (sym (at r).past ∙ hr);
-          waiter = λ q r rivals hq hr. is.waiter q r rivals (sym (at q).holding ∙ hq) (sym (at r).past ∙ hr);
-          in_range = is.in_range;
-          let_in = λ q r rivals hq two hr. is.let_in q r rivals (sym (at q).waiting ∙ hq) two (sym (at r).past ∙ hr);
-        }
-      where
-        at : (q : ℕ) → Alike (phase' q) (phase q)
-        at q = cases (same q)
-          where
-            cases : (q ≡ p) ⊎ (phase' q ≡ phase q) → Alike (phase' q) (phase q)
-            cases (inl one) = subst (λ r. Alike (phase' r) (phase r)) (sym one) here
-            cases (inr still) =
-                subst (λ x. Alike x (phase q)) (sym still)
-                (record { claiming = refl; past = refl; waiting = refl; holding = refl; parting = refl })
+        stays here.claiming (λ h. sym here.past ∙ h) (λ h. sym here.parting ∙ h) (λ h. sym here.holding ∙ h)
+        (λ h. sym here.waiting ∙ h)
 
     -- e1: a place that is alone on its side claims it
     pub claims_side : (claim' : ℕ → ℕ → ℕ) → phase' p ≡ Named → claim' (node p) (side p) ≡ p + 1
@@ -228,25 +224,15 @@ module _ (node side : ℕ → ℕ) (phase : ℕ → Phase) (claim : ℕ → ℕ 
         → ((q : ℕ) → node q ≡ node p → side q ≡ side p → IsTrue (competes (phase q)) → q ≡ p)
         → IsSoundLevel node side phase' claim' turn spin
     claims_side claim' now stored others alone =
-        record {
-          claimed = λ q h. grind
-              (arith, same q, others (node q) (side q), alone q, competes_claims (phase q), is.claimed q);
-          claimant = λ n s q h. (
+        frame claim' spin (
+          λ q h. grind (arith, same q, others (node q) (side q), alone q, competes_claims (phase q), is.claimed q),
+          λ n s q h. (
             grind (arith, same q, others n s, claimant_node n s q),
             grind (arith, same q, others n s, claimant_side n s q),
             grind (arith, same q, others n s, claimant_claims n s q),
-          );
-          below = is.below;
-          announced = λ q h. grind (arith, same q, is.announced q);
-          parting = λ q h. grind (arith, same q, is.parting q);
-          one_of_two = λ q r rivals hq hr. let nodes = rivals.0 in let sides = rivals.1 in
-              grind (arith, same q, same r, one_of_two_at q r nodes sides);
-          waiter = λ q r rivals hq hr. let nodes = rivals.0 in let sides = rivals.1 in
-              grind (arith, same q, same r, waiter_at q r nodes sides);
-          in_range = is.in_range;
-          let_in = λ q r rivals hq spins hr. let nodes = rivals.0 in let sides = rivals.1 in
-              grind (arith, same q, same r, let_in_at q r nodes sides);
-        }
+          ),
+        )
+        (λ h. grind arith) (λ h. grind arith) (λ h. grind arith) (λ h. grind arith) (is.in_range p) (λ q. inr refl)
 
     -- e2: the place whose claim stands announces itself, the last to do so at the node
     pub announces : (two : (q : ℕ) → side q < 2) (turn' : ℕ → ℕ) → phase p ≡ Named → phase' p ≡ Announced
@@ -315,143 +301,47 @@ module _ (node side : ℕ → ℕ) (phase : ℕ → Phase) (claim : ℕ → ℕ 
     pub clears : (spin' : ℕ → ℕ) → phase p ≡ Announced → phase' p ≡ Waiting E4 → spin' p ≡ 0 → SameWords p spin spin'
         → IsSoundLevel node side phase' claim turn spin'
     clears spin' was now stored others =
-        record {
-          claimed = λ q h. grind (arith, same q, is.claimed q);
-          claimant = λ n s q h.
-              (claimant_node n s q h, claimant_side n s q h, grind (arith, same q, claimant_claims n s q h));
-          below = is.below;
-          announced = λ q h. grind (arith, same q, is.announced q);
-          parting = λ q h. grind (arith, same q, is.parting q);
-          one_of_two = λ q r rivals hq hr. let nodes = rivals.0 in let sides = rivals.1 in
-              grind (arith, same q, same r, one_of_two_at q r nodes sides);
-          waiter = λ q r rivals hq hr. let nodes = rivals.0 in let sides = rivals.1 in
-              grind (arith, same q, same r, waiter_at q r nodes sides);
-          in_range = λ q. grind (arith, others q, is.in_range q);
-          let_in = λ q r rivals hq spins hr. let nodes = rivals.0 in let sides = rivals.1 in
-              grind (arith, same q, same r, others q, let_in_at q r nodes sides);
-        }
+        frame claim spin' (keeps_claims (ap claims now ∙ sym (ap claims was))) (λ h. grind arith) (λ h. grind arith)
+        (λ h. grind arith) (λ h at. absurd (omega (arith, stored, at))) (omega (arith, stored)) others
 
     -- e4, e5, e9, e10: a place wins where each rival that is past announced itself last
-    pub wins : (point : Entry) → phase p ≡ Waiting point → phase' p ≡ Holding
-        → ((q : ℕ) → node p ≡ node q → side p ≢ side q → IsTrue (is_past (phase q)) → turn (node p) ≡ q + 1)
+    pub wins : (point : Entry) → phase p ≡ Waiting point → phase' p ≡ Holding → RivalsAreLast
         → IsSoundLevel node side phase' claim turn spin
     wins point was now last =
-        record {
-          claimed = λ q h. grind (arith, same q, is.claimed q);
-          claimant = λ n s q h.
-              (claimant_node n s q h, claimant_side n s q h, grind (arith, same q, claimant_claims n s q h));
-          below = is.below;
-          announced = λ q h. grind (arith, same q, is.announced q);
-          parting = λ q h. grind (arith, same q, is.parting q);
-          one_of_two = λ q r rivals hq hr. let nodes = rivals.0 in let sides = rivals.1 in
-              grind (arith, same q, same r, one_of_two_at q r nodes sides);
-          waiter = λ q r rivals hq hr. let nodes = rivals.0 in let sides = rivals.1 in
-              grind (arith, same q, same r, waiter_at q r nodes sides, last r);
-          in_range = is.in_range;
-          let_in = λ q r rivals hq spins hr. let nodes = rivals.0 in let sides = rivals.1 in
-              grind (arith, same q, same r, let_in_at q r nodes sides);
-        }
+        frame claim spin (keeps_claims (ap claims now ∙ sym (ap claims was))) (λ h. grind arith) (λ h. grind arith)
+        (λ h. last) (λ h at. last) (is.in_range p) (λ q. inr refl)
 
     -- x1: the place that holds the node gives up its claim
     pub gives_up : (claim' : ℕ → ℕ → ℕ) → phase p ≡ Holding → phase' p ≡ Parting → claim' (node p) (side p) ≡ 0
         → SameClaims (node p) (side p) claim claim' → IsSoundLevel node side phase' claim' turn spin
     gives_up claim' was now stored others =
-        record {
-          claimed = λ q h. grind (arith, same q, others (node q) (side q), one_a_side p q, is.claimed q);
-          claimant = λ n s q h. (
+        frame claim' spin (
+          λ q h. grind (arith, same q, others (node q) (side q), one_a_side p q, is.claimed q),
+          λ n s q h. (
             grind (arith, others n s, claimant_node n s q),
             grind (arith, others n s, claimant_side n s q),
             grind (arith, same q, others n s, claimant_node n s q, claimant_side n s q, claimant_claims n s q),
-          );
-          below = is.below;
-          announced = λ q h. grind (arith, same q, is.announced q);
-          parting = λ q h. grind (arith, same q, is.parting q, is.announced q);
-          one_of_two = λ q r rivals hq hr. let nodes = rivals.0 in let sides = rivals.1 in
-              grind (arith, same q, same r, one_of_two_at q r nodes sides);
-          waiter = λ q r rivals hq hr. let nodes = rivals.0 in let sides = rivals.1 in
-              grind (arith, same q, same r, waiter_at q r nodes sides);
-          in_range = is.in_range;
-          let_in = λ q r rivals hq spins hr. let nodes = rivals.0 in let sides = rivals.1 in
-              grind (arith, same q, same r, let_in_at q r nodes sides);
-        }
+          ),
+        )
+        (λ h. grind arith) (λ h. is.announced p (ap is_past was)) (λ h. grind arith) (λ h. grind arith) (is.in_range p)
+        (λ q. inr refl)
 
     -- x2: the place that has seen who announced itself last is as one that is away
     pub goes_away : phase p ≡ Parting → Alike (phase' p) Away → IsSoundLevel node side phase' claim turn spin
     goes_away was quiet =
-        record {
-          claimed = λ q h. grind
-              (arith, quiet.claiming, quiet.past, quiet.waiting, quiet.holding, quiet.parting, same q, is.claimed q);
-          claimant = λ n s q h. (
-            claimant_node n s q h,
-            claimant_side n s q h,
-            grind (
-              arith,
-              quiet.claiming,
-              quiet.past,
-              quiet.waiting,
-              quiet.holding,
-              quiet.parting,
-              same q,
-              claimant_claims n s q h,
-            ),
-          );
-          below = is.below;
-          announced = λ q h. grind
-              (arith, quiet.claiming, quiet.past, quiet.waiting, quiet.holding, quiet.parting, same q, is.announced q);
-          parting = λ q h. grind
-              (arith, quiet.claiming, quiet.past, quiet.waiting, quiet.holding, quiet.parting, same q, is.parting q);
-          one_of_two = λ q r rivals hq hr. let nodes = rivals.0 in let sides = rivals.1 in
-              grind (
-                arith,
-                quiet.claiming,
-                quiet.past,
-                quiet.waiting,
-                quiet.holding,
-                quiet.parting,
-                same q,
-                same r,
-                one_of_two_at q r nodes sides,
-              );
-          waiter = λ q r rivals hq hr. let nodes = rivals.0 in let sides = rivals.1 in
-              grind (
-                arith,
-                quiet.claiming,
-                quiet.past,
-                quiet.waiting,
-                quiet.holding,
-                quiet.parting,
-                same q,
-                same r,
-                waiter_at q r nodes sides,
-              );
-          in_range = is.in_range;
-          let_in = λ q r rivals hq spins hr. let nodes = rivals.0 in let sides = rivals.1 in
-              grind (
-                arith,
-                quiet.claiming,
-                quiet.past,
-                quiet.waiting,
-                quiet.holding,
-                quiet.parting,
-                same q,
-                same r,
-                let_in_at q r nodes sides,
-              );
-        }
+        stays (quiet.claiming ∙ sym (ap claims was)) (λ h. grind (arith, quiet.past)) (λ h. grind (arith, quiet.parting))
+        (λ h. grind (arith, quiet.holding)) (λ h. grind (arith, quiet.waiting))
 
     -- at e4 the rival's side is nil, so nobody opposite claims
-    pub last_unclaimed : (two : (q : ℕ) → side q < 2) → claim (node p) (1 - side p) ≡ 0 → (q : ℕ) → node p ≡ node q
-        → side p ≢ side q → IsTrue (is_past (phase q)) → turn (node p) ≡ q + 1
+    pub last_unclaimed : (two : (q : ℕ) → side q < 2) → claim (node p) (1 - side p) ≡ 0 → RivalsAreLast
     last_unclaimed two nil q nodes sides hq =
         let other : 1 - side p ≡ side q = omega (arith, two p, two q) in
         absurd (grind (arith, is.claimed q, claims_is_past (phase q) hq))
 
     -- at e5 and e9 the place is not the one that announced itself last
-    pub last_other : turn (node p) ≢ p + 1 → IsTrue (is_past (phase p)) → (q : ℕ) → node p ≡ node q → side p ≢ side q
-        → IsTrue (is_past (phase q)) → turn (node p) ≡ q + 1
+    pub last_other : turn (node p) ≢ p + 1 → IsTrue (is_past (phase p)) → RivalsAreLast
     last_other other hp q nodes sides hq = grind (arith, one_of_two_at p q nodes sides)
 
     -- at e10 the place was let in
-    pub last_let_in : spin p ≡ 2 → IsTrue (waits (phase p)) → (q : ℕ) → node p ≡ node q → side p ≢ side q
-        → IsTrue (is_past (phase q)) → turn (node p) ≡ q + 1
-    last_let_in two hp q nodes sides hq = let_in_at p q nodes sides hp two hq
+    pub last_let_in : spin p ≡ 2 → IsTrue (waits (phase p)) → RivalsAreLast
+    last_let_in two hp = still_waits hp two

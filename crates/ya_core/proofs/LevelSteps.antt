@@ -12,9 +12,10 @@ use Rattle.ya_core.specs.Steps.{State, Accesses}
 use Rattle.ya_core.specs.Soundness.{Phase, Away, Named, Announced, Waiting, Holding, Parting, Freeing, is_past, waits}
 use Rattle.ya_core.specs.Soundness.{phase_of, IsSoundLevel, IsSoundAt, IsOwedAt}
 use Rattle.ya_core.proofs.Places.{side_below}
-use Rattle.ya_core.proofs.Level.{Same, SameClaims, SameWords, Alike, competes, or_else, level_stays, alike, wakes}
-use Rattle.ya_core.proofs.Level.{lets_in, claims_side, announces, clears, wins, gives_up, goes_away, last_unclaimed}
-use Rattle.ya_core.proofs.Level.{last_other, last_let_in}
+use Rattle.ya_core.proofs.PhaseKinds.{competes}
+use Rattle.ya_core.proofs.Level.{Same, SameClaims, SameWords, Alike, or_else, level_stays, alike, wakes, lets_in}
+use Rattle.ya_core.proofs.Level.{claims_side, announces, clears, wins, gives_up, goes_away, last_unclaimed, last_other}
+use Rattle.ya_core.proofs.Level.{last_let_in}
 use Rattle.ya_core.proofs.Wake.{owed_stays, owed_named, owed_announced, owed_cleared, owed_found, owed_last}
 use Rattle.ya_core.proofs.Wake.{owed_asleep, owed_awake, owed_woken, owed_waits, owed_wins, owed_wakes, owed_freed}
 use Rattle.ya_core.proofs.Wake.{owed_given_up, owed_left, owed_parted, none_unclaimed, none_last}

@@ -3,6 +3,7 @@ pub mod Places
 pub mod Numbers
 pub mod Properness
 pub mod Counting
+pub mod PhaseKinds
 pub mod Level
 pub mod Wake
 pub mod Phases
@@ -11,8 +12,12 @@ pub mod Invariant
 pub mod Content
 pub mod Deadlock
 pub mod Rivalry
+pub mod NextPoints
+pub mod FairRuns
 pub mod Starvation
 pub mod Schedules
+pub mod TurnSteps
+pub mod LevelWins
 pub mod Overtaking
 pub mod Outcomes
 pub mod NamedWords

@@ -1,366 +1,26 @@
 -- At a node, from its store of T, nobody is overtaken twice: once the other side won, a place that waits is named by T
 -- only where each rival that is past holds the node.
-use Rattle.std.proofs.Common.{◌≡◌, ◌≢◌, ℕ, ◌+◌, ◌-◌, ◌≤◌, ◌==◌, ◌&&◌, not, Bool, true, false, nat_lt, refl, arith, ap}
-use Rattle.std.proofs.Common.{sym, ◌∙◌, subst, ◌⊎◌, inl, inr, if◌then◌else◌, IsTrue, List, [], ◌∷◌, ◌++◌}
+use Rattle.std.proofs.Common.{◌≡◌, ◌≢◌, ℕ, ◌+◌, ◌-◌, ◌≤◌, ◌==◌, ◌&&◌, not, Bool, true, false, refl, arith, ap, sym}
+use Rattle.std.proofs.Common.{◌∙◌, subst, ◌⊎◌, inl, inr, if◌then◌else◌, IsTrue, List, [], ◌∷◌, ◌++◌}
 use Rattle.std.proofs.lemmas.Bool.Decides.{nat_tests}
 use Rattle.ya_core.specs.declared.word.Word.TheVariants.{C, T, P}
-use Rattle.ya_core.specs.declared.word.Access.{Access}
-use Rattle.ya_core.specs.declared.word.Access.TheVariants.{Load, Store}
 use Rattle.ya_core.specs.declared.process.Entry.{Entry}
 use Rattle.ya_core.specs.declared.process.Entry.TheVariants.{E1, E2, E3, E4, E5, E6, E7, E8, E9, E10}
-use Rattle.ya_core.specs.declared.process.Exit.{Exit}
-use Rattle.ya_core.specs.declared.process.Exit.TheVariants.{X1, X2, X3}
 use Rattle.ya_core.specs.declared.process.Process.{Process}
 use Rattle.ya_core.specs.declared.process.Process.TheVariants.{Idle, Entering, Inside, Leaving}
 use Rattle.ya_core.specs.Tree.{node_of, side_of, AreRivals}
-use Rattle.ya_core.specs.Steps.{State, StepsTo, Accesses, value_of, access_of, next_of, won, left, entry_next}
-use Rattle.ya_core.specs.Steps.{exit_next}
-use Rattle.ya_core.specs.Soundness.{Phase, Away, Named, Announced, Waiting, Holding, Parting, Freeing, is_past, holds}
-use Rattle.ya_core.specs.Soundness.{phase_of, entry_phase, exit_phase, IsSound}
+use Rattle.ya_core.specs.Steps.{State, StepsTo, value_of, access_of, next_of, won, entry_next}
+use Rattle.ya_core.specs.Soundness.{Holding, is_past, holds, phase_of, entry_phase, IsSound}
 use Rattle.ya_core.specs.Progress.{Deed, announces, Announces, Wins, Neither, LevelStep, LevelSees, HasNotWon}
 use Rattle.ya_core.specs.Progress.{times_overtaken, is_rival, is_win, is_entering, is_to_announce, deed_of}
-use Rattle.ya_core.proofs.Properness.{either}
-use Rattle.ya_core.proofs.Level.{claims_is_past, claims_holds, one_a_side, or_else}
-use Rattle.ya_core.proofs.Phases.{acts_at, phase_here, phase_won, phase_left, frame_phase}
+use Rattle.ya_core.proofs.PhaseKinds.{claims_is_past, claims_holds}
+use Rattle.ya_core.proofs.Level.{one_a_side, or_else}
+use Rattle.ya_core.proofs.Phases.{phase_here, phase_won}
 use Rattle.ya_core.proofs.Places.{side_below}
 use Rattle.ya_core.proofs.Invariant.{keeps}
-
--- on the way in a process waits on at the level, or wins it
-data GoesIn (levels level : ℕ) (next : Process) : Type 0 where
-  StaysIn : (point : Entry) → next ≡ Entering level point → IsTrue (is_past (entry_phase point))
-      → GoesIn levels level next
-  WinsIt : next ≡ won levels level → GoesIn levels level next
-
-goes_in : (levels level place : ℕ) (point : Entry) (value : ℕ) → IsTrue (is_past (entry_phase point))
-    → GoesIn levels level (entry_next levels level place point value)
-goes_in levels level place E1 value h = absurd cc
-goes_in levels level place E2 value h = absurd cc
-goes_in levels level place E3 value h = StaysIn E4 refl refl
-goes_in levels level place E4 value h =
-    either (GoesIn levels level) (value == 0) _ _ (λ _. WinsIt refl) (λ _. StaysIn (E5 (value - 1)) refl refl)
-goes_in levels level place (E5 rival) value h =
-    either (GoesIn levels level) (value == place + 1) _ _ (λ _. StaysIn (E6 rival) refl refl) (λ _. WinsIt refl)
-goes_in levels level place (E6 rival) value h =
-    either (GoesIn levels level) (value == 0) _ _ (λ _. StaysIn (E7 rival) refl refl) (λ _. StaysIn E8 refl refl)
-goes_in levels level place (E7 rival) value h = StaysIn E8 refl refl
-goes_in levels level place E8 value h =
-    either (GoesIn levels level) (value == 0) _ _ (λ _. StaysIn E8 refl refl) (λ _. StaysIn E9 refl refl)
-goes_in levels level place E9 value h =
-    either (GoesIn levels level) (value == place + 1) _ _ (λ _. StaysIn E10 refl refl) (λ _. WinsIt refl)
-goes_in levels level place E10 value h =
-    either (GoesIn levels level) (value == 2) _ _ (λ _. WinsIt refl) (λ _. StaysIn E10 refl refl)
-
--- who won a level is not on its way in there
-won_is_out : (levels level : ℕ) → is_entering level (won levels level) ≡ false
-won_is_out levels level =
-    either (λ x. is_entering level x ≡ false) (nat_lt level levels) _ _ (λ _. grind (arith, nat_tests)) (λ _. refl)
-
-entering_here : (level : ℕ) (point : Entry) → is_entering level (Entering level point) ≡ true
-entering_here level point = grind (arith, nat_tests)
-
--- the process is to announce itself at the level where it stands
-abbrev is_announcing : Process → Bool
-is_announcing (Entering level E2) = true
-is_announcing _ = false
-
--- one that waits there isn't
-past_announces : (level : ℕ) (point : Entry) → IsTrue (is_past (entry_phase point))
-    → (is_announcing (Entering level point) ≡ false) × (is_to_announce level (Entering level point) ≡ false)
-past_announces level E1 h = absurd cc
-past_announces level E2 h = absurd cc
-past_announces level E3 h = (refl, refl)
-past_announces level E4 h = (refl, refl)
-past_announces level (E5 rival) h = (refl, refl)
-past_announces level (E6 rival) h = (refl, refl)
-past_announces level (E7 rival) h = (refl, refl)
-past_announces level E8 h = (refl, refl)
-past_announces level E9 h = (refl, refl)
-past_announces level E10 h = (refl, refl)
-
--- what one step does to a level's words T and to the phase of its process there
-module _ (levels level q : ℕ) (s t : State) (some : 1 ≤ levels) (least : 1 ≤ level) (most : level ≤ levels)
-    (is : IsSound levels s) (step : StepsTo levels q s t) where
-  abbrev value : ℕ
-  value = value_of s.words (access_of levels q (s.processes q))
-
-  -- a word T stays, or the process announced itself there
-  abbrev IsAnnounced : ℕ → Type 0
-  IsAnnounced n = (t.words (T level n) ≡ q + 1) × IsTrue (is_announcing (s.processes q))
-
-  turn_or : (n : ℕ) → (t.words (T level n) ≡ s.words (T level n)) ⊎ IsAnnounced n
-  turn_or n = by_access (access_of levels q (s.processes q)) (stores (s.processes q)) step.words
-    where
-      stores : (x : Process) → (stands v node : ℕ) → access_of levels q x ≡ Store (T stands node) v
-          → (v ≡ q + 1) × IsTrue (is_announcing x)
-      stores Idle stands v node e = absurd cc
-      stores (Entering h E1) stands v node e = absurd cc
-      stores (Entering h E2) stands v node e = (cc, refl)
-      stores (Entering h E3) stands v node e = absurd cc
-      stores (Entering h E4) stands v node e = absurd cc
-      stores (Entering h (E5 rival)) stands v node e = absurd cc
-      stores (Entering h (E6 rival)) stands v node e = absurd cc
-      stores (Entering h (E7 rival)) stands v node e = absurd cc
-      stores (Entering h E8) stands v node e = absurd cc
-      stores (Entering h E9) stands v node e = absurd cc
-      stores (Entering h E10) stands v node e = absurd cc
-      stores Inside stands v node e = absurd cc
-      stores (Leaving h X1) stands v node e = absurd cc
-      stores (Leaving h X2) stands v node e = absurd cc
-      stores (Leaving h (X3 rival)) stands v node e = absurd cc
-
-      by_access : (a : Access)
-          → ((stands v node : ℕ) → a ≡ Store (T stands node) v → (v ≡ q + 1) × IsTrue (is_announcing (s.processes q)))
-          → Accesses a s.words t.words
-          → (t.words (T level n) ≡ s.words (T level n)) ⊎ IsAnnounced n
-      by_access (Load word) turns done = inl (done (T level n))
-      by_access (Store (C h m d) v) turns done = inl (done.1 (T level n) (λ e. cc))
-      by_access (Store (P h p) v) turns done = inl (done.1 (T level n) (λ e. cc))
-      by_access (Store (T h m) v) turns done = same (h == level) (m == n) refl refl
-        where
-          same : (b d : Bool) → (h == level) ≡ b → (m == n) ≡ d
-              → (t.words (T level n) ≡ s.words (T level n)) ⊎ IsAnnounced n
-          same true true one two =
-              let levels_same : h ≡ level = grind (arith, nat_tests) in
-              let nodes_same : m ≡ n = grind (arith, nat_tests) in
-              let stored = turns h v m refl in
-              inr (
-                subst (λ k. t.words (T k n) ≡ q + 1) levels_same
-                    (subst (λ k. t.words (T h k) ≡ q + 1) nodes_same (done.0 ∙ stored.0)),
-                stored.1,
-              )
-          same false d one two =
-              inl (done.1 (T level n) (λ e. (let apart : h ≢ level = grind (arith, nat_tests) in apart) cc))
-          same true false one two =
-              inl (done.1 (T level n) (λ e. (let apart : m ≢ n = grind (arith, nat_tests) in apart) cc))
-
-  -- the phase of the process before and after
-  abbrev before : Phase
-  before = phase_of levels level (s.processes q)
-
-  abbrev after : Phase
-  after = phase_of levels level (t.processes q)
-
-  -- it is past only where it was, or announced itself, and where it held the level it holds it still or is past no more
-  record Turns (x y : Phase) : Type 0 where
-    past : IsTrue (is_past y) → IsTrue (is_past x) ⊎ (t.words (T level (node_of level q)) ≡ q + 1)
-    held : IsTrue (holds x) → IsTrue (is_past y) → IsTrue (holds y)
-
-  same_turns : (x y : Phase) → y ≡ x → Turns x y
-  same_turns x y e =
-      record {
-        past = λ h. inl (subst (λ z. IsTrue (is_past z)) e h);
-        held = λ h k. subst (λ z. IsTrue (holds z)) (sym e) h;
-      }
-
-  -- one that is past and doesn't hold goes where it likes
-  past_turns : (x y : Phase) → IsTrue (is_past x) → holds x ≡ false → Turns x y
-  past_turns x y h k = record { past = λ _. inl h; held = λ g _. absurd (let both : true ≡ false = sym g ∙ k in cc) }
-
-  -- one that comes to where it isn't past
-  not_past : (x y : Phase) → is_past y ≡ false → Turns x y
-  not_past x y h =
-      record {
-        past = λ g. absurd (let both : true ≡ false = sym g ∙ h in cc);
-        held = λ _ g. absurd (let both : true ≡ false = sym g ∙ h in cc);
-      }
-
-  here_entry : (point : Entry) → s.processes q ≡ Entering level point
-      → Turns (entry_phase point) (phase_of levels level (entry_next levels level q point value))
-  here_entry E1 e = not_past Away (phase_of levels level (Entering level E2)) (ap is_past (phase_here level Named))
-  here_entry E2 e =
-      record {
-        past = λ _. inr
-            ((let done : Accesses (Store (T level (node_of level q)) (q + 1)) s.words t.words = subst
-            (λ x. Accesses (access_of levels q x) s.words t.words) e step.words in done).0);
-        held = λ h _. absurd cc;
-      }
-  here_entry E3 e = past_turns Announced (phase_of levels level (entry_next levels level q E3 value)) refl refl
-  here_entry E4 e = past_turns (Waiting E4) (phase_of levels level (entry_next levels level q E4 value)) refl refl
-  here_entry (E5 rival) e =
-      past_turns (Waiting (E5 rival)) (phase_of levels level (entry_next levels level q (E5 rival) value)) refl refl
-  here_entry (E6 rival) e =
-      past_turns (Waiting (E6 rival)) (phase_of levels level (entry_next levels level q (E6 rival) value)) refl refl
-  here_entry (E7 rival) e =
-      past_turns (Waiting (E7 rival)) (phase_of levels level (entry_next levels level q (E7 rival) value)) refl refl
-  here_entry E8 e = past_turns (Waiting E8) (phase_of levels level (entry_next levels level q E8 value)) refl refl
-  here_entry E9 e = past_turns (Waiting E9) (phase_of levels level (entry_next levels level q E9 value)) refl refl
-  here_entry E10 e = past_turns (Waiting E10) (phase_of levels level (entry_next levels level q E10 value)) refl refl
-
-  here_exit : (point : Exit) → Turns (exit_phase point) (phase_of levels level (exit_next level q point value))
-  here_exit X1 = not_past Holding (phase_of levels level (Leaving level X2)) (ap is_past (phase_here level Parting))
-  here_exit X2 =
-      not_past Parting (phase_of levels level (exit_next level q X2 value))
-      (either (λ x. is_past (phase_of levels level x) ≡ false) (value == q + 1) _ _
-      (λ _. ap is_past (phase_left levels level level least least ∙ phase_here level Away))
-      (λ _. ap is_past (phase_here level (Freeing (value - 1)))))
-  here_exit (X3 rival) =
-      not_past (Freeing rival) (phase_of levels level (left level))
-      (ap is_past (phase_left levels level level least least ∙ phase_here level Away))
-
-  -- so at whatever level the process acts
-  turns_of : Turns before after
-  turns_of = subst (λ x. Turns before (phase_of levels level x)) (sym step.process)
-      (by_process (s.processes q) refl (level == acts_at levels (s.processes q)) refl)
-    where
-      by_process : (x : Process) → s.processes q ≡ x → (b : Bool) → (level == acts_at levels x) ≡ b
-          → Turns (phase_of levels level (s.processes q))
-          (phase_of levels level (next_of levels q (s.processes q) value))
-      by_process x e false far =
-          same_turns (phase_of levels level (s.processes q))
-          (phase_of levels level (next_of levels q (s.processes q) value))
-          (frame_phase levels level q (s.processes q) value some least (is.proper q)
-          (λ same. (let apart : level ≢ acts_at levels x = grind (arith, nat_tests) in apart)
-          (same ∙ ap (acts_at levels) e)))
-      by_process Idle e true here =
-          let one : 1 ≡ level = grind (arith, nat_tests) in
-          subst (λ y. Turns (phase_of levels level y) (phase_of levels level (next_of levels q y value))) (sym e)
-          (subst (λ h. Turns (phase_of levels h Idle) (phase_of levels h (Entering 1 E2))) one
-          (not_past Away (phase_of levels 1 (Entering 1 E2)) (ap is_past (phase_here 1 Named))))
-      by_process (Entering stands point) e true here =
-          let one : stands ≡ level = grind (arith, nat_tests) in
-          let now : s.processes q ≡ Entering level point = e ∙ ap (λ h. Entering h point) one in
-          subst (λ y. Turns (phase_of levels level y) (phase_of levels level (next_of levels q y value))) (sym now)
-          (subst (λ z. Turns z (phase_of levels level (entry_next levels level q point value)))
-          (sym (phase_here level (entry_phase point))) (here_entry point now))
-      by_process Inside e true here =
-          let one : levels ≡ level = grind (arith, nat_tests) in
-          subst (λ y. Turns (phase_of levels level y) (phase_of levels level (next_of levels q y value))) (sym e)
-          (not_past (phase_of levels level Inside) (phase_of levels level (Leaving levels X2))
-          (subst (λ h. is_past (phase_of levels h (Leaving levels X2)) ≡ false) one
-          (ap is_past (phase_here levels Parting))))
-      by_process (Leaving stands point) e true here =
-          let one : stands ≡ level = grind (arith, nat_tests) in
-          let now : s.processes q ≡ Leaving level point = e ∙ ap (λ h. Leaving h point) one in
-          subst (λ y. Turns (phase_of levels level y) (phase_of levels level (next_of levels q y value))) (sym now)
-          (subst (λ z. Turns z (phase_of levels level (exit_next level q point value)))
-          (sym (phase_here level (exit_phase point))) (here_exit point))
-
--- whether two places are rivals, by the test
-rivals_by : (level place q : ℕ) → IsTrue (is_rival level place q) → AreRivals level place q
-rivals_by level place q h =
-    by_tests (node_of level q == node_of level place) (side_of level q == side_of level place) refl refl h
-  where
-    by_tests : (b d : Bool) → (node_of level q == node_of level place) ≡ b
-        → (side_of level q == side_of level place) ≡ d → IsTrue (b && not d) → AreRivals level place q
-    by_tests true false one two k = (
-      let nodes : node_of level q ≡ node_of level place = grind (arith, nat_tests) in
-          sym nodes,
-      λ e. (let sides : side_of level q ≢ side_of level place = grind (arith, nat_tests) in sides) (sym e),
-    )
-    by_tests true true one two k = absurd cc
-    by_tests false d one two k = absurd cc
-
--- no place is its own rival
-no_own_rival : (level place : ℕ) → is_rival level place place ≡ false
-no_own_rival level place =
-    by_test (node_of level place == node_of level place) (side_of level place == side_of level place)
-    (grind (arith, nat_tests))
-  where
-    by_test : (b d : Bool) → d ≡ true → (b && not d) ≡ false
-    by_test true d e = ap not e
-    by_test false d e = refl
-
-both_of : (a b : Bool) → IsTrue (a && b) → IsTrue a × IsTrue b
-both_of true true h = (refl, refl)
-both_of true false h = absurd cc
-both_of false b h = absurd cc
-
--- a win of a level: the process waited there, and has won it
-record HasWon (levels level : ℕ) (x next : Process) : Type 0 where
-  point : Entry
-  was : x ≡ Entering level point
-  past : IsTrue (is_past (entry_phase point))
-  waited : holds (entry_phase point) ≡ false
-  now : next ≡ won levels level
-
--- only what waits can have waited
-not_held : (point : Entry) → holds (entry_phase point) ≡ false
-not_held E1 = refl
-not_held E2 = refl
-not_held E3 = refl
-not_held E4 = refl
-not_held (E5 rival) = refl
-not_held (E6 rival) = refl
-not_held (E7 rival) = refl
-not_held E8 = refl
-not_held E9 = refl
-not_held E10 = refl
-
-no_win : (b c : Bool) → (b ≡ true) ⊎ (c ≡ false)
-    → IsTrue (is_win (if b then Announces else (if c then Wins else Neither))) → ⊥
-no_win true c e h = cc
-no_win false true (inl e) h = cc
-no_win false true (inr e) h = cc
-no_win false false e h = cc
-
-wins_by : (levels level q : ℕ) (x : Process) (value : ℕ) → IsTrue (is_win (deed_of level x (next_of levels q x value)))
-    → HasWon levels level x (next_of levels q x value)
-wins_by levels level q Idle value h = absurd cc
-wins_by levels level q Inside value h = absurd cc
-wins_by levels level q (Leaving stands point) value h = absurd cc
-wins_by levels level q (Entering stands point) value h = by_level (level == stands) refl
-  where
-    out : (point : Entry) → (level == stands) ≡ false
-        → (is_to_announce level (Entering stands point) ≡ true)
-        ⊎ ((is_entering level (Entering stands point) && not
-        (is_entering level (next_of levels q (Entering stands point) value))) ≡ false)
-    out point e = inr (ap (λ b. b && not (is_entering level (next_of levels q (Entering stands point) value))) e)
-
-    stays : (next : Process) → (level == stands) ≡ true → GoesIn levels stands next
-        → IsTrue (is_win
-        (if is_to_announce level (Entering stands point) then Announces
-        else (if is_entering level (Entering stands point) && not (is_entering level next) then Wins else Neither)))
-        → next ≡ won levels stands
-    stays next e (WinsIt now) k = now
-    stays next e (StaysIn later now past) k =
-        absurd (no_win (is_to_announce level (Entering stands point))
-        (is_entering level (Entering stands point) && not (is_entering level next))
-        (inr (not_both (is_entering level (Entering stands point)) (is_entering level next)
-        (ap (is_entering level) now ∙ e))) k)
-      where
-        not_both : (b c : Bool) → c ≡ true → (b && not c) ≡ false
-        not_both true c same = ap not same
-        not_both false c same = refl
-
-    by_point : (point : Entry) → (level == stands) ≡ true
-        → IsTrue (is_win (deed_of level (Entering stands point) (next_of levels q (Entering stands point) value)))
-        → IsTrue (is_past (entry_phase point))
-    by_point E1 e k =
-        absurd (no_win false (is_entering level (Entering stands E1) && not (is_entering level (Entering stands E2)))
-        (inr (not_both (level == stands) e)) k)
-      where
-        not_both : (b : Bool) → b ≡ true → (b && not b) ≡ false
-        not_both true same = refl
-        not_both false same = refl
-    by_point E2 e k =
-        absurd (no_win (level == stands)
-        (is_entering level (Entering stands E2) && not (is_entering level (Entering stands E3))) (inl e) k)
-    by_point E3 e k = refl
-    by_point E4 e k = refl
-    by_point (E5 rival) e k = refl
-    by_point (E6 rival) e k = refl
-    by_point (E7 rival) e k = refl
-    by_point E8 e k = refl
-    by_point E9 e k = refl
-    by_point E10 e k = refl
-
-    by_level : (b : Bool) → (level == stands) ≡ b
-        → HasWon levels level (Entering stands point) (next_of levels q (Entering stands point) value)
-    by_level false e =
-        absurd (no_win (is_to_announce level (Entering stands point))
-        (is_entering level (Entering stands point) && not
-        (is_entering level (next_of levels q (Entering stands point) value))) (out point e) h)
-    by_level true e =
-        let same : stands ≡ level = grind (arith, nat_tests) in
-        let past = by_point point e h in
-        record {
-          point = point;
-          was = ap (λ k. Entering k point) same;
-          past = past;
-          waited = not_held point;
-          now = stays (next_of levels q (Entering stands point) value) e (goes_in levels stands q point value past) h
-              ∙ ap (won levels) same;
-        }
+use Rattle.ya_core.proofs.TurnSteps.{is_announcing, past_announces, turn_or, turns_of}
+use Rattle.ya_core.proofs.LevelWins.{GoesIn, StaysIn, WinsIt, goes_in, won_is_out, entering_here, HasWon, wins_by}
+use Rattle.ya_core.proofs.LevelWins.{rivals_by, no_own_rival, both_of}
 
 -- a place that waits at a level, and the others' wins there
 module _ (levels level place : ℕ) (some : 1 ≤ levels) (least : 1 ≤ level) (most : level ≤ levels) where
@@ -526,98 +186,81 @@ module _ (levels level place : ℕ) (some : 1 ≤ levels) (least : 1 ≤ level) 
       not_win Wins h = absurd (h refl)
       not_win Neither h = refl
 
-  -- where it was overtaken once, it isn't again
-  none_more : (steps : List LevelStep) (s : State) → IsSound levels s → Waits s → Spent s
-      → LevelSees levels level s steps → HasNotWon place steps → times_overtaken level place steps ≡ 0
-  none_more [] s is w spent sees none = refl
-  none_more (x ∷ rest) s is w spent sees none =
-      by_place (x.place == place) refl (is_rival level place x.place && is_win x.deed) refl
-      (λ t sound waits spent_too sees_rest. none_more rest t sound waits spent_too sees_rest none.1)
+  -- how often it may be overtaken still: once while it waits, and no more where the other side has won
+  abbrev May : Bool → State → Type 0
+  May true s = Unit {0}
+  May false s = Spent s
+
+  -- that it is so along these steps, from whatever state
+  abbrev IsSoAlong : List LevelStep → Type 0
+  IsSoAlong steps = (may : Bool) (t : State) → IsSound levels t → Waits t → May may t → LevelSees levels level t steps
+      → times_overtaken level place steps ≤ (if may then 1 else 0)
+
+  -- so often it is
+  overtaken : (may : Bool) (steps : List LevelStep) (s : State) → IsSound levels s → Waits s → May may s
+      → LevelSees levels level s steps → HasNotWon place steps
+      → times_overtaken level place steps ≤ (if may then 1 else 0)
+  overtaken may [] s is w allowed sees none = omega arith
+  overtaken may (x ∷ rest) s is w allowed sees none =
+      by_place (x.place == place) refl (is_rival level place x.place && is_win x.deed) refl may allowed
+      (λ may t sound waits allowed sees_rest. overtaken may rest t sound waits allowed sees_rest none.1)
     where
       sound : IsSound levels sees.0
       sound = keeps levels x.place s sees.0 some is sees.1
 
-      sum : (b : Bool) → (is_rival level place x.place && is_win x.deed) ≡ b → b ≡ false
-          → times_overtaken level place rest ≡ 0 → times_overtaken level place (x ∷ rest) ≡ 0
-      sum b e off none_rest =
-          let one : times_overtaken level place (x ∷ rest) ≡ 0 + times_overtaken level place rest =
-          ap (λ c. (if c then 1 else 0) + times_overtaken level place rest) (e ∙ off) in
-          omega (arith, one, none_rest)
+      -- the step overtakes it or not
+      sum : (b : Bool) → (is_rival level place x.place && is_win x.deed) ≡ b
+          → times_overtaken level place (x ∷ rest) ≡ (if b then 1 else 0) + times_overtaken level place rest
+      sum b e = ap (λ c. (if c then 1 else 0) + times_overtaken level place rest) e
+
+      not_counted : (may : Bool) → (is_rival level place x.place && is_win x.deed) ≡ false
+          → times_overtaken level place rest ≤ (if may then 1 else 0)
+          → times_overtaken level place (x ∷ rest) ≤ (if may then 1 else 0)
+      not_counted may e few = omega (arith, sum false e, few)
+
+      counted : (is_rival level place x.place && is_win x.deed) ≡ true → times_overtaken level place rest ≤ 0
+          → times_overtaken level place (x ∷ rest) ≤ 1
+      counted e none_more = omega (arith, sum true e, none_more)
+
+      -- what it may still is kept by a step of its own, and by one of another place that doesn't win
+      own_may : (may : Bool) → StepsTo levels place s sees.0 → May may s → May may sees.0
+      own_may true step allowed = tt
+      own_may false step allowed = own_spent s sees.0 is step w allowed
+
+      still_may : (may : Bool) → x.place ≢ place → May may s → May may sees.0
+      still_may true apart allowed = tt
+      still_may false apart allowed = still_spent x.place s sees.0 is sees.1 w apart allowed
 
       by_place : (o : Bool) → (x.place == place) ≡ o → (b : Bool) → (is_rival level place x.place && is_win x.deed) ≡ b
-          → ((t : State) → IsSound levels t → Waits t → Spent t → LevelSees levels level t rest
-          → times_overtaken level place rest ≡ 0) → times_overtaken level place (x ∷ rest) ≡ 0
-      by_place true own b e again =
+          → (may : Bool) → May may s → IsSoAlong rest → times_overtaken level place (x ∷ rest) ≤ (if may then 1 else 0)
+      by_place true own b e may allowed again =
           let same : x.place ≡ place = grind (arith, nat_tests) in
           let step : StepsTo levels place s sees.0 = subst (λ q. StepsTo levels q s sees.0) same sees.1 in
           let deed : x.deed ≡ deed_of level (s.processes place) (sees.0.processes place) =
           subst (λ q. x.deed ≡ deed_of level (s.processes q) (sees.0.processes q)) same sees.2 in
           let apart : (is_rival level place x.place && is_win x.deed) ≡ false =
           ap (λ c. c && is_win x.deed) (ap (is_rival level place) same ∙ no_own_rival level place) in
-          sum false apart refl
-          (again sees.0 sound
+          not_counted may apart
+          (again may sees.0 sound
           (own_waits s sees.0 is step w
           (deed_none x.deed (deed_of level (s.processes place) (sees.0.processes place)) deed (none.0 same)))
-          (own_spent s sees.0 is step w spent) sees.3)
-      by_place false other true e again =
+          (own_may may step allowed) sees.3)
+      by_place false other false e may allowed again =
+          let apart : x.place ≢ place = grind (arith, nat_tests) in
+          not_counted may e
+          (again may sees.0 sound (still_waits x.place s sees.0 is sees.1 w apart) (still_may may apart allowed) sees.3)
+      by_place false other true e true allowed again =
+          let apart : x.place ≢ place = grind (arith, nat_tests) in
+          let both = both_of (is_rival level place x.place) (is_win x.deed) e in
+          counted e
+          (again false sees.0 sound (still_waits x.place s sees.0 is sees.1 w apart)
+          (spent_now x.place s sees.0 is sees.1 w apart (rivals_by level place x.place both.0)
+          (deed_win x.deed (deed_of level (s.processes x.place) (sees.0.processes x.place)) sees.2 both.1)) sees.3)
+      by_place false other true e false allowed again =
           let apart : x.place ≢ place = grind (arith, nat_tests) in
           let both = both_of (is_rival level place x.place) (is_win x.deed) e in
           absurd (no_second x.place s sees.0 is sees.1 w apart (rivals_by level place x.place both.0)
-          (deed_win x.deed (deed_of level (s.processes x.place) (sees.0.processes x.place)) sees.2 both.1) spent)
-      by_place false other false e again =
-          let apart : x.place ≢ place = grind (arith, nat_tests) in
-          sum false e refl
-          (again sees.0 sound (still_waits x.place s sees.0 is sees.1 w apart)
-          (still_spent x.place s sees.0 is sees.1 w apart spent) sees.3)
-
-  -- while it waits it is overtaken once at most
-  once : (steps : List LevelStep) (s : State) → IsSound levels s → Waits s → LevelSees levels level s steps
-      → HasNotWon place steps → times_overtaken level place steps ≤ 1
-  once [] s is w sees none = omega arith
-  once (x ∷ rest) s is w sees none =
-      by_place (x.place == place) refl (is_rival level place x.place && is_win x.deed) refl
-      (λ t sound waits sees_rest. once rest t sound waits sees_rest none.1)
-    where
-      sound : IsSound levels sees.0
-      sound = keeps levels x.place s sees.0 some is sees.1
-
-      sum : (is_rival level place x.place && is_win x.deed) ≡ false → times_overtaken level place rest ≤ 1
-          → times_overtaken level place (x ∷ rest) ≤ 1
-      sum e few = let one : times_overtaken level place (x ∷ rest) ≡ 0 + times_overtaken level place rest =
-          ap (λ c. (if c then 1 else 0) + times_overtaken level place rest) e in omega (arith, one, few)
-
-      first : (is_rival level place x.place && is_win x.deed) ≡ true → times_overtaken level place rest ≡ 0
-          → times_overtaken level place (x ∷ rest) ≤ 1
-      first e no_more =
-          let one : times_overtaken level place (x ∷ rest) ≡ 1 =
-          ap (λ c. (if c then 1 else 0) + times_overtaken level place rest) e ∙ ap (λ n. 1 + n) no_more in
-          omega (arith, one)
-
-      by_place : (o : Bool) → (x.place == place) ≡ o → (b : Bool) → (is_rival level place x.place && is_win x.deed) ≡ b
-          → ((t : State) → IsSound levels t → Waits t → LevelSees levels level t rest
-          → times_overtaken level place rest ≤ 1) → times_overtaken level place (x ∷ rest) ≤ 1
-      by_place true own b e again =
-          let same : x.place ≡ place = grind (arith, nat_tests) in
-          let step : StepsTo levels place s sees.0 = subst (λ q. StepsTo levels q s sees.0) same sees.1 in
-          let deed : x.deed ≡ deed_of level (s.processes place) (sees.0.processes place) =
-          subst (λ q. x.deed ≡ deed_of level (s.processes q) (sees.0.processes q)) same sees.2 in
-          let apart : (is_rival level place x.place && is_win x.deed) ≡ false =
-          ap (λ c. c && is_win x.deed) (ap (is_rival level place) same ∙ no_own_rival level place) in
-          sum apart (again sees.0 sound
-          (own_waits s sees.0 is step w
-          (deed_none x.deed (deed_of level (s.processes place) (sees.0.processes place)) deed (none.0 same)))
-          sees.3)
-      by_place false other true e again =
-          let apart : x.place ≢ place = grind (arith, nat_tests) in
-          let both = both_of (is_rival level place x.place) (is_win x.deed) e in
-          first e
-          (none_more rest sees.0 sound (still_waits x.place s sees.0 is sees.1 w apart)
-          (spent_now x.place s sees.0 is sees.1 w apart (rivals_by level place x.place both.0)
-          (deed_win x.deed (deed_of level (s.processes x.place) (sees.0.processes x.place)) sees.2 both.1)) sees.3
-          none.1)
-      by_place false other false e again =
-          let apart : x.place ≢ place = grind (arith, nat_tests) in
-          sum e (again sees.0 sound (still_waits x.place s sees.0 is sees.1 w apart) sees.3)
+          (deed_win x.deed (deed_of level (s.processes x.place) (sees.0.processes x.place)) sees.2 both.1) allowed)
 
   -- who is to announce itself at the level stands at e2 there
   announcing_at : (x : Process) → IsTrue (is_to_announce level x) → x ≡ Entering level E2
@@ -650,13 +293,13 @@ module _ (levels level place : ℕ) (some : 1 ≤ levels) (least : 1 ≤ level) 
       announcing_at (s.processes place)
       (announces_by (is_to_announce level (s.processes place))
       (is_entering level (s.processes place) && not (is_entering level (sees.0.processes place))) sees.2) in
-      once during sees.0 (keeps levels place s sees.0 some is sees.1)
+      overtaken true during sees.0 (keeps levels place s sees.0 some is sees.1)
       (record {
         point = E3;
         at = sees.1.process
             ∙ ap (λ x. next_of levels place x (value_of s.words (access_of levels place (s.processes place)))) was;
         past =
             refl;
-      }) sees.3 none
+      }) tt sees.3 none
   overtaken_from (x ∷ before) during s is sees none =
       overtaken_from before during sees.0 (keeps levels x.place s sees.0 some is sees.1) sees.3 none

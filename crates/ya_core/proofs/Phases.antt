@@ -16,7 +16,7 @@ use Rattle.ya_core.specs.Soundness.{Phase, Away, Waiting, Holding, Parting, hold
 use Rattle.ya_core.specs.Soundness.{exit_phase, IsProper}
 use Rattle.ya_core.specs.Machines.{word_of}
 use Rattle.ya_core.proofs.Properness.{either}
-use Rattle.ya_core.proofs.Level.{competes}
+use Rattle.ya_core.proofs.PhaseKinds.{competes}
 
 -- the level at which a process acts next
 abbrev pub acts_at : ℕ → Process → ℕ

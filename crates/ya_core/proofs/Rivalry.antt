@@ -16,7 +16,8 @@ use Rattle.ya_core.specs.Soundness.{Phase, claims, is_past, waits, holds, awaits
 use Rattle.ya_core.specs.Soundness.{wakes_next, phase_of, entry_phase, IsProper, IsSound, SomeRival}
 use Rattle.ya_core.specs.Walks.{points_of, is_waiting, MayFind, due_of, IsTold}
 use Rattle.ya_core.proofs.Places.{side_below}
-use Rattle.ya_core.proofs.Level.{by_phases, competes, one_a_side}
+use Rattle.ya_core.proofs.PhaseKinds.{by_phases, competes}
+use Rattle.ya_core.proofs.Level.{one_a_side}
 use Rattle.ya_core.proofs.Phases.{acts_at, frame_phase, holds_below}
 use Rattle.ya_core.proofs.Invariant.{alone_at, finds}
 use Rattle.ya_core.proofs.Deadlock.{IsStuck, Asleep, Outside, stuck_at, owed_to, phase_is, never_wakes, last}

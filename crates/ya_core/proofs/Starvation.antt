@@ -1,100 +1,25 @@
 -- Under a fair schedule nobody starves: who is stuck has one rival that competes at its node, which comes nearer with
 -- each of its steps, until the word is there; and who isn't stuck comes nearer itself.
 use Rattle.std.proofs.Common.{◌≡◌, ◌≢◌, ℕ, zero, suc, ◌+◌, ◌-◌, ◌<◌, ◌≤◌, ◌==◌, Bool, true, false, refl, arith, ap}
-use Rattle.std.proofs.Common.{sym, ◌∙◌, subst, ◌⊎◌, inl, inr, IsTrue, nat_lt}
+use Rattle.std.proofs.Common.{sym, ◌∙◌, subst, ◌⊎◌, inl, inr, IsTrue}
 use Rattle.std.proofs.lemmas.Bool.Decides.{nat_tests}
 use Rattle.ya_core.specs.declared.process.Entry.{Entry}
-use Rattle.ya_core.specs.declared.process.Entry.TheVariants.{E1, E2, E3, E4, E5, E6, E7, E8, E9, E10}
-use Rattle.ya_core.specs.declared.process.Exit.TheVariants.{X1, X2, X3}
+use Rattle.ya_core.specs.declared.process.Entry.TheVariants.{E1}
 use Rattle.ya_core.specs.declared.process.Process.{Process}
 use Rattle.ya_core.specs.declared.process.Process.TheVariants.{Idle, Entering, Inside, Leaving}
 use Rattle.ya_core.specs.Tree.{AreRivals}
-use Rattle.ya_core.specs.Steps.{State, StepsTo, value_of, access_of, next_of, entry_next, won, left}
+use Rattle.ya_core.specs.Steps.{State, StepsTo, value_of, access_of, next_of, entry_next}
 use Rattle.ya_core.specs.Soundness.{phase_of, entry_phase, IsProper, IsSound}
-use Rattle.ya_core.specs.Walks.{points_of, entry_points}
+use Rattle.ya_core.specs.Walks.{points_of}
 use Rattle.ya_core.specs.Fairness.{Eventually, is_on_way_in, is_on_way_out}
-use Rattle.ya_core.proofs.Properness.{either}
-use Rattle.ya_core.proofs.Level.{competes}
+use Rattle.ya_core.proofs.PhaseKinds.{competes}
 use Rattle.ya_core.proofs.Phases.{competes_at}
 use Rattle.ya_core.proofs.Deadlock.{IsStuck, stuck_at, last}
 use Rattle.ya_core.proofs.Rivalry.{nearer_or_stuck, not_both, not_both_stuck, stands_still, stuck_before}
 use Rattle.ya_core.proofs.Rivalry.{still_competes, stuck_level}
-
--- at a level one to ten points are ahead on the way in
-few_points : (point : Entry) → (1 ≤ entry_points point) × (entry_points point ≤ 10)
-few_points E1 = (omega arith, omega arith)
-few_points E2 = (omega arith, omega arith)
-few_points E3 = (omega arith, omega arith)
-few_points E4 = (omega arith, omega arith)
-few_points (E5 rival) = (omega arith, omega arith)
-few_points (E6 rival) = (omega arith, omega arith)
-few_points (E7 rival) = (omega arith, omega arith)
-few_points E8 = (omega arith, omega arith)
-few_points E9 = (omega arith, omega arith)
-few_points E10 = (omega arith, omega arith)
-
--- on the way out the same number of points is ahead whether it is told to go on or not
-same_points : (levels : ℕ) (x : Process) → IsTrue (is_on_way_out x) → points_of levels x false ≡ points_of levels x true
-same_points levels Idle way = absurd cc
-same_points levels Inside way = absurd cc
-same_points levels (Entering level point) way = absurd cc
-same_points levels (Leaving level point) way = refl
-
--- where the way in at a level leads: to a point of that level, or on, or inside
-abbrev Onward : ℕ → Process → Type 0
-Onward level x = ((point : Entry) × (x ≡ Entering level point)) ⊎ ((x ≡ Entering (level + 1) E1) ⊎ (x ≡ Inside))
-
-won_onward : (levels level : ℕ) → Onward level (won levels level)
-won_onward levels level =
-    either (Onward level) (nat_lt level levels) _ _ (λ _. inr (inl refl)) (λ _. inr (inr refl))
-
-onward : (levels level place : ℕ) (point : Entry) (value : ℕ)
-    → Onward level (entry_next levels level place point value)
-onward levels level place E1 value = inl (E2, refl)
-onward levels level place E2 value = inl (E3, refl)
-onward levels level place E3 value = inl (E4, refl)
-onward levels level place E4 value =
-    either (Onward level) (value == 0) _ _ (λ _. won_onward levels level) (λ _. inl (E5 (value - 1), refl))
-onward levels level place (E5 rival) value =
-    either (Onward level) (value == place + 1) _ _ (λ _. inl (E6 rival, refl)) (λ _. won_onward levels level)
-onward levels level place (E6 rival) value =
-    either (Onward level) (value == 0) _ _ (λ _. inl (E7 rival, refl)) (λ _. inl (E8, refl))
-onward levels level place (E7 rival) value = inl (E8, refl)
-onward levels level place E8 value =
-    either (Onward level) (value == 0) _ _ (λ _. inl (E8, refl)) (λ _. inl (E9, refl))
-onward levels level place E9 value =
-    either (Onward level) (value == place + 1) _ _ (λ _. inl (E10, refl)) (λ _. won_onward levels level)
-onward levels level place E10 value =
-    either (Onward level) (value == 2) _ _ (λ _. won_onward levels level) (λ _. inl (E10, refl))
-
--- it is inside or on its way out
-abbrev is_past_the_root : Process → Bool
-is_past_the_root Inside = true
-is_past_the_root (Leaving level point) = true
-is_past_the_root _ = false
-
--- from there a step leads on the way out, or to idle
-abbrev Outward : Process → Type 0
-Outward x = (x ≡ Idle) ⊎ IsTrue (is_on_way_out x)
-
-left_outward : (level : ℕ) → Outward (left level)
-left_outward level = either Outward (nat_lt 1 level) _ _ (λ _. inr refl) (λ _. inl refl)
-
-outward : (levels place : ℕ) (x : Process) (value : ℕ) → IsTrue (is_past_the_root x)
-    → Outward (next_of levels place x value)
-outward levels place Idle value past = absurd cc
-outward levels place (Entering level point) value past = absurd cc
-outward levels place Inside value past = inr refl
-outward levels place (Leaving level X1) value past = inr refl
-outward levels place (Leaving level X2) value past =
-    either Outward (value == place + 1) _ _ (λ _. left_outward level) (λ _. inr refl)
-outward levels place (Leaving level (X3 rival)) value past = left_outward level
-
-past_by_out : (x : Process) → IsTrue (is_on_way_out x) → IsTrue (is_past_the_root x)
-past_by_out Idle way = absurd cc
-past_by_out Inside way = absurd cc
-past_by_out (Entering level point) way = absurd cc
-past_by_out (Leaving level point) way = refl
+use Rattle.ya_core.proofs.NextPoints.{few_points, same_points, Onward, onward, is_past_the_root, Outward, outward}
+use Rattle.ya_core.proofs.NextPoints.{past_by_out}
+use Rattle.ya_core.proofs.FairRuns.{sooner, until, ends}
 
 module _ (levels : ℕ) (some : 1 ≤ levels) (schedule : ℕ → ℕ) (states : ℕ → State)
     (sound : (time : ℕ) → IsSound levels (states time))
@@ -104,70 +29,6 @@ module _ (levels : ℕ) (some : 1 ≤ levels) (schedule : ℕ → ℕ) (states :
   -- the process of a place at a time
   abbrev at : ℕ → ℕ → Process
   at place time = (states time).processes place
-
-  -- what is so at a later time is so at a time later than an earlier one
-  sooner : (So : ℕ → Type 0) (time later : ℕ) → time ≤ later → Eventually later So → Eventually time So
-  sooner So time later less found = (found.0, omega (arith, less, found.1), found.2)
-
-  -- what each step keeps, or ends with something else, holds at a later time, or it ended before
-  until : (While So : ℕ → Type 0) → ((n : ℕ) → While n → So (n + 1) ⊎ While (n + 1)) → (d n m : ℕ) → m ≡ n + d
-      → While n → Eventually n So ⊎ While m
-  until While So keeps zero n m e holds = inr (subst While (let same : n ≡ m = omega (arith, e) in same) holds)
-  until While So keeps (suc d) n m e holds =
-      by_step (keeps n holds) (λ holds. until While So keeps d (n + 1) m (omega (arith, e)) holds)
-    where
-      by_step : So (n + 1) ⊎ While (n + 1) → (While (n + 1) → Eventually (n + 1) So ⊎ While m)
-          → Eventually n So ⊎ While m
-      by_step (inl ends) rest = inl (n + 1, omega arith, ends)
-      by_step (inr goes) rest = by_rest (rest goes)
-        where
-          by_rest : Eventually (n + 1) So ⊎ While m → Eventually n So ⊎ While m
-          by_rest (inl found) = inl (sooner So n (n + 1) (omega arith) found)
-          by_rest (inr holds) = inr holds
-
-  -- what each step keeps ends where each step of one place takes that place nearer to something
-  module _ (q : ℕ) (While So : ℕ → Type 0) (points : Process → ℕ) (busy : (n : ℕ) → While n → at q n ≢ Idle)
-      (keeps : (n : ℕ) → While n → So (n + 1) ⊎ While (n + 1))
-      (falls : (n : ℕ) → While n → While (n + 1) → schedule n ≡ q → points (at q (n + 1)) < points (at q n)) where
-    -- up to its next step
-    to_step : (fuel : ℕ) → ((n : ℕ) → points (at q n) < fuel → While n → Eventually n So) → (d n m : ℕ) → m ≡ n + d
-        → schedule m ≡ q → points (at q n) < fuel + 1 → While n → Eventually n So
-    to_step fuel again zero n m e picks less holds =
-        by_step (keeps n holds)
-      where
-        by_step : So (n + 1) ⊎ While (n + 1) → Eventually n So
-        by_step (inl ends) = (n + 1, omega arith, ends)
-        by_step (inr goes) =
-            let same : m ≡ n = omega (arith, e) in
-            let now : schedule n ≡ q = subst (λ k. schedule k ≡ q) same picks in
-            let nearer = falls n holds goes now in
-            sooner So n (n + 1) (omega arith) (again (n + 1) (omega (arith, nearer, less)) goes)
-    to_step fuel again (suc d) n m e picks less holds =
-        by_step (keeps n holds) (λ less goes. to_step fuel again d (n + 1) m (omega (arith, e)) picks less goes)
-      where
-        by_step : So (n + 1) ⊎ While (n + 1)
-            → (points (at q (n + 1)) < fuel + 1 → While (n + 1) → Eventually (n + 1) So) → Eventually n So
-        by_step (inl ends) rest = (n + 1, omega arith, ends)
-        by_step (inr goes) rest = sooner So n (n + 1) (omega arith) (by_place (schedule n == q) refl)
-          where
-            by_place : (b : Bool) → (schedule n == q) ≡ b → Eventually (n + 1) So
-            by_place true own =
-                let now : schedule n ≡ q = grind (arith, nat_tests) in
-                let nearer = falls n holds goes now in again (n + 1) (omega (arith, nearer, less)) goes
-            by_place false other =
-                let apart : q ≢ schedule n = grind (arith, nat_tests) in
-                let same : points (at q (n + 1)) ≡ points (at q n) = ap points ((step n).others q apart) in
-                rest (omega (arith, same, less)) goes
-
-    within : (fuel n : ℕ) → points (at q n) < fuel → While n → Eventually n So
-    within zero n less holds = absurd (omega (arith, less))
-    within (suc fuel) n less holds =
-        let next = fair q n (busy n holds) in
-        to_step fuel (λ n less holds. within fuel n less holds) (next.0 - n) n next.0 (omega (arith, next.1)) next.2
-        (omega (arith, less)) holds
-
-    ends : (n : ℕ) → While n → Eventually n So
-    ends n holds = within (points (at q n) + 1) n (omega arith) holds
 
   -- the process of a place that is picked goes on as its row says, any other stays
   stepped : (p n : ℕ) → schedule n ≡ p
@@ -221,7 +82,7 @@ module _ (levels : ℕ) (some : 1 ≤ levels) (schedule : ℕ → ℕ) (states :
   goes_on : (p level : ℕ) (point : Entry) (n : ℕ) → Ready p (Entering level point) n
       → Eventually n (Nearer p level point)
   goes_on p level point n ready =
-      ends p (Ready p (Entering level point)) (Nearer p level point) (λ x. points_of levels x false)
+      ends levels schedule states step fair p (Ready p (Entering level point)) (Nearer p level point) (λ x. points_of levels x false)
       (λ n ready idle. (let both = sym ready.0 ∙ idle in cc)) keeps
       (λ n ready later picks. absurd (moves n ready later picks)) n ready
     where
@@ -306,7 +167,7 @@ module _ (levels : ℕ) (some : 1 ≤ levels) (schedule : ℕ → ℕ) (states :
 
     goes_out : (n : ℕ) → While n → IsTrue (is_past_the_root (at p n)) → Eventually n So
     goes_out n goes past =
-        ends p Leaves So (λ x. points_of levels x true) leaves_idle leaves_keeps leaves_falls n (goes, past)
+        ends levels schedule states step fair p Leaves So (λ x. points_of levels x true) leaves_idle leaves_keeps leaves_falls n (goes, past)
 
   -- one who is stuck at a level, and the rival that competes there
   module _ (p q level : ℕ) (point : Entry) (rivals : AreRivals level p q) where
@@ -373,7 +234,7 @@ module _ (levels : ℕ) (some : 1 ≤ levels) (schedule : ℕ → ℕ) (states :
     -- a rival at the level wins it, since it isn't stuck, or the word is there before
     by_competing : (n : ℕ) → Here n → Eventually n (λ m. Ready p (Entering level point) m ⊎ Gone m)
     by_competing =
-        ends q Here (λ m. Ready p (Entering level point) m ⊎ Gone m) (λ x. points_of levels x false)
+        ends levels schedule states step fair q Here (λ m. Ready p (Entering level point) m ⊎ Gone m) (λ x. points_of levels x false)
         (λ n here. not_idle n here.0) keeps falls
       where
         keeps : (n : ℕ) → Here n → (Ready p (Entering level point) (n + 1) ⊎ Gone (n + 1)) ⊎ Here (n + 1)

@@ -4,53 +4,15 @@ use Rattle.std.proofs.Common.{subst, ◌⊎◌, inl, inr, IsTrue}
 use Rattle.std.proofs.Math.Path.{fun_ext}
 use Rattle.std.proofs.lemmas.Bool.Decides.{nat_tests}
 use Rattle.ya_core.specs.declared.process.Entry.{Entry}
-use Rattle.ya_core.specs.declared.process.Entry.TheVariants.{E1, E2, E3, E4, E5, E6, E7, E8, E9, E10}
+use Rattle.ya_core.specs.declared.process.Entry.TheVariants.{E4, E5, E6, E7, E8, E9, E10}
 use Rattle.ya_core.specs.Tree.{Rivals}
 use Rattle.ya_core.specs.Soundness.{Phase, Away, Named, Announced, Waiting, Holding, Parting, Freeing, claims, is_past}
 use Rattle.ya_core.specs.Soundness.{waits, holds, awaits_one, saw_itself_last, was_woken, awaits_two, is_to_wake}
 use Rattle.ya_core.specs.Soundness.{wakes_next, is_to_free, IsSoundLevel, SomeRival, IsOwed}
-use Rattle.ya_core.proofs.Level.{Also, by_phases, Same, SameWords, competes, competes_claims, claims_is_past}
-use Rattle.ya_core.proofs.Level.{is_past_waits}
-
--- who awaits the 1 waits, and so does who saw itself last, was woken or awaits the 2; who awaits the 2 was woken
-waits_awaits_one : (x : Phase) → IsTrue (awaits_one x) → IsTrue (waits x)
-waits_awaits_one = by_phases awaits_one waits refl refl refl (λ point. refl) refl refl (λ rival. refl)
-
-waits_saw_itself_last : (x : Phase) → IsTrue (saw_itself_last x) → IsTrue (waits x)
-waits_saw_itself_last = by_phases saw_itself_last waits refl refl refl (λ point. refl) refl refl (λ rival. refl)
-
-waits_was_woken : (x : Phase) → IsTrue (was_woken x) → IsTrue (waits x)
-waits_was_woken = by_phases was_woken waits refl refl refl (λ point. refl) refl refl (λ rival. refl)
-
-waits_awaits_two : (x : Phase) → IsTrue (awaits_two x) → IsTrue (waits x)
-waits_awaits_two = by_phases awaits_two waits refl refl refl (λ point. refl) refl refl (λ rival. refl)
-
-was_woken_awaits_two : (x : Phase) → IsTrue (awaits_two x) → IsTrue (was_woken x)
-was_woken_awaits_two = by_phases awaits_two was_woken refl refl refl at refl refl (λ rival. refl)
-  where
-    at : (point : Entry) → Also awaits_two was_woken (Waiting point)
-    at E1 = refl
-    at E2 = refl
-    at E3 = refl
-    at E4 = refl
-    at (E5 rival) = refl
-    at (E6 rival) = refl
-    at (E7 rival) = refl
-    at E8 = refl
-    at E9 = refl
-    at E10 = refl
-
--- a rival that competes, is past, is to free a place or to wake it takes part at the node
-pub competes_unwoken : (turn p : ℕ) (x : Phase) → IsTrue (claims x || is_to_free turn p x) → IsTrue (competes x)
-competes_unwoken turn p =
-    by_phases (λ x. claims x || is_to_free turn p x) competes refl refl refl (λ point. refl) refl refl (λ rival. refl)
-
-pub competes_outside : (turn p : ℕ) (x : Phase) → IsTrue (is_past x || is_to_free turn p x) → IsTrue (competes x)
-competes_outside turn p =
-    by_phases (λ x. is_past x || is_to_free turn p x) competes refl refl refl (λ point. refl) refl refl (λ rival. refl)
-
-competes_wakes_next : (p : ℕ) (x : Phase) → IsTrue (wakes_next p x) → IsTrue (competes x)
-competes_wakes_next p = by_phases (wakes_next p) competes refl refl refl (λ point. refl) refl refl (λ rival. refl)
+use Rattle.ya_core.proofs.Level.{Same, SameWords}
+use Rattle.ya_core.proofs.PhaseKinds.{competes, competes_claims, claims_is_past, is_past_waits, waits_awaits_one}
+use Rattle.ya_core.proofs.PhaseKinds.{waits_saw_itself_last, waits_was_woken, waits_awaits_two, was_woken_awaits_two}
+use Rattle.ya_core.proofs.PhaseKinds.{competes_outside, competes_wakes_next}
 
 -- what a step keeps for a rival that waits, as the phase of the place that steps changes from the one to the other
 record Keeps (turn spin : ℕ → ℕ) (node : ℕ → ℕ) (phase : ℕ → Phase) (p : ℕ) (x y : Phase) : Type 0 where
@@ -207,7 +169,39 @@ module _ (node side : ℕ → ℕ) (two : (q : ℕ) → side q < 2) (phase : ℕ
   named : (p : ℕ) → IsTrue (waits (phase p)) → claim (node p) (side p) ≡ p + 1
   named p h = is.claimed p (claims_is_past (phase p) (is_past_waits (phase p) h))
 
+  -- what the step keeps for a rival where the place is past after it: whether it is to wake the rival, and that it
+  -- doesn't overwrite the rival's 2, remains to be said
+  past : (p : ℕ) (x y : Phase) → IsTrue (claims y) → IsTrue (is_past y)
+      → (turn (node p) ≢ p + 1 → IsTrue (saw_itself_last (phase p)) → spin p ≡ 0 → IsTrue (is_to_wake p x)
+      → IsTrue (is_to_wake p y))
+      → (turn (node p) ≢ p + 1 → IsTrue (awaits_two (phase p)) → wakes_next p y ≡ false)
+      → Keeps turn spin node phase p x y
+  past p x y claiming is_past_now wakes quiet =
+      record {
+        unwoken = λ h zero k. subst (λ b. IsTrue (b || is_to_free (turn (node p)) p y)) (sym claiming) refl;
+        outside = λ h one k. subst (λ b. IsTrue (b || is_to_free (turn (node p)) p y)) (sym is_past_now) refl;
+        owed_one = wakes;
+        keeps_two = quiet;
+      }
+
   module _ (turns : (n : ℕ) → turn' n ≡ turn n) (spins : (q : ℕ) → spin' q ≡ spin q) where
+    -- a load after which the place waits on, at the next point or at the same one
+    waits_on : (x y : Entry) → phase a ≡ Waiting x → phase' a ≡ Waiting y
+        → (IsTrue (awaits_one (Waiting y))
+        → IsTrue (awaits_one (Waiting x)) ⊎ SomeRival node side phase a (λ z. claims z || is_to_free (turn (node a)) a z))
+        → (IsTrue (was_woken (Waiting y)) → spin a ≢ 0)
+        → (IsTrue (saw_itself_last (Waiting y)) → IsTrue (saw_itself_last (Waiting x)) ⊎ (turn (node a) ≡ a + 1))
+        → (IsTrue (awaits_two (Waiting y)) → turn (node a) ≡ a + 1)
+        → ((p : ℕ) → Rivals node side p a → IsTrue (saw_itself_last (phase p)) → spin p ≡ 0
+        → IsTrue (is_to_wake p (Waiting x)) → IsTrue (is_to_wake p (Waiting y)))
+        → ((p : ℕ) → turn (node p) ≢ p + 1 → IsTrue (awaits_two (phase p)) → wakes_next p (Waiting y) ≡ false)
+        → (p : ℕ) → Now p
+    waits_on x y was now one woken saw let_in wakes quiet =
+        everyone
+        (itself (Waiting x) (Waiting y) was now (turns (node a)) (spins a) refl one woken saw let_in)
+        (λ p apart. others (Waiting x) (Waiting y) was now p apart (turns (node p)) (spins p)
+        (λ rivals. past p (Waiting x) (Waiting y) refl refl (λ other h zero k. wakes p rivals h zero k) (quiet p)))
+
     -- e1: a place names itself
     pub owed_named : phase a ≡ Away → phase' a ≡ Named → (p : ℕ) → Now p
     owed_named was now =
@@ -224,16 +218,9 @@ module _ (node side : ℕ → ℕ) (two : (q : ℕ) → side q < 2) (phase : ℕ
     pub owed_found : (rival : ℕ) → phase a ≡ Waiting E4 → phase' a ≡ Waiting (E5 rival)
         → claim (node a) (1 - side a) ≡ rival + 1 → (p : ℕ) → Now p
     owed_found rival was now found =
-        everyone (itself (Waiting E4) (Waiting (E5 rival)) was now (turns (node a)) (spins a) refl
-        (λ h. inr (rival, there, competing)) (λ h. absurd cc) (λ h. absurd cc) (λ h. absurd cc))
-        (λ p apart. others (Waiting E4) (Waiting (E5 rival)) was now p apart (turns (node p)) (spins p)
-        (λ rivals. record {
-          unwoken = λ h zero k. refl;
-          outside = λ h one k. refl;
-          owed_one = λ other h zero k. same_rival p rivals (waits_saw_itself_last (phase p) h);
-          keeps_two =
-              λ other h. refl;
-        }))
+        waits_on E4 (E5 rival) was now (λ h. inr (rival, there, competing)) (λ h. absurd cc) (λ h. absurd cc)
+        (λ h. absurd cc) (λ p rivals h zero k. same_rival p rivals (waits_saw_itself_last (phase p) h))
+        (λ p other h. refl)
       where
         owner : (node rival ≡ node a) × (side rival ≡ 1 - side a) × IsTrue (claims (phase rival))
         owner = is.claimant (node a) (1 - side a) rival found
@@ -255,29 +242,15 @@ module _ (node side : ℕ → ℕ) (two : (q : ℕ) → side q < 2) (phase : ℕ
     pub owed_last : (rival : ℕ) → phase a ≡ Waiting (E5 rival) → phase' a ≡ Waiting (E6 rival) → turn (node a) ≡ a + 1
         → (p : ℕ) → Now p
     owed_last rival was now own =
-        everyone (itself (Waiting (E5 rival)) (Waiting (E6 rival)) was now (turns (node a)) (spins a) refl
-        (λ h. inl refl) (λ h. absurd cc) (λ h. inr own) (λ h. absurd cc))
-        (λ p apart. others (Waiting (E5 rival)) (Waiting (E6 rival)) was now p apart (turns (node p)) (spins p)
-        (λ rivals. record {
-          unwoken = λ h zero k. refl;
-          outside = λ h one k. refl;
-          owed_one = λ other h zero k. k;
-          keeps_two = λ other h. refl;
-        }))
+        waits_on (E5 rival) (E6 rival) was now (λ h. inl refl) (λ h. absurd cc) (λ h. inr own) (λ h. absurd cc)
+        (λ p rivals h zero k. k) (λ p other h. refl)
 
     -- e6, where the rival sleeps
     pub owed_asleep : (rival : ℕ) → phase a ≡ Waiting (E6 rival) → phase' a ≡ Waiting (E7 rival) → spin rival ≡ 0
         → (p : ℕ) → Now p
     owed_asleep rival was now zero =
-        everyone (itself (Waiting (E6 rival)) (Waiting (E7 rival)) was now (turns (node a)) (spins a) refl
-        (λ h. inl refl) (λ h. absurd cc) (λ h. inl refl) (λ h. absurd cc))
-        (λ p apart. others (Waiting (E6 rival)) (Waiting (E7 rival)) was now p apart (turns (node p)) (spins p)
-        (λ rivals. record {
-          unwoken = λ h z k. refl;
-          outside = λ h one k. refl;
-          owed_one = λ other h z k. k;
-          keeps_two = λ other h. another p other h (rival == p) refl;
-        }))
+        waits_on (E6 rival) (E7 rival) was now (λ h. inl refl) (λ h. absurd cc) (λ h. inl refl) (λ h. absurd cc)
+        (λ p rivals h z k. k) (λ p other h. another p other h (rival == p) refl)
       where
         another : (p : ℕ) → turn (node p) ≢ p + 1 → IsTrue (awaits_two (phase p)) → (b : Bool) → (rival == p) ≡ b
             → (rival == p) ≡ false
@@ -291,42 +264,22 @@ module _ (node side : ℕ → ℕ) (two : (q : ℕ) → side q < 2) (phase : ℕ
     pub owed_awake : (rival : ℕ) → phase a ≡ Waiting (E6 rival) → phase' a ≡ Waiting E8 → spin rival ≢ 0 → (p : ℕ)
         → Now p
     owed_awake rival was now some_word =
-        everyone (itself (Waiting (E6 rival)) (Waiting E8) was now (turns (node a)) (spins a) refl (λ h. inl refl)
-        (λ h. absurd cc) (λ h. inl refl) (λ h. absurd cc))
-        (λ p apart. others (Waiting (E6 rival)) (Waiting E8) was now p apart (turns (node p)) (spins p)
-        (λ rivals. record {
-          unwoken = λ h z k. refl;
-          outside = λ h one k. refl;
-          owed_one = λ other h z k. absurd
-              (some_word (let one : rival ≡ p = grind (arith, nat_tests) in subst (λ q. spin q ≡ 0) (sym one) z));
-          keeps_two = λ other h. refl;
-        }))
+        waits_on (E6 rival) E8 was now (λ h. inl refl) (λ h. absurd cc) (λ h. inl refl) (λ h. absurd cc)
+        (λ p rivals h z k. absurd
+        (some_word (let one : rival ≡ p = grind (arith, nat_tests) in subst (λ q. spin q ≡ 0) (sym one) z)))
+        (λ p other h. refl)
 
     -- e8, where the place was woken
     pub owed_woken : phase a ≡ Waiting E8 → phase' a ≡ Waiting E9 → spin a ≢ 0 → (p : ℕ) → Now p
     owed_woken was now some_word =
-        everyone (itself (Waiting E8) (Waiting E9) was now (turns (node a)) (spins a) refl (λ h. absurd cc)
-        (λ h. some_word) (λ h. absurd cc) (λ h. absurd cc))
-        (λ p apart. others (Waiting E8) (Waiting E9) was now p apart (turns (node p)) (spins p)
-        (λ rivals. record {
-          unwoken = λ h z k. refl;
-          outside = λ h one k. refl;
-          owed_one = λ other h z k. absurd cc;
-          keeps_two = λ other h. refl;
-        }))
+        waits_on E8 E9 was now (λ h. absurd cc) (λ h. some_word) (λ h. absurd cc) (λ h. absurd cc)
+        (λ p rivals h z k. absurd cc) (λ p other h. refl)
 
     -- e9, where it announced itself last
     pub owed_waits : phase a ≡ Waiting E9 → phase' a ≡ Waiting E10 → turn (node a) ≡ a + 1 → (p : ℕ) → Now p
     owed_waits was now own =
-        everyone (itself (Waiting E9) (Waiting E10) was now (turns (node a)) (spins a) refl (λ h. absurd cc)
-        (λ h. (owed a).woken (ap was_woken was)) (λ h. absurd cc) (λ h. own))
-        (λ p apart. others (Waiting E9) (Waiting E10) was now p apart (turns (node p)) (spins p)
-        (λ rivals. record {
-          unwoken = λ h z k. refl;
-          outside = λ h one k. refl;
-          owed_one = λ other h z k. absurd cc;
-          keeps_two = λ other h. refl;
-        }))
+        waits_on E9 E10 was now (λ h. absurd cc) (λ h. (owed a).woken (ap was_woken was)) (λ h. absurd cc) (λ h. own)
+        (λ p rivals h z k. absurd cc) (λ p other h. refl)
 
     -- e4, e5, e9, e10: a place wins where nobody rests on a 1 of it
     pub owed_wins : (point : Entry) → phase a ≡ Waiting point → phase' a ≡ Holding
@@ -335,12 +288,8 @@ module _ (node side : ℕ → ℕ) (two : (q : ℕ) → side q < 2) (phase : ℕ
     owed_wins point was now none =
         everyone (nothing a (ap waits now))
         (λ p apart. others (Waiting point) Holding was now p apart (turns (node p)) (spins p)
-        (λ rivals. record {
-          unwoken = λ h z k. refl;
-          outside = λ h one k. refl;
-          owed_one = λ other h z k. absurd (none p rivals other h z k);
-          keeps_two = λ other h. refl;
-        }))
+        (λ rivals. past p (Waiting point) Holding refl refl
+        (λ other h z k. absurd (none p rivals other h z k)) (λ other h. refl)))
 
     -- at e4 the other side is nil, so no rival waits
     pub none_unclaimed : claim (node a) (1 - side a) ≡ 0 → (p : ℕ) → Rivals node side p a
@@ -432,12 +381,7 @@ module _ (node side : ℕ → ℕ) (two : (q : ℕ) → side q < 2) (phase : ℕ
         keeps_two = λ other h q rivals. absurd (none awaits_two refl h);
       })
       (λ p apart. others Announced (Waiting E4) was now p apart (turns (node p)) (stays p apart (others_stay p))
-      (λ rivals. record {
-        unwoken = λ h z k. refl;
-        outside = λ h one k. refl;
-        owed_one = λ other h z k. refl;
-        keeps_two = λ other h. refl;
-      }))
+      (λ rivals. past p Announced (Waiting E4) refl refl (λ other h z k. refl) (λ other h. refl)))
     where
       none : (kind : Phase → Bool) → kind (Waiting E4) ≡ false → IsTrue (kind (phase' a)) → ⊥
       none kind off h = let both : true ≡ false = sym h ∙ ap kind now ∙ off in cc
@@ -513,13 +457,9 @@ module _ (node side : ℕ → ℕ) (two : (q : ℕ) → side q < 2) (phase : ℕ
         everyone_but p not_rival false other =
             others (Waiting (E7 rival)) (Waiting E8) was now p (grind (arith, nat_tests)) (turns (node p))
             (spin_stays p not_rival)
-            (λ rivals. record {
-              unwoken = λ h z k. refl;
-              outside = λ h one k. refl;
-              owed_one = λ aside h z k. absurd
-                  (not_rival (let one : rival ≡ p = grind (arith, nat_tests) in sym one));
-              keeps_two = λ aside h. refl;
-            })
+            (λ rivals. past p (Waiting (E7 rival)) (Waiting E8) refl refl
+            (λ aside h z k. absurd (not_rival (let one : rival ≡ p = grind (arith, nat_tests) in sym one)))
+            (λ aside h. refl))
 
     -- x3: the place lets another one in
     pub owed_freed : phase a ≡ Freeing rival → phase' a ≡ Away → spin' rival ≡ 2 → (p : ℕ) → Now p
