@@ -1,6 +1,6 @@
 -- One process: each step comes nearer to its end, and costs what was counted.
 use Rattle.std.proofs.Common.{◌≡◌, ℕ, ◌+◌, ◌-◌, ◌*◌, ◌<◌, ◌≤◌, ◌==◌, Bool, true, false, nat_lt, refl, arith, ◌⊎◌, inl}
-use Rattle.std.proofs.Common.{inr, IsTrue, Some, List, [], ◌∷◌, ap}
+use Rattle.std.proofs.Common.{inr, IsTrue, Some, List, [], ◌∷◌, ap, sym, subst}
 use Rattle.std.proofs.lemmas.Bool.Decides.{nat_tests}
 use Rattle.ya_core.specs.declared.word.Word.{Word}
 use Rattle.ya_core.specs.declared.word.Word.TheVariants.{C, T, P}
@@ -223,6 +223,18 @@ moves_on w value is told = nearer w.levels w.place w.process w.begun value is.le
 pub spends : (w : Walk) (value : ℕ) → IsWalk w → IsTold (due w) value
     → (walk_after w value).remote + budget (walk_after w value) ≤ w.remote + budget w
 spends w value is told = omega (arith, cheaper w.levels w.place w.process w.begun value is.least is.proper told)
+
+-- so the walk that a walker shows goes on to the one that it comes to
+pub told_on : (w shown after : Walk) (value : ℕ) → after ≡ walk_after w value → w ≡ shown → IsWalk w
+    → IsTold (due shown) value
+    → IsWalk after × MovesOn shown after × (after.remote + budget after ≤ shown.remote + budget shown)
+told_on w shown after value is same walks told =
+    subst (λ (v : Walk). IsWalk after × MovesOn v after × (after.remote + budget after ≤ v.remote + budget v)) same
+    (subst (λ (v : Walk). IsWalk v × MovesOn w v × (v.remote + budget v ≤ w.remote + budget w)) (sym is)
+    (goes_on w value walks here, moves_on w value walks here, spends w value walks here))
+  where
+    here : IsTold (due w) value
+    here = subst (λ (v : Walk). IsTold (due v) value) (sym same) told
 
 -- the word that is due is one of the tree's words
 pub due_within : (w : Walk) → IsWalk w → DueIsWithin w.levels (due w)

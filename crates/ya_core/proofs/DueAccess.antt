@@ -1,5 +1,5 @@
 -- What an operation of a walker says of the access that is due.
-use Rattle.std.proofs.Common.{◌≡◌, ℕ, Bool, true, false, refl, ap, sym, ◌∙◌, subst, Some}
+use Rattle.std.proofs.Common.{◌≡◌, ◌≢◌, ℕ, Bool, true, false, refl, ap, sym, ◌∙◌, subst, Option, Some, None}
 use Rattle.ya_core.specs.declared.word.Word.{Word}
 use Rattle.ya_core.specs.declared.word.Access.{Access}
 use Rattle.ya_core.specs.declared.word.Access.TheVariants.{Load, Store}
@@ -8,40 +8,24 @@ use Rattle.ya_core.specs.declared.process.Process.TheVariants.{Idle, Entering, I
 use Rattle.ya_core.specs.declared.walker.Op.TheVariants as op
 use Rattle.ya_core.specs.Tree.{number_of}
 use Rattle.ya_core.specs.Steps.{access_of}
-use Rattle.ya_core.specs.Walks.{Walk, due, due_of, op_of, op_of_due, op_of_access, IsStore}
+use Rattle.ya_core.specs.Walks.{Walk, due, due_of, op_of, op_of_due, op_of_access, op_at_rest, IsStore}
 
--- an operation on a word asks for the access that is due
-op_load_due : (levels place : ℕ) (x : Process) (begun : Bool) (n : ℕ) → op_of_due levels place x begun ≡ op.Load n
-    → due_of levels place x begun ≡ Some (access_of levels place x)
-op_load_due levels place Idle true n e = refl
-op_load_due levels place Idle false n e = absurd cc
-op_load_due levels place (Entering level point) begun n e = refl
-op_load_due levels place Inside true n e = refl
-op_load_due levels place Inside false n e = absurd cc
-op_load_due levels place (Leaving level point) begun n e = refl
+-- what asks for no load and no store is at rest
+at_rest_asks_nothing : (x : Process) → ((n : ℕ) → op_at_rest x ≢ op.Load n) × ((n v : ℕ) → op_at_rest x ≢ op.Store n v)
+at_rest_asks_nothing Idle = (λ n e. cc, λ n v e. cc)
+at_rest_asks_nothing (Entering level point) = (λ n e. cc, λ n v e. cc)
+at_rest_asks_nothing Inside = (λ n e. cc, λ n v e. cc)
+at_rest_asks_nothing (Leaving level point) = (λ n e. cc, λ n v e. cc)
 
-op_store_due : (levels place : ℕ) (x : Process) (begun : Bool) (n v : ℕ) → op_of_due levels place x begun ≡ op.Store n v
-    → due_of levels place x begun ≡ Some (access_of levels place x)
-op_store_due levels place Idle true n v e = refl
-op_store_due levels place Idle false n v e = absurd cc
-op_store_due levels place (Entering level point) begun n v e = refl
-op_store_due levels place Inside true n v e = refl
-op_store_due levels place Inside false n v e = absurd cc
-op_store_due levels place (Leaving level point) begun n v e = refl
-
--- where an access is due, the operation is that access by the word's number
-op_of_some : (levels place : ℕ) (x : Process) (begun : Bool) (a : Access) → due_of levels place x begun ≡ Some a
-    → op_of_due levels place x begun ≡ op_of_access levels a
-op_of_some levels place Idle true a e =
-    ap (op_of_access levels) (let same : access_of levels place Idle ≡ a = cc in same)
-op_of_some levels place Idle false a e = absurd cc
-op_of_some levels place (Entering level point) begun a e =
-    ap (op_of_access levels) (let same : access_of levels place (Entering level point) ≡ a = cc in same)
-op_of_some levels place Inside true a e =
-    ap (op_of_access levels) (let same : access_of levels place Inside ≡ a = cc in same)
-op_of_some levels place Inside false a e = absurd cc
-op_of_some levels place (Leaving level point) begun a e =
-    ap (op_of_access levels) (let same : access_of levels place (Leaving level point) ≡ a = cc in same)
+-- the access that is due, if one is
+due_is : (levels place : ℕ) (x : Process) (begun : Bool) (a : Access) → due_of levels place x begun ≡ Some a
+    → access_of levels place x ≡ a
+due_is levels place Idle true a e = cc
+due_is levels place Idle false a e = absurd cc
+due_is levels place (Entering level point) begun a e = cc
+due_is levels place Inside true a e = cc
+due_is levels place Inside false a e = absurd cc
+due_is levels place (Leaving level point) begun a e = cc
 
 load_named : (levels : ℕ) (a : Access) (n : ℕ) → op_of_access levels a ≡ op.Load n
     → (word : Word) × (a ≡ Load word) × (n ≡ number_of levels word)
@@ -59,21 +43,37 @@ store_named levels (Store word value) n v e =
 pub load_due : (w : Walk) (n : ℕ) → op_of w ≡ op.Load n
     → (word : Word) × (access_of w.levels w.place w.process ≡ Load word) × (n ≡ number_of w.levels word)
     × (due w ≡ Some (Load word))
-load_due w n e =
-    let some = op_load_due w.levels w.place w.process w.begun n e in
-    let named = load_named w.levels (access_of w.levels w.place w.process) n
-    (sym (op_of_some w.levels w.place w.process w.begun (access_of w.levels w.place w.process) some) ∙ e) in
-    (named.0, named.1, named.2, some ∙ ap (λ a. Some a) named.1)
+load_due w n asks = by_due (due w) refl asks
+  where
+    by_due : (d : Option Access) → due w ≡ d → op_of_due w.levels w.process d ≡ op.Load n
+        → (word : Word) × (access_of w.levels w.place w.process ≡ Load word) × (n ≡ number_of w.levels word)
+        × (due w ≡ Some (Load word))
+    by_due None is e = absurd ((at_rest_asks_nothing w.process).0 n e)
+    by_due (Some a) is e =
+        let named = load_named w.levels a n e in (
+          named.0,
+          due_is w.levels w.place w.process w.begun a is ∙ named.1,
+          named.2,
+          is ∙ ap (λ b. Some b) named.1,
+        )
 
 -- and where it asks for a store
 pub store_due : (w : Walk) (n v : ℕ) → op_of w ≡ op.Store n v
     → (word : Word) × (access_of w.levels w.place w.process ≡ Store word v) × (n ≡ number_of w.levels word)
     × (due w ≡ Some (Store word v))
-store_due w n v e =
-    let some = op_store_due w.levels w.place w.process w.begun n v e in
-    let named = store_named w.levels (access_of w.levels w.place w.process) n v
-    (sym (op_of_some w.levels w.place w.process w.begun (access_of w.levels w.place w.process) some) ∙ e) in
-    (named.0, named.1, named.2, some ∙ ap (λ a. Some a) named.1)
+store_due w n v asks = by_due (due w) refl asks
+  where
+    by_due : (d : Option Access) → due w ≡ d → op_of_due w.levels w.process d ≡ op.Store n v
+        → (word : Word) × (access_of w.levels w.place w.process ≡ Store word v) × (n ≡ number_of w.levels word)
+        × (due w ≡ Some (Store word v))
+    by_due None is e = absurd ((at_rest_asks_nothing w.process).1 n v e)
+    by_due (Some a) is e =
+        let named = store_named w.levels a n v e in (
+          named.0,
+          due_is w.levels w.place w.process w.begun a is ∙ named.1,
+          named.2,
+          is ∙ ap (λ b. Some b) named.1,
+        )
 
 -- a walker that asks for a store is to be told that it is done
 pub store_asked : (w : Walk) (n v : ℕ) → op_of w ≡ op.Store n v → IsStore (due w)

@@ -87,15 +87,18 @@ abbrev pub op_of_access : ℕ → Access → Op
 op_of_access levels (Load word) = op.Load (number_of levels word)
 op_of_access levels (Store word value) = op.Store (number_of levels word) value
 
-abbrev pub op_of_due : ℕ → ℕ → Process → Bool → Op
-op_of_due levels place Idle begun = if begun then op_of_access levels (access_of levels place Idle) else op.Idle
-op_of_due levels place (Entering level point) begun =
-    op_of_access levels (access_of levels place (Entering level point))
-op_of_due levels place Inside begun = if begun then op_of_access levels (access_of levels place Inside) else op.Inside
-op_of_due levels place (Leaving level point) begun = op_of_access levels (access_of levels place (Leaving level point))
+-- what a process asks for to which no access is due
+abbrev pub op_at_rest : Process → Op
+op_at_rest Inside = op.Inside
+op_at_rest _ = op.Idle
+
+-- by the access that is due, if any
+abbrev pub op_of_due : ℕ → Process → Option Access → Op
+op_of_due levels process None = op_at_rest process
+op_of_due levels process (Some access) = op_of_access levels access
 
 abbrev pub op_of : Walk → Op
-op_of w = op_of_due w.levels w.place w.process w.begun
+op_of w = op_of_due w.levels w.process (due w)
 
 -- how many remote accesses a level can still cost on the way in
 abbrev pub entry_cost : Entry → ℕ
@@ -160,15 +163,16 @@ abbrev pub MovesOn : Walk → Walk → Type 0
 MovesOn old new =
     (points_ahead new < points_ahead old) ⊎ (IsTrue (is_waiting old.process) × (new.process ≡ old.process))
 
--- at most seven remote accesses a level on the way in, and three a level on the way out
+-- how many remote accesses a passage may have made when the budget is used up: seven a level in, ten a level in all
+abbrev pub allowance : ℕ → Process → Bool → ℕ
+allowance levels Idle begun = if begun then 7 * levels else 10 * levels
+allowance levels (Entering level point) begun = 7 * levels
+allowance levels Inside begun = if begun then 10 * levels else 7 * levels
+allowance levels (Leaving level point) begun = 10 * levels
+
+-- the remote accesses that were made and the budget that is left are together at most seven a level in, ten in all
 abbrev pub CountIsKept : ℕ → ℕ → Process → Bool → Type 0
-CountIsKept levels remote Idle true = remote ≡ 0
-CountIsKept levels remote Idle false = remote ≤ 10 * levels
-CountIsKept levels remote (Entering level point) begun =
-    remote + budget_of levels (Entering level point) false ≤ 7 * levels
-CountIsKept levels remote Inside begun = remote ≤ 7 * levels
-CountIsKept levels remote (Leaving level point) begun =
-    remote + budget_of levels (Leaving level point) false ≤ 10 * levels
+CountIsKept levels remote process begun = remote + budget_of levels process begun ≤ allowance levels process begun
 
 -- what holds of every walk
 pub record IsWalk (w : Walk) : Type 0 where

@@ -1,6 +1,6 @@
-use Rattle.std.proofs.Common.{◌≡◌, ◌+◌, ◌≤◌, false, sym, subst}
-use Rattle.ya_core.specs.Walks.{Walk, walk, IsWalk, IsTold, due, walk_after, MovesOn, budget}
-use Rattle.ya_core.proofs.Counting.{goes_on, moves_on, spends}
+use Rattle.std.proofs.Common.{◌≡◌, ◌+◌, false}
+use Rattle.ya_core.specs.Walks.{Walk, walk, walk_after}
+use Rattle.ya_core.proofs.Counting.{told_on}
 use Rattle.ya_core.proofs.walker.Walker.go_on.Goals as goal
 
 pub invariant_of-self : goal.invariant_of-self
@@ -9,9 +9,7 @@ invariant_of-self c =
     let w : Walk = walk old.shape old.place old.process old.begun old.remote in
     let after : Walk = walk old.shape old.place c.next-self-inside.result false (old.remote + c.cost.result) in
     let is : after ≡ walk_after w c.args.value = cc in
-    let told : IsTold (due w) c.args.value =
-    subst (λ (v : Walk). IsTold (due v) c.args.value) (sym c.self.view_is) c.requires in
-    subst IsWalk (sym is) (goes_on w c.args.value c.self.invariant told)
+    (told_on w _ after c.args.value is c.self.view_is c.self.invariant c.requires).0
 
 pub returns-clause-onward : goal.returns-clause-onward
 returns-clause-onward c =
@@ -19,11 +17,7 @@ returns-clause-onward c =
     let w : Walk = walk old.shape old.place old.process old.begun old.remote in
     let after : Walk = walk old.shape old.place c.next-self-inside.result false (old.remote + c.cost.result) in
     let is : after ≡ walk_after w c.args.value = cc in
-    let told : IsTold (due w) c.args.value =
-    subst (λ (v : Walk). IsTold (due v) c.args.value) (sym c.self.view_is) c.requires in
-    let onward : MovesOn w after =
-    subst (λ (v : Walk). MovesOn w v) (sym is) (moves_on w c.args.value c.self.invariant told) in
-    subst (λ (v : Walk). MovesOn v after) c.self.view_is onward
+    (told_on w _ after c.args.value is c.self.view_is c.self.invariant c.requires).1
 
 pub returns-clause-budget : goal.returns-clause-budget
 returns-clause-budget c =
@@ -31,9 +25,4 @@ returns-clause-budget c =
     let w : Walk = walk old.shape old.place old.process old.begun old.remote in
     let after : Walk = walk old.shape old.place c.next-self-inside.result false (old.remote + c.cost.result) in
     let is : after ≡ walk_after w c.args.value = cc in
-    let told : IsTold (due w) c.args.value =
-    subst (λ (v : Walk). IsTold (due v) c.args.value) (sym c.self.view_is) c.requires in
-    let spent : after.remote + budget after ≤ w.remote + budget w =
-    subst (λ (v : Walk). v.remote + budget v ≤ w.remote + budget w) (sym is)
-    (spends w c.args.value c.self.invariant told) in
-    subst (λ (v : Walk). after.remote + budget after ≤ v.remote + budget v) c.self.view_is spent
+    (told_on w _ after c.args.value is c.self.view_is c.self.invariant c.requires).2
