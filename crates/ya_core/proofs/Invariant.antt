@@ -23,7 +23,7 @@ use Rattle.ya_core.proofs.PhaseKinds.{competes}
 use Rattle.ya_core.proofs.Level.{or_else, level_stays, one_holds}
 use Rattle.ya_core.proofs.Phases.{acts_at, phase_here, phase_below, phase_away, phase_won, phase_left, frame_phase}
 use Rattle.ya_core.proofs.Phases.{access_level, words_stay, holds_below}
-use Rattle.ya_core.proofs.Wake.{owed_stays}
+use Rattle.ya_core.proofs.WakeFrame.{owed_stays}
 use Rattle.ya_core.proofs.LevelSteps.{act_claim, act_announce, act_clear, act_found, act_last, act_asleep, act_awake}
 use Rattle.ya_core.proofs.LevelSteps.{act_wake, act_woken, act_waits, act_stay, act_let_in, act_give_up, act_part}
 use Rattle.ya_core.proofs.LevelSteps.{act_see, act_win_unclaimed, act_win_other, act_win_let_in}

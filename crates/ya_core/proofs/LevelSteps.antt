@@ -16,9 +16,11 @@ use Rattle.ya_core.proofs.PhaseKinds.{competes}
 use Rattle.ya_core.proofs.Level.{Same, SameClaims, SameWords, Alike, or_else, level_stays, alike, wakes, lets_in}
 use Rattle.ya_core.proofs.Level.{claims_side, announces, clears, wins, gives_up, goes_away, last_unclaimed, last_other}
 use Rattle.ya_core.proofs.Level.{last_let_in}
-use Rattle.ya_core.proofs.Wake.{owed_stays, owed_named, owed_announced, owed_cleared, owed_found, owed_last}
-use Rattle.ya_core.proofs.Wake.{owed_asleep, owed_awake, owed_woken, owed_waits, owed_wins, owed_wakes, owed_freed}
-use Rattle.ya_core.proofs.Wake.{owed_given_up, owed_left, owed_parted, none_unclaimed, none_last}
+use Rattle.ya_core.proofs.WakeFrame.{ActsAtLevel, owed_stays}
+use Rattle.ya_core.proofs.WakeLoads.{owed_named, owed_found, owed_last, owed_asleep, owed_awake, owed_woken}
+use Rattle.ya_core.proofs.WakeLoads.{owed_waits, owed_wins, owed_given_up, owed_left, owed_parted, none_unclaimed}
+use Rattle.ya_core.proofs.WakeLoads.{none_last}
+use Rattle.ya_core.proofs.WakeStores.{owed_announced, owed_cleared, owed_wakes, owed_freed}
 
 -- what two names of words C have in common
 same_claim : (level node side n s : ℕ) → C level n s ≡ C level node side → (n ≡ node) × (s ≡ side)
@@ -66,6 +68,26 @@ module _ (levels place level : ℕ) (old new : State) (here : IsSoundAt levels o
   abbrev spin_words : State → ℕ → ℕ
   spin_words s q = s.words (P level q)
 
+  -- the step at the level
+  abbrev act : ActsAtLevel
+  act =
+      record {
+        node = node_of level;
+        side = side_of level;
+        two = side_below level;
+        phase = before;
+        claim = claim_words old;
+        turn = turn_words old;
+        spin = spin_words old;
+        is = here;
+        owed = owed;
+        a = place;
+        phase' = after;
+        same = same;
+        turn' = turn_words new;
+        spin' = spin_words new;
+      }
+
   -- the place is alone on its side
   abbrev IsAlone : Type 0
   IsAlone = (q : ℕ) → node_of level q ≡ node_of level place → side_of level q ≡ side_of level place
@@ -97,8 +119,7 @@ module _ (levels place level : ℕ) (old new : State) (here : IsSoundAt levels o
         (claims_side (node_of level) (side_of level) before (claim_words old) (turn_words old)
         (spin_words old) here place after same (claim_words new) now done.0
         (claims_apart level (node_of level place) (side_of level place) old.words new.words done.1) alone),
-    owed_named (node_of level) (side_of level) (side_below level) before (claim_words old) (turn_words old)
-        (spin_words old) here owed place after same (turn_words new) (spin_words new)
+    owed_named act
         (λ n. done.1 (T level n) (λ e. cc)) (λ q. done.1 (P level q) (λ e. cc)) was now,
   )
 
@@ -111,8 +132,7 @@ module _ (levels place level : ℕ) (old new : State) (here : IsSoundAt levels o
         (λ q. refl) (λ n s. done.1 (C level n s) (λ e. cc)) (λ n. refl) (λ q. done.1 (P level q) (λ e. cc))
         (announces (node_of level) (side_of level) before (claim_words old) (turn_words old)
         (spin_words old) here place after same (side_below level) (turn_words new) was now done.0 turns),
-    owed_announced (node_of level) (side_of level) (side_below level) before (claim_words old) (turn_words old)
-        (spin_words old) here owed place after same (turn_words new) (spin_words new)
+    owed_announced act
         (λ q. done.1 (P level q) (λ e. cc)) was now done.0 turns alone,
   )
     where
@@ -129,8 +149,7 @@ module _ (levels place level : ℕ) (old new : State) (here : IsSoundAt levels o
         (λ q. refl) (λ n s. done.1 (C level n s) (λ e. cc)) (λ n. done.1 (T level n) (λ e. cc)) (λ q. refl)
         (clears (node_of level) (side_of level) before (claim_words old) (turn_words old)
         (spin_words old) here place after same (spin_words new) was now done.0 spins),
-    owed_cleared (node_of level) (side_of level) (side_below level) before (claim_words old) (turn_words old)
-        (spin_words old) here owed place after same (turn_words new) (spin_words new)
+    owed_cleared act
         (λ n. done.1 (T level n) (λ e. cc)) was now done.0 spins,
   )
     where
@@ -154,8 +173,7 @@ module _ (levels place level : ℕ) (old new : State) (here : IsSoundAt levels o
         (wakes (node_of level) (side_of level) before (claim_words old) (turn_words old) (spin_words old) here rival
         (spin_words new) done.0 (rest rival 1 done))
         place after same (like (Waiting (E7 rival)) (Waiting E8) was now (waiting_alike (E7 rival) E8))),
-    owed_wakes (node_of level) (side_of level) (side_below level) before (claim_words old) (turn_words old)
-        (spin_words old) here owed place after same (turn_words new) (spin_words new) rival
+    owed_wakes act rival
         (λ n. done.1 (T level n) (λ e. cc)) (rest rival 1 done)
         (λ e. there.1 (ap (side_of level) (sym e))) was now there done.0,
   )
@@ -173,8 +191,7 @@ module _ (levels place level : ℕ) (old new : State) (here : IsSoundAt levels o
         (side_below level) place rival (spin_words new)
         (subst (λ z. Alike z Away) (sym was) (freeing_alike rival)) below other done.0 (rest rival 2 done) alone)
         place after same (like (Freeing rival) Away was now (away_alike rival))),
-    owed_freed (node_of level) (side_of level) (side_below level) before (claim_words old) (turn_words old)
-        (spin_words old) here owed place after same (turn_words new) (spin_words new) rival
+    owed_freed act rival
         (λ n. done.1 (T level n) (λ e. cc)) (rest rival 2 done) other was now done.0,
   )
 
@@ -188,8 +205,7 @@ module _ (levels place level : ℕ) (old new : State) (here : IsSoundAt levels o
         (gives_up (node_of level) (side_of level) before (claim_words old) (turn_words old)
         (spin_words old) here place after same (claim_words new) was now done.0
         (claims_apart level (node_of level place) (side_of level place) old.words new.words done.1)),
-    owed_given_up (node_of level) (side_of level) (side_below level) before (claim_words old) (turn_words old)
-        (spin_words old) here owed place after same (turn_words new) (spin_words new)
+    owed_given_up act
         (λ n. done.1 (T level n) (λ e. cc)) (λ q. done.1 (P level q) (λ e. cc)) was now,
   )
 
@@ -231,8 +247,7 @@ module _ (levels place level : ℕ) (old new : State) (here : IsSoundAt levels o
         → old.words (C level (node_of level place) (1 - side_of level place)) ≡ rival + 1 → IsKept
     act_found rival was now found = (
       still_waits E4 (E5 rival) was now,
-      owed_found (node_of level) (side_of level) (side_below level) before (claim_words old) (turn_words old)
-          (spin_words old) here owed place after same (turn_words new) (spin_words new) turns spins rival was now found,
+      owed_found act turns spins rival was now found,
     )
 
     -- e5, where the place announced itself last
@@ -240,8 +255,7 @@ module _ (levels place level : ℕ) (old new : State) (here : IsSoundAt levels o
         → old.words (T level (node_of level place)) ≡ place + 1 → IsKept
     act_last rival was now own = (
       still_waits (E5 rival) (E6 rival) was now,
-      owed_last (node_of level) (side_of level) (side_below level) before (claim_words old) (turn_words old)
-          (spin_words old) here owed place after same (turn_words new) (spin_words new) turns spins rival was now own,
+      owed_last act turns spins rival was now own,
     )
 
     -- e6, where the rival's spin word is 0, and where it isn't
@@ -249,24 +263,21 @@ module _ (levels place level : ℕ) (old new : State) (here : IsSoundAt levels o
         → old.words (P level rival) ≡ 0 → IsKept
     act_asleep rival was now zero = (
       still_waits (E6 rival) (E7 rival) was now,
-      owed_asleep (node_of level) (side_of level) (side_below level) before (claim_words old) (turn_words old)
-          (spin_words old) here owed place after same (turn_words new) (spin_words new) turns spins rival was now zero,
+      owed_asleep act turns spins rival was now zero,
     )
 
     pub act_awake : (rival : ℕ) → before place ≡ Waiting (E6 rival) → after place ≡ Waiting E8
         → old.words (P level rival) ≢ 0 → IsKept
     act_awake rival was now some = (
       still_waits (E6 rival) E8 was now,
-      owed_awake (node_of level) (side_of level) (side_below level) before (claim_words old) (turn_words old)
-          (spin_words old) here owed place after same (turn_words new) (spin_words new) turns spins rival was now some,
+      owed_awake act turns spins rival was now some,
     )
 
     -- e8, where the place was woken
     pub act_woken : before place ≡ Waiting E8 → after place ≡ Waiting E9 → old.words (P level place) ≢ 0 → IsKept
     act_woken was now some = (
       still_waits E8 E9 was now,
-      owed_woken (node_of level) (side_of level) (side_below level) before (claim_words old) (turn_words old)
-          (spin_words old) here owed place after same (turn_words new) (spin_words new) turns spins was now some,
+      owed_woken act turns spins was now some,
     )
 
     -- e9, where it announced itself last
@@ -274,8 +285,7 @@ module _ (levels place level : ℕ) (old new : State) (here : IsSoundAt levels o
         → old.words (T level (node_of level place)) ≡ place + 1 → IsKept
     act_waits was now own = (
       still_waits E9 E10 was now,
-      owed_waits (node_of level) (side_of level) (side_below level) before (claim_words old) (turn_words old)
-          (spin_words old) here owed place after same (turn_words new) (spin_words new) turns spins was now own,
+      owed_waits act turns spins was now own,
     )
 
     -- x2, where the place announced itself last, and where another did
@@ -286,8 +296,7 @@ module _ (levels place level : ℕ) (old new : State) (here : IsSoundAt levels o
           (spin_words old) here place after same was
           (subst (λ z. Alike z Away) (sym now)
           (record { claiming = refl; past = refl; waiting = refl; holding = refl; parting = refl }))),
-      owed_left (node_of level) (side_of level) (side_below level) before (claim_words old) (turn_words old)
-          (spin_words old) here owed place after same (turn_words new) (spin_words new) turns spins was now own,
+      owed_left act turns spins was now own,
     )
 
     pub act_see : before place ≡ Parting → after place ≡ Freeing (old.words (T level (node_of level place)) - 1)
@@ -296,8 +305,7 @@ module _ (levels place level : ℕ) (old new : State) (here : IsSoundAt levels o
       by_load (goes_away (node_of level) (side_of level) before (claim_words old) (turn_words old)
           (spin_words old) here place after same was
           (subst (λ z. Alike z Away) (sym now) (freeing_alike (old.words (T level (node_of level place)) - 1)))),
-      owed_parted (node_of level) (side_of level) (side_below level) before (claim_words old) (turn_words old)
-          (spin_words old) here owed place after same (turn_words new) (spin_words new) turns spins was now,
+      owed_parted act turns spins was now,
     )
 
     -- e4, where the other side is nil
@@ -308,11 +316,8 @@ module _ (levels place level : ℕ) (old new : State) (here : IsSoundAt levels o
           (spin_words old) here place after same E4 was now
           (last_unclaimed (node_of level) (side_of level) before (claim_words old) (turn_words old)
           (spin_words old) here place after same (side_below level) nil)),
-      owed_wins (node_of level) (side_of level) (side_below level) before (claim_words old) (turn_words old)
-          (spin_words old) here owed place after same (turn_words new) (spin_words new) turns spins E4 was now
-          (λ p rivals other h zero k. none_unclaimed (node_of level) (side_of level) (side_below level) before
-          (claim_words old) (turn_words old) (spin_words old) here owed place after same (turn_words new)
-          (spin_words new) turns spins nil p rivals h),
+      owed_wins act turns spins E4 was now
+          (λ p rivals other h zero k. none_unclaimed act turns spins nil p rivals h),
     )
 
     -- e5 and e9, where another announced itself last
@@ -323,11 +328,8 @@ module _ (levels place level : ℕ) (old new : State) (here : IsSoundAt levels o
           (spin_words old) here place after same point was now
           (last_other (node_of level) (side_of level) before (claim_words old) (turn_words old)
           (spin_words old) here place after same other (ap is_past was))),
-      owed_wins (node_of level) (side_of level) (side_below level) before (claim_words old) (turn_words old)
-          (spin_words old) here owed place after same (turn_words new) (spin_words new) turns spins point was now
-          (λ p rivals apart h zero k. none_last (node_of level) (side_of level) (side_below level) before
-          (claim_words old) (turn_words old) (spin_words old) here owed place after same (turn_words new)
-          (spin_words new) turns spins (ap is_past was) other p rivals apart h),
+      owed_wins act turns spins point was now
+          (λ p rivals apart h zero k. none_last act turns spins (ap is_past was) other p rivals apart h),
     )
 
     -- e10, where the place was let in
@@ -337,7 +339,6 @@ module _ (levels place level : ℕ) (old new : State) (here : IsSoundAt levels o
           (spin_words old) here place after same E10 was now
           (last_let_in (node_of level) (side_of level) before (claim_words old) (turn_words old)
           (spin_words old) here place after same two (ap waits was))),
-      owed_wins (node_of level) (side_of level) (side_below level) before (claim_words old) (turn_words old)
-          (spin_words old) here owed place after same (turn_words new) (spin_words new) turns spins E10 was now
+      owed_wins act turns spins E10 was now
           (λ p rivals apart h zero k. absurd cc),
     )

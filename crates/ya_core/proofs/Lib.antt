@@ -5,7 +5,9 @@ pub mod Properness
 pub mod Counting
 pub mod PhaseKinds
 pub mod Level
-pub mod Wake
+pub mod WakeFrame
+pub mod WakeLoads
+pub mod WakeStores
 pub mod Phases
 pub mod LevelSteps
 pub mod Invariant
