@@ -14,7 +14,7 @@ use Rattle.ya_core.specs.Tree.{node_of, side_of}
 use Rattle.ya_core.specs.Steps.{State, StepsTo, Accesses, opening, value_of, access_of, entry_access, exit_access}
 use Rattle.ya_core.specs.Steps.{next_of, entry_next, exit_next, won, left}
 use Rattle.ya_core.specs.Soundness.{Phase, Away, Named, Holding, Parting, Freeing, is_past, holds, parts, phase_of}
-use Rattle.ya_core.specs.Soundness.{entry_phase, exit_phase, IsProper, IsSoundAt, IsOwedAt, IsSound}
+use Rattle.ya_core.specs.Soundness.{phase_at, entry_phase, exit_phase, IsProper, IsSoundAt, IsOwedAt, IsSound}
 use Rattle.ya_core.specs.Walks.{MayFind, CanStand}
 use Rattle.ya_core.specs.Worlds.{IsInside, is_inside}
 use Rattle.ya_core.proofs.Places.{node_below, node_of_place, node_of_root}
@@ -148,21 +148,20 @@ module _ (levels place level : ℕ) (old new : State) (is : IsSound levels old) 
   leaves_it now = stands (left level) Away now (phase_left levels level level least least ∙ phase_here level Away)
 
   -- a place that stands on its way in, or out, is alone on its side
-  alone_in : (point : Entry) → old.processes place ≡ Entering level point
-      → (q : ℕ) → node_of level q ≡ node_of level place → side_of level q ≡ side_of level place
+  abbrev IsAlone : Type 0
+  IsAlone = (q : ℕ) → node_of level q ≡ node_of level place → side_of level q ≡ side_of level place
       → IsTrue (competes (phase_of levels level (old.processes q))) → q ≡ place
-  alone_in point e =
-      alone_at levels place level old is least most
-      (λ more. ap (λ x. holds (phase_of levels (level - 1) x)) e
-      ∙ ap holds (phase_below (level - 1) level (entry_phase point) (omega arith)))
 
-  alone_out : (point : Exit) → old.processes place ≡ Leaving level point
-      → (q : ℕ) → node_of level q ≡ node_of level place → side_of level q ≡ side_of level place
-      → IsTrue (competes (phase_of levels level (old.processes q))) → q ≡ place
-  alone_out point e =
+  alone_there : (a : Phase) → phase_of levels (level - 1) (old.processes place) ≡ phase_at (level - 1) level a → IsAlone
+  alone_there a there =
       alone_at levels place level old is least most
-      (λ more. ap (λ x. holds (phase_of levels (level - 1) x)) e
-      ∙ ap holds (phase_below (level - 1) level (exit_phase point) (omega arith)))
+      (λ more. ap holds (there ∙ phase_below (level - 1) level a (omega arith)))
+
+  alone_in : (point : Entry) → old.processes place ≡ Entering level point → IsAlone
+  alone_in point e = alone_there (entry_phase point) (ap (λ x. phase_of levels (level - 1) x) e)
+
+  alone_out : (point : Exit) → old.processes place ≡ Leaving level point → IsAlone
+  alone_out point e = alone_there (exit_phase point) (ap (λ x. phase_of levels (level - 1) x) e)
 
   -- the place comes to another point of the level
   comes : (point : Entry) → new.processes place ≡ Entering level point

@@ -1,6 +1,6 @@
 -- At a node, from its store of T, nobody is overtaken twice: once the other side won, a place that waits is named by T
 -- only where each rival that is past holds the node.
-use Rattle.std.proofs.Common.{◌≡◌, ◌≢◌, ℕ, ◌+◌, ◌-◌, ◌≤◌, ◌==◌, ◌&&◌, not, Bool, true, false, refl, arith, ap, sym}
+use Rattle.std.proofs.Common.{◌≡◌, ◌≢◌, ℕ, ◌+◌, ◌≤◌, ◌==◌, ◌&&◌, not, Bool, true, false, refl, arith, ap, sym}
 use Rattle.std.proofs.Common.{◌∙◌, subst, ◌⊎◌, inl, inr, if◌then◌else◌, IsTrue, List, [], ◌∷◌, ◌++◌}
 use Rattle.std.proofs.lemmas.Bool.Decides.{nat_tests}
 use Rattle.ya_core.specs.declared.word.Word.TheVariants.{C, T, P}
