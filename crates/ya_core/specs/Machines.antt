@@ -38,11 +38,12 @@ pub record IsMachine (m : Rows) : Type 0 where
   pub processes : length m.processes ≡ 2 ^ m.levels
   pub sound : IsSound m.levels (state_of m)
 
--- the word of an access, and whether it is a store
+-- the word of an access
 abbrev pub word_of : Access → Word
 word_of (Load word) = word
 word_of (Store word value) = word
 
+-- the access is a store
 abbrev pub is_store : Access → Bool
 is_store (Load word) = false
 is_store (Store word value) = true

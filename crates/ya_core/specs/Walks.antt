@@ -56,6 +56,7 @@ FitsAccess None value = ⊥
 FitsAccess (Some (Store word stored)) value = ⊥
 FitsAccess (Some (Load word)) value = CanStand word value
 
+-- the value may be loaded by the walk's access
 abbrev pub Fits : Walk → ℕ → Type 0
 Fits w value = FitsAccess (due w) value
 
@@ -82,7 +83,7 @@ walk_after w value =
     walk w.levels w.place (next_of w.levels w.place w.process value) false
     (w.remote + cost_of w.place (access_of w.levels w.place w.process))
 
--- the operation that the walk asks for: its access by the word's number in the flat row
+-- what is asked for by an access: the word stands by its number in the flat row
 abbrev pub op_of_access : ℕ → Access → Op
 op_of_access levels (Load word) = op.Load (number_of levels word)
 op_of_access levels (Store word value) = op.Store (number_of levels word) value
@@ -92,26 +93,35 @@ abbrev pub op_at_rest : Process → Op
 op_at_rest Inside = op.Inside
 op_at_rest _ = op.Idle
 
--- by the access that is due, if any
+-- what it asks for where this access is due to it, or none
 abbrev pub op_of_due : ℕ → Process → Option Access → Op
 op_of_due levels process None = op_at_rest process
 op_of_due levels process (Some access) = op_of_access levels access
 
+-- what a walk asks for
 abbrev pub op_of : Walk → Op
 op_of w = op_of_due w.levels w.process (due w)
 
--- how many remote accesses a level can still cost on the way in
+-- what is still ahead at each point of the way in at a level, this one included: points, and remote accesses at most
+abbrev pub entry_ahead : Entry → ℕ × ℕ
+entry_ahead E1 = (10, 7)
+entry_ahead E2 = (9, 6)
+entry_ahead E3 = (8, 5)
+entry_ahead E4 = (7, 5)
+entry_ahead (E5 rival) = (6, 4)
+entry_ahead (E6 rival) = (5, 3)
+entry_ahead (E7 rival) = (4, 2)
+entry_ahead E8 = (3, 1)
+entry_ahead E9 = (2, 1)
+entry_ahead E10 = (1, 0)
+
+-- how many points are ahead there
+abbrev pub entry_points : Entry → ℕ
+entry_points point = (entry_ahead point).0
+
+-- how many remote accesses the level can still cost
 abbrev pub entry_cost : Entry → ℕ
-entry_cost E1 = 7
-entry_cost E2 = 6
-entry_cost E3 = 5
-entry_cost E4 = 5
-entry_cost (E5 rival) = 4
-entry_cost (E6 rival) = 3
-entry_cost (E7 rival) = 2
-entry_cost E8 = 1
-entry_cost E9 = 1
-entry_cost E10 = 0
+entry_cost point = (entry_ahead point).1
 
 -- how many points of a level are still ahead on the way out, this one included; each is a remote access
 abbrev pub exit_points : Exit → ℕ
@@ -126,21 +136,9 @@ budget_of levels (Entering level point) begun = 7 * (levels - level) + entry_cos
 budget_of levels Inside begun = if begun then 3 * levels else 0
 budget_of levels (Leaving level point) begun = 3 * (level - 1) + exit_points point
 
+-- the budget of a walk
 abbrev pub budget : Walk → ℕ
 budget w = budget_of w.levels w.process w.begun
-
--- how many points of a level are still ahead on the way in, this one included
-abbrev pub entry_points : Entry → ℕ
-entry_points E1 = 10
-entry_points E2 = 9
-entry_points E3 = 8
-entry_points E4 = 7
-entry_points (E5 rival) = 6
-entry_points (E6 rival) = 5
-entry_points (E7 rival) = 4
-entry_points E8 = 3
-entry_points E9 = 2
-entry_points E10 = 1
 
 -- how many points are still ahead before the walk is inside, or idle again
 abbrev pub points_of : ℕ → Process → Bool → ℕ
@@ -149,6 +147,7 @@ points_of levels (Entering level point) begun = 10 * (levels - level) + entry_po
 points_of levels Inside begun = if begun then 3 * levels else 0
 points_of levels (Leaving level point) begun = 3 * (level - 1) + exit_points point
 
+-- how many points are ahead of a walk
 abbrev pub points_ahead : Walk → ℕ
 points_ahead w = points_of w.levels w.process w.begun
 
