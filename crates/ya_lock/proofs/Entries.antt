@@ -1,28 +1,30 @@
 -- What a guard's seat has, once the value was taken out of its slot.
-use Rattle.std.proofs.Common.{◌≡◌, ℕ, ◌*◌, ◌≤◌, [], ◌∷◌, Some, None, sym, ap, ◌∙◌, subst}
+use Rattle.std.proofs.Common.{◌≡◌, ℕ, ◌*◌, ◌≤◌, false, [], ◌∷◌, Some, None, sym, ap, ◌∙◌, subst}
 use Rattle.std.specs.Prelude as std
 use Rattle.atomic_table.specs.Table.{Me, rest}
 use Rattle.ya_core.specs.declared.process.Process.TheVariants.{Inside}
+use Rattle.ya_core.specs.Walks.{walk}
 use Rattle.ya_lock.specs.declared.view.View.{View}
 use Rattle.ya_lock.specs.declared.view.View.TheVariants.{Member}
-use Rattle.ya_lock.specs.Lock.{LockId, HasTree, HasPlace, IsWithin, HasEntered}
+use Rattle.ya_lock.specs.Lock.{LockId, HasTree, HasPlace, SeatInside, SeatOnEntry}
 use Rattle.ya_lock.proofs.Heights.{one_tree}
 use Rattle.ya_lock.proofs.Makings.{one_value}
 
 module _ {V : Type 0} where
   -- there is a slot to take it from
-  pub has_slot : (since : ℕ → V → V → Type 0) (place : ℕ) (seen : V) (remote : ℕ) (me : Me (std.Option V) (View V))
-      → HasEntered since place seen remote me → (x : std.Option V) × (me.1 ≡ (0, x) ∷ rest me.1)
-  has_slot since place seen remote me h =
-      (Some h.0, ap (λ (m : Me (std.Option V) (View V)). m.1) h.2 ∙ (λ i. (0, Some h.0) ∷ rest (sym h.2 i).1))
+  pub has_slot : (since : ℕ → V → V → Type 0) (levels place : ℕ) (seen : V) (remote : ℕ) (me : Me (std.Option V) (View V))
+      → SeatOnEntry since seen (walk levels place Inside false remote) me → (x : std.Option V) × (me.1 ≡ (0, x) ∷ rest me.1)
+  has_slot since levels place seen remote me h =
+      let is = h.1.2 in (Some h.1.0, ap (λ (m : Me (std.Option V) (View V)). m.1) is ∙ (λ i. (0, Some h.1.0) ∷ rest (sym is i).1))
 
   -- what was taken is what was found, and the slot is left empty
-  pub taken : (since : ℕ → V → V → Type 0) (place : ℕ) (seen value : V) (remote : ℕ) (x : std.Option V)
-      (me after : Me (std.Option V) (View V)) → HasEntered since place seen remote me → me.1 ≡ (0, x) ∷ rest me.1
+  pub taken : (since : ℕ → V → V → Type 0) (levels place : ℕ) (seen value : V) (remote : ℕ) (x : std.Option V)
+      (me after : Me (std.Option V) (View V)) → SeatOnEntry since seen (walk levels place Inside false remote) me → me.1 ≡ (0, x) ∷ rest me.1
       → x ≡ Some value
       → after ≡ (me.0, (0, None) ∷ rest me.1)
       → (after ≡ (Member place Inside value remote, (0, None) ∷ [])) × since place seen value
-  taken since place seen value remote x me after h slot is new =
+  taken since levels place seen value remote x me after entered slot is new =
+      let h = entered.1 in
       let own : me.1 ≡ (0, Some h.0) ∷ [] = ap (λ (m : Me (std.Option V) (View V)). m.1) h.2 in
       let same : h.0 ≡ value = one_value h.0 value (sym own ∙ (slot ∙ (λ i. (0, is i) ∷ rest (own i)))) in (
         new ∙ (λ i. ((h.2 i).0, (0, None) ∷ rest (own i))) ∙ (λ i. (Member place Inside (same i) remote, (0, None) ∷ [])),
@@ -33,11 +35,11 @@ module _ {V : Type 0} where
   pub guarded : (since : ℕ → V → V → Type 0) (levels place here remote : ℕ) (seen value recalled : V) (x : std.Option V)
       (lock old own : LockId) (me after : Me (std.Option V) (View V))
       → lock ≡ old → old ≡ own → HasTree own levels → HasPlace old place → here ≡ place → remote ≤ 7 * levels
-      → HasEntered since here seen remote me → me.1 ≡ (0, x) ∷ rest me.1 → x ≡ Some value
-      → after ≡ (me.0, (0, None) ∷ rest me.1) → recalled ≡ value → IsWithin lock place recalled remote after
+      → SeatOnEntry since seen (walk levels here Inside false remote) me → me.1 ≡ (0, x) ∷ rest me.1 → x ≡ Some value
+      → after ≡ (me.0, (0, None) ∷ rest me.1) → recalled ≡ value → SeatInside lock place recalled remote after
   guarded since levels place here remote seen value recalled x lock old own me after e f tree is_place at most h slot is
       new recall =
-      let t = taken since here seen value remote x me after h slot is new in
+      let t = taken since levels here seen value remote x me after h slot is new in
       record {
         process = t.0 ∙ (λ i. (Member (at i) Inside (sym recall i) remote, (0, None) ∷ []));
         in_tree = subst (λ (l : LockId). HasPlace l place) (sym e) is_place;

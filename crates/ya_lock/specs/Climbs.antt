@@ -1,31 +1,17 @@
 -- Where an entry has come to.
-use Rattle.std.specs.Prelude.{◌≡◌, ℕ, ◌*◌, ◌≤◌, ◌⊎◌, false, [], ◌∷◌}
-use Rattle.std.specs.Prelude as std
-use Rattle.atomic_table.specs.Table.{Me}
+use Rattle.std.specs.Prelude.{◌≡◌, ℕ, ◌⊎◌, false}
 use Rattle.ya_core.specs.declared.process.Process.{Process}
 use Rattle.ya_core.specs.declared.process.Process.TheVariants.{Idle, Entering, Inside}
 use Rattle.ya_core.specs.declared.process.Entry.TheVariants.{E1, E8, E9, E10}
 use Rattle.ya_core.specs.Steps.{won}
-use Rattle.ya_core.specs.Walks.{IsWalk, walk, points_of}
+use Rattle.ya_core.specs.Walks.{Walk, walk}
 use Rattle.ya_lock.specs.declared.passage.Climb.{Climb}
 use Rattle.ya_lock.specs.declared.passage.Climb.TheVariants as climb
-use Rattle.ya_lock.specs.declared.view.View.{View}
-use Rattle.ya_lock.specs.declared.view.View.TheVariants.{Member}
-use Rattle.ya_lock.specs.Lock.{HasEntered}
 
-module _ {V : Type 0} where
-  -- the seat's process stands at the first access of the level, or its place has entered, after so many remote accesses
-  abbrev pub HasClimbed : (ℕ → V → V → Type 0) → ℕ → ℕ → V → Climb → Me (std.Option V) (View V) → Type 0
-  HasClimbed since levels place seen (climb.Level level remote) me =
-      (me ≡ (Member place (Entering level E1) seen remote, []))
-      × IsWalk (walk levels place (Entering level E1) false remote)
-  HasClimbed since levels place seen (climb.Inside remote) me =
-      HasEntered since place seen remote me × (remote ≤ 7 * levels)
-
--- how many points of the tree are still ahead of it there
-abbrev pub climb_points : ℕ → Climb → ℕ
-climb_points levels (climb.Level level remote) = points_of levels (Entering level E1) false
-climb_points levels (climb.Inside remote) = points_of levels Inside false
+-- the walk of an entry that has come to the first access of a level, or inside
+abbrev pub climb_walk : ℕ → ℕ → Climb → Walk
+climb_walk levels place (climb.Level level remote) = walk levels place (Entering level E1) false remote
+climb_walk levels place (climb.Inside remote) = walk levels place Inside false remote
 
 -- the process is about to make the first access of a level
 abbrev pub IsAtFoot : Process → Type 0

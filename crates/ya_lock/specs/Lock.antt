@@ -68,44 +68,41 @@ pub record IsLockTable (levels : ℕ) (key : ℕ) (table : LockId) : Type 0 wher
 
 module _ {V : Type 0} where
   -- the seat of a pass: its process is idle, its last passage made so many remote accesses, and it has no slot
-  pub record IsAtHome (lock : LockId) (place : ℕ) (seen : V) (remote : ℕ)
+  pub record SeatIdle (lock : LockId) (place : ℕ) (seen : V) (remote : ℕ)
       (me : Me (std.Option V) (View V)) : Type 0 where
     pub process : me ≡ (Member place Idle seen remote, [])
     pub in_tree : HasPlace lock place
 
   -- the seat of a guard: its process is inside, its entry made so many remote accesses, and it has the slot of the value
-  pub record IsWithin (lock : LockId) (place : ℕ) (found : V) (remote : ℕ)
+  pub record SeatInside (lock : LockId) (place : ℕ) (found : V) (remote : ℕ)
       (me : Me (std.Option V) (View V)) : Type 0 where
     pub process : me ≡ (Member place Inside found remote, (0, None) ∷ [])
     pub in_tree : HasPlace lock place
     pub count : (levels : ℕ) → HasTree lock levels → remote ≤ 7 * levels
 
-  -- the seat of a place that has entered by so many remote accesses: it has the slot with the value found, which may
-  -- have come of the one seen
-  abbrev pub HasEntered : (ℕ → V → V → Type 0) → ℕ → V → ℕ → Me (std.Option V) (View V) → Type 0
-  HasEntered since place seen remote me =
-      (found : V) × since place seen found × (me ≡ (Member place Inside found remote, (0, Some found) ∷ []))
-
-  -- where a process stands on its way in, after so many remote accesses, and what its seat has
-  abbrev pub ComesFrom : (ℕ → V → V → Type 0) → ℕ → V → Process → Bool → ℕ → Me (std.Option V) (View V) → Type 0
-  ComesFrom since place seen Idle begun remote me =
+  -- by the point of the way in
+  abbrev EntrySeat : (ℕ → V → V → Type 0) → ℕ → V → Process → Bool → ℕ → Me (std.Option V) (View V) → Type 0
+  EntrySeat since place seen Idle begun remote me =
       (begun ≡ true) × (remote ≡ 0) × ((last : ℕ) × (me ≡ (Member place Idle seen last, [])))
-  ComesFrom since place seen (Entering level point) begun remote me =
+  EntrySeat since place seen (Entering level point) begun remote me =
       me ≡ (Member place (Entering level point) seen remote, [])
-  ComesFrom since place seen Inside begun remote me = (begun ≡ false) × HasEntered since place seen remote me
-  ComesFrom since place seen (Leaving level point) begun remote me = ⊥
+  EntrySeat since place seen Inside begun remote me =
+      (begun ≡ false) × ((found : V) × since place seen found × (me ≡ (Member place Inside found remote, (0, Some found) ∷ [])))
+  EntrySeat since place seen (Leaving level point) begun remote me = ⊥
 
-  -- the same on its way out, until it is idle
-  abbrev pub GoesFrom : ℕ → V → Process → Bool → ℕ → Me (std.Option V) (View V) → Type 0
-  GoesFrom place seen Idle begun remote me = (begun ≡ false) × (me ≡ (Member place Idle seen remote, []))
-  GoesFrom place seen (Entering level point) begun remote me = ⊥
-  GoesFrom place seen Inside begun remote me = ⊥
-  GoesFrom place seen (Leaving level point) begun remote me = me ≡ (Member place (Leaving level point) seen remote, [])
+  -- the seat of a walk on its way in: its process stands where the walk does, after as many remote accesses; inside it has
+  -- the slot with the value found, which may have come of the one seen
+  abbrev pub SeatOnEntry : (ℕ → V → V → Type 0) → V → Walk → Me (std.Option V) (View V) → Type 0
+  SeatOnEntry since seen w me = EntrySeat since w.place seen w.process w.begun w.remote me
 
-  -- a walker on its way in, with its seat
-  abbrev pub IsComing : (ℕ → V → V → Type 0) → V → Walk → Me (std.Option V) (View V) → Type 0
-  IsComing since seen w me = ComesFrom since w.place seen w.process w.begun w.remote me
+  -- by the point of the way out
+  abbrev ExitSeat : ℕ → V → Process → Bool → ℕ → Me (std.Option V) (View V) → Type 0
+  ExitSeat place seen Idle begun remote me = (begun ≡ false) × (me ≡ (Member place Idle seen remote, []))
+  ExitSeat place seen (Entering level point) begun remote me = ⊥
+  ExitSeat place seen Inside begun remote me = ⊥
+  ExitSeat place seen (Leaving level point) begun remote me = me ≡ (Member place (Leaving level point) seen remote, [])
 
-  -- a walker on its way out, with its seat
-  abbrev pub IsGoing : V → Walk → Me (std.Option V) (View V) → Type 0
-  IsGoing seen w me = GoesFrom w.place seen w.process w.begun w.remote me
+  -- the seat of a walk on its way out, until it is idle: its process stands where the walk does, after as many remote
+  -- accesses
+  abbrev pub SeatOnExit : V → Walk → Me (std.Option V) (View V) → Type 0
+  SeatOnExit seen w me = ExitSeat w.place seen w.process w.begun w.remote me

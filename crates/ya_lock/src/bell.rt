@@ -4,7 +4,7 @@ ghost use Rattle.std.specs.Prelude.{◌≡◌, ◌^◌, ◌<◌, ◌≤◌, true
 ghost use Rattle.ya_core.specs.Walks.{is_waiting};
 ghost use Rattle.ya_lock.specs.Rule.{bell_index};
 ghost use Rattle.ya_lock.specs.Climbs.{HasLooked};
-ghost use Rattle.ya_lock.specs.Lock.{IsComing};
+ghost use Rattle.ya_lock.specs.Lock.{SeatOnEntry};
 
 use crate::kept::Kept;
 use crate::passage::waits;
@@ -57,12 +57,12 @@ impl<V: Kept + Drop, const L: u32> TreeLock<V, L> {
         requires levels { walker.levels ≡ L }
         requires place { walker.place ≡ place }
         requires in_tree { place < 2 ^ L }
-        requires coming { IsComing V.since seen.now.value walker seat.old.me }
+        requires coming { SeatOnEntry V.since seen.now.value walker seat.old.me }
         requires waits { is_waiting walker.process ≡ true }
         ensures lock { seat.new.table_id ≡ seat.old.table_id }
         ensures levels { result.levels ≡ L }
         ensures place { result.place ≡ place }
-        ensures coming { IsComing V.since seen.now.value result seat.new.me }
+        ensures coming { SeatOnEntry V.since seen.now.value result seat.new.me }
         ensures looked { HasLooked L walker.process result.process }
     {
         self.set_bell(seat, place, 1);

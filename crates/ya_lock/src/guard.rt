@@ -19,7 +19,7 @@ pub struct Guard<V> {
 }
 
 impl<V> Model for Guard<V> {
-    ghost use Rattle.ya_lock.specs.Lock.{OpenGuard, IsWithin};
+    ghost use Rattle.ya_lock.specs.Lock.{OpenGuard, SeatInside};
 
     ghost Value = { OpenGuard V };
 
@@ -31,7 +31,7 @@ impl<V> Model for Guard<V> {
       remote = g.remote;
     } };
 
-    ghost invariant = { λ g. IsWithin g.seat.table_id g.place g.found.value g.remote g.seat.me };
+    ghost invariant = { λ g. SeatInside g.seat.table_id g.place g.found.value g.remote g.seat.me };
 }
 
 impl<V> Guard<V> {

@@ -16,7 +16,7 @@ pub struct Pass<V> {
 }
 
 impl<V> Model for Pass<V> {
-    ghost use Rattle.ya_lock.specs.Lock.{IdlePass, IsAtHome};
+    ghost use Rattle.ya_lock.specs.Lock.{IdlePass, SeatIdle};
 
     ghost Value = { IdlePass V };
 
@@ -27,7 +27,7 @@ impl<V> Model for Pass<V> {
       remote = p.remote;
     } };
 
-    ghost invariant = { λ p. IsAtHome p.seat.table_id p.place p.seen.value p.remote p.seat.me };
+    ghost invariant = { λ p. SeatIdle p.seat.table_id p.place p.seen.value p.remote p.seat.me };
 }
 
 impl<V> Pass<V> {

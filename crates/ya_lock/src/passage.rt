@@ -3,12 +3,12 @@ ghost use Rattle.std.specs.Prelude.{◌≡◌, ◌≢◌, ℕ, true, false, [], 
 ghost use Rattle.ya_core.specs.declared.process.Process.TheVariants.{Idle, Entering, Inside};
 ghost use Rattle.ya_core.specs.declared.process.Entry.TheVariants.{E5};
 ghost use Rattle.ya_core.specs.Steps.{next_of};
-ghost use Rattle.ya_core.specs.Walks.{IsWalk, op_of, walk_after, MovesOn, budget, points_ahead, points_of, is_waiting};
+ghost use Rattle.ya_core.specs.Walks.{IsWalk, walk, op_of, walk_after, MovesOn, budget, points_ahead, is_waiting};
 ghost use Rattle.ya_core.specs.Worlds.{is_inside};
 ghost use Rattle.ya_lock.specs.declared.view.View.TheVariants.{Member};
 ghost use Rattle.ya_lock.specs.Moves.{HasMade, IsReady, Goes};
-ghost use Rattle.ya_lock.specs.Climbs.{HasClimbed, HasPassed, HasLooked, IsBelow, climb_points};
-ghost use Rattle.ya_lock.specs.Lock.{HasEntered, IsComing, IsGoing};
+ghost use Rattle.ya_lock.specs.Climbs.{climb_walk, HasPassed, HasLooked, IsBelow};
+ghost use Rattle.ya_lock.specs.Lock.{SeatOnEntry, SeatOnExit};
 
 use crate::bell::PATIENCE;
 use crate::kept::Kept;
@@ -55,7 +55,7 @@ impl<V: Kept + Drop, const L: u32> TreeLock<V, L> {
         requires place { place < 2 ^ L }
         requires idle { (last : ℕ) × (seat.old.me ≡ (Member place Idle seen.now.value last, [])) }
         ensures lock { seat.new.table_id ≡ seat.old.table_id }
-        ensures entered { HasEntered V.since place seen.now.value result seat.new.me }
+        ensures entered { SeatOnEntry V.since seen.now.value (walk L place Inside false result) seat.new.me }
         ensures count { result ≤ 7 * L }
     {
         let _ = &self.table;
@@ -93,11 +93,12 @@ impl<V: Kept + Drop, const L: u32> TreeLock<V, L> {
         requires lock { seat.old.table_id ≡ self.now }
         requires levels { walker.levels ≡ L }
         requires place { walker.place ≡ place }
-        requires coming { IsComing V.since seen.now.value walker seat.old.me }
+        requires coming { SeatOnEntry V.since seen.now.value walker seat.old.me }
         requires competes { (level rival : ℕ) × (walker.process ≡ Entering level (E5 rival)) }
         ensures lock { seat.new.table_id ≡ seat.old.table_id }
-        ensures climbed { HasClimbed V.since L place seen.now.value result seat.new.me }
-        ensures onward { climb_points L result < points_ahead walker }
+        ensures walk { IsWalk (climb_walk L place result) }
+        ensures coming { SeatOnEntry V.since seen.now.value (climb_walk L place result) seat.new.me }
+        ensures onward { points_ahead (climb_walk L place result) < points_ahead walker }
     {
         let Process::Entering(level, Entry::E5(rival)) = walker.process() else {
             unreachable!()
@@ -143,12 +144,12 @@ impl<V: Kept + Drop, const L: u32> TreeLock<V, L> {
         requires lock { seat.old.table_id ≡ self.now }
         requires levels { walker.levels ≡ L }
         requires place { walker.place ≡ place }
-        requires coming { IsComing V.since seen.now.value walker seat.old.me }
+        requires coming { SeatOnEntry V.since seen.now.value walker seat.old.me }
         requires waits { is_waiting walker.process ≡ true }
         ensures lock { seat.new.table_id ≡ seat.old.table_id }
         ensures levels { result.levels ≡ L }
         ensures place { result.place ≡ place }
-        ensures coming { IsComing V.since seen.now.value result seat.new.me }
+        ensures coming { SeatOnEntry V.since seen.now.value result seat.new.me }
         ensures passed { HasPassed L walker.process result.process }
     {
         let mut walker = walker;
@@ -183,12 +184,12 @@ impl<V: Kept + Drop, const L: u32> TreeLock<V, L> {
         requires lock { seat.old.table_id ≡ self.now }
         requires levels { walker.levels ≡ L }
         requires place { walker.place ≡ place }
-        requires coming { IsComing V.since seen.now.value walker seat.old.me }
+        requires coming { SeatOnEntry V.since seen.now.value walker seat.old.me }
         requires waits { is_waiting walker.process ≡ true }
         ensures lock { seat.new.table_id ≡ seat.old.table_id }
         ensures levels { result.levels ≡ L }
         ensures place { result.place ≡ place }
-        ensures coming { IsComing V.since seen.now.value result seat.new.me }
+        ensures coming { SeatOnEntry V.since seen.now.value result seat.new.me }
         ensures looked { HasLooked L walker.process result.process }
     {
         let remote = walker.remote();
@@ -216,11 +217,13 @@ impl<V: Kept + Drop, const L: u32> TreeLock<V, L> {
         seen: &Recall<V>,
     ) -> Option<Climb>
         requires levels { walker.now.levels ≡ L }
-        requires coming { IsComing V.since seen.now.value walker.now seat.now.me }
-        ensures some { IfSome result
-            (λ climb. HasClimbed V.since L walker.now.place seen.now.value climb seat.now.me) }
+        requires coming { SeatOnEntry V.since seen.now.value walker.now seat.now.me }
+        ensures walk { IfSome result (λ climb. IsWalk (climb_walk L walker.now.place climb)) }
+        ensures coming { IfSome result
+            (λ climb. SeatOnEntry V.since seen.now.value (climb_walk L walker.now.place climb) seat.now.me) }
         ensures none { result ≡ None → IsBelow walker.now.process }
-        ensures points { IfSome result (λ climb. climb_points L climb ≡ points_of L walker.now.process false) }
+        ensures points { IfSome result
+            (λ climb. points_ahead (climb_walk L walker.now.place climb) ≡ points_ahead walker.now) }
     {
         match walker.process() {
             Process::Entering(level, Entry::E1) => Some(Climb::Level(level, walker.remote())),
@@ -230,12 +233,12 @@ impl<V: Kept + Drop, const L: u32> TreeLock<V, L> {
     }
 
     /// Makes the accesses of an exit until its place is idle, and says how many of all since the entry were remote. As on
-    /// the way in, those of a level are written out: who came last is read, a rival is woken, the next level is given free.
+    /// the way in, those of a level are written out: who came last is read, a rival is let in, the next level is given free.
     #[inline(always)]
     pub(crate) fn go_out(&self, seat: &mut LockSeat<V>, mut walker: Walker, seen: &Recall<V>) -> u64
         requires lock { seat.old.table_id ≡ self.now }
         requires levels { walker.levels ≡ L }
-        requires going { IsGoing seen.now.value walker seat.old.me }
+        requires going { SeatOnExit seen.now.value walker seat.old.me }
         ensures lock { seat.new.table_id ≡ seat.old.table_id }
         ensures idle { seat.new.me ≡ (Member walker.place Idle seen.now.value result, []) }
         ensures least { walker.remote ≤ result }
@@ -259,12 +262,12 @@ impl<V: Kept + Drop, const L: u32> TreeLock<V, L> {
     pub(crate) fn come(&self, seat: &mut LockSeat<V>, walker: &mut Walker, seen: &Recall<V>)
         requires lock { seat.old.table_id ≡ self.now }
         requires levels { walker.old.levels ≡ L }
-        requires coming { IsComing V.since seen.now.value walker.old seat.old.me }
+        requires coming { SeatOnEntry V.since seen.now.value walker.old seat.old.me }
         requires under_way { walker.old.process ≢ Inside }
         ensures lock { seat.new.table_id ≡ seat.old.table_id }
         ensures levels { walker.new.levels ≡ L }
         ensures place { walker.new.place ≡ walker.old.place }
-        ensures coming { IsComing V.since seen.now.value walker.new seat.new.me }
+        ensures coming { SeatOnEntry V.since seen.now.value walker.new seat.new.me }
         ensures next { (found : ℕ)
             × (walker.new.process ≡ next_of L walker.old.place walker.old.process found) }
         ensures onward { MovesOn walker.old walker.new }
@@ -278,11 +281,11 @@ impl<V: Kept + Drop, const L: u32> TreeLock<V, L> {
     fn go(&self, seat: &mut LockSeat<V>, walker: &mut Walker, seen: &Recall<V>)
         requires lock { seat.old.table_id ≡ self.now }
         requires levels { walker.old.levels ≡ L }
-        requires going { IsGoing seen.now.value walker.old seat.old.me }
+        requires going { SeatOnExit seen.now.value walker.old seat.old.me }
         ensures lock { seat.new.table_id ≡ seat.old.table_id }
         ensures levels { walker.new.levels ≡ L }
         ensures place { walker.new.place ≡ walker.old.place }
-        ensures going { IsGoing seen.now.value walker.new seat.new.me }
+        ensures going { SeatOnExit seen.now.value walker.new seat.new.me }
         ensures onward { op_of walker.old ≢ Op.Idle → points_ahead walker.new < points_ahead walker.old }
         ensures ahead { points_ahead walker.new ≤ points_ahead walker.old }
         ensures least { walker.old.remote ≤ walker.new.remote }

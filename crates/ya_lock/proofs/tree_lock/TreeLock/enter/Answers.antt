@@ -22,7 +22,7 @@ pub exchange-requires : goal.exchange-requires
 exchange-requires g c = (
   c.go_in-remote.ensures.lock
       ∙ (ap (λ (q : IdlePass g.row.V.Denot). q.lock) c.pass.view_is ∙ (c.requires ∙ sym c.self.view_is)),
-  has_slot g.V.Kept.since c.pass.inside.place c.pass.inside.seen.value c.go_in-remote.result
+  has_slot g.V.Kept.since g.row.L c.pass.inside.place c.pass.inside.seen.value c.go_in-remote.result
       c.go_in-remote.new.seat.me
       c.go_in-remote.ensures.entered,
 )

@@ -1,7 +1,7 @@
 use Rattle.std.proofs.Common.{◌≡◌}
 use Rattle.ya_core.specs.Walks.{points_ahead}
 use Rattle.ya_lock.specs.Climbs.{IsAtFoot}
-use Rattle.ya_lock.specs.Lock.{IsComing}
+use Rattle.ya_lock.specs.Lock.{SeatOnEntry}
 use Rattle.ya_lock.proofs.tree_lock.TreeLock.go_in.Given as goal
 
 abbrev pub invariant-loop-climb : goal.invariant-loop-climb
@@ -9,7 +9,7 @@ invariant-loop-climb g l = record {
   lock : l.seat.table_id ≡ l.self;
   levels : l.walker.levels ≡ g.row.L;
   place : l.walker.place ≡ l.place;
-  coming : IsComing g.V.Kept.since l.seen.value l.walker l.seat.me;
+  coming : SeatOnEntry g.V.Kept.since l.seen.value l.walker l.seat.me;
   foot : IsAtFoot l.walker.process;
 }
 

@@ -1,6 +1,6 @@
 use Rattle.std.proofs.Common.{◌≡◌, ◌+◌, ◌≤◌}
 use Rattle.ya_core.specs.Walks.{budget, points_ahead}
-use Rattle.ya_lock.specs.Lock.{IsGoing}
+use Rattle.ya_lock.specs.Lock.{SeatOnExit}
 use Rattle.ya_lock.proofs.tree_lock.TreeLock.go_out.Given as goal
 
 abbrev pub invariant-loop-rival : goal.invariant-loop-rival
@@ -8,7 +8,7 @@ invariant-loop-rival g l = record {
   lock : l.seat.table_id ≡ l.self;
   levels : l.walker.levels ≡ g.row.L;
   place : l.walker.place ≡ l.initial.walker.place;
-  going : IsGoing l.seen.value l.walker l.seat.me;
+  going : SeatOnExit l.seen.value l.walker l.seat.me;
   least : l.initial.walker.remote ≤ l.walker.remote;
   most : l.walker.remote + budget l.walker ≤ l.initial.walker.remote + budget l.initial.walker;
 }

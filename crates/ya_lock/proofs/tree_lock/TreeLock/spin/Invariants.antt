@@ -1,5 +1,5 @@
 use Rattle.std.proofs.Common.{◌≡◌}
-use Rattle.ya_lock.specs.Lock.{IsComing}
+use Rattle.ya_lock.specs.Lock.{SeatOnEntry}
 use Rattle.ya_lock.proofs.tree_lock.TreeLock.spin.Given as goal
 
 abbrev pub invariant-loop : goal.invariant-loop
@@ -7,6 +7,6 @@ invariant-loop g l = record {
   lock : l.seat.table_id ≡ l.self;
   levels : l.walker.levels ≡ g.row.L;
   place : l.walker.place ≡ l.place;
-  coming : IsComing g.V.Kept.since l.seen.value l.walker l.seat.me;
+  coming : SeatOnEntry g.V.Kept.since l.seen.value l.walker l.seat.me;
   still : l.walker.process ≡ l.initial.walker.process;
 }
