@@ -12,24 +12,25 @@ use Rattle.ya_core.specs.Tree.{number_of, count_of_words}
 use Rattle.ya_core.specs.Soundness.{IsSound}
 use Rattle.ya_core.specs.FlatRow.{is_word}
 use Rattle.ya_core.specs.Worlds.{is_inside}
+use Rattle.ya_lock.specs.declared.rule.TheConstants.{SPACING}
 use Rattle.ya_lock.specs.declared.view.View.{View}
 use Rattle.ya_lock.specs.declared.view.View.TheVariants.{Stranger, Maker, Filler, Dealer, Member, Confirmer, Spent}
 
 -- where a word of the tree lies: in the order of their numbers, a cache line apart
 unfoldable pub index_of : ℕ → Word → ℕ
-index_of levels word = 8 * number_of levels word
+index_of levels word = SPACING * number_of levels word
 
 -- where the making word lies, behind all words of the tree
 unfoldable pub making_index : ℕ → ℕ
-making_index levels = 8 * count_of_words levels
+making_index levels = SPACING * count_of_words levels
 
 -- where the bell of a place lies, behind the making word, a cache line apart as well
 unfoldable pub bell_index : ℕ → ℕ → ℕ
-bell_index levels place = making_index levels + 8 * (1 + place)
+bell_index levels place = making_index levels + SPACING * (1 + place)
 
 -- how many words the row has: those of the tree, the making word, and a bell for each place
 abbrev pub row_length : ℕ → ℕ
-row_length levels = making_index levels + 8 * (1 + 2 ^ levels)
+row_length levels = making_index levels + SPACING * (1 + 2 ^ levels)
 
 -- what the words of the tree hold
 unfoldable pub words_in : ℕ → List ℕ → Word → ℕ
