@@ -79,10 +79,11 @@ module _ {V : Type 0} where
   joined view other = view
 
   module _ (since : ℕ → V → V → Type 0) where
-    -- the step that leaves the inside gives the value of the slot home, the one that goes inside takes the value that
-    -- lies there, and every other one leaves the slots alone
-    abbrev pub Carries : (before after : Bool) → ℕ → V → Slots V → V → Slots V → Type 0
-    Carries true after place value slots next slots' = (slots ≡ (0, Some next) ∷ []) × (slots' ≡ [])
+    -- how a step changes the seat's slots, by whether the process was inside before it and is inside after it: the step
+    -- out gives the slot home with the value in it, the step in takes the slot with the value found, and every other one
+    -- leaves the slots alone
+    abbrev pub Carries : (inside_before inside_after : Bool) → ℕ → V → Slots V → V → Slots V → Type 0
+    Carries true inside_after place value slots next slots' = (slots ≡ (0, Some next) ∷ []) × (slots' ≡ [])
     Carries false true place value slots next slots' = since place value next × (slots' ≡ (0, Some next) ∷ [])
     Carries false false place value slots next slots' = (next ≡ value) × (slots' ≡ slots)
 
