@@ -92,22 +92,22 @@ place_1_is : IsAway one_inside 1 1 5
 place_1_is = (Entering 1 E8, λ same. cc, seat_1_has_place_1)
 
 -- the seat's view is this one
-is_view : (s : State (std.Option ℕ) (View ℕ)) (seat : ℕ) (view other : View ℕ) (place : ℕ) (process : Process) (value : ℕ)
-    → get_elem? s.views seat ≡ some other → (has : HasProcess s seat place process value) → get_elem? s.views seat ≡ some view → IsOf view place process value
-is_view s seat view other place process value at has found =
+is_view : (s : State (std.Option ℕ) (View ℕ)) (seat : ℕ) (view : View ℕ) (place : ℕ) (process : Process) (value : ℕ)
+    → (has : HasProcess s seat place process value) → get_elem? s.views seat ≡ some view → IsOf view place process value
+is_view s seat view place process value has found =
     subst (λ v. IsOf v place process value) (some-injective has.0 view (sym has.1 ∙ found)) has.2
 
 place_0_is_not : ¬ IsAway one_inside 0 0 7
 place_0_is_not (process, away, has) =
-    let is = is_view one_inside 0 (Member 0 Inside 7 3) (Member 0 Inside 7 3) 0 process 7 refl has refl in away (sym is.1)
+    let is = is_view one_inside 0 (Member 0 Inside 7 3) 0 process 7 has refl in away (sym is.1)
 
 -- what each seat shows where both are away
 away_both : (seat place : ℕ) (process : Process) (value : ℕ) → HasProcess both_away seat place process value
     → (seat ≡ place) × (Idle ≡ process) × (value ≤ 7)
 away_both zero place process value has =
-    let is = is_view both_away 0 (Member 0 Idle 7 0) (Member 0 Idle 7 0) place process value refl has refl in (is.0, is.1, omega (arith, is.2))
+    let is = is_view both_away 0 (Member 0 Idle 7 0) place process value has refl in (is.0, is.1, omega (arith, is.2))
 away_both (suc zero) place process value has =
-    let is = is_view both_away 1 (Member 1 Idle 5 0) (Member 1 Idle 5 0) place process value refl has refl in (is.0, is.1, omega (arith, is.2))
+    let is = is_view both_away 1 (Member 1 Idle 5 0) place process value has refl in (is.0, is.1, omega (arith, is.2))
 away_both (suc (suc seat)) place process value has = absurd (some-ne-none has.0 (sym has.1))
 
 -- NoneInside
@@ -137,7 +137,7 @@ one_that_waits_for_nobody h =
   where
     alone : (seat place : ℕ) (process : Process) (value : ℕ) → HasProcess stuck seat place process value → ¬ GoesOn stuck 1 place process
     alone zero place process value has goes_on =
-        let is = is_view stuck 0 (Member 1 (Entering 1 E8) 5 4) (Member 1 (Entering 1 E8) 5 4) place process value refl has refl in
+        let is = is_view stuck 0 (Member 1 (Entering 1 E8) 5 4) place process value has refl in
         one_that_waits_for_a_1_does_not (subst (GoesOn stuck 1 1) (sym is.1) (subst (λ q. GoesOn stuck 1 q process) (sym is.0) goes_on))
     alone (suc seat) place process value has goes_on = some-ne-none has.0 (sym has.1)
 
