@@ -1,12 +1,18 @@
 //! The running lock: Yang and Anderson's arbitration tree (1995) over atomic words, lending one value.
 //!
 //! ```text
-//! let (lock, passes) = TreeLock::<Book, 4>::new(alloc, book)?;   // 16 passes, that of place k at index k
+//! match TreeLock::<Tally, 1>::new(alloc, start) {    // `Tally` says by `Kept` what places may do to it
+//!     Err((start, NoMemory)) => ..                   // the value comes back
+//!     Ok((lock, passes)) => ..                       // 2 passes, that of place k at index k
+//! }
 //! // in each thread, by a pass of its own:
-//! let mut guard = lock.enter(rt, pass);                          // waits; the pass is spent
-//! guard.get_mut().add(..);
-//! let pass = lock.leave(guard);                                  // the guard is spent, and a pass is back
+//! let mut guard = lock.enter(rt, pass);              // waits; the pass is spent
+//! let place = guard.place();
+//! guard.get_mut().add(place);
+//! let pass = lock.leave(guard);                      // the guard is spent, and a pass is back
 //! ```
+//!
+//! `crates/walkthrough/src/lock.rt` has `Tally` and the whole of this, with its proof.
 //!
 //! - [`TreeLock`] has 2 to the power of L places, L from 1 to 6. `new` gives the [`Pass`] of each.
 //! - A [`Pass`] is the right to enter from one place. It knows the value as its place has last seen it.
