@@ -141,16 +141,24 @@ module _ {V : Type 0} (since done : ℕ → V → V → Type 0) (since_same : (p
       (w : View V) × (a : Act (std.Option V)) × Valid s.homes slots a × Rule since levels (stepped s i n id slots w a)
       × Goes since levels n (Member place (x.processes place) value count) slots (w, carried_after slots a)
 
+  -- the access that is due to a seat's process, which found or stored n: what is known of the table before it, and that
+  -- the core goes on by it
+  record IsDueAt (s : St) (x : Picture V) (id place i n : ℕ) (value : V) (count : ℕ) : Type 0 where
+    obeys : Obeys since levels s x
+    view : get_elem? s.views id ≡ some (Member place (x.processes place) value count)
+    fits : Fits since levels s x id (Member place (x.processes place) value count)
+    long : length (set s.words i n) ≡ length s.words
+    word : slice_index (set s.words i n) (making_index levels) ≡ slice_index s.words (making_index levels)
+    sound : IsSound levels (core_after s x place i n)
+    found : IsTold (Some (due x place)) n
+
   -- the process goes inside: it takes the value
-  wins : (s : St) (x : Picture V) → Obeys since levels s x → (id place i n : ℕ) (value : V) (count : ℕ) (slots : Slots V)
-      → get_elem? s.views id ≡ some (Member place (x.processes place) value count)
-      → Fits since levels s x id (Member place (x.processes place) value count)
-      → length (set s.words i n) ≡ length s.words
-      → slice_index (set s.words i n) (making_index levels) ≡ slice_index s.words (making_index levels)
-      → IsSound levels (core_after s x place i n) → IsTold (Some (due x place)) n
+  wins : (s : St) (x : Picture V) (id place i n : ℕ) (value : V) (count : ℕ) (slots : Slots V)
+      → IsDueAt s x id place i n value count
       → is_inside (x.processes place) ≡ false → is_inside (next_of levels place (x.processes place) n) ≡ true
       → Knows since x.content place false value → slots ≡ [] → Answer s x id place value count i n slots
-  wins s x o id place i n value count slots at f long word sound found was is knows ready =
+  wins s x id place i n value count slots step was is knows ready =
+      let o = step.obeys in let f = step.fits in
       let p' : Process = next_of levels place (x.processes place) n in
       let now : V = knows.0 in
       let there : is_inside (moved x.processes place p' place) ≡ true =
@@ -158,7 +166,7 @@ module _ {V : Type 0} (since done : ℕ → V → V → Type 0) (since_same : (p
       let alone : (k : ℕ) → is_inside (x.processes k) ≡ true → ⊥ = λ k e.
       let ne : k ≢ place = λ h. let both : true ≡ false = sym e ∙ (ap (λ (z : ℕ). is_inside (x.processes z)) h ∙ was) in
       cc in
-      ne (excludes levels k place (core_after s x place i n) least sound
+      ne (excludes levels k place (core_after s x place i n) least step.sound
       (ap is_inside (moved_else x.processes place p' k ne) ∙ e) there) in
       let nobody : (k : ℕ) → is_inside (x.processes k) ≡ false = λ k. none_true (is_inside (x.processes k)) (alone k) in
       let lies = subst (λ (c : Option V). Lies since x.processes s.homes c) knows.1 o.lies in
@@ -173,11 +181,11 @@ module _ {V : Type 0} (since done : ℕ → V → V → Type 0) (since_same : (p
         (
           gone_on since levels x place p' x.content,
           goes_on since levels s x o id place (x.processes place) p' value now now now count (total x place count) x.content (set s.words i n)
-              (set s.homes 0 none) at f.0 f.1 knows.1 knows.1 long word sound after
+              (set s.homes 0 none) step.view f.0 f.1 knows.1 knows.1 step.long step.word step.sound after
               (subst (λ (b : Bool). Knows since x.content place b now) (sym is) knows.1) (Same refl),
         ),
         (
-          found,
+          step.found,
           (
             now,
             refl,
@@ -199,15 +207,12 @@ module _ {V : Type 0} (since done : ℕ → V → V → Type 0) (since_same : (p
   )
 
   -- the process goes on, neither into the inside nor out of it
-  passes : (s : St) (x : Picture V) → Obeys since levels s x → (id place i n : ℕ) (value : V) (count : ℕ) (slots : Slots V)
-      → get_elem? s.views id ≡ some (Member place (x.processes place) value count)
-      → Fits since levels s x id (Member place (x.processes place) value count)
-      → length (set s.words i n) ≡ length s.words
-      → slice_index (set s.words i n) (making_index levels) ≡ slice_index s.words (making_index levels)
-      → IsSound levels (core_after s x place i n) → IsTold (Some (due x place)) n
+  passes : (s : St) (x : Picture V) (id place i n : ℕ) (value : V) (count : ℕ) (slots : Slots V)
+      → IsDueAt s x id place i n value count
       → is_inside (x.processes place) ≡ false → is_inside (next_of levels place (x.processes place) n) ≡ false
       → Knows since x.content place false value → Answer s x id place value count i n slots
-  passes s x o id place i n value count slots at f long word sound found was is knows =
+  passes s x id place i n value count slots step was is knows =
+      let o = step.obeys in let f = step.fits in
       let p' : Process = next_of levels place (x.processes place) n in (
         Member place p' value (total x place count),
         keeps,
@@ -215,12 +220,12 @@ module _ {V : Type 0} (since done : ℕ → V → V → Type 0) (since_same : (p
         (
           gone_on since levels x place p' x.content,
           goes_on since levels s x o id place (x.processes place) p' value value knows.0 knows.0 count (total x place count) x.content
-              (set s.words i n) s.homes at f.0 f.1 knows.1 knows.1 long word sound
+              (set s.words i n) s.homes step.view f.0 f.1 knows.1 knows.1 step.long step.word step.sound
               (same_lies x place p' s.homes x.content was is o.lies)
               (subst (λ (b : Bool). Knows since x.content place b value) (sym is) knows) (Same refl),
         ),
         (
-          found,
+          step.found,
           (
             value,
             refl,
@@ -231,16 +236,13 @@ module _ {V : Type 0} (since done : ℕ → V → V → Type 0) (since_same : (p
       )
 
   -- the process leaves the inside: it gives the value home
-  releases : (s : St) (x : Picture V) → Obeys since levels s x → (id place i n : ℕ) (value : V) (count : ℕ) (slots : Slots V)
-      → get_elem? s.views id ≡ some (Member place (x.processes place) value count)
-      → Fits since levels s x id (Member place (x.processes place) value count)
-      → length (set s.words i n) ≡ length s.words
-      → slice_index (set s.words i n) (making_index levels) ≡ slice_index s.words (making_index levels)
-      → IsSound levels (core_of s x) → IsSound levels (core_after s x place i n) → IsTold (Some (due x place)) n
+  releases : (s : St) (x : Picture V) (id place i n : ℕ) (value : V) (count : ℕ) (slots : Slots V)
+      → IsDueAt s x id place i n value count
       → is_inside (x.processes place) ≡ true
       → Knows since x.content place true value → IsReady done true place value slots
       → Answer s x id place value count i n slots
-  releases s x o id place i n value count slots at f long word before sound found was knows ready =
+  releases s x id place i n value count slots step was knows ready =
+      let o = step.obeys in let f = step.fits in
       let p' : Process = next_of levels place (x.processes place) n in
       let next : V = ready.0 in
       let is : is_inside p' ≡ false = leaves levels place n (x.processes place) (is_inside_is _ was) in
@@ -249,7 +251,7 @@ module _ {V : Type 0} (since done : ℕ → V → V → Type 0) (since_same : (p
       let homes : List (Option (std.Option V)) = homes_after s.homes slots gives in
       let back : homes ≡ some (Some next) ∷ [] = (λ k. homes_after (out k) (ready.1 k) gives) in
       let alone : (k : ℕ) → k ≢ place → is_inside (x.processes k) ≡ true → ⊥ =
-      λ k ne e. ne (excludes levels k place (core_of s x) least before e was) in
+      λ k ne e. ne (excludes levels k place (core_of s x) least o.sound e was) in
       let after : Lies since (moved x.processes place p') homes (some next) = (
         (λ away. back),
         (λ k e. absurd (alone k (stays_inside x place p' k is e) (inside x place p' k is e))),
@@ -260,7 +262,7 @@ module _ {V : Type 0} (since done : ℕ → V → V → Type 0) (since_same : (p
         (
           gone_on since levels x place p' (some next),
           goes_on since levels s x o id place (x.processes place) p' value next value next count (total x place count) (some next)
-              (set s.words i n) homes at f.0 f.1 knows refl long word sound after
+              (set s.words i n) homes step.view f.0 f.1 knows refl step.long step.word step.sound after
               (subst (λ (b : Bool). Knows since (some next) place b next) (sym is) (next, refl, since_same place next))
               (Changed alone
               (λ other v ne k. (
@@ -271,7 +273,7 @@ module _ {V : Type 0} (since done : ℕ → V → V → Type 0) (since_same : (p
               ))),
         ),
         (
-          found,
+          step.found,
           (
             next,
             refl,
@@ -283,22 +285,18 @@ module _ {V : Type 0} (since done : ℕ → V → V → Type 0) (since_same : (p
       )
 
   -- by whether the process is inside before and after
-  by_case : (s : St) (x : Picture V) → Obeys since levels s x → (id place i n : ℕ) (value : V) (count : ℕ) (slots : Slots V)
-      → get_elem? s.views id ≡ some (Member place (x.processes place) value count)
-      → Fits since levels s x id (Member place (x.processes place) value count)
-      → length (set s.words i n) ≡ length s.words
-      → slice_index (set s.words i n) (making_index levels) ≡ slice_index s.words (making_index levels)
-      → IsSound levels (core_of s x) → IsSound levels (core_after s x place i n) → IsTold (Some (due x place)) n
+  by_case : (s : St) (x : Picture V) (id place i n : ℕ) (value : V) (count : ℕ) (slots : Slots V)
+      → IsDueAt s x id place i n value count
       → (before after : Bool) → is_inside (x.processes place) ≡ before
       → is_inside (next_of levels place (x.processes place) n) ≡ after
       → Knows since x.content place before value → IsReady done before place value slots
       → Answer s x id place value count i n slots
-  by_case s x o id place i n value count slots at f long word was sound found true after e h knows ready =
-      releases s x o id place i n value count slots at f long word was sound found e knows ready
-  by_case s x o id place i n value count slots at f long word was sound found false true e h knows ready =
-      wins s x o id place i n value count slots at f long word sound found e h knows ready
-  by_case s x o id place i n value count slots at f long word was sound found false false e h knows ready =
-      passes s x o id place i n value count slots at f long word sound found e h knows
+  by_case s x id place i n value count slots step true after e h knows ready =
+      releases s x id place i n value count slots step e knows ready
+  by_case s x id place i n value count slots step false true e h knows ready =
+      wins s x id place i n value count slots step e h knows ready
+  by_case s x id place i n value count slots step false false e h knows ready =
+      passes s x id place i n value count slots step e h knows
 
   -- the step that is due keeps the rule
   answers : (s : St) (x : Picture V) → Obeys since levels s x → (id place i : ℕ) (value : V) (count : ℕ) (slots : Slots V)
@@ -315,11 +313,16 @@ module _ {V : Type 0} (since done : ℕ → V → V → Type 0) (since_same : (p
       let j : ℕ = index_of levels (word_of (due x place)) in
       let below : j + 8 ≤ m = index_below levels (word_of (due x place)) word in
       let index' : i ≡ j = index in
-      by_case s x o id place i n value count slots at f (length-set s.words i n)
-      (get_or-set_other s.words i m n 0 (λ e. omega arith)) o.sound
-      (kept_by_step levels place (core_of s x) (core_after s x place i n) least o.sound
-      (steps_to s x place i room word index (let l : i < long = omega arith in l)))
-      (may_find s x place i o.sound (due x place) refl word index) _ _ refl refl f.3 ready
+      by_case s x id place i n value count slots record {
+        obeys = o;
+        view = at;
+        fits = f;
+        long = length-set s.words i n;
+        word = get_or-set_other s.words i m n 0 (λ e. omega arith);
+        sound = kept_by_step levels place (core_of s x) (core_after s x place i n) least o.sound
+            (steps_to s x place i room word index (let l : i < long = omega arith in l));
+        found = may_find s x place i o.sound (due x place) refl word index;
+      } _ _ refl refl f.3 ready
 
   -- whatever the table is, the seat of a process may make the access that is due
   pub allows : (slots id i place : ℕ) (process : Process) (value : V) (count : ℕ) (me : Me (std.Option V) (View V)) (a : Access)
