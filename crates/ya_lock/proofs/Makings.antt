@@ -92,69 +92,73 @@ module _ {V : Type 0} (since : ℕ → V → V → Type 0) (since_same : (place 
   strangers s t x y seat (Confirmer place value other seen count) e f = absurd (f.0 e)
   strangers s t x y seat Spent e f = absurd (f e)
 
+  -- the table once 1 was swapped into the making word by a new seat of this view
+  abbrev swapped : St → View V → St
+  swapped s w = record { words = set s.words (making_index levels) 1; homes = s.homes; views = s.views ++ w ∷ [] }
+
+  -- the same picture, in which this seat makes the passes, or none
+  abbrev made_by : Picture V → Option ℕ → Picture V
+  made_by x maker =
+      record { seat_of = x.seat_of; processes = x.processes; maker = maker; content = x.content }
+
+  -- the making word isn't 0 then
+  begun_by_swap : (s : St) (w : View V) → length s.words ≡ row_length levels
+      → slice_index (swapped s w).words (making_index levels) ≢ 0
+  begun_by_swap s w wide e =
+      let m : ℕ = making_index levels in let n : ℕ = length s.words in let places : ℕ = 2 ^ levels in
+      let long : n ≡ m + 8 * (1 + places) = wide in
+      let one : ◌≡◌ {A = ℕ} 1 0 = sym (get_or-set_same s.words m 1 0 (omega arith)) ∙ e in absurd (omega arith)
+
+  -- and what else the picture says still holds
+  swap_obeys : (s : St) (x : Picture V) (maker : Option ℕ) (w : View V) → Obeys since levels s x
+      → ((seat : ℕ) (view : View V) → get_elem? (s.views ++ w ∷ []) seat ≡ some view
+      → Fits since levels (swapped s w) (made_by x maker) seat view) → Obeys since levels (swapped s w) (made_by x maker)
+  swap_obeys s x maker w o fits =
+      let m : ℕ = making_index levels in record {
+        wide = length-set s.words m 1 ∙ o.wide;
+        unmade = λ e. absurd (begun_by_swap s w o.wide e);
+        before = o.before;
+        seated = λ k seat e. sits_longer since levels s.views w k seat (o.seated k seat e);
+        absent = o.absent;
+        sound = subst (λ (words : Word → ℕ). IsSound levels record { words = words; processes = x.processes })
+            (sym (words_behind levels m s.words 1 (let here : m ≤ m = omega arith in here))) o.sound;
+        lies = o.lies;
+        fits = fits;
+      }
+
   -- the swap of 1 into the making word
   begins_at : (slots : ℕ)
       → Arrives (Rule since levels) slots (making_index levels) (λ _. 1) (λ found me. Begins found me)
   begins_at slots s rule wide small =
-      let x : Picture V = rule.0 in let o = rule.1 in let m : ℕ = making_index levels in let n : ℕ = length s.words in
-      let places : ℕ = 2 ^ levels in let long : n ≡ m + 8 * (1 + places) = o.wide in
-      let set_now : slice_index (set s.words m 1) m ≡ 1 = get_or-set_same s.words m 1 0 (omega arith) in
-      let begun : slice_index (set s.words m 1) m ≢ 0 = λ e. let one : ◌≡◌ {A = ℕ} 1 0 = sym set_now ∙ e in
-      absurd (omega arith) in
-      let sound : IsSound levels record { words = words_in levels (set s.words m 1); processes = x.processes } =
-      subst (λ (words : Word → ℕ). IsSound levels record { words = words; processes = x.processes })
-      (sym (words_behind levels m s.words 1 (let here : m ≤ m = omega arith in here))) o.sound in
-      elim (ℕ_discrete (slice_index s.words m) 0) [
+      let x : Picture V = rule.0 in let o = rule.1 in
+      elim (ℕ_discrete (slice_index s.words (making_index levels)) 0) [
         | yes z ↦
-            let t : St = record { words = set s.words m 1; homes = s.homes; views = s.views ++ Maker ∷ [] } in
-            let y : Picture V =
-            record {
-              seat_of = x.seat_of;
-              processes = x.processes;
-              maker = some (length s.views);
-              content = x.content;
-            } in (
+            let t : St = swapped s Maker in let y : Picture V = made_by x (some (length s.views)) in (
               Maker,
               keeps,
               tt,
               (
                 y,
-                record {
-                  wide = length-set s.words m 1 ∙ o.wide;
-                  unmade = λ e. absurd (begun e);
-                  before = o.before;
-                  seated = λ k seat e. sits_longer since levels s.views Maker k seat (o.seated k seat e);
-                  absent = o.absent;
-                  sound = sound;
-                  lies = o.lies;
-                  fits = λ seat view at. ⊎_elim (λ there. strangers s t x y seat view z (o.fits seat view there))
-                      (λ p. subst (λ (v : View V). Fits since levels t y seat v) p.1
-                      (begun, ap some (sym p.0), (o.unmade z).0, (o.unmade z).1))
-                      (at_end s.views Maker view seat at);
-                },
+                swap_obeys s x (some (length s.views)) Maker o (λ seat view at.
+                    ⊎_elim (λ there. strangers s t x y seat view z (o.fits seat view there))
+                    (λ p. subst (λ (v : View V). Fits since levels t y seat v) p.1
+                    (begun_by_swap s Maker o.wide, ap some (sym p.0), (o.unmade z).0, (o.unmade z).1))
+                    (at_end s.views Maker view seat at)),
               ),
               ((λ _. refl), refl),
             )
         | no other ↦
-            let t : St = record { words = set s.words m 1; homes = s.homes; views = s.views ++ Stranger ∷ [] } in (
+            let t : St = swapped s Stranger in (
               Stranger,
               keeps,
               tt,
               (
                 x,
-                record {
-                  wide = length-set s.words m 1 ∙ o.wide;
-                  unmade = λ e. absurd (begun e);
-                  before = o.before;
-                  seated = λ k seat e. sits_longer since levels s.views Stranger k seat (o.seated k seat e);
-                  absent = o.absent;
-                  sound = sound;
-                  lies = o.lies;
-                  fits = λ seat view at. ⊎_elim
-                      (λ there. refits since levels s t x (λ _. begun) seat view (λ _. refl) (o.fits seat view there))
-                      (λ p. subst (λ (v : View V). Fits since levels t x seat v) p.1 tt)
-                      (at_end s.views Stranger view seat at);
-                },
+                swap_obeys s x x.maker Stranger o (λ seat view at. ⊎_elim
+                    (λ there. refits since levels s t x (λ _. begun_by_swap s Stranger o.wide) seat view (λ _. refl)
+                    (o.fits seat view there))
+                    (λ p. subst (λ (v : View V). Fits since levels t x seat v) p.1 tt)
+                    (at_end s.views Stranger view seat at)),
               ),
               ((λ z. absurd (other z)), refl),
             )
