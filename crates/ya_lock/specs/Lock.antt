@@ -80,14 +80,15 @@ module _ {V : Type 0} where
     pub in_tree : HasPlace lock place
     pub count : (levels : ℕ) → HasTree lock levels → remote ≤ 7 * levels
 
-  -- by the point of the way in
+  -- the seat of a place on its way in, by where its process stands
   abbrev EntrySeat : (ℕ → V → V → Type 0) → ℕ → V → Process → Bool → ℕ → Me (std.Option V) (View V) → Type 0
   EntrySeat since place seen Idle begun remote me =
       (begun ≡ true) × (remote ≡ 0) × ((last : ℕ) × (me ≡ (Member place Idle seen last, [])))
   EntrySeat since place seen (Entering level point) begun remote me =
       me ≡ (Member place (Entering level point) seen remote, [])
   EntrySeat since place seen Inside begun remote me =
-      (begun ≡ false) × ((found : V) × since place seen found × (me ≡ (Member place Inside found remote, (0, Some found) ∷ [])))
+      (begun ≡ false)
+      × ((found : V) × since place seen found × (me ≡ (Member place Inside found remote, (0, Some found) ∷ [])))
   EntrySeat since place seen (Leaving level point) begun remote me = ⊥
 
   -- the seat of a walk on its way in: its process stands where the walk does, after as many remote accesses; inside it has
@@ -95,7 +96,7 @@ module _ {V : Type 0} where
   abbrev pub SeatOnEntry : (ℕ → V → V → Type 0) → V → Walk → Me (std.Option V) (View V) → Type 0
   SeatOnEntry since seen w me = EntrySeat since w.place seen w.process w.begun w.remote me
 
-  -- by the point of the way out
+  -- the seat of a place on its way out, by where its process stands
   abbrev ExitSeat : ℕ → V → Process → Bool → ℕ → Me (std.Option V) (View V) → Type 0
   ExitSeat place seen Idle begun remote me = (begun ≡ false) × (me ≡ (Member place Idle seen remote, []))
   ExitSeat place seen (Entering level point) begun remote me = ⊥
