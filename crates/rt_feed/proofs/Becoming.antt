@@ -14,42 +14,42 @@ use Rattle.rt_feed.specs.Lines.{CutsLine}
 use Rattle.rt_feed.specs.LineOutcomes.{LineOutcome, skipped, faulty, asked, some_refused, some_faulty, LinesBecome, Becomes, heading, reading, line_answer, numbered, report_lines, asked_by, asked_of}
 
 -- more lines after some
-pub become-append : (version : Version) (lines middle left : List ℕ) (outcomes more : List LineOutcome) → LinesBecome version lines outcomes middle → LinesBecome version middle more left
-    → LinesBecome version lines (outcomes ++ more) left
-become-append version lines middle left [] more first second = rw first second
-become-append version lines middle left (outcome ∷ outcomes) more (line, next, cut, reads, first) second =
-    (line, next, cut, reads, become-append version next middle left outcomes more first second)
+pub become-append : (version : Version) (lines middle rest : List ℕ) (outcomes more : List LineOutcome) → LinesBecome version lines outcomes middle → LinesBecome version middle more rest
+    → LinesBecome version lines (outcomes ++ more) rest
+become-append version lines middle rest [] more first second = rw first second
+become-append version lines middle rest (outcome ∷ outcomes) more (line, next, cut, reads, first) second =
+    (line, next, cut, reads, become-append version next middle rest outcomes more first second)
 
 -- one line more of a text
-pub becomes-push : (text line middle left : List ℕ) (outcomes : List LineOutcome) (outcome : LineOutcome) → (is : Becomes text outcomes middle) → CutsLine middle line left
-    → AnswersLine is.version line (reading outcome) → (other : Becomes text (outcomes ++ outcome ∷ []) left) × (other.version ≡ is.version)
-becomes-push text line middle left outcomes outcome is cut reads = (
+pub becomes-push : (text line middle rest : List ℕ) (outcomes : List LineOutcome) (outcome : LineOutcome) → (is : Becomes text outcomes middle) → CutsLine middle line rest
+    → AnswersLine is.version line (reading outcome) → (other : Becomes text (outcomes ++ outcome ∷ []) rest) × (other.version ≡ is.version)
+becomes-push text line middle rest outcomes outcome is cut reads = (
   record {
     version = is.version;
     lines = is.lines;
     read = is.read ++ outcome ∷ [];
     body = is.body;
-    become = become-append is.version is.lines middle left is.read (outcome ∷ []) is.become (line, left, cut, reads, refl);
+    become = become-append is.version is.lines middle rest is.read (outcome ∷ []) is.become (line, rest, cut, reads, refl);
     joined = ap (λ os. os ++ outcome ∷ []) is.joined ∙ append_assoc (heading is.version) is.read (outcome ∷ []);
   },
   refl,
 )
 
 -- the same outcomes in other words
-pub becomes-at : (text left : List ℕ) (outcomes others : List LineOutcome) → others ≡ outcomes → (is : Becomes text outcomes left) → (other : Becomes text others left) × (other.version ≡ is.version)
-becomes-at text left outcomes others same is =
+pub becomes-at : (text rest : List ℕ) (outcomes others : List LineOutcome) → others ≡ outcomes → (is : Becomes text outcomes rest) → (other : Becomes text others rest) × (other.version ≡ is.version)
+becomes-at text rest outcomes others same is =
     (record { version = is.version; lines = is.lines; read = is.read; body = is.body; become = is.become; joined = same ∙ is.joined }, refl)
 
 -- what lines became may be any outcomes that say the same
-become-alike : (version : Version) (lines left : List ℕ) (outcomes others : List LineOutcome) → map reading outcomes ≡ map reading others → LinesBecome version lines outcomes left
-    → LinesBecome version lines others left
-become-alike version lines left [] [] same is = is
-become-alike version lines left [] (other ∷ others) same is = absurd (cc)
-become-alike version lines left (outcome ∷ outcomes) [] same is = absurd (cc)
-become-alike version lines left (outcome ∷ outcomes) (other ∷ others) same (line, next, cut, reads, is) =
+become-alike : (version : Version) (lines rest : List ℕ) (outcomes others : List LineOutcome) → map reading outcomes ≡ map reading others → LinesBecome version lines outcomes rest
+    → LinesBecome version lines others rest
+become-alike version lines rest [] [] same is = is
+become-alike version lines rest [] (other ∷ others) same is = absurd (cc)
+become-alike version lines rest (outcome ∷ outcomes) [] same is = absurd (cc)
+become-alike version lines rest (outcome ∷ outcomes) (other ∷ others) same (line, next, cut, reads, is) =
     let head : reading outcome ≡ reading other = cc in
     let tail : map reading outcomes ≡ map reading others = cc in
-    (line, next, cut, subst (AnswersLine version line) head reads, become-alike version next left outcomes others tail is)
+    (line, next, cut, subst (AnswersLine version line) head reads, become-alike version next rest outcomes others tail is)
 
 -- a line that is read so is skipped
 reads_nothing : (outcome : LineOutcome) → Ok None ≡ reading outcome → outcome ≡ skipped
@@ -69,38 +69,38 @@ headed Two outcomes read (other ∷ others) is same =
     (others, ap (λ o. o ∷ others) (reads_nothing other head), tail)
 
 -- so it is of a text's first lines, by the same version
-pub becomes-alike : (text left : List ℕ) (outcomes others : List LineOutcome) → map reading outcomes ≡ map reading others → (is : Becomes text outcomes left)
-    → (other : Becomes text others left) × (other.version ≡ is.version)
-becomes-alike text left outcomes others same is =
+pub becomes-alike : (text rest : List ℕ) (outcomes others : List LineOutcome) → map reading outcomes ≡ map reading others → (is : Becomes text outcomes rest)
+    → (other : Becomes text others rest) × (other.version ≡ is.version)
+becomes-alike text rest outcomes others same is =
     let found = headed is.version outcomes is.read others is.joined same in (
       record {
         version = is.version;
         lines = is.lines;
         read = found.0;
         body = is.body;
-        become = become-alike is.version is.lines left is.read found.0 found.2 is.become;
+        become = become-alike is.version is.lines rest is.read found.0 found.2 is.become;
         joined = found.1;
       },
       refl,
     )
 
 -- the first of some lines became what they became, and so did the others
-become-first : (version : Version) (lines left : List ℕ) (outcomes more : List LineOutcome) → LinesBecome version lines (outcomes ++ more) left
-    → (middle : List ℕ) × LinesBecome version lines outcomes middle × LinesBecome version middle more left
-become-first version lines left [] more is = (lines, refl, is)
-become-first version lines left (outcome ∷ outcomes) more (line, next, cut, reads, is) =
-    let first = become-first version next left outcomes more is in (first.0, (line, next, cut, reads, first.1), first.2)
+become-first : (version : Version) (lines rest : List ℕ) (outcomes more : List LineOutcome) → LinesBecome version lines (outcomes ++ more) rest
+    → (middle : List ℕ) × LinesBecome version lines outcomes middle × LinesBecome version middle more rest
+become-first version lines rest [] more is = (lines, refl, is)
+become-first version lines rest (outcome ∷ outcomes) more (line, next, cut, reads, is) =
+    let first = become-first version next rest outcomes more is in (first.0, (line, next, cut, reads, first.1), first.2)
 
 -- what follows the heading
 behind_heading : (version : Version) (earlier more read : List LineOutcome) → (heading version ++ earlier) ++ more ≡ heading version ++ read → read ≡ earlier ++ more
 behind_heading One earlier more read is = sym is
 behind_heading Two earlier more read is = cc
 
-pub becomes-first : (text left : List ℕ) (outcomes earlier more : List LineOutcome) → (is : Becomes text (outcomes ++ more) left) → outcomes ≡ heading is.version ++ earlier
-    → (middle : List ℕ) × (begun : Becomes text outcomes middle) × (begun.version ≡ is.version) × LinesBecome begun.version middle more left
-becomes-first text left outcomes earlier more is begins =
+pub becomes-first : (text rest : List ℕ) (outcomes earlier more : List LineOutcome) → (is : Becomes text (outcomes ++ more) rest) → outcomes ≡ heading is.version ++ earlier
+    → (middle : List ℕ) × (begun : Becomes text outcomes middle) × (begun.version ≡ is.version) × LinesBecome begun.version middle more rest
+becomes-first text rest outcomes earlier more is begins =
     let parts : is.read ≡ earlier ++ more = behind_heading is.version earlier more is.read (ap (λ os. os ++ more) (sym begins) ∙ is.joined) in
-    let first = become-first is.version is.lines left earlier more (subst (λ os. LinesBecome is.version is.lines os left) parts is.become) in
+    let first = become-first is.version is.lines rest earlier more (subst (λ os. LinesBecome is.version is.lines os rest) parts is.become) in
     (first.0, record { version = is.version; lines = is.lines; read = earlier; body = is.body; become = first.1; joined = begins }, refl, first.2)
 
 not_nil : (line : List ℕ) → line ≢ [] → 0 < length line
@@ -108,26 +108,26 @@ not_nil [] ne = absurd (ne refl)
 not_nil (byte ∷ line) ne = omega arith
 
 -- a line takes at least one byte
-pub length-cut : (text line left : List ℕ) → CutsLine text line left → length left < length text
-length-cut text line left cut = elim cut.ended [
-  | inl more ↦ omega (arith, ap length more, length-append line (10 ∷ left))
+pub length-cut : (text line rest : List ℕ) → CutsLine text line rest → length rest < length text
+length-cut text line rest cut = elim cut.ended [
+  | inl more ↦ omega (arith, ap length more, length-append line (10 ∷ rest))
   | inr last ↦ let some : 0 < length line = not_nil line last.1 in omega (arith, some, ap length last.0, ap length last.2)
 ]
 
 -- so the lines are no more than the bytes that they took
-length-lines : (version : Version) (lines left : List ℕ) (outcomes : List LineOutcome) → LinesBecome version lines outcomes left → length outcomes + length left ≤ length lines
-length-lines version lines left [] is = omega (arith, ap length is)
-length-lines version lines left (outcome ∷ outcomes) (line, next, cut, reads, is) =
-    omega (arith, length-cut lines line next cut, length-lines version next left outcomes is)
+length-lines : (version : Version) (lines rest : List ℕ) (outcomes : List LineOutcome) → LinesBecome version lines outcomes rest → length outcomes + length rest ≤ length lines
+length-lines version lines rest [] is = omega (arith, ap length is)
+length-lines version lines rest (outcome ∷ outcomes) (line, next, cut, reads, is) =
+    omega (arith, length-cut lines line next cut, length-lines version next rest outcomes is)
 
 -- and so it is of a text
-length-body : (text lines left : List ℕ) (version : Version) (outcomes read : List LineOutcome) → IsBody text version lines → LinesBecome version lines read left
-    → outcomes ≡ heading version ++ read → length outcomes + length left ≤ length text
-length-body text lines left One outcomes read body become joined = omega (arith, ap length joined, ap length body.1, length-lines One lines left read become)
-length-body text lines left Two outcomes read body become joined = omega (arith, ap length joined, length-cut text _ lines body, length-lines Two lines left read become)
+length-body : (text lines rest : List ℕ) (version : Version) (outcomes read : List LineOutcome) → IsBody text version lines → LinesBecome version lines read rest
+    → outcomes ≡ heading version ++ read → length outcomes + length rest ≤ length text
+length-body text lines rest One outcomes read body become joined = omega (arith, ap length joined, ap length body.1, length-lines One lines rest read become)
+length-body text lines rest Two outcomes read body become joined = omega (arith, ap length joined, length-cut text _ lines body, length-lines Two lines rest read become)
 
-pub length-outcomes : (text left : List ℕ) (outcomes : List LineOutcome) → Becomes text outcomes left → length outcomes + length left ≤ length text
-length-outcomes text left outcomes is = length-body text is.lines left is.version outcomes is.read is.body is.become is.joined
+pub length-outcomes : (text rest : List ℕ) (outcomes : List LineOutcome) → Becomes text outcomes rest → length outcomes + length rest ≤ length text
+length-outcomes text rest outcomes is = length-body text is.lines rest is.version outcomes is.read is.body is.become is.joined
 
 -- the report's lines of more lines after some
 pub report_lines-append : (number : ℕ) (outcomes more : List LineOutcome) → report_lines number (outcomes ++ more) ≡ report_lines number outcomes ++ report_lines (number + length outcomes) more

@@ -8,7 +8,7 @@ use Rattle.std.proofs.Math.Seq.{split_at}
 use Rattle.rt_feed.specs.Lines.{CutsAt}
 use Rattle.rt_feed.specs.Grammar.{fields}
 use Rattle.rt_feed.specs.CommandText.{space}
-use Rattle.rt_feed.specs.Fields.{fields_left}
+use Rattle.rt_feed.specs.Fields.{fields_of_rest}
 
 -- what stands before a place has no mark where none of the places before it has one
 unmarked-take : (text : List ℕ) (mark at : ℕ) → at < length text → ((k : ℕ) → k < at → slice_index_or text k 0 ≢ mark)
@@ -34,7 +34,7 @@ pub is_unspaced : (text : List ℕ) → All (λ byte. byte ≢ space) text → A
 is_unspaced text none = All-weaker (λ byte. byte ≢ space) (λ byte. eqb byte space ≡ false) (λ byte ne. ne_eqb byte space ne) text none
 
 -- the fields of a text that is cut at its first space
-pub fields-cut : (text first : List ℕ) (rest : Option (Bor (List ℕ))) → CutsAt space text first rest → fields text ≡ first ∷ fields_left rest
+pub fields-cut : (text first : List ℕ) (rest : Option (Bor (List ℕ))) → CutsAt space text first rest → fields text ≡ first ∷ fields_of_rest rest
 fields-cut text first None cut =
     rw cut.joined (slice_split_none (λ byte. eqb byte space) first (is_unspaced first cut.unmarked))
 fields-cut text first (Some rest) cut =
@@ -46,6 +46,6 @@ fields-nonempty text = omega (arith, length-slice_split (λ byte. eqb byte space
 
 -- a text that is cut at a space has more fields than one
 pub fields-more : (parts : List (List ℕ)) (first : List ℕ) (rest : Option (Bor (List ℕ))) (more : Bor (List ℕ))
-    → parts ≡ first ∷ fields_left rest → rest ≡ Some more → length parts ≢ 1
+    → parts ≡ first ∷ fields_of_rest rest → rest ≡ Some more → length parts ≢ 1
 fields-more parts first rest more cut is one =
     let count = rw (cut, is) at one in let some = fields-nonempty more.now in omega (arith, count, some)

@@ -306,9 +306,9 @@ unbroken (byte ∷ text) none =
     All-cons (λ byte. byte ≢ lf) byte text (eqb-false byte lf parts.0) (unbroken text parts.1)
 
 -- no LF stands in the empty text
-no_end : (line left : List ℕ) → [] ≢ line ++ lf ∷ left
-no_end [] left h = cc
-no_end (byte ∷ line) left h = cc
+no_end : (line rest : List ℕ) → [] ≢ line ++ lf ∷ rest
+no_end [] rest h = cc
+no_end (byte ∷ line) rest h = cc
 
 -- CutsLine
 a_line_ends_at_its_LF : CutsLine (codes "a\nb\n") (codes "a") (codes "b\n")
@@ -317,9 +317,9 @@ a_line_ends_at_its_LF = record { unbroken = unbroken (codes "a") refl; ended = i
 the_last_line_may_go_without : CutsLine (codes "a") (codes "a") []
 the_last_line_may_go_without = record { unbroken = unbroken (codes "a") refl; ended = inr (refl, (λ e. cc), refl) }
 
-nothing_has_no_line : (line left : List ℕ) → ¬ CutsLine [] line left
-nothing_has_no_line line left h = elim h.ended [
-  | inl ended ↦ no_end line left ended
+nothing_has_no_line : (line rest : List ℕ) → ¬ CutsLine [] line rest
+nothing_has_no_line line rest h = elim h.ended [
+  | inl ended ↦ no_end line rest ended
   | inr whole ↦ whole.1 (sym whole.0)
 ]
 
@@ -603,8 +603,8 @@ east_read =
     ∷ asked (Lookup at_10_9_0_1) (outcome.Did (Found (route_via ten_9_16 3 10 Discard))) ∷ []
 
 -- a line that an LF ends is cut there
-cut : (line left : List ℕ) → list_any (λ byte. eqb byte lf) line ≡ false → CutsLine (line ++ lf ∷ left) line left
-cut line left none = record { unbroken = unbroken line none; ended = inl refl }
+cut : (line rest : List ℕ) → list_any (λ byte. eqb byte lf) line ≡ false → CutsLine (line ++ lf ∷ rest) line rest
+cut line rest none = record { unbroken = unbroken line none; ended = inl refl }
 
 -- LinesBecome
 lines_of_north : LinesBecome One north north_read []

@@ -29,14 +29,14 @@ first_mark mark (x ∷ xs) (y ∷ ys) rest others none nor is =
     let same = first_mark mark xs ys rest others (All-tail P x xs none) (All-tail P y ys nor) tail in
     let head : x ≡ y = cc in (ap (λ zs. x ∷ zs) same.0 ∙ ap (λ z. z ∷ ys) head, same.1)
 
-pub one_cut : (text line left other other_left : List ℕ) → CutsLine text line left → CutsLine text other other_left → (line ≡ other) × (left ≡ other_left)
-one_cut text line left other other_left cut again = elim cut.ended [
+pub one_cut : (text line rest other other_rest : List ℕ) → CutsLine text line rest → CutsLine text other other_rest → (line ≡ other) × (rest ≡ other_rest)
+one_cut text line rest other other_rest cut again = elim cut.ended [
   | inl more ↦ elim again.ended [
-    | inl mores ↦ first_mark lf line other left other_left cut.unbroken again.unbroken (sym more ∙ mores)
-    | inr lasts ↦ absurd (unmarked_ends lf other line left again.unbroken (sym lasts.0 ∙ more))
+    | inl mores ↦ first_mark lf line other rest other_rest cut.unbroken again.unbroken (sym more ∙ mores)
+    | inr lasts ↦ absurd (unmarked_ends lf other line rest again.unbroken (sym lasts.0 ∙ more))
   ]
   | inr last ↦ elim again.ended [
-    | inl mores ↦ absurd (unmarked_ends lf line other other_left cut.unbroken (sym last.0 ∙ mores))
+    | inl mores ↦ absurd (unmarked_ends lf line other other_rest cut.unbroken (sym last.0 ∙ mores))
     | inr lasts ↦ (sym last.0 ∙ lasts.0, last.2 ∙ sym lasts.2)
   ]
 ]

@@ -180,27 +180,26 @@ nothing_read holds batch text gate run report first gathered lines body = record
   earlier = [];
   headed = sym (append-nil (heading run.version));
   counted = ap length (sym (append-nil (heading run.version)));
-  reported = report ∙ sym (ap (report_lines 1) (append-nil (heading run.version)) ∙ no_lines run.version);
-  first_waiting = first ∙ sym (ap length (no_lines run.version));
-  pieces = [];
-  full = All-nil _;
-  is_joined = none_asked run.version;
-  gained = gains_none holds gate;
-  gathered = rw gathered refl;
+  asked = record { pieces = []; full = All-nil _; is_joined = none_asked run.version; gained = gains_none holds gate };
+  held = record {
+    reported = report ∙ sym (ap (report_lines 1) (append-nil (heading run.version)) ∙ no_lines run.version);
+    first = first ∙ sym (ap length (no_lines run.version));
+    gathered = rw gathered refl;
+  };
 }
 
 -- one line more, whose command waits if it is one
-pub line_read : {G : Type 0} (holds : G → List Visit → Type 0) (batch : ℕ) (text rest line left : List ℕ) (earlier number : ℕ) (start gate : G) (run run' : FeedRun) (outcome : LineOutcome) (more : List Cmd)
-    → HasRead holds batch text rest earlier start gate run → number ≡ earlier + 1 → CutsLine rest line left → AnswersLine run.version line (reading outcome)
+pub line_read : {G : Type 0} (holds : G → List Visit → Type 0) (batch : ℕ) (text rest line next : List ℕ) (earlier number : ℕ) (start gate : G) (run run' : FeedRun) (outcome : LineOutcome) (more : List Cmd)
+    → HasRead holds batch text rest earlier start gate run → number ≡ earlier + 1 → CutsLine rest line next → AnswersLine run.version line (reading outcome)
     → asked_by outcome ≡ map (λ cmd. (cmd, Refused)) more → run'.report ≡ run.report ++ numbered number (line_answer outcome) → run'.first ≡ run.first
-    → run'.gathered.items ≡ run.gathered.items ++ more → run'.version ≡ run.version → HasRead holds batch text left number start gate run'
-line_read holds batch text rest line left earlier number start gate run run' outcome more so_far next cut reads asks reported first gathered version =
+    → run'.gathered.items ≡ run.gathered.items ++ more → run'.version ≡ run.version → HasRead holds batch text next number start gate run'
+line_read holds batch text rest line next earlier number start gate run run' outcome more so_far one_more cut reads asks reported first gathered version =
     let settled = so_far.settled in
     let waiting = so_far.waiting in
     let all : settled ++ (waiting ++ outcome ∷ []) ≡ (settled ++ waiting) ++ outcome ∷ [] = sym (append_assoc settled waiting (outcome ∷ [])) in
-    let count : number ≡ 1 + length (settled ++ waiting) = omega (arith, next, so_far.counted) in
-    let pushed = becomes-push text line rest left (settled ++ waiting) outcome so_far.becomes cut (subst (λ v. AnswersLine v line (reading outcome)) (sym so_far.versioned) reads) in
-    let becomes = becomes-at text left ((settled ++ waiting) ++ outcome ∷ []) (settled ++ (waiting ++ outcome ∷ [])) all pushed.0 in
+    let count : number ≡ 1 + length (settled ++ waiting) = omega (arith, one_more, so_far.counted) in
+    let pushed = becomes-push text line rest next (settled ++ waiting) outcome so_far.becomes cut (subst (λ v. AnswersLine v line (reading outcome)) (sym so_far.versioned) reads) in
+    let becomes = becomes-at text next ((settled ++ waiting) ++ outcome ∷ []) (settled ++ (waiting ++ outcome ∷ [])) all pushed.0 in
     record {
       settled = settled;
       waiting = waiting ++ outcome ∷ [];
@@ -209,19 +208,18 @@ line_read holds batch text rest line left earlier number start gate run run' out
       earlier = so_far.earlier;
       headed = so_far.headed ∙ ap (λ v. heading v ++ so_far.earlier) (sym version);
       counted = rw (all, length-append) (omega (arith, count));
-      reported = rw (reported, so_far.reported, all, report_lines-push, ← count) refl;
-      first_waiting = first ∙ so_far.first_waiting;
-      pieces = so_far.pieces;
-      full = so_far.full;
-      is_joined = so_far.is_joined;
-      gained = so_far.gained;
-      gathered = rw (asked_of-append, so_far.gathered, gathered, map-append, append-nil, asks) refl;
+      asked = so_far.asked;
+      held = record {
+        reported = rw (reported, so_far.held.reported, all, report_lines-push, ← count) refl;
+        first = first ∙ so_far.held.first;
+        gathered = rw (asked_of-append, so_far.held.gathered, gathered, map-append, append-nil, asks) refl;
+      };
     }
 
 -- what the lines became, once those that waited have been asked
-record Settled {G : Type 0} (holds : G → List Visit → Type 0) (version : Version) (text left : List ℕ) (number : ℕ) (start new : G) (pieces : List (List (Cmd × Outcome))) (asked : List (Cmd × Outcome)) (report : List Line) : Type 0 where
+record Settled {G : Type 0} (holds : G → List Visit → Type 0) (version : Version) (text rest : List ℕ) (number : ℕ) (start new : G) (pieces : List (List (Cmd × Outcome))) (asked : List (Cmd × Outcome)) (report : List Line) : Type 0 where
   outcomes : List LineOutcome
-  becomes : Becomes text outcomes left
+  becomes : Becomes text outcomes rest
   versioned : becomes.version ≡ version
   earlier : List LineOutcome
   headed : outcomes ≡ heading version ++ earlier
@@ -230,10 +228,10 @@ record Settled {G : Type 0} (holds : G → List Visit → Type 0) (version : Ver
   is_joined : asked_of outcomes ≡ joined pieces ++ asked
   gained : Gains holds start new (map visit_of (pieces ++ piece_of asked))
 
-settles : {G : Type 0} (holds : G → List Visit → Type 0) (batch : ℕ) (text left : List ℕ) (number : ℕ) (start gate new : G) (run : FeedRun) (report : List Line)
-    → (read : HasRead holds batch text left number start gate run) → (answers : AnswersWaiting holds gate new run.gathered.items run.first run.report report)
-    → Settled holds run.version text left number start new read.pieces (zip run.gathered.items answers.outcomes) report
-settles holds batch text left number start gate new run report read answers =
+settles : {G : Type 0} (holds : G → List Visit → Type 0) (batch : ℕ) (text rest : List ℕ) (number : ℕ) (start gate new : G) (run : FeedRun) (report : List Line)
+    → (read : HasRead holds batch text rest number start gate run) → (answers : AnswersWaiting holds gate new run.gathered.items run.first run.report report)
+    → Settled holds run.version text rest number start new read.asked.pieces (zip run.gathered.items answers.outcomes) report
+settles holds batch text rest number start gate new run report read answers =
     let settled = read.settled in
     let waiting = read.waiting in
     let cmds = run.gathered.items in
@@ -242,12 +240,12 @@ settles holds batch text left number start gate new run report read answers =
     map-append reading settled waiting ∙ (ap (λ rs. map reading settled ++ rs) (sym (reading-given waiting outcomes)) ∙ sym (map-append reading settled (given waiting outcomes))) in
     let before = report_lines 1 settled in
     let after = report_lines (1 + length settled) waiting in
-    let parts : run.report ≡ before ++ after = read.reported ∙ report_lines-append 1 settled waiting in
-    let kept : take run.first run.report ≡ before = rw (parts, read.first_waiting) (take-append_seam before after) in
-    let left_over : drop run.first run.report ≡ after = rw (parts, read.first_waiting) (drop-append_seam before after) in
+    let parts : run.report ≡ before ++ after = read.held.reported ∙ report_lines-append 1 settled waiting in
+    let kept : take run.first run.report ≡ before = rw (parts, read.held.first) (take-append_seam before after) in
+    let behind : drop run.first run.report ≡ after = rw (parts, read.held.first) (drop-append_seam before after) in
     let whole : report_lines 1 (settled ++ given waiting outcomes) ≡ before ++ filled after outcomes =
     report_lines-append 1 settled (given waiting outcomes) ∙ ap (λ ls. before ++ ls) (report_lines-given (1 + length settled) waiting outcomes) in
-    let becomes = becomes-alike text left (settled ++ waiting) (settled ++ given waiting outcomes) said read.becomes in
+    let becomes = becomes-alike text rest (settled ++ waiting) (settled ++ given waiting outcomes) said read.becomes in
     record {
       outcomes = settled ++ given waiting outcomes;
       becomes = becomes.0;
@@ -256,11 +254,11 @@ settles holds batch text left number start gate new run report read answers =
       headed = ap (λ os. os ++ given waiting outcomes) read.headed ∙ append_assoc (heading run.version) read.earlier (given waiting outcomes);
       counted = rw (length-append, length-given, ← length-append) read.counted;
       reported = elim answers.reported [
-        | inl is ↦ rw (is, kept, left_over, whole) refl
-        | inr same ↦ rw (same.0, read.reported) (ap (λ ls. report_lines 1 (settled ++ ls)) (sym (ap (given waiting) same.1 ∙ given-refused waiting cmds read.gathered)))
+        | inl is ↦ rw (is, kept, behind, whole) refl
+        | inr same ↦ rw (same.0, read.held.reported) (ap (λ ls. report_lines 1 (settled ++ ls)) (sym (ap (given waiting) same.1 ∙ given-refused waiting cmds read.held.gathered)))
       ];
-      is_joined = rw (asked_of-append, read.is_joined, asked_of-given waiting cmds outcomes read.gathered answers.each) refl;
-      gained = rw map-append (gains_both holds start gate new _ _ read.gained answers.gained);
+      is_joined = rw (asked_of-append, read.asked.is_joined, asked_of-given waiting cmds outcomes read.held.gathered answers.each) refl;
+      gained = rw map-append (gains_both holds start gate new _ _ read.asked.gained answers.gained);
     }
 
 -- a list with a first element is not empty
@@ -286,13 +284,13 @@ pairs : (cmds : List Cmd) (outcomes : List Outcome) → length outcomes ≡ leng
 pairs cmds outcomes each = omega (arith, length-zip cmds outcomes, each)
 
 -- a batch was asked: none of the lines read waits
-pub batch_asked : {G : Type 0} (holds : G → List Visit → Type 0) (batch : ℕ) (text left : List ℕ) (number : ℕ) (start gate new : G) (run run' : FeedRun)
-    → HasRead holds batch text left number start gate run → length run.gathered.items ≡ batch → AnswersWaiting holds gate new run.gathered.items run.first run.report run'.report
-    → run'.gathered.items ≡ [] → run'.first ≡ length run'.report → run'.version ≡ run.version → HasRead holds batch text left number start new run'
-batch_asked holds batch text left number start gate new run run' read whole answers emptied first version =
+pub batch_asked : {G : Type 0} (holds : G → List Visit → Type 0) (batch : ℕ) (text rest : List ℕ) (number : ℕ) (start gate new : G) (run run' : FeedRun)
+    → HasRead holds batch text rest number start gate run → length run.gathered.items ≡ batch → AnswersWaiting holds gate new run.gathered.items run.first run.report run'.report
+    → run'.gathered.items ≡ [] → run'.first ≡ length run'.report → run'.version ≡ run.version → HasRead holds batch text rest number start new run'
+batch_asked holds batch text rest number start gate new run run' read whole answers emptied first version =
     let asked = zip run.gathered.items answers.outcomes in
-    let done = settles holds batch text left number start gate new run run'.report read answers in
-    let becomes = becomes-at text left done.outcomes (done.outcomes ++ []) (append-nil done.outcomes) done.becomes in
+    let done = settles holds batch text rest number start gate new run run'.report read answers in
+    let becomes = becomes-at text rest done.outcomes (done.outcomes ++ []) (append-nil done.outcomes) done.becomes in
     record {
       settled = done.outcomes;
       waiting = [];
@@ -301,13 +299,13 @@ batch_asked holds batch text left number start gate new run run' read whole answ
       earlier = done.earlier;
       headed = done.headed ∙ ap (λ v. heading v ++ done.earlier) (sym version);
       counted = rw append-nil done.counted;
-      reported = rw append-nil done.reported;
-      first_waiting = first ∙ ap length done.reported;
-      pieces = read.pieces ++ piece_of asked;
-      full = All-append (λ piece. length piece ≡ batch) read.pieces (piece_of asked) read.full (full_piece batch asked (pairs run.gathered.items answers.outcomes answers.each ∙ whole));
-      is_joined = done.is_joined ∙ piece_more read.pieces asked;
-      gained = done.gained;
-      gathered = rw emptied refl;
+      asked = record {
+        pieces = read.asked.pieces ++ piece_of asked;
+        full = All-append (λ piece. length piece ≡ batch) read.asked.pieces (piece_of asked) read.asked.full (full_piece batch asked (pairs run.gathered.items answers.outcomes answers.each ∙ whole));
+        is_joined = done.is_joined ∙ piece_more read.asked.pieces asked;
+        gained = done.gained;
+      };
+      held = record { reported = rw append-nil done.reported; first = first ∙ ap length done.reported; gathered = rw emptied refl };
     }
 
 -- the text was read to its end, and the last commands were asked
@@ -321,11 +319,11 @@ all_asked holds batch text number start gate new run report read few answers =
       outcomes = done.outcomes;
       asks = record {
         becomes = done.becomes;
-        pieces = read.pieces ++ piece_of asked;
+        pieces = read.asked.pieces ++ piece_of asked;
         cut = record {
-          whole = read.pieces;
+          whole = read.asked.pieces;
           last = asked;
-          full = read.full;
+          full = read.asked.full;
           fewer = omega (arith, few, pairs run.gathered.items answers.outcomes answers.each);
           is_joined = done.is_joined;
           is_cut = refl;
@@ -335,30 +333,30 @@ all_asked holds batch text number start gate new run report read few answers =
       reported = done.reported;
     }
 
--- the text was read so far, and no more is asked, though this line is left
-pub stopped : {G : Type 0} (holds : G → List Visit → Type 0) (batch : ℕ) (text left line next : List ℕ) (number : ℕ) (start gate : G) (run : FeedRun)
-    → HasRead holds batch text left number start gate run → length run.gathered.items < batch → CutsLine left line next → IsTold run.version line
+-- the text was read so far, and no more is asked, though this line is next
+pub stopped : {G : Type 0} (holds : G → List Visit → Type 0) (batch : ℕ) (text rest line next : List ℕ) (number : ℕ) (start gate : G) (run : FeedRun)
+    → HasRead holds batch text rest number start gate run → length run.gathered.items < batch → CutsLine rest line next → IsTold run.version line
     → StopsWithin holds batch text start gate
-stopped holds batch text left line next number start gate run read few cut told =
-    let first = becomes-first text left read.settled read.earlier read.waiting read.becomes (read.headed ∙ ap (λ v. heading v ++ read.earlier) (sym read.versioned)) in
+stopped holds batch text rest line next number start gate run read few cut told =
+    let first = becomes-first text rest read.settled read.earlier read.waiting read.becomes (read.headed ∙ ap (λ v. heading v ++ read.earlier) (sym read.versioned)) in
     record {
       outcomes = read.settled;
-      left = first.0;
+      unasked = first.0;
       asks = record {
         becomes = first.1;
-        pieces = read.pieces;
+        pieces = read.asked.pieces;
         cut = record {
-          whole = read.pieces;
+          whole = read.asked.pieces;
           last = [];
-          full = read.full;
+          full = read.asked.full;
           fewer = omega (arith, few);
-          is_joined = read.is_joined ∙ sym (append-nil (joined read.pieces));
-          is_cut = sym (append-nil read.pieces);
+          is_joined = read.asked.is_joined ∙ sym (append-nil (joined read.asked.pieces));
+          is_cut = sym (append-nil read.asked.pieces);
         };
-        gained = read.gained;
+        gained = read.asked.gained;
       };
       more = read.waiting;
-      rest = left;
+      rest = rest;
       become = first.3;
       line = line;
       next = next;

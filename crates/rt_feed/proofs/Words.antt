@@ -14,6 +14,7 @@ use Rattle.rt_rib.specs.declared.routes.Hop.{Hop}
 use Rattle.rt_rib.specs.declared.routes.Hop.TheVariants.{Via, Discard}
 use Rattle.rt_rib.specs.declared.commands.Cmd.{Cmd}
 use Rattle.rt_rib.specs.declared.commands.Cmd.TheVariants.{Add, Replace, Withdraw, Lookup, Dump, Purge}
+use Rattle.rt_feed.specs.declared.parse.TheConstants.{LINE_BYTES}
 use Rattle.rt_feed.specs.declared.versions.Version.{Version}
 use Rattle.rt_feed.specs.CommandText.{space, words, route_words, command_text, HasHop, HasCommand}
 use Rattle.rt_feed.specs.Printed.{hop_text}
@@ -124,7 +125,7 @@ length-route p pref next fits =
     )
 
 -- a command's text is no longer than a line may be
-pub length-command_text : (version : Version) (cmd : Cmd) → HasCommand version cmd → length (command_text cmd) ≤ 128
+pub length-command_text : (version : Version) (cmd : Cmd) → HasCommand version cmd → length (command_text cmd) ≤ LINE_BYTES
 length-command_text version (Add p pref hop) fits = omega (arith, length-route p pref hop fits.0)
 length-command_text version (Replace p pref hop) fits = omega (arith, length-route p pref hop fits.0)
 length-command_text version (Withdraw p) fits = omega (arith, length-prefix_text p.base p.len)

@@ -13,9 +13,9 @@ use Rattle.rt_feed.specs.CommandText.{words, route_words, HasHop, HasCommand}
 use Rattle.rt_feed.specs.Grammar.{Kind, fields, IsOfKind, IsFaultOf, IsFaultOfFields}
 
 -- the fields of what follows a space, if there is one
-abbrev pub fields_left : Option (Bor (List ℕ)) → List (List ℕ)
-fields_left None = []
-fields_left (Some text) = fields text.now
+abbrev pub fields_of_rest : Option (Bor (List ℕ)) → List (List ℕ)
+fields_of_rest None = []
+fields_of_rest (Some text) = fields text.now
 
 -- how a command's name is spelled
 abbrev pub name_text : Name → List ℕ

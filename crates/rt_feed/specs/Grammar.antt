@@ -10,6 +10,7 @@ use Rattle.rt_cidr.specs.Reading.{ReadsPrefix}
 use Rattle.rt_cidr.specs.Text.{address_text, prefix_text}
 use Rattle.rt_rib.specs.declared.routes.Hop.{Hop}
 use Rattle.rt_rib.specs.declared.commands.Cmd.{Cmd}
+use Rattle.rt_feed.specs.declared.parse.TheConstants.{LINE_BYTES}
 use Rattle.rt_feed.specs.declared.parse.LineFault.{LineFault}
 use Rattle.rt_feed.specs.declared.parse.LineFault.TheVariants as fault
 use Rattle.rt_feed.specs.declared.versions.Version.{Version}
@@ -100,11 +101,11 @@ abbrev pub IsFaultOfFields : Version → List (List ℕ) → LineFault → Type 
 IsFaultOfFields version [] answer = ⊥
 IsFaultOfFields version (name ∷ rest) answer = IsFaultAfter (kinds_after version name) rest answer
 
--- what a line of a text of this version says: it is the text of a command; it is skipped; or it has a fault: it is over
--- 128 bytes, whatever it says, or else the first of its fields from the left
+-- what a line of a text of this version says: it is the text of a command; it is skipped; or it has a fault: it is too
+-- long, whatever it says, or else it is the first of its fields from the left
 abbrev pub AnswersLine : Version → List ℕ → Result (Option Cmd) LineFault → Type 0
 AnswersLine version line (Ok (Some cmd)) = HasCommand version cmd × (line ≡ command_text cmd)
-AnswersLine version line (Ok None) = (length line ≤ 128) × (is_skipped line ≡ true)
+AnswersLine version line (Ok None) = (length line ≤ LINE_BYTES) × (is_skipped line ≡ true)
 AnswersLine version line (Err answer) =
-    ((128 < length line) × (answer ≡ fault.LineLength))
-    ⊎ ((length line ≤ 128) × (is_skipped line ≡ false) × IsFaultOfFields version (fields line) answer)
+    ((LINE_BYTES < length line) × (answer ≡ fault.LineLength))
+    ⊎ ((length line ≤ LINE_BYTES) × (is_skipped line ≡ false) × IsFaultOfFields version (fields line) answer)

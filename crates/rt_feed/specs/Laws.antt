@@ -42,10 +42,10 @@ OlderTextsStay =
     (text : List ℕ) (outcomes : List LineOutcome) →
     ((rest : List ℕ) → ¬ TellsTwo text rest) → Becomes text outcomes [] ↔ LinesBecome One text outcomes []
 
--- a text is cut into its first line and what is left in at most one way
+-- a text is cut into its first line and its rest in at most one way
 abbrev pub TextHasOneCut : Type 0
 TextHasOneCut =
-    (text line left other other_left : List ℕ) → CutsLine text line left → CutsLine text other other_left → (line ≡ other) × (left ≡ other_left)
+    (text line rest other other_rest : List ℕ) → CutsLine text line rest → CutsLine text other other_rest → (line ≡ other) × (rest ≡ other_rest)
 
 -- so whatever became of a whole text's commands, each of its lines says the same
 abbrev pub TextHasOneReading : Type 0

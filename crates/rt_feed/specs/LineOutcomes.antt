@@ -1,8 +1,9 @@
 -- What each line of a feed's text became, and what a list of that says: the report's lines, and the commands with what
 -- became of them.
-use Rattle.std.specs.Prelude.{◌≡◌, ℕ, ◌+◌, Bool, true, false, List, [], ◌∷◌, ◌++◌, Option, None, Some, Ok, Err}
+use Rattle.std.specs.Prelude.{◌≡◌, ℕ, ◌+◌, Bool, false, List, [], ◌∷◌, ◌++◌, Option, None, Some, Ok, Err}
 use Rattle.std.specs.declared.result.Result.{Result}
 use Rattle.std.specs.List.{list_any}
+use Rattle.std.specs.Option.{option_map_or}
 use Rattle.rt_rib.specs.declared.commands.Cmd.{Cmd}
 use Rattle.rt_shared.specs.declared.outcome.Outcome.{Outcome}
 use Rattle.rt_shared.specs.declared.outcome.Outcome.TheVariants as outcome
@@ -14,6 +15,7 @@ use Rattle.rt_feed.specs.declared.versions.Version.{Version}
 use Rattle.rt_feed.specs.declared.versions.Version.TheVariants.{One, Two}
 use Rattle.rt_feed.specs.Grammar.{AnswersLine}
 use Rattle.rt_feed.specs.Lines.{CutsLine}
+use Rattle.rt_feed.specs.Reports.{is_refusal, is_fault}
 use Rattle.rt_feed.specs.Versions.{IsBody}
 
 -- what one line became: nothing, a fault, or a command with what became of it
@@ -28,26 +30,26 @@ reading skipped = Ok None
 reading (faulty fault) = Err fault
 reading (asked cmd outcome) = Ok (Some cmd)
 
--- these lines begin with some that became these, in order, each read by this version, and this is left after them
+-- these lines begin with some that became these, in order, each read by this version, and this is the rest of them
 abbrev pub LinesBecome : Version → List ℕ → List LineOutcome → List ℕ → Type 0
-LinesBecome version lines [] left = lines ≡ left
-LinesBecome version lines (outcome ∷ outcomes) left =
+LinesBecome version lines [] rest = lines ≡ rest
+LinesBecome version lines (outcome ∷ outcomes) rest =
     (line : List ℕ) × (next : List ℕ) × CutsLine lines line next × AnswersLine version line (reading outcome)
-    × LinesBecome version next outcomes left
+    × LinesBecome version next outcomes rest
 
 -- what became of the lines before those that are read: the line that tells version 2 is skipped
 abbrev pub heading : Version → List LineOutcome
 heading One = []
 heading Two = skipped ∷ []
 
--- the text's first lines became these, each read by the text's version, and this is left of it after them: nothing,
--- where they are all its lines
-pub record Becomes (text : List ℕ) (outcomes : List LineOutcome) (left : List ℕ) : Type 0 where
+-- the text's first lines became these, each read by the text's version, and this is its rest after them: nothing, where
+-- they are all its lines
+pub record Becomes (text : List ℕ) (outcomes : List LineOutcome) (rest : List ℕ) : Type 0 where
   pub version : Version
   pub lines : List ℕ
   pub read : List LineOutcome
   pub body : IsBody text version lines
-  pub become : LinesBecome version lines read left
+  pub become : LinesBecome version lines read rest
   pub joined : outcomes ≡ heading version ++ read
 
 -- the answer of a command in a report
@@ -84,16 +86,11 @@ asked_of (outcome ∷ outcomes) = asked_by outcome ++ asked_of outcomes
 
 -- the line's command was refused for want of memory
 abbrev pub was_refused : LineOutcome → Bool
-was_refused skipped = false
-was_refused (faulty fault) = false
-was_refused (asked cmd (outcome.Did reply)) = false
-was_refused (asked cmd outcome.Refused) = true
+was_refused outcome = option_map_or is_refusal (line_answer outcome) false
 
 -- the line was faulty
 abbrev pub was_faulty : LineOutcome → Bool
-was_faulty skipped = false
-was_faulty (faulty fault) = true
-was_faulty (asked cmd outcome) = false
+was_faulty outcome = option_map_or is_fault (line_answer outcome) false
 
 -- some command was refused
 abbrev pub some_refused : List LineOutcome → Bool

@@ -11,8 +11,8 @@ pub record CutsAt (mark : ℕ) (text first : List ℕ) (rest : Option (Bor (List
   pub unmarked : All (λ byte. byte ≢ mark) first
   pub joined : MatchOption rest (text ≡ first) (λ rest. text ≡ first ++ mark ∷ rest.now)
 
--- the text's first line, without its LF, and what is left after it: no LF stands in the line, and either one follows it
+-- the text's first line, without its LF, and its rest: no LF stands in the line, and either one follows it
 -- or it is the whole text, which is not empty
-pub record CutsLine (text line left : List ℕ) : Type 0 where
+pub record CutsLine (text line rest : List ℕ) : Type 0 where
   pub unbroken : All (λ byte. byte ≢ lf) line
-  pub ended : (text ≡ line ++ lf ∷ left) ⊎ ((text ≡ line) × (line ≢ []) × (left ≡ []))
+  pub ended : (text ≡ line ++ lf ∷ rest) ⊎ ((text ≡ line) × (line ≢ []) × (rest ≡ []))

@@ -1,10 +1,11 @@
 //! One line of a feed's text, and what is wrong with it.
 ghost use Rattle.std.specs.Prelude.{◌≡◌, ◌≢◌, ◌∷◌, ◌<◌, ◌≤◌, ◌^◌, [], length, codes, decimal, IsTrue, ◌↔◌, None, MatchOption, MatchResult};
 ghost use Rattle.rt_cidr.specs.Text.{address_text, prefix_text};
+ghost use Rattle.rt_feed.specs.declared.parse.TheConstants.{LINE_BYTES};
 ghost use Rattle.rt_feed.specs.CommandText.{HasHop};
 ghost use Rattle.rt_feed.specs.Printed.{hop_text};
 ghost use Rattle.rt_feed.specs.Grammar.{Kind, route_kinds, kinds_after, is_skipped, fields, IsFaultAmong, AnswersLine};
-ghost use Rattle.rt_feed.specs.Fields.{fields_left, name_text, IsRoute, IsFaulty, AnswersFields};
+ghost use Rattle.rt_feed.specs.Fields.{fields_of_rest, name_text, IsRoute, IsFaulty, AnswersFields};
 
 use crate::lines::cut_at;
 use crate::versions::Version;
@@ -76,8 +77,8 @@ pub fn parse_line(line: &[u8], version: Version) -> Result<Option<Cmd>, LineFaul
 /// Whether the line is skipped. A line that is too long is E8, whatever it says.
 pub(crate) fn says_nothing(line: &[u8]) -> Result<bool, LineFault>
     ensures { MatchResult result
-        (λ skipped. (length line.now ≤ 128) × (skipped ≡ is_skipped line.now))
-        (λ answer. (128 < length line.now) × (answer ≡ LineFault.LineLength)) }
+        (λ skipped. (length line.now ≤ LINE_BYTES) × (skipped ≡ is_skipped line.now))
+        (λ answer. (LINE_BYTES < length line.now) × (answer ≡ LineFault.LineLength)) }
 {
     if line.len() > LINE_BYTES {
         return Err(LineFault::LineLength);
@@ -125,7 +126,7 @@ fn name_of(field: &[u8]) -> Option<Name>
 
 /// The command of this name with the fields that follow it.
 fn parse_command(name: Name, rest: Option<&[u8]>, version: Version) -> Result<Cmd, LineFault>
-    ensures { AnswersFields version (name_text name ∷ fields_left rest.entry) result }
+    ensures { AnswersFields version (name_text name ∷ fields_of_rest rest.entry) result }
 {
     match name {
         Name::Add => {
@@ -160,7 +161,7 @@ fn parse_command(name: Name, rest: Option<&[u8]>, version: Version) -> Result<Cm
 
 /// The field at the front, up to the first space, and what follows that space, if there is one.
 fn cut_field(text: &[u8]) -> (&[u8], Option<&[u8]>)
-    ensures { fields text.now ≡ result.0.now ∷ fields_left result.1 }
+    ensures { fields text.now ≡ result.0.now ∷ fields_of_rest result.1 }
 {
     cut_at(text, b' ')
 }
@@ -168,8 +169,8 @@ fn cut_field(text: &[u8]) -> (&[u8], Option<&[u8]>)
 /// Makes sure that no field is left; any other number of fields is E2.
 fn no_field(rest: Option<&[u8]>) -> Result<(), LineFault>
     ensures { MatchResult result
-        (λ none. fields_left rest.entry ≡ [])
-        (λ answer. IsFaultAmong [] (fields_left rest.entry) answer) }
+        (λ none. fields_of_rest rest.entry ≡ [])
+        (λ answer. IsFaultAmong [] (fields_of_rest rest.entry) answer) }
 {
     match rest {
         None => Ok(()),
@@ -180,8 +181,8 @@ fn no_field(rest: Option<&[u8]>) -> Result<(), LineFault>
 /// The one field that is left; any other number of fields is E2.
 fn only_field(rest: Option<&[u8]>) -> Result<&[u8], LineFault>
     ensures { MatchResult result
-        (λ field. fields_left rest.entry ≡ field.now ∷ [])
-        (λ answer. (length (fields_left rest.entry) ≢ 1) × (answer ≡ LineFault.FieldCount)) }
+        (λ field. fields_of_rest rest.entry ≡ field.now ∷ [])
+        (λ answer. (length (fields_of_rest rest.entry) ≢ 1) × (answer ≡ LineFault.FieldCount)) }
 {
     let (field, rest) = cut_field(rest.ok_or(LineFault::FieldCount)?);
     match rest {
@@ -193,8 +194,8 @@ fn only_field(rest: Option<&[u8]>) -> Result<&[u8], LineFault>
 /// The three fields that are left; any other number of fields is E2.
 fn three_fields(rest: Option<&[u8]>) -> Result<(&[u8], &[u8], &[u8]), LineFault>
     ensures { MatchResult result
-        (λ three. fields_left rest.entry ≡ three.0.now ∷ three.1.now ∷ three.2.now ∷ [])
-        (λ answer. (length (fields_left rest.entry) ≢ 3) × (answer ≡ LineFault.FieldCount)) }
+        (λ three. fields_of_rest rest.entry ≡ three.0.now ∷ three.1.now ∷ three.2.now ∷ [])
+        (λ answer. (length (fields_of_rest rest.entry) ≢ 3) × (answer ≡ LineFault.FieldCount)) }
 {
     let (first, rest) = cut_field(rest.ok_or(LineFault::FieldCount)?);
     let (second, rest) = cut_field(rest.ok_or(LineFault::FieldCount)?);
@@ -205,8 +206,8 @@ fn three_fields(rest: Option<&[u8]>) -> Result<(&[u8], &[u8], &[u8]), LineFault>
 /// What a `withdraw` says: a prefix alone.
 fn parse_only_prefix(rest: Option<&[u8]>) -> Result<Prefix, LineFault>
     ensures { MatchResult result
-        (λ prefix. fields_left rest.entry ≡ prefix_text prefix.base prefix.len ∷ [])
-        (λ answer. IsFaultAmong (Kind.prefix ∷ []) (fields_left rest.entry) answer) }
+        (λ prefix. fields_of_rest rest.entry ≡ prefix_text prefix.base prefix.len ∷ [])
+        (λ answer. IsFaultAmong (Kind.prefix ∷ []) (fields_of_rest rest.entry) answer) }
 {
     parse_prefix(only_field(rest)?)
 }
@@ -214,8 +215,8 @@ fn parse_only_prefix(rest: Option<&[u8]>) -> Result<Prefix, LineFault>
 /// What a `lookup` says: an address alone.
 fn parse_only_address(rest: Option<&[u8]>) -> Result<Addr, LineFault>
     ensures { MatchResult result
-        (λ address. (address.0 < 2 ^ 32) × (fields_left rest.entry ≡ address_text address.0 ∷ []))
-        (λ answer. IsFaultAmong (Kind.address ∷ []) (fields_left rest.entry) answer) }
+        (λ address. (address.0 < 2 ^ 32) × (fields_of_rest rest.entry ≡ address_text address.0 ∷ []))
+        (λ answer. IsFaultAmong (Kind.address ∷ []) (fields_of_rest rest.entry) answer) }
 {
     parse_address(only_field(rest)?)
 }
@@ -223,8 +224,8 @@ fn parse_only_address(rest: Option<&[u8]>) -> Result<Addr, LineFault>
 /// What an `add` or a `replace` says: a prefix, a preference and a next hop.
 fn parse_route(rest: Option<&[u8]>, version: Version) -> Result<(Prefix, u32, Hop), LineFault>
     ensures { MatchResult result
-        (λ route. IsRoute version (fields_left rest.entry) route.0 route.1 route.2)
-        (λ answer. IsFaultAmong (route_kinds version) (fields_left rest.entry) answer) }
+        (λ route. IsRoute version (fields_of_rest rest.entry) route.0 route.1 route.2)
+        (λ answer. IsFaultAmong (route_kinds version) (fields_of_rest rest.entry) answer) }
 {
     let (prefix, pref, hop) = three_fields(rest)?;
     let prefix = parse_prefix(prefix)?;

@@ -34,7 +34,7 @@ overflow_add-number g c =
 pub read-requires : goal.read-requires
 read-requires g c =
     let read = c.loop-line.invariant.read.0 in
-    (c.type_bounds.send-G, λ k d here. omega (arith, read.counted, (subst (All (λ (line : Line). line.number < 1 + length (read.settled ++ read.waiting))) (sym read.reported) (report_lines-below 1 _)) k d here))
+    (c.type_bounds.send-G, λ k d here. omega (arith, read.counted, (subst (All (λ (line : Line). line.number < 1 + length (read.settled ++ read.waiting))) (sym read.held.reported) (report_lines-below 1 _)) k d here))
 
 pub returns-in_err-read-clause-err : goal.returns-in_err-read-clause-err
 returns-in_err-read-clause-err g c =
