@@ -17,6 +17,3 @@ pub fn parse_address_line(line: &[u8]) -> Result<Option<Addr>, LineFault>
     let addr = parse_address(line)?;
     Ok(Some(addr))
 }
-
-#[cfg(test)]
-mod tests;

@@ -14,23 +14,3 @@ pub enum RunFault {
     #[error("F3")]
     Memory,
 }
-
-#[cfg(test)]
-mod tests {
-    use super::*;
-    use std::test::Fail;
-
-    #[test]
-    fn faults_have_their_texts(rt: HostRuntime) -> Result<(), Fail> {
-        let faults = [
-            (RunFault::NoText, "F1", "NoText"),
-            (RunFault::FeedCount, "F2", "FeedCount"),
-            (RunFault::Memory, "F3", "Memory"),
-        ];
-        for (fault, shown, name) in faults {
-            assert_eq!(rt; format!(in rt.alloc(); "{fault}")?.as_str(), shown);
-            assert_eq!(rt; format!(in rt.alloc(); "{fault:?}")?.as_str(), name);
-        }
-        Ok(())
-    }
-}

@@ -78,6 +78,3 @@ fn run_one<R: Wait, G: Gate>(rt: &R, alloc: Global, text: &[u8], batch: usize, f
 {
     feed.report = run_feed(rt, alloc, text, batch, &mut feed.gate).ok();
 }
-
-#[cfg(test)]
-mod tests;

@@ -50,4 +50,4 @@ pub use table_gate::TableGate;
 pub use versions::{Version, text_body, text_version};
 
 #[cfg(test)]
-mod hostile;
+mod tests;

@@ -305,6 +305,3 @@ pub(crate) fn parse_address(field: &[u8]) -> Result<Addr, LineFault>
     laws::written();
     Addr::parse(field).map_err(|_| LineFault::Text)
 }
-
-#[cfg(test)]
-mod tests;

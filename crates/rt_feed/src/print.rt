@@ -234,8 +234,3 @@ fn fault_word(fault: LineFault) -> &'static [u8; 8]
         LineFault::LineLength => b"fault E8",
     }
 }
-
-#[cfg(test)]
-mod tests;
-#[cfg(test)]
-mod writers;

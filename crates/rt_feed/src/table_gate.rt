@@ -77,6 +77,3 @@ impl<'a, const L: u32> Gate for TableGate<'a, L> {
         self.table.apply_batch(rt, &mut self.pass, cmds, out)
     }
 }
-
-#[cfg(test)]
-mod tests;

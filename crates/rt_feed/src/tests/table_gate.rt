@@ -3,11 +3,13 @@ ghost use Rattle.std.specs.Prelude.{◌≡◌, IfOk};
 ghost use Rattle.rt_rib.specs.Book.{IsLimit};
 ghost use Rattle.rt_shared.specs.Testing.{AreBoth};
 
-use super::*;
+use crate::table_gate::*;
 use rt_cidr::{Addr, Prefix, TextFault};
-use rt_rib::{Entry, Hop, Route};
+use rt_rib::{Cmd, Entry, Hop, Refused, Reply, Route};
+use rt_shared::{FeedPass, Outcome, SharedRib};
 use std::alloc::Global;
 use std::process::Abort;
+use std::sync::Wait;
 use std::test::Fail;
 
 const DISCARD: Hop = Hop::Discard;

@@ -2,7 +2,7 @@ use Rattle.std.proofs.Common.{◌≡◌, ◌∙◌, ap, ◌++◌, ◌∷◌, [],
 use Rattle.std.specs.Option.{option_to_list}
 use Rattle.rt_shared.specs.Table.{HeldPass}
 use Rattle.rt_shared.proofs.Testing.{are_both}
-use Rattle.rt_feed.proofs.table_gate.tests.pair.Goals as goal
+use Rattle.rt_feed.proofs.tests.table_gate.pair.Goals as goal
 
 pub returns : goal.returns
 returns c =

@@ -1,5 +1,7 @@
 //! Lines of a text of addresses, and what each is answered.
-use super::*;
+use crate::addresses::*;
+use crate::parse::LineFault;
+use rt_cidr::Addr;
 use std::process::Abort;
 
 /// What the line is answered.

@@ -1,14 +1,20 @@
 //! Feeds through gates that record, refuse and wait for one another.
 ghost use Rattle.std.specs.Prelude.{◌≤◌};
 
-use super::*;
+use crate::faults::RunFault;
+use crate::feeds::*;
+use crate::gates::Gate;
 use crate::print::write_report;
+use crate::report::Report;
+use crate::running::run_feed;
 use rt_rib::{Cmd, Refused, Reply};
 use rt_shared::Outcome;
-use std::alloc::AllocError;
+use std::alloc::{AllocError, Global};
 use std::process::Abort;
+use std::sync::Wait;
 use std::sync::atomic::{AtomicU64, Ordering};
 use std::test::Fail;
+use std::thread::{self, Threads};
 
 /// How many commands are asked at once.
 const BATCH: usize = 3;

@@ -1,6 +1,9 @@
 //! Lines and the answers to them: the first fault of each kind, and commands read as what they say.
-use super::*;
 use crate::lines::next_line;
+use crate::parse::*;
+use crate::versions::Version;
+use rt_cidr::{Addr, Prefix};
+use rt_rib::{Cmd, Hop};
 use std::process::Abort;
 use std::test::Fail;
 
@@ -104,12 +107,12 @@ fn reads_each_command(rt: HostRuntime) -> Result<(), Fail> {
 fn one_byte_is_no_command(rt: HostRuntime) -> Result<(), Fail> {
     for byte in 0..=u8::MAX {
         let text = [byte];
-        let (line, left) = next_line(&text).ok_or("a line is missing")?;
+        let (line, rest) = next_line(&text).ok_or("a line is missing")?;
         let answer = match byte {
             b'\n' | b'#' => Ok(None),
             _ => Err(LineFault::Command),
         };
-        assert!(rt; left.is_empty());
+        assert!(rt; rest.is_empty());
         assert_answers(&rt, line, answer);
     }
     Ok(())

@@ -1,9 +1,13 @@
 //! Writers that take little, that fail, and that count what they are asked.
-use super::tests::route;
-use super::*;
-use crate::report::tests::report_of;
-use rt_cidr::TextFault;
+use super::print::route;
+use super::report::report_of;
+use crate::parse::LineFault;
+use crate::print::*;
+use crate::report::{Answer, Report};
+use rt_cidr::{Addr, TextFault};
+use rt_rib::{Hop, Reply, Route};
 use std::alloc::Global;
+use std::io::{self, Write};
 use std::process::Abort;
 use std::test::Fail;
 

@@ -1,8 +1,12 @@
 //! Printed reports, tables and answers of look-ups, byte for byte.
-use super::*;
-use crate::report::tests::report_of;
+use super::report::report_of;
+use crate::parse::LineFault;
+use crate::print::*;
+use crate::report::{Answer, Report};
 use rt_cidr::{Addr, Prefix, TextFault};
+use rt_rib::{Hop, Reply, Route};
 use std::alloc::{AllocError, Global};
+use std::io::Write;
 use std::test::Fail;
 
 /// A route of feed 1.
