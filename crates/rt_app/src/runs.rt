@@ -9,6 +9,7 @@ ghost use Rattle.rt_shared.specs.Table.{ArePassesOf};
 
 use crate::faults::AppFault;
 use crate::output::{Output, write_output};
+use crate::tallies::REFUSED;
 use rt_feed::{Feed, Report, RunFault, TableGate, run_feeds};
 use rt_rib::Book;
 use rt_shared::{FeedPass, SharedRib};
@@ -23,9 +24,6 @@ pub const MOST_TEXTS: usize = 64;
 
 /// The levels of the lock's tree.
 const LEVELS: u32 = 6;
-
-/// The status where some command was refused for want of memory.
-const REFUSED: u8 = 5;
 
 /// The status where some line was faulty.
 const FAULTY: u8 = 2;
