@@ -1,4 +1,4 @@
-//! What a run writes: its reports and its table, or what its finished table says. All of it goes through one buffer.
+//! What is written: a run's reports and table, what its finished table says, or a replay. All goes through one buffer.
 ghost use Rattle.std.specs.Prelude.{◌≡◌, ◌++◌, [], ◌<◌, ◌≤◌, true, false, length, OnOk, OnErr};
 ghost use Rattle.std.specs.Io.KnownBytes.{Appends};
 ghost use Rattle.rt_cidr.specs.Output.{AppendsBeginning};
@@ -9,11 +9,13 @@ ghost use Rattle.rt_app.specs.TableText.{answers_text};
 ghost use Rattle.rt_app.specs.Outputs.{IsOutput, output_text, Writes};
 
 use crate::faults::AppFault;
+use crate::replays::write_replay;
 use rt_cidr::{Addr, OutputBuffer, OutputRoom};
 use rt_feed::{Report, RunFault, write_found, write_report, write_rows, write_table};
 use rt_rib::{Book, Route};
 use std::alloc::Global;
 use std::io::{self, Write};
+use ya_core::Step;
 
 /// So many addresses are looked up together.
 const PIECE: usize = 256;
@@ -27,6 +29,8 @@ pub(crate) enum Output<'a> {
     Answers(&'a Book<Global>, &'a [Addr]),
     /// The routes alone.
     Routes(&'a [Route]),
+    /// The steps of a replay, and who is inside after them.
+    Replay(&'a [Step], Option<usize>),
 }
 
 impl Output<'_> {
@@ -39,6 +43,7 @@ impl Output<'_> {
             Output::Run(..) => false,
             Output::Answers(_, addresses) => addresses.is_empty(),
             Output::Routes(routes) => routes.is_empty(),
+            Output::Replay(..) => false,
         }
     }
 }
@@ -65,7 +70,7 @@ pub(crate) fn write_output<W: Write>(
 }
 
 /// Writes the output in few large writes. Takes no memory.
-fn write_buffered<W: Write>(
+pub(crate) fn write_buffered<W: Write>(
     w: &mut W,
     room: OutputRoom,
     output: Output<'_>,
@@ -96,6 +101,7 @@ fn write_parts<W: Write>(w: &mut W, output: Output<'_>) -> Result<(), io::Error>
         Output::Run(reports, routes) => write_run(w, reports, routes),
         Output::Answers(book, addresses) => write_answers(w, book, addresses),
         Output::Routes(routes) => write_rows(w, routes),
+        Output::Replay(steps, inside) => write_replay(w, steps, inside),
     }
 }
 

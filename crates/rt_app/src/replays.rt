@@ -7,7 +7,8 @@ ghost use Rattle.rt_app.specs.ReplayText.{level_text, word_text, mark_text, sign
 ghost use Rattle.ya_core.specs.Tree.{HasShape};
 
 use crate::faults::AppFault;
-use rt_cidr::{OutputBuffer, OutputRoom, ShortText, put};
+use crate::output::{Output, write_buffered};
+use rt_cidr::{OutputRoom, ShortText, put};
 use std::alloc::Global;
 use std::io::{self, Write};
 use ya_core::{Mark, ReplayFault, Step, Word, replay};
@@ -35,37 +36,18 @@ pub fn replay_text<W: Write>(
         return Err(AppFault::Replay(ReplayFault::Memory));
     };
     let inside = inside_place(steps.as_slice());
-    match write_replay(w, room, steps.as_slice(), inside) {
+    match write_buffered(w, room, Output::Replay(steps.as_slice(), inside)) {
         Ok(()) => Ok(0),
         Err(_) => Err(AppFault::Write),
     }
 }
 
-/// Writes the text of a replay that made these steps, after which that place is inside, in few large writes. Takes no
-/// memory.
-fn write_replay<W: Write>(
+/// Writes the text of a replay that made these steps, after which that place is inside.
+pub(crate) fn write_replay<W: Write>(
     w: &mut W,
-    room: OutputRoom,
     steps: &[Step],
     inside: Option<usize>,
 ) -> Result<(), io::Error>
-    requires empty { room ≡ [] }
-    requires numbered { length steps.now < 2 ^ 63 }
-    ensures ok { OnOk result (Appends (W.contents w.old) (W.contents w.new) (replay_text_of steps.now inside)) }
-    ensures err { OnErr result (AppendsBeginning (W.contents w.old) (W.contents w.new) (replay_text_of steps.now inside)) }
-{
-    let mut buffer = OutputBuffer::new(w, room);
-    if let Err(fault) = write_lines(&mut buffer, steps, inside) {
-        let _ = buffer.into_writer();
-        return Err(fault);
-    }
-    let flushed = buffer.flush();
-    let _ = buffer.into_writer();
-    flushed
-}
-
-/// Writes the text of a replay that made these steps, after which that place is inside.
-fn write_lines<W: Write>(w: &mut W, steps: &[Step], inside: Option<usize>) -> Result<(), io::Error>
     requires numbered { length steps.now < 2 ^ 63 }
     ensures ok { OnOk result (Appends (W.contents w.old) (W.contents w.new) (replay_text_of steps.now inside)) }
     ensures err { OnErr result (AppendsBeginning (W.contents w.old) (W.contents w.new) (replay_text_of steps.now inside)) }
@@ -125,7 +107,7 @@ fn inside_next(inside: Option<usize>, step: &Step) -> Option<usize>
 // Each function below puts its text in front.
 
 /// The last line: who is inside.
-#[tactic(auto, using(rt_cidr::proofs::ShortTexts::prepending), unfolding(crate::specs::ReplayText::inside_text))]
+#[tactic(auto, using(rt_cidr::proofs::Promised::prepending), unfolding(crate::specs::ReplayText::inside_text))]
 fn prepend_inside(text: &mut ShortText, inside: Option<usize>)
     requires room { Fits (inside_text inside) text.old }
     ensures { text.new ≡ inside_text inside ++ text.old }
@@ -141,7 +123,7 @@ fn prepend_inside(text: &mut ShortText, inside: Option<usize>)
 }
 
 /// The step's line.
-#[tactic(auto, using(rt_cidr::proofs::ShortTexts::prepending), unfolding(crate::specs::ReplayText::step_text))]
+#[tactic(auto, using(rt_cidr::proofs::Promised::prepending), unfolding(crate::specs::ReplayText::step_text))]
 fn prepend_step(text: &mut ShortText, number: u64, step: &Step)
     requires room { Fits (step_text number step.now) text.old }
     ensures { text.new ≡ step_text number step.now ++ text.old }
@@ -157,7 +139,7 @@ fn prepend_step(text: &mut ShortText, number: u64, step: &Step)
 }
 
 /// The word's name.
-#[tactic(auto, using(rt_cidr::proofs::ShortTexts::prepending), unfolding(crate::specs::ReplayText::word_text))]
+#[tactic(auto, using(rt_cidr::proofs::Promised::prepending), unfolding(crate::specs::ReplayText::word_text))]
 fn prepend_word(text: &mut ShortText, word: &Word)
     requires room { Fits (word_text word.now) text.old }
     ensures { text.new ≡ word_text word.now ++ text.old }
@@ -174,7 +156,7 @@ fn prepend_word(text: &mut ShortText, word: &Word)
 }
 
 /// A word's letter, its level, and its node or place.
-#[tactic(auto, using(rt_cidr::proofs::ShortTexts::prepending), unfolding(crate::specs::ReplayText::level_text))]
+#[tactic(auto, using(rt_cidr::proofs::Promised::prepending), unfolding(crate::specs::ReplayText::level_text))]
 fn prepend_level(text: &mut ShortText, letter: &[u8; 1], level: u32, index: usize)
     requires room { Fits (level_text letter.now level index) text.old }
     ensures { text.new ≡ level_text letter.now level index ++ text.old }

@@ -1,4 +1,5 @@
 use Rattle.std.proofs.Common.{refl}
+use Rattle.rt_app.proofs.Replaying.{replay_text-some}
 use Rattle.rt_app.proofs.Buffered.{run_text-some, answers-none, answers-some, rows-none, rows-some}
 use Rattle.rt_app.proofs.output.Output.is_empty.Goals as goal
 
@@ -14,3 +15,6 @@ pub returns-in-Routes : goal.returns-in-Routes
 returns-in-Routes c =
     rw (c.in-Routes.is, c.is_empty-in-Routes.ensures)
     (record { none = rows-none c.in-Routes.routes.now; some = rows-some c.in-Routes.routes.now })
+
+pub returns-in-Replay : goal.returns-in-Replay
+returns-in-Replay c = rw c.in-Replay.is (record { none = λ same. absurd cc; some = λ same. replay_text-some _ _ })
