@@ -9,11 +9,45 @@ use clap::{Arg, ArgAction, ArgMatches, Command, Error};
 use rt_rib::limit_ok;
 use std::alloc::{AllocError, AllocFailed, Global};
 
-/// How many routes one feed may have, where the command line does not say.
-pub const DEFAULT_LIMIT: u32 = 65_536;
+/// How many routes one feed may have, where the command line does not say. `feed_notes` says it too.
+const DEFAULT_LIMIT: &str = "65536";
+
+/// Notes on feed files: some texts, what is said of the limit, and further texts.
+macro_rules! feed_notes {
+    ($($before:literal),*; $($after:literal),*) => {
+        concat!(
+            $($before,)*
+            "A feed has at most 65536 routes if --limit is left out, and at most 1000000 in\nany case. ",
+            $($after),*
+        )
+    };
+}
+
+/// Notes of `lookup` and `table`: a text, what both say of what was not taken and of the exit status, and an example.
+macro_rules! taken_notes {
+    ($before:literal, $example:literal) => {
+        feed_notes!(
+            $before,
+            "\
+Standard error tells of each file what was not taken, one line a kind:
+  yarib: FILE: faulty lines: N, the first LINE: FAULT
+  yarib: FILE: adds over the limit: N
+  yarib: FILE: commands refused for want of memory: N
+
+Exit status, the greatest that applies:
+  0 done   2 faulty line, or add over the limit   3 command line
+  4 unreadable file   5 memory refused   6 output not written
+
+";
+            "`run --help` has the commands of feed files and the faults.\n\n",
+            $example
+        )
+    };
+}
 
 /// What `run --help` says of feed files, their faults and the exit status.
-const RUN_NOTES: &str = "\
+const RUN_NOTES: &str = feed_notes!(
+    "\
 Commands, one a line; an empty line and one that begins with # are skipped:
   add PREFIX PREF HOP      put in a route of this feed
   replace PREFIX PREF HOP  change preference and next hop of this feed's route
@@ -33,8 +67,8 @@ Exit status, the greatest that applies:
   0 done   2 faulty line   3 command line   4 unreadable file
   5 memory refused   6 output not written
 
-A feed has at most 65536 routes if --limit is left out, and at most 1000000 in
-any case. Each add beyond is answered full, with status 0: look for full in the
+";
+    "Each add beyond is answered full, with status 0: look for full in the
 report. `lookup` and `table` tell of such adds on standard error, with status 2.
 
 Example, where one.feed says `add 10.0.0.0/8 100 192.0.2.1`:
@@ -50,10 +84,12 @@ Several feeds, where two.feed says `add 10.0.0.0/8 50 192.0.2.2`:
   table 2
   10.0.0.0/8 feed 2 pref 50 via 192.0.2.2
   10.0.0.0/8 feed 1 pref 100 via 192.0.2.1
-";
+"
+);
 
 /// What `lookup --help` says of the addresses, the answers, what is told of the files, and the exit status.
-const LOOKUP_NOTES: &str = "\
+const LOOKUP_NOTES: &str = taken_notes!(
+    "\
 Each address has one line, in order, when all feeds have ended: those of
 --address, and then those of --addresses, one a line. An empty line and one that
 begins with # are skipped.
@@ -61,51 +97,32 @@ begins with # are skipped.
                                             it, the route of the least P
   ADDR no route                             no prefix covers it
 
-Standard error tells of each file what was not taken, one line a kind:
-  yarib: FILE: faulty lines: N, the first LINE: FAULT
-  yarib: FILE: adds over the limit: N
-  yarib: FILE: commands refused for want of memory: N
-
-Exit status, the greatest that applies:
-  0 done   2 faulty line, or add over the limit   3 command line
-  4 unreadable file   5 memory refused   6 output not written
-
-A feed has at most 65536 routes if --limit is left out, and at most 1000000 in
-any case. `run --help` has the commands of feed files and the faults.
-
-Example, where one.feed says `add 10.0.0.0/8 100 192.0.2.1`:
+",
+    "Example, where one.feed says `add 10.0.0.0/8 100 192.0.2.1`:
   $ yarib lookup --address 10.1.2.3 --address 11.0.0.1 one.feed
   10.1.2.3 route 10.0.0.0/8 feed 1 pref 100 via 192.0.2.1
   11.0.0.1 no route
-";
+"
+);
 
 /// What `table --help` says of the routes, what is told of the files, and the exit status.
-const TABLE_NOTES: &str = "\
+const TABLE_NOTES: &str = taken_notes!(
+    "\
 Each route has one line, when all feeds have ended, sorted by base address,
 length, preference and feed; with --best only the one of each prefix that a
 look-up would give:
   PREFIX feed F pref P via HOP
 
-Standard error tells of each file what was not taken, one line a kind:
-  yarib: FILE: faulty lines: N, the first LINE: FAULT
-  yarib: FILE: adds over the limit: N
-  yarib: FILE: commands refused for want of memory: N
-
-Exit status, the greatest that applies:
-  0 done   2 faulty line, or add over the limit   3 command line
-  4 unreadable file   5 memory refused   6 output not written
-
-A feed has at most 65536 routes if --limit is left out, and at most 1000000 in
-any case. `run --help` has the commands of feed files and the faults.
-
-Example, where one.feed says `add 10.0.0.0/8 100 192.0.2.1`, and two.feed
+",
+    "Example, where one.feed says `add 10.0.0.0/8 100 192.0.2.1`, and two.feed
 `add 10.0.0.0/8 50 192.0.2.2`:
   $ yarib table one.feed two.feed
   10.0.0.0/8 feed 2 pref 50 via 192.0.2.2
   10.0.0.0/8 feed 1 pref 100 via 192.0.2.1
   $ yarib table --best one.feed two.feed
   10.0.0.0/8 feed 2 pref 50 via 192.0.2.2
-";
+"
+);
 
 /// What `replay --help` says of a step's line, its words and marks, and the exit status.
 const REPLAY_NOTES: &str = "\
@@ -138,10 +155,10 @@ Example:
 ";
 
 /// How many commands of a feed `run` asks at once, where the command line does not say.
-pub const DEFAULT_BATCH: u32 = 1;
+const DEFAULT_BATCH: &str = "1";
 
 /// How many `lookup` and `table` ask at once, where it does not say: no order shows in what they write.
-pub const UNSEEN_BATCH: u32 = 256;
+const UNSEEN_BATCH: &str = "256";
 
 /// What the words of a command line ask for.
 #[derive(Drop)]
@@ -234,7 +251,7 @@ fn request_of<'a>(alloc: Global, matches: &ArgMatches<'a>) -> Result<Request<'a>
         Some(("replay", asked)) => Ok(Request::Replay(replay_request(alloc, asked)?)),
         Some(("lookup", asked)) => Ok(Request::Lookup(lookup_request(alloc, asked)?)),
         Some(("table", asked)) => Ok(Request::Table(table_request(alloc, asked)?)),
-        Some((_, asked)) => Ok(Request::Run(run_request(alloc, asked, DEFAULT_BATCH)?)),
+        Some((_, asked)) => Ok(Request::Run(run_request(alloc, asked)?)),
         None => Err(Refusal::Memory),
     }
 }
@@ -267,7 +284,7 @@ fn run_command<'a>(alloc: Global) -> Result<Command<'a>, AllocError> {
         .about("Run the commands of feed files at once and print the replies and the table")
         .after_help(RUN_NOTES)
         .arg(limit(alloc))?
-        .arg(batch(alloc, "1"))?
+        .arg(batch(alloc, DEFAULT_BATCH))?
         .arg(files(alloc))
 }
 
@@ -276,7 +293,7 @@ fn lookup_command<'a>(alloc: Global) -> Result<Command<'a>, AllocError> {
         .about("Run feed files, and answer for each address from the table that they leave")
         .after_help(LOOKUP_NOTES)
         .arg(limit(alloc))?
-        .arg(batch(alloc, "256"))?
+        .arg(batch(alloc, UNSEEN_BATCH))?
         .arg(address(alloc))?
         .arg(addresses(alloc))?
         .arg(files(alloc))
@@ -288,7 +305,7 @@ fn table_command<'a>(alloc: Global) -> Result<Command<'a>, AllocError> {
         .after_help(TABLE_NOTES)
         .arg(best(alloc))?
         .arg(limit(alloc))?
-        .arg(batch(alloc, "256"))?
+        .arg(batch(alloc, UNSEEN_BATCH))?
         .arg(files(alloc))
 }
 
@@ -316,7 +333,7 @@ fn best<'a>(alloc: Global) -> Arg<'a> {
 
 fn limit<'a>(alloc: Global) -> Arg<'a> {
     let help = "How many routes a feed may have, 1 to 1000000";
-    number(alloc, "limit", "K", 1, 1_000_000, help).default_value("65536")
+    number(alloc, "limit", "K", 1, 1_000_000, help).default_value(DEFAULT_LIMIT)
 }
 
 fn batch<'a>(alloc: Global, unless_given: &'a str) -> Arg<'a> {
@@ -371,7 +388,7 @@ fn number<'a>(
 
 fn lookup_request<'a>(alloc: Global, asked: &ArgMatches<'a>) -> Result<LookupRequest<'a>, Refusal> {
     Ok(LookupRequest {
-        run: run_request(alloc, asked, UNSEEN_BATCH)?,
+        run: run_request(alloc, asked)?,
         addresses: texts_of(alloc, asked, "address")?,
         more: asked.get_str("addresses"),
     })
@@ -379,7 +396,7 @@ fn lookup_request<'a>(alloc: Global, asked: &ArgMatches<'a>) -> Result<LookupReq
 
 fn table_request<'a>(alloc: Global, asked: &ArgMatches<'a>) -> Result<TableRequest<'a>, Refusal> {
     Ok(TableRequest {
-        run: run_request(alloc, asked, UNSEEN_BATCH)?,
+        run: run_request(alloc, asked)?,
         only_best: asked.get_flag("best"),
     })
 }
@@ -399,22 +416,17 @@ fn texts_of<'a>(
     Ok(texts)
 }
 
-fn run_request<'a>(
-    alloc: Global,
-    asked: &ArgMatches<'a>,
-    batch: u32,
-) -> Result<RunRequest<'a>, Refusal>
-    requires { 1 ≤ batch }
-{
+/// The feed files, the limit and the batch. Both numbers have defaults, so that there is one, and have been bounded.
+fn run_request<'a>(alloc: Global, asked: &ArgMatches<'a>) -> Result<RunRequest<'a>, Refusal> {
     let files = texts_of(alloc, asked, "files")?;
     let limit = asked
         .get_one::<u32>("limit")
         .filter(|limit| limit_ok(*limit))
-        .unwrap_or(DEFAULT_LIMIT);
+        .unwrap_or(1);
     let batch = asked
         .get_one::<u32>("batch")
         .filter(|batch| *batch >= 1)
-        .unwrap_or(batch);
+        .unwrap_or(1);
     Ok(RunRequest {
         limit,
         batch,
