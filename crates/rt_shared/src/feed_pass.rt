@@ -11,7 +11,7 @@ use ya_lock::Pass;
 /// last seen it.
 #[derive(Drop)]
 pub struct FeedPass {
-    // It is there but for the time of a call.
+    /// It is there but for the time of a call.
     pub(crate) pass: Option<Pass<Lent>>,
     pub(crate) feed: u32,
 }
@@ -36,7 +36,7 @@ impl FeedPass {
         self.feed
     }
 
-    // The pass of the feed of this place.
+    /// The pass of the feed of this place.
     pub(crate) fn of(idle: Pass<Lent>) -> FeedPass
         requires { idle.place < idle.seen.feeds }
         ensures { result ≡ of_feed idle }
@@ -48,7 +48,7 @@ impl FeedPass {
         }
     }
 
-    // Its pass of the lock.
+    /// Its pass of the lock.
     pub(crate) fn into_idle(self) -> Pass<Lent>
         ensures table { shared_id result ≡ self.table }
         ensures feed { feed_of result.place ≡ self.feed }

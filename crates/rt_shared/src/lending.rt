@@ -25,7 +25,7 @@ impl Kept for Lent {
 }
 
 impl Lent {
-    // An empty book for so many feeds.
+    /// An empty book for so many feeds.
     pub(crate) fn new(alloc: Global, limit: u32, feeds: u32) -> Lent
         requires { IsLimit limit × (feeds ≤ 64) }
         ensures limit { result.book.limit ≡ limit }
@@ -39,7 +39,7 @@ impl Lent {
         }
     }
 
-    // Answers a command of the feed, as the book does.
+    /// Answers a command of the feed, as the book does.
     pub(crate) fn apply(&mut self, feed: u32, cmd: Cmd) -> Result<Reply, Refused>
         requires { (1 ≤ feed) × (feed ≤ self.old.feeds) }
         ensures feeds { self.new.feeds ≡ self.old.feeds }
@@ -50,7 +50,7 @@ impl Lent {
         self.book.apply(feed, cmd)
     }
 
-    // The same, with the outcome in place of a result.
+    /// The same, with the outcome in place of a result.
     fn serve(&mut self, feed: u32, cmd: Cmd) -> Outcome
         requires { (1 ≤ feed) × (feed ≤ self.old.feeds) }
         ensures same { IsSameBut self.old self.new }
@@ -62,8 +62,8 @@ impl Lent {
         }
     }
 
-    // Answers commands of the feed in order, with an outcome of each. One that is refused memory changes nothing, and the
-    // rest go on.
+    /// Answers commands of the feed in order, with an outcome of each. One that is refused memory changes nothing, and the
+    /// rest go on.
     pub(crate) fn serve_all(&mut self, feed: u32, cmds: &[Cmd], out: &mut Vec<Outcome>)
         requires feed { (1 ≤ feed) × (feed ≤ self.old.feeds) }
         requires room { vec_len out.old + length cmds.now ≤ vec_capacity out.old }

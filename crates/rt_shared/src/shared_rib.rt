@@ -53,7 +53,7 @@ impl<const L: u32> SharedRib<L> {
         Ok((SharedRib { lock, limit }, feed_passes))
     }
 
-    // How many feeds it has.
+    /// How many feeds it has.
     fn feeds() -> u32
         requires { (1 ≤ L) × (L ≤ 6) }
         ensures value { result ≡ 2 ^ L }
