@@ -35,7 +35,8 @@ use Rattle.rt_feed.specs.declared.faults.RunFault.TheVariants as run
 use Rattle.rt_feed.proofs.Promised.{north, north_read, south, south_read, east, east_read, what_north_becomes, what_south_becomes, what_east_becomes}
 use Rattle.rt_app.specs.declared.faults.AppFault.TheVariants.{Run, Replay, Write}
 use Rattle.rt_app.specs.RunText.{Explains, ExplainsFrom, reports_text, IsHistory, IsRunText, status_of, Leaves}
-use Rattle.rt_app.specs.ReplayText.{level_text, word_text, mark_text, sign_text, step_text, steps_text, enters, inside_after, inside_text, replay_text_of, IsReplayText, LeavesReplay}
+use Rattle.rt_app.specs.ReplayText.{level_text, word_text, mark_text, sign_text, step_text, steps_text, inside_text, replay_text_of, IsReplayText, LeavesReplay}
+use Rattle.rt_app.specs.inside.ReplayText.{enters, inside_after}
 use Rattle.rt_app.specs.TableText.{tally_of, tallies_status}
 use Rattle.rt_app.specs.SameTable.{commands, Asks, left_alone, LeavesAlone, IsUnion, IsAnsweredAlone, printed_reports}
 

@@ -9,9 +9,9 @@ use Rattle.rt_app.specs.declared.faults.AppFault.{AppFault}
 use Rattle.rt_app.specs.declared.faults.AppFault.TheVariants.{Run, Replay, Write}
 use Rattle.rt_app.specs.declared.tallies.Taken.{Taken}
 use Rattle.rt_app.specs.RunText.{IsRunText, Leaves}
-use Rattle.rt_app.specs.Running.{HasRun}
+use Rattle.rt_app.specs.inside.Running.{HasRun}
 use Rattle.rt_app.specs.TableText.{IsTaken, IsShown, LeavesShown}
-use Rattle.rt_app.specs.Outputs.{Writes}
+use Rattle.rt_app.specs.inside.Outputs.{Writes}
 
 module _ (texts : List (List ℕ)) (limit batch : ℕ) (old new : Option (List ℕ)) where
   -- after a fault of the writer or want of memory, where the text is a run's

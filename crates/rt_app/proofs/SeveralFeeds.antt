@@ -20,7 +20,7 @@ use Rattle.rt_feed.specs.Printed.{table_text}
 use Rattle.rt_feed.proofs.Promised.{has_refusal-report_lines, has_fault-report_lines}
 use Rattle.rt_shared.proofs.Promised.{uncut_since}
 use Rattle.rt_app.specs.RunText.{Explains, ExplainsFrom, reports_text, IsRunText, status_of}
-use Rattle.rt_app.specs.Running.{HasRun, reports_status}
+use Rattle.rt_app.specs.inside.Running.{HasRun, reports_status}
 
 -- what a gate to the table holds, and its name
 abbrev pub holds : HeldPass → List Visit → Type 0

@@ -10,8 +10,9 @@ use Rattle.ya_core.specs.Soundness.{IsSound}
 use Rattle.ya_core.specs.Machines.{ReplaysTo, Replays, mark_of, step_of}
 use Rattle.ya_core.specs.Worlds.{IsInside, TellsInside, is_inside}
 use Rattle.ya_core.proofs.Promised.{opens, keeps, excludes}
-use Rattle.rt_app.specs.ReplayText.{enters, inside_next, inside_after, replay_text_of, IsReplayText}
-use Rattle.rt_app.specs.ReplayText as text
+use Rattle.rt_app.specs.inside.ReplayText.{enters, inside_next, inside_after}
+use Rattle.rt_app.specs.ReplayText.{replay_text_of, IsReplayText}
+use Rattle.rt_app.specs.inside.ReplayText as text
 
 -- a step is marked as one that won the root where it leads inside
 enters_is : (x : Process) → enters (mark_of x) ≡ is_inside x

@@ -1,6 +1,5 @@
 -- The text of a replay: one line for each atomic step, and then who is inside.
-use Rattle.std.specs.Prelude.{◌≡◌, ℕ, ◌+◌, ◌==◌, Bool, true, false, if◌then◌else◌, List, [], ◌∷◌, ◌++◌, fold, codes, decimal, Option, None, Some, Result, Ok, Err}
-use Rattle.std.specs.Option.{option_map_or}
+use Rattle.std.specs.Prelude.{◌≡◌, ℕ, ◌+◌, Bool, true, false, List, [], ◌∷◌, ◌++◌, codes, decimal, Option, None, Some, Result, Ok, Err}
 use Rattle.std.specs.Io.KnownBytes.{Appends}
 use Rattle.rt_cidr.specs.Output.{AppendsBeginning}
 use Rattle.ya_core.specs.declared.word.Word.{Word}
@@ -44,24 +43,6 @@ step_text number step =
 abbrev pub steps_text : ℕ → List Step → List ℕ
 steps_text number [] = []
 steps_text number (step ∷ steps) = step_text number step ++ steps_text (number + 1) steps
-
--- whether the step won the root
-abbrev pub enters : Mark → Bool
-enters Plain = false
-enters Inside = true
-enters Out = false
-
--- whether this place is the one that is inside
-abbrev pub is_inside : Option ℕ → ℕ → Bool
-is_inside inside place = option_map_or (λ p. p == place) inside false
-
--- who is inside after the step: its place, if it won the root; nobody, if it is a later step of the one that was inside
-abbrev pub inside_next : Option ℕ → Step → Option ℕ
-inside_next inside step = if enters step.mark then Some step.place else if is_inside inside step.place then None else inside
-
--- who is inside after these steps: the last that won the root, unless it made a later step
-abbrev pub inside_after : List Step → Option ℕ
-inside_after steps = fold inside_next None steps
 
 -- `inside pPLACE`, or `inside none`
 unfoldable pub inside_text : Option ℕ → List ℕ

@@ -6,7 +6,7 @@ ghost use Rattle.rt_rib.specs.Book.{table_of};
 ghost use Rattle.rt_feed.specs.Printed.{table_text};
 ghost use Rattle.rt_app.specs.RunText.{reports_text};
 ghost use Rattle.rt_app.specs.TableText.{answers_text};
-ghost use Rattle.rt_app.specs.Outputs.{IsOutput, output_text, Writes};
+ghost use Rattle.rt_app.specs.inside.Outputs.{IsOutput, output_text, Writes};
 
 use crate::faults::AppFault;
 use crate::replays::write_replay;

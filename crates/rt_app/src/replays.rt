@@ -3,7 +3,8 @@ ghost use Rattle.std.specs.Prelude.{◌≡◌, ◌↔◌, ◌≤◌, ◌<◌, �
 ghost use Rattle.std.specs.Io.KnownBytes.{Appends};
 ghost use Rattle.rt_cidr.specs.Output.{AppendsBeginning};
 ghost use Rattle.rt_cidr.specs.ShortText.{Fits};
-ghost use Rattle.rt_app.specs.ReplayText.{level_text, word_text, mark_text, sign_text, step_text, steps_text, inside_next, inside_after, inside_text, replay_text_of, LeavesReplay};
+ghost use Rattle.rt_app.specs.ReplayText.{level_text, word_text, mark_text, sign_text, step_text, steps_text, inside_text, replay_text_of, LeavesReplay};
+ghost use Rattle.rt_app.specs.inside.ReplayText.{inside_next, inside_after};
 ghost use Rattle.ya_core.specs.Tree.{HasShape};
 
 use crate::faults::AppFault;

@@ -4,7 +4,7 @@ ghost use Rattle.rt_rib.specs.Book.{IsLimit};
 ghost use Rattle.std.specs.List.{list_any};
 ghost use Rattle.rt_feed.specs.Reports.{has_refusal, has_fault};
 ghost use Rattle.rt_app.specs.RunText.{Leaves};
-ghost use Rattle.rt_app.specs.Running.{HasRun, HaveRun, reports_status};
+ghost use Rattle.rt_app.specs.inside.Running.{HasRun, HaveRun, reports_status};
 ghost use Rattle.rt_shared.specs.Table.{ArePassesOf};
 
 use crate::faults::AppFault;

@@ -1,10 +1,10 @@
 //! What the finished table says: the answers of look-ups, or its routes, once all feeds have ended.
 ghost use Rattle.std.specs.Prelude.{◌≡◌, ◌≢◌, ◌↔◌, ℕ, List, ◌≤◌, [], map, length, if◌then◌else◌, IfOk};
 ghost use Rattle.rt_rib.specs.Book.{IsLimit, table_of};
-ghost use Rattle.rt_app.specs.Running.{HasRun};
+ghost use Rattle.rt_app.specs.inside.Running.{HasRun};
 ghost use Rattle.rt_app.specs.TableText.{answers_text, routes_text, LeavesShown};
 ghost use Rattle.rt_rib.specs.LookUp.{best_routes};
-ghost use Rattle.rt_app.specs.Outputs.{shown_text, Writes};
+ghost use Rattle.rt_app.specs.inside.Outputs.{shown_text, Writes};
 
 use crate::faults::AppFault;
 use crate::output::{Output, write_output};

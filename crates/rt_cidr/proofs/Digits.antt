@@ -7,7 +7,7 @@ use Rattle.std.proofs.lemmas.List.{get_or_past}
 use Rattle.std.proofs.lemmas.Str.Parse.{digit_from_value}
 use Rattle.std.specs.Char.{digit_value}
 use Rattle.std.specs.Str.Parse.{AllDigits, digits_value}
-use Rattle.rt_cidr.specs.Front.{capped}
+use Rattle.rt_cidr.specs.inside.Front.{capped}
 
 -- a digit's value is its distance from `0`
 pub digit_value-digit : (c : ℕ) → digit_value c < 10 → digit_value c ≡ c - 48

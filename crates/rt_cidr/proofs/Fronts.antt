@@ -7,7 +7,7 @@ use Rattle.std.specs.Str.Parse.{AllDigits, digits_value}
 use Rattle.std.specs.Result.{OkIff, result_ok}
 use Rattle.rt_cidr.specs.Reading.{ReadsDecimal}
 use Rattle.rt_cidr.specs.Text.{dot, slash, IsDecimal, IsOctetText, IsAddressText, IsPrefixText}
-use Rattle.rt_cidr.specs.Front.{capped, StartsBy, LeadingDigits, IsCappedDecimal, IsJoined, IsHalfText, ReadsPair}
+use Rattle.rt_cidr.specs.inside.Front.{capped, StartsBy, LeadingDigits, IsCappedDecimal, IsJoined, IsHalfText, ReadsPair}
 use Rattle.rt_cidr.proofs.Digits.{cut_once}
 
 -- a text has no such piece at its front

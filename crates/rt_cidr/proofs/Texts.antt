@@ -8,7 +8,7 @@ use Rattle.std.proofs.lemmas.Str.Parse.{digit_from_value}
 use Rattle.std.specs.Char.{digit_value}
 use Rattle.std.specs.Str.Parse.{AllDigits, digits_value_after}
 use Rattle.rt_cidr.specs.Text.{slash, IsDecimal, IsOctetText, IsAddressText, IsPrefixText, address_text, prefix_text}
-use Rattle.rt_cidr.specs.Front.{StartsBy}
+use Rattle.rt_cidr.specs.inside.Front.{StartsBy}
 use Rattle.rt_cidr.proofs.Digits.{digit_value-digit}
 use Rattle.rt_cidr.proofs.Fronts.{address_read_once, front_of_whole}
 

@@ -4,7 +4,7 @@ ghost use Rattle.std.specs.Io.KnownBytes.{Appends};
 ghost use Rattle.rt_cidr.specs.Output.{AppendsBeginning};
 ghost use Rattle.rt_cidr.specs.ShortText.{Fits};
 ghost use Rattle.rt_cidr.specs.Text.{IsAddressText, IsOctetText, address_text};
-ghost use Rattle.rt_cidr.specs.Front.{ReadsFront, ReadsMark, IsHalfText};
+ghost use Rattle.rt_cidr.specs.inside.Front.{ReadsFront, ReadsMark, IsHalfText};
 
 use crate::decimals::read_decimal;
 use crate::output::put;

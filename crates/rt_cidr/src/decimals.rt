@@ -2,7 +2,7 @@
 ghost use Rattle.std.specs.Prelude.{◌≡◌, ◌<◌, length, slice_index, IsTrue, ◌↔◌};
 ghost use Rattle.rt_cidr.specs.Reading.{ReadsDecimal};
 ghost use Rattle.rt_cidr.specs.Text.{zero_digit};
-ghost use Rattle.rt_cidr.specs.Front.{ReadsFront, IsCappedDecimal, LeadingDigits};
+ghost use Rattle.rt_cidr.specs.inside.Front.{ReadsFront, IsCappedDecimal, LeadingDigits};
 
 /// From here on a value is no longer told from larger ones.
 const CAP: u64 = 1 << 32;

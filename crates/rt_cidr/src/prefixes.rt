@@ -5,7 +5,7 @@ ghost use Rattle.rt_cidr.specs.Output.{AppendsBeginning};
 ghost use Rattle.rt_cidr.specs.ShortText.{Fits};
 ghost use Rattle.rt_cidr.specs.Text.{prefix_text};
 ghost use Rattle.rt_cidr.specs.Cidr.{size_of, IsPrefix};
-ghost use Rattle.rt_cidr.specs.Front.{ReadsPair};
+ghost use Rattle.rt_cidr.specs.inside.Front.{ReadsPair};
 
 use crate::address::{Addr, after_mark, read_address};
 use crate::decimals::read_decimal;

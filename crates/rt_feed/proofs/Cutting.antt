@@ -5,10 +5,10 @@ use Rattle.std.proofs.lemmas.Bool.{ne_eqb}
 use Rattle.std.proofs.lemmas.List.Elements.{All-weaker, All-from_get_or}
 use Rattle.std.proofs.lemmas.List.Splits.{slice_split_at, slice_split_none, length-slice_split}
 use Rattle.std.proofs.Math.Seq.{split_at}
-use Rattle.rt_feed.specs.Lines.{CutsAt}
+use Rattle.rt_feed.specs.inside.Lines.{CutsAt}
 use Rattle.rt_feed.specs.Grammar.{fields}
 use Rattle.rt_feed.specs.CommandText.{space}
-use Rattle.rt_feed.specs.Fields.{fields_of_rest}
+use Rattle.rt_feed.specs.inside.Fields.{fields_of_rest}
 
 -- what stands before a place has no mark where none of the places before it has one
 unmarked-take : (text : List ℕ) (mark at : ℕ) → at < length text → ((k : ℕ) → k < at → slice_index_or text k 0 ≢ mark)

@@ -8,7 +8,7 @@ use Rattle.rt_shared.specs.declared.outcome.Outcome.{Outcome}
 use Rattle.rt_feed.specs.declared.report.Line.{Line}
 use Rattle.rt_feed.specs.Reports.{is_fault, IsRising}
 use Rattle.rt_feed.specs.LineOutcomes.{answer_of}
-use Rattle.rt_feed.specs.Filling.{filled}
+use Rattle.rt_feed.specs.inside.Filling.{filled}
 
 -- where there are no outcomes the lines stay
 pub filled-none : (lines : List Line) → filled lines [] ≡ lines

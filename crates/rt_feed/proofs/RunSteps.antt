@@ -17,8 +17,9 @@ use Rattle.rt_feed.specs.Grammar.{AnswersLine}
 use Rattle.rt_feed.specs.Lines.{CutsLine}
 use Rattle.rt_feed.specs.LineOutcomes.{LineOutcome, skipped, faulty, asked, reading, Becomes, heading, answer_of, line_answer, numbered, report_lines, asked_by, asked_of}
 use Rattle.rt_feed.specs.Visits.{Visit, Gains, joined, piece_of, visit_of, AnswersBatch}
-use Rattle.rt_feed.specs.Filling.{filled}
-use Rattle.rt_feed.specs.Running.{RunsFeed, StopsWithin, IsTold, AnswersWaiting, HasRead}
+use Rattle.rt_feed.specs.inside.Filling.{filled}
+use Rattle.rt_feed.specs.Running.{RunsFeed, StopsWithin, IsTold}
+use Rattle.rt_feed.specs.inside.Running.{AnswersWaiting, HasRead}
 use Rattle.rt_feed.proofs.Becoming.{becomes-push, becomes-at, becomes-alike, becomes-first, report_lines-append, report_lines-push, asked_of-append}
 use Rattle.rt_feed.proofs.Filling.{filled-none, filled-fault, filled-given}
 

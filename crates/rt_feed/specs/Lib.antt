@@ -1,8 +1,6 @@
 pub mod Addresses
 pub mod CommandText
 pub mod Feeds
-pub mod Fields
-pub mod Filling
 pub mod Grammar
 pub mod Laws
 pub mod LineOutcomes
@@ -12,3 +10,4 @@ pub mod Reports
 pub mod Running
 pub mod Versions
 pub mod Visits
+pub mod inside

@@ -1,15 +1,9 @@
 -- How a text is cut into lines. LF ends a line, and the last line may go without it.
-use Rattle.std.specs.Prelude.{◌≡◌, ◌≢◌, ◌⊎◌, ℕ, List, [], ◌∷◌, ◌++◌, All, Option, MatchOption}
-use Rattle.std.specs.Borrow.{Bor}
+use Rattle.std.specs.Prelude.{◌≡◌, ◌≢◌, ◌⊎◌, ℕ, List, [], ◌∷◌, ◌++◌, All}
 
 -- the byte that ends a line
 abbrev pub lf : ℕ
 lf = 10
-
--- the text up to the first such byte, and what follows that byte, if it stands in the text
-pub record CutsAt (mark : ℕ) (text first : List ℕ) (rest : Option (Bor (List ℕ))) : Type 0 where
-  pub unmarked : All (λ byte. byte ≢ mark) first
-  pub joined : MatchOption rest (text ≡ first) (λ rest. text ≡ first ++ mark ∷ rest.now)
 
 -- the text's first line, without its LF, and its rest: no LF stands in the line, and either one follows it
 -- or it is the whole text, which is not empty

@@ -5,7 +5,7 @@ ghost use Rattle.rt_feed.specs.declared.parse.TheConstants.{LINE_BYTES};
 ghost use Rattle.rt_feed.specs.CommandText.{HasHop};
 ghost use Rattle.rt_feed.specs.Printed.{hop_text};
 ghost use Rattle.rt_feed.specs.Grammar.{Kind, route_kinds, kinds_after, is_skipped, fields, IsFaultAmong, AnswersLine};
-ghost use Rattle.rt_feed.specs.Fields.{fields_of_rest, name_text, IsRoute, IsFaulty, AnswersFields};
+ghost use Rattle.rt_feed.specs.inside.Fields.{fields_of_rest, name_text, IsRoute, IsFaulty, AnswersFields};
 
 use crate::lines::cut_at;
 use crate::versions::Version;

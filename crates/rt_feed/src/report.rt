@@ -1,7 +1,7 @@
 //! The answers to a feed's text, line by line.
 ghost use Rattle.std.specs.Prelude.{◌≡◌, ℕ, ◌<◌, ◌≤◌, List, [], ◌∷◌, ◌++◌, All, length, take, drop, OnOk, OnErr};
 ghost use Rattle.rt_feed.specs.LineOutcomes.{answer_of};
-ghost use Rattle.rt_feed.specs.Filling.{filled};
+ghost use Rattle.rt_feed.specs.inside.Filling.{filled};
 
 use crate::parse::LineFault;
 use rt_rib::Reply;
@@ -74,7 +74,7 @@ impl Model for Report {
 
 impl Report {
     ghost use Rattle.rt_feed.specs.Reports.{IsRising, has_refusal, has_fault};
-    ghost use Rattle.rt_feed.specs.Filling.{filled};
+    ghost use Rattle.rt_feed.specs.inside.Filling.{filled};
 
     /// A report without lines.
     pub fn new(alloc: Global) -> Report

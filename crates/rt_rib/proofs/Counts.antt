@@ -12,7 +12,7 @@ use Rattle.rt_rib.specs.declared.routes.Route.{Route}
 use Rattle.rt_rib.specs.declared.limits.TheConstants.{MOST_FEEDS}
 use Rattle.rt_rib.specs.Table.{count_of, precedes, is_of, has, put_in, take_out, purge, IsTable}
 use Rattle.rt_rib.specs.Book.{IsFeed}
-use Rattle.rt_rib.specs.Kept.{AreCounts}
+use Rattle.rt_rib.specs.inside.Kept.{AreCounts}
 use Rattle.rt_rib.proofs.Lists.{list_any-from_none}
 use Rattle.rt_rib.proofs.Order.{is_of-parts, is_of-from}
 use Rattle.rt_rib.proofs.Sets.{put_in_adds, take_out_leaves_others, one_table_of_set}

@@ -10,7 +10,7 @@ use Rattle.rt_rib.specs.declared.limits.TheConstants.{MOST_FEEDS}
 use Rattle.rt_rib.specs.Table.{has, put_in, take_out, purge, IsTable}
 use Rattle.rt_rib.specs.Maps.{Map, routes_of, IsMap}
 use Rattle.rt_rib.specs.Book.{IsFeed, HoldsRoutes}
-use Rattle.rt_rib.specs.Kept.{Held, Stored, held_of, IsCounted, IsKept, Serves}
+use Rattle.rt_rib.specs.inside.Kept.{Held, Stored, held_of, IsCounted, IsKept, Serves}
 use Rattle.rt_rib.specs.declared.commands.Cmd.{Cmd}
 use Rattle.rt_rib.specs.declared.commands.Reply.{Reply}
 use Rattle.rt_rib.specs.declared.commands.Entry.{Entry}

@@ -8,9 +8,11 @@ use Rattle.rt_cidr.specs.Prefix.{same_prefix}
 use Rattle.rt_trie.specs.Map.{get, put, erase}
 use Rattle.rt_rib.specs.declared.routes.Route.{Route}
 use Rattle.rt_rib.specs.declared.offers.Offer.{Offer}
-use Rattle.rt_rib.specs.Offers.{is_from, IsOffers, HasGained, HasSwapped}
+use Rattle.rt_rib.specs.Offers.{is_from, IsOffers}
+use Rattle.rt_rib.specs.inside.Offers.{HasGained, HasSwapped}
 use Rattle.rt_rib.specs.Table.{is_of, has, put_in, take_out}
-use Rattle.rt_rib.specs.Maps.{Map, route_by, offer_of, routes_of, offers_in, offers_at, IsThere, IsMap, MapLaws}
+use Rattle.rt_rib.specs.Maps.{Map, route_by, routes_of, IsMap}
+use Rattle.rt_rib.specs.inside.Maps.{offer_of, offers_in, offers_at, IsThere, MapLaws}
 use Rattle.rt_rib.proofs.Lists.{list_any-at}
 use Rattle.rt_rib.proofs.OfferLists.{HasLost, IsRising-one}
 use Rattle.rt_rib.proofs.Order.{is_of-parts, is_of-from}

@@ -12,7 +12,8 @@ use Rattle.rt_rib.specs.declared.offers.Offer.{Offer}
 use Rattle.rt_rib.specs.Offers.{outranks, IsRising}
 use Rattle.rt_rib.specs.LookUp.{look_up}
 use Rattle.rt_rib.specs.Laws.{IsBestMatch}
-use Rattle.rt_rib.specs.Maps.{Map, route_by, offer_of, routes_of, IsMap, MapLaws}
+use Rattle.rt_rib.specs.Maps.{Map, route_by, routes_of, IsMap}
+use Rattle.rt_rib.specs.inside.Maps.{offer_of, MapLaws}
 use Rattle.rt_rib.proofs.Lists.{AllPairs-head}
 use Rattle.rt_rib.proofs.Order.{is_better-itself}
 use Rattle.rt_rib.proofs.OfferLists.{outranks-trans}

@@ -3,10 +3,7 @@ pub mod LookUp
 pub mod Sequential
 pub mod Journal
 pub mod Book
-pub mod Kept
 pub mod Maps
 pub mod Laws
 pub mod Offers
-pub mod OneProof
-pub mod Purges
-pub mod Few
+pub mod inside

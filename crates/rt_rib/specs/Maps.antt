@@ -1,10 +1,7 @@
 -- A map from prefixes to their offers, and the routes that it stands for.
-use Rattle.std.specs.Prelude.{◌≡◌, ℕ, List, [], ◌∷◌, ◌++◌, Option, Some, None, map, slice_index_or}
-use Rattle.std.specs.List.{Contains}
+use Rattle.std.specs.Prelude.{◌≡◌, List, [], ◌∷◌, ◌++◌, Some, map}
 use Rattle.rt_cidr.specs.declared.prefixes.Prefix.{Prefix}
-use Rattle.rt_cidr.specs.Laws.{SamePrefix}
 use Rattle.rt_trie.specs.Map.{Pairs, get, IsOrdered}
-use Rattle.rt_trie.specs.Laws.{PutIsSeen, EraseIsSeen, PutKeepsOrder, EraseKeepsOrder, PairsAreFound, MapHasOneList}
 use Rattle.rt_rib.specs.declared.routes.Route.{Route}
 use Rattle.rt_rib.specs.declared.offers.Offer.{Offer}
 use Rattle.rt_rib.specs.Offers.{IsOffers}
@@ -17,43 +14,12 @@ Map = Pairs (List Offer)
 abbrev pub route_by : Prefix → Offer → Route
 route_by p o = record { prefix = p; feed = o.feed; pref = o.pref; hop = o.hop }
 
--- what a route offers for its prefix
-abbrev pub offer_of : Route → Offer
-offer_of r = record { feed = r.feed; pref = r.pref; hop = r.hop }
-
 -- the routes of the map, prefix by prefix
 abbrev pub routes_of : Map → List Route
 routes_of [] = []
 routes_of ((p, offers) ∷ rest) = map (route_by p) offers ++ routes_of rest
 
--- what was found at a prefix as a list, which is empty where nothing was
-abbrev pub offers_in : Option (List Offer) → List Offer
-offers_in None = []
-offers_in (Some offers) = offers
-
--- the offers of the map at a prefix
-abbrev pub offers_at : Map → Prefix → List Offer
-offers_at m p = offers_in (get m p)
-
--- the route at an index of the answers to look-ups, if there is one
-abbrev pub route_at : List (Option Route) → ℕ → Option Route
-route_at answers k = slice_index_or answers k None
-
--- the map holds the route: what stands at its prefix contains what it offers
-abbrev pub IsThere : Map → Route → Type 0
-IsThere m r = Contains (offers_at m r.prefix) (offer_of r)
-
 -- each prefix stands in the map once, with at least one offer, and its offers in order
 pub record IsMap (m : Map) : Type 0 where
   pub ordered : IsOrdered m
   pub each : (p : Prefix) (offers : List Offer) → get m p ≡ Some offers → IsOffers offers
-
--- what the laws of rt_trie say of maps with offers, and rt_cidr's of equal prefixes
-pub record MapLaws : Type 0 where
-  pub put : PutIsSeen (List Offer)
-  pub erase : EraseIsSeen (List Offer)
-  pub put_in_order : PutKeepsOrder (List Offer)
-  pub erase_in_order : EraseKeepsOrder (List Offer)
-  pub found : PairsAreFound (List Offer)
-  pub one : MapHasOneList (List Offer)
-  pub same : SamePrefix

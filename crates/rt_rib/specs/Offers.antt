@@ -1,9 +1,7 @@
--- The offers of one prefix, as a list in order, and how they change.
-use Rattle.std.specs.Prelude.{◌≡◌, ℕ, ◌<◌, ◌≤◌, ◌+◌, Bool, true, false, not, ◌==◌, nat_lt, List, [], ◌∷◌, length, filter, ◌⊎◌, ◌↔◌}
-use Rattle.std.specs.List.{AllPairs, AllWithin, Contains, list_any}
+-- The offers of one prefix, as a list in order.
+use Rattle.std.specs.Prelude.{◌≡◌, ℕ, ◌<◌, Bool, true, false, ◌==◌, nat_lt, List, length}
+use Rattle.std.specs.List.{AllPairs}
 use Rattle.rt_rib.specs.declared.offers.Offer.{Offer}
-use Rattle.rt_rib.specs.declared.offers.Taken.{Taken}
-use Rattle.rt_rib.specs.declared.offers.Taken.TheVariants.{Missing, Last, Gone}
 use Rattle.rt_rib.specs.Table.{below_then}
 
 -- whether the first is preferred: it is of lesser preference, and where that is equal of lesser feed
@@ -23,31 +21,3 @@ pub record IsRising (offers : List Offer) : Type 0 where
 pub record IsOffers (offers : List Offer) : Type 0 where
   pub some : 0 < length offers
   pub rising : IsRising offers
-
--- where the offer belongs: those before that index outrank it, and no others do
-pub record IsPlaceFor (offer : Offer) (offers : List Offer) (place : ℕ) : Type 0 where
-  pub within : place ≤ length offers
-  pub before : AllWithin (λ o. outranks o offer ≡ true) offers 0 place
-  pub behind : AllWithin (λ o. outranks o offer ≡ false) offers place (length offers)
-
--- the new offers are the old ones and this one
-abbrev pub HasGained : List Offer → List Offer → Offer → Type 0
-HasGained old new offer = (o : Offer) → Contains new o ↔ (Contains old o ⊎ (offer ≡ o))
-
--- the offers but for the feed's
-abbrev pub without : ℕ → List Offer → List Offer
-without feed offers = filter (λ o. not (is_from feed o)) offers
-
--- what became of the offers as a feed's was to be replaced, and whether it had one: with true the new one stands for the old one,
--- and else the offers are as they were
-abbrev pub HasSwapped : List Offer → List Offer → Offer → Bool → Type 0
-HasSwapped old new offer false = new ≡ old
-HasSwapped old new offer true =
-    (o : Offer) → Contains new o ↔ ((Contains old o × (is_from offer.feed o ≡ false)) ⊎ (offer ≡ o))
-
--- what became of the offers as the feed's was to be taken out: it had none, and they are as they were; it has the only one, and
--- that stays; or its offer is gone
-abbrev pub TakesOut : List Offer → List Offer → ℕ → Taken → Type 0
-TakesOut old new feed Missing = (new ≡ old) × (list_any (is_from feed) old ≡ false)
-TakesOut old new feed Last = (new ≡ old) × ((o : Offer) × (old ≡ o ∷ []) × (is_from feed o ≡ true))
-TakesOut old new feed Gone = (new ≡ without feed old) × (list_any (is_from feed) old ≡ true) × (length new + 1 ≡ length old)

@@ -24,14 +24,14 @@ pub struct Book<A: Allocator + Copy> {
 impl<A: Allocator + Copy> Model for Book<A> {
     ghost use Rattle.std.specs.Prelude.{◌-◌, vec_len, vec_capacity};
     ghost use Rattle.std.specs.Coded.{codes};
-    ghost use Rattle.rt_trie.specs.TreeCode.{tree_code};
+    ghost use Rattle.rt_trie.specs.inside.TreeCode.{tree_code};
     ghost use Rattle.rt_rib.specs.Book.{Contents};
 
     ghost Value = { Contents };
 
     ghost coded = { Prim.hlevel (codes, tree_code) };
 
-    ghost use Rattle.rt_rib.specs.Kept.{held_of, IsKept};
+    ghost use Rattle.rt_rib.specs.inside.Kept.{held_of, IsKept};
 
     ghost view = { λ b. record {
       limit = b.table.limit;

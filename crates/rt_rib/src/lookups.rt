@@ -3,7 +3,8 @@ ghost use Rattle.std.specs.Prelude.{◌≡◌, ℕ, ◌+◌, ◌<◌, ◌≤◌,
 ghost use Rattle.rt_cidr.specs.declared.address.Addr.{Addr};
 ghost use Rattle.rt_trie.specs.Map.{pair_copied, address_at, IsLongest};
 ghost use Rattle.rt_rib.specs.LookUp.{look_up};
-ghost use Rattle.rt_rib.specs.Maps.{Map, routes_of, route_at, IsMap};
+ghost use Rattle.rt_rib.specs.Maps.{Map, routes_of, IsMap};
+ghost use Rattle.rt_rib.specs.inside.Maps.{route_at};
 
 use crate::ahead::AHEAD;
 use crate::map::{Map, map_laws, route_by};

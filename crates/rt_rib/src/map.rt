@@ -1,7 +1,8 @@
 //! The map from prefixes to their offers: the routes that it stands for, and how they change.
 ghost use Rattle.std.specs.Prelude.{◌≡◌, ◌++◌, false, IsTrue, IfOk, OnOk, OnErr, map};
 ghost use Rattle.rt_rib.specs.Table.{has, put_in, take_out};
-ghost use Rattle.rt_rib.specs.Maps.{routes_of, offers_at, route_by, offer_of, IsMap, MapLaws};
+ghost use Rattle.rt_rib.specs.Maps.{routes_of, route_by, IsMap};
+ghost use Rattle.rt_rib.specs.inside.Maps.{offers_at, offer_of, MapLaws};
 
 use crate::offers::{Offer, Offers, Taken};
 use crate::refused::Refused;

@@ -1,7 +1,8 @@
 //! What the feeds offer for one prefix, the best offer first. One offer is the common case and takes no memory of its own.
 ghost use Rattle.std.specs.Prelude.{◌≡◌, ◌<◌, ◌+◌, false, [], ◌∷◌, length, IsTrue, IsOk, IfOk, OnOk, OnErr, position, vec_len, vec_capacity};
 ghost use Rattle.std.specs.List.{All, list_any};
-ghost use Rattle.rt_rib.specs.Offers.{outranks, is_from, IsRising, IsOffers, IsPlaceFor, HasGained, HasSwapped, TakesOut, without};
+ghost use Rattle.rt_rib.specs.Offers.{outranks, is_from, IsRising, IsOffers};
+ghost use Rattle.rt_rib.specs.inside.Offers.{IsPlaceFor, HasGained, HasSwapped, TakesOut, without};
 
 use crate::refused::Refused;
 use crate::routes::Hop;
@@ -35,7 +36,7 @@ impl<A: Allocator + Copy> Model for Offers<A> {
 
     ghost Value = { List Offer };
 
-    ghost use Rattle.rt_rib.specs.Few.{items, IsFew};
+    ghost use Rattle.rt_rib.specs.inside.Few.{items, IsFew};
 
     ghost view = { λ o. items o.few };
 
@@ -110,7 +111,7 @@ impl<A: Allocator + Copy> Offers<A> {
 }
 
 impl<A: Allocator + Copy> Few<A> {
-    ghost use Rattle.rt_rib.specs.Few.{items, IsFew};
+    ghost use Rattle.rt_rib.specs.inside.Few.{items, IsFew};
 
     /// Puts in the offer of a feed that has none.
     fn put(&mut self, alloc: A, offer: Offer) -> Result<(), Refused>

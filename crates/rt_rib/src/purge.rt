@@ -2,7 +2,7 @@
 ghost use Rattle.std.specs.Prelude.{◌≡◌};
 ghost use Rattle.rt_rib.specs.Table.{count_of, purge};
 ghost use Rattle.rt_rib.specs.Maps.{routes_of, IsMap};
-ghost use Rattle.rt_rib.specs.Purges.{is_over, IsPurged};
+ghost use Rattle.rt_rib.specs.inside.Purges.{is_over, IsPurged};
 
 use crate::map::{Map, map_laws};
 use crate::offers::{Offers, Taken};

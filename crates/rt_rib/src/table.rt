@@ -4,7 +4,7 @@ ghost use Rattle.rt_rib.specs.declared.commands.Cmd.TheVariants.{Add, Replace, W
 ghost use Rattle.rt_rib.specs.Table.{IsTable};
 ghost use Rattle.rt_rib.specs.LookUp.{look_up};
 ghost use Rattle.rt_rib.specs.Book.{IsLimit, IsFeed, IsAdd, HoldsRoutes};
-ghost use Rattle.rt_rib.specs.Kept.{held_of, Serves};
+ghost use Rattle.rt_rib.specs.inside.Kept.{held_of, Serves};
 
 use crate::commands::{Cmd, Reply};
 use crate::limits::MOST_FEEDS;
@@ -31,8 +31,8 @@ pub(crate) struct Table<A: Allocator + Copy> {
 
 impl<A: Allocator + Copy> Model for Table<A> {
     ghost use Rattle.std.specs.Coded.{codes};
-    ghost use Rattle.rt_trie.specs.TreeCode.{tree_code};
-    ghost use Rattle.rt_rib.specs.Kept.{Stored, IsCounted};
+    ghost use Rattle.rt_trie.specs.inside.TreeCode.{tree_code};
+    ghost use Rattle.rt_rib.specs.inside.Kept.{Stored, IsCounted};
     ghost use Rattle.rt_rib.specs.Maps.{routes_of};
 
     ghost Value = { Stored };

@@ -10,7 +10,7 @@ use Rattle.ya_lock.specs.Lock.{LockId, IdlePass, IsDealt, new_pass}
 use Rattle.rt_rib.specs.Journal.{IsLawfulJournal}
 use Rattle.rt_shared.specs.declared.lent.Lent.{Lent}
 use Rattle.rt_shared.specs.Table.{SharedId, HeldPass, ArePassesOf}
-use Rattle.rt_shared.specs.Pass.{of_feed, held_pass, IsThere}
+use Rattle.rt_shared.specs.inside.Pass.{of_feed, held_pass, IsThere}
 
 -- the place of a pass of the lock is that of a feed
 abbrev pub HasFeed : IdlePass Lent → Type 0

@@ -1,7 +1,7 @@
 -- The two passes of a table of two feeds, as the tests take them.
 use Rattle.std.proofs.Common.{◌≡◌, List, [], ◌∷◌, ◌++◌, length-append, refl, subst, arith}
 use Rattle.rt_shared.specs.Table.{SharedId, HeldPass, ArePassesOf}
-use Rattle.rt_shared.specs.Testing.{AreBoth}
+use Rattle.rt_shared.specs.tests.Testing.{AreBoth}
 
 pub are_both : (table : SharedId) (rest passes : List HeldPass) (first second : HeldPass) → ArePassesOf table passes → table.feeds ≡ 2 → passes ≡ (rest ++ first ∷ []) ++ second ∷ [] → AreBoth table first second
 are_both table [] passes first second are two is =

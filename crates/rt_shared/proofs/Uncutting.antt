@@ -10,7 +10,7 @@ use Rattle.rt_rib.specs.declared.commands.Entry.{Entry}
 use Rattle.rt_rib.specs.Laws.{feed_entries}
 use Rattle.rt_shared.specs.declared.outcome.Outcome.{Outcome}
 use Rattle.rt_shared.specs.Visits.{AllBy, NoneBy, Since, answered, Visits, Uncut}
-use Rattle.rt_shared.specs.Keeping.{since_others}
+use Rattle.rt_shared.specs.inside.Keeping.{since_others}
 use Rattle.rt_shared.proofs.Answered.{all_answered}
 
 -- what stands before and behind, with more behind it

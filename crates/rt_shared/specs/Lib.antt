@@ -1,9 +1,8 @@
 pub mod Visits
 pub mod Lent
-pub mod Keeping
 pub mod Table
-pub mod Pass
 pub mod Laws
 pub mod Headline
 pub mod Running
-pub mod Testing
+pub mod inside
+pub mod tests

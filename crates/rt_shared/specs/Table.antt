@@ -1,5 +1,5 @@
 -- What contracts see of a shared table and of a pass.
-use Rattle.std.specs.Prelude.{◌≡◌, ℕ, ◌+◌, ◌≤◌, List, [], slice_get, length, Some, All}
+use Rattle.std.specs.Prelude.{◌≡◌, ℕ, ◌+◌, ◌≤◌, List, slice_get, length, Some, All}
 use Rattle.rt_rib.specs.declared.commands.Entry.{Entry}
 use Rattle.rt_rib.specs.Journal.{IsLawfulJournal}
 use Rattle.ya_lock.specs.Lock.{LockId}
@@ -10,10 +10,6 @@ pub record SharedId : Type 0 where
   pub lock : LockId
   pub limit : ℕ
   pub feeds : ℕ
-
--- no table's
-abbrev pub no_table : SharedId
-no_table = record { lock = record { words = 0; slots = 0; views_name = 0; atom = 0; block = 0; offset = 0; slot_names = [] }; limit = 0; feeds = 0 }
 
 -- a pass of a feed: its table, its feed, and the journal that it has seen
 pub record HeldPass : Type 0 where

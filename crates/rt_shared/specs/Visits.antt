@@ -26,13 +26,6 @@ answered feed (cmd ∷ cmds) (Did reply ∷ outcomes) = record { feed = feed; cm
 answered feed (cmd ∷ cmds) (Refused ∷ outcomes) = answered feed cmds outcomes
 answered feed _ _ = []
 
--- the feed's commands had these outcomes, one each, and the journal has their entries behind
-pub record AreServed (feed : ℕ) (cmds : List Cmd) (found : List Entry) (before : List Outcome) (now : List Entry) (after : List Outcome) : Type 0 where
-  pub outcomes : List Outcome
-  pub appended : after ≡ before ++ outcomes
-  pub each : length outcomes ≡ length cmds
-  pub left : now ≡ found ++ answered feed cmds outcomes
-
 -- a visit: the feed finds a journal to which others alone have added since it last saw it, and leaves it with the
 -- entries of its commands at the end, in one piece. What it leaves is lawful, so each reply is the sequential table's
 pub record Visits (limit feed : ℕ) (seen : List Entry) (cmds : List Cmd) (outcomes : List Outcome) (now : List Entry) : Type 0 where

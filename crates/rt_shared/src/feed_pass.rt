@@ -1,7 +1,7 @@
 //! The right of one feed to change the shared table.
 ghost use Rattle.std.specs.Prelude.{◌≡◌, ◌<◌};
 ghost use Rattle.rt_shared.specs.Lent.{feed_of};
-ghost use Rattle.rt_shared.specs.Pass.{shared_id, of_feed};
+ghost use Rattle.rt_shared.specs.inside.Pass.{shared_id, of_feed};
 
 use crate::lent::Lent;
 use std::marker::Model;
@@ -21,7 +21,7 @@ impl Model for FeedPass {
 
     ghost Value = { HeldPass };
 
-    ghost use Rattle.rt_shared.specs.Pass.{held_pass, IsThere};
+    ghost use Rattle.rt_shared.specs.inside.Pass.{held_pass, IsThere};
 
     ghost view = { λ p. held_pass p.feed p.pass };
 

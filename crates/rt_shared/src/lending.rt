@@ -1,9 +1,10 @@
 //! What a feed does to the lent book.
 ghost use Rattle.std.specs.Prelude.{◌≡◌, ℕ, ◌+◌, ◌<◌, ◌≤◌, IfOk, OnErr, [], ◌∷◌, ◌++◌, vec_len, vec_capacity, length};
 ghost use Rattle.rt_rib.specs.Book.{Applies, Refuses, IsLimit};
-ghost use Rattle.rt_shared.specs.Visits.{answered, AreServed};
+ghost use Rattle.rt_shared.specs.Visits.{answered};
+ghost use Rattle.rt_shared.specs.inside.Visits.{AreServed};
 ghost use Rattle.rt_shared.specs.Lent.{Grows, Adds, IsSameBut};
-ghost use Rattle.rt_shared.specs.Keeping.{grows_same, adds_same, grows_by_other};
+ghost use Rattle.rt_shared.specs.inside.Keeping.{grows_same, adds_same, grows_by_other};
 
 use crate::lent::Lent;
 use crate::outcome::Outcome;

@@ -2,7 +2,7 @@
 ghost use Rattle.std.specs.Prelude.{◌≡◌, ◌≤◌, All};
 ghost use Rattle.rt_rib.specs.Journal.{IsLawfulJournal};
 ghost use Rattle.rt_rib.specs.Book.{HoldsRoutesLeft};
-ghost use Rattle.rt_rib.specs.OneProof.{HoldsRoutesLeft-prop};
+ghost use Rattle.rt_rib.specs.inside.OneProof.{HoldsRoutesLeft-prop};
 
 use rt_rib::Book;
 use std::alloc::Global;

@@ -1,7 +1,7 @@
 //! Tables at work: feeds in turn and on threads, whose settled journal is answered anew, entry by entry.
 ghost use Rattle.std.specs.Prelude.{◌≡◌, ℕ, ◌+◌, ◌*◌, ◌^◌, ◌<◌, ◌≤◌, [], vec_len, length, IfOk, IfSome, All};
 ghost use Rattle.rt_rib.specs.Book.{IsLimit};
-ghost use Rattle.rt_shared.specs.Testing.{AreBoth};
+ghost use Rattle.rt_shared.specs.tests.Testing.{AreBoth};
 
 use crate::laws::passes as passes_kept;
 use crate::{FeedPass, Outcome, Refused, SharedRib};

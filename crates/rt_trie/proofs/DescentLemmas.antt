@@ -10,11 +10,13 @@ use Rattle.std.proofs.lemmas.Bool.Decides.{leb_tells}
 use Rattle.rt_cidr.specs.declared.prefixes.Prefix.{Prefix}
 use Rattle.rt_trie.specs.declared.nodes.Link.{Link, Empty, Leaf, Fork', Full'}
 use Rattle.rt_trie.specs.Map.{Pairs, same_prefix, get, put, IsOrdered}
-use Rattle.rt_trie.specs.Blocks.{IsChild, is_key, middle, middle_at, past}
-use Rattle.rt_trie.specs.Links.{own_pair, pairs, count, root, AreHalves, IsChildLink, IsFilled, IsLawfulTrie}
-use Rattle.rt_trie.specs.Descent.{found, written, overwritten}
+use Rattle.rt_trie.specs.Blocks.{IsChild, middle, middle_at, past}
+use Rattle.rt_trie.specs.inside.Blocks.{is_key}
+use Rattle.rt_trie.specs.inside.Links.{own_pair, pairs, count}
+use Rattle.rt_trie.specs.Links.{root, AreHalves, IsChildLink, IsFilled, IsLawfulTrie}
+use Rattle.rt_trie.specs.inside.Descent.{found, written, overwritten}
 use Rattle.rt_trie.specs.Contents.{Contents}
-use Rattle.rt_trie.specs.Tree.{tree_of}
+use Rattle.rt_trie.specs.inside.Tree.{tree_of}
 use Rattle.rt_trie.specs.TrieLends.{with_value}
 use Rattle.rt_trie.proofs.OrderLemmas.{same_tells, before_tells}
 use Rattle.rt_trie.proofs.PairLemmas.{AllKeys, AllKeys-map, IsOther, IsHigher, IsLower, IsOther-higher, IsOther-lower, get-none}

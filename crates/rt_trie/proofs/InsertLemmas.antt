@@ -11,9 +11,11 @@ use Rattle.rt_trie.specs.declared.nodes.ForkNode.{ForkNode}
 use Rattle.rt_trie.specs.declared.nodes.FullNode.{FullNode}
 use Rattle.rt_trie.specs.Map.{get, put}
 use Rattle.rt_trie.specs.declared.nodes.Place.TheVariants.{Above, Apart}
-use Rattle.rt_trie.specs.Blocks.{IsKeyOf, IsWithin, IsChild, StandsAt, PartsAt, middle, past}
-use Rattle.rt_trie.specs.Links.{own_pair, pairs, count, root, leaf_link, fork_link, full_link, AreHalves, IsChildLink, IsFilled, IsLawfulTrie, IsNode}
-use Rattle.rt_trie.specs.Changes.{IsPut, IsInserted, IsRefused, Inserts}
+use Rattle.rt_trie.specs.Blocks.{IsKeyOf, IsWithin, IsChild, PartsAt, middle, past}
+use Rattle.rt_trie.specs.inside.Blocks.{StandsAt}
+use Rattle.rt_trie.specs.inside.Links.{own_pair, pairs, count, leaf_link, fork_link, full_link, IsNode}
+use Rattle.rt_trie.specs.Links.{root, AreHalves, IsChildLink, IsFilled, IsLawfulTrie}
+use Rattle.rt_trie.specs.inside.Changes.{IsPut, IsInserted, IsRefused, Inserts}
 use Rattle.rt_cidr.proofs.Promised.{size_pos}
 use Rattle.rt_trie.proofs.BlockLemmas.{lower_half}
 use Rattle.rt_trie.proofs.PairLemmas.{AllKeys, AllKeys-map, IsHigher, IsLower, IsOther, IsOther-higher, IsOther-lower, get-none, put-first, put-skip, put-front, put-here}

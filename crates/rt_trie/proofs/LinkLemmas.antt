@@ -9,17 +9,19 @@ use Rattle.std.specs.Option.{option_copied}
 use Rattle.std.specs.Box.{with_value}
 use Rattle.rt_cidr.specs.declared.address.Addr.{Addr}
 use Rattle.rt_cidr.specs.Prefix.{covers}
-use Rattle.rt_trie.specs.LookUps.{or_else, last_cover}
+use Rattle.rt_trie.specs.inside.LookUps.{or_else, last_cover}
 use Rattle.rt_trie.specs.declared.nodes.Link.{Link, Empty, Leaf, Fork', Full'}
 use Rattle.rt_trie.specs.declared.nodes.Link.TheVariants.{Fork, Full}
 use Rattle.rt_trie.specs.declared.nodes.LeafNode.{LeafNode}
 use Rattle.rt_trie.specs.declared.nodes.ForkNode.{ForkNode}
 use Rattle.rt_trie.specs.declared.nodes.FullNode.{FullNode}
 use Rattle.rt_trie.specs.Map.{Pairs, same_prefix, get, first, next_after, before, IsOrdered, IsLongest}
-use Rattle.rt_trie.specs.Blocks.{IsKeyOf, IsWithin, IsChild, StandsAt, middle, past}
+use Rattle.rt_trie.specs.Blocks.{IsKeyOf, IsWithin, IsChild, middle, past}
+use Rattle.rt_trie.specs.inside.Blocks.{StandsAt}
 use Rattle.rt_trie.specs.declared.nodes.Place.{Place}
 use Rattle.rt_trie.specs.declared.nodes.Place.TheVariants.{Here, Left, Right, Above, Apart}
-use Rattle.rt_trie.specs.Links.{own_pair, pairs, count, root, AreHalves, IsFilled, IsNeeded, IsLawfulBelow, IsLawfulTrie, IsNode, IsForkOf, IsSeenFrom}
+use Rattle.rt_trie.specs.inside.Links.{own_pair, pairs, count, IsNode, IsForkOf, IsSeenFrom}
+use Rattle.rt_trie.specs.Links.{root, AreHalves, IsFilled, IsNeeded, IsLawfulBelow, IsLawfulTrie}
 use Rattle.rt_trie.proofs.OrderLemmas.{same_rank, same_tells, rank_of_before, rank_of_not_before}
 use Rattle.rt_cidr.proofs.Promised.{size_pos}
 use Rattle.rt_trie.proofs.NodeLemmas.{AreSides, get-lower, get-upper, get-here, get-past, IsOrdered-node, cover-lower, cover-upper, cover-none, after-lower, after-upper, after-all, after-past}

@@ -6,7 +6,7 @@ use Rattle.std.proofs.lemmas.List.Elements.{All-nil, All-cons, All-weaker, All-c
 use Rattle.rt_cidr.specs.declared.prefixes.Prefix.{Prefix}
 use Rattle.rt_cidr.specs.declared.address.Addr.{Addr}
 use Rattle.rt_cidr.specs.Prefix.{covers}
-use Rattle.rt_trie.specs.LookUps.{or_else, last_cover}
+use Rattle.rt_trie.specs.inside.LookUps.{or_else, last_cover}
 use Rattle.rt_trie.specs.Map.{Pairs, before, IsBeforeAll, IsOrdered, IsLongest}
 use Rattle.rt_trie.proofs.OrderLemmas.{before_tells}
 use Rattle.rt_trie.proofs.BlockLemmas.{range_of_covers, ends_before}

@@ -10,9 +10,11 @@ use Rattle.rt_trie.specs.Map.{Pairs, same_prefix, get, erase}
 use Rattle.rt_trie.specs.declared.nodes.Place.{Place}
 use Rattle.rt_trie.specs.declared.nodes.Place.TheVariants.{Here, Left, Right, Above, Apart}
 use Rattle.rt_trie.proofs.InsertLemmas.{get_above, get_apart}
-use Rattle.rt_trie.specs.Blocks.{IsKeyOf, StandsAt, IsChild, middle, past}
-use Rattle.rt_trie.specs.Links.{own_pair, pairs, root, AreHalves, IsVacant, IsLone, IsLeafOf, IsLawfulBelow, IsLawfulTrie, IsNode}
-use Rattle.rt_trie.specs.Changes.{IsErased, IsSpliced, AreSidesOf}
+use Rattle.rt_trie.specs.Blocks.{IsKeyOf, IsChild, middle, past}
+use Rattle.rt_trie.specs.inside.Blocks.{StandsAt}
+use Rattle.rt_trie.specs.inside.Links.{own_pair, pairs, IsVacant, IsLone, IsLeafOf, IsNode}
+use Rattle.rt_trie.specs.Links.{root, AreHalves, IsLawfulBelow, IsLawfulTrie}
+use Rattle.rt_trie.specs.inside.Changes.{IsErased, IsSpliced, AreSidesOf}
 use Rattle.rt_trie.proofs.OrderLemmas.{same_tells, same_rank}
 use Rattle.rt_cidr.proofs.Promised.{size_pos}
 use Rattle.rt_trie.proofs.PairLemmas.{AllKeys-map, IsOther, IsHigher, IsLower, IsOther-higher, IsOther-lower, erase-skip, erase-none, erase-front, erase-here}

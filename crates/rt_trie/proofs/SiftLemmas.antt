@@ -9,9 +9,11 @@ use Rattle.rt_trie.specs.declared.nodes.Link.TheVariants.{Full}
 use Rattle.rt_trie.specs.declared.nodes.LeafNode.{LeafNode}
 use Rattle.rt_trie.specs.declared.nodes.FullNode.{FullNode}
 use Rattle.rt_trie.specs.Map.{Pairs}
-use Rattle.rt_trie.specs.Links.{own_pair, pairs, root, AreHalves, IsLawfulBelow, IsLawfulTrie, IsNode}
-use Rattle.rt_trie.specs.Changes.{IsSpliced, StaysChild}
-use Rattle.rt_trie.specs.Sifted.{with_pair, IsSifted, IsSiftedLink}
+use Rattle.rt_trie.specs.inside.Links.{own_pair, pairs, IsNode}
+use Rattle.rt_trie.specs.Links.{root, AreHalves, IsLawfulBelow, IsLawfulTrie}
+use Rattle.rt_trie.specs.inside.Changes.{IsSpliced, StaysChild}
+use Rattle.rt_trie.specs.Sifted.{with_pair, IsSifted}
+use Rattle.rt_trie.specs.inside.Sifted.{IsSiftedLink}
 use Rattle.rt_trie.proofs.LinkLemmas.{IsView, of_leaf, of_full, key_of_leaf, key_of_full}
 use Rattle.rt_trie.proofs.RemoveLemmas.{made_below_full}
 

@@ -8,9 +8,10 @@ use Rattle.rt_trie.proofs.LinkLemmas.{if_some_map}
 use Rattle.std.specs.Borrow.{Bor}
 use Rattle.rt_cidr.specs.declared.prefixes.Prefix.{Prefix}
 use Rattle.rt_trie.specs.declared.nodes.Link.{Link}
-use Rattle.rt_trie.specs.Aside.{link_at}
-use Rattle.rt_trie.specs.Links.{own_pair, pairs, count, root, IsLawfulBelow, IsNode}
-use Rattle.rt_trie.specs.Walks.{pairs_of, rest_of, IsFrom, IsAside}
+use Rattle.rt_trie.specs.inside.Aside.{link_at}
+use Rattle.rt_trie.specs.inside.Links.{own_pair, pairs, count, IsNode}
+use Rattle.rt_trie.specs.Links.{root, IsLawfulBelow}
+use Rattle.rt_trie.specs.inside.Walks.{pairs_of, rest_of, IsFrom, IsAside}
 
 -- how much work a link is: one, and two for each of its nodes
 abbrev pub work_of : {V A : Type 0} → Option (Link V A) → ℕ

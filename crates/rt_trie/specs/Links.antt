@@ -1,36 +1,8 @@
--- What a link holds: its pairs in order, how many nodes, and when it is lawful.
-use Rattle.std.specs.Prelude.{◌≡◌, ℕ, Bool, Box, true, false, ◌+◌, ◌++◌, [], ◌∷◌, Option, Some, None, IfSome, IfNone, IsSome, IsNone, ◌⊎◌}
-use Rattle.std.specs.Option.{option_copied}
+-- What a lawful trie is, of the links and nodes that keep it.
+use Rattle.std.specs.Prelude.{Bool, true, false, Option, Some, None, IfSome, IfNone, IsSome}
 use Rattle.rt_cidr.specs.declared.prefixes.Prefix.{Prefix}
 use Rattle.rt_trie.specs.declared.nodes.Link.{Link, Empty, Leaf, Fork', Full'}
-use Rattle.rt_trie.specs.declared.nodes.Link.TheVariants.{Fork, Full}
-use Rattle.rt_trie.specs.declared.nodes.LeafNode.{LeafNode}
-use Rattle.rt_trie.specs.declared.nodes.ForkNode.{ForkNode}
-use Rattle.rt_trie.specs.declared.nodes.FullNode.{FullNode}
-use Rattle.rt_trie.specs.declared.nodes.NodeView.{NodeView}
-use Rattle.rt_trie.specs.declared.nodes.NodeView.TheVariants.{Vacant, Single, Branch}
-use Rattle.rt_trie.specs.Map.{Pairs}
-use Rattle.rt_trie.specs.declared.nodes.Place.{Place}
-use Rattle.rt_trie.specs.Blocks.{IsChild, IsKeyOf, StandsAt}
-
--- a node's own pair, if it has a value
-abbrev pub own_pair : {V : Type 0} → Prefix → Option V → Pairs V
-own_pair q None = []
-own_pair q (Some v) = (q, v) ∷ []
-
--- the pairs of the nodes that have a value: a node's own, then those on its left, then those on its right
-abbrev pub pairs : {V A : Type 0} → Link V A → Pairs V
-pairs Empty = []
-pairs (Leaf len base b) = own_pair b.value.prefix (Some b.value.value)
-pairs (Fork' len base p left right q) = pairs left ++ pairs right
-pairs (Full' len base p left right q v) = own_pair q v ++ (pairs left ++ pairs right)
-
--- how many nodes
-abbrev pub count : {V A : Type 0} → Link V A → ℕ
-count Empty = 0
-count (Leaf len base b) = 1
-count (Fork' len base p left right q) = count left + count right + 1
-count (Full' len base p left right q v) = count left + count right + 1
+use Rattle.rt_trie.specs.Blocks.{IsChild, IsKeyOf}
 
 -- the prefix of the node that the link holds
 abbrev pub root : {V A : Type 0} → Link V A → Option Prefix
@@ -39,44 +11,9 @@ root (Leaf len base b) = Some b.value.prefix
 root (Fork' len base p left right q) = Some q
 root (Full' len base p left right q v) = Some q
 
--- a link to a node, with the node's key
-abbrev pub leaf_link : {V A : Type 0} → Box (LeafNode V) A → Link V A
-leaf_link b = Leaf b.value.prefix.len b.value.prefix.base b
-
-abbrev pub fork_link : {V A : Type 0} → Box (ForkNode V A) A → Link V A
-fork_link b = Fork b.value.prefix.len b.value.prefix.base b
-
-abbrev pub full_link : {V A : Type 0} → Box (FullNode V A) A → Link V A
-full_link b = Full b.value.prefix.len b.value.prefix.base b
-
--- the link holds a leaf of this prefix
-abbrev pub IsLeafOf : {V A : Type 0} → Prefix → Link V A → Type 0
-IsLeafOf q Empty = ⊥
-IsLeafOf q (Leaf len base b) = b.value.prefix ≡ q
-IsLeafOf q (Fork' len base p left right prefix) = ⊥
-IsLeafOf q (Full' len base p left right prefix v) = ⊥
-
--- the link holds a fork of this prefix
-abbrev pub IsForkOf : {V A : Type 0} → Prefix → Link V A → Type 0
-IsForkOf q Empty = ⊥
-IsForkOf q (Leaf len base b) = ⊥
-IsForkOf q (Fork' len base p left right prefix) = prefix ≡ q
-IsForkOf q (Full' len base p left right prefix v) = ⊥
-
--- the link holds a node with this base, and p stands there as seen from it
-pub record IsSeenFrom {V A : Type 0} (link : Link V A) (base : ℕ) (p : Prefix) (place : Place) : Type 0 where
-  pub node : Prefix
-  pub root_is : root link ≡ Some node
-  pub base_is : base ≡ node.base
-  pub stands : StandsAt node p place
-
 -- the link holds a node
 abbrev pub IsFilled : {V A : Type 0} → Link V A → Type 0
 IsFilled link = IsSome (root link)
-
--- the link holds nothing
-abbrev pub IsVacant : {V A : Type 0} → Link V A → Type 0
-IsVacant link = IsNone (root link)
 
 -- the link holds nothing, or a child of the parent on that side
 abbrev pub IsChildLink : {V A : Type 0} → Prefix → Bool → Link V A → Type 0
@@ -94,13 +31,6 @@ IsNeeded (Leaf len base b) = Unit {0}
 IsNeeded (Fork' len base p left right q) = IsFilled left × IsFilled right
 IsNeeded (Full' len base p left right q v) = IfNone v (IsFilled left × IsFilled right)
 
--- a node has neither a value nor two children
-abbrev pub IsLone : {V A : Type 0} → Link V A → Type 0
-IsLone Empty = ⊥
-IsLone (Leaf len base b) = ⊥
-IsLone (Fork' len base p left right q) = IsVacant left ⊎ IsVacant right
-IsLone (Full' len base p left right q v) = (v ≡ None) × (IsVacant left ⊎ IsVacant right)
-
 -- what the link keeps is its node's key, and what stands below the node is lawful
 abbrev pub IsLawfulBelow : {V A : Type 0} → Link V A → Type 0
 IsLawfulBelow Empty = Unit {0}
@@ -114,20 +44,3 @@ IsLawfulBelow (Full' len base p left right q v) =
 -- two children, and every link keeps its node's key
 abbrev pub IsLawfulTrie : {V A : Type 0} → Link V A → Type 0
 IsLawfulTrie link = IsLawfulBelow link × IsNeeded link
-
--- the link holds a node of this prefix, value and sides, and what stands below it is lawful
-pub record IsNode {V A : Type 0} (link : Link V A) (q : Prefix) (v : Option V) (left right : Link V A) : Type 0 where
-  pub pairs_are : pairs link ≡ own_pair q v ++ (pairs left ++ pairs right)
-  pub root_is : root link ≡ Some q
-  pub count_is : count link ≡ count left + count right + 1
-  pub halves : AreHalves q left right
-  pub left_lawful : IsLawfulTrie left
-  pub right_lawful : IsLawfulTrie right
-
--- the view is of the node that the link holds, where what stands below it is lawful: its pairs, or its prefix, value and sides
-abbrev pub IsNodeView : {V A : Type 0} → Link V A → NodeView V A → Type 0
-IsNodeView link Vacant = pairs link ≡ []
-IsNodeView link (Single q v) = pairs link ≡ (q, v.now) ∷ []
-IsNodeView link (Branch q v left right) =
-    (IsLawfulBelow link → IsNode link q (option_copied v) left.now right.now)
-    × (IsNeeded link → option_copied v ≡ None → IsFilled left.now × IsFilled right.now)

@@ -1,10 +1,7 @@
 -- What is left of a map once a sieve was shown its pairs.
 use Rattle.std.specs.Prelude.{◌≡◌, Bool, true, false, IsTrue, [], ◌∷◌, ◌⊎◌}
 use Rattle.rt_cidr.specs.declared.prefixes.Prefix.{Prefix}
-use Rattle.rt_trie.specs.declared.nodes.Link.{Link}
 use Rattle.rt_trie.specs.Map.{Pairs}
-use Rattle.rt_trie.specs.Links.{pairs, IsLawfulTrie}
-use Rattle.rt_trie.specs.Changes.{StaysChild}
 
 -- what is left, with the pair before it or without
 abbrev pub with_pair : {V : Type 0} → Bool → Prefix → V → Pairs V → Pairs V
@@ -25,9 +22,3 @@ module _ {V S : Type 0} (is_done : S → Bool) (judges : S → Prefix → V → 
   IsSifted s t ((p, v) ∷ rest) new =
       (IsTrue (is_done s) × (t ≡ s) × (new ≡ (p, v) ∷ rest))
       ⊎ ((is_done s ≡ false) × (next : S) × (left : Pairs V) × IsJudged s next p v left new × IsSifted next t rest left)
-
-  -- the pairs of the link were: it is lawful, and a child on each side where it was one
-  pub record IsSiftedLink {A : Type 0} (s t : S) (old new : Link V A) : Type 0 where
-    pub sifted : IsSifted s t (pairs old) (pairs new)
-    pub lawful : IsLawfulTrie new
-    pub stays : StaysChild old new

@@ -6,9 +6,11 @@
 ghost use Rattle.std.specs.Prelude.{◌≡◌, ◌≢◌, ◌+◌, ◌/◌, ◌<◌, ◌≤◌, ◌^◌, ◌⊎◌, false, true, None, Some, IsSome, IfSome, IfNone};
 ghost use Rattle.rt_trie.specs.declared.nodes.Link.TheVariants.{Empty};
 ghost use Rattle.rt_trie.specs.declared.nodes.Place.TheVariants.{Above, Apart};
-ghost use Rattle.rt_trie.specs.Blocks.{middle, IsChild, StandsAt, PartsAt};
-ghost use Rattle.rt_trie.specs.Links.{IsLawfulTrie, IsLeafOf, IsForkOf, IsSeenFrom};
-ghost use Rattle.rt_trie.specs.Changes.{Inserts};
+ghost use Rattle.rt_trie.specs.Blocks.{middle, IsChild, PartsAt};
+ghost use Rattle.rt_trie.specs.inside.Blocks.{StandsAt};
+ghost use Rattle.rt_trie.specs.Links.{IsLawfulTrie};
+ghost use Rattle.rt_trie.specs.inside.Links.{IsLeafOf, IsForkOf, IsSeenFrom};
+ghost use Rattle.rt_trie.specs.inside.Changes.{Inserts};
 
 use crate::nodes::{ForkNode, FullNode, LeafNode, Link, Place, middle, place_of};
 use rt_cidr::Prefix;

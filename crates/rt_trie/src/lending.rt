@@ -4,8 +4,8 @@
 ghost use Rattle.std.specs.Prelude.{◌≡◌, ℕ, zero, suc};
 ghost use Rattle.std.specs.Borrow.{sem};
 ghost use Rattle.std.specs.Option.{option_copied_mut};
-ghost use Rattle.rt_trie.specs.Descent.{found};
-ghost use Rattle.rt_trie.specs.Lends.{lends_found};
+ghost use Rattle.rt_trie.specs.inside.Descent.{found};
+ghost use Rattle.rt_trie.specs.inside.Lends.{lends_found};
 
 use crate::nodes::{Link, is_key_of, middle};
 use rt_cidr::Prefix;

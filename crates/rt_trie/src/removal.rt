@@ -4,8 +4,9 @@ ghost use Rattle.std.specs.Prelude.{◌≡◌, ℕ, ◌+◌, ◌<◌, ◌≤◌,
 ghost use Rattle.rt_cidr.specs.declared.prefixes.Prefix.{Prefix};
 ghost use Rattle.rt_trie.specs.declared.nodes.Link.TheVariants.{Empty};
 ghost use Rattle.rt_trie.specs.Map.{get};
-ghost use Rattle.rt_trie.specs.Links.{pairs, count, IsLawfulTrie, IsLawfulBelow, IsNeeded, IsLone, IsFilled, IsVacant, IsLeafOf};
-ghost use Rattle.rt_trie.specs.Changes.{IsErased, IsSpliced, AreSidesOf};
+ghost use Rattle.rt_trie.specs.inside.Links.{pairs, count, IsLone, IsVacant, IsLeafOf};
+ghost use Rattle.rt_trie.specs.Links.{IsLawfulTrie, IsLawfulBelow, IsNeeded, IsFilled};
+ghost use Rattle.rt_trie.specs.inside.Changes.{IsErased, IsSpliced, AreSidesOf};
 
 use crate::nodes::{ForkNode, FullNode, LeafNode, Link, Place, place_of};
 use rt_cidr::Prefix;

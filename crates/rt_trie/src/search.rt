@@ -3,8 +3,9 @@
 ghost use Rattle.std.specs.Prelude.{◌≡◌, ℕ, ◌+◌, ◌<◌, ◌≤◌, false, Option, None, IfSome, IsTrue, length};
 ghost use Rattle.std.specs.Option.{option_copied};
 ghost use Rattle.rt_trie.specs.Map.{get, first, next_after, pair_copied, IsLongest, AreLongest, address_at, answer_at};
-ghost use Rattle.rt_trie.specs.Links.{pairs, count, IsLawfulBelow, IsLawfulTrie};
-ghost use Rattle.rt_trie.specs.LookUps.{or_else, last_cover, sought};
+ghost use Rattle.rt_trie.specs.inside.Links.{pairs, count};
+ghost use Rattle.rt_trie.specs.Links.{IsLawfulBelow, IsLawfulTrie};
+ghost use Rattle.rt_trie.specs.inside.LookUps.{or_else, last_cover, sought};
 
 use crate::nodes::{END, Link, NodeView, Place, is_key_of, middle, offset, place_of, side};
 use rt_cidr::{Addr, Prefix};

@@ -2,8 +2,10 @@
 
 ghost use Rattle.std.specs.Prelude.{◌≡◌, Bool, ◌+◌, ◌≤◌, false, length};
 ghost use Rattle.rt_cidr.specs.declared.prefixes.Prefix.{Prefix};
-ghost use Rattle.rt_trie.specs.Links.{own_pair, pairs, count, IsLawfulTrie};
-ghost use Rattle.rt_trie.specs.Sifted.{IsSifted, IsSiftedLink};
+ghost use Rattle.rt_trie.specs.inside.Links.{own_pair, pairs, count};
+ghost use Rattle.rt_trie.specs.Links.{IsLawfulTrie};
+ghost use Rattle.rt_trie.specs.Sifted.{IsSifted};
+ghost use Rattle.rt_trie.specs.inside.Sifted.{IsSiftedLink};
 
 use crate::nodes::Link;
 use crate::removal::splice;

@@ -36,11 +36,11 @@ impl<V, A: Allocator> Model for Trie<V, A> {
     ghost Value = { Contents V };
 
     ghost use Rattle.std.specs.Coded.{codes};
-    ghost use Rattle.rt_trie.specs.TreeCode.{tree_code};
+    ghost use Rattle.rt_trie.specs.inside.TreeCode.{tree_code};
 
     ghost coded = { Prim.hlevel (codes, tree_code) };
 
-    ghost use Rattle.rt_trie.specs.Trie.{contents_of, IsSound};
+    ghost use Rattle.rt_trie.specs.inside.Trie.{contents_of, IsSound};
 
     ghost view = { contents_of };
 

@@ -1,7 +1,7 @@
 //! Going over all pairs, in order.
 
 ghost use Rattle.std.specs.Prelude.{◌≡◌, ℕ, ◌+◌, ◌<◌, Some, length};
-ghost use Rattle.rt_trie.specs.Aside.{link_at};
+ghost use Rattle.rt_trie.specs.inside.Aside.{link_at};
 
 use crate::nodes::{Link, NodeView};
 use rt_cidr::Prefix;
@@ -22,7 +22,7 @@ impl<'a, V, A: Allocator> Model for Walk<'a, V, A> {
 
     ghost Value = { Pairs V };
 
-    ghost use Rattle.rt_trie.specs.Walks.{rest_of, IsAside};
+    ghost use Rattle.rt_trie.specs.inside.Walks.{rest_of, IsAside};
 
     ghost view = { λ w. rest_of w.aside w.len };
 
@@ -30,7 +30,8 @@ impl<'a, V, A: Allocator> Model for Walk<'a, V, A> {
 }
 
 impl<'a, V, A: Allocator> Walk<'a, V, A> {
-    ghost use Rattle.rt_trie.specs.Links.{pairs, IsLawfulTrie};
+    ghost use Rattle.rt_trie.specs.inside.Links.{pairs};
+    ghost use Rattle.rt_trie.specs.Links.{IsLawfulTrie};
 
     pub(crate) fn new(root: &'a Link<V, A>) -> Walk<'a, V, A>
         requires { IsLawfulTrie root.now }

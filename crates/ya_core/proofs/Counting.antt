@@ -15,9 +15,8 @@ use Rattle.ya_core.specs.declared.process.Process.TheVariants.{Idle, Entering, I
 use Rattle.ya_core.specs.Steps.{access_of, entry_access, exit_access, next_of, entry_next, exit_next, won, left}
 use Rattle.ya_core.specs.Soundness.{IsProper}
 use Rattle.ya_core.proofs.Properness.{either, proper_next, within_access}
-use Rattle.ya_core.specs.Walks.{MayFind, Goes, AccessIsWithin, Walk, IsWalk, walk_after, MovesOn, budget, due}
-use Rattle.ya_core.specs.Walks.{DueIsWithin, CountIsKept, due_of, IsTold, budget_of, points_of, cost_of, cost_of_word}
-use Rattle.ya_core.specs.Walks.{is_waiting, entry_points, exit_points, entry_cost}
+use Rattle.ya_core.specs.Walks.{MayFind, Goes, AccessIsWithin, Walk, IsWalk, walk_after, MovesOn, budget, due, CountIsKept, due_of, IsTold, budget_of, points_of, cost_of, cost_of_word, is_waiting, entry_points, exit_points, entry_cost}
+use Rattle.ya_core.specs.inside.Walks.{DueIsWithin}
 
 -- what is still ahead of a process that won a level, or left it
 points_won : (levels level : ℕ) → level ≤ levels → points_of levels (won levels level) false ≤ 10 * (levels - level)

@@ -12,7 +12,8 @@ use Rattle.ya_core.specs.Tree.{count_of_words}
 use Rattle.ya_core.specs.Steps.{StepsTo, Accesses, opening, value_of, access_of, next_of}
 use Rattle.ya_core.specs.Soundness.{IsProper, IsSound}
 use Rattle.ya_core.specs.Walks.{AccessIsWithin}
-use Rattle.ya_core.specs.Machines.{Rows, IsMachine, processes_of, state_of}
+use Rattle.ya_core.specs.Machines.{Rows, processes_of, state_of}
+use Rattle.ya_core.specs.inside.Machines.{IsMachine}
 use Rattle.ya_core.specs.FlatRow.{words_of, row_state}
 use Rattle.ya_core.specs.Worlds.{IsInside, TellsInside, is_inside}
 use Rattle.ya_core.proofs.Properness.{within_access}

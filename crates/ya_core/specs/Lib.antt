@@ -7,3 +7,4 @@ pub mod Machines
 pub mod Worlds
 pub mod Progress
 pub mod Fairness
+pub mod inside

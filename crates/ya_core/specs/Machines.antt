@@ -1,5 +1,5 @@
 -- The machine of all processes, and what it tells of each step.
-use Rattle.std.specs.Prelude.{◌≡◌, ℕ, ◌^◌, ◌≤◌, Bool, true, false, List, [], ◌∷◌, length, slice_index_or}
+use Rattle.std.specs.Prelude.{◌≡◌, ℕ, Bool, true, false, List, [], ◌∷◌, slice_index_or}
 use Rattle.ya_core.specs.declared.word.Word.{Word}
 use Rattle.ya_core.specs.declared.word.Access.{Access}
 use Rattle.ya_core.specs.declared.word.Access.TheVariants.{Load, Store}
@@ -8,9 +8,7 @@ use Rattle.ya_core.specs.declared.process.Process.TheVariants.{Idle, Inside}
 use Rattle.ya_core.specs.declared.step.Mark.{Mark}
 use Rattle.ya_core.specs.declared.step.Mark.TheVariants as mark
 use Rattle.ya_core.specs.declared.step.Step.{Step}
-use Rattle.ya_core.specs.Tree.{count_of_words}
 use Rattle.ya_core.specs.Steps.{State, StepsTo, access_of, next_of, value_of}
-use Rattle.ya_core.specs.Soundness.{IsSound}
 use Rattle.ya_core.specs.FlatRow.{row_state}
 
 -- the machine as plain data: its words in one flat row, and its processes by place
@@ -19,10 +17,6 @@ pub record Rows : Type 0 where
   pub words : List ℕ
   pub processes : List Process
 
--- the rows of a machine
-abbrev pub rows : ℕ → List ℕ → List Process → Rows
-rows levels words processes = record { levels = levels; words = words; processes = processes }
-
 -- the processes that a list holds, by place
 unfoldable pub processes_of : List Process → ℕ → Process
 processes_of list place = slice_index_or list place Idle
@@ -30,13 +24,6 @@ processes_of list place = slice_index_or list place Idle
 -- the state that the machine shows
 abbrev pub state_of : Rows → State
 state_of m = row_state m.levels m.words (processes_of m.processes)
-
--- what holds of every machine
-pub record IsMachine (m : Rows) : Type 0 where
-  pub least : 1 ≤ m.levels
-  pub words : length m.words ≡ count_of_words m.levels
-  pub processes : length m.processes ≡ 2 ^ m.levels
-  pub sound : IsSound m.levels (state_of m)
 
 -- the word of an access
 abbrev pub word_of : Access → Word
@@ -65,12 +52,6 @@ step_of levels place s =
     let access = access_of levels place (s.processes place) in
     let value = value_of s.words access in
     step_by place access value (next_of levels place (s.processes place) value)
-
--- the place takes its step, after which the machine is one again, and this is told of it
-pub record TakesStep (place : ℕ) (old new : Rows) (step_told : Step) : Type 0 where
-  pub machine : IsMachine new
-  pub step : StepsTo old.levels place (state_of old) (state_of new)
-  pub told : step_told ≡ step_of old.levels place (state_of old)
 
 -- from this state the places that are picked take these steps, one after another, which leads to the last state
 abbrev pub ReplaysTo : ℕ → State → List ℕ → List Step → State → Type 0

@@ -193,11 +193,6 @@ abbrev pub AccessIsWithin : ℕ → Access → Type 0
 AccessIsWithin levels (Load word) = IsWord levels word
 AccessIsWithin levels (Store word stored) = IsWord levels word
 
--- and so is the one that is due
-abbrev pub DueIsWithin : ℕ → Option Access → Type 0
-DueIsWithin levels None = Unit {0}
-DueIsWithin levels (Some access) = AccessIsWithin levels access
-
 -- the access may be told the value: a load finds one that can stand in its word
 abbrev pub MayFind : Access → ℕ → Type 0
 MayFind (Load word) value = CanStand word value
@@ -223,9 +218,3 @@ pub record Enters (w : Walk) : Type 0 where
 pub record Leaves (w : Walk) : Type 0 where
   pub process : w.process ≡ Inside
   pub begun : w.begun ≡ true
-
--- the word is of one of the levels 1 to 6
-abbrev pub LevelIsSmall : Word → Type 0
-LevelIsSmall (C level node side) = (1 ≤ level) × (level ≤ 6)
-LevelIsSmall (T level node) = level ≤ 6
-LevelIsSmall (P level place) = Unit {0}

@@ -4,8 +4,8 @@ ghost use Rattle.ya_core.specs.Tree.{count_of_words};
 ghost use Rattle.std.specs.List.{position};
 ghost use Rattle.ya_core.specs.Steps.{Accesses, StepsTo, opening, value_of};
 ghost use Rattle.ya_core.specs.Walks.{AccessIsWithin};
-ghost use Rattle.ya_core.specs.Machines.{IsMachine, TakesStep, rows, state_of, step_of};
-ghost use Rattle.ya_core.specs.Machines.{step_by, mark_of};
+ghost use Rattle.ya_core.specs.inside.Machines.{IsMachine, TakesStep, rows};
+ghost use Rattle.ya_core.specs.Machines.{state_of, step_of, step_by, mark_of};
 ghost use Rattle.ya_core.specs.FlatRow.{words_of};
 ghost use Rattle.ya_core.specs.Worlds.{TellsInside, is_inside};
 
@@ -46,7 +46,8 @@ pub struct Machine {
 }
 
 impl Model for Machine {
-    ghost use Rattle.ya_core.specs.Machines.{Rows, IsMachine, rows};
+    ghost use Rattle.ya_core.specs.Machines.{Rows};
+    ghost use Rattle.ya_core.specs.inside.Machines.{IsMachine, rows};
 
     ghost Value = { Rows };
 

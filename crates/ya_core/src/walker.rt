@@ -3,9 +3,8 @@ ghost use Rattle.std.specs.Prelude.{◌≡◌, ◌↔◌, ℕ, ◌+◌, ◌-◌,
 ghost use Rattle.ya_core.specs.declared.process.Process.TheVariants.{Idle, Inside, Entering};
 ghost use Rattle.ya_core.specs.Tree.{node_of, side_of};
 ghost use Rattle.ya_core.specs.Steps.{access_of};
-ghost use Rattle.ya_core.specs.Walks.{IsWalk, walk, op_of, due, Fits, IsStore, CanStand, cost_of, walk_after, budget};
-ghost use Rattle.ya_core.specs.Walks.{MovesOn, OpIsWithin};
-ghost use Rattle.ya_core.specs.Walks.{DueIsWithin, IsTold, LevelIsSmall, due_of};
+ghost use Rattle.ya_core.specs.Walks.{IsWalk, walk, op_of, due, Fits, IsStore, CanStand, cost_of, walk_after, budget, MovesOn, OpIsWithin, IsTold, due_of};
+ghost use Rattle.ya_core.specs.inside.Walks.{DueIsWithin, LevelIsSmall};
 
 use crate::process::{Entry, Process};
 use crate::shape::Shape;

@@ -7,7 +7,7 @@ use Rattle.ya_core.specs.declared.process.Exit.TheVariants.{X3}
 use Rattle.ya_core.specs.Steps.{won, access_of, next_of}
 use Rattle.ya_core.specs.Walks.{Walk, IsWalk, AccessIsWithin}
 use Rattle.ya_core.proofs.Promised.{within_access}
-use Rattle.ya_lock.specs.Climbs.{IsAtFoot, IsBelow}
+use Rattle.ya_lock.specs.inside.Climbs.{IsAtFoot, IsBelow}
 
 -- one access leads from a process to the other
 abbrev pub LeadsTo : ℕ → ℕ → Process → Process → Type 0

@@ -6,7 +6,8 @@ use Rattle.ya_core.specs.declared.process.Process.TheVariants.{Inside}
 use Rattle.ya_core.specs.Walks.{walk}
 use Rattle.ya_lock.specs.declared.view.View.{View}
 use Rattle.ya_lock.specs.declared.view.View.TheVariants.{Member}
-use Rattle.ya_lock.specs.Lock.{LockId, HasTree, HasPlace, SeatInside, SeatOnEntry}
+use Rattle.ya_lock.specs.Lock.{LockId}
+use Rattle.ya_lock.specs.inside.Lock.{HasTree, HasPlace, SeatInside, SeatOnEntry}
 use Rattle.ya_lock.proofs.Heights.{one_tree}
 use Rattle.ya_lock.proofs.Makings.{one_value}
 

@@ -11,7 +11,7 @@ use Rattle.ya_core.specs.declared.process.Process.{Process}
 use Rattle.ya_core.specs.Soundness.{IsSound}
 use Rattle.ya_lock.specs.declared.view.View.{View}
 use Rattle.ya_lock.specs.declared.view.View.TheVariants.{Stranger, Maker, Filler, Dealer, Member, Confirmer, Spent}
-use Rattle.ya_lock.specs.Moves.{Slots}
+use Rattle.ya_lock.specs.inside.Moves.{Slots}
 use Rattle.ya_lock.proofs.Words.{word_kept}
 use Rattle.ya_lock.specs.Rule.{making_index, words_in, place_of, Picture, Knows, Lies, Fits, Obeys, Rule}
 use Rattle.ya_core.specs.Worlds.{is_inside}

@@ -1,7 +1,9 @@
 -- A lock has the words of one tree.
 use Rattle.std.proofs.Common.{◌≡◌, ℕ, ◌^◌, ◌<◌, sym, ap, ◌∙◌, subst}
-use Rattle.ya_lock.specs.Lock.{LockId, HasTree, HasPlace}
-use Rattle.ya_lock.specs.Rule.{bell_index, row_length}
+use Rattle.ya_lock.specs.Lock.{LockId}
+use Rattle.ya_lock.specs.inside.Lock.{HasTree, HasPlace}
+use Rattle.ya_lock.specs.inside.Rule.{bell_index}
+use Rattle.ya_lock.specs.Rule.{row_length}
 use Rattle.ya_lock.proofs.Words.{same_height, bell_within}
 
 -- two trees that have the words of one lock are of one height

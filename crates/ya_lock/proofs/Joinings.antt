@@ -11,7 +11,7 @@ use Rattle.ya_core.specs.declared.process.Process.TheVariants.{Idle, Inside}
 use Rattle.ya_lock.specs.declared.view.View.{View}
 use Rattle.ya_lock.specs.declared.view.View.TheVariants.{Stranger, Maker, Filler, Dealer, Member, Confirmer, Spent}
 use Rattle.ya_lock.specs.Rule.{making_index, Picture, Fits, Rule}
-use Rattle.ya_lock.specs.Moves.{Learns}
+use Rattle.ya_lock.specs.inside.Moves.{Learns}
 use Rattle.ya_lock.proofs.Frames.{refits, looks, sits_still, sits_else}
 
 module _ {V : Type 0} (since : ℕ → V → V → Type 0) (levels : ℕ) where

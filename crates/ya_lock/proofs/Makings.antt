@@ -18,7 +18,7 @@ use Rattle.ya_lock.specs.declared.view.View.{View}
 use Rattle.ya_lock.specs.declared.view.View.TheVariants.{Stranger, Maker, Filler, Dealer, Member, Confirmer, Spent}
 use Rattle.ya_lock.specs.Rule.{making_index, row_length, words_in, Picture, Lies, Fits, Obeys, Rule}
 use Rattle.ya_core.specs.Worlds.{is_inside}
-use Rattle.ya_lock.specs.Moves.{Slots, Begins, Takes, Gives, Ends}
+use Rattle.ya_lock.specs.inside.Moves.{Slots, Begins, Takes, Gives, Ends}
 use Rattle.ya_core.proofs.Promised.{opens as opens_sound}
 use Rattle.ya_lock.proofs.Words.{words_zero, words_behind}
 use Rattle.ya_lock.proofs.Frames.{refits, looks, Sits, sits_still, sits_else, sits_longer, set_at}

@@ -16,14 +16,13 @@ use Rattle.ya_core.specs.Tree.{IsWord}
 use Rattle.ya_core.specs.Steps as core
 use Rattle.ya_core.specs.Steps.{StepsTo, Accesses, access_of, next_of, value_of}
 use Rattle.ya_core.specs.Soundness.{IsSound}
-use Rattle.ya_core.specs.Walks.{CanStand, IsTold}
+use Rattle.ya_core.specs.Walks.{CanStand, IsTold, MayFind}
 use Rattle.ya_core.specs.Machines.{word_of}
 use Rattle.ya_lock.specs.declared.view.View.{View}
 use Rattle.ya_lock.specs.declared.view.View.TheVariants.{Member}
 use Rattle.ya_lock.specs.Rule.{index_of, making_index, words_in, Picture, Knows, Lies, Fits, Obeys, Rule}
 use Rattle.ya_core.specs.Worlds.{is_inside}
-use Rattle.ya_lock.specs.Moves.{left_by, Slots, Carries, Goes, IsReady, HasMade, count_after}
-use Rattle.ya_core.specs.Walks.{MayFind}
+use Rattle.ya_lock.specs.inside.Moves.{left_by, Slots, Carries, Goes, IsReady, HasMade, count_after}
 use Rattle.ya_core.proofs.Promised.{keeps as kept_by_step, finds, is_inside_is, excludes}
 use Rattle.ya_lock.proofs.Words.{index_below, word_in, word_set, word_set_other, word_kept}
 use Rattle.ya_lock.proofs.Frames.{moved, moved_here, moved_else, Same, Changed, gone_on, goes_on}

@@ -11,7 +11,8 @@ use Rattle.std.proofs.lemmas.List.{get_or-replicate, length-replicate, set-get_o
 use Rattle.ya_core.specs.declared.word.Word.{Word}
 use Rattle.ya_core.specs.Tree.{IsWord, number_of, count_of_words}
 use Rattle.ya_core.specs.FlatRow.{is_word}
-use Rattle.ya_lock.specs.Rule.{index_of, making_index, bell_index, row_length, words_in}
+use Rattle.ya_lock.specs.Rule.{index_of, making_index, row_length, words_in}
+use Rattle.ya_lock.specs.inside.Rule.{bell_index}
 use Rattle.ya_core.proofs.Promised.{is_word_true, word_is}
 
 -- the words of the tree lie before the making word, a cache line each

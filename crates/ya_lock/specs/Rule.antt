@@ -24,10 +24,6 @@ index_of levels word = SPACING * number_of levels word
 unfoldable pub making_index : ℕ → ℕ
 making_index levels = SPACING * count_of_words levels
 
--- where the bell of a place lies, behind the making word, a cache line apart as well
-unfoldable pub bell_index : ℕ → ℕ → ℕ
-bell_index levels place = making_index levels + SPACING * (1 + place)
-
 -- how many words the row has: those of the tree, the making word, and a bell for each place
 abbrev pub row_length : ℕ → ℕ
 row_length levels = making_index levels + SPACING * (1 + 2 ^ levels)

@@ -2,9 +2,9 @@
 //! contract rests on one.
 ghost use Rattle.std.specs.Prelude.{◌≡◌, ◌^◌, ◌<◌, ◌≤◌, true};
 ghost use Rattle.ya_core.specs.Walks.{is_waiting};
-ghost use Rattle.ya_lock.specs.Rule.{bell_index};
-ghost use Rattle.ya_lock.specs.Climbs.{HasLooked};
-ghost use Rattle.ya_lock.specs.Lock.{SeatOnEntry};
+ghost use Rattle.ya_lock.specs.inside.Rule.{bell_index};
+ghost use Rattle.ya_lock.specs.inside.Climbs.{HasLooked};
+ghost use Rattle.ya_lock.specs.inside.Lock.{SeatOnEntry};
 
 use crate::kept::Kept;
 use crate::passage::waits;

@@ -19,7 +19,8 @@ pub struct Guard<V> {
 }
 
 impl<V> Model for Guard<V> {
-    ghost use Rattle.ya_lock.specs.Lock.{OpenGuard, SeatInside};
+    ghost use Rattle.ya_lock.specs.Lock.{OpenGuard};
+    ghost use Rattle.ya_lock.specs.inside.Lock.{SeatInside};
 
     ghost Value = { OpenGuard V };
 

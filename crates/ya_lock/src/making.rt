@@ -2,7 +2,8 @@
 ghost use Rattle.std.specs.Prelude.{◌≡◌, ℕ, ◌+◌, ◌^◌, ◌≤◌, [], vec_capacity, IfOk};
 ghost use Rattle.ya_lock.specs.declared.view.View.TheVariants.{Maker, Dealer};
 ghost use Rattle.ya_lock.specs.Rule.{making_index};
-ghost use Rattle.ya_lock.specs.Lock.{IsLockTable, IsDealt};
+ghost use Rattle.ya_lock.specs.inside.Lock.{IsLockTable};
+ghost use Rattle.ya_lock.specs.Lock.{IsDealt};
 
 use crate::kept::Kept;
 use crate::pass::Pass;

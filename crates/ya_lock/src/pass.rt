@@ -16,7 +16,8 @@ pub struct Pass<V> {
 }
 
 impl<V> Model for Pass<V> {
-    ghost use Rattle.ya_lock.specs.Lock.{IdlePass, SeatIdle};
+    ghost use Rattle.ya_lock.specs.Lock.{IdlePass};
+    ghost use Rattle.ya_lock.specs.inside.Lock.{SeatIdle};
 
     ghost Value = { IdlePass V };
 

@@ -6,9 +6,9 @@ ghost use Rattle.ya_core.specs.Steps.{next_of};
 ghost use Rattle.ya_core.specs.Walks.{IsWalk, walk, op_of, walk_after, MovesOn, budget, points_ahead, is_waiting};
 ghost use Rattle.ya_core.specs.Worlds.{is_inside};
 ghost use Rattle.ya_lock.specs.declared.view.View.TheVariants.{Member};
-ghost use Rattle.ya_lock.specs.Moves.{HasMade, IsReady, Goes};
-ghost use Rattle.ya_lock.specs.Climbs.{climb_walk, HasPassed, HasLooked, IsBelow};
-ghost use Rattle.ya_lock.specs.Lock.{SeatOnEntry, SeatOnExit};
+ghost use Rattle.ya_lock.specs.inside.Moves.{HasMade, IsReady, Goes};
+ghost use Rattle.ya_lock.specs.inside.Climbs.{climb_walk, HasPassed, HasLooked, IsBelow};
+ghost use Rattle.ya_lock.specs.inside.Lock.{SeatOnEntry, SeatOnExit};
 
 use crate::bell::PATIENCE;
 use crate::kept::Kept;

@@ -1,7 +1,7 @@
 //! What each step of a seat tells its thread. These types are for the proofs alone.
 ghost use Rattle.std.specs.Prelude.{◌≡◌};
 ghost use Rattle.ya_lock.specs.declared.view.View.TheVariants.{Spent};
-ghost use Rattle.ya_lock.specs.Moves.{Begins, Takes, Gives, Ends, dealt, kept, joined, Goes, Learns};
+ghost use Rattle.ya_lock.specs.inside.Moves.{Begins, Takes, Gives, Ends, dealt, kept, joined, Goes, Learns};
 
 use crate::kept::Kept;
 use crate::view::View;

@@ -1,6 +1,6 @@
 //! Locks at work: values that go in and come out, threads that count and that sleep, and passes that are confirmed.
 ghost use Rattle.std.specs.Prelude.{◌≡◌, ◌≢◌, ℕ, ◌+◌, ◌^◌, ◌<◌, ◌≤◌, [], ◌∷◌, ◌++◌, length, vec_len, IfOk, All};
-ghost use Rattle.ya_lock.specs.Marking.{Grows, Adds, grows_same, adds_same, grows_by_other};
+ghost use Rattle.ya_lock.specs.tests.Marking.{Grows, Adds, grows_same, adds_same, grows_by_other};
 
 use crate::{Kept, NoMemory, Pass, TreeLock};
 use std::alloc::Global;

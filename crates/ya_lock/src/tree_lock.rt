@@ -21,7 +21,8 @@ pub struct TreeLock<V: Kept + Drop, const L: u32> {
 }
 
 impl<V: Kept + Drop, const L: u32> Model for TreeLock<V, L> {
-    ghost use Rattle.ya_lock.specs.Lock.{LockId, IsLockTable};
+    ghost use Rattle.ya_lock.specs.Lock.{LockId};
+    ghost use Rattle.ya_lock.specs.inside.Lock.{IsLockTable};
 
     ghost Value = { LockId };
 

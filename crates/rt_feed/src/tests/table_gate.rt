@@ -1,7 +1,7 @@
 //! Gates to a shared table of two feeds: what they answer, and what the journal and the routes then are.
 ghost use Rattle.std.specs.Prelude.{◌≡◌, IfOk};
 ghost use Rattle.rt_rib.specs.Book.{IsLimit};
-ghost use Rattle.rt_shared.specs.Testing.{AreBoth};
+ghost use Rattle.rt_shared.specs.tests.Testing.{AreBoth};
 
 use crate::table_gate::*;
 use rt_cidr::{Addr, Prefix, TextFault};

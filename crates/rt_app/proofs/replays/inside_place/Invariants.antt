@@ -1,5 +1,5 @@
 use Rattle.std.proofs.Common.{◌≡◌, take}
-use Rattle.rt_app.specs.ReplayText.{inside_after}
+use Rattle.rt_app.specs.inside.ReplayText.{inside_after}
 use Rattle.rt_app.proofs.replays.inside_place.Given as goal
 
 abbrev pub invariant-loop-step : goal.invariant-loop-step

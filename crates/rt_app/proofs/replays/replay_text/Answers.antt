@@ -1,6 +1,7 @@
 use Rattle.std.proofs.Common.{refl}
 use Rattle.ya_core.specs.Tree.{HasShape}
-use Rattle.rt_app.specs.ReplayText.{replay_text_of, inside_after}
+use Rattle.rt_app.specs.ReplayText.{replay_text_of}
+use Rattle.rt_app.specs.inside.ReplayText.{inside_after}
 use Rattle.rt_app.proofs.Replaying.{replay_text-some}
 use Rattle.rt_app.proofs.WhoIsInside.{tells_replay}
 use Rattle.rt_app.proofs.replays.replay_text.Goals as goal

@@ -2,8 +2,8 @@ use Rattle.std.proofs.Common.{◌≡◌, ◌++◌, List, ℕ, Err, refl, subst}
 use Rattle.rt_feed.specs.Printed.{table_text}
 use Rattle.rt_rib.specs.Book.{table_of}
 use Rattle.rt_app.specs.RunText.{reports_text}
-use Rattle.rt_app.specs.Running.{reports_status}
-use Rattle.rt_app.specs.Outputs.{Writes}
+use Rattle.rt_app.specs.inside.Running.{reports_status}
+use Rattle.rt_app.specs.inside.Outputs.{Writes}
 use Rattle.rt_app.proofs.SeveralFeeds.{run_text}
 use Rattle.rt_app.proofs.Outputs.{leaves_fault}
 use Rattle.rt_app.proofs.runs.write_ran.Goals as goal

@@ -1,6 +1,6 @@
 use Rattle.rt_rib.specs.Book.{table_of}
 use Rattle.rt_app.specs.TableText.{IsTaken}
-use Rattle.rt_app.specs.Outputs.{shown_text}
+use Rattle.rt_app.specs.inside.Outputs.{shown_text}
 use Rattle.rt_app.proofs.Outputs.{leaves_shown_fault, is_shown}
 use Rattle.rt_app.proofs.shown.show_ran.Goals as goal
 

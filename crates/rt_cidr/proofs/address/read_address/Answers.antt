@@ -1,7 +1,7 @@
 use Rattle.std.proofs.Common.{◌<◌, ◌^◌, lit≤, refl, arith}
 use Rattle.std.proofs.lemmas.Grind.{or_after_shift}
 use Rattle.rt_cidr.specs.Text.{dot}
-use Rattle.rt_cidr.specs.Front.{IsHalfText}
+use Rattle.rt_cidr.specs.inside.Front.{IsHalfText}
 use Rattle.rt_cidr.proofs.Fronts.{half_read_once, half_fits, address_front_is_halves, halves_front_is_address, no_left, no_mark, no_right, joined_front}
 use Rattle.rt_cidr.proofs.address.read_address.Goals as goal
 

@@ -1,6 +1,6 @@
 use Rattle.std.proofs.Common.{◌≤◌, length, arith}
 use Rattle.std.proofs.lemmas.Bool.Decides.{nat_tests}
-use Rattle.rt_cidr.specs.Front.{IsCappedDecimal}
+use Rattle.rt_cidr.specs.inside.Front.{IsCappedDecimal}
 use Rattle.rt_cidr.proofs.Fronts.{decimal_read_once, capped_decimal, decimal_that_fits, whole_of_front, no_whole_before, no_whole}
 use Rattle.rt_cidr.proofs.decimals.decimal_u32.Goals as goal
 

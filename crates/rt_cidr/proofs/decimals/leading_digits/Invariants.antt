@@ -1,6 +1,6 @@
 use Rattle.std.proofs.Common.{◌≡◌, ◌≤◌, length, take}
 use Rattle.std.specs.Str.Parse.{AllDigits, digits_value}
-use Rattle.rt_cidr.specs.Front.{capped}
+use Rattle.rt_cidr.specs.inside.Front.{capped}
 use Rattle.rt_cidr.proofs.decimals.leading_digits.Given as goal
 
 -- the bytes so far are digits, and the value is theirs

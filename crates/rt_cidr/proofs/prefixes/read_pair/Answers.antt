@@ -1,7 +1,7 @@
 use Rattle.std.proofs.Common.{lit≤, arith}
 use Rattle.std.proofs.lemmas.Bool.Decides.{nat_tests}
 use Rattle.rt_cidr.specs.Text.{slash, IsAddressText}
-use Rattle.rt_cidr.specs.Front.{IsCappedDecimal}
+use Rattle.rt_cidr.specs.inside.Front.{IsCappedDecimal}
 use Rattle.rt_cidr.proofs.Fronts.{address_read_once, pair_is_joined, pair_of_pieces, no_pair_before, no_left, no_mark, no_right, whole_of_front}
 use Rattle.rt_cidr.proofs.prefixes.read_pair.Goals as goal
 

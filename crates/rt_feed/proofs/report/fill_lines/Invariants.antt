@@ -1,5 +1,5 @@
 use Rattle.std.proofs.Common.{◌≡◌, ◌≤◌, ◌++◌, length, take, drop}
-use Rattle.rt_feed.specs.Filling.{filled}
+use Rattle.rt_feed.specs.inside.Filling.{filled}
 use Rattle.rt_feed.proofs.report.fill_lines.Given as goal
 
 -- the lines so far were given the outcomes so far, and what is left goes on so

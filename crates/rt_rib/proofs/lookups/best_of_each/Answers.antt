@@ -4,7 +4,8 @@ use Rattle.std.proofs.lemmas.List.{ext_get_or, get_or-map, length-map}
 use Rattle.rt_cidr.specs.declared.address.Addr.{Addr}
 use Rattle.rt_trie.specs.Map.{address_at}
 use Rattle.rt_rib.specs.LookUp.{look_up}
-use Rattle.rt_rib.specs.Maps.{routes_of, route_at}
+use Rattle.rt_rib.specs.Maps.{routes_of}
+use Rattle.rt_rib.specs.inside.Maps.{route_at}
 use Rattle.rt_rib.proofs.lookups.best_of_each.Goals as goal
 
 pub loop-start-preserved : goal.loop-start-preserved

@@ -1,7 +1,8 @@
 use Rattle.std.proofs.Common.{◌≡◌, ℕ, ◌-◌, ◌<◌, ◌≤◌, length}
 use Rattle.rt_trie.specs.Map.{address_at}
 use Rattle.rt_rib.specs.LookUp.{look_up}
-use Rattle.rt_rib.specs.Maps.{routes_of, route_at}
+use Rattle.rt_rib.specs.Maps.{routes_of}
+use Rattle.rt_rib.specs.inside.Maps.{route_at}
 use Rattle.rt_rib.proofs.lookups.best_of_each.Given as goal
 
 -- the addresses before the start are answered

@@ -6,7 +6,8 @@ use Rattle.rt_cidr.specs.declared.address.Addr.{Addr}
 use Rattle.rt_cidr.specs.declared.prefixes.Prefix.{Prefix}
 use Rattle.rt_trie.specs.Map.{Pairs, pair_copied, IsLongest, AreLongest, address_at, answer_at}
 use Rattle.rt_rib.specs.LookUp.{look_up}
-use Rattle.rt_rib.specs.Maps.{routes_of, route_at}
+use Rattle.rt_rib.specs.Maps.{routes_of}
+use Rattle.rt_rib.specs.inside.Maps.{route_at}
 use Rattle.rt_rib.proofs.lookups.best_of_few.Goals as goal
 
 -- what is read of the answers to a part of the addresses

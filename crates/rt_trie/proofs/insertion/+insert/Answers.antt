@@ -1,9 +1,9 @@
 use Rattle.std.proofs.Common.{refl, sym, subst, ap, inl, inr}
 use Rattle.rt_trie.specs.declared.nodes.LeafNode.{LeafNode}
 use Rattle.rt_trie.specs.declared.nodes.Place.TheVariants.{Above, Apart}
-use Rattle.rt_trie.specs.Blocks.{StandsAt}
+use Rattle.rt_trie.specs.inside.Blocks.{StandsAt}
 use Rattle.rt_trie.specs.Links.{IsLawfulTrie}
-use Rattle.rt_trie.specs.Changes.{Inserts}
+use Rattle.rt_trie.specs.inside.Changes.{Inserts}
 use Rattle.rt_trie.proofs.InsertLemmas.{insert_left, insert_right, insert_here, insert_leaf}
 use Rattle.rt_trie.proofs.LinkLemmas.{view_fork, view_full, key_of_leaf, key_of_fork, key_of_full, seen_from_leaf, seen_from_fork, seen_from_full, key_short}
 use Rattle.rt_trie.proofs.insertion.+insert.Goals as goal

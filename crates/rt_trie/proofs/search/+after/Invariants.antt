@@ -1,4 +1,4 @@
-use Rattle.rt_trie.specs.Links.{count}
+use Rattle.rt_trie.specs.inside.Links.{count}
 use Rattle.rt_trie.proofs.search.+after.Given as goal
 
 abbrev pub decreases-after : goal.decreases-after

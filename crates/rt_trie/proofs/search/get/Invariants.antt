@@ -1,6 +1,7 @@
 use Rattle.std.proofs.Common.{◌≡◌}
 use Rattle.rt_trie.specs.Map.{get}
-use Rattle.rt_trie.specs.Links.{pairs, IsLawfulBelow}
+use Rattle.rt_trie.specs.inside.Links.{pairs}
+use Rattle.rt_trie.specs.Links.{IsLawfulBelow}
 use Rattle.rt_trie.proofs.search.get.Given as goal
 
 -- the link is lawful, and what is sought is sought below it

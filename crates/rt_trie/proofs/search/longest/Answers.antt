@@ -1,5 +1,5 @@
 use Rattle.std.proofs.Common.{sym, ap, ◌∙◌}
-use Rattle.rt_trie.specs.LookUps.{sought}
+use Rattle.rt_trie.specs.inside.LookUps.{sought}
 use Rattle.rt_trie.specs.Map.{pair_copied}
 use Rattle.rt_trie.proofs.LinkLemmas.{longest_of}
 use Rattle.rt_trie.proofs.search.longest.Goals as goal

@@ -1,7 +1,8 @@
 use Rattle.std.proofs.Common.{◌≡◌}
-use Rattle.rt_trie.specs.LookUps.{or_else, last_cover}
+use Rattle.rt_trie.specs.inside.LookUps.{or_else, last_cover}
 use Rattle.rt_trie.specs.Map.{pair_copied}
-use Rattle.rt_trie.specs.Links.{pairs, count, IsLawfulBelow}
+use Rattle.rt_trie.specs.inside.Links.{pairs, count}
+use Rattle.rt_trie.specs.Links.{IsLawfulBelow}
 use Rattle.rt_trie.proofs.search.longest.Given as goal
 
 -- the link is lawful, and the answer is found below it, or else it is the best so far

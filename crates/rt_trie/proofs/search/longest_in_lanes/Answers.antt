@@ -1,8 +1,9 @@
 use Rattle.std.proofs.Common.{◌<◌, ◌+◌, None, refl, sym, subst, ap, ◌∙◌, inl, inr, arith, length-set, get_or, get_or-set_other}
 use Rattle.std.specs.Prelude.{IfSome}
 use Rattle.rt_trie.specs.Map.{pair_copied, address_at}
-use Rattle.rt_trie.specs.Links.{count, IsLawfulBelow}
-use Rattle.rt_trie.specs.LookUps.{sought}
+use Rattle.rt_trie.specs.inside.Links.{count}
+use Rattle.rt_trie.specs.Links.{IsLawfulBelow}
+use Rattle.rt_trie.specs.inside.LookUps.{sought}
 use Rattle.rt_trie.proofs.LinkLemmas.{longest_of}
 use Rattle.rt_trie.proofs.LaneLemmas.{set_out, link_read, as_read, in_lanes, in_answers, gone_on, gone_less, ended_here}
 use Rattle.rt_trie.proofs.search.longest_in_lanes.Goals as goal

@@ -1,7 +1,7 @@
 use Rattle.std.proofs.Common.{◌≡◌, ◌+◌, ◌-◌, inl, inr, sym, subst, ◌∙◌, arith}
 use Rattle.std.proofs.lemmas.Bool.{cases_lt}
 use Rattle.rt_trie.specs.Map.{IsLongest, address_at, answer_at}
-use Rattle.rt_trie.specs.Links.{pairs}
+use Rattle.rt_trie.specs.inside.Links.{pairs}
 use Rattle.rt_trie.proofs.search.longest_many.Goals as goal
 
 pub loop-start-preserved : goal.loop-start-preserved

@@ -1,6 +1,6 @@
 use Rattle.std.proofs.Common.{◌≡◌, ℕ, ◌-◌, ◌<◌, ◌≤◌, length}
 use Rattle.rt_trie.specs.Map.{IsLongest, address_at, answer_at}
-use Rattle.rt_trie.specs.Links.{pairs}
+use Rattle.rt_trie.specs.inside.Links.{pairs}
 use Rattle.rt_trie.proofs.search.longest_many.Given as goal
 
 -- the answers before the start are right

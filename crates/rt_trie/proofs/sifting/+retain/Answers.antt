@@ -1,5 +1,5 @@
 use Rattle.std.proofs.Common.{◌≡◌, ◌+◌, ◌++◌, None, length, sym, ap, ◌∙◌, arith, length-append}
-use Rattle.rt_trie.specs.Links.{pairs, own_pair}
+use Rattle.rt_trie.specs.inside.Links.{pairs, own_pair}
 use Rattle.rt_trie.proofs.SiftLemmas.{IsHalfSifted, sifted_none, sifted_done, link_same, leaf_goes, leaf_stays, half_fork, half_full, sifted_of, node_length}
 use Rattle.rt_trie.proofs.LinkLemmas.{of_fork, of_full, view_fork}
 use Rattle.rt_trie.proofs.sifting.+retain.Goals as goal

@@ -1,4 +1,4 @@
-use Rattle.rt_rib.specs.Kept.{held_of}
+use Rattle.rt_rib.specs.inside.Kept.{held_of}
 use Rattle.rt_rib.proofs.Kept.{IsKept-push, holds_left}
 use Rattle.rt_rib.proofs.book.Book.apply.Goals as goal
 

@@ -1,6 +1,6 @@
 use Rattle.std.proofs.Common.{sym, ap, ◌∙◌}
 use Rattle.rt_rib.specs.Book.{OfferTrie}
-use Rattle.rt_rib.specs.Kept.{Stored}
+use Rattle.rt_rib.specs.inside.Kept.{Stored}
 use Rattle.rt_rib.specs.Maps.{routes_of}
 use Rattle.rt_rib.proofs.Counts.{AreCounts-own}
 use Rattle.rt_rib.proofs.Kept.{kept_counted, kept_serves, added_counted, added_serves}

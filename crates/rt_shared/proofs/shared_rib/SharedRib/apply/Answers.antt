@@ -2,7 +2,7 @@ use Rattle.std.proofs.Common.{◌≡◌, Some, ◌∙◌, sym, ap, subst}
 use Rattle.ya_lock.specs.Lock.{OpenGuard}
 use Rattle.rt_shared.specs.declared.lent.Lent.{Lent}
 use Rattle.rt_shared.specs.Lent.{feed_of, Adds}
-use Rattle.rt_shared.specs.Pass.{IsThere}
+use Rattle.rt_shared.specs.inside.Pass.{IsThere}
 use Rattle.rt_shared.proofs.Answered.{adds_applied}
 use Rattle.rt_shared.proofs.Passes.{lock_of, spaced}
 use Rattle.rt_shared.proofs.shared_rib.SharedRib.apply.Goals as goal

@@ -6,8 +6,8 @@ use Rattle.rt_shared.specs.declared.lent.Lent.{Lent}
 use Rattle.rt_shared.specs.Lent.{feed_of}
 use Rattle.rt_shared.specs.Visits.{AllBy, answered}
 use Rattle.rt_shared.specs.Table.{HeldPass}
-use Rattle.rt_shared.specs.Pass.{IsThere}
-use Rattle.rt_shared.specs.Keeping.{since_same}
+use Rattle.rt_shared.specs.inside.Pass.{IsThere}
+use Rattle.rt_shared.specs.inside.Keeping.{since_same}
 use Rattle.rt_shared.proofs.Answered.{all_answered, nothing_answered}
 use Rattle.rt_shared.proofs.Passes.{lock_of, seen_is_lawful, spaced}
 use Rattle.rt_shared.proofs.shared_rib.SharedRib.apply_batch.Goals as goal

@@ -5,7 +5,7 @@ use Rattle.std.proofs.lemmas.List.{nil_from_length}
 use Rattle.rt_rib.specs.Journal.{IsLawfulJournal}
 use Rattle.ya_lock.specs.Lock.{IdlePass, OpenGuard, guard_of}
 use Rattle.rt_shared.specs.Lent.{IsSameBut}
-use Rattle.rt_shared.specs.Pass.{shared_id}
+use Rattle.rt_shared.specs.inside.Pass.{shared_id}
 use Rattle.rt_shared.proofs.Passes.{all_amid, last_of, since_of, all_front, spaced}
 use Rattle.rt_shared.specs.declared.lent.Lent.{Lent}
 use Rattle.rt_shared.specs.Visits.{Since}

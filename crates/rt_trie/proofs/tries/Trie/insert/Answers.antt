@@ -1,8 +1,8 @@
 use Rattle.std.proofs.Common.{Some, length, sym, subst, ap, ◌∙◌, arith}
 use Rattle.rt_trie.specs.Contents.{Contents}
 use Rattle.rt_trie.specs.Map.{get}
-use Rattle.rt_trie.specs.Changes.{IsPut, Inserts}
-use Rattle.rt_trie.specs.Links.{pairs}
+use Rattle.rt_trie.specs.inside.Changes.{IsPut, Inserts}
+use Rattle.rt_trie.specs.inside.Links.{pairs}
 use Rattle.rt_trie.proofs.LinkLemmas.{pairs_ordered}
 use Rattle.rt_trie.proofs.CountLemmas.{count_small, pairs_few, length-put_absent, length-put_known, none_is}
 use Rattle.rt_trie.proofs.tries.Trie.insert.Goals as goal

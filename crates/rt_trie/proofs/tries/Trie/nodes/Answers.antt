@@ -1,6 +1,6 @@
 use Rattle.std.proofs.Common.{length, sym, subst, ap, arith}
 use Rattle.rt_trie.specs.Contents.{Contents}
-use Rattle.rt_trie.specs.Links.{count}
+use Rattle.rt_trie.specs.inside.Links.{count}
 use Rattle.rt_trie.specs.Nodes.{CountsNodes}
 use Rattle.rt_trie.proofs.CountLemmas.{nodes_few}
 use Rattle.rt_trie.proofs.NodeCountLemmas.{counts_nodes}

@@ -1,7 +1,7 @@
 use Rattle.std.proofs.Common.{length, sym, ap, ◌∙◌, arith}
 use Rattle.rt_trie.specs.Contents.{Contents}
 use Rattle.rt_trie.specs.Map.{get, erase}
-use Rattle.rt_trie.specs.Links.{pairs}
+use Rattle.rt_trie.specs.inside.Links.{pairs}
 use Rattle.rt_trie.proofs.RemoveLemmas.{erase-absent}
 use Rattle.rt_trie.proofs.LinkLemmas.{none_of}
 use Rattle.rt_trie.proofs.CountLemmas.{length-erase_known}

@@ -1,6 +1,6 @@
 use Rattle.std.proofs.Common.{◌≡◌, suc, ◌-◌, length, sym, subst, ap, ◌∙◌, arith}
 use Rattle.std.specs.Option.{option_copied}
-use Rattle.rt_trie.specs.Links.{IsNode}
+use Rattle.rt_trie.specs.inside.Links.{IsNode}
 use Rattle.rt_trie.proofs.WalkLemmas.{walk_at, empty_at, leaf_step}
 use Rattle.rt_trie.proofs.walks.WalkIterator.next.Goals as goal
 

@@ -1,5 +1,5 @@
 use Rattle.std.proofs.Common.{◌≡◌}
-use Rattle.rt_trie.specs.Walks.{rest_of, IsAside}
+use Rattle.rt_trie.specs.inside.Walks.{rest_of, IsAside}
 use Rattle.rt_trie.proofs.WalkLemmas.{weight_of}
 use Rattle.rt_trie.proofs.walks.WalkIterator.next.Given as goal
 

@@ -1,6 +1,7 @@
 use Rattle.std.proofs.Common.{◌≡◌, ℕ, ◌∙◌, ap, sym, subst, Option}
 use Rattle.std.specs.List.{position}
-use Rattle.ya_core.specs.Machines.{Rows, rows, state_of}
+use Rattle.ya_core.specs.Machines.{Rows, state_of}
+use Rattle.ya_core.specs.inside.Machines.{rows}
 use Rattle.ya_core.specs.Worlds.{TellsInside, is_inside}
 use Rattle.ya_core.proofs.MachineSteps.{inside_at}
 use Rattle.ya_core.proofs.machine.Machine.inside.Goals as goal

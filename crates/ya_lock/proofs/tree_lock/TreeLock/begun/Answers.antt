@@ -2,7 +2,7 @@ use Rattle.std.proofs.Common.{arith, ◌≡◌, ℕ, ◌+◌, ◌*◌, ◌^◌, 
 use Rattle.atomic_table.specs.Table.{opening, Arrives}
 use Rattle.ya_lock.specs.declared.view.View.TheVariants.{Stranger}
 use Rattle.ya_lock.specs.Rule.{making_index, Rule}
-use Rattle.ya_lock.specs.Moves.{Begins}
+use Rattle.ya_lock.specs.inside.Moves.{Begins}
 use Rattle.ya_lock.proofs.Words.{making_small}
 use Rattle.ya_lock.proofs.Makings.{opens, begins}
 use Rattle.ya_lock.proofs.tree_lock.TreeLock.begun.Goals as goal

@@ -4,7 +4,7 @@ use Rattle.ya_core.specs.declared.process.Process.TheVariants.{Inside}
 use Rattle.ya_lock.specs.declared.view.View.{View}
 use Rattle.ya_lock.specs.declared.view.View.TheVariants.{Member, Spent}
 use Rattle.ya_lock.specs.Rule.{Rule}
-use Rattle.ya_lock.specs.Moves.{joined}
+use Rattle.ya_lock.specs.inside.Moves.{joined}
 use Rattle.ya_lock.specs.Lock.{OpenGuard, IdlePass}
 use Rattle.ya_lock.proofs.Joinings.{joins, learns}
 use Rattle.ya_lock.proofs.tree_lock.TreeLock.confirm.Goals as goal

@@ -6,7 +6,7 @@ use Rattle.std.proofs.lemmas.Nat.{pow_pos}
 use Rattle.ya_lock.specs.Lock.{IdlePass}
 use Rattle.ya_lock.specs.declared.view.View.{View}
 use Rattle.ya_lock.specs.Rule.{Rule}
-use Rattle.ya_lock.specs.Moves.{dealt, kept, Ends}
+use Rattle.ya_lock.specs.inside.Moves.{dealt, kept, Ends}
 use Rattle.ya_lock.proofs.Makings.{splits, ends}
 use Rattle.ya_lock.proofs.Deals.{one_more_pass}
 use Rattle.ya_lock.proofs.tree_lock.TreeLock.dealt.Goals as goal

@@ -1,7 +1,7 @@
 use Rattle.std.proofs.Common.{◌≡◌}
 use Rattle.ya_core.specs.Walks.{points_ahead}
-use Rattle.ya_lock.specs.Climbs.{IsAtFoot}
-use Rattle.ya_lock.specs.Lock.{SeatOnEntry}
+use Rattle.ya_lock.specs.inside.Climbs.{IsAtFoot}
+use Rattle.ya_lock.specs.inside.Lock.{SeatOnEntry}
 use Rattle.ya_lock.proofs.tree_lock.TreeLock.go_in.Given as goal
 
 abbrev pub invariant-loop-climb : goal.invariant-loop-climb

@@ -1,6 +1,6 @@
 use Rattle.std.proofs.Common.{◌≡◌, ◌+◌, ◌≤◌}
 use Rattle.ya_core.specs.Walks.{budget, points_ahead}
-use Rattle.ya_lock.specs.Lock.{SeatOnExit}
+use Rattle.ya_lock.specs.inside.Lock.{SeatOnExit}
 use Rattle.ya_lock.proofs.tree_lock.TreeLock.go_out.Given as goal
 
 abbrev pub invariant-loop-rival : goal.invariant-loop-rival

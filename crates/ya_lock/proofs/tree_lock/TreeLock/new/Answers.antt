@@ -4,7 +4,7 @@ use Rattle.ya_core.specs.Tree.{count_of_words}
 use Rattle.ya_lock.specs.declared.view.View.{View}
 use Rattle.ya_lock.specs.declared.view.View.TheVariants.{Filler}
 use Rattle.ya_lock.specs.Rule.{making_index, Rule}
-use Rattle.ya_lock.specs.Moves.{Takes, Gives}
+use Rattle.ya_lock.specs.inside.Moves.{Takes, Gives}
 use Rattle.ya_lock.proofs.Words.{making_small, making_is}
 use Rattle.ya_lock.proofs.Makings.{takes_slot, gives_value}
 use Rattle.ya_lock.proofs.tree_lock.TreeLock.new.Goals as goal

@@ -1,5 +1,5 @@
 use Rattle.std.proofs.Common.{◌≡◌}
-use Rattle.ya_lock.specs.Lock.{SeatOnEntry}
+use Rattle.ya_lock.specs.inside.Lock.{SeatOnEntry}
 use Rattle.ya_lock.proofs.tree_lock.TreeLock.spin.Given as goal
 
 abbrev pub invariant-loop : goal.invariant-loop

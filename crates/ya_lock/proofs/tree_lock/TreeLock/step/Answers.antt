@@ -11,8 +11,9 @@ use Rattle.ya_core.specs.Worlds.{is_inside}
 use Rattle.ya_core.proofs.Promised.{within_access, load_due, store_due}
 use Rattle.ya_lock.specs.declared.view.View.{View}
 use Rattle.ya_lock.specs.Rule.{index_of, making_index, row_length, Rule}
-use Rattle.ya_lock.specs.Lock.{LockId, IsLockTable}
-use Rattle.ya_lock.specs.Moves.{Goes, HasMade, IsReady, left_by}
+use Rattle.ya_lock.specs.Lock.{LockId}
+use Rattle.ya_lock.specs.inside.Lock.{IsLockTable}
+use Rattle.ya_lock.specs.inside.Moves.{Goes, HasMade, IsReady, left_by}
 use Rattle.ya_lock.proofs.Words.{making_small, index_below, index_is}
 use Rattle.ya_lock.proofs.Steps.{counted, allows}
 use Rattle.ya_lock.proofs.tree_lock.TreeLock.step.Goals as goal

@@ -3,8 +3,9 @@ use Rattle.std.specs.Prelude.{◌≡◌, ℕ, zero, suc, ◌<◌, ◌≤◌, ◌
 use Rattle.std.specs.Borrow.{Bor}
 use Rattle.rt_trie.specs.declared.nodes.Link.{Link}
 use Rattle.rt_trie.specs.Map.{Pairs}
-use Rattle.rt_trie.specs.Aside.{link_at}
-use Rattle.rt_trie.specs.Links.{pairs, root, IsLawfulTrie}
+use Rattle.rt_trie.specs.inside.Aside.{link_at}
+use Rattle.rt_trie.specs.inside.Links.{pairs}
+use Rattle.rt_trie.specs.Links.{root, IsLawfulTrie}
 
 -- the pairs of a link, if there is one
 abbrev pub pairs_of : {V A : Type 0} → Option (Link V A) → Pairs V

@@ -6,7 +6,7 @@ use Rattle.rt_cidr.specs.declared.address.Addr.{Addr}
 use Rattle.rt_cidr.specs.Prefix.{covers}
 use Rattle.rt_trie.specs.declared.nodes.Link.{Link}
 use Rattle.rt_trie.specs.Map.{Pairs}
-use Rattle.rt_trie.specs.Links.{pairs}
+use Rattle.rt_trie.specs.inside.Links.{pairs}
 
 -- the first of two answers
 abbrev pub or_else : {X : Type 0} → Option X → Option X → Option X

@@ -5,7 +5,7 @@ use Rattle.std.specs.declared.alloc.Allocator.{Ghosts}
 use Rattle.rt_cidr.specs.declared.prefixes.Prefix.{Prefix}
 use Rattle.rt_trie.specs.declared.nodes.Link.{Link}
 use Rattle.rt_trie.specs.contracts.nodes.Link.{the_row}
-use Rattle.rt_trie.specs.Descent.{written}
+use Rattle.rt_trie.specs.inside.Descent.{written}
 
 module _ (V A : RattleType) (alloc : Ghosts A.Denot) where
   -- the value at the prefix is the last one written through r, and at `None` the link stays as it is

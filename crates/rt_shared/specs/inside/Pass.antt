@@ -3,7 +3,8 @@ use Rattle.std.specs.Prelude.{◌≡◌, ℕ, ◌≤◌, [], Option, Some, None}
 use Rattle.ya_lock.specs.Lock.{IdlePass}
 use Rattle.rt_shared.specs.declared.lent.Lent.{Lent}
 use Rattle.rt_shared.specs.Lent.{feed_of}
-use Rattle.rt_shared.specs.Table.{SharedId, HeldPass, no_table}
+use Rattle.rt_shared.specs.Table.{SharedId, HeldPass}
+use Rattle.rt_shared.specs.inside.Table.{no_table}
 
 -- the table that the book is lent by
 abbrev pub shared_id : IdlePass Lent → SharedId

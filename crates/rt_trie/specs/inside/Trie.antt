@@ -1,9 +1,10 @@
 -- What callers see of a trie: a finite map, and how many nodes it takes.
 use Rattle.std.specs.Prelude.{◌≡◌, length}
 use Rattle.rt_trie.specs.declared.tries.Trie.TheInside.{Inside}
-use Rattle.rt_trie.specs.Links.{pairs, count, IsLawfulTrie}
+use Rattle.rt_trie.specs.inside.Links.{pairs, count}
+use Rattle.rt_trie.specs.Links.{IsLawfulTrie}
 use Rattle.rt_trie.specs.Contents.{Contents}
-use Rattle.rt_trie.specs.Tree.{tree_of}
+use Rattle.rt_trie.specs.inside.Tree.{tree_of}
 
 -- the pairs, the number of nodes, and the nodes
 abbrev pub contents_of : {V A : Type 0} → Inside V A → Contents V

@@ -2,7 +2,7 @@
 use Rattle.std.specs.Prelude.{◌≡◌, List}
 use Rattle.std.specs.Coded.{Coded-set, coded_list}
 use Rattle.std.proofs.Props.{props}
-use Rattle.rt_trie.specs.OneProof.{IsLawful-prop, IsOrdered-prop}
+use Rattle.rt_trie.specs.inside.OneProof.{IsLawful-prop, IsOrdered-prop}
 use Rattle.rt_rib.specs.declared.routes.Route.{Route}
 use Rattle.rt_rib.specs.contracts.routes.Route as route
 use Rattle.rt_rib.specs.Book.{Contents, OfferTrie, table_of, HoldsRoutes, HoldsRoutesLeft}

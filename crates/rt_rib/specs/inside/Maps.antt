@@ -1,0 +1,41 @@
+-- The offers at a prefix, and the laws of a map that proofs use.
+use Rattle.std.specs.Prelude.{ℕ, List, [], Option, Some, None, slice_index_or}
+use Rattle.std.specs.List.{Contains}
+use Rattle.rt_cidr.specs.declared.prefixes.Prefix.{Prefix}
+use Rattle.rt_cidr.specs.Laws.{SamePrefix}
+use Rattle.rt_trie.specs.Map.{get}
+use Rattle.rt_trie.specs.Laws.{PutIsSeen, EraseIsSeen, PutKeepsOrder, EraseKeepsOrder, PairsAreFound, MapHasOneList}
+use Rattle.rt_rib.specs.declared.routes.Route.{Route}
+use Rattle.rt_rib.specs.declared.offers.Offer.{Offer}
+use Rattle.rt_rib.specs.Maps.{Map}
+
+-- what a route offers for its prefix
+abbrev pub offer_of : Route → Offer
+offer_of r = record { feed = r.feed; pref = r.pref; hop = r.hop }
+
+-- what was found at a prefix as a list, which is empty where nothing was
+abbrev pub offers_in : Option (List Offer) → List Offer
+offers_in None = []
+offers_in (Some offers) = offers
+
+-- the offers of the map at a prefix
+abbrev pub offers_at : Map → Prefix → List Offer
+offers_at m p = offers_in (get m p)
+
+-- the route at an index of the answers to look-ups, if there is one
+abbrev pub route_at : List (Option Route) → ℕ → Option Route
+route_at answers k = slice_index_or answers k None
+
+-- the map holds the route: what stands at its prefix contains what it offers
+abbrev pub IsThere : Map → Route → Type 0
+IsThere m r = Contains (offers_at m r.prefix) (offer_of r)
+
+-- what the laws of rt_trie say of maps with offers, and rt_cidr's of equal prefixes
+pub record MapLaws : Type 0 where
+  pub put : PutIsSeen (List Offer)
+  pub erase : EraseIsSeen (List Offer)
+  pub put_in_order : PutKeepsOrder (List Offer)
+  pub erase_in_order : EraseKeepsOrder (List Offer)
+  pub found : PairsAreFound (List Offer)
+  pub one : MapHasOneList (List Offer)
+  pub same : SamePrefix

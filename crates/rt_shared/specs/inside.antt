@@ -1,0 +1,5 @@
+-- What no public clause speaks of: the words of private contracts, of invariants and of proofs.
+pub mod Keeping
+pub mod Pass
+pub mod Table
+pub mod Visits

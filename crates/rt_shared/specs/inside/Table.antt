@@ -1,0 +1,7 @@
+-- The identity of no table.
+use Rattle.std.specs.Prelude.{[]}
+use Rattle.rt_shared.specs.Table.{SharedId}
+
+-- no table's
+abbrev pub no_table : SharedId
+no_table = record { lock = record { words = 0; slots = 0; views_name = 0; atom = 0; block = 0; offset = 0; slot_names = [] }; limit = 0; feeds = 0 }

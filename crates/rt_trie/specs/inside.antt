@@ -1,0 +1,14 @@
+-- What no public clause speaks of: the words of private contracts, of invariants and of proofs.
+pub mod Aside
+pub mod Blocks
+pub mod Changes
+pub mod Descent
+pub mod Lends
+pub mod Links
+pub mod LookUps
+pub mod OneProof
+pub mod Sifted
+pub mod Tree
+pub mod TreeCode
+pub mod Trie
+pub mod Walks

@@ -1,0 +1,25 @@
+-- What holds of every machine, and of a step that it takes.
+use Rattle.std.specs.Prelude.{◌≡◌, ℕ, ◌^◌, ◌≤◌, List, length}
+use Rattle.ya_core.specs.declared.process.Process.{Process}
+use Rattle.ya_core.specs.declared.step.Step.{Step}
+use Rattle.ya_core.specs.Tree.{count_of_words}
+use Rattle.ya_core.specs.Steps.{StepsTo}
+use Rattle.ya_core.specs.Soundness.{IsSound}
+use Rattle.ya_core.specs.Machines.{Rows, state_of, step_of}
+
+-- the rows of a machine
+abbrev pub rows : ℕ → List ℕ → List Process → Rows
+rows levels words processes = record { levels = levels; words = words; processes = processes }
+
+-- what holds of every machine
+pub record IsMachine (m : Rows) : Type 0 where
+  pub least : 1 ≤ m.levels
+  pub words : length m.words ≡ count_of_words m.levels
+  pub processes : length m.processes ≡ 2 ^ m.levels
+  pub sound : IsSound m.levels (state_of m)
+
+-- the place takes its step, after which the machine is one again, and this is told of it
+pub record TakesStep (place : ℕ) (old new : Rows) (step_told : Step) : Type 0 where
+  pub machine : IsMachine new
+  pub step : StepsTo old.levels place (state_of old) (state_of new)
+  pub told : step_told ≡ step_of old.levels place (state_of old)

@@ -1,0 +1,2 @@
+-- What the contracts of tests alone speak of.
+pub mod Marking
