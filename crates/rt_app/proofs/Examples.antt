@@ -17,7 +17,7 @@ use Rattle.rt_rib.specs.declared.commands.Cmd.TheVariants.{Add, Dump, Purge}
 use Rattle.rt_rib.specs.declared.commands.Reply.TheVariants.{Added, Exists, Full, Dumped}
 use Rattle.rt_rib.specs.declared.commands.Entry.{Entry}
 use Rattle.rt_rib.specs.Sequential.{reply_of, table_after}
-use Rattle.rt_rib.specs.Journal.{table_left, IsAnswered, IsLawfulJournal}
+use Rattle.rt_rib.specs.Journal.{table_of_journal, IsAnswered, IsLawfulJournal}
 use Rattle.rt_rib.proofs.Promised.{entry, ten_8, ten_1_16, ten_2_16, ten_9_16, via_192_0_2, route_via, tutorial, the_journal_of_the_tutorial, the_table_of_the_tutorial}
 use Rattle.rt_shared.specs.Visits.{Uncut}
 use Rattle.rt_shared.specs.declared.outcome.Outcome.{Outcome}
@@ -27,30 +27,30 @@ use Rattle.rt_feed.specs.declared.report.Line.{Line}
 use Rattle.rt_feed.specs.declared.versions.Version.TheVariants.{One}
 use Rattle.rt_feed.specs.Versions.{TellsTwo}
 use Rattle.rt_feed.specs.Lines.{CutsLine}
-use Rattle.rt_feed.specs.Visits.{joined, piece_of, visit_of, entries}
+use Rattle.rt_feed.specs.Visits.{concatenated, piece_of, visit_of, entries}
 use Rattle.rt_feed.specs.LineOutcomes.{skipped, faulty, asked, LineOutcome, asked_of, report_lines, some_refused, some_faulty}
 use Rattle.rt_feed.specs.Printed.{line_text, answer_text, reply_text, route_text, row_text, count_text, table_text}
 use Rattle.rt_feed.specs.declared.report.Answer.TheVariants as answer
 use Rattle.rt_feed.specs.declared.faults.RunFault.TheVariants as run
 use Rattle.rt_feed.proofs.Promised.{north, north_read, south, south_read, east, east_read, what_north_becomes, what_south_becomes, what_east_becomes}
 use Rattle.rt_app.specs.declared.faults.AppFault.TheVariants.{Run, Replay, Write}
-use Rattle.rt_app.specs.RunText.{Explains, ExplainsFrom, reports_text, IsHistory, IsRunText, status_of, Leaves}
+use Rattle.rt_app.specs.RunText.{Explains, ExplainsFrom, reports_text, IsHistory, IsRunText, outcomes_status, LeavesRunText}
 use Rattle.rt_app.specs.ReplayText.{level_text, word_text, mark_text, sign_text, step_text, steps_text, inside_text, replay_text_of, IsReplayText, LeavesReplay}
-use Rattle.rt_app.specs.inside.ReplayText.{enters, inside_after}
+use Rattle.rt_app.specs.inside.ReplayText.{wins_root, inside_after}
 use Rattle.rt_app.specs.TableText.{tally_of, tallies_status}
-use Rattle.rt_app.specs.SameTable.{commands, Asks, left_alone, LeavesAlone, IsUnion, IsAnsweredAlone, printed_reports}
+use Rattle.rt_app.specs.SameTable.{commands, Asks, table_alone, LeavesAlone, IsUnion, IsAnsweredAlone, printed_reports}
 
 -- commands
 whatever_became_of_them : commands ((Dump, Did (Dumped 0)) ∷ (Purge, Refused) ∷ []) ≡ Dump ∷ Purge ∷ []
 whatever_became_of_them = refl
 
--- left_alone
-what_south_leaves : left_alone 65536 2 (commands (asked_of south_read)) ≡ route_via ten_8 2 30 (via_192_0_2 2) ∷ []
-unfolding left_alone table_after
+-- table_alone
+what_south_leaves : table_alone 65536 2 (commands (asked_of south_read)) ≡ route_via ten_8 2 30 (via_192_0_2 2) ∷ []
+unfolding table_alone table_after
 what_south_leaves = refl
 
-its_own_limit : left_alone 1 2 (commands (asked_of east_read)) ≡ route_via ten_9_16 2 10 Discard ∷ []
-unfolding left_alone table_after
+its_own_limit : table_alone 1 2 (commands (asked_of east_read)) ≡ route_via ten_9_16 2 10 Discard ∷ []
+unfolding table_alone table_after
 its_own_limit = refl
 
 -- Asks
@@ -60,7 +60,7 @@ what_south_asks = (skipped ∷ south_read, what_south_becomes, refl)
 
 -- LeavesAlone
 a_route_of_south : LeavesAlone (north ∷ south ∷ east ∷ []) 65536 1 (route_via ten_8 2 30 (via_192_0_2 2))
-unfolding left_alone table_after
+unfolding table_alone table_after
 a_route_of_south = (south, commands (asked_of south_read), refl, what_south_asks, (0, omega arith, refl))
 
 no_text_leaves_none : (k : ℕ) (r : Route) → ¬ LeavesAlone [] 65536 k r
@@ -79,15 +79,15 @@ no_route_that_no_text_leaves r h =
 
 -- IsAnsweredAlone
 as_if_there_were_no_other : IsAnsweredAlone 1 2 ((Add ten_8 5 Discard, Did Added) ∷ [])
-unfolding left_alone reply_of
+unfolding table_alone reply_of
 as_if_there_were_no_other [] later cmd outcome same own =
     let first : (Add ten_8 5 Discard, Did Added) ≡ (cmd, outcome) = cc in
-    subst (λ (one : Cmd × Outcome). one.1 ≡ Did (reply_of 1 (left_alone 1 2 []) 2 one.0)) first refl
+    subst (λ (one : Cmd × Outcome). one.1 ≡ Did (reply_of 1 (table_alone 1 2 []) 2 one.0)) first refl
 as_if_there_were_no_other (x ∷ []) later cmd outcome same own = cc
 as_if_there_were_no_other (x ∷ y ∷ earlier) later cmd outcome same own = cc
 
 not_otherwise : ¬ IsAnsweredAlone 1 2 ((Add ten_8 5 Discard, Did Exists) ∷ [])
-unfolding left_alone reply_of
+unfolding table_alone reply_of
 not_otherwise h = let same = h [] [] (Add ten_8 5 Discard) (Did Exists) refl refl in cc
 
 -- reports_text
@@ -100,14 +100,14 @@ a_comment_has_no_line : printed_reports ((skipped ∷ asked Dump (Did (Dumped 0)
 unfolding line_text answer_text reply_text
 a_comment_has_no_line = rw (written_1, written_2, written_0) refl
 
--- status_of
-all_was_done : status_of ((skipped ∷ asked Dump (Did (Dumped 0)) ∷ []) ∷ [] ∷ []) ≡ 0
+-- outcomes_status
+all_was_done : outcomes_status ((skipped ∷ asked Dump (Did (Dumped 0)) ∷ []) ∷ [] ∷ []) ≡ 0
 all_was_done = refl
 
-some_line_was_faulty : status_of ([] ∷ (faulty fault.Hop ∷ []) ∷ []) ≡ 2
+some_line_was_faulty : outcomes_status ([] ∷ (faulty fault.Hop ∷ []) ∷ []) ≡ 2
 some_line_was_faulty = refl
 
-a_refusal_before_a_fault : status_of ((faulty fault.Hop ∷ []) ∷ (asked Dump Refused ∷ []) ∷ []) ≡ 5
+a_refusal_before_a_fault : outcomes_status ((faulty fault.Hop ∷ []) ∷ (asked Dump Refused ∷ []) ∷ []) ≡ 5
 a_refusal_before_a_fault = refl
 
 -- a line's fault, as a report tells it
@@ -148,7 +148,7 @@ nothing_else [] e later same = cc
 nothing_else (x ∷ earlier) e later same = cc
 
 answered : (earlier : List Entry) (e : Entry) (later : List Entry) → dumped ∷ [] ≡ earlier ++ e ∷ later → IsAnswered 1 earlier e
-unfolding table_left reply_of
+unfolding table_of_journal reply_of
 answered [] e later same = let one : dumped ≡ e = cc in subst (λ x. IsAnswered 1 [] x) one refl
 answered (x ∷ earlier) e later same = let none : [] ≡ earlier ++ e ∷ later = cc in absurd (nothing_else earlier e later none)
 
@@ -203,7 +203,7 @@ the_history_of_a_dump = record {
 
 -- IsRunText
 the_run_of_a_dump : IsRunText (text ∷ []) 1 1 (codes "1:1 dumped 0\ntable 0\n") 0
-unfolding table_left table_after reply_of line_text answer_text reply_text count_text
+unfolding table_of_journal table_after reply_of line_text answer_text reply_text count_text
 the_run_of_a_dump = record {
   journal = dumped ∷ [];
   outcomes = lines ∷ [];
@@ -303,7 +303,7 @@ the_same_lines_in_pieces_of_two = record {
 
 -- a command that was answered in a piece has its entry
 no_entry : (pieces whole : List (List (Cmd × Outcome))) (last : List (Cmd × Outcome)) → All (λ piece. length piece ≡ 1) whole → length last < 1
-    → (Dump, Did (Dumped 0)) ∷ [] ≡ joined whole ++ last → pieces ≡ whole ++ piece_of last → ¬ Uncut 1 (map (λ piece. entries 1 (visit_of piece)) pieces) []
+    → (Dump, Did (Dumped 0)) ∷ [] ≡ concatenated whole ++ last → pieces ≡ whole ++ piece_of last → ¬ Uncut 1 (map (λ piece. entries 1 (visit_of piece)) pieces) []
 no_entry pieces whole (one ∷ others) full fewer same cut uncut = omega (arith, fewer)
 no_entry pieces [] [] full fewer same cut uncut = cc
 no_entry pieces ([] ∷ whole) [] full fewer same cut uncut = let one : 0 ≡ 1 = full 0 [] (omega arith) in omega (arith, one)
@@ -363,7 +363,7 @@ nothing_printed_is_no_run : (texts : List (List ℕ)) (limit batch status : ℕ)
 unfolding count_text
 nothing_printed_is_no_run texts limit batch status h = ends (reports_text 1 (map (report_lines 1) h.outcomes)) h.printed
   where
-    ends : (reports : List ℕ) → [] ≢ reports ++ table_text (table_left limit h.journal)
+    ends : (reports : List ℕ) → [] ≢ reports ++ table_text (table_of_journal limit h.journal)
     ends [] same = cc
     ends (byte ∷ reports) same = cc
 
@@ -377,20 +377,20 @@ none_is_1 false false same = cc
 no_run_has_status_1 : (texts : List (List ℕ)) (limit batch : ℕ) (bytes : List ℕ) → ¬ IsRunText texts limit batch bytes 1
 no_run_has_status_1 texts limit batch bytes h = none_is_1 (list_any some_refused h.outcomes) (list_any some_faulty h.outcomes) h.is_status
 
--- Leaves
-behind_what_the_writer_had : Leaves (text ∷ []) 1 1 (Some (codes "x")) (Some (codes "x1:1 dumped 0\ntable 0\n")) (Ok 0)
+-- LeavesRunText
+behind_what_the_writer_had : LeavesRunText (text ∷ []) 1 1 (Some (codes "x")) (Some (codes "x1:1 dumped 0\ntable 0\n")) (Ok 0)
 behind_what_the_writer_had = (codes "1:1 dumped 0\ntable 0\n", the_run_of_a_dump, refl)
 
-nothing_where_it_was_refused : Leaves [] 1 1 (Some (codes "x")) (Some (codes "x")) (Err (Run run.NoText))
+nothing_where_it_was_refused : LeavesRunText [] 1 1 (Some (codes "x")) (Some (codes "x")) (Err (Run run.NoText))
 nothing_where_it_was_refused = ((λ same. cc), refl)
 
-a_beginning_where_it_could_not_be_written : Leaves (text ∷ []) 1 1 (Some []) (Some (codes "1:1 dum")) (Err Write)
+a_beginning_where_it_could_not_be_written : LeavesRunText (text ∷ []) 1 1 (Some []) (Some (codes "1:1 dum")) (Err Write)
 a_beginning_where_it_could_not_be_written = (codes "1:1 dumped 0\ntable 0\n", 0, the_run_of_a_dump, record { count = 7; within = omega arith; appended = refl })
 
-never_as_F2 : ¬ Leaves (text ∷ []) 1 1 (Some []) (Some []) (Err (Run run.FeedCount))
+never_as_F2 : ¬ LeavesRunText (text ∷ []) 1 1 (Some []) (Some []) (Err (Run run.FeedCount))
 never_as_F2 h = h.0 refl
 
-never_without_a_text : ¬ Leaves (text ∷ []) 1 1 (Some []) (Some []) (Ok 0)
+never_without_a_text : ¬ LeavesRunText (text ∷ []) 1 1 (Some []) (Some []) (Ok 0)
 never_without_a_text (bytes, is, same) = let none : [] ≡ bytes = same in nothing_printed_is_no_run (text ∷ []) 1 1 0 (subst (λ b. IsRunText (text ∷ []) 1 1 b 0) (sym none) is)
 
 -- level_text
@@ -432,8 +432,8 @@ lines_are_numbered_from_1 : steps_text 1 four_steps ≡ four_lines
 unfolding step_text word_text level_text sign_text mark_text
 lines_are_numbered_from_1 = rw (written_0, written_1, written_2, written_3, written_4) refl
 
--- enters
-who_wins_the_root_does : map enters (Plain ∷ Inside ∷ Out ∷ []) ≡ false ∷ true ∷ false ∷ []
+-- wins_root
+who_wins_the_root_does : map wins_root (Plain ∷ Inside ∷ Out ∷ []) ≡ false ∷ true ∷ false ∷ []
 who_wins_the_root_does = refl
 
 -- inside_after

@@ -18,8 +18,8 @@ use Rattle.rt_rib.specs.declared.commands.Cmd.TheVariants.{Dump}
 use Rattle.rt_rib.specs.declared.commands.Reply.{Reply}
 use Rattle.rt_rib.specs.declared.commands.Entry.{Entry}
 use Rattle.rt_rib.specs.Sequential.{reply_of, table_after}
-use Rattle.rt_rib.specs.Journal.{IsLawfulJournal, table_left}
-use Rattle.rt_rib.specs.Laws.{FeedsStandAlone, LeftByEntry, OneTableOfSet, feed_entries, feed_routes}
+use Rattle.rt_rib.specs.Journal.{IsLawfulJournal, table_of_journal}
+use Rattle.rt_rib.specs.Laws.{FeedsStandAlone, TableByEntry, OneTableOfSet, feed_entries, feed_routes}
 use Rattle.rt_shared.specs.declared.outcome.Outcome.{Outcome}
 use Rattle.rt_shared.specs.declared.outcome.Outcome.TheVariants as outcome
 use Rattle.rt_shared.specs.Laws.{EntriesOfVisits}
@@ -29,10 +29,10 @@ use Rattle.rt_feed.specs.LineOutcomes.{LineOutcome, skipped, faulty, asked, read
 use Rattle.rt_feed.specs.declared.report.Line.{Line}
 use Rattle.rt_feed.specs.Reports.{is_refusal}
 use Rattle.rt_feed.proofs.Promised.{has_refusal-report_lines}
-use Rattle.rt_feed.specs.Visits.{Visit, IsCut, visit_of, reply_to, joined, piece_of, entries}
+use Rattle.rt_feed.specs.Visits.{Visit, IsCut, visit_of, reply_to, concatenated, piece_of, entries}
 use Rattle.rt_feed.specs.Printed.{table_text}
-use Rattle.rt_app.specs.RunText.{Explains, ExplainsFrom, IsHistory, status_of}
-use Rattle.rt_app.specs.SameTable.{commands, Asks, left_alone, IsUnion, IsAnsweredAlone, printed_reports, EndsInUnion, AnswersAlone, EndInOneTable, ShowsUnion, ShowOneTable}
+use Rattle.rt_app.specs.RunText.{Explains, ExplainsFrom, IsHistory, outcomes_status}
+use Rattle.rt_app.specs.SameTable.{commands, Asks, table_alone, IsUnion, IsAnsweredAlone, printed_reports, EndsInUnion, AnswersAlone, EndInOneTable, ShowsUnion, ShowOneTable}
 use Rattle.rt_app.specs.TableText.{tally_of, tallies_status}
 use Rattle.rt_app.specs.TableText as tally
 
@@ -67,9 +67,9 @@ entries_of-append feed xs ys =
     ap (entries feed) (visit_of-append xs ys) ∙ map-append (λ p. record { feed = feed; cmd = p.0; reply = p.1 }) (visit_of xs) (visit_of ys)
 
 -- the entries of pieces, one after another, are those of the list that was cut
-entries-joined : (feed : ℕ) (pieces : List (List (Cmd × Outcome))) → flat_map (λ visit. visit) (map (entries_of feed) pieces) ≡ entries_of feed (joined pieces)
-entries-joined feed [] = refl
-entries-joined feed (piece ∷ pieces) = ap (λ rest. entries_of feed piece ++ rest) (entries-joined feed pieces) ∙ sym (entries_of-append feed piece (joined pieces))
+entries-concatenated : (feed : ℕ) (pieces : List (List (Cmd × Outcome))) → flat_map (λ visit. visit) (map (entries_of feed) pieces) ≡ entries_of feed (concatenated pieces)
+entries-concatenated feed [] = refl
+entries-concatenated feed (piece ∷ pieces) = ap (λ rest. entries_of feed piece ++ rest) (entries-concatenated feed pieces) ∙ sym (entries_of-append feed piece (concatenated pieces))
 
 entries-last : (feed : ℕ) (last : List (Cmd × Outcome)) → flat_map (λ visit. visit) (map (entries_of feed) (piece_of last)) ≡ entries_of feed last
 entries-last feed [] = refl
@@ -83,9 +83,9 @@ entries-cut feed size asks pieces cut =
     ap (λ ps. flat_map (λ visit. visit) (map (entries_of feed) ps)) cut.is_cut
     ∙ (ap (flat_map (λ visit. visit)) (map-append (entries_of feed) cut.whole (piece_of cut.last))
     ∙ (flat_map-append (λ visit. visit) one two
-    ∙ (ap (λ es. es ++ flat_map (λ visit. visit) two) (entries-joined feed cut.whole)
-    ∙ (ap (λ es. entries_of feed (joined cut.whole) ++ es) (entries-last feed cut.last)
-    ∙ (sym (entries_of-append feed (joined cut.whole) cut.last) ∙ ap (entries_of feed) (sym cut.is_joined))))))
+    ∙ (ap (λ es. es ++ flat_map (λ visit. visit) two) (entries-concatenated feed cut.whole)
+    ∙ (ap (λ es. entries_of feed (concatenated cut.whole) ++ es) (entries-last feed cut.last)
+    ∙ (sym (entries_of-append feed (concatenated cut.whole) cut.last) ∙ ap (entries_of feed) (sym cut.is_joined))))))
 
 -- so the journal's entries of a feed are those of its answered commands
 entries_explained : EntriesOfVisits → (batch feed : ℕ) (journal : List Entry) (text : List ℕ) (lines : List LineOutcome) → Explains batch feed journal text lines
@@ -94,14 +94,14 @@ entries_explained law batch feed journal text lines explains =
     law feed (map (λ piece. entries feed (visit_of piece)) explains.pieces) journal explains.uncut ∙ entries-cut feed batch (asked_of lines) explains.pieces explains.cut
 
 -- what a feed's entries leave is what their commands leave
-left-entries_from : (limit feed : ℕ) (table : List Route) (visit : Visit)
+table-entries_from : (limit feed : ℕ) (table : List Route) (visit : Visit)
     → fold (λ table e. table_after limit table e.feed e.cmd) table (entries feed visit) ≡ fold (λ table cmd. table_after limit table feed cmd) table (map (λ p. p.0) visit)
-left-entries_from limit feed table [] = refl
-left-entries_from limit feed table (p ∷ visit) = left-entries_from limit feed (table_after limit table feed p.0) visit
+table-entries_from limit feed table [] = refl
+table-entries_from limit feed table (p ∷ visit) = table-entries_from limit feed (table_after limit table feed p.0) visit
 
-left-entries : (limit feed : ℕ) (visit : Visit) → table_left limit (entries feed visit) ≡ left_alone limit feed (map (λ p. p.0) visit)
-unfolding table_left left_alone
-left-entries limit feed visit = left-entries_from limit feed [] visit
+table-entries : (limit feed : ℕ) (visit : Visit) → table_of_journal limit (entries feed visit) ≡ table_alone limit feed (map (λ p. p.0) visit)
+unfolding table_of_journal table_alone
+table-entries limit feed visit = table-entries_from limit feed [] visit
 
 -- a command that has its reply
 abbrev did : Cmd × Reply → Cmd × Outcome
@@ -209,17 +209,17 @@ answered_alone alone law limit batch feed journal text lines lawful explains non
     let parts : feed_entries feed journal ≡ entries feed one.front ++ e ∷ entries feed one.back =
     entries_explained law batch feed journal text lines explains ∙ (ap (entries feed) one.split ∙ map-append (λ p. record { feed = feed; cmd = p.0; reply = p.1 }) one.front ((cmd, one.reply) ∷ one.back)) in
     let here = stands_in journal feed (entries feed one.front) (entries feed one.back) e parts in
-    let left : table_left limit (feed_entries feed here.earlier) ≡ left_alone limit feed (commands earlier) =
-    ap (table_left limit) here.before ∙ (left-entries limit feed one.front ∙ (ap (left_alone limit feed) (sym (commands-did one.front)) ∙ ap (λ o. left_alone limit feed (commands o)) (sym one.before))) in
+    let same_table : table_of_journal limit (feed_entries feed here.earlier) ≡ table_alone limit feed (commands earlier) =
+    ap (table_of_journal limit) here.before ∙ (table-entries limit feed one.front ∙ (ap (table_alone limit feed) (sym (commands-did one.front)) ∙ ap (λ o. table_alone limit feed (commands o)) (sym one.before))) in
     one.had ∙ ap outcome.Did
-    (lawful.answered here.earlier e here.later here.split ∙ ((alone limit feed here.earlier cmd).1 own ∙ ap (λ table. reply_of limit table feed cmd) left))
+    (lawful.answered here.earlier e here.later here.split ∙ ((alone limit feed here.earlier cmd).1 own ∙ ap (λ table. reply_of limit table feed cmd) same_table))
 
 -- what a feed has in the table is what its commands leave by themselves
 routes_alone : FeedsStandAlone → EntriesOfVisits → (limit batch feed : ℕ) (journal : List Entry) (text : List ℕ) (lines : List LineOutcome) (cmd : Cmd)
-    → Explains batch feed journal text lines → some_refused lines ≡ false → feed_routes feed (table_left limit journal) ≡ left_alone limit feed (commands (asked_of lines))
+    → Explains batch feed journal text lines → some_refused lines ≡ false → feed_routes feed (table_of_journal limit journal) ≡ table_alone limit feed (commands (asked_of lines))
 routes_alone alone law limit batch feed journal text lines cmd explains none =
-    (alone limit feed journal cmd).0 ∙ (ap (table_left limit) (entries_explained law batch feed journal text lines explains)
-    ∙ (left-entries limit feed (visit_of (asked_of lines)) ∙ ap (left_alone limit feed) (sym (commands-visit lines none))))
+    (alone limit feed journal cmd).0 ∙ (ap (table_of_journal limit) (entries_explained law batch feed journal text lines explains)
+    ∙ (table-entries limit feed (visit_of (asked_of lines)) ∙ ap (table_alone limit feed) (sym (commands-visit lines none))))
 
 -- what the k-th text's lines became, and that the journal explains it as this feed's
 record IsOfFeed (batch feed k : ℕ) (journal : List Entry) (outcomes : List (List LineOutcome)) (text : List ℕ) : Type 0 where
@@ -264,7 +264,7 @@ not_5 true other status e not = absurd (not e)
 not_5 false other status e not = refl
 
 -- so the status of a run tells that none was
-none_refused : (outcomes : List (List LineOutcome)) (status : ℕ) → status ≡ status_of outcomes → status ≢ 5 → list_any some_refused outcomes ≡ false
+none_refused : (outcomes : List (List LineOutcome)) (status : ℕ) → status ≡ outcomes_status outcomes → status ≢ 5 → list_any some_refused outcomes ≡ false
 none_refused outcomes status = not_5 (list_any some_refused outcomes) (if list_any some_faulty outcomes then 2 else 0) status
 
 -- a feed that has an entry has a text
@@ -300,21 +300,21 @@ from_own feed r table c =
     All-contains (Contains table) (feed_routes feed table) r (All-filter (λ s. s.feed == feed) (Contains table) table (All-contains_itself table)) c
 
 -- what a journal leaves is the union of what each text leaves by itself
-pub left_union : FeedsStandAlone → LeftByEntry → EntriesOfVisits → TextHasOneReading → (texts : List (List ℕ)) (limit batch : ℕ) (journal : List Entry)
-    (outcomes : List (List LineOutcome)) → IsHistory texts limit batch journal outcomes → list_any some_refused outcomes ≡ false → IsUnion texts limit (table_left limit journal)
-left_union alone left law once texts limit batch journal outcomes history none =
-    let table = table_left limit journal in
+pub union_of_run : FeedsStandAlone → TableByEntry → EntriesOfVisits → TextHasOneReading → (texts : List (List ℕ)) (limit batch : ℕ) (journal : List Entry)
+    (outcomes : List (List LineOutcome)) → IsHistory texts limit batch journal outcomes → list_any some_refused outcomes ≡ false → IsUnion texts limit (table_of_journal limit journal)
+union_of_run alone by_entry law once texts limit batch journal outcomes history none =
+    let table = table_of_journal limit journal in
     let of_feed = λ (k : ℕ) (text : List ℕ) (is : slice_get texts k ≡ Some text). of_text batch 1 k (k + 1) journal texts outcomes text (omega arith) history.explained is in
     let routes = λ (k : ℕ) (text : List ℕ) (here : IsOfFeed batch (k + 1) k journal outcomes text).
     routes_alone alone law limit batch (k + 1) journal text here.lines Dump here.explains (none_of_one outcomes k here.lines none here.stands) in
     record {
-      table = left.table limit journal;
+      table = by_entry.table limit journal;
       contains = λ r. (
         (λ c.
             let own : Contains (feed_routes r.feed table) r = among_own r table c in
             elim (has_text journal (length texts) r.feed history.no_other (feed_entries r.feed journal) refl) [
               | inl empty ↦
-                  absurd (nothing r (subst (λ l. Contains l r) ((alone limit r.feed journal Dump).0 ∙ (ap (table_left limit) empty ∙ left.empty limit)) own))
+                  absurd (nothing r (subst (λ l. Contains l r) ((alone limit r.feed journal Dump).0 ∙ (ap (table_of_journal limit) empty ∙ by_entry.empty limit)) own))
               | inr within ↦
                   let k = r.feed - 1 in
                   let number : r.feed ≡ k + 1 = omega arith in
@@ -335,15 +335,15 @@ left_union alone left law once texts limit batch journal outcomes history none =
             let text = some.1.0 in
             let here = of_feed k text some.1.2 in
             let same = one_asking once text some.1.1 (commands (asked_of here.lines)) some.1.3 (here.lines, here.explains.becomes, refl) in
-            let own = subst (λ l. Contains l r) (ap (left_alone limit (k + 1)) same ∙ sym (routes k text here)) some.1.4 in
+            let own = subst (λ l. Contains l r) (ap (table_alone limit (k + 1)) same ∙ sym (routes k text here)) some.1.4 in
             from_own (k + 1) r table own),
       );
     }
 
-pub ends_in_union : FeedsStandAlone → LeftByEntry → EntriesOfVisits → TextHasOneReading → EndsInUnion
-ends_in_union alone left law once texts limit batch bytes status run not = (
-  table_left limit run.journal,
-  left_union alone left law once texts limit batch run.journal run.outcomes run.history (none_refused run.outcomes status run.is_status not),
+pub ends_in_union : FeedsStandAlone → TableByEntry → EntriesOfVisits → TextHasOneReading → EndsInUnion
+ends_in_union alone by_entry law once texts limit batch bytes status run not = (
+  table_of_journal limit run.journal,
+  union_of_run alone by_entry law once texts limit batch run.journal run.outcomes run.history (none_refused run.outcomes status run.is_status not),
   run.printed,
 )
 
@@ -385,18 +385,18 @@ counts_some test [] = refl
 counts_some test (x ∷ xs) = ap (λ m. nat_lt 0 m) (sum_by-cons (λ y. cond (test y) 1 0) x xs) ∙ counts_more (test x) (list_any test xs) (count_by test xs) (counts_some test xs)
 
 -- so tallies tell of a refused command where there is one
-tallies_refused : (outcomes : List (List LineOutcome)) → list_any tally.some_refused (map tally_of (map (report_lines 1) outcomes)) ≡ list_any some_refused outcomes
+tallies_refused : (outcomes : List (List LineOutcome)) → list_any tally.has_refused (map tally_of (map (report_lines 1) outcomes)) ≡ list_any some_refused outcomes
 tallies_refused [] = refl
 tallies_refused (lines ∷ outcomes) =
-    ap (λ b. b || list_any tally.some_refused (map tally_of (map (report_lines 1) outcomes))) (counts_some (λ (line : Line). is_refusal line.answer) (report_lines 1 lines) ∙ has_refusal-report_lines 1 lines)
+    ap (λ b. b || list_any tally.has_refused (map tally_of (map (report_lines 1) outcomes))) (counts_some (λ (line : Line). is_refusal line.answer) (report_lines 1 lines) ∙ has_refusal-report_lines 1 lines)
     ∙ ap (λ b. some_refused lines || b) (tallies_refused outcomes)
 
-pub shows_union : FeedsStandAlone → LeftByEntry → EntriesOfVisits → TextHasOneReading → ShowsUnion
-shows_union alone left law once texts limit batch text_of bytes taken is not =
+pub shows_union : FeedsStandAlone → TableByEntry → EntriesOfVisits → TextHasOneReading → ShowsUnion
+shows_union alone by_entry law once texts limit batch text_of bytes taken is not =
     let status = is.told.is_status ∙ ap tallies_status is.told.tallied in
-    let none = sym (tallies_refused is.outcomes) ∙ not_5 (list_any tally.some_refused (map tally_of (map (report_lines 1) is.outcomes))) _ taken.status status not in (
-      table_left limit is.journal,
-      left_union alone left law once texts limit batch is.journal is.outcomes is.history none,
+    let none = sym (tallies_refused is.outcomes) ∙ not_5 (list_any tally.has_refused (map tally_of (map (report_lines 1) is.outcomes))) _ taken.status status not in (
+      table_of_journal limit is.journal,
+      union_of_run alone by_entry law once texts limit batch is.journal is.outcomes is.history none,
       is.shown,
     )
 

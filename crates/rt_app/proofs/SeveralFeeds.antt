@@ -6,7 +6,7 @@ use Rattle.std.proofs.lemmas.List.{get_or-map, get_or-drop, get_or-append_right,
 use Rattle.std.proofs.lemmas.List.Elements.{All-nil}
 use Rattle.std.proofs.lemmas.Option.{slice_get-get_or, slice_get_within, same_Some}
 use Rattle.rt_rib.specs.declared.commands.Entry.{Entry}
-use Rattle.rt_rib.specs.Book.{Contents, table_of}
+use Rattle.rt_rib.specs.Book.{BookContents, table_of}
 use Rattle.rt_shared.specs.Table.{SharedId, HeldPass, ArePassesOf, Settles}
 use Rattle.rt_shared.specs.Visits.{Since, Uncut}
 use Rattle.rt_feed.specs.declared.report.Line.{Line}
@@ -14,13 +14,13 @@ use Rattle.rt_feed.specs.declared.feeds.Feed.{Feed}
 use Rattle.rt_feed.specs.Reports.{has_refusal, has_fault}
 use Rattle.rt_feed.specs.LineOutcomes.{LineOutcome, report_lines, some_refused, some_faulty}
 use Rattle.rt_feed.specs.Visits.{Visit, visit_of, entries}
-use Rattle.rt_feed.specs.Running.{RunsFeed, StopsWithin}
+use Rattle.rt_feed.specs.FeedRuns.{RunsFeed, StopsWithin}
 use Rattle.rt_feed.specs.Feeds.{RunsOne}
 use Rattle.rt_feed.specs.Printed.{table_text}
 use Rattle.rt_feed.proofs.Promised.{has_refusal-report_lines, has_fault-report_lines}
 use Rattle.rt_shared.proofs.Promised.{uncut_since}
-use Rattle.rt_app.specs.RunText.{Explains, ExplainsFrom, reports_text, IsRunText, status_of}
-use Rattle.rt_app.specs.inside.Running.{HasRun, reports_status}
+use Rattle.rt_app.specs.RunText.{Explains, ExplainsFrom, reports_text, IsRunText, outcomes_status}
+use Rattle.rt_app.specs.inside.RunResults.{RunOverBook, reports_status}
 
 -- what a gate to the table holds, and its name
 abbrev pub holds : HeldPass → List Visit → Type 0
@@ -244,8 +244,8 @@ module _ {V : Type 0} (items : V → List ℕ) (texts : List V) (table : SharedI
           explained batch m journal (items (get_or texts i t')) old new report runs unseen mine since
 
       -- so the texts were run to their ends
-      pub has_run : (book : Contents) → book.journal ≡ journal → book.limit ≡ table.limit → HasRun (map items texts) table.limit batch reports book
-      has_run book journaled limited =
+      pub run_over_book : (book : BookContents) → book.journal ≡ journal → book.limit ≡ table.limit → RunOverBook (map items texts) table.limit batch reports book
+      run_over_book book journaled limited =
           let all = all_explained items batch 1 journal texts reports n_reports explained_at in
           record {
             limited = limited;
@@ -269,11 +269,11 @@ some_fault [] = refl
 some_fault (lines ∷ outcomes) = rw (has_fault-report_lines 1 lines, some_fault outcomes) refl
 
 -- so the status of the reports is that of what the lines became
-pub reports_status-lines : (outcomes : List (List LineOutcome)) → reports_status (map (report_lines 1) outcomes) ≡ status_of outcomes
+pub reports_status-lines : (outcomes : List (List LineOutcome)) → reports_status (map (report_lines 1) outcomes) ≡ outcomes_status outcomes
 reports_status-lines outcomes = rw (some_refusal outcomes, some_fault outcomes) refl
 
 -- what is written of them is a run's text
-pub run_text : (texts : List (List ℕ)) (limit batch : ℕ) (reports : List (List Line)) (book : Contents) (bytes : List ℕ) → HasRun texts limit batch reports book
+pub run_text : (texts : List (List ℕ)) (limit batch : ℕ) (reports : List (List Line)) (book : BookContents) (bytes : List ℕ) → RunOverBook texts limit batch reports book
     → bytes ≡ reports_text 1 reports ++ table_text (table_of book) → IsRunText texts limit batch bytes (reports_status reports)
 run_text texts limit batch reports book bytes ran printed = record {
   journal = book.journal;

@@ -5,23 +5,23 @@ use Rattle.ya_core.specs.declared.process.Process.{Process}
 use Rattle.ya_core.specs.declared.process.Process.TheVariants.{Idle, Entering, Inside, Leaving}
 use Rattle.ya_core.specs.declared.step.Step.{Step}
 use Rattle.ya_core.specs.Steps.{State, StepsTo, opening, access_of, next_of, value_of}
-use Rattle.ya_core.specs.Tree.{HasShape}
-use Rattle.ya_core.specs.Soundness.{IsSound}
+use Rattle.ya_core.specs.ArbitrationTree.{HasShape}
+use Rattle.ya_core.specs.Soundness.{IsSoundState}
 use Rattle.ya_core.specs.Machines.{ReplaysTo, Replays, mark_of, step_of}
 use Rattle.ya_core.specs.Worlds.{IsInside, TellsInside, is_inside}
 use Rattle.ya_core.proofs.Promised.{opens, keeps, excludes}
-use Rattle.rt_app.specs.inside.ReplayText.{enters, inside_next, inside_after}
+use Rattle.rt_app.specs.inside.ReplayText.{wins_root, inside_next, inside_after}
 use Rattle.rt_app.specs.ReplayText.{replay_text_of, IsReplayText}
 use Rattle.rt_app.specs.inside.ReplayText as text
 
 -- a step is marked as one that won the root where it leads inside
-enters_is : (x : Process) → enters (mark_of x) ≡ is_inside x
-enters_is Idle = refl
-enters_is (Entering level point) = refl
-enters_is Inside = refl
-enters_is (Leaving level point) = refl
+wins_root_is : (x : Process) → wins_root (mark_of x) ≡ is_inside x
+wins_root_is Idle = refl
+wins_root_is (Entering level point) = refl
+wins_root_is Inside = refl
+wins_root_is (Leaving level point) = refl
 
-module _ (levels place : ℕ) (s after : State) (some : 1 ≤ levels) (sound : IsSound levels after) (step : StepsTo levels place s after) where
+module _ (levels place : ℕ) (s after : State) (some : 1 ≤ levels) (sound : IsSoundState levels after) (step : StepsTo levels place s after) where
   -- who else is inside after the step was so before it
   was_inside : is_inside (after.processes place) ≡ false → (q : ℕ) → IsInside after q → (q ≢ place) × IsInside s q
   was_inside out q h =
@@ -34,7 +34,7 @@ module _ (levels place : ℕ) (s after : State) (some : 1 ≤ levels) (sound : I
       (λ e. let same : place ≡ q = cc in subst (IsInside after) same won, λ h. ap (λ p. Some p) (excludes levels place q after some sound won h))
 
   tells_out : is_inside (after.processes place) ≡ false → (inside : Option ℕ) → TellsInside s inside
-      → TellsInside after (if text.is_inside inside place then None else inside)
+      → TellsInside after (if text.is_the_one_inside inside place then None else inside)
   tells_out out None tells q = (λ e. absurd cc, λ h. (tells q).1 (was_inside out q h).1)
   tells_out out (Some p) tells q = cases (p == place) refl q
     where
@@ -62,17 +62,17 @@ module _ (levels place : ℕ) (s after : State) (some : 1 ≤ levels) (sound : I
       next : Process
       next = next_of levels place (s.processes place) (value_of s.words (access_of levels place (s.processes place)))
 
-      marked : (b : Bool) → is_inside (after.processes place) ≡ b → enters (mark_of next) ≡ b
-      marked b e = enters_is next ∙ (ap is_inside (sym step.process) ∙ e)
+      marked : (b : Bool) → is_inside (after.processes place) ≡ b → wins_root (mark_of next) ≡ b
+      marked b e = wins_root_is next ∙ (ap is_inside (sym step.process) ∙ e)
 
       cases : (b : Bool) → is_inside (after.processes place) ≡ b → TellsInside after (inside_next inside (step_of levels place s))
       cases true won =
-          subst (λ b. TellsInside after (if b then Some place else (if text.is_inside inside place then None else inside))) (sym (marked true won)) (tells_won won)
+          subst (λ b. TellsInside after (if b then Some place else (if text.is_the_one_inside inside place then None else inside))) (sym (marked true won)) (tells_won won)
       cases false out =
-          subst (λ b. TellsInside after (if b then Some place else (if text.is_inside inside place then None else inside))) (sym (marked false out)) (tells_out out inside tells)
+          subst (λ b. TellsInside after (if b then Some place else (if text.is_the_one_inside inside place then None else inside))) (sym (marked false out)) (tells_out out inside tells)
 
 -- so do all steps, one after another
-tells_from : (levels : ℕ) (picks : List ℕ) (steps : List Step) (s last : State) (inside : Option ℕ) → 1 ≤ levels → IsSound levels s → TellsInside s inside
+tells_from : (levels : ℕ) (picks : List ℕ) (steps : List Step) (s last : State) (inside : Option ℕ) → 1 ≤ levels → IsSoundState levels s → TellsInside s inside
     → ReplaysTo levels s picks steps last → TellsInside last (fold inside_next inside steps)
 tells_from levels [] [] s last inside some sound tells run = subst (λ t. TellsInside t inside) (sym run) tells
 tells_from levels (place ∷ picks) (step ∷ steps) s last inside some sound tells run =

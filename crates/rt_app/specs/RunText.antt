@@ -5,7 +5,7 @@ use Rattle.std.specs.Io.KnownBytes.{Appends}
 use Rattle.rt_cidr.specs.Output.{AppendsBeginning}
 use Rattle.rt_rib.specs.declared.commands.Cmd.{Cmd}
 use Rattle.rt_rib.specs.declared.commands.Entry.{Entry}
-use Rattle.rt_rib.specs.Journal.{IsLawfulJournal, table_left}
+use Rattle.rt_rib.specs.Journal.{IsLawfulJournal, table_of_journal}
 use Rattle.rt_shared.specs.declared.outcome.Outcome.{Outcome}
 use Rattle.rt_shared.specs.Visits.{Uncut}
 use Rattle.rt_feed.specs.declared.report.Line.{Line}
@@ -38,8 +38,8 @@ reports_text feed [] = []
 reports_text feed (report ∷ reports) = report_text feed report ++ reports_text (feed + 1) reports
 
 -- 5 where some command was refused for want of memory, else 2 where some line was faulty, else 0
-abbrev pub status_of : List (List LineOutcome) → ℕ
-status_of outcomes =
+abbrev pub outcomes_status : List (List LineOutcome) → ℕ
+outcomes_status outcomes =
     if list_any some_refused outcomes then 5
     else if list_any some_faulty outcomes then 2 else 0
 
@@ -56,14 +56,14 @@ pub record IsRunText (texts : List (List ℕ)) (limit batch : ℕ) (bytes : List
   pub journal : List Entry
   pub outcomes : List (List LineOutcome)
   pub history : IsHistory texts limit batch journal outcomes
-  pub printed : bytes ≡ reports_text 1 (map (report_lines 1) outcomes) ++ table_text (table_left limit journal)
-  pub is_status : status ≡ status_of outcomes
+  pub printed : bytes ≡ reports_text 1 (map (report_lines 1) outcomes) ++ table_text (table_of_journal limit journal)
+  pub is_status : status ≡ outcomes_status outcomes
 
 -- what a run leaves in its writer: such a text; nothing where it was refused, which it never is as F2, nor as a replay is;
 -- a beginning of such a text where it could not be written
-abbrev pub Leaves : List (List ℕ) → ℕ → ℕ → Option (List ℕ) → Option (List ℕ) → Result ℕ AppFault → Type 0
-Leaves texts limit batch old new (Ok status) = (bytes : List ℕ) × IsRunText texts limit batch bytes status × Appends old new bytes
-Leaves texts limit batch old new (Err (Run refusal)) = (refusal ≢ fault.FeedCount) × (new ≡ old)
-Leaves texts limit batch old new (Err (Replay fault)) = ⊥
-Leaves texts limit batch old new (Err Write) =
+abbrev pub LeavesRunText : List (List ℕ) → ℕ → ℕ → Option (List ℕ) → Option (List ℕ) → Result ℕ AppFault → Type 0
+LeavesRunText texts limit batch old new (Ok status) = (bytes : List ℕ) × IsRunText texts limit batch bytes status × Appends old new bytes
+LeavesRunText texts limit batch old new (Err (Run refusal)) = (refusal ≢ fault.FeedCount) × (new ≡ old)
+LeavesRunText texts limit batch old new (Err (Replay fault)) = ⊥
+LeavesRunText texts limit batch old new (Err Write) =
     (bytes : List ℕ) × (status : ℕ) × IsRunText texts limit batch bytes status × AppendsBeginning old new bytes

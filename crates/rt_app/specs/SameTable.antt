@@ -24,13 +24,13 @@ abbrev pub Asks : List ℕ → List Cmd → Type 0
 Asks text cmds = (lines : List LineOutcome) × Becomes text lines [] × (cmds ≡ commands (asked_of lines))
 
 -- the set that a feed's commands leave by themselves, from the empty set on, where a feed may have so many routes
-unfoldable pub left_alone : ℕ → ℕ → List Cmd → List Route
-left_alone limit feed cmds = fold (λ table cmd. table_after limit table feed cmd) [] cmds
+unfoldable pub table_alone : ℕ → ℕ → List Cmd → List Route
+table_alone limit feed cmds = fold (λ table cmd. table_after limit table feed cmd) [] cmds
 
 -- the text at place k, whose feed is k + 1, asks commands that leave the route by themselves
 abbrev pub LeavesAlone : List (List ℕ) → ℕ → ℕ → Route → Type 0
 LeavesAlone texts limit k r =
-    (text : List ℕ) × (cmds : List Cmd) × (slice_get texts k ≡ Some text) × Asks text cmds × Contains (left_alone limit (k + 1) cmds) r
+    (text : List ℕ) × (cmds : List Cmd) × (slice_get texts k ≡ Some text) × Asks text cmds × Contains (table_alone limit (k + 1) cmds) r
 
 -- the table that contains a route exactly where some text leaves it by itself
 pub record IsUnion (texts : List (List ℕ)) (limit : ℕ) (union : List Route) : Type 0 where
@@ -42,7 +42,7 @@ pub record IsUnion (texts : List (List ℕ)) (limit : ℕ) (union : List Route) 
 abbrev pub IsAnsweredAlone : ℕ → ℕ → List (Cmd × Outcome) → Type 0
 IsAnsweredAlone limit feed asked =
     (earlier later : List (Cmd × Outcome)) (cmd : Cmd) (outcome : Outcome) → asked ≡ earlier ++ (cmd, outcome) ∷ later → is_own cmd ≡ true
-    → outcome ≡ Did (reply_of limit (left_alone limit feed (commands earlier)) feed cmd)
+    → outcome ≡ Did (reply_of limit (table_alone limit feed (commands earlier)) feed cmd)
 
 -- the reports of what a run's lines became
 abbrev pub printed_reports : List (List LineOutcome) → List ℕ

@@ -9,7 +9,7 @@ use Rattle.rt_rib.specs.declared.commands.Entry.{Entry}
 use Rattle.rt_rib.specs.declared.commands.Reply.{Reply}
 use Rattle.rt_rib.specs.declared.commands.Reply.TheVariants.{Full}
 use Rattle.rt_rib.specs.LookUp.{look_up, best_routes}
-use Rattle.rt_rib.specs.Journal.{table_left}
+use Rattle.rt_rib.specs.Journal.{table_of_journal}
 use Rattle.rt_feed.specs.declared.report.Line.{Line}
 use Rattle.rt_feed.specs.declared.report.Answer.{Answer}
 use Rattle.rt_feed.specs.declared.report.Answer.TheVariants.{Did, Refused, Fault}
@@ -52,17 +52,17 @@ tally_of report = record {
 }
 
 -- a command was refused for want of memory
-abbrev pub some_refused : Tally → Bool
-some_refused tally = nat_lt 0 tally.refused
+abbrev pub has_refused : Tally → Bool
+has_refused tally = nat_lt 0 tally.refused
 
 -- a line was faulty, or an `add` over the limit
-abbrev pub some_left_out : Tally → Bool
-some_left_out tally = nat_lt 0 tally.faulty || nat_lt 0 tally.full
+abbrev pub has_left_out : Tally → Bool
+has_left_out tally = nat_lt 0 tally.faulty || nat_lt 0 tally.full
 
 -- 5 where some command was refused for want of memory, else 2 where some line was faulty or some `add` over the limit,
 -- else 0
 abbrev pub tallies_status : List Tally → ℕ
-tallies_status tallies = if list_any some_refused tallies then 5 else if list_any some_left_out tallies then 2 else 0
+tallies_status tallies = if list_any has_refused tallies then 5 else if list_any has_left_out tallies then 2 else 0
 
 -- the reports are tallied, and the status is that of the tallies
 pub record IsTaken (reports : List (List Line)) (taken : Taken) : Type 0 where
@@ -74,7 +74,7 @@ pub record IsShown (texts : List (List ℕ)) (limit batch : ℕ) (text_of : List
   pub journal : List Entry
   pub outcomes : List (List LineOutcome)
   pub history : IsHistory texts limit batch journal outcomes
-  pub shown : bytes ≡ text_of (table_left limit journal)
+  pub shown : bytes ≡ text_of (table_of_journal limit journal)
   pub told : IsTaken (map (report_lines 1) outcomes) taken
 
 -- what such a run leaves in its writer: such bytes; nothing where it was refused, which it never is as F2; a beginning of

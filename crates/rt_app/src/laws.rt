@@ -3,7 +3,7 @@
 ghost use Rattle.rt_app.specs.SameTable.{EndsInUnion, AnswersAlone, EndInOneTable, ShowsUnion, ShowOneTable};
 
 use rt_feed::laws::one_reading;
-use rt_rib::laws::{feeds_stand_alone, left_by_entry, one_table_of_set};
+use rt_rib::laws::{feeds_stand_alone, one_table_of_set, table_by_entry};
 use rt_shared::laws::visits;
 
 /// Where no command was refused for want of memory, a run ends in the table of the union, over all its texts, of the
@@ -12,7 +12,7 @@ pub fn ends_in_union()
     ensures { EndsInUnion }
 {
     feeds_stand_alone();
-    left_by_entry();
+    table_by_entry();
     visits();
     one_reading();
 }
@@ -39,7 +39,7 @@ pub fn shows_union()
     ensures { ShowsUnion }
 {
     feeds_stand_alone();
-    left_by_entry();
+    table_by_entry();
     visits();
     one_reading();
 }

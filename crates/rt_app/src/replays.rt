@@ -2,10 +2,10 @@
 ghost use Rattle.std.specs.Prelude.{◌≡◌, ◌↔◌, ◌≤◌, ◌<◌, ◌++◌, ◌^◌, [], length, codes, decimal, Any, OnOk, OnErr};
 ghost use Rattle.std.specs.Io.KnownBytes.{Appends};
 ghost use Rattle.rt_cidr.specs.Output.{AppendsBeginning};
-ghost use Rattle.rt_cidr.specs.ShortText.{Fits};
+ghost use Rattle.rt_cidr.specs.ShortText.{FitsInShortText};
 ghost use Rattle.rt_app.specs.ReplayText.{level_text, word_text, mark_text, sign_text, step_text, steps_text, inside_text, replay_text_of, LeavesReplay};
 ghost use Rattle.rt_app.specs.inside.ReplayText.{inside_next, inside_after};
-ghost use Rattle.ya_core.specs.Tree.{HasShape};
+ghost use Rattle.ya_core.specs.ArbitrationTree.{HasShape};
 
 use crate::faults::AppFault;
 use crate::output::{Output, write_buffered};
@@ -110,7 +110,7 @@ fn inside_next(inside: Option<usize>, step: &Step) -> Option<usize>
 /// The last line: who is inside.
 #[tactic(auto, using(rt_cidr::proofs::Promised::prepending), unfolding(crate::specs::ReplayText::inside_text))]
 fn prepend_inside(text: &mut ShortText, inside: Option<usize>)
-    requires room { Fits (inside_text inside) text.old }
+    requires room { FitsInShortText (inside_text inside) text.old }
     ensures { text.new ≡ inside_text inside ++ text.old }
 {
     match inside {
@@ -126,7 +126,7 @@ fn prepend_inside(text: &mut ShortText, inside: Option<usize>)
 /// The step's line.
 #[tactic(auto, using(rt_cidr::proofs::Promised::prepending), unfolding(crate::specs::ReplayText::step_text))]
 fn prepend_step(text: &mut ShortText, number: u64, step: &Step)
-    requires room { Fits (step_text number step.now) text.old }
+    requires room { FitsInShortText (step_text number step.now) text.old }
     ensures { text.new ≡ step_text number step.now ++ text.old }
 {
     text.prepend(mark_word(step.mark));
@@ -142,7 +142,7 @@ fn prepend_step(text: &mut ShortText, number: u64, step: &Step)
 /// The word's name.
 #[tactic(auto, using(rt_cidr::proofs::Promised::prepending), unfolding(crate::specs::ReplayText::word_text))]
 fn prepend_word(text: &mut ShortText, word: &Word)
-    requires room { Fits (word_text word.now) text.old }
+    requires room { FitsInShortText (word_text word.now) text.old }
     ensures { text.new ≡ word_text word.now ++ text.old }
 {
     match word {
@@ -159,7 +159,7 @@ fn prepend_word(text: &mut ShortText, word: &Word)
 /// A word's letter, its level, and its node or place.
 #[tactic(auto, using(rt_cidr::proofs::Promised::prepending), unfolding(crate::specs::ReplayText::level_text))]
 fn prepend_level(text: &mut ShortText, letter: &[u8; 1], level: u32, index: usize)
-    requires room { Fits (level_text letter.now level index) text.old }
+    requires room { FitsInShortText (level_text letter.now level index) text.old }
     ensures { text.new ≡ level_text letter.now level index ++ text.old }
 {
     text.prepend_decimal(index as u64);

@@ -3,8 +3,8 @@ ghost use Rattle.std.specs.Prelude.{◌≡◌, ◌≢◌, ◌↔◌, ℕ, List, 
 ghost use Rattle.rt_rib.specs.Book.{IsLimit};
 ghost use Rattle.std.specs.List.{list_any};
 ghost use Rattle.rt_feed.specs.Reports.{has_refusal, has_fault};
-ghost use Rattle.rt_app.specs.RunText.{Leaves};
-ghost use Rattle.rt_app.specs.inside.Running.{HasRun, HaveRun, reports_status};
+ghost use Rattle.rt_app.specs.RunText.{LeavesRunText};
+ghost use Rattle.rt_app.specs.inside.RunResults.{RunOverBook, RunBeforeSettle, reports_status};
 ghost use Rattle.rt_shared.specs.Table.{ArePassesOf};
 
 use crate::faults::AppFault;
@@ -44,7 +44,7 @@ pub fn run_texts<R: Threads + Wait + Sync, W: Write>(
     requires limited { IsLimit limit }
     requires few { length texts.now ≤ 64 }
     requires batched { 1 ≤ batch }
-    ensures text { Leaves (map (λ text. text.items) texts.now) limit batch (W.contents w.old) (W.contents w.new) result }
+    ensures text { LeavesRunText (map (λ text. text.items) texts.now) limit batch (W.contents w.old) (W.contents w.new) result }
     ensures no_text { (result ≡ Err (AppFault.Run RunFault.NoText)) ↔ (texts.now ≡ []) }
 {
     let ran = match run_all(rt, alloc, texts, limit, batch) {
@@ -75,7 +75,7 @@ pub(crate) fn run_all<R: Threads + Wait + Sync>(
     requires limited { IsLimit limit }
     requires few { length texts.now ≤ 64 }
     requires batched { 1 ≤ batch }
-    ensures ran { IfOk result (λ ran. HasRun (map (λ text. text.items) texts.now) limit batch ran.reports.items ran.book) }
+    ensures ran { IfOk result (λ ran. RunOverBook (map (λ text. text.items) texts.now) limit batch ran.reports.items ran.book) }
     ensures refused { result ≢ Err RunFault.FeedCount }
     ensures no_text { (result ≡ Err RunFault.NoText) ↔ (texts.now ≡ []) }
 {
@@ -113,7 +113,7 @@ fn run_passes<R: Threads + Wait + Sync>(
     requires fresh { All (λ p. p.seen ≡ []) passes.items }
     requires few { length texts.now ≤ length passes.items }
     requires batched { 1 ≤ batch }
-    ensures { IfOk result (λ ended. HaveRun (map (λ text. text.items) texts.now) batch table.now ended.passes.items ended.reports.items) }
+    ensures { IfOk result (λ ended. RunBeforeSettle (map (λ text. text.items) texts.now) batch table.now ended.passes.items ended.reports.items) }
 {
     let mut ended = Vec::with_capacity(alloc, passes.len())?;
     let mut reports = Vec::with_capacity(alloc, texts.len())?;
@@ -184,8 +184,8 @@ fn put_behind(passes: &mut Vec<FeedPass>, mut more: Vec<FeedPass>)
 /// Writes what a run has done, and gives its status.
 fn write_ran<W: Write>(alloc: Global, ran: &Ran, w: &mut W) -> Result<u8, AppFault>
     requires few { length ran.now.reports.items ≤ 64 }
-    ensures text { (texts : List (List ℕ)) (limit batch : ℕ) → HasRun texts limit batch ran.now.reports.items ran.now.book
-        → Leaves texts limit batch (W.contents w.old) (W.contents w.new) result }
+    ensures text { (texts : List (List ℕ)) (limit batch : ℕ) → RunOverBook texts limit batch ran.now.reports.items ran.now.book
+        → LeavesRunText texts limit batch (W.contents w.old) (W.contents w.new) result }
     ensures ran { result ≢ Err (AppFault.Run RunFault.NoText) }
 {
     let Ok(routes) = ran.book.routes(alloc) else {

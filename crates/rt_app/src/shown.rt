@@ -1,7 +1,7 @@
 //! What the finished table says: the answers of look-ups, or its routes, once all feeds have ended.
 ghost use Rattle.std.specs.Prelude.{◌≡◌, ◌≢◌, ◌↔◌, ℕ, List, ◌≤◌, [], map, length, if◌then◌else◌, IfOk};
 ghost use Rattle.rt_rib.specs.Book.{IsLimit, table_of};
-ghost use Rattle.rt_app.specs.inside.Running.{HasRun};
+ghost use Rattle.rt_app.specs.inside.RunResults.{RunOverBook};
 ghost use Rattle.rt_app.specs.TableText.{answers_text, routes_text, LeavesShown};
 ghost use Rattle.rt_rib.specs.LookUp.{best_routes};
 ghost use Rattle.rt_app.specs.inside.Outputs.{shown_text, Writes};
@@ -105,7 +105,7 @@ fn show_ran<W: Write>(
     shown: Shown<'_>,
     w: &mut W,
 ) -> Result<Taken, AppFault>
-    ensures text { (texts : List (List ℕ)) (limit batch : ℕ) → HasRun texts limit batch ran.now.reports.items ran.now.book
+    ensures text { (texts : List (List ℕ)) (limit batch : ℕ) → RunOverBook texts limit batch ran.now.reports.items ran.now.book
         → LeavesShown texts limit batch (shown_text shown.entry) (W.contents w.old) (W.contents w.new) result }
     ensures ran { result ≢ Err (AppFault.Run RunFault.NoText) }
 {

@@ -3,7 +3,7 @@ ghost use Rattle.std.specs.Prelude.{◌≡◌, count_by, find, map, IfOk};
 ghost use Rattle.std.specs.List.{list_any};
 ghost use Rattle.rt_feed.specs.declared.report.Line.{Line};
 ghost use Rattle.rt_feed.specs.Reports.{is_fault, is_refusal};
-ghost use Rattle.rt_app.specs.TableText.{was_full, tally_of, some_refused, some_left_out, tallies_status, IsTaken};
+ghost use Rattle.rt_app.specs.TableText.{was_full, tally_of, has_refused, has_left_out, tallies_status, IsTaken};
 
 use rt_feed::{Answer, Line, Report};
 use rt_rib::Reply;
@@ -30,15 +30,15 @@ pub struct Tally {
 
 impl Tally {
     /// Whether a command was refused for want of memory.
-    fn some_refused(&self) -> bool
-        ensures { result ≡ some_refused self.now }
+    fn has_refused(&self) -> bool
+        ensures { result ≡ has_refused self.now }
     {
         self.refused > 0
     }
 
     /// Whether a line was faulty, or an `add` over the limit.
-    fn some_left_out(&self) -> bool
-        ensures { result ≡ some_left_out self.now }
+    fn has_left_out(&self) -> bool
+        ensures { result ≡ has_left_out self.now }
     {
         self.faulty > 0 || self.full > 0
     }
@@ -130,13 +130,13 @@ fn status_of(tallies: &[Tally]) -> u8
 }
 
 fn any_refused(tallies: &[Tally]) -> bool
-    ensures { result ≡ list_any some_refused tallies.now }
+    ensures { result ≡ list_any has_refused tallies.now }
 {
-    tallies.iter().any(|tally| tally.some_refused())
+    tallies.iter().any(|tally| tally.has_refused())
 }
 
 fn any_left_out(tallies: &[Tally]) -> bool
-    ensures { result ≡ list_any some_left_out tallies.now }
+    ensures { result ≡ list_any has_left_out tallies.now }
 {
-    tallies.iter().any(|tally| tally.some_left_out())
+    tallies.iter().any(|tally| tally.has_left_out())
 }

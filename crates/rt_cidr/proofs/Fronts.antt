@@ -96,41 +96,41 @@ no_octet text value after read large n rest h =
     let same = decimal_read_once text value n after rest read (octet_is_decimal text n rest h) in
     omega (arith, same.0, h.is_piece.fits)
 
--- a text that begins with two joined pieces: the left one, the mark, the right one
-record Joins (IsLeft IsRight : List ℕ → ℕ → Type 0) (mark scale : ℕ) (text : List ℕ) (n : ℕ) (rest : List ℕ) : Type 0 where
-  left : ℕ
-  right : ℕ
+-- a text that begins with two joined pieces: the high one, the mark, the low one
+record Joins (IsHigh IsLow : List ℕ → ℕ → Type 0) (mark scale : ℕ) (text : List ℕ) (n : ℕ) (rest : List ℕ) : Type 0 where
+  high : ℕ
+  low : ℕ
   after : List ℕ
-  is_left : StartsBy IsLeft text left (mark ∷ after)
-  is_right : StartsBy IsRight after right rest
-  value : n ≡ left * scale + right
+  is_high : StartsBy IsHigh text high (mark ∷ after)
+  is_low : StartsBy IsLow after low rest
+  value : n ≡ high * scale + low
 
-module _ (IsLeft IsRight : List ℕ → ℕ → Type 0) (mark scale : ℕ) (mark_ends : 10 ≤ digit_value mark) (text : List ℕ) where
-  opened : (n : ℕ) (rest : List ℕ) → StartsBy (IsJoined IsLeft IsRight mark scale) text n rest →
-      Joins IsLeft IsRight mark scale text n rest
+module _ (IsHigh IsLow : List ℕ → ℕ → Type 0) (mark scale : ℕ) (mark_ends : 10 ≤ digit_value mark) (text : List ℕ) where
+  opened : (n : ℕ) (rest : List ℕ) → StartsBy (IsJoined IsHigh IsLow mark scale) text n rest →
+      Joins IsHigh IsLow mark scale text n rest
   opened n rest h =
       let both = h.is_piece in
       record {
-        left = both.left;
-        right = both.right;
-        after = both.right_text ++ rest;
-        is_left = record { piece = both.left_text; is_piece = both.is_left; joined = h.joined ∙ ap (λ t. t ++ rest) both.joined ∙ append_assoc both.left_text (mark ∷ both.right_text) rest; ends = mark_ends };
-        is_right = record { piece = both.right_text; is_piece = both.is_right; joined = refl; ends = h.ends };
+        high = both.high;
+        low = both.low;
+        after = both.low_text ++ rest;
+        is_high = record { piece = both.high_text; is_piece = both.is_high; joined = h.joined ∙ ap (λ t. t ++ rest) both.joined ∙ append_assoc both.high_text (mark ∷ both.low_text) rest; ends = mark_ends };
+        is_low = record { piece = both.low_text; is_piece = both.is_low; joined = refl; ends = h.ends };
         value = both.value;
       }
 
-  pub joined_front : (left right n : ℕ) (other after rest : List ℕ) → StartsBy IsLeft text left other →
-      other ≡ mark ∷ after → StartsBy IsRight after right rest → n ≡ left * scale + right →
-      StartsBy (IsJoined IsLeft IsRight mark scale) text n rest
-  joined_front left right n other after rest one marked two value = record {
+  pub joined_front : (high low n : ℕ) (other after rest : List ℕ) → StartsBy IsHigh text high other →
+      other ≡ mark ∷ after → StartsBy IsLow after low rest → n ≡ high * scale + low →
+      StartsBy (IsJoined IsHigh IsLow mark scale) text n rest
+  joined_front high low n other after rest one marked two value = record {
     piece = one.piece ++ mark ∷ two.piece;
     is_piece = record {
-      left_text = one.piece;
-      right_text = two.piece;
-      left = left;
-      right = right;
-      is_left = one.is_piece;
-      is_right = two.is_piece;
+      high_text = one.piece;
+      low_text = two.piece;
+      high = high;
+      low = low;
+      is_high = one.is_piece;
+      is_low = two.is_piece;
       joined = refl;
       value = value;
     };
@@ -138,65 +138,65 @@ module _ (IsLeft IsRight : List ℕ → ℕ → Type 0) (mark scale : ℕ) (mark
     ends = two.ends;
   }
 
-  -- nothing is read where the left piece, the mark or the right piece is missing
-  pub no_left : NoFront IsLeft text → NoFront (IsJoined IsLeft IsRight mark scale) text
-  no_left none n rest h = let parts = opened n rest h in none parts.left _ parts.is_left
+  -- nothing is read where the high piece, the mark or the low piece is missing
+  pub no_high : NoFront IsHigh text → NoFront (IsJoined IsHigh IsLow mark scale) text
+  no_high none n rest h = let parts = opened n rest h in none parts.high _ parts.is_high
 
-  pub no_mark : IsReadOnce IsLeft → (left : ℕ) (other : List ℕ) → StartsBy IsLeft text left other →
-      ((after : List ℕ) → other ≢ mark ∷ after) → NoFront (IsJoined IsLeft IsRight mark scale) text
-  no_mark once left other one none n rest h =
+  pub no_mark : IsReadOnce IsHigh → (high : ℕ) (other : List ℕ) → StartsBy IsHigh text high other →
+      ((after : List ℕ) → other ≢ mark ∷ after) → NoFront (IsJoined IsHigh IsLow mark scale) text
+  no_mark once high other one none n rest h =
       let parts = opened n rest h in
-      none parts.after (once text left parts.left other _ one parts.is_left).1
+      none parts.after (once text high parts.high other _ one parts.is_high).1
 
-  pub no_right : IsReadOnce IsLeft → (left : ℕ) (other after : List ℕ) → StartsBy IsLeft text left other →
-      other ≡ mark ∷ after → NoFront IsRight after →
-      NoFront (IsJoined IsLeft IsRight mark scale) text
-  no_right once left other after one marked none n rest h =
+  pub no_low : IsReadOnce IsHigh → (high : ℕ) (other after : List ℕ) → StartsBy IsHigh text high other →
+      other ≡ mark ∷ after → NoFront IsLow after →
+      NoFront (IsJoined IsHigh IsLow mark scale) text
+  no_low once high other after one marked none n rest h =
       let parts = opened n rest h in
-      let same : after ≡ parts.after = ap (λ t. drop 1 t) (sym marked ∙ (once text left parts.left other _ one parts.is_left).1) in
-      none parts.right rest (rw (sym same) at parts.is_right)
+      let same : after ≡ parts.after = ap (λ t. drop 1 t) (sym marked ∙ (once text high parts.high other _ one parts.is_high).1) in
+      none parts.low rest (rw (sym same) at parts.is_low)
 
-  joined_once_here : IsReadOnce IsLeft → IsReadOnce IsRight → (n m : ℕ) (rest others : List ℕ) →
-      StartsBy (IsJoined IsLeft IsRight mark scale) text n rest →
-      StartsBy (IsJoined IsLeft IsRight mark scale) text m others → (n ≡ m) × (rest ≡ others)
-  joined_once_here left_once right_once n m rest others one two =
+  joined_once_here : IsReadOnce IsHigh → IsReadOnce IsLow → (n m : ℕ) (rest others : List ℕ) →
+      StartsBy (IsJoined IsHigh IsLow mark scale) text n rest →
+      StartsBy (IsJoined IsHigh IsLow mark scale) text m others → (n ≡ m) × (rest ≡ others)
+  joined_once_here high_once low_once n m rest others one two =
       let first = opened n rest one in
       let second = opened m others two in
-      let left = left_once text first.left second.left _ _ first.is_left second.is_left in
-      let same : first.after ≡ second.after = ap (λ t. drop 1 t) left.1 in
-      let right = right_once second.after first.right second.right rest others (rw same at first.is_right) second.is_right in
-      (first.value ∙ rw (left.0, right.0) (sym second.value), right.1)
+      let high = high_once text first.high second.high _ _ first.is_high second.is_high in
+      let same : first.after ≡ second.after = ap (λ t. drop 1 t) high.1 in
+      let low = low_once second.after first.low second.low rest others (rw same at first.is_low) second.is_low in
+      (first.value ∙ rw (high.0, low.0) (sym second.value), low.1)
 
 -- joined pieces are read in one way where each of them is
-pub joined_read_once : (IsLeft IsRight : List ℕ → ℕ → Type 0) (mark scale : ℕ) → 10 ≤ digit_value mark →
-    IsReadOnce IsLeft → IsReadOnce IsRight → IsReadOnce (IsJoined IsLeft IsRight mark scale)
-joined_read_once IsLeft IsRight mark scale ends left right text = joined_once_here IsLeft IsRight mark scale ends text left right
+pub joined_read_once : (IsHigh IsLow : List ℕ → ℕ → Type 0) (mark scale : ℕ) → 10 ≤ digit_value mark →
+    IsReadOnce IsHigh → IsReadOnce IsLow → IsReadOnce (IsJoined IsHigh IsLow mark scale)
+joined_read_once IsHigh IsLow mark scale ends high low text = joined_once_here IsHigh IsLow mark scale ends text high low
 
 -- an address is two halves joined by a dot
 pub address_is_halves : (text : List ℕ) (address : ℕ) → IsAddressText text address →
     IsJoined IsHalfText IsHalfText dot (2 ^ 16) text address
 address_is_halves text address h = record {
-  left_text = h.first_text ++ dot ∷ h.second_text;
-  right_text = h.third_text ++ dot ∷ h.fourth_text;
-  left = h.first * 2 ^ 8 + h.second;
-  right = h.third * 2 ^ 8 + h.fourth;
-  is_left = record {
-    left_text = h.first_text;
-    right_text = h.second_text;
-    left = h.first;
-    right = h.second;
-    is_left = h.is_first;
-    is_right = h.is_second;
+  high_text = h.first_text ++ dot ∷ h.second_text;
+  low_text = h.third_text ++ dot ∷ h.fourth_text;
+  high = h.first * 2 ^ 8 + h.second;
+  low = h.third * 2 ^ 8 + h.fourth;
+  is_high = record {
+    high_text = h.first_text;
+    low_text = h.second_text;
+    high = h.first;
+    low = h.second;
+    is_high = h.is_first;
+    is_low = h.is_second;
     joined = refl;
     value = refl;
   };
-  is_right = record {
-    left_text = h.third_text;
-    right_text = h.fourth_text;
-    left = h.third;
-    right = h.fourth;
-    is_left = h.is_third;
-    is_right = h.is_fourth;
+  is_low = record {
+    high_text = h.third_text;
+    low_text = h.fourth_text;
+    high = h.third;
+    low = h.fourth;
+    is_high = h.is_third;
+    is_low = h.is_fourth;
     joined = refl;
     value = refl;
   };
@@ -207,22 +207,22 @@ address_is_halves text address h = record {
 pub halves_are_address : (text : List ℕ) (address : ℕ) →
     IsJoined IsHalfText IsHalfText dot (2 ^ 16) text address → IsAddressText text address
 halves_are_address text address h =
-    let high = h.is_left in
-    let low = h.is_right in
+    let high = h.is_high in
+    let low = h.is_low in
     record {
-      first_text = high.left_text;
-      second_text = high.right_text;
-      third_text = low.left_text;
-      fourth_text = low.right_text;
-      first = high.left;
-      second = high.right;
-      third = low.left;
-      fourth = low.right;
-      is_first = high.is_left;
-      is_second = high.is_right;
-      is_third = low.is_left;
-      is_fourth = low.is_right;
-      joined = h.joined ∙ rw (high.joined, low.joined) (append_assoc high.left_text (dot ∷ high.right_text) (dot ∷ (low.left_text ++ dot ∷ low.right_text)));
+      first_text = high.high_text;
+      second_text = high.low_text;
+      third_text = low.high_text;
+      fourth_text = low.low_text;
+      first = high.high;
+      second = high.low;
+      third = low.high;
+      fourth = low.low;
+      is_first = high.is_high;
+      is_second = high.is_low;
+      is_third = low.is_high;
+      is_fourth = low.is_low;
+      joined = h.joined ∙ rw (high.joined, low.joined) (append_assoc high.high_text (dot ∷ high.low_text) (dot ∷ (low.high_text ++ dot ∷ low.low_text)));
       value = omega (arith, h.value, high.value, low.value);
     }
 
@@ -254,7 +254,7 @@ address_read_once text n m rest others one two =
 
 -- a half has 16 bits, an address 32
 pub half_fits : (text : List ℕ) (n : ℕ) → IsHalfText text n → n < 2 ^ 16
-half_fits text n h = omega (arith, h.value, h.is_left.fits, h.is_right.fits)
+half_fits text n h = omega (arith, h.value, h.is_high.fits, h.is_low.fits)
 
 pub address_fits : (text : List ℕ) (n : ℕ) → IsAddressText text n → n < 2 ^ 32
 address_fits text n h = omega (arith, h.value, h.is_first.fits, h.is_second.fits, h.is_third.fits, h.is_fourth.fits)
@@ -264,13 +264,13 @@ module _ (IsText : List ℕ → ℕ → Type 0) (text : List ℕ) where
   pub front_of_whole : (n : ℕ) → IsText text n → StartsBy IsText text n []
   front_of_whole n h = record { piece = text; is_piece = h; joined = sym (append-nil text); ends = lit≤ tt }
 
-  -- a piece after which nothing is left is the whole text
+  -- a piece after which nothing stands is the whole text
   pub whole_of_front : (n : ℕ) (rest : List ℕ) → StartsBy IsText text n rest → length rest < 1 → IsText text n
   whole_of_front n rest h none =
       let whole : text ≡ h.piece = h.joined ∙ ap (λ t. h.piece ++ t) (nil_from_length rest (omega arith)) ∙ append-nil h.piece in
       rw whole h.is_piece
 
-  -- where something is left after the piece, or there is no piece, the whole text is none
+  -- where something stands after the piece, or there is no piece, the whole text is none
   pub no_whole_before : IsReadOnce IsText → (n : ℕ) (rest : List ℕ) → StartsBy IsText text n rest →
       1 ≤ length rest → (m : ℕ) → ¬ (IsText text m)
   no_whole_before once n rest h more m whole =
@@ -279,7 +279,7 @@ module _ (IsText : List ℕ → ℕ → Type 0) (text : List ℕ) where
   pub no_whole : NoFront IsText text → (m : ℕ) → ¬ (IsText text m)
   no_whole none m whole = none m [] (front_of_whole m whole)
 
--- a number below the cap is left as it is
+-- a number below the cap stays as it is
 pub capped_decimal : (text : List ℕ) (n : ℕ) → n < 2 ^ 32 → IsDecimal text n → IsCappedDecimal text n
 capped_decimal text n small h = record { n = n; spelled = h; is_value = omega arith }
 
@@ -299,12 +299,12 @@ pub pair_is_joined : (text : List ℕ) (address len : ℕ) → IsPrefixText text
     StartsBy (IsJoined IsAddressText IsCappedDecimal slash 0) text (capped len) []
 pair_is_joined text address len h =
     front_of_whole (IsJoined IsAddressText IsCappedDecimal slash 0) text (capped len) (record {
-      left_text = h.address_part;
-      right_text = h.len_part;
-      left = address;
-      right = capped len;
-      is_left = h.is_address;
-      is_right = record { n = len; spelled = h.is_len; is_value = refl };
+      high_text = h.address_part;
+      low_text = h.len_part;
+      high = address;
+      low = capped len;
+      is_high = h.is_address;
+      is_low = record { n = len; spelled = h.is_len; is_value = refl };
       joined = h.joined;
       value = omega arith;
     })
@@ -325,7 +325,7 @@ pair_of_pieces text other after address len one marked two = (
   two.is_value,
 )
 
--- and of none where something is left after the decimal
+-- and of none where something stands after the decimal
 pub no_pair_before : (text other after rest : List ℕ) (address len : ℕ) →
     StartsBy IsAddressText text address other → other ≡ slash ∷ after →
     StartsBy IsCappedDecimal after len rest → 1 ≤ length rest → ReadsPair text None

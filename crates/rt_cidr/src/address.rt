@@ -2,7 +2,7 @@
 ghost use Rattle.std.specs.Prelude.{◌≡◌, ◌++◌, OnOk, OnErr};
 ghost use Rattle.std.specs.Io.KnownBytes.{Appends};
 ghost use Rattle.rt_cidr.specs.Output.{AppendsBeginning};
-ghost use Rattle.rt_cidr.specs.ShortText.{Fits};
+ghost use Rattle.rt_cidr.specs.ShortText.{FitsInShortText};
 ghost use Rattle.rt_cidr.specs.Text.{IsAddressText, IsOctetText, address_text};
 ghost use Rattle.rt_cidr.specs.inside.Front.{ReadsFront, ReadsMark, IsHalfText};
 
@@ -36,7 +36,7 @@ impl Addr {
     /// Puts the address's text in front: its four octets joined by dots.
     #[tactic(auto, using(crate::proofs::ShortTexts::prepending), unfolding(crate::specs::Text::address_text))]
     pub fn prepend_to(&self, text: &mut ShortText)
-        requires room { Fits (address_text self.now.0) text.old }
+        requires room { FitsInShortText (address_text self.now.0) text.old }
         ensures { text.new ≡ address_text self.now.0 ++ text.old }
     {
         text.prepend_decimal(u64::from(self.0 % 256));

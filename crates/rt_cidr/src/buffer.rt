@@ -48,7 +48,7 @@ impl OutputRoom {
     }
 
     /// How many bytes more it can hold.
-    fn left(&self) -> usize
+    fn room(&self) -> usize
         ensures { length self.now + result ≡ OUTPUT_BYTES }
     {
         OUTPUT_BYTES - self.bytes.len()
@@ -80,9 +80,9 @@ fn remove_front(bytes: &mut Vec<u8>, count: usize)
     ensures len { vec_len bytes.new ≤ vec_len bytes.old }
     ensures capacity { vec_capacity bytes.new ≡ vec_capacity bytes.old }
 {
-    let left = bytes.len() - count;
+    let rest = bytes.len() - count;
     bytes.as_mut_slice().copy_within(count.., 0);
-    bytes.truncate(left);
+    bytes.truncate(rest);
 }
 
 /// Text on its way to a writer, gathered so that it goes out in few large writes. It is a writer itself, and takes no
@@ -146,7 +146,7 @@ impl<'w, W: Write> Write for OutputBuffer<'w, W> {
     /// Takes all of the text where there is room for it, if need be once what is held was written. Of a text that is
     /// longer than the whole buffer it takes what one `write` of the writer below takes.
     fn write(&mut self, text: &[u8]) -> io::Result<usize> {
-        if self.held.left() < text.len() {
+        if self.held.room() < text.len() {
             self.send()?;
             if OUTPUT_BYTES < text.len() {
                 return self.writer.write(text);

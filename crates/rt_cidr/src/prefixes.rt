@@ -2,7 +2,7 @@
 ghost use Rattle.std.specs.Prelude.{◌≡◌, ◌++◌, OnOk, OnErr};
 ghost use Rattle.std.specs.Io.KnownBytes.{Appends};
 ghost use Rattle.rt_cidr.specs.Output.{AppendsBeginning};
-ghost use Rattle.rt_cidr.specs.ShortText.{Fits};
+ghost use Rattle.rt_cidr.specs.ShortText.{FitsInShortText};
 ghost use Rattle.rt_cidr.specs.Text.{prefix_text};
 ghost use Rattle.rt_cidr.specs.Cidr.{size_of, IsPrefix};
 ghost use Rattle.rt_cidr.specs.inside.Front.{ReadsPair};
@@ -106,7 +106,7 @@ impl Prefix {
     /// Puts the prefix's text in front: its base, a slash and its length.
     #[tactic(auto, using(crate::proofs::ShortTexts::prepending), unfolding(crate::specs::Text::prefix_text))]
     pub fn prepend_to(&self, text: &mut ShortText)
-        requires room { Fits (prefix_text self.now.base self.now.len) text.old }
+        requires room { FitsInShortText (prefix_text self.now.base self.now.len) text.old }
         ensures { text.new ≡ prefix_text self.now.base self.now.len ++ text.old }
     {
         text.prepend_decimal(u64::from(self.len));

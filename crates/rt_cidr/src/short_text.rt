@@ -1,6 +1,6 @@
 //! A short text, built from its back to its front: what every printer of the product writes a line with.
 ghost use Rattle.std.specs.Prelude.{◌≡◌, ◌++◌, [], ◌≤◌, drop, decimal};
-ghost use Rattle.rt_cidr.specs.ShortText.{Fits};
+ghost use Rattle.rt_cidr.specs.ShortText.{FitsInShortText};
 
 use std::marker::Model;
 
@@ -53,7 +53,7 @@ impl ShortText {
 
     /// Puts the bytes in front.
     pub fn prepend(&mut self, text: &[u8])
-        requires room { Fits text.now self.old }
+        requires room { FitsInShortText text.now self.old }
         ensures { self.new ≡ text.now ++ self.old }
     {
         let start = self.start - text.len();
@@ -63,7 +63,7 @@ impl ShortText {
 
     /// Puts the number's decimal in front.
     pub fn prepend_decimal(&mut self, n: u64)
-        requires room { Fits (decimal n) self.old }
+        requires room { FitsInShortText (decimal n) self.old }
         ensures { self.new ≡ decimal n ++ self.old }
     {
         self.start = itoa::write_digits(n, &mut self.buf, self.start);

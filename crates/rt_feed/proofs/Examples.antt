@@ -29,7 +29,7 @@ use Rattle.rt_feed.specs.Addresses.{AnswersAddressLine}
 use Rattle.rt_feed.specs.Lines.{lf, CutsLine}
 use Rattle.rt_feed.specs.Versions.{TellsTwo, IsBody}
 use Rattle.rt_feed.specs.LineOutcomes.{LineOutcome, skipped, faulty, asked, reading, heading, LinesBecome, Becomes, line_answer, answer_of, numbered, report_lines, asked_by, asked_of, was_refused, was_faulty, some_refused, some_faulty}
-use Rattle.rt_feed.specs.Visits.{visit_of, reply_to, entries, joined, piece_of, IsCut}
+use Rattle.rt_feed.specs.Visits.{visit_of, reply_to, entries, concatenated, piece_of, IsCut}
 use Rattle.rt_feed.specs.Printed.{hop_text, route_text, reply_text, fault_text, answer_text, line_text, report_text, row_text, count_text, rows_text, table_text, found_text}
 
 -- the address 192.0.2.1, and the command of the first line of examples/first.feed
@@ -443,8 +443,8 @@ first_is_whole size piece other more [] [] full same = cc
 first_is_whole size piece other more [] (x ∷ xs) full same = cc
 first_is_whole size piece other more (one ∷ whole) last full same = let first : piece ≡ one = cc in ap length first ∙ full 0 one (omega arith)
 
--- joined
-one_after_another : joined {X = ℕ} ((1 ∷ 2 ∷ []) ∷ [] ∷ (3 ∷ []) ∷ []) ≡ 1 ∷ 2 ∷ 3 ∷ []
+-- concatenated
+one_after_another : concatenated {X = ℕ} ((1 ∷ 2 ∷ []) ∷ [] ∷ (3 ∷ []) ∷ []) ≡ 1 ∷ 2 ∷ 3 ∷ []
 one_after_another = refl
 
 -- piece_of

@@ -6,7 +6,7 @@ use Rattle.std.proofs.lemmas.Grind.{take-set_at}
 use Rattle.std.proofs.lemmas.Bool.{cases_Bool}
 use Rattle.rt_shared.specs.declared.outcome.Outcome.{Outcome}
 use Rattle.rt_feed.specs.declared.report.Line.{Line}
-use Rattle.rt_feed.specs.Reports.{is_fault, IsRising}
+use Rattle.rt_feed.specs.Reports.{is_fault, NumbersRise}
 use Rattle.rt_feed.specs.LineOutcomes.{answer_of}
 use Rattle.rt_feed.specs.inside.Filling.{filled}
 
@@ -26,34 +26,34 @@ pub filled-given : (line : Line) (lines : List Line) (outcome : Outcome) (outcom
 filled-given line lines outcome outcomes is = rw is refl
 
 -- where no outcome is left all lines stay
-pub fills_none : (lines : List Line) (place : ℕ) → take place lines ++ filled (drop place lines) [] ≡ lines
-fills_none lines place = rw (filled-none, take-append-drop) refl
+pub fills_none : (lines : List Line) (index : ℕ) → take index lines ++ filled (drop index lines) [] ≡ lines
+fills_none lines index = rw (filled-none, take-append-drop) refl
 
-module _ (lines : List Line) (place : ℕ) (d : Line) (here : place < length lines) where
-  -- the lines up to a place and the one there
-  one_more : (rest : List Line) → take (place + 1) lines ++ rest ≡ take place lines ++ get_or lines place d ∷ rest
-  one_more rest = rw (add-one place, take-suc lines place d here) (append_assoc (take place lines) (get_or lines place d ∷ []) rest)
+module _ (lines : List Line) (index : ℕ) (d : Line) (here : index < length lines) where
+  -- the lines up to a index and the one there
+  one_more : (rest : List Line) → take (index + 1) lines ++ rest ≡ take index lines ++ get_or lines index d ∷ rest
+  one_more rest = rw (add-one index, take-suc lines index d here) (append_assoc (take index lines) (get_or lines index d ∷ []) rest)
 
   -- a fault stays
-  pub fills_fault : (outcomes : List Outcome) → is_fault (get_or lines place d).answer ≡ true
-      → take (place + 1) lines ++ filled (drop (place + 1) lines) outcomes ≡ take place lines ++ filled (drop place lines) outcomes
+  pub fills_fault : (outcomes : List Outcome) → is_fault (get_or lines index d).answer ≡ true
+      → take (index + 1) lines ++ filled (drop (index + 1) lines) outcomes ≡ take index lines ++ filled (drop index lines) outcomes
   fills_fault outcomes is =
-      one_more _ ∙ ap (λ rest. take place lines ++ rest) (sym (filled-fault (get_or lines place d) (drop (place + 1) lines) outcomes is)
-      ∙ ap (λ rest. filled rest outcomes) (sym (drop-cons lines place d here ∙ ap (λ n. get_or lines place d ∷ drop n lines) (sym (add-one place)))))
+      one_more _ ∙ ap (λ rest. take index lines ++ rest) (sym (filled-fault (get_or lines index d) (drop (index + 1) lines) outcomes is)
+      ∙ ap (λ rest. filled rest outcomes) (sym (drop-cons lines index d here ∙ ap (λ n. get_or lines index d ∷ drop n lines) (sym (add-one index)))))
 
   -- another line is given the next outcome
-  pub fills_line : (lines' : List Line) (outcome : Outcome) (outcomes : List Outcome) → is_fault (get_or lines place d).answer ≡ false
-      → lines' ≡ set lines place (record (get_or lines place d) { answer = answer_of outcome })
-      → take (place + 1) lines' ++ filled (drop (place + 1) lines') outcomes ≡ take place lines ++ filled (drop place lines) (outcome ∷ outcomes)
+  pub fills_line : (lines' : List Line) (outcome : Outcome) (outcomes : List Outcome) → is_fault (get_or lines index d).answer ≡ false
+      → lines' ≡ set lines index (record (get_or lines index d) { answer = answer_of outcome })
+      → take (index + 1) lines' ++ filled (drop (index + 1) lines') outcomes ≡ take index lines ++ filled (drop index lines) (outcome ∷ outcomes)
   fills_line lines' outcome outcomes is changed =
-      let line = get_or lines place d in
+      let line = get_or lines index d in
       let given = record line { answer = answer_of outcome } in
-      let first : take (place + 1) lines' ≡ take place lines ++ given ∷ [] = ap (take (place + 1)) changed ∙ take-set_at lines place (place + 1) given refl here in
-      let rest : drop (place + 1) lines' ≡ drop (place + 1) lines =
-      ap (drop (place + 1)) changed ∙ drop-set-lt (place + 1) lines place given (omega arith) in
-      let whole : drop place lines ≡ line ∷ drop (place + 1) lines = drop-cons lines place d here ∙ ap (λ n. line ∷ drop n lines) (sym (add-one place)) in
-      rw (first, rest, whole, filled-given line (drop (place + 1) lines) outcome outcomes is)
-      (append_assoc (take place lines) (given ∷ []) (filled (drop (place + 1) lines) outcomes))
+      let first : take (index + 1) lines' ≡ take index lines ++ given ∷ [] = ap (take (index + 1)) changed ∙ take-set_at lines index (index + 1) given refl here in
+      let rest : drop (index + 1) lines' ≡ drop (index + 1) lines =
+      ap (drop (index + 1)) changed ∙ drop-set-lt (index + 1) lines index given (omega arith) in
+      let whole : drop index lines ≡ line ∷ drop (index + 1) lines = drop-cons lines index d here ∙ ap (λ n. line ∷ drop n lines) (sym (add-one index)) in
+      rw (first, rest, whole, filled-given line (drop (index + 1) lines) outcome outcomes is)
+      (append_assoc (take index lines) (given ∷ []) (filled (drop (index + 1) lines) outcomes))
 
 -- numbers stay
 pub number-filled : (lines : List Line) (outcomes : List Outcome) (i : ℕ) (d : Line) → (get_or (filled lines outcomes) i d).number ≡ (get_or lines i d).number
@@ -77,7 +77,7 @@ length-filled (line ∷ lines) (outcome ∷ outcomes) = elim (cases_Bool (is_fau
   | inr other ↦ rw (filled-given line lines outcome outcomes other) (ap suc (length-filled lines outcomes))
 ]
 
--- the lines of which those from a place on were given outcomes
+-- the lines of which those from a index on were given outcomes
 refilled : ℕ → List Line → List Outcome → List Line
 refilled first lines outcomes = take first lines ++ filled (drop first lines) outcomes
 
@@ -94,7 +94,7 @@ length-refilled (suc first) [] outcomes = refl
 length-refilled (suc first) (line ∷ lines) outcomes = ap suc (length-refilled first lines outcomes)
 
 -- so they rise as before
-pub rising-refilled : (first : ℕ) (lines lines' : List Line) (outcomes : List Outcome) → IsRising lines → lines' ≡ take first lines ++ filled (drop first lines) outcomes → IsRising lines'
+pub numbers_rise-refilled : (first : ℕ) (lines lines' : List Line) (outcomes : List Outcome) → NumbersRise lines → lines' ≡ take first lines ++ filled (drop first lines) outcomes → NumbersRise lines'
 unfolding refilled
-rising-refilled first lines lines' outcomes rising is = rw is (λ i j d less here.
+numbers_rise-refilled first lines lines' outcomes rising is = rw is (λ i j d less here.
     omega (arith, rising i j d less (let same = length-refilled first lines outcomes in omega (arith, here, same)), number-refilled first lines outcomes i d, number-refilled first lines outcomes j d))

@@ -16,22 +16,22 @@ use Rattle.rt_feed.specs.Versions.{IsBody}
 use Rattle.rt_feed.specs.Grammar.{AnswersLine}
 use Rattle.rt_feed.specs.Lines.{CutsLine}
 use Rattle.rt_feed.specs.LineOutcomes.{LineOutcome, skipped, faulty, asked, reading, Becomes, heading, answer_of, line_answer, numbered, report_lines, asked_by, asked_of}
-use Rattle.rt_feed.specs.Visits.{Visit, Gains, joined, piece_of, visit_of, AnswersBatch}
+use Rattle.rt_feed.specs.Visits.{Visit, Gains, concatenated, piece_of, visit_of, AnswersBatch}
 use Rattle.rt_feed.specs.inside.Filling.{filled}
-use Rattle.rt_feed.specs.Running.{RunsFeed, StopsWithin, IsTold}
-use Rattle.rt_feed.specs.inside.Running.{AnswersWaiting, HasRead}
+use Rattle.rt_feed.specs.FeedRuns.{RunsFeed, StopsWithin, IsTold}
+use Rattle.rt_feed.specs.inside.FeedRuns.{AnswersWaiting, HasRead}
 use Rattle.rt_feed.proofs.Becoming.{becomes-push, becomes-at, becomes-alike, becomes-first, report_lines-append, report_lines-push, asked_of-append}
 use Rattle.rt_feed.proofs.Filling.{filled-none, filled-fault, filled-given}
 
 -- pieces one after another
-joined-append : {X : Type 0} (pieces more : List (List X)) → joined (pieces ++ more) ≡ joined pieces ++ joined more
-joined-append [] more = refl
-joined-append (piece ∷ pieces) more = ap (λ xs. piece ++ xs) (joined-append pieces more) ∙ sym (append_assoc piece (joined pieces) (joined more))
+concatenated-append : {X : Type 0} (pieces more : List (List X)) → concatenated (pieces ++ more) ≡ concatenated pieces ++ concatenated more
+concatenated-append [] more = refl
+concatenated-append (piece ∷ pieces) more = ap (λ xs. piece ++ xs) (concatenated-append pieces more) ∙ sym (append_assoc piece (concatenated pieces) (concatenated more))
 
 -- a piece by itself is joined to itself
-joined-piece : {X : Type 0} (piece : List X) → joined (piece_of piece) ≡ piece
-joined-piece [] = refl
-joined-piece (x ∷ xs) = append-nil (x ∷ xs)
+concatenated-piece : {X : Type 0} (piece : List X) → concatenated (piece_of piece) ≡ piece
+concatenated-piece [] = refl
+concatenated-piece (x ∷ xs) = append-nil (x ∷ xs)
 
 -- no visit more
 pub gains_none : {G : Type 0} (holds : G → List Visit → Type 0) (g : G) → Gains holds g g []
@@ -226,7 +226,7 @@ record Settled {G : Type 0} (holds : G → List Visit → Type 0) (version : Ver
   headed : outcomes ≡ heading version ++ earlier
   counted : number ≡ length outcomes
   reported : report ≡ report_lines 1 outcomes
-  is_joined : asked_of outcomes ≡ joined pieces ++ asked
+  is_joined : asked_of outcomes ≡ concatenated pieces ++ asked
   gained : Gains holds start new (map visit_of (pieces ++ piece_of asked))
 
 settles : {G : Type 0} (holds : G → List Visit → Type 0) (batch : ℕ) (text rest : List ℕ) (number : ℕ) (start gate new : G) (run : FeedRun) (report : List Line)
@@ -272,8 +272,8 @@ pub refuses_one : {G : Type 0} (holds : G → List Visit → Type 0) (old new : 
 refuses_one holds old new cmd first report gained = refuses_waiting holds old new (cmd ∷ []) first report (some_first cmd []) gained
 
 -- a whole piece more
-piece_more : {X : Type 0} (pieces : List (List X)) (piece : List X) → joined pieces ++ piece ≡ joined (pieces ++ piece_of piece)
-piece_more pieces piece = sym (joined-append pieces (piece_of piece) ∙ ap (λ xs. joined pieces ++ xs) (joined-piece piece))
+piece_more : {X : Type 0} (pieces : List (List X)) (piece : List X) → concatenated pieces ++ piece ≡ concatenated (pieces ++ piece_of piece)
+piece_more pieces piece = sym (concatenated-append pieces (piece_of piece) ∙ ap (λ xs. concatenated pieces ++ xs) (concatenated-piece piece))
 
 -- a piece of the whole size
 full_piece : {X : Type 0} (size : ℕ) (piece : List X) → length piece ≡ size → All (λ p. length p ≡ size) (piece_of piece)
@@ -351,7 +351,7 @@ stopped holds batch text rest line next number start gate run read few cut told 
           last = [];
           full = read.asked.full;
           fewer = omega (arith, few);
-          is_joined = read.asked.is_joined ∙ sym (append-nil (joined read.asked.pieces));
+          is_joined = read.asked.is_joined ∙ sym (append-nil (concatenated read.asked.pieces));
           is_cut = sym (append-nil read.asked.pieces);
         };
         gained = read.asked.gained;

@@ -2,7 +2,7 @@
 use Rattle.std.specs.Prelude.{◌≡◌, ℕ, List, [], Option, IsSome, MatchOption}
 use Rattle.rt_feed.specs.declared.report.Line.{Line}
 use Rattle.rt_feed.specs.Visits.{Visit}
-use Rattle.rt_feed.specs.Running.{RunsFeed, StopsWithin}
+use Rattle.rt_feed.specs.FeedRuns.{RunsFeed, StopsWithin}
 
 -- the feed's text was run through its gate, which keeps its name: this is the report, or, where it has none, a beginning
 -- of the text was asked. An empty text has a report

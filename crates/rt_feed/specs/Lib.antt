@@ -7,7 +7,7 @@ pub mod LineOutcomes
 pub mod Lines
 pub mod Printed
 pub mod Reports
-pub mod Running
+pub mod FeedRuns
 pub mod Versions
 pub mod Visits
 pub mod inside

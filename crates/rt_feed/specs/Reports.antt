@@ -6,8 +6,8 @@ use Rattle.rt_feed.specs.declared.report.Answer.{Answer}
 use Rattle.rt_feed.specs.declared.report.Answer.TheVariants.{Did, Refused, Fault}
 
 -- each line has a smaller number than every later one
-abbrev pub IsRising : List Line → Type 0
-IsRising lines = AllPairs (λ (earlier later : Line). earlier.number < later.number) lines
+abbrev pub NumbersRise : List Line → Type 0
+NumbersRise lines = AllPairs (λ (earlier later : Line). earlier.number < later.number) lines
 
 -- a command was refused for want of memory
 abbrev pub is_refusal : Answer → Bool

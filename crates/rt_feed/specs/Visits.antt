@@ -25,9 +25,9 @@ abbrev pub Gains : {G : Type 0} → (G → List Visit → Type 0) → G → G �
 Gains {G} holds old new more = (visits : List Visit) → holds old visits → holds new (visits ++ more)
 
 -- the pieces one after another
-abbrev pub joined : {X : Type 0} → List (List X) → List X
-joined [] = []
-joined (piece ∷ pieces) = piece ++ joined pieces
+abbrev pub concatenated : {X : Type 0} → List (List X) → List X
+concatenated [] = []
+concatenated (piece ∷ pieces) = piece ++ concatenated pieces
 
 -- a piece that is not empty, by itself
 abbrev pub piece_of : {X : Type 0} → List X → List (List X)
@@ -40,7 +40,7 @@ pub record IsCut {X : Type 0} (size : ℕ) (xs : List X) (pieces : List (List X)
   pub last : List X
   pub full : All (λ piece. length piece ≡ size) whole
   pub fewer : length last < size
-  pub is_joined : xs ≡ joined whole ++ last
+  pub is_joined : xs ≡ concatenated whole ++ last
   pub is_cut : pieces ≡ whole ++ piece_of last
 
 -- the visit as entries of this feed

@@ -2,4 +2,4 @@
 pub mod Fields
 pub mod Filling
 pub mod Lines
-pub mod Running
+pub mod FeedRuns

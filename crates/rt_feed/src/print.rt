@@ -2,7 +2,7 @@
 ghost use Rattle.std.specs.Prelude.{◌≡◌, ◌++◌, [], IsOk, OnOk, OnErr};
 ghost use Rattle.std.specs.Io.KnownBytes.{Appends};
 ghost use Rattle.rt_cidr.specs.Output.{AppendsBeginning};
-ghost use Rattle.rt_cidr.specs.ShortText.{Fits};
+ghost use Rattle.rt_cidr.specs.ShortText.{FitsInShortText};
 ghost use Rattle.rt_feed.specs.Printed.{hop_text, route_text, reply_text, fault_text, answer_text, line_text, report_text, row_text, rows_text, count_text, table_text, found_text};
 
 use crate::parse::LineFault;
@@ -104,7 +104,7 @@ pub fn write_found<W: Write>(w: &mut W, addr: Addr, found: Option<Route>) -> Res
 /// One line of a report, with its LF.
 #[tactic(auto, using(rt_cidr::proofs::Promised::prepending), unfolding(crate::specs::Printed::line_text))]
 fn prepend_line(text: &mut ShortText, feed: u32, line: &Line)
-    requires room { Fits (line_text feed line.now) text.old }
+    requires room { FitsInShortText (line_text feed line.now) text.old }
     ensures { text.new ≡ line_text feed line.now ++ text.old }
 {
     text.prepend(b"\n");
@@ -118,7 +118,7 @@ fn prepend_line(text: &mut ShortText, feed: u32, line: &Line)
 /// The table's first line, with its LF.
 #[tactic(auto, using(rt_cidr::proofs::Promised::prepending), unfolding(crate::specs::Printed::count_text))]
 fn prepend_count(text: &mut ShortText, count: usize)
-    requires room { Fits (count_text count) text.old }
+    requires room { FitsInShortText (count_text count) text.old }
     ensures { text.new ≡ count_text count ++ text.old }
 {
     text.prepend(b"\n");
@@ -129,7 +129,7 @@ fn prepend_count(text: &mut ShortText, count: usize)
 /// A route of the table, with its LF.
 #[tactic(auto, using(rt_cidr::proofs::Promised::prepending), unfolding(crate::specs::Printed::row_text))]
 fn prepend_row(text: &mut ShortText, route: &Route)
-    requires room { Fits (row_text route.now) text.old }
+    requires room { FitsInShortText (row_text route.now) text.old }
     ensures { text.new ≡ row_text route.now ++ text.old }
 {
     text.prepend(b"\n");
@@ -139,7 +139,7 @@ fn prepend_row(text: &mut ShortText, route: &Route)
 /// What a look-up of the address found, with its LF.
 #[tactic(auto, using(rt_cidr::proofs::Promised::prepending), unfolding(crate::specs::Printed::found_text))]
 fn prepend_found(text: &mut ShortText, addr: Addr, found: Option<Route>)
-    requires room { Fits (found_text addr found) text.old }
+    requires room { FitsInShortText (found_text addr found) text.old }
     ensures { text.new ≡ found_text addr found ++ text.old }
 {
     text.prepend(b"\n");
@@ -154,7 +154,7 @@ fn prepend_found(text: &mut ShortText, addr: Addr, found: Option<Route>)
 /// What a line was answered.
 #[tactic(auto, unfolding(crate::specs::Printed::answer_text))]
 fn prepend_answer(text: &mut ShortText, answer: &Answer)
-    requires room { Fits (answer_text answer.now) text.old }
+    requires room { FitsInShortText (answer_text answer.now) text.old }
     ensures { text.new ≡ answer_text answer.now ++ text.old }
 {
     match answer {
@@ -166,7 +166,7 @@ fn prepend_answer(text: &mut ShortText, answer: &Answer)
 
 #[tactic(auto, using(rt_cidr::proofs::Promised::prepending), unfolding(crate::specs::Printed::reply_text))]
 fn prepend_reply(text: &mut ShortText, reply: &Reply)
-    requires room { Fits (reply_text reply.now) text.old }
+    requires room { FitsInShortText (reply_text reply.now) text.old }
     ensures { text.new ≡ reply_text reply.now ++ text.old }
 {
     match reply {
@@ -195,7 +195,7 @@ fn prepend_reply(text: &mut ShortText, reply: &Reply)
 /// `PREFIX feed F pref P via HOP`.
 #[tactic(auto, using(rt_cidr::proofs::Promised::prepending), unfolding(crate::specs::Printed::route_text))]
 fn prepend_route(text: &mut ShortText, route: &Route)
-    requires room { Fits (route_text route.now) text.old }
+    requires room { FitsInShortText (route_text route.now) text.old }
     ensures { text.new ≡ route_text route.now ++ text.old }
 {
     prepend_hop(text, route.hop);
@@ -209,7 +209,7 @@ fn prepend_route(text: &mut ShortText, route: &Route)
 
 /// The next hop's address, or `discard`.
 fn prepend_hop(text: &mut ShortText, hop: Hop)
-    requires room { Fits (hop_text hop) text.old }
+    requires room { FitsInShortText (hop_text hop) text.old }
     ensures { text.new ≡ hop_text hop ++ text.old }
 {
     match hop {

@@ -65,15 +65,15 @@ impl Model for Report {
 
     ghost Value = { List Line };
 
-    ghost use Rattle.rt_feed.specs.Reports.{IsRising};
+    ghost use Rattle.rt_feed.specs.Reports.{NumbersRise};
 
     ghost view = { λ report. report.lines.items };
 
-    ghost invariant = { λ report. IsRising report.lines.items };
+    ghost invariant = { λ report. NumbersRise report.lines.items };
 }
 
 impl Report {
-    ghost use Rattle.rt_feed.specs.Reports.{IsRising, has_refusal, has_fault};
+    ghost use Rattle.rt_feed.specs.Reports.{NumbersRise, has_refusal, has_fault};
     ghost use Rattle.rt_feed.specs.inside.Filling.{filled};
 
     /// A report without lines.
@@ -88,7 +88,7 @@ impl Report {
     /// The lines, by rising number.
     pub fn lines(&self) -> &[Line]
         ensures lines { result.now ≡ self.now }
-        ensures rising { IsRising self.now }
+        ensures rising { NumbersRise self.now }
     {
         &self.lines
     }
@@ -107,7 +107,7 @@ impl Report {
         self.lines.iter().any(|line| line.answer.is_fault())
     }
 
-    /// Gives the lines from this place on that are no faults these outcomes, in order.
+    /// Gives the lines from this index on that are no faults these outcomes, in order.
     pub(crate) fn fill(&mut self, first: usize, outcomes: &[Outcome])
         requires { first ≤ length self.old }
         ensures { self.new ≡ take first self.old ++ filled (drop first self.old) outcomes.now }
@@ -127,15 +127,15 @@ impl Report {
     }
 }
 
-/// Gives the lines from this place on that are no faults these outcomes, in order.
+/// Gives the lines from this index on that are no faults these outcomes, in order.
 fn fill_lines(lines: &mut [Line], first: usize, outcomes: &[Outcome])
     requires { first ≤ length lines.old }
     ensures { lines.new ≡ take first lines.old ++ filled (drop first lines.old) outcomes.now }
 {
     let mut next = 0;
-    for place in first..lines.len() {
-        if next < outcomes.len() && !lines[place].answer.is_fault() {
-            lines[place].answer = answer_of(outcomes[next]);
+    for index in first..lines.len() {
+        if next < outcomes.len() && !lines[index].answer.is_fault() {
+            lines[index].answer = answer_of(outcomes[next]);
             next += 1;
         }
     }

@@ -1,7 +1,7 @@
 //! A feed's text through a gate: its lines are read in order, and its commands asked in batches.
 ghost use Rattle.std.specs.Prelude.{◌≡◌, ◌≢◌, ◌<◌, ◌≤◌, [], ◌∷◌, length, All, IsOk, IfOk, OnOk, OnErr};
-ghost use Rattle.rt_feed.specs.inside.Running.{AnswersWaiting, Gathers, ReadsOneMore};
-ghost use Rattle.rt_feed.specs.Running.{IsTold, RunsFeed, StopsWithin};
+ghost use Rattle.rt_feed.specs.inside.FeedRuns.{AnswersWaiting, Gathers, ReadsOneMore};
+ghost use Rattle.rt_feed.specs.FeedRuns.{IsTold, RunsFeed, StopsWithin};
 
 use crate::feed_run::FeedRun;
 use crate::gates::Gate;

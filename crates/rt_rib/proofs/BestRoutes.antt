@@ -86,35 +86,35 @@ one-between k x r low high one =
     ]
 
 -- no route to its prefix is better than one that is left
-left-best : (k : Route) (xs : List Route) → AllPairs Ordered (k ∷ xs) → (r s : Route) → Contains (dedup to_one (k ∷ xs)) r → Contains (k ∷ xs) s → to_one s r ≡ true → is_better s r ≡ false
-left-best k [] h r s c d e = elim (Contains-cases k [] r c) [
+kept-best : (k : Route) (xs : List Route) → AllPairs Ordered (k ∷ xs) → (r s : Route) → Contains (dedup to_one (k ∷ xs)) r → Contains (k ∷ xs) s → to_one s r ≡ true → is_better s r ≡ false
+kept-best k [] h r s c d e = elim (Contains-cases k [] r c) [
   | inr none ↦ absurd (Contains-none r none)
   | inl here ↦ elim (Contains-cases k [] s d) [
     | inr none ↦ absurd (Contains-none s none)
     | inl also ↦ subst (λ z. is_better z r ≡ false) also (subst (λ z. is_better k z ≡ false) here (is_better-itself k))
   ]
 ]
-left-best k (x ∷ xs) h r s c d e =
+kept-best k (x ∷ xs) h r s c d e =
     let first = AllPairs-head Ordered k (x ∷ xs) h in
     let next = All-head (Ordered k) x xs first in
     elim (cases_Bool (to_one x k)) [
       | inl same ↦
-          let left = subst (λ l. Contains l r) (cond-true (to_one x k) (dedup to_one (k ∷ xs)) (k ∷ dedup to_one (x ∷ xs)) same) c in
-          let rest = left-best k xs (AllPairs-skip Ordered k x xs h) r in
+          let deduped = subst (λ l. Contains l r) (cond-true (to_one x k) (dedup to_one (k ∷ xs)) (k ∷ dedup to_one (x ∷ xs)) same) c in
+          let rest = kept-best k xs (AllPairs-skip Ordered k x xs h) r in
           elim (Contains-cases k (x ∷ xs) s d) [
-            | inl here ↦ rest s left (subst (Contains (k ∷ xs)) here (Contains-head k xs)) e
+            | inl here ↦ rest s deduped (subst (Contains (k ∷ xs)) here (Contains-head k xs)) e
             | inr later ↦ elim (Contains-cases x xs s later) [
               | inl here ↦
                   let one : to_one x r ≡ true = ap (λ z. to_one z r) here ∙ e in
-                  let none = rest k left (Contains-head k xs) (one-over k x r same one) in
+                  let none = rest k deduped (Contains-head k xs) (one-over k x r same one) in
                   false_from_ne_true (is_better s r) (λ yes.
                   both_ways (is_better k r) none (is_better-trans k x r (better-first k x next same) (ap (λ z. is_better z r) here ∙ yes)))
-              | inr behind ↦ rest s left (Contains-tail k xs s behind) e
+              | inr behind ↦ rest s deduped (Contains-tail k xs s behind) e
             ]
           ]
       | inr other ↦
-          let left = subst (λ l. Contains l r) (cond-false (to_one x k) (dedup to_one (k ∷ xs)) (k ∷ dedup to_one (x ∷ xs)) other) c in
-          elim (Contains-cases k (dedup to_one (x ∷ xs)) r left) [
+          let deduped = subst (λ l. Contains l r) (cond-false (to_one x k) (dedup to_one (k ∷ xs)) (k ∷ dedup to_one (x ∷ xs)) other) c in
+          elim (Contains-cases k (dedup to_one (x ∷ xs)) r deduped) [
             | inl top ↦ elim (Contains-cases k (x ∷ xs) s d) [
               | inl here ↦ subst (λ z. is_better z r ≡ false) here (subst (λ z. is_better k z ≡ false) top (is_better-itself k))
               | inr later ↦
@@ -131,19 +131,19 @@ left-best k (x ∷ xs) h r s c d e =
                     | inr behind ↦ up_to x r (All-contains (Ordered x) xs r (AllPairs-head Ordered x xs (AllPairs-tail Ordered k (x ∷ xs) h)) behind)
                   ] in
                   absurd (both_ways (to_one x k) other (one-between k x r (up_to k x next) after (ap (λ z. to_one z r) here ∙ e)))
-              | inr later ↦ left-best x xs (AllPairs-tail Ordered k (x ∷ xs) h) r s kept later e
+              | inr later ↦ kept-best x xs (AllPairs-tail Ordered k (x ∷ xs) h) r s kept later e
             ]
           ]
     ]
 
 -- a route is left where no route to its prefix is better
-best-left : (k : Route) (xs : List Route) → AllPairs Ordered (k ∷ xs) → (r : Route) → Contains (k ∷ xs) r → ((s : Route) → Contains (k ∷ xs) s → to_one s r ≡ true → is_better s r ≡ false) → Contains (dedup to_one (k ∷ xs)) r
-best-left k [] h r c best = c
-best-left k (x ∷ xs) h r c best =
+best-kept : (k : Route) (xs : List Route) → AllPairs Ordered (k ∷ xs) → (r : Route) → Contains (k ∷ xs) r → ((s : Route) → Contains (k ∷ xs) s → to_one s r ≡ true → is_better s r ≡ false) → Contains (dedup to_one (k ∷ xs)) r
+best-kept k [] h r c best = c
+best-kept k (x ∷ xs) h r c best =
     let next = All-head (Ordered k) x xs (AllPairs-head Ordered k (x ∷ xs) h) in
     elim (cases_Bool (to_one x k)) [
       | inl same ↦
-          let rest : Contains (k ∷ xs) r → Contains (dedup to_one (k ∷ xs)) r = λ d. best-left k xs (AllPairs-skip Ordered k x xs h) r d (λ s i e. best s (elim (Contains-cases k xs s i) [
+          let rest : Contains (k ∷ xs) r → Contains (dedup to_one (k ∷ xs)) r = λ d. best-kept k xs (AllPairs-skip Ordered k x xs h) r d (λ s i e. best s (elim (Contains-cases k xs s i) [
             | inl here ↦ subst (Contains (k ∷ x ∷ xs)) here (Contains-head k (x ∷ xs))
             | inr behind ↦ Contains-tail k (x ∷ xs) s (Contains-tail x xs s behind)
           ]) e) in
@@ -161,7 +161,7 @@ best-left k (x ∷ xs) h r c best =
           subst (λ l. Contains l r) (sym (cond-false (to_one x k) (dedup to_one (k ∷ xs)) (k ∷ dedup to_one (x ∷ xs)) other))
           (elim (Contains-cases k (x ∷ xs) r c) [
             | inl here ↦ subst (Contains (k ∷ dedup to_one (x ∷ xs))) here (Contains-head k (dedup to_one (x ∷ xs)))
-            | inr later ↦ Contains-tail k (dedup to_one (x ∷ xs)) r (best-left x xs (AllPairs-tail Ordered k (x ∷ xs) h) r later (λ s d. best s (Contains-tail k (x ∷ xs) s d)))
+            | inr later ↦ Contains-tail k (dedup to_one (x ∷ xs)) r (best-kept x xs (AllPairs-tail Ordered k (x ∷ xs) h) r later (λ s d. best s (Contains-tail k (x ∷ xs) s d)))
           ])
     ]
 
@@ -186,6 +186,6 @@ dedup-best (k ∷ xs) h =
           filter-keeps is_best t r (Contains-from_dedup to_one t r c)
           (list_all-from_contained (λ (s : Route). not (surpasses s r)) t (λ s d. not_from_false (surpasses s r) (false_from_ne_true (surpasses s r) (λ yes.
           let parts = and_parts (to_one s r) (is_better s r) yes in
-          both_ways (is_better s r) (left-best k xs h.ordered r s c d parts.0) parts.1))))),
-      (λ c. let from = filter-from is_best t r c in best-left k xs h.ordered r from.0 (unbeaten r from.1)),
+          both_ways (is_better s r) (kept-best k xs h.ordered r s c d parts.0) parts.1))))),
+      (λ c. let from = filter-from is_best t r c in best-kept k xs h.ordered r from.0 (unbeaten r from.1)),
     ))

@@ -12,7 +12,7 @@ use Rattle.rt_rib.specs.declared.routes.Route.{Route}
 use Rattle.rt_rib.specs.declared.limits.TheConstants.{MOST_FEEDS}
 use Rattle.rt_rib.specs.Table.{count_of, precedes, is_of, has, put_in, take_out, purge, IsTable}
 use Rattle.rt_rib.specs.Book.{IsFeed}
-use Rattle.rt_rib.specs.inside.Kept.{AreCounts}
+use Rattle.rt_rib.specs.inside.TableState.{AreCounts}
 use Rattle.rt_rib.proofs.Lists.{list_any-from_none}
 use Rattle.rt_rib.proofs.Order.{is_of-parts, is_of-from}
 use Rattle.rt_rib.proofs.Sets.{put_in_adds, take_out_leaves_others, one_table_of_set}
@@ -114,7 +114,7 @@ HasMore-take_out feed p t table there =
     both_ways (is_of feed p s) out.1 (is_of-from feed p s (same.0 ∙ parts.0) (same.1 ∙ parts.1) (same.2 ∙ parts.2))))) in
     let back : put_in r rest ≡ t =
     one_table_of_set (put_in r rest) t (IsTable-put_in r rest fresh (IsTable-take_out feed p t table)) table (λ s. (
-      (λ c. elim ((put_in_adds r s rest).0 c) [ inl left ↦ ((take_out_leaves_others feed p s t).0 left).0 | inr here ↦ subst (Contains t) here held ]),
+      (λ c. elim ((put_in_adds r s rest).0 c) [ inl there ↦ ((take_out_leaves_others feed p s t).0 there).0 | inr here ↦ subst (Contains t) here held ]),
       (λ c. (put_in_adds r s rest).1 (elim (cases_Bool (is_of feed p s)) [
         | inl mine ↦
             let same = is_of-parts feed p s mine in

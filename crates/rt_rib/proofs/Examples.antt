@@ -15,18 +15,18 @@ use Rattle.rt_rib.specs.declared.commands.Entry.{Entry}
 use Rattle.rt_trie.specs.Map.{get, same_prefix}
 use Rattle.rt_trie.specs.Tree.{Tree, Vacant, Node}
 use Rattle.rt_rib.specs.declared.offers.Offer.{Offer}
-use Rattle.rt_rib.specs.Offers.{outranks, is_from, IsRising, IsOffers}
+use Rattle.rt_rib.specs.Offers.{outranks, is_from, IsRanked, IsOffers}
 use Rattle.rt_rib.specs.Maps.{Map, route_by, routes_of, IsMap}
 use Rattle.rt_rib.specs.Table.{below_then, is_of, has, count_of, is_better, precedes, put_in, take_out, purge, IsTable}
 use Rattle.rt_rib.specs.LookUp.{matching, longest_of, best, look_up, best_routes}
 use Rattle.rt_rib.specs.Sequential.{reply_of, table_after}
-use Rattle.rt_rib.specs.Journal.{table_left, IsAnswered, IsLawfulJournal}
-use Rattle.rt_rib.specs.Book.{IsLimit, Contents, OfferTrie, table_of, HoldsRoutesLeft}
+use Rattle.rt_rib.specs.Journal.{table_of_journal, IsAnswered, IsLawfulJournal}
+use Rattle.rt_rib.specs.Book.{IsLimit, BookContents, OfferTrie, table_of, HoldsTable}
 use Rattle.rt_rib.specs.Laws.{IsBestMatch, is_own, feed_entries}
 use Rattle.rt_rib.proofs.Tables.{IsTable-nil, IsTable-put_in}
 use Rattle.rt_rib.proofs.Best.{look_up_finds_best}
-use Rattle.rt_rib.proofs.OfferLists.{IsRising-one}
-use Rattle.rt_rib.proofs.Journals.{IsTable-left, IsLawfulJournal-nil, IsLawfulJournal-push}
+use Rattle.rt_rib.proofs.OfferLists.{IsRanked-one}
+use Rattle.rt_rib.proofs.Journals.{IsTable-of_journal, IsLawfulJournal-nil, IsLawfulJournal-push}
 
 -- prefixes of the examples: all addresses, 10.0.0.0/8, 10.0.0.0/16, 10.1.0.0/16, and the last address by itself
 abbrev everything : Prefix
@@ -348,47 +348,47 @@ a_purge_leaves_the_other_feeds : table_after 9 (route ten_8 2 30 ∷ nested) 1 P
 unfolding table_after
 a_purge_leaves_the_other_feeds = refl
 
--- table_left
-of_no_entry : table_left 9 [] ≡ []
-unfolding table_left
+-- table_of_journal
+of_no_entry : table_of_journal 9 [] ≡ []
+unfolding table_of_journal
 of_no_entry = refl
 
-of_a_look_up_and_an_add : table_left 1 (two_look_ups NoRoute) ≡ route ten_8 1 5 ∷ []
-unfolding table_left table_after
+of_a_look_up_and_an_add : table_of_journal 1 (two_look_ups NoRoute) ≡ route ten_8 1 5 ∷ []
+unfolding table_of_journal table_after
 of_a_look_up_and_an_add = refl
 
 whatever_the_replies_say :
-    table_left 1 (entry 1 (Add ten_8 5 Discard) Full ∷ entry 1 (Add ten_1_16 5 Discard) Added ∷ []) ≡ route ten_8 1 5 ∷ []
-unfolding table_left table_after
+    table_of_journal 1 (entry 1 (Add ten_8 5 Discard) Full ∷ entry 1 (Add ten_1_16 5 Discard) Added ∷ []) ≡ route ten_8 1 5 ∷ []
+unfolding table_of_journal table_after
 whatever_the_replies_say = refl
 
 pub the_table_of_the_tutorial :
-    table_left 65536 tutorial
+    table_of_journal 65536 tutorial
     ≡ route_via ten_8 2 30 (via_192_0_2 2) ∷ route_via ten_8 1 50 (via_192_0_2 1)
     ∷ route_via ten_1_16 1 10 (via_192_0_2 1) ∷ route_via ten_9_16 3 10 Discard ∷ []
-unfolding table_left table_after
+unfolding table_of_journal table_after
 the_table_of_the_tutorial = refl
 
 -- IsAnswered
 answered_exists : IsAnswered 1 (entry 1 (Add ten_8 5 Discard) Added ∷ []) (entry 1 (Add ten_8 5 Discard) Exists)
-unfolding table_left table_after reply_of
+unfolding table_of_journal table_after reply_of
 answered_exists = refl
 
 not_answered_added_twice :
     ¬ IsAnswered 1 (entry 1 (Add ten_8 5 Discard) Added ∷ []) (entry 1 (Add ten_8 5 Discard) Added)
-unfolding table_left table_after reply_of
+unfolding table_of_journal table_after reply_of
 not_answered_added_twice h = cc
 
 -- IsLawfulJournal
 a_lawful_journal : IsLawfulJournal 1 (two_look_ups NoRoute)
-unfolding table_left table_after reply_of look_up
+unfolding table_of_journal table_after reply_of look_up
 a_lawful_journal =
     let first = IsLawfulJournal-push 1 [] (entry 1 (Lookup at_10_1_2_3) NoRoute) (IsLawfulJournal-nil 1) refl in
     let second = IsLawfulJournal-push 1 _ (entry 1 (Add ten_8 5 Discard) Added) first refl in
     IsLawfulJournal-push 1 _ (entry 1 (Lookup at_10_1_2_3) (Found (route ten_8 1 5))) second refl
 
 pub the_journal_of_the_tutorial : IsLawfulJournal 65536 tutorial
-unfolding table_left table_after reply_of look_up
+unfolding table_of_journal table_after reply_of look_up
 the_journal_of_the_tutorial =
     let e1 = IsLawfulJournal-push 65536 [] (entry 1 (Add ten_8 50 (via_192_0_2 1)) Added) (IsLawfulJournal-nil 65536) refl in
     let e2 = IsLawfulJournal-push 65536 _ (entry 1 (Add ten_1_16 10 (via_192_0_2 1)) Added) e1 refl in
@@ -403,11 +403,11 @@ the_journal_of_the_tutorial =
     IsLawfulJournal-push 65536 _ (entry 3 (Lookup at_10_9_0_1) (Found (route_via ten_9_16 3 10 Discard))) e10 refl
 
 one_reply_of_it_changed : ¬ IsLawfulJournal 1 (two_look_ups (Found (route ten_8 1 5)))
-unfolding table_left table_after reply_of look_up
+unfolding table_of_journal table_after reply_of look_up
 one_reply_of_it_changed h = let first = h.answered [] (entry 1 (Lookup at_10_1_2_3) (Found (route ten_8 1 5))) _ refl in cc
 
 one_entry_of_it_left_out : ¬ IsLawfulJournal 1 (entry 1 (Lookup at_10_1_2_3) (Found (route ten_8 1 5)) ∷ [])
-unfolding table_left table_after reply_of look_up
+unfolding table_of_journal table_after reply_of look_up
 one_entry_of_it_left_out h = let first = h.answered [] (entry 1 (Lookup at_10_1_2_3) (Found (route ten_8 1 5))) [] refl in cc
 
 -- IsBestMatch
@@ -472,22 +472,22 @@ from_its_feed = refl
 from_no_other : is_from 1 (offer 64 5) ≡ false
 from_no_other = refl
 
--- IsRising
-two_rise : IsRising (offer 2 30 ∷ offer 1 50 ∷ [])
-two_rise = record {
-  ordered = AllPairs-cons (λ a b. outranks a b ≡ true) (offer 2 30) (offer 1 50 ∷ []) (All-cons (λ b. outranks (offer 2 30) b ≡ true) (offer 1 50) [] refl (All-nil (λ b. outranks (offer 2 30) b ≡ true))) (IsRising-one (offer 1 50)).ordered;
-  single = AllPairs-cons (λ a b. is_from b.feed a ≡ false) (offer 2 30) (offer 1 50 ∷ []) (All-cons (λ b. is_from b.feed (offer 2 30) ≡ false) (offer 1 50) [] refl (All-nil (λ b. is_from b.feed (offer 2 30) ≡ false))) (IsRising-one (offer 1 50)).single;
+-- IsRanked
+two_ranked : IsRanked (offer 2 30 ∷ offer 1 50 ∷ [])
+two_ranked = record {
+  ordered = AllPairs-cons (λ a b. outranks a b ≡ true) (offer 2 30) (offer 1 50 ∷ []) (All-cons (λ b. outranks (offer 2 30) b ≡ true) (offer 1 50) [] refl (All-nil (λ b. outranks (offer 2 30) b ≡ true))) (IsRanked-one (offer 1 50)).ordered;
+  single = AllPairs-cons (λ a b. is_from b.feed a ≡ false) (offer 2 30) (offer 1 50 ∷ []) (All-cons (λ b. is_from b.feed (offer 2 30) ≡ false) (offer 1 50) [] refl (All-nil (λ b. is_from b.feed (offer 2 30) ≡ false))) (IsRanked-one (offer 1 50)).single;
 }
 
-the_best_comes_first : ¬ IsRising (offer 1 50 ∷ offer 2 30 ∷ [])
+the_best_comes_first : ¬ IsRanked (offer 1 50 ∷ offer 2 30 ∷ [])
 the_best_comes_first h = let same = h.ordered 0 1 (offer 1 50) (omega arith) (omega arith) in cc
 
-a_feed_has_one_offer : ¬ IsRising (offer 1 30 ∷ offer 1 50 ∷ [])
+a_feed_has_one_offer : ¬ IsRanked (offer 1 30 ∷ offer 1 50 ∷ [])
 a_feed_has_one_offer h = let same = h.single 0 1 (offer 1 30) (omega arith) (omega arith) in cc
 
 -- IsOffers
 two_are_offers : IsOffers (offer 2 30 ∷ offer 1 50 ∷ [])
-two_are_offers = record { some = omega arith; rising = two_rise }
+two_are_offers = record { some = omega arith; ranked = two_ranked }
 
 none_is_not : ¬ IsOffers []
 none_is_not h = omega (arith, h.some)
@@ -508,7 +508,7 @@ a_map_of_two_prefixes = record {
   ordered = ((refl, tt), (tt, tt));
   each =
       each_of ten_8 (offer 2 30 ∷ offer 1 50 ∷ []) ((ten_1_16, offer 1 10 ∷ []) ∷ []) two_are_offers
-      (each_of ten_1_16 (offer 1 10 ∷ []) [] (record { some = omega arith; rising = IsRising-one (offer 1 10) }) (λ p offers found. cc));
+      (each_of ten_1_16 (offer 1 10 ∷ []) [] (record { some = omega arith; ranked = IsRanked-one (offer 1 10) }) (λ p offers found. cc));
 }
 
 no_prefix_without_offers : ¬ IsMap ((ten_8, []) ∷ [])
@@ -526,7 +526,7 @@ routes_prefix_by_prefix : routes_of two_prefixes ≡ route ten_8 2 30 ∷ route 
 routes_prefix_by_prefix = refl
 
 -- a book with this trie, after feed 1 and then feed 2 put routes in
-abbrev book_with : OfferTrie → Contents
+abbrev book_with : OfferTrie → BookContents
 book_with trie = record {
   limit = 2;
   journal = entry 1 (Add ten_8 50 Discard) Added ∷ entry 1 (Add ten_1_16 10 Discard) Added ∷ entry 2 (Add ten_8 30 Discard) Added ∷ [];
@@ -540,12 +540,12 @@ two_nodes = Node ten_8 true (Node ten_1_16 true Vacant Vacant) Vacant
 -- table_of
 what_the_journal_leaves :
     table_of (book_with (record { pairs = []; nodes = 0; tree = Vacant })) ≡ route ten_8 2 30 ∷ route ten_8 1 50 ∷ route ten_1_16 1 10 ∷ []
-unfolding table_left table_after
+unfolding table_of_journal table_after
 what_the_journal_leaves = refl
 
--- HoldsRoutesLeft
-holds_what_the_journal_leaves : HoldsRoutesLeft (book_with (record { pairs = two_prefixes; nodes = 2; tree = two_nodes }))
-unfolding table_left table_after
+-- HoldsTable
+holds_what_the_journal_leaves : HoldsTable (book_with (record { pairs = two_prefixes; nodes = 2; tree = two_nodes }))
+unfolding table_of_journal table_after
 holds_what_the_journal_leaves = record {
   lawful = record {
     tree = (
@@ -558,27 +558,27 @@ holds_what_the_journal_leaves = record {
   };
   map = a_map_of_two_prefixes;
   exactly = refl;
-  once = IsTable-left 2 (book_with (record { pairs = two_prefixes; nodes = 2; tree = two_nodes })).journal;
+  once = IsTable-of_journal 2 (book_with (record { pairs = two_prefixes; nodes = 2; tree = two_nodes })).journal;
 }
 
-a_route_was_lost : ¬ HoldsRoutesLeft (book_with (record { pairs = (ten_8, offer 1 50 ∷ []) ∷ (ten_1_16, offer 1 10 ∷ []) ∷ []; nodes = 2; tree = two_nodes }))
-unfolding table_left table_after
+a_route_was_lost : ¬ HoldsTable (book_with (record { pairs = (ten_8, offer 1 50 ∷ []) ∷ (ten_1_16, offer 1 10 ∷ []) ∷ []; nodes = 2; tree = two_nodes }))
+unfolding table_of_journal table_after
 a_route_was_lost h = let exactly = h.exactly in cc
 
-a_node_too_many_was_counted : ¬ HoldsRoutesLeft (book_with (record { pairs = two_prefixes; nodes = 3; tree = two_nodes }))
+a_node_too_many_was_counted : ¬ HoldsTable (book_with (record { pairs = two_prefixes; nodes = 3; tree = two_nodes }))
 a_node_too_many_was_counted h = let count = h.lawful.count in cc
 
-a_node_without_its_value : ¬ HoldsRoutesLeft (book_with (record { pairs = two_prefixes; nodes = 2; tree = Node ten_8 false (Node ten_1_16 true Vacant Vacant) Vacant }))
+a_node_without_its_value : ¬ HoldsTable (book_with (record { pairs = two_prefixes; nodes = 2; tree = Node ten_8 false (Node ten_1_16 true Vacant Vacant) Vacant }))
 a_node_without_its_value h = let stored = h.lawful.stored in cc
 
 -- a book without a route
-abbrev pub empty_book : List Entry → Contents
+abbrev pub empty_book : List Entry → BookContents
 empty_book journal = record { limit = 1; journal = journal; trie = record { pairs = []; nodes = 0; tree = Vacant }; room = 0 }
 
-pub holds_no_route : (journal : List Entry) → table_left 1 journal ≡ [] → HoldsRoutesLeft (empty_book journal)
+pub holds_no_route : (journal : List Entry) → table_of_journal 1 journal ≡ [] → HoldsTable (empty_book journal)
 holds_no_route journal none = record {
   lawful = record { tree = tt; stored = refl; count = refl };
   map = record { ordered = tt; each = λ p offers found. cc };
   exactly = sym none;
-  once = IsTable-left 1 journal;
+  once = IsTable-of_journal 1 journal;
 }

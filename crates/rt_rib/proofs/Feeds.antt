@@ -13,7 +13,7 @@ use Rattle.rt_rib.specs.declared.commands.Cmd.TheVariants.{Add, Replace, Withdra
 use Rattle.rt_rib.specs.declared.commands.Entry.{Entry}
 use Rattle.rt_rib.specs.Table.{is_of, has, count_of, put_in, take_out, purge, IsTable}
 use Rattle.rt_rib.specs.Sequential.{reply_of, table_after}
-use Rattle.rt_rib.specs.Journal.{table_left}
+use Rattle.rt_rib.specs.Journal.{table_of_journal}
 use Rattle.rt_rib.specs.Laws.{feed_routes, feed_entries, is_own, FeedsStandAlone}
 use Rattle.rt_rib.proofs.Lists.{filter-none}
 use Rattle.rt_rib.proofs.Order.{is_of-parts}
@@ -238,12 +238,12 @@ own_fold limit feed t (e ∷ journal) h =
     ]
 
 -- and from the empty one
-own_left : (limit feed : ℕ) (journal : List Entry) → feed_routes feed (table_left limit journal) ≡ table_left limit (feed_entries feed journal)
-unfolding table_left
-own_left limit feed journal = own_fold limit feed [] journal IsTable-nil
+own_of_journal : (limit feed : ℕ) (journal : List Entry) → feed_routes feed (table_of_journal limit journal) ≡ table_of_journal limit (feed_entries feed journal)
+unfolding table_of_journal
+own_of_journal limit feed journal = own_fold limit feed [] journal IsTable-nil
 
 -- both together
 pub feeds_stand_alone : FeedsStandAlone
 feeds_stand_alone limit feed journal cmd =
-    let same = own_left limit feed journal in
-    (same, (λ e. reply_own limit (table_left limit journal) feed cmd e ∙ ap (λ t. reply_of limit t feed cmd) same))
+    let same = own_of_journal limit feed journal in
+    (same, (λ e. reply_own limit (table_of_journal limit journal) feed cmd e ∙ ap (λ t. reply_of limit t feed cmd) same))

@@ -10,7 +10,7 @@ use Rattle.rt_rib.specs.declared.commands.Cmd.TheVariants.{Add, Replace, Withdra
 use Rattle.rt_rib.specs.declared.commands.Entry.{Entry}
 use Rattle.rt_rib.specs.Table.{IsTable, has, take_out, put_in, count_of}
 use Rattle.rt_rib.specs.Sequential.{table_after}
-use Rattle.rt_rib.specs.Journal.{table_left, IsAnswered, IsLawfulJournal}
+use Rattle.rt_rib.specs.Journal.{table_of_journal, IsAnswered, IsLawfulJournal}
 use Rattle.rt_rib.proofs.Tables.{IsTable-put_in, IsTable-take_out, IsTable-purge, has-take_out}
 
 -- each command leaves a table
@@ -39,19 +39,19 @@ IsTable-fold limit t [] h = h
 IsTable-fold limit t (e ∷ journal) h = IsTable-fold limit (step limit t e) journal (IsTable-after limit t e.feed e.cmd h)
 
 -- the routes that a journal leaves are a table
-pub IsTable-left : (limit : ℕ) (journal : List Entry) → IsTable (table_left limit journal)
-unfolding table_left
-IsTable-left limit journal = IsTable-fold limit [] journal (record { ordered = λ i j d l m. absurd (omega arith); single = λ i j d l m. absurd (omega arith) })
+pub IsTable-of_journal : (limit : ℕ) (journal : List Entry) → IsTable (table_of_journal limit journal)
+unfolding table_of_journal
+IsTable-of_journal limit journal = IsTable-fold limit [] journal (record { ordered = λ i j d l m. absurd (omega arith); single = λ i j d l m. absurd (omega arith) })
 
 -- one entry more leaves what its command leaves
-pub table_left-push : (limit : ℕ) (journal : List Entry) (e : Entry) → table_left limit (journal ++ e ∷ []) ≡ table_after limit (table_left limit journal) e.feed e.cmd
-unfolding table_left
-table_left-push limit journal e = fold_push (step limit) [] journal e
+pub table_of_journal-push : (limit : ℕ) (journal : List Entry) (e : Entry) → table_of_journal limit (journal ++ e ∷ []) ≡ table_after limit (table_of_journal limit journal) e.feed e.cmd
+unfolding table_of_journal
+table_of_journal-push limit journal e = fold_push (step limit) [] journal e
 
 -- no entry leaves the empty set
-pub table_left-nil : (limit : ℕ) → table_left limit [] ≡ []
-unfolding table_left
-table_left-nil limit = refl
+pub table_of_journal-nil : (limit : ℕ) → table_of_journal limit [] ≡ []
+unfolding table_of_journal
+table_of_journal-nil limit = refl
 
 -- a list with an element is not the empty one
 not_empty : {X : Type 0} (ys : List X) (x : X) (zs : List X) → [] ≡ ys ++ x ∷ zs → ⊥

@@ -5,11 +5,11 @@ pub mod Lists
 pub mod Tables
 pub mod Journals
 pub mod Counts
-pub mod Steps
-pub mod Kept
+pub mod CommandCases
+pub mod TableChanges
 pub mod Covering
 pub mod Sets
-pub mod Determined
+pub mod JournalLaws
 pub mod Feeds
 pub mod Best
 pub mod OfferLists

@@ -12,9 +12,9 @@ use Rattle.rt_rib.specs.Offers.{is_from, IsOffers}
 use Rattle.rt_rib.specs.inside.Offers.{HasGained, HasSwapped}
 use Rattle.rt_rib.specs.Table.{is_of, has, put_in, take_out}
 use Rattle.rt_rib.specs.Maps.{Map, route_by, routes_of, IsMap}
-use Rattle.rt_rib.specs.inside.Maps.{offer_of, offers_in, offers_at, IsThere, MapLaws}
+use Rattle.rt_rib.specs.inside.Maps.{offer_of, offers_in, offers_at, HasRoute, MapLaws}
 use Rattle.rt_rib.proofs.Lists.{list_any-at}
-use Rattle.rt_rib.proofs.OfferLists.{HasLost, IsRising-one}
+use Rattle.rt_rib.proofs.OfferLists.{HasLost, IsRanked-one}
 use Rattle.rt_rib.proofs.Order.{is_of-parts, is_of-from}
 use Rattle.rt_rib.proofs.Sets.{Contains-head, Contains-cases, Contains-none, put_in_adds, take_out_leaves_others}
 use Rattle.rt_rib.proofs.Tables.{IsTable-put_in, IsTable-take_out, has-take_out}
@@ -110,7 +110,7 @@ module _ (laws : MapLaws) (m n : Map) (p : Prefix) (offers : List Offer) (at : I
       both_ways (is_of feed p x) differs (is_of-from feed p x (eqb-true x.feed feed yes) (ap (λ q. q.base) (sym here)) (ap (λ q. q.len) (sym here))))
 
   -- one offer more is one route more
-  pub added : (o : Offer) → HasGained (offers_at m p) offers o → (x : Route) → IsThere n x ↔ (IsThere m x ⊎ (route_by p o ≡ x))
+  pub added : (o : Offer) → HasGained (offers_at m p) offers o → (x : Route) → HasRoute n x ↔ (HasRoute m x ⊎ (route_by p o ≡ x))
   added o gain x = elim (one_or_other laws.same p x.prefix) [
     | inl here ↦ (
       (λ c. elim ((gain (offer_of x)).0 (subst (λ l. Contains l (offer_of x)) (at_it x.prefix here) c)) [
@@ -132,7 +132,7 @@ module _ (laws : MapLaws) (m n : Map) (p : Prefix) (offers : List Offer) (at : I
   ]
 
   -- a feed's offer less is its route less
-  pub taken : (feed : ℕ) → HasLost (offers_at m p) offers feed → (x : Route) → IsThere n x ↔ (IsThere m x × (is_of feed p x ≡ false))
+  pub taken : (feed : ℕ) → HasLost (offers_at m p) offers feed → (x : Route) → HasRoute n x ↔ (HasRoute m x × (is_of feed p x ≡ false))
   taken feed loss x = elim (one_or_other laws.same p x.prefix) [
     | inl here ↦ (
       (λ c.
@@ -148,7 +148,7 @@ module _ (laws : MapLaws) (m n : Map) (p : Prefix) (offers : List Offer) (at : I
   ]
 
   -- a feed's offer in the place of its other one is its route in the place of the other
-  pub swapped : (o : Offer) → HasSwapped (offers_at m p) offers o true → (x : Route) → IsThere n x ↔ ((IsThere m x × (is_of o.feed p x ≡ false)) ⊎ (route_by p o ≡ x))
+  pub swapped : (o : Offer) → HasSwapped (offers_at m p) offers o true → (x : Route) → HasRoute n x ↔ ((HasRoute m x × (is_of o.feed p x ≡ false)) ⊎ (route_by p o ≡ x))
   swapped o swap x = elim (one_or_other laws.same p x.prefix) [
     | inl here ↦ (
       (λ c. elim ((swap (offer_of x)).0 (subst (λ l. Contains l (offer_of x)) (at_it x.prefix here) c)) [
@@ -171,7 +171,7 @@ module _ (laws : MapLaws) (m n : Map) (p : Prefix) (offers : List Offer) (at : I
 
 module _ (laws : MapLaws) (m n : Map) (h : IsMap m) (k : IsMap n) (p : Prefix) (offers : List Offer) (at : IsWith m n p offers) where
   -- what is contained in the routes is what is there
-  both : (x : Route) → IsThere m x ↔ Contains (routes_of m) x
+  both : (x : Route) → HasRoute m x ↔ Contains (routes_of m) x
   both x = (there_out laws m x h.ordered, there_in laws m x h.ordered)
 
   -- so the routes are the old ones with that route
@@ -190,8 +190,8 @@ module _ (laws : MapLaws) (m n : Map) (h : IsMap m) (k : IsMap n) (p : Prefix) (
       table_is laws n k (take_out feed p (routes_of m)) (IsTable-take_out feed p (routes_of m) (IsTable-map laws m h)) (λ x.
       let step = taken laws m n p offers at feed loss x in
       let out = take_out_leaves_others feed p x (routes_of m) in (
-        (λ c. let left = step.0 c in out.1 ((both x).0 left.0, left.1)),
-        (λ c. let left = out.0 c in step.1 ((both x).1 left.0, left.1)),
+        (λ c. let there = step.0 c in out.1 ((both x).0 there.0, there.1)),
+        (λ c. let there = out.0 c in step.1 ((both x).1 there.0, there.1)),
       ))
 
   -- or with one in the place of the feed's other one
@@ -204,7 +204,7 @@ module _ (laws : MapLaws) (m n : Map) (h : IsMap m) (k : IsMap n) (p : Prefix) (
       let put = put_in_adds (route_by p o) x rest in
       let out = take_out_leaves_others o.feed p x (routes_of m) in (
         (λ c. put.1 (elim (step.0 c) [ inl old ↦ inl (out.1 ((both x).0 old.0, old.1)) | inr new ↦ inr new ])),
-        (λ c. step.1 (elim (put.0 c) [ inl old ↦ let left = out.0 old in inl ((both x).1 left.0, left.1) | inr new ↦ inr new ])),
+        (λ c. step.1 (elim (put.0 c) [ inl old ↦ let there = out.0 old in inl ((both x).1 there.0, there.1) | inr new ↦ inr new ])),
       ))
 
 -- nothing is left of a feed's only offer
@@ -226,7 +226,7 @@ first_gained o x = (
 
 -- a single offer is in order
 pub IsOffers-one : (o : Offer) → IsOffers (o ∷ [])
-IsOffers-one o = record { some = omega arith; rising = IsRising-one o }
+IsOffers-one o = record { some = omega arith; ranked = IsRanked-one o }
 
 module _ (laws : MapLaws) (m : Map) (h : IsMap m) (p : Prefix) where
   -- nothing stands at the prefix, so no feed has a route to it

@@ -9,7 +9,7 @@ use Rattle.rt_cidr.specs.declared.prefixes.Prefix.{Prefix}
 use Rattle.rt_cidr.specs.Prefix.{covers}
 use Rattle.rt_trie.specs.Map.{get}
 use Rattle.rt_rib.specs.declared.offers.Offer.{Offer}
-use Rattle.rt_rib.specs.Offers.{outranks, IsRising}
+use Rattle.rt_rib.specs.Offers.{outranks, IsRanked}
 use Rattle.rt_rib.specs.LookUp.{look_up}
 use Rattle.rt_rib.specs.Laws.{IsBestMatch}
 use Rattle.rt_rib.specs.Maps.{Map, route_by, routes_of, IsMap}
@@ -23,7 +23,7 @@ use Rattle.rt_rib.proofs.MapRoutes.{offer_in, offer_out, IsTable-map}
 use Rattle.rt_rib.proofs.Best.{look_up_finds_best}
 
 -- none of the offers is better than the first
-first_best : (p : Prefix) (o : Offer) (rest : List Offer) (x : Offer) → IsRising (o ∷ rest) → Contains (o ∷ rest) x → outranks x o ≡ false
+first_best : (p : Prefix) (o : Offer) (rest : List Offer) (x : Offer) → IsRanked (o ∷ rest) → Contains (o ∷ rest) x → outranks x o ≡ false
 first_best p o rest x h c = elim (Contains-cases o rest x c) [
   | inl here ↦ subst (λ z. outranks z o ≡ false) here (is_better-itself (route_by p o))
   | inr later ↦
@@ -46,7 +46,7 @@ module _ (laws : MapLaws) (m : Map) (h : IsMap m) (addr : Addr) where
           let one = laws.same s.prefix p base len in
           let at = sym ((laws.found m s.prefix x.0 h.ordered).0 x.1) ∙ ap (get m) one ∙ (laws.found m p (o ∷ rest) h.ordered).0 there in
           let same : x.0 ≡ o ∷ rest = cc in
-          first_best p o rest (offer_of s) (h.each p (o ∷ rest) ((laws.found m p (o ∷ rest) h.ordered).0 there)).rising (subst (λ l. Contains l (offer_of s)) same x.2);
+          first_best p o rest (offer_of s) (h.each p (o ∷ rest) ((laws.found m p (o ∷ rest) h.ordered).0 there)).ranked (subst (λ l. Contains l (offer_of s)) same x.2);
     }
 
     -- so it is what a look-up finds

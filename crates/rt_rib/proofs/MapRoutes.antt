@@ -12,10 +12,10 @@ use Rattle.rt_cidr.specs.Laws.{SamePrefix}
 use Rattle.rt_trie.specs.Map.{before, get, IsBeforeAll, IsOrdered}
 use Rattle.rt_rib.specs.declared.routes.Route.{Route}
 use Rattle.rt_rib.specs.declared.offers.Offer.{Offer}
-use Rattle.rt_rib.specs.Offers.{outranks, is_from, IsOffers, IsRising}
+use Rattle.rt_rib.specs.Offers.{outranks, is_from, IsOffers, IsRanked}
 use Rattle.rt_rib.specs.Table.{precedes, is_better, is_of, below_then, has, IsTable}
 use Rattle.rt_rib.specs.Maps.{Map, route_by, routes_of, IsMap}
-use Rattle.rt_rib.specs.inside.Maps.{offer_of, offers_in, offers_at, IsThere, MapLaws}
+use Rattle.rt_rib.specs.inside.Maps.{offer_of, offers_in, offers_at, HasRoute, MapLaws}
 use Rattle.rt_rib.proofs.Lists.{AllPairs-append, AllPairs-head, AllPairs-tail, list_any-at, list_any-from_none}
 use Rattle.rt_rib.proofs.Order.{below_then-true, below_then-less, below_then-same, is_of-parts, is_of-from}
 use Rattle.rt_rib.proofs.Sets.{Contains-head, Contains-tail, Contains-cases, Contains-none, one_table_of_set}
@@ -91,13 +91,13 @@ offer_out ((q, others) ∷ rest) p offers o c d = elim (Contains-cases (q, other
 
 module _ (laws : MapLaws) where
   -- the routes of the map are those that are there
-  pub there_in : (m : Map) (r : Route) → IsOrdered m → Contains (routes_of m) r → IsThere m r
+  pub there_in : (m : Map) (r : Route) → IsOrdered m → Contains (routes_of m) r → HasRoute m r
   there_in m r order c =
       let x = offer_in m r c in
       subst (λ o. Contains (offers_in o) (offer_of r)) (sym ((laws.found m r.prefix x.0 order).0 x.1)) x.2
 
   -- and the other way round
-  pub there_out : (m : Map) (r : Route) → IsOrdered m → IsThere m r → Contains (routes_of m) r
+  pub there_out : (m : Map) (r : Route) → IsOrdered m → HasRoute m r → Contains (routes_of m) r
   there_out m r order c = by_value (get m r.prefix) refl c where
     -- by what stands at its prefix
     by_value : (o : Option (List Offer)) → get m r.prefix ≡ o → Contains (offers_in o) (offer_of r) → Contains (routes_of m) r
@@ -139,7 +139,7 @@ before-routes : (p : Prefix) (rest : Map) (s : Route) → IsBeforeAll p rest →
 before-routes p rest s h c = let x = offer_in rest s c in before-each p rest s.prefix x.0 h x.1
 
 -- the offers of one prefix as routes to it
-module _ (p : Prefix) (offers : List Offer) (h : IsRising offers) where
+module _ (p : Prefix) (offers : List Offer) (h : IsRanked offers) where
   ordered_at : AllPairs Ordered (map (route_by p) offers)
   ordered_at =
       AllPairs-map (route_by p) Ordered offers (λ i j d l m.
@@ -160,15 +160,15 @@ pub IsTable-routes : (m : Map) → IsOrdered m → ((p : Prefix) (offers : List 
 IsTable-routes [] order each = record { ordered = λ i j d l k. absurd (omega arith); single = λ i j d l k. absurd (omega arith) }
 IsTable-routes ((p, offers) ∷ rest) order each =
     let tail = IsTable-routes rest order.1 (λ q os c. each q os (Contains-tail (p, offers) rest (q, os) c)) in
-    let rising = (each p offers (Contains-head (p, offers) rest)).rising in
+    let ranked = (each p offers (Contains-head (p, offers) rest)).ranked in
     let early : (s : Route) → Contains (routes_of rest) s → before p s.prefix ≡ true = λ s c. before-routes p rest s order.0 c in
     record {
       ordered =
-          AllPairs-append Ordered (map (route_by p) offers) (routes_of rest) (ordered_at p offers rising) tail.ordered
+          AllPairs-append Ordered (map (route_by p) offers) (routes_of rest) (ordered_at p offers ranked) tail.ordered
           (All-map (λ r. All (Ordered r) (routes_of rest)) (route_by p) offers (λ k d l.
           All-from_contained (Ordered (route_by p (get_or offers k d))) (routes_of rest) (λ s c. precedes-by_prefix (route_by p (get_or offers k d)) s (early s c))));
       single =
-          AllPairs-append Apart (map (route_by p) offers) (routes_of rest) (single_at p offers rising) tail.single
+          AllPairs-append Apart (map (route_by p) offers) (routes_of rest) (single_at p offers ranked) tail.single
           (All-map (λ r. All (Apart r) (routes_of rest)) (route_by p) offers (λ k d l.
           All-from_contained (Apart (route_by p (get_or offers k d))) (routes_of rest) (λ s c. apart-by_prefix (route_by p (get_or offers k d)) s (early s c))));
     }
@@ -179,7 +179,7 @@ module _ (laws : MapLaws) (m : Map) (h : IsMap m) where
   IsTable-map = IsTable-routes m h.ordered (λ p offers c. h.each p offers ((laws.found m p offers h.ordered).0 c))
 
   -- they are the table of what is there
-  pub table_is : (t : List Route) → IsTable t → ((x : Route) → IsThere m x ↔ Contains t x) → routes_of m ≡ t
+  pub table_is : (t : List Route) → IsTable t → ((x : Route) → HasRoute m x ↔ Contains t x) → routes_of m ≡ t
   table_is t table same =
       one_table_of_set (routes_of m) t IsTable-map table
       (λ x. ((λ c. (same x).0 (there_in laws m x h.ordered c)), (λ c. there_out laws m x h.ordered ((same x).1 c))))

@@ -9,8 +9,8 @@ use Rattle.std.proofs.lemmas.List.Sums.{fails_before_first}
 use Rattle.std.specs.List.{All, AllPairs, AllWithin, Contains, filter, insert, remove, list_any, position, position_or_len}
 use Rattle.std.specs.Prelude.{is_some, Option}
 use Rattle.rt_rib.specs.declared.offers.Offer.{Offer}
-use Rattle.rt_rib.specs.Offers.{outranks, is_from, IsRising}
-use Rattle.rt_rib.specs.inside.Offers.{IsPlaceFor, HasGained, HasSwapped, without}
+use Rattle.rt_rib.specs.Offers.{outranks, is_from, IsRanked}
+use Rattle.rt_rib.specs.inside.Offers.{IsInsertionIndex, HasGained, HasSwapped, without}
 use Rattle.rt_rib.proofs.Lists.{AllPairs-head, AllPairs-tail, filter-all, list_any-from_none, list_any-at}
 use Rattle.rt_rib.proofs.Order.{by_preference-trans, by_preference-other}
 use Rattle.rt_rib.proofs.Sets.{Contains-head, Contains-tail, Contains-cases, Contains-none, filter-keeps, filter-from}
@@ -59,7 +59,7 @@ module _ {X : Type 0} where
       (All-insert (R x) xs i y (omega arith) (before 0 x (omega arith) (omega arith)) (AllPairs-head R x xs h))
       (AllPairs-insert R xs i y (omega arith) (AllPairs-tail R x xs h) (λ k d m n. before (suc k) d (omega arith) (omega arith)) (λ k d m n. behind (suc k) d (omega arith) (omega arith)))
 
-  -- no place is found where none passes
+  -- no index is found where none passes
   pub position-none : (p : X → Bool) (xs : List X) → position p xs ≡ None → list_any p xs ≡ false
   position-none p xs e = elim (cases_lt (position_or_len p xs) (length xs)) [
     | inl less ↦
@@ -75,11 +75,11 @@ module _ {X : Type 0} where
 
   -- so whether one is found is whether one passes
   pub position-is_some : (p : X → Bool) (xs : List X) → is_some (position p xs) ≡ list_any p xs
-  position-is_some p xs = by_place (position p xs) refl where
-    -- by the place
-    by_place : (o : Option ℕ) → position p xs ≡ o → is_some o ≡ list_any p xs
-    by_place None e = sym (position-none p xs e)
-    by_place (Some i) e = sym (position-some p xs i e).1
+  position-is_some p xs = by_index (position p xs) refl where
+    -- by the index
+    by_index : (o : Option ℕ) → position p xs ≡ o → is_some o ≡ list_any p xs
+    by_index None e = sym (position-none p xs e)
+    by_index (Some i) e = sym (position-some p xs i e).1
 
 -- the new offers are the old ones but for the feed's
 abbrev pub HasLost : List Offer → List Offer → ℕ → Type 0
@@ -98,51 +98,51 @@ is_from-flip : (a b : Offer) → is_from b.feed a ≡ false → is_from a.feed b
 is_from-flip a b e = false_from_ne_true (is_from a.feed b) (λ same. both_ways (is_from b.feed a) e (eq-eqb a.feed b.feed (sym (eqb-true b.feed a.feed same))))
 
 -- an offer of a feed that had none, put in where it belongs
-pub IsRising-insert : (offers : List Offer) (place : ℕ) (offer : Offer) → IsRising offers → All (λ o. is_from offer.feed o ≡ false) offers → IsPlaceFor offer offers place → IsRising (insert offers place offer)
-IsRising-insert offers place offer h fresh at = record {
+pub IsRanked-insert : (offers : List Offer) (index : ℕ) (offer : Offer) → IsRanked offers → All (λ o. is_from offer.feed o ≡ false) offers → IsInsertionIndex offer offers index → IsRanked (insert offers index offer)
+IsRanked-insert offers index offer h fresh at = record {
   ordered =
-      AllPairs-insert (λ a b. outranks a b ≡ true) offers place offer at.within h.ordered at.before
+      AllPairs-insert (λ a b. outranks a b ≡ true) offers index offer at.within h.ordered at.before
       (λ k d l m. outranks-other offer (get_or offers k d) (at.behind k d l m) (fresh k d m));
   single =
       let within = at.within in
-      AllPairs-insert (λ a b. is_from b.feed a ≡ false) offers place offer at.within h.single
+      AllPairs-insert (λ a b. is_from b.feed a ≡ false) offers index offer at.within h.single
       (λ k d l m. fresh k d (omega arith)) (λ k d l m. is_from-flip (get_or offers k d) offer (fresh k d m));
 }
 
 -- what rises does so without one
-pub IsRising-remove : (offers : List Offer) (place : ℕ) → IsRising offers → place < length offers → IsRising (remove offers place)
-IsRising-remove offers place h within = record {
-  ordered = all_pairs_remove (λ a b. outranks a b ≡ true) offers place within h.ordered;
-  single = all_pairs_remove (λ a b. is_from b.feed a ≡ false) offers place within h.single;
+pub IsRanked-remove : (offers : List Offer) (index : ℕ) → IsRanked offers → index < length offers → IsRanked (remove offers index)
+IsRanked-remove offers index h within = record {
+  ordered = all_pairs_remove (λ a b. outranks a b ≡ true) offers index within h.ordered;
+  single = all_pairs_remove (λ a b. is_from b.feed a ≡ false) offers index within h.single;
 }
 
 -- one offer rises
-pub IsRising-one : (offer : Offer) → IsRising (offer ∷ [])
-IsRising-one offer = record { ordered = λ i j d l m. absurd (omega arith); single = λ i j d l m. absurd (omega arith) }
+pub IsRanked-one : (offer : Offer) → IsRanked (offer ∷ [])
+IsRanked-one offer = record { ordered = λ i j d l m. absurd (omega arith); single = λ i j d l m. absurd (omega arith) }
 
 -- one offer more outranks it
-pub outranks-more : (offers : List Offer) (offer d : Offer) (place : ℕ) → place < length offers → AllWithin (λ o. outranks o offer ≡ true) offers 0 place → outranks (get_or offers place d) offer ≡ true → AllWithin (λ o. outranks o offer ≡ true) offers 0 (place + 1)
-outranks-more offers offer d place within before here =
-    AllWithin-more (λ o. outranks o offer ≡ true) offers 0 place before
-    (λ e. subst (λ z. outranks z offer ≡ true) (get_or_default offers place d e within) here)
+pub outranks-more : (offers : List Offer) (offer d : Offer) (index : ℕ) → index < length offers → AllWithin (λ o. outranks o offer ≡ true) offers 0 index → outranks (get_or offers index d) offer ≡ true → AllWithin (λ o. outranks o offer ≡ true) offers 0 (index + 1)
+outranks-more offers offer d index within before here =
+    AllWithin-more (λ o. outranks o offer ≡ true) offers 0 index before
+    (λ e. subst (λ z. outranks z offer ≡ true) (get_or_default offers index d e within) here)
 
 -- where an offer stands that does not outrank it, none behind that does
-pub outranks-behind : (offers : List Offer) (offer d : Offer) (place : ℕ) → IsRising offers → place < length offers → outranks (get_or offers place d) offer ≡ false → AllWithin (λ o. outranks o offer ≡ false) offers place (length offers)
-outranks-behind offers offer d place h within fails = λ k e l m.
-    let there = subst (λ z. outranks z offer ≡ false) (get_or_default offers place d e within) fails in
+pub outranks-behind : (offers : List Offer) (offer d : Offer) (index : ℕ) → IsRanked offers → index < length offers → outranks (get_or offers index d) offer ≡ false → AllWithin (λ o. outranks o offer ≡ false) offers index (length offers)
+outranks-behind offers offer d index h within fails = λ k e l m.
+    let there = subst (λ z. outranks z offer ≡ false) (get_or_default offers index d e within) fails in
     false_from_ne_true (outranks (get_or offers k e) offer) (λ holds.
-    elim (cases_lt place k) [
+    elim (cases_lt index k) [
       | inl less ↦
-          both_ways (outranks (get_or offers place e) offer) there
-          (outranks-trans (get_or offers place e) (get_or offers k e) offer (h.ordered place k e less m) holds)
+          both_ways (outranks (get_or offers index e) offer) there
+          (outranks-trans (get_or offers index e) (get_or offers k e) offer (h.ordered index k e less m) holds)
       | inr more ↦
-          let at : k ≡ place = omega arith in
-          both_ways (outranks (get_or offers place e) offer) there (subst (λ i. outranks (get_or offers i e) offer ≡ true) at holds)
+          let at : k ≡ index = omega arith in
+          both_ways (outranks (get_or offers index e) offer) there (subst (λ i. outranks (get_or offers i e) offer ≡ true) at holds)
     ])
 
--- the offers but for a feed's are those without the one at its place
-pub without-is : (feed : ℕ) (offers : List Offer) (place : ℕ) (d : Offer) → AllPairs (λ a b. is_from b.feed a ≡ false) offers → place < length offers → is_from feed (get_or offers place d) ≡ true → filter (λ o. not (is_from feed o)) offers ≡ remove offers place
-without-is feed [] place d single within is = absurd (omega arith)
+-- the offers but for a feed's are those without the one at its index
+pub without-is : (feed : ℕ) (offers : List Offer) (index : ℕ) (d : Offer) → AllPairs (λ a b. is_from b.feed a ≡ false) offers → index < length offers → is_from feed (get_or offers index d) ≡ true → filter (λ o. not (is_from feed o)) offers ≡ remove offers index
+without-is feed [] index d single within is = absurd (omega arith)
 without-is feed (x ∷ offers) zero d single within is =
     let mine = eqb-true x.feed feed is in
     let others : All (λ o. not (is_from feed o) ≡ true) offers =
@@ -161,10 +161,10 @@ without-is feed (x ∷ offers) (suc i) d single within is =
     cond-true (not (is_from feed x)) (x ∷ filter (λ o. not (is_from feed o)) offers) (filter (λ o. not (is_from feed o)) offers) (not_from_false (is_from feed x) other)
     ∙ ap (λ z. x ∷ z) (without-is feed offers i d (AllPairs-tail (λ a b. is_from b.feed a ≡ false) x offers single) (omega arith) is)
 
--- without the one at the place of the feed's, the offers are the others
-pub left_is : (feed : ℕ) (offers : List Offer) → IsRising offers → (place : ℕ) → position (is_from feed) offers ≡ Some place → remove offers place ≡ without feed offers
-left_is feed [] h place found = cc
-left_is feed (x ∷ offers) h place found = let at = position-Some (is_from feed) (x ∷ offers) place x found in sym (without-is feed (x ∷ offers) place x h.single at.0 at.1)
+-- without the one at the index of the feed's, the offers are the others
+pub remove_is_without : (feed : ℕ) (offers : List Offer) → IsRanked offers → (index : ℕ) → position (is_from feed) offers ≡ Some index → remove offers index ≡ without feed offers
+remove_is_without feed [] h index found = cc
+remove_is_without feed (x ∷ offers) h index found = let at = position-Some (is_from feed) (x ∷ offers) index x found in sym (without-is feed (x ∷ offers) index x h.single at.0 at.1)
 
 -- what is left contains the others
 pub lost : (feed : ℕ) (old new : List Offer) → new ≡ without feed old → HasLost old new feed
@@ -174,13 +174,13 @@ lost feed old new same o =
       (λ c. subst (λ l. Contains l o) (sym same) (filter-keeps other old o c.0 (not_from_false (is_from feed o) c.1))),
     )
 
-module _ (feed : ℕ) (offers : List Offer) (h : IsRising offers) (place : ℕ) (found : position (is_from feed) offers ≡ Some place) where
+module _ (feed : ℕ) (offers : List Offer) (h : IsRanked offers) (index : ℕ) (found : position (is_from feed) offers ≡ Some index) where
   -- none of the feed is left
-  pub none_left : All (λ o. is_from feed o ≡ false) (remove offers place)
-  none_left k d l =
-      let at = position-Some (is_from feed) offers place d found in
+  pub none_of_feed : All (λ o. is_from feed o ≡ false) (remove offers index)
+  none_of_feed k d l =
+      let at = position-Some (is_from feed) offers index d found in
       let other = λ (x : Offer). not (is_from feed x) in
-      let same : filter other offers ≡ remove offers place = without-is feed offers place d h.single at.0 at.1 in
+      let same : filter other offers ≡ remove offers index = without-is feed offers index d h.single at.0 at.1 in
       subst (All (λ o. is_from feed o ≡ false)) same
       (All-weaker (λ o. other o ≡ true) (λ o. is_from feed o ≡ false) (λ o. not-true (is_from feed o)) (filter other offers) (filter_passes other offers)) k d l
 
@@ -203,16 +203,16 @@ alone feed offer e = All-cons (λ o. is_from feed o ≡ false) offer [] e (All-n
 
 module _ (one other : Offer) (fresh : is_from other.feed one ≡ false) where
   -- an offer behind one that outranks it
-  pub IsRising-behind : outranks one other ≡ true → IsRising (one ∷ other ∷ [])
-  IsRising-behind e = IsRising-insert (one ∷ []) 1 other (IsRising-one one) (alone other.feed one fresh) (record {
+  pub IsRanked-behind : outranks one other ≡ true → IsRanked (one ∷ other ∷ [])
+  IsRanked-behind e = IsRanked-insert (one ∷ []) 1 other (IsRanked-one one) (alone other.feed one fresh) (record {
     within = omega arith;
     before = λ k d l m. All-cons (λ o. outranks o other ≡ true) one [] e (All-nil (λ o. outranks o other ≡ true)) k d m;
     behind = λ k d l m. absurd (omega arith);
   })
 
   -- an offer before one that does not outrank it
-  pub IsRising-before : outranks one other ≡ false → IsRising (other ∷ one ∷ [])
-  IsRising-before e = IsRising-insert (one ∷ []) 0 other (IsRising-one one) (alone other.feed one fresh) (record {
+  pub IsRanked-before : outranks one other ≡ false → IsRanked (other ∷ one ∷ [])
+  IsRanked-before e = IsRanked-insert (one ∷ []) 0 other (IsRanked-one one) (alone other.feed one fresh) (record {
     within = omega arith;
     before = λ k d l m. absurd (omega arith);
     behind = λ k d l m. All-cons (λ o. outranks o other ≡ false) one [] e (All-nil (λ o. outranks o other ≡ false)) k d m;

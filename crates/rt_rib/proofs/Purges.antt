@@ -56,42 +56,42 @@ count-routes feed p (o ∷ offers) =
     ∙ ap (λ n. cond (is_from feed o) 1 0 + n) (count-routes feed p offers) ∙ sym (sum_by-cons (λ x. cond (is_from feed x) 1 0) o offers)
 
 -- the routes of a prefix that stays where there are other offers, and of what is left behind it
-kept_routes : (stays : Bool) (p : Prefix) (others made : List Offer) (left : Map) → AreOthers others made stays
-    → routes_of (with_pair stays p made left) ≡ map (route_by p) others ++ routes_of left
-kept_routes true p others made left h = rw h.0 refl
-kept_routes false p others made left h = rw h refl
+kept_routes : (stays : Bool) (p : Prefix) (others made : List Offer) (after : Map) → AreOthers others made stays
+    → routes_of (with_pair stays p made after) ≡ map (route_by p) others ++ routes_of after
+kept_routes true p others made after h = rw h.0 refl
+kept_routes false p others made after h = rw h refl
 
 -- its offers are in order, where those of what is left are
-kept_offers : (stays : Bool) (p : Prefix) (others made : List Offer) (left : Map) → AreOthers others made stays
-    → ((q : Prefix) (offers : List Offer) → Contains left (q, offers) → IsOffers offers)
-    → (q : Prefix) (offers : List Offer) → Contains (with_pair stays p made left) (q, offers) → IsOffers offers
-kept_offers true p others made left h rest q offers c = elim (Contains-cases (p, made) left (q, offers) c) [
+kept_offers : (stays : Bool) (p : Prefix) (others made : List Offer) (after : Map) → AreOthers others made stays
+    → ((q : Prefix) (offers : List Offer) → Contains after (q, offers) → IsOffers offers)
+    → (q : Prefix) (offers : List Offer) → Contains (with_pair stays p made after) (q, offers) → IsOffers offers
+kept_offers true p others made after h rest q offers c = elim (Contains-cases (p, made) after (q, offers) c) [
   | inl here ↦ let P : Prefix × List Offer → Type 0 = λ z. IsOffers z.1 in subst P here h.1
   | inr later ↦ rest q offers later
 ]
-kept_offers false p others made left h rest q offers c = rest q offers c
+kept_offers false p others made after h rest q offers c = rest q offers c
 
 -- what a purge does with a pair that it is shown
 abbrev pub Purges : Purging → Prefix → List Offer → Purging → List Offer → Bool → Type 0
 Purges s p old t new stays = IsPurged s t old new stays
 
 -- a purge that knows how many routes its feed has takes all of them out
-pub purged_routes : (s t : Purging) (m n : Map) → IsSifted is_over Purges s t m n → s.left ≡ count_of s.feed (routes_of m) → routes_of n ≡ purge s.feed (routes_of m)
+pub purged_routes : (s t : Purging) (m n : Map) → IsSifted is_over Purges s t m n → s.remaining ≡ count_of s.feed (routes_of m) → routes_of n ≡ purge s.feed (routes_of m)
 purged_routes s t [] n h e = rw h.1 refl
 purged_routes s t ((p, offers) ∷ rest) n h e =
     let all = routes_of ((p, offers) ∷ rest) in
     elim h [
       | inl i ↦
-          let none : count_of s.feed all ≡ 0 = sym e ∙ eqb-true s.left 0 i.0 in
+          let none : count_of s.feed all ≡ 0 = sym e ∙ eqb-true s.remaining 0 i.0 in
           rw i.2 (sym (purge-none s.feed all (none_counted s.feed all none)))
       | inr i ↦
           let is = i.3.judged in
-          let counted : i.1.left ≡ count_of s.feed (routes_of rest) =
+          let counted : i.1.remaining ≡ count_of s.feed (routes_of rest) =
           omega (arith, is.fewer, e, sum_by-append (λ (r : Route). cond (eqb r.feed s.feed) 1 0) (map (route_by p) offers) (routes_of rest), count-routes s.feed p offers) in
-          let left : routes_of i.2 ≡ purge s.feed (routes_of rest) = rw is.same_feed at (purged_routes i.1 t rest i.2 i.4 (rw is.same_feed counted)) in
-          ap routes_of i.3.left
+          let after : routes_of i.2 ≡ purge s.feed (routes_of rest) = rw is.same_feed at (purged_routes i.1 t rest i.2 i.4 (rw is.same_feed counted)) in
+          ap routes_of i.3.new_is
           ∙ kept_routes i.3.stays p (without s.feed offers) i.3.made i.2 is.others
-          ∙ ap (λ z. map (route_by p) (without s.feed offers) ++ z) left
+          ∙ ap (λ z. map (route_by p) (without s.feed offers) ++ z) after
           ∙ ap (λ z. z ++ purge s.feed (routes_of rest)) (sym (purge-routes s.feed p offers))
           ∙ sym (filter-append (λ (r : Route). not (eqb r.feed s.feed)) (map (route_by p) offers) (routes_of rest))
     ]
@@ -105,7 +105,7 @@ purged_offers s t ((p, old) ∷ rest) n h each q offers c = elim h [
   | inr i ↦
       let tail : (x : Prefix) (others : List Offer) → Contains rest (x, others) → IsOffers others = λ x others d. each x others (Contains-tail (p, old) rest (x, others) d) in
       kept_offers i.3.stays p (without s.feed old) i.3.made i.2 i.3.judged.others (purged_offers i.1 t rest i.2 i.4 tail) q offers
-      (subst (λ l. Contains l (q, offers)) i.3.left c)
+      (subst (λ l. Contains l (q, offers)) i.3.new_is c)
 ]
 
 pub purged_map : MapLaws → (s t : Purging) (m n : Map) → IsSifted is_over Purges s t m n → IsMap m → IsOrdered n → IsMap n
@@ -131,7 +131,7 @@ one_less zero e = cc
 one_less (suc n) e = omega arith
 
 -- it has one of several
-pub offers_gone : (s t : Purging) (old new : List Offer) → t.feed ≡ s.feed → t.left + 1 ≡ s.left → TakesOut old new s.feed Gone → IsOffers new → IsPurged s t old new true
+pub offers_gone : (s t : Purging) (old new : List Offer) → t.feed ≡ s.feed → t.remaining + 1 ≡ s.remaining → TakesOut old new s.feed Gone → IsOffers new → IsPurged s t old new true
 offers_gone s t old new same fewer h lawful = record {
   same_feed = same;
   fewer = omega (arith, fewer, count-both (is_from s.feed) old, ap length h.0, h.2);
@@ -139,7 +139,7 @@ offers_gone s t old new same fewer h lawful = record {
 }
 
 -- it has the only one
-pub offers_last : (s t : Purging) (old new : List Offer) → t.feed ≡ s.feed → t.left + 1 ≡ s.left → TakesOut old new s.feed Last → IsPurged s t old new false
+pub offers_last : (s t : Purging) (old new : List Offer) → t.feed ≡ s.feed → t.remaining + 1 ≡ s.remaining → TakesOut old new s.feed Last → IsPurged s t old new false
 offers_last s t old new same fewer h =
     let o = h.1.0 in
     let none : without s.feed (o ∷ []) ≡ [] = rw h.1.2 refl in

@@ -21,11 +21,11 @@ module _ {X : Type 0} where
 
   -- what a list contains is its first element, or the others contain it
   pub Contains-cases : (y : X) (xs : List X) (x : X) → Contains (y ∷ xs) x → (y ≡ x) ⊎ Contains xs x
-  Contains-cases y xs x c = place y xs x c.0 c.1 c.2 where
+  Contains-cases y xs x c = by_index y xs x c.0 c.1 c.2 where
     -- by where it stands
-    place : (y : X) (xs : List X) (x : X) (k : ℕ) → k < length (y ∷ xs) → get_or (y ∷ xs) k x ≡ x → (y ≡ x) ⊎ Contains xs x
-    place y xs x zero l e = inl e
-    place y xs x (suc k) l e = inr (k, omega arith, e)
+    by_index : (y : X) (xs : List X) (x : X) (k : ℕ) → k < length (y ∷ xs) → get_or (y ∷ xs) k x ≡ x → (y ≡ x) ⊎ Contains xs x
+    by_index y xs x zero l e = inl e
+    by_index y xs x (suc k) l e = inr (k, omega arith, e)
 
   -- the empty list contains nothing
   pub Contains-none : (x : X) → Contains [] x → ⊥

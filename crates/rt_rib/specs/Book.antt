@@ -1,6 +1,6 @@
 -- What contracts see of a book.
 use Rattle.std.specs.Prelude.{◌≡◌, ℕ, ◌+◌, ◌≤◌, ◌⊎◌, List, [], ◌∷◌, ◌++◌}
-use Rattle.rt_trie.specs.Contents as rt_trie
+use Rattle.rt_trie.specs.TrieContents as rt_trie
 use Rattle.rt_trie.specs.Lawful.{IsLawful}
 use Rattle.rt_rib.specs.declared.routes.Route.{Route}
 use Rattle.rt_rib.specs.declared.offers.Offer.{Offer}
@@ -10,7 +10,7 @@ use Rattle.rt_rib.specs.declared.commands.Reply.{Reply}
 use Rattle.rt_rib.specs.declared.commands.Entry.{Entry}
 use Rattle.rt_rib.specs.declared.limits.TheConstants.{MOST_FEEDS, MOST_ROUTES}
 use Rattle.rt_rib.specs.Sequential.{reply_of}
-use Rattle.rt_rib.specs.Journal.{table_left}
+use Rattle.rt_rib.specs.Journal.{table_of_journal}
 use Rattle.rt_rib.specs.Table.{IsTable}
 use Rattle.rt_rib.specs.Maps.{routes_of, IsMap}
 
@@ -24,19 +24,19 @@ IsFeed feed = (1 ≤ feed) × (feed ≤ MOST_FEEDS)
 
 -- what a trie of offers shows: each prefix with its offers, and the nodes
 abbrev pub OfferTrie : Type 0
-OfferTrie = rt_trie.Contents (List Offer)
+OfferTrie = rt_trie.TrieContents (List Offer)
 
 -- what contracts see of a book: how many routes a feed may have, every answered command, the trie of the routes, and for how many
 -- entries more the journal has room
-pub record Contents : Type 0 where
+pub record BookContents : Type 0 where
   pub limit : ℕ
   pub journal : List Entry
   pub trie : OfferTrie
   pub room : ℕ
 
 -- the routes of the book: what its journal leaves
-abbrev pub table_of : Contents → List Route
-table_of book = table_left book.limit book.journal
+abbrev pub table_of : BookContents → List Route
+table_of book = table_of_journal book.limit book.journal
 
 -- the trie is lawful, each of its prefixes has offers, the best first, and the routes that it holds, read off prefix by
 -- prefix and offer by offer, are exactly these, none of them twice
@@ -47,12 +47,12 @@ pub record HoldsRoutes (trie : OfferTrie) (routes : List Route) : Type 0 where
   pub once : IsTable routes
 
 -- the trie of the book holds the routes that the journal leaves
-abbrev pub HoldsRoutesLeft : Contents → Type 0
-HoldsRoutesLeft book = HoldsRoutes book.trie (table_of book)
+abbrev pub HoldsTable : BookContents → Type 0
+HoldsTable book = HoldsRoutes book.trie (table_of book)
 
 -- the command is answered as the sequential table answers it, and the journal has gained the one entry at its end, which
 -- takes room for one at most
-pub record Applies (old new : Contents) (feed : ℕ) (cmd : Cmd) (reply : Reply) : Type 0 where
+pub record Applies (old new : BookContents) (feed : ℕ) (cmd : Cmd) (reply : Reply) : Type 0 where
   pub replied : reply ≡ reply_of old.limit (table_of old) feed cmd
   pub limited : new.limit ≡ old.limit
   pub journaled : new.journal ≡ old.journal ++ record { feed = feed; cmd = cmd; reply = reply } ∷ []
@@ -65,7 +65,7 @@ IsAdd _ = ⊥
 
 -- the command was refused for memory: limit, journal and trie are as they were, no room is lost, and there was none or the
 -- command is an `add`
-pub record Refuses (old new : Contents) (cmd : Cmd) : Type 0 where
+pub record Refuses (old new : BookContents) (cmd : Cmd) : Type 0 where
   pub limited : new.limit ≡ old.limit
   pub journaled : new.journal ≡ old.journal
   pub kept : new.trie ≡ old.trie

@@ -11,7 +11,7 @@ use Rattle.rt_rib.specs.Table.{is_better, is_of, put_in, take_out, IsTable}
 use Rattle.rt_rib.specs.declared.commands.Cmd.TheVariants.{Add, Replace, Withdraw, Lookup, Dump, Purge}
 use Rattle.rt_rib.specs.LookUp.{look_up}
 use Rattle.rt_rib.specs.Sequential.{reply_of, table_after}
-use Rattle.rt_rib.specs.Journal.{table_left, IsAnswered, IsLawfulJournal}
+use Rattle.rt_rib.specs.Journal.{table_of_journal, IsAnswered, IsLawfulJournal}
 
 -- a route put in: the set, and that route
 abbrev pub PutInAdds : Type 0
@@ -41,10 +41,10 @@ LookUpFindsBest =
 
 -- what a journal leaves is a table: the empty one where it has no entry, and after one entry more what that entry's command
 -- leaves
-pub record LeftByEntry : Type 0 where
-  pub table : (limit : ℕ) (journal : List Entry) → IsTable (table_left limit journal)
-  pub empty : (limit : ℕ) → table_left limit [] ≡ []
-  pub step : (limit : ℕ) (journal : List Entry) (e : Entry) → table_left limit (journal ++ e ∷ []) ≡ table_after limit (table_left limit journal) e.feed e.cmd
+pub record TableByEntry : Type 0 where
+  pub table : (limit : ℕ) (journal : List Entry) → IsTable (table_of_journal limit journal)
+  pub empty : (limit : ℕ) → table_of_journal limit [] ≡ []
+  pub step : (limit : ℕ) (journal : List Entry) (e : Entry) → table_of_journal limit (journal ++ e ∷ []) ≡ table_after limit (table_of_journal limit journal) e.feed e.cmd
 
 -- a journal without an entry is lawful, and one with an entry more where it was so before, and the entry is answered as the
 -- sequential table answers it
@@ -80,5 +80,5 @@ is_own Purge = true
 -- each feed's routes are what its own entries leave by themselves, and its commands are answered from them
 abbrev pub FeedsStandAlone : Type 0
 FeedsStandAlone =
-    (limit feed : ℕ) (journal : List Entry) (cmd : Cmd) → (feed_routes feed (table_left limit journal) ≡ table_left limit (feed_entries feed journal))
-    × (is_own cmd ≡ true → reply_of limit (table_left limit journal) feed cmd ≡ reply_of limit (table_left limit (feed_entries feed journal)) feed cmd)
+    (limit feed : ℕ) (journal : List Entry) (cmd : Cmd) → (feed_routes feed (table_of_journal limit journal) ≡ table_of_journal limit (feed_entries feed journal))
+    × (is_own cmd ≡ true → reply_of limit (table_of_journal limit journal) feed cmd ≡ reply_of limit (table_of_journal limit (feed_entries feed journal)) feed cmd)

@@ -13,11 +13,11 @@ abbrev pub is_from : ℕ → Offer → Bool
 is_from feed o = o.feed == feed
 
 -- each offer outranks those behind it, and no two are of one feed
-pub record IsRising (offers : List Offer) : Type 0 where
+pub record IsRanked (offers : List Offer) : Type 0 where
   pub ordered : AllPairs (λ a b. outranks a b ≡ true) offers
   pub single : AllPairs (λ a b. is_from b.feed a ≡ false) offers
 
 -- what stands at a prefix of the map: at least one offer, and all in that order
 pub record IsOffers (offers : List Offer) : Type 0 where
   pub some : 0 < length offers
-  pub rising : IsRising offers
+  pub ranked : IsRanked offers

@@ -19,33 +19,33 @@ pub(crate) fn read_ahead<A: Allocator + Copy>(map: &Map<A>, cmds: &[Cmd]) {
     if map.nodes() < CACHED {
         return;
     }
-    let mut aims = [Addr(0); AHEAD];
-    let mut met = [None; AHEAD];
+    let mut addresses = [Addr(0); AHEAD];
+    let mut answers = [None; AHEAD];
     let count = cmds.len().min(AHEAD);
     for k in 0..count {
-        aims[k] = aim_of(cmds[k]);
+        addresses[k] = address_of(cmds[k]);
     }
-    map.longest_many(&aims[..count], &mut met[..count]);
-    reach(&met[..count]);
+    map.longest_many(&addresses[..count], &mut answers[..count]);
+    read_first_offers(&answers[..count]);
 }
 
 /// Reads the first of the offers of each prefix, where a list of them lies apart. None is of a feed over `MOST_FEEDS`, but the
 /// compiler doesn't know that, nor when the loop would end without it: so it can't leave the reads out.
-fn reach<A: Allocator + Copy>(met: &[Option<(Prefix, &Offers<A>)>]) {
-    let mut left = met.len();
-    while left > 0 {
-        let feed = first_feed(met[left - 1]);
-        left = if feed > MOST_FEEDS {
-            left / 2
+fn read_first_offers<A: Allocator + Copy>(answers: &[Option<(Prefix, &Offers<A>)>]) {
+    let mut remaining = answers.len();
+    while remaining > 0 {
+        let feed = first_feed(answers[remaining - 1]);
+        remaining = if feed > MOST_FEEDS {
+            remaining / 2
         } else {
-            left - 1
+            remaining - 1
         };
     }
 }
 
 /// The feed of the best of the offers.
-fn first_feed<A: Allocator + Copy>(met: Option<(Prefix, &Offers<A>)>) -> usize {
-    match met {
+fn first_feed<A: Allocator + Copy>(answer: Option<(Prefix, &Offers<A>)>) -> usize {
+    match answer {
         Some((_, offers)) => {
             let best = offers.as_slice()[0];
             best.feed as usize
@@ -55,7 +55,7 @@ fn first_feed<A: Allocator + Copy>(met: Option<(Prefix, &Offers<A>)>) -> usize {
 }
 
 /// The address to which the command goes down, if it goes down at all.
-fn aim_of(cmd: Cmd) -> Addr {
+fn address_of(cmd: Cmd) -> Addr {
     match cmd {
         Cmd::Add { prefix, .. } | Cmd::Replace { prefix, .. } | Cmd::Withdraw { prefix } => {
             Addr(prefix.base())

@@ -25,13 +25,13 @@ impl<A: Allocator + Copy> Model for Book<A> {
     ghost use Rattle.std.specs.Prelude.{◌-◌, vec_len, vec_capacity};
     ghost use Rattle.std.specs.Coded.{codes};
     ghost use Rattle.rt_trie.specs.inside.TreeCode.{tree_code};
-    ghost use Rattle.rt_rib.specs.Book.{Contents};
+    ghost use Rattle.rt_rib.specs.Book.{BookContents};
 
-    ghost Value = { Contents };
+    ghost Value = { BookContents };
 
     ghost coded = { Prim.hlevel (codes, tree_code) };
 
-    ghost use Rattle.rt_rib.specs.inside.Kept.{held_of, IsKept};
+    ghost use Rattle.rt_rib.specs.inside.TableState.{table_state, IsJournalOf};
 
     ghost view = { λ b. record {
       limit = b.table.limit;
@@ -40,21 +40,21 @@ impl<A: Allocator + Copy> Model for Book<A> {
       room = vec_capacity b.journal - vec_len b.journal;
     } };
 
-    ghost invariant = { λ b. IsKept (held_of b.table) b.journal.items };
+    ghost invariant = { λ b. IsJournalOf (table_state b.table) b.journal.items };
 }
 
 impl<A: Allocator + Copy> Book<A> {
     ghost use Rattle.rt_rib.specs.Journal.{IsLawfulJournal};
     ghost use Rattle.rt_rib.specs.Table.{IsTable};
     ghost use Rattle.rt_rib.specs.LookUp.{look_up};
-    ghost use Rattle.rt_rib.specs.Book.{table_of, Applies, Refuses, HoldsRoutesLeft};
+    ghost use Rattle.rt_rib.specs.Book.{table_of, Applies, Refuses, HoldsTable};
 
     /// An empty book in which each feed may have so many routes. It takes no memory.
     pub fn new(alloc: A, limit: u32) -> Book<A>
         requires { IsLimit limit }
         ensures limit { result.limit ≡ limit }
         ensures journal { result.journal ≡ [] }
-        ensures holds { HoldsRoutesLeft result }
+        ensures holds { HoldsTable result }
     {
         let table = Table::new(alloc, limit);
         table.holds();
@@ -71,7 +71,7 @@ impl<A: Allocator + Copy> Book<A> {
         requires { IsFeed feed }
         ensures ok { IfOk result (λ reply. Applies self.old self.new feed cmd reply) }
         ensures err { OnErr result (Refuses self.old self.new cmd) }
-        ensures holds { HoldsRoutesLeft self.new }
+        ensures holds { HoldsTable self.new }
     {
         self.table.holds();
         self.journal.try_reserve(1)?;
@@ -84,7 +84,7 @@ impl<A: Allocator + Copy> Book<A> {
     /// The trie of any book is lawful, and holds exactly the routes that the journal leaves, none of them twice. Calling
     /// this makes it known, and it does nothing.
     pub fn holds(&self)
-        ensures { HoldsRoutesLeft self.now }
+        ensures { HoldsTable self.now }
     {
         self.table.holds();
     }

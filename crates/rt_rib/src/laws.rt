@@ -1,6 +1,6 @@
 //! What holds of every set of routes and of every journal. Each function is a theorem: calling it makes its clause
 //! known, and it does nothing.
-ghost use Rattle.rt_rib.specs.Laws.{PutInAdds, TakeOutLeavesOthers, OneTableOfSet, LookUpFindsBest, LeftByEntry, LawfulByEntry, LawfulIsDetermined, FeedsStandAlone};
+ghost use Rattle.rt_rib.specs.Laws.{PutInAdds, TakeOutLeavesOthers, OneTableOfSet, LookUpFindsBest, TableByEntry, LawfulByEntry, LawfulIsDetermined, FeedsStandAlone};
 
 /// A table that a route is put into contains that route and what it contained.
 pub fn put_in_adds()
@@ -24,8 +24,8 @@ pub fn look_up_finds_best()
 {}
 
 /// What a journal leaves is a table: the empty one before the first entry, and after each entry what its command leaves.
-pub fn left_by_entry()
-    ensures { LeftByEntry }
+pub fn table_by_entry()
+    ensures { TableByEntry }
 {}
 
 /// The journal without an entry is lawful. Any other is so where it was before its last entry, and that entry's reply is

@@ -46,13 +46,13 @@ pub(crate) fn best_of_each<A: Allocator + Copy>(
     let mut start = 0;
     while start < addresses.len() {
         let size = (addresses.len() - start).min(AHEAD);
-        best_of_few(trie, addresses, answers, start, size);
+        best_of_chunk(trie, addresses, answers, start, size);
         start += size;
     }
 }
 
 /// The answers to so many addresses from an index on, whose ways down are taken together.
-fn best_of_few<A: Allocator + Copy>(
+fn best_of_chunk<A: Allocator + Copy>(
     trie: &Map<A>,
     addresses: &[Addr],
     answers: &mut [Option<Route>],
@@ -60,7 +60,7 @@ fn best_of_few<A: Allocator + Copy>(
     size: usize,
 )
     requires map { IsMap trie.now.pairs }
-    requires few { size ≤ AHEAD }
+    requires chunk { size ≤ AHEAD }
     requires within { start + size ≤ length addresses.now }
     requires size { length answers.old ≡ length addresses.now }
     ensures each { (j : ℕ) → j < size

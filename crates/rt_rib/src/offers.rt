@@ -1,8 +1,8 @@
 //! What the feeds offer for one prefix, the best offer first. One offer is the common case and takes no memory of its own.
 ghost use Rattle.std.specs.Prelude.{◌≡◌, ◌<◌, ◌+◌, false, [], ◌∷◌, length, IsTrue, IsOk, IfOk, OnOk, OnErr, position, vec_len, vec_capacity};
 ghost use Rattle.std.specs.List.{All, list_any};
-ghost use Rattle.rt_rib.specs.Offers.{outranks, is_from, IsRising, IsOffers};
-ghost use Rattle.rt_rib.specs.inside.Offers.{IsPlaceFor, HasGained, HasSwapped, TakesOut, without};
+ghost use Rattle.rt_rib.specs.Offers.{outranks, is_from, IsRanked, IsOffers};
+ghost use Rattle.rt_rib.specs.inside.Offers.{IsInsertionIndex, HasGained, HasSwapped, TakesOut, without};
 
 use crate::refused::Refused;
 use crate::routes::Hop;
@@ -19,7 +19,7 @@ pub(crate) struct Offer {
 
 /// One offer, or a list of at least two.
 #[derive(Drop)]
-enum Few<A: Allocator> {
+enum OneOrMany<A: Allocator> {
     One(Offer),
     Many(Box<Vec<Offer, A>, A>),
 }
@@ -27,7 +27,7 @@ enum Few<A: Allocator> {
 /// The offers of one prefix: at least one, by preference and then by feed, and none twice of one feed.
 #[derive(Drop)]
 pub(crate) struct Offers<A: Allocator + Copy> {
-    few: Few<A>,
+    offers: OneOrMany<A>,
 }
 
 impl<A: Allocator + Copy> Model for Offers<A> {
@@ -36,11 +36,11 @@ impl<A: Allocator + Copy> Model for Offers<A> {
 
     ghost Value = { List Offer };
 
-    ghost use Rattle.rt_rib.specs.inside.Few.{items, IsFew};
+    ghost use Rattle.rt_rib.specs.inside.OneOrMany.{items, IsOneOrMany};
 
-    ghost view = { λ o. items o.few };
+    ghost view = { λ o. items o.offers };
 
-    ghost invariant = { λ o. IsFew o.few };
+    ghost invariant = { λ o. IsOneOrMany o.offers };
 }
 
 /// What became of a feed's offer that was to be taken out.
@@ -60,7 +60,7 @@ impl<A: Allocator + Copy> Offers<A> {
         ensures { result ≡ offer ∷ [] }
     {
         Offers {
-            few: Few::One(offer),
+            offers: OneOrMany::One(offer),
         }
     }
 
@@ -69,9 +69,9 @@ impl<A: Allocator + Copy> Offers<A> {
         ensures offers { result.now ≡ self.now }
         ensures lawful { IsOffers result.now }
     {
-        match &self.few {
-            Few::One(offer) => std::slice::from_ref(offer),
-            Few::Many(offers) => offers.as_slice(),
+        match &self.offers {
+            OneOrMany::One(offer) => std::slice::from_ref(offer),
+            OneOrMany::Many(offers) => offers.as_slice(),
         }
     }
 
@@ -79,7 +79,7 @@ impl<A: Allocator + Copy> Offers<A> {
     pub(crate) fn has(&self, feed: u32) -> bool
         ensures { result ≡ list_any (is_from feed) self.now }
     {
-        place_of(self.as_slice(), feed).is_some()
+        offer_index(self.as_slice(), feed).is_some()
     }
 
     /// Puts in the offer of a feed that has none. Where memory is refused the offers are as they were.
@@ -89,7 +89,7 @@ impl<A: Allocator + Copy> Offers<A> {
         ensures refused { OnErr result (self.new ≡ self.old) }
         ensures lawful { IsOffers self.new }
     {
-        self.few.put(alloc, offer)
+        self.offers.put(alloc, offer)
     }
 
     /// Replaces the feed's offer by this one, if it has one, and answers whether it has. It takes no memory.
@@ -98,7 +98,7 @@ impl<A: Allocator + Copy> Offers<A> {
         ensures swapped { HasSwapped self.old self.new offer result }
         ensures lawful { IsOffers self.new }
     {
-        self.few.replace(offer)
+        self.offers.replace(offer)
     }
 
     /// Takes the feed's offer out, unless it is the only one. It takes no memory.
@@ -106,70 +106,70 @@ impl<A: Allocator + Copy> Offers<A> {
         ensures taken { TakesOut self.old self.new feed result }
         ensures lawful { IsOffers self.new }
     {
-        self.few.take_out(feed)
+        self.offers.take_out(feed)
     }
 }
 
-impl<A: Allocator + Copy> Few<A> {
-    ghost use Rattle.rt_rib.specs.inside.Few.{items, IsFew};
+impl<A: Allocator + Copy> OneOrMany<A> {
+    ghost use Rattle.rt_rib.specs.inside.OneOrMany.{items, IsOneOrMany};
 
     /// Puts in the offer of a feed that has none.
     fn put(&mut self, alloc: A, offer: Offer) -> Result<(), Refused>
-        requires few { IsFew self.old }
+        requires valid { IsOneOrMany self.old }
         requires fresh { All (λ o. is_from offer.feed o ≡ false) (items self.old) }
         ensures ok { OnOk result (HasGained (items self.old) (items self.new) offer) }
         ensures refused { OnErr result (items self.new ≡ items self.old) }
-        ensures few { IsFew self.new }
+        ensures valid { IsOneOrMany self.new }
     {
         match self {
-            Few::One(first) => {
+            OneOrMany::One(first) => {
                 let both = two(alloc, *first, offer)?;
-                *self = Few::Many(both);
+                *self = OneOrMany::Many(both);
                 Ok(())
             }
-            Few::Many(offers) => put_among(offers, offer),
+            OneOrMany::Many(offers) => put_among(offers, offer),
         }
     }
 
     /// Replaces the feed's offer by this one, if it has one, and answers whether it has.
     fn replace(&mut self, offer: Offer) -> bool
-        requires { IsFew self.old }
+        requires { IsOneOrMany self.old }
         ensures had { result ≡ list_any (is_from offer.feed) (items self.old) }
         ensures swapped { HasSwapped (items self.old) (items self.new) offer result }
-        ensures few { IsFew self.new }
+        ensures valid { IsOneOrMany self.new }
     {
         match self {
-            Few::One(old) => {
+            OneOrMany::One(old) => {
                 if old.feed != offer.feed {
                     return false;
                 }
                 *old = offer;
                 true
             }
-            Few::Many(offers) => replace_among(offers, offer),
+            OneOrMany::Many(offers) => replace_among(offers, offer),
         }
     }
 
     /// Takes the feed's offer out, unless it is the only one.
     fn take_out(&mut self, feed: u32) -> Taken
-        requires { IsFew self.old }
+        requires { IsOneOrMany self.old }
         ensures taken { TakesOut (items self.old) (items self.new) feed result }
-        ensures few { IsFew self.new }
+        ensures valid { IsOneOrMany self.new }
     {
         match self {
-            Few::One(offer) => {
+            OneOrMany::One(offer) => {
                 if offer.feed == feed {
                     return Taken::Last;
                 }
                 Taken::Missing
             }
-            Few::Many(offers) => {
+            OneOrMany::Many(offers) => {
                 if !take_among(offers, feed) {
                     return Taken::Missing;
                 }
                 if offers.len() == 1 {
                     let offer = offers[0];
-                    *self = Few::One(offer);
+                    *self = OneOrMany::One(offer);
                 }
                 Taken::Gone
             }
@@ -185,51 +185,51 @@ fn comes_before(a: &Offer, b: &Offer) -> bool
 }
 
 /// The index of the feed's offer, if it has one.
-fn place_of(offers: &[Offer], feed: u32) -> Option<usize>
+fn offer_index(offers: &[Offer], feed: u32) -> Option<usize>
     ensures { result ≡ position (is_from feed) offers.now }
 {
     offers.iter().position(|offer| offer.feed == feed)
 }
 
 /// The index at which the offer belongs.
-fn place_for(offers: &[Offer], offer: &Offer) -> usize
-    requires { IsRising offers.now }
-    ensures { IsPlaceFor offer.now offers.now result }
+fn insertion_index(offers: &[Offer], offer: &Offer) -> usize
+    requires { IsRanked offers.now }
+    ensures { IsInsertionIndex offer.now offers.now result }
 {
-    let mut place = 0;
-    while place < offers.len() && comes_before(&offers[place], offer) {
-        place += 1;
+    let mut index = 0;
+    while index < offers.len() && comes_before(&offers[index], offer) {
+        index += 1;
     }
-    place
+    index
 }
 
 /// Puts in the offer of a feed that has none, where it belongs.
 fn put_among<A: Allocator + Copy>(offers: &mut Vec<Offer, A>, offer: Offer) -> Result<(), Refused>
-    requires rising { IsRising offers.old.items }
+    requires ranked { IsRanked offers.old.items }
     requires fresh { All (λ o. is_from offer.feed o ≡ false) offers.old.items }
     ensures ok { OnOk result (HasGained offers.old.items offers.new.items offer) }
-    ensures rising { IsRising offers.new.items }
+    ensures ranked { IsRanked offers.new.items }
     ensures more { OnOk result (vec_len offers.new ≡ vec_len offers.old + 1) }
     ensures refused { OnErr result (offers.new.items ≡ offers.old.items) }
     ensures room { vec_len offers.old < vec_capacity offers.old → IsOk result }
 {
-    let place = place_for(offers, &offer);
-    offers.insert(place, offer)?;
+    let index = insertion_index(offers, &offer);
+    offers.insert(index, offer)?;
     Ok(())
 }
 
 /// Replaces the feed's offer by this one, if it has one, and answers whether it has.
 fn replace_among<A: Allocator + Copy>(offers: &mut Vec<Offer, A>, offer: Offer) -> bool
-    requires { IsRising offers.old.items }
+    requires { IsRanked offers.old.items }
     ensures had { result ≡ list_any (is_from offer.feed) offers.old.items }
     ensures swapped { HasSwapped offers.old.items offers.new.items offer result }
-    ensures rising { IsRising offers.new.items }
+    ensures ranked { IsRanked offers.new.items }
     ensures many { vec_len offers.new ≡ vec_len offers.old }
 {
-    let Some(place) = place_of(offers, offer.feed) else {
+    let Some(index) = offer_index(offers, offer.feed) else {
         return false;
     };
-    offers.remove(place);
+    offers.remove(index);
     match put_among(offers, offer) {
         Ok(()) => true,
         Err(_) => unreachable!(),
@@ -238,17 +238,17 @@ fn replace_among<A: Allocator + Copy>(offers: &mut Vec<Offer, A>, offer: Offer) 
 
 /// Takes the feed's offer out, if it has one, and answers whether it has.
 fn take_among<A: Allocator + Copy>(offers: &mut Vec<Offer, A>, feed: u32) -> bool
-    requires { IsRising offers.old.items }
+    requires { IsRanked offers.old.items }
     ensures had { result ≡ list_any (is_from feed) offers.old.items }
     ensures kept { result ≡ false → offers.new.items ≡ offers.old.items }
-    ensures left { IsTrue result → offers.new.items ≡ without feed offers.old.items }
+    ensures others { IsTrue result → offers.new.items ≡ without feed offers.old.items }
     ensures fewer { IsTrue result → vec_len offers.new + 1 ≡ vec_len offers.old }
-    ensures rising { IsRising offers.new.items }
+    ensures ranked { IsRanked offers.new.items }
 {
-    let Some(place) = place_of(offers, feed) else {
+    let Some(index) = offer_index(offers, feed) else {
         return false;
     };
-    offers.remove(place);
+    offers.remove(index);
     true
 }
 
@@ -260,7 +260,7 @@ fn two<A: Allocator + Copy>(
 ) -> Result<Box<Vec<Offer, A>, A>, Refused>
     requires { is_from other.feed one ≡ false }
     ensures gained { IfOk result (λ offers. HasGained (one ∷ []) offers.value.items other) }
-    ensures rising { IfOk result (λ offers. IsRising offers.value.items) }
+    ensures ranked { IfOk result (λ offers. IsRanked offers.value.items) }
     ensures both { IfOk result (λ offers. length offers.value.items ≡ 2) }
 {
     let offers = if comes_before(&one, &other) {

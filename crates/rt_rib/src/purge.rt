@@ -15,7 +15,7 @@ use std::alloc::Allocator;
 struct Purging {
     feed: u32,
     /// How many routes of the feed are still to come.
-    left: u32,
+    remaining: u32,
 }
 
 impl<A: Allocator + Copy> Sieve<Offers<A>> for Purging {
@@ -24,18 +24,18 @@ impl<A: Allocator + Copy> Sieve<Offers<A>> for Purging {
     ghost judges = { λ s p v t w stays. IsPurged s t v w stays };
 
     fn is_done(&self) -> bool {
-        self.left == 0
+        self.remaining == 0
     }
 
     fn keeps(&mut self, _prefix: Prefix, offers: &mut Offers<A>) -> bool {
         match offers.take_out(self.feed) {
             Taken::Missing => true,
             Taken::Gone => {
-                self.left -= 1;
+                self.remaining -= 1;
                 true
             }
             Taken::Last => {
-                self.left -= 1;
+                self.remaining -= 1;
                 false
             }
         }
@@ -51,6 +51,9 @@ pub(crate) fn purge<A: Allocator + Copy>(map: &mut Map<A>, feed: u32, count: u32
     ensures map { IsMap map.new.pairs }
 {
     map_laws::<A>();
-    let mut purge = Purging { feed, left: count };
+    let mut purge = Purging {
+        feed,
+        remaining: count,
+    };
     map.retain(&mut purge);
 }

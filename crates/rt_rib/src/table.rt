@@ -4,7 +4,7 @@ ghost use Rattle.rt_rib.specs.declared.commands.Cmd.TheVariants.{Add, Replace, W
 ghost use Rattle.rt_rib.specs.Table.{IsTable};
 ghost use Rattle.rt_rib.specs.LookUp.{look_up};
 ghost use Rattle.rt_rib.specs.Book.{IsLimit, IsFeed, IsAdd, HoldsRoutes};
-ghost use Rattle.rt_rib.specs.inside.Kept.{held_of, Serves};
+ghost use Rattle.rt_rib.specs.inside.TableState.{table_state, Serves};
 
 use crate::commands::{Cmd, Reply};
 use crate::limits::MOST_FEEDS;
@@ -32,10 +32,10 @@ pub(crate) struct Table<A: Allocator + Copy> {
 impl<A: Allocator + Copy> Model for Table<A> {
     ghost use Rattle.std.specs.Coded.{codes};
     ghost use Rattle.rt_trie.specs.inside.TreeCode.{tree_code};
-    ghost use Rattle.rt_rib.specs.inside.Kept.{Stored, IsCounted};
+    ghost use Rattle.rt_rib.specs.inside.TableState.{StoredTable, IsCounted};
     ghost use Rattle.rt_rib.specs.Maps.{routes_of};
 
-    ghost Value = { Stored };
+    ghost Value = { StoredTable };
 
     ghost coded = { Prim.hlevel (codes, tree_code) };
 
@@ -48,7 +48,7 @@ impl<A: Allocator + Copy> Table<A> {
     /// The empty table. It takes no memory.
     pub(crate) fn new(alloc: A, limit: u32) -> Table<A>
         requires { IsLimit limit }
-        ensures { held_of result ≡ record { limit = limit; routes = [] } }
+        ensures { table_state result ≡ record { limit = limit; routes = [] } }
     {
         let counts = [0; MOST_FEEDS];
         Table {
@@ -104,7 +104,7 @@ impl<A: Allocator + Copy> Table<A> {
     /// Answers a command of the feed. Only an `add` wants memory, and where it is refused the table stays as it was.
     pub(crate) fn apply(&mut self, feed: u32, cmd: Cmd) -> Result<Reply, Refused>
         requires { IsFeed feed }
-        ensures ok { IfOk result (λ reply. Serves (held_of self.old) (held_of self.new) feed cmd reply) }
+        ensures ok { IfOk result (λ reply. Serves (table_state self.old) (table_state self.new) feed cmd reply) }
         ensures err { OnErr result (self.new ≡ self.old) }
         ensures wanted { OnErr result (IsAdd cmd) }
     {
@@ -135,7 +135,7 @@ impl<A: Allocator + Copy> Table<A> {
     fn add(&mut self, route: Route) -> Result<Reply, Refused>
         requires { IsFeed route.feed }
         ensures ok { let cmd = Add route.prefix route.pref route.hop in
-            IfOk result (λ reply. Serves (held_of self.old) (held_of self.new) route.feed cmd reply) }
+            IfOk result (λ reply. Serves (table_state self.old) (table_state self.new) route.feed cmd reply) }
         ensures err { OnErr result (self.new ≡ self.old) }
     {
         let own = (route.feed - 1) as usize;
@@ -156,7 +156,7 @@ impl<A: Allocator + Copy> Table<A> {
     fn replace(&mut self, route: Route) -> Reply
         requires { IsFeed route.feed }
         ensures { let cmd = Replace route.prefix route.pref route.hop in
-            Serves (held_of self.old) (held_of self.new) route.feed cmd result }
+            Serves (table_state self.old) (table_state self.new) route.feed cmd result }
     {
         if !map::replace(&mut self.map, route) {
             return Reply::Missing;
@@ -167,7 +167,7 @@ impl<A: Allocator + Copy> Table<A> {
     /// Takes the feed's route of this prefix out.
     fn withdraw(&mut self, feed: u32, prefix: Prefix) -> Reply
         requires { IsFeed feed }
-        ensures { Serves (held_of self.old) (held_of self.new) feed (Withdraw prefix) result }
+        ensures { Serves (table_state self.old) (table_state self.new) feed (Withdraw prefix) result }
     {
         if !map::take_out(&mut self.map, feed, prefix) {
             return Reply::Missing;
@@ -179,7 +179,7 @@ impl<A: Allocator + Copy> Table<A> {
     /// Takes all of the feed's routes out.
     fn purge(&mut self, feed: u32) -> Reply
         requires { IsFeed feed }
-        ensures { Serves (held_of self.old) (held_of self.new) feed Purge result }
+        ensures { Serves (table_state self.old) (table_state self.new) feed Purge result }
     {
         let own = (feed - 1) as usize;
         let gone = self.counts[own];

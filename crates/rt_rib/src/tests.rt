@@ -124,8 +124,8 @@ fn worked_run(rt: HostRuntime) -> Result<(), Fail> {
     ];
     let mut book = Book::new(rt.alloc(), 2);
     ask_all(&rt, &mut book, &rows)?;
-    let left = [route(wide, 2, 4), route(wide, 1, 5), route(narrow, 1, 9)];
-    assert_routes(&rt, rt.alloc(), &book, &left)?;
+    let expected = [route(wide, 2, 4), route(wide, 1, 5), route(narrow, 1, 9)];
+    assert_routes(&rt, rt.alloc(), &book, &expected)?;
     Ok(())
 }
 
@@ -181,8 +181,8 @@ fn a_purge_takes_the_feeds_own_routes_alone(rt: HostRuntime) -> Result<(), Fail>
     ];
     let mut book = Book::new(rt.alloc(), 2);
     ask_all(&rt, &mut book, &rows)?;
-    let left = [route(wide, 2, 2), route(narrow, 3, 1), route(other, 2, 1)];
-    assert_routes(&rt, rt.alloc(), &book, &left)?;
+    let expected = [route(wide, 2, 2), route(narrow, 3, 1), route(other, 2, 1)];
+    assert_routes(&rt, rt.alloc(), &book, &expected)?;
     // The root parts 10.0.0.0/8 from 192.0.2.0/24, and 10.1.0.0/16 lies below the former.
     assert_eq!(rt; book.nodes(), 4);
     Ok(())

@@ -10,7 +10,7 @@ use Rattle.rt_shared.specs.declared.outcome.Outcome.TheVariants.{Did, Refused}
 use Rattle.rt_shared.specs.Visits.{answered, AllBy}
 use Rattle.rt_shared.specs.inside.Visits.{AreServed}
 use Rattle.rt_shared.specs.declared.lent.Lent.{Lent}
-use Rattle.rt_shared.specs.Lent.{feed_of, Adds}
+use Rattle.rt_shared.specs.LentChanges.{feed_of, GrowsByFeed}
 
 -- the entries of two pieces are those of the first, and then those of the second
 pub answered_append : (feed : ℕ) (xs ys : List Cmd) (os ps : List Outcome) → length os ≡ length xs → answered feed (xs ++ ys) (os ++ ps) ≡ answered feed xs os ++ answered feed ys ps
@@ -29,7 +29,7 @@ served_more feed cmds cmd found before now next after o a e = record {
   outcomes = a.outcomes ++ o ∷ [];
   appended = ap (λ (l : List Outcome). l ++ o ∷ []) a.appended ∙ append_assoc before a.outcomes (o ∷ []);
   each = omega (arith, a.each, length-append a.outcomes (o ∷ []), length-append cmds (cmd ∷ []));
-  left = e ∙ (ap (λ (l : List Entry). l ++ answered feed (cmd ∷ []) (o ∷ [])) a.left ∙ (append_assoc found (answered feed cmds a.outcomes) (answered feed (cmd ∷ []) (o ∷ []))
+  added = e ∙ (ap (λ (l : List Entry). l ++ answered feed (cmd ∷ []) (o ∷ [])) a.added ∙ (append_assoc found (answered feed cmds a.outcomes) (answered feed (cmd ∷ []) (o ∷ []))
       ∙ ap (λ (l : List Entry). found ++ l) (sym (answered_append feed cmds (cmd ∷ []) a.outcomes (o ∷ []) a.each))));
 }
 
@@ -49,7 +49,7 @@ nothing_answered feed (cmd ∷ cmds) = refl
 
 -- a book that has answered a command, or refused it, has added what is the feed's
 pub adds_applied : {E : Type 0} (place feed : ℕ) (cmd : Cmd) (old new : Lent) (r : Result Reply E) → feed ≡ feed_of place → new.feeds ≡ old.feeds
-    → IfOk r (λ reply. Applies old.book new.book feed cmd reply) → OnErr r (Refuses old.book new.book cmd) → Adds place old new
+    → IfOk r (λ reply. Applies old.book new.book feed cmd reply) → OnErr r (Refuses old.book new.book cmd) → GrowsByFeed place old new
 adds_applied place feed cmd old new (Ok reply) is feeds did refused = record {
   same = record { limit = did.limited; feeds = feeds };
   own = record { feed = feed; cmd = cmd; reply = reply } ∷ [];

@@ -5,12 +5,12 @@ use mathlib.Core.Option.{Option, none, some, some-injective, some-ne-none}
 use Rattle.std.proofs.lemmas.List.Elements.{All-nil, All-cons}
 use Rattle.ya_core.specs.declared.process.Process.{Process}
 use Rattle.ya_core.specs.declared.process.Process.TheVariants.{Idle, Inside}
-use Rattle.ya_core.specs.Tree.{node_of, side_of}
+use Rattle.ya_core.specs.ArbitrationTree.{node_of, side_of}
 use Rattle.ya_core.specs.Steps.{opening}
 use Rattle.ya_core.specs.Worlds.{World, Event, Steps, Appends, opening_world}
 use Rattle.ya_core.proofs.Promised.{follow, runs}
-use Rattle.ya_lock.specs.declared.view.View.TheVariants.{Member}
-use Rattle.ya_lock.specs.Meaning.{IsOf, HasProcess}
+use Rattle.ya_lock.specs.declared.view.View.TheVariants.{Seated}
+use Rattle.ya_lock.specs.LockState.{IsOf, HasProcess}
 use Rattle.rt_rib.specs.declared.routes.Hop.TheVariants.{Discard}
 use Rattle.rt_rib.specs.declared.routes.Route.{Route}
 use Rattle.rt_rib.specs.declared.commands.Cmd.TheVariants.{Add, Lookup, Dump, Purge}
@@ -18,14 +18,14 @@ use Rattle.rt_rib.specs.declared.commands.Reply.TheVariants.{Added, Found, Dumpe
 use Rattle.rt_rib.specs.declared.commands.Entry.{Entry}
 use Rattle.rt_rib.specs.LookUp.{look_up}
 use Rattle.rt_rib.specs.Sequential.{reply_of, table_after}
-use Rattle.rt_rib.specs.Journal.{table_left, IsLawfulJournal}
+use Rattle.rt_rib.specs.Journal.{table_of_journal, IsLawfulJournal}
 use Rattle.rt_rib.proofs.Promised.{ten_8, at_10_1_2_3, route_via, entry, empty_book, holds_no_route, IsLawfulJournal-nil, IsLawfulJournal-push}
 use Rattle.rt_shared.specs.declared.lent.Lent.{Lent}
 use Rattle.rt_shared.specs.declared.outcome.Outcome.TheVariants.{Did, Refused}
-use Rattle.rt_shared.specs.Lent.{feed_of, IsSameBut, Grows}
+use Rattle.rt_shared.specs.LentChanges.{feed_of, HasSameBounds, GrowsByOthers}
 use Rattle.rt_shared.specs.Visits.{AllBy, NoneBy, Since, answered, Uncut}
 use Rattle.rt_shared.specs.Headline.{Act, entry_of, journal_of, IsSequential, IsRunTo, NoTwoInside, HasAllMade, FindsBest}
-use Rattle.rt_shared.specs.Running.{Moment, HasPass, IsHome, IsAtRest, MeetsHeadline}
+use Rattle.rt_shared.specs.Moments.{Moment, HasPass, BookInSlot, IsAtRest, MeetsHeadline}
 
 -- entries of feed 1 and of feed 2
 abbrev dump : ℕ → Entry
@@ -113,16 +113,16 @@ an_add_and_then_a_look_up = refl
 
 -- IsSequential
 an_empty_table_is_dumped_as_0 : IsSequential 1 [] (0, (Dump, Dumped 0))
-unfolding table_left reply_of
+unfolding table_of_journal reply_of
 an_empty_table_is_dumped_as_0 = refl
 
 not_as_1 : ¬ IsSequential 1 [] (0, (Dump, Dumped 1))
-unfolding table_left reply_of
+unfolding table_of_journal reply_of
 not_as_1 h = cc
 
 -- IsRunTo
 a_run_in_which_both_are_answered : IsRunTo 1 1 after_both
-unfolding node_of side_of table_left table_after reply_of look_up
+unfolding node_of side_of table_of_journal table_after reply_of look_up
 a_run_in_which_both_are_answered = (
   omega arith,
   both_compete,
@@ -155,20 +155,20 @@ no_look_up_no_wrong_one feed addr r (e ∷ []) later same = cc
 no_look_up_no_wrong_one feed addr r (e ∷ f ∷ earlier) later same = cc
 
 nothing_in_an_empty_table : ¬ FindsBest 1 (entry 1 (Lookup at_10_1_2_3) (Found its_route) ∷ [])
-unfolding table_left
+unfolding table_of_journal
 nothing_in_an_empty_table h = let match = h 1 at_10_1_2_3 its_route [] [] refl in omega (arith, match.contained.1)
 
 -- a dump leaves no route
-no_route_by_a_dump : table_left 1 (dump 2 ∷ []) ≡ []
-unfolding table_left table_after
+no_route_by_a_dump : table_of_journal 1 (dump 2 ∷ []) ≡ []
+unfolding table_of_journal table_after
 no_route_by_a_dump = refl
 
-no_route_at_the_start : table_left 1 [] ≡ []
-unfolding table_left
+no_route_at_the_start : table_of_journal 1 [] ≡ []
+unfolding table_of_journal
 no_route_at_the_start = refl
 
 lawful_dump : IsLawfulJournal 1 (dump 2 ∷ [])
-unfolding table_left reply_of
+unfolding table_of_journal reply_of
 lawful_dump = IsLawfulJournal-push 1 [] (dump 2) (IsLawfulJournal-nil 1) refl
 
 -- the lent book at the start, and after a dump by feed 2
@@ -178,49 +178,49 @@ new = record { book = empty_book []; feeds = 2; lawful = IsLawfulJournal-nil 1; 
 abbrev dumped : Lent
 dumped = record { book = empty_book (dump 2 ∷ []); feeds = 2; lawful = lawful_dump; holds = holds_no_route (dump 2 ∷ []) no_route_by_a_dump; of_feeds = All-cons (λ (e : Entry). (1 ≤ e.feed) × (e.feed ≤ 2)) (dump 2) [] (omega arith, omega arith) (All-nil (λ (e : Entry). (1 ≤ e.feed) × (e.feed ≤ 2))); few = omega arith }
 
--- IsSameBut
-the_journal_alone_has_changed : IsSameBut new dumped
+-- HasSameBounds
+the_journal_alone_has_changed : HasSameBounds new dumped
 the_journal_alone_has_changed = record { limit = refl; feeds = refl }
 
 by_feed_2 : Since 1 [] (dump 2 ∷ [])
 by_feed_2 = record { others = dump 2 ∷ []; grown = refl; by_others = none_by_1 }
 
--- Grows
-while_the_first_place_was_away : Grows 0 new dumped
+-- GrowsByOthers
+while_the_first_place_was_away : GrowsByOthers 0 new dumped
 while_the_first_place_was_away = record { same = the_journal_alone_has_changed; since = by_feed_2 }
 
-not_while_the_second_was : ¬ Grows 1 new dumped
+not_while_the_second_was : ¬ GrowsByOthers 1 new dumped
 not_while_the_second_was h = not_its_own 2 h.since
 
 -- both passes are away, and the second place's feed was answered since the first was last inside
 abbrev moment : List (Option (std.Option Lent)) → Moment
-moment homes = record { words = []; homes = homes; views = Member 0 Idle new 0 ∷ Member 1 Idle dumped 3 ∷ [] }
+moment homes = record { words = []; homes = homes; views = Seated 0 Idle new 0 ∷ Seated 1 Idle dumped 3 ∷ [] }
 
 abbrev at_rest : Moment
 at_rest = moment (some (Some dumped) ∷ [])
 
 -- HasPass
 the_first_has_one : HasPass at_rest
-the_first_has_one = (0, 0, (Idle, (new, (Member 0 Idle new 0, refl, (refl, refl, refl)))))
+the_first_has_one = (0, 0, (Idle, (new, (Seated 0 Idle new 0, refl, (refl, refl, refl)))))
 
 none_before_they_are_made : ¬ HasPass (record { words = []; homes = some None ∷ []; views = [] })
 none_before_they_are_made (seat, place, (process, (seen, has))) = some-ne-none has.0 (sym has.1)
 
--- IsHome
-it_lies_there : IsHome at_rest dumped
+-- BookInSlot
+it_lies_there : BookInSlot at_rest dumped
 it_lies_there = refl
 
-not_where_it_was_taken : ¬ IsHome (moment (none ∷ [])) dumped
+not_where_it_was_taken : ¬ BookInSlot (moment (none ∷ [])) dumped
 not_where_it_was_taken h = cc
 
 -- what each seat shows
 seen_by : (homes : List (Option (std.Option Lent))) (seat place : ℕ) (process : Process) (seen : Lent) → HasProcess (moment homes) seat place process seen
     → (Idle ≡ process) × Since (feed_of place) seen.book.journal (dump 2 ∷ [])
 seen_by homes zero place process seen has =
-    let is = subst (λ view. IsOf view place process seen) (some-injective has.0 (Member 0 Idle new 0) (sym has.1)) has.2 in
+    let is = subst (λ view. IsOf view place process seen) (some-injective has.0 (Seated 0 Idle new 0) (sym has.1)) has.2 in
     (is.1, subst (λ (lent : Lent). Since (feed_of place) lent.book.journal (dump 2 ∷ [])) is.2 (subst (λ p. Since (feed_of p) [] (dump 2 ∷ [])) is.0 by_feed_2))
 seen_by homes (suc zero) place process seen has =
-    let is = subst (λ view. IsOf view place process seen) (some-injective has.0 (Member 1 Idle dumped 3) (sym has.1)) has.2 in
+    let is = subst (λ view. IsOf view place process seen) (some-injective has.0 (Seated 1 Idle dumped 3) (sym has.1)) has.2 in
     (is.1, subst (λ (lent : Lent). Since (feed_of place) lent.book.journal (dump 2 ∷ [])) is.2 (record { others = []; grown = refl; by_others = All-nil (λ e. e.feed ≢ feed_of place) }))
 seen_by homes (suc (suc seat)) place process seen has = absurd (some-ne-none has.0 (sym has.1))
 
@@ -228,14 +228,14 @@ seen_by homes (suc (suc seat)) place process seen has = absurd (some-ne-none has
 the_dump_was_seen_by_its_feed : IsAtRest at_rest
 the_dump_was_seen_by_its_feed = record {
   lent = dumped;
-  home = refl;
+  in_slot = refl;
   holds = holds_no_route (dump 2 ∷ []) no_route_by_a_dump;
   lawful = lawful_dump;
   since = λ seat place seen away. (seen_by (some (Some dumped) ∷ []) seat place away.0 seen away.2).1;
 }
 
 not_with_the_book_out : ¬ IsAtRest (moment (none ∷ []))
-not_with_the_book_out h = let home = h.home in cc
+not_with_the_book_out h = let in_slot = h.in_slot in cc
 
 -- MeetsHeadline
 both_away : MeetsHeadline at_rest
@@ -246,5 +246,5 @@ both_away = record {
 
 not_with_the_book_out_where_nobody_is_inside : ¬ MeetsHeadline (moment (none ∷ []))
 not_with_the_book_out_where_nobody_is_inside h =
-    not_with_the_book_out (h.at_rest (0, 0, (Idle, (new, (Member 0 Idle new 0, refl, (refl, refl, refl)))))
+    not_with_the_book_out (h.at_rest (0, 0, (Idle, (new, (Seated 0 Idle new 0, refl, (refl, refl, refl)))))
     (λ seat place value has. let idle = (seen_by (none ∷ []) seat place Inside value has).0 in cc))

@@ -3,21 +3,21 @@ use Rattle.std.proofs.Common.{◌≡◌, ℕ, ◌^◌, ◌<◌, List, [], ◌∷
 use Rattle.std.proofs.lemmas.List.Elements.{All-map, All-nil, All-cons, All-head, All-tail}
 use Rattle.std.proofs.lemmas.List.{get_or-map, length-map}
 use Rattle.std.proofs.lemmas.Option.{slice_get-get_or, slice_get_within}
-use Rattle.rt_shared.specs.Lent.{feed_of, Grows}
+use Rattle.rt_shared.specs.LentChanges.{feed_of, GrowsByOthers}
 use Rattle.rt_rib.specs.declared.commands.Entry.{Entry}
 use Rattle.rt_shared.specs.Visits.{Since}
-use Rattle.ya_lock.specs.Lock.{LockId, IdlePass, IsDealt, new_pass}
+use Rattle.ya_lock.specs.Lock.{LockId, IdlePass, ArePassesInOrder, new_pass}
 use Rattle.rt_rib.specs.Journal.{IsLawfulJournal}
 use Rattle.rt_shared.specs.declared.lent.Lent.{Lent}
 use Rattle.rt_shared.specs.Table.{SharedId, HeldPass, ArePassesOf}
-use Rattle.rt_shared.specs.inside.Pass.{of_feed, held_pass, IsThere}
+use Rattle.rt_shared.specs.inside.PassModel.{of_feed, held_pass, HoldsLockPass}
 
 -- the place of a pass of the lock is that of a feed
 abbrev pub HasFeed : IdlePass Lent → Type 0
 HasFeed p = p.place < p.seen.feeds
 
 -- what a pass has seen is lawful
-pub seen_is_lawful : (feed : ℕ) (pass : Option (IdlePass Lent)) → IsThere feed pass → IsLawfulJournal (held_pass feed pass).table.limit (held_pass feed pass).seen
+pub seen_is_lawful : (feed : ℕ) (pass : Option (IdlePass Lent)) → HoldsLockPass feed pass → IsLawfulJournal (held_pass feed pass).table.limit (held_pass feed pass).seen
 seen_is_lawful feed (Some pass) there = pass.seen.lawful
 seen_is_lawful feed None there = absurd there
 
@@ -45,7 +45,7 @@ pub spaced : 64 < 9223372036854775808
 spaced = omega arith
 
 -- what the lock says of its pass holds of the feed's
-pub since_of : (idle : IdlePass Lent) (pass : HeldPass) (now : Lent) → feed_of idle.place ≡ pass.feed → idle.seen.book.journal ≡ pass.seen → Grows idle.place idle.seen now → Since pass.feed pass.seen now.book.journal
+pub since_of : (idle : IdlePass Lent) (pass : HeldPass) (now : Lent) → feed_of idle.place ≡ pass.feed → idle.seen.book.journal ≡ pass.seen → GrowsByOthers idle.place idle.seen now → Since pass.feed pass.seen now.book.journal
 since_of idle pass now feed seen grows =
     subst (λ (n : ℕ). Since n pass.seen now.book.journal) feed (subst (λ (l : List Entry). Since (feed_of idle.place) l now.book.journal) seen grows.since)
 
@@ -63,7 +63,7 @@ passes_kept table old new are long each = record {
 }
 
 -- the passes of a lock that has just been made, as those of the feeds of a table
-module _ (lock : LockId) (levels : ℕ) (lent : Lent) (passes : List (IdlePass Lent)) (deal : IsDealt lock levels lent passes) (few : 2 ^ levels ≡ lent.feeds) where
+module _ (lock : LockId) (levels : ℕ) (lent : Lent) (passes : List (IdlePass Lent)) (deal : ArePassesInOrder lock levels lent passes) (few : 2 ^ levels ≡ lent.feeds) where
   -- the k-th of them
   at_place : (k : ℕ) (d : IdlePass Lent) → k < length passes → get_or passes k d ≡ new_pass lock k lent
   at_place k d h = let e = slice_get-get_or passes k d h in let f = deal.each k (omega (arith, deal.count)) in cc

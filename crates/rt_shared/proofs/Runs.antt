@@ -12,9 +12,9 @@ use Rattle.rt_rib.specs.declared.commands.Reply.TheVariants.{Found, NoRoute}
 use Rattle.rt_rib.specs.declared.commands.Entry.{Entry}
 use Rattle.rt_rib.specs.LookUp.{look_up}
 use Rattle.rt_rib.specs.Sequential.{reply_of}
-use Rattle.rt_rib.specs.Journal.{table_left, IsLawfulJournal}
-use Rattle.rt_rib.specs.Laws.{LawfulByEntry, LeftByEntry, LookUpFindsBest, feed_entries}
-use Rattle.rt_shared.specs.Lent.{feed_of}
+use Rattle.rt_rib.specs.Journal.{table_of_journal, IsLawfulJournal}
+use Rattle.rt_rib.specs.Laws.{LawfulByEntry, TableByEntry, LookUpFindsBest, feed_entries}
+use Rattle.rt_shared.specs.LentChanges.{feed_of}
 use Rattle.rt_shared.specs.Headline.{Act, entry_of, journal_of, IsSequential, FindsBest}
 
 -- entries that follow a lawful journal, each answered by the sequential table, leave it lawful
@@ -40,8 +40,8 @@ found_it : (limit feed : ℕ) (table : List Route) (addr : Addr) (r : Route) (fo
 found_it limit feed table addr r (Some s) e = cc
 found_it limit feed table addr r None e = absurd (cc)
 
-pub finds_best : LookUpFindsBest → LeftByEntry → (limit : ℕ) (journal : List Entry) → IsLawfulJournal limit journal → FindsBest limit journal
+pub finds_best : LookUpFindsBest → TableByEntry → (limit : ℕ) (journal : List Entry) → IsLawfulJournal limit journal → FindsBest limit journal
 unfolding reply_of
 finds_best law leaves limit journal lawful feed addr r earlier later is =
     let e = lawful.answered earlier (record { feed = feed; cmd = Lookup addr; reply = Found r }) later is in
-    ((law addr (table_left limit earlier) (leaves.table limit earlier)).0 r).0 (found_it limit feed (table_left limit earlier) addr r (look_up addr (table_left limit earlier)) e)
+    ((law addr (table_of_journal limit earlier) (leaves.table limit earlier)).0 r).0 (found_it limit feed (table_of_journal limit earlier) addr r (look_up addr (table_of_journal limit earlier)) e)

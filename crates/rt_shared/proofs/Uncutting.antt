@@ -9,8 +9,8 @@ use Rattle.rt_rib.specs.declared.commands.Cmd.{Cmd}
 use Rattle.rt_rib.specs.declared.commands.Entry.{Entry}
 use Rattle.rt_rib.specs.Laws.{feed_entries}
 use Rattle.rt_shared.specs.declared.outcome.Outcome.{Outcome}
-use Rattle.rt_shared.specs.Visits.{AllBy, NoneBy, Since, answered, Visits, Uncut}
-use Rattle.rt_shared.specs.inside.Keeping.{since_others}
+use Rattle.rt_shared.specs.Visits.{AllBy, NoneBy, Since, answered, MakesVisit, Uncut}
+use Rattle.rt_shared.specs.inside.LentLaws.{since_others}
 use Rattle.rt_shared.proofs.Answered.{all_answered}
 
 -- what stands before and behind, with more behind it
@@ -33,10 +33,10 @@ uncut_visit feed (visit ∷ visits) journal own (before, rest, is, none, all, un
 pub uncut_since : (feed : ℕ) (visits : List (List Entry)) (a b : List Entry) → Uncut feed visits a → Since feed a b → Uncut feed visits b
 uncut_since feed visits a b uncut since = subst (Uncut feed visits) (sym since.grown) (uncut_others feed visits a since.others uncut since.by_others)
 
-pub uncut_by_visit : (limit feed : ℕ) (visits : List (List Entry)) (seen now : List Entry) (cmds : List Cmd) (outcomes : List Outcome) → Uncut feed visits seen → Visits limit feed seen cmds outcomes now
+pub uncut_by_visit : (limit feed : ℕ) (visits : List (List Entry)) (seen now : List Entry) (cmds : List Cmd) (outcomes : List Outcome) → Uncut feed visits seen → MakesVisit limit feed seen cmds outcomes now
     → Uncut feed (visits ++ answered feed cmds outcomes ∷ []) now
 uncut_by_visit limit feed visits seen now cmds outcomes uncut visit =
-    subst (Uncut feed (visits ++ answered feed cmds outcomes ∷ [])) (sym visit.left)
+    subst (Uncut feed (visits ++ answered feed cmds outcomes ∷ [])) (sym visit.added)
     (uncut_visit feed visits visit.found (answered feed cmds outcomes) (uncut_since feed visits seen visit.found uncut visit.since) (all_answered feed cmds outcomes))
 
 -- the entries of a feed, where there are none

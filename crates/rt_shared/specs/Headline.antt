@@ -8,9 +8,9 @@ use Rattle.rt_rib.specs.declared.commands.Cmd.TheVariants.{Lookup}
 use Rattle.rt_rib.specs.declared.commands.Reply.{Reply}
 use Rattle.rt_rib.specs.declared.commands.Reply.TheVariants.{Found}
 use Rattle.rt_rib.specs.declared.commands.Entry.{Entry}
-use Rattle.rt_rib.specs.Journal.{table_left, IsAnswered}
+use Rattle.rt_rib.specs.Journal.{table_of_journal, IsAnswered}
 use Rattle.rt_rib.specs.Laws.{feed_entries, IsBestMatch}
-use Rattle.rt_shared.specs.Lent.{feed_of}
+use Rattle.rt_shared.specs.LentChanges.{feed_of}
 
 -- a command with its reply
 abbrev pub Act : Type 0
@@ -45,4 +45,4 @@ HasAllMade world = (place : ℕ) → feed_entries (feed_of place) (journal_of wo
 abbrev pub FindsBest : ℕ → List Entry → Type 0
 FindsBest limit journal =
     (feed : ℕ) (addr : Addr) (r : Route) (earlier later : List Entry) → journal ≡ earlier ++ record { feed = feed; cmd = Lookup addr; reply = Found r } ∷ later
-    → IsBestMatch addr (table_left limit earlier) r
+    → IsBestMatch addr (table_of_journal limit earlier) r

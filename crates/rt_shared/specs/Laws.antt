@@ -6,7 +6,7 @@ use Rattle.rt_rib.specs.declared.commands.Entry.{Entry}
 use Rattle.rt_rib.specs.Laws.{feed_entries}
 use Rattle.rt_shared.specs.declared.outcome.Outcome.{Outcome}
 use Rattle.rt_shared.specs.Table.{SharedId, HeldPass, ArePassesOf}
-use Rattle.rt_shared.specs.Visits.{AllBy, Since, answered, Visits, Uncut}
+use Rattle.rt_shared.specs.Visits.{AllBy, Since, answered, MakesVisit, Uncut}
 
 -- what may have happened once may happen again
 abbrev pub SinceAgain : Type 0
@@ -30,7 +30,7 @@ UncutSince = (feed : ℕ) (visits : List (List Entry)) (a b : List Entry) → Un
 abbrev pub UncutByVisit : Type 0
 UncutByVisit =
     (limit feed : ℕ) (visits : List (List Entry)) (seen now : List Entry) (cmds : List Cmd) (outcomes : List Outcome) → Uncut feed visits seen
-    → Visits limit feed seen cmds outcomes now → Uncut feed (visits ++ answered feed cmds outcomes ∷ []) now
+    → MakesVisit limit feed seen cmds outcomes now → Uncut feed (visits ++ answered feed cmds outcomes ∷ []) now
 
 -- the entries of the feed are those of its visits, one visit after another
 abbrev pub EntriesOfVisits : Type 0

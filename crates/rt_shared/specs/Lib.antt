@@ -1,8 +1,8 @@
 pub mod Visits
-pub mod Lent
+pub mod LentChanges
 pub mod Table
 pub mod Laws
 pub mod Headline
-pub mod Running
+pub mod Moments
 pub mod inside
 pub mod tests

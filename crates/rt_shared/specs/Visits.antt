@@ -28,18 +28,18 @@ answered feed _ _ = []
 
 -- a visit: the feed finds a journal to which others alone have added since it last saw it, and leaves it with the
 -- entries of its commands at the end, in one piece. What it leaves is lawful, so each reply is the sequential table's
-pub record Visits (limit feed : ℕ) (seen : List Entry) (cmds : List Cmd) (outcomes : List Outcome) (now : List Entry) : Type 0 where
+pub record MakesVisit (limit feed : ℕ) (seen : List Entry) (cmds : List Cmd) (outcomes : List Outcome) (now : List Entry) : Type 0 where
   pub found : List Entry
   pub since : Since feed seen found
   pub each : length outcomes ≡ length cmds
-  pub left : now ≡ found ++ answered feed cmds outcomes
+  pub added : now ≡ found ++ answered feed cmds outcomes
   pub lawful : IsLawfulJournal limit now
 
 -- a visit whose outcomes were appended to others
-pub record VisitsWith (limit feed : ℕ) (seen : List Entry) (cmds : List Cmd) (before after : List Outcome) (now : List Entry) : Type 0 where
+pub record MakesVisitWith (limit feed : ℕ) (seen : List Entry) (cmds : List Cmd) (before after : List Outcome) (now : List Entry) : Type 0 where
   pub outcomes : List Outcome
   pub appended : after ≡ before ++ outcomes
-  pub visit : Visits limit feed seen cmds outcomes now
+  pub visit : MakesVisit limit feed seen cmds outcomes now
 
 -- these visits of the feed, each a list of entries, lie uncut in the journal: each stands in it in one piece, in this
 -- order, and no other entry of the journal is the feed's

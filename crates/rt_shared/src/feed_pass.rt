@@ -1,7 +1,7 @@
 //! The right of one feed to change the shared table.
 ghost use Rattle.std.specs.Prelude.{◌≡◌, ◌<◌};
-ghost use Rattle.rt_shared.specs.Lent.{feed_of};
-ghost use Rattle.rt_shared.specs.inside.Pass.{shared_id, of_feed};
+ghost use Rattle.rt_shared.specs.LentChanges.{feed_of};
+ghost use Rattle.rt_shared.specs.inside.PassModel.{shared_id, of_feed};
 
 use crate::lent::Lent;
 use std::marker::Model;
@@ -21,11 +21,11 @@ impl Model for FeedPass {
 
     ghost Value = { HeldPass };
 
-    ghost use Rattle.rt_shared.specs.inside.Pass.{held_pass, IsThere};
+    ghost use Rattle.rt_shared.specs.inside.PassModel.{held_pass, HoldsLockPass};
 
     ghost view = { λ p. held_pass p.feed p.pass };
 
-    ghost invariant = { λ p. IsThere p.feed p.pass };
+    ghost invariant = { λ p. HoldsLockPass p.feed p.pass };
 }
 
 impl FeedPass {

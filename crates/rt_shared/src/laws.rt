@@ -1,18 +1,18 @@
 //! What holds of every journal that feeds make behind the lock, and of their visits in it. Each function is a theorem:
 //! calling it makes its clauses known, and it does nothing.
 ghost use Rattle.std.specs.Prelude.{ℕ, ◌≤◌};
-ghost use Rattle.rt_rib.specs.Journal.{table_left, IsLawfulJournal};
+ghost use Rattle.rt_rib.specs.Journal.{table_of_journal, IsLawfulJournal};
 ghost use Rattle.rt_rib.specs.Table.{IsTable};
 ghost use Rattle.ya_core.specs.Worlds.{World};
 ghost use Rattle.rt_shared.specs.Headline.{Act, IsRunTo, journal_of, NoTwoInside, HasAllMade, FindsBest};
 ghost use Rattle.ya_lock.specs.Rule.{Rule};
-ghost use Rattle.rt_shared.specs.Lent.{Grows};
-ghost use Rattle.rt_shared.specs.Running.{Moment, MeetsHeadline};
+ghost use Rattle.rt_shared.specs.LentChanges.{GrowsByOthers};
+ghost use Rattle.rt_shared.specs.Moments.{Moment, MeetsHeadline};
 ghost use Rattle.rt_shared.specs.Laws.{SinceAgain, AnsweredInPieces, UncutAtFirst, UncutSince, UncutByVisit, EntriesOfVisits, EntriesSince, PassesKept};
 
 use crate::lent::Lent;
 use crate::sequential::SequentialTable;
-use rt_rib::laws::{lawful_by_entry, left_by_entry, look_up_finds_best};
+use rt_rib::laws::{lawful_by_entry, look_up_finds_best, table_by_entry};
 use ya_core::laws::{content, exclusion};
 use ya_lock::laws::rule;
 
@@ -61,13 +61,13 @@ pub fn headline<const LIMIT: u32>()
     ensures exclusion { (levels : ℕ) (world : World Act) → IsRunTo LIMIT levels world → NoTwoInside world }
     ensures made { (levels : ℕ) (world : World Act) → IsRunTo LIMIT levels world → HasAllMade world }
     ensures lawful { (levels : ℕ) (world : World Act) → IsRunTo LIMIT levels world → IsLawfulJournal LIMIT (journal_of world.content) }
-    ensures table { (levels : ℕ) (world : World Act) → IsRunTo LIMIT levels world → IsTable (table_left LIMIT (journal_of world.content)) }
+    ensures table { (levels : ℕ) (world : World Act) → IsRunTo LIMIT levels world → IsTable (table_of_journal LIMIT (journal_of world.content)) }
     ensures best { (levels : ℕ) (world : World Act) → IsRunTo LIMIT levels world → FindsBest LIMIT (journal_of world.content) }
 {
     exclusion();
     content::<SequentialTable<LIMIT>>();
     journal::<LIMIT>();
-    left_by_entry();
+    table_by_entry();
     look_up_finds_best();
 }
 
@@ -76,11 +76,11 @@ pub fn headline<const LIMIT: u32>()
 /// holds exactly the routes left by its journal; the journal is lawful; and what each pass away has seen begins it, with no
 /// entry of that pass's feed behind.
 ///
-/// Of these clauses `exclusion`, `home` and `since` are the lock's, of such a moment alone; `holds` and `lawful` are true
+/// Of these clauses `exclusion`, `in_slot` and `since` are the lock's, of such a moment alone; `holds` and `lawful` are true
 /// of every lent book, whose type keeps them.
 pub fn running<const L: u32>()
     requires { 1 ≤ L }
-    ensures { (s : Moment) → Rule Grows L s → MeetsHeadline s }
+    ensures { (s : Moment) → Rule GrowsByOthers L s → MeetsHeadline s }
 {
     rule::<Lent, L>();
 }

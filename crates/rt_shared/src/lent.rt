@@ -1,8 +1,8 @@
 //! What the lock lends to one feed at a time.
 ghost use Rattle.std.specs.Prelude.{◌≡◌, ◌≤◌, All};
 ghost use Rattle.rt_rib.specs.Journal.{IsLawfulJournal};
-ghost use Rattle.rt_rib.specs.Book.{HoldsRoutesLeft};
-ghost use Rattle.rt_rib.specs.inside.OneProof.{HoldsRoutesLeft-prop};
+ghost use Rattle.rt_rib.specs.Book.{HoldsTable};
+ghost use Rattle.rt_rib.specs.inside.OneProof.{HoldsTable-prop};
 
 use rt_rib::Book;
 use std::alloc::Global;
@@ -14,7 +14,7 @@ pub struct Lent {
     pub(crate) book: Book<Global>,
     pub(crate) feeds: u32,
     ghost lawful: { IsLawfulJournal book.limit book.journal },
-    ghost holds: { HoldsRoutesLeft book } by { HoldsRoutesLeft-prop book },
+    ghost holds: { HoldsTable book } by { HoldsTable-prop book },
     ghost of_feeds: { All (λ e. (1 ≤ e.feed) × (e.feed ≤ feeds)) book.journal },
     ghost few: { feeds ≤ 64 },
 }

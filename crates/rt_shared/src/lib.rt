@@ -12,10 +12,10 @@
 
 mod feed_pass;
 pub mod laws;
-mod lending;
 mod lent;
 mod outcome;
 mod sequential;
+mod serving;
 mod shared_rib;
 #[cfg(test)]
 mod tests;

@@ -1,8 +1,8 @@
 //! The shared table itself.
 ghost use Rattle.std.specs.Prelude.{◌≡◌, ℕ, ◌+◌, ◌^◌, ◌<◌, ◌≤◌, [], ◌∷◌, ◌++◌, IfOk, OnErr, IsOk, OnOk, All};
 ghost use Rattle.rt_rib.specs.Book.{IsLimit};
-ghost use Rattle.rt_rib.specs.Journal.{table_left, IsLawfulJournal};
-ghost use Rattle.rt_shared.specs.Visits.{Since, Visits, VisitsWith};
+ghost use Rattle.rt_rib.specs.Journal.{table_of_journal, IsLawfulJournal};
+ghost use Rattle.rt_shared.specs.Visits.{Since, MakesVisit, MakesVisitWith};
 ghost use Rattle.rt_shared.specs.Table.{ArePassesOf, Settles};
 
 use crate::feed_pass::FeedPass;
@@ -69,8 +69,8 @@ impl<const L: u32> SharedRib<L> {
         requires { pass.old.table ≡ self.now }
         ensures table { pass.new.table ≡ pass.old.table }
         ensures feed { pass.new.feed ≡ pass.old.feed }
-        ensures ok { IfOk result (λ reply. Visits self.now.limit pass.old.feed pass.old.seen (cmd ∷ []) (Outcome.Did reply ∷ []) pass.new.seen) }
-        ensures err { OnErr result (Visits self.now.limit pass.old.feed pass.old.seen (cmd ∷ []) (Outcome.Refused ∷ []) pass.new.seen) }
+        ensures ok { IfOk result (λ reply. MakesVisit self.now.limit pass.old.feed pass.old.seen (cmd ∷ []) (Outcome.Did reply ∷ []) pass.new.seen) }
+        ensures err { OnErr result (MakesVisit self.now.limit pass.old.feed pass.old.seen (cmd ∷ []) (Outcome.Refused ∷ []) pass.new.seen) }
     {
         let Some(idle) = pass.pass.take() else {
             unreachable!()
@@ -94,7 +94,7 @@ impl<const L: u32> SharedRib<L> {
         requires { pass.old.table ≡ self.now }
         ensures table { pass.new.table ≡ pass.old.table }
         ensures feed { pass.new.feed ≡ pass.old.feed }
-        ensures ok { OnOk result (VisitsWith self.now.limit pass.old.feed pass.old.seen cmds.now out.old.items out.new.items pass.new.seen) }
+        ensures ok { OnOk result (MakesVisitWith self.now.limit pass.old.feed pass.old.seen cmds.now out.old.items out.new.items pass.new.seen) }
         ensures err { OnErr result ((pass.new ≡ pass.old) × (out.new.items ≡ out.old.items)) }
         ensures empty { cmds.now ≡ [] → (pass.new ≡ pass.old) × IsOk result }
     {
@@ -125,7 +125,7 @@ impl<const L: u32> SharedRib<L> {
         ensures feed { pass.new.feed ≡ pass.old.feed }
         ensures seen { Since pass.old.feed pass.old.seen pass.new.seen }
         ensures lawful { IsLawfulJournal self.now.limit pass.new.seen }
-        ensures ok { IfOk result (λ routes. routes.items ≡ table_left self.now.limit pass.new.seen) }
+        ensures ok { IfOk result (λ routes. routes.items ≡ table_of_journal self.now.limit pass.new.seen) }
     {
         let Some(idle) = pass.pass.take() else {
             unreachable!()

@@ -7,7 +7,7 @@ use Rattle.std.proofs.lemmas.Bool.{false≢true}
 use Rattle.rt_cidr.specs.declared.prefixes.Prefix.{Prefix}
 use Rattle.rt_trie.specs.declared.nodes.Link.{Link, Empty, Leaf, Fork', Full'}
 use Rattle.rt_trie.specs.Map.{Pairs, get, put, erase, first, IsBeforeAll, IsOrdered}
-use Rattle.rt_trie.specs.Blocks.{IsWithin}
+use Rattle.rt_trie.specs.Blocks.{IsInBlock}
 use Rattle.rt_trie.specs.inside.Links.{pairs, count}
 use Rattle.rt_trie.specs.Links.{root, IsFilled, IsLawfulBelow, IsLawfulTrie}
 use Rattle.rt_trie.proofs.OrderLemmas.{same_tells, before_tells, rank_of_before}
@@ -26,7 +26,7 @@ room_halves len h =
 room_mono : (a b : ℕ) → a ≤ b → room b ≤ room a
 room_mono a b h = pow_mono (omega arith)
 
-long_root : (o : Option Prefix) (lo hi len : ℕ) → IfSome o (IsWithin lo hi len) → IfSome o (λ q. len ≤ q.len)
+long_root : (o : Option Prefix) (lo hi len : ℕ) → IfSome o (IsInBlock lo hi len) → IfSome o (λ q. len ≤ q.len)
 long_root None lo hi len h = h
 long_root (Some q) lo hi len h = h.long
 

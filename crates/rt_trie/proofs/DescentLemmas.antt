@@ -15,9 +15,9 @@ use Rattle.rt_trie.specs.inside.Blocks.{is_key}
 use Rattle.rt_trie.specs.inside.Links.{own_pair, pairs, count}
 use Rattle.rt_trie.specs.Links.{root, AreHalves, IsChildLink, IsFilled, IsLawfulTrie}
 use Rattle.rt_trie.specs.inside.Descent.{found, written, overwritten}
-use Rattle.rt_trie.specs.Contents.{Contents}
+use Rattle.rt_trie.specs.TrieContents.{TrieContents}
 use Rattle.rt_trie.specs.inside.Tree.{tree_of}
-use Rattle.rt_trie.specs.TrieLends.{with_value}
+use Rattle.rt_trie.specs.TrieLends.{contents_with}
 use Rattle.rt_trie.proofs.OrderLemmas.{same_tells, before_tells}
 use Rattle.rt_trie.proofs.PairLemmas.{AllKeys, AllKeys-map, IsOther, IsHigher, IsLower, IsOther-higher, IsOther-lower, get-none}
 use Rattle.rt_trie.proofs.NodeLemmas.{AreSides, own_other, upper_higher, lower_lower, rest_other, get-here, get-past, get-lower, get-upper}
@@ -307,13 +307,13 @@ same_readings None F G u v e h = ap inr e
 same_readings (Some r) F G u v e h = ap (λ f. inl (r.ghost_name, f)) (fun_ext (h r refl))
 
 -- what a link holds, for its trie's callers
-abbrev pub held : {V A : Type 0} → Link V A → Contents V
+abbrev pub held : {V A : Type 0} → Link V A → TrieContents V
 held link = record { pairs = pairs link; nodes = count link; tree = tree_of link }
 
 module _ {V A : Type 0} where
   -- a write where a value stands puts it there
   written_is : (d : ℕ) (link : Link V A) (p : Prefix) (w v : V) → d ≡ 33 → IsLawfulTrie link → get (pairs link) p ≡ Some v
-      → held (written d link p w) ≡ with_value (held link) p w
+      → held (written d link p w) ≡ contents_with (held link) p w
   written_is d link p w v e h at =
       let same : pairs (written d link p w) ≡ put (pairs link) p w =
       written_pairs d link p w h (rw e (all_deep link)) ∙ sym (put-stored (pairs link) p w v (pairs_ordered link h.0) at) in
@@ -323,10 +323,10 @@ module _ {V A : Type 0} where
       rw (same, many, tree) refl
 
   -- so what is lent of the link is lent of what it holds
-  pub lent : (d : ℕ) (link : Link V A) (p : Prefix) (o : Option (MutBor V)) (t : Contents V) → d ≡ 33 → IsLawfulTrie link → held link ≡ t
+  pub lent : (d : ℕ) (link : Link V A) (p : Prefix) (o : Option (MutBor V)) (t : TrieContents V) → d ≡ 33 → IsLawfulTrie link → held link ≡ t
       → option_copied_mut o ≡ found d link p
-      → read_of (ghost_name_of o) (λ w. held (written d link p w)) (held link) ≡ read_of (ghost_name_of o) (λ w. with_value t p w) t
+      → read_of (ghost_name_of o) (λ w. held (written d link p w)) (held link) ≡ read_of (ghost_name_of o) (λ w. contents_with t p w) t
   lent d link p o t e h view is =
-      same_readings o (λ w. held (written d link p w)) (λ w. with_value t p w) (held link) t view (λ r i w.
+      same_readings o (λ w. held (written d link p w)) (λ w. contents_with t p w) (held link) t view (λ r i w.
       written_is d link p w r.now e h (sym (sym (ap option_copied_mut i) ∙ is ∙ found_is d link p e h))
-      ∙ ap (λ x. with_value x p w) view)
+      ∙ ap (λ x. contents_with x p w) view)

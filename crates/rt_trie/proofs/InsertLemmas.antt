@@ -10,8 +10,8 @@ use Rattle.rt_trie.specs.declared.nodes.LeafNode.{LeafNode}
 use Rattle.rt_trie.specs.declared.nodes.ForkNode.{ForkNode}
 use Rattle.rt_trie.specs.declared.nodes.FullNode.{FullNode}
 use Rattle.rt_trie.specs.Map.{get, put}
-use Rattle.rt_trie.specs.declared.nodes.Place.TheVariants.{Above, Apart}
-use Rattle.rt_trie.specs.Blocks.{IsKeyOf, IsWithin, IsChild, PartsAt, middle, past}
+use Rattle.rt_trie.specs.declared.nodes.Position.TheVariants.{Above, Apart}
+use Rattle.rt_trie.specs.Blocks.{IsKeyOf, IsInBlock, IsChild, PartsAt, middle, past}
 use Rattle.rt_trie.specs.inside.Blocks.{StandsAt}
 use Rattle.rt_trie.specs.inside.Links.{own_pair, pairs, count, leaf_link, fork_link, full_link, IsNode}
 use Rattle.rt_trie.specs.Links.{root, AreHalves, IsChildLink, IsFilled, IsLawfulTrie}
@@ -149,7 +149,7 @@ module _ {V A : Type 0} where
   below_higher : (old : Link V A) (q p : Prefix) → IsLawfulTrie old → root old ≡ Some q → StandsAt q p Above → AllKeys (IsHigher p) (pairs old)
   below_higher old q p h e w =
       let on : IsOn q.base (past q) q.len old = rw e (record { long = omega arith; from = omega arith; to = omega arith }) in
-      AllKeys-map (IsWithin q.base (past q) q.len) (IsHigher p) (pairs old)
+      AllKeys-map (IsInBlock q.base (past q) q.len) (IsHigher p) (pairs old)
       (λ x k. omega (arith, k.long, k.from, w.long, w.from)) (pairs_within old q.base (past q) q.len h.0 on)
 
   pub get_above : (old : Link V A) (q p : Prefix) → IsLawfulTrie old → root old ≡ Some q → StandsAt q p Above → get (pairs old) p ≡ None
@@ -176,10 +176,10 @@ module _ {V A : Type 0} where
   put_above_right old new q p v h e w k n = put_above old new q p v h e w k n.root_is n.pairs_are
 
   -- a full node for p, with the old link on the side where its root lies
-  pub cover_put : (old : Link V A) (q p : Prefix) (v : V) → IsLawfulTrie old → root old ≡ Some q → StandsAt q p Above → (sides : Link V A × Link V A)
+  pub put_above_side : (old : Link V A) (q p : Prefix) (v : V) → IsLawfulTrie old → root old ≡ Some q → StandsAt q p Above → (sides : Link V A × Link V A)
       → (q.base < middle p → sides ≡ (old, Empty)) → (middle p ≤ q.base → sides ≡ (Empty, old)) → (b : Box (FullNode V A) A)
       → b.value.prefix ≡ p → b.value.value ≡ Some v → b.value.left ≡ sides.0 → b.value.right ≡ sides.1 → IsPut old (full_link b) p v
-  cover_put old q p v h e w sides lo hi b i j k m = elim (cases_lt q.base (middle p)) [
+  put_above_side old q p v h e w sides lo hi b i j k m = elim (cases_lt q.base (middle p)) [
     | inl lt ↦
         let s = lo lt in
         let n = made_full b p v old Empty i j (k ∙ ap (λ (x : Link V A × Link V A). x.0) s) (m ∙ ap (λ (x : Link V A × Link V A). x.1) s)
@@ -196,7 +196,7 @@ module _ {V A : Type 0} where
   pub get_apart : (old : Link V A) (q p : Prefix) → IsLawfulTrie old → root old ≡ Some q → StandsAt q p Apart → get (pairs old) p ≡ None
   get_apart old q p h e w =
       let on : IsOn q.base (past q) q.len old = rw e (record { long = omega arith; from = omega arith; to = omega arith }) in
-      get-none (pairs old) p (AllKeys-map (IsWithin q.base (past q) q.len) (IsOther p) (pairs old)
+      get-none (pairs old) p (AllKeys-map (IsInBlock q.base (past q) q.len) (IsOther p) (pairs old)
       (λ x k.
       let s = x.is_prefix.short in
       let t = p.is_prefix.short in
@@ -217,7 +217,7 @@ module _ {V A : Type 0} where
       let s = p.is_prefix.short in
       record {
         pairs_are = n.0.pairs_are ∙ ap (λ x. x ++ pairs old) m.pairs_are
-            ∙ sym (put-first (pairs old) p v (AllKeys-map (IsWithin (middle c) (past c) (c.len + 1)) (IsHigher p) (pairs old)
+            ∙ sym (put-first (pairs old) p v (AllKeys-map (IsInBlock (middle c) (past c) (c.len + 1)) (IsHigher p) (pairs old)
             (λ x w. omega (arith, w.from, k.0.to, size_pos p.len)) (pairs_within old (middle c) (past c) (c.len + 1) h.0 on)));
         lawful = n.1;
         filled = filled_of (fork_link b) c n.0.root_is;
@@ -236,7 +236,7 @@ module _ {V A : Type 0} where
       record {
         pairs_are = n.0.pairs_are ∙ ap (λ x. pairs old ++ x) m.pairs_are
             ∙ sym (ap (λ x. put x p v) (sym (append-nil (pairs old)))
-            ∙ put-skip (pairs old) [] p v (AllKeys-map (IsWithin c.base (middle c) (c.len + 1)) (IsLower p) (pairs old)
+            ∙ put-skip (pairs old) [] p v (AllKeys-map (IsInBlock c.base (middle c) (c.len + 1)) (IsLower p) (pairs old)
             (λ x w. let s = x.is_prefix.short in omega (arith, w.to, k.1.from, size_pos x.len))
             (pairs_within old c.base (middle c) (c.len + 1) h.0 on)));
         lawful = n.1;
@@ -322,9 +322,9 @@ module _ {V A : Type 0} where
   pub refused : (link : Link V A) (n : ℕ) (p : Prefix) (given : Option V) → get (pairs link) p ≡ None → IsRefused link link n n p given given
   refused link n p given h = record { absent = h; back_is = refl; same = refl; counted = refl }
 
-  pub plant_insert : (b : Box (LeafNode V) A) (old : Link V A) (n m : ℕ) (p : Prefix) (given slot : Option V) → old ≡ Empty → b.value.prefix ≡ p
+  pub empty_insert : (b : Box (LeafNode V) A) (old : Link V A) (n m : ℕ) (p : Prefix) (given slot : Option V) → old ≡ Empty → b.value.prefix ≡ p
       → given ≡ Some b.value.value → slot ≡ None → m ≡ n + 1 → IsInserted old (leaf_link b) n m p given slot
-  plant_insert b old n m p given slot e f i none j =
+  empty_insert b old n m p given slot e f i none j =
       rw e (inserted Empty (leaf_link b) n m p given slot (Some b.value.value) (sym i) none refl (omega (arith, j)) (λ v o. put_leaf b p v f (some_same o)))
 
   -- a leaf at q, as a node
@@ -359,12 +359,12 @@ module _ {V A : Type 0} where
   ]
 
   -- the leaf at q becomes a full node with a leaf of p on the side where p lies
-  pub grow_insert : {len base : ℕ} (b k : Box (LeafNode V) A) (old : Link V A) (n m : ℕ) (q p : Prefix) (given slot : Option V) → old ≡ Leaf len base b → b.value.prefix ≡ q
+  pub below_leaf_insert : {len base : ℕ} (b k : Box (LeafNode V) A) (old : Link V A) (n m : ℕ) (q p : Prefix) (given slot : Option V) → old ≡ Leaf len base b → b.value.prefix ≡ q
       → IsChild q false p ⊎ IsChild q true p → k.value.prefix ≡ p → given ≡ Some k.value.value → slot ≡ None → m ≡ n + 1 → (sides : Link V A × Link V A)
       → (p.base < middle q → sides ≡ (leaf_link k, Empty)) → (middle q ≤ p.base → sides ≡ (Empty, leaf_link k)) → (f : Box (FullNode V A) A)
       → f.value.prefix ≡ q → f.value.value ≡ Some b.value.value → f.value.left ≡ sides.0 → f.value.right ≡ sides.1
       → IsInserted old (full_link f) n m p given slot
-  grow_insert b k old n m q p given slot e g h i j none o sides lo hi f x y z w =
+  below_leaf_insert b k old n m q p given slot e g h i j none o sides lo hi f x y z w =
       let a = leaf_node b old q e g in
       let leaf = made_leaf k p k.value.value i refl in
       elim h [
@@ -383,10 +383,10 @@ module _ {V A : Type 0} where
       ]
 
   -- the fork at p becomes a full node
-  pub fill_insert : {len base : ℕ} (b : Box (ForkNode V A) A) (x : ForkNode V A) (old : Link V A) (n : ℕ) (p : Prefix) (given slot stored : Option V) → old ≡ Fork len base b
+  pub at_fork_insert : {len base : ℕ} (b : Box (ForkNode V A) A) (x : ForkNode V A) (old : Link V A) (n : ℕ) (p : Prefix) (given slot stored : Option V) → old ≡ Fork len base b
       → x ≡ b.value → IsLawfulTrie old → x.prefix ≡ p → stored ≡ given → slot ≡ None → (f : Box (FullNode V A) A) → f.value.prefix ≡ p
       → f.value.value ≡ stored → f.value.left ≡ x.left → f.value.right ≡ x.right → IsInserted old (full_link f) n n p given slot
-  fill_insert b x old n p given slot stored e g h i same none f j k l r =
+  at_fork_insert b x old n p given slot stored e g h i same none f j k l r =
       let a = subst (λ q. IsNode old q None x.left x.right) i (of_fork b x old e g h.0) in
       inserted old (full_link f) n n p given slot stored same none (node_get-unstored old p x.left x.right a p (omega arith))
       (omega (arith, a.count_is, ap count l, ap count r))
@@ -395,25 +395,25 @@ module _ {V A : Type 0} where
       put_fill old (full_link f) p v x.left x.right a u.0 u.1)
 
   -- a full node for p, with the old link on one of its sides
-  pub cover_insert : (old : Link V A) (n m : ℕ) (q p : Prefix) (given slot stored : Option V) → IsLawfulTrie old → root old ≡ Some q → StandsAt q p Above
+  pub above_insert : (old : Link V A) (n m : ℕ) (q p : Prefix) (given slot stored : Option V) → IsLawfulTrie old → root old ≡ Some q → StandsAt q p Above
       → stored ≡ given → slot ≡ None → m ≡ n + 1 → (sides : Link V A × Link V A) → (q.base < middle p → sides ≡ (old, Empty))
       → (middle p ≤ q.base → sides ≡ (Empty, old)) → (f : Box (FullNode V A) A) → f.value.prefix ≡ p → f.value.value ≡ stored
       → f.value.left ≡ sides.0 → f.value.right ≡ sides.1 → IsInserted old (full_link f) n m p given slot
-  cover_insert old n m q p given slot stored h e w same none o sides lo hi f i j k l =
+  above_insert old n m q p given slot stored h e w same none o sides lo hi f i j k l =
       let c : count sides.0 + count sides.1 ≡ count old = elim (cases_lt q.base (middle p)) [
         | inl lt ↦ omega (arith, ap (λ (t : Link V A × Link V A). count t.0) (lo lt), ap (λ (t : Link V A × Link V A). count t.1) (lo lt))
         | inr ge ↦ omega (arith, ap (λ (t : Link V A × Link V A). count t.0) (hi ge), ap (λ (t : Link V A × Link V A). count t.1) (hi ge))
       ] in
       inserted old (full_link f) n m p given slot stored same none (get_above old q p h e w) (omega (arith, o, c, ap count k, ap count l))
-      (λ v t. cover_put old q p v h e w sides lo hi f i (j ∙ t) k l)
+      (λ v t. put_above_side old q p v h e w sides lo hi f i (j ∙ t) k l)
 
   -- a fork where p and the old link part, with the leaf of p on the side where p lies
-  pub part_insert : (old : Link V A) (n m : ℕ) (q p c : Prefix) (given slot : Option V) (k : Box (LeafNode V) A) → IsLawfulTrie old → root old ≡ Some q
+  pub beside_insert : (old : Link V A) (n m : ℕ) (q p c : Prefix) (given slot : Option V) (k : Box (LeafNode V) A) → IsLawfulTrie old → root old ≡ Some q
       → StandsAt q p Apart → k.value.prefix ≡ p → given ≡ Some k.value.value → slot ≡ None → m ≡ n + 2 → (f : Box (ForkNode V A) A)
       → f.value.prefix ≡ c
       → (PartsAt c p q × (f.value.left ≡ leaf_link k) × (f.value.right ≡ old)) ⊎ (PartsAt c q p × (f.value.left ≡ old) × (f.value.right ≡ leaf_link k))
       → IsInserted old (fork_link f) n m p given slot
-  part_insert old n m q p c given slot k h e w i j none o f x s = elim s [
+  beside_insert old n m q p c given slot k h e w i j none o f x s = elim s [
     | inl y ↦ inserted old (fork_link f) n m p given slot (Some k.value.value) (sym j) none (get_apart old q p h e w)
         (omega (arith, o, ap count y.1, ap count y.2))
         (λ v t. part_left old (leaf_link k) q p c v h e (made_leaf k p v i (some_same t)) y.0 f x y.1 y.2)

@@ -12,7 +12,7 @@ use Rattle.rt_trie.specs.Links.{IsLawfulBelow}
 use Rattle.rt_trie.specs.inside.LookUps.{or_else, last_cover}
 use Rattle.rt_trie.proofs.PairLemmas.{or_none}
 
--- what is read at a place of the list, with any value for past its end
+-- what is read at an index of the list, with any value for past its end
 pub read_at : {X : Type 0} (xs : List X) (k : ℕ) (d e : X) → k < length xs → get_or xs k d ≡ get_or xs k e
 read_at [] k d e h = absurd (omega arith)
 read_at (x ∷ xs) zero d e h = refl

@@ -16,10 +16,10 @@ use Rattle.rt_trie.specs.declared.nodes.LeafNode.{LeafNode}
 use Rattle.rt_trie.specs.declared.nodes.ForkNode.{ForkNode}
 use Rattle.rt_trie.specs.declared.nodes.FullNode.{FullNode}
 use Rattle.rt_trie.specs.Map.{Pairs, same_prefix, get, first, next_after, before, IsOrdered, IsLongest}
-use Rattle.rt_trie.specs.Blocks.{IsKeyOf, IsWithin, IsChild, middle, past}
+use Rattle.rt_trie.specs.Blocks.{IsKeyOf, IsInBlock, IsChild, middle, past}
 use Rattle.rt_trie.specs.inside.Blocks.{StandsAt}
-use Rattle.rt_trie.specs.declared.nodes.Place.{Place}
-use Rattle.rt_trie.specs.declared.nodes.Place.TheVariants.{Here, Left, Right, Above, Apart}
+use Rattle.rt_trie.specs.declared.nodes.Position.{Position}
+use Rattle.rt_trie.specs.declared.nodes.Position.TheVariants.{Here, Left, Right, Above, Apart}
 use Rattle.rt_trie.specs.inside.Links.{own_pair, pairs, count, IsNode, IsForkOf, IsSeenFrom}
 use Rattle.rt_trie.specs.Links.{root, AreHalves, IsFilled, IsNeeded, IsLawfulBelow, IsLawfulTrie}
 use Rattle.rt_trie.proofs.OrderLemmas.{same_rank, same_tells, rank_of_before, rank_of_not_before}
@@ -30,28 +30,28 @@ use Rattle.rt_trie.proofs.LongestLemmas.{longest_is}
 
 -- the pairs lie within a block
 abbrev pub AllWithin : {V : Type 0} → ℕ → ℕ → ℕ → Pairs V → Type 0
-AllWithin lo hi len xs = AllKeys (IsWithin lo hi len) xs
+AllWithin lo hi len xs = AllKeys (IsInBlock lo hi len) xs
 
 -- a half of a prefix lies where the prefix does
-pub within_lower : (lo hi len : ℕ) (q x : Prefix) → IsWithin lo hi len q → IsWithin q.base (middle q) (q.len + 1) x → IsWithin lo hi len x
+pub within_lower : (lo hi len : ℕ) (q x : Prefix) → IsInBlock lo hi len q → IsInBlock q.base (middle q) (q.len + 1) x → IsInBlock lo hi len x
 within_lower lo hi len q x h k =
     record { long = omega (arith, h.long, k.long); from = omega (arith, h.from, k.from); to = omega (arith, h.to, k.to) }
 
-pub within_upper : (lo hi len : ℕ) (q x : Prefix) → IsWithin lo hi len q → IsWithin (middle q) (past q) (q.len + 1) x → IsWithin lo hi len x
+pub within_upper : (lo hi len : ℕ) (q x : Prefix) → IsInBlock lo hi len q → IsInBlock (middle q) (past q) (q.len + 1) x → IsInBlock lo hi len x
 within_upper lo hi len q x h k =
     record { long = omega (arith, h.long, k.long); from = omega (arith, h.from, k.from); to = omega (arith, h.to, k.to) }
 
 module _ {V : Type 0} where
   -- the pairs of two halves lie where the whole does
-  pub halves_within : (lo hi len : ℕ) (q : Prefix) (xs ys : Pairs V) → IsWithin lo hi len q
+  pub halves_within : (lo hi len : ℕ) (q : Prefix) (xs ys : Pairs V) → IsInBlock lo hi len q
       → AllWithin q.base (middle q) (q.len + 1) xs → AllWithin (middle q) (past q) (q.len + 1) ys → AllWithin lo hi len (xs ++ ys)
   halves_within lo hi len q xs ys h l r =
-      AllKeys-append (IsWithin lo hi len) xs ys
-      (AllKeys-map (IsWithin q.base (middle q) (q.len + 1)) (IsWithin lo hi len) xs (λ x. within_lower lo hi len q x h) l)
-      (AllKeys-map (IsWithin (middle q) (past q) (q.len + 1)) (IsWithin lo hi len) ys (λ x. within_upper lo hi len q x h) r)
+      AllKeys-append (IsInBlock lo hi len) xs ys
+      (AllKeys-map (IsInBlock q.base (middle q) (q.len + 1)) (IsInBlock lo hi len) xs (λ x. within_lower lo hi len q x h) l)
+      (AllKeys-map (IsInBlock (middle q) (past q) (q.len + 1)) (IsInBlock lo hi len) ys (λ x. within_upper lo hi len q x h) r)
 
   -- and so with the prefix's own pair
-  pub node_within : (lo hi len : ℕ) (q : Prefix) (v : Option V) (xs ys : Pairs V) → IsWithin lo hi len q
+  pub node_within : (lo hi len : ℕ) (q : Prefix) (v : Option V) (xs ys : Pairs V) → IsInBlock lo hi len q
       → AllWithin q.base (middle q) (q.len + 1) xs → AllWithin (middle q) (past q) (q.len + 1) ys
       → AllWithin lo hi len (own_pair q v ++ (xs ++ ys))
   node_within lo hi len q None xs ys h l r = halves_within lo hi len q xs ys h l r
@@ -59,7 +59,7 @@ module _ {V : Type 0} where
 
 -- the link holds nothing, or a node within a block
 abbrev pub IsOn : {V A : Type 0} → ℕ → ℕ → ℕ → Link V A → Type 0
-IsOn lo hi len link = IfSome (root link) (IsWithin lo hi len)
+IsOn lo hi len link = IfSome (root link) (IsInBlock lo hi len)
 
 module _ {V A : Type 0} where
   pub pairs_within : (link : Link V A) (lo hi len : ℕ) → IsLawfulBelow link → IsOn lo hi len link → AllWithin lo hi len (pairs link)
@@ -110,21 +110,21 @@ module _ {V A : Type 0} where
   key_of_full {len} {base} b n link e f h = let k : IsLawfulBelow (Full len base b) = subst IsLawfulBelow e h in rw f k.3
 
   -- where a prefix stands, as seen from the link's two numbers, it stands as seen from the node
-  pub seen_from_leaf : {len base : ℕ} (b : Box (LeafNode V) A) (link : Link V A) (p : Prefix) (place : Place) → link ≡ Leaf len base b → IsLawfulBelow link
-      → ((q : Prefix) → IsKeyOf len base q → StandsAt q p place) → IsSeenFrom (Leaf len base b) base p place
-  seen_from_leaf b link p place e h s =
+  pub seen_from_leaf : {len base : ℕ} (b : Box (LeafNode V) A) (link : Link V A) (p : Prefix) (position : Position) → link ≡ Leaf len base b → IsLawfulBelow link
+      → ((q : Prefix) → IsKeyOf len base q → StandsAt q p position) → IsSeenFrom (Leaf len base b) base p position
+  seen_from_leaf b link p position e h s =
       let k = key_of_leaf b b.value link e refl h in
       record { node = b.value.prefix; root_is = refl; base_is = k.base_is; stands = s b.value.prefix k }
 
-  pub seen_from_fork : {len base : ℕ} (b : Box (ForkNode V A) A) (link : Link V A) (p : Prefix) (place : Place) → link ≡ Fork len base b → IsLawfulBelow link
-      → ((q : Prefix) → IsKeyOf len base q → StandsAt q p place) → IsSeenFrom (Fork len base b) base p place
-  seen_from_fork b link p place e h s =
+  pub seen_from_fork : {len base : ℕ} (b : Box (ForkNode V A) A) (link : Link V A) (p : Prefix) (position : Position) → link ≡ Fork len base b → IsLawfulBelow link
+      → ((q : Prefix) → IsKeyOf len base q → StandsAt q p position) → IsSeenFrom (Fork len base b) base p position
+  seen_from_fork b link p position e h s =
       let k = key_of_fork b b.value link e refl h in
       record { node = b.value.prefix; root_is = refl; base_is = k.base_is; stands = s b.value.prefix k }
 
-  pub seen_from_full : {len base : ℕ} (b : Box (FullNode V A) A) (link : Link V A) (p : Prefix) (place : Place) → link ≡ Full len base b → IsLawfulBelow link
-      → ((q : Prefix) → IsKeyOf len base q → StandsAt q p place) → IsSeenFrom (Full len base b) base p place
-  seen_from_full b link p place e h s =
+  pub seen_from_full : {len base : ℕ} (b : Box (FullNode V A) A) (link : Link V A) (p : Prefix) (position : Position) → link ≡ Full len base b → IsLawfulBelow link
+      → ((q : Prefix) → IsKeyOf len base q → StandsAt q p position) → IsSeenFrom (Full len base b) base p position
+  seen_from_full b link p position e h s =
       let k = key_of_full b b.value link e refl h in
       record { node = b.value.prefix; root_is = refl; base_is = k.base_is; stands = s b.value.prefix k }
 
@@ -211,10 +211,10 @@ module _ {V A : Type 0} where
   none_below link q v left right n a h =
       let s = sides_of link q v left right n in
       let l : last_cover (pairs left) a ≡ None = last_cover-none (pairs left) a
-      (AllKeys-map (IsWithin q.base (middle q) (q.len + 1)) (λ x. covers x a ≡ false) (pairs left)
+      (AllKeys-map (IsInBlock q.base (middle q) (q.len + 1)) (λ x. covers x a ≡ false) (pairs left)
       (λ x w. let t = x.is_prefix.short in absurd (omega (arith, w.long))) s.lower) in
       let r : last_cover (pairs right) a ≡ None = last_cover-none (pairs right) a
-      (AllKeys-map (IsWithin (middle q) (past q) (q.len + 1)) (λ x. covers x a ≡ false) (pairs right)
+      (AllKeys-map (IsInBlock (middle q) (past q) (q.len + 1)) (λ x. covers x a ≡ false) (pairs right)
       (λ x w. let t = x.is_prefix.short in absurd (omega (arith, w.long))) s.upper) in
       ap (λ m. last_cover m a) n.pairs_are ∙ last_cover-append (own_pair q v) (pairs left ++ pairs right) a
       ∙ ap (λ o. or_else o (last_cover (own_pair q v) a)) (last_cover-append (pairs left) (pairs right) a ∙ cc (l, r))
@@ -337,12 +337,12 @@ none_of (Some x) h = absurd (false≢true h)
 module _ {V A : Type 0} where
   -- the least prefix after p, by where p stands as seen from the node
   pub node_after-lower : (link : Link V A) (q : Prefix) (v : Option V) (left right : Link V A) (n : IsNode link q v left right) (p : Prefix)
-      (r : Place) → StandsAt q p r → (r ≡ Here) ⊎ (r ≡ Left) → next_after (pairs link) p ≡ or_else (next_after (pairs left) p) (first (pairs right))
+      (r : Position) → StandsAt q p r → (r ≡ Here) ⊎ (r ≡ Left) → next_after (pairs link) p ≡ or_else (next_after (pairs left) p) (first (pairs right))
   node_after-lower link q v left right n p r s e =
       ap (λ m. next_after m p) n.pairs_are
       ∙ elim e [
         | inl h ↦ let i : p ≡ q = subst (StandsAt q p) h s in here i
-        | inr h ↦ let w : IsWithin q.base (middle q) (q.len + 1) p = subst (StandsAt q p) h s in
+        | inr h ↦ let w : IsInBlock q.base (middle q) (q.len + 1) p = subst (StandsAt q p) h s in
             let t = q.is_prefix.short in
             after-lower q v (pairs left) (pairs right) (sides_of link q v left right n) p (omega (arith, w.from, w.long))
             (λ y k. let u = p.is_prefix.short in omega (arith, w.to, k.from, size_pos p.len))
@@ -353,9 +353,9 @@ module _ {V A : Type 0} where
           (λ y k. omega (arith, k.long, k.from)))
 
   pub node_after-upper : (link : Link V A) (q : Prefix) (v : Option V) (left right : Link V A) (n : IsNode link q v left right) (p : Prefix)
-      (r : Place) → StandsAt q p r → r ≡ Right → next_after (pairs link) p ≡ next_after (pairs right) p
+      (r : Position) → StandsAt q p r → r ≡ Right → next_after (pairs link) p ≡ next_after (pairs right) p
   node_after-upper link q v left right n p r s h =
-      let w : IsWithin (middle q) (past q) (q.len + 1) p = subst (StandsAt q p) h s in
+      let w : IsInBlock (middle q) (past q) (q.len + 1) p = subst (StandsAt q p) h s in
       ap (λ m. next_after m p) n.pairs_are
       ∙ after-upper q v (pairs left) (pairs right) (sides_of link q v left right n) p (omega (arith, w.from, w.long)) w.from
 
@@ -366,11 +366,11 @@ module _ {V A : Type 0} where
       ∙ after-all q v (pairs left) (pairs right) (sides_of link q v left right n) p (rank_of_before p q h) ∙ sym (ap first n.pairs_are)
 
   pub node_after-none : (link : Link V A) (q : Prefix) (v : Option V) (left right : Link V A) (n : IsNode link q v left right) (p : Prefix)
-      (r : Place) → StandsAt q p r → (r ≡ Above) ⊎ (r ≡ Apart) → before p q ≡ false → next_after (pairs link) p ≡ None
+      (r : Position) → StandsAt q p r → (r ≡ Above) ⊎ (r ≡ Apart) → before p q ≡ false → next_after (pairs link) p ≡ None
   node_after-none link q v left right n p r s e h =
       ap (λ m. next_after m p) n.pairs_are
       ∙ after-past q v (pairs left) (pairs right) (sides_of link q v left right n) p (elim e [
-        | inl i ↦ let w : IsWithin p.base (past p) (p.len + 1) q = subst (StandsAt q p) i s in
+        | inl i ↦ let w : IsInBlock p.base (past p) (p.len + 1) q = subst (StandsAt q p) i s in
             absurd (omega (arith, rank_of_not_before p q h, w.from, w.long))
         | inr i ↦ let w : (past q ≤ p.base) ⊎ (past p ≤ q.base) = subst (StandsAt q p) i s in elim w [
           | inl k ↦ k

@@ -6,7 +6,7 @@ use Rattle.rt_cidr.specs.declared.prefixes.Prefix.{Prefix}
 use Rattle.rt_cidr.specs.Cidr.{size_of}
 use Rattle.rt_trie.specs.declared.nodes.Link.{Link, Empty, Leaf, Fork', Full'}
 use Rattle.rt_trie.specs.Map.{Pairs, first, IsStored, IsOrdered}
-use Rattle.rt_trie.specs.Blocks.{IsWithin, middle, past}
+use Rattle.rt_trie.specs.Blocks.{IsInBlock, middle, past}
 use Rattle.rt_trie.specs.inside.Links.{own_pair, pairs, count}
 use Rattle.rt_trie.specs.Links.{AreHalves, IsLawfulBelow, IsLawfulTrie, IsFilled}
 use Rattle.rt_trie.specs.Nodes.{IsNodeAt, CountsNodes}
@@ -18,8 +18,8 @@ use Rattle.rt_trie.proofs.LinkLemmas.{IsOn, AllWithin, node_within, pairs_within
 use Rattle.rt_trie.proofs.StoredLemmas.{stored-here, stored-more, stored-cases}
 
 -- of two prefixes at which the same two part, neither is the shorter
-not_shorter : (c q a b : Prefix) → IsWithin c.base (middle c) (c.len + 1) a → IsWithin (middle c) (past c) (c.len + 1) b
-    → IsWithin q.base (middle q) (q.len + 1) a → IsWithin (middle q) (past q) (q.len + 1) b → c.len < q.len → ⊥
+not_shorter : (c q a b : Prefix) → IsInBlock c.base (middle c) (c.len + 1) a → IsInBlock (middle c) (past c) (c.len + 1) b
+    → IsInBlock q.base (middle q) (q.len + 1) a → IsInBlock (middle q) (past q) (q.len + 1) b → c.len < q.len → ⊥
 not_shorter c q a b ca cb qa qb short = elim (cases_lt q.base c.base) [
   | inl lt ↦ omega (arith, ends_before c q (omega arith) lt, qa.to, ca.from, size_pos a.len)
   | inr ge ↦ elim (cases_lt q.base (middle c)) [
@@ -29,8 +29,8 @@ not_shorter c q a b ca cb qa qb short = elim (cases_lt q.base c.base) [
 ]
 
 -- two prefixes part at one prefix
-one_parting : (c q a b : Prefix) → IsWithin c.base (middle c) (c.len + 1) a → IsWithin (middle c) (past c) (c.len + 1) b
-    → IsWithin q.base (middle q) (q.len + 1) a → IsWithin (middle q) (past q) (q.len + 1) b → (q.base ≡ c.base) × (q.len ≡ c.len)
+one_parting : (c q a b : Prefix) → IsInBlock c.base (middle c) (c.len + 1) a → IsInBlock (middle c) (past c) (c.len + 1) b
+    → IsInBlock q.base (middle q) (q.len + 1) a → IsInBlock (middle q) (past q) (q.len + 1) b → (q.base ≡ c.base) × (q.len ≡ c.len)
 one_parting c q a b ca cb qa qb = elim (cases_lt c.len q.len) [
   | inl lt ↦ absurd (not_shorter c q a b ca cb qa qb lt)
   | inr ge ↦ elim (cases_lt q.len c.len) [
@@ -65,7 +65,7 @@ module _ {V : Type 0} where
   ]
 
   -- where a stored prefix lies
-  stored-within : (xs : Pairs V) (lo hi len : ℕ) (p : Prefix) → AllWithin lo hi len xs → IsStored xs p → IsWithin lo hi len p
+  stored-within : (xs : Pairs V) (lo hi len : ℕ) (p : Prefix) → AllWithin lo hi len xs → IsStored xs p → IsInBlock lo hi len p
   stored-within [] lo hi len p a h = absurd (false≢true h)
   stored-within ((x, w) ∷ xs) lo hi len p a h = elim (stored-cases x w xs p h) [
     | inl e ↦
@@ -153,14 +153,14 @@ module _ {V : Type 0} where
       in_right : IsNodeAt ys c → IsStored (own_pair q (Some tt) ++ (ns ++ ms)) c
       in_right h = stored-more q tt (ns ++ ms) c (stored-right ns ms c ((right c).1 h))
 
-      low_within : (p : Prefix) → IsStored xs p → IsWithin q.base (middle q) (q.len + 1) p
+      low_within : (p : Prefix) → IsStored xs p → IsInBlock q.base (middle q) (q.len + 1) p
       low_within p h = stored-within xs q.base (middle q) (q.len + 1) p sides.lower h
 
-      high_within : (p : Prefix) → IsStored ys p → IsWithin (middle q) (past q) (q.len + 1) p
+      high_within : (p : Prefix) → IsStored ys p → IsInBlock (middle q) (past q) (q.len + 1) p
       high_within p h = stored-within ys (middle q) (past q) (q.len + 1) p sides.upper h
 
-      parted : (a b : Prefix) → Side q v xs ys a → Side q v xs ys b → IsWithin c.base (middle c) (c.len + 1) a
-          → IsWithin (middle c) (past c) (c.len + 1) b → IsStored (own_pair q (Some tt) ++ (ns ++ ms)) c
+      parted : (a b : Prefix) → Side q v xs ys a → Side q v xs ys b → IsInBlock c.base (middle c) (c.len + 1) a
+          → IsInBlock (middle c) (past c) (c.len + 1) b → IsStored (own_pair q (Some tt) ++ (ns ++ ms)) c
       parted a b (own_side e) (own_side f) l h = absurd (omega (arith, l.to, h.from, size_pos a.len))
       parted a b (own_side e) (low_side t) l h =
           let s = ap size_of e.1 in absurd (omega (arith, l.to, h.from, (low_within b t).to, size_pos b.len))

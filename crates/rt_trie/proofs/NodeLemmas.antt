@@ -5,7 +5,7 @@ use Rattle.rt_cidr.specs.declared.address.Addr.{Addr}
 use Rattle.rt_cidr.specs.Prefix.{covers}
 use Rattle.rt_trie.specs.inside.LookUps.{or_else, last_cover}
 use Rattle.rt_trie.specs.Map.{Pairs, same_prefix, get, first, next_after, IsBeforeAll, IsOrdered}
-use Rattle.rt_trie.specs.Blocks.{IsWithin, middle, past}
+use Rattle.rt_trie.specs.Blocks.{IsInBlock, middle, past}
 use Rattle.rt_trie.specs.inside.Links.{own_pair}
 use Rattle.rt_trie.proofs.OrderLemmas.{rank, lower_rank, other_rank}
 use Rattle.rt_cidr.proofs.Promised.{size_pos}
@@ -14,8 +14,8 @@ use Rattle.rt_trie.proofs.PairLemmas.{AllKeys, AllKeys-append, AllKeys-map, IsOt
 
 -- the pairs on the two sides lie in the two halves
 pub record AreSides {V : Type 0} (q : Prefix) (xs ys : Pairs V) : Type 0 where
-  pub lower : AllKeys (IsWithin q.base (middle q) (q.len + 1)) xs
-  pub upper : AllKeys (IsWithin (middle q) (past q) (q.len + 1)) ys
+  pub lower : AllKeys (IsInBlock q.base (middle q) (q.len + 1)) xs
+  pub upper : AllKeys (IsInBlock (middle q) (past q) (q.len + 1)) ys
 
 pub IsOther-len : (p q : Prefix) → q.len ≢ p.len → IsOther p q
 IsOther-len p q n = let s = p.is_prefix.short in let t = q.is_prefix.short in other_rank q p (λ e. n (omega arith))
@@ -47,20 +47,20 @@ module _ {V : Type 0} (q : Prefix) (v : Option V) (xs ys : Pairs V) (sides : Are
   pub sides_higher : AllKeys (IsHigher q) (xs ++ ys)
   sides_higher =
       AllKeys-append (IsHigher q) xs ys
-      (AllKeys-map (IsWithin q.base (middle q) (q.len + 1)) (IsHigher q) xs (λ x h. omega (arith, h.long, h.from)) sides.lower)
-      (AllKeys-map (IsWithin (middle q) (past q) (q.len + 1)) (IsHigher q) ys (λ x h. omega (arith, h.long, h.from)) sides.upper)
+      (AllKeys-map (IsInBlock q.base (middle q) (q.len + 1)) (IsHigher q) xs (λ x h. omega (arith, h.long, h.from)) sides.lower)
+      (AllKeys-map (IsInBlock (middle q) (past q) (q.len + 1)) (IsHigher q) ys (λ x h. omega (arith, h.long, h.from)) sides.upper)
 
   pub sides_longer : AllKeys (λ x. q.len < x.len) (xs ++ ys)
   sides_longer =
       AllKeys-append (λ x. q.len < x.len) xs ys
-      (AllKeys-map (IsWithin q.base (middle q) (q.len + 1)) (λ x. q.len < x.len) xs (λ x h. omega (arith, h.long)) sides.lower)
-      (AllKeys-map (IsWithin (middle q) (past q) (q.len + 1)) (λ x. q.len < x.len) ys (λ x h. omega (arith, h.long)) sides.upper)
+      (AllKeys-map (IsInBlock q.base (middle q) (q.len + 1)) (λ x. q.len < x.len) xs (λ x h. omega (arith, h.long)) sides.lower)
+      (AllKeys-map (IsInBlock (middle q) (past q) (q.len + 1)) (λ x. q.len < x.len) ys (λ x h. omega (arith, h.long)) sides.upper)
 
   pub lower_below : AllKeys (λ x. x.base < middle q) xs
-  lower_below = AllKeys-map (IsWithin q.base (middle q) (q.len + 1)) (λ x. x.base < middle q) xs (λ x h. omega (arith, h.to, size_pos x.len)) sides.lower
+  lower_below = AllKeys-map (IsInBlock q.base (middle q) (q.len + 1)) (λ x. x.base < middle q) xs (λ x h. omega (arith, h.to, size_pos x.len)) sides.lower
 
   pub upper_from : AllKeys (λ x. middle q ≤ x.base) ys
-  upper_from = AllKeys-map (IsWithin (middle q) (past q) (q.len + 1)) (λ x. middle q ≤ x.base) ys (λ x h. h.from) sides.upper
+  upper_from = AllKeys-map (IsInBlock (middle q) (past q) (q.len + 1)) (λ x. middle q ≤ x.base) ys (λ x h. h.from) sides.upper
 
   -- what begins below the middle comes before the upper side, and the lower side before what begins from the middle on
   pub upper_higher : (p : Prefix) → p.base < middle q → AllKeys (IsHigher p) ys
@@ -106,7 +106,7 @@ module _ {V : Type 0} (q : Prefix) (v : Option V) (xs ys : Pairs V) (sides : Are
       elim v as (λ o. get (own_pair q o ++ (xs ++ ys)) p ≡ None) [ None ↦ n | Some w ↦ rw e n ]
 
 -- what lies within a block covers no address outside it
-pub covers-outside : (lo hi len : ℕ) (x : Prefix) (a : Addr) → (a.0 < lo) ⊎ (hi ≤ a.0) → IsWithin lo hi len x → covers x a ≡ false
+pub covers-outside : (lo hi len : ℕ) (x : Prefix) (a : Addr) → (a.0 < lo) ⊎ (hi ≤ a.0) → IsInBlock lo hi len x → covers x a ≡ false
 covers-outside lo hi len x a o w = elim (covers_tells x a) [
   | inr n ↦ n.0
   | inl r ↦ elim o [ inl lt ↦ absurd (omega (arith, w.from, r.1)) | inr ge ↦ absurd (omega (arith, w.to, r.2)) ]
@@ -117,7 +117,7 @@ module _ {V : Type 0} (q : Prefix) (v : Option V) (xs ys : Pairs V) (sides : Are
   pub cover-lower : a.0 < middle q → last_cover (own_pair q v ++ (xs ++ ys)) a ≡ or_else (last_cover xs a) (last_cover (own_pair q v) a)
   cover-lower h =
       let none : last_cover ys a ≡ None =
-      last_cover-none ys a (AllKeys-map (IsWithin (middle q) (past q) (q.len + 1)) (λ x. covers x a ≡ false) ys
+      last_cover-none ys a (AllKeys-map (IsInBlock (middle q) (past q) (q.len + 1)) (λ x. covers x a ≡ false) ys
       (λ x w. covers-outside (middle q) (past q) (q.len + 1) x a (inl h) w) sides.upper) in
       last_cover-append (own_pair q v) (xs ++ ys) a
       ∙ ap (λ o. or_else o (last_cover (own_pair q v) a)) (last_cover-append xs ys a ∙ ap (λ o. or_else o (last_cover xs a)) none)
@@ -125,7 +125,7 @@ module _ {V : Type 0} (q : Prefix) (v : Option V) (xs ys : Pairs V) (sides : Are
   pub cover-upper : middle q ≤ a.0 → last_cover (own_pair q v ++ (xs ++ ys)) a ≡ or_else (last_cover ys a) (last_cover (own_pair q v) a)
   cover-upper h =
       let none : last_cover xs a ≡ None =
-      last_cover-none xs a (AllKeys-map (IsWithin q.base (middle q) (q.len + 1)) (λ x. covers x a ≡ false) xs
+      last_cover-none xs a (AllKeys-map (IsInBlock q.base (middle q) (q.len + 1)) (λ x. covers x a ≡ false) xs
       (λ x w. covers-outside q.base (middle q) (q.len + 1) x a (inr h) w) sides.lower) in
       last_cover-append (own_pair q v) (xs ++ ys) a
       ∙ ap (λ o. or_else o (last_cover (own_pair q v) a))
@@ -137,10 +137,10 @@ module _ {V : Type 0} (q : Prefix) (v : Option V) (xs ys : Pairs V) (sides : Are
       let o = outside_of_covers q a h in
       let rest : AllKeys (λ x. covers x a ≡ false) (xs ++ ys) =
       AllKeys-append (λ x. covers x a ≡ false) xs ys
-      (AllKeys-map (IsWithin q.base (middle q) (q.len + 1)) (λ x. covers x a ≡ false) xs
+      (AllKeys-map (IsInBlock q.base (middle q) (q.len + 1)) (λ x. covers x a ≡ false) xs
       (λ x w. covers-outside q.base (past q) (q.len + 1) x a o
       (record { long = w.long; from = w.from; to = omega (arith, w.to) })) sides.lower)
-      (AllKeys-map (IsWithin (middle q) (past q) (q.len + 1)) (λ x. covers x a ≡ false) ys
+      (AllKeys-map (IsInBlock (middle q) (past q) (q.len + 1)) (λ x. covers x a ≡ false) ys
       (λ x w. covers-outside q.base (past q) (q.len + 1) x a o
       (record { long = w.long; from = omega (arith, w.from); to = w.to })) sides.upper) in
       elim v as (λ w. last_cover (own_pair q w ++ (xs ++ ys)) a ≡ None) [
@@ -162,12 +162,12 @@ module _ {V : Type 0} (q : Prefix) (v : Option V) (xs ys : Pairs V) (sides : Are
   own_until h = elim v as (λ o. AllKeys (λ x. rank x ≤ rank p) (own_pair q o)) [ None ↦ tt | Some w ↦ (h, tt) ]
 
   -- what comes after p is on the left, or else the first on the right, where p is not above the node nor in its upper half
-  pub after-lower : rank q ≤ rank p → ((y : Prefix) → IsWithin (middle q) (past q) (q.len + 1) y → rank p < rank y)
+  pub after-lower : rank q ≤ rank p → ((y : Prefix) → IsInBlock (middle q) (past q) (q.len + 1) y → rank p < rank y)
       → next_after (own_pair q v ++ (xs ++ ys)) p ≡ or_else (next_after xs p) (first ys)
   after-lower h k =
       after-skip (own_pair q v) (xs ++ ys) p (own_until h) ∙ after-append xs ys p
       ∙ ap (λ o. or_else (next_after xs p) o)
-      (after-first ys p (AllKeys-map (IsWithin (middle q) (past q) (q.len + 1)) (IsHigher p) ys k sides.upper))
+      (after-first ys p (AllKeys-map (IsInBlock (middle q) (past q) (q.len + 1)) (IsHigher p) ys k sides.upper))
 
   -- it is on the right, where p is in the upper half
   pub after-upper : rank q ≤ rank p → middle q ≤ p.base → next_after (own_pair q v ++ (xs ++ ys)) p ≡ next_after ys p
@@ -191,7 +191,7 @@ module _ {V : Type 0} (q : Prefix) (v : Option V) (xs ys : Pairs V) (sides : Are
       (AllKeys-append (λ x. rank x ≤ rank p) (own_pair q v) (xs ++ ys)
       (own_until (let t = q.is_prefix.short in omega (arith, size_pos q.len)))
       (AllKeys-append (λ x. rank x ≤ rank p) xs ys
-      (AllKeys-map (IsWithin q.base (middle q) (q.len + 1)) (λ x. rank x ≤ rank p) xs
+      (AllKeys-map (IsInBlock q.base (middle q) (q.len + 1)) (λ x. rank x ≤ rank p) xs
       (λ x w. let t = x.is_prefix.short in omega (arith, w.to, size_pos x.len)) sides.lower)
-      (AllKeys-map (IsWithin (middle q) (past q) (q.len + 1)) (λ x. rank x ≤ rank p) ys
+      (AllKeys-map (IsInBlock (middle q) (past q) (q.len + 1)) (λ x. rank x ≤ rank p) ys
       (λ x w. let t = x.is_prefix.short in omega (arith, w.to, size_pos x.len)) sides.upper)))

@@ -7,8 +7,8 @@ use Rattle.rt_trie.specs.declared.nodes.Link.TheVariants.{Fork, Full}
 use Rattle.rt_trie.specs.declared.nodes.ForkNode.{ForkNode}
 use Rattle.rt_trie.specs.declared.nodes.FullNode.{FullNode}
 use Rattle.rt_trie.specs.Map.{Pairs, same_prefix, get, erase}
-use Rattle.rt_trie.specs.declared.nodes.Place.{Place}
-use Rattle.rt_trie.specs.declared.nodes.Place.TheVariants.{Here, Left, Right, Above, Apart}
+use Rattle.rt_trie.specs.declared.nodes.Position.{Position}
+use Rattle.rt_trie.specs.declared.nodes.Position.TheVariants.{Here, Left, Right, Above, Apart}
 use Rattle.rt_trie.proofs.InsertLemmas.{get_above, get_apart}
 use Rattle.rt_trie.specs.Blocks.{IsKeyOf, IsChild, middle, past}
 use Rattle.rt_trie.specs.inside.Blocks.{StandsAt}
@@ -162,7 +162,7 @@ module _ {V A : Type 0} where
   }
 
   -- at a fork nothing is stored but on its sides
-  pub fork_none : {len base : ℕ} (b : Box (ForkNode V A) A) (n : ForkNode V A) (old : Link V A) (p : Prefix) (r : Place) → old ≡ Fork len base b → n ≡ b.value
+  pub fork_none : {len base : ℕ} (b : Box (ForkNode V A) A) (n : ForkNode V A) (old : Link V A) (p : Prefix) (r : Position) → old ≡ Fork len base b → n ≡ b.value
       → IsLawfulTrie old → StandsAt n.prefix p r → (r ≡ Left → ⊥) → (r ≡ Right → ⊥) → get (pairs old) p ≡ None
   fork_none b n old p Here e f h s x y =
       node_get-unstored old n.prefix n.left n.right (of_fork b n old e f h.0) p (omega (arith, ap (λ (z : Prefix). z.len) s))
@@ -172,7 +172,7 @@ module _ {V A : Type 0} where
   fork_none b n old p Apart e f h s x y = get_apart old n.prefix p h (of_fork b n old e f h.0).root_is s
 
   -- at a full node, its own value aside
-  pub full_none : {len base : ℕ} (b : Box (FullNode V A) A) (n : FullNode V A) (old : Link V A) (p : Prefix) (r : Place) → old ≡ Full len base b → n ≡ b.value
+  pub full_none : {len base : ℕ} (b : Box (FullNode V A) A) (n : FullNode V A) (old : Link V A) (p : Prefix) (r : Position) → old ≡ Full len base b → n ≡ b.value
       → IsLawfulTrie old → StandsAt n.prefix p r → (r ≡ Above) ⊎ (r ≡ Apart) → get (pairs old) p ≡ None
   full_none b n old p r e f h s o = elim o [
     | inl i ↦ get_above old n.prefix p h (of_full b n old e f h.0).root_is (subst (StandsAt n.prefix p) i s)

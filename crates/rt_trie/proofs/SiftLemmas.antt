@@ -39,7 +39,7 @@ module _ {V S : Type 0} (done : S → Bool) (judges : S → Prefix → V → S �
 
   -- one pair that it was shown
   pub sifted_one : (s t : S) (p : Prefix) (v w : V) (stays : Bool) → done s ≡ false → judges s p v t w stays → IsSifted done judges s t ((p, v) ∷ []) (with_pair stays p w [])
-  sifted_one s t p v w stays wanted judged = inr (wanted, t, [], record { made = w; stays = stays; judged = judged; left = refl }, (refl, refl))
+  sifted_one s t p v w stays wanted judged = inr (wanted, t, [], record { made = w; stays = stays; judged = judged; new_is = refl }, (refl, refl))
 
   -- one list after another
   pub sifted_append : (s m t : S) (xs ys ls rs : Pairs V) → IsSifted done judges s m xs ls → IsSifted done judges m t ys rs → IsSifted done judges s t (xs ++ ys) (ls ++ rs)
@@ -58,7 +58,7 @@ module _ {V S : Type 0} (done : S → Bool) (judges : S → Prefix → V → S �
             made = j.made;
             stays = j.stays;
             judged = j.judged;
-            left = ap (λ z. z ++ rs) j.left ∙ with_pair-append j.stays p j.made i.2 rs;
+            new_is = ap (λ z. z ++ rs) j.new_is ∙ with_pair-append j.stays p j.made i.2 rs;
           },
           sifted_append i.1 m t xs ys i.2 rs i.4 k,
         )

@@ -10,7 +10,7 @@ use Rattle.rt_trie.specs.Lawful.{IsLawfulAt, IsLawfulTree, IsLawful}
 use Rattle.rt_trie.specs.Laws.{IsChildByBit, IsLawfulNode, IsLawfulByBits}
 use Rattle.rt_trie.specs.inside.Links.{own_pair, pairs, count}
 use Rattle.rt_trie.specs.Links.{root, IsFilled, IsLawfulTrie}
-use Rattle.rt_trie.specs.Contents.{Contents}
+use Rattle.rt_trie.specs.TrieContents.{TrieContents}
 use Rattle.rt_trie.proofs.DescentLemmas.{held}
 use Rattle.rt_trie.proofs.LawfulLemmas.{lawful_by_bits}
 

@@ -1,4 +1,4 @@
--- What a walk has put aside, as links are taken from it and put there.
+-- What is on a walk's stack, as links are taken from it and put there.
 use Rattle.std.proofs.Common.{◌≡◌, ◌≢◌, ℕ, zero, suc, ◌+◌, ◌-◌, ◌*◌, ◌<◌, ◌≤◌, List, [], ◌∷◌, ◌++◌, length, get_or, set, Option, Some, None, refl, sym, subst, ap, ◌∙◌, arith, append_assoc}
 use Rattle.std.proofs.Common.{true, false, inl, inr}
 use Rattle.std.proofs.lemmas.Bool.{cases_lt}
@@ -8,10 +8,10 @@ use Rattle.rt_trie.proofs.LinkLemmas.{if_some_map}
 use Rattle.std.specs.Borrow.{Bor}
 use Rattle.rt_cidr.specs.declared.prefixes.Prefix.{Prefix}
 use Rattle.rt_trie.specs.declared.nodes.Link.{Link}
-use Rattle.rt_trie.specs.inside.Aside.{link_at}
+use Rattle.rt_trie.specs.inside.References.{link_at}
 use Rattle.rt_trie.specs.inside.Links.{own_pair, pairs, count, IsNode}
 use Rattle.rt_trie.specs.Links.{root, IsLawfulBelow}
-use Rattle.rt_trie.specs.inside.Walks.{pairs_of, rest_of, IsFrom, IsAside}
+use Rattle.rt_trie.specs.inside.WalkStack.{pairs_of, stack_pairs, IsFrom, IsWalkStack}
 
 -- how much work a link is: one, and two for each of its nodes
 abbrev pub work_of : {V A : Type 0} → Option (Link V A) → ℕ
@@ -44,8 +44,8 @@ longer_root : (k : ℕ) (o : Option Prefix) (q : Prefix) → o ≡ Some q → If
 longer_root k o q e h = rw e at h
 
 module _ {V A : Type 0} where
-  -- what is changed at a place and after it leaves what is before
-  rest_below : (xs ys : List (Bor (Link V A))) (k : ℕ) → ((j : ℕ) → j < k → link_at ys j ≡ link_at xs j) → rest_of ys k ≡ rest_of xs k
+  -- what is changed at an index and after it leaves what is before
+  rest_below : (xs ys : List (Bor (Link V A))) (k : ℕ) → ((j : ℕ) → j < k → link_at ys j ≡ link_at xs j) → stack_pairs ys k ≡ stack_pairs xs k
   rest_below xs ys zero h = refl
   rest_below xs ys (suc k) h = rw (h k (omega arith)) (ap (λ m. pairs_of (link_at xs k) ++ m) (rest_below xs ys k (λ j l. h j (omega arith))))
 
@@ -54,10 +54,10 @@ module _ {V A : Type 0} where
   weight_below xs ys (suc k) h = rw (h k (omega arith)) (ap (λ m. work_of (link_at xs k) + m) (weight_below xs ys k (λ j l. h j (omega arith))))
 
   -- a node gives way to its two sides
-  pub walk_step : (xs ys : List (Bor (Link V A))) (m n k : ℕ) (link left right : Link V A) (q : Prefix) (v : Option V) → IsAside xs m → m ≡ suc k
+  pub walk_step : (xs ys : List (Bor (Link V A))) (m n k : ℕ) (link left right : Link V A) (q : Prefix) (v : Option V) → IsWalkStack xs m → m ≡ suc k
       → n ≡ suc (suc k) → link_at xs k ≡ Some link → IsNode link q v left right → link_at ys k ≡ Some right → link_at ys (suc k) ≡ Some left
       → ((j : ℕ) → j < k → link_at ys j ≡ link_at xs j) → length ys ≡ length xs
-      → IsAside ys n × (own_pair q v ++ rest_of ys n ≡ rest_of xs m) × (weight_of ys n < weight_of xs m)
+      → IsWalkStack ys n × (own_pair q v ++ stack_pairs ys n ≡ stack_pairs xs m) × (weight_of ys n < weight_of xs m)
   walk_step xs ys m n k link left right q v a em en at node r l below size =
       let here : IsFrom k link = rw at at (a.each k (omega arith)) in
       let deep = longer_root k (root link) q node.root_is here.1 in
@@ -81,21 +81,21 @@ module _ {V A : Type 0} where
         },
         rw (en, em, l, r, at) (
             ap (λ t. own_pair q v ++ (pairs left ++ (pairs right ++ t))) (rest_below xs ys k below)
-            ∙ ap (λ t. own_pair q v ++ t) (sym (append_assoc (pairs left) (pairs right) (rest_of xs k)))
-            ∙ sym (append_assoc (own_pair q v) (pairs left ++ pairs right) (rest_of xs k))
-            ∙ sym (ap (λ t. t ++ rest_of xs k) node.pairs_are)),
+            ∙ ap (λ t. own_pair q v ++ t) (sym (append_assoc (pairs left) (pairs right) (stack_pairs xs k)))
+            ∙ sym (append_assoc (own_pair q v) (pairs left ++ pairs right) (stack_pairs xs k))
+            ∙ sym (ap (λ t. t ++ stack_pairs xs k) node.pairs_are)),
         rw (en, em, l, r, at) (omega (arith, node.count_is, weight_below xs ys k below)),
       )
 
-  -- the last link that is put aside
-  pub last_from : (xs : List (Bor (Link V A))) (m k : ℕ) (link : Link V A) → IsAside xs m → m ≡ suc k → link_at xs k ≡ Some link → IsFrom k link
+  -- the last link of the stack
+  pub last_from : (xs : List (Bor (Link V A))) (m k : ℕ) (link : Link V A) → IsWalkStack xs m → m ≡ suc k → link_at xs k ≡ Some link → IsFrom k link
   last_from xs m k link a em at = rw at at (a.each k (omega arith))
 
   -- the last link gives way to its two sides, which are put in its place and after it
-  pub walk_at : (xs ys : List (Bor (Link V A))) (m : ℕ) (link left right : Link V A) (q : Prefix) (v : Option V) → IsAside xs m → 0 < m
+  pub walk_at : (xs ys : List (Bor (Link V A))) (m : ℕ) (link left right : Link V A) (q : Prefix) (v : Option V) → IsWalkStack xs m → 0 < m
       → link_at xs (m - 1) ≡ Some link → (IsLawfulBelow link → IsNode link q v left right) → link_at ys (m - 1) ≡ Some right
       → link_at ys (m - 1 + 1) ≡ Some left → ((j : ℕ) → j < m - 1 → link_at ys j ≡ link_at xs j) → length ys ≡ length xs
-      → IsAside ys (m - 1 + 2) × (own_pair q v ++ rest_of ys (m - 1 + 2) ≡ rest_of xs m) × (weight_of ys (m - 1 + 2) < weight_of xs m)
+      → IsWalkStack ys (m - 1 + 2) × (own_pair q v ++ stack_pairs ys (m - 1 + 2) ≡ stack_pairs xs m) × (weight_of ys (m - 1 + 2) < weight_of xs m)
   walk_at xs ys m link left right q v a pos at node r l below size =
       let em : m ≡ suc (m - 1) = omega arith in
       let en : m - 1 + 2 ≡ suc (suc (m - 1)) = omega arith in
@@ -104,19 +104,19 @@ module _ {V A : Type 0} where
       (subst (λ j. link_at ys j ≡ Some left) one l) below size
 
   -- a link without pairs is passed over
-  empty_step : (xs : List (Bor (Link V A))) (m k : ℕ) (link : Link V A) → IsAside xs m → m ≡ suc k → link_at xs k ≡ Some link → pairs link ≡ []
-      → IsAside xs k × (rest_of xs k ≡ rest_of xs m) × (weight_of xs k < weight_of xs m)
+  empty_step : (xs : List (Bor (Link V A))) (m k : ℕ) (link : Link V A) → IsWalkStack xs m → m ≡ suc k → link_at xs k ≡ Some link → pairs link ≡ []
+      → IsWalkStack xs k × (stack_pairs xs k ≡ stack_pairs xs m) × (weight_of xs k < weight_of xs m)
   empty_step xs m k link a em at e = (
     record { size = a.size; few = omega (arith, a.few); each = λ j h. a.each j (omega arith) },
-    rw (em, at) (ap (λ t. t ++ rest_of xs k) (sym e)),
+    rw (em, at) (ap (λ t. t ++ stack_pairs xs k) (sym e)),
     rw (em, at) (omega arith),
   )
 
-  pub empty_at : (xs : List (Bor (Link V A))) (m : ℕ) (link : Link V A) → IsAside xs m → 0 < m → link_at xs (m - 1) ≡ Some link → pairs link ≡ []
-      → IsAside xs (m - 1) × (rest_of xs (m - 1) ≡ rest_of xs m) × (weight_of xs (m - 1) < weight_of xs m)
+  pub empty_at : (xs : List (Bor (Link V A))) (m : ℕ) (link : Link V A) → IsWalkStack xs m → 0 < m → link_at xs (m - 1) ≡ Some link → pairs link ≡ []
+      → IsWalkStack xs (m - 1) × (stack_pairs xs (m - 1) ≡ stack_pairs xs m) × (weight_of xs (m - 1) < weight_of xs m)
   empty_at xs m link a pos at e = empty_step xs m (m - 1) link a (omega arith) at e
 
   -- a leaf is given
   pub leaf_step : (xs : List (Bor (Link V A))) (m k : ℕ) (link : Link V A) (x : Prefix × V) → m ≡ suc k → link_at xs k ≡ Some link
-      → pairs link ≡ x ∷ [] → rest_of xs m ≡ x ∷ rest_of xs k
-  leaf_step xs m k link x em at e = rw (em, at) (ap (λ t. t ++ rest_of xs k) e)
+      → pairs link ≡ x ∷ [] → stack_pairs xs m ≡ x ∷ stack_pairs xs k
+  leaf_step xs m k link x em at e = rw (em, at) (ap (λ t. t ++ stack_pairs xs k) e)

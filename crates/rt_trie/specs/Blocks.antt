@@ -20,15 +20,15 @@ pub record IsKeyOf (len base : ℕ) (q : Prefix) : Type 0 where
   pub base_is : base ≡ q.base
 
 -- c is at least that long, and covers addresses from lo on and below hi alone
-pub record IsWithin (lo hi len : ℕ) (c : Prefix) : Type 0 where
+pub record IsInBlock (lo hi len : ℕ) (c : Prefix) : Type 0 where
   pub long : len ≤ c.len
   pub from : lo ≤ c.base
   pub to : past c ≤ hi
 
 -- c is longer than the parent, and covers addresses of its lower half alone, or of its upper half alone
 abbrev pub IsChild : Prefix → Bool → Prefix → Type 0
-IsChild parent false c = IsWithin parent.base (middle parent) (parent.len + 1) c
-IsChild parent true c = IsWithin (middle parent) (past parent) (parent.len + 1) c
+IsChild parent false c = IsInBlock parent.base (middle parent) (parent.len + 1) c
+IsChild parent true c = IsInBlock (middle parent) (past parent) (parent.len + 1) c
 
 -- the prefix where two part: the one lies in its lower half, and the other in its upper half
 abbrev pub PartsAt : Prefix → Prefix → Prefix → Type 0

@@ -3,7 +3,7 @@ use Rattle.std.specs.Prelude.{◌≡◌, Bool, true, false, IsSome, IfSome, map}
 use Rattle.rt_cidr.specs.declared.prefixes.Prefix.{Prefix}
 use Rattle.rt_trie.specs.Tree.{Tree, Vacant, Node, top, size, stored}
 use Rattle.rt_trie.specs.Laws.{IsChildByBit}
-use Rattle.rt_trie.specs.Contents.{Contents}
+use Rattle.rt_trie.specs.TrieContents.{TrieContents}
 
 -- a node without a value has two children, and each child is longer than its parent, contained in it, and on the side of the
 -- first bit after the parent's length
@@ -18,7 +18,7 @@ IsLawfulTree Vacant = Unit {0}
 IsLawfulTree (Node q valued left right) = IsLawfulAt q valued left right × IsLawfulTree left × IsLawfulTree right
 
 -- the trie is lawful: its tree is, a value stands there at just the prefixes of the map, and so many are its nodes
-pub record IsLawful {V : Type 0} (t : Contents V) : Type 0 where
+pub record IsLawful {V : Type 0} (t : TrieContents V) : Type 0 where
   pub tree : IsLawfulTree t.tree
   pub stored : stored t.tree ≡ map (λ x. x.0) t.pairs
   pub count : size t.tree ≡ t.nodes

@@ -1,7 +1,7 @@
 pub use Rattle.rt_cidr.specs.Cidr
 pub use Rattle.rt_cidr.specs.Prefix
 pub mod Blocks
-pub mod Contents
+pub mod TrieContents
 pub mod Lawful
 pub mod Laws
 pub mod Links

@@ -66,14 +66,14 @@ IsLongest m a None = All (λ y. covers y.0 a ≡ false) m
 IsLongest m a (Some x) =
     Contains m x × IsTrue (covers x.0 a) × All (λ y. IsTrue (covers y.0 a) → y.0.len ≤ x.0.len) m
 
--- the address and the answer at a place
+-- the address and the answer at an index
 abbrev pub address_at : List Addr → ℕ → Addr
 address_at addresses k = slice_index_or addresses k (record { 0 = 0 })
 
 abbrev pub answer_at : {V : Type 0} → List (Option (Prefix × Bor V)) → ℕ → Option (Prefix × V)
 answer_at answers k = pair_copied (slice_index_or answers k None)
 
--- each answer is the longest match of the address at its place
+-- each answer is the longest match of the address at its index
 abbrev pub AreLongest : {V : Type 0} → Pairs V → List Addr → List (Option (Prefix × Bor V)) → Type 0
 AreLongest m addresses answers =
     (k : ℕ) → k < length addresses → IsLongest m (address_at addresses k) (answer_at answers k)

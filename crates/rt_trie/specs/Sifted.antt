@@ -14,11 +14,11 @@ module _ {V S : Type 0} (is_done : S → Bool) (judges : S → Prefix → V → 
     pub made : V
     pub stays : Bool
     pub judged : judges s p v t made stays
-    pub left : new ≡ with_pair stays p made rest
+    pub new_is : new ≡ with_pair stays p made rest
 
   -- the pairs were shown to the sieve one by one, until it was done: it went from s to t, and `new` is what is left
   abbrev pub IsSifted : S → S → Pairs V → Pairs V → Type 0
   IsSifted s t [] new = (t ≡ s) × (new ≡ [])
   IsSifted s t ((p, v) ∷ rest) new =
       (IsTrue (is_done s) × (t ≡ s) × (new ≡ (p, v) ∷ rest))
-      ⊎ ((is_done s ≡ false) × (next : S) × (left : Pairs V) × IsJudged s next p v left new × IsSifted next t rest left)
+      ⊎ ((is_done s ≡ false) × (next : S) × (remaining : Pairs V) × IsJudged s next p v remaining new × IsSifted next t rest remaining)

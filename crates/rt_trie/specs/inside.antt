@@ -1,5 +1,5 @@
 -- What no public clause speaks of: the words of private contracts, of invariants and of proofs.
-pub mod Aside
+pub mod References
 pub mod Blocks
 pub mod Changes
 pub mod Descent
@@ -11,4 +11,4 @@ pub mod Sifted
 pub mod Tree
 pub mod TreeCode
 pub mod Trie
-pub mod Walks
+pub mod WalkStack

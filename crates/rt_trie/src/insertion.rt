@@ -5,14 +5,14 @@
 
 ghost use Rattle.std.specs.Prelude.{◌≡◌, ◌≢◌, ◌+◌, ◌/◌, ◌<◌, ◌≤◌, ◌^◌, ◌⊎◌, false, true, None, Some, IsSome, IfSome, IfNone};
 ghost use Rattle.rt_trie.specs.declared.nodes.Link.TheVariants.{Empty};
-ghost use Rattle.rt_trie.specs.declared.nodes.Place.TheVariants.{Above, Apart};
+ghost use Rattle.rt_trie.specs.declared.nodes.Position.TheVariants.{Above, Apart};
 ghost use Rattle.rt_trie.specs.Blocks.{middle, IsChild, PartsAt};
 ghost use Rattle.rt_trie.specs.inside.Blocks.{StandsAt};
 ghost use Rattle.rt_trie.specs.Links.{IsLawfulTrie};
 ghost use Rattle.rt_trie.specs.inside.Links.{IsLeafOf, IsForkOf, IsSeenFrom};
 ghost use Rattle.rt_trie.specs.inside.Changes.{Inserts};
 
-use crate::nodes::{ForkNode, FullNode, LeafNode, Link, Place, middle, place_of};
+use crate::nodes::{ForkNode, FullNode, LeafNode, Link, Position, middle, position_of};
 use rt_cidr::Prefix;
 use std::alloc::Allocator;
 use std::mem;
@@ -39,41 +39,41 @@ pub(crate) fn insert<V: Drop, A: Allocator + Copy>(
 {
     let p = pair.prefix;
     match link {
-        Link::Empty => plant(link, pair),
+        Link::Empty => insert_at_empty(link, pair),
         Link::Leaf(len, base, leaf) => {
             let base = *base;
             let q = leaf.prefix;
-            match place_of(*len, base, &p) {
-                Place::Here => {
+            match position_of(*len, base, &p) {
+                Position::Here => {
                     exchange(&mut leaf.value, &mut pair.value);
                     true
                 }
-                Place::Left | Place::Right => grow(link, pair, q),
-                Place::Above => cover(link, pair, base),
-                Place::Apart => part(link, pair, base),
+                Position::Left | Position::Right => insert_below_leaf(link, pair, q),
+                Position::Above => insert_above(link, pair, base),
+                Position::Apart => insert_beside(link, pair, base),
             }
         }
         Link::Fork(len, base, fork) => {
             let base = *base;
-            match place_of(*len, base, &p) {
-                Place::Here => fill(link, pair),
-                Place::Left => insert(&mut fork.left, pair),
-                Place::Right => insert(&mut fork.right, pair),
-                Place::Above => cover(link, pair, base),
-                Place::Apart => part(link, pair, base),
+            match position_of(*len, base, &p) {
+                Position::Here => insert_at_fork(link, pair),
+                Position::Left => insert(&mut fork.left, pair),
+                Position::Right => insert(&mut fork.right, pair),
+                Position::Above => insert_above(link, pair, base),
+                Position::Apart => insert_beside(link, pair, base),
             }
         }
         Link::Full(len, base, full) => {
             let base = *base;
-            match place_of(*len, base, &p) {
-                Place::Here => {
+            match position_of(*len, base, &p) {
+                Position::Here => {
                     mem::swap(&mut full.value, &mut pair.value);
                     true
                 }
-                Place::Left => insert(&mut full.left, pair),
-                Place::Right => insert(&mut full.right, pair),
-                Place::Above => cover(link, pair, base),
-                Place::Apart => part(link, pair, base),
+                Position::Left => insert(&mut full.left, pair),
+                Position::Right => insert(&mut full.right, pair),
+                Position::Above => insert_above(link, pair, base),
+                Position::Apart => insert_beside(link, pair, base),
             }
         }
     }
@@ -94,7 +94,10 @@ fn exchange<V: Drop>(stored: &mut V, value: &mut Option<V>)
 
 // A leaf where nothing was.
 #[inline(never)]
-fn plant<V: Drop, A: Allocator + Copy>(link: &mut Link<V, A>, pair: &mut NewPair<V, A>) -> bool
+fn insert_at_empty<V: Drop, A: Allocator + Copy>(
+    link: &mut Link<V, A>,
+    pair: &mut NewPair<V, A>,
+) -> bool
     requires empty { link.old ≡ Empty }
     requires room { pair.old.nodes + 2 < 2 ^ 64 }
     requires given { IsSome pair.old.value }
@@ -142,7 +145,10 @@ fn leaf_of<V: Drop, A: Allocator + Copy>(
 }
 
 // A full node with neither value nor branches yet.
-fn bare<V: Drop, A: Allocator + Copy>(alloc: A, prefix: Prefix) -> Option<Box<FullNode<V, A>, A>>
+fn new_full<V: Drop, A: Allocator + Copy>(
+    alloc: A,
+    prefix: Prefix,
+) -> Option<Box<FullNode<V, A>, A>>
     ensures { IfSome result (λ full. full.value ≡ record { prefix = prefix; value = None; left = Empty; right = Empty }) }
 {
     let node = FullNode {
@@ -172,7 +178,7 @@ fn on_side<V, A: Allocator>(
 
 // The leaf at q becomes a full node, and its box holds p below it.
 #[inline(never)]
-fn grow<V: Drop, A: Allocator + Copy>(
+fn insert_below_leaf<V: Drop, A: Allocator + Copy>(
     link: &mut Link<V, A>,
     pair: &mut NewPair<V, A>,
     q: Prefix,
@@ -184,7 +190,7 @@ fn grow<V: Drop, A: Allocator + Copy>(
     ensures { Inserts link.old link.new pair.old.nodes pair.new.nodes pair.old.prefix pair.old.value pair.new.value result }
 {
     let p = pair.prefix;
-    let Some(mut full) = bare(pair.alloc, q) else {
+    let Some(mut full) = new_full(pair.alloc, q) else {
         return false;
     };
     let Link::Leaf(_, _, mut leaf) = mem::replace(link, Link::Empty) else {
@@ -217,14 +223,17 @@ fn grow<V: Drop, A: Allocator + Copy>(
 
 // The fork at p becomes a full node, as its prefix is stored now.
 #[inline(never)]
-fn fill<V: Drop, A: Allocator + Copy>(link: &mut Link<V, A>, pair: &mut NewPair<V, A>) -> bool
+fn insert_at_fork<V: Drop, A: Allocator + Copy>(
+    link: &mut Link<V, A>,
+    pair: &mut NewPair<V, A>,
+) -> bool
     requires lawful { IsLawfulTrie link.old }
     requires fork { IsForkOf pair.old.prefix link.old }
     requires given { IsSome pair.old.value }
     ensures { Inserts link.old link.new pair.old.nodes pair.new.nodes pair.old.prefix pair.old.value pair.new.value result }
 {
     let p = pair.prefix;
-    let Some(mut full) = bare(pair.alloc, p) else {
+    let Some(mut full) = new_full(pair.alloc, p) else {
         return false;
     };
     let Link::Fork(_, _, fork) = mem::replace(link, Link::Empty) else {
@@ -247,7 +256,7 @@ fn fill<V: Drop, A: Allocator + Copy>(link: &mut Link<V, A>, pair: &mut NewPair<
 
 // A full node for p, with what was here, whose base this is, on one of its sides.
 #[inline(never)]
-fn cover<V: Drop, A: Allocator + Copy>(
+fn insert_above<V: Drop, A: Allocator + Copy>(
     link: &mut Link<V, A>,
     pair: &mut NewPair<V, A>,
     base: u32,
@@ -259,7 +268,7 @@ fn cover<V: Drop, A: Allocator + Copy>(
     ensures { Inserts link.old link.new pair.old.nodes pair.new.nodes pair.old.prefix pair.old.value pair.new.value result }
 {
     let p = pair.prefix;
-    let Some(mut full) = bare(pair.alloc, p) else {
+    let Some(mut full) = new_full(pair.alloc, p) else {
         return false;
     };
     let (left, right) = on_side(&p, base, mem::replace(link, Link::Empty));
@@ -274,9 +283,9 @@ fn cover<V: Drop, A: Allocator + Copy>(
     true
 }
 
-// A fork where p and what was here, whose base this is, part.
+// A fork where p and what was here, whose base this is, go to two sides.
 #[inline(never)]
-fn part<V: Drop, A: Allocator + Copy>(
+fn insert_beside<V: Drop, A: Allocator + Copy>(
     link: &mut Link<V, A>,
     pair: &mut NewPair<V, A>,
     base: u32,
@@ -288,7 +297,7 @@ fn part<V: Drop, A: Allocator + Copy>(
     ensures { Inserts link.old link.new pair.old.nodes pair.new.nodes pair.old.prefix pair.old.value pair.new.value result }
 {
     let p = pair.prefix;
-    let prefix = common(&p, base);
+    let prefix = common_prefix(&p, base);
     let node = ForkNode {
         prefix,
         left: Link::Empty,
@@ -317,8 +326,8 @@ fn part<V: Drop, A: Allocator + Copy>(
     true
 }
 
-// The longest prefix that contains both p and one with this base, which have no address in common.
-fn common(p: &Prefix, base: u32) -> Prefix
+// The longest prefix that contains both p and one with this base, which share no address.
+fn common_prefix(p: &Prefix, base: u32) -> Prefix
     requires { (q : Prefix) × (base ≡ q.base) × StandsAt q p.now Apart }
     ensures { (q : Prefix) → base ≡ q.base → StandsAt q p.now Apart
         → (p.now.base < q.base → PartsAt result p.now q) × (q.base ≤ p.now.base → PartsAt result q p.now) }

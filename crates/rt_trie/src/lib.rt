@@ -19,9 +19,9 @@
 //! and that what an insertion made is given back where it is refused a later box.
 #![tactic(auto)]
 
+mod descent;
 mod insertion;
 pub mod laws;
-mod lending;
 mod nodes;
 mod removal;
 mod search;

@@ -62,7 +62,7 @@ pub(crate) enum NodeView<'a, V, A: Allocator> {
 }
 
 /// Where a prefix stands as seen from another.
-pub(crate) enum Place {
+pub(crate) enum Position {
     /// It is the other.
     Here,
     /// It is longer, and lies in the lower half of the other's addresses.
@@ -174,23 +174,23 @@ pub(crate) fn is_key_of(len: u8, base: u32, p: &Prefix) -> bool
 
 /// Where p stands as seen from the prefix of that length and base.
 #[inline(always)]
-pub(crate) fn place_of(len: u8, base: u32, p: &Prefix) -> Place
+pub(crate) fn position_of(len: u8, base: u32, p: &Prefix) -> Position
     requires { len ≤ 32 }
     ensures { (q : Prefix) → IsKeyOf len base q → StandsAt q p.now result }
 {
     let offset = offset(len, base, p.base());
     if len < p.len() && offset < END {
         if offset < HALF {
-            Place::Left
+            Position::Left
         } else {
-            Place::Right
+            Position::Right
         }
     } else if is_key_of(len, base, p) {
         laws::same_prefix();
-        Place::Here
+        Position::Here
     } else if p.len() <= len && p.covers(Addr(base)) {
-        Place::Above
+        Position::Above
     } else {
-        Place::Apart
+        Position::Apart
     }
 }

@@ -8,7 +8,7 @@ ghost use Rattle.rt_trie.specs.inside.Links.{pairs, count, IsLone, IsVacant, IsL
 ghost use Rattle.rt_trie.specs.Links.{IsLawfulTrie, IsLawfulBelow, IsNeeded, IsFilled};
 ghost use Rattle.rt_trie.specs.inside.Changes.{IsErased, IsSpliced, AreSidesOf};
 
-use crate::nodes::{ForkNode, FullNode, LeafNode, Link, Place, place_of};
+use crate::nodes::{ForkNode, FullNode, LeafNode, Link, Position, position_of};
 use rt_cidr::Prefix;
 use std::alloc::Allocator;
 use std::mem;
@@ -29,21 +29,21 @@ pub(crate) fn remove<V: Drop, A: Allocator + Drop>(
         Link::Empty => return None,
         Link::Leaf(..) => {
             return if is_leaf_of(link, &p) {
-                pluck(link, nodes)
+                remove_leaf(link, nodes)
             } else {
                 None
             };
         }
-        Link::Fork(len, base, fork) => match place_of(*len, *base, &p) {
-            Place::Left => remove(&mut fork.left, nodes, p),
-            Place::Right => remove(&mut fork.right, nodes, p),
-            Place::Here | Place::Above | Place::Apart => return None,
+        Link::Fork(len, base, fork) => match position_of(*len, *base, &p) {
+            Position::Left => remove(&mut fork.left, nodes, p),
+            Position::Right => remove(&mut fork.right, nodes, p),
+            Position::Here | Position::Above | Position::Apart => return None,
         },
-        Link::Full(len, base, full) => match place_of(*len, *base, &p) {
-            Place::Here => full.value.take(),
-            Place::Left => remove(&mut full.left, nodes, p),
-            Place::Right => remove(&mut full.right, nodes, p),
-            Place::Above | Place::Apart => return None,
+        Link::Full(len, base, full) => match position_of(*len, *base, &p) {
+            Position::Here => full.value.take(),
+            Position::Left => remove(&mut full.left, nodes, p),
+            Position::Right => remove(&mut full.right, nodes, p),
+            Position::Above | Position::Apart => return None,
         },
     };
     splice(link, nodes);
@@ -63,7 +63,7 @@ fn is_leaf_of<V, A: Allocator>(link: &Link<V, A>, p: &Prefix) -> bool
 }
 
 // Takes the leaf away.
-fn pluck<V: Drop, A: Allocator + Drop>(link: &mut Link<V, A>, nodes: &mut usize) -> Option<V>
+fn remove_leaf<V: Drop, A: Allocator + Drop>(link: &mut Link<V, A>, nodes: &mut usize) -> Option<V>
     requires leaf { (q : Prefix) × IsLeafOf q link.old }
     requires counted { 1 ≤ nodes.old }
     ensures value { (q : Prefix) → IsLeafOf q link.old → get (pairs link.old) q ≡ result }

@@ -7,7 +7,7 @@ ghost use Rattle.rt_trie.specs.inside.Links.{pairs, count};
 ghost use Rattle.rt_trie.specs.Links.{IsLawfulBelow, IsLawfulTrie};
 ghost use Rattle.rt_trie.specs.inside.LookUps.{or_else, last_cover, sought};
 
-use crate::nodes::{END, Link, NodeView, Place, is_key_of, middle, offset, place_of, side};
+use crate::nodes::{END, Link, NodeView, Position, is_key_of, middle, offset, position_of, side};
 use rt_cidr::{Addr, Prefix};
 use std::alloc::Allocator;
 
@@ -220,13 +220,13 @@ pub(crate) fn after<V, A: Allocator>(link: &Link<V, A>, p: Prefix) -> Option<Pre
         NodeView::Vacant => None,
         NodeView::Single(stored, _) => { if p < stored { Some(stored) } else { None } }
         NodeView::Branch(prefix, _, left, right) => {
-            match place_of(prefix.len(), prefix.base(), &p) {
-                Place::Here | Place::Left => match after(left, p) {
+            match position_of(prefix.len(), prefix.base(), &p) {
+                Position::Here | Position::Left => match after(left, p) {
                     None => first(right),
                     found => found,
                 },
-                Place::Right => after(right, p),
-                Place::Above | Place::Apart => if p < prefix { first(link) } else { None },
+                Position::Right => after(right, p),
+                Position::Above | Position::Apart => if p < prefix { first(link) } else { None },
             }
         }
     }

@@ -8,8 +8,8 @@ ghost use Rattle.rt_trie.specs.Nodes.{CountsNodes};
 ghost use Rattle.rt_trie.specs.Lawful.{IsLawful};
 ghost use Rattle.rt_trie.specs.Sifted.{IsSifted};
 
+use crate::descent::{Descent, WayDown};
 use crate::insertion::NewPair;
-use crate::lending::{Descent, WayDown};
 use crate::nodes::Link;
 use crate::sifting::{self, Sieve};
 use crate::walks::Walk;
@@ -21,7 +21,7 @@ use std::marker::Model;
 /// A finite map from IPv4 prefixes to values, in any allocator that is `Copy`, which the map keeps.
 ///
 /// A node stands only where a prefix is stored or two branches part, so a map of m prefixes has at most 2m - 1 nodes. A
-/// look-up, an insertion and a removal visit at most 33 of them, however many prefixes there are.
+/// look-up, an insertion and a removal read at most 33 of them, however many prefixes there are.
 #[derive(Drop)]
 pub struct Trie<V, A: Allocator> {
     root: Link<V, A>,
@@ -31,20 +31,20 @@ pub struct Trie<V, A: Allocator> {
 }
 
 impl<V, A: Allocator> Model for Trie<V, A> {
-    ghost use Rattle.rt_trie.specs.Contents.{Contents};
+    ghost use Rattle.rt_trie.specs.TrieContents.{TrieContents};
 
-    ghost Value = { Contents V };
+    ghost Value = { TrieContents V };
 
     ghost use Rattle.std.specs.Coded.{codes};
     ghost use Rattle.rt_trie.specs.inside.TreeCode.{tree_code};
 
     ghost coded = { Prim.hlevel (codes, tree_code) };
 
-    ghost use Rattle.rt_trie.specs.inside.Trie.{contents_of, IsSound};
+    ghost use Rattle.rt_trie.specs.inside.Trie.{contents_of, IsSoundTrie};
 
     ghost view = { contents_of };
 
-    ghost invariant = { IsSound };
+    ghost invariant = { IsSoundTrie };
 }
 
 impl<V: Drop, A: Allocator + Copy> Trie<V, A> {
@@ -140,7 +140,7 @@ impl<V: Drop, A: Allocator + Copy> Trie<V, A> {
     }
 
     /// Shows the sieve the pairs, each once, by base and then by length, until it is done, and takes out those that it gives
-    /// up. The others stay, each with the value that the sieve made of it. It takes no memory, and visits each node once.
+    /// up. The others stay, each with the value that the sieve made of it. It takes no memory, and goes to each node once.
     pub fn retain<S: Sieve<V>>(&mut self, sieve: &mut S)
         ensures sifted { IsSifted S.done S.judges sieve.old sieve.new self.old.pairs self.new.pairs }
         ensures ordered { IsOrdered self.new.pairs }

@@ -1,19 +1,19 @@
 //! Going over all pairs, in order.
 
 ghost use Rattle.std.specs.Prelude.{◌≡◌, ℕ, ◌+◌, ◌<◌, Some, length};
-ghost use Rattle.rt_trie.specs.inside.Aside.{link_at};
+ghost use Rattle.rt_trie.specs.inside.References.{link_at};
 
 use crate::nodes::{Link, NodeView};
 use rt_cidr::Prefix;
 use std::alloc::Allocator;
 use std::marker::Model;
 
-/// An iterator over the pairs of a trie, by base and then by length. It takes no memory, and a whole walk visits each node
+/// An iterator over the pairs of a trie, by base and then by length. It takes no memory, and a whole walk goes to each node
 /// once.
 #[derive(Drop)]
 pub struct Walk<'a, V, A: Allocator> {
-    // The links whose pairs are still to come, the next one last. A node at place k has a length of at least k.
-    aside: [&'a Link<V, A>; 34],
+    // The links whose pairs are still to come, the next one last. A node at index k has a length of at least k.
+    stack: [&'a Link<V, A>; 34],
     len: usize,
 }
 
@@ -22,11 +22,11 @@ impl<'a, V, A: Allocator> Model for Walk<'a, V, A> {
 
     ghost Value = { Pairs V };
 
-    ghost use Rattle.rt_trie.specs.inside.Walks.{rest_of, IsAside};
+    ghost use Rattle.rt_trie.specs.inside.WalkStack.{stack_pairs, IsWalkStack};
 
-    ghost view = { λ w. rest_of w.aside w.len };
+    ghost view = { λ w. stack_pairs w.stack w.len };
 
-    ghost invariant = { λ w. IsAside w.aside w.len };
+    ghost invariant = { λ w. IsWalkStack w.stack w.len };
 }
 
 impl<'a, V, A: Allocator> Walk<'a, V, A> {
@@ -38,7 +38,7 @@ impl<'a, V, A: Allocator> Walk<'a, V, A> {
         ensures { result ≡ pairs root.now }
     {
         Walk {
-            aside: [root; 34],
+            stack: [root; 34],
             len: 1,
         }
     }
@@ -57,11 +57,11 @@ impl<'a, V, A: Allocator> Iterator for Walk<'a, V, A> {
         while self.len > 0 {
             self.len -= 1;
             let at = self.len;
-            match link_at(&self.aside[..], at).view() {
+            match link_at(&self.stack[..], at).view() {
                 NodeView::Vacant => {}
                 NodeView::Single(prefix, value) => return Some((prefix, value)),
                 NodeView::Branch(prefix, value, left, right) => {
-                    put_sides(&mut self.aside[..], at, right, left);
+                    put_sides(&mut self.stack[..], at, right, left);
                     self.len = at + 2;
                     if let Some(value) = value {
                         return Some((prefix, value));
@@ -73,27 +73,27 @@ impl<'a, V, A: Allocator> Iterator for Walk<'a, V, A> {
     }
 }
 
-// The link at a place.
-fn link_at<'a, V, A: Allocator>(aside: &[&'a Link<V, A>], k: usize) -> &'a Link<V, A>
-    requires { k < length aside.now }
-    ensures { link_at aside.now k ≡ Some result.now }
+// The link at an index.
+fn link_at<'a, V, A: Allocator>(stack: &[&'a Link<V, A>], k: usize) -> &'a Link<V, A>
+    requires { k < length stack.now }
+    ensures { link_at stack.now k ≡ Some result.now }
 {
-    aside[k]
+    stack[k]
 }
 
-// Puts two links at a place and the one after it.
+// Puts two links at an index and the one after it.
 fn put_sides<'a, V, A: Allocator>(
-    aside: &mut [&'a Link<V, A>],
+    stack: &mut [&'a Link<V, A>],
     k: usize,
     right: &'a Link<V, A>,
     left: &'a Link<V, A>,
 )
-    requires { k + 1 < length aside.old }
-    ensures right { link_at aside.new k ≡ Some right.now }
-    ensures left { link_at aside.new (k + 1) ≡ Some left.now }
-    ensures below { (j : ℕ) → j < k → link_at aside.new j ≡ link_at aside.old j }
-    ensures size { length aside.new ≡ length aside.old }
+    requires { k + 1 < length stack.old }
+    ensures right { link_at stack.new k ≡ Some right.now }
+    ensures left { link_at stack.new (k + 1) ≡ Some left.now }
+    ensures below { (j : ℕ) → j < k → link_at stack.new j ≡ link_at stack.old j }
+    ensures size { length stack.new ≡ length stack.old }
 {
-    aside[k] = right;
-    aside[k + 1] = left;
+    stack[k] = right;
+    stack[k + 1] = left;
 }

@@ -3,27 +3,27 @@ use Rattle.std.proofs.Common.{◌≡◌, ℕ, List, [], ◌∷◌, subst, arith,
 use Rattle.rt_rib.specs.declared.commands.Cmd.{Cmd}
 use Rattle.rt_rib.specs.declared.commands.Entry.{Entry}
 use Rattle.rt_rib.specs.declared.routes.Route.{Route}
-use Rattle.rt_rib.specs.Journal.{IsLawfulJournal, table_left}
+use Rattle.rt_rib.specs.Journal.{IsLawfulJournal, table_of_journal}
 use Rattle.rt_shared.specs.declared.outcome.Outcome.{Outcome}
 use Rattle.rt_shared.specs.Table.{SharedId, HeldPass, Settles}
-use Rattle.rt_shared.specs.Visits.{Since, Visits, Uncut, answered}
+use Rattle.rt_shared.specs.Visits.{Since, MakesVisit, Uncut, answered}
 use Rattle.rt_shared.specs.Laws.{UncutAtFirst, UncutByVisit, UncutSince}
-use Rattle.walkthrough.specs.Shared.{AreBoth, HasAsked, IsLeft}
+use Rattle.walkthrough.specs.Shared.{AreBothUnseen, HasAsked, AreRoutesOfBoth}
 
 -- the batch of a feed that had seen nothing stands in one piece in what the journal becomes
 batch_uncut : UncutAtFirst → UncutByVisit → UncutSince → (limit feed number : ℕ) (before : List Entry) (cmds : List Cmd) (outcomes : List Outcome) (seen journal : List Entry)
-    → feed ≡ number → before ≡ [] → Visits limit feed before cmds outcomes seen → Since feed seen journal → Uncut number (answered number cmds outcomes ∷ []) journal
+    → feed ≡ number → before ≡ [] → MakesVisit limit feed before cmds outcomes seen → Since feed seen journal → Uncut number (answered number cmds outcomes ∷ []) journal
 batch_uncut first call away limit feed number before cmds outcomes seen journal numbered unseen visit since =
-    let visit' : Visits limit number [] cmds outcomes seen =
-    subst (λ (f : ℕ). Visits limit f [] cmds outcomes seen) numbered (subst (λ (b : List Entry). Visits limit feed b cmds outcomes seen) unseen visit) in
+    let visit' : MakesVisit limit number [] cmds outcomes seen =
+    subst (λ (f : ℕ). MakesVisit limit f [] cmds outcomes seen) numbered (subst (λ (b : List Entry). MakesVisit limit feed b cmds outcomes seen) unseen visit) in
     away number (answered number cmds outcomes ∷ []) seen journal (call limit number [] [] seen cmds outcomes (first number) visit')
     (subst (λ (f : ℕ). Since f seen journal) numbered since)
 
 -- what a lawful journal leaves, once both have asked
 pub left_by_both : UncutAtFirst → UncutByVisit → UncutSince → (table : SharedId) (limit : ℕ) (xs ys : List Cmd) (one two one' two' : HeldPass) (journal : List Entry)
-    → table.limit ≡ limit → AreBoth table one two → HasAsked table.limit one xs one' → HasAsked table.limit two ys two' → Settles table (one' ∷ two' ∷ []) journal
-    → (routes : List Route) → routes ≡ table_left limit journal → IsLeft limit xs ys routes
-left_by_both first call away table limit xs ys one two one' two' journal same both a b settled routes left = record {
+    → table.limit ≡ limit → AreBothUnseen table one two → HasAsked table.limit one xs one' → HasAsked table.limit two ys two' → Settles table (one' ∷ two' ∷ []) journal
+    → (routes : List Route) → routes ≡ table_of_journal limit journal → AreRoutesOfBoth limit xs ys routes
+left_by_both first call away table limit xs ys one two one' two' journal same both a b settled routes of_journal = record {
   journal = journal;
   lawful = subst (λ (l : ℕ). IsLawfulJournal l journal) same settled.lawful;
   of_first = a.outcomes;
@@ -32,7 +32,7 @@ left_by_both first call away table limit xs ys one two one' two' journal same bo
   of_second = b.outcomes;
   second_uncut = batch_uncut first call away table.limit two.feed 2 two.seen ys b.outcomes two'.seen journal both.other both.unseen.1 b.visit
       (subst (λ (f : ℕ). Since f two'.seen journal) b.same_feed (settled.since 1 one' (omega arith)));
-  left = left;
+  of_journal = of_journal;
 }
 
 -- a fact of a value is one of the result that has it

@@ -5,9 +5,9 @@ use Rattle.rt_rib.specs.declared.commands.Cmd.{Cmd}
 use Rattle.rt_rib.specs.declared.commands.Reply.{Reply}
 use Rattle.rt_rib.specs.declared.commands.Entry.{Entry}
 use Rattle.rt_rib.specs.declared.refused.Refused.{Refused}
-use Rattle.rt_rib.specs.Book.{Contents, Applies, Refuses}
+use Rattle.rt_rib.specs.Book.{BookContents, Applies, Refuses}
 use Rattle.rt_shared.specs.declared.outcome.Outcome.{Outcome}
-use Rattle.rt_feed.specs.Visits.{Visit, reply_to, visit_of, joined, entries}
+use Rattle.rt_feed.specs.Visits.{Visit, reply_to, visit_of, concatenated, entries}
 use Rattle.walkthrough.specs.Gate.{HasVisits}
 
 -- the commands had these outcomes, and the journal has the entries of those that were answered
@@ -15,7 +15,7 @@ pub record HasServed (cmds : List Cmd) (old : List Entry) (before : List Outcome
   pub outcomes : List Outcome
   pub each : length outcomes ≡ length cmds
   pub appended : after ≡ before ++ outcomes
-  pub left : now ≡ old ++ entries 1 (visit_of (zip cmds outcomes))
+  pub added : now ≡ old ++ entries 1 (visit_of (zip cmds outcomes))
 
 -- the entries of one visit after another
 entries-append : (v w : Visit) → entries 1 (v ++ w) ≡ entries 1 v ++ entries 1 w
@@ -38,32 +38,32 @@ served_more cmds cmd old before now next after o served e =
       outcomes = served.outcomes ++ o ∷ [];
       each = omega (arith, served.each, length-append served.outcomes (o ∷ []), length-append cmds (cmd ∷ []));
       appended = ap (λ (l : List Outcome). l ++ o ∷ []) served.appended ∙ append_assoc before served.outcomes (o ∷ []);
-      left = e ∙ (ap (λ (l : List Entry). l ++ entries 1 w) served.left ∙ (append_assoc old (entries 1 v) (entries 1 w)
+      added = e ∙ (ap (λ (l : List Entry). l ++ entries 1 w) served.added ∙ (append_assoc old (entries 1 v) (entries 1 w)
           ∙ ap (λ (l : List Entry). old ++ l) (sym (ap (entries 1) (visit_more cmds cmd served.outcomes o served.each) ∙ entries-append v w))));
     }
 
 -- one visit more is joined behind the others
-joined_more : (visits : List Visit) (v : Visit) → joined (visits ++ v ∷ []) ≡ joined visits ++ v
-joined_more [] v = append-nil v
-joined_more (u ∷ visits) v = ap (λ (l : Visit). u ++ l) (joined_more visits v) ∙ sym (append_assoc u (joined visits) v)
+concatenated_more : (visits : List Visit) (v : Visit) → concatenated (visits ++ v ∷ []) ≡ concatenated visits ++ v
+concatenated_more [] v = append-nil v
+concatenated_more (u ∷ visits) v = ap (λ (l : Visit). u ++ l) (concatenated_more visits v) ∙ sym (append_assoc u (concatenated visits) v)
 
 -- a gate whose journal gains the entries of a visit holds that visit besides
 pub holds_more : (old new : List Entry) (visits : List Visit) (v : Visit) → HasVisits old visits → new ≡ old ++ entries 1 v → HasVisits new (visits ++ v ∷ [])
 holds_more old new visits v held e =
-    e ∙ (ap (λ (l : List Entry). l ++ entries 1 v) held ∙ sym (ap (entries 1) (joined_more visits v) ∙ entries-append (joined visits) v))
+    e ∙ (ap (λ (l : List Entry). l ++ entries 1 v) held ∙ sym (ap (entries 1) (concatenated_more visits v) ∙ entries-append (concatenated visits) v))
 
 -- an empty visit adds nothing
 pub holds_same : (old new : List Entry) (visits : List Visit) → HasVisits old visits → new ≡ old → HasVisits new (visits ++ [] ∷ [])
 holds_same old new visits held e = holds_more old new visits [] held (e ∙ sym (append-nil old))
 
 -- a command that the book answered is a visit of its own
-pub holds_answer : (cmd : Cmd) (old new : Contents) (result : Result Reply Refused) → IfOk result (λ reply. Applies old new 1 cmd reply)
+pub holds_answer : (cmd : Cmd) (old new : BookContents) (result : Result Reply Refused) → IfOk result (λ reply. Applies old new 1 cmd reply)
     → IfOk result (λ reply. (visits : List Visit) → HasVisits old.journal visits → HasVisits new.journal (visits ++ ((cmd, reply) ∷ []) ∷ []))
 holds_answer cmd old new (Ok reply) a = λ visits held. holds_more old.journal new.journal visits ((cmd, reply) ∷ []) held a.journaled
 holds_answer cmd old new (Err e) a = tt
 
 -- one that it refused is none
-pub holds_refusal : (cmd : Cmd) (old new : Contents) (result : Result Reply Refused) → OnErr result (Refuses old new cmd)
+pub holds_refusal : (cmd : Cmd) (old new : BookContents) (result : Result Reply Refused) → OnErr result (Refuses old new cmd)
     → OnErr result ((visits : List Visit) → HasVisits old.journal visits → HasVisits new.journal (visits ++ [] ∷ []))
 holds_refusal cmd old new (Ok reply) e = tt
 holds_refusal cmd old new (Err refused) e = λ visits held. holds_same old.journal new.journal visits held e.journaled

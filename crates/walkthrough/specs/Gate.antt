@@ -5,11 +5,11 @@ use Rattle.rt_rib.specs.declared.commands.Entry.{Entry}
 use Rattle.rt_shared.specs.declared.outcome.Outcome.{Outcome}
 use Rattle.rt_feed.specs.declared.report.Line.{Line}
 use Rattle.rt_feed.specs.LineOutcomes.{LineOutcome, Becomes, report_lines, asked_of}
-use Rattle.rt_feed.specs.Visits.{Visit, IsCut, joined, visit_of, entries}
+use Rattle.rt_feed.specs.Visits.{Visit, IsCut, concatenated, visit_of, entries}
 
 -- the journal has the commands and replies of these visits, in order, as entries of feed 1
 abbrev pub HasVisits : List Entry → List Visit → Type 0
-HasVisits journal visits = journal ≡ entries 1 (joined visits)
+HasVisits journal visits = journal ≡ entries 1 (concatenated visits)
 
 -- the text's lines became these, of which this is the report, and the journal has what the commands among them were
 -- answered, asked one by one

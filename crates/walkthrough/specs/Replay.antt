@@ -8,14 +8,14 @@ use Rattle.ya_core.specs.Steps.{opening}
 use Rattle.ya_core.specs.Machines.{Replays}
 
 -- whether a step of this mark won the root
-abbrev pub is_inside : Mark → Bool
-is_inside Inside = true
-is_inside Plain = false
-is_inside Out = false
+abbrev pub marks_inside : Mark → Bool
+marks_inside Inside = true
+marks_inside Plain = false
+marks_inside Out = false
 
 -- whether the step won the root
 abbrev pub wins : Step → Bool
-wins step = is_inside step.mark
+wins step = marks_inside step.mark
 
 -- these places take these steps, and this says whether one of them won the root
 pub record ComesInside (levels : ℕ) (picks : List ℕ) (inside : Bool) : Type 0 where

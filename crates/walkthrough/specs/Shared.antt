@@ -3,13 +3,13 @@ use Rattle.std.specs.Prelude.{◌≡◌, ℕ, List, [], ◌∷◌}
 use Rattle.rt_rib.specs.declared.routes.Route.{Route}
 use Rattle.rt_rib.specs.declared.commands.Cmd.{Cmd}
 use Rattle.rt_rib.specs.declared.commands.Entry.{Entry}
-use Rattle.rt_rib.specs.Journal.{IsLawfulJournal, table_left}
+use Rattle.rt_rib.specs.Journal.{IsLawfulJournal, table_of_journal}
 use Rattle.rt_shared.specs.declared.outcome.Outcome.{Outcome}
 use Rattle.rt_shared.specs.Table.{SharedId, HeldPass}
-use Rattle.rt_shared.specs.Visits.{Visits, Uncut, answered}
+use Rattle.rt_shared.specs.Visits.{MakesVisit, Uncut, answered}
 
 -- the passes of feed 1 and feed 2, of a table that has no other, before they have seen anything
-pub record AreBoth (table : SharedId) (first second : HeldPass) : Type 0 where
+pub record AreBothUnseen (table : SharedId) (first second : HeldPass) : Type 0 where
   pub two : table.feeds ≡ 2
   pub of_first : first.table ≡ table
   pub of_second : second.table ≡ table
@@ -22,14 +22,14 @@ pub record HasAsked (limit : ℕ) (before : HeldPass) (cmds : List Cmd) (after :
   pub same_table : after.table ≡ before.table
   pub same_feed : after.feed ≡ before.feed
   pub outcomes : List Outcome
-  pub visit : Visits limit before.feed before.seen cmds outcomes after.seen
+  pub visit : MakesVisit limit before.feed before.seen cmds outcomes after.seen
 
 -- a lawful journal leaves these routes, in which each feed's commands stand in one piece, and no other of the feed's
-pub record IsLeft (limit : ℕ) (first second : List Cmd) (routes : List Route) : Type 0 where
+pub record AreRoutesOfBoth (limit : ℕ) (first second : List Cmd) (routes : List Route) : Type 0 where
   pub journal : List Entry
   pub lawful : IsLawfulJournal limit journal
   pub of_first : List Outcome
   pub first_uncut : Uncut 1 (answered 1 first of_first ∷ []) journal
   pub of_second : List Outcome
   pub second_uncut : Uncut 2 (answered 2 second of_second ∷ []) journal
-  pub left : routes ≡ table_left limit journal
+  pub of_journal : routes ≡ table_of_journal limit journal

@@ -2,7 +2,7 @@
 ghost use Rattle.std.specs.Prelude.{[], IfOk};
 ghost use Rattle.walkthrough.specs.Book.{AnswersBoth};
 
-use rt_rib::laws::left_by_entry;
+use rt_rib::laws::table_by_entry;
 use rt_rib::{Book, Cmd, Refused, Reply};
 use std::alloc::Global;
 
@@ -16,6 +16,6 @@ pub fn two_feeds(alloc: Global, first: Cmd, second: Cmd) -> Result<(Reply, Reply
     let mut book = Book::new(alloc, LIMIT);
     let reply = book.apply(1, first)?;
     // What one entry leaves: known from here on.
-    left_by_entry();
+    table_by_entry();
     Ok((reply, book.apply(2, second)?))
 }

@@ -1,6 +1,6 @@
 //! `rt_shared`: two feeds change one table, each by a batch, which stands in one piece in the journal.
 ghost use Rattle.std.specs.Prelude.{◌≡◌, IfOk};
-ghost use Rattle.walkthrough.specs.Shared.{AreBoth, HasAsked, IsLeft};
+ghost use Rattle.walkthrough.specs.Shared.{AreBothUnseen, HasAsked, AreRoutesOfBoth};
 
 use rt_rib::{Cmd, Route};
 use rt_shared::laws::visits;
@@ -13,7 +13,7 @@ const LIMIT: u32 = 10;
 
 /// A table of two feeds, and the pass of each.
 fn table_of_two(alloc: Global) -> Result<(SharedRib<1>, FeedPass, FeedPass), Refused>
-    ensures { IfOk result (λ made. (made.0.limit ≡ LIMIT) × AreBoth made.0 made.1 made.2) }
+    ensures { IfOk result (λ made. (made.0.limit ≡ LIMIT) × AreBothUnseen made.0 made.1 made.2) }
 {
     let (table, mut passes) = SharedRib::<1>::new(alloc, LIMIT)?;
     let second = passes.pop().ok_or(Refused)?;
@@ -46,7 +46,7 @@ pub fn routes_of_both<R: Wait>(
     first: &[Cmd],
     second: &[Cmd],
 ) -> Result<Vec<Route>, Refused>
-    ensures { IfOk result (λ routes. IsLeft LIMIT first.now second.now routes.items) }
+    ensures { IfOk result (λ routes. AreRoutesOfBoth LIMIT first.now second.now routes.items) }
 {
     let (table, one, two) = table_of_two(alloc)?;
     let one = ask(rt, alloc, &table, one, first)?;

@@ -4,11 +4,11 @@ use Rattle.std.proofs.Common.{inr, if◌then◌else◌, List, [], ◌∷◌, ◌
 use Rattle.std.proofs.lemmas.Bool.Decides.{nat_tests}
 use Rattle.std.proofs.lemmas.List.{append-nil}
 use Rattle.ya_core.specs.Steps.{State, LeadTo, next_of, access_of, value_of}
-use Rattle.ya_core.specs.Soundness.{IsSound}
+use Rattle.ya_core.specs.Soundness.{IsSoundState}
 use Rattle.ya_core.specs.Worlds.{Marked, World, Event, Steps, Appends, opening_world, WorldSteps, WorldAppends, Happens}
-use Rattle.ya_core.specs.Worlds.{Runs, IsReached, entries_of, FollowsFrom, IsLawful, is_inside, IsInside, any_entry}
+use Rattle.ya_core.specs.Worlds.{Runs, IsReached, entries_of, FollowsFrom, EachMayFollow, is_inside, IsInside, any_entry}
 use Rattle.ya_core.specs.Worlds.{places_of}
-use Rattle.ya_core.proofs.Level.{or_else}
+use Rattle.ya_core.proofs.LevelClauses.{or_else}
 use Rattle.ya_core.proofs.Invariant.{keeps, opens, is_inside_is, excludes}
 
 -- the entries of a place, each with its mark
@@ -65,11 +65,11 @@ FollowsFrom-push ok before (y ∷ ys) x is may = (
 
 -- what holds of every world that is reached
 pub record IsKept {X : Type 0} (levels : ℕ) (ok : List (Marked X) → Marked X → Type 0) (w : World X) : Type 0 where
-  pub sound : IsSound levels w.state
+  pub sound : IsSoundState levels w.state
   pub copies : (p : ℕ) → IsInside w.state p → w.copies p ≡ w.content ++ marked p (w.doing p)
   pub made : (p : ℕ) → entries_of p w.content ≡ w.made p
-  pub lawful : IsLawful ok w.content
-  lawful_copy : (p : ℕ) → IsInside w.state p → IsLawful ok (w.copies p)
+  pub lawful : EachMayFollow ok w.content
+  lawful_copy : (p : ℕ) → IsInside w.state p → EachMayFollow ok (w.copies p)
 
 -- at the start it holds
 kept_opening : {X : Type 0} (levels : ℕ) (ok : List (Marked X) → Marked X → Type 0) → IsKept levels ok opening_world
@@ -91,11 +91,11 @@ module _ {X : Type 0} (levels : ℕ) (ok : List (Marked X) → Marked X → Type
           sound = sound;
           copies = λ q h. absurd (nobody q h);
           made = made;
-          lawful = subst (IsLawful ok) (sym content) (is.lawful_copy place inside);
+          lawful = subst (EachMayFollow ok) (sym content) (is.lawful_copy place inside);
           lawful_copy = λ q h. absurd (nobody q h);
         }
       where
-        sound : IsSound levels new.state
+        sound : IsSoundState levels new.state
         sound = keeps levels place old.state new.state some is.sound step.state
 
         content : new.content ≡ old.copies place
@@ -149,7 +149,7 @@ module _ {X : Type 0} (levels : ℕ) (ok : List (Marked X) → Marked X → Type
           sound = keeps levels place old.state new.state some is.sound step.state;
           copies = λ q h. copies q h (q == place) refl;
           made = λ q. ap (entries_of q) content ∙ is.made q ∙ sym (made q (q == place) refl);
-          lawful = subst (IsLawful ok) (sym content) is.lawful;
+          lawful = subst (EachMayFollow ok) (sym content) is.lawful;
           lawful_copy = λ q h. lawful_copy q h (q == place) refl;
         }
       where
@@ -180,27 +180,27 @@ module _ {X : Type 0} (levels : ℕ) (ok : List (Marked X) → Marked X → Type
             step.others_copy q apart ∙ is.copies q was ∙ ap (λ xs. xs ++ marked q (old.doing q)) (sym content)
             ∙ ap (λ xs. new.content ++ marked q xs) (sym (step.others_doing q apart))
 
-        lawful_copy : (q : ℕ) → IsInside new.state q → (b : Bool) → (q == place) ≡ b → IsLawful ok (new.copies q)
+        lawful_copy : (q : ℕ) → IsInside new.state q → (b : Bool) → (q == place) ≡ b → EachMayFollow ok (new.copies q)
         lawful_copy q h true one =
             let same : q ≡ place = grind (arith, nat_tests) in
             let now : is_inside (new.state.processes place) ≡ true =
             subst (λ p. is_inside (new.state.processes p) ≡ true) same h in
             let copy : new.copies place ≡ old.content =
             step.copy ∙ ap (λ b. if b then old.content else old.copies place) now in
-            subst (λ p. IsLawful ok (new.copies p)) (sym same) (subst (IsLawful ok) (sym copy) is.lawful)
+            subst (λ p. EachMayFollow ok (new.copies p)) (sym same) (subst (EachMayFollow ok) (sym copy) is.lawful)
         lawful_copy q h false other =
             let apart : q ≢ place = grind (arith, nat_tests) in
-            subst (IsLawful ok) (sym (step.others_copy q apart))
+            subst (EachMayFollow ok) (sym (step.others_copy q apart))
             (is.lawful_copy q (ap is_inside (sym (step.state.others q apart)) ∙ h))
 
     -- an entry that is appended to a copy
     kept_append : (entry : X) → WorldAppends ok place entry old new → IsKept levels ok new
     kept_append entry adds =
         record {
-          sound = subst (IsSound levels) (sym adds.state) is.sound;
+          sound = subst (IsSoundState levels) (sym adds.state) is.sound;
           copies = λ q h. copies q (subst (λ s. IsInside s q) adds.state h) (q == place) refl;
           made = λ q. ap (entries_of q) adds.content ∙ is.made q ∙ sym (made q (q == place) refl);
-          lawful = subst (IsLawful ok) (sym adds.content) is.lawful;
+          lawful = subst (EachMayFollow ok) (sym adds.content) is.lawful;
           lawful_copy = λ q h. lawful_copy q (subst (λ s. IsInside s q) adds.state h) (q == place) refl;
         }
       where
@@ -224,15 +224,15 @@ module _ {X : Type 0} (levels : ℕ) (ok : List (Marked X) → Marked X → Type
             adds.others_copy q apart ∙ is.copies q h ∙ ap (λ xs. xs ++ marked q (old.doing q)) (sym adds.content)
             ∙ ap (λ xs. new.content ++ marked q xs) (sym (adds.others_doing q apart))
 
-        lawful_copy : (q : ℕ) → IsInside old.state q → (b : Bool) → (q == place) ≡ b → IsLawful ok (new.copies q)
+        lawful_copy : (q : ℕ) → IsInside old.state q → (b : Bool) → (q == place) ≡ b → EachMayFollow ok (new.copies q)
         lawful_copy q h true one =
             let same : q ≡ place = grind (arith, nat_tests) in
-            subst (λ p. IsLawful ok (new.copies p)) (sym same)
-            (subst (IsLawful ok) (sym adds.copy)
+            subst (λ p. EachMayFollow ok (new.copies p)) (sym same)
+            (subst (EachMayFollow ok) (sym adds.copy)
             (FollowsFrom-push ok [] (old.copies place) (place, entry)
             (is.lawful_copy place adds.inside) adds.may_follow))
         lawful_copy q h false other =
-            subst (IsLawful ok) (sym (adds.others_copy q (grind (arith, nat_tests)))) (is.lawful_copy q h)
+            subst (EachMayFollow ok) (sym (adds.others_copy q (grind (arith, nat_tests)))) (is.lawful_copy q h)
 
   -- each event keeps it
   kept_event : (event : Event X) (old new : World X) → IsKept levels ok old → Happens levels ok event old new
@@ -286,8 +286,8 @@ steps_lead levels ok (Appends place entry ∷ events) old new run =
     subst (λ s. LeadTo levels s (places_of events) new.state) run.1.state (steps_lead levels ok events run.0 new run.2)
 
 -- each state to which places lead is sound
-pub sound_after : (levels : ℕ) (places : List ℕ) (old new : State) → 1 ≤ levels → IsSound levels old
-    → LeadTo levels old places new → IsSound levels new
-sound_after levels [] old new some is lead = subst (IsSound levels) (sym lead) is
+pub sound_after : (levels : ℕ) (places : List ℕ) (old new : State) → 1 ≤ levels → IsSoundState levels old
+    → LeadTo levels old places new → IsSoundState levels new
+sound_after levels [] old new some is lead = subst (IsSoundState levels) (sym lead) is
 sound_after levels (place ∷ places) old new some is lead =
     sound_after levels places lead.0 new some (keeps levels place old lead.0 some is lead.1) lead.2

@@ -6,17 +6,17 @@ use Rattle.ya_core.specs.declared.word.Word.{Word}
 use Rattle.ya_core.specs.declared.word.Word.TheVariants.{C, T, P}
 use Rattle.ya_core.specs.declared.word.Access.{Access}
 use Rattle.ya_core.specs.declared.word.Access.TheVariants.{Load, Store}
-use Rattle.ya_core.specs.declared.process.Entry.{Entry}
-use Rattle.ya_core.specs.declared.process.Entry.TheVariants.{E1, E2, E3, E4, E5, E6, E7, E8, E9, E10}
-use Rattle.ya_core.specs.declared.process.Exit.{Exit}
-use Rattle.ya_core.specs.declared.process.Exit.TheVariants.{X1, X2, X3}
+use Rattle.ya_core.specs.declared.process.EntryPoint.{EntryPoint}
+use Rattle.ya_core.specs.declared.process.EntryPoint.TheVariants.{E1, E2, E3, E4, E5, E6, E7, E8, E9, E10}
+use Rattle.ya_core.specs.declared.process.ExitPoint.{ExitPoint}
+use Rattle.ya_core.specs.declared.process.ExitPoint.TheVariants.{X1, X2, X3}
 use Rattle.ya_core.specs.declared.process.Process.{Process}
 use Rattle.ya_core.specs.declared.process.Process.TheVariants.{Idle, Entering, Inside, Leaving}
-use Rattle.ya_core.specs.Steps.{access_of, entry_access, exit_access, next_of, entry_next, exit_next, won, left}
+use Rattle.ya_core.specs.Steps.{access_of, entry_access, exit_access, next_of, entry_next, exit_next, won, after_exit}
 use Rattle.ya_core.specs.Soundness.{IsProper}
 use Rattle.ya_core.proofs.Properness.{either, proper_next, within_access}
-use Rattle.ya_core.specs.Walks.{MayFind, Goes, AccessIsWithin, Walk, IsWalk, walk_after, MovesOn, budget, due, CountIsKept, due_of, IsTold, budget_of, points_of, cost_of, cost_of_word, is_waiting, entry_points, exit_points, entry_cost}
-use Rattle.ya_core.specs.inside.Walks.{DueIsWithin}
+use Rattle.ya_core.specs.WalkerModel.{MayFind, WalkLeadsTo, AccessIsWithin, Walk, IsWalk, walk_after, MovesOn, budget, due, CountIsKept, due_of, MayBeTold, budget_of, points_of, cost_of, cost_of_word, is_waiting, entry_points, exit_points, entry_cost}
+use Rattle.ya_core.specs.inside.WalkerModel.{DueIsWithin}
 
 -- what is still ahead of a process that won a level, or left it
 points_won : (levels level : ℕ) → level ≤ levels → points_of levels (won levels level) false ≤ 10 * (levels - level)
@@ -24,13 +24,13 @@ points_won levels level most =
     either (λ x. points_of levels x false ≤ 10 * (levels - level)) (nat_lt level levels) _ _
     (λ less. grind (arith, nat_tests)) (λ _. omega arith)
 
-points_left : (levels level : ℕ) → points_of levels (left level) false ≤ 3 * (level - 1)
-points_left levels level =
+points_after_exit : (levels level : ℕ) → points_of levels (after_exit level) false ≤ 3 * (level - 1)
+points_after_exit levels level =
     either (λ x. points_of levels x false ≤ 3 * (level - 1)) (nat_lt 1 level) _ _ (λ more. grind (arith, nat_tests))
     (λ _. omega arith)
 
 -- a step on the way in comes nearer, or waits
-nearer_entry : (levels level place : ℕ) (point : Entry) (value : ℕ) → level ≤ levels
+nearer_entry : (levels level place : ℕ) (point : EntryPoint) (value : ℕ) → level ≤ levels
     → (points_of levels (entry_next levels level place point value) false < 10 * (levels - level) + entry_points point)
     ⊎ (IsTrue (is_waiting (Entering level point))
     × (entry_next levels level place point value ≡ Entering level point))
@@ -58,18 +58,18 @@ nearer_entry levels level place E10 value most =
     (value == 2) _ _ (λ _. inl (omega (arith, points_won levels level most))) (λ _. inr (refl, refl))
 
 -- a step on the way out comes nearer
-nearer_exit : (levels level place : ℕ) (point : Exit) (value : ℕ)
+nearer_exit : (levels level place : ℕ) (point : ExitPoint) (value : ℕ)
     → points_of levels (exit_next level place point value) false < 3 * (level - 1) + exit_points point
 nearer_exit levels level place X1 value = omega arith
 nearer_exit levels level place X2 value =
     either (λ x. points_of levels x false < 3 * (level - 1) + 2) (value == place + 1) _ _
-    (λ _. omega (arith, points_left levels level)) (λ _. omega arith)
-nearer_exit levels level place (X3 rival) value = omega (arith, points_left levels level)
+    (λ _. omega (arith, points_after_exit levels level)) (λ _. omega arith)
+nearer_exit levels level place (X3 rival) value = omega (arith, points_after_exit levels level)
 
 -- a step takes a process to a later point or level, but for a load that found a waiting process its own spin word
 -- unchanged
 pub nearer : (levels place : ℕ) (x : Process) (begun : Bool) (value : ℕ) → 1 ≤ levels → IsProper levels place x
-    → IsTold (due_of levels place x begun) value
+    → MayBeTold (due_of levels place x begun) value
     → (points_of levels (next_of levels place x value) false < points_of levels x begun)
     ⊎ (IsTrue (is_waiting x) × (next_of levels place x value ≡ x))
 nearer levels place Idle true value some proper told = inl (omega arith)
@@ -87,8 +87,8 @@ budget_won levels level most =
     either (λ x. budget_of levels x false ≤ 7 * (levels - level)) (nat_lt level levels) _ _
     (λ less. grind (arith, nat_tests)) (λ _. omega arith)
 
-budget_left : (levels level : ℕ) → budget_of levels (left level) false ≤ 3 * (level - 1)
-budget_left levels level =
+budget_after_exit : (levels level : ℕ) → budget_of levels (after_exit level) false ≤ 3 * (level - 1)
+budget_after_exit levels level =
     either (λ x. budget_of levels x false ≤ 3 * (level - 1)) (nat_lt 1 level) _ _ (λ more. grind (arith, nat_tests))
     (λ _. omega arith)
 
@@ -102,7 +102,7 @@ cost_of_own : (level place : ℕ) → cost_of_word place (P level place) ≡ 0
 cost_of_own level place = grind (arith, nat_tests)
 
 -- a step on the way in, or out, costs what the budget loses
-cheaper_entry : (levels level place : ℕ) (point : Entry) (value : ℕ) → level ≤ levels
+cheaper_entry : (levels level place : ℕ) (point : EntryPoint) (value : ℕ) → level ≤ levels
     → cost_of place (entry_access level place point) + budget_of levels
     (entry_next levels level place point value) false ≤ 7 * (levels - level) + entry_cost point
 cheaper_entry levels level place E1 value most = omega arith
@@ -130,18 +130,18 @@ cheaper_entry levels level place E10 value most =
     (value == 2) _ _ (λ _. omega (arith, cost_of_own level place, budget_won levels level most))
     (λ _. omega (arith, cost_of_own level place))
 
-cheaper_exit : (levels level place : ℕ) (point : Exit) (value : ℕ)
+cheaper_exit : (levels level place : ℕ) (point : ExitPoint) (value : ℕ)
     → cost_of place (exit_access level place point) + budget_of levels
     (exit_next level place point value) false ≤ 3 * (level - 1) + exit_points point
 cheaper_exit levels level place X1 value = omega arith
 cheaper_exit levels level place X2 value =
     either (λ x. 1 + budget_of levels x false ≤ 3 * (level - 1) + 2) (value == place + 1) _ _
-    (λ _. omega (arith, budget_left levels level)) (λ _. omega arith)
+    (λ _. omega (arith, budget_after_exit levels level)) (λ _. omega arith)
 cheaper_exit levels level place (X3 rival) value =
-    omega (arith, budget_left levels level, cost_at_most place (P level rival))
+    omega (arith, budget_after_exit levels level, cost_at_most place (P level rival))
 
 cheaper : (levels place : ℕ) (x : Process) (begun : Bool) (value : ℕ) → 1 ≤ levels → IsProper levels place x
-    → IsTold (due_of levels place x begun) value
+    → MayBeTold (due_of levels place x begun) value
     → cost_of place (access_of levels place x) + budget_of levels
     (next_of levels place x value) false ≤ budget_of levels x begun
 cheaper levels place Idle true value some proper told = omega arith
@@ -161,27 +161,27 @@ counted_in levels remote Inside most = omega arith
 counted_in levels remote (Leaving level point) most = omega arith
 
 -- on the way out, where they are at most ten a level
-counted_left : (levels level remote : ℕ) → remote + 3 * (level - 1) ≤ 10 * levels
-    → CountIsKept levels remote (left level) false
-counted_left levels level remote most =
+counted_after_exit : (levels level remote : ℕ) → remote + 3 * (level - 1) ≤ 10 * levels
+    → CountIsKept levels remote (after_exit level) false
+counted_after_exit levels level remote most =
     either (λ x. CountIsKept levels remote x false) (nat_lt 1 level) _ _ (λ more. grind (arith, nat_tests))
     (λ _. omega arith)
 
-counted_exit : (levels level place remote : ℕ) (point : Exit) (value : ℕ)
+counted_exit : (levels level place remote : ℕ) (point : ExitPoint) (value : ℕ)
     → remote + (3 * (level - 1) + exit_points point) ≤ 10 * levels
     → CountIsKept levels (remote + cost_of place (exit_access level place point))
     (exit_next level place point value) false
 counted_exit levels level place remote X1 value most = omega arith
 counted_exit levels level place remote X2 value most =
     either (λ x. CountIsKept levels (remote + 1) x false) (value == place + 1) _ _
-    (λ _. counted_left levels level (remote + 1) (omega arith)) (λ _. omega arith)
+    (λ _. counted_after_exit levels level (remote + 1) (omega arith)) (λ _. omega arith)
 counted_exit levels level place remote (X3 rival) value most =
     let cost = cost_of_word place (P level rival) in
-    counted_left levels level (remote + cost) (omega (arith, cost_at_most place (P level rival)))
+    counted_after_exit levels level (remote + cost) (omega (arith, cost_at_most place (P level rival)))
 
 -- the count of a process after its access
 counted_next : (levels place remote : ℕ) (x : Process) (begun : Bool) (value : ℕ) → 1 ≤ levels → IsProper levels place x
-    → IsTold (due_of levels place x begun) value → CountIsKept levels remote x begun
+    → MayBeTold (due_of levels place x begun) value → CountIsKept levels remote x begun
     → CountIsKept levels (remote + cost_of place (access_of levels place x)) (next_of levels place x value) false
 counted_next levels place remote Idle true value some proper told counted = omega arith
 counted_next levels place remote Idle false value some proper told counted = absurd told
@@ -195,7 +195,7 @@ counted_next levels place remote (Leaving level point) begun value some proper t
     counted_exit levels level place remote point value counted
 
 -- what is told of the access that is due may be found by it
-found_of : (levels place : ℕ) (x : Process) (begun : Bool) (value : ℕ) → IsTold (due_of levels place x begun) value
+found_of : (levels place : ℕ) (x : Process) (begun : Bool) (value : ℕ) → MayBeTold (due_of levels place x begun) value
     → MayFind (access_of levels place x) value
 found_of levels place Idle true value told = tt
 found_of levels place Idle false value told = absurd told
@@ -205,7 +205,7 @@ found_of levels place Inside false value told = absurd told
 found_of levels place (Leaving level point) begun value told = told
 
 -- a walk that is told a value stays a walk, moves on, and spends what its budget loses
-pub goes_on : (w : Walk) (value : ℕ) → IsWalk w → IsTold (due w) value → IsWalk (walk_after w value)
+pub goes_on : (w : Walk) (value : ℕ) → IsWalk w → MayBeTold (due w) value → IsWalk (walk_after w value)
 goes_on w value is told =
     record {
       least = is.least;
@@ -216,24 +216,24 @@ goes_on w value is told =
       counted = counted_next w.levels w.place w.remote w.process w.begun value is.least is.proper told is.counted;
     }
 
-pub moves_on : (w : Walk) (value : ℕ) → IsWalk w → IsTold (due w) value → MovesOn w (walk_after w value)
+pub moves_on : (w : Walk) (value : ℕ) → IsWalk w → MayBeTold (due w) value → MovesOn w (walk_after w value)
 moves_on w value is told = nearer w.levels w.place w.process w.begun value is.least is.proper told
 
-pub spends : (w : Walk) (value : ℕ) → IsWalk w → IsTold (due w) value
+pub spends : (w : Walk) (value : ℕ) → IsWalk w → MayBeTold (due w) value
     → (walk_after w value).remote + budget (walk_after w value) ≤ w.remote + budget w
 spends w value is told = omega (arith, cheaper w.levels w.place w.process w.begun value is.least is.proper told)
 
 -- so the walk that a walker shows goes on to the one that it comes to
 pub told_on : (w shown after : Walk) (value : ℕ) → after ≡ walk_after w value → w ≡ shown → IsWalk w
-    → IsTold (due shown) value
+    → MayBeTold (due shown) value
     → IsWalk after × MovesOn shown after × (after.remote + budget after ≤ shown.remote + budget shown)
 told_on w shown after value is same walks told =
     subst (λ (v : Walk). IsWalk after × MovesOn v after × (after.remote + budget after ≤ v.remote + budget v)) same
     (subst (λ (v : Walk). IsWalk v × MovesOn w v × (v.remote + budget v ≤ w.remote + budget w)) (sym is)
     (goes_on w value walks here, moves_on w value walks here, spends w value walks here))
   where
-    here : IsTold (due w) value
-    here = subst (λ (v : Walk). IsTold (due v) value) (sym same) told
+    here : MayBeTold (due w) value
+    here = subst (λ (v : Walk). MayBeTold (due v) value) (sym same) told
 
 -- the word that is due is one of the tree's words
 pub due_within : (w : Walk) → IsWalk w → DueIsWithin w.levels (due w)
@@ -254,7 +254,7 @@ due_within w is =
     within levels place (Leaving level point) begun is = told levels (exit_access level place point) is
 
 -- along any way what was spent and what can still be spent don't rise
-pub spends_along : (w v : Walk) (values : List ℕ) → IsWalk w → Goes w values v
+pub spends_along : (w v : Walk) (values : List ℕ) → IsWalk w → WalkLeadsTo w values v
     → v.remote + budget v ≤ w.remote + budget w
 spends_along w v [] is goes = omega (arith, ap (λ (u : Walk). u.remote + budget u) goes)
 spends_along w v (value ∷ values) is goes =

@@ -4,36 +4,36 @@ use Rattle.std.proofs.Common.{◌≡◌, ◌≢◌, ℕ, zero, suc, ◌+◌, ◌
 use Rattle.std.proofs.Common.{arith, ap, sym, ◌∙◌, subst, ◌⊎◌, inl, inr, IsTrue, if◌then◌else◌}
 use Rattle.std.proofs.lemmas.Bool.Decides.{nat_tests}
 use Rattle.ya_core.specs.declared.word.Word.TheVariants.{C, T, P}
-use Rattle.ya_core.specs.declared.process.Entry.{Entry}
-use Rattle.ya_core.specs.declared.process.Entry.TheVariants.{E1, E2, E3, E4, E5, E6, E7, E8, E9, E10}
-use Rattle.ya_core.specs.declared.process.Exit.TheVariants.{X1, X2, X3}
+use Rattle.ya_core.specs.declared.process.EntryPoint.{EntryPoint}
+use Rattle.ya_core.specs.declared.process.EntryPoint.TheVariants.{E1, E2, E3, E4, E5, E6, E7, E8, E9, E10}
+use Rattle.ya_core.specs.declared.process.ExitPoint.TheVariants.{X1, X2, X3}
 use Rattle.ya_core.specs.declared.process.Process.{Process}
 use Rattle.ya_core.specs.declared.process.Process.TheVariants.{Idle, Entering, Inside, Leaving}
-use Rattle.ya_core.specs.Tree.{node_of, side_of}
-use Rattle.ya_core.specs.Steps.{State, value_of, access_of, next_of, won, left}
-use Rattle.ya_core.specs.Soundness.{Away, Holding, waits, awaits_one, saw_itself_last, was_woken, awaits_two}
-use Rattle.ya_core.specs.Soundness.{is_to_wake, phase_at, phase_of, entry_phase, IsProper, IsSound, IsOwed, SomeRival}
+use Rattle.ya_core.specs.ArbitrationTree.{node_of, side_of}
+use Rattle.ya_core.specs.Steps.{State, value_of, access_of, next_of, won, after_exit}
+use Rattle.ya_core.specs.Soundness.{Away, Holding, waits, awaits_wake, saw_itself_last, was_woken, awaits_release}
+use Rattle.ya_core.specs.Soundness.{is_to_wake, phase_at, phase_of, entry_phase, IsProper, IsSoundState, IsOwed, SomeRival}
 use Rattle.ya_core.specs.Progress.{SomeoneGoesOn}
 use Rattle.ya_core.proofs.Properness.{either}
 use Rattle.ya_core.proofs.PhaseKinds.{competes}
-use Rattle.ya_core.proofs.PhaseKinds.{competes_unwoken, competes_outside}
+use Rattle.ya_core.proofs.PhaseKinds.{competes_unwoken, competes_unreleased}
 use Rattle.ya_core.proofs.Phases.{phase_here, competes_at}
 use Rattle.ya_core.proofs.Outcomes.{may_step}
 
 -- a process that won a level is not on its way in there, and one that left it not on its way out at a later point
-pub won_elsewhere : (levels level : ℕ) (point : Entry) → won levels level ≢ Entering level point
+pub won_elsewhere : (levels level : ℕ) (point : EntryPoint) → won levels level ≢ Entering level point
 won_elsewhere levels level point =
     either (λ x. x ≢ Entering level point) (nat_lt level levels) _ _
     (λ _ e. (let same : level + 1 ≡ level = cc in absurd (omega (arith, same)))) (λ _ e. cc)
 
-left_elsewhere : (level : ℕ) (rival : ℕ) → (left level ≢ Leaving level X2) × (left level ≢ Leaving level (X3 rival))
+left_elsewhere : (level : ℕ) (rival : ℕ) → (after_exit level ≢ Leaving level X2) × (after_exit level ≢ Leaving level (X3 rival))
 left_elsewhere level rival = (
   either (λ x. x ≢ Leaving level X2) (nat_lt 1 level) _ _ (λ _ e. cc) (λ _ e. cc),
   either (λ x. x ≢ Leaving level (X3 rival)) (nat_lt 1 level) _ _ (λ _ e. cc) (λ _ e. cc),
 )
 
 -- who is to wake another at a level stands there, and doesn't sleep or wait to be let in
-awake : (levels level place stands : ℕ) (point : Entry)
+awake : (levels level place stands : ℕ) (point : EntryPoint)
     → IsTrue (is_to_wake place (phase_at level stands (entry_phase point)))
     → IsTrue (is_to_wake place (entry_phase point))
 awake levels level place stands point h = cases (nat_lt level stands) (level == stands) h
@@ -49,7 +49,7 @@ pub data IsStuck (s : State) (q level : ℕ) : Type 0 where
   Asleep : s.processes q ≡ Entering level E8 → s.words (P level q) ≡ 0 → IsStuck s q level
   Outside : s.processes q ≡ Entering level E10 → s.words (P level q) ≢ 2 → IsStuck s q level
 
-module _ (levels : ℕ) (s : State) (some : 1 ≤ levels) (is : IsSound levels s) where
+module _ (levels : ℕ) (s : State) (some : 1 ≤ levels) (is : IsSoundState levels s) where
   -- a place that takes part is one of the tree
   pub in_tree : (q : ℕ) (x : Process) → s.processes q ≡ x → x ≢ Idle → q < 2 ^ levels
   in_tree q Idle e busy = absurd (busy refl)
@@ -77,7 +77,7 @@ module _ (levels : ℕ) (s : State) (some : 1 ≤ levels) (is : IsSound levels s
       }
 
   -- a place that takes part goes on or is stuck
-  goes_in : (q level : ℕ) (point : Entry) → s.processes q ≡ Entering level point
+  goes_in : (q level : ℕ) (point : EntryPoint) → s.processes q ≡ Entering level point
       → SomeoneGoesOn levels s ⊎ ((level : ℕ) × IsStuck s q level)
   goes_in q level E1 e = inl (goes q (Entering level E1) e (λ i. cc) (λ i. cc))
   goes_in q level E2 e = inl (goes q (Entering level E2) e (λ i. cc) (λ i. cc))
@@ -136,7 +136,7 @@ module _ (levels : ℕ) (s : State) (some : 1 ≤ levels) (is : IsSound levels s
 
   -- one who is stuck stands at a level of the tree, and waits there
   pub stuck_at : (q level : ℕ) → IsStuck s q level
-      → (point : Entry) × (s.processes q ≡ Entering level point) × (1 ≤ level) × (level ≤ levels)
+      → (point : EntryPoint) × (s.processes q ≡ Entering level point) × (1 ≤ level) × (level ≤ levels)
   stuck_at q level (Asleep e none) =
       let proper : IsProper levels q (Entering level E8) = subst (IsProper levels q) e (is.proper q) in
       (E8, e, proper.least, proper.most)
@@ -150,7 +150,7 @@ module _ (levels : ℕ) (s : State) (some : 1 ≤ levels) (is : IsSound levels s
       (λ p. s.words (P level p)) q
   owed_to q level stuck = let at = stuck_at q level stuck in is.owed level at.2 at.3 q
 
-  pub phase_is : (q level : ℕ) (point : Entry) → s.processes q ≡ Entering level point
+  pub phase_is : (q level : ℕ) (point : EntryPoint) → s.processes q ≡ Entering level point
       → phase_of levels level (s.processes q) ≡ entry_phase point
   phase_is q level point e = ap (λ x. phase_of levels level x) e ∙ phase_here level (entry_phase point)
 
@@ -181,13 +181,13 @@ module _ (levels : ℕ) (s : State) (some : 1 ≤ levels) (is : IsSound levels s
           cases (inl goes_on) = goes_on
           cases (inr stuck) = absurd (never_wakes rival.0 level p stuck.0 stuck.1 rival.2)
   first p level (Outside e apart) other =
-      absurd (apart ((owed_to p level (Outside e apart)).has_two other (ap awaits_two (phase_is p level E10 e))))
+      absurd (apart ((owed_to p level (Outside e apart)).has_two other (ap awaits_release (phase_is p level E10 e))))
 
   -- who announced itself last, and is stuck, has a rival that takes part
   pub last : (p level : ℕ) → IsStuck s p level
       → SomeRival (node_of level) (side_of level) (λ q. phase_of levels level (s.processes q)) p competes
   last p level (Asleep e none) =
-      let rival = (owed_to p level (Asleep e none)).unwoken (ap awaits_one (phase_is p level E8 e)) none in (
+      let rival = (owed_to p level (Asleep e none)).unwoken (ap awaits_wake (phase_is p level E8 e)) none in (
         rival.0,
         rival.1,
         competes_unwoken (s.words (T level (node_of level p))) p
@@ -199,10 +199,10 @@ module _ (levels : ℕ) (s : State) (some : 1 ≤ levels) (is : IsSound levels s
       let woken : s.words (P level p) ≢ 0 = owed.woken (ap was_woken (phase_is p level E10 e)) in
       let range : s.words (P level p) ≤ 2 = (is.sound level at.2 at.3).in_range p in
       let single : s.words (P level p) ≡ 1 = grind (arith, woken, range, apart) in
-      let rival = owed.outside (ap waits (phase_is p level E10 e)) single in (
+      let rival = owed.unreleased (ap waits (phase_is p level E10 e)) single in (
         rival.0,
         rival.1,
-        competes_outside (s.words (T level (node_of level p))) p
+        competes_unreleased (s.words (T level (node_of level p))) p
             (phase_of levels level (s.processes rival.0)) rival.2,
       )
 

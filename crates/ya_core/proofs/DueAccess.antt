@@ -6,9 +6,9 @@ use Rattle.ya_core.specs.declared.word.Access.TheVariants.{Load, Store}
 use Rattle.ya_core.specs.declared.process.Process.{Process}
 use Rattle.ya_core.specs.declared.process.Process.TheVariants.{Idle, Entering, Inside, Leaving}
 use Rattle.ya_core.specs.declared.walker.Op.TheVariants as op
-use Rattle.ya_core.specs.Tree.{number_of}
+use Rattle.ya_core.specs.ArbitrationTree.{number_of}
 use Rattle.ya_core.specs.Steps.{access_of}
-use Rattle.ya_core.specs.Walks.{Walk, due, due_of, op_of, op_of_due, op_of_access, op_at_rest, IsStore}
+use Rattle.ya_core.specs.WalkerModel.{Walk, due, due_of, op_of, op_of_due, op_of_access, op_at_rest, IsStore}
 
 -- what asks for no load and no store is at rest
 at_rest_asks_nothing : (x : Process) → ((n : ℕ) → op_at_rest x ≢ op.Load n) × ((n v : ℕ) → op_at_rest x ≢ op.Store n v)

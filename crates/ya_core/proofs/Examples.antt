@@ -5,16 +5,16 @@ use Rattle.ya_core.specs.declared.word.Word.{Word}
 use Rattle.ya_core.specs.declared.word.Word.TheVariants.{C, T, P}
 use Rattle.ya_core.specs.declared.word.Access.{Access}
 use Rattle.ya_core.specs.declared.word.Access.TheVariants.{Load, Store}
-use Rattle.ya_core.specs.declared.process.Entry.TheVariants.{E1, E2, E3, E4, E5, E6, E7, E8, E9, E10}
-use Rattle.ya_core.specs.declared.process.Exit.TheVariants.{X1, X2, X3}
+use Rattle.ya_core.specs.declared.process.EntryPoint.TheVariants.{E1, E2, E3, E4, E5, E6, E7, E8, E9, E10}
+use Rattle.ya_core.specs.declared.process.ExitPoint.TheVariants.{X1, X2, X3}
 use Rattle.ya_core.specs.declared.process.Process.{Process}
 use Rattle.ya_core.specs.declared.process.Process.TheVariants.{Idle, Entering, Inside, Leaving}
-use Rattle.ya_core.specs.Tree.{node_of, side_of, nodes_below, number_of, count_of_words}
+use Rattle.ya_core.specs.ArbitrationTree.{node_of, side_of, nodes_below, number_of, count_of_words}
 use Rattle.ya_core.specs.FlatRow.{is_word}
-use Rattle.ya_core.specs.Steps.{State, StepsTo, LeadTo, Accesses, opening, entry_access, exit_access, access_of, won, left, entry_next, exit_next, next_of, value_of}
-use Rattle.ya_core.specs.Walks.{walk, due_of, due, CanStand, cost_of_word, cost_of, walk_after, MayFind, IsTold, Goes, Enters, Leaves}
+use Rattle.ya_core.specs.Steps.{State, StepsTo, LeadTo, Accesses, opening, entry_access, exit_access, access_of, won, after_exit, entry_next, exit_next, next_of, value_of}
+use Rattle.ya_core.specs.WalkerModel.{walk, due_of, due, CanStand, cost_of_word, cost_of, walk_after, MayFind, MayBeTold, WalkLeadsTo, BeginsEntry, BeginsExit}
 use Rattle.ya_core.specs.Progress.{SomeoneGoesOn, CanLeadTo, SomeoneGoesOnIn, Announces, Wins, Neither, is_entering, is_to_announce, deed_of, announces, LevelSees, HasNotWon, is_rival, is_win, times_overtaken}
-use Rattle.ya_core.specs.Fairness.{IsRunOf, IsFair, Eventually, is_on_way_in, is_on_way_out}
+use Rattle.ya_core.specs.Fairness.{IsRunOfSchedule, IsFair, Eventually, is_on_way_in, is_on_way_out}
 use Rattle.ya_core.specs.Worlds.{Marked, World, Event, Steps, Appends, WorldSteps, WorldAppends, IsInside, IsReached, Runs, Happens, any_entry, is_inside, opening_world}
 
 -- node_of
@@ -163,11 +163,11 @@ the_last_to_announce_itself_was_itself = refl
 it_was_the_rival : exit_next 1 3 X2 3 ≡ Leaving 1 (X3 2)
 it_was_the_rival = refl
 
--- left
-from_the_root_down_to_the_leaf : left 2 ≡ Leaving 1 X1
+-- after_exit
+from_the_root_down_to_the_leaf : after_exit 2 ≡ Leaving 1 X1
 from_the_root_down_to_the_leaf = refl
 
-from_the_leaf_to_idle : left 1 ≡ Idle
+from_the_leaf_to_idle : after_exit 1 ≡ Idle
 from_the_leaf_to_idle = refl
 
 -- nodes_below
@@ -258,8 +258,8 @@ a_store_may_be_told_anything = tt
 a_load_what_can_stand : ¬ MayFind (Load (P 1 2)) 9
 a_load_what_can_stand h = omega (arith, h)
 
--- IsTold
-no_value_where_nothing_is_due : ¬ IsTold None 0
+-- MayBeTold
+no_value_where_nothing_is_due : ¬ MayBeTold None 0
 no_value_where_nothing_is_due h = h
 
 -- due_of
@@ -282,31 +282,31 @@ a_remote_access_is_counted = refl
 one_of_its_own_spin_word_is_not : walk_after (walk 1 0 (Entering 1 E10) false 7) 2 ≡ walk 1 0 Inside false 7
 one_of_its_own_spin_word_is_not = refl
 
--- Enters
-an_entry_begins : Enters (walk 1 0 Idle true 0)
+-- BeginsEntry
+an_entry_begins : BeginsEntry (walk 1 0 Idle true 0)
 an_entry_begins = record { process = refl; begun = refl; uncounted = refl }
 
-not_before_it_is_told : ¬ Enters (walk 1 0 Idle false 0)
+not_before_it_is_told : ¬ BeginsEntry (walk 1 0 Idle false 0)
 not_before_it_is_told h = let begun = h.begun in cc
 
--- Leaves
-an_exit_begins : Leaves (walk 1 0 Inside true 3)
+-- BeginsExit
+an_exit_begins : BeginsExit (walk 1 0 Inside true 3)
 an_exit_begins = record { process = refl; begun = refl }
 
-not_from_idle : ¬ Leaves (walk 1 0 Idle true 3)
+not_from_idle : ¬ BeginsExit (walk 1 0 Idle true 3)
 not_from_idle h = let process = h.process in cc
 
--- Goes
-alone_three_on_the_way_in : Goes (walk 1 0 Idle true 0) (1 ∷ 1 ∷ 0 ∷ 0 ∷ []) (walk 1 0 Inside false 3)
+-- WalkLeadsTo
+alone_three_on_the_way_in : WalkLeadsTo (walk 1 0 Idle true 0) (1 ∷ 1 ∷ 0 ∷ 0 ∷ []) (walk 1 0 Inside false 3)
 unfolding node_of side_of
 alone_three_on_the_way_in = (tt, (tt, (tt, (inl refl, refl))))
 
-seven_where_it_competes : Goes (walk 1 0 Idle true 0) (1 ∷ 1 ∷ 0 ∷ 2 ∷ 1 ∷ 0 ∷ 1 ∷ 1 ∷ 1 ∷ 2 ∷ []) (walk 1 0 Inside false 7)
+seven_where_it_competes : WalkLeadsTo (walk 1 0 Idle true 0) (1 ∷ 1 ∷ 0 ∷ 2 ∷ 1 ∷ 0 ∷ 1 ∷ 1 ∷ 1 ∷ 2 ∷ []) (walk 1 0 Inside false 7)
 unfolding node_of side_of
 seven_where_it_competes =
     (tt, (tt, (tt, (inr (omega arith, refl, refl), ((omega arith, refl), (omega arith, (tt, (omega arith, ((omega arith, refl), (omega arith, refl))))))))))
 
-three_more_on_the_way_out : Goes (walk 1 0 Inside true 7) (0 ∷ 2 ∷ 2 ∷ []) (walk 1 0 Idle false 10)
+three_more_on_the_way_out : WalkLeadsTo (walk 1 0 Inside true 7) (0 ∷ 2 ∷ 2 ∷ []) (walk 1 0 Idle false 10)
 unfolding node_of side_of
 three_more_on_the_way_out = (tt, ((omega arith, refl), (tt, refl)))
 
@@ -555,14 +555,14 @@ not_again : (time : ℕ) → 1 ≤ time → once time ≢ 0
 not_again zero later same = omega (arith, later)
 not_again (suc time) later same = cc
 
--- IsRunOf
-the_run_of_place_0 : IsRunOf 1 (λ time. 0) alone
+-- IsRunOfSchedule
+the_run_of_place_0 : IsRunOfSchedule 1 (λ time. 0) alone
 the_run_of_place_0 = record {
   start = refl;
   steps = λ time. subst (λ next. StepsTo 1 0 (alone time) (alone next)) (let next : suc time ≡ time + 1 = omega arith in next) (steps_to 1 0 (alone time) (omega arith));
 }
 
-each_step_counts : ¬ IsRunOf 1 (λ time. 0) (λ time. opening)
+each_step_counts : ¬ IsRunOfSchedule 1 (λ time. 0) (λ time. opening)
 each_step_counts h = let step = h.steps 0 in let process = step.process in cc
 
 -- IsFair
@@ -570,7 +570,7 @@ fair_to_place_0 : IsFair (λ time. 0) alone
 fair_to_place_0 zero time busy = (time, omega arith, refl)
 fair_to_place_0 (suc other) time busy = absurd (busy (others_stay_idle (suc other) time (λ same. cc)))
 
-unfair_to_place_0 : (states : ℕ → State) → IsRunOf 1 once states → ¬ IsFair once states
+unfair_to_place_0 : (states : ℕ → State) → IsRunOfSchedule 1 once states → ¬ IsFair once states
 unfair_to_place_0 states run fair =
     let first = subst (λ s. (states 1).processes 0 ≡ next_of 1 0 (s.processes 0) (value_of s.words (access_of 1 0 (s.processes 0)))) run.start (run.steps 0).process in
     let begun : (states 1).processes 0 ≡ Entering 1 E2 = first in

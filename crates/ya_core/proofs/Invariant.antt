@@ -4,28 +4,28 @@ use Rattle.std.proofs.Common.{subst, ◌⊎◌, inl, inr, if◌then◌else◌, I
 use Rattle.std.proofs.lemmas.Bool.Decides.{nat_tests}
 use Rattle.ya_core.specs.declared.word.Word.{Word}
 use Rattle.ya_core.specs.declared.word.Word.TheVariants.{C, T, P}
-use Rattle.ya_core.specs.declared.process.Entry.{Entry}
-use Rattle.ya_core.specs.declared.process.Entry.TheVariants.{E1, E2, E3, E4, E5, E6, E7, E8, E9, E10}
-use Rattle.ya_core.specs.declared.process.Exit.{Exit}
-use Rattle.ya_core.specs.declared.process.Exit.TheVariants.{X1, X2, X3}
+use Rattle.ya_core.specs.declared.process.EntryPoint.{EntryPoint}
+use Rattle.ya_core.specs.declared.process.EntryPoint.TheVariants.{E1, E2, E3, E4, E5, E6, E7, E8, E9, E10}
+use Rattle.ya_core.specs.declared.process.ExitPoint.{ExitPoint}
+use Rattle.ya_core.specs.declared.process.ExitPoint.TheVariants.{X1, X2, X3}
 use Rattle.ya_core.specs.declared.process.Process.{Process}
 use Rattle.ya_core.specs.declared.process.Process.TheVariants.{Idle, Entering, Inside, Leaving}
-use Rattle.ya_core.specs.Tree.{node_of, side_of}
+use Rattle.ya_core.specs.ArbitrationTree.{node_of, side_of}
 use Rattle.ya_core.specs.Steps.{State, StepsTo, Accesses, opening, value_of, access_of, entry_access, exit_access}
-use Rattle.ya_core.specs.Steps.{next_of, entry_next, exit_next, won, left}
-use Rattle.ya_core.specs.Soundness.{Phase, Away, Named, Holding, Parting, Freeing, is_past, holds, parts, phase_of}
-use Rattle.ya_core.specs.Soundness.{phase_at, entry_phase, exit_phase, IsProper, IsSoundAt, IsOwedAt, IsSound}
-use Rattle.ya_core.specs.Walks.{MayFind, CanStand}
+use Rattle.ya_core.specs.Steps.{next_of, entry_next, exit_next, won, after_exit}
+use Rattle.ya_core.specs.Soundness.{Phase, Away, Named, Holding, Releasing, LettingIn, has_announced, holds, is_releasing, phase_of}
+use Rattle.ya_core.specs.Soundness.{phase_at, entry_phase, exit_phase, IsProper, IsSoundAt, IsOwedAt, IsSoundState}
+use Rattle.ya_core.specs.WalkerModel.{MayFind, CanStand}
 use Rattle.ya_core.specs.Worlds.{IsInside, is_inside}
-use Rattle.ya_core.proofs.Places.{node_below, node_of_place, node_of_root}
+use Rattle.ya_core.proofs.TreeSides.{node_below, node_of_place, node_of_root}
 use Rattle.ya_core.proofs.Properness.{proper_next}
 use Rattle.ya_core.proofs.PhaseKinds.{competes}
-use Rattle.ya_core.proofs.Level.{or_else, level_stays, one_holds}
-use Rattle.ya_core.proofs.Phases.{acts_at, phase_here, phase_below, phase_away, phase_won, phase_left, frame_phase}
+use Rattle.ya_core.proofs.LevelClauses.{or_else, level_stays, one_holds}
+use Rattle.ya_core.proofs.Phases.{acts_at, phase_here, phase_below, phase_away, phase_won, phase_after_exit, frame_phase}
 use Rattle.ya_core.proofs.Phases.{access_level, words_stay, holds_below}
 use Rattle.ya_core.proofs.WakeFrame.{owed_stays}
 use Rattle.ya_core.proofs.LevelSteps.{act_claim, act_announce, act_clear, act_found, act_last, act_asleep, act_awake}
-use Rattle.ya_core.proofs.LevelSteps.{act_wake, act_woken, act_waits, act_stay, act_let_in, act_give_up, act_part}
+use Rattle.ya_core.proofs.LevelSteps.{act_wake, act_woken, act_waits, act_stay, act_let_in, act_give_up, act_release}
 use Rattle.ya_core.proofs.LevelSteps.{act_see, act_win_unclaimed, act_win_other, act_win_let_in}
 
 -- a number is 0 or not
@@ -33,7 +33,7 @@ zero_or : (n : ℕ) → (n ≡ 0) ⊎ (1 ≤ n)
 zero_or n = grind arith
 
 -- at most one place competes on a side of a node: it holds the node below, which one place at most holds
-pub alone_at : (levels place level : ℕ) (s : State) → IsSound levels s → 1 ≤ level → level ≤ levels
+pub alone_at : (levels place level : ℕ) (s : State) → IsSoundState levels s → 1 ≤ level → level ≤ levels
     → (1 < level → IsTrue (holds (phase_of levels (level - 1) (s.processes place))))
     → (q : ℕ) → node_of level q ≡ node_of level place → side_of level q ≡ side_of level place
     → IsTrue (competes (phase_of levels level (s.processes q))) → q ≡ place
@@ -69,17 +69,17 @@ turn_stands : (levels level node : ℕ) (s : State) → IsSoundAt levels s level
 turn_stands levels level node s here some = (omega arith, here.below node (s.words (T level node) - 1) (omega arith))
 
 -- the phase of a process where it stands
-entry_phase_here : (levels level place : ℕ) (s : State) (point : Entry) → s.processes place ≡ Entering level point
+entry_phase_here : (levels level place : ℕ) (s : State) (point : EntryPoint) → s.processes place ≡ Entering level point
     → phase_of levels level (s.processes place) ≡ entry_phase point
 entry_phase_here levels level place s point e =
     ap (λ x. phase_of levels level x) e ∙ phase_here level (entry_phase point)
 
-exit_phase_here : (levels level place : ℕ) (s : State) (point : Exit) → s.processes place ≡ Leaving level point
+exit_phase_here : (levels level place : ℕ) (s : State) (point : ExitPoint) → s.processes place ≡ Leaving level point
     → phase_of levels level (s.processes place) ≡ exit_phase point
 exit_phase_here levels level place s point e = ap (λ x. phase_of levels level x) e ∙ phase_here level (exit_phase point)
 
 -- the value that a load finds can stand in its word
-finds_entry : (levels level place : ℕ) (s : State) (point : Entry) → IsSoundAt levels s level
+finds_entry : (levels level place : ℕ) (s : State) (point : EntryPoint) → IsSoundAt levels s level
     → s.processes place ≡ Entering level point
     → MayFind (entry_access level place point) (value_of s.words (entry_access level place point))
 finds_entry levels level place s E1 here e = tt
@@ -89,25 +89,25 @@ finds_entry levels level place s E4 here e =
     claim_stands levels level (node_of level place) (1 - side_of level place) s here
 finds_entry levels level place s (E5 rival) here e =
     turn_stands levels level (node_of level place) s here
-    (here.announced place (ap is_past (entry_phase_here levels level place s (E5 rival) e)))
+    (here.announced place (ap has_announced (entry_phase_here levels level place s (E5 rival) e)))
 finds_entry levels level place s (E6 rival) here e = here.in_range rival
 finds_entry levels level place s (E7 rival) here e = tt
 finds_entry levels level place s E8 here e = here.in_range place
 finds_entry levels level place s E9 here e =
     turn_stands levels level (node_of level place) s here
-    (here.announced place (ap is_past (entry_phase_here levels level place s E9 e)))
+    (here.announced place (ap has_announced (entry_phase_here levels level place s E9 e)))
 finds_entry levels level place s E10 here e = here.in_range place
 
-finds_exit : (levels level place : ℕ) (s : State) (point : Exit) → IsSoundAt levels s level
+finds_exit : (levels level place : ℕ) (s : State) (point : ExitPoint) → IsSoundAt levels s level
     → s.processes place ≡ Leaving level point
     → MayFind (exit_access level place point) (value_of s.words (exit_access level place point))
 finds_exit levels level place s X1 here e = tt
 finds_exit levels level place s X2 here e =
     turn_stands levels level (node_of level place) s here
-    (here.parting place (ap parts (exit_phase_here levels level place s X2 e)))
+    (here.releasing place (ap is_releasing (exit_phase_here levels level place s X2 e)))
 finds_exit levels level place s (X3 rival) here e = tt
 
-pub finds : (levels place : ℕ) (s : State) (x : Process) → IsSound levels s → s.processes place ≡ x
+pub finds : (levels place : ℕ) (s : State) (x : Process) → IsSoundState levels s → s.processes place ≡ x
     → MayFind (access_of levels place x) (value_of s.words (access_of levels place x))
 finds levels place s Idle is e = tt
 finds levels place s (Entering level point) is e =
@@ -124,7 +124,7 @@ by_choice : (R : Type 0) (z x y : Process) (b : Bool) → z ≡ (if b then x els
 by_choice R z x y true e p q = p refl e
 by_choice R z x y false e p q = q refl e
 
-module _ (levels place level : ℕ) (old new : State) (is : IsSound levels old) (least : 1 ≤ level)
+module _ (levels place level : ℕ) (old new : State) (is : IsSoundState levels old) (least : 1 ≤ level)
     (most : level ≤ levels) (others : (q : ℕ) → q ≢ place → new.processes q ≡ old.processes q) where
   -- the phase of the place once it has stepped
   stands : (x : Process) (a : Phase) → new.processes place ≡ x → phase_of levels level x ≡ a
@@ -144,8 +144,8 @@ module _ (levels place level : ℕ) (old new : State) (is : IsSound levels old) 
   wins_it : new.processes place ≡ won levels level → phase_of levels level (new.processes place) ≡ Holding
   wins_it now = stands (won levels level) Holding now (phase_won levels level level most ∙ phase_here level Holding)
 
-  leaves_it : new.processes place ≡ left level → phase_of levels level (new.processes place) ≡ Away
-  leaves_it now = stands (left level) Away now (phase_left levels level level least least ∙ phase_here level Away)
+  leaves_it : new.processes place ≡ after_exit level → phase_of levels level (new.processes place) ≡ Away
+  leaves_it now = stands (after_exit level) Away now (phase_after_exit levels level level least least ∙ phase_here level Away)
 
   -- a place that stands on its way in, or out, is alone on its side
   abbrev IsAlone : Type 0
@@ -157,19 +157,19 @@ module _ (levels place level : ℕ) (old new : State) (is : IsSound levels old) 
       alone_at levels place level old is least most
       (λ more. ap holds (there ∙ phase_below (level - 1) level a (omega arith)))
 
-  alone_in : (point : Entry) → old.processes place ≡ Entering level point → IsAlone
+  alone_in : (point : EntryPoint) → old.processes place ≡ Entering level point → IsAlone
   alone_in point e = alone_there (entry_phase point) (ap (λ x. phase_of levels (level - 1) x) e)
 
-  alone_out : (point : Exit) → old.processes place ≡ Leaving level point → IsAlone
+  alone_out : (point : ExitPoint) → old.processes place ≡ Leaving level point → IsAlone
   alone_out point e = alone_there (exit_phase point) (ap (λ x. phase_of levels (level - 1) x) e)
 
   -- the place comes to another point of the level
-  comes : (point : Entry) → new.processes place ≡ Entering level point
+  comes : (point : EntryPoint) → new.processes place ≡ Entering level point
       → phase_of levels level (new.processes place) ≡ entry_phase point
   comes point now = stands (Entering level point) (entry_phase point) now (phase_here level (entry_phase point))
 
   -- a step on the way in keeps the level where it acts
-  acts_entry : (point : Entry) → old.processes place ≡ Entering level point
+  acts_entry : (point : EntryPoint) → old.processes place ≡ Entering level point
       → Accesses (entry_access level place point) old.words new.words
       → new.processes place ≡ entry_next levels level place point (value_of old.words (entry_access level place point))
       → IsKept
@@ -232,29 +232,29 @@ module _ (levels place level : ℕ) (old new : State) (is : IsSound levels old) 
       (comes E10 goes ∙ sym (entry_phase_here levels level place old E10 e)))
 
   -- a step on the way out keeps the level where it acts
-  acts_exit : (point : Exit) → old.processes place ≡ Leaving level point
+  acts_exit : (point : ExitPoint) → old.processes place ≡ Leaving level point
       → Accesses (exit_access level place point) old.words new.words
       → new.processes place ≡ exit_next level place point (value_of old.words (exit_access level place point)) → IsKept
   acts_exit X1 e done now =
       act_give_up levels place level old new here owed others (exit_phase_here levels level place old X1 e)
-      (stands (Leaving level X2) Parting now (phase_here level Parting)) done
+      (stands (Leaving level X2) Releasing now (phase_here level Releasing)) done
   acts_exit X2 e done now =
-      by_choice IsKept (new.processes place) (left level)
+      by_choice IsKept (new.processes place) (after_exit level)
       (Leaving level (X3 (old.words (T level (node_of level place)) - 1))) _ now
-      (λ own gone. act_part levels place level old new here owed others done
+      (λ own gone. act_release levels place level old new here owed others done
       (exit_phase_here levels level place old X2 e) (leaves_it gone) (grind (arith, nat_tests)))
       (λ other goes. act_see levels place level old new here owed others done
       (exit_phase_here levels level place old X2 e)
       (stands (Leaving level (X3 (old.words (T level (node_of level place)) - 1)))
-      (Freeing (old.words (T level (node_of level place)) - 1)) goes
-      (phase_here level (Freeing (old.words (T level (node_of level place)) - 1)))))
+      (LettingIn (old.words (T level (node_of level place)) - 1)) goes
+      (phase_here level (LettingIn (old.words (T level (node_of level place)) - 1)))))
   acts_exit (X3 rival) e done now =
       let proper : IsProper levels place (Leaving level (X3 rival)) =
       subst (IsProper levels place) e (is.proper place) in
       act_let_in levels place level old new here owed others rival (exit_phase_here levels level place old (X3 rival) e)
       (leaves_it now) proper.knows.0 proper.knows.1 done (alone_out (X3 rival) e)
 
-module _ (levels place : ℕ) (old new : State) (some : 1 ≤ levels) (is : IsSound levels old)
+module _ (levels place : ℕ) (old new : State) (some : 1 ≤ levels) (is : IsSoundState levels old)
     (others : (q : ℕ) → q ≢ place → new.processes q ≡ old.processes q) where
   -- the level is sound, and what is owed there is owed
   abbrev IsWhole : ℕ → Type 0
@@ -274,7 +274,7 @@ module _ (levels place : ℕ) (old new : State) (some : 1 ≤ levels) (is : IsSo
   acts Inside e done now =
       act_give_up levels place levels old new (is.sound levels some (omega arith))
       (is.owed levels some (omega arith)) others (ap (λ y. phase_of levels levels y) e ∙ phase_here levels Holding)
-      (ap (λ y. phase_of levels levels y) now ∙ phase_here levels Parting) done
+      (ap (λ y. phase_of levels levels y) now ∙ phase_here levels Releasing) done
   acts (Leaving level point) e done now =
       let proper : IsProper levels place (Leaving level point) = subst (IsProper levels place) e (is.proper place) in
       acts_exit levels place level old new is proper.least proper.most others point e done now
@@ -325,7 +325,7 @@ module _ (levels place : ℕ) (old new : State) (some : 1 ≤ levels) (is : IsSo
   keeps_from : (x : Process) → place < 2 ^ levels → old.processes place ≡ x
       → Accesses (access_of levels place x) old.words new.words
       → new.processes place ≡ next_of levels place x (value_of old.words (access_of levels place x))
-      → IsSound levels new
+      → IsSoundState levels new
   keeps_from x in_tree e done now =
       record {
         proper = λ q. proper q (or_else (λ q. new.processes q ≡ old.processes q) place others q);
@@ -348,13 +348,13 @@ module _ (levels place : ℕ) (old new : State) (some : 1 ≤ levels) (is : IsSo
       whole level least most false other = rests x e done now level least most (grind (arith, nat_tests))
 
 -- each step keeps the invariant
-pub keeps : (levels place : ℕ) (old new : State) → 1 ≤ levels → IsSound levels old → StepsTo levels place old new
-    → IsSound levels new
+pub keeps : (levels place : ℕ) (old new : State) → 1 ≤ levels → IsSoundState levels old → StepsTo levels place old new
+    → IsSoundState levels new
 keeps levels place old new some is step =
     keeps_from levels place old new some is step.others (old.processes place) step.in_tree refl step.words step.process
 
 -- at the start the invariant holds
-pub opens : (levels : ℕ) → IsSound levels opening
+pub opens : (levels : ℕ) → IsSoundState levels opening
 opens levels =
     record {
       proper = λ p. tt;
@@ -364,7 +364,7 @@ opens levels =
             claimant = λ n s p h. absurd (omega arith);
             below = λ n p h. absurd (omega arith);
             announced = λ p h. absurd cc;
-            parting = λ p h. absurd cc;
+            releasing = λ p h. absurd cc;
             one_of_two = λ p q rivals hp hq. absurd cc;
             waiter = λ p q rivals hp hq. absurd cc;
             in_range = λ p. omega arith;
@@ -373,7 +373,7 @@ opens levels =
       owed = λ level least most p.
           record {
             unwoken = λ h zero. absurd cc;
-            outside = λ h one. absurd cc;
+            unreleased = λ h one. absurd cc;
             woken = λ h zero. absurd cc;
             owed_one = λ other h zero. absurd cc;
             has_two = λ other h. absurd cc;
@@ -389,7 +389,7 @@ is_inside_is (Entering level point) h = absurd cc
 is_inside_is (Leaving level point) h = absurd cc
 
 -- two places that are inside are one
-pub excludes : (levels p q : ℕ) (s : State) → 1 ≤ levels → IsSound levels s → IsInside s p → IsInside s q → p ≡ q
+pub excludes : (levels p q : ℕ) (s : State) → 1 ≤ levels → IsSoundState levels s → IsInside s p → IsInside s q → p ≡ q
 excludes levels p q s some is hp hq =
     one_holds (node_of levels) (side_of levels) (λ p. phase_of levels levels (s.processes p))
     (λ n d. s.words (C levels n d)) (λ n. s.words (T levels n)) (λ p. s.words (P levels p))

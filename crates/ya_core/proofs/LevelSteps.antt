@@ -5,22 +5,22 @@ use Rattle.std.proofs.lemmas.Bool.Decides.{nat_tests}
 use Rattle.ya_core.specs.declared.word.Word.{Word}
 use Rattle.ya_core.specs.declared.word.Word.TheVariants.{C, T, P}
 use Rattle.ya_core.specs.declared.word.Access.TheVariants.{Store}
-use Rattle.ya_core.specs.declared.process.Entry.{Entry}
-use Rattle.ya_core.specs.declared.process.Entry.TheVariants.{E4, E5, E6, E7, E8, E9, E10}
-use Rattle.ya_core.specs.Tree.{node_of, side_of, AreRivals}
+use Rattle.ya_core.specs.declared.process.EntryPoint.{EntryPoint}
+use Rattle.ya_core.specs.declared.process.EntryPoint.TheVariants.{E4, E5, E6, E7, E8, E9, E10}
+use Rattle.ya_core.specs.ArbitrationTree.{node_of, side_of, AreRivals}
 use Rattle.ya_core.specs.Steps.{State, Accesses}
-use Rattle.ya_core.specs.Soundness.{Phase, Away, Named, Announced, Waiting, Holding, Parting, Freeing, is_past, waits}
+use Rattle.ya_core.specs.Soundness.{Phase, Away, Named, Announced, Waiting, Holding, Releasing, LettingIn, has_announced, waits}
 use Rattle.ya_core.specs.Soundness.{phase_of, IsSoundLevel, IsSoundAt, IsOwedAt}
-use Rattle.ya_core.proofs.Places.{side_below}
+use Rattle.ya_core.proofs.TreeSides.{side_below}
 use Rattle.ya_core.proofs.PhaseKinds.{competes}
-use Rattle.ya_core.proofs.Level.{Same, SameClaims, SameWords, Alike, or_else, level_stays, alike, wakes, lets_in}
-use Rattle.ya_core.proofs.Level.{claims_side, announces, clears, wins, gives_up, goes_away, last_unclaimed, last_other}
-use Rattle.ya_core.proofs.Level.{last_let_in}
+use Rattle.ya_core.proofs.LevelClauses.{Same, SameClaims, SameWords, Alike, or_else, level_stays, alike, wakes, lets_in}
+use Rattle.ya_core.proofs.LevelClauses.{claims_side, announces, clears, wins, gives_up, goes_away, last_unclaimed, last_other}
+use Rattle.ya_core.proofs.LevelClauses.{last_let_in}
 use Rattle.ya_core.proofs.WakeFrame.{ActsAtLevel, owed_stays}
 use Rattle.ya_core.proofs.WakeLoads.{owed_named, owed_found, owed_last, owed_asleep, owed_awake, owed_woken}
-use Rattle.ya_core.proofs.WakeLoads.{owed_waits, owed_wins, owed_given_up, owed_left, owed_parted, none_unclaimed}
+use Rattle.ya_core.proofs.WakeLoads.{owed_waits, owed_wins, owed_given_up, owed_released, owed_letting_in, none_unclaimed}
 use Rattle.ya_core.proofs.WakeLoads.{none_last}
-use Rattle.ya_core.proofs.WakeStores.{owed_announced, owed_cleared, owed_wakes, owed_freed}
+use Rattle.ya_core.proofs.WakeStores.{owed_announced, owed_cleared, owed_wakes, owed_let_in}
 
 -- what two names of words C have in common
 same_claim : (level node side n s : ℕ) → C level n s ≡ C level node side → (n ≡ node) × (s ≡ side)
@@ -98,15 +98,15 @@ module _ (levels place level : ℕ) (old new : State) (here : IsSoundAt levels o
   like x y was now alike = subst (λ z. Alike z (before place)) (sym now) (subst (Alike y) (sym was) alike)
 
   -- two points at which a process waits are alike
-  waiting_alike : (x y : Entry) → Alike (Waiting y) (Waiting x)
-  waiting_alike x y = record { claiming = refl; past = refl; waiting = refl; holding = refl; parting = refl }
+  waiting_alike : (x y : EntryPoint) → Alike (Waiting y) (Waiting x)
+  waiting_alike x y = record { claiming = refl; past = refl; waiting = refl; holding = refl; releasing = refl }
 
   -- one who is to let another in is as one who is away
-  freeing_alike : (rival : ℕ) → Alike (Freeing rival) Away
-  freeing_alike rival = record { claiming = refl; past = refl; waiting = refl; holding = refl; parting = refl }
+  letting_alike : (rival : ℕ) → Alike (LettingIn rival) Away
+  letting_alike rival = record { claiming = refl; past = refl; waiting = refl; holding = refl; releasing = refl }
 
-  away_alike : (rival : ℕ) → Alike Away (Freeing rival)
-  away_alike rival = record { claiming = refl; past = refl; waiting = refl; holding = refl; parting = refl }
+  away_alike : (rival : ℕ) → Alike Away (LettingIn rival)
+  away_alike rival = record { claiming = refl; past = refl; waiting = refl; holding = refl; releasing = refl }
 
   -- e1
   pub act_claim : before place ≡ Away → after place ≡ Named
@@ -179,7 +179,7 @@ module _ (levels place level : ℕ) (old new : State) (here : IsSoundAt levels o
   )
 
   -- x3
-  pub act_let_in : (rival : ℕ) → before place ≡ Freeing rival → after place ≡ Away
+  pub act_let_in : (rival : ℕ) → before place ≡ LettingIn rival → after place ≡ Away
       → node_of level place ≡ node_of level rival → rival ≢ place
       → Accesses (Store (P level rival) 2) old.words new.words → IsAlone → IsKept
   act_let_in rival was now below other done alone = (
@@ -189,14 +189,14 @@ module _ (levels place level : ℕ) (old new : State) (here : IsSoundAt levels o
         (alike (node_of level) (side_of level) before (claim_words old) (turn_words old) (spin_words new)
         (lets_in (node_of level) (side_of level) before (claim_words old) (turn_words old) (spin_words old) here
         (side_below level) place rival (spin_words new)
-        (subst (λ z. Alike z Away) (sym was) (freeing_alike rival)) below other done.0 (rest rival 2 done) alone)
-        place after same (like (Freeing rival) Away was now (away_alike rival))),
-    owed_freed act rival
+        (subst (λ z. Alike z Away) (sym was) (letting_alike rival)) below other done.0 (rest rival 2 done) alone)
+        place after same (like (LettingIn rival) Away was now (away_alike rival))),
+    owed_let_in act rival
         (λ n. done.1 (T level n) (λ e. cc)) (rest rival 2 done) other was now done.0,
   )
 
   -- x1
-  pub act_give_up : before place ≡ Holding → after place ≡ Parting
+  pub act_give_up : before place ≡ Holding → after place ≡ Releasing
       → Accesses (Store (C level (node_of level place) (side_of level place)) 0) old.words new.words → IsKept
   act_give_up was now done = (
     level_stays (node_of level) (side_of level) after after (claim_words new) (claim_words new) (turn_words old)
@@ -225,7 +225,7 @@ module _ (levels place level : ℕ) (old new : State) (here : IsSoundAt levels o
         (λ q. refl) (λ n s. words (C level n s)) turns spins is
 
     -- a load after which the process waits at another point
-    still_waits : (x y : Entry) → before place ≡ Waiting x → after place ≡ Waiting y → IsSoundAt levels new level
+    still_waits : (x y : EntryPoint) → before place ≡ Waiting x → after place ≡ Waiting y → IsSoundAt levels new level
     still_waits x y was now =
         by_load (alike (node_of level) (side_of level) before (claim_words old) (turn_words old)
         (spin_words old) here place after same (like (Waiting x) (Waiting y) was now (waiting_alike x y)))
@@ -289,23 +289,23 @@ module _ (levels place level : ℕ) (old new : State) (here : IsSoundAt levels o
     )
 
     -- x2, where the place announced itself last, and where another did
-    pub act_part : before place ≡ Parting → after place ≡ Away → old.words (T level (node_of level place)) ≡ place + 1
+    pub act_release : before place ≡ Releasing → after place ≡ Away → old.words (T level (node_of level place)) ≡ place + 1
         → IsKept
-    act_part was now own = (
+    act_release was now own = (
       by_load (goes_away (node_of level) (side_of level) before (claim_words old) (turn_words old)
           (spin_words old) here place after same was
           (subst (λ z. Alike z Away) (sym now)
-          (record { claiming = refl; past = refl; waiting = refl; holding = refl; parting = refl }))),
-      owed_left act turns spins was now own,
+          (record { claiming = refl; past = refl; waiting = refl; holding = refl; releasing = refl }))),
+      owed_released act turns spins was now own,
     )
 
-    pub act_see : before place ≡ Parting → after place ≡ Freeing (old.words (T level (node_of level place)) - 1)
+    pub act_see : before place ≡ Releasing → after place ≡ LettingIn (old.words (T level (node_of level place)) - 1)
         → IsKept
     act_see was now = (
       by_load (goes_away (node_of level) (side_of level) before (claim_words old) (turn_words old)
           (spin_words old) here place after same was
-          (subst (λ z. Alike z Away) (sym now) (freeing_alike (old.words (T level (node_of level place)) - 1)))),
-      owed_parted act turns spins was now,
+          (subst (λ z. Alike z Away) (sym now) (letting_alike (old.words (T level (node_of level place)) - 1)))),
+      owed_letting_in act turns spins was now,
     )
 
     -- e4, where the other side is nil
@@ -321,15 +321,15 @@ module _ (levels place level : ℕ) (old new : State) (here : IsSoundAt levels o
     )
 
     -- e5 and e9, where another announced itself last
-    pub act_win_other : (point : Entry) → before place ≡ Waiting point → after place ≡ Holding
+    pub act_win_other : (point : EntryPoint) → before place ≡ Waiting point → after place ≡ Holding
         → old.words (T level (node_of level place)) ≢ place + 1 → IsKept
     act_win_other point was now other = (
       by_load (wins (node_of level) (side_of level) before (claim_words old) (turn_words old)
           (spin_words old) here place after same point was now
           (last_other (node_of level) (side_of level) before (claim_words old) (turn_words old)
-          (spin_words old) here place after same other (ap is_past was))),
+          (spin_words old) here place after same other (ap has_announced was))),
       owed_wins act turns spins point was now
-          (λ p rivals apart h zero k. none_last act turns spins (ap is_past was) other p rivals apart h),
+          (λ p rivals apart h zero k. none_last act turns spins (ap has_announced was) other p rivals apart h),
     )
 
     -- e10, where the place was let in

@@ -2,23 +2,23 @@
 use Rattle.std.proofs.Common.{◌≡◌, ◌≢◌, ℕ, ◌+◌, ◌-◌, ◌==◌, ◌&&◌, not, Bool, true, false, nat_lt, refl, arith, ap, sym}
 use Rattle.std.proofs.Common.{◌∙◌, ◌⊎◌, inl, inr, if◌then◌else◌, IsTrue}
 use Rattle.std.proofs.lemmas.Bool.Decides.{nat_tests}
-use Rattle.ya_core.specs.declared.process.Entry.{Entry}
-use Rattle.ya_core.specs.declared.process.Entry.TheVariants.{E1, E2, E3, E4, E5, E6, E7, E8, E9, E10}
+use Rattle.ya_core.specs.declared.process.EntryPoint.{EntryPoint}
+use Rattle.ya_core.specs.declared.process.EntryPoint.TheVariants.{E1, E2, E3, E4, E5, E6, E7, E8, E9, E10}
 use Rattle.ya_core.specs.declared.process.Process.{Process}
 use Rattle.ya_core.specs.declared.process.Process.TheVariants.{Idle, Entering, Inside, Leaving}
-use Rattle.ya_core.specs.Tree.{node_of, side_of, AreRivals}
+use Rattle.ya_core.specs.ArbitrationTree.{node_of, side_of, AreRivals}
 use Rattle.ya_core.specs.Steps.{next_of, won, entry_next}
-use Rattle.ya_core.specs.Soundness.{is_past, holds, entry_phase}
+use Rattle.ya_core.specs.Soundness.{has_announced, holds, entry_phase}
 use Rattle.ya_core.specs.Progress.{Announces, Wins, Neither, is_rival, is_win, is_entering, is_to_announce, deed_of}
 use Rattle.ya_core.proofs.Properness.{either}
 
 -- on the way in a process waits on at the level, or wins it
 pub data GoesIn (levels level : ℕ) (next : Process) : Type 0 where
-  StaysIn : (point : Entry) → next ≡ Entering level point → IsTrue (is_past (entry_phase point))
+  StaysIn : (point : EntryPoint) → next ≡ Entering level point → IsTrue (has_announced (entry_phase point))
       → GoesIn levels level next
   WinsIt : next ≡ won levels level → GoesIn levels level next
 
-pub goes_in : (levels level place : ℕ) (point : Entry) (value : ℕ) → IsTrue (is_past (entry_phase point))
+pub goes_in : (levels level place : ℕ) (point : EntryPoint) (value : ℕ) → IsTrue (has_announced (entry_phase point))
     → GoesIn levels level (entry_next levels level place point value)
 goes_in levels level place E1 value h = absurd cc
 goes_in levels level place E2 value h = absurd cc
@@ -42,19 +42,19 @@ pub won_is_out : (levels level : ℕ) → is_entering level (won levels level) �
 won_is_out levels level =
     either (λ x. is_entering level x ≡ false) (nat_lt level levels) _ _ (λ _. grind (arith, nat_tests)) (λ _. refl)
 
-pub entering_here : (level : ℕ) (point : Entry) → is_entering level (Entering level point) ≡ true
+pub entering_here : (level : ℕ) (point : EntryPoint) → is_entering level (Entering level point) ≡ true
 entering_here level point = grind (arith, nat_tests)
 
 -- a win of a level: the process waited there, and has won it
 pub record HasWon (levels level : ℕ) (x next : Process) : Type 0 where
-  pub point : Entry
+  pub point : EntryPoint
   pub was : x ≡ Entering level point
-  pub past : IsTrue (is_past (entry_phase point))
+  pub past : IsTrue (has_announced (entry_phase point))
   pub waited : holds (entry_phase point) ≡ false
   pub now : next ≡ won levels level
 
 -- only what waits can have waited
-not_held : (point : Entry) → holds (entry_phase point) ≡ false
+not_held : (point : EntryPoint) → holds (entry_phase point) ≡ false
 not_held E1 = refl
 not_held E2 = refl
 not_held E3 = refl
@@ -80,7 +80,7 @@ wins_by levels level q Inside value h = absurd cc
 wins_by levels level q (Leaving stands point) value h = absurd cc
 wins_by levels level q (Entering stands point) value h = by_level (level == stands) refl
   where
-    out : (point : Entry) → (level == stands) ≡ false
+    out : (point : EntryPoint) → (level == stands) ≡ false
         → (is_to_announce level (Entering stands point) ≡ true)
         ⊎ ((is_entering level (Entering stands point) && not
         (is_entering level (next_of levels q (Entering stands point) value))) ≡ false)
@@ -102,9 +102,9 @@ wins_by levels level q (Entering stands point) value h = by_level (level == stan
         not_both true c same = ap not same
         not_both false c same = refl
 
-    by_point : (point : Entry) → (level == stands) ≡ true
+    by_point : (point : EntryPoint) → (level == stands) ≡ true
         → IsTrue (is_win (deed_of level (Entering stands point) (next_of levels q (Entering stands point) value)))
-        → IsTrue (is_past (entry_phase point))
+        → IsTrue (has_announced (entry_phase point))
     by_point E1 e k =
         absurd (no_win false (is_entering level (Entering stands E1) && not (is_entering level (Entering stands E2)))
         (inr (not_both (level == stands) e)) k)

@@ -1,10 +1,10 @@
 pub mod Promised
-pub mod Places
+pub mod TreeSides
 pub mod Numbers
 pub mod Properness
 pub mod Counting
 pub mod PhaseKinds
-pub mod Level
+pub mod LevelClauses
 pub mod WakeFrame
 pub mod WakeLoads
 pub mod WakeStores

@@ -8,10 +8,10 @@ use Rattle.std.proofs.lemmas.Iterator.Adapters.{position_from-zero}
 use Rattle.std.specs.List.{position, position_from}
 use Rattle.ya_core.specs.declared.process.Process.{Process}
 use Rattle.ya_core.specs.declared.process.Process.TheVariants.{Idle}
-use Rattle.ya_core.specs.Tree.{count_of_words}
+use Rattle.ya_core.specs.ArbitrationTree.{count_of_words}
 use Rattle.ya_core.specs.Steps.{StepsTo, Accesses, opening, value_of, access_of, next_of}
-use Rattle.ya_core.specs.Soundness.{IsProper, IsSound}
-use Rattle.ya_core.specs.Walks.{AccessIsWithin}
+use Rattle.ya_core.specs.Soundness.{IsProper, IsSoundState}
+use Rattle.ya_core.specs.WalkerModel.{AccessIsWithin}
 use Rattle.ya_core.specs.Machines.{Rows, processes_of, state_of}
 use Rattle.ya_core.specs.inside.Machines.{IsMachine}
 use Rattle.ya_core.specs.FlatRow.{words_of, row_state}
@@ -102,7 +102,7 @@ opening_machine levels words processes some zeros idle =
       least = some;
       words = ap length zeros ∙ length-replicate (count_of_words levels) 0;
       processes = ap length idle ∙ length-replicate (2 ^ levels) Idle;
-      sound = subst (IsSound levels) (sym (opening_row levels words processes zeros idle)) (opens levels);
+      sound = subst (IsSoundState levels) (sym (opening_row levels words processes zeros idle)) (opens levels);
     }
 
 -- where no process is found inside, none is

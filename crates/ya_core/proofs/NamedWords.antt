@@ -7,7 +7,7 @@ use Rattle.std.proofs.lemmas.Bool.Decides.{nat_tests}
 use Rattle.ya_core.specs.declared.word.Word.{Word}
 use Rattle.ya_core.specs.declared.word.Word.TheVariants.{C, T, P}
 use Rattle.ya_core.specs.declared.word.Access.TheVariants.{Store}
-use Rattle.ya_core.specs.Tree.{IsWord, number_of, count_of_words}
+use Rattle.ya_core.specs.ArbitrationTree.{IsWord, number_of, count_of_words}
 use Rattle.ya_core.specs.Steps.{State, Accesses}
 use Rattle.ya_core.specs.FlatRow.{is_word, words_of}
 use Rattle.ya_core.proofs.Numbers.{number_within, same_number}

@@ -1,18 +1,18 @@
 -- Where a step of the way in or out leads, and how many points are ahead there.
 use Rattle.std.proofs.Common.{◌≡◌, ℕ, ◌+◌, ◌-◌, ◌≤◌, ◌==◌, Bool, true, false, refl, arith, ◌⊎◌, inl, inr, IsTrue}
 use Rattle.std.proofs.Common.{nat_lt}
-use Rattle.ya_core.specs.declared.process.Entry.{Entry}
-use Rattle.ya_core.specs.declared.process.Entry.TheVariants.{E1, E2, E3, E4, E5, E6, E7, E8, E9, E10}
-use Rattle.ya_core.specs.declared.process.Exit.TheVariants.{X1, X2, X3}
+use Rattle.ya_core.specs.declared.process.EntryPoint.{EntryPoint}
+use Rattle.ya_core.specs.declared.process.EntryPoint.TheVariants.{E1, E2, E3, E4, E5, E6, E7, E8, E9, E10}
+use Rattle.ya_core.specs.declared.process.ExitPoint.TheVariants.{X1, X2, X3}
 use Rattle.ya_core.specs.declared.process.Process.{Process}
 use Rattle.ya_core.specs.declared.process.Process.TheVariants.{Idle, Entering, Inside, Leaving}
-use Rattle.ya_core.specs.Steps.{next_of, entry_next, won, left}
-use Rattle.ya_core.specs.Walks.{points_of, entry_points}
+use Rattle.ya_core.specs.Steps.{next_of, entry_next, won, after_exit}
+use Rattle.ya_core.specs.WalkerModel.{points_of, entry_points}
 use Rattle.ya_core.specs.Fairness.{is_on_way_out}
 use Rattle.ya_core.proofs.Properness.{either}
 
 -- at a level one to ten points are ahead on the way in
-pub few_points : (point : Entry) → (1 ≤ entry_points point) × (entry_points point ≤ 10)
+pub few_points : (point : EntryPoint) → (1 ≤ entry_points point) × (entry_points point ≤ 10)
 few_points E1 = (omega arith, omega arith)
 few_points E2 = (omega arith, omega arith)
 few_points E3 = (omega arith, omega arith)
@@ -33,13 +33,13 @@ same_points levels (Leaving level point) way = refl
 
 -- where the way in at a level leads: to a point of that level, or on, or inside
 abbrev pub Onward : ℕ → Process → Type 0
-Onward level x = ((point : Entry) × (x ≡ Entering level point)) ⊎ ((x ≡ Entering (level + 1) E1) ⊎ (x ≡ Inside))
+Onward level x = ((point : EntryPoint) × (x ≡ Entering level point)) ⊎ ((x ≡ Entering (level + 1) E1) ⊎ (x ≡ Inside))
 
 won_onward : (levels level : ℕ) → Onward level (won levels level)
 won_onward levels level =
     either (Onward level) (nat_lt level levels) _ _ (λ _. inr (inl refl)) (λ _. inr (inr refl))
 
-pub onward : (levels level place : ℕ) (point : Entry) (value : ℕ)
+pub onward : (levels level place : ℕ) (point : EntryPoint) (value : ℕ)
     → Onward level (entry_next levels level place point value)
 onward levels level place E1 value = inl (E2, refl)
 onward levels level place E2 value = inl (E3, refl)
@@ -68,8 +68,8 @@ is_past_the_root _ = false
 abbrev pub Outward : Process → Type 0
 Outward x = (x ≡ Idle) ⊎ IsTrue (is_on_way_out x)
 
-left_outward : (level : ℕ) → Outward (left level)
-left_outward level = either Outward (nat_lt 1 level) _ _ (λ _. inr refl) (λ _. inl refl)
+after_exit_outward : (level : ℕ) → Outward (after_exit level)
+after_exit_outward level = either Outward (nat_lt 1 level) _ _ (λ _. inr refl) (λ _. inl refl)
 
 pub outward : (levels place : ℕ) (x : Process) (value : ℕ) → IsTrue (is_past_the_root x)
     → Outward (next_of levels place x value)
@@ -78,8 +78,8 @@ outward levels place (Entering level point) value past = absurd cc
 outward levels place Inside value past = inr refl
 outward levels place (Leaving level X1) value past = inr refl
 outward levels place (Leaving level X2) value past =
-    either Outward (value == place + 1) _ _ (λ _. left_outward level) (λ _. inr refl)
-outward levels place (Leaving level (X3 rival)) value past = left_outward level
+    either Outward (value == place + 1) _ _ (λ _. after_exit_outward level) (λ _. inr refl)
+outward levels place (Leaving level (X3 rival)) value past = after_exit_outward level
 
 pub past_by_out : (x : Process) → IsTrue (is_on_way_out x) → IsTrue (is_past_the_root x)
 past_by_out Idle way = absurd cc

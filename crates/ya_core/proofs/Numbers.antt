@@ -5,7 +5,7 @@ use Rattle.std.proofs.Math.Nat.{mul-le-mul_right}
 use Rattle.std.proofs.lemmas.Nat.{pow_pos, pow-add}
 use Rattle.ya_core.specs.declared.word.Word.{Word}
 use Rattle.ya_core.specs.declared.word.Word.TheVariants.{C, T, P}
-use Rattle.ya_core.specs.Tree.{IsWord, nodes_below, number_of, count_of_words}
+use Rattle.ya_core.specs.ArbitrationTree.{IsWord, nodes_below, number_of, count_of_words}
 
 -- the nodes of a level are half as many as those of the level and the ones above, together with one more
 pub double : (k : ℕ) → 2 ^ (k + 1) ≡ 2 * 2 ^ k

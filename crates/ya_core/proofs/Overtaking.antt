@@ -4,19 +4,19 @@ use Rattle.std.proofs.Common.{◌≡◌, ◌≢◌, ℕ, ◌+◌, ◌≤◌, ◌
 use Rattle.std.proofs.Common.{◌∙◌, subst, ◌⊎◌, inl, inr, if◌then◌else◌, IsTrue, List, [], ◌∷◌, ◌++◌}
 use Rattle.std.proofs.lemmas.Bool.Decides.{nat_tests}
 use Rattle.ya_core.specs.declared.word.Word.TheVariants.{C, T, P}
-use Rattle.ya_core.specs.declared.process.Entry.{Entry}
-use Rattle.ya_core.specs.declared.process.Entry.TheVariants.{E1, E2, E3, E4, E5, E6, E7, E8, E9, E10}
+use Rattle.ya_core.specs.declared.process.EntryPoint.{EntryPoint}
+use Rattle.ya_core.specs.declared.process.EntryPoint.TheVariants.{E1, E2, E3, E4, E5, E6, E7, E8, E9, E10}
 use Rattle.ya_core.specs.declared.process.Process.{Process}
 use Rattle.ya_core.specs.declared.process.Process.TheVariants.{Idle, Entering, Inside, Leaving}
-use Rattle.ya_core.specs.Tree.{node_of, side_of, AreRivals}
+use Rattle.ya_core.specs.ArbitrationTree.{node_of, side_of, AreRivals}
 use Rattle.ya_core.specs.Steps.{State, StepsTo, value_of, access_of, next_of, won, entry_next}
-use Rattle.ya_core.specs.Soundness.{Holding, is_past, holds, phase_of, entry_phase, IsSound}
+use Rattle.ya_core.specs.Soundness.{Holding, has_announced, holds, phase_of, entry_phase, IsSoundState}
 use Rattle.ya_core.specs.Progress.{Deed, announces, Announces, Wins, Neither, LevelStep, LevelSees, HasNotWon}
 use Rattle.ya_core.specs.Progress.{times_overtaken, is_rival, is_win, is_entering, is_to_announce, deed_of}
-use Rattle.ya_core.proofs.PhaseKinds.{claims_is_past, claims_holds}
-use Rattle.ya_core.proofs.Level.{one_a_side, or_else}
+use Rattle.ya_core.proofs.PhaseKinds.{claims_announced, claims_holds}
+use Rattle.ya_core.proofs.LevelClauses.{one_a_side, or_else}
 use Rattle.ya_core.proofs.Phases.{phase_here, phase_won}
-use Rattle.ya_core.proofs.Places.{side_below}
+use Rattle.ya_core.proofs.TreeSides.{side_below}
 use Rattle.ya_core.proofs.Invariant.{keeps}
 use Rattle.ya_core.proofs.TurnSteps.{is_announcing, past_announces, turn_or, turns_of}
 use Rattle.ya_core.proofs.LevelWins.{GoesIn, StaysIn, WinsIt, goes_in, won_is_out, entering_here, HasWon, wins_by}
@@ -26,22 +26,22 @@ use Rattle.ya_core.proofs.LevelWins.{rivals_by, no_own_rival, both_of}
 module _ (levels level place : ℕ) (some : 1 ≤ levels) (least : 1 ≤ level) (most : level ≤ levels) where
   -- it has announced itself and waits there
   record Waits (s : State) : Type 0 where
-    point : Entry
+    point : EntryPoint
     at : s.processes place ≡ Entering level point
-    past : IsTrue (is_past (entry_phase point))
+    past : IsTrue (has_announced (entry_phase point))
 
-  waits_past : (s : State) → Waits s → IsTrue (is_past (phase_of levels level (s.processes place)))
+  waits_past : (s : State) → Waits s → IsTrue (has_announced (phase_of levels level (s.processes place)))
   waits_past s w =
-      ap (λ x. is_past (phase_of levels level x)) w.at ∙ ap is_past (phase_here level (entry_phase w.point)) ∙ w.past
+      ap (λ x. has_announced (phase_of levels level x)) w.at ∙ ap has_announced (phase_here level (entry_phase w.point)) ∙ w.past
 
   -- the other side has won once: where T names the place, each rival that is past holds the node
   abbrev Spent : State → Type 0
   Spent s = s.words (T level (node_of level place)) ≡ place + 1 → (q : ℕ) → AreRivals level place q
-      → IsTrue (is_past (phase_of levels level (s.processes q)))
+      → IsTrue (has_announced (phase_of levels level (s.processes q)))
       → IsTrue (holds (phase_of levels level (s.processes q)))
 
   -- a step of another place
-  module _ (q : ℕ) (s t : State) (is : IsSound levels s) (step : StepsTo levels q s t) (w : Waits s)
+  module _ (q : ℕ) (s t : State) (is : IsSoundState levels s) (step : StepsTo levels q s t) (w : Waits s)
       (apart : q ≢ place) where
     still_waits : Waits t
     still_waits = record { point = w.point; at = step.others place (λ e. apart (sym e)) ∙ w.at; past = w.past }
@@ -64,18 +64,18 @@ module _ (levels level place : ℕ) (some : 1 ≤ levels) (least : 1 ≤ level) 
         by_place : (r ≡ q) ⊎ (t.processes r ≡ s.processes r) → IsTrue (holds (phase_of levels level (t.processes r)))
         by_place (inr stays) =
             subst (λ x. IsTrue (holds (phase_of levels level x))) (sym stays)
-            (spent (named_before own) r rivals (subst (λ x. IsTrue (is_past (phase_of levels level x))) stays past))
+            (spent (named_before own) r rivals (subst (λ x. IsTrue (has_announced (phase_of levels level x))) stays past))
         by_place (inl one) =
             subst (λ p. IsTrue (holds (phase_of levels level (t.processes p)))) (sym one)
             (by_past ((turns_of levels level q s t some least most is step).past
-            (subst (λ p. IsTrue (is_past (phase_of levels level (t.processes p)))) one past)))
+            (subst (λ p. IsTrue (has_announced (phase_of levels level (t.processes p)))) one past)))
           where
-            by_past : IsTrue (is_past (phase_of levels level (s.processes q)))
+            by_past : IsTrue (has_announced (phase_of levels level (s.processes q)))
                 ⊎ (t.words (T level (node_of level q)) ≡ q + 1) → IsTrue (holds (phase_of levels level (t.processes q)))
             by_past (inl was) =
                 let there : AreRivals level place q = subst (AreRivals level place) one rivals in
                 (turns_of levels level q s t some least most is step).held (spent (named_before own) q there was)
-                (subst (λ p. IsTrue (is_past (phase_of levels level (t.processes p)))) one past)
+                (subst (λ p. IsTrue (has_announced (phase_of levels level (t.processes p)))) one past)
             by_past (inr announced) =
                 let there : AreRivals level place q = subst (AreRivals level place) one rivals in
                 let both : q + 1 ≡ place + 1 = sym announced ∙ ap (λ n. t.words (T level n)) (sym there.0) ∙ own in
@@ -93,7 +93,7 @@ module _ (levels level place : ℕ) (some : 1 ≤ levels) (least : 1 ≤ level) 
       holds_now = ap (λ x. holds (phase_of levels level x)) won_it.now
           ∙ ap holds (phase_won levels level level most ∙ phase_here level Holding)
 
-      sound_now : IsSound levels t
+      sound_now : IsSoundState levels t
       sound_now = keeps levels q s t some is step
 
       -- a second win can't be
@@ -107,7 +107,7 @@ module _ (levels level place : ℕ) (some : 1 ≤ levels) (least : 1 ≤ level) 
           let phase_was : phase_of levels level (s.processes q) ≡ entry_phase won_it.point =
           ap (λ x. phase_of levels level x) won_it.was ∙ phase_here level (entry_phase won_it.point) in
           let held : IsTrue (holds (phase_of levels level (s.processes q))) =
-          spent (named_before own) q rivals (ap is_past phase_was ∙ won_it.past) in
+          spent (named_before own) q rivals (ap has_announced phase_was ∙ won_it.past) in
           let both : true ≡ false = sym held ∙ ap holds phase_was ∙ won_it.waited in cc
 
       -- after the first one it is spent
@@ -119,12 +119,12 @@ module _ (levels level place : ℕ) (some : 1 ≤ levels) (least : 1 ≤ level) 
           (λ n d. t.words (C level n d)) (λ n. t.words (T level n)) (λ p. t.words (P level p)) level_is r q
           (sym there.0 ∙ rivals.0)
           (omega (arith, side_below level r, side_below level q, side_below level place, there.1, rivals.1))
-          (claims_is_past (phase_of levels level (t.processes r)) past)
+          (claims_announced (phase_of levels level (t.processes r)) past)
           (claims_holds (phase_of levels level (t.processes q)) holds_now) in
           subst (λ p. IsTrue (holds (phase_of levels level (t.processes p)))) (sym same) holds_now
 
   -- a step of the place itself, which doesn't win
-  module _ (s t : State) (is : IsSound levels s) (step : StepsTo levels place s t) (w : Waits s) where
+  module _ (s t : State) (is : IsSoundState levels s) (step : StepsTo levels place s t) (w : Waits s) where
     own_waits : is_win (deed_of level (s.processes place) (t.processes place)) ≡ false → Waits t
     own_waits none =
         by_goal (t.processes place)
@@ -161,7 +161,7 @@ module _ (levels level place : ℕ) (some : 1 ≤ levels) (least : 1 ≤ level) 
     own_spent spent own r rivals past =
         let stays : t.processes r ≡ s.processes r = step.others r (λ e. rivals.1 (ap (side_of level) (sym e))) in
         subst (λ x. IsTrue (holds (phase_of levels level x))) (sym stays)
-        (spent named r rivals (subst (λ x. IsTrue (is_past (phase_of levels level x))) stays past))
+        (spent named r rivals (subst (λ x. IsTrue (has_announced (phase_of levels level x))) stays past))
       where
         named : s.words (T level (node_of level place)) ≡ place + 1
         named = by_turn (turn_or levels level place s t some least most is step (node_of level place))
@@ -193,11 +193,11 @@ module _ (levels level place : ℕ) (some : 1 ≤ levels) (least : 1 ≤ level) 
 
   -- that it is so along these steps, from whatever state
   abbrev IsSoAlong : List LevelStep → Type 0
-  IsSoAlong steps = (may : Bool) (t : State) → IsSound levels t → Waits t → May may t → LevelSees levels level t steps
+  IsSoAlong steps = (may : Bool) (t : State) → IsSoundState levels t → Waits t → May may t → LevelSees levels level t steps
       → times_overtaken level place steps ≤ (if may then 1 else 0)
 
   -- so often it is
-  overtaken : (may : Bool) (steps : List LevelStep) (s : State) → IsSound levels s → Waits s → May may s
+  overtaken : (may : Bool) (steps : List LevelStep) (s : State) → IsSoundState levels s → Waits s → May may s
       → LevelSees levels level s steps → HasNotWon place steps
       → times_overtaken level place steps ≤ (if may then 1 else 0)
   overtaken may [] s is w allowed sees none = omega arith
@@ -205,7 +205,7 @@ module _ (levels level place : ℕ) (some : 1 ≤ levels) (least : 1 ≤ level) 
       by_place (x.place == place) refl (is_rival level place x.place && is_win x.deed) refl may allowed
       (λ may t sound waits allowed sees_rest. overtaken may rest t sound waits allowed sees_rest none.1)
     where
-      sound : IsSound levels sees.0
+      sound : IsSoundState levels sees.0
       sound = keeps levels x.place s sees.0 some is sees.1
 
       -- the step overtakes it or not
@@ -285,7 +285,7 @@ module _ (levels level place : ℕ) (some : 1 ≤ levels) (least : 1 ≤ level) 
   announces_by false false e = absurd cc
 
   -- from the state where a run has come to, on
-  pub overtaken_from : (before during : List LevelStep) (s : State) → IsSound levels s
+  pub overtaken_from : (before during : List LevelStep) (s : State) → IsSoundState levels s
       → LevelSees levels level s (before ++ announces place ∷ during) → HasNotWon place during
       → times_overtaken level place during ≤ 1
   overtaken_from [] during s is sees none =

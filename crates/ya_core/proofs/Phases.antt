@@ -5,14 +5,14 @@ use Rattle.ya_core.specs.declared.word.Word.{Word}
 use Rattle.ya_core.specs.declared.word.Word.TheVariants.{C, T, P}
 use Rattle.ya_core.specs.declared.word.Access.{Access}
 use Rattle.ya_core.specs.declared.word.Access.TheVariants.{Load, Store}
-use Rattle.ya_core.specs.declared.process.Entry.{Entry}
-use Rattle.ya_core.specs.declared.process.Entry.TheVariants.{E1, E2, E3, E4, E5, E6, E7, E8, E9, E10}
-use Rattle.ya_core.specs.declared.process.Exit.{Exit}
-use Rattle.ya_core.specs.declared.process.Exit.TheVariants.{X1, X2, X3}
+use Rattle.ya_core.specs.declared.process.EntryPoint.{EntryPoint}
+use Rattle.ya_core.specs.declared.process.EntryPoint.TheVariants.{E1, E2, E3, E4, E5, E6, E7, E8, E9, E10}
+use Rattle.ya_core.specs.declared.process.ExitPoint.{ExitPoint}
+use Rattle.ya_core.specs.declared.process.ExitPoint.TheVariants.{X1, X2, X3}
 use Rattle.ya_core.specs.declared.process.Process.{Process}
 use Rattle.ya_core.specs.declared.process.Process.TheVariants.{Idle, Entering, Inside, Leaving}
-use Rattle.ya_core.specs.Steps.{Accesses, access_of, next_of, entry_next, exit_next, won, left}
-use Rattle.ya_core.specs.Soundness.{Phase, Away, Waiting, Holding, Parting, holds, phase_at, phase_of, entry_phase}
+use Rattle.ya_core.specs.Steps.{Accesses, access_of, next_of, entry_next, exit_next, won, after_exit}
+use Rattle.ya_core.specs.Soundness.{Phase, Away, Waiting, Holding, Releasing, holds, phase_at, phase_of, entry_phase}
 use Rattle.ya_core.specs.Soundness.{exit_phase, IsProper}
 use Rattle.ya_core.specs.Machines.{word_of}
 use Rattle.ya_core.proofs.Properness.{either}
@@ -55,16 +55,16 @@ phase_won levels stands level most =
     (λ _. phase_up level stands)
     (λ last. ap (λ n. phase_at level n Holding) (let same : levels ≡ stands = grind (arith, nat_tests) in same))
 
-pub phase_left : (levels stands level : ℕ) → 1 ≤ stands → 1 ≤ level
-    → phase_of levels level (left stands) ≡ phase_at level stands Away
-phase_left levels stands level some least =
+pub phase_after_exit : (levels stands level : ℕ) → 1 ≤ stands → 1 ≤ level
+    → phase_of levels level (after_exit stands) ≡ phase_at level stands Away
+phase_after_exit levels stands level some least =
     either (λ x. phase_of levels level x ≡ phase_at level stands Away) (nat_lt 1 stands) _ _
     (λ more. sym (phase_up level (stands - 1))
     ∙ ap (λ n. phase_at level n Away) (let same : stands - 1 + 1 ≡ stands = omega arith in same))
     (λ last. sym (phase_away level stands (grind (arith, nat_tests))))
 
 -- a step changes no phase but that of the level where it acts
-frame_entry : (levels stands level place : ℕ) (point : Entry) (value : ℕ) → stands ≤ levels → level ≢ stands
+frame_entry : (levels stands level place : ℕ) (point : EntryPoint) (value : ℕ) → stands ≤ levels → level ≢ stands
     → phase_of levels level (entry_next levels stands place point value) ≡ phase_at level stands (entry_phase point)
 frame_entry levels stands level place E1 value most apart = phase_apart level stands _ _ apart
 frame_entry levels stands level place E2 value most apart = phase_apart level stands _ _ apart
@@ -93,15 +93,15 @@ frame_entry levels stands level place E10 value most apart =
     (λ _. phase_won levels stands level most ∙ phase_apart level stands _ _ apart)
     (λ _. phase_apart level stands _ _ apart)
 
-frame_exit : (levels stands level place : ℕ) (point : Exit) (value : ℕ) → 1 ≤ stands → 1 ≤ level → level ≢ stands
+frame_exit : (levels stands level place : ℕ) (point : ExitPoint) (value : ℕ) → 1 ≤ stands → 1 ≤ level → level ≢ stands
     → phase_of levels level (exit_next stands place point value) ≡ phase_at level stands (exit_phase point)
 frame_exit levels stands level place X1 value some least apart = phase_apart level stands _ _ apart
 frame_exit levels stands level place X2 value some least apart =
-    either (λ x. phase_of levels level x ≡ phase_at level stands Parting) (value == place + 1) _ _
-    (λ _. phase_left levels stands level some least ∙ phase_apart level stands _ _ apart)
+    either (λ x. phase_of levels level x ≡ phase_at level stands Releasing) (value == place + 1) _ _
+    (λ _. phase_after_exit levels stands level some least ∙ phase_apart level stands _ _ apart)
     (λ _. phase_apart level stands _ _ apart)
 frame_exit levels stands level place (X3 rival) value some least apart =
-    phase_left levels stands level some least ∙ phase_apart level stands _ _ apart
+    phase_after_exit levels stands level some least ∙ phase_apart level stands _ _ apart
 
 pub frame_phase : (levels level place : ℕ) (x : Process) (value : ℕ) → 1 ≤ levels → 1 ≤ level → IsProper levels place x
     → level ≢ acts_at levels x

@@ -2,17 +2,17 @@
 use Rattle.std.proofs.Common.{◌≡◌, ℕ, ◌+◌, ◌-◌, ◌^◌, ◌<◌, ◌≤◌, ◌==◌, Bool, true, false, nat_lt, refl, arith, sym, ◌⊎◌}
 use Rattle.std.proofs.Common.{inl, inr, if◌then◌else◌}
 use Rattle.std.proofs.lemmas.Bool.Decides.{nat_tests}
-use Rattle.ya_core.specs.declared.process.Entry.{Entry}
-use Rattle.ya_core.specs.declared.process.Entry.TheVariants.{E1, E2, E3, E4, E5, E6, E7, E8, E9, E10}
-use Rattle.ya_core.specs.declared.process.Exit.{Exit}
-use Rattle.ya_core.specs.declared.process.Exit.TheVariants.{X1, X2, X3}
+use Rattle.ya_core.specs.declared.process.EntryPoint.{EntryPoint}
+use Rattle.ya_core.specs.declared.process.EntryPoint.TheVariants.{E1, E2, E3, E4, E5, E6, E7, E8, E9, E10}
+use Rattle.ya_core.specs.declared.process.ExitPoint.{ExitPoint}
+use Rattle.ya_core.specs.declared.process.ExitPoint.TheVariants.{X1, X2, X3}
 use Rattle.ya_core.specs.declared.process.Process.{Process}
 use Rattle.ya_core.specs.declared.process.Process.TheVariants.{Idle, Entering, Inside, Leaving}
-use Rattle.ya_core.specs.Tree.{node_of, side_of, AreRivals}
-use Rattle.ya_core.specs.Steps.{access_of, entry_access, exit_access, next_of, entry_next, exit_next, won, left}
+use Rattle.ya_core.specs.ArbitrationTree.{node_of, side_of, AreRivals}
+use Rattle.ya_core.specs.Steps.{access_of, entry_access, exit_access, next_of, entry_next, exit_next, won, after_exit}
 use Rattle.ya_core.specs.Soundness.{IsOnItsWay, IsProper, EntryIsProper, ExitIsProper}
-use Rattle.ya_core.proofs.Places.{side_below, node_within, node_holds}
-use Rattle.ya_core.specs.Walks.{MayFind, AccessIsWithin}
+use Rattle.ya_core.proofs.TreeSides.{side_below, node_within, node_holds}
+use Rattle.ya_core.specs.WalkerModel.{MayFind, AccessIsWithin}
 
 -- what holds of both branches of a choice holds of the choice
 pub either : (Q : Process → Type 0) (b : Bool) (x y : Process) → (b ≡ true → Q x) → (b ≡ false → Q y)
@@ -31,12 +31,12 @@ proper_won levels level place room most =
     either (IsProper levels place) (nat_lt level levels) _ _
     (λ less. on_its_way room (omega arith) (grind (arith, nat_tests)) tt) (λ _. room)
 
-proper_left : (levels level place : ℕ) → place < 2 ^ levels → level ≤ levels → IsProper levels place (left level)
+proper_left : (levels level place : ℕ) → place < 2 ^ levels → level ≤ levels → IsProper levels place (after_exit level)
 proper_left levels level place room most =
     either (IsProper levels place) (nat_lt 1 level) _ _
     (λ more. on_its_way room (grind (arith, nat_tests)) (omega arith) tt) (λ _. tt)
 
-proper_entry : (levels level place : ℕ) (point : Entry) (value : ℕ) → place < 2 ^ levels → 1 ≤ level → level ≤ levels
+proper_entry : (levels level place : ℕ) (point : EntryPoint) (value : ℕ) → place < 2 ^ levels → 1 ≤ level → level ≤ levels
     → EntryIsProper level place point → MayFind (entry_access level place point) value
     → IsProper levels place (entry_next levels level place point value)
 proper_entry levels level place E1 value room least most proper found = on_its_way room least most tt
@@ -68,7 +68,7 @@ proper_entry levels level place E10 value room least most proper found =
     either (IsProper levels place) (value == 2) _ _ (λ _. proper_won levels level place room most)
     (λ _. on_its_way room least most tt)
 
-proper_exit : (levels level place : ℕ) (point : Exit) (value : ℕ) → place < 2 ^ levels → 1 ≤ level → level ≤ levels
+proper_exit : (levels level place : ℕ) (point : ExitPoint) (value : ℕ) → place < 2 ^ levels → 1 ≤ level → level ≤ levels
     → ExitIsProper level place point → MayFind (exit_access level place point) value
     → IsProper levels place (exit_next level place point value)
 proper_exit levels level place X1 value room least most proper found = on_its_way room least most tt
@@ -89,7 +89,7 @@ proper_next levels place (Leaving level point) value some room proper found =
     proper_exit levels level place point value room proper.least proper.most proper.knows found
 
 -- a word that is due is a word of the tree
-within_entry : (levels level place : ℕ) (point : Entry) → place < 2 ^ levels → 1 ≤ level → level ≤ levels
+within_entry : (levels level place : ℕ) (point : EntryPoint) → place < 2 ^ levels → 1 ≤ level → level ≤ levels
     → EntryIsProper level place point → AccessIsWithin levels (entry_access level place point)
 within_entry levels level place E1 room least most proper =
     (least, most, node_within levels level place most room, side_below level place)
@@ -107,7 +107,7 @@ within_entry levels level place E8 room least most proper = (least, most, room)
 within_entry levels level place E9 room least most proper = (least, most, node_within levels level place most room)
 within_entry levels level place E10 room least most proper = (least, most, room)
 
-within_exit : (levels level place : ℕ) (point : Exit) → place < 2 ^ levels → 1 ≤ level → level ≤ levels
+within_exit : (levels level place : ℕ) (point : ExitPoint) → place < 2 ^ levels → 1 ≤ level → level ≤ levels
     → ExitIsProper level place point → AccessIsWithin levels (exit_access level place point)
 within_exit levels level place X1 room least most proper =
     (least, most, node_within levels level place most room, side_below level place)

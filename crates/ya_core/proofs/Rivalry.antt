@@ -5,19 +5,19 @@ use Rattle.std.proofs.Common.{subst, ◌⊎◌, inl, inr, IsTrue, if◌then◌el
 use Rattle.std.proofs.lemmas.Bool.Decides.{nat_tests}
 use Rattle.ya_core.specs.declared.word.Word.TheVariants.{C, T, P}
 use Rattle.ya_core.specs.declared.word.Access.TheVariants.{Store}
-use Rattle.ya_core.specs.declared.process.Entry.{Entry}
-use Rattle.ya_core.specs.declared.process.Entry.TheVariants.{E1, E2, E3, E4, E5, E6, E7, E8, E9, E10}
-use Rattle.ya_core.specs.declared.process.Exit.TheVariants.{X1, X2, X3}
+use Rattle.ya_core.specs.declared.process.EntryPoint.{EntryPoint}
+use Rattle.ya_core.specs.declared.process.EntryPoint.TheVariants.{E1, E2, E3, E4, E5, E6, E7, E8, E9, E10}
+use Rattle.ya_core.specs.declared.process.ExitPoint.TheVariants.{X1, X2, X3}
 use Rattle.ya_core.specs.declared.process.Process.{Process}
 use Rattle.ya_core.specs.declared.process.Process.TheVariants.{Idle, Entering, Inside, Leaving}
-use Rattle.ya_core.specs.Tree.{node_of, side_of, AreRivals}
+use Rattle.ya_core.specs.ArbitrationTree.{node_of, side_of, AreRivals}
 use Rattle.ya_core.specs.Steps.{State, StepsTo, Accesses, value_of, access_of, next_of, won}
-use Rattle.ya_core.specs.Soundness.{Phase, claims, is_past, waits, holds, awaits_two, saw_itself_last, is_to_wake}
-use Rattle.ya_core.specs.Soundness.{wakes_next, phase_of, entry_phase, IsProper, IsSound, SomeRival}
-use Rattle.ya_core.specs.Walks.{points_of, is_waiting, MayFind, due_of, IsTold}
-use Rattle.ya_core.proofs.Places.{side_below}
+use Rattle.ya_core.specs.Soundness.{Phase, claims, has_announced, waits, holds, awaits_release, saw_itself_last, is_to_wake}
+use Rattle.ya_core.specs.Soundness.{wakes_next, phase_of, entry_phase, IsProper, IsSoundState, SomeRival}
+use Rattle.ya_core.specs.WalkerModel.{points_of, is_waiting, MayFind, due_of, MayBeTold}
+use Rattle.ya_core.proofs.TreeSides.{side_below}
 use Rattle.ya_core.proofs.PhaseKinds.{by_phases, competes}
-use Rattle.ya_core.proofs.Level.{one_a_side}
+use Rattle.ya_core.proofs.LevelClauses.{one_a_side}
 use Rattle.ya_core.proofs.Phases.{acts_at, frame_phase, holds_below}
 use Rattle.ya_core.proofs.Invariant.{alone_at, finds}
 use Rattle.ya_core.proofs.Deadlock.{IsStuck, Asleep, Outside, stuck_at, owed_to, phase_is, never_wakes, last}
@@ -85,14 +85,14 @@ spin_after levels old new r level p apart step =
 
 -- a process that is told to go on is told what its access may find
 told : (levels place : ℕ) (x : Process) (value : ℕ) → MayFind (access_of levels place x) value
-    → IsTold (due_of levels place x true) value
+    → MayBeTold (due_of levels place x true) value
 told levels place Idle value found = found
 told levels place (Entering level point) value found = found
 told levels place Inside value found = found
 told levels place (Leaving level point) value found = found
 
 -- so the step that is due takes its place nearer to its goal, or leaves it waiting
-may_come_nearer : (levels place : ℕ) (s : State) → 1 ≤ levels → IsSound levels s
+may_come_nearer : (levels place : ℕ) (s : State) → 1 ≤ levels → IsSoundState levels s
     → (points_of levels (next_of levels place (s.processes place)
     (value_of s.words (access_of levels place (s.processes place)))) false < points_of levels (s.processes place) true)
     ⊎ (IsTrue (is_waiting (s.processes place)) × (next_of levels place (s.processes place)
@@ -108,12 +108,12 @@ claims_is_to_wake : (p : ℕ) (x : Phase) → IsTrue (is_to_wake p x) → IsTrue
 claims_is_to_wake p = by_phases (is_to_wake p) claims refl refl refl (λ point. refl) refl refl (λ rival. refl)
 
 -- the level at which one is stuck is the one where it stands
-pub stuck_level : (s : State) (p l level : ℕ) (point : Entry) → s.processes p ≡ Entering level point → IsStuck s p l
+pub stuck_level : (s : State) (p l level : ℕ) (point : EntryPoint) → s.processes p ≡ Entering level point → IsStuck s p l
     → l ≡ level
 stuck_level s p l level point e (Asleep at none) = let both = sym at ∙ e in cc
 stuck_level s p l level point e (Outside at apart) = let both = sym at ∙ e in cc
 
-module _ (levels : ℕ) (some : 1 ≤ levels) (s : State) (is : IsSound levels s) where
+module _ (levels : ℕ) (some : 1 ≤ levels) (s : State) (is : IsSoundState levels s) where
   -- the step of one who is stuck changes nothing
   stays : (p level : ℕ) → IsStuck s p level
       → next_of levels p (s.processes p) (value_of s.words (access_of levels p (s.processes p))) ≡ s.processes p
@@ -195,7 +195,7 @@ module _ (levels : ℕ) (some : 1 ≤ levels) (s : State) (is : IsSound levels s
       → s.words (T level (node_of level a)) ≢ a + 1 → ⊥
   unnamed a b level (Outside e apart) two rivals other =
       apart ((owed_to levels s some is a level (Outside e apart)).has_two other
-      (ap awaits_two (phase_is levels s some is a level E10 e)))
+      (ap awaits_release (phase_is levels s some is a level E10 e)))
   unnamed a b level (Asleep e none) two rivals other =
       by_waker ((owed_to levels s some is a level (Asleep e none)).owed_one other
       (ap saw_itself_last (phase_is levels s some is a level E8 e)) none)
@@ -227,7 +227,7 @@ module _ (levels : ℕ) (some : 1 ≤ levels) (s : State) (is : IsSound levels s
           (let both : b + 1 ≡ a + 1 = sym other ∙ ap (λ n. s.words (T level n)) (sym rivals.0) ∙ named in
           let same : a ≡ b = omega (arith, both) in same)))
 
-  module _ (r : ℕ) (t : State) (step : StepsTo levels r s t) (sound : IsSound levels t) where
+  module _ (r : ℕ) (t : State) (step : StepsTo levels r s t) (sound : IsSoundState levels t) where
     -- one who is stuck stands where it stood
     pub stands_still : (p level : ℕ) → IsStuck s p level → t.processes p ≡ s.processes p
     stands_still p level stuck = by_place (p == r) refl
@@ -273,10 +273,10 @@ module _ (levels : ℕ) (some : 1 ≤ levels) (s : State) (is : IsSound levels s
             never two =
                 let named : s.words (T level (node_of level p)) ≡ r + 1 =
                 (is.sound level proper.least proper.most).let_in p r rivals
-                (ap waits (phase_is levels s some is p level E10 at)) two (ap is_past phase_r) in
+                (ap waits (phase_is levels s some is p level E10 at)) two (ap has_announced phase_r) in
                 let wakes : wakes_next p (phase_of levels level (s.processes r)) ≡ false =
                 (is.owed level proper.least proper.most p).keeps_two (λ own. apart (omega (arith, named, own)))
-                (ap awaits_two (phase_is levels s some is p level E10 at)) r rivals in
+                (ap awaits_release (phase_is levels s some is p level E10 at)) r rivals in
                 let itself : (p == p) ≡ true = grind (arith, nat_tests) in
                 let both : true ≡ false = sym itself ∙ sym (ap (wakes_next p) phase_r) ∙ wakes in cc
 
@@ -288,7 +288,7 @@ module _ (levels : ℕ) (some : 1 ≤ levels) (s : State) (is : IsSound levels s
         subst (λ k. IsTrue (competes (phase_of levels level (t.processes k))))
         (by_place (rival.0 == r) refl) rival.2
       where
-        at : (point : Entry) × (t.processes p ≡ Entering level point) × (1 ≤ level) × (level ≤ levels)
+        at : (point : EntryPoint) × (t.processes p ≡ Entering level point) × (1 ≤ level) × (level ≤ levels)
         at = stuck_at levels t some sound p level stuck
 
         rival : SomeRival (node_of level) (side_of level) (λ k. phase_of levels level (t.processes k)) p competes

@@ -6,9 +6,9 @@ use Rattle.std.proofs.Math.Nat.{mod-lt, le-mul_of_pos_right}
 use Rattle.std.proofs.lemmas.Nat.{pow_pos, mod-mul-add}
 use Rattle.ya_core.specs.declared.process.Process.TheVariants.{Idle, Inside}
 use Rattle.ya_core.specs.Steps.{State, StepsTo, LeadTo, opening}
-use Rattle.ya_core.specs.Soundness.{IsSound}
+use Rattle.ya_core.specs.Soundness.{IsSoundState}
 use Rattle.ya_core.specs.Progress.{CanLeadTo}
-use Rattle.ya_core.specs.Fairness.{IsRunOf, IsFair, Eventually, is_on_way_in, is_on_way_out}
+use Rattle.ya_core.specs.Fairness.{IsRunOfSchedule, IsFair, Eventually, is_on_way_in, is_on_way_out}
 use Rattle.ya_core.specs.Worlds.{IsInside, is_inside}
 use Rattle.ya_core.proofs.Invariant.{keeps, opens, is_inside_is}
 use Rattle.ya_core.proofs.Outcomes.{may_step, one_outcome}
@@ -16,13 +16,13 @@ use Rattle.ya_core.proofs.Deadlock.{in_tree}
 use Rattle.ya_core.proofs.Starvation.{comes_inside, goes_idle}
 
 -- steps of the places that a schedule picks, from a sound state on
-module _ (levels : ℕ) (some : 1 ≤ levels) (schedule : ℕ → ℕ) (states : ℕ → State) (is : IsSound levels (states 0))
+module _ (levels : ℕ) (some : 1 ≤ levels) (schedule : ℕ → ℕ) (states : ℕ → State) (is : IsSoundState levels (states 0))
     (step : (time : ℕ) → StepsTo levels (schedule time) (states time) (states (time + 1))) where
   -- each state is sound
-  sound_at : (time : ℕ) → IsSound levels (states time)
+  sound_at : (time : ℕ) → IsSoundState levels (states time)
   sound_at zero = is
   sound_at (suc n) =
-      subst (λ k. IsSound levels (states k)) (let next : n + 1 ≡ suc n = omega arith in next)
+      subst (λ k. IsSoundState levels (states k)) (let next : n + 1 ≡ suc n = omega arith in next)
       (keeps levels (schedule n) (states n) (states (n + 1)) some (sound_at n) (step n))
 
   -- the places that are picked from a time on lead to the state of a later one
@@ -36,7 +36,7 @@ module _ (levels : ℕ) (some : 1 ≤ levels) (schedule : ℕ → ℕ) (states :
       let lead = leads found.0 0 found.0 (omega arith) in (lead.0, states found.0, lead.1, found.2)
 
 -- who comes inside, or to idle, under a fair schedule
-enters_at : (levels : ℕ) (schedule : ℕ → ℕ) (states : ℕ → State) → 1 ≤ levels → IsSound levels (states 0)
+enters_at : (levels : ℕ) (schedule : ℕ → ℕ) (states : ℕ → State) → 1 ≤ levels → IsSoundState levels (states 0)
     → ((time : ℕ) → StepsTo levels (schedule time) (states time) (states (time + 1)))
     → IsFair schedule states → (place time : ℕ) → IsTrue (is_on_way_in ((states time).processes place))
     → Eventually time (λ later. IsInside (states later) place)
@@ -44,7 +44,7 @@ enters_at levels schedule states some is step fair place time way =
     let found = comes_inside levels some schedule states (sound_at levels some schedule states is step) step fair place
     time way in (found.0, found.1, ap is_inside found.2)
 
-leaves_at : (levels : ℕ) (schedule : ℕ → ℕ) (states : ℕ → State) → 1 ≤ levels → IsSound levels (states 0)
+leaves_at : (levels : ℕ) (schedule : ℕ → ℕ) (states : ℕ → State) → 1 ≤ levels → IsSoundState levels (states 0)
     → ((time : ℕ) → StepsTo levels (schedule time) (states time) (states (time + 1)))
     → IsFair schedule states → (place time : ℕ)
     → IsInside (states time) place ⊎ IsTrue (is_on_way_out ((states time).processes place))
@@ -59,17 +59,17 @@ leaves_at levels schedule states some is step fair place time way =
     by_way (inr out) = inr out
 
 -- so in a run
-opening_sound : (levels : ℕ) (schedule : ℕ → ℕ) (states : ℕ → State) → IsRunOf levels schedule states
-    → IsSound levels (states 0)
-opening_sound levels schedule states run = subst (IsSound levels) (sym run.start) (opens levels)
+opening_sound : (levels : ℕ) (schedule : ℕ → ℕ) (states : ℕ → State) → IsRunOfSchedule levels schedule states
+    → IsSoundState levels (states 0)
+opening_sound levels schedule states run = subst (IsSoundState levels) (sym run.start) (opens levels)
 
-pub enters : (levels : ℕ) (schedule : ℕ → ℕ) (states : ℕ → State) → 1 ≤ levels → IsRunOf levels schedule states
+pub enters : (levels : ℕ) (schedule : ℕ → ℕ) (states : ℕ → State) → 1 ≤ levels → IsRunOfSchedule levels schedule states
     → IsFair schedule states → (place time : ℕ) → IsTrue (is_on_way_in ((states time).processes place))
     → Eventually time (λ later. IsInside (states later) place)
 enters levels schedule states some run =
     enters_at levels schedule states some (opening_sound levels schedule states run) run.steps
 
-pub leaves : (levels : ℕ) (schedule : ℕ → ℕ) (states : ℕ → State) → 1 ≤ levels → IsRunOf levels schedule states
+pub leaves : (levels : ℕ) (schedule : ℕ → ℕ) (states : ℕ → State) → 1 ≤ levels → IsRunOfSchedule levels schedule states
     → IsFair schedule states → (place time : ℕ)
     → IsInside (states time) place ⊎ IsTrue (is_on_way_out ((states time).processes place))
     → Eventually time (λ later. (states later).processes place ≡ Idle)
@@ -94,17 +94,17 @@ steps_from levels schedule within s n =
 
 -- each schedule has a run
 is_run : (levels : ℕ) (schedule : ℕ → ℕ) (within : (time : ℕ) → schedule time < 2 ^ levels)
-    → IsRunOf levels schedule (states_from levels schedule within opening)
+    → IsRunOfSchedule levels schedule (states_from levels schedule within opening)
 unfolding states_from
 is_run levels schedule within = record { start = refl; steps = steps_from levels schedule within opening }
 
 pub run_of : (levels : ℕ) (schedule : ℕ → ℕ) → ((time : ℕ) → schedule time < 2 ^ levels)
-    → (states : ℕ → State) × IsRunOf levels schedule states
+    → (states : ℕ → State) × IsRunOfSchedule levels schedule states
 run_of levels schedule within = (states_from levels schedule within opening, is_run levels schedule within)
 
 -- and no other
-pub one_run : (levels : ℕ) (schedule : ℕ → ℕ) (states other : ℕ → State) → IsRunOf levels schedule states
-    → IsRunOf levels schedule other → (time : ℕ) → other time ≡ states time
+pub one_run : (levels : ℕ) (schedule : ℕ → ℕ) (states other : ℕ → State) → IsRunOfSchedule levels schedule states
+    → IsRunOfSchedule levels schedule other → (time : ℕ) → other time ≡ states time
 one_run levels schedule states other run also zero = also.start ∙ sym run.start
 one_run levels schedule states other run also (suc n) =
     subst (λ k. other k ≡ states k) (let next : n + 1 ≡ suc n = omega arith in next)
@@ -123,8 +123,8 @@ in_turn_within levels time = mod-lt time (pow_pos levels)
 abbrev turns : (levels : ℕ) → State → ℕ → State
 turns levels = states_from levels (in_turn levels) (in_turn_within levels)
 
-module _ (levels : ℕ) (some : 1 ≤ levels) (s : State) (is : IsSound levels s) where
-  turns_sound : IsSound levels (turns levels s 0)
+module _ (levels : ℕ) (some : 1 ≤ levels) (s : State) (is : IsSoundState levels s) where
+  turns_sound : IsSoundState levels (turns levels s 0)
   unfolding states_from
   turns_sound = is
 
@@ -161,7 +161,7 @@ module _ (levels : ℕ) (some : 1 ≤ levels) (s : State) (is : IsSound levels s
 
 -- and some schedule is fair
 pub some_fair : (levels : ℕ) → 1 ≤ levels
-    → (schedule : ℕ → ℕ) × (states : ℕ → State) × IsRunOf levels schedule states × IsFair schedule states
+    → (schedule : ℕ → ℕ) × (states : ℕ → State) × IsRunOfSchedule levels schedule states × IsFair schedule states
 some_fair levels some = (
   in_turn levels,
   turns levels opening,

@@ -3,14 +3,14 @@
 use Rattle.std.proofs.Common.{◌≡◌, ◌≢◌, ℕ, zero, suc, ◌+◌, ◌-◌, ◌<◌, ◌≤◌, ◌==◌, Bool, true, false, refl, arith, ap}
 use Rattle.std.proofs.Common.{sym, ◌∙◌, subst, ◌⊎◌, inl, inr, IsTrue}
 use Rattle.std.proofs.lemmas.Bool.Decides.{nat_tests}
-use Rattle.ya_core.specs.declared.process.Entry.{Entry}
-use Rattle.ya_core.specs.declared.process.Entry.TheVariants.{E1}
+use Rattle.ya_core.specs.declared.process.EntryPoint.{EntryPoint}
+use Rattle.ya_core.specs.declared.process.EntryPoint.TheVariants.{E1}
 use Rattle.ya_core.specs.declared.process.Process.{Process}
 use Rattle.ya_core.specs.declared.process.Process.TheVariants.{Idle, Entering, Inside, Leaving}
-use Rattle.ya_core.specs.Tree.{AreRivals}
+use Rattle.ya_core.specs.ArbitrationTree.{AreRivals}
 use Rattle.ya_core.specs.Steps.{State, StepsTo, value_of, access_of, next_of, entry_next}
-use Rattle.ya_core.specs.Soundness.{phase_of, entry_phase, IsProper, IsSound}
-use Rattle.ya_core.specs.Walks.{points_of}
+use Rattle.ya_core.specs.Soundness.{phase_of, entry_phase, IsProper, IsSoundState}
+use Rattle.ya_core.specs.WalkerModel.{points_of}
 use Rattle.ya_core.specs.Fairness.{Eventually, is_on_way_in, is_on_way_out}
 use Rattle.ya_core.proofs.PhaseKinds.{competes}
 use Rattle.ya_core.proofs.Phases.{competes_at}
@@ -22,7 +22,7 @@ use Rattle.ya_core.proofs.NextPoints.{past_by_out}
 use Rattle.ya_core.proofs.FairRuns.{sooner, until, ends}
 
 module _ (levels : ℕ) (some : 1 ≤ levels) (schedule : ℕ → ℕ) (states : ℕ → State)
-    (sound : (time : ℕ) → IsSound levels (states time))
+    (sound : (time : ℕ) → IsSoundState levels (states time))
     (step : (time : ℕ) → StepsTo levels (schedule time) (states time) (states (time + 1)))
     (fair : (place time : ℕ) → (states time).processes place ≢ Idle
     → Eventually time (λ later. schedule later ≡ place)) where
@@ -74,12 +74,12 @@ module _ (levels : ℕ) (some : 1 ≤ levels) (schedule : ℕ → ℕ) (states :
   Ready p x n = (at p n ≡ x) × IsFree p n
 
   -- a place came nearer than that point
-  abbrev Nearer : (p level : ℕ) → Entry → ℕ → Type 0
+  abbrev Nearer : (p level : ℕ) → EntryPoint → ℕ → Type 0
   Nearer p level point n =
       (points_of levels (at p n) false < points_of levels (Entering level point) false) × Onward level (at p n)
 
   -- one that isn't stuck on its way in comes nearer at some time
-  goes_on : (p level : ℕ) (point : Entry) (n : ℕ) → Ready p (Entering level point) n
+  goes_on : (p level : ℕ) (point : EntryPoint) (n : ℕ) → Ready p (Entering level point) n
       → Eventually n (Nearer p level point)
   goes_on p level point n ready =
       ends levels schedule states step fair p (Ready p (Entering level point)) (Nearer p level point) (λ x. points_of levels x false)
@@ -170,7 +170,7 @@ module _ (levels : ℕ) (some : 1 ≤ levels) (schedule : ℕ → ℕ) (states :
         ends levels schedule states step fair p Leaves So (λ x. points_of levels x true) leaves_idle leaves_keeps leaves_falls n (goes, past)
 
   -- one who is stuck at a level, and the rival that competes there
-  module _ (p q level : ℕ) (point : Entry) (rivals : AreRivals level p q) where
+  module _ (p q level : ℕ) (point : EntryPoint) (rivals : AreRivals level p q) where
     record HeldUp (n : ℕ) : Type 0 where
       stands : at p n ≡ Entering level point
       stuck : IsStuck (states n) p level
@@ -225,7 +225,7 @@ module _ (levels : ℕ) (some : 1 ≤ levels) (schedule : ℕ → ℕ) (states :
 
     -- the rival is at the level
     abbrev Here : ℕ → Type 0
-    Here n = HeldUp n × ((there : Entry) × (at q n ≡ Entering level there))
+    Here n = HeldUp n × ((there : EntryPoint) × (at q n ≡ Entering level there))
 
     -- it has won the level
     abbrev Gone : ℕ → Type 0
@@ -276,10 +276,10 @@ module _ (levels : ℕ) (some : 1 ≤ levels) (schedule : ℕ → ℕ) (states :
 
     -- so wherever the rival stands, the word is there at some time
     module _ (fuel : ℕ) (enough : points_of levels (Entering level point) false < fuel + 1)
-        (again : (n k l : ℕ) (there : Entry) → at k n ≡ Entering l there
+        (again : (n k l : ℕ) (there : EntryPoint) → at k n ≡ Entering l there
         → points_of levels (Entering l there) false < fuel → Eventually n (λ m. at k m ≡ Inside)) where
       -- the rival stands higher up
-      above : (n l : ℕ) (there : Entry) → HeldUp n → level < l → at q n ≡ Entering l there
+      above : (n l : ℕ) (there : EntryPoint) → HeldUp n → level < l → at q n ≡ Entering l there
           → Eventually n (Ready p (Entering level point))
       above n l there held more e =
           let proper : IsProper levels q (Entering l there) = subst (IsProper levels q) e ((sound n).proper q) in
@@ -327,13 +327,13 @@ module _ (levels : ℕ) (some : 1 ≤ levels) (schedule : ℕ → ℕ) (states :
                   above n l there held (omega (arith, apart, up)) e
 
   -- a place that is on its way in comes inside at some time
-  comes_in : (fuel n p level : ℕ) (point : Entry) → at p n ≡ Entering level point
+  comes_in : (fuel n p level : ℕ) (point : EntryPoint) → at p n ≡ Entering level point
       → points_of levels (Entering level point) false < fuel → Eventually n (λ m. at p m ≡ Inside)
   comes_in zero n p level point e less = absurd (omega (arith, less))
   comes_in (suc fuel) n p level point e less =
       by_state (λ n k l there e less. comes_in fuel n k l there e less) (free_or_stuck p n)
     where
-      on : ((n k l : ℕ) (there : Entry) → at k n ≡ Entering l there
+      on : ((n k l : ℕ) (there : EntryPoint) → at k n ≡ Entering l there
           → points_of levels (Entering l there) false < fuel → Eventually n (λ m. at k m ≡ Inside))
           → (m : ℕ) → n ≤ m → Ready p (Entering level point) m → Eventually n (λ m. at p m ≡ Inside)
       on again m later ready =
@@ -342,7 +342,7 @@ module _ (levels : ℕ) (some : 1 ≤ levels) (schedule : ℕ → ℕ) (states :
           by_step : Eventually m (Nearer p level point) → Eventually m (λ m. at p m ≡ Inside)
           by_step found = sooner (λ m. at p m ≡ Inside) m found.0 found.1 (by_next found.2.1)
             where
-              by_entry : (l : ℕ) (there : Entry) → at p found.0 ≡ Entering l there
+              by_entry : (l : ℕ) (there : EntryPoint) → at p found.0 ≡ Entering l there
                   → Eventually found.0 (λ m. at p m ≡ Inside)
               by_entry l there e =
                   let same : points_of levels (at p found.0) false ≡ points_of levels (Entering l there) false =
@@ -354,7 +354,7 @@ module _ (levels : ℕ) (some : 1 ≤ levels) (schedule : ℕ → ℕ) (states :
               by_next (inr (inl up)) = by_entry (level + 1) E1 up
               by_next (inr (inr inside)) = (found.0, omega arith, inside)
 
-      by_state : ((n k l : ℕ) (there : Entry) → at k n ≡ Entering l there
+      by_state : ((n k l : ℕ) (there : EntryPoint) → at k n ≡ Entering l there
           → points_of levels (Entering l there) false < fuel → Eventually n (λ m. at k m ≡ Inside))
           → IsFree p n ⊎ ((l : ℕ) × IsStuck (states n) p l) → Eventually n (λ m. at p m ≡ Inside)
       by_state again (inl ready) = on again n (omega arith) (e, ready)

@@ -5,19 +5,19 @@ use Rattle.std.proofs.lemmas.Bool.Decides.{nat_tests}
 use Rattle.ya_core.specs.declared.word.Word.TheVariants.{C, T, P}
 use Rattle.ya_core.specs.declared.word.Access.{Access}
 use Rattle.ya_core.specs.declared.word.Access.TheVariants.{Load, Store}
-use Rattle.ya_core.specs.declared.process.Entry.{Entry}
-use Rattle.ya_core.specs.declared.process.Entry.TheVariants.{E1, E2, E3, E4, E5, E6, E7, E8, E9, E10}
-use Rattle.ya_core.specs.declared.process.Exit.{Exit}
-use Rattle.ya_core.specs.declared.process.Exit.TheVariants.{X1, X2, X3}
+use Rattle.ya_core.specs.declared.process.EntryPoint.{EntryPoint}
+use Rattle.ya_core.specs.declared.process.EntryPoint.TheVariants.{E1, E2, E3, E4, E5, E6, E7, E8, E9, E10}
+use Rattle.ya_core.specs.declared.process.ExitPoint.{ExitPoint}
+use Rattle.ya_core.specs.declared.process.ExitPoint.TheVariants.{X1, X2, X3}
 use Rattle.ya_core.specs.declared.process.Process.{Process}
 use Rattle.ya_core.specs.declared.process.Process.TheVariants.{Idle, Entering, Inside, Leaving}
-use Rattle.ya_core.specs.Tree.{node_of}
-use Rattle.ya_core.specs.Steps.{State, StepsTo, Accesses, value_of, access_of, next_of, left, entry_next, exit_next}
-use Rattle.ya_core.specs.Soundness.{Phase, Away, Named, Announced, Waiting, Holding, Parting, Freeing, is_past, holds}
-use Rattle.ya_core.specs.Soundness.{phase_of, entry_phase, exit_phase, IsSound}
+use Rattle.ya_core.specs.ArbitrationTree.{node_of}
+use Rattle.ya_core.specs.Steps.{State, StepsTo, Accesses, value_of, access_of, next_of, after_exit, entry_next, exit_next}
+use Rattle.ya_core.specs.Soundness.{Phase, Away, Named, Announced, Waiting, Holding, Releasing, LettingIn, has_announced, holds}
+use Rattle.ya_core.specs.Soundness.{phase_of, entry_phase, exit_phase, IsSoundState}
 use Rattle.ya_core.specs.Progress.{is_to_announce}
 use Rattle.ya_core.proofs.Properness.{either}
-use Rattle.ya_core.proofs.Phases.{acts_at, phase_here, phase_left, frame_phase}
+use Rattle.ya_core.proofs.Phases.{acts_at, phase_here, phase_after_exit, frame_phase}
 
 -- the process is to announce itself at the level where it stands
 abbrev pub is_announcing : Process → Bool
@@ -25,7 +25,7 @@ is_announcing (Entering level E2) = true
 is_announcing _ = false
 
 -- one that waits there isn't
-pub past_announces : (level : ℕ) (point : Entry) → IsTrue (is_past (entry_phase point))
+pub past_announces : (level : ℕ) (point : EntryPoint) → IsTrue (has_announced (entry_phase point))
     → (is_announcing (Entering level point) ≡ false) × (is_to_announce level (Entering level point) ≡ false)
 past_announces level E1 h = absurd cc
 past_announces level E2 h = absurd cc
@@ -40,7 +40,7 @@ past_announces level E10 h = (refl, refl)
 
 -- what one step does to a level's words T and to the phase of its process there
 module _ (levels level q : ℕ) (s t : State) (some : 1 ≤ levels) (least : 1 ≤ level) (most : level ≤ levels)
-    (is : IsSound levels s) (step : StepsTo levels q s t) where
+    (is : IsSoundState levels s) (step : StepsTo levels q s t) where
   abbrev pub value : ℕ
   value = value_of s.words (access_of levels q (s.processes q))
 
@@ -103,31 +103,31 @@ module _ (levels level q : ℕ) (s t : State) (some : 1 ≤ levels) (least : 1 �
 
   -- it is past only where it was, or announced itself, and where it held the level it holds it still or is past no more
   pub record Turns (x y : Phase) : Type 0 where
-    pub past : IsTrue (is_past y) → IsTrue (is_past x) ⊎ (t.words (T level (node_of level q)) ≡ q + 1)
-    pub held : IsTrue (holds x) → IsTrue (is_past y) → IsTrue (holds y)
+    pub past : IsTrue (has_announced y) → IsTrue (has_announced x) ⊎ (t.words (T level (node_of level q)) ≡ q + 1)
+    pub held : IsTrue (holds x) → IsTrue (has_announced y) → IsTrue (holds y)
 
   same_turns : (x y : Phase) → y ≡ x → Turns x y
   same_turns x y e =
       record {
-        past = λ h. inl (subst (λ z. IsTrue (is_past z)) e h);
+        past = λ h. inl (subst (λ z. IsTrue (has_announced z)) e h);
         held = λ h k. subst (λ z. IsTrue (holds z)) (sym e) h;
       }
 
   -- one that is past and doesn't hold goes where it likes
-  past_turns : (x y : Phase) → IsTrue (is_past x) → holds x ≡ false → Turns x y
+  past_turns : (x y : Phase) → IsTrue (has_announced x) → holds x ≡ false → Turns x y
   past_turns x y h k = record { past = λ _. inl h; held = λ g _. absurd (let both : true ≡ false = sym g ∙ k in cc) }
 
   -- one that comes to where it isn't past
-  not_past : (x y : Phase) → is_past y ≡ false → Turns x y
+  not_past : (x y : Phase) → has_announced y ≡ false → Turns x y
   not_past x y h =
       record {
         past = λ g. absurd (let both : true ≡ false = sym g ∙ h in cc);
         held = λ _ g. absurd (let both : true ≡ false = sym g ∙ h in cc);
       }
 
-  here_entry : (point : Entry) → s.processes q ≡ Entering level point
+  here_entry : (point : EntryPoint) → s.processes q ≡ Entering level point
       → Turns (entry_phase point) (phase_of levels level (entry_next levels level q point value))
-  here_entry E1 e = not_past Away (phase_of levels level (Entering level E2)) (ap is_past (phase_here level Named))
+  here_entry E1 e = not_past Away (phase_of levels level (Entering level E2)) (ap has_announced (phase_here level Named))
   here_entry E2 e =
       record {
         past = λ _. inr
@@ -147,16 +147,16 @@ module _ (levels level q : ℕ) (s t : State) (some : 1 ≤ levels) (least : 1 �
   here_entry E9 e = past_turns (Waiting E9) (phase_of levels level (entry_next levels level q E9 value)) refl refl
   here_entry E10 e = past_turns (Waiting E10) (phase_of levels level (entry_next levels level q E10 value)) refl refl
 
-  here_exit : (point : Exit) → Turns (exit_phase point) (phase_of levels level (exit_next level q point value))
-  here_exit X1 = not_past Holding (phase_of levels level (Leaving level X2)) (ap is_past (phase_here level Parting))
+  here_exit : (point : ExitPoint) → Turns (exit_phase point) (phase_of levels level (exit_next level q point value))
+  here_exit X1 = not_past Holding (phase_of levels level (Leaving level X2)) (ap has_announced (phase_here level Releasing))
   here_exit X2 =
-      not_past Parting (phase_of levels level (exit_next level q X2 value))
-      (either (λ x. is_past (phase_of levels level x) ≡ false) (value == q + 1) _ _
-      (λ _. ap is_past (phase_left levels level level least least ∙ phase_here level Away))
-      (λ _. ap is_past (phase_here level (Freeing (value - 1)))))
+      not_past Releasing (phase_of levels level (exit_next level q X2 value))
+      (either (λ x. has_announced (phase_of levels level x) ≡ false) (value == q + 1) _ _
+      (λ _. ap has_announced (phase_after_exit levels level level least least ∙ phase_here level Away))
+      (λ _. ap has_announced (phase_here level (LettingIn (value - 1)))))
   here_exit (X3 rival) =
-      not_past (Freeing rival) (phase_of levels level (left level))
-      (ap is_past (phase_left levels level level least least ∙ phase_here level Away))
+      not_past (LettingIn rival) (phase_of levels level (after_exit level))
+      (ap has_announced (phase_after_exit levels level level least least ∙ phase_here level Away))
 
   -- so at whatever level the process acts
   pub turns_of : Turns before after
@@ -176,7 +176,7 @@ module _ (levels level q : ℕ) (s t : State) (some : 1 ≤ levels) (least : 1 �
           let one : 1 ≡ level = grind (arith, nat_tests) in
           subst (λ y. Turns (phase_of levels level y) (phase_of levels level (next_of levels q y value))) (sym e)
           (subst (λ h. Turns (phase_of levels h Idle) (phase_of levels h (Entering 1 E2))) one
-          (not_past Away (phase_of levels 1 (Entering 1 E2)) (ap is_past (phase_here 1 Named))))
+          (not_past Away (phase_of levels 1 (Entering 1 E2)) (ap has_announced (phase_here 1 Named))))
       by_process (Entering stands point) e true here =
           let one : stands ≡ level = grind (arith, nat_tests) in
           let now : s.processes q ≡ Entering level point = e ∙ ap (λ h. Entering h point) one in
@@ -187,8 +187,8 @@ module _ (levels level q : ℕ) (s t : State) (some : 1 ≤ levels) (least : 1 �
           let one : levels ≡ level = grind (arith, nat_tests) in
           subst (λ y. Turns (phase_of levels level y) (phase_of levels level (next_of levels q y value))) (sym e)
           (not_past (phase_of levels level Inside) (phase_of levels level (Leaving levels X2))
-          (subst (λ h. is_past (phase_of levels h (Leaving levels X2)) ≡ false) one
-          (ap is_past (phase_here levels Parting))))
+          (subst (λ h. has_announced (phase_of levels h (Leaving levels X2)) ≡ false) one
+          (ap has_announced (phase_here levels Releasing))))
       by_process (Leaving stands point) e true here =
           let one : stands ≡ level = grind (arith, nat_tests) in
           let now : s.processes q ≡ Leaving level point = e ∙ ap (λ h. Leaving h point) one in

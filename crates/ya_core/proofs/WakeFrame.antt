@@ -3,22 +3,22 @@ use Rattle.std.proofs.Common.{◌≡◌, ◌≢◌, ℕ, ◌+◌, ◌<◌, ◌==
 use Rattle.std.proofs.Common.{◌⊎◌, inl, inr, IsTrue}
 use Rattle.std.proofs.Math.Path.{fun_ext}
 use Rattle.std.proofs.lemmas.Bool.Decides.{nat_tests}
-use Rattle.ya_core.specs.Tree.{Rivals}
-use Rattle.ya_core.specs.Soundness.{Phase, claims, is_past, waits, awaits_one, saw_itself_last, was_woken, awaits_two}
-use Rattle.ya_core.specs.Soundness.{is_to_wake, wakes_next, is_to_free, IsSoundLevel, SomeRival, IsOwed}
-use Rattle.ya_core.proofs.Level.{Same}
-use Rattle.ya_core.proofs.PhaseKinds.{claims_is_past, is_past_waits, waits_awaits_one, waits_saw_itself_last}
-use Rattle.ya_core.proofs.PhaseKinds.{waits_was_woken, waits_awaits_two}
+use Rattle.ya_core.specs.ArbitrationTree.{Rivals}
+use Rattle.ya_core.specs.Soundness.{Phase, claims, has_announced, waits, awaits_wake, saw_itself_last, was_woken, awaits_release}
+use Rattle.ya_core.specs.Soundness.{is_to_wake, wakes_next, is_to_let_in, IsSoundLevel, SomeRival, IsOwed}
+use Rattle.ya_core.proofs.LevelClauses.{Same}
+use Rattle.ya_core.proofs.PhaseKinds.{claims_announced, announced_waits, waits_awaits_wake, waits_saw_itself_last}
+use Rattle.ya_core.proofs.PhaseKinds.{waits_was_woken, waits_awaits_release}
 
 -- what a step keeps for a rival that waits, as the phase of the place that steps changes from the one to the other
 pub record Keeps (turn spin : ℕ → ℕ) (node : ℕ → ℕ) (phase : ℕ → Phase) (p : ℕ) (x y : Phase) : Type 0 where
-  pub unwoken : IsTrue (awaits_one (phase p)) → spin p ≡ 0 → IsTrue (claims x || is_to_free (turn (node p)) p x)
-      → IsTrue (claims y || is_to_free (turn (node p)) p y)
-  pub outside : IsTrue (waits (phase p)) → spin p ≡ 1 → IsTrue (is_past x || is_to_free (turn (node p)) p x)
-      → IsTrue (is_past y || is_to_free (turn (node p)) p y)
+  pub unwoken : IsTrue (awaits_wake (phase p)) → spin p ≡ 0 → IsTrue (claims x || is_to_let_in (turn (node p)) p x)
+      → IsTrue (claims y || is_to_let_in (turn (node p)) p y)
+  pub unreleased : IsTrue (waits (phase p)) → spin p ≡ 1 → IsTrue (has_announced x || is_to_let_in (turn (node p)) p x)
+      → IsTrue (has_announced y || is_to_let_in (turn (node p)) p y)
   pub owed_one : turn (node p) ≢ p + 1 → IsTrue (saw_itself_last (phase p)) → spin p ≡ 0 → IsTrue (is_to_wake p x)
       → IsTrue (is_to_wake p y)
-  pub keeps_two : turn (node p) ≢ p + 1 → IsTrue (awaits_two (phase p)) → wakes_next p y ≡ false
+  pub keeps_two : turn (node p) ≢ p + 1 → IsTrue (awaits_release (phase p)) → wakes_next p y ≡ false
 
 -- what is owed stays so where words and phases stay
 pub owed_stays : (node side : ℕ → ℕ) (phase phase' : ℕ → Phase) (turn turn' spin spin' : ℕ → ℕ)
@@ -57,12 +57,12 @@ module _ (c : ActsAtLevel) where
   pub nothing : (p : ℕ) → waits (phase' p) ≡ false → Now p
   nothing p none =
       record {
-        unwoken = λ h zero. absurd (no (waits_awaits_one (phase' p) h));
-        outside = λ h one. absurd (no h);
+        unwoken = λ h zero. absurd (no (waits_awaits_wake (phase' p) h));
+        unreleased = λ h one. absurd (no h);
         woken = λ h zero. absurd (no (waits_was_woken (phase' p) h));
         owed_one = λ apart h zero. absurd (no (waits_saw_itself_last (phase' p) h));
-        has_two = λ apart h. absurd (no (waits_awaits_two (phase' p) h));
-        keeps_two = λ apart h q rivals. absurd (no (waits_awaits_two (phase' p) h));
+        has_two = λ apart h. absurd (no (waits_awaits_release (phase' p) h));
+        keeps_two = λ apart h q rivals. absurd (no (waits_awaits_release (phase' p) h));
       }
     where
       no : IsTrue (waits (phase' p)) → ⊥
@@ -85,19 +85,19 @@ module _ (c : ActsAtLevel) where
   others x y was now p apart turns spins keeps =
       record {
         unwoken = λ h zero.
-            subst (λ t. SomeRival node side phase' p (λ z. claims z || is_to_free t p z)) (sym turns)
-            (some p (λ z. claims z || is_to_free (turn (node p)) p z)
-            (λ rivals k. subst (λ z. IsTrue (claims z || is_to_free (turn (node p)) p z)) (sym now)
-            ((keeps rivals).unwoken (had awaits_one h) (sym spins ∙ zero)
-            (subst (λ z. IsTrue (claims z || is_to_free (turn (node p)) p z)) was k)))
-            ((owed p).unwoken (had awaits_one h) (sym spins ∙ zero)));
-        outside = λ h one.
-            subst (λ t. SomeRival node side phase' p (λ z. is_past z || is_to_free t p z)) (sym turns)
-            (some p (λ z. is_past z || is_to_free (turn (node p)) p z)
-            (λ rivals k. subst (λ z. IsTrue (is_past z || is_to_free (turn (node p)) p z)) (sym now)
-            ((keeps rivals).outside (had waits h) (sym spins ∙ one)
-            (subst (λ z. IsTrue (is_past z || is_to_free (turn (node p)) p z)) was k)))
-            ((owed p).outside (had waits h) (sym spins ∙ one)));
+            subst (λ t. SomeRival node side phase' p (λ z. claims z || is_to_let_in t p z)) (sym turns)
+            (some p (λ z. claims z || is_to_let_in (turn (node p)) p z)
+            (λ rivals k. subst (λ z. IsTrue (claims z || is_to_let_in (turn (node p)) p z)) (sym now)
+            ((keeps rivals).unwoken (had awaits_wake h) (sym spins ∙ zero)
+            (subst (λ z. IsTrue (claims z || is_to_let_in (turn (node p)) p z)) was k)))
+            ((owed p).unwoken (had awaits_wake h) (sym spins ∙ zero)));
+        unreleased = λ h one.
+            subst (λ t. SomeRival node side phase' p (λ z. has_announced z || is_to_let_in t p z)) (sym turns)
+            (some p (λ z. has_announced z || is_to_let_in (turn (node p)) p z)
+            (λ rivals k. subst (λ z. IsTrue (has_announced z || is_to_let_in (turn (node p)) p z)) (sym now)
+            ((keeps rivals).unreleased (had waits h) (sym spins ∙ one)
+            (subst (λ z. IsTrue (has_announced z || is_to_let_in (turn (node p)) p z)) was k)))
+            ((owed p).unreleased (had waits h) (sym spins ∙ one)));
         woken = λ h zero. (owed p).woken (had was_woken h) (sym spins ∙ zero);
         owed_one = λ other h zero.
             some p (is_to_wake p)
@@ -105,7 +105,7 @@ module _ (c : ActsAtLevel) where
             ((keeps rivals).owed_one (not_own other) (had saw_itself_last h) (sym spins ∙ zero)
             (subst (λ z. IsTrue (is_to_wake p z)) was k)))
             ((owed p).owed_one (not_own other) (had saw_itself_last h) (sym spins ∙ zero));
-        has_two = λ other h. spins ∙ (owed p).has_two (not_own other) (had awaits_two h);
+        has_two = λ other h. spins ∙ (owed p).has_two (not_own other) (had awaits_release h);
         keeps_two = λ other h q rivals. quiet other h q rivals (same q);
       }
     where
@@ -122,45 +122,45 @@ module _ (c : ActsAtLevel) where
       not_own : turn' (node p) ≢ p + 1 → turn (node p) ≢ p + 1
       not_own other e = other (turns ∙ e)
 
-      quiet : turn' (node p) ≢ p + 1 → IsTrue (awaits_two (phase' p)) → (q : ℕ) → Rivals node side p q
+      quiet : turn' (node p) ≢ p + 1 → IsTrue (awaits_release (phase' p)) → (q : ℕ) → Rivals node side p q
           → (q ≡ a) ⊎ (phase' q ≡ phase q) → wakes_next p (phase' q) ≡ false
       quiet other h q rivals (inl one) =
           subst (λ r. wakes_next p (phase' r) ≡ false) (sym one)
           (ap (wakes_next p) now
-          ∙ (keeps (subst (Rivals node side p) one rivals)).keeps_two (not_own other) (had awaits_two h))
+          ∙ (keeps (subst (Rivals node side p) one rivals)).keeps_two (not_own other) (had awaits_release h))
       quiet other h q rivals (inr stays) =
-          ap (wakes_next p) stays ∙ (owed p).keeps_two (not_own other) (had awaits_two h) q rivals
+          ap (wakes_next p) stays ∙ (owed p).keeps_two (not_own other) (had awaits_release h) q rivals
 
   -- what is owed to the place itself, which still waits
   pub itself : (x y : Phase) → phase a ≡ x → phase' a ≡ y → turn' (node a) ≡ turn (node a) → spin' a ≡ spin a
       → IsTrue (waits x)
-      → (IsTrue (awaits_one y)
-      → IsTrue (awaits_one x) ⊎ SomeRival node side phase a (λ z. claims z || is_to_free (turn (node a)) a z))
+      → (IsTrue (awaits_wake y)
+      → IsTrue (awaits_wake x) ⊎ SomeRival node side phase a (λ z. claims z || is_to_let_in (turn (node a)) a z))
       → (IsTrue (was_woken y) → spin a ≢ 0)
       → (IsTrue (saw_itself_last y) → IsTrue (saw_itself_last x) ⊎ (turn (node a) ≡ a + 1))
-      → (IsTrue (awaits_two y) → turn (node a) ≡ a + 1) → Now a
+      → (IsTrue (awaits_release y) → turn (node a) ≡ a + 1) → Now a
   itself x y was now turns spins waiting one woken saw let_in =
       record {
-        unwoken = λ h zero. subst (λ t. SomeRival node side phase' a (λ z. claims z || is_to_free t a z)) (sym turns)
-            (some a (λ z. claims z || is_to_free (turn (node a)) a z) (λ rivals k. absurd (rivals.1 refl))
-            (unwoken (one (has awaits_one h)) (sym spins ∙ zero)));
-        outside = λ h single.
-            subst (λ t. SomeRival node side phase' a (λ z. is_past z || is_to_free t a z)) (sym turns)
-            (some a (λ z. is_past z || is_to_free (turn (node a)) a z) (λ rivals k. absurd (rivals.1 refl))
-            ((owed a).outside (subst (λ z. IsTrue (waits z)) (sym was) waiting) (sym spins ∙ single)));
+        unwoken = λ h zero. subst (λ t. SomeRival node side phase' a (λ z. claims z || is_to_let_in t a z)) (sym turns)
+            (some a (λ z. claims z || is_to_let_in (turn (node a)) a z) (λ rivals k. absurd (rivals.1 refl))
+            (unwoken (one (has awaits_wake h)) (sym spins ∙ zero)));
+        unreleased = λ h single.
+            subst (λ t. SomeRival node side phase' a (λ z. has_announced z || is_to_let_in t a z)) (sym turns)
+            (some a (λ z. has_announced z || is_to_let_in (turn (node a)) a z) (λ rivals k. absurd (rivals.1 refl))
+            ((owed a).unreleased (subst (λ z. IsTrue (waits z)) (sym was) waiting) (sym spins ∙ single)));
         woken = λ h zero. woken (has was_woken h) (sym spins ∙ zero);
         owed_one = λ other h zero. some a (is_to_wake a) (λ rivals k. absurd (rivals.1 refl))
             (owed_one (saw (has saw_itself_last h)) (λ e. other (turns ∙ e)) (sym spins ∙ zero));
-        has_two = λ other h. absurd (other (turns ∙ let_in (has awaits_two h)));
-        keeps_two = λ other h q rivals. absurd (other (turns ∙ let_in (has awaits_two h)));
+        has_two = λ other h. absurd (other (turns ∙ let_in (has awaits_release h)));
+        keeps_two = λ other h q rivals. absurd (other (turns ∙ let_in (has awaits_release h)));
       }
     where
       has : (kind : Phase → Bool) → IsTrue (kind (phase' a)) → IsTrue (kind y)
       has kind h = subst (λ z. IsTrue (kind z)) now h
 
-      unwoken : IsTrue (awaits_one x) ⊎ SomeRival node side phase a (λ z. claims z || is_to_free (turn (node a)) a z)
-          → spin a ≡ 0 → SomeRival node side phase a (λ z. claims z || is_to_free (turn (node a)) a z)
-      unwoken (inl before) zero = (owed a).unwoken (subst (λ z. IsTrue (awaits_one z)) (sym was) before) zero
+      unwoken : IsTrue (awaits_wake x) ⊎ SomeRival node side phase a (λ z. claims z || is_to_let_in (turn (node a)) a z)
+          → spin a ≡ 0 → SomeRival node side phase a (λ z. claims z || is_to_let_in (turn (node a)) a z)
+      unwoken (inl before) zero = (owed a).unwoken (subst (λ z. IsTrue (awaits_wake z)) (sym was) before) zero
       unwoken (inr rival) zero = rival
 
       owed_one : IsTrue (saw_itself_last x) ⊎ (turn (node a) ≡ a + 1) → turn (node a) ≢ a + 1 → spin a ≡ 0
@@ -179,19 +179,19 @@ module _ (c : ActsAtLevel) where
 
   -- who waits claims, and so a word C names it
   pub named : (p : ℕ) → IsTrue (waits (phase p)) → claim (node p) (side p) ≡ p + 1
-  named p h = is.claimed p (claims_is_past (phase p) (is_past_waits (phase p) h))
+  named p h = is.claimed p (claims_announced (phase p) (announced_waits (phase p) h))
 
   -- what the step keeps for a rival where the place is past after it: whether it is to wake the rival, and that it
   -- doesn't overwrite the rival's 2, remains to be said
-  pub past : (p : ℕ) (x y : Phase) → IsTrue (claims y) → IsTrue (is_past y)
+  pub past : (p : ℕ) (x y : Phase) → IsTrue (claims y) → IsTrue (has_announced y)
       → (turn (node p) ≢ p + 1 → IsTrue (saw_itself_last (phase p)) → spin p ≡ 0 → IsTrue (is_to_wake p x)
       → IsTrue (is_to_wake p y))
-      → (turn (node p) ≢ p + 1 → IsTrue (awaits_two (phase p)) → wakes_next p y ≡ false)
+      → (turn (node p) ≢ p + 1 → IsTrue (awaits_release (phase p)) → wakes_next p y ≡ false)
       → Keeps turn spin node phase p x y
-  past p x y claiming is_past_now wakes quiet =
+  past p x y claiming announced_now wakes quiet =
       record {
-        unwoken = λ h zero k. subst (λ b. IsTrue (b || is_to_free (turn (node p)) p y)) (sym claiming) refl;
-        outside = λ h one k. subst (λ b. IsTrue (b || is_to_free (turn (node p)) p y)) (sym is_past_now) refl;
+        unwoken = λ h zero k. subst (λ b. IsTrue (b || is_to_let_in (turn (node p)) p y)) (sym claiming) refl;
+        unreleased = λ h one k. subst (λ b. IsTrue (b || is_to_let_in (turn (node p)) p y)) (sym announced_now) refl;
         owed_one = wakes;
         keeps_two = quiet;
       }

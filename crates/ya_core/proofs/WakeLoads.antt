@@ -2,13 +2,13 @@
 use Rattle.std.proofs.Common.{◌≡◌, ◌≢◌, ℕ, ◌+◌, ◌-◌, ◌<◌, ◌==◌, ◌||◌, Bool, true, false, refl, arith, ap, sym, ◌∙◌}
 use Rattle.std.proofs.Common.{subst, ◌⊎◌, inl, inr, IsTrue}
 use Rattle.std.proofs.lemmas.Bool.Decides.{nat_tests}
-use Rattle.ya_core.specs.declared.process.Entry.{Entry}
-use Rattle.ya_core.specs.declared.process.Entry.TheVariants.{E4, E5, E6, E7, E8, E9, E10}
-use Rattle.ya_core.specs.Tree.{Rivals}
-use Rattle.ya_core.specs.Soundness.{Away, Named, Waiting, Holding, Parting, Freeing, claims, is_past, waits, holds}
-use Rattle.ya_core.specs.Soundness.{awaits_one, saw_itself_last, was_woken, awaits_two, is_to_wake, wakes_next}
-use Rattle.ya_core.specs.Soundness.{is_to_free, SomeRival}
-use Rattle.ya_core.proofs.PhaseKinds.{is_past_waits, waits_awaits_one, waits_saw_itself_last}
+use Rattle.ya_core.specs.declared.process.EntryPoint.{EntryPoint}
+use Rattle.ya_core.specs.declared.process.EntryPoint.TheVariants.{E4, E5, E6, E7, E8, E9, E10}
+use Rattle.ya_core.specs.ArbitrationTree.{Rivals}
+use Rattle.ya_core.specs.Soundness.{Away, Named, Waiting, Holding, Releasing, LettingIn, claims, has_announced, waits, holds}
+use Rattle.ya_core.specs.Soundness.{awaits_wake, saw_itself_last, was_woken, awaits_release, is_to_wake, wakes_next}
+use Rattle.ya_core.specs.Soundness.{is_to_let_in, SomeRival}
+use Rattle.ya_core.proofs.PhaseKinds.{announced_waits, waits_awaits_wake, waits_saw_itself_last}
 use Rattle.ya_core.proofs.WakeFrame.{ActsAtLevel, Now, nothing, others, itself, everyone, named, past}
 
 module _ (c : ActsAtLevel) where
@@ -16,15 +16,15 @@ module _ (c : ActsAtLevel) where
 
   module _ (turns : (n : ℕ) → turn' n ≡ turn n) (spins : (q : ℕ) → spin' q ≡ spin q) where
     -- a load after which the place waits on, at the next point or at the same one
-    waits_on : (x y : Entry) → phase a ≡ Waiting x → phase' a ≡ Waiting y
-        → (IsTrue (awaits_one (Waiting y))
-        → IsTrue (awaits_one (Waiting x)) ⊎ SomeRival node side phase a (λ z. claims z || is_to_free (turn (node a)) a z))
+    waits_on : (x y : EntryPoint) → phase a ≡ Waiting x → phase' a ≡ Waiting y
+        → (IsTrue (awaits_wake (Waiting y))
+        → IsTrue (awaits_wake (Waiting x)) ⊎ SomeRival node side phase a (λ z. claims z || is_to_let_in (turn (node a)) a z))
         → (IsTrue (was_woken (Waiting y)) → spin a ≢ 0)
         → (IsTrue (saw_itself_last (Waiting y)) → IsTrue (saw_itself_last (Waiting x)) ⊎ (turn (node a) ≡ a + 1))
-        → (IsTrue (awaits_two (Waiting y)) → turn (node a) ≡ a + 1)
+        → (IsTrue (awaits_release (Waiting y)) → turn (node a) ≡ a + 1)
         → ((p : ℕ) → Rivals node side p a → IsTrue (saw_itself_last (phase p)) → spin p ≡ 0
         → IsTrue (is_to_wake p (Waiting x)) → IsTrue (is_to_wake p (Waiting y)))
-        → ((p : ℕ) → turn (node p) ≢ p + 1 → IsTrue (awaits_two (phase p)) → wakes_next p (Waiting y) ≡ false)
+        → ((p : ℕ) → turn (node p) ≢ p + 1 → IsTrue (awaits_release (phase p)) → wakes_next p (Waiting y) ≡ false)
         → (p : ℕ) → Now c p
     waits_on x y was now one woken saw let_in wakes quiet =
         everyone c
@@ -39,7 +39,7 @@ module _ (c : ActsAtLevel) where
         (λ p apart. others c Away Named was now p apart (turns (node p)) (spins p)
         (λ rivals. record {
           unwoken = λ h zero k. absurd cc;
-          outside = λ h one k. absurd cc;
+          unreleased = λ h one k. absurd cc;
           owed_one = λ other h zero k. absurd cc;
           keeps_two = λ other h. refl;
         }))
@@ -62,8 +62,8 @@ module _ (c : ActsAtLevel) where
               omega (arith, low, across),
         )
 
-        competing : IsTrue (claims (phase rival) || is_to_free (turn (node a)) a (phase rival))
-        competing = subst (λ b. IsTrue (b || is_to_free (turn (node a)) a (phase rival))) (sym owner.2) refl
+        competing : IsTrue (claims (phase rival) || is_to_let_in (turn (node a)) a (phase rival))
+        competing = subst (λ b. IsTrue (b || is_to_let_in (turn (node a)) a (phase rival))) (sym owner.2) refl
 
         same_rival : (p : ℕ) → Rivals node side p a → IsTrue (waits (phase p)) → IsTrue (rival == p)
         same_rival p rivals h = grind (arith, nat_tests, named c p h, rivals.0, rivals.1, two p, two a, found)
@@ -82,7 +82,7 @@ module _ (c : ActsAtLevel) where
         waits_on (E6 rival) (E7 rival) was now (λ h. inl refl) (λ h. absurd cc) (λ h. inl refl) (λ h. absurd cc)
         (λ p rivals h z k. k) (λ p other h. another p other h (rival == p) refl)
       where
-        another : (p : ℕ) → turn (node p) ≢ p + 1 → IsTrue (awaits_two (phase p)) → (b : Bool) → (rival == p) ≡ b
+        another : (p : ℕ) → turn (node p) ≢ p + 1 → IsTrue (awaits_release (phase p)) → (b : Bool) → (rival == p) ≡ b
             → (rival == p) ≡ false
         another p other h false e = e
         another p other h true e =
@@ -112,7 +112,7 @@ module _ (c : ActsAtLevel) where
         (λ p rivals h z k. absurd cc) (λ p other h. refl)
 
     -- e4, e5, e9, e10: a place wins where nobody rests on a 1 of it
-    pub owed_wins : (point : Entry) → phase a ≡ Waiting point → phase' a ≡ Holding
+    pub owed_wins : (point : EntryPoint) → phase a ≡ Waiting point → phase' a ≡ Holding
         → ((p : ℕ) → Rivals node side p a → turn (node p) ≢ p + 1 → IsTrue (saw_itself_last (phase p)) → spin p ≡ 0
         → IsTrue (is_to_wake p (Waiting point)) → ⊥) → (p : ℕ) → Now c p
     owed_wins point was now none =
@@ -132,23 +132,23 @@ module _ (c : ActsAtLevel) where
         omega (arith, claim_is, claim_nil)
 
     -- at e5 another announced itself last, so it is the rival
-    pub none_last : IsTrue (is_past (phase a)) → turn (node a) ≢ a + 1 → (p : ℕ) → Rivals node side p a
+    pub none_last : IsTrue (has_announced (phase a)) → turn (node a) ≢ a + 1 → (p : ℕ) → Rivals node side p a
         → turn (node p) ≢ p + 1 → IsTrue (saw_itself_last (phase p)) → ⊥
     none_last past other p rivals not_own h =
-        cases (is.one_of_two p a rivals (is_past_waits (phase p) (waits_saw_itself_last (phase p) h)) past)
+        cases (is.one_of_two p a rivals (announced_waits (phase p) (waits_saw_itself_last (phase p) h)) past)
       where
         cases : (turn (node p) ≡ p + 1) ⊎ (turn (node p) ≡ a + 1) → ⊥
         cases (inl own) = not_own own
         cases (inr last) = other (ap turn (sym rivals.0) ∙ last)
 
     -- x1: a place that holds gives up its claim; by the clause on waiters it is to free whoever waits
-    pub owed_given_up : phase a ≡ Holding → phase' a ≡ Parting → (p : ℕ) → Now c p
+    pub owed_given_up : phase a ≡ Holding → phase' a ≡ Releasing → (p : ℕ) → Now c p
     owed_given_up was now =
         everyone c (nothing c a (ap waits now))
-        (λ p apart. others c Holding Parting was now p apart (turns (node p)) (spins p)
+        (λ p apart. others c Holding Releasing was now p apart (turns (node p)) (spins p)
         (λ rivals. record {
-          unwoken = λ h z k. last p rivals (waits_awaits_one (phase p) h);
-          outside = λ h one k. last p rivals h;
+          unwoken = λ h z k. last p rivals (waits_awaits_wake (phase p) h);
+          unreleased = λ h one k. last p rivals h;
           owed_one = λ other h z k. absurd cc;
           keeps_two = λ other h. refl;
         }))
@@ -157,17 +157,17 @@ module _ (c : ActsAtLevel) where
         last p rivals h =
             let named_last : turn (node a) ≡ p + 1 =
             is.waiter a p (sym rivals.0, λ e. rivals.1 (sym e))
-            (let holding : IsTrue (holds (phase a)) = ap holds was in holding) (is_past_waits (phase p) h) in
+            (let holding : IsTrue (holds (phase a)) = ap holds was in holding) (announced_waits (phase p) h) in
             let same_word : turn (node p) ≡ p + 1 = ap turn rivals.0 ∙ named_last in grind (arith, nat_tests)
 
     -- x2, where the place announced itself last
-    pub owed_left : phase a ≡ Parting → phase' a ≡ Away → turn (node a) ≡ a + 1 → (p : ℕ) → Now c p
-    owed_left was now own =
+    pub owed_released : phase a ≡ Releasing → phase' a ≡ Away → turn (node a) ≡ a + 1 → (p : ℕ) → Now c p
+    owed_released was now own =
         everyone c (nothing c a (ap waits now))
-        (λ p apart. others c Parting Away was now p apart (turns (node p)) (spins p)
+        (λ p apart. others c Releasing Away was now p apart (turns (node p)) (spins p)
         (λ rivals. record {
           unwoken = λ h z k. absurd (one p apart rivals k);
-          outside = λ h single k. absurd (one p apart rivals k);
+          unreleased = λ h single k. absurd (one p apart rivals k);
           owed_one = λ other h z k. absurd cc;
           keeps_two =
               λ other h. refl;
@@ -180,13 +180,13 @@ module _ (c : ActsAtLevel) where
             apart (omega (arith, there, here))
 
     -- x2, where another did
-    pub owed_parted : phase a ≡ Parting → phase' a ≡ Freeing (turn (node a) - 1) → (p : ℕ) → Now c p
-    owed_parted was now =
+    pub owed_letting_in : phase a ≡ Releasing → phase' a ≡ LettingIn (turn (node a) - 1) → (p : ℕ) → Now c p
+    owed_letting_in was now =
         everyone c (nothing c a (ap waits now))
-        (λ p apart. others c Parting (Freeing (turn (node a) - 1)) was now p apart (turns (node p)) (spins p)
+        (λ p apart. others c Releasing (LettingIn (turn (node a) - 1)) was now p apart (turns (node p)) (spins p)
         (λ rivals. record {
           unwoken = λ h z k. one p rivals k;
-          outside = λ h single k. one p rivals k;
+          unreleased = λ h single k. one p rivals k;
           owed_one = λ other h z k. absurd cc;
           keeps_two = λ other h. refl;
         }))

@@ -2,14 +2,14 @@
 use Rattle.std.proofs.Common.{◌≡◌, ◌≢◌, ℕ, ◌+◌, ◌==◌, ◌||◌, Bool, true, false, refl, arith, ap, sym, ◌∙◌, subst, ◌⊎◌}
 use Rattle.std.proofs.Common.{inl, inr, IsTrue}
 use Rattle.std.proofs.lemmas.Bool.Decides.{nat_tests}
-use Rattle.ya_core.specs.declared.process.Entry.TheVariants.{E4, E7, E8}
-use Rattle.ya_core.specs.Tree.{Rivals}
-use Rattle.ya_core.specs.Soundness.{Phase, Away, Named, Announced, Waiting, Freeing, claims, is_past, waits}
-use Rattle.ya_core.specs.Soundness.{awaits_one, saw_itself_last, was_woken, awaits_two, is_to_wake, wakes_next}
-use Rattle.ya_core.specs.Soundness.{is_to_free, SomeRival}
-use Rattle.ya_core.proofs.Level.{SameWords}
-use Rattle.ya_core.proofs.PhaseKinds.{competes, competes_claims, claims_is_past, is_past_waits, waits_awaits_two}
-use Rattle.ya_core.proofs.PhaseKinds.{was_woken_awaits_two, competes_outside, competes_wakes_next}
+use Rattle.ya_core.specs.declared.process.EntryPoint.TheVariants.{E4, E7, E8}
+use Rattle.ya_core.specs.ArbitrationTree.{Rivals}
+use Rattle.ya_core.specs.Soundness.{Phase, Away, Named, Announced, Waiting, LettingIn, claims, has_announced, waits}
+use Rattle.ya_core.specs.Soundness.{awaits_wake, saw_itself_last, was_woken, awaits_release, is_to_wake, wakes_next}
+use Rattle.ya_core.specs.Soundness.{is_to_let_in, SomeRival}
+use Rattle.ya_core.proofs.LevelClauses.{SameWords}
+use Rattle.ya_core.proofs.PhaseKinds.{competes, competes_claims, claims_announced, announced_waits, waits_awaits_release}
+use Rattle.ya_core.proofs.PhaseKinds.{was_woken_awaits_release, competes_unreleased, competes_wakes_next}
 use Rattle.ya_core.proofs.WakeFrame.{ActsAtLevel, Now, nothing, others, itself, everyone, past}
 
 module _ (c : ActsAtLevel) where
@@ -21,12 +21,12 @@ module _ (c : ActsAtLevel) where
   owed_cleared turns was now zero others_stay =
       everyone c
       (record {
-        unwoken = λ h z. absurd (none awaits_one refl h);
-        outside = λ h one. absurd (omega (arith, zero, one));
+        unwoken = λ h z. absurd (none awaits_wake refl h);
+        unreleased = λ h one. absurd (omega (arith, zero, one));
         woken = λ h z. absurd (none was_woken refl h);
         owed_one = λ other h z. absurd (none saw_itself_last refl h);
-        has_two = λ other h. absurd (none awaits_two refl h);
-        keeps_two = λ other h q rivals. absurd (none awaits_two refl h);
+        has_two = λ other h. absurd (none awaits_release refl h);
+        keeps_two = λ other h q rivals. absurd (none awaits_release refl h);
       })
       (λ p apart. others c Announced (Waiting E4) was now p apart (turns (node p)) (stays p apart (others_stay p))
       (λ rivals. past c p Announced (Waiting E4) refl refl (λ other h z k. refl) (λ other h. refl)))
@@ -75,10 +75,10 @@ module _ (c : ActsAtLevel) where
         woken =
             record {
               unwoken = λ h zero. absurd (omega (arith, stored, zero));
-              outside = λ h one. (
+              unreleased = λ h one. (
                 a,
                 (sym there.0, λ e. there.1 (sym e)),
-                subst (λ z. IsTrue (is_past z || is_to_free (turn' (node rival)) rival z)) (sym now) refl,
+                subst (λ z. IsTrue (has_announced z || is_to_let_in (turn' (node rival)) rival z)) (sym now) refl,
               );
               woken = λ h zero. absurd (omega (arith, stored, zero));
               owed_one = λ other h zero. absurd (omega (arith, stored, zero));
@@ -86,11 +86,11 @@ module _ (c : ActsAtLevel) where
               keeps_two = λ other h q rivals. absurd (disturbed other h);
             }
           where
-            disturbed : turn' (node rival) ≢ rival + 1 → IsTrue (awaits_two (phase' rival)) → ⊥
+            disturbed : turn' (node rival) ≢ rival + 1 → IsTrue (awaits_release (phase' rival)) → ⊥
             disturbed other h =
                 let quiet : wakes_next rival (phase a) ≡ false =
                 (owed rival).keeps_two (λ e. other (turns (node rival) ∙ e))
-                (subst (λ z. IsTrue (awaits_two z)) rival_stays h) a (sym there.0, λ e. there.1 (sym e)) in
+                (subst (λ z. IsTrue (awaits_release z)) rival_stays h) a (sym there.0, λ e. there.1 (sym e)) in
                 let loud : (rival == rival) ≡ false = sym (ap (wakes_next rival) was) ∙ quiet in
                 let self : (rival == rival) ≡ true = grind (arith, nat_tests) in
                 let both : true ≡ false = sym self ∙ loud in cc
@@ -110,8 +110,8 @@ module _ (c : ActsAtLevel) where
             (λ aside h. refl))
 
     -- x3: the place lets another one in
-    pub owed_freed : phase a ≡ Freeing rival → phase' a ≡ Away → spin' rival ≡ 2 → (p : ℕ) → Now c p
-    owed_freed was now stored =
+    pub owed_let_in : phase a ≡ LettingIn rival → phase' a ≡ Away → spin' rival ≡ 2 → (p : ℕ) → Now c p
+    owed_let_in was now stored =
         by_rival freed
         (λ p not_rival. everyone_but p not_rival (p == a) refl)
       where
@@ -119,29 +119,29 @@ module _ (c : ActsAtLevel) where
         freed =
             record {
               unwoken = λ h zero. absurd (omega (arith, stored, zero));
-              outside = λ h one. absurd (omega (arith, stored, one));
+              unreleased = λ h one. absurd (omega (arith, stored, one));
               woken = λ h zero. absurd (omega (arith, stored, zero));
               owed_one = λ other h zero. absurd (omega (arith, stored, zero));
               has_two = λ other h. stored;
               keeps_two = λ other h q rivals. quiet other h q rivals (same q);
             }
           where
-            quiet : turn' (node rival) ≢ rival + 1 → IsTrue (awaits_two (phase' rival)) → (q : ℕ)
+            quiet : turn' (node rival) ≢ rival + 1 → IsTrue (awaits_release (phase' rival)) → (q : ℕ)
                 → Rivals node side rival q → (q ≡ a) ⊎ (phase' q ≡ phase q) → wakes_next rival (phase' q) ≡ false
             quiet other h q rivals (inl one) =
                 subst (λ r. wakes_next rival (phase' r) ≡ false) (sym one) (ap (wakes_next rival) now)
             quiet other h q rivals (inr still) =
                 ap (wakes_next rival) still ∙ (owed rival).keeps_two (λ e. other (turns (node rival) ∙ e))
-                (subst (λ z. IsTrue (awaits_two z)) rival_stays h) q rivals
+                (subst (λ z. IsTrue (awaits_release z)) rival_stays h) q rivals
 
         everyone_but : (p : ℕ) → p ≢ rival → (b : Bool) → (p == a) ≡ b → Now c p
         everyone_but p not_rival true one =
             let here : p ≡ a = grind (arith, nat_tests) in subst (Now c) (sym here) (nothing c a (ap waits now))
         everyone_but p not_rival false other =
-            others c (Freeing rival) Away was now p (grind (arith, nat_tests)) (turns (node p)) (spin_stays p not_rival)
+            others c (LettingIn rival) Away was now p (grind (arith, nat_tests)) (turns (node p)) (spin_stays p not_rival)
             (λ rivals. record {
               unwoken = λ h z k. absurd (aside k);
-              outside = λ h one k. absurd (aside k);
+              unreleased = λ h one k. absurd (aside k);
               owed_one = λ apart h z k. absurd cc;
               keeps_two = λ apart h. refl;
             })
@@ -186,7 +186,7 @@ module _ (c : ActsAtLevel) where
                   let waiting : IsTrue (waits (phase p)) = subst (λ z. IsTrue (waits z)) (still (same p)) e in
                   absurd (apart
                   (alone p at beside
-                  (competes_claims (phase p) (claims_is_past (phase p) (is_past_waits (phase p) waiting)))))
+                  (competes_claims (phase p) (claims_announced (phase p) (announced_waits (phase p) waiting)))))
           by_side p apart at false one =
               let across : side p ≢ side a = grind (arith, nat_tests) in
               opposite p apart at across
@@ -197,12 +197,12 @@ module _ (c : ActsAtLevel) where
                     unwoken = λ h zero. (
                       a,
                       (at, across),
-                      subst (λ z. IsTrue (claims z || is_to_free (turn' (node p)) p z)) (sym now) refl,
+                      subst (λ z. IsTrue (claims z || is_to_let_in (turn' (node p)) p z)) (sym now) refl,
                     );
-                    outside = λ h one. (
+                    unreleased = λ h one. (
                       a,
                       (at, across),
-                      subst (λ z. IsTrue (is_past z || is_to_free (turn' (node p)) p z)) (sym now) refl,
+                      subst (λ z. IsTrue (has_announced z || is_to_let_in (turn' (node p)) p z)) (sym now) refl,
                     );
                     woken = λ h zero. (owed p).woken (had was_woken h) (sym (spins p) ∙ zero);
                     owed_one = λ other h zero. (a, (at, across), subst (λ z. IsTrue (is_to_wake p z)) (sym now) refl);
@@ -221,25 +221,25 @@ module _ (c : ActsAtLevel) where
                   only : (q : ℕ) → Rivals node side p q → IsTrue (competes (phase q)) → q ≡ a
                   only q rivals h = alone q (sym rivals.0 ∙ at) (omega (arith, two p, two q, two a, rivals.1, across)) h
 
-                  no_rival : SomeRival node side phase p (λ z. is_past z || is_to_free (turn (node p)) p z) → ⊥
+                  no_rival : SomeRival node side phase p (λ z. has_announced z || is_to_let_in (turn (node p)) p z) → ⊥
                   no_rival rival =
                       let one : rival.0 ≡ a =
-                      only rival.0 rival.1 (competes_outside (turn (node p)) p (phase rival.0) rival.2) in
-                      let k : IsTrue (is_past Named || is_to_free (turn (node p)) p Named) =
-                      subst (λ z. IsTrue (is_past z || is_to_free (turn (node p)) p z))
+                      only rival.0 rival.1 (competes_unreleased (turn (node p)) p (phase rival.0) rival.2) in
+                      let k : IsTrue (has_announced Named || is_to_let_in (turn (node p)) p Named) =
+                      subst (λ z. IsTrue (has_announced z || is_to_let_in (turn (node p)) p z))
                       (ap phase one ∙ was) rival.2 in
                       cc
 
-                  has_two : IsTrue (awaits_two (phase' p)) → (b : Bool) → (turn (node p) == p + 1) ≡ b → spin p ≡ 2
-                  has_two h false e = (owed p).has_two (grind (arith, nat_tests)) (had awaits_two h)
+                  has_two : IsTrue (awaits_release (phase' p)) → (b : Bool) → (turn (node p) == p + 1) ≡ b → spin p ≡ 2
+                  has_two h false e = (owed p).has_two (grind (arith, nat_tests)) (had awaits_release h)
                   has_two h true e = by_word (spin p) refl
                     where
                       woken : spin p ≢ 0
-                      woken = (owed p).woken (was_woken_awaits_two (phase p) (had awaits_two h))
+                      woken = (owed p).woken (was_woken_awaits_release (phase p) (had awaits_release h))
 
                       single : spin p ≡ 1 → ⊥
                       single one_word =
-                          no_rival ((owed p).outside (waits_awaits_two (phase p) (had awaits_two h)) one_word)
+                          no_rival ((owed p).unreleased (waits_awaits_release (phase p) (had awaits_release h)) one_word)
 
                       by_word : (n : ℕ) → spin p ≡ n → spin p ≡ 2
                       by_word n e = grind (arith, woken, single, is.in_range p)

@@ -6,7 +6,7 @@ use Rattle.ya_core.specs.Steps.{State, StepsTo, opening}
 
 -- a schedule picks a place for each of the times 0, 1, 2, ..; its run has the state at each time: at first the opening
 -- one, and after each time the one to which the step of the picked place leads
-pub record IsRunOf (levels : ℕ) (schedule : ℕ → ℕ) (states : ℕ → State) : Type 0 where
+pub record IsRunOfSchedule (levels : ℕ) (schedule : ℕ → ℕ) (states : ℕ → State) : Type 0 where
   pub start : states 0 ≡ opening
   pub steps : (time : ℕ) → StepsTo levels (schedule time) (states time) (states (time + 1))
 

@@ -3,7 +3,7 @@ use Rattle.std.specs.Prelude.{ℕ, ◌-◌, ◌^◌, Bool, nat_lt, nat_le, ◌&&
 use Rattle.ya_core.specs.declared.word.Word.{Word}
 use Rattle.ya_core.specs.declared.word.Word.TheVariants.{C, T, P}
 use Rattle.ya_core.specs.declared.process.Process.{Process}
-use Rattle.ya_core.specs.Tree.{number_of}
+use Rattle.ya_core.specs.ArbitrationTree.{number_of}
 use Rattle.ya_core.specs.Steps.{State}
 
 -- whether the tree of this many levels has the word

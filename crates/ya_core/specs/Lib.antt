@@ -1,7 +1,7 @@
-pub mod Tree
+pub mod ArbitrationTree
 pub mod Steps
 pub mod Soundness
-pub mod Walks
+pub mod WalkerModel
 pub mod FlatRow
 pub mod Machines
 pub mod Worlds

@@ -1,10 +1,10 @@
 -- What is said of progress: some place that takes part can go on, some finite schedule leads to what is wanted, and at
 -- a node, from its store of T, nobody is overtaken twice.
 use Rattle.std.specs.Prelude.{◌≡◌, ◌≢◌, ℕ, ◌+◌, ◌==◌, Bool, true, false, not, ◌&&◌, if◌then◌else◌, List, [], ◌∷◌}
-use Rattle.ya_core.specs.declared.process.Entry.TheVariants.{E2}
+use Rattle.ya_core.specs.declared.process.EntryPoint.TheVariants.{E2}
 use Rattle.ya_core.specs.declared.process.Process.{Process}
 use Rattle.ya_core.specs.declared.process.Process.TheVariants.{Idle, Entering}
-use Rattle.ya_core.specs.Tree.{node_of, side_of}
+use Rattle.ya_core.specs.ArbitrationTree.{node_of, side_of}
 use Rattle.ya_core.specs.Steps.{State, StepsTo, LeadTo}
 use Rattle.ya_core.specs.Worlds.{World, WorldSteps}
 

@@ -2,13 +2,13 @@
 use Rattle.std.specs.Prelude.{◌≡◌, ◌≢◌, ℕ, ◌+◌, ◌^◌, ◌<◌, ◌≤◌, ◌==◌, Bool, true, false, nat_lt, if◌then◌else◌, IsTrue}
 use Rattle.std.specs.Prelude.{◌⊎◌, ◌||◌}
 use Rattle.ya_core.specs.declared.word.Word.TheVariants.{C, T, P}
-use Rattle.ya_core.specs.declared.process.Entry.{Entry}
-use Rattle.ya_core.specs.declared.process.Entry.TheVariants.{E1, E2, E3, E4, E5, E6, E7, E8, E9, E10}
-use Rattle.ya_core.specs.declared.process.Exit.{Exit}
-use Rattle.ya_core.specs.declared.process.Exit.TheVariants.{X1, X2, X3}
+use Rattle.ya_core.specs.declared.process.EntryPoint.{EntryPoint}
+use Rattle.ya_core.specs.declared.process.EntryPoint.TheVariants.{E1, E2, E3, E4, E5, E6, E7, E8, E9, E10}
+use Rattle.ya_core.specs.declared.process.ExitPoint.{ExitPoint}
+use Rattle.ya_core.specs.declared.process.ExitPoint.TheVariants.{X1, X2, X3}
 use Rattle.ya_core.specs.declared.process.Process.{Process}
 use Rattle.ya_core.specs.declared.process.Process.TheVariants.{Idle, Entering, Inside, Leaving}
-use Rattle.ya_core.specs.Tree.{node_of, side_of, Rivals, AreRivals}
+use Rattle.ya_core.specs.ArbitrationTree.{node_of, side_of, Rivals, AreRivals}
 use Rattle.ya_core.specs.Steps.{State}
 
 -- how far a process has come at one level
@@ -19,26 +19,26 @@ pub data Phase : Type 0 where
   -- it has also announced itself at the node
   Announced : Phase
   -- it has also cleared its spin word, and looks for the rival or waits; the point where it stands, e4 to e10
-  Waiting : Entry → Phase
+  Waiting : EntryPoint → Phase
   -- it has won the node, and keeps it until it gives up its claim
   Holding : Phase
   -- it gave up its claim, and has yet to see who announced itself last
-  Parting : Phase
+  Releasing : Phase
   -- another place did, which it is to let in; that place
-  Freeing : ℕ → Phase
+  LettingIn : ℕ → Phase
 
 -- the phase at the level where the process stands, on its way in
-abbrev pub entry_phase : Entry → Phase
+abbrev pub entry_phase : EntryPoint → Phase
 entry_phase E1 = Away
 entry_phase E2 = Named
 entry_phase E3 = Announced
 entry_phase point = Waiting point
 
 -- the same on its way out
-abbrev pub exit_phase : Exit → Phase
+abbrev pub exit_phase : ExitPoint → Phase
 exit_phase X1 = Holding
-exit_phase X2 = Parting
-exit_phase (X3 rival) = Freeing rival
+exit_phase X2 = Releasing
+exit_phase (X3 rival) = LettingIn rival
 
 -- it holds the levels below the one where it stands, and is away from those above
 abbrev pub phase_at : ℕ → ℕ → Phase → Phase
@@ -54,16 +54,16 @@ phase_of levels level (Leaving stands point) = phase_at level stands (exit_phase
 -- its side of the node names it
 abbrev pub claims : Phase → Bool
 claims Away = false
-claims Parting = false
-claims (Freeing rival) = false
+claims Releasing = false
+claims (LettingIn rival) = false
 claims _ = true
 
--- it is past its announcement
-abbrev pub is_past : Phase → Bool
-is_past Announced = true
-is_past (Waiting point) = true
-is_past Holding = true
-is_past _ = false
+-- it has announced itself at the node
+abbrev pub has_announced : Phase → Bool
+has_announced Announced = true
+has_announced (Waiting point) = true
+has_announced Holding = true
+has_announced _ = false
 
 -- it waits
 abbrev pub waits : Phase → Bool
@@ -75,18 +75,18 @@ abbrev pub holds : Phase → Bool
 holds Holding = true
 holds _ = false
 
--- it has still to see who announced itself last
-abbrev pub parts : Phase → Bool
-parts Parting = true
-parts _ = false
+-- it gave up its claim, and has yet to see who announced itself last: x2
+abbrev pub is_releasing : Phase → Bool
+is_releasing Releasing = true
+is_releasing _ = false
 
 -- it knows its rival and was not woken yet: e5 to e8
-abbrev pub awaits_one : Phase → Bool
-awaits_one (Waiting (E5 rival)) = true
-awaits_one (Waiting (E6 rival)) = true
-awaits_one (Waiting (E7 rival)) = true
-awaits_one (Waiting E8) = true
-awaits_one _ = false
+abbrev pub awaits_wake : Phase → Bool
+awaits_wake (Waiting (E5 rival)) = true
+awaits_wake (Waiting (E6 rival)) = true
+awaits_wake (Waiting (E7 rival)) = true
+awaits_wake (Waiting E8) = true
+awaits_wake _ = false
 
 -- and it has seen that it announced itself last: e6 to e8
 abbrev pub saw_itself_last : Phase → Bool
@@ -102,9 +102,9 @@ was_woken (Waiting E10) = true
 was_woken _ = false
 
 -- it waits to be let in: e10
-abbrev pub awaits_two : Phase → Bool
-awaits_two (Waiting E10) = true
-awaits_two _ = false
+abbrev pub awaits_release : Phase → Bool
+awaits_release (Waiting E10) = true
+awaits_release _ = false
 
 -- it has yet to look for the place, or knows it and is to look whether it sleeps, or to wake it: e3 to e7
 abbrev pub is_to_wake : ℕ → Phase → Bool
@@ -121,10 +121,10 @@ wakes_next place (Waiting (E7 rival)) = rival == place
 wakes_next place _ = false
 
 -- on its way out it is to find the place in the word T, or to let it in: x2 and x3
-abbrev pub is_to_free : ℕ → ℕ → Phase → Bool
-is_to_free turn place Parting = turn == place + 1
-is_to_free turn place (Freeing rival) = rival == place
-is_to_free turn place _ = false
+abbrev pub is_to_let_in : ℕ → ℕ → Phase → Bool
+is_to_let_in turn place Releasing = turn == place + 1
+is_to_let_in turn place (LettingIn rival) = rival == place
+is_to_let_in turn place _ = false
 
 -- one level is sound: `node` and `side` say where each place competes there, `phase` how far it has come,
 -- and `claim`, `turn` and `spin` what the words C, T and P of the level hold
@@ -132,19 +132,19 @@ pub record IsSoundLevel (node side : ℕ → ℕ) (phase : ℕ → Phase) (claim
   -- claim: a word C names the process that claims its side, and is nil where none does
   pub claimed : (p : ℕ) → IsTrue (claims (phase p)) → claim (node p) (side p) ≡ p + 1
   pub claimant : (n s p : ℕ) → claim n s ≡ p + 1 → (node p ≡ n) × (side p ≡ s) × IsTrue (claims (phase p))
-  -- turn: a word T names a place below the node, and one of two rivals that are both past; it is not nil where a
-  -- process is past or parts
+  -- turn: a word T names a place below the node, and one of two rivals that both announced themselves; it is not nil
+  -- where a process has announced itself or is releasing
   pub below : (n p : ℕ) → turn n ≡ p + 1 → node p ≡ n
-  pub announced : (p : ℕ) → IsTrue (is_past (phase p)) → turn (node p) ≢ 0
-  pub parting : (p : ℕ) → IsTrue (parts (phase p)) → turn (node p) ≢ 0
-  pub one_of_two : (p q : ℕ) → Rivals node side p q → IsTrue (is_past (phase p)) → IsTrue (is_past (phase q))
+  pub announced : (p : ℕ) → IsTrue (has_announced (phase p)) → turn (node p) ≢ 0
+  pub releasing : (p : ℕ) → IsTrue (is_releasing (phase p)) → turn (node p) ≢ 0
+  pub one_of_two : (p q : ℕ) → Rivals node side p q → IsTrue (has_announced (phase p)) → IsTrue (has_announced (phase q))
       → (turn (node p) ≡ p + 1) ⊎ (turn (node p) ≡ q + 1)
-  -- waiter: where one holds and its rival is past, the rival announced itself last
-  pub waiter : (p q : ℕ) → Rivals node side p q → IsTrue (holds (phase p)) → IsTrue (is_past (phase q))
+  -- waiter: where one holds and its rival has announced itself, the rival announced itself last
+  pub waiter : (p q : ℕ) → Rivals node side p q → IsTrue (holds (phase p)) → IsTrue (has_announced (phase q))
       → turn (node p) ≡ q + 1
   -- spin: a word P is 0, 1 or 2, and 2 lets its process in only where the rival announced itself last
   pub in_range : (p : ℕ) → spin p ≤ 2
-  pub let_in : (p q : ℕ) → Rivals node side p q → IsTrue (waits (phase p)) → spin p ≡ 2 → IsTrue (is_past (phase q))
+  pub let_in : (p q : ℕ) → Rivals node side p q → IsTrue (waits (phase p)) → spin p ≡ 2 → IsTrue (has_announced (phase q))
       → turn (node p) ≡ q + 1
 
 -- some rival of the place is in a phase of this kind
@@ -153,18 +153,18 @@ SomeRival node side phase p kind = (q : ℕ) × Rivals node side p q × IsTrue (
 
 -- wake: whoever waits is owed a word
 pub record IsOwed (node side : ℕ → ℕ) (phase : ℕ → Phase) (turn spin : ℕ → ℕ) (p : ℕ) : Type 0 where
-  -- one that was not woken has a rival that competes or is to free it, and one that was not let in a rival that is past
-  -- or is to free it
-  pub unwoken : IsTrue (awaits_one (phase p)) → spin p ≡ 0
-      → SomeRival node side phase p (λ x. claims x || is_to_free (turn (node p)) p x)
-  pub outside : IsTrue (waits (phase p)) → spin p ≡ 1
-      → SomeRival node side phase p (λ x. is_past x || is_to_free (turn (node p)) p x)
+  -- one that was not woken (0) has a rival that claims its side or is to let it in, and one that was woken (1) and not
+  -- let in a rival that has announced itself or is to let it in
+  pub unwoken : IsTrue (awaits_wake (phase p)) → spin p ≡ 0
+      → SomeRival node side phase p (λ x. claims x || is_to_let_in (turn (node p)) p x)
+  pub unreleased : IsTrue (waits (phase p)) → spin p ≡ 1
+      → SomeRival node side phase p (λ x. has_announced x || is_to_let_in (turn (node p)) p x)
   pub woken : IsTrue (was_woken (phase p)) → spin p ≢ 0
   -- where another announced itself last it is owed a 1, until it has a 2 that nobody overwrites
   pub owed_one : turn (node p) ≢ p + 1 → IsTrue (saw_itself_last (phase p)) → spin p ≡ 0
       → SomeRival node side phase p (is_to_wake p)
-  pub has_two : turn (node p) ≢ p + 1 → IsTrue (awaits_two (phase p)) → spin p ≡ 2
-  pub keeps_two : turn (node p) ≢ p + 1 → IsTrue (awaits_two (phase p)) → (q : ℕ) → Rivals node side p q
+  pub has_two : turn (node p) ≢ p + 1 → IsTrue (awaits_release (phase p)) → spin p ≡ 2
+  pub keeps_two : turn (node p) ≢ p + 1 → IsTrue (awaits_release (phase p)) → (q : ℕ) → Rivals node side p q
       → wakes_next p (phase q) ≡ false
 
 -- the level of a state
@@ -182,14 +182,14 @@ IsOwedAt levels s level =
     (λ q. s.words (P level q)) p
 
 -- the rival that a point knows is a place on the other side of the node
-abbrev pub EntryIsProper : ℕ → ℕ → Entry → Type 0
+abbrev pub EntryIsProper : ℕ → ℕ → EntryPoint → Type 0
 EntryIsProper level place (E5 rival) = AreRivals level place rival
 EntryIsProper level place (E6 rival) = AreRivals level place rival
 EntryIsProper level place (E7 rival) = AreRivals level place rival
 EntryIsProper level place _ = Unit {0}
 
 -- on the way out it is another place below the node
-abbrev pub ExitIsProper : ℕ → ℕ → Exit → Type 0
+abbrev pub ExitIsProper : ℕ → ℕ → ExitPoint → Type 0
 ExitIsProper level place (X3 rival) = (node_of level place ≡ node_of level rival) × (rival ≢ place)
 ExitIsProper level place _ = Unit {0}
 
@@ -208,7 +208,7 @@ IsProper levels place Inside = place < 2 ^ levels
 IsProper levels place (Leaving level point) = IsOnItsWay levels place level (ExitIsProper level place point)
 
 -- the invariant: each process is proper, each level is sound, and at each level whoever waits is owed a word
-pub record IsSound (levels : ℕ) (s : State) : Type 0 where
+pub record IsSoundState (levels : ℕ) (s : State) : Type 0 where
   pub proper : (p : ℕ) → IsProper levels p (s.processes p)
   pub sound : (level : ℕ) → 1 ≤ level → level ≤ levels → IsSoundAt levels s level
   pub owed : (level : ℕ) → 1 ≤ level → level ≤ levels → IsOwedAt levels s level

@@ -4,16 +4,16 @@ use Rattle.ya_core.specs.declared.word.Word.{Word}
 use Rattle.ya_core.specs.declared.word.Word.TheVariants.{C, T, P}
 use Rattle.ya_core.specs.declared.word.Access.{Access}
 use Rattle.ya_core.specs.declared.word.Access.TheVariants.{Load, Store}
-use Rattle.ya_core.specs.declared.process.Entry.{Entry}
-use Rattle.ya_core.specs.declared.process.Entry.TheVariants.{E1, E2, E3, E4, E5, E6, E7, E8, E9, E10}
-use Rattle.ya_core.specs.declared.process.Exit.{Exit}
-use Rattle.ya_core.specs.declared.process.Exit.TheVariants.{X1, X2, X3}
+use Rattle.ya_core.specs.declared.process.EntryPoint.{EntryPoint}
+use Rattle.ya_core.specs.declared.process.EntryPoint.TheVariants.{E1, E2, E3, E4, E5, E6, E7, E8, E9, E10}
+use Rattle.ya_core.specs.declared.process.ExitPoint.{ExitPoint}
+use Rattle.ya_core.specs.declared.process.ExitPoint.TheVariants.{X1, X2, X3}
 use Rattle.ya_core.specs.declared.process.Process.{Process}
 use Rattle.ya_core.specs.declared.process.Process.TheVariants.{Idle, Entering, Inside, Leaving}
-use Rattle.ya_core.specs.Tree.{node_of, side_of}
+use Rattle.ya_core.specs.ArbitrationTree.{node_of, side_of}
 
 -- the access that is due on the way in, at each point of a level
-abbrev pub entry_access : ℕ → ℕ → Entry → Access
+abbrev pub entry_access : ℕ → ℕ → EntryPoint → Access
 entry_access level place E1 = Store (C level (node_of level place) (side_of level place)) (place + 1)
 entry_access level place E2 = Store (T level (node_of level place)) (place + 1)
 entry_access level place E3 = Store (P level place) 0
@@ -26,7 +26,7 @@ entry_access level place E9 = Load (T level (node_of level place))
 entry_access level place E10 = Load (P level place)
 
 -- the access that is due on the way out, at each point of a level
-abbrev pub exit_access : ℕ → ℕ → Exit → Access
+abbrev pub exit_access : ℕ → ℕ → ExitPoint → Access
 exit_access level place X1 = Store (C level (node_of level place) (side_of level place)) 0
 exit_access level place X2 = Load (T level (node_of level place))
 exit_access level place (X3 rival) = Store (P level rival) 2
@@ -43,11 +43,11 @@ abbrev pub won : ℕ → ℕ → Process
 won levels level = if nat_lt level levels then Entering (level + 1) E1 else Inside
 
 -- a process that left the level goes on to the one below; from the leaves it goes idle
-abbrev pub left : ℕ → Process
-left level = if nat_lt 1 level then Leaving (level - 1) X1 else Idle
+abbrev pub after_exit : ℕ → Process
+after_exit level = if nat_lt 1 level then Leaving (level - 1) X1 else Idle
 
 -- where each point of the way in leads, by the value that its access loaded
-abbrev pub entry_next : ℕ → ℕ → ℕ → Entry → ℕ → Process
+abbrev pub entry_next : ℕ → ℕ → ℕ → EntryPoint → ℕ → Process
 entry_next levels level place E1 value = Entering level E2
 entry_next levels level place E2 value = Entering level E3
 entry_next levels level place E3 value = Entering level E4
@@ -61,10 +61,10 @@ entry_next levels level place E9 value = if value == place + 1 then Entering lev
 entry_next levels level place E10 value = if value == 2 then won levels level else Entering level E10
 
 -- where each point of the way out leads
-abbrev pub exit_next : ℕ → ℕ → Exit → ℕ → Process
+abbrev pub exit_next : ℕ → ℕ → ExitPoint → ℕ → Process
 exit_next level place X1 value = Leaving level X2
-exit_next level place X2 value = if value == place + 1 then left level else Leaving level (X3 (value - 1))
-exit_next level place (X3 rival) value = left level
+exit_next level place X2 value = if value == place + 1 then after_exit level else Leaving level (X3 (value - 1))
+exit_next level place (X3 rival) value = after_exit level
 
 -- the process after its step
 abbrev pub next_of : ℕ → ℕ → Process → ℕ → Process

@@ -104,5 +104,5 @@ FollowsFrom ok before [] = Unit {0}
 FollowsFrom ok before (entry ∷ entries) = ok before entry × FollowsFrom ok (before ++ entry ∷ []) entries
 
 -- each entry may follow those before it
-abbrev pub IsLawful : {X : Type 0} → (List (Marked X) → Marked X → Type 0) → List (Marked X) → Type 0
-IsLawful ok entries = FollowsFrom ok [] entries
+abbrev pub EachMayFollow : {X : Type 0} → (List (Marked X) → Marked X → Type 0) → List (Marked X) → Type 0
+EachMayFollow ok entries = FollowsFrom ok [] entries

@@ -3,22 +3,22 @@
 
 ghost use Rattle.std.specs.Prelude.{◌≡◌, ◌≢◌, ℕ, ◌+◌, ◌*◌, ◌^◌, ◌<◌, ◌≤◌, ◌⊎◌, IsTrue, List, ◌∷◌, ◌++◌};
 ghost use Rattle.ya_core.specs.declared.word.Word.{Word};
-ghost use Rattle.ya_core.specs.Tree.{IsWord, number_of, count_of_words};
+ghost use Rattle.ya_core.specs.ArbitrationTree.{IsWord, number_of, count_of_words};
 ghost use Rattle.ya_core.specs.Steps.{State, StepsTo, LeadTo, opening, access_of, value_of};
-ghost use Rattle.ya_core.specs.Soundness.{IsSound};
+ghost use Rattle.ya_core.specs.Soundness.{IsSoundState};
 ghost use Rattle.ya_core.specs.declared.process.Process.TheVariants as process;
 ghost use Rattle.ya_core.specs.Progress.{SomeoneGoesOn, SomeoneGoesOnIn, CanLeadTo, LevelStep, announces};
 ghost use Rattle.ya_core.specs.Progress.{LevelSees, HasNotWon, times_overtaken};
-ghost use Rattle.ya_core.specs.Fairness.{IsRunOf, IsFair, Eventually, is_on_way_in, is_on_way_out};
-ghost use Rattle.ya_core.specs.Walks.{Walk, IsWalk, Enters, Leaves, Goes, AccessIsWithin, MayFind};
+ghost use Rattle.ya_core.specs.Fairness.{IsRunOfSchedule, IsFair, Eventually, is_on_way_in, is_on_way_out};
+ghost use Rattle.ya_core.specs.WalkerModel.{Walk, IsWalk, BeginsEntry, BeginsExit, WalkLeadsTo, AccessIsWithin, MayFind};
 ghost use Rattle.ya_core.specs.Worlds.{Marked, World, Event, WorldSteps, WorldAppends};
-ghost use Rattle.ya_core.specs.Worlds.{IsReached, IsInside, IsLawful, any_entry, entries_of, places_of};
+ghost use Rattle.ya_core.specs.Worlds.{IsReached, IsInside, EachMayFollow, any_entry, entries_of, places_of};
 
 /// The invariant holds at the start, and each step of any place keeps it, in a tree of any number of levels.
 pub fn soundness()
-    ensures start { (levels : ℕ) → IsSound levels opening }
+    ensures start { (levels : ℕ) → IsSoundState levels opening }
     ensures kept { (levels place : ℕ) (old new : State)
-        → 1 ≤ levels → IsSound levels old → StepsTo levels place old new → IsSound levels new }
+        → 1 ≤ levels → IsSoundState levels old → StepsTo levels place old new → IsSoundState levels new }
 {}
 
 /// Different words of a tree have different numbers, each below the number of words.
@@ -33,9 +33,9 @@ pub fn numbers()
 /// finds can stand in its word.
 pub fn accesses()
     ensures word { (levels place : ℕ) (s : State)
-        → 1 ≤ levels → place < 2 ^ levels → IsSound levels s
+        → 1 ≤ levels → place < 2 ^ levels → IsSoundState levels s
         → AccessIsWithin levels (access_of levels place (s.processes place)) }
-    ensures value { (levels place : ℕ) (s : State) → IsSound levels s
+    ensures value { (levels place : ℕ) (s : State) → IsSoundState levels s
         → let access = access_of levels place (s.processes place) in
         MayFind access (value_of s.words access) }
 {}
@@ -66,13 +66,13 @@ pub fn exclusion()
 /// finite schedule leads each place that is on its way in inside, and each that is inside or on its way out to idle.
 pub fn no_deadlock<X>()
     ensures states { (levels place : ℕ) (s : State)
-        → 1 ≤ levels → IsSound levels s → s.processes place ≢ process.Idle
+        → 1 ≤ levels → IsSoundState levels s → s.processes place ≢ process.Idle
         → SomeoneGoesOn levels s }
     ensures way_in { (levels place : ℕ) (s : State)
-        → 1 ≤ levels → IsSound levels s → IsTrue (is_on_way_in (s.processes place))
+        → 1 ≤ levels → IsSoundState levels s → IsTrue (is_on_way_in (s.processes place))
         → CanLeadTo levels s (λ after. IsInside after place) }
     ensures way_out { (levels place : ℕ) (s : State)
-        → 1 ≤ levels → IsSound levels s → IsInside s place ⊎ IsTrue (is_on_way_out (s.processes place))
+        → 1 ≤ levels → IsSoundState levels s → IsInside s place ⊎ IsTrue (is_on_way_out (s.processes place))
         → CanLeadTo levels s (λ after. after.processes place ≡ process.Idle) }
     ensures worlds { (levels place : ℕ) (events : List (Event X)) (world : World X)
         → 1 ≤ levels → IsReached levels any_entry events world
@@ -84,21 +84,21 @@ pub fn no_deadlock<X>()
 /// then or later. Each schedule of places of the tree has a run, and one alone, and some schedule is fair.
 pub fn starvation_freedom()
     ensures inside { (levels : ℕ) (schedule : ℕ → ℕ) (states : ℕ → State)
-        → 1 ≤ levels → IsRunOf levels schedule states → IsFair schedule states
+        → 1 ≤ levels → IsRunOfSchedule levels schedule states → IsFair schedule states
         → (place time : ℕ) → IsTrue (is_on_way_in ((states time).processes place))
         → Eventually time (λ later. IsInside (states later) place) }
     ensures idle { (levels : ℕ) (schedule : ℕ → ℕ) (states : ℕ → State)
-        → 1 ≤ levels → IsRunOf levels schedule states → IsFair schedule states
+        → 1 ≤ levels → IsRunOfSchedule levels schedule states → IsFair schedule states
         → (place time : ℕ)
         → IsInside (states time) place ⊎ IsTrue (is_on_way_out ((states time).processes place))
         → Eventually time (λ later. (states later).processes place ≡ process.Idle) }
     ensures run { (levels : ℕ) (schedule : ℕ → ℕ) → ((time : ℕ) → schedule time < 2 ^ levels)
-        → (states : ℕ → State) × IsRunOf levels schedule states }
+        → (states : ℕ → State) × IsRunOfSchedule levels schedule states }
     ensures one { (levels : ℕ) (schedule : ℕ → ℕ) (states other : ℕ → State)
-        → IsRunOf levels schedule states → IsRunOf levels schedule other
+        → IsRunOfSchedule levels schedule states → IsRunOfSchedule levels schedule other
         → (time : ℕ) → other time ≡ states time }
     ensures fair { (levels : ℕ) → 1 ≤ levels
-        → (schedule : ℕ → ℕ) × (states : ℕ → State) × IsRunOf levels schedule states × IsFair schedule states }
+        → (schedule : ℕ → ℕ) × (states : ℕ → State) × IsRunOfSchedule levels schedule states × IsFair schedule states }
 {}
 
 /// In every run, from a place's store of T at a node until it wins that node, the other side wins the node at most
@@ -114,9 +114,9 @@ pub fn one_overtaking()
 /// from `begin_exit` until it is idle again, whatever it loads.
 pub fn access_count()
     ensures way_in { (start end : Walk) (values : List ℕ)
-        → IsWalk start → Enters start → Goes start values end → end.remote ≤ 7 * start.levels }
+        → IsWalk start → BeginsEntry start → WalkLeadsTo start values end → end.remote ≤ 7 * start.levels }
     ensures way_out { (start end : Walk) (values : List ℕ)
-        → IsWalk start → Leaves start → Goes start values end
+        → IsWalk start → BeginsExit start → WalkLeadsTo start values end
         → end.remote ≤ start.remote + 3 * start.levels }
 {}
 
@@ -141,5 +141,5 @@ pub fn content<K: Accept>()
     ensures any { (levels : ℕ) (events : List (Event K.Entry)) (world : World K.Entry)
         → IsReached levels K.ok events world → IsReached levels any_entry events world }
     ensures lawful { (levels : ℕ) (events : List (Event K.Entry)) (world : World K.Entry)
-        → 1 ≤ levels → IsReached levels K.ok events world → IsLawful K.ok world.content }
+        → 1 ≤ levels → IsReached levels K.ok events world → EachMayFollow K.ok world.content }
 {}

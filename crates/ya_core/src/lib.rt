@@ -34,7 +34,7 @@ mod walker;
 mod word;
 
 pub use machine::{Machine, NoMemory};
-pub use process::{Entry, Exit, Process};
+pub use process::{EntryPoint, ExitPoint, Process};
 pub use schedule::{ReplayFault, replay};
 pub use shape::Shape;
 pub use step::{Mark, Step};

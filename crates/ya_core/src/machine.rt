@@ -1,9 +1,9 @@
 //! All places of a tree with their words, one atomic step at a time.
 ghost use Rattle.std.specs.Prelude.{◌≡◌, ◌^◌, ◌<◌, IfOk, length, slice_index};
-ghost use Rattle.ya_core.specs.Tree.{count_of_words};
+ghost use Rattle.ya_core.specs.ArbitrationTree.{count_of_words};
 ghost use Rattle.std.specs.List.{position};
 ghost use Rattle.ya_core.specs.Steps.{Accesses, StepsTo, opening, value_of};
-ghost use Rattle.ya_core.specs.Walks.{AccessIsWithin};
+ghost use Rattle.ya_core.specs.WalkerModel.{AccessIsWithin};
 ghost use Rattle.ya_core.specs.inside.Machines.{IsMachine, TakesStep, rows};
 ghost use Rattle.ya_core.specs.Machines.{state_of, step_of, step_by, mark_of};
 ghost use Rattle.ya_core.specs.FlatRow.{words_of};

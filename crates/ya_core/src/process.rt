@@ -1,7 +1,7 @@
 //! Where one process stands, which access is due to it, and where that leads.
 ghost use Rattle.std.specs.Prelude.{◌≡◌, ◌+◌, ◌-◌, ◌^◌, ◌<◌, ◌≤◌};
-ghost use Rattle.ya_core.specs.Tree.{node_of, side_of};
-ghost use Rattle.ya_core.specs.Steps.{entry_access, exit_access, entry_next, exit_next, won, left};
+ghost use Rattle.ya_core.specs.ArbitrationTree.{node_of, side_of};
+ghost use Rattle.ya_core.specs.Steps.{entry_access, exit_access, entry_next, exit_next, won, after_exit};
 ghost use Rattle.ya_core.specs.Steps.{access_of, next_of};
 ghost use Rattle.ya_core.specs.Soundness.{IsProper};
 
@@ -9,7 +9,7 @@ use crate::word::{Access, Word};
 
 /// Where a process stands on its way in at a level. The rival's place is known from the load of its claim on.
 #[derive(Clone, Copy, Debug, PartialEq, Eq)]
-pub enum Entry {
+pub enum EntryPoint {
     /// It is to claim its side of the node.
     E1,
     /// It is to announce itself at the node.
@@ -34,7 +34,7 @@ pub enum Entry {
 
 /// Where a process stands on its way out at a level.
 #[derive(Clone, Copy, Debug, PartialEq, Eq)]
-pub enum Exit {
+pub enum ExitPoint {
     /// It is to give up its claim.
     X1,
     /// It is to look who announced itself last.
@@ -49,11 +49,11 @@ pub enum Process {
     /// It takes no part. Its next step is the first of an entry, at level 1.
     Idle,
     /// It is on its way in, at that point of that level, and holds every level below.
-    Entering(u32, Entry),
+    Entering(u32, EntryPoint),
     /// It is inside. Its next step is the first of an exit, at the root.
     Inside,
     /// It is on its way out, at that point of that level, and holds every level below.
-    Leaving(u32, Exit),
+    Leaving(u32, ExitPoint),
 }
 
 impl Process {
@@ -67,9 +67,9 @@ impl Process {
         ensures { result ≡ access_of levels place self }
     {
         match self {
-            Process::Idle => entry_access(1, place, Entry::E1),
+            Process::Idle => entry_access(1, place, EntryPoint::E1),
             Process::Entering(level, point) => entry_access(level, place, point),
-            Process::Inside => exit_access(levels, place, Exit::X1),
+            Process::Inside => exit_access(levels, place, ExitPoint::X1),
             Process::Leaving(level, point) => exit_access(level, place, point),
         }
     }
@@ -84,9 +84,9 @@ impl Process {
         ensures { result ≡ next_of levels place self value }
     {
         match self {
-            Process::Idle => Process::Entering(1, Entry::E2),
+            Process::Idle => Process::Entering(1, EntryPoint::E2),
             Process::Entering(level, point) => entry_next(levels, level, place, point, value),
-            Process::Inside => Process::Leaving(levels, Exit::X2),
+            Process::Inside => Process::Leaving(levels, ExitPoint::X2),
             Process::Leaving(level, point) => exit_next(level, place, point, value),
         }
     }
@@ -103,14 +103,14 @@ fn identifier_of(place: usize) -> u64
 
 /// The place that the identifier names.
 #[inline(always)]
-fn place_of(identifier: u64) -> usize
+fn identified_place(identifier: u64) -> usize
     ensures { result ≡ identifier - 1 }
 {
     (identifier as usize).saturating_sub(1)
 }
 
 /// The word C of the side on which the place competes.
-#[tactic(auto, unfolding(crate::specs::Tree::node_of, crate::specs::Tree::side_of))]
+#[tactic(auto, unfolding(crate::specs::ArbitrationTree::node_of, crate::specs::ArbitrationTree::side_of))]
 #[inline(always)]
 fn own_claim(level: u32, place: usize) -> Word
     requires least { 1 ≤ level }
@@ -121,7 +121,7 @@ fn own_claim(level: u32, place: usize) -> Word
 }
 
 /// The word C of the other side of its node.
-#[tactic(auto, unfolding(crate::specs::Tree::node_of, crate::specs::Tree::side_of))]
+#[tactic(auto, unfolding(crate::specs::ArbitrationTree::node_of, crate::specs::ArbitrationTree::side_of))]
 #[inline(always)]
 fn rival_claim(level: u32, place: usize) -> Word
     requires least { 1 ≤ level }
@@ -132,7 +132,7 @@ fn rival_claim(level: u32, place: usize) -> Word
 }
 
 /// The word T of the node below which the place competes.
-#[tactic(auto, unfolding(crate::specs::Tree::node_of, crate::specs::Tree::side_of))]
+#[tactic(auto, unfolding(crate::specs::ArbitrationTree::node_of, crate::specs::ArbitrationTree::side_of))]
 #[inline(always)]
 fn turn(level: u32, place: usize) -> Word
     requires most { level ≤ 6 }
@@ -143,7 +143,7 @@ fn turn(level: u32, place: usize) -> Word
 
 /// The access that is due on the way in at a level.
 #[inline(always)]
-fn entry_access(level: u32, place: usize, point: Entry) -> Access
+fn entry_access(level: u32, place: usize, point: EntryPoint) -> Access
     requires least { 1 ≤ level }
     requires most { level ≤ 6 }
     requires room { place < 64 }
@@ -151,68 +151,68 @@ fn entry_access(level: u32, place: usize, point: Entry) -> Access
 {
     let identifier = identifier_of(place);
     match point {
-        Entry::E1 => Access::Store(own_claim(level, place), identifier),
-        Entry::E2 => Access::Store(turn(level, place), identifier),
-        Entry::E3 => Access::Store(Word::P(level, place), 0),
-        Entry::E4 => Access::Load(rival_claim(level, place)),
-        Entry::E5(_) | Entry::E9 => Access::Load(turn(level, place)),
-        Entry::E6(rival) => Access::Load(Word::P(level, rival)),
-        Entry::E7(rival) => Access::Store(Word::P(level, rival), 1),
-        Entry::E8 | Entry::E10 => Access::Load(Word::P(level, place)),
+        EntryPoint::E1 => Access::Store(own_claim(level, place), identifier),
+        EntryPoint::E2 => Access::Store(turn(level, place), identifier),
+        EntryPoint::E3 => Access::Store(Word::P(level, place), 0),
+        EntryPoint::E4 => Access::Load(rival_claim(level, place)),
+        EntryPoint::E5(_) | EntryPoint::E9 => Access::Load(turn(level, place)),
+        EntryPoint::E6(rival) => Access::Load(Word::P(level, rival)),
+        EntryPoint::E7(rival) => Access::Store(Word::P(level, rival), 1),
+        EntryPoint::E8 | EntryPoint::E10 => Access::Load(Word::P(level, place)),
     }
 }
 
 /// The access that is due on the way out at a level.
 #[inline(always)]
-fn exit_access(level: u32, place: usize, point: Exit) -> Access
+fn exit_access(level: u32, place: usize, point: ExitPoint) -> Access
     requires least { 1 ≤ level }
     requires most { level ≤ 6 }
     ensures { result ≡ exit_access level place point }
 {
     match point {
-        Exit::X1 => Access::Store(own_claim(level, place), 0),
-        Exit::X2 => Access::Load(turn(level, place)),
-        Exit::X3(rival) => Access::Store(Word::P(level, rival), 2),
+        ExitPoint::X1 => Access::Store(own_claim(level, place), 0),
+        ExitPoint::X2 => Access::Load(turn(level, place)),
+        ExitPoint::X3(rival) => Access::Store(Word::P(level, rival), 2),
     }
 }
 
 /// Where a point of the way in leads, by the value that its access loaded.
 #[inline(always)]
-fn entry_next(levels: u32, level: u32, place: usize, point: Entry, value: u64) -> Process
+fn entry_next(levels: u32, level: u32, place: usize, point: EntryPoint, value: u64) -> Process
     requires most { level ≤ 6 }
     requires room { place < 64 }
     ensures { result ≡ entry_next levels level place point value }
 {
     let identifier = identifier_of(place);
     let next = match point {
-        Entry::E1 => Entry::E2,
-        Entry::E2 => Entry::E3,
-        Entry::E3 => Entry::E4,
-        Entry::E4 if value == 0 => return won(levels, level),
-        Entry::E4 => Entry::E5(place_of(value)),
-        Entry::E5(rival) if value == identifier => Entry::E6(rival),
-        Entry::E6(rival) if value == 0 => Entry::E7(rival),
-        Entry::E6(_) | Entry::E7(_) => Entry::E8,
-        Entry::E8 if value == 0 => Entry::E8,
-        Entry::E8 => Entry::E9,
-        Entry::E9 if value == identifier => Entry::E10,
-        Entry::E10 if value != 2 => Entry::E10,
-        Entry::E5(_) | Entry::E9 | Entry::E10 => return won(levels, level),
+        EntryPoint::E1 => EntryPoint::E2,
+        EntryPoint::E2 => EntryPoint::E3,
+        EntryPoint::E3 => EntryPoint::E4,
+        EntryPoint::E4 if value == 0 => return won(levels, level),
+        EntryPoint::E4 => EntryPoint::E5(identified_place(value)),
+        EntryPoint::E5(rival) if value == identifier => EntryPoint::E6(rival),
+        EntryPoint::E6(rival) if value == 0 => EntryPoint::E7(rival),
+        EntryPoint::E6(_) | EntryPoint::E7(_) => EntryPoint::E8,
+        EntryPoint::E8 if value == 0 => EntryPoint::E8,
+        EntryPoint::E8 => EntryPoint::E9,
+        EntryPoint::E9 if value == identifier => EntryPoint::E10,
+        EntryPoint::E10 if value != 2 => EntryPoint::E10,
+        EntryPoint::E5(_) | EntryPoint::E9 | EntryPoint::E10 => return won(levels, level),
     };
     Process::Entering(level, next)
 }
 
 /// Where a point of the way out leads, by the value that its access loaded.
 #[inline(always)]
-fn exit_next(level: u32, place: usize, point: Exit, value: u64) -> Process
+fn exit_next(level: u32, place: usize, point: ExitPoint, value: u64) -> Process
     requires room { place < 64 }
     ensures { result ≡ exit_next level place point value }
 {
     match point {
-        Exit::X1 => Process::Leaving(level, Exit::X2),
-        Exit::X2 if value == identifier_of(place) => left(level),
-        Exit::X2 => Process::Leaving(level, Exit::X3(place_of(value))),
-        Exit::X3(_) => left(level),
+        ExitPoint::X1 => Process::Leaving(level, ExitPoint::X2),
+        ExitPoint::X2 if value == identifier_of(place) => after_exit(level),
+        ExitPoint::X2 => Process::Leaving(level, ExitPoint::X3(identified_place(value))),
+        ExitPoint::X3(_) => after_exit(level),
     }
 }
 
@@ -223,7 +223,7 @@ fn won(levels: u32, level: u32) -> Process
     ensures { result ≡ won levels level }
 {
     if level < levels {
-        Process::Entering(level + 1, Entry::E1)
+        Process::Entering(level + 1, EntryPoint::E1)
     } else {
         Process::Inside
     }
@@ -231,11 +231,11 @@ fn won(levels: u32, level: u32) -> Process
 
 /// The process that left the level: it goes on to the one below, and from the leaves it goes idle.
 #[inline(always)]
-fn left(level: u32) -> Process
-    ensures { result ≡ left level }
+fn after_exit(level: u32) -> Process
+    ensures { result ≡ after_exit level }
 {
     if level > 1 {
-        Process::Leaving(level - 1, Exit::X1)
+        Process::Leaving(level - 1, ExitPoint::X1)
     } else {
         Process::Idle
     }

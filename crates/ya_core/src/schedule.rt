@@ -2,7 +2,7 @@
 ghost use Rattle.std.specs.Prelude.{◌≡◌, ◌↔◌, ◌^◌, ◌<◌, ◌≤◌, List, IfOk, IsErrOf, All, Any};
 ghost use Rattle.ya_core.specs.declared.step.Step.{Step};
 ghost use Rattle.ya_core.specs.Steps.{opening};
-ghost use Rattle.ya_core.specs.Tree.{HasShape};
+ghost use Rattle.ya_core.specs.ArbitrationTree.{HasShape};
 ghost use Rattle.ya_core.specs.Machines.{Replays};
 
 use crate::machine::{Machine, NoMemory};

@@ -1,6 +1,6 @@
 //! The words of a tree in one flat row.
 ghost use Rattle.std.specs.Prelude.{◌≡◌, ◌↔◌, ℕ, ◌+◌, ◌-◌, ◌*◌, ◌^◌, ◌<◌, ◌≤◌, IsSome, IfSome};
-ghost use Rattle.ya_core.specs.Tree.{HasShape, IsWord, number_of, count_of_words, nodes_below};
+ghost use Rattle.ya_core.specs.ArbitrationTree.{HasShape, IsWord, number_of, count_of_words, nodes_below};
 
 use crate::word::Word;
 use std::marker::Model;

@@ -1,12 +1,12 @@
 //! One process that is told what it loaded.
 ghost use Rattle.std.specs.Prelude.{◌≡◌, ◌↔◌, ℕ, ◌+◌, ◌-◌, ◌*◌, ◌^◌, ◌<◌, ◌≤◌, true, false, IsTrue, IsFalse};
 ghost use Rattle.ya_core.specs.declared.process.Process.TheVariants.{Idle, Inside, Entering};
-ghost use Rattle.ya_core.specs.Tree.{node_of, side_of};
+ghost use Rattle.ya_core.specs.ArbitrationTree.{node_of, side_of};
 ghost use Rattle.ya_core.specs.Steps.{access_of};
-ghost use Rattle.ya_core.specs.Walks.{IsWalk, walk, op_of, due, Fits, IsStore, CanStand, cost_of, walk_after, budget, MovesOn, OpIsWithin, IsTold, due_of};
-ghost use Rattle.ya_core.specs.inside.Walks.{DueIsWithin, LevelIsSmall};
+ghost use Rattle.ya_core.specs.WalkerModel.{IsWalk, walk, op_of, due, FitsDue, IsStore, CanStand, cost_of, walk_after, budget, MovesOn, OpIsWithin, MayBeTold, due_of};
+ghost use Rattle.ya_core.specs.inside.WalkerModel.{DueIsWithin, LevelIsSmall};
 
-use crate::process::{Entry, Process};
+use crate::process::{EntryPoint, Process};
 use crate::shape::Shape;
 use crate::word::{Access, Word};
 use std::marker::Model;
@@ -48,7 +48,7 @@ pub struct Walker {
 }
 
 impl Model for Walker {
-    ghost use Rattle.ya_core.specs.Walks.{Walk, IsWalk, walk};
+    ghost use Rattle.ya_core.specs.WalkerModel.{Walk, IsWalk, walk};
 
     ghost Value = { Walk };
 
@@ -99,7 +99,13 @@ impl Walker {
 
     /// The process of that place at that point of a level on its way in, after so many remote accesses.
     #[inline(always)]
-    pub fn entering(shape: Shape, place: usize, level: u32, point: Entry, remote: u64) -> Walker
+    pub fn entering(
+        shape: Shape,
+        place: usize,
+        level: u32,
+        point: EntryPoint,
+        remote: u64,
+    ) -> Walker
         requires { IsWalk (walk shape place (Entering level point) false remote) }
         ensures { result ≡ walk shape place (Entering level point) false remote }
     {
@@ -138,7 +144,7 @@ impl Walker {
     /// Whether the value can stand in the word that is to be loaded: in a word C nil or the identifier of a place on
     /// that side, in a word T that of a place below the node, in a word P 0, 1 or 2. False where no load is due.
     pub fn fits(&self, value: u64) -> bool
-        ensures { IsTrue result ↔ Fits self.now value }
+        ensures { IsTrue result ↔ FitsDue self.now value }
     {
         match self.due() {
             Some(Access::Load(word)) => can_stand(word, value),
@@ -146,10 +152,10 @@ impl Walker {
         }
     }
 
-    /// Goes on by the value that the load found.
+    /// WalkLeadsTo on by the value that the load found.
     #[inline(always)]
     pub fn saw(&mut self, value: u64)
-        requires { Fits self.old value }
+        requires { FitsDue self.old value }
         ensures after { self.new ≡ walk_after self.old value }
 
         // It comes to a later point or level, unless it waits and found its own spin word unchanged.
@@ -160,7 +166,7 @@ impl Walker {
         self.go_on(value)
     }
 
-    /// Goes on after the store. Where it leads is the same for every value.
+    /// WalkLeadsTo on after the store. Where it leads is the same for every value.
     #[inline(always)]
     pub fn done(&mut self)
         requires { IsStore (due self.old) }
@@ -229,10 +235,10 @@ impl Walker {
         }
     }
 
-    /// Goes on after the access that is due, which loaded or stored the value.
+    /// WalkLeadsTo on after the access that is due, which loaded or stored the value.
     #[inline(always)]
     fn go_on(&mut self, value: u64)
-        requires { IsTold (due self.old) value }
+        requires { MayBeTold (due self.old) value }
         ensures after { self.new ≡ walk_after self.old value }
         ensures onward { MovesOn self.old self.new }
         ensures budget { self.new.remote + budget self.new ≤ self.old.remote + budget self.old }
@@ -284,7 +290,7 @@ fn can_stand(word: Word, value: u64) -> bool
 }
 
 /// Whether the identifier is that of a place below the node.
-#[tactic(auto, unfolding(crate::specs::Tree::node_of, crate::specs::Tree::side_of))]
+#[tactic(auto, unfolding(crate::specs::ArbitrationTree::node_of, crate::specs::ArbitrationTree::side_of))]
 fn is_below(level: u32, node: usize, identifier: u64) -> bool
     requires { level ≤ 6 }
     ensures { IsTrue result ↔ ((1 ≤ identifier) × (node_of level (identifier - 1) ≡ node)) }
@@ -293,7 +299,7 @@ fn is_below(level: u32, node: usize, identifier: u64) -> bool
 }
 
 /// Whether the identifier is that of a place on that side at its node.
-#[tactic(auto, unfolding(crate::specs::Tree::node_of, crate::specs::Tree::side_of))]
+#[tactic(auto, unfolding(crate::specs::ArbitrationTree::node_of, crate::specs::ArbitrationTree::side_of))]
 fn is_on_side(level: u32, side: usize, identifier: u64) -> bool
     requires least { 1 ≤ level }
     requires most { level ≤ 6 }

@@ -7,17 +7,17 @@ use lib.ListN.{get_elem?}
 use Rattle.atomic_table.specs.Table.{State}
 use Rattle.ya_core.specs.declared.word.Word.{Word}
 use Rattle.ya_core.specs.declared.word.Word.TheVariants.{C, P}
-use Rattle.ya_core.specs.declared.process.Entry.TheVariants.{E8}
+use Rattle.ya_core.specs.declared.process.EntryPoint.TheVariants.{E8}
 use Rattle.ya_core.specs.declared.process.Process.{Process}
 use Rattle.ya_core.specs.declared.process.Process.TheVariants.{Idle, Entering, Inside}
-use Rattle.ya_core.specs.Tree.{node_of, side_of, number_of, count_of_words}
-use Rattle.ya_core.specs.Soundness.{IsSound}
+use Rattle.ya_core.specs.ArbitrationTree.{node_of, side_of, number_of, count_of_words}
+use Rattle.ya_core.specs.Soundness.{IsSoundState}
 use Rattle.ya_core.proofs.Promised.{opens}
 use Rattle.ya_lock.specs.declared.view.View.{View}
-use Rattle.ya_lock.specs.declared.view.View.TheVariants.{Stranger, Maker, Filler, Dealer, Member, Confirmer, Spent}
+use Rattle.ya_lock.specs.declared.view.View.TheVariants.{Unused, Making, Filling, HandingOut, Seated, Joining, Spent}
 use Rattle.ya_lock.specs.Rule.{index_of, making_index, words_in}
-use Rattle.ya_lock.specs.Meaning.{IsOf, IsFilling, IsMaking, HasProcess, IsAway, NoneInside, ShowsCore, GoesOn, SomeSeatGoesOn}
-use Rattle.ya_lock.specs.Meaning.{OneSeatAPlace, OneInside, LiesHome, IsFresh, IsMadeByOne, IsLockState}
+use Rattle.ya_lock.specs.LockState.{IsOf, IsFilling, IsMaking, HasProcess, IsAway, NoneInside, ShowsCore, GoesOn, SomeSeatGoesOn}
+use Rattle.ya_lock.specs.LockState.{OneSeatAPlace, OneInside, IsInSlot, IsFresh, IsMadeByOne, IsLockState}
 use Rattle.ya_lock.proofs.Words.{words_zero, words_behind}
 
 -- index_of
@@ -40,28 +40,28 @@ unfolding words_in
 a_word_that_the_tree_has_not = refl
 
 -- IsOf
-a_place_away_has_seen_a_value : IsOf {V = ℕ} (Member 1 (Entering 1 E8) 5 4) 1 (Entering 1 E8) 5
+a_place_away_has_seen_a_value : IsOf {V = ℕ} (Seated 1 (Entering 1 E8) 5 4) 1 (Entering 1 E8) 5
 a_place_away_has_seen_a_value = (refl, refl, refl)
 
-one_that_has_joined_another_is_inside : IsOf {V = ℕ} (Confirmer 0 7 1 5 3) 0 Inside 7
+one_that_has_joined_another_is_inside : IsOf {V = ℕ} (Joining 0 7 1 5 3) 0 Inside 7
 one_that_has_joined_another_is_inside = (refl, refl, refl)
 
-a_stranger_has_no_process : ¬ IsOf {V = ℕ} Stranger 0 Idle 7
-a_stranger_has_no_process h = h
+an_unused_seat_has_no_process : ¬ IsOf {V = ℕ} Unused 0 Idle 7
+an_unused_seat_has_no_process h = h
 
 -- IsFilling
-with_the_empty_slot : IsFilling {V = ℕ} Filler
+with_the_empty_slot : IsFilling {V = ℕ} Filling
 with_the_empty_slot = tt
 
-no_more_once_it_gave_the_value : ¬ IsFilling {V = ℕ} (Dealer 0 7)
+no_more_once_it_gave_the_value : ¬ IsFilling {V = ℕ} (HandingOut 0 7)
 no_more_once_it_gave_the_value h = h
 
 -- IsMaking
-while_it_deals_the_passes : IsMaking {V = ℕ} (Dealer 1 7)
-while_it_deals_the_passes = tt
+while_it_hands_out_the_passes : IsMaking {V = ℕ} (HandingOut 1 7)
+while_it_hands_out_the_passes = tt
 
-a_member_makes_none : ¬ IsMaking {V = ℕ} (Member 0 Idle 7 0)
-a_member_makes_none h = h
+a_seated_process_makes_none : ¬ IsMaking {V = ℕ} (Seated 0 Idle 7 0)
+a_seated_process_makes_none h = h
 
 -- moments of a table of one level, all words of whose tree are 0: both places are away; place 0 is inside and place 1
 -- waits; place 1 waits, and nobody is inside
@@ -69,20 +69,20 @@ abbrev moment : List (Option (std.Option ℕ)) → List (View ℕ) → State (st
 moment homes views = record { words = set (replicate 41 0) (making_index 1) 1; homes = homes; views = views }
 
 abbrev both_away : State (std.Option ℕ) (View ℕ)
-both_away = moment (some (Some 7) ∷ []) (Member 0 Idle 7 0 ∷ Member 1 Idle 5 0 ∷ [])
+both_away = moment (some (Some 7) ∷ []) (Seated 0 Idle 7 0 ∷ Seated 1 Idle 5 0 ∷ [])
 
 abbrev one_inside : State (std.Option ℕ) (View ℕ)
-one_inside = moment (none ∷ []) (Member 0 Inside 7 3 ∷ Member 1 (Entering 1 E8) 5 4 ∷ [])
+one_inside = moment (none ∷ []) (Seated 0 Inside 7 3 ∷ Seated 1 (Entering 1 E8) 5 4 ∷ [])
 
 abbrev stuck : State (std.Option ℕ) (View ℕ)
-stuck = moment (some (Some 7) ∷ []) (Member 1 (Entering 1 E8) 5 4 ∷ [])
+stuck = moment (some (Some 7) ∷ []) (Seated 1 (Entering 1 E8) 5 4 ∷ [])
 
 abbrev two_inside : State (std.Option ℕ) (View ℕ)
-two_inside = moment (none ∷ []) (Member 0 Inside 7 3 ∷ Member 1 Inside 7 4 ∷ [])
+two_inside = moment (none ∷ []) (Seated 0 Inside 7 3 ∷ Seated 1 Inside 7 4 ∷ [])
 
 -- HasProcess
 seat_1_has_place_1 : HasProcess one_inside 1 1 (Entering 1 E8) 5
-seat_1_has_place_1 = (Member 1 (Entering 1 E8) 5 4, refl, (refl, refl, refl))
+seat_1_has_place_1 = (Seated 1 (Entering 1 E8) 5 4, refl, (refl, refl, refl))
 
 there_is_no_seat_2 : ¬ HasProcess one_inside 2 0 Idle 7
 there_is_no_seat_2 h = some-ne-none h.0 (sym h.1)
@@ -99,15 +99,15 @@ is_view s seat view place process value has found =
 
 place_0_is_not : ¬ IsAway one_inside 0 0 7
 place_0_is_not (process, away, has) =
-    let is = is_view one_inside 0 (Member 0 Inside 7 3) 0 process 7 has refl in away (sym is.1)
+    let is = is_view one_inside 0 (Seated 0 Inside 7 3) 0 process 7 has refl in away (sym is.1)
 
 -- what each seat shows where both are away
 away_both : (seat place : ℕ) (process : Process) (value : ℕ) → HasProcess both_away seat place process value
     → (seat ≡ place) × (Idle ≡ process) × (value ≤ 7)
 away_both zero place process value has =
-    let is = is_view both_away 0 (Member 0 Idle 7 0) place process value has refl in (is.0, is.1, omega (arith, is.2))
+    let is = is_view both_away 0 (Seated 0 Idle 7 0) place process value has refl in (is.0, is.1, omega (arith, is.2))
 away_both (suc zero) place process value has =
-    let is = is_view both_away 1 (Member 1 Idle 5 0) place process value has refl in (is.0, is.1, omega (arith, is.2))
+    let is = is_view both_away 1 (Seated 1 Idle 5 0) place process value has refl in (is.0, is.1, omega (arith, is.2))
 away_both (suc (suc seat)) place process value has = absurd (some-ne-none has.0 (sym has.1))
 
 -- NoneInside
@@ -115,7 +115,7 @@ none_where_both_are_away : NoneInside both_away
 none_where_both_are_away seat place value has = let idle = (away_both seat place Inside value has).1 in cc
 
 one_is : ¬ NoneInside one_inside
-one_is h = h 0 0 7 (Member 0 Inside 7 3, refl, (refl, refl, refl))
+one_is h = h 0 0 7 (Seated 0 Inside 7 3, refl, (refl, refl, refl))
 
 -- GoesOn
 an_idle_process_goes_on : GoesOn both_away 1 0 Idle
@@ -132,12 +132,12 @@ nobody_takes_part seat place process value has busy = absurd (busy (sym (away_bo
 
 one_that_waits_for_nobody : ¬ SomeSeatGoesOn stuck 1
 one_that_waits_for_nobody h =
-    let found = h 0 1 (Entering 1 E8) 5 (Member 1 (Entering 1 E8) 5 4, refl, (refl, refl, refl)) (λ same. cc) in
+    let found = h 0 1 (Entering 1 E8) 5 (Seated 1 (Entering 1 E8) 5 4, refl, (refl, refl, refl)) (λ same. cc) in
     alone found.0 found.1 found.2.0 found.2.1.0 found.2.1.1 found.2.1.3
   where
     alone : (seat place : ℕ) (process : Process) (value : ℕ) → HasProcess stuck seat place process value → ¬ GoesOn stuck 1 place process
     alone zero place process value has goes_on =
-        let is = is_view stuck 0 (Member 1 (Entering 1 E8) 5 4) place process value has refl in
+        let is = is_view stuck 0 (Seated 1 (Entering 1 E8) 5 4) place process value has refl in
         one_that_waits_for_a_1_does_not (subst (GoesOn stuck 1 1) (sym is.1) (subst (λ q. GoesOn stuck 1 q process) (sym is.0) goes_on))
     alone (suc seat) place process value has goes_on = some-ne-none has.0 (sym has.1)
 
@@ -145,30 +145,30 @@ one_that_waits_for_nobody h =
 each_has_its_own : OneSeatAPlace both_away
 each_has_its_own one other place x y v w a b = (away_both one place x v a).0 ∙ sym (away_both other place y w b).0
 
-not_two_of_place_0 : ¬ OneSeatAPlace (moment (some (Some 7) ∷ []) (Member 0 Idle 7 0 ∷ Member 0 Idle 7 0 ∷ []))
+not_two_of_place_0 : ¬ OneSeatAPlace (moment (some (Some 7) ∷ []) (Seated 0 Idle 7 0 ∷ Seated 0 Idle 7 0 ∷ []))
 not_two_of_place_0 h =
-    let same = h 0 1 0 Idle Idle 7 7 (Member 0 Idle 7 0, refl, (refl, refl, refl)) (Member 0 Idle 7 0, refl, (refl, refl, refl)) in omega (arith, same)
+    let same = h 0 1 0 Idle Idle 7 7 (Seated 0 Idle 7 0, refl, (refl, refl, refl)) (Seated 0 Idle 7 0, refl, (refl, refl, refl)) in omega (arith, same)
 
 -- OneInside
 none_inside : OneInside both_away
 none_inside one other p q v w a b = absurd (none_where_both_are_away one p v a)
 
 not_two : ¬ OneInside two_inside
-not_two h = let same = h 0 1 0 1 7 7 (Member 0 Inside 7 3, refl, (refl, refl, refl)) (Member 1 Inside 7 4, refl, (refl, refl, refl)) in omega (arith, same)
+not_two h = let same = h 0 1 0 1 7 7 (Seated 0 Inside 7 3, refl, (refl, refl, refl)) (Seated 1 Inside 7 4, refl, (refl, refl, refl)) in omega (arith, same)
 
--- LiesHome
-at_home_where_both_are_away : LiesHome both_away
-at_home_where_both_are_away = (λ seat place value has. absurd (none_where_both_are_away seat place value has), λ seat place process value has away. (7, refl))
+-- IsInSlot
+in_slot_where_both_are_away : IsInSlot both_away
+in_slot_where_both_are_away = (λ seat place value has. absurd (none_where_both_are_away seat place value has), λ seat place process value has away. (7, refl))
 
-out_where_one_is_inside : LiesHome one_inside
+out_where_one_is_inside : IsInSlot one_inside
 out_where_one_is_inside = (λ seat place value has. refl, λ seat place process value has away. absurd (one_is away))
 
-not_at_home_where_one_is : ¬ LiesHome (moment (some (Some 7) ∷ []) one_inside.views)
-not_at_home_where_one_is h = let out = h.0 0 0 7 (Member 0 Inside 7 3, refl, (refl, refl, refl)) in cc
+not_in_slot_where_one_is : ¬ IsInSlot (moment (some (Some 7) ∷ []) one_inside.views)
+not_in_slot_where_one_is h = let out = h.0 0 0 7 (Seated 0 Inside 7 3, refl, (refl, refl, refl)) in cc
 
-not_out_where_none_is : ¬ LiesHome (moment (none ∷ []) both_away.views)
+not_out_where_none_is : ¬ IsInSlot (moment (none ∷ []) both_away.views)
 not_out_where_none_is h =
-    let home = h.1 0 0 Idle 7 (Member 0 Idle 7 0, refl, (refl, refl, refl)) none_where_both_are_away in let out = home.1 in cc
+    let home = h.1 0 0 Idle 7 (Seated 0 Idle 7 0, refl, (refl, refl, refl)) none_where_both_are_away in let out = home.1 in cc
 
 -- what others may have made of a number while a place was away
 abbrev raised : ℕ → ℕ → ℕ → Type 0
@@ -183,54 +183,54 @@ raised_since_it_was_seen seat place seen now away = (
 
 not_lowered : ¬ IsFresh (moment (some (Some 4) ∷ []) both_away.views) raised
 not_lowered h =
-    let fresh = (h 1 1 5 4 (Idle, λ same. cc, (Member 1 Idle 5 0, refl, (refl, refl, refl)))).0 refl in omega (arith, fresh)
+    let fresh = (h 1 1 5 4 (Idle, λ same. cc, (Seated 1 Idle 5 0, refl, (refl, refl, refl)))).0 refl in omega (arith, fresh)
 
 -- no seat makes passes where both are away
 no_maker : (seat : ℕ) (view : View ℕ) → get_elem? both_away.views seat ≡ some view → ¬ IsMaking view
-no_maker zero view at making = subst IsMaking (sym (some-injective (Member 0 Idle 7 0) view at)) making
-no_maker (suc zero) view at making = subst IsMaking (sym (some-injective (Member 1 Idle 5 0) view at)) making
+no_maker zero view at making = subst IsMaking (sym (some-injective (Seated 0 Idle 7 0) view at)) making
+no_maker (suc zero) view at making = subst IsMaking (sym (some-injective (Seated 1 Idle 5 0) view at)) making
 no_maker (suc (suc seat)) view at making = some-ne-none view (sym at)
 
 filling_is_making : (view : View ℕ) → IsFilling view → IsMaking view
-filling_is_making Maker filling = tt
-filling_is_making Filler filling = tt
-filling_is_making Stranger filling = absurd filling
-filling_is_making (Dealer first value) filling = tt
-filling_is_making (Member place process value count) filling = absurd filling
-filling_is_making (Confirmer place value other seen count) filling = absurd filling
+filling_is_making Making filling = tt
+filling_is_making Filling filling = tt
+filling_is_making Unused filling = absurd filling
+filling_is_making (HandingOut first value) filling = tt
+filling_is_making (Seated place process value count) filling = absurd filling
+filling_is_making (Joining place value other seen count) filling = absurd filling
 filling_is_making Spent filling = absurd filling
 
 -- IsMadeByOne
-made_and_dealt : IsMadeByOne both_away 1
+all_passes_made : IsMadeByOne both_away 1
 unfolding making_index count_of_words
-made_and_dealt = record {
-  strangers = λ unmade. let none : 1 ≡ 0 = unmade in absurd (omega (arith, none));
+all_passes_made = record {
+  unused = λ unmade. let none : 1 ≡ 0 = unmade in absurd (omega (arith, none));
   empty = λ unmade. let none : 1 ≡ 0 = unmade in absurd (omega (arith, none));
   one_maker = λ one other v w at making there also. absurd (no_maker one v at making);
   unfilled = λ seat view at filling. absurd (no_maker seat view at (filling_is_making view filling));
-  undealt = λ seat first given at. absurd (no_maker seat (Dealer first given) at tt);
+  not_made = λ seat first given at. absurd (no_maker seat (HandingOut first given) at tt);
 }
 
-not_by_two : ¬ IsMadeByOne (moment (some None ∷ []) (Maker ∷ Maker ∷ [])) 1
-not_by_two h = let same = h.one_maker 0 1 Maker Maker refl tt refl tt in omega (arith, same)
+not_by_two : ¬ IsMadeByOne (moment (some None ∷ []) (Making ∷ Making ∷ [])) 1
+not_by_two h = let same = h.one_maker 0 1 Making Making refl tt refl tt in omega (arith, same)
 
-nobody_knows_anything_before : ¬ IsMadeByOne {V = ℕ} (record { words = replicate 41 0; homes = some None ∷ []; views = Member 0 Idle 7 0 ∷ [] }) 1
+nobody_knows_anything_before : ¬ IsMadeByOne {V = ℕ} (record { words = replicate 41 0; homes = some None ∷ []; views = Seated 0 Idle 7 0 ∷ [] }) 1
 unfolding making_index count_of_words
-nobody_knows_anything_before h = let stranger = h.strangers refl 0 (Member 0 Idle 7 0) refl in cc
+nobody_knows_anything_before h = let unused = h.unused refl 0 (Seated 0 Idle 7 0) refl in cc
 
 -- ShowsCore
 all_idle : ShowsCore both_away 1
 all_idle = (
   λ place. Idle,
-  subst (λ (words : Word → ℕ). IsSound 1 record { words = words; processes = λ place. Idle }) (sym (words_behind 1 (making_index 1) (replicate 41 0) 1 (omega arith) ∙ words_zero 1 41)) (opens 1),
+  subst (λ (words : Word → ℕ). IsSoundState 1 record { words = words; processes = λ place. Idle }) (sym (words_behind 1 (making_index 1) (replicate 41 0) 1 (omega arith) ∙ words_zero 1 41)) (opens 1),
   λ seat place process value has. (away_both seat place process value has).1,
   λ place none. refl,
 )
 
-not_two_of_the_core : ¬ ShowsCore (moment (some (Some 7) ∷ []) (Member 0 Idle 7 0 ∷ Member 0 Inside 7 0 ∷ [])) 1
+not_two_of_the_core : ¬ ShowsCore (moment (some (Some 7) ∷ []) (Seated 0 Idle 7 0 ∷ Seated 0 Inside 7 0 ∷ [])) 1
 not_two_of_the_core h =
-    let first = h.2 0 0 Idle 7 (Member 0 Idle 7 0, refl, (refl, refl, refl)) in
-    let second = h.2 1 0 Inside 7 (Member 0 Inside 7 0, refl, (refl, refl, refl)) in
+    let first = h.2 0 0 Idle 7 (Seated 0 Idle 7 0, refl, (refl, refl, refl)) in
+    let second = h.2 1 0 Inside 7 (Seated 0 Inside 7 0, refl, (refl, refl, refl)) in
     let both : Idle ≡ Inside = sym first ∙ second in cc
 
 -- IsLockState
@@ -240,9 +240,9 @@ where_both_are_away = record {
   progress = nobody_takes_part;
   places = each_has_its_own;
   exclusion = none_inside;
-  value = at_home_where_both_are_away;
+  value = in_slot_where_both_are_away;
   fresh = raised_since_it_was_seen;
-  making = made_and_dealt;
+  making = all_passes_made;
 }
 
 not_where_two_are_inside : ¬ IsLockState raised 1 two_inside

@@ -8,12 +8,12 @@ use Rattle.atomic_table.specs.Table.{State, Act, homes_after, stepped}
 use native.Mathlib.Decide.{ℕ_discrete}
 use Rattle.atomic_table.proofs.Lists.{at_set, set_else, at_longer}
 use Rattle.ya_core.specs.declared.process.Process.{Process}
-use Rattle.ya_core.specs.Soundness.{IsSound}
+use Rattle.ya_core.specs.Soundness.{IsSoundState}
 use Rattle.ya_lock.specs.declared.view.View.{View}
-use Rattle.ya_lock.specs.declared.view.View.TheVariants.{Stranger, Maker, Filler, Dealer, Member, Confirmer, Spent}
-use Rattle.ya_lock.specs.inside.Moves.{Slots}
+use Rattle.ya_lock.specs.declared.view.View.TheVariants.{Unused, Making, Filling, HandingOut, Seated, Joining, Spent}
+use Rattle.ya_lock.specs.inside.StepEffects.{Slots}
 use Rattle.ya_lock.proofs.Words.{word_kept}
-use Rattle.ya_lock.specs.Rule.{making_index, words_in, place_of, Picture, Knows, Lies, Fits, Obeys, Rule}
+use Rattle.ya_lock.specs.Rule.{making_index, words_in, place_of_view, GlobalView, KnowsValue, ValueInSlot, ViewFits, Obeys, Rule}
 use Rattle.ya_core.specs.Worlds.{is_inside}
 
 -- what a seat has once its view was set
@@ -43,81 +43,81 @@ module _ {V : Type 0} (since : ℕ → V → V → Type 0) (levels : ℕ) where
   St = State (std.Option V) (View V)
 
   -- the content stays, or it changes while no other process is inside, to what the others may find
-  pub data Later (x : Picture V) (place : ℕ) (content : Option V) : Type 0 where
+  pub data Later (x : GlobalView V) (place : ℕ) (content : Option V) : Type 0 where
     Same : content ≡ x.content → Later x place content
     Changed : ((other : ℕ) → other ≢ place → is_inside (x.processes other) ≡ true → ⊥)
-        → ((other : ℕ) (value : V) → other ≢ place → Knows since x.content other false value
-        → Knows since content other false value) → Later x place content
+        → ((other : ℕ) (value : V) → other ≢ place → KnowsValue since x.content other false value
+        → KnowsValue since content other false value) → Later x place content
 
   -- what another place knows stays true
-  away_later : (x : Picture V) (place : ℕ) (content : Option V) (other : ℕ) (value : V) → Later x place content
-      → other ≢ place → Knows since x.content other false value
-      → Knows since content other false value
+  away_later : (x : GlobalView V) (place : ℕ) (content : Option V) (other : ℕ) (value : V) → Later x place content
+      → other ≢ place → KnowsValue since x.content other false value
+      → KnowsValue since content other false value
   away_later x place content other value (Same e) ne k =
-      subst (λ (c : Option V). Knows since c other false value) (sym e) k
+      subst (λ (c : Option V). KnowsValue since c other false value) (sym e) k
   away_later x place content other value (Changed alone away) ne k = away other value ne k
 
   -- so does what two places know of which one is inside
-  inside_later : (x : Picture V) (place : ℕ) (content : Option V) (other third : ℕ) (value seen : V)
+  inside_later : (x : GlobalView V) (place : ℕ) (content : Option V) (other third : ℕ) (value seen : V)
       → Later x place content → other ≢ place → is_inside (x.processes other) ≡ true
-      → Knows since x.content other true value → Knows since x.content third false seen
-      → Knows since content other true value × Knows since content third false seen
+      → KnowsValue since x.content other true value → KnowsValue since x.content third false seen
+      → KnowsValue since content other true value × KnowsValue since content third false seen
   inside_later x place content other third value seen (Same e) ne is k l = (
-    subst (λ (c : Option V). Knows since c other true value) (sym e) k,
-    subst (λ (c : Option V). Knows since c third false seen) (sym e) l,
+    subst (λ (c : Option V). KnowsValue since c other true value) (sym e) k,
+    subst (λ (c : Option V). KnowsValue since c third false seen) (sym e) l,
   )
   inside_later x place content other third value seen (Changed alone away) ne is k l = absurd (alone other ne is)
 
   -- what a seat knows of its own process stays true
-  knows_later : (x : Picture V) (place : ℕ) (content : Option V) (other : ℕ) (value : V) (b : Bool)
+  knows_later : (x : GlobalView V) (place : ℕ) (content : Option V) (other : ℕ) (value : V) (b : Bool)
       → Later x place content → other ≢ place → is_inside (x.processes other) ≡ b
-      → Knows since x.content other b value → Knows since content other b value
+      → KnowsValue since x.content other b value → KnowsValue since content other b value
   knows_later x place content other value true (Same e) ne is k =
-      subst (λ (c : Option V). Knows since c other true value) (sym e) k
+      subst (λ (c : Option V). KnowsValue since c other true value) (sym e) k
   knows_later x place content other value true (Changed alone away) ne is k = absurd (alone other ne is)
   knows_later x place content other value false later ne is k = away_later x place content other value later ne k
 
-  -- the picture after a process went on
-  abbrev pub gone_on : Picture V → ℕ → Process → Option V → Picture V
+  -- the global view after a process went on
+  abbrev pub gone_on : GlobalView V → ℕ → Process → Option V → GlobalView V
   gone_on x place process content =
       record { seat_of = x.seat_of; processes = moved x.processes place process; maker = x.maker; content = content }
 
   -- seats of their own have places of their own
-  other_place : (x : Picture V) (place id other seat : ℕ) → x.seat_of place ≡ some id → x.seat_of other ≡ some seat
+  other_place : (x : GlobalView V) (place id other seat : ℕ) → x.seat_of place ≡ some id → x.seat_of other ≡ some seat
       → seat ≢ id → other ≢ place
   other_place x place id other seat a b ne e = ne (some-injective _ _ (sym b ∙ (ap x.seat_of e ∙ a)))
 
   -- a place without a seat is another one
-  no_place : (x : Picture V) (place id other : ℕ) → x.seat_of place ≡ some id → x.seat_of other ≡ none → other ≢ place
+  no_place : (x : GlobalView V) (place id other : ℕ) → x.seat_of place ≡ some id → x.seat_of other ≡ none → other ≢ place
   no_place x place id other a b e = some-ne-none id (sym a ∙ (ap x.seat_of (sym e) ∙ b))
 
-  -- the view of another seat fits the new picture
-  other_fits : (s t : St) (x : Picture V) (id place : ℕ) (process : Process) (content : Option V) (now : V)
+  -- the view of another seat fits the new global view
+  other_fits : (s t : St) (x : GlobalView V) (id place : ℕ) (process : Process) (content : Option V) (now : V)
       → x.content ≡ some now
       → slice_index t.words (making_index levels) ≡ slice_index s.words (making_index levels)
       → x.seat_of place ≡ some id → Later x place content
-      → (seat : ℕ) (view : View V) → seat ≢ id → Fits since levels s x seat view
-      → Fits since levels t (gone_on x place process content) seat view
-  other_fits s t x id place process content now is word here later seat Stranger ne f = tt
-  other_fits s t x id place process content now is word here later seat Maker ne f =
+      → (seat : ℕ) (view : View V) → seat ≢ id → ViewFits since levels s x seat view
+      → ViewFits since levels t (gone_on x place process content) seat view
+  other_fits s t x id place process content now is word here later seat Unused ne f = tt
+  other_fits s t x id place process content now is word here later seat Making ne f =
       absurd (some-ne-none now (sym is ∙ f.2))
-  other_fits s t x id place process content now is word here later seat Filler ne f =
+  other_fits s t x id place process content now is word here later seat Filling ne f =
       absurd (some-ne-none now (sym is ∙ f.2))
-  other_fits s t x id place process content now is word here later seat (Dealer first value) ne f = (
+  other_fits s t x id place process content now is word here later seat (HandingOut first value) ne f = (
     (λ e. f.0 (sym word ∙ e)),
     f.1,
     f.2,
     λ k le. let g = f.3 k le in
         (g.0, away_later x place content k value later (no_place x place id k here g.0) g.1),
   )
-  other_fits s t x id place process content now is word here later seat (Member k p value count) ne f =
+  other_fits s t x id place process content now is word here later seat (Seated k p value count) ne f =
       let other = other_place x place id k seat here f.1 ne in (
         (λ e. f.0 (sym word ∙ e)),
         f.1,
         moved_else x.processes place process k other ∙ f.2,
         knows_later x place content k value (is_inside p) later other (ap is_inside f.2) f.3,
       )
-  other_fits s t x id place process content now is word here later seat (Confirmer k value j seen count) ne f =
+  other_fits s t x id place process content now is word here later seat (Joining k value j seen count) ne f =
       let other = other_place x place id k seat here f.1 ne in
       let both = inside_later x place content k j value seen later other (ap is_inside f.2) f.3 f.4 in (
         (λ e. f.0 (sym word ∙ e)),
@@ -130,33 +130,33 @@ module _ {V : Type 0} (since : ℕ → V → V → Type 0) (levels : ℕ) where
 
   -- a seat has the process of a place
   abbrev pub Sits : List (View V) → ℕ → ℕ → Type 0
-  Sits views place seat = (view : View V) × (get_elem? views seat ≡ some view) × (place_of view ≡ some place)
+  Sits views place seat = (view : View V) × (get_elem? views seat ≡ some view) × (place_of_view view ≡ some place)
 
   -- by cases: it is that seat, or another
   sits_by : (views : List (View V)) (id : ℕ) (old new : View V) → get_elem? views id ≡ some old
-      → place_of new ≡ place_of old → (place seat : ℕ) → Sits views place seat → Dec (seat ≡ id)
+      → place_of_view new ≡ place_of_view old → (place seat : ℕ) → Sits views place seat → Dec (seat ≡ id)
       → Sits (set views id new) place seat
   sits_by views id old new at same place seat sits (yes is) =
       let here : old ≡ sits.0 =
       some-injective old sits.0 (sym at ∙ (ap (λ (k : ℕ). get_elem? views k) (sym is) ∙ sits.1)) in (
         new,
         ap (λ (k : ℕ). get_elem? (set views id new) k) is ∙ set_at views id old new at,
-        same ∙ (ap place_of here ∙ sits.2),
+        same ∙ (ap place_of_view here ∙ sits.2),
       )
   sits_by views id old new at same place seat sits (no ne) = (sits.0, set_else views id seat new ne ∙ sits.1, sits.2)
 
   -- still so where the seat's view changes, but not its place
   pub sits_still : (views : List (View V)) (id : ℕ) (old new : View V) → get_elem? views id ≡ some old
-      → place_of new ≡ place_of old → (place seat : ℕ) → Sits views place seat → Sits (set views id new) place seat
+      → place_of_view new ≡ place_of_view old → (place seat : ℕ) → Sits views place seat → Sits (set views id new) place seat
   sits_still views id old new at same place seat sits =
       sits_by views id old new at same place seat sits (ℕ_discrete seat id)
 
   -- still so where a seat that isn't the place's changes its view
   pub sits_else : (views : List (View V)) (id : ℕ) (old new : View V) → get_elem? views id ≡ some old → (place seat : ℕ)
-      → place_of old ≢ some place → Sits views place seat → Sits (set views id new) place seat
+      → place_of_view old ≢ some place → Sits views place seat → Sits (set views id new) place seat
   sits_else views id old new at place seat other sits =
       let ne : seat ≢ id =
-      λ e. other (ap place_of
+      λ e. other (ap place_of_view
       (some-injective old sits.0 (sym at ∙ (ap (λ (k : ℕ). get_elem? views k) (sym e) ∙ sits.1))) ∙ sits.2) in
       (sits.0, set_else views id seat new ne ∙ sits.1, sits.2)
 
@@ -166,49 +166,49 @@ module _ {V : Type 0} (since : ℕ → V → V → Type 0) (levels : ℕ) where
   sits_longer views new place seat sits = (sits.0, at_longer views (new ∷ []) seat sits.0 sits.1, sits.2)
 
   -- a process goes on, and its seat knows the value next
-  pub goes_on : (s : St) (x : Picture V) → Obeys since levels s x
+  pub goes_on : (s : St) (x : GlobalView V) → Obeys since levels s x
       → (id place : ℕ) (before process : Process) (value next now then' : V) (count total : ℕ) (content : Option V) (row : List ℕ)
       (homes : List (Option (std.Option V)))
-      → get_elem? s.views id ≡ some (Member place before value count)
+      → get_elem? s.views id ≡ some (Seated place before value count)
       → slice_index s.words (making_index levels) ≢ 0 → x.seat_of place ≡ some id → x.content ≡ some now
       → content ≡ some then'
       → length row ≡ length s.words → slice_index row (making_index levels) ≡ slice_index s.words (making_index levels)
-      → IsSound levels (record { words = words_in levels row; processes = moved x.processes place process })
-      → Lies since (moved x.processes place process) homes content
-      → Knows since content place (is_inside process) next → Later x place content
-      → Obeys since levels record { words = row; homes = homes; views = set s.views id (Member place process next total) }
+      → IsSoundState levels (record { words = words_in levels row; processes = moved x.processes place process })
+      → ValueInSlot since (moved x.processes place process) homes content
+      → KnowsValue since content place (is_inside process) next → Later x place content
+      → Obeys since levels record { words = row; homes = homes; views = set s.views id (Seated place process next total) }
       (gone_on x place process content)
   goes_on s x o id place before process value next now then' count total content row homes at' begun here was is long word sound
       lies knows later =
-      let t : St = record { words = row; homes = homes; views = set s.views id (Member place process next total) } in
+      let t : St = record { words = row; homes = homes; views = set s.views id (Seated place process next total) } in
       record {
         wide = long ∙ o.wide;
         unmade = λ e. absurd (begun (sym word ∙ e));
         before = λ e. absurd (some-ne-none then' (sym is ∙ e));
-        seated = λ k seat e. sits_still s.views id (Member place before value count)
-            (Member place process next total) at' refl k seat (o.seated k seat e);
+        seated = λ k seat e. sits_still s.views id (Seated place before value count)
+            (Seated place process next total) at' refl k seat (o.seated k seat e);
         absent = λ k e. moved_else x.processes place process k (no_place x place id k here e) ∙ o.absent k e;
         sound = sound;
         lies = lies;
         fits = λ seat view at. ⊎_elim
-            (λ p. subst (λ (y : View V). Fits since levels t (gone_on x place process content) seat y) p.1
+            (λ p. subst (λ (y : View V). ViewFits since levels t (gone_on x place process content) seat y) p.1
             ((λ e. begun (sym word ∙ e)), here ∙ ap some (sym p.0), moved_here x.processes place process, knows))
             (λ p. other_fits s t x id place process content now was word here later seat view p.0
             (o.fits seat view p.1))
-            (at_set s.views id seat (Member place process next total) view at);
+            (at_set s.views id seat (Seated place process next total) view at);
       }
 
   -- the same picture fits where the making word stays set, and the slot stays while the maker waits for it
-  pub refits : (s t : St) (x : Picture V)
+  pub refits : (s t : St) (x : GlobalView V)
       → (slice_index s.words (making_index levels) ≢ 0 → slice_index t.words (making_index levels) ≢ 0)
-      → (seat : ℕ) (view : View V) → (x.maker ≡ some seat → t.homes ≡ s.homes) → Fits since levels s x seat view
-      → Fits since levels t x seat view
-  refits s t x begun seat Stranger slot f = tt
-  refits s t x begun seat Maker slot f = (begun f.0, f.1, f.2, slot f.1 ∙ f.3)
-  refits s t x begun seat Filler slot f = (begun f.0, f.1, f.2, ap length (slot f.1) ∙ f.3)
-  refits s t x begun seat (Dealer first value) slot f = (begun f.0, f.1, f.2, f.3)
-  refits s t x begun seat (Member place process value count) slot f = (begun f.0, f.1, f.2, f.3)
-  refits s t x begun seat (Confirmer place value other seen count) slot f = (begun f.0, f.1, f.2, f.3, f.4)
+      → (seat : ℕ) (view : View V) → (x.maker ≡ some seat → t.homes ≡ s.homes) → ViewFits since levels s x seat view
+      → ViewFits since levels t x seat view
+  refits s t x begun seat Unused slot f = tt
+  refits s t x begun seat Making slot f = (begun f.0, f.1, f.2, slot f.1 ∙ f.3)
+  refits s t x begun seat Filling slot f = (begun f.0, f.1, f.2, ap length (slot f.1) ∙ f.3)
+  refits s t x begun seat (HandingOut first value) slot f = (begun f.0, f.1, f.2, f.3)
+  refits s t x begun seat (Seated place process value count) slot f = (begun f.0, f.1, f.2, f.3)
+  refits s t x begun seat (Joining place value other seen count) slot f = (begun f.0, f.1, f.2, f.3, f.4)
   refits s t x begun seat Spent slot f = begun f
 
   -- what a load that changes no word has to show

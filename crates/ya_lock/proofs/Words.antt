@@ -9,7 +9,7 @@ use Rattle.ya_core.proofs.Promised.{at_most_64, number_within, same_number}
 use Rattle.std.proofs.Math.ListN.{get_or-eq_default}
 use Rattle.std.proofs.lemmas.List.{get_or-replicate, length-replicate, set-get_or}
 use Rattle.ya_core.specs.declared.word.Word.{Word}
-use Rattle.ya_core.specs.Tree.{IsWord, number_of, count_of_words}
+use Rattle.ya_core.specs.ArbitrationTree.{IsWord, number_of, count_of_words}
 use Rattle.ya_core.specs.FlatRow.{is_word}
 use Rattle.ya_lock.specs.Rule.{index_of, making_index, row_length, words_in}
 use Rattle.ya_lock.specs.inside.Rule.{bell_index}

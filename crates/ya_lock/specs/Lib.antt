@@ -1,6 +1,6 @@
 pub mod Rule
 pub mod Lock
-pub mod Lent
-pub mod Meaning
+pub mod GuardLends
+pub mod LockState
 pub mod inside
 pub mod tests

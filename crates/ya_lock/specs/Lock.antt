@@ -36,6 +36,6 @@ abbrev pub new_pass : {V : Type 0} → LockId → ℕ → V → IdlePass V
 new_pass lock place value = record { lock = lock; place = place; seen = value; remote = 0 }
 
 -- the passes of all places of a lock of so many levels in order, each of which has seen the value
-pub record IsDealt {V : Type 0} (lock : LockId) (levels : ℕ) (value : V) (passes : List (IdlePass V)) : Type 0 where
+pub record ArePassesInOrder {V : Type 0} (lock : LockId) (levels : ℕ) (value : V) (passes : List (IdlePass V)) : Type 0 where
   pub count : length passes ≡ 2 ^ levels
   pub each : (place : ℕ) → place < 2 ^ levels → slice_get passes place ≡ Some (new_pass lock place value)

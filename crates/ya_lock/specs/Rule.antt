@@ -8,13 +8,13 @@ use Rattle.atomic_table.specs.Table.{State}
 use Rattle.ya_core.specs.declared.word.Word.{Word}
 use Rattle.ya_core.specs.declared.process.Process.{Process}
 use Rattle.ya_core.specs.declared.process.Process.TheVariants.{Idle, Inside}
-use Rattle.ya_core.specs.Tree.{number_of, count_of_words}
-use Rattle.ya_core.specs.Soundness.{IsSound}
+use Rattle.ya_core.specs.ArbitrationTree.{number_of, count_of_words}
+use Rattle.ya_core.specs.Soundness.{IsSoundState}
 use Rattle.ya_core.specs.FlatRow.{is_word}
 use Rattle.ya_core.specs.Worlds.{is_inside}
 use Rattle.ya_lock.specs.declared.rule.TheConstants.{SPACING}
 use Rattle.ya_lock.specs.declared.view.View.{View}
-use Rattle.ya_lock.specs.declared.view.View.TheVariants.{Stranger, Maker, Filler, Dealer, Member, Confirmer, Spent}
+use Rattle.ya_lock.specs.declared.view.View.TheVariants.{Unused, Making, Filling, HandingOut, Seated, Joining, Spent}
 
 -- where a word of the tree lies: in the order of their numbers, a cache line apart
 unfoldable pub index_of : ℕ → Word → ℕ
@@ -33,14 +33,14 @@ unfoldable pub words_in : ℕ → List ℕ → Word → ℕ
 words_in levels row word = if is_word levels word then slice_index row (index_of levels word) else 0
 
 -- the place of a view that is a process's
-abbrev pub place_of : {V : Type 0} → View V → Option ℕ
-place_of (Member place process value count) = some place
-place_of (Confirmer place value other seen count) = some place
-place_of _ = none
+abbrev pub place_of_view : {V : Type 0} → View V → Option ℕ
+place_of_view (Seated place process value count) = some place
+place_of_view (Joining place value other seen count) = some place
+place_of_view _ = none
 
 -- what all seats together show: the seat of each place, where one has its process; each place's process; the seat that
 -- makes the passes; and the lent value, once it was given
-pub record Picture (V : Type 0) : Type 0 where
+pub record GlobalView (V : Type 0) : Type 0 where
   pub seat_of : ℕ → Option ℕ
   pub processes : ℕ → Process
   pub maker : Option ℕ
@@ -48,39 +48,39 @@ pub record Picture (V : Type 0) : Type 0 where
 
 module _ {V : Type 0} (since : ℕ → V → V → Type 0) where
   -- inside, the value that was found is the content; else the content is what the value seen may have become since
-  abbrev pub Knows : Option V → ℕ → Bool → V → Type 0
-  Knows content place true value = content ≡ some value
-  Knows content place false value = (now : V) × (content ≡ some now) × since place value now
+  abbrev pub KnowsValue : Option V → ℕ → Bool → V → Type 0
+  KnowsValue content place true value = content ≡ some value
+  KnowsValue content place false value = (now : V) × (content ≡ some now) × since place value now
 
-  -- the value lies home exactly where no process is inside
-  abbrev pub Lies : (ℕ → Process) → List (Option (std.Option V)) → Option V → Type 0
-  Lies processes homes none = Unit {0}
-  Lies processes homes (some value) =
+  -- the value is in its slot exactly where no process is inside
+  abbrev pub ValueInSlot : (ℕ → Process) → List (Option (std.Option V)) → Option V → Type 0
+  ValueInSlot processes homes none = Unit {0}
+  ValueInSlot processes homes (some value) =
       (((place : ℕ) → is_inside (processes place) ≡ false) → homes ≡ some (Some value) ∷ [])
       × ((place : ℕ) → is_inside (processes place) ≡ true → homes ≡ none ∷ [])
 
-  module _ (levels : ℕ) (s : State (std.Option V) (View V)) (x : Picture V) where
+  module _ (levels : ℕ) (s : State (std.Option V) (View V)) (x : GlobalView V) where
     -- `new` has begun to make the passes
     abbrev pub IsBegun : Type 0
     IsBegun = slice_index s.words (making_index levels) ≢ 0
 
-    -- the view of a seat fits the picture
-    abbrev pub Fits : ℕ → View V → Type 0
-    Fits seat Stranger = Unit {0}
-    Fits seat Maker = IsBegun × (x.maker ≡ some seat) × (x.content ≡ none) × (s.homes ≡ some None ∷ [])
-    Fits seat Filler = IsBegun × (x.maker ≡ some seat) × (x.content ≡ none) × (length s.homes ≡ 1)
-    Fits seat (Dealer first value) =
+    -- the view of a seat fits the global view
+    abbrev pub ViewFits : ℕ → View V → Type 0
+    ViewFits seat Unused = Unit {0}
+    ViewFits seat Making = IsBegun × (x.maker ≡ some seat) × (x.content ≡ none) × (s.homes ≡ some None ∷ [])
+    ViewFits seat Filling = IsBegun × (x.maker ≡ some seat) × (x.content ≡ none) × (length s.homes ≡ 1)
+    ViewFits seat (HandingOut first value) =
         IsBegun × (x.maker ≡ some seat) × (first < 2 ^ levels)
-        × ((place : ℕ) → first ≤ place → (x.seat_of place ≡ none) × Knows x.content place false value)
-    Fits seat (Member place process value count) =
+        × ((place : ℕ) → first ≤ place → (x.seat_of place ≡ none) × KnowsValue x.content place false value)
+    ViewFits seat (Seated place process value count) =
         IsBegun × (x.seat_of place ≡ some seat) × (x.processes place ≡ process)
-        × Knows x.content place (is_inside process) value
-    Fits seat (Confirmer place value other seen count) =
-        IsBegun × (x.seat_of place ≡ some seat) × (x.processes place ≡ Inside) × Knows x.content place true value
-        × Knows x.content other false seen
-    Fits seat Spent = IsBegun
+        × KnowsValue x.content place (is_inside process) value
+    ViewFits seat (Joining place value other seen count) =
+        IsBegun × (x.seat_of place ≡ some seat) × (x.processes place ≡ Inside) × KnowsValue x.content place true value
+        × KnowsValue x.content other false seen
+    ViewFits seat Spent = IsBegun
 
-    -- the picture is what the words, the value and the views show
+    -- the global view is what the words, the value and the views show
     pub record Obeys : Type 0 where
       -- making: while the making word is 0 the slot is empty, and before the value was given no seat has a process
       pub wide : length s.words ≡ row_length levels
@@ -89,13 +89,13 @@ module _ {V : Type 0} (since : ℕ → V → V → Type 0) where
       -- lock: the seat of a place has its process, a place without a seat is idle, and the invariant of the core holds
       -- of the words and all processes
       pub seated : (place seat : ℕ) → x.seat_of place ≡ some seat
-          → (view : View V) × (get_elem? s.views seat ≡ some view) × (place_of view ≡ some place)
+          → (view : View V) × (get_elem? s.views seat ≡ some view) × (place_of_view view ≡ some place)
       pub absent : (place : ℕ) → x.seat_of place ≡ none → x.processes place ≡ Idle
-      pub sound : IsSound levels (record { words = words_in levels s.words; processes = x.processes })
-      -- value: it lies home exactly where no process is inside, and each seat knows what its view says
-      pub lies : Lies x.processes s.homes x.content
-      pub fits : (seat : ℕ) (view : View V) → get_elem? s.views seat ≡ some view → Fits seat view
+      pub sound : IsSoundState levels (record { words = words_in levels s.words; processes = x.processes })
+      -- value: it is in its slot exactly where no process is inside, and each seat knows what its view says
+      pub lies : ValueInSlot x.processes s.homes x.content
+      pub fits : (seat : ℕ) (view : View V) → get_elem? s.views seat ≡ some view → ViewFits seat view
 
-  -- some picture is what the words, the value and the views show
+  -- some global view is what the words, the value and the views show
   abbrev pub Rule : ℕ → State (std.Option V) (View V) → Type 0
-  Rule levels s = (x : Picture V) × Obeys levels s x
+  Rule levels s = (x : GlobalView V) × Obeys levels s x

@@ -1,5 +1,5 @@
 -- What no public clause speaks of: the words of private contracts, of invariants and of proofs.
-pub mod Climbs
+pub mod EntryProgress
 pub mod Lock
-pub mod Moves
+pub mod StepEffects
 pub mod Rule

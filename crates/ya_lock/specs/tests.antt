@@ -1,2 +1,2 @@
 -- What the contracts of tests alone speak of.
-pub mod Marking
+pub mod Marks

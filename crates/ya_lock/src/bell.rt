@@ -1,16 +1,16 @@
 //! Bells, by which places sleep that wait for long. A bell is tuning, as `Backoff` is: the table's rule reads none, and no
 //! contract rests on one.
 ghost use Rattle.std.specs.Prelude.{◌≡◌, ◌^◌, ◌<◌, ◌≤◌, true};
-ghost use Rattle.ya_core.specs.Walks.{is_waiting};
+ghost use Rattle.ya_core.specs.WalkerModel.{is_waiting};
 ghost use Rattle.ya_lock.specs.inside.Rule.{bell_index};
-ghost use Rattle.ya_lock.specs.inside.Climbs.{HasLooked};
+ghost use Rattle.ya_lock.specs.inside.EntryProgress.{HasLooked};
 ghost use Rattle.ya_lock.specs.inside.Lock.{SeatOnEntry};
 
+use crate::ghost_value::GhostValue;
 use crate::kept::Kept;
 use crate::passage::waits;
-use crate::plays::Ring;
-use crate::recall::Recall;
 use crate::rule::{LockSeat, SPACING};
+use crate::step_effects::SetBell;
 use crate::tree_lock::TreeLock;
 use std::sync::Wait;
 use ya_core::Walker;
@@ -39,7 +39,7 @@ impl<V: Kept + Drop, const L: u32> TreeLock<V, L> {
         ensures same { seat.new.me ≡ seat.old.me }
     {
         let shared = &self.table.shared;
-        shared.store::<Ring>(seat, Self::bell(place), value);
+        shared.store::<SetBell>(seat, Self::bell(place), value);
     }
 
     /// Sleeps until a rival rings. Whoever stores in the spin word looks at the bell afterwards, and the place looks at
@@ -51,7 +51,7 @@ impl<V: Kept + Drop, const L: u32> TreeLock<V, L> {
         seat: &mut LockSeat<V>,
         place: usize,
         walker: Walker,
-        seen: &Recall<V>,
+        seen: &GhostValue<V>,
     ) -> Walker
         requires lock { seat.old.table_id ≡ self.now }
         requires levels { walker.levels ≡ L }

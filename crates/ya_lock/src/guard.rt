@@ -2,9 +2,9 @@
 ghost use Rattle.std.specs.Prelude.{◌≡◌};
 ghost use Rattle.std.specs.Borrow.{Lends, sem};
 ghost use Rattle.ya_lock.specs.contracts.guard.Guard.{the_row};
-ghost use Rattle.ya_lock.specs.Lent.{with_value};
+ghost use Rattle.ya_lock.specs.GuardLends.{guard_with_value};
 
-use crate::recall::Recall;
+use crate::ghost_value::GhostValue;
 use crate::rule::LockSeat;
 use std::marker::Model;
 
@@ -15,7 +15,7 @@ pub struct Guard<V> {
     pub(crate) place: usize,
     pub(crate) remote: u64,
     pub(crate) value: V,
-    pub(crate) found: Recall<V>,
+    pub(crate) found: GhostValue<V>,
 }
 
 impl<V> Model for Guard<V> {
@@ -45,7 +45,7 @@ impl<V> Guard<V> {
 
     /// The lent value, to be changed. `leave` says what its place may do to it.
     pub fn get_mut(&mut self) -> &mut V
-        ensures* writes_back { sem 𝓛 (Lends (the_row V.row) V.row self.entry result (with_value self.old)) }
+        ensures* writes_back { sem 𝓛 (Lends (the_row V.row) V.row self.entry result (guard_with_value self.old)) }
         ensures value { result.now ≡ self.old.value }
     {
         &mut self.value

@@ -1,6 +1,6 @@
 //! What the rule of the lock's table means, as the contract of a function that does nothing.
 ghost use Rattle.std.specs.Prelude.{ℕ, ◌≤◌};
-ghost use Rattle.ya_lock.specs.Meaning.{IsLockState};
+ghost use Rattle.ya_lock.specs.LockState.{IsLockState};
 
 use crate::kept::Kept;
 use crate::rule::{LockTable, Ruled};
@@ -9,7 +9,7 @@ use crate::view::View;
 /// Wherever the rule of a lock's table holds, and so at every moment between two atomic steps of its seats: the
 /// invariant of the core holds of the words and of the processes that the seats show, so whoever waits is owed a word;
 /// where some process takes part, one that does goes on by the words as they are; each place has one seat, and one seat
-/// at most is inside; the value lies home exactly where none is inside; what each place away has seen may have become,
+/// at most is inside; the value is in its slot exactly where none is inside; what each place away has seen may have become,
 /// by other places, the value as it is; and the passes are made by one seat, before which nobody knows anything.
 pub fn rule<V: Kept, const L: u32>()
     requires { 1 ≤ L }

@@ -23,22 +23,22 @@
 //! - `confirm` spends a pass under an open guard and says what came of the value that it has seen; `close` ends the
 //!   lock.
 //! - [`laws`] says what the rule of the lock's table means, at every moment between two atomic steps: the invariant of
-//!   the core, one seat inside at most, the value home exactly where none is.
+//!   the core, one seat inside at most, the value in its slot exactly where none is.
 //!
 //! `enter` alone may wait, and only `new` takes memory. That threads get in, and how soon, is only tested. What its
 //! contracts say, and the rule that ties each access to a step of the core, stand in `docs/LOCK.md`.
 #![tactic(auto)]
 
 mod bell;
+mod ghost_value;
 mod guard;
 mod kept;
 pub mod laws;
 mod making;
 mod pass;
 mod passage;
-mod plays;
-mod recall;
 mod rule;
+mod step_effects;
 #[cfg(test)]
 mod tests;
 mod tree_lock;

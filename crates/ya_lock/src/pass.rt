@@ -1,7 +1,7 @@
 //! The right to enter a lock.
 ghost use Rattle.std.specs.Prelude.{◌≡◌, ℕ};
 
-use crate::recall::Recall;
+use crate::ghost_value::GhostValue;
 use crate::rule::LockSeat;
 use std::marker::Model;
 
@@ -12,7 +12,7 @@ pub struct Pass<V> {
     pub(crate) seat: LockSeat<V>,
     pub(crate) place: usize,
     pub(crate) remote: u64,
-    pub(crate) seen: Recall<V>,
+    pub(crate) seen: GhostValue<V>,
 }
 
 impl<V> Model for Pass<V> {

@@ -1,28 +1,28 @@
 //! The way in and the way out: each access is one step of a walker of the core, by the seat of its place.
 ghost use Rattle.std.specs.Prelude.{◌≡◌, ◌≢◌, ℕ, true, false, [], ◌+◌, ◌*◌, ◌^◌, ◌<◌, ◌≤◌, IfSome, None};
 ghost use Rattle.ya_core.specs.declared.process.Process.TheVariants.{Idle, Entering, Inside};
-ghost use Rattle.ya_core.specs.declared.process.Entry.TheVariants.{E5};
+ghost use Rattle.ya_core.specs.declared.process.EntryPoint.TheVariants.{E5};
 ghost use Rattle.ya_core.specs.Steps.{next_of};
-ghost use Rattle.ya_core.specs.Walks.{IsWalk, walk, op_of, walk_after, MovesOn, budget, points_ahead, is_waiting};
+ghost use Rattle.ya_core.specs.WalkerModel.{IsWalk, walk, op_of, walk_after, MovesOn, budget, points_ahead, is_waiting};
 ghost use Rattle.ya_core.specs.Worlds.{is_inside};
-ghost use Rattle.ya_lock.specs.declared.view.View.TheVariants.{Member};
-ghost use Rattle.ya_lock.specs.inside.Moves.{HasMade, IsReady, Goes};
-ghost use Rattle.ya_lock.specs.inside.Climbs.{climb_walk, HasPassed, HasLooked, IsBelow};
+ghost use Rattle.ya_lock.specs.declared.view.View.TheVariants.{Seated};
+ghost use Rattle.ya_lock.specs.inside.StepEffects.{HasMade, IsReady, ProcessSteps};
+ghost use Rattle.ya_lock.specs.inside.EntryProgress.{progress_walk, HasPassed, HasLooked, IsBelow};
 ghost use Rattle.ya_lock.specs.inside.Lock.{SeatOnEntry, SeatOnExit};
 
 use crate::bell::PATIENCE;
+use crate::ghost_value::GhostValue;
 use crate::kept::Kept;
-use crate::plays::Go;
-use crate::recall::Recall;
 use crate::rule::{LockSeat, SPACING};
+use crate::step_effects::ProcessStep;
 use crate::tree_lock::TreeLock;
 use crossbeam_utils::Backoff;
 use std::sync::Wait;
-use ya_core::{Entry, Exit, Op, Process, Walker};
+use ya_core::{EntryPoint, ExitPoint, Op, Process, Walker};
 
 /// Where an entry has come to, after so many remote accesses.
 #[derive(Clone, Copy)]
-pub enum Climb {
+pub enum EntryProgress {
     /// To the first access of that level; it holds those below.
     Level(u32, u64),
     /// Inside.
@@ -36,7 +36,7 @@ pub(crate) fn waits(walker: &Walker) -> bool
 {
     matches!(
         walker.process(),
-        Process::Entering(_, Entry::E8 | Entry::E10)
+        Process::Entering(_, EntryPoint::E8 | EntryPoint::E10)
     )
 }
 
@@ -44,16 +44,16 @@ impl<V: Kept + Drop, const L: u32> TreeLock<V, L> {
     /// Makes the accesses of an entry from that place until it is inside, and says how many of them were remote. Those
     /// of a level whose other side is empty are written out, so that the point of each is known where it is compiled.
     #[inline(always)]
-    pub(crate) fn go_in<R: Wait>(
+    pub(crate) fn acquire<R: Wait>(
         &self,
         rt: &R,
         seat: &mut LockSeat<V>,
         place: usize,
-        seen: &Recall<V>,
+        seen: &GhostValue<V>,
     ) -> u64
         requires lock { seat.old.table_id ≡ self.now }
         requires place { place < 2 ^ L }
-        requires idle { (last : ℕ) × (seat.old.me ≡ (Member place Idle seen.now.value last, [])) }
+        requires idle { (last : ℕ) × (seat.old.me ≡ (Seated place Idle seen.now.value last, [])) }
         ensures lock { seat.new.table_id ≡ seat.old.table_id }
         ensures entered { SeatOnEntry V.since seen.now.value (walk L place Inside false result) seat.new.me }
         ensures count { result ≤ 7 * L }
@@ -62,19 +62,19 @@ impl<V: Kept + Drop, const L: u32> TreeLock<V, L> {
         let mut walker = Walker::new(Self::shape(), place);
         walker.begin_entry();
         loop {
-            self.come(seat, &mut walker, seen);
-            self.come(seat, &mut walker, seen);
-            self.come(seat, &mut walker, seen);
-            self.come(seat, &mut walker, seen);
-            let climb = match self.climbed(seat, &walker, seen) {
-                Some(climb) => climb,
+            self.entry_step(seat, &mut walker, seen);
+            self.entry_step(seat, &mut walker, seen);
+            self.entry_step(seat, &mut walker, seen);
+            self.entry_step(seat, &mut walker, seen);
+            let progress = match self.progress(seat, &walker, seen) {
+                Some(progress) => progress,
                 None => self.compete(rt, seat, place, walker, seen),
             };
-            match climb {
-                Climb::Level(level, remote) => {
-                    walker = Walker::entering(Self::shape(), place, level, Entry::E1, remote);
+            match progress {
+                EntryProgress::Level(level, remote) => {
+                    walker = Walker::entering(Self::shape(), place, level, EntryPoint::E1, remote);
                 }
-                Climb::Inside(remote) => return remote,
+                EntryProgress::Inside(remote) => return remote,
             }
         }
     }
@@ -88,46 +88,58 @@ impl<V: Kept + Drop, const L: u32> TreeLock<V, L> {
         seat: &mut LockSeat<V>,
         place: usize,
         walker: Walker,
-        seen: &Recall<V>,
-    ) -> Climb
+        seen: &GhostValue<V>,
+    ) -> EntryProgress
         requires lock { seat.old.table_id ≡ self.now }
         requires levels { walker.levels ≡ L }
         requires place { walker.place ≡ place }
         requires coming { SeatOnEntry V.since seen.now.value walker seat.old.me }
         requires competes { (level rival : ℕ) × (walker.process ≡ Entering level (E5 rival)) }
         ensures lock { seat.new.table_id ≡ seat.old.table_id }
-        ensures walk { IsWalk (climb_walk L place result) }
-        ensures coming { SeatOnEntry V.since seen.now.value (climb_walk L place result) seat.new.me }
-        ensures onward { points_ahead (climb_walk L place result) < points_ahead walker }
+        ensures walk { IsWalk (progress_walk L place result) }
+        ensures coming { SeatOnEntry V.since seen.now.value (progress_walk L place result) seat.new.me }
+        ensures onward { points_ahead (progress_walk L place result) < points_ahead walker }
     {
-        let Process::Entering(level, Entry::E5(rival)) = walker.process() else {
+        let Process::Entering(level, EntryPoint::E5(rival)) = walker.process() else {
             unreachable!()
         };
         let remote = walker.remote();
-        let mut walker = Walker::entering(Self::shape(), place, level, Entry::E5(rival), remote);
-        self.come(seat, &mut walker, seen);
-        if let Some(climb) = self.climbed(seat, &walker, seen) {
-            return climb;
+        let mut walker = Walker::entering(
+            Self::shape(),
+            place,
+            level,
+            EntryPoint::E5(rival),
+            remote,
+        );
+        self.entry_step(seat, &mut walker, seen);
+        if let Some(progress) = self.progress(seat, &walker, seen) {
+            return progress;
         }
-        self.come(seat, &mut walker, seen);
-        if let Process::Entering(_, Entry::E7(rival)) = walker.process() {
-            self.come(seat, &mut walker, seen);
+        self.entry_step(seat, &mut walker, seen);
+        if let Process::Entering(_, EntryPoint::E7(rival)) = walker.process() {
+            self.entry_step(seat, &mut walker, seen);
             self.ring(seat, rival);
         }
         let waited = self.spin(rt, seat, place, walker, seen);
-        let Process::Entering(level, Entry::E9) = waited.process() else {
+        let Process::Entering(level, EntryPoint::E9) = waited.process() else {
             unreachable!()
         };
-        let mut walker = Walker::entering(Self::shape(), place, level, Entry::E9, waited.remote());
-        self.come(seat, &mut walker, seen);
-        if let Some(climb) = self.climbed(seat, &walker, seen) {
-            return climb;
+        let mut walker = Walker::entering(
+            Self::shape(),
+            place,
+            level,
+            EntryPoint::E9,
+            waited.remote(),
+        );
+        self.entry_step(seat, &mut walker, seen);
+        if let Some(progress) = self.progress(seat, &walker, seen) {
+            return progress;
         }
         let walker = self.spin(rt, seat, place, walker, seen);
-        let Some(climb) = self.climbed(seat, &walker, seen) else {
+        let Some(progress) = self.progress(seat, &walker, seen) else {
             unreachable!()
         };
-        climb
+        progress
     }
 
     /// Waits: loads the spin word of its process until the process may go on, and lets other threads go on between two
@@ -139,7 +151,7 @@ impl<V: Kept + Drop, const L: u32> TreeLock<V, L> {
         seat: &mut LockSeat<V>,
         place: usize,
         walker: Walker,
-        seen: &Recall<V>,
+        seen: &GhostValue<V>,
     ) -> Walker
         requires lock { seat.old.table_id ≡ self.now }
         requires levels { walker.levels ≡ L }
@@ -179,7 +191,7 @@ impl<V: Kept + Drop, const L: u32> TreeLock<V, L> {
         seat: &mut LockSeat<V>,
         place: usize,
         walker: Walker,
-        seen: &Recall<V>,
+        seen: &GhostValue<V>,
     ) -> Walker
         requires lock { seat.old.table_id ≡ self.now }
         requires levels { walker.levels ≡ L }
@@ -194,40 +206,55 @@ impl<V: Kept + Drop, const L: u32> TreeLock<V, L> {
     {
         let remote = walker.remote();
         match walker.process() {
-            Process::Entering(level, Entry::E8) => {
-                let mut walker = Walker::entering(Self::shape(), place, level, Entry::E8, remote);
-                self.come(seat, &mut walker, seen);
+            Process::Entering(level, EntryPoint::E8) => {
+                let mut walker = Walker::entering(
+                    Self::shape(),
+                    place,
+                    level,
+                    EntryPoint::E8,
+                    remote,
+                );
+                self.entry_step(seat, &mut walker, seen);
                 walker
             }
-            Process::Entering(level, Entry::E10) => {
-                let mut walker = Walker::entering(Self::shape(), place, level, Entry::E10, remote);
-                self.come(seat, &mut walker, seen);
+            Process::Entering(level, EntryPoint::E10) => {
+                let mut walker = Walker::entering(
+                    Self::shape(),
+                    place,
+                    level,
+                    EntryPoint::E10,
+                    remote,
+                );
+                self.entry_step(seat, &mut walker, seen);
                 walker
             }
             _ => unreachable!(),
         }
     }
 
-    /// What the walker has climbed, where it is at the first access of a level or inside.
+    /// How far the entry has come, where the walker is at the first access of a level or inside.
     #[inline(always)]
-    pub(crate) fn climbed(
+    pub(crate) fn progress(
         &self,
         seat: &LockSeat<V>,
         walker: &Walker,
-        seen: &Recall<V>,
-    ) -> Option<Climb>
+        seen: &GhostValue<V>,
+    ) -> Option<EntryProgress>
         requires levels { walker.now.levels ≡ L }
         requires coming { SeatOnEntry V.since seen.now.value walker.now seat.now.me }
-        ensures walk { IfSome result (λ climb. IsWalk (climb_walk L walker.now.place climb)) }
+        ensures walk { IfSome result (λ progress. IsWalk (progress_walk L walker.now.place progress)) }
         ensures coming { IfSome result
-            (λ climb. SeatOnEntry V.since seen.now.value (climb_walk L walker.now.place climb) seat.now.me) }
+            (λ progress. SeatOnEntry V.since seen.now.value (progress_walk L walker.now.place progress) seat.now.me) }
         ensures none { result ≡ None → IsBelow walker.now.process }
         ensures points { IfSome result
-            (λ climb. points_ahead (climb_walk L walker.now.place climb) ≡ points_ahead walker.now) }
+            (λ progress. points_ahead (progress_walk L walker.now.place progress) ≡ points_ahead walker.now) }
     {
         match walker.process() {
-            Process::Entering(level, Entry::E1) => Some(Climb::Level(level, walker.remote())),
-            Process::Inside => Some(Climb::Inside(walker.remote())),
+            Process::Entering(level, EntryPoint::E1) => Some(EntryProgress::Level(
+                level,
+                walker.remote(),
+            )),
+            Process::Inside => Some(EntryProgress::Inside(walker.remote())),
             _ => None,
         }
     }
@@ -235,31 +262,41 @@ impl<V: Kept + Drop, const L: u32> TreeLock<V, L> {
     /// Makes the accesses of an exit until its place is idle, and says how many of all since the entry were remote. As on
     /// the way in, those of a level are written out: who came last is read, a rival is let in, the next level is given free.
     #[inline(always)]
-    pub(crate) fn go_out(&self, seat: &mut LockSeat<V>, mut walker: Walker, seen: &Recall<V>) -> u64
+    pub(crate) fn release(
+        &self,
+        seat: &mut LockSeat<V>,
+        mut walker: Walker,
+        seen: &GhostValue<V>,
+    ) -> u64
         requires lock { seat.old.table_id ≡ self.now }
         requires levels { walker.levels ≡ L }
         requires going { SeatOnExit seen.now.value walker seat.old.me }
         ensures lock { seat.new.table_id ≡ seat.old.table_id }
-        ensures idle { seat.new.me ≡ (Member walker.place Idle seen.now.value result, []) }
+        ensures idle { seat.new.me ≡ (Seated walker.place Idle seen.now.value result, []) }
         ensures least { walker.remote ≤ result }
         ensures most { result ≤ walker.remote + budget walker }
     {
         loop {
-            self.go(seat, &mut walker, seen);
-            if let Process::Leaving(_, Exit::X3(rival)) = walker.process() {
-                self.go(seat, &mut walker, seen);
+            self.exit_step(seat, &mut walker, seen);
+            if let Process::Leaving(_, ExitPoint::X3(rival)) = walker.process() {
+                self.exit_step(seat, &mut walker, seen);
                 self.ring(seat, rival);
             }
             if let Process::Idle = walker.process() {
                 return walker.remote();
             }
-            self.go(seat, &mut walker, seen);
+            self.exit_step(seat, &mut walker, seen);
         }
     }
 
     /// The next access of an entry.
     #[inline(always)]
-    pub(crate) fn come(&self, seat: &mut LockSeat<V>, walker: &mut Walker, seen: &Recall<V>)
+    pub(crate) fn entry_step(
+        &self,
+        seat: &mut LockSeat<V>,
+        walker: &mut Walker,
+        seen: &GhostValue<V>,
+    )
         requires lock { seat.old.table_id ≡ self.now }
         requires levels { walker.old.levels ≡ L }
         requires coming { SeatOnEntry V.since seen.now.value walker.old seat.old.me }
@@ -278,7 +315,7 @@ impl<V: Kept + Drop, const L: u32> TreeLock<V, L> {
 
     /// The next access of an exit; none where the place is idle.
     #[inline(always)]
-    fn go(&self, seat: &mut LockSeat<V>, walker: &mut Walker, seen: &Recall<V>)
+    fn exit_step(&self, seat: &mut LockSeat<V>, walker: &mut Walker, seen: &GhostValue<V>)
         requires lock { seat.old.table_id ≡ self.now }
         requires levels { walker.old.levels ≡ L }
         requires going { SeatOnExit seen.now.value walker.old seat.old.me }
@@ -310,20 +347,23 @@ impl<V: Kept + Drop, const L: u32> TreeLock<V, L> {
         ensures lock { seat.new.table_id ≡ seat.old.table_id }
         ensures goes { (found : ℕ)
             × (walker.new ≡ walk_after walker.old found)
-            × Goes V.since L found seat.old.me.0 seat.old.me.1 seat.new.me }
+            × ProcessSteps V.since L found seat.old.me.0 seat.old.me.1 seat.new.me }
         ensures onward { MovesOn walker.old walker.new }
         ensures budget { walker.new.remote + budget walker.new
             ≤ walker.old.remote + budget walker.old }
     {
         match due {
             Op::Load(number) => {
-                let value = self.table.shared.load::<Go<L>>(seat, SPACING * number);
+                let value = self
+                    .table
+                    .shared
+                    .load::<ProcessStep<L>>(seat, SPACING * number);
                 walker.saw(value);
             }
             Op::Store(number, value) => {
                 self.table
                     .shared
-                    .store::<Go<L>>(seat, SPACING * number, value);
+                    .store::<ProcessStep<L>>(seat, SPACING * number, value);
                 walker.done();
             }
             Op::Inside | Op::Idle => unreachable!(),

@@ -1,7 +1,7 @@
 //! The rule of the lock's table, and where its words and its slot lie.
 ghost use Rattle.atomic_table.specs.Table.{State};
 ghost use Rattle.ya_lock.specs.Rule.{Rule};
-ghost use Rattle.ya_lock.specs.declared.view.View.TheVariants.{Stranger};
+ghost use Rattle.ya_lock.specs.declared.view.View.TheVariants.{Unused};
 
 use crate::kept::Kept;
 use crate::view::View;
@@ -16,13 +16,13 @@ pub const SPACING: usize = 8;
 pub const SLOT: usize = 0;
 
 /// The rule, at a number of levels: the core's invariant holds of the words and of the processes that the seats show,
-/// and the value lies home exactly where no process is inside.
+/// and the value is in its slot exactly where no process is inside.
 pub struct LockRule;
 
 impl<V: Kept> TableRule<Option<V>, View<V>, u32> for LockRule {
     ghost holds = { λ levels s. Rule V.since levels s };
 
-    ghost first = { λ _. Stranger };
+    ghost first = { λ _. Unused };
 }
 
 /// The words of a lock and the slot of its value.

@@ -1,6 +1,6 @@
 //! Locks at work: values that go in and come out, threads that count and that sleep, and passes that are confirmed.
 ghost use Rattle.std.specs.Prelude.{◌≡◌, ◌≢◌, ℕ, ◌+◌, ◌^◌, ◌<◌, ◌≤◌, [], ◌∷◌, ◌++◌, length, vec_len, IfOk, All};
-ghost use Rattle.ya_lock.specs.tests.Marking.{Grows, Adds, grows_same, adds_same, grows_by_other};
+ghost use Rattle.ya_lock.specs.tests.Marks.{MarksGrow, MarksAdded, marks_grow_same, marks_added_same, marks_grow_by_other};
 
 use crate::{Kept, NoMemory, Pass, TreeLock};
 use std::alloc::Global;
@@ -35,16 +35,16 @@ struct Marks {
 }
 
 impl Kept for Marks {
-    ghost since = { λ place a b. Grows place a.places.items b.places.items };
+    ghost since = { λ place a b. MarksGrow place a.places.items b.places.items };
 
-    ghost done = { λ place a b. Adds place a.places.items b.places.items };
+    ghost done = { λ place a b. MarksAdded place a.places.items b.places.items };
 
-    ghost since_same = { λ place a. grows_same place a.places.items };
+    ghost since_same = { λ place a. marks_grow_same place a.places.items };
 
-    ghost done_same = { λ place a. adds_same place a.places.items };
+    ghost done_same = { λ place a. marks_added_same place a.places.items };
 
     ghost since_done = { λ place other a b c ne s d.
-        grows_by_other place other a.places.items b.places.items c.places.items ne s d };
+        marks_grow_by_other place other a.places.items b.places.items c.places.items ne s d };
 }
 
 impl Marks {
@@ -54,9 +54,9 @@ impl Marks {
         }
     }
 
-    // Adds a mark, or leaves the list as it is where memory runs out.
+    // MarksAdded a mark, or leaves the list as it is where memory runs out.
     fn add(&mut self, place: usize)
-        ensures { Adds place self.old.places.items self.new.places.items }
+        ensures { MarksAdded place self.old.places.items self.new.places.items }
     {
         let _ = self.places.push(place);
     }
@@ -296,12 +296,12 @@ fn come_slowly<R: Wait + Clock>(rt: &R, lock: &TreeLock<Marks, 1>, pass: Pass<Ma
     } = pass;
     let mut walker = Walker::new(TreeLock::<Marks, 1>::shape(), place);
     walker.begin_entry();
-    lock.come(&mut seat, &mut walker, &seen);
+    lock.entry_step(&mut seat, &mut walker, &seen);
     thread::sleep(rt, Duration::from_millis(50));
-    lock.come(&mut seat, &mut walker, &seen);
-    lock.come(&mut seat, &mut walker, &seen);
-    lock.come(&mut seat, &mut walker, &seen);
-    let competes = lock.climbed(&seat, &walker, &seen).is_none();
+    lock.entry_step(&mut seat, &mut walker, &seen);
+    lock.entry_step(&mut seat, &mut walker, &seen);
+    lock.entry_step(&mut seat, &mut walker, &seen);
+    let competes = lock.progress(&seat, &walker, &seen).is_none();
     if competes {
         let _ = lock.compete(rt, &mut seat, place, walker, &seen);
     }

@@ -1,13 +1,13 @@
 //! The lock, and all that a caller may do with it.
 ghost use Rattle.std.specs.Prelude.{◌≡◌, ◌+◌, ◌*◌, ◌≤◌, IfOk, IfErr};
-ghost use Rattle.ya_lock.specs.Lock.{IsDealt, guard_of, pass_of};
+ghost use Rattle.ya_lock.specs.Lock.{ArePassesInOrder, guard_of, pass_of};
 
+use crate::ghost_value::GhostValue;
 use crate::guard::Guard;
 use crate::kept::Kept;
 use crate::pass::Pass;
-use crate::plays::{Give, Learn, Take, Unite};
-use crate::recall::Recall;
 use crate::rule::{LockTable, SLOT, SPACING};
+use crate::step_effects::{GiveValue, JoinPass, LearnSince, TakeSlot};
 use std::alloc::Global;
 use std::marker::Model;
 use std::sync::Wait;
@@ -36,22 +36,22 @@ impl<V: Kept + Drop, const L: u32> TreeLock<V, L> {
     /// memory runs out the value comes back.
     pub fn new(alloc: Global, value: V) -> Result<(TreeLock<V, L>, Vec<Pass<V>>), (V, NoMemory)>
         requires { (1 ≤ L) × (L ≤ 6) }
-        ensures passes { IfOk result (λ made. IsDealt made.0 L value made.1.items) }
+        ensures passes { IfOk result (λ made. ArePassesInOrder made.0 L value made.1.items) }
         ensures refused { IfErr result (λ r. r.0 ≡ value) }
     {
         let shape = Self::shape();
         let Ok(passes) = Vec::with_capacity(alloc, shape.places()) else {
             return Err((value, NoMemory));
         };
-        let Ok((table, mut maker)) = Self::begun(alloc, SPACING * shape.words()) else {
+        let Ok((table, mut maker)) = Self::new_table(alloc, SPACING * shape.words()) else {
             return Err((value, NoMemory));
         };
-        let first = Recall::of(&value);
-        table.shared.load::<Take>(&mut maker, 0);
+        let first = GhostValue::of(&value);
+        table.shared.load::<TakeSlot>(&mut maker, 0);
         let _empty = table.shared.exchange(&mut maker, SLOT, Some(value));
-        table.shared.load::<Give>(&mut maker, 0);
+        table.shared.load::<GiveValue>(&mut maker, 0);
         let lock = TreeLock { table };
-        let passes = lock.dealt(maker, first, passes);
+        let passes = lock.make_passes(maker, first, passes);
         Ok((lock, passes))
     }
 
@@ -71,11 +71,11 @@ impl<V: Kept + Drop, const L: u32> TreeLock<V, L> {
             seen,
         } = pass;
         let shared = &self.table.shared;
-        let remote = self.go_in(rt, &mut seat, place, &seen);
+        let remote = self.acquire(rt, &mut seat, place, &seen);
         let Some(value) = shared.exchange(&mut seat, SLOT, None) else {
             unreachable!()
         };
-        let found = Recall::of(&value);
+        let found = GhostValue::of(&value);
         Guard {
             seat,
             place,
@@ -101,15 +101,15 @@ impl<V: Kept + Drop, const L: u32> TreeLock<V, L> {
             value,
             found: _,
         } = guard;
-        let seen = Recall::of(&value);
+        let seen = GhostValue::of(&value);
         let None = self.table.shared.exchange(&mut seat, SLOT, Some(value)) else {
             unreachable!()
         };
         let mut walker = Walker::inside(Self::shape(), place, remote);
         walker.begin_exit();
-        let release = walker.op();
-        self.step(&mut seat, &mut walker, release);
-        let remote = self.go_out(&mut seat, walker, &seen);
+        let due = walker.op();
+        self.step(&mut seat, &mut walker, due);
+        let remote = self.release(&mut seat, walker, &seen);
         Pass {
             seat,
             place,
@@ -134,8 +134,8 @@ impl<V: Kept + Drop, const L: u32> TreeLock<V, L> {
             found,
         } = guard;
         let Pass { seat: idle, .. } = pass;
-        self.table.shared.join_seat::<Unite>(&mut seat, idle);
-        self.table.shared.load::<Learn>(&mut seat, 0);
+        self.table.shared.join_seat::<JoinPass>(&mut seat, idle);
+        self.table.shared.load::<LearnSince>(&mut seat, 0);
         Guard {
             seat,
             place,

@@ -58,7 +58,7 @@ struct Ask<'a> {
 /// What each feed still has to ask, and the table.
 #[derive(Drop)]
 struct State<'b, 'a> {
-    left: Vec<&'b [Ask<'a>]>,
+    unasked: Vec<&'b [Ask<'a>]>,
     table: Vec<Row<'a>>,
 }
 
@@ -202,7 +202,7 @@ fn search(
         let Some(state) = open.pop() else {
             return Ok(false);
         };
-        if state.left.iter().all(|asks| asks.is_empty()) {
+        if state.unasked.iter().all(|asks| asks.is_empty()) {
             return is_printed(alloc, &state.table, printed);
         }
         open_next(
@@ -231,12 +231,12 @@ fn states_of(feeds: &[Vec<Ask<'_>>]) -> usize {
 
 /// The state in which nothing was asked.
 fn start<'b, 'a>(alloc: Global, feeds: &'b [Vec<Ask<'a>>]) -> Result<State<'b, 'a>, AllocError> {
-    let mut left = Vec::new(alloc);
+    let mut unasked = Vec::new(alloc);
     for asks in feeds {
-        left.push(asks.as_slice())?;
+        unasked.push(asks.as_slice())?;
     }
     Ok(State {
-        left,
+        unasked,
         table: Vec::new(alloc),
     })
 }
@@ -251,11 +251,11 @@ fn open_next<'b, 'a>(
     seen: &mut [bool],
     open: &mut Vec<State<'b, 'a>>,
 ) -> Result<(), AllocError> {
-    for (i, asks) in state.left.iter().enumerate() {
+    for (i, asks) in state.unasked.iter().enumerate() {
         let Some(next) = after_visit(alloc, state, i, asks, limit, batch)? else {
             continue;
         };
-        if is_new(seen, number_of(next.left.as_slice(), feeds)) {
+        if is_new(seen, number_of(next.unasked.as_slice(), feeds)) {
             open.push(next)?;
         }
     }
@@ -265,15 +265,15 @@ fn open_next<'b, 'a>(
 /// Whether no state of this number was seen. From then on it is.
 fn is_new(seen: &mut [bool], number: usize) -> bool {
     match seen.get_mut(number) {
-        Some(place) => !mem::replace(place, true),
+        Some(was) => !mem::replace(was, true),
         None => false,
     }
 }
 
 /// The number of a state among all that the feeds may come to.
-fn number_of(left: &[&[Ask<'_>]], feeds: &[Vec<Ask<'_>>]) -> usize {
+fn number_of(unasked: &[&[Ask<'_>]], feeds: &[Vec<Ask<'_>>]) -> usize {
     let mut number = 0usize;
-    for (asks, all) in left.iter().zip(feeds) {
+    for (asks, all) in unasked.iter().zip(feeds) {
         number = number
             .wrapping_mul(all.len().wrapping_add(1))
             .wrapping_add(asks.len());
@@ -281,12 +281,12 @@ fn number_of(left: &[&[Ask<'_>]], feeds: &[Vec<Ask<'_>>]) -> usize {
     number
 }
 
-/// The state after the next visit of the feed at this place, which has these commands left, if it has one and the answers
+/// The state after the next visit of the feed at this index, which has these commands left, if it has one and the answers
 /// are those that were printed.
 fn after_visit<'b, 'a>(
     alloc: Global,
     state: &State<'b, 'a>,
-    place: usize,
+    index: usize,
     asks: &'b [Ask<'a>],
     limit: usize,
     batch: usize,
@@ -296,14 +296,14 @@ fn after_visit<'b, 'a>(
     }
     let (visit, rest) = asks.split_at(batch.min(asks.len()));
     let mut table = state.table.clone()?;
-    if !are_answered(alloc, &mut table, limit, place.wrapping_add(1), visit)? {
+    if !are_answered(alloc, &mut table, limit, index.wrapping_add(1), visit)? {
         return Ok(None);
     }
-    let mut left = state.left.clone()?;
-    if let Some(asks) = left.get_mut(place) {
+    let mut unasked = state.unasked.clone()?;
+    if let Some(asks) = unasked.get_mut(index) {
         *asks = rest;
     }
-    Ok(Some(State { left, table }))
+    Ok(Some(State { unasked, table }))
 }
 
 /// Whether the feed's commands are answered from the table as was printed, one after another. Changes the table as they
@@ -347,7 +347,7 @@ fn add<'a>(
     limit: usize,
     row: Row<'a>,
 ) -> Result<&'static str, AllocError> {
-    if place_of(table.as_slice(), row.feed, row.offer.prefix).is_some() {
+    if index_of(table.as_slice(), row.feed, row.offer.prefix).is_some() {
         return Ok("exists");
     }
     if count(table.as_slice(), row.feed) >= limit {
@@ -359,19 +359,19 @@ fn add<'a>(
 
 /// The answer to a `replace` by this route.
 fn replace<'a>(table: &mut Vec<Row<'a>>, row: Row<'a>) -> &'static str {
-    let Some(place) = place_of(table.as_slice(), row.feed, row.offer.prefix) else {
+    let Some(index) = index_of(table.as_slice(), row.feed, row.offer.prefix) else {
         return "missing";
     };
-    table[place] = row;
+    table[index] = row;
     "replaced"
 }
 
 /// The answer to a `withdraw` of the feed's route for this prefix.
 fn withdraw(table: &mut Vec<Row<'_>>, feed: usize, prefix: &str) -> &'static str {
-    let Some(place) = place_of(table.as_slice(), feed, prefix) else {
+    let Some(index) = index_of(table.as_slice(), feed, prefix) else {
         return "missing";
     };
-    table.swap_remove(place);
+    table.swap_remove(index);
     "withdrawn"
 }
 
@@ -396,8 +396,8 @@ fn is_count(alloc: Global, word: &str, count: usize, answer: &str) -> Result<boo
 }
 
 /// Where the feed's route for this prefix stands.
-fn place_of(table: &[Row<'_>], feed: usize, prefix: &str) -> Option<usize>
-    ensures { IfSome result (λ place. place < length table.entry.now) }
+fn index_of(table: &[Row<'_>], feed: usize, prefix: &str) -> Option<usize>
+    ensures { IfSome result (λ index. index < length table.entry.now) }
 {
     table
         .iter()

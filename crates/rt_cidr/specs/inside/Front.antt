@@ -39,16 +39,16 @@ pub record IsCappedDecimal (text : List ℕ) (value : ℕ) : Type 0 where
   pub spelled : IsDecimal text n
   pub is_value : value ≡ capped n
 
--- the text is two pieces joined by a mark, and n has the left one's number above the right one's
-pub record IsJoined (IsLeft IsRight : List ℕ → ℕ → Type 0) (mark scale : ℕ) (text : List ℕ) (n : ℕ) : Type 0 where
-  pub left_text : List ℕ
-  pub right_text : List ℕ
-  pub left : ℕ
-  pub right : ℕ
-  pub is_left : IsLeft left_text left
-  pub is_right : IsRight right_text right
-  pub joined : text ≡ left_text ++ mark ∷ right_text
-  pub value : n ≡ left * scale + right
+-- the text is two pieces joined by a mark, and n has the high one's number above the low one's
+pub record IsJoined (IsHigh IsLow : List ℕ → ℕ → Type 0) (mark scale : ℕ) (text : List ℕ) (n : ℕ) : Type 0 where
+  pub high_text : List ℕ
+  pub low_text : List ℕ
+  pub high : ℕ
+  pub low : ℕ
+  pub is_high : IsHigh high_text high
+  pub is_low : IsLow low_text low
+  pub joined : text ≡ high_text ++ mark ∷ low_text
+  pub value : n ≡ high * scale + low
 
 -- the text is two octets joined by a dot
 abbrev pub IsHalfText : List ℕ → ℕ → Type 0

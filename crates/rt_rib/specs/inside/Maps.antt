@@ -27,8 +27,8 @@ abbrev pub route_at : List (Option Route) → ℕ → Option Route
 route_at answers k = slice_index_or answers k None
 
 -- the map holds the route: what stands at its prefix contains what it offers
-abbrev pub IsThere : Map → Route → Type 0
-IsThere m r = Contains (offers_at m r.prefix) (offer_of r)
+abbrev pub HasRoute : Map → Route → Type 0
+HasRoute m r = Contains (offers_at m r.prefix) (offer_of r)
 
 -- what the laws of rt_trie say of maps with offers, and rt_cidr's of equal prefixes
 pub record MapLaws : Type 0 where

@@ -7,10 +7,10 @@ use Rattle.rt_rib.specs.declared.offers.Taken.TheVariants.{Missing, Last, Gone}
 use Rattle.rt_rib.specs.Offers.{outranks, is_from}
 
 -- where the offer belongs: those before that index outrank it, and no others do
-pub record IsPlaceFor (offer : Offer) (offers : List Offer) (place : ℕ) : Type 0 where
-  pub within : place ≤ length offers
-  pub before : AllWithin (λ o. outranks o offer ≡ true) offers 0 place
-  pub behind : AllWithin (λ o. outranks o offer ≡ false) offers place (length offers)
+pub record IsInsertionIndex (offer : Offer) (offers : List Offer) (index : ℕ) : Type 0 where
+  pub within : index ≤ length offers
+  pub before : AllWithin (λ o. outranks o offer ≡ true) offers 0 index
+  pub behind : AllWithin (λ o. outranks o offer ≡ false) offers index (length offers)
 
 -- the new offers are the old ones and this one
 abbrev pub HasGained : List Offer → List Offer → Offer → Type 0

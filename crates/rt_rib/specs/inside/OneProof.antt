@@ -5,7 +5,7 @@ use Rattle.std.proofs.Props.{props}
 use Rattle.rt_trie.specs.inside.OneProof.{IsLawful-prop, IsOrdered-prop}
 use Rattle.rt_rib.specs.declared.routes.Route.{Route}
 use Rattle.rt_rib.specs.contracts.routes.Route as route
-use Rattle.rt_rib.specs.Book.{Contents, OfferTrie, table_of, HoldsRoutes, HoldsRoutesLeft}
+use Rattle.rt_rib.specs.Book.{BookContents, OfferTrie, table_of, HoldsRoutes, HoldsTable}
 
 routes_set : (a b : List Route) → IsProp (a ≡ b)
 routes_set = Coded-set (coded_list route.the_row.coded)
@@ -13,5 +13,5 @@ routes_set = Coded-set (coded_list route.the_row.coded)
 HoldsRoutes-prop : (trie : OfferTrie) (routes : List Route) → IsProp (HoldsRoutes trie routes)
 HoldsRoutes-prop trie routes = hlevel (props, IsLawful-prop, IsOrdered-prop, routes_set)
 
-pub HoldsRoutesLeft-prop : (book : Contents) → IsProp (HoldsRoutesLeft book)
-HoldsRoutesLeft-prop book = HoldsRoutes-prop book.trie (table_of book)
+pub HoldsTable-prop : (book : BookContents) → IsProp (HoldsTable book)
+HoldsTable-prop book = HoldsRoutes-prop book.trie (table_of book)

@@ -70,7 +70,7 @@ fn the_best_of_each_prefix_stays(rt: HostRuntime) -> Result<(), Fail> {
     }
     let mut routes = book.routes(rt.alloc())?;
     keep_best(&mut routes);
-    let left = [route(wide, 2, 7), route(narrow, 2, 9), route(other, 5, 1)];
-    assert_eq!(rt; routes.as_slice(), left.as_slice());
+    let expected = [route(wide, 2, 7), route(narrow, 2, 9), route(other, 5, 1)];
+    assert_eq!(rt; routes.as_slice(), expected.as_slice());
     Ok(())
 }

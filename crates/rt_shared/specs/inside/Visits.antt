@@ -10,4 +10,4 @@ pub record AreServed (feed : ℕ) (cmds : List Cmd) (found : List Entry) (before
   pub outcomes : List Outcome
   pub appended : after ≡ before ++ outcomes
   pub each : length outcomes ≡ length cmds
-  pub left : now ≡ found ++ answered feed cmds outcomes
+  pub added : now ≡ found ++ answered feed cmds outcomes

@@ -1,18 +1,18 @@
 -- A key told by its numbers, and where a prefix stands as seen from another.
 use Rattle.std.specs.Prelude.{◌≡◌, ℕ, Bool, true, false, ◌+◌, ◌≤◌, ◌==◌, ◌&&◌, ◌⊎◌}
 use Rattle.rt_cidr.specs.declared.prefixes.Prefix.{Prefix}
-use Rattle.rt_trie.specs.declared.nodes.Place.{Place}
-use Rattle.rt_trie.specs.declared.nodes.Place.TheVariants.{Here, Left, Right, Above, Apart}
-use Rattle.rt_trie.specs.Blocks.{past, IsWithin, IsChild}
+use Rattle.rt_trie.specs.declared.nodes.Position.{Position}
+use Rattle.rt_trie.specs.declared.nodes.Position.TheVariants.{Here, Left, Right, Above, Apart}
+use Rattle.rt_trie.specs.Blocks.{past, IsInBlock, IsChild}
 
 -- whether that length and base are p's
 abbrev pub is_key : ℕ → ℕ → Prefix → Bool
 is_key len base p = base == p.base && len == p.len
 
 -- where p stands as seen from q
-abbrev pub StandsAt : Prefix → Prefix → Place → Type 0
+abbrev pub StandsAt : Prefix → Prefix → Position → Type 0
 StandsAt q p Here = p ≡ q
 StandsAt q p Left = IsChild q false p
 StandsAt q p Right = IsChild q true p
-StandsAt q p Above = IsWithin p.base (past p) (p.len + 1) q
+StandsAt q p Above = IsInBlock p.base (past p) (p.len + 1) q
 StandsAt q p Apart = (past q ≤ p.base) ⊎ (past p ≤ q.base)

@@ -10,7 +10,7 @@ use Rattle.rt_trie.specs.declared.nodes.FullNode.{FullNode}
 use Rattle.rt_trie.specs.declared.nodes.NodeView.{NodeView}
 use Rattle.rt_trie.specs.declared.nodes.NodeView.TheVariants.{Vacant, Single, Branch}
 use Rattle.rt_trie.specs.Map.{Pairs}
-use Rattle.rt_trie.specs.declared.nodes.Place.{Place}
+use Rattle.rt_trie.specs.declared.nodes.Position.{Position}
 use Rattle.rt_trie.specs.inside.Blocks.{StandsAt}
 use Rattle.rt_trie.specs.Links.{root, IsFilled, AreHalves, IsNeeded, IsLawfulBelow, IsLawfulTrie}
 
@@ -58,11 +58,11 @@ IsForkOf q (Fork' len base p left right prefix) = prefix ≡ q
 IsForkOf q (Full' len base p left right prefix v) = ⊥
 
 -- the link holds a node with this base, and p stands there as seen from it
-pub record IsSeenFrom {V A : Type 0} (link : Link V A) (base : ℕ) (p : Prefix) (place : Place) : Type 0 where
+pub record IsSeenFrom {V A : Type 0} (link : Link V A) (base : ℕ) (p : Prefix) (position : Position) : Type 0 where
   pub node : Prefix
   pub root_is : root link ≡ Some node
   pub base_is : base ≡ node.base
-  pub stands : StandsAt node p place
+  pub stands : StandsAt node p position
 
 -- the link holds nothing
 abbrev pub IsVacant : {V A : Type 0} → Link V A → Type 0

@@ -7,7 +7,7 @@ use Rattle.rt_cidr.specs.contracts.prefixes.Prefix as prefix
 use Rattle.rt_trie.specs.Map.{Pairs, IsBeforeAll, IsOrdered}
 use Rattle.rt_trie.specs.Tree.{Tree, Vacant, Node}
 use Rattle.rt_trie.specs.Lawful.{IsLawfulAt, IsLawfulTree, IsLawful}
-use Rattle.rt_trie.specs.Contents.{Contents}
+use Rattle.rt_trie.specs.TrieContents.{TrieContents}
 
 IsLawfulAt-prop : (q : Prefix) (valued : Bool) (left right : Tree) → IsProp (IsLawfulAt q valued left right)
 IsLawfulAt-prop q valued left right = hlevel props
@@ -21,7 +21,7 @@ IsLawfulTree-prop (Node q valued left right) =
 prefixes_set : (a b : List Prefix) → IsProp (a ≡ b)
 prefixes_set = Coded-set (coded_list prefix.the_row.coded)
 
-pub IsLawful-prop : {V : Type 0} (t : Contents V) → IsProp (IsLawful t)
+pub IsLawful-prop : {V : Type 0} (t : TrieContents V) → IsProp (IsLawful t)
 IsLawful-prop t = hlevel (props, IsLawfulTree-prop, prefixes_set)
 
 IsBeforeAll-prop : {V : Type 0} (p : Prefix) (m : Pairs V) → IsProp (IsBeforeAll p m)

@@ -15,16 +15,16 @@ marks_before Vacant rest = None ∷ rest
 marks_before (Node q valued left right) rest = Some (q, valued) ∷ marks_before left (marks_before right rest)
 
 -- a node over the first two trees
-abbrev pub joined : Mark → List Tree → List Tree
-joined m [] = []
-joined m (left ∷ []) = []
-joined m (left ∷ (right ∷ trees)) = Node m.0 m.1 left right ∷ trees
+abbrev pub node_over : Mark → List Tree → List Tree
+node_over m [] = []
+node_over m (left ∷ []) = []
+node_over m (left ∷ (right ∷ trees)) = Node m.0 m.1 left right ∷ trees
 
 -- the trees that marks stand for
 abbrev pub trees_of : List (Option Mark) → List Tree
 trees_of [] = []
 trees_of (None ∷ rest) = Vacant ∷ trees_of rest
-trees_of (Some m ∷ rest) = joined m (trees_of rest)
+trees_of (Some m ∷ rest) = node_over m (trees_of rest)
 
 abbrev pub first_tree : List Tree → Tree
 first_tree [] = Vacant

@@ -15,13 +15,13 @@ struct PlainList {
 }
 
 impl PlainList {
-    // The place of a prefix, or where it would go.
-    fn place_of(&self, p: Prefix) -> Result<usize, usize> {
+    // The index of a prefix, or that at which it would go.
+    fn index_of(&self, p: Prefix) -> Result<usize, usize> {
         self.pairs.binary_search_by_key(&p, |x| x.0)
     }
 
     fn insert(&mut self, rt: &impl Abort, p: Prefix, value: u32) -> Option<u32> {
-        match self.place_of(p) {
+        match self.index_of(p) {
             Ok(k) => {
                 let pair = self.pairs.get_mut(k).expect(rt, "a pair");
                 let old = pair.1;
@@ -37,7 +37,7 @@ impl PlainList {
     }
 
     fn remove(&mut self, rt: &impl Abort, p: Prefix) -> Option<u32> {
-        let k = self.place_of(p).ok()?;
+        let k = self.index_of(p).ok()?;
         assert!(rt; k < self.pairs.len());
         Some(self.pairs.remove(k).1)
     }
@@ -110,22 +110,22 @@ fn random_changes_beside_a_sorted_list(rt: HostRuntime) {
 #[derive(Drop)]
 struct Lots {
     seed: u64,
-    left: u32,
+    remaining: u32,
 }
 
 impl Sieve<u32> for Lots {
-    ghost done = { λ s. nat_eq s.left 0 };
+    ghost done = { λ s. nat_eq s.remaining 0 };
 
     ghost judges = { λ s p v t w stays. Unit {0} };
 
     fn is_done(&self) -> bool {
-        self.left == 0
+        self.remaining == 0
     }
 
     fn keeps(&mut self, prefix: Prefix, value: &mut u32) -> bool {
-        self.left -= 1;
+        self.remaining -= 1;
         self.seed = next_number(self.seed ^ u64::from(prefix.base()));
-        *value = self.left;
+        *value = self.remaining;
         self.seed >> 40 & 3 == 0
     }
 }
@@ -137,13 +137,13 @@ fn sieve_both<A: Allocator + Copy>(
     trie: &mut Trie<u32, A>,
     list: &mut PlainList,
     seed: u64,
-    left: u32,
+    remaining: u32,
 ) {
-    let mut one = Lots { seed, left };
-    let mut other = Lots { seed, left };
+    let mut one = Lots { seed, remaining };
+    let mut other = Lots { seed, remaining };
     trie.retain(&mut one);
     list.retain(rt, alloc, &mut other);
-    assert_eq!(rt; (one.seed, one.left), (other.seed, other.left));
+    assert_eq!(rt; (one.seed, one.remaining), (other.seed, other.remaining));
     assert_pairs(rt, trie, &list.pairs);
 }
 

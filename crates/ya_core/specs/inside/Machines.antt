@@ -2,9 +2,9 @@
 use Rattle.std.specs.Prelude.{◌≡◌, ℕ, ◌^◌, ◌≤◌, List, length}
 use Rattle.ya_core.specs.declared.process.Process.{Process}
 use Rattle.ya_core.specs.declared.step.Step.{Step}
-use Rattle.ya_core.specs.Tree.{count_of_words}
+use Rattle.ya_core.specs.ArbitrationTree.{count_of_words}
 use Rattle.ya_core.specs.Steps.{StepsTo}
-use Rattle.ya_core.specs.Soundness.{IsSound}
+use Rattle.ya_core.specs.Soundness.{IsSoundState}
 use Rattle.ya_core.specs.Machines.{Rows, state_of, step_of}
 
 -- the rows of a machine
@@ -16,7 +16,7 @@ pub record IsMachine (m : Rows) : Type 0 where
   pub least : 1 ≤ m.levels
   pub words : length m.words ≡ count_of_words m.levels
   pub processes : length m.processes ≡ 2 ^ m.levels
-  pub sound : IsSound m.levels (state_of m)
+  pub sound : IsSoundState m.levels (state_of m)
 
 -- the place takes its step, after which the machine is one again, and this is told of it
 pub record TakesStep (place : ℕ) (old new : Rows) (step_told : Step) : Type 0 where

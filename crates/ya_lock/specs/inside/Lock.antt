@@ -5,9 +5,9 @@ use Rattle.std.specs.Prelude as std
 use Rattle.atomic_table.specs.Table.{Me}
 use Rattle.ya_core.specs.declared.process.Process.{Process}
 use Rattle.ya_core.specs.declared.process.Process.TheVariants.{Idle, Entering, Inside, Leaving}
-use Rattle.ya_core.specs.Walks.{Walk}
+use Rattle.ya_core.specs.WalkerModel.{Walk}
 use Rattle.ya_lock.specs.declared.view.View.{View}
-use Rattle.ya_lock.specs.declared.view.View.TheVariants.{Member}
+use Rattle.ya_lock.specs.declared.view.View.TheVariants.{Seated}
 use Rattle.ya_lock.specs.Rule.{row_length}
 use Rattle.ya_lock.specs.Lock.{LockId}
 
@@ -33,25 +33,25 @@ module _ {V : Type 0} where
   -- the seat of a pass: its process is idle, its last passage made so many remote accesses, and it has no slot
   pub record SeatIdle (lock : LockId) (place : ℕ) (seen : V) (remote : ℕ)
       (me : Me (std.Option V) (View V)) : Type 0 where
-    pub process : me ≡ (Member place Idle seen remote, [])
+    pub process : me ≡ (Seated place Idle seen remote, [])
     pub in_tree : HasPlace lock place
 
   -- the seat of a guard: its process is inside, its entry made so many remote accesses, and it has the slot of the value
   pub record SeatInside (lock : LockId) (place : ℕ) (found : V) (remote : ℕ)
       (me : Me (std.Option V) (View V)) : Type 0 where
-    pub process : me ≡ (Member place Inside found remote, (0, None) ∷ [])
+    pub process : me ≡ (Seated place Inside found remote, (0, None) ∷ [])
     pub in_tree : HasPlace lock place
     pub count : (levels : ℕ) → HasTree lock levels → remote ≤ 7 * levels
 
   -- the seat of a place on its way in, by where its process stands
   abbrev EntrySeat : (ℕ → V → V → Type 0) → ℕ → V → Process → Bool → ℕ → Me (std.Option V) (View V) → Type 0
   EntrySeat since place seen Idle begun remote me =
-      (begun ≡ true) × (remote ≡ 0) × ((last : ℕ) × (me ≡ (Member place Idle seen last, [])))
+      (begun ≡ true) × (remote ≡ 0) × ((last : ℕ) × (me ≡ (Seated place Idle seen last, [])))
   EntrySeat since place seen (Entering level point) begun remote me =
-      me ≡ (Member place (Entering level point) seen remote, [])
+      me ≡ (Seated place (Entering level point) seen remote, [])
   EntrySeat since place seen Inside begun remote me =
       (begun ≡ false)
-      × ((found : V) × since place seen found × (me ≡ (Member place Inside found remote, (0, Some found) ∷ [])))
+      × ((found : V) × since place seen found × (me ≡ (Seated place Inside found remote, (0, Some found) ∷ [])))
   EntrySeat since place seen (Leaving level point) begun remote me = ⊥
 
   -- the seat of a walk on its way in: its process stands where the walk does, after as many remote accesses; inside it has
@@ -61,10 +61,10 @@ module _ {V : Type 0} where
 
   -- the seat of a place on its way out, by where its process stands
   abbrev ExitSeat : ℕ → V → Process → Bool → ℕ → Me (std.Option V) (View V) → Type 0
-  ExitSeat place seen Idle begun remote me = (begun ≡ false) × (me ≡ (Member place Idle seen remote, []))
+  ExitSeat place seen Idle begun remote me = (begun ≡ false) × (me ≡ (Seated place Idle seen remote, []))
   ExitSeat place seen (Entering level point) begun remote me = ⊥
   ExitSeat place seen Inside begun remote me = ⊥
-  ExitSeat place seen (Leaving level point) begun remote me = me ≡ (Member place (Leaving level point) seen remote, [])
+  ExitSeat place seen (Leaving level point) begun remote me = me ≡ (Seated place (Leaving level point) seen remote, [])
 
   -- the seat of a walk on its way out, until it is idle: its process stands where the walk does, after as many remote
   -- accesses

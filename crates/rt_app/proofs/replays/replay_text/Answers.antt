@@ -1,5 +1,5 @@
 use Rattle.std.proofs.Common.{refl}
-use Rattle.ya_core.specs.Tree.{HasShape}
+use Rattle.ya_core.specs.ArbitrationTree.{HasShape}
 use Rattle.rt_app.specs.ReplayText.{replay_text_of}
 use Rattle.rt_app.specs.inside.ReplayText.{inside_after}
 use Rattle.rt_app.proofs.Replaying.{replay_text-some}

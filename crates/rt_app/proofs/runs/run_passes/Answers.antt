@@ -7,7 +7,7 @@ use Rattle.rt_shared.specs.Table.{HeldPass, Settles}
 use Rattle.rt_shared.proofs.Promised.{pass_send, rib_sync}
 use Rattle.rt_feed.specs.declared.feeds.Feed.{Feed}
 use Rattle.rt_feed.specs.Feeds.{RunsOne}
-use Rattle.rt_app.proofs.SeveralFeeds.{name, holds, are_back, has_run, all_written}
+use Rattle.rt_app.proofs.SeveralFeeds.{name, holds, are_back, run_over_book, all_written}
 use Rattle.rt_app.proofs.runs.run_passes.Goals as goal
 
 pub run_feeds-requires-send-G : goal.run_feeds-requires-send-G
@@ -39,5 +39,5 @@ returns g c =
       back = rw behind (are_back items texts c.args.table.now c.args.batch passes c.requires.dealt c.requires.fresh few feeds feeds' opened as_many ran);
       settled = λ book limited settles.
           let as_back : Settles c.args.table.now (gates_of feeds' ++ drop (length texts) passes) book.journal = subst (λ (ps : List HeldPass). Settles c.args.table.now ps book.journal) behind settles in
-          has_run items texts c.args.table.now c.args.batch passes c.requires.dealt c.requires.fresh few feeds feeds' opened as_many ran book.journal as_back c.close_gates.new.reports.items reported book refl limited;
+          run_over_book items texts c.args.table.now c.args.batch passes c.requires.dealt c.requires.fresh few feeds feeds' opened as_many ran book.journal as_back c.close_gates.new.reports.items reported book refl limited;
     }

@@ -2,13 +2,13 @@ use Rattle.std.proofs.Common.{◌<◌, ◌^◌, lit≤, refl, arith}
 use Rattle.std.proofs.lemmas.Grind.{or_after_shift}
 use Rattle.rt_cidr.specs.Text.{dot}
 use Rattle.rt_cidr.specs.inside.Front.{IsHalfText}
-use Rattle.rt_cidr.proofs.Fronts.{half_read_once, half_fits, address_front_is_halves, halves_front_is_address, no_left, no_mark, no_right, joined_front}
+use Rattle.rt_cidr.proofs.Fronts.{half_read_once, half_fits, address_front_is_halves, halves_front_is_address, no_high, no_mark, no_low, joined_front}
 use Rattle.rt_cidr.proofs.address.read_address.Goals as goal
 
 pub returns-in_err-high : goal.returns-in_err-high
 returns-in_err-high c =
     rw c.from_residual.ensures
-    (λ n rest h. no_left IsHalfText IsHalfText dot (2 ^ 16) (lit≤ tt) c.args.text.now c.in_err-high.ensures n rest (address_front_is_halves c.args.text.now n rest h))
+    (λ n rest h. no_high IsHalfText IsHalfText dot (2 ^ 16) (lit≤ tt) c.args.text.now c.in_err-high.ensures n rest (address_front_is_halves c.args.text.now n rest h))
 
 pub returns-in_err-after_mark : goal.returns-in_err-after_mark
 returns-in_err-after_mark c =
@@ -18,7 +18,7 @@ returns-in_err-after_mark c =
 pub returns-in_err-low : goal.returns-in_err-low
 returns-in_err-low c =
     rw c.from_residual-in_err-low.ensures
-    (λ n rest h. no_right IsHalfText IsHalfText dot (2 ^ 16) (lit≤ tt) c.args.text.now half_read_once _ _ _ c.in_ok-high.ensures c.in_ok-after_mark.ensures c.in_err-low.ensures n rest (address_front_is_halves c.args.text.now n rest h))
+    (λ n rest h. no_low IsHalfText IsHalfText dot (2 ^ 16) (lit≤ tt) c.args.text.now half_read_once _ _ _ c.in_ok-high.ensures c.in_ok-after_mark.ensures c.in_err-low.ensures n rest (address_front_is_halves c.args.text.now n rest h))
 
 pub returns : goal.returns
 returns c =

@@ -1,13 +1,13 @@
 use Rattle.std.proofs.Common.{◌<◌, ◌^◌, lit≤, refl, arith}
 use Rattle.std.proofs.lemmas.Grind.{or_after_shift}
 use Rattle.rt_cidr.specs.Text.{dot, IsOctetText}
-use Rattle.rt_cidr.proofs.Fronts.{octet_read_once, no_left, no_mark, no_right, joined_front}
+use Rattle.rt_cidr.proofs.Fronts.{octet_read_once, no_high, no_mark, no_low, joined_front}
 use Rattle.rt_cidr.proofs.address.read_half.Goals as goal
 
 pub returns-in_err-high : goal.returns-in_err-high
 returns-in_err-high c =
     rw c.from_residual.ensures
-    (no_left IsOctetText IsOctetText dot (2 ^ 8) (lit≤ tt) c.args.text.now c.in_err-high.ensures)
+    (no_high IsOctetText IsOctetText dot (2 ^ 8) (lit≤ tt) c.args.text.now c.in_err-high.ensures)
 
 pub returns-in_err-after_mark : goal.returns-in_err-after_mark
 returns-in_err-after_mark c =
@@ -17,7 +17,7 @@ returns-in_err-after_mark c =
 pub returns-in_err-low : goal.returns-in_err-low
 returns-in_err-low c =
     rw c.from_residual-in_err-low.ensures
-    (no_right IsOctetText IsOctetText dot (2 ^ 8) (lit≤ tt) c.args.text.now octet_read_once _ _ _ c.in_ok-high.ensures c.in_ok-after_mark.ensures c.in_err-low.ensures)
+    (no_low IsOctetText IsOctetText dot (2 ^ 8) (lit≤ tt) c.args.text.now octet_read_once _ _ _ c.in_ok-high.ensures c.in_ok-after_mark.ensures c.in_err-low.ensures)
 
 pub returns : goal.returns
 returns c =

@@ -3,8 +3,8 @@ use Rattle.rt_feed.specs.inside.Filling.{filled}
 use Rattle.rt_feed.proofs.report.fill_lines.Given as goal
 
 -- the lines so far were given the outcomes so far, and what is left goes on so
-abbrev pub invariant-loop-place : goal.invariant-loop-place
-invariant-loop-place l = record {
+abbrev pub invariant-loop-index : goal.invariant-loop-index
+invariant-loop-index l = record {
   within : l.next ≤ length l.outcomes;
-  so_far : take l.place l.lines ++ filled (drop l.place l.lines) (drop l.next l.outcomes) ≡ take l.first l.initial.lines ++ filled (drop l.first l.initial.lines) l.outcomes;
+  so_far : take l.index l.lines ++ filled (drop l.index l.lines) (drop l.next l.outcomes) ≡ take l.first l.initial.lines ++ filled (drop l.first l.initial.lines) l.outcomes;
 }

@@ -1,5 +1,5 @@
 use Rattle.std.proofs.Common.{◌≡◌, length}
-use Rattle.rt_feed.specs.inside.Running.{IsReading}
+use Rattle.rt_feed.specs.inside.FeedRuns.{IsReading}
 use Rattle.rt_feed.proofs.running.run_feed.Given as goal
 
 -- the lines so far have been read, and the gate keeps its name

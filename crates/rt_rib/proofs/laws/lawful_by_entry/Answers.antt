@@ -1,4 +1,4 @@
-use Rattle.rt_rib.proofs.Determined.{lawful_by_entry as law}
+use Rattle.rt_rib.proofs.JournalLaws.{lawful_by_entry as law}
 use Rattle.rt_rib.proofs.laws.lawful_by_entry.Goals as goal
 
 pub returns : goal.returns

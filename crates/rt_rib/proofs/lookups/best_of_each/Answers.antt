@@ -13,16 +13,16 @@ loop-start-preserved g c =
     let i = c.loop-start.invariant in
     let start = c.loop-start.start in
     let addresses = c.args.addresses.now in
-    let answers = c.best_of_few.new.answers in
+    let answers = c.best_of_chunk.new.answers in
     record {
       each = λ k h. elim (cases_lt k start) [
-        | inl lt ↦ c.best_of_few.ensures.rest k lt ∙ i.each k lt
+        | inl lt ↦ c.best_of_chunk.ensures.rest k lt ∙ i.each k lt
         | inr ge ↦
             let e : start + (k - start) ≡ k = omega arith in
-            subst (λ n. route_at answers n ≡ look_up (address_at addresses n) (routes_of c.args.trie.now.pairs)) e (c.best_of_few.ensures.each (k - start) (omega arith))
+            subst (λ n. route_at answers n ≡ look_up (address_at addresses n) (routes_of c.args.trie.now.pairs)) e (c.best_of_chunk.ensures.each (k - start) (omega arith))
       ];
       within = omega arith;
-      long = c.best_of_few.auto.answers ∙ i.long;
+      long = c.best_of_chunk.auto.answers ∙ i.long;
     }
 
 pub returns : goal.returns

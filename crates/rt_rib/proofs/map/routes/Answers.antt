@@ -7,8 +7,8 @@ use Rattle.rt_rib.specs.Maps.{Map, route_by, routes_of}
 use Rattle.rt_rib.proofs.map.routes.Goals as goal
 
 -- one prefix more
-walked : (done more : List Route) (left rest m : Map) (p : Prefix) (offers same : List Offer) → done ++ routes_of left ≡ routes_of m → left ≡ (p, offers) ∷ rest → same ≡ offers → more ≡ done ++ map (route_by p) same → more ++ routes_of rest ≡ routes_of m
-walked done more left rest m p offers same before first is appended =
+walked : (done more : List Route) (ahead rest m : Map) (p : Prefix) (offers same : List Offer) → done ++ routes_of ahead ≡ routes_of m → ahead ≡ (p, offers) ∷ rest → same ≡ offers → more ≡ done ++ map (route_by p) same → more ++ routes_of rest ≡ routes_of m
+walked done more ahead rest m p offers same before first is appended =
     ap (λ l. l ++ routes_of rest) appended ∙ append_assoc done (map (route_by p) same) (routes_of rest)
     ∙ ap (λ o. done ++ (map (route_by p) o ++ routes_of rest)) is ∙ ap (λ n. done ++ routes_of n) (sym first) ∙ before
 

@@ -1,6 +1,6 @@
 use Rattle.std.proofs.Common.{sym}
 use Rattle.rt_rib.specs.Offers.{is_from}
-use Rattle.rt_rib.proofs.OfferLists.{position-none, position-some, IsRising-remove, left_is}
+use Rattle.rt_rib.proofs.OfferLists.{position-none, position-some, IsRanked-remove, remove_is_without}
 use Rattle.rt_rib.proofs.offers.take_among.Goals as goal
 
 pub returns-in_default-clause-had : goal.returns-in_default-clause-had
@@ -11,16 +11,16 @@ returns-in_default-clause-had g c =
 pub returns-clause-had : goal.returns-clause-had
 returns-clause-had g c =
     let found = rw c.deref.ensures.value at c.in-Some.ensures in
-    let at = position-some (is_from c.args.feed) c.args.offers.now.items c.in-Some.place (sym found) in
+    let at = position-some (is_from c.args.feed) c.args.offers.now.items c.in-Some.index (sym found) in
     sym at.1
 
-pub returns-clause-left : goal.returns-clause-left
-returns-clause-left g c =
+pub returns-clause-others : goal.returns-clause-others
+returns-clause-others g c =
     let found = rw c.deref.ensures.value at c.in-Some.ensures in
-    λ true. rw c.remove.ensures.items (left_is c.args.feed c.args.offers.now.items c.requires c.in-Some.place (sym found))
+    λ true. rw c.remove.ensures.items (remove_is_without c.args.feed c.args.offers.now.items c.requires c.in-Some.index (sym found))
 
-pub returns-clause-rising : goal.returns-clause-rising
-returns-clause-rising g c =
+pub returns-clause-ranked : goal.returns-clause-ranked
+returns-clause-ranked g c =
     let found = rw c.deref.ensures.value at c.in-Some.ensures in
-    let at = position-some (is_from c.args.feed) c.args.offers.now.items c.in-Some.place (sym found) in
-    rw c.remove.ensures.items (IsRising-remove c.args.offers.now.items c.in-Some.place c.requires at.0)
+    let at = position-some (is_from c.args.feed) c.args.offers.now.items c.in-Some.index (sym found) in
+    rw c.remove.ensures.items (IsRanked-remove c.args.offers.now.items c.in-Some.index c.requires at.0)

@@ -16,7 +16,7 @@ pub returns-clause-lawful : goal.returns-clause-lawful
 returns-clause-lawful g c = c.journal.ensures
 
 pub returns-clause-table : goal.returns-clause-table
-returns-clause-table g c = λ levels world run. c.left_by_entry.ensures.table g.row.LIMIT (journal_of world.content)
+returns-clause-table g c = λ levels world run. c.table_by_entry.ensures.table g.row.LIMIT (journal_of world.content)
 
 pub returns-clause-best : goal.returns-clause-best
-returns-clause-best g c = λ levels world run. finds_best c.look_up_finds_best.ensures c.left_by_entry.ensures g.row.LIMIT (journal_of world.content) (c.journal.ensures levels world run)
+returns-clause-best g c = λ levels world run. finds_best c.look_up_finds_best.ensures c.table_by_entry.ensures g.row.LIMIT (journal_of world.content) (c.journal.ensures levels world run)

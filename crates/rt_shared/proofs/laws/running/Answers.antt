@@ -6,12 +6,12 @@ returns g c = λ s holds.
     record {
       exclusion = lock.exclusion;
       at_rest = λ pass none.
-          let home = lock.value.1 pass.0 pass.1 pass.2.0 pass.2.1.0 pass.2.1.1 none in
+          let slot = lock.value.1 pass.0 pass.1 pass.2.0 pass.2.1.0 pass.2.1.1 none in
           record {
-            lent = home.0;
-            home = home.1;
-            holds = home.0.holds;
-            lawful = home.0.lawful;
-            since = λ seat place seen away. ((lock.fresh seat place seen home.0 away).0 home.1).since;
+            lent = slot.0;
+            in_slot = slot.1;
+            holds = slot.0.holds;
+            lawful = slot.0.lawful;
+            since = λ seat place seen away. ((lock.fresh seat place seen slot.0 away).0 slot.1).since;
           };
     }

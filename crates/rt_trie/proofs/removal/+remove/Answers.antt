@@ -1,25 +1,25 @@
 use Rattle.std.proofs.Common.{◌≡◌, ◌+◌, refl, sym, ap, ◌∙◌, inl, inr}
 use Rattle.std.specs.Box.{with_value}
 use Rattle.rt_trie.specs.declared.nodes.Link.{Link}
-use Rattle.rt_trie.specs.declared.nodes.Place.TheVariants.{Left, Right}
+use Rattle.rt_trie.specs.declared.nodes.Position.TheVariants.{Left, Right}
 use Rattle.rt_trie.specs.inside.Links.{count}
 use Rattle.rt_trie.proofs.RemoveLemmas.{IsHalfway, halfway_left, halfway_right, halfway_full_here, erased_of, erased_same, erased_leaf, fork_none, full_none}
 use Rattle.rt_trie.proofs.LinkLemmas.{key_short, key_of_fork, key_of_full, of_fork, of_full, view_fork, view_full, get_left, get_right, get_own}
 use Rattle.rt_trie.proofs.removal.+remove.Goals as goal
-use Rattle.rt_trie.proofs.removal.+remove.Goals.{in-Fork+in-Left, in-Fork+in-Right, in-Full+in-Here-place_of, in-Full+in-Left-place_of, in-Full+in-Right-place_of}
+use Rattle.rt_trie.proofs.removal.+remove.Goals.{in-Fork+in-Left, in-Fork+in-Right, in-Full+in-Here-position_of, in-Full+in-Left-position_of, in-Full+in-Right-position_of}
 
 pub is_leaf_of-requires : goal.is_leaf_of-requires
 is_leaf_of-requires g t c = rw c.in-Leaf.is (c.in-Leaf.field-2.value.prefix, refl)
 
-pub pluck-requires-clause-leaf : goal.pluck-requires-clause-leaf
-pluck-requires-clause-leaf g t c = (c.args.p, c.is_leaf_of.ensures.here c.if-is_leaf_of.true)
+pub remove_leaf-requires-clause-leaf : goal.remove_leaf-requires-clause-leaf
+remove_leaf-requires-clause-leaf g t c = (c.args.p, c.is_leaf_of.ensures.here c.if-is_leaf_of.true)
 
 pub returns-then-is_leaf_of-clause-value : goal.returns-then-is_leaf_of-clause-value
-returns-then-is_leaf_of-clause-value g t c = sym (c.pluck.ensures.value c.args.p (c.is_leaf_of.ensures.here c.if-is_leaf_of.true))
+returns-then-is_leaf_of-clause-value g t c = sym (c.remove_leaf.ensures.value c.args.p (c.is_leaf_of.ensures.here c.if-is_leaf_of.true))
 
 pub returns-then-is_leaf_of-clause-erased : goal.returns-then-is_leaf_of-clause-erased
 returns-then-is_leaf_of-clause-erased g t c =
-    erased_leaf c.args.link.now _ c.args.p (c.is_leaf_of.ensures.here c.if-is_leaf_of.true) c.pluck.ensures.empty
+    erased_leaf c.args.link.now _ c.args.p (c.is_leaf_of.ensures.here c.if-is_leaf_of.true) c.remove_leaf.ensures.empty
 
 pub returns-else-is_leaf_of-clause-value : goal.returns-else-is_leaf_of-clause-value
 returns-else-is_leaf_of-clause-value g t c = sym (c.is_leaf_of.ensures.other c.if-is_leaf_of.false)
@@ -32,13 +32,13 @@ pub returns-in-Here : goal.returns-in-Here
 returns-in-Here g t c =
     let old = c.args.link.now in
     let p = c.args.p in
-    let not_left : c.place_of.result ≡ Left → ⊥ =
+    let not_left : c.position_of.result ≡ Left → ⊥ =
     λ e. elim c.in-Here.is [ inl h ↦ cc | inr h ↦ elim h [ inl k ↦ cc | inr k ↦ cc ] ] in
-    let not_right : c.place_of.result ≡ Right → ⊥ =
+    let not_right : c.position_of.result ≡ Right → ⊥ =
     λ e. elim c.in-Here.is [ inl h ↦ cc | inr h ↦ elim h [ inl k ↦ cc | inr k ↦ cc ] ] in
     let q = c.in-Fork.fork.value.prefix in
-    let place = c.place_of.ensures q (key_of_fork c.in-Fork.fork c.in-Fork.fork.value old c.in-Fork.is refl c.requires.lawful.0) in
-    let none = fork_none c.in-Fork.fork c.in-Fork.fork.value old p c.place_of.result c.in-Fork.is refl c.requires.lawful place not_left not_right in
+    let position = c.position_of.ensures q (key_of_fork c.in-Fork.fork c.in-Fork.fork.value old c.in-Fork.is refl c.requires.lawful.0) in
+    let none = fork_none c.in-Fork.fork c.in-Fork.fork.value old p c.position_of.result c.in-Fork.is refl c.requires.lawful position not_left not_right in
     record {
       erased = erased_same old _ p c.requires.lawful none c.in-Fork.is;
       value = sym none;
@@ -51,7 +51,7 @@ returns-in-Above-clause-value g t c =
     let p = c.args.p in
     let key = key_of_full c.in-Full.full c.in-Full.full.value old c.in-Full.is refl c.requires.lawful.0 in
     sym (full_none c.in-Full.full c.in-Full.full.value old p _ c.in-Full.is refl c.requires.lawful
-    (c.place_of-in-Full.ensures c.in-Full.full.value.prefix key) c.in-Above.is)
+    (c.position_of-in-Full.ensures c.in-Full.full.value.prefix key) c.in-Above.is)
 
 pub returns-in-Above-clause-erased : goal.returns-in-Above-clause-erased
 returns-in-Above-clause-erased g t c =
@@ -60,7 +60,7 @@ returns-in-Above-clause-erased g t c =
     let key = key_of_full c.in-Full.full c.in-Full.full.value old c.in-Full.is refl c.requires.lawful.0 in
     erased_same old _ p c.requires.lawful
     (full_none c.in-Full.full c.in-Full.full.value old p _ c.in-Full.is refl c.requires.lawful
-    (c.place_of-in-Full.ensures c.in-Full.full.value.prefix key) c.in-Above.is) c.in-Full.is
+    (c.position_of-in-Full.ensures c.in-Full.full.value.prefix key) c.in-Above.is) c.in-Full.is
 
 pub splice-requires-clause-lawful : goal.splice-requires-clause-lawful
 splice-requires-clause-lawful g t c =
@@ -69,28 +69,28 @@ splice-requires-clause-lawful g t c =
     elim c.match-link.branch [
       | in-Fork+in-Left w ↦
           let m = w.deref_mut.result.now in
-          let place = w.in-Left.ensures m.prefix (key_of_fork w.in-Fork.fork m old w.in-Fork.is w.deref_mut.ensures.value c.requires.lawful.0) in
+          let position = w.in-Left.ensures m.prefix (key_of_fork w.in-Fork.fork m old w.in-Fork.is w.deref_mut.ensures.value c.requires.lawful.0) in
           rw w.link-is (IsHalfway.below (halfway_left old m.prefix _ m.left m.right w.remove.new.link _ p
-          (view_fork w.in-Fork.fork m old w.in-Fork.is w.deref_mut.ensures.value c.requires.lawful.0) place w.remove.ensures.erased))
+          (view_fork w.in-Fork.fork m old w.in-Fork.is w.deref_mut.ensures.value c.requires.lawful.0) position w.remove.ensures.erased))
       | in-Fork+in-Right w ↦
           let m = w.deref_mut-in-Right.result.now in
-          let place = w.in-Right.ensures m.prefix (key_of_fork w.in-Fork.fork m old w.in-Fork.is w.deref_mut-in-Right.ensures.value c.requires.lawful.0) in
+          let position = w.in-Right.ensures m.prefix (key_of_fork w.in-Fork.fork m old w.in-Fork.is w.deref_mut-in-Right.ensures.value c.requires.lawful.0) in
           rw w.link-is (IsHalfway.below (halfway_right old m.prefix _ m.left m.right w.remove-in-Right.new.link _ p
-          (view_fork w.in-Fork.fork m old w.in-Fork.is w.deref_mut-in-Right.ensures.value c.requires.lawful.0) place w.remove-in-Right.ensures.erased))
-      | in-Full+in-Left-place_of w ↦
-          let m = w.deref_mut-in-Left-place_of.result.now in
-          let place = w.in-Left-place_of.ensures m.prefix (key_of_full w.in-Full.full m old w.in-Full.is w.deref_mut-in-Left-place_of.ensures.value c.requires.lawful.0) in
-          rw w.link-is (IsHalfway.below (halfway_left old m.prefix _ m.left m.right w.remove-in-Left-place_of.new.link _ p
-          (view_full w.in-Full.full m old w.in-Full.is w.deref_mut-in-Left-place_of.ensures.value c.requires.lawful.0) place w.remove-in-Left-place_of.ensures.erased))
-      | in-Full+in-Right-place_of w ↦
-          let m = w.deref_mut-in-Right-place_of.result.now in
-          let place = w.in-Right-place_of.ensures m.prefix (key_of_full w.in-Full.full m old w.in-Full.is w.deref_mut-in-Right-place_of.ensures.value c.requires.lawful.0) in
-          rw w.link-is (IsHalfway.below (halfway_right old m.prefix _ m.left m.right w.remove-in-Right-place_of.new.link _ p
-          (view_full w.in-Full.full m old w.in-Full.is w.deref_mut-in-Right-place_of.ensures.value c.requires.lawful.0) place w.remove-in-Right-place_of.ensures.erased))
-      | in-Full+in-Here-place_of w ↦
-          let m = w.deref_mut-in-Here-place_of.result.now in
-          let place = w.in-Here-place_of.ensures m.prefix (key_of_full w.in-Full.full m old w.in-Full.is w.deref_mut-in-Here-place_of.ensures.value c.requires.lawful.0) in
-          rw w.link-is (IsHalfway.below (halfway_full_here w.in-Full.full m old p w.in-Full.is w.deref_mut-in-Here-place_of.ensures.value c.requires.lawful place
+          (view_fork w.in-Fork.fork m old w.in-Fork.is w.deref_mut-in-Right.ensures.value c.requires.lawful.0) position w.remove-in-Right.ensures.erased))
+      | in-Full+in-Left-position_of w ↦
+          let m = w.deref_mut-in-Left-position_of.result.now in
+          let position = w.in-Left-position_of.ensures m.prefix (key_of_full w.in-Full.full m old w.in-Full.is w.deref_mut-in-Left-position_of.ensures.value c.requires.lawful.0) in
+          rw w.link-is (IsHalfway.below (halfway_left old m.prefix _ m.left m.right w.remove-in-Left-position_of.new.link _ p
+          (view_full w.in-Full.full m old w.in-Full.is w.deref_mut-in-Left-position_of.ensures.value c.requires.lawful.0) position w.remove-in-Left-position_of.ensures.erased))
+      | in-Full+in-Right-position_of w ↦
+          let m = w.deref_mut-in-Right-position_of.result.now in
+          let position = w.in-Right-position_of.ensures m.prefix (key_of_full w.in-Full.full m old w.in-Full.is w.deref_mut-in-Right-position_of.ensures.value c.requires.lawful.0) in
+          rw w.link-is (IsHalfway.below (halfway_right old m.prefix _ m.left m.right w.remove-in-Right-position_of.new.link _ p
+          (view_full w.in-Full.full m old w.in-Full.is w.deref_mut-in-Right-position_of.ensures.value c.requires.lawful.0) position w.remove-in-Right-position_of.ensures.erased))
+      | in-Full+in-Here-position_of w ↦
+          let m = w.deref_mut-in-Here-position_of.result.now in
+          let position = w.in-Here-position_of.ensures m.prefix (key_of_full w.in-Full.full m old w.in-Full.is w.deref_mut-in-Here-position_of.ensures.value c.requires.lawful.0) in
+          rw w.link-is (IsHalfway.below (halfway_full_here w.in-Full.full m old p w.in-Full.is w.deref_mut-in-Here-position_of.ensures.value c.requires.lawful position
           (with_value w.in-Full.full (record { prefix = m.prefix; value = w.take.new.self; left = m.left; right = m.right }))
           refl w.take.ensures.after refl refl))
     ]
@@ -103,28 +103,28 @@ returns-clause-erased g t c =
     elim c.match-link.branch [
       | in-Fork+in-Left w ↦
           let m = w.deref_mut.result.now in
-          let place = w.in-Left.ensures m.prefix (key_of_fork w.in-Fork.fork m old w.in-Fork.is w.deref_mut.ensures.value c.requires.lawful.0) in
+          let position = w.in-Left.ensures m.prefix (key_of_fork w.in-Fork.fork m old w.in-Fork.is w.deref_mut.ensures.value c.requires.lawful.0) in
           rw w.link-is (halfway_left old m.prefix _ m.left m.right w.remove.new.link _ p
-          (view_fork w.in-Fork.fork m old w.in-Fork.is w.deref_mut.ensures.value c.requires.lawful.0) place w.remove.ensures.erased)
+          (view_fork w.in-Fork.fork m old w.in-Fork.is w.deref_mut.ensures.value c.requires.lawful.0) position w.remove.ensures.erased)
       | in-Fork+in-Right w ↦
           let m = w.deref_mut-in-Right.result.now in
-          let place = w.in-Right.ensures m.prefix (key_of_fork w.in-Fork.fork m old w.in-Fork.is w.deref_mut-in-Right.ensures.value c.requires.lawful.0) in
+          let position = w.in-Right.ensures m.prefix (key_of_fork w.in-Fork.fork m old w.in-Fork.is w.deref_mut-in-Right.ensures.value c.requires.lawful.0) in
           rw w.link-is (halfway_right old m.prefix _ m.left m.right w.remove-in-Right.new.link _ p
-          (view_fork w.in-Fork.fork m old w.in-Fork.is w.deref_mut-in-Right.ensures.value c.requires.lawful.0) place w.remove-in-Right.ensures.erased)
-      | in-Full+in-Left-place_of w ↦
-          let m = w.deref_mut-in-Left-place_of.result.now in
-          let place = w.in-Left-place_of.ensures m.prefix (key_of_full w.in-Full.full m old w.in-Full.is w.deref_mut-in-Left-place_of.ensures.value c.requires.lawful.0) in
-          rw w.link-is (halfway_left old m.prefix _ m.left m.right w.remove-in-Left-place_of.new.link _ p
-          (view_full w.in-Full.full m old w.in-Full.is w.deref_mut-in-Left-place_of.ensures.value c.requires.lawful.0) place w.remove-in-Left-place_of.ensures.erased)
-      | in-Full+in-Right-place_of w ↦
-          let m = w.deref_mut-in-Right-place_of.result.now in
-          let place = w.in-Right-place_of.ensures m.prefix (key_of_full w.in-Full.full m old w.in-Full.is w.deref_mut-in-Right-place_of.ensures.value c.requires.lawful.0) in
-          rw w.link-is (halfway_right old m.prefix _ m.left m.right w.remove-in-Right-place_of.new.link _ p
-          (view_full w.in-Full.full m old w.in-Full.is w.deref_mut-in-Right-place_of.ensures.value c.requires.lawful.0) place w.remove-in-Right-place_of.ensures.erased)
-      | in-Full+in-Here-place_of w ↦
-          let m = w.deref_mut-in-Here-place_of.result.now in
-          let place = w.in-Here-place_of.ensures m.prefix (key_of_full w.in-Full.full m old w.in-Full.is w.deref_mut-in-Here-place_of.ensures.value c.requires.lawful.0) in
-          rw w.link-is (halfway_full_here w.in-Full.full m old p w.in-Full.is w.deref_mut-in-Here-place_of.ensures.value c.requires.lawful place
+          (view_fork w.in-Fork.fork m old w.in-Fork.is w.deref_mut-in-Right.ensures.value c.requires.lawful.0) position w.remove-in-Right.ensures.erased)
+      | in-Full+in-Left-position_of w ↦
+          let m = w.deref_mut-in-Left-position_of.result.now in
+          let position = w.in-Left-position_of.ensures m.prefix (key_of_full w.in-Full.full m old w.in-Full.is w.deref_mut-in-Left-position_of.ensures.value c.requires.lawful.0) in
+          rw w.link-is (halfway_left old m.prefix _ m.left m.right w.remove-in-Left-position_of.new.link _ p
+          (view_full w.in-Full.full m old w.in-Full.is w.deref_mut-in-Left-position_of.ensures.value c.requires.lawful.0) position w.remove-in-Left-position_of.ensures.erased)
+      | in-Full+in-Right-position_of w ↦
+          let m = w.deref_mut-in-Right-position_of.result.now in
+          let position = w.in-Right-position_of.ensures m.prefix (key_of_full w.in-Full.full m old w.in-Full.is w.deref_mut-in-Right-position_of.ensures.value c.requires.lawful.0) in
+          rw w.link-is (halfway_right old m.prefix _ m.left m.right w.remove-in-Right-position_of.new.link _ p
+          (view_full w.in-Full.full m old w.in-Full.is w.deref_mut-in-Right-position_of.ensures.value c.requires.lawful.0) position w.remove-in-Right-position_of.ensures.erased)
+      | in-Full+in-Here-position_of w ↦
+          let m = w.deref_mut-in-Here-position_of.result.now in
+          let position = w.in-Here-position_of.ensures m.prefix (key_of_full w.in-Full.full m old w.in-Full.is w.deref_mut-in-Here-position_of.ensures.value c.requires.lawful.0) in
+          rw w.link-is (halfway_full_here w.in-Full.full m old p w.in-Full.is w.deref_mut-in-Here-position_of.ensures.value c.requires.lawful position
           (with_value w.in-Full.full (record { prefix = m.prefix; value = w.take.new.self; left = m.left; right = m.right }))
           refl w.take.ensures.after refl refl)
     ] in
@@ -137,37 +137,37 @@ returns-clause-value g t c =
     elim c.match-link.branch [
       | in-Fork+in-Left w ↦
           let m = w.deref_mut.result.now in
-          let place = w.in-Left.ensures m.prefix (key_of_fork w.in-Fork.fork m old w.in-Fork.is w.deref_mut.ensures.value c.requires.lawful.0) in
+          let position = w.in-Left.ensures m.prefix (key_of_fork w.in-Fork.fork m old w.in-Fork.is w.deref_mut.ensures.value c.requires.lawful.0) in
           w.gone-is ∙ w.remove.ensures.value
-          ∙ sym (get_left old m.prefix _ m.left m.right (of_fork w.in-Fork.fork m old w.in-Fork.is w.deref_mut.ensures.value c.requires.lawful.0) p place)
+          ∙ sym (get_left old m.prefix _ m.left m.right (of_fork w.in-Fork.fork m old w.in-Fork.is w.deref_mut.ensures.value c.requires.lawful.0) p position)
       | in-Fork+in-Right w ↦
           let m = w.deref_mut-in-Right.result.now in
-          let place = w.in-Right.ensures m.prefix (key_of_fork w.in-Fork.fork m old w.in-Fork.is w.deref_mut-in-Right.ensures.value c.requires.lawful.0) in
+          let position = w.in-Right.ensures m.prefix (key_of_fork w.in-Fork.fork m old w.in-Fork.is w.deref_mut-in-Right.ensures.value c.requires.lawful.0) in
           w.gone-is ∙ w.remove-in-Right.ensures.value
-          ∙ sym (get_right old m.prefix _ m.left m.right (of_fork w.in-Fork.fork m old w.in-Fork.is w.deref_mut-in-Right.ensures.value c.requires.lawful.0) p place)
-      | in-Full+in-Left-place_of w ↦
-          let m = w.deref_mut-in-Left-place_of.result.now in
-          let place = w.in-Left-place_of.ensures m.prefix (key_of_full w.in-Full.full m old w.in-Full.is w.deref_mut-in-Left-place_of.ensures.value c.requires.lawful.0) in
-          w.gone-is ∙ w.remove-in-Left-place_of.ensures.value
-          ∙ sym (get_left old m.prefix _ m.left m.right (of_full w.in-Full.full m old w.in-Full.is w.deref_mut-in-Left-place_of.ensures.value c.requires.lawful.0) p place)
-      | in-Full+in-Right-place_of w ↦
-          let m = w.deref_mut-in-Right-place_of.result.now in
-          let place = w.in-Right-place_of.ensures m.prefix (key_of_full w.in-Full.full m old w.in-Full.is w.deref_mut-in-Right-place_of.ensures.value c.requires.lawful.0) in
-          w.gone-is ∙ w.remove-in-Right-place_of.ensures.value
-          ∙ sym (get_right old m.prefix _ m.left m.right (of_full w.in-Full.full m old w.in-Full.is w.deref_mut-in-Right-place_of.ensures.value c.requires.lawful.0) p place)
-      | in-Full+in-Here-place_of w ↦
-          let m = w.deref_mut-in-Here-place_of.result.now in
-          let place = w.in-Here-place_of.ensures m.prefix (key_of_full w.in-Full.full m old w.in-Full.is w.deref_mut-in-Here-place_of.ensures.value c.requires.lawful.0) in
+          ∙ sym (get_right old m.prefix _ m.left m.right (of_fork w.in-Fork.fork m old w.in-Fork.is w.deref_mut-in-Right.ensures.value c.requires.lawful.0) p position)
+      | in-Full+in-Left-position_of w ↦
+          let m = w.deref_mut-in-Left-position_of.result.now in
+          let position = w.in-Left-position_of.ensures m.prefix (key_of_full w.in-Full.full m old w.in-Full.is w.deref_mut-in-Left-position_of.ensures.value c.requires.lawful.0) in
+          w.gone-is ∙ w.remove-in-Left-position_of.ensures.value
+          ∙ sym (get_left old m.prefix _ m.left m.right (of_full w.in-Full.full m old w.in-Full.is w.deref_mut-in-Left-position_of.ensures.value c.requires.lawful.0) p position)
+      | in-Full+in-Right-position_of w ↦
+          let m = w.deref_mut-in-Right-position_of.result.now in
+          let position = w.in-Right-position_of.ensures m.prefix (key_of_full w.in-Full.full m old w.in-Full.is w.deref_mut-in-Right-position_of.ensures.value c.requires.lawful.0) in
+          w.gone-is ∙ w.remove-in-Right-position_of.ensures.value
+          ∙ sym (get_right old m.prefix _ m.left m.right (of_full w.in-Full.full m old w.in-Full.is w.deref_mut-in-Right-position_of.ensures.value c.requires.lawful.0) p position)
+      | in-Full+in-Here-position_of w ↦
+          let m = w.deref_mut-in-Here-position_of.result.now in
+          let position = w.in-Here-position_of.ensures m.prefix (key_of_full w.in-Full.full m old w.in-Full.is w.deref_mut-in-Here-position_of.ensures.value c.requires.lawful.0) in
           w.gone-is ∙ w.take.ensures.value
-          ∙ sym (get_own old m.prefix _ m.left m.right (of_full w.in-Full.full m old w.in-Full.is w.deref_mut-in-Here-place_of.ensures.value c.requires.lawful.0) p place)
+          ∙ sym (get_own old m.prefix _ m.left m.right (of_full w.in-Full.full m old w.in-Full.is w.deref_mut-in-Here-position_of.ensures.value c.requires.lawful.0) p position)
     ]
 
-pub place_of-requires : goal.place_of-requires
-place_of-requires g t c =
+pub position_of-requires : goal.position_of-requires
+position_of-requires g t c =
     let b = c.in-Fork.fork in
     key_short b.value.prefix (key_of_fork b b.value c.args.link.now c.in-Fork.is refl c.requires.lawful.0)
 
-pub place_of-requires-in-Full : goal.place_of-requires-in-Full
-place_of-requires-in-Full g t c =
+pub position_of-requires-in-Full : goal.position_of-requires-in-Full
+position_of-requires-in-Full g t c =
     let b = c.in-Full.full in
     key_short b.value.prefix (key_of_full b b.value c.args.link.now c.in-Full.is refl c.requires.lawful.0)

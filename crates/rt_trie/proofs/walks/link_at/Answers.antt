@@ -2,4 +2,4 @@ use Rattle.rt_trie.proofs.WalkLemmas.{link_at-read}
 use Rattle.rt_trie.proofs.walks.link_at.Goals as goal
 
 pub returns : goal.returns
-returns g c = link_at-read c.args.aside.now c.args.k c.index-aside-k.result c.requires c.index-aside-k.is
+returns g c = link_at-read c.args.stack.now c.args.k c.index-stack-k.result c.requires c.index-stack-k.is

@@ -1,6 +1,6 @@
 use Rattle.std.proofs.Common.{sym, subst, arith}
 use Rattle.ya_core.specs.declared.word.Access.TheVariants.{Load, Store}
-use Rattle.ya_core.specs.Walks.{AccessIsWithin}
+use Rattle.ya_core.specs.WalkerModel.{AccessIsWithin}
 use Rattle.ya_core.proofs.NamedWords.{words_of-number, words_of-set}
 use Rattle.ya_core.proofs.machine.perform.Goals as goal
 

@@ -1,5 +1,5 @@
-use Rattle.ya_lock.proofs.Meanings.{shows_core, some_seat_goes_on, one_seat, one_inside, lies_home, is_fresh}
-use Rattle.ya_lock.proofs.Meanings.{made_by_one}
+use Rattle.ya_lock.proofs.RuleMeaning.{shows_core, some_seat_goes_on, one_seat, one_inside, in_slot, is_fresh}
+use Rattle.ya_lock.proofs.RuleMeaning.{made_by_one}
 use Rattle.ya_lock.proofs.laws.rule.Goals as goal
 
 pub returns : goal.returns
@@ -8,7 +8,7 @@ returns g c = λ s r. record {
   progress = some_seat_goes_on g.V.Kept.since g.row.L c.requires s r;
   places = one_seat g.V.Kept.since g.row.L s r;
   exclusion = one_inside g.V.Kept.since g.row.L c.requires s r;
-  value = lies_home g.V.Kept.since g.row.L s r;
+  value = in_slot g.V.Kept.since g.row.L s r;
   fresh = is_fresh g.V.Kept.since g.row.L s r;
   making = made_by_one g.V.Kept.since g.row.L s r;
 }

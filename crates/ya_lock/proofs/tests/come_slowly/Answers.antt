@@ -1,5 +1,5 @@
 use Rattle.std.proofs.Common.{sym, ◌∙◌}
-use Rattle.ya_lock.proofs.Heights.{place_below}
+use Rattle.ya_lock.proofs.TreeSize.{place_below}
 use Rattle.ya_lock.proofs.tests.come_slowly.Goals as goal
 
 pub new-walker-requires : goal.new-walker-requires

@@ -1,7 +1,7 @@
 use Rattle.std.proofs.Common.{◌≡◌, ◌++◌, [], take, drop, length, sym, ap, subst, ◌∙◌, arith, append-nil}
 use Rattle.std.proofs.lemmas.List.{drop_all, take_all}
-use Rattle.rt_feed.specs.Reports.{IsRising}
-use Rattle.rt_feed.proofs.Filling.{rising-refilled, length-refilled}
+use Rattle.rt_feed.specs.Reports.{NumbersRise}
+use Rattle.rt_feed.proofs.Filling.{numbers_rise-refilled, length-refilled}
 use Rattle.rt_feed.proofs.report.Report.fill.Goals as goal
 
 pub invariant_of-self : goal.invariant_of-self
@@ -13,4 +13,4 @@ invariant_of-self c =
     let none : drop (length now) items ≡ [] = drop_all (length now) items (omega (arith, kept)) in
     let all : take c.self.inside.lines.len (now ++ drop (length now) items) ≡ now =
     rw (none, append-nil, c.self.inside.lines.ok.0, ← kept) (take_all (length now) now (omega arith)) in
-    subst IsRising (sym all) (rising-refilled c.args.first c.deref_mut.result.now now c.args.outcomes.now (subst IsRising (sym value) c.self.invariant) c.fill_lines.ensures)
+    subst NumbersRise (sym all) (numbers_rise-refilled c.args.first c.deref_mut.result.now now c.args.outcomes.now (subst NumbersRise (sym value) c.self.invariant) c.fill_lines.ensures)

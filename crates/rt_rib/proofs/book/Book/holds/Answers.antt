@@ -1,5 +1,5 @@
-use Rattle.rt_rib.proofs.Kept.{holds_left}
+use Rattle.rt_rib.proofs.TableChanges.{holds_table}
 use Rattle.rt_rib.proofs.book.Book.holds.Goals as goal
 
 pub returns : goal.returns
-returns g c = rw (← c.self.view_is) (holds_left c.self.inside.table c.self.inside.journal.items c.holds.ensures c.self.invariant)
+returns g c = rw (← c.self.view_is) (holds_table c.self.inside.table c.self.inside.journal.items c.holds.ensures c.self.invariant)

@@ -6,5 +6,5 @@ use Rattle.rt_rib.proofs.offers.Offers.has.Goals as goal
 
 pub returns : goal.returns
 returns g c =
-    let place = rw c.as_slice.ensures.offers at c.place_of.ensures in
-    c.is_some.ensures ∙ ap is_some place ∙ position-is_some (is_from c.args.feed) c.args.self.now
+    let index = rw c.as_slice.ensures.offers at c.offer_index.ensures in
+    c.is_some.ensures ∙ ap is_some index ∙ position-is_some (is_from c.args.feed) c.args.self.now

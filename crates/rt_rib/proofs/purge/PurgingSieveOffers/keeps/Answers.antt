@@ -9,11 +9,11 @@ returns-in-Missing g c = offers_missing c.args.self.now c.args.offers.now c.take
 pub returns-in-Gone : goal.returns-in-Gone
 returns-in-Gone g c =
     let s = c.args.self.now in
-    let next : Purging = record { feed = s.feed; left = s.left - 1 } in
-    offers_gone s next c.args.offers.now c.take_out.new.self refl (one_less s.left c.requires) c.in-Gone.ensures.taken c.in-Gone.ensures.lawful
+    let next : Purging = record { feed = s.feed; remaining = s.remaining - 1 } in
+    offers_gone s next c.args.offers.now c.take_out.new.self refl (one_less s.remaining c.requires) c.in-Gone.ensures.taken c.in-Gone.ensures.lawful
 
 pub returns-in-Last : goal.returns-in-Last
 returns-in-Last g c =
     let s = c.args.self.now in
-    let next : Purging = record { feed = s.feed; left = s.left - 1 } in
-    offers_last s next c.args.offers.now c.take_out.new.self refl (one_less s.left c.requires) c.in-Last.ensures.taken
+    let next : Purging = record { feed = s.feed; remaining = s.remaining - 1 } in
+    offers_last s next c.args.offers.now c.take_out.new.self refl (one_less s.remaining c.requires) c.in-Last.ensures.taken

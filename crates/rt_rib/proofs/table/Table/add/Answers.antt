@@ -1,10 +1,10 @@
 use Rattle.std.proofs.Common.{sym, ap, ◌∙◌}
 use Rattle.rt_rib.specs.Book.{OfferTrie}
-use Rattle.rt_rib.specs.inside.Kept.{Stored}
+use Rattle.rt_rib.specs.inside.TableState.{StoredTable}
 use Rattle.rt_rib.specs.Maps.{routes_of}
 use Rattle.rt_rib.proofs.Counts.{AreCounts-own}
-use Rattle.rt_rib.proofs.Kept.{kept_counted, kept_serves, added_counted, added_serves}
-use Rattle.rt_rib.proofs.Steps.{exists, full}
+use Rattle.rt_rib.proofs.TableChanges.{kept_counted, kept_serves, added_counted, added_serves}
+use Rattle.rt_rib.proofs.CommandCases.{exists, full}
 use Rattle.rt_rib.proofs.MapChanges.{err_from}
 use Rattle.rt_rib.proofs.table.Table.add.Goals as goal
 
@@ -29,7 +29,7 @@ invariant_of-self g c = kept_counted c.self.inside.limit c.self.inside.counts c.
 pub returns-in_err-put_in-clause-err : goal.returns-in_err-put_in-clause-err
 returns-in_err-put_in-clause-err g c =
     let limit = c.self.inside.limit in
-    let shown : OfferTrie → Stored = λ m. record { limit = limit; routes = routes_of m.pairs; trie = m } in
+    let shown : OfferTrie → StoredTable = λ m. record { limit = limit; routes = routes_of m.pairs; trie = m } in
     err_from c.from_residual.result (ap shown c.in_err-put_in.ensures.refused ∙ c.self.view_is)
 
 pub invariant_of-self-then-branch : goal.invariant_of-self-then-branch

@@ -1,5 +1,5 @@
 use Rattle.rt_rib.specs.Maps.{routes_of}
-use Rattle.rt_rib.proofs.Steps.{found, unfound, dumped}
+use Rattle.rt_rib.proofs.CommandCases.{found, unfound, dumped}
 use Rattle.rt_rib.proofs.table.Table.apply.Goals as goal
 use Rattle.rt_rib.proofs.table.Table.apply.Goals.{in-Some, in-None}
 

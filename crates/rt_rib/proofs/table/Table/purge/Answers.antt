@@ -1,5 +1,5 @@
 use Rattle.rt_rib.proofs.Counts.{AreCounts-own}
-use Rattle.rt_rib.proofs.Kept.{purged_counted, purged_serves}
+use Rattle.rt_rib.proofs.TableChanges.{purged_counted, purged_serves}
 use Rattle.rt_rib.specs.Maps.{routes_of}
 use Rattle.rt_rib.proofs.table.Table.purge.Goals as goal
 

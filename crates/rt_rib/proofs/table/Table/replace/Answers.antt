@@ -1,7 +1,7 @@
 use Rattle.std.proofs.Common.{refl, sym}
 use Rattle.rt_rib.specs.Maps.{routes_of}
-use Rattle.rt_rib.proofs.Kept.{kept_counted, kept_serves, replaced_counted}
-use Rattle.rt_rib.proofs.Steps.{unreplaced, replaced}
+use Rattle.rt_rib.proofs.TableChanges.{kept_counted, kept_serves, replaced_counted}
+use Rattle.rt_rib.proofs.CommandCases.{unreplaced, replaced}
 use Rattle.rt_rib.proofs.table.Table.replace.Goals as goal
 
 pub replace-requires : goal.replace-requires

@@ -1,7 +1,7 @@
 use Rattle.std.proofs.Common.{refl, sym, arith}
 use Rattle.rt_rib.specs.Maps.{routes_of}
-use Rattle.rt_rib.proofs.Kept.{kept_counted, kept_serves, withdrawn_counted, withdrawn_one}
-use Rattle.rt_rib.proofs.Steps.{unwithdrawn, withdrawn}
+use Rattle.rt_rib.proofs.TableChanges.{kept_counted, kept_serves, withdrawn_counted, withdrawn_one}
+use Rattle.rt_rib.proofs.CommandCases.{unwithdrawn, withdrawn}
 use Rattle.rt_rib.proofs.table.Table.withdraw.Goals as goal
 
 pub take_out-requires : goal.take_out-requires

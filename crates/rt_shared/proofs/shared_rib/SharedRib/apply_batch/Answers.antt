@@ -3,11 +3,11 @@ use Rattle.rt_rib.specs.declared.commands.Entry.{Entry}
 use Rattle.rt_rib.specs.Journal.{IsLawfulJournal}
 use Rattle.ya_lock.specs.Lock.{OpenGuard}
 use Rattle.rt_shared.specs.declared.lent.Lent.{Lent}
-use Rattle.rt_shared.specs.Lent.{feed_of}
+use Rattle.rt_shared.specs.LentChanges.{feed_of}
 use Rattle.rt_shared.specs.Visits.{AllBy, answered}
 use Rattle.rt_shared.specs.Table.{HeldPass}
-use Rattle.rt_shared.specs.inside.Pass.{IsThere}
-use Rattle.rt_shared.specs.inside.Keeping.{since_same}
+use Rattle.rt_shared.specs.inside.PassModel.{HoldsLockPass}
+use Rattle.rt_shared.specs.inside.LentLaws.{since_same}
 use Rattle.rt_shared.proofs.Answered.{all_answered, nothing_answered}
 use Rattle.rt_shared.proofs.Passes.{lock_of, seen_is_lawful, spaced}
 use Rattle.rt_shared.proofs.shared_rib.SharedRib.apply_batch.Goals as goal
@@ -24,7 +24,7 @@ returns-then-is_empty-clause-ok g c =
         found = c.args.pass.now.seen;
         since = since_same c.args.pass.now.feed c.args.pass.now.seen;
         each = sym empty;
-        left = sym (append-nil c.args.pass.now.seen) ∙ ap (λ (l : List Entry). c.args.pass.now.seen ++ l) (sym (nothing_answered c.args.pass.now.feed c.args.cmds.now));
+        added = sym (append-nil c.args.pass.now.seen) ∙ ap (λ (l : List Entry). c.args.pass.now.seen ++ l) (sym (nothing_answered c.args.pass.now.feed c.args.cmds.now));
         lawful = subst (λ (n : ℕ). IsLawfulJournal n c.args.pass.now.seen) (ap (λ t. t.limit) c.requires) lawful;
       };
     }
@@ -33,7 +33,7 @@ pub leave-requires : goal.leave-requires
 leave-requires g c =
     let s = c.serve_all.ensures in
     let is : c.pass.inside.pass ≡ Some c.in-Some.idle = cc in
-    let there : IsThere c.pass.inside.feed (Some c.in-Some.idle) = subst (IsThere c.pass.inside.feed) is c.pass.invariant in
+    let there : HoldsLockPass c.pass.inside.feed (Some c.in-Some.idle) = subst (HoldsLockPass c.pass.inside.feed) is c.pass.invariant in
     let feed : c.pass.inside.feed ≡ feed_of c.enter-guard.result.place = there.0 ∙ ap feed_of (sym (ap (λ (x : OpenGuard Lent). x.place) c.enter-guard.ensures.guard)) in
     let value : c.get_mut.result.now ≡ c.enter-guard.result.found = c.get_mut.ensures.value ∙ ap (λ (x : OpenGuard Lent). x.value) c.enter-guard.ensures.guard in
     let lock : c.enter-guard.result.lock ≡ c.self.inside.lock =
@@ -44,7 +44,7 @@ leave-requires g c =
         record {
           same = record { limit = s.same.limit ∙ ap (λ (l : Lent). l.book.limit) value; feeds = s.same.feeds ∙ ap (λ (l : Lent). l.feeds) value };
           own = answered c.pass.inside.feed c.args.cmds.now s.served.outcomes;
-          added = s.served.left ∙ ap (λ (l : Lent). l.book.journal ++ answered c.pass.inside.feed c.args.cmds.now s.served.outcomes) value;
+          added = s.served.added ∙ ap (λ (l : Lent). l.book.journal ++ answered c.pass.inside.feed c.args.cmds.now s.served.outcomes) value;
           by_feed = subst (λ (n : ℕ). AllBy n (answered c.pass.inside.feed c.args.cmds.now s.served.outcomes)) feed (all_answered c.pass.inside.feed c.args.cmds.now s.served.outcomes);
         },
       ),

@@ -1,6 +1,6 @@
 use Rattle.std.proofs.Common.{◌≡◌, ◌+◌, ◌<◌, ◌≤◌, ◌++◌, All, map, length, vec_len, vec_capacity}
 use Rattle.std.specs.Vec.Iter.{into_iter_items, into_iter_len}
-use Rattle.rt_shared.specs.inside.Pass.{of_feed}
+use Rattle.rt_shared.specs.inside.PassModel.{of_feed}
 use Rattle.rt_shared.proofs.shared_rib.SharedRib.new.Given as goal
 
 abbrev pub invariant-loop-pass : goal.invariant-loop-pass

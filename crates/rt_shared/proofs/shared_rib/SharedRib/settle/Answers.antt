@@ -4,8 +4,8 @@ use Rattle.rt_rib.specs.declared.commands.Entry.{Entry}
 use Rattle.std.proofs.lemmas.List.{nil_from_length}
 use Rattle.rt_rib.specs.Journal.{IsLawfulJournal}
 use Rattle.ya_lock.specs.Lock.{IdlePass, OpenGuard, guard_of}
-use Rattle.rt_shared.specs.Lent.{IsSameBut}
-use Rattle.rt_shared.specs.inside.Pass.{shared_id}
+use Rattle.rt_shared.specs.LentChanges.{HasSameBounds}
+use Rattle.rt_shared.specs.inside.PassModel.{shared_id}
 use Rattle.rt_shared.proofs.Passes.{all_amid, last_of, since_of, all_front, spaced}
 use Rattle.rt_shared.specs.declared.lent.Lent.{Lent}
 use Rattle.rt_shared.specs.Visits.{Since}
@@ -70,11 +70,11 @@ module _ (table : SharedId) (idle : IdlePass Lent) (entered guard : OpenGuard Le
   found_is = ap (λ (x : OpenGuard Lent). x.found) same ∙ (sym (ap (λ (x : OpenGuard Lent). x.value) is) ∙ (ap (λ (x : OpenGuard Lent). x.value) (sym same) ∙ sym closed))
 
   -- what it has found, in the table's numbers
-  limit_is : IsSameBut idle.seen entered.found → book.book.limit ≡ table.limit
+  limit_is : HasSameBounds idle.seen entered.found → book.book.limit ≡ table.limit
   limit_is kept = ap (λ (l : Lent). l.book.limit) (sym found_is ∙ ap (λ (x : OpenGuard Lent). x.found) same) ∙ (kept.limit ∙ ap (λ (t : SharedId). t.limit) of)
 
   -- and so of the feeds
-  feeds_is : IsSameBut idle.seen entered.found → book.feeds ≡ table.feeds
+  feeds_is : HasSameBounds idle.seen entered.found → book.feeds ≡ table.feeds
   feeds_is kept = ap (λ (l : Lent). l.feeds) (sym found_is ∙ ap (λ (x : OpenGuard Lent). x.found) same) ∙ (kept.feeds ∙ ap (λ (t : SharedId). t.feeds) of)
 
 pub returns-clause-limit : goal.returns-clause-limit

@@ -1,5 +1,5 @@
 use Rattle.std.proofs.Common.{refl, sym, ap, ◌∙◌}
-use Rattle.rt_trie.specs.Contents.{Contents}
+use Rattle.rt_trie.specs.TrieContents.{TrieContents}
 use Rattle.rt_trie.specs.Map.{get}
 use Rattle.rt_trie.proofs.DescentLemmas.{found_is, written_kept, lent}
 use Rattle.rt_trie.proofs.tries.Trie.get_mut.Goals as goal
@@ -20,6 +20,6 @@ returns g c =
       lent _ link c.args.p c.find.result _ refl h c.self.view_is c.find.follows,
       record {
         writes_back = tt;
-        value = c.find.follows ∙ found_is _ link c.args.p refl h ∙ ap (λ (t : Contents _). get t.pairs c.args.p) c.self.view_is;
+        value = c.find.follows ∙ found_is _ link c.args.p refl h ∙ ap (λ (t : TrieContents _). get t.pairs c.args.p) c.self.view_is;
       },
     )

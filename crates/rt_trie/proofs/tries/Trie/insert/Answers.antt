@@ -1,5 +1,5 @@
 use Rattle.std.proofs.Common.{Some, length, sym, subst, ap, ◌∙◌, arith}
-use Rattle.rt_trie.specs.Contents.{Contents}
+use Rattle.rt_trie.specs.TrieContents.{TrieContents}
 use Rattle.rt_trie.specs.Map.{get}
 use Rattle.rt_trie.specs.inside.Changes.{IsPut, Inserts}
 use Rattle.rt_trie.specs.inside.Links.{pairs}
@@ -52,7 +52,7 @@ invariant_of-self-else-is_none g c =
 pub returns-then-insert-clause-had : goal.returns-then-insert-clause-had
 returns-then-insert-clause-had g c =
     let i = subst (λ b. Inserts c.self.inside.root c.insert.new.link c.self.inside.nodes c.insert.new.pair.nodes c.args.p (Some c.args.v) c.insert.new.pair.value b) c.if-insert.true c.insert.ensures in
-    i.had_is ∙ ap (λ (x : Contents _). get x.pairs c.args.p) c.self.view_is
+    i.had_is ∙ ap (λ (x : TrieContents _). get x.pairs c.args.p) c.self.view_is
 
 pub returns-then-insert-clause-refused : goal.returns-then-insert-clause-refused
 returns-then-insert-clause-refused g c = tt

@@ -1,5 +1,5 @@
 use Rattle.std.proofs.Common.{length, sym, ap, ◌∙◌, arith}
-use Rattle.rt_trie.specs.Contents.{Contents}
+use Rattle.rt_trie.specs.TrieContents.{TrieContents}
 use Rattle.rt_trie.specs.Map.{get, erase}
 use Rattle.rt_trie.specs.inside.Links.{pairs}
 use Rattle.rt_trie.proofs.RemoveLemmas.{erase-absent}
@@ -41,14 +41,14 @@ invariant_of-self-else-is_some g c =
 
 pub returns-then-is_some-clause-erased : goal.returns-then-is_some-clause-erased
 returns-then-is_some-clause-erased g c =
-    c.remove-gone.ensures.erased.pairs_are ∙ ap (λ (x : Contents _). erase x.pairs c.args.p) c.self.view_is
+    c.remove-gone.ensures.erased.pairs_are ∙ ap (λ (x : TrieContents _). erase x.pairs c.args.p) c.self.view_is
 
 pub returns-then-is_some-clause-had : goal.returns-then-is_some-clause-had
-returns-then-is_some-clause-had g c = c.remove-gone.ensures.value ∙ ap (λ (x : Contents _). get x.pairs c.args.p) c.self.view_is
+returns-then-is_some-clause-had g c = c.remove-gone.ensures.value ∙ ap (λ (x : TrieContents _). get x.pairs c.args.p) c.self.view_is
 
 pub returns-else-is_some-clause-erased : goal.returns-else-is_some-clause-erased
 returns-else-is_some-clause-erased g c =
-    c.remove-gone.ensures.erased.pairs_are ∙ ap (λ (x : Contents _). erase x.pairs c.args.p) c.self.view_is
+    c.remove-gone.ensures.erased.pairs_are ∙ ap (λ (x : TrieContents _). erase x.pairs c.args.p) c.self.view_is
 
 pub returns-else-is_some-clause-had : goal.returns-else-is_some-clause-had
-returns-else-is_some-clause-had g c = c.remove-gone.ensures.value ∙ ap (λ (x : Contents _). get x.pairs c.args.p) c.self.view_is
+returns-else-is_some-clause-had g c = c.remove-gone.ensures.value ∙ ap (λ (x : TrieContents _). get x.pairs c.args.p) c.self.view_is

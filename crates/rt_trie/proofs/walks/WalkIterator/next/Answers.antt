@@ -8,14 +8,14 @@ pub loop-self-preserved-in-Vacant : goal.loop-self-preserved-in-Vacant
 loop-self-preserved-in-Vacant g c =
     let i = c.loop-self.invariant in
     let test = c.loop-self-test.true in
-    let s = empty_at c.loop-self.self-inside.aside c.loop-self.self-inside.len c.link_at.result.now i.aside (omega arith) c.link_at.ensures c.in-Vacant.ensures in
-    record { aside = s.0; same = s.1 ∙ i.same }
+    let s = empty_at c.loop-self.self-inside.stack c.loop-self.self-inside.len c.link_at.result.now i.stack (omega arith) c.link_at.ensures c.in-Vacant.ensures in
+    record { stack = s.0; same = s.1 ∙ i.same }
 
 pub loop-self-smaller-in-Vacant : goal.loop-self-smaller-in-Vacant
 loop-self-smaller-in-Vacant g c =
     let i = c.loop-self.invariant in
     let test = c.loop-self-test.true in
-    let s = empty_at c.loop-self.self-inside.aside c.loop-self.self-inside.len c.link_at.result.now i.aside (omega arith) c.link_at.ensures c.in-Vacant.ensures in
+    let s = empty_at c.loop-self.self-inside.stack c.loop-self.self-inside.len c.link_at.result.now i.stack (omega arith) c.link_at.ensures c.in-Vacant.ensures in
     s.2
 
 pub loop-self-preserved : goal.loop-self-preserved
@@ -24,9 +24,9 @@ loop-self-preserved g c =
     let i = c.loop-self.invariant in
     let link = c.link_at.result.now in
     let sides = c.put_sides.ensures in
-    let s = walk_at c.loop-self.self-inside.aside c.put_sides.new.aside c.loop-self.self-inside.len link b.left.now b.right.now b.prefix _ i.aside (omega arith)
+    let s = walk_at c.loop-self.self-inside.stack c.put_sides.new.stack c.loop-self.self-inside.len link b.left.now b.right.now b.prefix _ i.stack (omega arith)
     c.link_at.ensures (λ h. subst (λ o. IsNode link b.prefix o b.left.now b.right.now) (ap option_copied c.in_default.is) (b.ensures.0 h)) sides.right sides.left sides.below sides.size in
-    record { aside = s.0; same = s.1 ∙ i.same }
+    record { stack = s.0; same = s.1 ∙ i.same }
 
 pub loop-self-smaller : goal.loop-self-smaller
 loop-self-smaller g c =
@@ -34,7 +34,7 @@ loop-self-smaller g c =
     let i = c.loop-self.invariant in
     let link = c.link_at.result.now in
     let sides = c.put_sides.ensures in
-    let s = walk_at c.loop-self.self-inside.aside c.put_sides.new.aside c.loop-self.self-inside.len link b.left.now b.right.now b.prefix _ i.aside (omega arith)
+    let s = walk_at c.loop-self.self-inside.stack c.put_sides.new.stack c.loop-self.self-inside.len link b.left.now b.right.now b.prefix _ i.stack (omega arith)
     c.link_at.ensures (λ h. subst (λ o. IsNode link b.prefix o b.left.now b.right.now) (ap option_copied c.in_default.is) (b.ensures.0 h)) sides.right sides.left sides.below sides.size in
     s.2
 
@@ -44,7 +44,7 @@ invariant_of-self-in-Some g c =
     let i = c.loop-self.invariant in
     let link = c.link_at.result.now in
     let sides = c.put_sides.ensures in
-    let s = walk_at c.loop-self.self-inside.aside c.put_sides.new.aside c.loop-self.self-inside.len link b.left.now b.right.now b.prefix _ i.aside (omega arith)
+    let s = walk_at c.loop-self.self-inside.stack c.put_sides.new.stack c.loop-self.self-inside.len link b.left.now b.right.now b.prefix _ i.stack (omega arith)
     c.link_at.ensures (λ h. subst (λ o. IsNode link b.prefix o b.left.now b.right.now) (ap option_copied c.in-Some.is) (b.ensures.0 h)) sides.right sides.left sides.below sides.size in
     s.0
 
@@ -54,7 +54,7 @@ returns-in-Some-clause-steps g c =
     let i = c.loop-self.invariant in
     let link = c.link_at.result.now in
     let sides = c.put_sides.ensures in
-    let s = walk_at c.loop-self.self-inside.aside c.put_sides.new.aside c.loop-self.self-inside.len link b.left.now b.right.now b.prefix _ i.aside (omega arith)
+    let s = walk_at c.loop-self.self-inside.stack c.put_sides.new.stack c.loop-self.self-inside.len link b.left.now b.right.now b.prefix _ i.stack (omega arith)
     c.link_at.ensures (λ h. subst (λ o. IsNode link b.prefix o b.left.now b.right.now) (ap option_copied c.in-Some.is) (b.ensures.0 h)) sides.right sides.left sides.below sides.size in
     sym (s.1 ∙ i.same)
 
@@ -64,14 +64,14 @@ returns-in-Some-clause-goes g c =
     let i = c.loop-self.invariant in
     let link = c.link_at.result.now in
     let sides = c.put_sides.ensures in
-    let s = walk_at c.loop-self.self-inside.aside c.put_sides.new.aside c.loop-self.self-inside.len link b.left.now b.right.now b.prefix _ i.aside (omega arith)
+    let s = walk_at c.loop-self.self-inside.stack c.put_sides.new.stack c.loop-self.self-inside.len link b.left.now b.right.now b.prefix _ i.stack (omega arith)
     c.link_at.ensures (λ h. subst (λ o. IsNode link b.prefix o b.left.now b.right.now) (ap option_copied c.in-Some.is) (b.ensures.0 h)) sides.right sides.left sides.below sides.size in
     record { on = λ f. (tt, tt, omega (arith, ap length (sym (s.1 ∙ i.same)))); keeps = tt; rests = λ f. tt }
 
 pub returns-in-Single-clause-goes : goal.returns-in-Single-clause-goes
 returns-in-Single-clause-goes g c =
     let b = c.in-Single in
-    let xs = c.loop-self.self-inside.aside in
+    let xs = c.loop-self.self-inside.stack in
     let m = c.loop-self.self-inside.len in
     let k = c.loop-self.self-inside.len - 1 in
     let test = c.loop-self-test.true in

@@ -34,5 +34,5 @@ returns-clause-ok g c =
       outcomes = s.outcomes;
       each = s.each;
       appended = s.appended ∙ ap (λ (l : List Outcome). l ++ s.outcomes) c.try_reserve.ensures.items;
-      gained = λ visits held. holds_more old now visits (visit_of (zip cmds s.outcomes)) held s.left;
+      gained = λ visits held. holds_more old now visits (visit_of (zip cmds s.outcomes)) held s.added;
     }

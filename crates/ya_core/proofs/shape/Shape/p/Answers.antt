@@ -1,5 +1,5 @@
 use Rattle.ya_core.specs.declared.word.Word.TheVariants.{P}
-use Rattle.ya_core.specs.Tree.{number_of}
+use Rattle.ya_core.specs.ArbitrationTree.{number_of}
 use Rattle.ya_core.proofs.Numbers.{number_within}
 use Rattle.ya_core.proofs.shape.Shape.p.Goals as goal
 

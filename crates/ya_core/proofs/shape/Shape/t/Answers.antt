@@ -1,6 +1,6 @@
 use Rattle.std.proofs.Common.{arith}
 use Rattle.ya_core.specs.declared.word.Word.TheVariants.{T}
-use Rattle.ya_core.specs.Tree.{number_of}
+use Rattle.ya_core.specs.ArbitrationTree.{number_of}
 use Rattle.ya_core.proofs.Numbers.{number_within}
 use Rattle.ya_core.proofs.shape.Shape.t.Goals as goal
 

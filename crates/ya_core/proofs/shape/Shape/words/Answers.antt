@@ -1,4 +1,4 @@
-use Rattle.ya_core.specs.Tree.{count_of_words}
+use Rattle.ya_core.specs.ArbitrationTree.{count_of_words}
 use Rattle.ya_core.proofs.shape.Shape.words.Goals as goal
 
 pub returns : goal.returns

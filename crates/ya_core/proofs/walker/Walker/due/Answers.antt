@@ -1,7 +1,7 @@
 use Rattle.std.proofs.Common.{◌≡◌, subst, refl, Option, Some}
 use Rattle.ya_core.specs.declared.word.Access.{Access}
-use Rattle.ya_core.specs.Walks.{Walk, walk, due_of}
-use Rattle.ya_core.specs.inside.Walks.{DueIsWithin}
+use Rattle.ya_core.specs.WalkerModel.{Walk, walk, due_of}
+use Rattle.ya_core.specs.inside.WalkerModel.{DueIsWithin}
 use Rattle.ya_core.proofs.Counting.{due_within}
 use Rattle.ya_core.proofs.walker.Walker.due.Goals as goal
 

@@ -1,5 +1,5 @@
 use Rattle.std.proofs.Common.{◌≡◌, ◌+◌, false}
-use Rattle.ya_core.specs.Walks.{Walk, walk, walk_after}
+use Rattle.ya_core.specs.WalkerModel.{Walk, walk, walk_after}
 use Rattle.ya_core.proofs.Counting.{told_on}
 use Rattle.ya_core.proofs.walker.Walker.go_on.Goals as goal
 

@@ -1,5 +1,5 @@
 use Rattle.std.proofs.Common.{arith, ◌≡◌, ℕ, ◌+◌, ◌*◌, ◌^◌, ◌<◌, ◌≤◌, ap, ◌∙◌}
-use Rattle.ya_core.specs.Tree.{count_of_words}
+use Rattle.ya_core.specs.ArbitrationTree.{count_of_words}
 use Rattle.ya_core.proofs.Promised.{at_most_64}
 use Rattle.ya_lock.specs.Rule.{making_index}
 use Rattle.ya_lock.proofs.Words.{making_small, making_is, bell_is}

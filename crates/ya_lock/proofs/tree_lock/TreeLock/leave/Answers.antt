@@ -1,6 +1,6 @@
 use Rattle.std.proofs.Common.{sym, ap, ◌∙◌}
 use Rattle.ya_lock.specs.Lock.{OpenGuard}
-use Rattle.ya_lock.proofs.Heights.{place_below}
+use Rattle.ya_lock.proofs.TreeSize.{place_below}
 use Rattle.ya_lock.proofs.tree_lock.TreeLock.leave.Goals as goal
 
 pub inside-walker-requires-clause-place : goal.inside-walker-requires-clause-place

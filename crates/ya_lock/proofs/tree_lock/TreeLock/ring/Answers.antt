@@ -1,4 +1,4 @@
-use Rattle.ya_lock.proofs.Heights.{bell_in}
+use Rattle.ya_lock.proofs.TreeSize.{bell_in}
 use Rattle.ya_lock.proofs.tree_lock.TreeLock.ring.Goals as goal
 
 pub peek-requires : goal.peek-requires

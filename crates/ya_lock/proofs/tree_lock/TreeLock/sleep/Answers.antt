@@ -1,4 +1,4 @@
-use Rattle.ya_lock.proofs.Heights.{bell_in}
+use Rattle.ya_lock.proofs.TreeSize.{bell_in}
 use Rattle.ya_lock.proofs.tree_lock.TreeLock.sleep.Goals as goal
 
 pub park-requires : goal.park-requires

@@ -3,19 +3,19 @@ use Rattle.atomic_table.specs.Table.{Me, Allows}
 use Rattle.ya_core.specs.declared.word.Word.{Word}
 use Rattle.ya_core.specs.declared.word.Access.{Access}
 use Rattle.ya_core.specs.declared.word.Access.TheVariants.{Load, Store}
-use Rattle.ya_core.specs.Tree.{IsWord, number_of}
+use Rattle.ya_core.specs.ArbitrationTree.{IsWord, number_of}
 use Rattle.ya_core.specs.Steps.{access_of}
 use Rattle.ya_core.specs.Machines.{word_of}
-use Rattle.ya_core.specs.Walks.{Walk, IsWalk, AccessIsWithin}
+use Rattle.ya_core.specs.WalkerModel.{Walk, IsWalk, AccessIsWithin}
 use Rattle.ya_core.specs.Worlds.{is_inside}
 use Rattle.ya_core.proofs.Promised.{within_access, load_due, store_due}
 use Rattle.ya_lock.specs.declared.view.View.{View}
 use Rattle.ya_lock.specs.Rule.{index_of, making_index, row_length, Rule}
 use Rattle.ya_lock.specs.Lock.{LockId}
 use Rattle.ya_lock.specs.inside.Lock.{IsLockTable}
-use Rattle.ya_lock.specs.inside.Moves.{Goes, HasMade, IsReady, left_by}
+use Rattle.ya_lock.specs.inside.StepEffects.{ProcessSteps, HasMade, IsReady, value_after}
 use Rattle.ya_lock.proofs.Words.{making_small, index_below, index_is}
-use Rattle.ya_lock.proofs.Steps.{counted, allows}
+use Rattle.ya_lock.proofs.ProcessSteps.{counted, allows}
 use Rattle.ya_lock.proofs.tree_lock.TreeLock.step.Goals as goal
 
 -- the access that is due is of a word of the tree
@@ -37,16 +37,16 @@ may_step : {V : Type 0} (since done : ℕ → V → V → Type 0) (since_same : 
     → IsWalk w → access_of w.levels w.place w.process ≡ a → IsWord w.levels (word_of a)
     → number ≡ number_of w.levels (word_of a) → w.levels ≡ L → IsLockTable L key table
     → HasMade w.place value w.process w.remote me.0 → IsReady done (is_inside w.process) w.place value me.1
-    → (8 * number < table.words) × Allows (Rule since key) table.slots id me (8 * number) (left_by a)
-    (λ n then'. Goes since L (left_by a n) me.0 me.1 then')
+    → (8 * number < table.words) × Allows (Rule since key) table.slots id me (8 * number) (value_after a)
+    (λ n then'. ProcessSteps since L (value_after a n) me.0 me.1 then')
 may_step since done since_same since_done w a L number key id table me value p is word at same own made ready =
     let index = due_index w.levels number (word_of a) p.most word at in
     let m : ℕ = making_index w.levels in let below : 8 * number + 8 ≤ m = index.1 in let places : ℕ = 2 ^ w.levels in
     let wide : table.words ≡ m + 8 * (1 + places) = own.words ∙ ap row_length (sym same) in
     let view = counted w.place value w.process w.remote me.0 made in
     let G : ℕ → ℕ → Type 0 =
-    λ l k. Allows (Rule since k) table.slots id me (8 * number) (left_by a)
-    (λ n then'. Goes since l (left_by a n) me.0 me.1 then') in (
+    λ l k. Allows (Rule since k) table.slots id me (8 * number) (value_after a)
+    (λ n then'. ProcessSteps since l (value_after a n) me.0 me.1 then') in (
       omega arith,
       subst (λ (k : ℕ). G L k) (sym own.told) (subst (λ (l : ℕ). G l l) same
           (allows since done since_same since_done w.levels p.least table.slots id (8 * number) w.place w.process value

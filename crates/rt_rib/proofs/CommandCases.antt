@@ -1,0 +1,73 @@
+-- What the sequential table says of each command, case by case.
+use Rattle.std.proofs.Common.{◌≡◌, ℕ, ◌<◌, ◌≤◌, true, false, List, Some, None, refl, ap, length}
+use Rattle.std.proofs.lemmas.Bool.{le-leb, lt-leb}
+use Rattle.rt_cidr.specs.declared.address.Addr.{Addr}
+use Rattle.rt_cidr.specs.declared.prefixes.Prefix.{Prefix}
+use Rattle.rt_rib.specs.declared.routes.Route.{Route}
+use Rattle.rt_rib.specs.declared.commands.Cmd.TheVariants.{Add, Replace, Withdraw, Lookup, Dump, Purge}
+use Rattle.rt_rib.specs.declared.commands.Reply.TheVariants.{Added, Exists, Full, Replaced, Withdrawn, Missing, Found, NoRoute, Dumped, Purged}
+use Rattle.rt_rib.specs.Table.{has, count_of, put_in, take_out, purge}
+use Rattle.rt_rib.specs.LookUp.{look_up}
+use Rattle.rt_rib.specs.Sequential.{reply_of, table_after}
+use Rattle.rt_rib.specs.inside.TableState.{TableState, Serves}
+
+-- a limit and routes
+abbrev pub state : ℕ → List Route → TableState
+state limit t = record { limit = limit; routes = t }
+
+module _ (limit : ℕ) (t : List Route) (r : Route) where
+  -- an add to a feed that has the route
+  pub exists : has r.feed r.prefix t ≡ true → Serves (state limit t) (state limit t) r.feed (Add r.prefix r.pref r.hop) Exists
+  unfolding reply_of table_after
+  exists there = record { replied = rw there; changed = rw there }
+
+  -- an add to a feed with as many routes as its limit
+  pub full : has r.feed r.prefix t ≡ false → limit ≤ count_of r.feed t → Serves (state limit t) (state limit t) r.feed (Add r.prefix r.pref r.hop) Full
+  unfolding reply_of table_after
+  full fresh many = let at = le-leb limit (count_of r.feed t) many in record { replied = rw (fresh, at); changed = rw (fresh, at) }
+
+  -- any other add
+  pub added : has r.feed r.prefix t ≡ false → count_of r.feed t < limit → (u : List Route) → u ≡ put_in r t → Serves (state limit t) (state limit u) r.feed (Add r.prefix r.pref r.hop) Added
+  unfolding reply_of table_after
+  added fresh room u is = let at = lt-leb limit (count_of r.feed t) room in record { replied = rw (fresh, at); changed = rw (is, fresh, at) }
+
+  -- a replacement of no route
+  pub unreplaced : has r.feed r.prefix t ≡ false → Serves (state limit t) (state limit t) r.feed (Replace r.prefix r.pref r.hop) Missing
+  unfolding reply_of table_after
+  unreplaced fresh = record { replied = rw fresh; changed = rw fresh }
+
+  -- a replacement of a route
+  pub replaced : has r.feed r.prefix t ≡ true → (u : List Route) → u ≡ put_in r (take_out r.feed r.prefix t) → Serves (state limit t) (state limit u) r.feed (Replace r.prefix r.pref r.hop) Replaced
+  unfolding reply_of table_after
+  replaced there u is = record { replied = rw there; changed = rw (is, there) }
+
+module _ (limit : ℕ) (t : List Route) (feed : ℕ) where
+  -- a withdrawal of no route
+  pub unwithdrawn : (p : Prefix) → has feed p t ≡ false → Serves (state limit t) (state limit t) feed (Withdraw p) Missing
+  unfolding reply_of table_after
+  unwithdrawn p fresh = record { replied = rw fresh; changed = rw fresh }
+
+  -- a withdrawal of a route
+  pub withdrawn : (p : Prefix) → has feed p t ≡ true → (u : List Route) → u ≡ take_out feed p t → Serves (state limit t) (state limit u) feed (Withdraw p) Withdrawn
+  unfolding reply_of table_after
+  withdrawn p there u is = record { replied = rw there; changed = rw (is, there) }
+
+  -- a purge
+  pub purged : (gone : ℕ) → gone ≡ count_of feed t → (u : List Route) → u ≡ purge feed t → Serves (state limit t) (state limit u) feed Purge (Purged gone)
+  unfolding reply_of table_after
+  purged gone are u is = record { replied = ap Purged are; changed = rw is refl }
+
+  -- a look-up of an address that no prefix covers
+  pub unfound : (addr : Addr) → None ≡ look_up addr t → Serves (state limit t) (state limit t) feed (Lookup addr) NoRoute
+  unfolding reply_of table_after
+  unfound addr is = record { replied = rw (← is); changed = refl }
+
+  -- a look-up of any other address
+  pub found : (addr : Addr) (r : Route) → Some r ≡ look_up addr t → Serves (state limit t) (state limit t) feed (Lookup addr) (Found r)
+  unfolding reply_of table_after
+  found addr r is = record { replied = rw (← is); changed = refl }
+
+  -- a dump
+  pub dumped : Serves (state limit t) (state limit t) feed Dump (Dumped (length t))
+  unfolding reply_of table_after
+  dumped = record { replied = refl; changed = refl }

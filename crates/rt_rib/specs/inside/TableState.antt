@@ -1,0 +1,53 @@
+-- A table as its clauses see it, and what the types `Table` and `Book` keep of what is in them.
+use Rattle.std.specs.Prelude.{◌≡◌, ℕ, ◌+◌, ◌<◌, ◌≤◌, List, length, sum, slice_index}
+use Rattle.std.specs.List.{All}
+use Rattle.rt_rib.specs.declared.routes.Route.{Route}
+use Rattle.rt_rib.specs.declared.commands.Cmd.{Cmd}
+use Rattle.rt_rib.specs.declared.commands.Reply.{Reply}
+use Rattle.rt_rib.specs.declared.commands.Entry.{Entry}
+use Rattle.rt_rib.specs.declared.limits.TheConstants.{MOST_FEEDS}
+use Rattle.rt_rib.specs.Table.{count_of, IsTable}
+use Rattle.rt_rib.specs.Maps.{Map, routes_of, IsMap}
+use Rattle.rt_rib.specs.Sequential.{reply_of, table_after}
+use Rattle.rt_rib.specs.Journal.{table_of_journal, IsLawfulJournal}
+use Rattle.rt_rib.specs.Book.{IsLimit, IsFeed, OfferTrie}
+
+-- what a command reads and may change: how many routes a feed may have, and the routes
+pub record TableState : Type 0 where
+  pub limit : ℕ
+  pub routes : List Route
+
+-- what contracts see of a `Table`: that, and the trie that holds the routes
+pub record StoredTable : Type 0 where
+  pub limit : ℕ
+  pub routes : List Route
+  pub trie : OfferTrie
+
+-- the part of it that a command reads and may change
+abbrev pub table_state : StoredTable → TableState
+table_state t = record { limit = t.limit; routes = t.routes }
+
+-- the command was answered as the sequential table answers it, and the routes are what it leaves there
+pub record Serves (old new : TableState) (feed : ℕ) (cmd : Cmd) (reply : Reply) : Type 0 where
+  pub replied : reply ≡ reply_of old.limit old.routes feed cmd
+  pub changed : new ≡ record old { routes = table_after old.limit old.routes feed cmd }
+
+-- for each feed, how many of the routes are its own: no more than the limit, and there are no others
+pub record AreCounts (limit : ℕ) (counts : List ℕ) (routes : List Route) : Type 0 where
+  pub many : length counts ≡ MOST_FEEDS
+  pub each : (i : ℕ) → i < MOST_FEEDS → slice_index counts i ≡ count_of (i + 1) routes
+  pub within : (i : ℕ) → i < MOST_FEEDS → slice_index counts i ≤ limit
+  pub all : sum counts ≡ length routes
+
+-- what `Table` keeps: a limit that there may be, a map whose offers are in order and whose routes are a table, and their counts
+pub record IsCounted (limit : ℕ) (counts : List ℕ) (m : Map) : Type 0 where
+  pub limited : IsLimit limit
+  pub map : IsMap m
+  pub table : IsTable (routes_of m)
+  pub counted : AreCounts limit counts (routes_of m)
+
+-- what `Book` keeps: the journal is lawful, its entries are of feeds that there may be, and the routes are what it leaves
+pub record IsJournalOf (state : TableState) (journal : List Entry) : Type 0 where
+  pub feeds : All (λ e. IsFeed e.feed) journal
+  pub lawful : IsLawfulJournal state.limit journal
+  pub routes : state.routes ≡ table_of_journal state.limit journal

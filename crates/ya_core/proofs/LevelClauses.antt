@@ -1,0 +1,347 @@
+-- One level: what each kind of step keeps of it. `node` and `side` say where each place competes.
+use Rattle.std.proofs.Common.{◌≡◌, ◌≢◌, ℕ, ◌+◌, ◌-◌, ◌<◌, ◌==◌, Bool, true, false, refl, arith, ap, sym, ◌∙◌}
+use Rattle.std.proofs.Common.{subst, ◌≤◌, ◌⊎◌, inl, inr, IsTrue}
+use Rattle.std.proofs.Math.Path.{fun_ext}
+use Rattle.std.proofs.lemmas.Bool.Decides.{nat_tests}
+use Rattle.ya_core.specs.declared.process.EntryPoint.{EntryPoint}
+use Rattle.ya_core.specs.declared.process.EntryPoint.TheVariants.{E4}
+use Rattle.ya_core.specs.Soundness.{Phase, Away, Named, Announced, Waiting, Holding, Releasing, claims, has_announced, waits}
+use Rattle.ya_core.specs.Soundness.{holds, is_releasing, IsSoundLevel}
+use Rattle.ya_core.specs.ArbitrationTree.{Rivals}
+use Rattle.ya_core.proofs.PhaseKinds.{claims_holds, announced_holds, claims_announced, announced_waits, competes}
+use Rattle.ya_core.proofs.PhaseKinds.{competes_claims}
+
+-- the two phases are alike for the clauses on claim, turn, waiter and spin
+pub record Alike (x y : Phase) : Type 0 where
+  pub claiming : claims x ≡ claims y
+  pub past : has_announced x ≡ has_announced y
+  pub waiting : waits x ≡ waits y
+  pub holding : holds x ≡ holds y
+  pub releasing : is_releasing x ≡ is_releasing y
+
+-- a place is the one that stepped, or is as it was
+abbrev pub Same : ℕ → (ℕ → Phase) → (ℕ → Phase) → Type 0
+Same p old new = (q : ℕ) → (q ≡ p) ⊎ (new q ≡ old q)
+
+-- a word C is the one of that side, or is as it was
+abbrev pub SameClaims : ℕ → ℕ → (ℕ → ℕ → ℕ) → (ℕ → ℕ → ℕ) → Type 0
+SameClaims node side old new = (n s : ℕ) → ((n ≡ node) × (s ≡ side)) ⊎ (new n s ≡ old n s)
+
+-- a word is the one of that node or place, or is as it was
+abbrev pub SameWords : ℕ → (ℕ → ℕ) → (ℕ → ℕ) → Type 0
+SameWords at old new = (n : ℕ) → (n ≡ at) ⊎ (new n ≡ old n)
+
+-- what is so for each other place is so, or it is this place
+pub or_else : (A : ℕ → Type 0) (p : ℕ) → ((q : ℕ) → q ≢ p → A q) → (q : ℕ) → (q ≡ p) ⊎ A q
+or_else A p h q = cases (q == p) refl
+  where
+    cases : (b : Bool) → (q == p) ≡ b → (q ≡ p) ⊎ A q
+    cases true is = inl (grind (arith, nat_tests))
+    cases false is = inr (h q (grind (arith, nat_tests)))
+
+-- a level stays sound where its words and phases stay
+pub level_stays : (node side : ℕ → ℕ) (phase phase' : ℕ → Phase) (claim claim' : ℕ → ℕ → ℕ)
+    (turn turn' spin spin' : ℕ → ℕ)
+    → ((q : ℕ) → phase' q ≡ phase q) → ((n s : ℕ) → claim' n s ≡ claim n s) → ((n : ℕ) → turn' n ≡ turn n)
+    → ((q : ℕ) → spin' q ≡ spin q)
+    → IsSoundLevel node side phase claim turn spin → IsSoundLevel node side phase' claim' turn' spin'
+level_stays node side phase phase' claim claim' turn turn' spin spin' phases claims_same turns spins is =
+    subst (λ (f : ℕ → Phase). IsSoundLevel node side f claim' turn' spin') (sym (fun_ext phases))
+    (subst (λ (f : ℕ → ℕ → ℕ). IsSoundLevel node side phase f turn' spin')
+    (sym (fun_ext (λ n. fun_ext (claims_same n))))
+    (subst (λ (f : ℕ → ℕ). IsSoundLevel node side phase claim f spin') (sym (fun_ext turns))
+    (subst (λ (f : ℕ → ℕ). IsSoundLevel node side phase claim turn f) (sym (fun_ext spins)) is)))
+
+module _ (node side : ℕ → ℕ) (phase : ℕ → Phase) (claim : ℕ → ℕ → ℕ) (turn spin : ℕ → ℕ)
+    (is : IsSoundLevel node side phase claim turn spin) where
+  -- what is said of rivals, of two places by node and side
+  one_of_two_at : (p q : ℕ) → node p ≡ node q → side p ≢ side q → IsTrue (has_announced (phase p))
+      → IsTrue (has_announced (phase q)) → (turn (node p) ≡ p + 1) ⊎ (turn (node p) ≡ q + 1)
+  one_of_two_at p q nodes sides = is.one_of_two p q (nodes, sides)
+
+  waiter_at : (p q : ℕ) → node p ≡ node q → side p ≢ side q → IsTrue (holds (phase p)) → IsTrue (has_announced (phase q))
+      → turn (node p) ≡ q + 1
+  waiter_at p q nodes sides = is.waiter p q (nodes, sides)
+
+  let_in_at : (p q : ℕ) → node p ≡ node q → side p ≢ side q → IsTrue (waits (phase p)) → spin p ≡ 2
+      → IsTrue (has_announced (phase q)) → turn (node p) ≡ q + 1
+  let_in_at p q nodes sides = is.let_in p q (nodes, sides)
+
+  -- at most one place claims a side
+  pub one_a_side : (p q : ℕ) → node p ≡ node q → side p ≡ side q → IsTrue (claims (phase p)) → IsTrue (claims (phase q))
+      → p ≡ q
+  one_a_side p q nodes sides hp hq = grind (arith, is.claimed p hp, is.claimed q hq)
+
+  -- at most one place below a node holds it
+  pub one_holds : (p q : ℕ) → node p ≡ node q → IsTrue (holds (phase p)) → IsTrue (holds (phase q)) → p ≡ q
+  one_holds p q nodes hp hq =
+      grind (
+        arith,
+        one_a_side p q nodes,
+        waiter_at p q nodes,
+        waiter_at q p (sym nodes),
+        announced_holds (phase p) hp,
+        announced_holds (phase q) hq,
+        claims_holds (phase p) hp,
+        claims_holds (phase q) hq,
+      )
+
+  -- the three parts of what a word C says
+  claimant_node : (n s p : ℕ) → claim n s ≡ p + 1 → node p ≡ n
+  claimant_node n s p h = (is.claimant n s p h).0
+
+  claimant_side : (n s p : ℕ) → claim n s ≡ p + 1 → side p ≡ s
+  claimant_side n s p h = (is.claimant n s p h).1
+
+  claimant_claims : (n s p : ℕ) → claim n s ≡ p + 1 → IsTrue (claims (phase p))
+  claimant_claims n s p h = (is.claimant n s p h).2
+
+  -- where spin words alone change
+  spins_anew : (spin' : ℕ → ℕ) → ((p : ℕ) → spin' p ≤ 2)
+      → ((p q : ℕ) → Rivals node side p q → IsTrue (waits (phase p)) → spin' p ≡ 2 → IsTrue (has_announced (phase q))
+      → turn (node p) ≡ q + 1)
+      → IsSoundLevel node side phase claim turn spin'
+  spins_anew spin' in_range let_in =
+      record {
+        claimed = is.claimed;
+        claimant = is.claimant;
+        below = is.below;
+        announced = is.announced;
+        releasing = is.releasing;
+        one_of_two = is.one_of_two;
+        waiter = is.waiter;
+        in_range = in_range;
+        let_in = let_in;
+      }
+
+  -- e7: a spin word that becomes 1 lets nobody in
+  pub wakes : (r : ℕ) (spin' : ℕ → ℕ) → spin' r ≡ 1 → SameWords r spin spin'
+      → IsSoundLevel node side phase claim turn spin'
+  wakes r spin' stored others =
+      spins_anew spin' (λ q. grind (arith, others q, is.in_range q))
+      (λ q s rivals hq spins hs. grind (arith, others q, let_in_at q s rivals.0 rivals.1))
+
+  -- x3: a place that is alone on its side, and away, lets in another place below the node; no rival of that one is past
+  pub lets_in : (two : (q : ℕ) → side q < 2) (p r : ℕ) (spin' : ℕ → ℕ) → Alike (phase p) Away → node p ≡ node r → r ≢ p
+      → spin' r ≡ 2 → SameWords r spin spin'
+      → ((q : ℕ) → node q ≡ node p → side q ≡ side p → IsTrue (competes (phase q)) → q ≡ p)
+      → IsSoundLevel node side phase claim turn spin'
+  lets_in two p r spin' was below other stored others alone =
+      spins_anew spin' (λ q. grind (arith, others q, is.in_range q))
+      (λ q s rivals hq spins hs.
+      let nodes = rivals.0 in let sides = rivals.1 in
+      grind (
+        arith,
+        others q,
+        let_in_at q s nodes sides,
+        alone q,
+        alone s,
+        competes_claims (phase q),
+        competes_claims (phase s),
+        two p,
+        two q,
+        two s,
+        announced_waits (phase q) hq,
+        claims_announced (phase q),
+        claims_announced (phase s) hs,
+        was.claiming,
+        was.past,
+        was.waiting,
+      ))
+
+  module _ (p : ℕ) (phase' : ℕ → Phase) (same : Same p phase phase') where
+    -- the clause on claims after the step
+    abbrev KeepsClaims : (ℕ → ℕ → ℕ) → Type 0
+    KeepsClaims claim' = ((q : ℕ) → IsTrue (claims (phase' q)) → claim' (node q) (side q) ≡ q + 1)
+        × ((n s q : ℕ) → claim' n s ≡ q + 1 → (node q ≡ n) × (side q ≡ s) × IsTrue (claims (phase' q)))
+
+    -- where no word C changes it stays, if the place claims as before
+    keeps_claims : claims (phase' p) ≡ claims (phase p) → KeepsClaims claim
+    keeps_claims claiming = (
+      λ q h. grind (arith, same q, claiming, is.claimed q),
+      λ n s q h. (
+        claimant_node n s q h,
+        claimant_side n s q h,
+        grind (arith, same q, claiming, claimant_claims n s q h),
+      ),
+    )
+
+    -- each rival of the place that is past announced itself last
+    abbrev RivalsAreLast : Type 0
+    RivalsAreLast = (q : ℕ) → node p ≡ node q → side p ≢ side q → IsTrue (has_announced (phase q)) → turn (node p) ≡ q + 1
+
+    -- what a step leaves alone that changes no word T, and no word P but the place's own: the other clauses stay, where
+    -- they hold of the place itself
+    frame : (claim' : ℕ → ℕ → ℕ) (spin' : ℕ → ℕ) → KeepsClaims claim'
+        → (IsTrue (has_announced (phase' p)) → IsTrue (has_announced (phase p)))
+        → (IsTrue (is_releasing (phase' p)) → turn (node p) ≢ 0)
+        → (IsTrue (holds (phase' p)) → RivalsAreLast)
+        → (IsTrue (waits (phase' p)) → spin' p ≡ 2 → RivalsAreLast)
+        → spin' p ≤ 2 → SameWords p spin spin'
+        → IsSoundLevel node side phase' claim' turn spin'
+    frame claim' spin' claiming past releasing holding waiting range others =
+        record {
+          claimed = claiming.0;
+          claimant = claiming.1;
+          below = is.below;
+          announced = λ q h. grind (arith, same q, past, is.announced q);
+          releasing = λ q h. grind (arith, same q, releasing, is.releasing q);
+          one_of_two = λ q r rivals hq hr. let nodes = rivals.0 in let sides = rivals.1 in
+              grind (arith, same q, same r, past, one_of_two_at q r nodes sides);
+          waiter = λ q r rivals hq hr. let nodes = rivals.0 in let sides = rivals.1 in
+              grind (arith, same q, same r, past, λ (h : IsTrue (holds (phase' p))). holding h r, waiter_at q r nodes sides);
+          in_range = λ q. grind (arith, others q, is.in_range q);
+          let_in = λ q r rivals hq two hr. let nodes = rivals.0 in let sides = rivals.1 in
+              grind (arith, same q, same r, others q, past, λ (h : IsTrue (waits (phase' p))) (at : spin' p ≡ 2). waiting h at r, let_in_at q r nodes sides);
+        }
+
+    -- the place wins, holds on or waits on as before: then its rivals are last as they were
+    still_holds : IsTrue (holds (phase p)) → RivalsAreLast
+    still_holds h q nodes sides hq = waiter_at p q nodes sides h hq
+
+    still_waits : IsTrue (waits (phase p)) → spin p ≡ 2 → RivalsAreLast
+    still_waits h at q nodes sides hq = let_in_at p q nodes sides h at hq
+
+    -- a step that changes no word of the level keeps it, where the place is of no kind of which it wasn't before
+    stays : claims (phase' p) ≡ claims (phase p) → (IsTrue (has_announced (phase' p)) → IsTrue (has_announced (phase p)))
+        → (IsTrue (is_releasing (phase' p)) → IsTrue (is_releasing (phase p)))
+        → (IsTrue (holds (phase' p)) → IsTrue (holds (phase p)))
+        → (IsTrue (waits (phase' p)) → IsTrue (waits (phase p)))
+        → IsSoundLevel node side phase' claim turn spin
+    stays claiming past releasing holding waiting =
+        frame claim spin (keeps_claims claiming) past (λ h. is.releasing p (releasing h)) (λ h. still_holds (holding h))
+        (λ h. still_waits (waiting h)) (is.in_range p) (λ q. inr refl)
+
+    -- a step that keeps what the clauses see of the place keeps them
+    pub alike : Alike (phase' p) (phase p) → IsSoundLevel node side phase' claim turn spin
+    alike here =
+        stays here.claiming (λ h. sym here.past ∙ h) (λ h. sym here.releasing ∙ h) (λ h. sym here.holding ∙ h)
+        (λ h. sym here.waiting ∙ h)
+
+    -- e1: a place that is alone on its side claims it
+    pub claims_side : (claim' : ℕ → ℕ → ℕ) → phase' p ≡ Named → claim' (node p) (side p) ≡ p + 1
+        → SameClaims (node p) (side p) claim claim'
+        → ((q : ℕ) → node q ≡ node p → side q ≡ side p → IsTrue (competes (phase q)) → q ≡ p)
+        → IsSoundLevel node side phase' claim' turn spin
+    claims_side claim' now stored others alone =
+        frame claim' spin (
+          λ q h. grind (arith, same q, others (node q) (side q), alone q, competes_claims (phase q), is.claimed q),
+          λ n s q h. (
+            grind (arith, same q, others n s, claimant_node n s q),
+            grind (arith, same q, others n s, claimant_side n s q),
+            grind (arith, same q, others n s, claimant_claims n s q),
+          ),
+        )
+        (λ h. grind arith) (λ h. grind arith) (λ h. grind arith) (λ h. grind arith) (is.in_range p) (λ q. inr refl)
+
+    -- e2: the place whose claim stands announces itself, the last to do so at the node
+    pub announces : (two : (q : ℕ) → side q < 2) (turn' : ℕ → ℕ) → phase p ≡ Named → phase' p ≡ Announced
+        → turn' (node p) ≡ p + 1 → SameWords (node p) turn turn' → IsSoundLevel node side phase' claim turn' spin
+    announces two turn' was now stored others =
+        record {
+          claimed = λ q h. grind (arith, same q, is.claimed q);
+          claimant = λ n s q h.
+              (claimant_node n s q h, claimant_side n s q h, grind (arith, same q, claimant_claims n s q h));
+          below = λ n q h. grind (arith, others n, is.below n q);
+          announced = λ q h. grind (arith, same q, others (node q), is.announced q);
+          releasing = λ q h. grind (arith, same q, others (node q), is.releasing q);
+          one_of_two = λ q r rivals hq hr.
+              let nodes = rivals.0 in let sides = rivals.1 in
+              grind (
+                arith,
+                same q,
+                same r,
+                others (node q),
+                one_of_two_at q r nodes sides,
+                two p,
+                two q,
+                two r,
+                one_a_side p q,
+                one_a_side p r,
+                claims_announced (phase q),
+                claims_announced (phase r),
+              );
+          waiter = λ q r rivals hq hr.
+              let nodes = rivals.0 in let sides = rivals.1 in
+              grind (
+                arith,
+                same q,
+                same r,
+                others (node q),
+                waiter_at q r nodes sides,
+                two p,
+                two q,
+                two r,
+                one_a_side p q,
+                one_a_side p r,
+                claims_holds (phase q),
+                claims_announced (phase r),
+              );
+          in_range = is.in_range;
+          let_in = λ q r rivals hq spins hr.
+              let nodes = rivals.0 in let sides = rivals.1 in
+              grind (
+                arith,
+                same q,
+                same r,
+                others (node q),
+                let_in_at q r nodes sides,
+                two p,
+                two q,
+                two r,
+                one_a_side p q,
+                one_a_side p r,
+                announced_waits (phase q),
+                claims_announced (phase q),
+                claims_announced (phase r),
+              );
+        }
+
+    -- e3: the place that clears its spin word is not let in
+    pub clears : (spin' : ℕ → ℕ) → phase p ≡ Announced → phase' p ≡ Waiting E4 → spin' p ≡ 0 → SameWords p spin spin'
+        → IsSoundLevel node side phase' claim turn spin'
+    clears spin' was now stored others =
+        frame claim spin' (keeps_claims (ap claims now ∙ sym (ap claims was))) (λ h. grind arith) (λ h. grind arith)
+        (λ h. grind arith) (λ h at. absurd (omega (arith, stored, at))) (omega (arith, stored)) others
+
+    -- e4, e5, e9, e10: a place wins where each rival that is past announced itself last
+    pub wins : (point : EntryPoint) → phase p ≡ Waiting point → phase' p ≡ Holding → RivalsAreLast
+        → IsSoundLevel node side phase' claim turn spin
+    wins point was now last =
+        frame claim spin (keeps_claims (ap claims now ∙ sym (ap claims was))) (λ h. grind arith) (λ h. grind arith)
+        (λ h. last) (λ h at. last) (is.in_range p) (λ q. inr refl)
+
+    -- x1: the place that holds the node gives up its claim
+    pub gives_up : (claim' : ℕ → ℕ → ℕ) → phase p ≡ Holding → phase' p ≡ Releasing → claim' (node p) (side p) ≡ 0
+        → SameClaims (node p) (side p) claim claim' → IsSoundLevel node side phase' claim' turn spin
+    gives_up claim' was now stored others =
+        frame claim' spin (
+          λ q h. grind (arith, same q, others (node q) (side q), one_a_side p q, is.claimed q),
+          λ n s q h. (
+            grind (arith, others n s, claimant_node n s q),
+            grind (arith, others n s, claimant_side n s q),
+            grind (arith, same q, others n s, claimant_node n s q, claimant_side n s q, claimant_claims n s q),
+          ),
+        )
+        (λ h. grind arith) (λ h. is.announced p (ap has_announced was)) (λ h. grind arith) (λ h. grind arith) (is.in_range p)
+        (λ q. inr refl)
+
+    -- x2: the place that has seen who announced itself last is as one that is away
+    pub goes_away : phase p ≡ Releasing → Alike (phase' p) Away → IsSoundLevel node side phase' claim turn spin
+    goes_away was quiet =
+        stays (quiet.claiming ∙ sym (ap claims was)) (λ h. grind (arith, quiet.past)) (λ h. grind (arith, quiet.releasing))
+        (λ h. grind (arith, quiet.holding)) (λ h. grind (arith, quiet.waiting))
+
+    -- at e4 the rival's side is nil, so nobody opposite claims
+    pub last_unclaimed : (two : (q : ℕ) → side q < 2) → claim (node p) (1 - side p) ≡ 0 → RivalsAreLast
+    last_unclaimed two nil q nodes sides hq =
+        let other : 1 - side p ≡ side q = omega (arith, two p, two q) in
+        absurd (grind (arith, is.claimed q, claims_announced (phase q) hq))
+
+    -- at e5 and e9 the place is not the one that announced itself last
+    pub last_other : turn (node p) ≢ p + 1 → IsTrue (has_announced (phase p)) → RivalsAreLast
+    last_other other hp q nodes sides hq = grind (arith, one_of_two_at p q nodes sides)
+
+    -- at e10 the place was let in
+    pub last_let_in : spin p ≡ 2 → IsTrue (waits (phase p)) → RivalsAreLast
+    last_let_in two hp = still_waits hp two

@@ -1,0 +1,4 @@
+use Rattle.ya_lock.proofs.ghost_value.GhostValue.of.Given as goal
+
+abbrev pub ghost-made : goal.ghost-made
+ghost-made g a = a.x.now

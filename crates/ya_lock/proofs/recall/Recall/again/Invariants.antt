@@ -1,4 +1,0 @@
-use Rattle.ya_lock.proofs.recall.Recall.again.Given as goal
-
-abbrev pub ghost-made : goal.ghost-made
-ghost-made g a = a.x.now.value

@@ -1,0 +1,17 @@
+use Rattle.std.proofs.Common.{◌≡◌, ◌+◌, ◌≤◌}
+use Rattle.ya_core.specs.WalkerModel.{budget, points_ahead}
+use Rattle.ya_lock.specs.inside.Lock.{SeatOnExit}
+use Rattle.ya_lock.proofs.tree_lock.TreeLock.release.Given as goal
+
+abbrev pub invariant-loop-rival : goal.invariant-loop-rival
+invariant-loop-rival g l = record {
+  lock : l.seat.table_id ≡ l.self;
+  levels : l.walker.levels ≡ g.row.L;
+  place : l.walker.place ≡ l.initial.walker.place;
+  going : SeatOnExit l.seen.value l.walker l.seat.me;
+  least : l.initial.walker.remote ≤ l.walker.remote;
+  most : l.walker.remote + budget l.walker ≤ l.initial.walker.remote + budget l.initial.walker;
+}
+
+abbrev pub decreases-loop-rival : goal.decreases-loop-rival
+decreases-loop-rival g l = points_ahead l.walker

@@ -1,6 +1,0 @@
--- What a guard is once the value that it lent was written.
-use Rattle.ya_lock.specs.Lock.{OpenGuard}
-
--- the guard with this value
-abbrev pub with_value : {V : Type 0} → OpenGuard V → V → OpenGuard V
-with_value g v = record { lock = g.lock; place = g.place; found = g.found; value = v; remote = g.remote }

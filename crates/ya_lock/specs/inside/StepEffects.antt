@@ -1,0 +1,103 @@
+-- What each atomic step of a seat tells its thread.
+use Rattle.std.specs.Prelude.{◌≡◌, ℕ, ◌+◌, Bool, true, false, List, [], ◌∷◌, Some, None}
+use Rattle.std.specs.Prelude as std
+use Rattle.atomic_table.specs.Table.{Me}
+use Rattle.ya_core.specs.declared.word.Access.{Access}
+use Rattle.ya_core.specs.declared.word.Access.TheVariants.{Load, Store}
+use Rattle.ya_core.specs.declared.process.Process.{Process}
+use Rattle.ya_core.specs.declared.process.Process.TheVariants.{Idle, Inside}
+use Rattle.ya_core.specs.Steps.{access_of, next_of}
+use Rattle.ya_core.specs.WalkerModel.{MayBeTold, cost_of}
+use Rattle.ya_lock.specs.declared.view.View.{View}
+use Rattle.ya_lock.specs.declared.view.View.TheVariants.{Making, Filling, HandingOut, Seated, Joining}
+use Rattle.ya_core.specs.Worlds.{is_inside}
+
+-- the slots that a seat has taken, each with its value
+abbrev pub Slots : Type 0 → Type 0
+Slots V = List (ℕ × std.Option V)
+
+-- the number that an access leaves in its word, where it found this one
+abbrev pub value_after : Access → ℕ → ℕ
+value_after (Load word) found = found
+value_after (Store word value) found = value
+
+-- the remote accesses of a process since its last entry began: the next access of an idle one begins an entry
+abbrev pub count_from : Process → ℕ → ℕ
+count_from Idle last = 0
+count_from _ count = count
+
+-- with the access that is due, which counts where it is remote
+abbrev pub count_after : ℕ → ℕ → Process → ℕ → ℕ
+count_after levels place process count =
+    count_from process count + cost_of place (access_of levels place process)
+
+module _ {V : Type 0} where
+  -- the view is that of the place's process which has seen the value, and which has made so many remote accesses since
+  -- its entry began; an idle one has made none of the next entry, and any number in its last passage
+  abbrev pub HasMade : ℕ → V → Process → ℕ → View V → Type 0
+  HasMade place value Idle remote view = (last : ℕ) × (view ≡ Seated place Idle value last) × (remote ≡ 0)
+  HasMade place value process remote view = view ≡ Seated place process value remote
+
+  -- a process that is to leave the inside has put a value in the slot which its place may leave of what it found; every
+  -- other one has no slot
+  abbrev pub IsReady : (done : ℕ → V → V → Type 0) → Bool → ℕ → V → Slots V → Type 0
+  IsReady done true place value slots = (next : V) × (slots ≡ (0, Some next) ∷ []) × done place value next
+  IsReady done false place value slots = slots ≡ []
+
+  -- the swap that begins to make the passes: the seat is the maker where it found 0
+  abbrev pub BeginsMaking : ℕ → Me (std.Option V) (View V) → Type 0
+  BeginsMaking found me = (found ≡ 0 → me ≡ (Making, [])) × (me.1 ≡ [])
+
+  -- the maker takes the empty slot
+  abbrev pub TakesSlot : View V → Me (std.Option V) (View V) → Type 0
+  TakesSlot Making me = me ≡ (Filling, (0, None) ∷ [])
+  TakesSlot _ me = Unit {0}
+
+  -- it gives the slot home with the value that it put there
+  abbrev pub GivesValue : View V → Slots V → Me (std.Option V) (View V) → Type 0
+  GivesValue Filling slots me = (value : V) → slots ≡ (0, Some value) ∷ [] → me ≡ (HandingOut 0 value, [])
+  GivesValue _ slots me = Unit {0}
+
+  -- it hands out the pass of its first place, which it keeps no longer
+  abbrev pub handed_out : View V → View V
+  handed_out (HandingOut first value) = Seated first Idle value 0
+  handed_out view = view
+
+  -- what it keeps: the places behind that one
+  abbrev pub rest_to_hand_out : View V → View V
+  rest_to_hand_out (HandingOut first value) = HandingOut (first + 1) value
+  rest_to_hand_out view = view
+
+  -- it becomes the pass of its last place
+  abbrev pub HandsOutLast : View V → Slots V → Me (std.Option V) (View V) → Type 0
+  HandsOutLast (HandingOut first value) slots me = me ≡ (Seated first Idle value 0, slots)
+  HandsOutLast _ slots me = Unit {0}
+
+  -- the process inside takes in an idle one
+  abbrev pub joined_view : View V → View V → View V
+  joined_view (Seated place process value count) (Seated other process' seen last) = Joining place value other seen count
+  joined_view view other = view
+
+  module _ (since : ℕ → V → V → Type 0) where
+    -- how a step changes the seat's slots, by whether the process was inside before it and is inside after it: the step
+    -- out gives the slot home with the value in it, the step in takes the slot with the value found, and every other one
+    -- leaves the slots alone
+    abbrev pub CarriesValue : (inside_before inside_after : Bool) → ℕ → V → Slots V → V → Slots V → Type 0
+    CarriesValue true inside_after place value slots next slots' = (slots ≡ (0, Some next) ∷ []) × (slots' ≡ [])
+    CarriesValue false true place value slots next slots' = since place value next × (slots' ≡ (0, Some next) ∷ [])
+    CarriesValue false false place value slots next slots' = (next ≡ value) × (slots' ≡ slots)
+
+    -- a process takes the step that is due: it finds what can stand there, goes on as the core says, and its remote
+    -- accesses are counted
+    abbrev pub ProcessSteps : ℕ → ℕ → View V → Slots V → Me (std.Option V) (View V) → Type 0
+    ProcessSteps levels found (Seated place process value count) slots me =
+        MayBeTold (Some (access_of levels place process)) found
+        × ((next : V) × (me.0 ≡ Seated place (next_of levels place process found) next (count_after levels place process count))
+        × CarriesValue (is_inside process) (is_inside (next_of levels place process found)) place value slots next me.1)
+    ProcessSteps levels found _ slots me = Unit {0}
+
+    -- the process inside learns what may have come of the value that the other has seen
+    abbrev pub LearnsSince : View V → Slots V → Me (std.Option V) (View V) → Type 0
+    LearnsSince (Joining place value other seen count) slots me =
+        since other seen value × (me ≡ (Seated place Inside value count, slots))
+    LearnsSince _ slots me = Unit {0}
