@@ -6,7 +6,7 @@ ghost use Rattle.rt_rib.specs.Book.{IsLimit};
 use clap::builder::ValueParser;
 use clap::error::ErrorKind;
 use clap::{Arg, ArgAction, ArgMatches, Command, Error};
-use rt_rib::limit_ok;
+use rt_rib::{MOST_ROUTES, limit_ok};
 use std::alloc::{AllocError, AllocFailed, Global};
 
 /// How many routes one feed may have, where the command line does not say. `feed_notes` says it too.
@@ -333,7 +333,7 @@ fn best<'a>(alloc: Global) -> Arg<'a> {
 
 fn limit<'a>(alloc: Global) -> Arg<'a> {
     let help = "How many routes a feed may have, 1 to 1000000";
-    number(alloc, "limit", "K", 1, 1_000_000, help).default_value(DEFAULT_LIMIT)
+    number(alloc, "limit", "K", 1, u64::from(MOST_ROUTES), help).default_value(DEFAULT_LIMIT)
 }
 
 fn batch<'a>(alloc: Global, unless_given: &'a str) -> Arg<'a> {

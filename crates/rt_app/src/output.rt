@@ -2,6 +2,7 @@
 ghost use Rattle.std.specs.Prelude.{◌≡◌, ◌++◌, [], ◌<◌, ◌≤◌, true, false, length, OnOk, OnErr};
 ghost use Rattle.std.specs.Io.KnownBytes.{Appends};
 ghost use Rattle.rt_cidr.specs.Output.{AppendsBeginning};
+ghost use Rattle.rt_rib.specs.declared.limits.TheConstants.{MOST_FEEDS};
 ghost use Rattle.rt_rib.specs.Book.{table_of};
 ghost use Rattle.rt_feed.specs.Printed.{table_text};
 ghost use Rattle.rt_app.specs.RunText.{reports_text};
@@ -107,7 +108,7 @@ fn write_parts<W: Write>(w: &mut W, output: Output<'_>) -> Result<(), io::Error>
 
 /// Writes the reports, the k-th as feed k's, and then the table.
 fn write_run<W: Write>(w: &mut W, reports: &[Report], routes: &[Route]) -> Result<(), io::Error>
-    requires few { length reports.now ≤ 64 }
+    requires few { length reports.now ≤ MOST_FEEDS }
     ensures ok { OnOk result (Appends (W.contents w.old) (W.contents w.new) (reports_text 1 reports.now ++ table_text routes.now)) }
     ensures err { OnErr result (AppendsBeginning (W.contents w.old) (W.contents w.new) (reports_text 1 reports.now ++ table_text routes.now)) }
 {
@@ -117,7 +118,7 @@ fn write_run<W: Write>(w: &mut W, reports: &[Report], routes: &[Route]) -> Resul
 
 /// Writes the reports, the k-th as feed k's.
 fn write_reports<W: Write>(w: &mut W, reports: &[Report]) -> Result<(), io::Error>
-    requires few { length reports.now ≤ 64 }
+    requires few { length reports.now ≤ MOST_FEEDS }
     ensures ok { OnOk result (Appends (W.contents w.old) (W.contents w.new) (reports_text 1 reports.now)) }
     ensures err { OnErr result (AppendsBeginning (W.contents w.old) (W.contents w.new) (reports_text 1 reports.now)) }
 {

@@ -4,6 +4,7 @@ mod showing;
 mod telling;
 
 ghost use Rattle.std.specs.Prelude.{◌≡◌, ◌≤◌, length, vec_len, IfOk};
+ghost use Rattle.rt_rib.specs.declared.limits.TheConstants.{MOST_FEEDS};
 
 use crate::command_line::{self, Refusal, ReplayRequest, Request, RunRequest};
 use crate::faults::AppFault;
@@ -179,7 +180,7 @@ fn read_feeds<'a, R: Files + AllocGlobal>(
     alloc: Global,
     asked: &RunRequest<'a>,
 ) -> Result<Vec<Vec<u8>>, Stop<'a>>
-    ensures { IfOk result (λ texts. vec_len texts ≤ 64) }
+    ensures { IfOk result (λ texts. vec_len texts ≤ MOST_FEEDS) }
 {
     if asked.files.len() > MOST_TEXTS {
         return Err(Stop::TooMany);

@@ -1,5 +1,6 @@
 //! A run: feed texts in, their reports and the table out.
 ghost use Rattle.std.specs.Prelude.{◌≡◌, ◌≢◌, ◌↔◌, ℕ, List, ◌+◌, ◌≤◌, ◌++◌, [], map, length, vec_len, vec_capacity, All, Some, None, IfOk, IsSome};
+ghost use Rattle.rt_rib.specs.declared.limits.TheConstants.{MOST_FEEDS};
 ghost use Rattle.rt_rib.specs.Book.{IsLimit};
 ghost use Rattle.std.specs.List.{list_any};
 ghost use Rattle.rt_feed.specs.Reports.{has_refusal, has_fault};
@@ -11,7 +12,7 @@ use crate::faults::AppFault;
 use crate::output::{Output, write_output};
 use crate::tallies::REFUSED;
 use rt_feed::{Feed, Report, RunFault, TableGate, run_feeds};
-use rt_rib::Book;
+use rt_rib::{Book, MOST_FEEDS};
 use rt_shared::{FeedPass, SharedRib};
 use std::alloc::{AllocError, Global};
 use std::io::Write;
@@ -20,7 +21,7 @@ use std::sync::Wait;
 use std::thread::Threads;
 
 /// The most texts that a run takes: as many as the lock has places.
-pub const MOST_TEXTS: usize = 64;
+pub const MOST_TEXTS: usize = MOST_FEEDS;
 
 /// The levels of the lock's tree.
 const LEVELS: u32 = 6;
@@ -42,7 +43,7 @@ pub fn run_texts<R: Threads + Wait + Sync, W: Write>(
     w: &mut W,
 ) -> Result<u8, AppFault>
     requires limited { IsLimit limit }
-    requires few { length texts.now ≤ 64 }
+    requires few { length texts.now ≤ MOST_FEEDS }
     requires batched { 1 ≤ batch }
     ensures text { LeavesRunText (map (λ text. text.items) texts.now) limit batch (W.contents w.old) (W.contents w.new) result }
     ensures no_text { (result ≡ Err (AppFault.Run RunFault.NoText)) ↔ (texts.now ≡ []) }
@@ -73,7 +74,7 @@ pub(crate) fn run_all<R: Threads + Wait + Sync>(
     batch: usize,
 ) -> Result<Ran, RunFault>
     requires limited { IsLimit limit }
-    requires few { length texts.now ≤ 64 }
+    requires few { length texts.now ≤ MOST_FEEDS }
     requires batched { 1 ≤ batch }
     ensures ran { IfOk result (λ ran. RunOverBook (map (λ text. text.items) texts.now) limit batch ran.reports.items ran.book) }
     ensures refused { result ≢ Err RunFault.FeedCount }
@@ -183,7 +184,7 @@ fn put_behind(passes: &mut Vec<FeedPass>, mut more: Vec<FeedPass>)
 
 /// Writes what a run has done, and gives its status.
 fn write_ran<W: Write>(alloc: Global, ran: &Ran, w: &mut W) -> Result<u8, AppFault>
-    requires few { length ran.now.reports.items ≤ 64 }
+    requires few { length ran.now.reports.items ≤ MOST_FEEDS }
     ensures text { (texts : List (List ℕ)) (limit batch : ℕ) → RunOverBook texts limit batch ran.now.reports.items ran.now.book
         → LeavesRunText texts limit batch (W.contents w.old) (W.contents w.new) result }
     ensures ran { result ≢ Err (AppFault.Run RunFault.NoText) }

@@ -1,5 +1,6 @@
 //! What the finished table says: the answers of look-ups, or its routes, once all feeds have ended.
 ghost use Rattle.std.specs.Prelude.{◌≡◌, ◌≢◌, ◌↔◌, ℕ, List, ◌≤◌, [], map, length, if◌then◌else◌, IfOk};
+ghost use Rattle.rt_rib.specs.declared.limits.TheConstants.{MOST_FEEDS};
 ghost use Rattle.rt_rib.specs.Book.{IsLimit, table_of};
 ghost use Rattle.rt_app.specs.inside.RunResults.{RunOverBook};
 ghost use Rattle.rt_app.specs.TableText.{answers_text, routes_text, LeavesShown};
@@ -34,7 +35,7 @@ pub fn lookup_texts<R: Threads + Wait + Sync, W: Write>(
     w: &mut W,
 ) -> Result<Taken, AppFault>
     requires limited { IsLimit limit }
-    requires few { length texts.now ≤ 64 }
+    requires few { length texts.now ≤ MOST_FEEDS }
     requires batched { 1 ≤ batch }
     ensures text { LeavesShown (map (λ text. text.items) texts.now) limit batch (answers_text addresses.now) (W.contents w.old) (W.contents w.new) result }
     ensures no_text { (result ≡ Err (AppFault.Run RunFault.NoText)) ↔ (texts.now ≡ []) }
@@ -55,7 +56,7 @@ pub fn table_texts<R: Threads + Wait + Sync, W: Write>(
     w: &mut W,
 ) -> Result<Taken, AppFault>
     requires limited { IsLimit limit }
-    requires few { length texts.now ≤ 64 }
+    requires few { length texts.now ≤ MOST_FEEDS }
     requires batched { 1 ≤ batch }
     ensures text { LeavesShown (map (λ text. text.items) texts.now) limit batch (routes_text only_best) (W.contents w.old) (W.contents w.new) result }
     ensures no_text { (result ≡ Err (AppFault.Run RunFault.NoText)) ↔ (texts.now ≡ []) }
@@ -83,7 +84,7 @@ fn show_texts<R: Threads + Wait + Sync, W: Write>(
     w: &mut W,
 ) -> Result<Taken, AppFault>
     requires limited { IsLimit limit }
-    requires few { length texts.now ≤ 64 }
+    requires few { length texts.now ≤ MOST_FEEDS }
     requires batched { 1 ≤ batch }
     ensures text { LeavesShown (map (λ text. text.items) texts.now) limit batch (shown_text shown.entry) (W.contents w.old) (W.contents w.new) result }
     ensures no_text { (result ≡ Err (AppFault.Run RunFault.NoText)) ↔ (texts.now ≡ []) }

@@ -1,5 +1,6 @@
 //! What the lock lends to one feed at a time.
 ghost use Rattle.std.specs.Prelude.{◌≡◌, ◌≤◌, All};
+ghost use Rattle.rt_rib.specs.declared.limits.TheConstants.{MOST_FEEDS};
 ghost use Rattle.rt_rib.specs.Journal.{IsLawfulJournal};
 ghost use Rattle.rt_rib.specs.Book.{HoldsTable};
 ghost use Rattle.rt_rib.specs.inside.OneProof.{HoldsTable-prop};
@@ -16,5 +17,5 @@ pub struct Lent {
     ghost lawful: { IsLawfulJournal book.limit book.journal },
     ghost holds: { HoldsTable book } by { HoldsTable-prop book },
     ghost of_feeds: { All (λ e. (1 ≤ e.feed) × (e.feed ≤ feeds)) book.journal },
-    ghost few: { feeds ≤ 64 },
+    ghost few: { feeds ≤ MOST_FEEDS },
 }

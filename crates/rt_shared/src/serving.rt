@@ -1,5 +1,6 @@
 //! What a feed does to the lent book.
 ghost use Rattle.std.specs.Prelude.{◌≡◌, ℕ, ◌+◌, ◌<◌, ◌≤◌, IfOk, OnErr, [], ◌∷◌, ◌++◌, vec_len, vec_capacity, length};
+ghost use Rattle.rt_rib.specs.declared.limits.TheConstants.{MOST_FEEDS};
 ghost use Rattle.rt_rib.specs.Book.{Applies, Refuses, IsLimit};
 ghost use Rattle.rt_shared.specs.Visits.{answered};
 ghost use Rattle.rt_shared.specs.inside.Visits.{AreServed};
@@ -28,7 +29,7 @@ impl Kept for Lent {
 impl Lent {
     /// An empty book for so many feeds.
     pub(crate) fn new(alloc: Global, limit: u32, feeds: u32) -> Lent
-        requires { IsLimit limit × (feeds ≤ 64) }
+        requires { IsLimit limit × (feeds ≤ MOST_FEEDS) }
         ensures limit { result.book.limit ≡ limit }
         ensures journal { result.book.journal ≡ [] }
         ensures feeds { result.feeds ≡ feeds }

@@ -1,5 +1,6 @@
 //! The shared table itself.
 ghost use Rattle.std.specs.Prelude.{◌≡◌, ℕ, ◌+◌, ◌^◌, ◌<◌, ◌≤◌, [], ◌∷◌, ◌++◌, IfOk, OnErr, IsOk, OnOk, All};
+ghost use Rattle.rt_rib.specs.declared.limits.TheConstants.{MOST_FEEDS};
 ghost use Rattle.rt_rib.specs.Book.{IsLimit};
 ghost use Rattle.rt_rib.specs.Journal.{table_of_journal, IsLawfulJournal};
 ghost use Rattle.rt_shared.specs.Visits.{Since, MakesVisit, MakesVisitWith};
@@ -57,7 +58,7 @@ impl<const L: u32> SharedRib<L> {
     fn feeds() -> u32
         requires { (1 ≤ L) × (L ≤ 6) }
         ensures value { result ≡ 2 ^ L }
-        ensures most { result ≤ 64 }
+        ensures most { result ≤ MOST_FEEDS }
     {
         1 << L
     }

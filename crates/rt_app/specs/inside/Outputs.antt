@@ -2,6 +2,7 @@
 use Rattle.std.specs.Prelude.{◌≡◌, ℕ, ◌<◌, ◌≤◌, ◌^◌, List, ◌++◌, length, Option, Result, Ok, Err}
 use Rattle.std.specs.Io.KnownBytes.{Appends}
 use Rattle.rt_cidr.specs.Output.{AppendsBeginning}
+use Rattle.rt_rib.specs.declared.limits.TheConstants.{MOST_FEEDS}
 use Rattle.rt_rib.specs.declared.routes.Route.{Route}
 use Rattle.rt_rib.specs.Book.{table_of}
 use Rattle.rt_feed.specs.declared.faults.RunFault.TheVariants as fault
@@ -25,7 +26,7 @@ output_text (output.Replay steps inside) = replay_text_of steps.now inside
 
 -- of reports there are at most as many as feeds, and of steps so many that each has a number
 abbrev pub IsOutput : Output → Type 0
-IsOutput (output.Run reports routes) = length reports.now ≤ 64
+IsOutput (output.Run reports routes) = length reports.now ≤ MOST_FEEDS
 IsOutput (output.Answers book addresses) = Unit {0}
 IsOutput (output.Routes routes) = Unit {0}
 IsOutput (output.Replay steps inside) = length steps.now < 2 ^ 63

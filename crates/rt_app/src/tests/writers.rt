@@ -1,5 +1,6 @@
 //! Writers that fail, take little or are interrupted once, at outputs of less than one buffer and of more than two.
 ghost use Rattle.std.specs.Prelude.{◌≡◌, ◌≤◌, length, vec_len, IfOk};
+ghost use Rattle.rt_rib.specs.declared.limits.TheConstants.{MOST_FEEDS};
 
 use crate::faults::AppFault;
 use crate::runs::run_texts;
@@ -84,7 +85,7 @@ fn stops<R: Threads + Wait + Sync + Abort>(
     at_once: usize,
     kind: ErrorKind,
 )
-    requires { length texts.now ≤ 64 }
+    requires { length texts.now ≤ MOST_FEEDS }
 {
     let mut out = writer(alloc, at_once, room, kind);
     let status = run_texts(rt, alloc, texts, 1, 1024, &mut out);
@@ -109,7 +110,7 @@ fn stops_everywhere<R: Threads + Wait + Sync + Abort>(
     at_once: usize,
     kind: ErrorKind,
 )
-    requires { length texts.now ≤ 64 }
+    requires { length texts.now ≤ MOST_FEEDS }
 {
     for room in 0..output.len() {
         if is_tried(room) {
