@@ -1,6 +1,6 @@
 -- One process: each step comes nearer to its end, and costs what was counted.
 use Rattle.std.proofs.Common.{◌≡◌, ℕ, ◌+◌, ◌-◌, ◌*◌, ◌<◌, ◌≤◌, ◌==◌, Bool, true, false, nat_lt, refl, arith, ◌⊎◌, inl}
-use Rattle.std.proofs.Common.{inr, IsTrue, Some, List, [], ◌∷◌, ap, sym, subst}
+use Rattle.std.proofs.Common.{inr, IsTrue, Option, Some, None, List, [], ◌∷◌, ap, sym, subst}
 use Rattle.std.proofs.lemmas.Bool.Decides.{nat_tests}
 use Rattle.ya_core.specs.declared.word.Word.{Word}
 use Rattle.ya_core.specs.declared.word.Word.TheVariants.{C, T, P}
@@ -15,19 +15,27 @@ use Rattle.ya_core.specs.declared.process.Process.TheVariants.{Idle, Entering, I
 use Rattle.ya_core.specs.Steps.{access_of, entry_access, exit_access, next_of, entry_next, exit_next, won, after_exit}
 use Rattle.ya_core.specs.Soundness.{IsProper}
 use Rattle.ya_core.proofs.Properness.{either, proper_next, within_access}
-use Rattle.ya_core.specs.WalkerModel.{MayFind, WalkLeadsTo, AccessIsWithin, Walk, IsWalk, walk_after, MovesOn, budget, due, CountIsKept, due_of, MayBeTold, budget_of, points_of, cost_of, cost_of_word, is_waiting, entry_points, exit_points, entry_cost}
+use Rattle.ya_core.proofs.DueAccess.{due_is}
+use Rattle.ya_core.specs.WalkerModel.{MayFind, WalkLeadsTo, AccessIsWithin, Walk, IsWalk, walk, walk_after, MovesOn, budget, due, CountIsKept, due_of, MayBeTold, budget_of, points_of, cost_of, cost_of_word, is_waiting, entry_points, exit_points, entry_cost}
 use Rattle.ya_core.specs.inside.WalkerModel.{DueIsWithin}
 
--- what is still ahead of a process that won a level, or left it
-points_won : (levels level : ℕ) → level ≤ levels → points_of levels (won levels level) false ≤ 10 * (levels - level)
-points_won levels level most =
-    either (λ x. points_of levels x false ≤ 10 * (levels - level)) (nat_lt level levels) _ _
-    (λ less. grind (arith, nat_tests)) (λ _. omega arith)
+-- what is still ahead of a process that won a level, and what remote accesses can still cost it
+ahead_won : (levels level : ℕ) → level ≤ levels
+    → (points_of levels (won levels level) false ≤ 10 * (levels - level))
+    × (budget_of levels (won levels level) false ≤ 7 * (levels - level))
+ahead_won levels level most =
+    either (λ x. (points_of levels x false ≤ 10 * (levels - level)) × (budget_of levels x false ≤ 7 * (levels - level)))
+    (nat_lt level levels) _ _ (λ less. (grind (arith, nat_tests), grind (arith, nat_tests)))
+    (λ _. (omega arith, omega arith))
 
-points_after_exit : (levels level : ℕ) → points_of levels (after_exit level) false ≤ 3 * (level - 1)
-points_after_exit levels level =
-    either (λ x. points_of levels x false ≤ 3 * (level - 1)) (nat_lt 1 level) _ _ (λ more. grind (arith, nat_tests))
-    (λ _. omega arith)
+-- the same of one that left it
+ahead_after_exit : (levels level : ℕ)
+    → (points_of levels (after_exit level) false ≤ 3 * (level - 1))
+    × (budget_of levels (after_exit level) false ≤ 3 * (level - 1))
+ahead_after_exit levels level =
+    either (λ x. (points_of levels x false ≤ 3 * (level - 1)) × (budget_of levels x false ≤ 3 * (level - 1)))
+    (nat_lt 1 level) _ _ (λ more. (grind (arith, nat_tests), grind (arith, nat_tests)))
+    (λ _. (omega arith, omega arith))
 
 -- a step on the way in comes nearer, or waits
 nearer_entry : (levels level place : ℕ) (point : EntryPoint) (value : ℕ) → level ≤ levels
@@ -39,10 +47,10 @@ nearer_entry levels level place E2 value most = inl (omega arith)
 nearer_entry levels level place E3 value most = inl (omega arith)
 nearer_entry levels level place E4 value most =
     inl (either (λ x. points_of levels x false < 10 * (levels - level) + 7) (value == 0) _ _
-    (λ _. omega (arith, points_won levels level most)) (λ _. omega arith))
+    (λ _. omega (arith, (ahead_won levels level most).0)) (λ _. omega arith))
 nearer_entry levels level place (E5 rival) value most =
     inl (either (λ x. points_of levels x false < 10 * (levels - level) + 6) (value == place + 1) _ _ (λ _. omega arith)
-    (λ _. omega (arith, points_won levels level most)))
+    (λ _. omega (arith, (ahead_won levels level most).0)))
 nearer_entry levels level place (E6 rival) value most =
     inl (either (λ x. points_of levels x false < 10 * (levels - level) + 5) (value == 0) _ _ (λ _. omega arith)
     (λ _. omega arith))
@@ -52,10 +60,10 @@ nearer_entry levels level place E8 value most =
     (value == 0) _ _ (λ _. inr (refl, refl)) (λ _. inl (omega arith))
 nearer_entry levels level place E9 value most =
     inl (either (λ x. points_of levels x false < 10 * (levels - level) + 2) (value == place + 1) _ _ (λ _. omega arith)
-    (λ _. omega (arith, points_won levels level most)))
+    (λ _. omega (arith, (ahead_won levels level most).0)))
 nearer_entry levels level place E10 value most =
     either (λ x. (points_of levels x false < 10 * (levels - level) + 1) ⊎ (IsTrue true × (x ≡ Entering level E10)))
-    (value == 2) _ _ (λ _. inl (omega (arith, points_won levels level most))) (λ _. inr (refl, refl))
+    (value == 2) _ _ (λ _. inl (omega (arith, (ahead_won levels level most).0))) (λ _. inr (refl, refl))
 
 -- a step on the way out comes nearer
 nearer_exit : (levels level place : ℕ) (point : ExitPoint) (value : ℕ)
@@ -63,8 +71,8 @@ nearer_exit : (levels level place : ℕ) (point : ExitPoint) (value : ℕ)
 nearer_exit levels level place X1 value = omega arith
 nearer_exit levels level place X2 value =
     either (λ x. points_of levels x false < 3 * (level - 1) + 2) (value == place + 1) _ _
-    (λ _. omega (arith, points_after_exit levels level)) (λ _. omega arith)
-nearer_exit levels level place (X3 rival) value = omega (arith, points_after_exit levels level)
+    (λ _. omega (arith, (ahead_after_exit levels level).0)) (λ _. omega arith)
+nearer_exit levels level place (X3 rival) value = omega (arith, (ahead_after_exit levels level).0)
 
 -- a step takes a process to a later point or level, but for a load that found a waiting process its own spin word
 -- unchanged
@@ -80,17 +88,6 @@ nearer levels place Inside true value some proper told = inl (omega arith)
 nearer levels place Inside false value some proper told = absurd told
 nearer levels place (Leaving level point) begun value some proper told =
     inl (nearer_exit levels level place point value)
-
--- what remote accesses can still cost a process that won a level, or left it
-budget_won : (levels level : ℕ) → level ≤ levels → budget_of levels (won levels level) false ≤ 7 * (levels - level)
-budget_won levels level most =
-    either (λ x. budget_of levels x false ≤ 7 * (levels - level)) (nat_lt level levels) _ _
-    (λ less. grind (arith, nat_tests)) (λ _. omega arith)
-
-budget_after_exit : (levels level : ℕ) → budget_of levels (after_exit level) false ≤ 3 * (level - 1)
-budget_after_exit levels level =
-    either (λ x. budget_of levels x false ≤ 3 * (level - 1)) (nat_lt 1 level) _ _ (λ more. grind (arith, nat_tests))
-    (λ _. omega arith)
 
 -- an access costs one at most, and one of an own word P nothing
 cost_at_most : (place : ℕ) (word : Word) → cost_of_word place word ≤ 1
@@ -110,10 +107,10 @@ cheaper_entry levels level place E2 value most = omega arith
 cheaper_entry levels level place E3 value most = omega (arith, cost_of_own level place)
 cheaper_entry levels level place E4 value most =
     either (λ x. 1 + budget_of levels x false ≤ 7 * (levels - level) + 5) (value == 0) _ _
-    (λ _. omega (arith, budget_won levels level most)) (λ _. omega arith)
+    (λ _. omega (arith, (ahead_won levels level most).1)) (λ _. omega arith)
 cheaper_entry levels level place (E5 rival) value most =
     either (λ x. 1 + budget_of levels x false ≤ 7 * (levels - level) + 4) (value == place + 1) _ _ (λ _. omega arith)
-    (λ _. omega (arith, budget_won levels level most))
+    (λ _. omega (arith, (ahead_won levels level most).1))
 cheaper_entry levels level place (E6 rival) value most =
     either (λ x. cost_of_word place (P level rival) + budget_of levels x false ≤ 7 * (levels - level) + 3)
     (value == 0) _ _ (λ _. omega (arith, cost_at_most place (P level rival)))
@@ -124,10 +121,10 @@ cheaper_entry levels level place E8 value most =
     (value == 0) _ _ (λ _. omega (arith, cost_of_own level place)) (λ _. omega (arith, cost_of_own level place))
 cheaper_entry levels level place E9 value most =
     either (λ x. 1 + budget_of levels x false ≤ 7 * (levels - level) + 1) (value == place + 1) _ _ (λ _. omega arith)
-    (λ _. omega (arith, budget_won levels level most))
+    (λ _. omega (arith, (ahead_won levels level most).1))
 cheaper_entry levels level place E10 value most =
     either (λ x. cost_of_word place (P level place) + budget_of levels x false ≤ 7 * (levels - level) + 0)
-    (value == 2) _ _ (λ _. omega (arith, cost_of_own level place, budget_won levels level most))
+    (value == 2) _ _ (λ _. omega (arith, cost_of_own level place, (ahead_won levels level most).1))
     (λ _. omega (arith, cost_of_own level place))
 
 cheaper_exit : (levels level place : ℕ) (point : ExitPoint) (value : ℕ)
@@ -136,9 +133,9 @@ cheaper_exit : (levels level place : ℕ) (point : ExitPoint) (value : ℕ)
 cheaper_exit levels level place X1 value = omega arith
 cheaper_exit levels level place X2 value =
     either (λ x. 1 + budget_of levels x false ≤ 3 * (level - 1) + 2) (value == place + 1) _ _
-    (λ _. omega (arith, budget_after_exit levels level)) (λ _. omega arith)
+    (λ _. omega (arith, (ahead_after_exit levels level).1)) (λ _. omega arith)
 cheaper_exit levels level place (X3 rival) value =
-    omega (arith, budget_after_exit levels level, cost_at_most place (P level rival))
+    omega (arith, (ahead_after_exit levels level).1, cost_at_most place (P level rival))
 
 cheaper : (levels place : ℕ) (x : Process) (begun : Bool) (value : ℕ) → 1 ≤ levels → IsProper levels place x
     → MayBeTold (due_of levels place x begun) value
@@ -197,12 +194,12 @@ counted_next levels place remote (Leaving level point) begun value some proper t
 -- what is told of the access that is due may be found by it
 found_of : (levels place : ℕ) (x : Process) (begun : Bool) (value : ℕ) → MayBeTold (due_of levels place x begun) value
     → MayFind (access_of levels place x) value
-found_of levels place Idle true value told = tt
-found_of levels place Idle false value told = absurd told
-found_of levels place (Entering level point) begun value told = told
-found_of levels place Inside true value told = tt
-found_of levels place Inside false value told = absurd told
-found_of levels place (Leaving level point) begun value told = told
+found_of levels place x begun value told = by_due (due_of levels place x begun) refl told
+  where
+    by_due : (d : Option Access) → due_of levels place x begun ≡ d → MayBeTold d value
+        → MayFind (access_of levels place x) value
+    by_due None is told = absurd told
+    by_due (Some a) is told = subst (λ b. MayFind b value) (sym (due_is levels place x begun a is)) told
 
 -- a walk that is told a value stays a walk, moves on, and spends what its budget loses
 pub goes_on : (w : Walk) (value : ℕ) → IsWalk w → MayBeTold (due w) value → IsWalk (walk_after w value)
@@ -223,35 +220,36 @@ pub spends : (w : Walk) (value : ℕ) → IsWalk w → MayBeTold (due w) value
     → (walk_after w value).remote + budget (walk_after w value) ≤ w.remote + budget w
 spends w value is told = omega (arith, cheaper w.levels w.place w.process w.begun value is.least is.proper told)
 
--- so the walk that a walker shows goes on to the one that it comes to
-pub told_on : (w shown after : Walk) (value : ℕ) → after ≡ walk_after w value → w ≡ shown → IsWalk w
-    → MayBeTold (due shown) value
-    → IsWalk after × MovesOn shown after × (after.remote + budget after ≤ shown.remote + budget shown)
-told_on w shown after value is same walks told =
+-- so the walk that a walker shows goes on to the one with the process and the cost that it comes to
+pub told_on : {w shown : Walk} (value : ℕ) (process : Process) (cost : ℕ)
+    → process ≡ next_of w.levels w.place w.process value
+    → cost ≡ cost_of w.place (access_of w.levels w.place w.process) → w ≡ shown → IsWalk w → MayBeTold (due shown) value
+    → IsWalk (walk w.levels w.place process false (w.remote + cost))
+    × MovesOn shown (walk w.levels w.place process false (w.remote + cost))
+    × (w.remote + cost + budget_of w.levels process false ≤ shown.remote + budget shown)
+told_on {w} value process cost goes costs same walks told =
     subst (λ (v : Walk). IsWalk after × MovesOn v after × (after.remote + budget after ≤ v.remote + budget v)) same
-    (subst (λ (v : Walk). IsWalk v × MovesOn w v × (v.remote + budget v ≤ w.remote + budget w)) (sym is)
+    (subst (λ (u : Walk). IsWalk u × MovesOn w u × (u.remote + budget u ≤ w.remote + budget w)) (sym is)
     (goes_on w value walks here, moves_on w value walks here, spends w value walks here))
   where
+    after : Walk
+    after = walk w.levels w.place process false (w.remote + cost)
+
+    is : after ≡ walk_after w value
+    is = cc (goes, costs)
+
     here : MayBeTold (due w) value
     here = subst (λ (v : Walk). MayBeTold (due v) value) (sym same) told
 
 -- the word that is due is one of the tree's words
 pub due_within : (w : Walk) → IsWalk w → DueIsWithin w.levels (due w)
-due_within w is =
-    within w.levels w.place w.process w.begun (within_access w.levels w.place w.process is.least is.in_tree is.proper)
+due_within w is = by_due (due w) refl
   where
-    told : (levels : ℕ) (a : Access) → AccessIsWithin levels a → DueIsWithin levels (Some a)
-    told levels (Load word) is = is
-    told levels (Store word stored) is = is
-
-    within : (levels place : ℕ) (x : Process) (begun : Bool) → AccessIsWithin levels (access_of levels place x)
-        → DueIsWithin levels (due_of levels place x begun)
-    within levels place Idle true is = is
-    within levels place Idle false is = tt
-    within levels place (Entering level point) begun is = told levels (entry_access level place point) is
-    within levels place Inside true is = is
-    within levels place Inside false is = tt
-    within levels place (Leaving level point) begun is = told levels (exit_access level place point) is
+    by_due : (d : Option Access) → due w ≡ d → DueIsWithin w.levels d
+    by_due None is_due = tt
+    by_due (Some a) is_due =
+        subst (AccessIsWithin w.levels) (due_is w.levels w.place w.process w.begun a is_due)
+        (within_access w.levels w.place w.process is.least is.in_tree is.proper)
 
 -- along any way what was spent and what can still be spent don't rise
 pub spends_along : (w v : Walk) (values : List ℕ) → IsWalk w → WalkLeadsTo w values v

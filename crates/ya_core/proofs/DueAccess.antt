@@ -18,7 +18,7 @@ at_rest_asks_nothing Inside = (λ n e. cc, λ n v e. cc)
 at_rest_asks_nothing (Leaving level point) = (λ n e. cc, λ n v e. cc)
 
 -- the access that is due, if one is
-due_is : (levels place : ℕ) (x : Process) (begun : Bool) (a : Access) → due_of levels place x begun ≡ Some a
+pub due_is : (levels place : ℕ) (x : Process) (begun : Bool) (a : Access) → due_of levels place x begun ≡ Some a
     → access_of levels place x ≡ a
 due_is levels place Idle true a e = cc
 due_is levels place Idle false a e = absurd cc
