@@ -8,7 +8,7 @@ use Rattle.ya_core.specs.Soundness.{IsSoundState}
 use Rattle.ya_core.specs.Worlds.{Marked, World, Event, Steps, Appends, opening_world, WorldSteps, WorldAppends, Happens}
 use Rattle.ya_core.specs.Worlds.{Runs, IsReached, entries_of, FollowsFrom, EachMayFollow, is_inside, IsInside, any_entry}
 use Rattle.ya_core.specs.Worlds.{places_of}
-use Rattle.ya_core.proofs.LevelClauses.{or_else}
+use Rattle.ya_core.proofs.Cases.{or_else}
 use Rattle.ya_core.proofs.Invariant.{keeps, opens, is_inside_is, excludes}
 
 -- the entries of a place, each with its mark

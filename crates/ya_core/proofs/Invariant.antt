@@ -20,7 +20,8 @@ use Rattle.ya_core.specs.Worlds.{IsInside, is_inside}
 use Rattle.ya_core.proofs.TreeSides.{node_below, node_of_place, node_of_root}
 use Rattle.ya_core.proofs.Properness.{proper_next}
 use Rattle.ya_core.proofs.PhaseKinds.{competes}
-use Rattle.ya_core.proofs.LevelClauses.{or_else, level_stays, one_holds}
+use Rattle.ya_core.proofs.Cases.{or_else}
+use Rattle.ya_core.proofs.LevelClauses.{level_stays, one_holds}
 use Rattle.ya_core.proofs.Phases.{acts_at, phase_here, phase_below, phase_away, phase_won, phase_after_exit, frame_phase}
 use Rattle.ya_core.proofs.Phases.{access_level, words_stay, holds_below}
 use Rattle.ya_core.proofs.WakeFrame.{owed_stays}

@@ -1,6 +1,5 @@
 -- One level: what each kind of step keeps of it. `node` and `side` say where each place competes.
-use Rattle.std.proofs.Common.{◌≡◌, ◌≢◌, ℕ, ◌+◌, ◌-◌, ◌<◌, ◌==◌, Bool, true, false, refl, arith, ap, sym, ◌∙◌}
-use Rattle.std.proofs.Common.{subst, ◌≤◌, ◌⊎◌, inl, inr, IsTrue}
+use Rattle.std.proofs.Common.{◌≡◌, ◌≢◌, ℕ, ◌+◌, ◌-◌, ◌<◌, refl, arith, ap, sym, ◌∙◌, subst, ◌≤◌, ◌⊎◌, inl, inr, IsTrue}
 use Rattle.std.proofs.Math.Path.{fun_ext}
 use Rattle.std.proofs.lemmas.Bool.Decides.{nat_tests}
 use Rattle.ya_core.specs.declared.process.EntryPoint.{EntryPoint}
@@ -30,14 +29,6 @@ SameClaims node side old new = (n s : ℕ) → ((n ≡ node) × (s ≡ side)) �
 -- a word is the one of that node or place, or is as it was
 abbrev pub SameWords : ℕ → (ℕ → ℕ) → (ℕ → ℕ) → Type 0
 SameWords at old new = (n : ℕ) → (n ≡ at) ⊎ (new n ≡ old n)
-
--- what is so for each other place is so, or it is this place
-pub or_else : (A : ℕ → Type 0) (p : ℕ) → ((q : ℕ) → q ≢ p → A q) → (q : ℕ) → (q ≡ p) ⊎ A q
-or_else A p h q = cases (q == p) refl
-  where
-    cases : (b : Bool) → (q == p) ≡ b → (q ≡ p) ⊎ A q
-    cases true is = inl (grind (arith, nat_tests))
-    cases false is = inr (h q (grind (arith, nat_tests)))
 
 -- a level stays sound where its words and phases stay
 pub level_stays : (node side : ℕ → ℕ) (phase phase' : ℕ → Phase) (claim claim' : ℕ → ℕ → ℕ)
@@ -234,6 +225,12 @@ module _ (node side : ℕ → ℕ) (phase : ℕ → Phase) (claim : ℕ → ℕ 
         )
         (λ h. grind arith) (λ h. grind arith) (λ h. grind arith) (λ h. grind arith) (is.in_range p) (λ q. inr refl)
 
+    -- of two rivals that claim the place is one, if it claims too and they are below its node
+    one_of_rivals : (two : (q : ℕ) → side q < 2) → IsTrue (claims (phase p)) → (q r : ℕ) → node q ≡ node r
+        → side q ≢ side r → node q ≡ node p → IsTrue (claims (phase q)) → IsTrue (claims (phase r)) → (q ≡ p) ⊎ (r ≡ p)
+    one_of_rivals two hp q r nodes sides below hq hr =
+        grind (arith, two p, two q, two r, one_a_side q p below, one_a_side r p (sym nodes ∙ below))
+
     -- e2: the place whose claim stands announces itself, the last to do so at the node
     pub announces : (two : (q : ℕ) → side q < 2) (turn' : ℕ → ℕ) → phase p ≡ Named → phase' p ≡ Announced
         → turn' (node p) ≡ p + 1 → SameWords (node p) turn turn' → IsSoundLevel node side phase' claim turn' spin
@@ -245,57 +242,35 @@ module _ (node side : ℕ → ℕ) (phase : ℕ → Phase) (claim : ℕ → ℕ 
           below = λ n q h. grind (arith, others n, is.below n q);
           announced = λ q h. grind (arith, same q, others (node q), is.announced q);
           releasing = λ q h. grind (arith, same q, others (node q), is.releasing q);
-          one_of_two = λ q r rivals hq hr.
-              let nodes = rivals.0 in let sides = rivals.1 in
-              grind (
-                arith,
-                same q,
-                same r,
-                others (node q),
-                one_of_two_at q r nodes sides,
-                two p,
-                two q,
-                two r,
-                one_a_side p q,
-                one_a_side p r,
-                claims_announced (phase q),
-                claims_announced (phase r),
-              );
-          waiter = λ q r rivals hq hr.
-              let nodes = rivals.0 in let sides = rivals.1 in
-              grind (
-                arith,
-                same q,
-                same r,
-                others (node q),
-                waiter_at q r nodes sides,
-                two p,
-                two q,
-                two r,
-                one_a_side p q,
-                one_a_side p r,
-                claims_holds (phase q),
-                claims_announced (phase r),
-              );
+          one_of_two = λ q r rivals hq hr. let nodes = rivals.0 in let sides = rivals.1 in
+              let last = last_or_apart q r nodes sides (claims_announced (phase' q) hq) (claims_announced (phase' r) hr) in
+              grind (arith, same q, same r, last, one_of_two_at q r nodes sides);
+          waiter = λ q r rivals hq hr. let nodes = rivals.0 in let sides = rivals.1 in
+              let last = last_or_apart q r nodes sides (claims_holds (phase' q) hq) (claims_announced (phase' r) hr) in
+              grind (arith, same q, same r, last, waiter_at q r nodes sides);
           in_range = is.in_range;
-          let_in = λ q r rivals hq spins hr.
-              let nodes = rivals.0 in let sides = rivals.1 in
-              grind (
-                arith,
-                same q,
-                same r,
-                others (node q),
-                let_in_at q r nodes sides,
-                two p,
-                two q,
-                two r,
-                one_a_side p q,
-                one_a_side p r,
-                announced_waits (phase q),
-                claims_announced (phase q),
-                claims_announced (phase r),
-              );
+          let_in = λ q r rivals hq spins hr. let nodes = rivals.0 in let sides = rivals.1 in
+              let past = announced_waits (phase' q) hq in
+              let last = last_or_apart q r nodes sides (claims_announced (phase' q) past) (claims_announced (phase' r) hr) in
+              grind (arith, same q, same r, last, let_in_at q r nodes sides);
         }
+      where
+        -- of two rivals that claim the place is one, and the word T of their node names it; or that word stays
+        last_or_apart : (q r : ℕ) → node q ≡ node r → side q ≢ side r → IsTrue (claims (phase' q))
+            → IsTrue (claims (phase' r))
+            → (((q ≡ p) ⊎ (r ≡ p)) × (turn' (node q) ≡ p + 1)) ⊎ (turn' (node q) ≡ turn (node q))
+        last_or_apart q r nodes sides hq hr = cases (others (node q))
+          where
+            claims_before : (s : ℕ) → IsTrue (claims (phase' s)) → IsTrue (claims (phase s))
+            claims_before s h = grind (arith, same s, was)
+
+            cases : (node q ≡ node p) ⊎ (turn' (node q) ≡ turn (node q))
+                → (((q ≡ p) ⊎ (r ≡ p)) × (turn' (node q) ≡ p + 1)) ⊎ (turn' (node q) ≡ turn (node q))
+            cases (inl here) = inl (
+              one_of_rivals two (ap claims was) q r nodes sides here (claims_before q hq) (claims_before r hr),
+              ap turn' here ∙ stored,
+            )
+            cases (inr stays) = inr stays
 
     -- e3: the place that clears its spin word is not let in
     pub clears : (spin' : ℕ → ℕ) → phase p ≡ Announced → phase' p ≡ Waiting E4 → spin' p ≡ 0 → SameWords p spin spin'

@@ -13,7 +13,8 @@ use Rattle.ya_core.specs.Soundness.{Phase, Away, Named, Announced, Waiting, Hold
 use Rattle.ya_core.specs.Soundness.{phase_of, IsSoundLevel, IsSoundAt, IsOwedAt}
 use Rattle.ya_core.proofs.TreeSides.{side_below}
 use Rattle.ya_core.proofs.PhaseKinds.{competes}
-use Rattle.ya_core.proofs.LevelClauses.{Same, SameClaims, SameWords, Alike, or_else, level_stays, alike, wakes, lets_in}
+use Rattle.ya_core.proofs.Cases.{or_else}
+use Rattle.ya_core.proofs.LevelClauses.{Same, SameClaims, SameWords, Alike, level_stays, alike, wakes, lets_in}
 use Rattle.ya_core.proofs.LevelClauses.{claims_side, announces, clears, wins, gives_up, goes_away, last_unclaimed, last_other}
 use Rattle.ya_core.proofs.LevelClauses.{last_let_in}
 use Rattle.ya_core.proofs.WakeFrame.{ActsAtLevel, owed_stays}

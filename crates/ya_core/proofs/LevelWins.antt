@@ -10,6 +10,7 @@ use Rattle.ya_core.specs.ArbitrationTree.{node_of, side_of, AreRivals}
 use Rattle.ya_core.specs.Steps.{next_of, won, entry_next}
 use Rattle.ya_core.specs.Soundness.{has_announced, holds, entry_phase}
 use Rattle.ya_core.specs.Progress.{Announces, Wins, Neither, is_rival, is_win, is_entering, is_to_announce, deed_of}
+use Rattle.ya_core.proofs.Cases.{each_point}
 use Rattle.ya_core.proofs.Properness.{either}
 
 -- on the way in a process waits on at the level, or wins it
@@ -55,16 +56,9 @@ pub record HasWon (levels level : ℕ) (x next : Process) : Type 0 where
 
 -- only what waits can have waited
 not_held : (point : EntryPoint) → holds (entry_phase point) ≡ false
-not_held E1 = refl
-not_held E2 = refl
-not_held E3 = refl
-not_held E4 = refl
-not_held (E5 rival) = refl
-not_held (E6 rival) = refl
-not_held (E7 rival) = refl
-not_held E8 = refl
-not_held E9 = refl
-not_held E10 = refl
+not_held =
+    each_point (λ point. holds (entry_phase point) ≡ false) refl refl refl refl (λ rival. refl) (λ rival. refl)
+    (λ rival. refl) refl refl refl
 
 no_win : (b c : Bool) → (b ≡ true) ⊎ (c ≡ false)
     → IsTrue (is_win (if b then Announces else (if c then Wins else Neither))) → ⊥

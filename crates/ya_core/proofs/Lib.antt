@@ -1,4 +1,5 @@
 pub mod Promised
+pub mod Cases
 pub mod TreeSides
 pub mod Numbers
 pub mod Properness

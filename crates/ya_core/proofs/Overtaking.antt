@@ -14,7 +14,8 @@ use Rattle.ya_core.specs.Soundness.{Holding, has_announced, holds, phase_of, ent
 use Rattle.ya_core.specs.Progress.{Deed, announces, Announces, Wins, Neither, LevelStep, LevelSees, HasNotWon}
 use Rattle.ya_core.specs.Progress.{times_overtaken, is_rival, is_win, is_entering, is_to_announce, deed_of}
 use Rattle.ya_core.proofs.PhaseKinds.{claims_announced, claims_holds}
-use Rattle.ya_core.proofs.LevelClauses.{one_a_side, or_else}
+use Rattle.ya_core.proofs.Cases.{the_first, or_else}
+use Rattle.ya_core.proofs.LevelClauses.{one_a_side}
 use Rattle.ya_core.proofs.Phases.{phase_here, phase_won}
 use Rattle.ya_core.proofs.TreeSides.{side_below}
 use Rattle.ya_core.proofs.Invariant.{keeps}
@@ -49,14 +50,9 @@ module _ (levels level place : ℕ) (some : 1 ≤ levels) (least : 1 ≤ level) 
     -- it doesn't make T name the place
     named_before : t.words (T level (node_of level place)) ≡ place + 1
         → s.words (T level (node_of level place)) ≡ place + 1
-    named_before own = by_turn (turn_or levels level q s t some least most is step (node_of level place))
-      where
-        by_turn : (t.words (T level (node_of level place)) ≡ s.words (T level (node_of level place)))
-            ⊎ ((t.words (T level (node_of level place)) ≡ q + 1) × IsTrue (is_announcing (s.processes q)))
-            → s.words (T level (node_of level place)) ≡ place + 1
-        by_turn (inl stays) = sym stays ∙ own
-        by_turn (inr announced) =
-            absurd (apart (let both : q + 1 ≡ place + 1 = sym announced.0 ∙ own in omega (arith, both)))
+    named_before own =
+        sym (the_first (turn_or levels level q s t some least most is step (node_of level place))
+        (λ announced. apart (let both : q + 1 ≡ place + 1 = sym announced.0 ∙ own in omega (arith, both)))) ∙ own
 
     still_spent : Spent s → Spent t
     still_spent spent own r rivals past = by_place (or_else (λ p. t.processes p ≡ s.processes p) q step.others r)
@@ -164,15 +160,10 @@ module _ (levels level place : ℕ) (some : 1 ≤ levels) (least : 1 ≤ level) 
         (spent named r rivals (subst (λ x. IsTrue (has_announced (phase_of levels level x))) stays past))
       where
         named : s.words (T level (node_of level place)) ≡ place + 1
-        named = by_turn (turn_or levels level place s t some least most is step (node_of level place))
-          where
-            by_turn : (t.words (T level (node_of level place)) ≡ s.words (T level (node_of level place)))
-                ⊎ ((t.words (T level (node_of level place)) ≡ place + 1) × IsTrue (is_announcing (s.processes place)))
-                → s.words (T level (node_of level place)) ≡ place + 1
-            by_turn (inl same) = sym same ∙ own
-            by_turn (inr announced) =
-                absurd (let both : true ≡ false = sym announced.1 ∙ ap is_announcing w.at
-                ∙ (past_announces level w.point w.past).0 in cc)
+        named =
+            sym (the_first (turn_or levels level place s t some least most is step (node_of level place))
+            (λ announced. (let both : true ≡ false = sym announced.1 ∙ ap is_announcing w.at
+            ∙ (past_announces level w.point w.past).0 in cc))) ∙ own
 
   -- one that counts as a win, where the step's deed is known
   deed_win : (deed other : Deed) → deed ≡ other → IsTrue (is_win deed) → IsTrue (is_win other)

@@ -1,10 +1,10 @@
 -- Kinds of phases, and which of them are within which others.
 use Rattle.std.proofs.Common.{ℕ, ◌||◌, not, Bool, true, false, refl, IsTrue}
 use Rattle.ya_core.specs.declared.process.EntryPoint.{EntryPoint}
-use Rattle.ya_core.specs.declared.process.EntryPoint.TheVariants.{E1, E2, E3, E4, E5, E6, E7, E8, E9, E10}
 use Rattle.ya_core.specs.Soundness.{Phase, Away, Named, Announced, Waiting, Holding, Releasing, LettingIn, claims, has_announced}
 use Rattle.ya_core.specs.Soundness.{waits, holds, awaits_wake, saw_itself_last, was_woken, awaits_release, wakes_next}
 use Rattle.ya_core.specs.Soundness.{is_to_let_in}
+use Rattle.ya_core.proofs.Cases.{each_point}
 
 -- at this phase the second kind has what the first has
 abbrev pub Also : (kind other : Phase → Bool) → Phase → Type 0
@@ -31,18 +31,19 @@ by_phases kind other away named announced waiting holding releasing letting x = 
     has true false both h = absurd cc
     has false false both h = absurd cc
 
--- one who holds or is past claims, and one who holds or waits is past
-pub claims_holds : (x : Phase) → IsTrue (holds x) → IsTrue (claims x)
-claims_holds = by_phases holds claims refl refl refl (λ point. refl) refl refl (λ rival. refl)
-
+-- one who holds or waits is past
 pub announced_holds : (x : Phase) → IsTrue (holds x) → IsTrue (has_announced x)
 announced_holds = by_phases holds has_announced refl refl refl (λ point. refl) refl refl (λ rival. refl)
 
+pub announced_waits : (x : Phase) → IsTrue (waits x) → IsTrue (has_announced x)
+announced_waits = by_phases waits has_announced refl refl refl (λ point. refl) refl refl (λ rival. refl)
+
+-- one who is past, and so one who holds, claims
 pub claims_announced : (x : Phase) → IsTrue (has_announced x) → IsTrue (claims x)
 claims_announced = by_phases has_announced claims refl refl refl (λ point. refl) refl refl (λ rival. refl)
 
-pub announced_waits : (x : Phase) → IsTrue (waits x) → IsTrue (has_announced x)
-announced_waits = by_phases waits has_announced refl refl refl (λ point. refl) refl refl (λ rival. refl)
+pub claims_holds : (x : Phase) → IsTrue (holds x) → IsTrue (claims x)
+claims_holds x h = claims_announced x (announced_holds x h)
 
 -- it takes part at the node
 abbrev pub competes : Phase → Bool
@@ -52,7 +53,7 @@ competes _ = true
 pub competes_claims : (x : Phase) → IsTrue (claims x) → IsTrue (competes x)
 competes_claims = by_phases claims competes refl refl refl (λ point. refl) refl refl (λ rival. refl)
 
--- who awaits the 1 waits, and so does who saw itself last, was woken or awaits the 2; who awaits the 2 was woken
+-- who awaits the 1 waits, and so does who saw itself last or was woken
 pub waits_awaits_wake : (x : Phase) → IsTrue (awaits_wake x) → IsTrue (waits x)
 waits_awaits_wake = by_phases awaits_wake waits refl refl refl (λ point. refl) refl refl (λ rival. refl)
 
@@ -62,23 +63,15 @@ waits_saw_itself_last = by_phases saw_itself_last waits refl refl refl (λ point
 pub waits_was_woken : (x : Phase) → IsTrue (was_woken x) → IsTrue (waits x)
 waits_was_woken = by_phases was_woken waits refl refl refl (λ point. refl) refl refl (λ rival. refl)
 
-pub waits_awaits_release : (x : Phase) → IsTrue (awaits_release x) → IsTrue (waits x)
-waits_awaits_release = by_phases awaits_release waits refl refl refl (λ point. refl) refl refl (λ rival. refl)
-
+-- who awaits the 2 was woken, and so waits
 pub was_woken_awaits_release : (x : Phase) → IsTrue (awaits_release x) → IsTrue (was_woken x)
-was_woken_awaits_release = by_phases awaits_release was_woken refl refl refl at refl refl (λ rival. refl)
-  where
-    at : (point : EntryPoint) → Also awaits_release was_woken (Waiting point)
-    at E1 = refl
-    at E2 = refl
-    at E3 = refl
-    at E4 = refl
-    at (E5 rival) = refl
-    at (E6 rival) = refl
-    at (E7 rival) = refl
-    at E8 = refl
-    at E9 = refl
-    at E10 = refl
+was_woken_awaits_release =
+    by_phases awaits_release was_woken refl refl refl
+    (each_point (λ point. Also awaits_release was_woken (Waiting point)) refl refl refl refl (λ rival. refl)
+    (λ rival. refl) (λ rival. refl) refl refl refl) refl refl (λ rival. refl)
+
+pub waits_awaits_release : (x : Phase) → IsTrue (awaits_release x) → IsTrue (waits x)
+waits_awaits_release x h = waits_was_woken x (was_woken_awaits_release x h)
 
 -- a rival that competes, is past, is to free a place or to wake it takes part at the node
 pub competes_unwoken : (turn p : ℕ) (x : Phase) → IsTrue (claims x || is_to_let_in turn p x) → IsTrue (competes x)
