@@ -1,5 +1,5 @@
 -- Kinds of phases, and which of them are within which others.
-use Rattle.std.proofs.Common.{ℕ, ◌||◌, not, Bool, true, false, refl, IsTrue}
+use Rattle.std.proofs.Common.{◌≡◌, ℕ, ◌||◌, not, Bool, true, false, refl, ap, IsTrue}
 use Rattle.ya_core.specs.declared.process.EntryPoint.{EntryPoint}
 use Rattle.ya_core.specs.Soundness.{Phase, Away, Named, Announced, Waiting, Holding, Releasing, LettingIn, claims, has_announced}
 use Rattle.ya_core.specs.Soundness.{waits, holds, awaits_wake, saw_itself_last, was_woken, awaits_release, wakes_next}
@@ -31,27 +31,43 @@ by_phases kind other away named announced waiting holding releasing letting x = 
     has true false both h = absurd cc
     has false false both h = absurd cc
 
--- one who holds or waits is past
-pub announced_holds : (x : Phase) → IsTrue (holds x) → IsTrue (has_announced x)
-announced_holds = by_phases holds has_announced refl refl refl (λ point. refl) refl refl (λ rival. refl)
-
-pub announced_waits : (x : Phase) → IsTrue (waits x) → IsTrue (has_announced x)
-announced_waits = by_phases waits has_announced refl refl refl (λ point. refl) refl refl (λ rival. refl)
-
--- one who is past, and so one who holds, claims
+-- one who is past claims
 pub claims_announced : (x : Phase) → IsTrue (has_announced x) → IsTrue (claims x)
 claims_announced = by_phases has_announced claims refl refl refl (λ point. refl) refl refl (λ rival. refl)
 
+-- one who holds is past, and so claims
+pub announced_holds : (x : Phase) → IsTrue (holds x) → IsTrue (has_announced x)
+announced_holds = by_phases holds has_announced refl refl refl (λ point. refl) refl refl (λ rival. refl)
+
 pub claims_holds : (x : Phase) → IsTrue (holds x) → IsTrue (claims x)
 claims_holds x h = claims_announced x (announced_holds x h)
+
+-- one who waits is past
+pub announced_waits : (x : Phase) → IsTrue (waits x) → IsTrue (has_announced x)
+announced_waits = by_phases waits has_announced refl refl refl (λ point. refl) refl refl (λ rival. refl)
 
 -- it takes part at the node
 abbrev pub competes : Phase → Bool
 competes Away = false
 competes _ = true
 
+-- so does one of any kind of which nobody away is
+competes_of : (kind : Phase → Bool) → kind Away ≡ false → (x : Phase) → IsTrue (kind x) → IsTrue (competes x)
+competes_of kind none =
+    by_phases kind competes (ap not none) refl refl (λ point. refl) refl refl (λ rival. refl)
+
 pub competes_claims : (x : Phase) → IsTrue (claims x) → IsTrue (competes x)
-competes_claims = by_phases claims competes refl refl refl (λ point. refl) refl refl (λ rival. refl)
+competes_claims = competes_of claims refl
+
+pub competes_unwoken : (turn p : ℕ) (x : Phase) → IsTrue (claims x || is_to_let_in turn p x) → IsTrue (competes x)
+competes_unwoken turn p = competes_of (λ x. claims x || is_to_let_in turn p x) refl
+
+pub competes_unreleased : (turn p : ℕ) (x : Phase) → IsTrue (has_announced x || is_to_let_in turn p x)
+    → IsTrue (competes x)
+competes_unreleased turn p = competes_of (λ x. has_announced x || is_to_let_in turn p x) refl
+
+pub competes_wakes_next : (p : ℕ) (x : Phase) → IsTrue (wakes_next p x) → IsTrue (competes x)
+competes_wakes_next p = competes_of (wakes_next p) refl
 
 -- who awaits the 1 waits, and so does who saw itself last or was woken
 pub waits_awaits_wake : (x : Phase) → IsTrue (awaits_wake x) → IsTrue (waits x)
@@ -72,15 +88,3 @@ was_woken_awaits_release =
 
 pub waits_awaits_release : (x : Phase) → IsTrue (awaits_release x) → IsTrue (waits x)
 waits_awaits_release x h = waits_was_woken x (was_woken_awaits_release x h)
-
--- a rival that competes, is past, is to free a place or to wake it takes part at the node
-pub competes_unwoken : (turn p : ℕ) (x : Phase) → IsTrue (claims x || is_to_let_in turn p x) → IsTrue (competes x)
-competes_unwoken turn p =
-    by_phases (λ x. claims x || is_to_let_in turn p x) competes refl refl refl (λ point. refl) refl refl (λ rival. refl)
-
-pub competes_unreleased : (turn p : ℕ) (x : Phase) → IsTrue (has_announced x || is_to_let_in turn p x) → IsTrue (competes x)
-competes_unreleased turn p =
-    by_phases (λ x. has_announced x || is_to_let_in turn p x) competes refl refl refl (λ point. refl) refl refl (λ rival. refl)
-
-pub competes_wakes_next : (p : ℕ) (x : Phase) → IsTrue (wakes_next p x) → IsTrue (competes x)
-competes_wakes_next p = by_phases (wakes_next p) competes refl refl refl (λ point. refl) refl refl (λ rival. refl)
