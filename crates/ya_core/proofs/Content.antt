@@ -1,6 +1,6 @@
 -- Whatever happens, the content holds what each place made, in order, and each entry followed lawfully.
-use Rattle.std.proofs.Common.{◌≡◌, ◌≢◌, ℕ, ◌≤◌, ◌==◌, Bool, true, false, refl, arith, ap, sym, ◌∙◌, subst, ◌⊎◌, inl}
-use Rattle.std.proofs.Common.{inr, if◌then◌else◌, List, [], ◌∷◌, ◌++◌, append_assoc}
+use Rattle.std.proofs.Common.{◌≡◌, ◌≢◌, ℕ, ◌≤◌, ◌==◌, Bool, true, false, refl, arith, ap, sym, ◌∙◌, subst}
+use Rattle.std.proofs.Common.{if◌then◌else◌, List, [], ◌∷◌, ◌++◌, append_assoc}
 use Rattle.std.proofs.lemmas.Bool.Decides.{nat_tests}
 use Rattle.std.proofs.lemmas.List.{append-nil}
 use Rattle.ya_core.specs.Steps.{State, LeadTo, next_of, access_of, value_of}
@@ -8,7 +8,7 @@ use Rattle.ya_core.specs.Soundness.{IsSoundState}
 use Rattle.ya_core.specs.Worlds.{Marked, World, Event, Steps, Appends, opening_world, WorldSteps, WorldAppends, Happens}
 use Rattle.ya_core.specs.Worlds.{Runs, IsReached, entries_of, FollowsFrom, EachMayFollow, is_inside, IsInside, any_entry}
 use Rattle.ya_core.specs.Worlds.{places_of}
-use Rattle.ya_core.proofs.Cases.{or_else}
+use Rattle.ya_core.proofs.Cases.{everywhere}
 use Rattle.ya_core.proofs.Invariant.{keeps, opens, is_inside_is, excludes}
 
 -- the entries of a place, each with its mark
@@ -111,128 +111,103 @@ module _ {X : Type 0} (levels : ℕ) (ok : List (Marked X) → Marked X → Type
             ap is_inside (step.state.process ∙ ap (λ x. next_of levels place x value) was)
 
         nobody : (q : ℕ) → IsInside new.state q → ⊥
-        nobody q h = cases (or_else (λ q. new.state.processes q ≡ old.state.processes q) place step.state.others q)
-          where
-            cases : (q ≡ place) ⊎ (new.state.processes q ≡ old.state.processes q) → ⊥
-            cases (inl one) =
-                let now : is_inside (new.state.processes place) ≡ true =
-                subst (λ p. is_inside (new.state.processes p) ≡ true) one h in cc (out, now)
-            cases (inr same) =
-                let one : q ≡ place =
-                excludes levels q place old.state some is.sound (ap is_inside (sym same) ∙ h) inside in
-                let now : is_inside (new.state.processes place) ≡ true =
-                subst (λ p. is_inside (new.state.processes p) ≡ true) one h in cc (out, now)
+        nobody =
+            everywhere (λ q. IsInside new.state q → ⊥) place (λ now. let both : true ≡ false = sym now ∙ out in cc)
+            (λ q apart h. apart
+            (excludes levels q place old.state some is.sound (ap is_inside (sym (step.state.others q apart)) ∙ h) inside))
+
+        entries : (q : ℕ)
+            → entries_of q new.content ≡ entries_of q old.content ++ entries_of q (marked place (old.doing place))
+        entries q = ap (entries_of q) whole ∙ entries_of-append q old.content (marked place (old.doing place))
 
         made : (q : ℕ) → entries_of q new.content ≡ new.made q
-        made q = ap (entries_of q) whole ∙ entries_of-append q old.content (marked place (old.doing place))
-            ∙ cases (or_else (λ q. new.made q ≡ old.made q) place step.others_made q) (q == place) refl
-          where
-            cases : (q ≡ place) ⊎ (new.made q ≡ old.made q) → (b : Bool) → (q == place) ≡ b
-                → entries_of q old.content ++ entries_of q (marked place (old.doing place)) ≡ new.made q
-            cases either true one =
-                let same : q ≡ place = grind (arith, nat_tests) in
-                subst (λ p. entries_of p old.content ++ entries_of p (marked place (old.doing place)) ≡ new.made p)
-                (sym same)
-                (ap (λ xs. xs ++ entries_of place (marked place (old.doing place))) (is.made place)
-                ∙ ap (λ xs. old.made place ++ xs) (entries_of-marked place (old.doing place))
-                ∙ sym (step.made ∙ ap (λ b. if b then old.made place ++ old.doing place else old.made place) inside))
-            cases (inl same) false other = absurd (grind (arith, nat_tests))
-            cases (inr same) false other =
-                let apart : place ≢ q = grind (arith, nat_tests) in
-                ap (λ xs. entries_of q old.content ++ xs) (entries_of-marked_other q place (old.doing place) apart)
-                ∙ append-nil (entries_of q old.content) ∙ is.made q ∙ sym same
+        made =
+            everywhere (λ q. entries_of q new.content ≡ new.made q) place
+            (entries place ∙ ap (λ xs. xs ++ entries_of place (marked place (old.doing place))) (is.made place)
+            ∙ ap (λ xs. old.made place ++ xs) (entries_of-marked place (old.doing place))
+            ∙ sym (step.made ∙ ap (λ b. if b then old.made place ++ old.doing place else old.made place) inside))
+            (λ q apart. entries q
+            ∙ ap (λ xs. entries_of q old.content ++ xs)
+            (entries_of-marked_other q place (old.doing place) (λ e. apart (sym e)))
+            ∙ append-nil (entries_of q old.content) ∙ is.made q ∙ sym (step.others_made q apart))
 
     -- any other step leaves the content; where it wins the root, the copy is the content
     kept_step : WorldSteps levels place old new → is_inside (old.state.processes place) ≡ false → IsKept levels ok new
     kept_step step outside =
         record {
           sound = keeps levels place old.state new.state some is.sound step.state;
-          copies = λ q h. copies q h (q == place) refl;
-          made = λ q. ap (entries_of q) content ∙ is.made q ∙ sym (made q (q == place) refl);
+          copies = copies;
+          made = λ q. ap (entries_of q) content ∙ is.made q ∙ sym (made q);
           lawful = subst (EachMayFollow ok) (sym content) is.lawful;
-          lawful_copy = λ q h. lawful_copy q h (q == place) refl;
+          lawful_copy = lawful_copy;
         }
       where
         content : new.content ≡ old.content
         content = step.content ∙ ap (λ b. if b then old.copies place else old.content) outside
 
-        made : (q : ℕ) (b : Bool) → (q == place) ≡ b → new.made q ≡ old.made q
-        made q true one =
-            let same : q ≡ place = grind (arith, nat_tests) in
-            subst (λ p. new.made p ≡ old.made p) (sym same)
+        made : (q : ℕ) → new.made q ≡ old.made q
+        made =
+            everywhere (λ q. new.made q ≡ old.made q) place
             (step.made ∙ ap (λ b. if b then old.made place ++ old.doing place else old.made place) outside)
-        made q false other = step.others_made q (grind (arith, nat_tests))
+            step.others_made
 
-        copies : (q : ℕ) → IsInside new.state q → (b : Bool) → (q == place) ≡ b
-            → new.copies q ≡ new.content ++ marked q (new.doing q)
-        copies q h true one =
-            let same : q ≡ place = grind (arith, nat_tests) in
-            let now : is_inside (new.state.processes place) ≡ true =
-            subst (λ p. is_inside (new.state.processes p) ≡ true) same h in
-            let copy : new.copies place ≡ old.content =
-            step.copy ∙ ap (λ b. if b then old.content else old.copies place) now in
-            let doing : new.doing place ≡ [] = step.doing ∙ ap (λ b. if b then [] else old.doing place) now in
-            subst (λ p. new.copies p ≡ new.content ++ marked p (new.doing p)) (sym same)
-            (copy ∙ sym content ∙ sym (append-nil new.content) ∙ ap (λ xs. new.content ++ marked place xs) (sym doing))
-        copies q h false other =
-            let apart : q ≢ place = grind (arith, nat_tests) in
-            let was : IsInside old.state q = ap is_inside (sym (step.state.others q apart)) ∙ h in
-            step.others_copy q apart ∙ is.copies q was ∙ ap (λ xs. xs ++ marked q (old.doing q)) (sym content)
-            ∙ ap (λ xs. new.content ++ marked q xs) (sym (step.others_doing q apart))
+        copied : IsInside new.state place → new.copies place ≡ old.content
+        copied now = step.copy ∙ ap (λ b. if b then old.content else old.copies place) now
 
-        lawful_copy : (q : ℕ) → IsInside new.state q → (b : Bool) → (q == place) ≡ b → EachMayFollow ok (new.copies q)
-        lawful_copy q h true one =
-            let same : q ≡ place = grind (arith, nat_tests) in
-            let now : is_inside (new.state.processes place) ≡ true =
-            subst (λ p. is_inside (new.state.processes p) ≡ true) same h in
-            let copy : new.copies place ≡ old.content =
-            step.copy ∙ ap (λ b. if b then old.content else old.copies place) now in
-            subst (λ p. EachMayFollow ok (new.copies p)) (sym same) (subst (EachMayFollow ok) (sym copy) is.lawful)
-        lawful_copy q h false other =
-            let apart : q ≢ place = grind (arith, nat_tests) in
-            subst (EachMayFollow ok) (sym (step.others_copy q apart))
-            (is.lawful_copy q (ap is_inside (sym (step.state.others q apart)) ∙ h))
+        was : (q : ℕ) → q ≢ place → IsInside new.state q → IsInside old.state q
+        was q apart h = ap is_inside (sym (step.state.others q apart)) ∙ h
+
+        copies : (q : ℕ) → IsInside new.state q → new.copies q ≡ new.content ++ marked q (new.doing q)
+        copies =
+            everywhere (λ q. IsInside new.state q → new.copies q ≡ new.content ++ marked q (new.doing q)) place
+            (λ now. copied now ∙ sym content ∙ sym (append-nil new.content)
+            ∙ ap (λ xs. new.content ++ marked place xs)
+            (sym (step.doing ∙ ap (λ b. if b then [] else old.doing place) now)))
+            (λ q apart h. step.others_copy q apart ∙ is.copies q (was q apart h)
+            ∙ ap (λ xs. xs ++ marked q (old.doing q)) (sym content)
+            ∙ ap (λ xs. new.content ++ marked q xs) (sym (step.others_doing q apart)))
+
+        lawful_copy : (q : ℕ) → IsInside new.state q → EachMayFollow ok (new.copies q)
+        lawful_copy =
+            everywhere (λ q. IsInside new.state q → EachMayFollow ok (new.copies q)) place
+            (λ now. subst (EachMayFollow ok) (sym (copied now)) is.lawful)
+            (λ q apart h. subst (EachMayFollow ok) (sym (step.others_copy q apart)) (is.lawful_copy q (was q apart h)))
 
     -- an entry that is appended to a copy
     kept_append : (entry : X) → WorldAppends ok place entry old new → IsKept levels ok new
     kept_append entry adds =
         record {
           sound = subst (IsSoundState levels) (sym adds.state) is.sound;
-          copies = λ q h. copies q (subst (λ s. IsInside s q) adds.state h) (q == place) refl;
-          made = λ q. ap (entries_of q) adds.content ∙ is.made q ∙ sym (made q (q == place) refl);
+          copies = λ q h. copies q (was q h);
+          made = λ q. ap (entries_of q) adds.content ∙ is.made q ∙ sym (made q);
           lawful = subst (EachMayFollow ok) (sym adds.content) is.lawful;
-          lawful_copy = λ q h. lawful_copy q (subst (λ s. IsInside s q) adds.state h) (q == place) refl;
+          lawful_copy = λ q h. lawful_copy q (was q h);
         }
       where
-        made : (q : ℕ) (b : Bool) → (q == place) ≡ b → new.made q ≡ old.made q
-        made q true one =
-            let same : q ≡ place = grind (arith, nat_tests) in subst (λ p. new.made p ≡ old.made p) (sym same) adds.made
-        made q false other = adds.others_made q (grind (arith, nat_tests))
+        was : (q : ℕ) → IsInside new.state q → IsInside old.state q
+        was q h = subst (λ s. IsInside s q) adds.state h
 
-        copies : (q : ℕ) → IsInside old.state q → (b : Bool) → (q == place) ≡ b
-            → new.copies q ≡ new.content ++ marked q (new.doing q)
-        copies q h true one =
-            let same : q ≡ place = grind (arith, nat_tests) in
-            subst (λ p. new.copies p ≡ new.content ++ marked p (new.doing p)) (sym same)
-            (adds.copy ∙ ap (λ xs. xs ++ (place, entry) ∷ []) (is.copies place adds.inside)
+        made : (q : ℕ) → new.made q ≡ old.made q
+        made = everywhere (λ q. new.made q ≡ old.made q) place adds.made adds.others_made
+
+        copies : (q : ℕ) → IsInside old.state q → new.copies q ≡ new.content ++ marked q (new.doing q)
+        copies =
+            everywhere (λ q. IsInside old.state q → new.copies q ≡ new.content ++ marked q (new.doing q)) place
+            (λ h. adds.copy ∙ ap (λ xs. xs ++ (place, entry) ∷ []) (is.copies place h)
             ∙ append_assoc old.content (marked place (old.doing place)) ((place, entry) ∷ [])
             ∙ ap (λ xs. old.content ++ xs) (sym (marked-append place (old.doing place) (entry ∷ [])))
             ∙ ap (λ xs. xs ++ marked place (old.doing place ++ entry ∷ [])) (sym adds.content)
             ∙ ap (λ xs. new.content ++ marked place xs) (sym adds.doing))
-        copies q h false other =
-            let apart : q ≢ place = grind (arith, nat_tests) in
-            adds.others_copy q apart ∙ is.copies q h ∙ ap (λ xs. xs ++ marked q (old.doing q)) (sym adds.content)
-            ∙ ap (λ xs. new.content ++ marked q xs) (sym (adds.others_doing q apart))
+            (λ q apart h. adds.others_copy q apart ∙ is.copies q h
+            ∙ ap (λ xs. xs ++ marked q (old.doing q)) (sym adds.content)
+            ∙ ap (λ xs. new.content ++ marked q xs) (sym (adds.others_doing q apart)))
 
-        lawful_copy : (q : ℕ) → IsInside old.state q → (b : Bool) → (q == place) ≡ b → EachMayFollow ok (new.copies q)
-        lawful_copy q h true one =
-            let same : q ≡ place = grind (arith, nat_tests) in
-            subst (λ p. EachMayFollow ok (new.copies p)) (sym same)
-            (subst (EachMayFollow ok) (sym adds.copy)
-            (FollowsFrom-push ok [] (old.copies place) (place, entry)
-            (is.lawful_copy place adds.inside) adds.may_follow))
-        lawful_copy q h false other =
-            subst (EachMayFollow ok) (sym (adds.others_copy q (grind (arith, nat_tests)))) (is.lawful_copy q h)
+        lawful_copy : (q : ℕ) → IsInside old.state q → EachMayFollow ok (new.copies q)
+        lawful_copy =
+            everywhere (λ q. IsInside old.state q → EachMayFollow ok (new.copies q)) place
+            (λ h. subst (EachMayFollow ok) (sym adds.copy)
+            (FollowsFrom-push ok [] (old.copies place) (place, entry) (is.lawful_copy place h) adds.may_follow))
+            (λ q apart h. subst (EachMayFollow ok) (sym (adds.others_copy q apart)) (is.lawful_copy q h))
 
   -- each event keeps it
   kept_event : (event : Event X) (old new : World X) → IsKept levels ok old → Happens levels ok event old new

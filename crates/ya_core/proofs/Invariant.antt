@@ -20,9 +20,9 @@ use Rattle.ya_core.specs.Worlds.{IsInside, is_inside}
 use Rattle.ya_core.proofs.TreeSides.{node_below, node_of_place, node_of_root}
 use Rattle.ya_core.proofs.Properness.{proper_next}
 use Rattle.ya_core.proofs.PhaseKinds.{competes}
-use Rattle.ya_core.proofs.Cases.{or_else}
+use Rattle.ya_core.proofs.Cases.{everywhere}
 use Rattle.ya_core.proofs.LevelClauses.{level_stays, one_holds}
-use Rattle.ya_core.proofs.Phases.{acts_at, phase_here, phase_below, phase_away, phase_won, phase_after_exit, frame_phase}
+use Rattle.ya_core.proofs.Phases.{acts_at, phase_here, phase_below, phase_won, phase_after_exit, frame_phase}
 use Rattle.ya_core.proofs.Phases.{access_level, words_stay, holds_below}
 use Rattle.ya_core.proofs.WakeFrame.{owed_stays}
 use Rattle.ya_core.proofs.LevelSteps.{act_claim, act_announce, act_clear, act_found, act_last, act_asleep, act_awake}
@@ -314,14 +314,9 @@ module _ (levels place : ℕ) (old new : State) (some : 1 ≤ levels) (is : IsSo
           (subst (IsProper levels place) e (is.proper place)) apart ∙ ap (λ y. phase_of levels level y) (sym e)
 
       phases : (q : ℕ) → phase_of levels level (new.processes q) ≡ phase_of levels level (old.processes q)
-      phases q = cases (or_else (λ q. new.processes q ≡ old.processes q) place others q)
-        where
-          cases : (q ≡ place) ⊎ (new.processes q ≡ old.processes q)
-              → phase_of levels level (new.processes q) ≡ phase_of levels level (old.processes q)
-          cases (inl one) =
-              subst (λ p. phase_of levels level (new.processes p) ≡ phase_of levels level (old.processes p))
-              (sym one) phase_place
-          cases (inr same) = ap (λ y. phase_of levels level y) same
+      phases =
+          everywhere (λ q. phase_of levels level (new.processes q) ≡ phase_of levels level (old.processes q)) place
+          phase_place (λ q apart. ap (λ y. phase_of levels level y) (others q apart))
 
   keeps_from : (x : Process) → place < 2 ^ levels → old.processes place ≡ x
       → Accesses (access_of levels place x) old.words new.words
@@ -329,19 +324,19 @@ module _ (levels place : ℕ) (old new : State) (some : 1 ≤ levels) (is : IsSo
       → IsSoundState levels new
   keeps_from x in_tree e done now =
       record {
-        proper = λ q. proper q (or_else (λ q. new.processes q ≡ old.processes q) place others q);
+        proper = proper;
         sound = λ level least most. (whole level least most (level == acts_at levels x) refl).0;
         owed =
             λ level least most. (whole level least most (level == acts_at levels x) refl).1;
       }
     where
-      proper : (q : ℕ) → (q ≡ place) ⊎ (new.processes q ≡ old.processes q) → IsProper levels q (new.processes q)
-      proper q (inl one) =
-          subst (λ p. IsProper levels p (new.processes p)) (sym one)
+      proper : (q : ℕ) → IsProper levels q (new.processes q)
+      proper =
+          everywhere (λ q. IsProper levels q (new.processes q)) place
           (subst (IsProper levels place) (sym now)
           (proper_next levels place x (value_of old.words (access_of levels place x)) some in_tree
           (subst (IsProper levels place) e (is.proper place)) (finds levels place old x is e)))
-      proper q (inr same) = subst (IsProper levels q) (sym same) (is.proper q)
+          (λ q apart. subst (IsProper levels q) (sym (others q apart)) (is.proper q))
 
       whole : (level : ℕ) → 1 ≤ level → level ≤ levels → (b : Bool) → (level == acts_at levels x) ≡ b → IsWhole level
       whole level least most true one =

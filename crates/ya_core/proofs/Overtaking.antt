@@ -14,7 +14,7 @@ use Rattle.ya_core.specs.Soundness.{Holding, has_announced, holds, phase_of, ent
 use Rattle.ya_core.specs.Progress.{Deed, announces, Announces, Wins, Neither, LevelStep, LevelSees, HasNotWon}
 use Rattle.ya_core.specs.Progress.{times_overtaken, is_rival, is_win, is_entering, is_to_announce, deed_of}
 use Rattle.ya_core.proofs.PhaseKinds.{claims_announced, claims_holds}
-use Rattle.ya_core.proofs.Cases.{the_first, or_else}
+use Rattle.ya_core.proofs.Cases.{the_first, everywhere}
 use Rattle.ya_core.proofs.LevelClauses.{one_a_side}
 use Rattle.ya_core.proofs.Phases.{phase_here, phase_won}
 use Rattle.ya_core.proofs.TreeSides.{side_below}
@@ -55,27 +55,22 @@ module _ (levels level place : ℕ) (some : 1 ≤ levels) (least : 1 ≤ level) 
         (λ announced. apart (let both : q + 1 ≡ place + 1 = sym announced.0 ∙ own in omega (arith, both)))) ∙ own
 
     still_spent : Spent s → Spent t
-    still_spent spent own r rivals past = by_place (or_else (λ p. t.processes p ≡ s.processes p) q step.others r)
+    still_spent spent own =
+        everywhere (λ r. AreRivals level place r → IsTrue (has_announced (phase_of levels level (t.processes r)))
+        → IsTrue (holds (phase_of levels level (t.processes r)))) q
+        (λ rivals past. by_past rivals past ((turns_of levels level q s t some least most is step).past past))
+        (λ r elsewhere rivals past. let stays : t.processes r ≡ s.processes r = step.others r elsewhere in
+        subst (λ x. IsTrue (holds (phase_of levels level x))) (sym stays)
+        (spent (named_before own) r rivals (subst (λ x. IsTrue (has_announced (phase_of levels level x))) stays past)))
       where
-        by_place : (r ≡ q) ⊎ (t.processes r ≡ s.processes r) → IsTrue (holds (phase_of levels level (t.processes r)))
-        by_place (inr stays) =
-            subst (λ x. IsTrue (holds (phase_of levels level x))) (sym stays)
-            (spent (named_before own) r rivals (subst (λ x. IsTrue (has_announced (phase_of levels level x))) stays past))
-        by_place (inl one) =
-            subst (λ p. IsTrue (holds (phase_of levels level (t.processes p)))) (sym one)
-            (by_past ((turns_of levels level q s t some least most is step).past
-            (subst (λ p. IsTrue (has_announced (phase_of levels level (t.processes p)))) one past)))
-          where
-            by_past : IsTrue (has_announced (phase_of levels level (s.processes q)))
-                ⊎ (t.words (T level (node_of level q)) ≡ q + 1) → IsTrue (holds (phase_of levels level (t.processes q)))
-            by_past (inl was) =
-                let there : AreRivals level place q = subst (AreRivals level place) one rivals in
-                (turns_of levels level q s t some least most is step).held (spent (named_before own) q there was)
-                (subst (λ p. IsTrue (has_announced (phase_of levels level (t.processes p)))) one past)
-            by_past (inr announced) =
-                let there : AreRivals level place q = subst (AreRivals level place) one rivals in
-                let both : q + 1 ≡ place + 1 = sym announced ∙ ap (λ n. t.words (T level n)) (sym there.0) ∙ own in
-                absurd (apart (omega (arith, both)))
+        by_past : AreRivals level place q → IsTrue (has_announced (phase_of levels level (t.processes q)))
+            → IsTrue (has_announced (phase_of levels level (s.processes q)))
+            ⊎ (t.words (T level (node_of level q)) ≡ q + 1) → IsTrue (holds (phase_of levels level (t.processes q)))
+        by_past rivals past (inl was) =
+            (turns_of levels level q s t some least most is step).held (spent (named_before own) q rivals was) past
+        by_past rivals past (inr announced) =
+            let both : q + 1 ≡ place + 1 = sym announced ∙ ap (λ n. t.words (T level n)) (sym rivals.0) ∙ own in
+            absurd (apart (omega (arith, both)))
 
     module _ (rivals : AreRivals level place q)
         (win : IsTrue (is_win (deed_of level (s.processes q) (t.processes q)))) where

@@ -1,11 +1,11 @@
 -- One level: what a step leaves alone of what is owed there, where it changes one phase.
-use Rattle.std.proofs.Common.{◌≡◌, ◌≢◌, ℕ, ◌+◌, ◌<◌, ◌==◌, ◌||◌, Bool, true, false, refl, arith, ap, sym, ◌∙◌, subst}
+use Rattle.std.proofs.Common.{◌≡◌, ◌≢◌, ℕ, ◌+◌, ◌<◌, ◌||◌, Bool, true, false, refl, ap, sym, ◌∙◌, subst}
 use Rattle.std.proofs.Common.{◌⊎◌, inl, inr, IsTrue}
 use Rattle.std.proofs.Math.Path.{fun_ext}
-use Rattle.std.proofs.lemmas.Bool.Decides.{nat_tests}
 use Rattle.ya_core.specs.ArbitrationTree.{Rivals}
 use Rattle.ya_core.specs.Soundness.{Phase, claims, has_announced, waits, awaits_wake, saw_itself_last, was_woken, awaits_release}
 use Rattle.ya_core.specs.Soundness.{is_to_wake, wakes_next, is_to_let_in, IsSoundLevel, SomeRival, IsOwed}
+use Rattle.ya_core.proofs.Cases.{the_second, everywhere}
 use Rattle.ya_core.proofs.LevelClauses.{Same}
 use Rattle.ya_core.proofs.PhaseKinds.{claims_announced, announced_waits, waits_awaits_wake, waits_saw_itself_last}
 use Rattle.ya_core.proofs.PhaseKinds.{waits_was_woken, waits_awaits_release}
@@ -79,45 +79,54 @@ module _ (c : ActsAtLevel) where
           (a, rivals, keeps rivals (subst (λ q. IsTrue (kind (phase q))) one rival.2))
       cases (inr still) = (rival.0, rival.1, subst (λ x. IsTrue (kind x)) (sym still) rival.2)
 
+  -- where the word T stays, a rival that is of the kind or is to let the place in by it is still so
+  let_in_by : (p : ℕ) (kind : Phase → Bool) → turn' (node p) ≡ turn (node p)
+      → SomeRival node side phase' p (λ z. kind z || is_to_let_in (turn (node p)) p z)
+      → SomeRival node side phase' p (λ z. kind z || is_to_let_in (turn' (node p)) p z)
+  let_in_by p kind turns =
+      subst (λ t. SomeRival node side phase' p (λ z. kind z || is_to_let_in t p z)) (sym turns)
+
+  -- the phase of another place stays, and so what is so of it
+  still : (p : ℕ) → p ≢ a → phase' p ≡ phase p
+  still p apart = the_second (same p) apart
+
+  pub had : (p : ℕ) → p ≢ a → (kind : Phase → Bool) → IsTrue (kind (phase' p)) → IsTrue (kind (phase p))
+  had p apart kind h = subst (λ z. IsTrue (kind z)) (still p apart) h
+
   -- what is owed to another place, where its words and its phase stay
   pub others : (x y : Phase) → phase a ≡ x → phase' a ≡ y → (p : ℕ) → p ≢ a → turn' (node p) ≡ turn (node p)
       → spin' p ≡ spin p → (Rivals node side p a → Keeps turn spin node phase p x y) → Now p
   others x y was now p apart turns spins keeps =
       record {
-        unwoken = λ h zero.
-            subst (λ t. SomeRival node side phase' p (λ z. claims z || is_to_let_in t p z)) (sym turns)
-            (some p (λ z. claims z || is_to_let_in (turn (node p)) p z)
-            (λ rivals k. subst (λ z. IsTrue (claims z || is_to_let_in (turn (node p)) p z)) (sym now)
-            ((keeps rivals).unwoken (had awaits_wake h) (sym spins ∙ zero)
-            (subst (λ z. IsTrue (claims z || is_to_let_in (turn (node p)) p z)) was k)))
-            ((owed p).unwoken (had awaits_wake h) (sym spins ∙ zero)));
-        unreleased = λ h one.
-            subst (λ t. SomeRival node side phase' p (λ z. has_announced z || is_to_let_in t p z)) (sym turns)
-            (some p (λ z. has_announced z || is_to_let_in (turn (node p)) p z)
-            (λ rivals k. subst (λ z. IsTrue (has_announced z || is_to_let_in (turn (node p)) p z)) (sym now)
-            ((keeps rivals).unreleased (had waits h) (sym spins ∙ one)
-            (subst (λ z. IsTrue (has_announced z || is_to_let_in (turn (node p)) p z)) was k)))
-            ((owed p).unreleased (had waits h) (sym spins ∙ one)));
-        woken = λ h zero. (owed p).woken (had was_woken h) (sym spins ∙ zero);
-        owed_one = λ other h zero.
-            some p (is_to_wake p)
-            (λ rivals k. subst (λ z. IsTrue (is_to_wake p z)) (sym now)
-            ((keeps rivals).owed_one (not_own other) (had saw_itself_last h) (sym spins ∙ zero)
-            (subst (λ z. IsTrue (is_to_wake p z)) was k)))
-            ((owed p).owed_one (not_own other) (had saw_itself_last h) (sym spins ∙ zero));
-        has_two = λ other h. spins ∙ (owed p).has_two (not_own other) (had awaits_release h);
+        unwoken = λ h zero. let_in_still claims
+            (λ rivals. (keeps rivals).unwoken (had p apart awaits_wake h) (sym spins ∙ zero))
+            ((owed p).unwoken (had p apart awaits_wake h) (sym spins ∙ zero));
+        unreleased = λ h one. let_in_still has_announced
+            (λ rivals. (keeps rivals).unreleased (had p apart waits h) (sym spins ∙ one))
+            ((owed p).unreleased (had p apart waits h) (sym spins ∙ one));
+        woken = λ h zero. (owed p).woken (had p apart was_woken h) (sym spins ∙ zero);
+        owed_one = λ other h zero. rival_still (is_to_wake p)
+            (λ rivals. (keeps rivals).owed_one (not_own other) (had p apart saw_itself_last h) (sym spins ∙ zero))
+            ((owed p).owed_one (not_own other) (had p apart saw_itself_last h) (sym spins ∙ zero));
+        has_two = λ other h. spins ∙ (owed p).has_two (not_own other) (had p apart awaits_release h);
         keeps_two = λ other h q rivals. quiet other h q rivals (same q);
       }
     where
-      still : phase' p ≡ phase p
-      still = cases (same p)
-        where
-          cases : (p ≡ a) ⊎ (phase' p ≡ phase p) → phase' p ≡ phase p
-          cases (inl one) = absurd (apart one)
-          cases (inr stays) = stays
+      -- some rival is still of the kind, if the step keeps it
+      rival_still : (kind : Phase → Bool) → (Rivals node side p a → IsTrue (kind x) → IsTrue (kind y))
+          → SomeRival node side phase p kind → SomeRival node side phase' p kind
+      rival_still kind kept =
+          some p kind
+          (λ rivals k. subst (λ z. IsTrue (kind z)) (sym now) (kept rivals (subst (λ z. IsTrue (kind z)) was k)))
 
-      had : (kind : Phase → Bool) → IsTrue (kind (phase' p)) → IsTrue (kind (phase p))
-      had kind h = subst (λ z. IsTrue (kind z)) still h
+      -- or is still to let the place in
+      let_in_still : (kind : Phase → Bool)
+          → (Rivals node side p a → IsTrue (kind x || is_to_let_in (turn (node p)) p x)
+          → IsTrue (kind y || is_to_let_in (turn (node p)) p y))
+          → SomeRival node side phase p (λ z. kind z || is_to_let_in (turn (node p)) p z)
+          → SomeRival node side phase' p (λ z. kind z || is_to_let_in (turn' (node p)) p z)
+      let_in_still kind kept rival =
+          let_in_by p kind turns (rival_still (λ z. kind z || is_to_let_in (turn (node p)) p z) kept rival)
 
       not_own : turn' (node p) ≢ p + 1 → turn (node p) ≢ p + 1
       not_own other e = other (turns ∙ e)
@@ -127,9 +136,9 @@ module _ (c : ActsAtLevel) where
       quiet other h q rivals (inl one) =
           subst (λ r. wakes_next p (phase' r) ≡ false) (sym one)
           (ap (wakes_next p) now
-          ∙ (keeps (subst (Rivals node side p) one rivals)).keeps_two (not_own other) (had awaits_release h))
+          ∙ (keeps (subst (Rivals node side p) one rivals)).keeps_two (not_own other) (had p apart awaits_release h))
       quiet other h q rivals (inr stays) =
-          ap (wakes_next p) stays ∙ (owed p).keeps_two (not_own other) (had awaits_release h) q rivals
+          ap (wakes_next p) stays ∙ (owed p).keeps_two (not_own other) (had p apart awaits_release h) q rivals
 
   -- what is owed to the place itself, which still waits
   pub itself : (x y : Phase) → phase a ≡ x → phase' a ≡ y → turn' (node a) ≡ turn (node a) → spin' a ≡ spin a
@@ -141,20 +150,23 @@ module _ (c : ActsAtLevel) where
       → (IsTrue (awaits_release y) → turn (node a) ≡ a + 1) → Now a
   itself x y was now turns spins waiting one woken saw let_in =
       record {
-        unwoken = λ h zero. subst (λ t. SomeRival node side phase' a (λ z. claims z || is_to_let_in t a z)) (sym turns)
-            (some a (λ z. claims z || is_to_let_in (turn (node a)) a z) (λ rivals k. absurd (rivals.1 refl))
+        unwoken = λ h zero. let_in_by a claims turns
+            (its_rivals (λ z. claims z || is_to_let_in (turn (node a)) a z)
             (unwoken (one (has awaits_wake h)) (sym spins ∙ zero)));
-        unreleased = λ h single.
-            subst (λ t. SomeRival node side phase' a (λ z. has_announced z || is_to_let_in t a z)) (sym turns)
-            (some a (λ z. has_announced z || is_to_let_in (turn (node a)) a z) (λ rivals k. absurd (rivals.1 refl))
+        unreleased = λ h single. let_in_by a has_announced turns
+            (its_rivals (λ z. has_announced z || is_to_let_in (turn (node a)) a z)
             ((owed a).unreleased (subst (λ z. IsTrue (waits z)) (sym was) waiting) (sym spins ∙ single)));
         woken = λ h zero. woken (has was_woken h) (sym spins ∙ zero);
-        owed_one = λ other h zero. some a (is_to_wake a) (λ rivals k. absurd (rivals.1 refl))
+        owed_one = λ other h zero. its_rivals (is_to_wake a)
             (owed_one (saw (has saw_itself_last h)) (λ e. other (turns ∙ e)) (sym spins ∙ zero));
         has_two = λ other h. absurd (other (turns ∙ let_in (has awaits_release h)));
         keeps_two = λ other h q rivals. absurd (other (turns ∙ let_in (has awaits_release h)));
       }
     where
+      -- no place is its own rival
+      its_rivals : (kind : Phase → Bool) → SomeRival node side phase a kind → SomeRival node side phase' a kind
+      its_rivals kind = some a kind (λ rivals k. absurd (rivals.1 refl))
+
       has : (kind : Phase → Bool) → IsTrue (kind (phase' a)) → IsTrue (kind y)
       has kind h = subst (λ z. IsTrue (kind z)) now h
 
@@ -171,11 +183,7 @@ module _ (c : ActsAtLevel) where
 
   -- what is owed to everyone
   pub everyone : Now a → ((p : ℕ) → p ≢ a → Now p) → (p : ℕ) → Now p
-  everyone own rest p = cases (p == a) refl
-    where
-      cases : (b : Bool) → (p == a) ≡ b → Now p
-      cases true one = let here : p ≡ a = grind (arith, nat_tests) in subst Now (sym here) own
-      cases false other = rest p (grind (arith, nat_tests))
+  everyone = everywhere Now a
 
   -- who waits claims, and so a word C names it
   pub named : (p : ℕ) → IsTrue (waits (phase p)) → claim (node p) (side p) ≡ p + 1

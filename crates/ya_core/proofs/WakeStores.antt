@@ -7,10 +7,11 @@ use Rattle.ya_core.specs.ArbitrationTree.{Rivals}
 use Rattle.ya_core.specs.Soundness.{Phase, Away, Named, Announced, Waiting, LettingIn, claims, has_announced, waits}
 use Rattle.ya_core.specs.Soundness.{awaits_wake, saw_itself_last, was_woken, awaits_release, is_to_wake, wakes_next}
 use Rattle.ya_core.specs.Soundness.{is_to_let_in, SomeRival}
+use Rattle.ya_core.proofs.Cases.{the_second, everywhere}
 use Rattle.ya_core.proofs.LevelClauses.{SameWords}
 use Rattle.ya_core.proofs.PhaseKinds.{competes, competes_claims, claims_announced, announced_waits, waits_awaits_release}
 use Rattle.ya_core.proofs.PhaseKinds.{was_woken_awaits_release, competes_unreleased, competes_wakes_next}
-use Rattle.ya_core.proofs.WakeFrame.{ActsAtLevel, Now, nothing, others, itself, everyone, past}
+use Rattle.ya_core.proofs.WakeFrame.{ActsAtLevel, Now, nothing, had, others, itself, everyone, past}
 
 module _ (c : ActsAtLevel) where
   open c use {node, side, two, phase, turn, spin, is, owed, a, phase', same, turn', spin'}
@@ -28,48 +29,36 @@ module _ (c : ActsAtLevel) where
         has_two = λ other h. absurd (none awaits_release refl h);
         keeps_two = λ other h q rivals. absurd (none awaits_release refl h);
       })
-      (λ p apart. others c Announced (Waiting E4) was now p apart (turns (node p)) (stays p apart (others_stay p))
+      (λ p apart. others c Announced (Waiting E4) was now p apart (turns (node p)) (the_second (others_stay p) apart)
       (λ rivals. past c p Announced (Waiting E4) refl refl (λ other h z k. refl) (λ other h. refl)))
     where
       none : (kind : Phase → Bool) → kind (Waiting E4) ≡ false → IsTrue (kind (phase' a)) → ⊥
       none kind off h = let both : true ≡ false = sym h ∙ ap kind now ∙ off in cc
 
-      stays : (p : ℕ) → p ≢ a → (p ≡ a) ⊎ (spin' p ≡ spin p) → spin' p ≡ spin p
-      stays p apart (inl one) = absurd (apart one)
-      stays p apart (inr still) = still
-
   module _ (rival : ℕ) (turns : (n : ℕ) → turn' n ≡ turn n) (rest : SameWords rival spin spin')
       (elsewhere : rival ≢ a) where
     -- the other words P stay
     spin_stays : (p : ℕ) → p ≢ rival → spin' p ≡ spin p
-    spin_stays p apart = cases (rest p)
-      where
-        cases : (p ≡ rival) ⊎ (spin' p ≡ spin p) → spin' p ≡ spin p
-        cases (inl one) = absurd (apart one)
-        cases (inr still) = still
+    spin_stays p apart = the_second (rest p) apart
 
-    -- everyone but the place, by whether it is the one whose spin word changed
-    by_rival : Now c rival → ((p : ℕ) → p ≢ rival → Now c p) → (p : ℕ) → Now c p
-    by_rival own others_now p = cases (p == rival) refl
-      where
-        cases : (b : Bool) → (p == rival) ≡ b → Now c p
-        cases true one = let here : p ≡ rival = grind (arith, nat_tests) in subst (Now c) (sym here) own
-        cases false other = others_now p (grind (arith, nat_tests))
-
-    -- the rival's phase stays
-    rival_stays : phase' rival ≡ phase rival
-    rival_stays = cases (same rival)
-      where
-        cases : (rival ≡ a) ⊎ (phase' rival ≡ phase rival) → phase' rival ≡ phase rival
-        cases (inl one) = absurd (elsewhere one)
-        cases (inr still) = still
+    -- what is owed to everyone: to the one whose spin word changed, to the place itself, and to the others
+    by_rival : Now c rival → Now c a → ((p : ℕ) → p ≢ rival → p ≢ a → Now c p) → (p : ℕ) → Now c p
+    by_rival of_rival own of_others =
+        everywhere (Now c) rival of_rival
+        (everywhere (λ p. p ≢ rival → Now c p) a (λ not_rival. own) (λ p apart not_rival. of_others p not_rival apart))
 
     -- e7: the place wakes its rival
     pub owed_wakes : phase a ≡ Waiting (E7 rival) → phase' a ≡ Waiting E8 → Rivals node side a rival → spin' rival ≡ 1
         → (p : ℕ) → Now c p
     owed_wakes was now there stored =
         by_rival woken
-        (λ p not_rival. everyone_but p not_rival (p == a) refl)
+        (itself c (Waiting (E7 rival)) (Waiting E8) was now (turns (node a)) (spin_stays a (λ e. elsewhere (sym e))) refl
+        (λ h. inl refl) (λ h. absurd cc) (λ h. inl refl) (λ h. absurd cc))
+        (λ p not_rival apart. others c (Waiting (E7 rival)) (Waiting E8) was now p apart (turns (node p))
+        (spin_stays p not_rival)
+        (λ rivals. past c p (Waiting (E7 rival)) (Waiting E8) refl refl
+        (λ aside h z k. absurd (not_rival (let one : rival ≡ p = grind (arith, nat_tests) in sym one)))
+        (λ aside h. refl)))
       where
         woken : Now c rival
         woken =
@@ -90,31 +79,26 @@ module _ (c : ActsAtLevel) where
             disturbed other h =
                 let quiet : wakes_next rival (phase a) ≡ false =
                 (owed rival).keeps_two (λ e. other (turns (node rival) ∙ e))
-                (subst (λ z. IsTrue (awaits_release z)) rival_stays h) a (sym there.0, λ e. there.1 (sym e)) in
+                (had c rival elsewhere awaits_release h) a (sym there.0, λ e. there.1 (sym e)) in
                 let loud : (rival == rival) ≡ false = sym (ap (wakes_next rival) was) ∙ quiet in
                 let self : (rival == rival) ≡ true = grind (arith, nat_tests) in
                 let both : true ≡ false = sym self ∙ loud in cc
 
-        everyone_but : (p : ℕ) → p ≢ rival → (b : Bool) → (p == a) ≡ b → Now c p
-        everyone_but p not_rival true one =
-            let here : p ≡ a = grind (arith, nat_tests) in
-            subst (Now c) (sym here)
-            (itself c (Waiting (E7 rival)) (Waiting E8) was now (turns (node a))
-            (spin_stays a (λ e. elsewhere (sym e))) refl (λ h. inl refl) (λ h. absurd cc) (λ h. inl refl)
-            (λ h. absurd cc))
-        everyone_but p not_rival false other =
-            others c (Waiting (E7 rival)) (Waiting E8) was now p (grind (arith, nat_tests)) (turns (node p))
-            (spin_stays p not_rival)
-            (λ rivals. past c p (Waiting (E7 rival)) (Waiting E8) refl refl
-            (λ aside h z k. absurd (not_rival (let one : rival ≡ p = grind (arith, nat_tests) in sym one)))
-            (λ aside h. refl))
-
     -- x3: the place lets another one in
     pub owed_let_in : phase a ≡ LettingIn rival → phase' a ≡ Away → spin' rival ≡ 2 → (p : ℕ) → Now c p
     owed_let_in was now stored =
-        by_rival freed
-        (λ p not_rival. everyone_but p not_rival (p == a) refl)
+        by_rival freed (nothing c a (ap waits now))
+        (λ p not_rival apart. others c (LettingIn rival) Away was now p apart (turns (node p)) (spin_stays p not_rival)
+        (λ rivals. record {
+          unwoken = λ h z k. absurd (aside p not_rival k);
+          unreleased = λ h one k. absurd (aside p not_rival k);
+          owed_one = λ other h z k. absurd cc;
+          keeps_two = λ other h. refl;
+        }))
       where
+        aside : (p : ℕ) → p ≢ rival → IsTrue (rival == p) → ⊥
+        aside p not_rival k = not_rival (let one : rival ≡ p = grind (arith, nat_tests) in sym one)
+
         freed : Now c rival
         freed =
             record {
@@ -132,22 +116,7 @@ module _ (c : ActsAtLevel) where
                 subst (λ r. wakes_next rival (phase' r) ≡ false) (sym one) (ap (wakes_next rival) now)
             quiet other h q rivals (inr still) =
                 ap (wakes_next rival) still ∙ (owed rival).keeps_two (λ e. other (turns (node rival) ∙ e))
-                (subst (λ z. IsTrue (awaits_release z)) rival_stays h) q rivals
-
-        everyone_but : (p : ℕ) → p ≢ rival → (b : Bool) → (p == a) ≡ b → Now c p
-        everyone_but p not_rival true one =
-            let here : p ≡ a = grind (arith, nat_tests) in subst (Now c) (sym here) (nothing c a (ap waits now))
-        everyone_but p not_rival false other =
-            others c (LettingIn rival) Away was now p (grind (arith, nat_tests)) (turns (node p)) (spin_stays p not_rival)
-            (λ rivals. record {
-              unwoken = λ h z k. absurd (aside k);
-              unreleased = λ h one k. absurd (aside k);
-              owed_one = λ apart h z k. absurd cc;
-              keeps_two = λ apart h. refl;
-            })
-          where
-            aside : IsTrue (rival == p) → ⊥
-            aside k = not_rival (let one : rival ≡ p = grind (arith, nat_tests) in sym one)
+                (had c rival elsewhere awaits_release h) q rivals
 
   -- e2: the place announces itself, and is owing from then on to each rival that waits
   pub owed_announced : ((q : ℕ) → spin' q ≡ spin q) → phase a ≡ Named → phase' a ≡ Announced → turn' (node a) ≡ a + 1
@@ -159,13 +128,8 @@ module _ (c : ActsAtLevel) where
       by_node : (p : ℕ) → p ≢ a → (b : Bool) → (node p == node a) ≡ b → Now c p
       by_node p apart false elsewhere =
           let far : node p ≢ node a = grind (arith, nat_tests) in
-          others c Named Announced was now p apart (turn_stays (rest (node p)) far) (spins p)
+          others c Named Announced was now p apart (the_second (rest (node p)) far) (spins p)
           (λ rivals. absurd (far rivals.0))
-        where
-          turn_stays : (node p ≡ node a) ⊎ (turn' (node p) ≡ turn (node p)) → node p ≢ node a
-              → turn' (node p) ≡ turn (node p)
-          turn_stays (inl one) far = absurd (far one)
-          turn_stays (inr still) far = still
       by_node p apart true here =
           let at : node p ≡ node a = grind (arith, nat_tests) in
           by_side p apart at (side p == side a) refl
@@ -175,15 +139,11 @@ module _ (c : ActsAtLevel) where
               let beside : side p ≡ side a = grind (arith, nat_tests) in
               nothing c p (idle (waits (phase' p)) refl)
             where
-              still : (p ≡ a) ⊎ (phase' p ≡ phase p) → phase' p ≡ phase p
-              still (inl e) = absurd (apart e)
-              still (inr e) = e
-
               idle : (b : Bool) → waits (phase' p) ≡ b → waits (phase' p) ≡ false
               idle false e = e
               idle true e =
                   let beside : side p ≡ side a = grind (arith, nat_tests) in
-                  let waiting : IsTrue (waits (phase p)) = subst (λ z. IsTrue (waits z)) (still (same p)) e in
+                  let waiting : IsTrue (waits (phase p)) = had c p apart waits e in
                   absurd (apart
                   (alone p at beside
                   (competes_claims (phase p) (claims_announced (phase p) (announced_waits (phase p) waiting)))))
@@ -204,19 +164,12 @@ module _ (c : ActsAtLevel) where
                       (at, across),
                       subst (λ z. IsTrue (has_announced z || is_to_let_in (turn' (node p)) p z)) (sym now) refl,
                     );
-                    woken = λ h zero. (owed p).woken (had was_woken h) (sym (spins p) ∙ zero);
+                    woken = λ h zero. (owed p).woken (had c p apart was_woken h) (sym (spins p) ∙ zero);
                     owed_one = λ other h zero. (a, (at, across), subst (λ z. IsTrue (is_to_wake p z)) (sym now) refl);
                     has_two = λ other h. spins p ∙ has_two h (turn (node p) == p + 1) refl;
                     keeps_two = λ other h q rivals. quiet q rivals (same q) (wakes_next p (phase' q)) refl;
                   }
                 where
-                  still : (p ≡ a) ⊎ (phase' p ≡ phase p) → phase' p ≡ phase p
-                  still (inl e) = absurd (apart e)
-                  still (inr e) = e
-
-                  had : (kind : Phase → Bool) → IsTrue (kind (phase' p)) → IsTrue (kind (phase p))
-                  had kind h = subst (λ z. IsTrue (kind z)) (still (same p)) h
-
                   -- a rival of the place that takes part is the one that announces itself
                   only : (q : ℕ) → Rivals node side p q → IsTrue (competes (phase q)) → q ≡ a
                   only q rivals h = alone q (sym rivals.0 ∙ at) (omega (arith, two p, two q, two a, rivals.1, across)) h
@@ -231,15 +184,16 @@ module _ (c : ActsAtLevel) where
                       cc
 
                   has_two : IsTrue (awaits_release (phase' p)) → (b : Bool) → (turn (node p) == p + 1) ≡ b → spin p ≡ 2
-                  has_two h false e = (owed p).has_two (grind (arith, nat_tests)) (had awaits_release h)
+                  has_two h false e = (owed p).has_two (grind (arith, nat_tests)) (had c p apart awaits_release h)
                   has_two h true e = by_word (spin p) refl
                     where
                       woken : spin p ≢ 0
-                      woken = (owed p).woken (was_woken_awaits_release (phase p) (had awaits_release h))
+                      woken = (owed p).woken (was_woken_awaits_release (phase p) (had c p apart awaits_release h))
 
                       single : spin p ≡ 1 → ⊥
                       single one_word =
-                          no_rival ((owed p).unreleased (waits_awaits_release (phase p) (had awaits_release h)) one_word)
+                          no_rival
+                          ((owed p).unreleased (waits_awaits_release (phase p) (had c p apart awaits_release h)) one_word)
 
                       by_word : (n : ℕ) → spin p ≡ n → spin p ≡ 2
                       by_word n e = grind (arith, woken, single, is.in_range p)
