@@ -1,12 +1,10 @@
 -- One level: what each kind of step keeps of it. `node` and `side` say where each place competes.
 use Rattle.std.proofs.Common.{◌≡◌, ◌≢◌, ℕ, ◌+◌, ◌-◌, ◌<◌, refl, arith, ap, sym, ◌∙◌, subst, ◌≤◌, ◌⊎◌, inl, inr, IsTrue}
 use Rattle.std.proofs.Math.Path.{fun_ext}
-use Rattle.std.proofs.lemmas.Bool.Decides.{nat_tests}
 use Rattle.ya_core.specs.declared.process.EntryPoint.{EntryPoint}
 use Rattle.ya_core.specs.declared.process.EntryPoint.TheVariants.{E4}
 use Rattle.ya_core.specs.Soundness.{Phase, Away, Named, Announced, Waiting, Holding, Releasing, claims, has_announced, waits}
 use Rattle.ya_core.specs.Soundness.{holds, is_releasing, IsSoundLevel}
-use Rattle.ya_core.specs.ArbitrationTree.{Rivals}
 use Rattle.ya_core.proofs.PhaseKinds.{claims_holds, announced_holds, claims_announced, announced_waits, competes}
 use Rattle.ya_core.proofs.PhaseKinds.{competes_claims}
 
@@ -86,59 +84,6 @@ module _ (node side : ℕ → ℕ) (phase : ℕ → Phase) (claim : ℕ → ℕ 
 
   claimant_claims : (n s p : ℕ) → claim n s ≡ p + 1 → IsTrue (claims (phase p))
   claimant_claims n s p h = (is.claimant n s p h).2
-
-  -- where spin words alone change
-  spins_anew : (spin' : ℕ → ℕ) → ((p : ℕ) → spin' p ≤ 2)
-      → ((p q : ℕ) → Rivals node side p q → IsTrue (waits (phase p)) → spin' p ≡ 2 → IsTrue (has_announced (phase q))
-      → turn (node p) ≡ q + 1)
-      → IsSoundLevel node side phase claim turn spin'
-  spins_anew spin' in_range let_in =
-      record {
-        claimed = is.claimed;
-        claimant = is.claimant;
-        below = is.below;
-        announced = is.announced;
-        releasing = is.releasing;
-        one_of_two = is.one_of_two;
-        waiter = is.waiter;
-        in_range = in_range;
-        let_in = let_in;
-      }
-
-  -- e7: a spin word that becomes 1 lets nobody in
-  pub wakes : (r : ℕ) (spin' : ℕ → ℕ) → spin' r ≡ 1 → SameWords r spin spin'
-      → IsSoundLevel node side phase claim turn spin'
-  wakes r spin' stored others =
-      spins_anew spin' (λ q. grind (arith, others q, is.in_range q))
-      (λ q s rivals hq spins hs. grind (arith, others q, let_in_at q s rivals.0 rivals.1))
-
-  -- x3: a place that is alone on its side, and away, lets in another place below the node; no rival of that one is past
-  pub lets_in : (two : (q : ℕ) → side q < 2) (p r : ℕ) (spin' : ℕ → ℕ) → Alike (phase p) Away → node p ≡ node r → r ≢ p
-      → spin' r ≡ 2 → SameWords r spin spin'
-      → ((q : ℕ) → node q ≡ node p → side q ≡ side p → IsTrue (competes (phase q)) → q ≡ p)
-      → IsSoundLevel node side phase claim turn spin'
-  lets_in two p r spin' was below other stored others alone =
-      spins_anew spin' (λ q. grind (arith, others q, is.in_range q))
-      (λ q s rivals hq spins hs.
-      let nodes = rivals.0 in let sides = rivals.1 in
-      grind (
-        arith,
-        others q,
-        let_in_at q s nodes sides,
-        alone q,
-        alone s,
-        competes_claims (phase q),
-        competes_claims (phase s),
-        two p,
-        two q,
-        two s,
-        announced_waits (phase q) hq,
-        claims_announced (phase q),
-        claims_announced (phase s) hs,
-        was.claiming,
-        was.past,
-        was.waiting,
-      ))
 
   module _ (p : ℕ) (phase' : ℕ → Phase) (same : Same p phase phase') where
     -- the clause on claims after the step
@@ -320,3 +265,47 @@ module _ (node side : ℕ → ℕ) (phase : ℕ → Phase) (claim : ℕ → ℕ 
     -- at e10 the place was let in
     pub last_let_in : spin p ≡ 2 → IsTrue (waits (phase p)) → RivalsAreLast
     last_let_in two hp = still_waits hp two
+
+  -- where one spin word alone changes, to one that lets its place in only where the rivals that are past came last
+  spin_changes : (r : ℕ) (spin' : ℕ → ℕ)
+      → (IsTrue (waits (phase r)) → spin' r ≡ 2 → (q : ℕ) → node r ≡ node q → side r ≢ side q
+      → IsTrue (has_announced (phase q)) → turn (node r) ≡ q + 1)
+      → spin' r ≤ 2 → SameWords r spin spin' → IsSoundLevel node side phase claim turn spin'
+  spin_changes r spin' waiting =
+      frame r phase (λ q. inr refl) claim spin' (is.claimed, is.claimant) (λ h. h) (is.releasing r)
+      (still_holds r phase (λ q. inr refl)) waiting
+
+  -- e7: a spin word that becomes 1 lets nobody in
+  pub wakes : (r : ℕ) (spin' : ℕ → ℕ) → spin' r ≡ 1 → SameWords r spin spin'
+      → IsSoundLevel node side phase claim turn spin'
+  wakes r spin' stored =
+      spin_changes r spin' (λ waiting stored_two. absurd (omega (arith, stored, stored_two))) (omega (arith, stored))
+
+  -- x3: a place that is alone on its side, and away, lets in another place below the node; no rival of that one is past
+  pub lets_in : (two : (q : ℕ) → side q < 2) (p r : ℕ) (spin' : ℕ → ℕ) → Alike (phase p) Away → node p ≡ node r → r ≢ p
+      → spin' r ≡ 2 → SameWords r spin spin'
+      → ((q : ℕ) → node q ≡ node p → side q ≡ side p → IsTrue (competes (phase q)) → q ≡ p)
+      → IsSoundLevel node side phase claim turn spin'
+  lets_in two p r spin' was below other stored others alone =
+      spin_changes r spin' (λ waiting stored_two q nodes sides hq. absurd (none waiting q nodes sides hq))
+      (omega (arith, stored)) others
+    where
+      none : IsTrue (waits (phase r)) → (q : ℕ) → node r ≡ node q → side r ≢ side q → IsTrue (has_announced (phase q)) → ⊥
+      none waiting q nodes sides hq =
+          grind (
+            arith,
+            nodes,
+            sides,
+            alone q,
+            alone r,
+            competes_claims (phase q),
+            competes_claims (phase r),
+            two p,
+            two q,
+            two r,
+            announced_waits (phase r) waiting,
+            claims_announced (phase q) hq,
+            claims_announced (phase r),
+            was.claiming,
+            was.past,
+          )

@@ -36,7 +36,7 @@ phase_above : (level stands : ℕ) (a : Phase) → stands < level → phase_at l
 phase_above level stands a more = grind (arith, nat_tests)
 
 -- one who is away where it stands is away there and above
-pub phase_away : (level stands : ℕ) → stands ≤ level → phase_at level stands Away ≡ Away
+phase_away : (level stands : ℕ) → stands ≤ level → phase_at level stands Away ≡ Away
 phase_away level stands most = grind (arith, nat_tests)
 
 -- at another level it doesn't matter what is done where the process stands
