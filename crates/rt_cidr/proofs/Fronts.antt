@@ -79,15 +79,22 @@ module _ (text : List ℕ) (value len : ℕ) (front : LeadingDigits text value l
         ends = rw (get_or-drop len text 0 0, add-zero) front.ends;
       }
 
--- an octet is a decimal, which the cap leaves as it is
-pub octet_is_decimal : (text : List ℕ) (n : ℕ) (rest : List ℕ) → StartsBy IsOctetText text n rest →
-    StartsBy IsCappedDecimal text n rest
-octet_is_decimal text n rest h = record {
+-- what is one kind of piece, and so another, begins a text as the other kind too
+front_as : (IsText IsOther : List ℕ → ℕ → Type 0) → ((text : List ℕ) (n : ℕ) → IsText text n → IsOther text n) →
+    (text : List ℕ) (n : ℕ) (rest : List ℕ) → StartsBy IsText text n rest → StartsBy IsOther text n rest
+front_as IsText IsOther also text n rest h = record {
   piece = h.piece;
-  is_piece = record { n = n; spelled = h.is_piece.spelled; is_value = let fits : n < 256 = h.is_piece.fits in omega arith };
+  is_piece = also h.piece n h.is_piece;
   joined = h.joined;
   ends = h.ends;
 }
+
+-- an octet is a decimal, which the cap leaves as it is
+pub octet_is_decimal : (text : List ℕ) (n : ℕ) (rest : List ℕ) → StartsBy IsOctetText text n rest →
+    StartsBy IsCappedDecimal text n rest
+octet_is_decimal =
+    front_as IsOctetText IsCappedDecimal
+    (λ text n h. record { n = n; spelled = h.spelled; is_value = let fits : n < 256 = h.fits in omega arith })
 
 -- a larger decimal is none
 pub no_octet : (text : List ℕ) (value : ℕ) (after : List ℕ) → StartsBy IsCappedDecimal text value after →
@@ -95,6 +102,21 @@ pub no_octet : (text : List ℕ) (value : ℕ) (after : List ℕ) → StartsBy I
 no_octet text value after read large n rest h =
     let same = decimal_read_once text value n after rest read (octet_is_decimal text n rest h) in
     omega (arith, same.0, h.is_piece.fits)
+
+-- two pieces and the mark between them are a joined text
+joined_pieces : (IsHigh IsLow : List ℕ → ℕ → Type 0) (mark scale : ℕ) {high_text low_text : List ℕ} {high low : ℕ} →
+    IsHigh high_text high → IsLow low_text low →
+    IsJoined IsHigh IsLow mark scale (high_text ++ mark ∷ low_text) (high * scale + low)
+joined_pieces IsHigh IsLow mark scale {high_text} {low_text} {high} {low} is_high is_low = record {
+  high_text = high_text;
+  low_text = low_text;
+  high = high;
+  low = low;
+  is_high = is_high;
+  is_low = is_low;
+  joined = refl;
+  value = refl;
+}
 
 -- a text that begins with two joined pieces: the high one, the mark, the low one
 record Joins (IsHigh IsLow : List ℕ → ℕ → Type 0) (mark scale : ℕ) (text : List ℕ) (n : ℕ) (rest : List ℕ) : Type 0 where
@@ -124,16 +146,7 @@ module _ (IsHigh IsLow : List ℕ → ℕ → Type 0) (mark scale : ℕ) (mark_e
       StartsBy (IsJoined IsHigh IsLow mark scale) text n rest
   joined_front high low n other after rest one marked two value = record {
     piece = one.piece ++ mark ∷ two.piece;
-    is_piece = record {
-      high_text = one.piece;
-      low_text = two.piece;
-      high = high;
-      low = low;
-      is_high = one.is_piece;
-      is_low = two.is_piece;
-      joined = refl;
-      value = value;
-    };
+    is_piece = rw value (joined_pieces IsHigh IsLow mark scale one.is_piece two.is_piece);
     joined = one.joined ∙ ap (λ t. one.piece ++ t) (marked ∙ ap (λ t. mark ∷ t) two.joined) ∙ sym (append_assoc one.piece (mark ∷ two.piece) rest);
     ends = two.ends;
   }
@@ -180,26 +193,8 @@ address_is_halves text address h = record {
   low_text = h.third_text ++ dot ∷ h.fourth_text;
   high = h.first * 2 ^ 8 + h.second;
   low = h.third * 2 ^ 8 + h.fourth;
-  is_high = record {
-    high_text = h.first_text;
-    low_text = h.second_text;
-    high = h.first;
-    low = h.second;
-    is_high = h.is_first;
-    is_low = h.is_second;
-    joined = refl;
-    value = refl;
-  };
-  is_low = record {
-    high_text = h.third_text;
-    low_text = h.fourth_text;
-    high = h.third;
-    low = h.fourth;
-    is_high = h.is_third;
-    is_low = h.is_fourth;
-    joined = refl;
-    value = refl;
-  };
+  is_high = joined_pieces IsOctetText IsOctetText dot (2 ^ 8) h.is_first h.is_second;
+  is_low = joined_pieces IsOctetText IsOctetText dot (2 ^ 8) h.is_third h.is_fourth;
   joined = h.joined ∙ sym (append_assoc h.first_text (dot ∷ h.second_text) (dot ∷ (h.third_text ++ dot ∷ h.fourth_text)));
   value = omega (arith, h.value);
 }
@@ -229,21 +224,11 @@ halves_are_address text address h =
 -- the same at the front of a text
 pub address_front_is_halves : (text : List ℕ) (n : ℕ) (rest : List ℕ) → StartsBy IsAddressText text n rest →
     StartsBy (IsJoined IsHalfText IsHalfText dot (2 ^ 16)) text n rest
-address_front_is_halves text n rest h = record {
-  piece = h.piece;
-  is_piece = address_is_halves h.piece n h.is_piece;
-  joined = h.joined;
-  ends = h.ends;
-}
+address_front_is_halves = front_as IsAddressText (IsJoined IsHalfText IsHalfText dot (2 ^ 16)) address_is_halves
 
 pub halves_front_is_address : (text : List ℕ) (n : ℕ) (rest : List ℕ) →
     StartsBy (IsJoined IsHalfText IsHalfText dot (2 ^ 16)) text n rest → StartsBy IsAddressText text n rest
-halves_front_is_address text n rest h = record {
-  piece = h.piece;
-  is_piece = halves_are_address h.piece n h.is_piece;
-  joined = h.joined;
-  ends = h.ends;
-}
+halves_front_is_address = front_as (IsJoined IsHalfText IsHalfText dot (2 ^ 16)) IsAddressText halves_are_address
 
 pub half_read_once : IsReadOnce IsHalfText
 half_read_once = joined_read_once IsOctetText IsOctetText dot (2 ^ 8) (lit≤ tt) octet_read_once octet_read_once
