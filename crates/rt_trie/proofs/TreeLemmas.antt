@@ -1,16 +1,15 @@
 -- The nodes that a link holds are those of its trie.
-use Rattle.std.proofs.Common.{◌≡◌, true, false, List, [], ◌∷◌, ◌++◌, Option, Some, None, map, refl, ap, subst, sym, ◌∙◌}
+use Rattle.std.proofs.Common.{◌≡◌, true, false, [], ◌∷◌, ◌++◌, Option, Some, None, map, refl, subst, sym}
 use Rattle.std.proofs.lemmas.List.{map-append}
 use Rattle.std.specs.Prelude.{IfSome, IfNone, IsSome, is_some, if◌then◌else◌}
 use Rattle.rt_cidr.specs.declared.prefixes.Prefix.{Prefix}
 use Rattle.rt_trie.specs.declared.nodes.Link.{Link, Empty, Leaf, Fork', Full'}
-use Rattle.rt_trie.specs.Tree.{Tree, top, size, stored}
+use Rattle.rt_trie.specs.Tree.{top, size, stored}
 use Rattle.rt_trie.specs.inside.Tree.{tree_of}
 use Rattle.rt_trie.specs.Lawful.{IsLawfulAt, IsLawfulTree, IsLawful}
 use Rattle.rt_trie.specs.Laws.{IsChildByBit, IsLawfulNode, IsLawfulByBits}
 use Rattle.rt_trie.specs.inside.Links.{own_pair, pairs, count}
 use Rattle.rt_trie.specs.Links.{root, IsFilled, IsLawfulTrie}
-use Rattle.rt_trie.specs.TrieContents.{TrieContents}
 use Rattle.rt_trie.proofs.DescentLemmas.{held}
 use Rattle.rt_trie.proofs.LawfulLemmas.{lawful_by_bits}
 

@@ -2,7 +2,6 @@ use Rattle.std.proofs.Common.{refl, sym, subst, ap, inl, inr}
 use Rattle.rt_trie.specs.declared.nodes.LeafNode.{LeafNode}
 use Rattle.rt_trie.specs.declared.nodes.Position.TheVariants.{Above, Apart}
 use Rattle.rt_trie.specs.inside.Blocks.{StandsAt}
-use Rattle.rt_trie.specs.Links.{IsLawfulTrie}
 use Rattle.rt_trie.specs.inside.Changes.{Inserts}
 use Rattle.rt_trie.proofs.InsertLemmas.{insert_left, insert_right, insert_here, insert_leaf}
 use Rattle.rt_trie.proofs.LinkLemmas.{view_fork, view_full, key_of_leaf, key_of_fork, key_of_full, seen_from_leaf, seen_from_fork, seen_from_full, key_short}
@@ -108,80 +107,8 @@ pub insert_beside-requires-in-Apart-position_of-2-clause-seen : goal.insert_besi
 insert_beside-requires-in-Apart-position_of-2-clause-seen g t c =
     seen_from_full c.in-Full.full c.args.link.now c.args.pair.now.prefix Apart c.in-Full.is c.requires.lawful.0 c.in-Apart-position_of-2.ensures
 
-pub insert_at_empty-requires-clause-room : goal.insert_at_empty-requires-clause-room
-insert_at_empty-requires-clause-room g t c = c.requires.room
-
-pub insert_at_empty-requires-clause-given : goal.insert_at_empty-requires-clause-given
-insert_at_empty-requires-clause-given g t c = c.requires.given
-
-pub insert_below_leaf-requires-clause-room : goal.insert_below_leaf-requires-clause-room
-insert_below_leaf-requires-clause-room g t c = c.requires.room
-
-pub insert_below_leaf-requires-clause-given : goal.insert_below_leaf-requires-clause-given
-insert_below_leaf-requires-clause-given g t c = c.requires.given
-
-pub insert_at_fork-requires-clause-given : goal.insert_at_fork-requires-clause-given
-insert_at_fork-requires-clause-given g t c = c.requires.given
-
-pub insert_at_fork-requires-clause-lawful : goal.insert_at_fork-requires-clause-lawful
-insert_at_fork-requires-clause-lawful g t c = subst IsLawfulTrie c.in-Fork.is c.requires.lawful
-
 pub insert_below_leaf-requires-clause-leaf : goal.insert_below_leaf-requires-clause-leaf
 insert_below_leaf-requires-clause-leaf g t c = sym (ap (λ (x : LeafNode _). x.prefix) c.deref.ensures)
-
-pub insert_above-requires-clause-lawful : goal.insert_above-requires-clause-lawful
-insert_above-requires-clause-lawful g t c = subst IsLawfulTrie c.in-Leaf.is c.requires.lawful
-
-pub insert_above-requires-clause-room : goal.insert_above-requires-clause-room
-insert_above-requires-clause-room g t c = c.requires.room
-
-pub insert_above-requires-clause-given : goal.insert_above-requires-clause-given
-insert_above-requires-clause-given g t c = c.requires.given
-
-pub insert_above-requires-in-Above-position_of-clause-lawful : goal.insert_above-requires-in-Above-position_of-clause-lawful
-insert_above-requires-in-Above-position_of-clause-lawful g t c = subst IsLawfulTrie c.in-Fork.is c.requires.lawful
-
-pub insert_above-requires-in-Above-position_of-clause-room : goal.insert_above-requires-in-Above-position_of-clause-room
-insert_above-requires-in-Above-position_of-clause-room g t c = c.requires.room
-
-pub insert_above-requires-in-Above-position_of-clause-given : goal.insert_above-requires-in-Above-position_of-clause-given
-insert_above-requires-in-Above-position_of-clause-given g t c = c.requires.given
-
-pub insert_above-requires-in-Above-position_of-2-clause-lawful : goal.insert_above-requires-in-Above-position_of-2-clause-lawful
-insert_above-requires-in-Above-position_of-2-clause-lawful g t c = subst IsLawfulTrie c.in-Full.is c.requires.lawful
-
-pub insert_above-requires-in-Above-position_of-2-clause-room : goal.insert_above-requires-in-Above-position_of-2-clause-room
-insert_above-requires-in-Above-position_of-2-clause-room g t c = c.requires.room
-
-pub insert_above-requires-in-Above-position_of-2-clause-given : goal.insert_above-requires-in-Above-position_of-2-clause-given
-insert_above-requires-in-Above-position_of-2-clause-given g t c = c.requires.given
-
-pub insert_beside-requires-clause-lawful : goal.insert_beside-requires-clause-lawful
-insert_beside-requires-clause-lawful g t c = subst IsLawfulTrie c.in-Leaf.is c.requires.lawful
-
-pub insert_beside-requires-clause-room : goal.insert_beside-requires-clause-room
-insert_beside-requires-clause-room g t c = c.requires.room
-
-pub insert_beside-requires-clause-given : goal.insert_beside-requires-clause-given
-insert_beside-requires-clause-given g t c = c.requires.given
-
-pub insert_beside-requires-in-Apart-position_of-clause-lawful : goal.insert_beside-requires-in-Apart-position_of-clause-lawful
-insert_beside-requires-in-Apart-position_of-clause-lawful g t c = subst IsLawfulTrie c.in-Fork.is c.requires.lawful
-
-pub insert_beside-requires-in-Apart-position_of-clause-room : goal.insert_beside-requires-in-Apart-position_of-clause-room
-insert_beside-requires-in-Apart-position_of-clause-room g t c = c.requires.room
-
-pub insert_beside-requires-in-Apart-position_of-clause-given : goal.insert_beside-requires-in-Apart-position_of-clause-given
-insert_beside-requires-in-Apart-position_of-clause-given g t c = c.requires.given
-
-pub insert_beside-requires-in-Apart-position_of-2-clause-lawful : goal.insert_beside-requires-in-Apart-position_of-2-clause-lawful
-insert_beside-requires-in-Apart-position_of-2-clause-lawful g t c = subst IsLawfulTrie c.in-Full.is c.requires.lawful
-
-pub insert_beside-requires-in-Apart-position_of-2-clause-room : goal.insert_beside-requires-in-Apart-position_of-2-clause-room
-insert_beside-requires-in-Apart-position_of-2-clause-room g t c = c.requires.room
-
-pub insert_beside-requires-in-Apart-position_of-2-clause-given : goal.insert_beside-requires-in-Apart-position_of-2-clause-given
-insert_beside-requires-in-Apart-position_of-2-clause-given g t c = c.requires.given
 
 pub position_of-requires : goal.position_of-requires
 position_of-requires g t c =
