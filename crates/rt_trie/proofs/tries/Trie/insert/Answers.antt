@@ -7,9 +7,6 @@ use Rattle.rt_trie.proofs.LinkLemmas.{pairs_ordered}
 use Rattle.rt_trie.proofs.CountLemmas.{count_small, pairs_few, length-put_absent, length-put_known, none_is}
 use Rattle.rt_trie.proofs.tries.Trie.insert.Goals as goal
 
-pub insert-requires-clause-lawful : goal.insert-requires-clause-lawful
-insert-requires-clause-lawful g c = c.self.invariant.lawful
-
 pub insert-requires-clause-room : goal.insert-requires-clause-room
 insert-requires-clause-room g c = omega (arith, c.self.invariant.nodes, count_small c.self.inside.root c.self.invariant.lawful)
 
@@ -53,12 +50,3 @@ pub returns-then-insert-clause-had : goal.returns-then-insert-clause-had
 returns-then-insert-clause-had g c =
     let i = subst (λ b. Inserts c.self.inside.root c.insert.new.link c.self.inside.nodes c.insert.new.pair.nodes c.args.p (Some c.args.v) c.insert.new.pair.value b) c.if-insert.true c.insert.ensures in
     i.had_is ∙ ap (λ (x : TrieContents _). get x.pairs c.args.p) c.self.view_is
-
-pub returns-then-insert-clause-refused : goal.returns-then-insert-clause-refused
-returns-then-insert-clause-refused g c = tt
-
-pub returns-clause-put : goal.returns-clause-put
-returns-clause-put g c = tt
-
-pub returns-clause-had : goal.returns-clause-had
-returns-clause-had g c = tt

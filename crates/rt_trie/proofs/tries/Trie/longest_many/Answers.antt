@@ -3,12 +3,6 @@ use Rattle.rt_trie.specs.TrieContents.{TrieContents}
 use Rattle.rt_trie.specs.Map.{AreLongest}
 use Rattle.rt_trie.proofs.tries.Trie.longest_many.Goals as goal
 
-pub longest_many-requires-clause-lawful : goal.longest_many-requires-clause-lawful
-longest_many-requires-clause-lawful g c = c.self.invariant.lawful
-
-pub longest_many-requires-clause-size : goal.longest_many-requires-clause-size
-longest_many-requires-clause-size g c = c.requires
-
 pub returns : goal.returns
 returns g c =
     subst (λ (x : TrieContents _). AreLongest x.pairs c.args.addresses.now c.longest_many.new.answers) c.self.view_is c.longest_many.ensures

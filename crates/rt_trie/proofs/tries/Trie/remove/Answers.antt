@@ -7,12 +7,6 @@ use Rattle.rt_trie.proofs.LinkLemmas.{none_of}
 use Rattle.rt_trie.proofs.CountLemmas.{length-erase_known}
 use Rattle.rt_trie.proofs.tries.Trie.remove.Goals as goal
 
-pub remove-gone-requires-clause-lawful : goal.remove-gone-requires-clause-lawful
-remove-gone-requires-clause-lawful g c = c.self.invariant.lawful
-
-pub remove-gone-requires-clause-counted : goal.remove-gone-requires-clause-counted
-remove-gone-requires-clause-counted g c = omega (arith, c.self.invariant.nodes)
-
 pub invariant_of-self : goal.invariant_of-self
 invariant_of-self g c =
     let i = c.remove-gone.ensures in
