@@ -71,21 +71,20 @@ base_divides q len h k =
     ⊎_elim (λ lt. dvd_trans (size_of len) (size_divides q.len len lt k).0 d)
     (λ e. subst (λ n. size_of n ∣ q.base) e d) (lt_or_eq q.len len h)
 
+-- what begins within a number of its own blocks from the base of a shorter prefix ends there
+ends_within : (q p : Prefix) (n : ℕ) → q.len < p.len → size_of p.len ∣ n → p.base < q.base + n → past p ≤ q.base + n
+ends_within q p n h d k =
+    let s = p.is_prefix.short in
+    block_end (size_of p.len) p.base (q.base + n) (base_divides p p.len (omega arith) s)
+    (dvd-add (size_of p.len) (base_divides q p.len (omega arith) s) d) k
+
 -- what begins in the lower half of a shorter prefix ends in it
 pub lower_half : (q p : Prefix) → q.len < p.len → p.base < middle q → past p ≤ middle q
-lower_half q p h k =
-    let s = p.is_prefix.short in
-    let d = size_divides q.len p.len h s in
-    block_end (size_of p.len) p.base (middle q) (base_divides p p.len (omega arith) s)
-    (dvd-add (size_of p.len) (base_divides q p.len (omega arith) s) d.1) k
+lower_half q p h k = ends_within q p (size_of q.len / 2) h (size_divides q.len p.len h p.is_prefix.short).1 k
 
 -- what begins in the upper half of a shorter prefix ends in it
 pub upper_half : (q p : Prefix) → q.len < p.len → p.base < past q → past p ≤ past q
-upper_half q p h k =
-    let s = p.is_prefix.short in
-    let d = size_divides q.len p.len h s in
-    block_end (size_of p.len) p.base (past q) (base_divides p p.len (omega arith) s)
-    (dvd-add (size_of p.len) (base_divides q p.len (omega arith) s) d.0) k
+upper_half q p h k = ends_within q p (size_of q.len) h (size_divides q.len p.len h p.is_prefix.short).0 k
 
 -- what is no shorter and begins before a prefix ends before it
 pub ends_before : (q p : Prefix) → q.len ≤ p.len → p.base < q.base → past p ≤ q.base

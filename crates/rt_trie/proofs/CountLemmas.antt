@@ -1,12 +1,12 @@
 -- How many nodes and pairs a lawful link can have, and how a change of the pairs changes their number.
-use Rattle.std.proofs.Common.{◌≡◌, ℕ, ◌+◌, ◌-◌, ◌*◌, ◌^◌, ◌<◌, ◌≤◌, true, false, [], ◌∷◌, length, Option, Some, None, refl, sym, ap, ◌∙◌, arith, length-append, inl, inr}
+use Rattle.std.proofs.Common.{◌≡◌, ℕ, ◌+◌, ◌-◌, ◌*◌, ◌^◌, ◌<◌, ◌≤◌, true, false, [], cond, ◌∷◌, ◌++◌, length, Option, Some, None, refl, sym, ap, ◌∙◌, arith, length-append, inl, inr}
 use Rattle.std.specs.Prelude.{IfSome, is_some}
 use Rattle.std.proofs.lemmas.Nat.{pow-add, pow_pos}
 use Rattle.std.proofs.Math.Pow.{pow_mono}
 use Rattle.std.proofs.lemmas.Bool.{false≢true}
 use Rattle.rt_cidr.specs.declared.prefixes.Prefix.{Prefix}
 use Rattle.rt_trie.specs.declared.nodes.Link.{Link, Empty, Leaf, Fork', Full'}
-use Rattle.rt_trie.specs.Map.{Pairs, get, put, erase, first, IsBeforeAll, IsOrdered}
+use Rattle.rt_trie.specs.Map.{Pairs, same_prefix, get, put, erase, first, IsBeforeAll, IsOrdered}
 use Rattle.rt_trie.specs.Blocks.{IsInBlock}
 use Rattle.rt_trie.specs.inside.Links.{pairs, count}
 use Rattle.rt_trie.specs.Links.{root, IsFilled, IsLawfulBelow, IsLawfulTrie}
@@ -71,30 +71,25 @@ module _ {V A : Type 0} where
   filled_pairs : (link : Link V A) → IsLawfulTrie link → IsFilled link → 1 ≤ length (pairs link)
   filled_pairs link h f = let i = filled_first link h f in first_some (pairs link) i.0 i.1
 
+  few_of_both : (left right : Link V A) → count left ≤ 2 * length (pairs left) - 1 → count right ≤ 2 * length (pairs right) - 1
+      → 1 ≤ length (pairs left) → 1 ≤ length (pairs right) → count left + count right + 1 ≤ 2 * length (pairs left ++ pairs right) - 1
+  few_of_both left right l r some_left some_right = omega (arith, length-append (pairs left) (pairs right))
+
   -- a lawful link has at most twice as many nodes as pairs, less one
   pub nodes_few : (link : Link V A) → IsLawfulTrie link → count link ≤ 2 * length (pairs link) - 1
   nodes_few Empty h = omega arith
   nodes_few (Leaf i j b) h = omega arith
   nodes_few (Fork' i j p left right q) h =
-      omega (
-        arith,
-        nodes_few left h.0.1,
-        nodes_few right h.0.2,
-        filled_pairs left h.0.1 h.1.0,
-        filled_pairs right h.0.2 h.1.1,
-        length-append (pairs left) (pairs right),
-      )
+      few_of_both left right (nodes_few left h.0.1) (nodes_few right h.0.2) (filled_pairs left h.0.1 h.1.0) (filled_pairs right h.0.2 h.1.1)
   nodes_few (Full' i j p left right q None) h =
-      omega (
-        arith,
-        nodes_few left h.0.1,
-        nodes_few right h.0.2,
-        filled_pairs left h.0.1 h.1.0,
-        filled_pairs right h.0.2 h.1.1,
-        length-append (pairs left) (pairs right),
-      )
+      few_of_both left right (nodes_few left h.0.1) (nodes_few right h.0.2) (filled_pairs left h.0.1 h.1.0) (filled_pairs right h.0.2 h.1.1)
   nodes_few (Full' i j p left right q (Some v)) h =
       omega (arith, nodes_few left h.0.1, nodes_few right h.0.2, length-append (pairs left) (pairs right))
+
+-- the list with w in the place of the value at p, if there is one
+abbrev pub set_value : {V : Type 0} → Pairs V → Prefix → V → Pairs V
+set_value [] p w = []
+set_value ((q, v) ∷ m) p w = (q, cond (same_prefix q p) w v) ∷ set_value m p w
 
 module _ {V : Type 0} where
   pub AllKeys-higher : (q : Prefix) (xs : Pairs V) → IsBeforeAll q xs → AllKeys (IsHigher q) xs
@@ -112,20 +107,35 @@ module _ {V : Type 0} where
     ]
   ]
 
-  pub length-put_stored : (m : Pairs V) (p : Prefix) (v w : V) → IsOrdered m → get m p ≡ Some w → length (put m p v) ≡ length m
-  length-put_stored [] p v w o h = cc
-  length-put_stored ((q, u) ∷ m) p v w o h = elim (before_tells p q) [
+  set_value-length : (m : Pairs V) (p : Prefix) (w : V) → length (set_value m p w) ≡ length m
+  set_value-length [] p w = refl
+  set_value-length ((q, u) ∷ m) p w = omega (arith, set_value-length m p w)
+
+  pub set_value-other : (xs : Pairs V) (p : Prefix) (w : V) → AllKeys (IsOther p) xs → set_value xs p w ≡ xs
+  set_value-other [] p w h = refl
+  set_value-other ((q, v) ∷ xs) p w h = rw h.0 (ap (λ m. (q, v) ∷ m) (set_value-other xs p w h.1))
+
+  -- putting in where something stands
+  pub put-stored : (m : Pairs V) (p : Prefix) (w v : V) → IsOrdered m → get m p ≡ Some v → put m p w ≡ set_value m p w
+  put-stored [] p w v o h = cc
+  put-stored ((q, u) ∷ m) p w v o h = elim (before_tells p q) [
     | inl b ↦
         let n : get m p ≡ None = get-none m p (AllKeys-map (IsHigher q) (IsOther p) m (λ x k. IsOther-higher p x (omega arith)) (AllKeys-higher q m o.0)) in
         elim (same_tells q p) [
           | inl s ↦ absurd (omega arith)
-          | inr s ↦ let e : get m p ≡ Some w = rw s.0 at h in cc
+          | inr s ↦ let e : get m p ≡ Some v = rw s.0 at h in cc
         ]
     | inr b ↦ elim (same_tells q p) [
-      | inl s ↦ rw (b.0, s.0) refl
-      | inr s ↦ let e : get m p ≡ Some w = rw s.0 at h in rw (b.0, s.0) (omega (arith, length-put_stored m p v w o.1 e))
+      | inl s ↦
+          let t = q.is_prefix.short in
+          rw (b.0, s.0) (ap (λ x. (q, w) ∷ x) (sym (set_value-other m p w
+          (AllKeys-map (IsHigher q) (IsOther p) m (λ x k. IsOther-higher p x (omega arith)) (AllKeys-higher q m o.0)))))
+      | inr s ↦ let e : get m p ≡ Some v = rw s.0 at h in rw (b.0, s.0) (ap (λ x. (q, u) ∷ x) (put-stored m p w v o.1 e))
     ]
   ]
+
+  pub length-put_stored : (m : Pairs V) (p : Prefix) (v w : V) → IsOrdered m → get m p ≡ Some w → length (put m p v) ≡ length m
+  length-put_stored m p v w o h = ap length (put-stored m p v w o h) ∙ set_value-length m p v
 
   pub length-erase_stored : (m : Pairs V) (p : Prefix) (w : V) → get m p ≡ Some w → length (erase m p) + 1 ≡ length m
   length-erase_stored [] p w h = cc

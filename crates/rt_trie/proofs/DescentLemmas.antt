@@ -9,7 +9,7 @@ use mathlib.Core.Path.{fun_ext}
 use Rattle.std.proofs.lemmas.Bool.Decides.{leb_tells}
 use Rattle.rt_cidr.specs.declared.prefixes.Prefix.{Prefix}
 use Rattle.rt_trie.specs.declared.nodes.Link.{Link, Empty, Leaf, Fork', Full'}
-use Rattle.rt_trie.specs.Map.{Pairs, same_prefix, get, put, IsOrdered}
+use Rattle.rt_trie.specs.Map.{Pairs, same_prefix, get, put}
 use Rattle.rt_trie.specs.Blocks.{IsChild, middle, middle_at, past}
 use Rattle.rt_trie.specs.inside.Blocks.{is_key}
 use Rattle.rt_trie.specs.inside.Links.{own_pair, pairs, count}
@@ -18,50 +18,20 @@ use Rattle.rt_trie.specs.inside.Descent.{found, written, overwritten}
 use Rattle.rt_trie.specs.TrieContents.{TrieContents}
 use Rattle.rt_trie.specs.inside.Tree.{tree_of}
 use Rattle.rt_trie.specs.TrieLends.{contents_with}
-use Rattle.rt_trie.proofs.OrderLemmas.{same_tells, before_tells}
-use Rattle.rt_trie.proofs.PairLemmas.{AllKeys, AllKeys-map, IsOther, IsHigher, IsLower, IsOther-higher, IsOther-lower, get-none}
-use Rattle.rt_trie.proofs.NodeLemmas.{AreSides, own_other, upper_higher, lower_lower, rest_other, get-here, get-past, get-lower, get-upper}
-use Rattle.rt_trie.proofs.LinkLemmas.{pairs_within, pairs_ordered}
-use Rattle.rt_trie.proofs.CountLemmas.{AllKeys-higher}
+use Rattle.rt_trie.proofs.OrderLemmas.{same_tells}
+use Rattle.rt_trie.proofs.NodeLemmas.{AreSides, own_other, upper_other, lower_other, rest_other, get-here, get-past, get-lower, get-upper}
+use Rattle.rt_trie.proofs.LinkLemmas.{if_some_map, sides_at, pairs_ordered}
+use Rattle.rt_trie.proofs.CountLemmas.{set_value, set_value-other, put-stored}
 
 -- so many steps go past every node below
 abbrev pub IsDeep : {V A : Type 0} → ℕ → Link V A → Type 0
 IsDeep d link = IfSome (root link) (λ q. 33 ≤ q.len + d)
-
--- the list with w in the place of the value at p, if there is one
-abbrev set_value : {V : Type 0} → Pairs V → Prefix → V → Pairs V
-set_value [] p w = []
-set_value ((q, v) ∷ m) p w = (q, cond (same_prefix q p) w v) ∷ set_value m p w
 
 module _ {V : Type 0} where
   set_value-append : (xs ys : Pairs V) (p : Prefix) (w : V) → set_value (xs ++ ys) p w ≡ set_value xs p w ++ set_value ys p w
   set_value-append [] ys p w = refl
   set_value-append ((q, v) ∷ xs) ys p w = ap (λ m. (q, cond (same_prefix q p) w v) ∷ m) (set_value-append xs ys p w)
 
-  set_value-other : (xs : Pairs V) (p : Prefix) (w : V) → AllKeys (IsOther p) xs → set_value xs p w ≡ xs
-  set_value-other [] p w h = refl
-  set_value-other ((q, v) ∷ xs) p w h = rw h.0 (ap (λ m. (q, v) ∷ m) (set_value-other xs p w h.1))
-
-  -- putting in where something stands
-  put-stored : (m : Pairs V) (p : Prefix) (w v : V) → IsOrdered m → get m p ≡ Some v → put m p w ≡ set_value m p w
-  put-stored [] p w v o h = cc
-  put-stored ((q, u) ∷ m) p w v o h = elim (before_tells p q) [
-    | inl b ↦
-        let n : get m p ≡ None = get-none m p (AllKeys-map (IsHigher q) (IsOther p) m (λ x k. IsOther-higher p x (omega arith)) (AllKeys-higher q m o.0)) in
-        elim (same_tells q p) [
-          | inl s ↦ absurd (omega arith)
-          | inr s ↦ let e : get m p ≡ Some v = rw s.0 at h in cc
-        ]
-    | inr b ↦ elim (same_tells q p) [
-      | inl s ↦
-          let t = q.is_prefix.short in
-          rw (b.0, s.0) (ap (λ x. (q, w) ∷ x) (sym (set_value-other m p w
-          (AllKeys-map (IsHigher q) (IsOther p) m (λ x k. IsOther-higher p x (omega arith)) (AllKeys-higher q m o.0)))))
-      | inr s ↦ let e : get m p ≡ Some v = rw s.0 at h in rw (b.0, s.0) (ap (λ x. (q, u) ∷ x) (put-stored m p w v o.1 e))
-    ]
-  ]
-
-module _ {V : Type 0} where
   -- a value that is written keeps its place
   some_kept : (c s : Bool) (v : Option V) (w : V) → cond c (cond s (overwritten v w) v) v ≡ None → v ≡ None
   some_kept c s None w h = refl
@@ -94,35 +64,18 @@ module _ {V : Type 0} where
     set_lower : p.base < middle q → set_value (xs ++ ys) p w ≡ set_value xs p w ++ ys
     set_lower h =
         set_value-append xs ys p w
-        ∙ ap (λ m. set_value xs p w ++ m) (set_value-other ys p w
-        (AllKeys-map (IsHigher p) (IsOther p) ys (λ x. IsOther-higher p x) (upper_higher q v xs ys s p h)))
+        ∙ ap (λ m. set_value xs p w ++ m) (set_value-other ys p w (upper_other q v xs ys s p h))
 
     set_upper : middle q ≤ p.base → set_value (xs ++ ys) p w ≡ xs ++ set_value ys p w
     set_upper h =
         set_value-append xs ys p w
-        ∙ ap (λ m. m ++ set_value ys p w) (set_value-other xs p w
-        (AllKeys-map (IsLower p) (IsOther p) xs (λ x. IsOther-lower p x) (lower_lower q v xs ys s p h)))
+        ∙ ap (λ m. m ++ set_value ys p w) (set_value-other xs p w (lower_other q v xs ys s p h))
 
 module _ {V A : Type 0} where
-  sides_at : (q : Prefix) (left right : Link V A) → AreHalves q left right → IsLawfulTrie left → IsLawfulTrie right → AreSides q (pairs left) (pairs right)
-  sides_at q left right h l r = record {
-    lower = pairs_within left q.base (middle q) (q.len + 1) l.0 h.lower;
-    upper = pairs_within right (middle q) (past q) (q.len + 1) r.0 h.upper;
-  }
-
-  deep_lower : (d : ℕ) (q : Prefix) (link : Link V A) → 33 ≤ q.len + suc d → IsChildLink q false link → IsDeep d link
-  deep_lower d q link h c = deeper (root link) c
-    where
-      deeper : (o : Option Prefix) → IfSome o (IsChild q false) → IfSome o (λ x. 33 ≤ x.len + d)
-      deeper None c = tt
-      deeper (Some x) c = omega (arith, c.long)
-
-  deep_upper : (d : ℕ) (q : Prefix) (link : Link V A) → 33 ≤ q.len + suc d → IsChildLink q true link → IsDeep d link
-  deep_upper d q link h c = deeper (root link) c
-    where
-      deeper : (o : Option Prefix) → IfSome o (IsChild q true) → IfSome o (λ x. 33 ≤ x.len + d)
-      deeper None c = tt
-      deeper (Some x) c = omega (arith, c.long)
+  -- a step goes past the node, on either side
+  deep_side : (d : ℕ) (q : Prefix) (upper : Bool) (link : Link V A) → 33 ≤ q.len + suc d → IsChildLink q upper link → IsDeep d link
+  deep_side d q false link h c = if_some_map (root link) (IsChild q false) (λ x. 33 ≤ x.len + d) (λ x k. omega (arith, k.long)) c
+  deep_side d q true link h c = if_some_map (root link) (IsChild q true) (λ x. 33 ≤ x.len + d) (λ x k. omega (arith, k.long)) c
 
   -- what is found is the map's
   pub found_get : (d : ℕ) (link : Link V A) (p : Prefix) → IsLawfulTrie link → IsDeep d link → found d link p ≡ get (pairs link) p
@@ -134,8 +87,8 @@ module _ {V A : Type 0} where
   found_get (suc d) (Leaf i j b) p h deep = rw (h.0.len_is, h.0.base_is) refl
   found_get (suc d) (Fork' i j x left right q) p h deep =
       let s = sides_at q left right h.0.0 h.0.1 h.0.2 in
-      let l = found_get d left p h.0.1 (deep_lower d q left deep h.0.0.lower) in
-      let r = found_get d right p h.0.2 (deep_upper d q right deep h.0.0.upper) in
+      let l = found_get d left p h.0.1 (deep_side d q false left deep h.0.0.lower) in
+      let r = found_get d right p h.0.2 (deep_side d q true right deep h.0.0.upper) in
       rw (h.0.3.len_is, h.0.3.base_is) (elim (leb_tells p.len q.len) [
         | inl le ↦ rw le.0 (sym (elim (same_tells q p) [
           | inl e ↦ get-here q None (pairs left) (pairs right) s p le.1 e.0
@@ -148,8 +101,8 @@ module _ {V A : Type 0} where
       ])
   found_get (suc d) (Full' i j x left right q v) p h deep =
       let s = sides_at q left right h.0.0 h.0.1 h.0.2 in
-      let l = found_get d left p h.0.1 (deep_lower d q left deep h.0.0.lower) in
-      let r = found_get d right p h.0.2 (deep_upper d q right deep h.0.0.upper) in
+      let l = found_get d left p h.0.1 (deep_side d q false left deep h.0.0.lower) in
+      let r = found_get d right p h.0.2 (deep_side d q true right deep h.0.0.upper) in
       rw (h.0.3.len_is, h.0.3.base_is) (elim (leb_tells p.len q.len) [
         | inl le ↦ elim (same_tells q p) [
           | inl e ↦ rw (le.0, e.0) (sym (get-here q v (pairs left) (pairs right) s p le.1 e.0))
@@ -253,8 +206,8 @@ module _ {V A : Type 0} where
   written_pairs (suc d) (Leaf i j b) p w h deep = rw (h.0.len_is, h.0.base_is) refl
   written_pairs (suc d) (Fork' i j x left right q) p w h deep =
       let s = sides_at q left right h.0.0 h.0.1 h.0.2 in
-      let l = written_pairs d left p w h.0.1 (deep_lower d q left deep h.0.0.lower) in
-      let r = written_pairs d right p w h.0.2 (deep_upper d q right deep h.0.0.upper) in
+      let l = written_pairs d left p w h.0.1 (deep_side d q false left deep h.0.0.lower) in
+      let r = written_pairs d right p w h.0.2 (deep_side d q true right deep h.0.0.upper) in
       rw (h.0.3.len_is, h.0.3.base_is) (elim (leb_tells p.len q.len) [
         | inl le ↦ rw le.0 (sym (set_here q None (pairs left) (pairs right) s p w le.1))
         | inr gt ↦ elim (leb_tells (suc p.base) (middle q)) [
@@ -265,8 +218,8 @@ module _ {V A : Type 0} where
       ])
   written_pairs (suc d) (Full' i j x left right q v) p w h deep =
       let s = sides_at q left right h.0.0 h.0.1 h.0.2 in
-      let l = written_pairs d left p w h.0.1 (deep_lower d q left deep h.0.0.lower) in
-      let r = written_pairs d right p w h.0.2 (deep_upper d q right deep h.0.0.upper) in
+      let l = written_pairs d left p w h.0.1 (deep_side d q false left deep h.0.0.lower) in
+      let r = written_pairs d right p w h.0.2 (deep_side d q true right deep h.0.0.upper) in
       let split = set_value-append (own_pair q v) (pairs left ++ pairs right) p w in
       rw (h.0.3.len_is, h.0.3.base_is) (elim (leb_tells p.len q.len) [
         | inl le ↦

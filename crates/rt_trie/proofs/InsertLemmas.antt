@@ -14,7 +14,7 @@ use Rattle.rt_trie.specs.declared.nodes.Position.TheVariants.{Above, Apart}
 use Rattle.rt_trie.specs.Blocks.{IsKeyOf, IsInBlock, IsChild, PartsAt, middle, past}
 use Rattle.rt_trie.specs.inside.Blocks.{StandsAt}
 use Rattle.rt_trie.specs.inside.Links.{own_pair, pairs, count, leaf_link, fork_link, full_link, IsNode}
-use Rattle.rt_trie.specs.Links.{root, AreHalves, IsChildLink, IsFilled, IsLawfulTrie}
+use Rattle.rt_trie.specs.Links.{root, AreHalves, IsChildLink, IsFilled, IsLawfulBelow, IsLawfulTrie}
 use Rattle.rt_trie.specs.inside.Changes.{IsPut, IsInserted, IsRefused, Inserts}
 use Rattle.rt_cidr.proofs.Promised.{size_pos}
 use Rattle.rt_trie.proofs.BlockLemmas.{lower_half}
@@ -31,21 +31,22 @@ pub half_above_upper : (q p : Prefix) → StandsAt q p Above → middle p ≤ q.
 half_above_upper q p w h = record { long = w.long; from = h; to = w.to }
 
 module _ {V A : Type 0} where
-  -- a full node with a value, made of lawful sides
+  -- a full node, made of lawful sides
+  pub made_full_below : (len base : ℕ) (b : Box (FullNode V A) A) (q : Prefix) (w : Option V) (l r : Link V A) → IsKeyOf len base q → b.value.prefix ≡ q
+      → b.value.value ≡ w → b.value.left ≡ l → b.value.right ≡ r → AreHalves q l r → IsLawfulTrie l → IsLawfulTrie r
+      → IsNode (Full len base b) q w l r × IsLawfulBelow (Full len base b)
+  made_full_below len base b q w l r key e f i j h k m = (
+    rw (e, f, i, j) (record { pairs_are = refl; root_is = refl; count_is = refl; halves = h; left_lawful = k; right_lawful = m }),
+    rw (e, i, j) (h, k, m, key),
+  )
+
+  -- and with a value
   made_full_at : (len base : ℕ) (b : Box (FullNode V A) A) (q : Prefix) (v : V) (l r : Link V A) → IsKeyOf len base q → b.value.prefix ≡ q
       → b.value.value ≡ Some v → b.value.left ≡ l → b.value.right ≡ r → AreHalves q l r → IsLawfulTrie l → IsLawfulTrie r
       → IsNode (Full len base b) q (Some v) l r × IsLawfulTrie (Full len base b)
-  made_full_at len base b q v l r key e f i j h k m = (
-    rw (e, f, i, j) (record {
-      pairs_are = refl;
-      root_is = refl;
-      count_is = refl;
-      halves = h;
-      left_lawful = k;
-      right_lawful = m;
-    }),
-    rw (e, f, i, j) ((h, k, m, key), tt),
-  )
+  made_full_at len base b q v l r key e f i j h k m =
+      let n = made_full_below len base b q (Some v) l r key e f i j h k m in
+      (n.0, (n.1, rw f tt))
 
   -- and in a link of its own
   made_full : (b : Box (FullNode V A) A) (q : Prefix) (v : V) (l r : Link V A) → b.value.prefix ≡ q → b.value.value ≡ Some v
@@ -58,14 +59,7 @@ module _ {V A : Type 0} where
   pub made_fork : (b : Box (ForkNode V A) A) (q : Prefix) (l r : Link V A) → b.value.prefix ≡ q → b.value.left ≡ l → b.value.right ≡ r
       → AreHalves q l r → IsLawfulTrie l → IsLawfulTrie r → IsFilled l → IsFilled r → IsNode (fork_link b) q None l r × IsLawfulTrie (fork_link b)
   made_fork b q l r e i j h k m f g = (
-    rw (e, i, j) (record {
-      pairs_are = refl;
-      root_is = refl;
-      count_is = refl;
-      halves = h;
-      left_lawful = k;
-      right_lawful = m;
-    }),
+    rw (e, i, j) (record { pairs_are = refl; root_is = refl; count_is = refl; halves = h; left_lawful = k; right_lawful = m }),
     rw (e, i, j) ((h, k, m, own_key q), (f, g)),
   )
 
@@ -249,44 +243,35 @@ some_same : {X : Type 0} {x y : X} → Some x ≡ Some y → x ≡ y
 some_same e = cc
 
 module _ {V A : Type 0} where
-  -- p is put in on one side of a node
-  pub insert_left : (old : Link V A) (q : Prefix) (w : Option V) (l r k : Link V A) (make : Link V A → Link V A → Link V A) (n m : ℕ) (p : Prefix)
-      (given slot : Option V) (done : Bool) → IsView old q w l r make → IsLawfulTrie old → IsChild q false p
-      → Inserts l k n m p given slot done → Inserts old (make k r) n m p given slot done
-  insert_left old q w l r k make n m p given slot true x h c i = record {
-    put = if_some_map given (IsPut l k p) (IsPut old (make k r) p)
+  -- p is put in below, in a side that k takes the place of
+  inserted_below : (old new side k : Link V A) (n m : ℕ) (p : Prefix) (given slot : Option V) (done : Bool) → ((v : V) → IsPut side k p v → IsPut old new p v)
+      → get (pairs old) p ≡ get (pairs side) p → count new + count side ≡ count old + count k → (k ≡ side → new ≡ old)
+      → Inserts side k n m p given slot done → Inserts old new n m p given slot done
+  inserted_below old new side k n m p given slot true put same counted back i = record {
+    put = if_some_map given (IsPut side k p) (IsPut old new p) put i.put;
+    had_is = i.had_is ∙ sym same;
+    counted = omega (arith, i.counted, counted);
+  }
+  inserted_below old new side k n m p given slot false put same counted back i =
+      record { absent = same ∙ i.absent; back_is = i.back_is; same = back i.same; counted = i.counted }
+
+  module _ (old : Link V A) (q : Prefix) (w : Option V) (l r k : Link V A) (make : Link V A → Link V A → Link V A) (n m : ℕ) (p : Prefix)
+      (given slot : Option V) (done : Bool) (x : IsView old q w l r make) (h : IsLawfulTrie old) where
+    pub insert_left : IsChild q false p → Inserts l k n m p given slot done → Inserts old (make k r) n m p given slot done
+    insert_left c =
+        inserted_below old (make k r) l k n m p given slot done
         (λ v j.
         let u = x.again k r (record { lower = j.stays q false x.node.halves.lower c; upper = x.node.halves.upper }) j.lawful x.node.right_lawful in
         put_left old (make k r) q w l r k p v x.node u.0 (u.1, x.needed k r (λ e. (j.filled, (x.filled h.1 e).1))) c j)
-        i.put;
-    had_is = i.had_is ∙ sym (get_left old q w l r x.node p c);
-    counted = omega (arith, i.counted, x.node.count_is, x.counts k r);
-  }
-  insert_left old q w l r k make n m p given slot false x h c i = record {
-    absent = get_left old q w l r x.node p c ∙ i.absent;
-    back_is = i.back_is;
-    same = ap (λ y. make y r) i.same ∙ x.same;
-    counted = i.counted;
-  }
+        (get_left old q w l r x.node p c) (omega (arith, x.node.count_is, x.counts k r)) (λ e. ap (λ y. make y r) e ∙ x.same)
 
-  pub insert_right : (old : Link V A) (q : Prefix) (w : Option V) (l r k : Link V A) (make : Link V A → Link V A → Link V A) (n m : ℕ) (p : Prefix)
-      (given slot : Option V) (done : Bool) → IsView old q w l r make → IsLawfulTrie old → IsChild q true p
-      → Inserts r k n m p given slot done → Inserts old (make l k) n m p given slot done
-  insert_right old q w l r k make n m p given slot true x h c i = record {
-    put = if_some_map given (IsPut r k p) (IsPut old (make l k) p)
+    pub insert_right : IsChild q true p → Inserts r k n m p given slot done → Inserts old (make l k) n m p given slot done
+    insert_right c =
+        inserted_below old (make l k) r k n m p given slot done
         (λ v j.
         let u = x.again l k (record { lower = x.node.halves.lower; upper = j.stays q true x.node.halves.upper c }) x.node.left_lawful j.lawful in
         put_right old (make l k) q w l r k p v x.node u.0 (u.1, x.needed l k (λ e. ((x.filled h.1 e).0, j.filled))) c j)
-        i.put;
-    had_is = i.had_is ∙ sym (get_right old q w l r x.node p c);
-    counted = omega (arith, i.counted, x.node.count_is, x.counts l k);
-  }
-  insert_right old q w l r k make n m p given slot false x h c i = record {
-    absent = get_right old q w l r x.node p c ∙ i.absent;
-    back_is = i.back_is;
-    same = ap (λ y. make l y) i.same ∙ x.same;
-    counted = i.counted;
-  }
+        (get_right old q w l r x.node p c) (omega (arith, x.node.count_is, x.counts l k)) (λ e. ap (λ y. make l y) e ∙ x.same)
 
   -- the value of a full node, and what is in the slot, change places
   pub insert_here : {len base : ℕ} (f : Box (FullNode V A) A) (m : FullNode V A) (old : Link V A) (n : ℕ) (p : Prefix) (given stored slot : Option V) → old ≡ Full len base f

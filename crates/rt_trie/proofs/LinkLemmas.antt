@@ -109,6 +109,16 @@ module _ {V A : Type 0} where
       → IsKeyOf len base n.prefix
   key_of_full {len} {base} b n link e f h = let k : IsLawfulBelow (Full len base b) = subst IsLawfulBelow e h in rw f k.3
 
+  -- so its length is no more than an address has bits
+  pub short_leaf : {len base : ℕ} (b : Box (LeafNode V) A) (link : Link V A) → link ≡ Leaf len base b → IsLawfulBelow link → len ≤ 32
+  short_leaf b link e h = key_short b.value.prefix (key_of_leaf b b.value link e refl h)
+
+  pub short_fork : {len base : ℕ} (b : Box (ForkNode V A) A) (link : Link V A) → link ≡ Fork len base b → IsLawfulBelow link → len ≤ 32
+  short_fork b link e h = key_short b.value.prefix (key_of_fork b b.value link e refl h)
+
+  pub short_full : {len base : ℕ} (b : Box (FullNode V A) A) (link : Link V A) → link ≡ Full len base b → IsLawfulBelow link → len ≤ 32
+  short_full b link e h = key_short b.value.prefix (key_of_full b b.value link e refl h)
+
   -- where a prefix stands, as seen from the link's two numbers, it stands as seen from the node
   pub seen_from_leaf : {len base : ℕ} (b : Box (LeafNode V) A) (link : Link V A) (p : Prefix) (position : Position) → link ≡ Leaf len base b → IsLawfulBelow link
       → ((q : Prefix) → IsKeyOf len base q → StandsAt q p position) → IsSeenFrom (Leaf len base b) base p position
@@ -128,12 +138,16 @@ module _ {V A : Type 0} where
       let k = key_of_full b b.value link e refl h in
       record { node = b.value.prefix; root_is = refl; base_is = k.base_is; stands = s b.value.prefix k }
 
+  -- the pairs of two lawful sides lie in the halves
+  pub sides_at : (q : Prefix) (left right : Link V A) → AreHalves q left right → IsLawfulTrie left → IsLawfulTrie right → AreSides q (pairs left) (pairs right)
+  sides_at q left right h l r = record {
+    lower = pairs_within left q.base (middle q) (q.len + 1) l.0 h.lower;
+    upper = pairs_within right (middle q) (past q) (q.len + 1) r.0 h.upper;
+  }
+
   pub sides_of : (link : Link V A) (q : Prefix) (v : Option V) (left right : Link V A) → IsNode link q v left right
       → AreSides q (pairs left) (pairs right)
-  sides_of link q v left right n = record {
-    lower = pairs_within left q.base (middle q) (q.len + 1) n.left_lawful.0 n.halves.lower;
-    upper = pairs_within right (middle q) (past q) (q.len + 1) n.right_lawful.0 n.halves.upper;
-  }
+  sides_of link q v left right n = sides_at q left right n.halves n.left_lawful n.right_lawful
 
   -- each side is lawful, with fewer nodes
   pub below_left : (link : Link V A) (q : Prefix) (v : Option V) (left right : Link V A) → IsNode link q v left right
@@ -177,17 +191,9 @@ module _ {V A : Type 0} where
   pairs_ordered Empty h = tt
   pairs_ordered (Leaf i j b) h = (tt, tt)
   pairs_ordered (Fork' i j p left right q) h =
-      let s : AreSides q (pairs left) (pairs right) = record {
-        lower = pairs_within left q.base (middle q) (q.len + 1) h.1.0 h.0.lower;
-        upper = pairs_within right (middle q) (past q) (q.len + 1) h.2.0 h.0.upper;
-      } in
-      IsOrdered-node q None (pairs left) (pairs right) s (pairs_ordered left h.1.0) (pairs_ordered right h.2.0)
+      IsOrdered-node q None (pairs left) (pairs right) (sides_at q left right h.0 h.1 h.2) (pairs_ordered left h.1.0) (pairs_ordered right h.2.0)
   pairs_ordered (Full' i j p left right q v) h =
-      let s : AreSides q (pairs left) (pairs right) = record {
-        lower = pairs_within left q.base (middle q) (q.len + 1) h.1.0 h.0.lower;
-        upper = pairs_within right (middle q) (past q) (q.len + 1) h.2.0 h.0.upper;
-      } in
-      IsOrdered-node q v (pairs left) (pairs right) s (pairs_ordered left h.1.0) (pairs_ordered right h.2.0)
+      IsOrdered-node q v (pairs left) (pairs right) (sides_at q left right h.0 h.1 h.2) (pairs_ordered left h.1.0) (pairs_ordered right h.2.0)
 
   -- the longest match is looked for on one side, with the node's own pair to fall back on
   pub node_cover-lower : (link : Link V A) (q : Prefix) (v : Option V) (left right : Link V A) (n : IsNode link q v left right) (a : Addr)

@@ -218,21 +218,19 @@ module _ {V A : Type 0} where
       (nodes_within left q.base (middle q) (q.len + 1) h.1.0 h.0.lower)
       (nodes_within right (middle q) (past q) (q.len + 1) h.2.0 h.0.upper)
 
+  node_sides : (q : Prefix) (left right : Link V A) → AreHalves q left right → IsLawfulTrie left → IsLawfulTrie right → AreSides q (nodes_of left) (nodes_of right)
+  node_sides q left right h l r = record {
+    lower = nodes_within left q.base (middle q) (q.len + 1) l.0 h.lower;
+    upper = nodes_within right (middle q) (past q) (q.len + 1) r.0 h.upper;
+  }
+
   nodes_ordered : (link : Link V A) → IsLawfulBelow link → IsOrdered (nodes_of link)
   nodes_ordered Empty h = tt
   nodes_ordered (Leaf i j b) h = (tt, tt)
   nodes_ordered (Fork' i j p left right q) h =
-      let s : AreSides q (nodes_of left) (nodes_of right) = record {
-        lower = nodes_within left q.base (middle q) (q.len + 1) h.1.0 h.0.lower;
-        upper = nodes_within right (middle q) (past q) (q.len + 1) h.2.0 h.0.upper;
-      } in
-      IsOrdered-node q (Some tt) (nodes_of left) (nodes_of right) s (nodes_ordered left h.1.0) (nodes_ordered right h.2.0)
+      IsOrdered-node q (Some tt) (nodes_of left) (nodes_of right) (node_sides q left right h.0 h.1 h.2) (nodes_ordered left h.1.0) (nodes_ordered right h.2.0)
   nodes_ordered (Full' i j p left right q v) h =
-      let s : AreSides q (nodes_of left) (nodes_of right) = record {
-        lower = nodes_within left q.base (middle q) (q.len + 1) h.1.0 h.0.lower;
-        upper = nodes_within right (middle q) (past q) (q.len + 1) h.2.0 h.0.upper;
-      } in
-      IsOrdered-node q (Some tt) (nodes_of left) (nodes_of right) s (nodes_ordered left h.1.0) (nodes_ordered right h.2.0)
+      IsOrdered-node q (Some tt) (nodes_of left) (nodes_of right) (node_sides q left right h.0 h.1 h.2) (nodes_ordered left h.1.0) (nodes_ordered right h.2.0)
 
   -- a filled link stores some prefix
   some_stored : (link : Link V A) → IsLawfulTrie link → IsFilled link → (p : Prefix) × IsStored (pairs link) p

@@ -69,6 +69,13 @@ module _ {V : Type 0} (q : Prefix) (v : Option V) (xs ys : Pairs V) (sides : Are
   pub lower_lower : (p : Prefix) → middle q ≤ p.base → AllKeys (IsLower p) xs
   lower_lower p h = AllKeys-map (λ x. x.base < middle q) (IsLower p) xs (λ x k. let s = x.is_prefix.short in omega arith) lower_below
 
+  -- a prefix in one half is none of the other's
+  pub upper_other : (p : Prefix) → p.base < middle q → AllKeys (IsOther p) ys
+  upper_other p h = AllKeys-map (IsHigher p) (IsOther p) ys (λ x. IsOther-higher p x) (upper_higher p h)
+
+  pub lower_other : (p : Prefix) → middle q ≤ p.base → AllKeys (IsOther p) xs
+  lower_other p h = AllKeys-map (IsLower p) (IsOther p) xs (λ x. IsOther-lower p x) (lower_lower p h)
+
   -- the node's own pair, before what is longer
   pub own_lower : (p : Prefix) → q.base ≤ p.base → q.len < p.len → AllKeys (IsLower p) (own_pair q v)
   own_lower p h k = elim v as (λ o. AllKeys (IsLower p) (own_pair q o)) [ None ↦ tt | Some w ↦ (omega arith, tt) ]
@@ -87,12 +94,12 @@ module _ {V : Type 0} (q : Prefix) (v : Option V) (xs ys : Pairs V) (sides : Are
   pub get-lower : (p : Prefix) → q.len < p.len → p.base < middle q → get (own_pair q v ++ (xs ++ ys)) p ≡ get xs p
   get-lower p h k =
       get-skip (own_pair q v) (xs ++ ys) p (own_other p h)
-      ∙ get-front xs ys p (AllKeys-map (IsHigher p) (IsOther p) ys (λ x. IsOther-higher p x) (upper_higher p k))
+      ∙ get-front xs ys p (upper_other p k)
 
   pub get-upper : (p : Prefix) → q.len < p.len → middle q ≤ p.base → get (own_pair q v ++ (xs ++ ys)) p ≡ get ys p
   get-upper p h k =
       get-skip (own_pair q v) (xs ++ ys) p (own_other p h)
-      ∙ get-skip xs ys p (AllKeys-map (IsLower p) (IsOther p) xs (λ x. IsOther-lower p x) (lower_lower p k))
+      ∙ get-skip xs ys p (lower_other p k)
 
   pub rest_other : (p : Prefix) → p.len ≤ q.len → AllKeys (IsOther p) (xs ++ ys)
   rest_other p h = AllKeys-map (λ x. q.len < x.len) (IsOther p) (xs ++ ys) (λ x k. IsOther-len p x (omega arith)) sides_longer

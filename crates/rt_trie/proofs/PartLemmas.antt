@@ -54,6 +54,13 @@ pub few_zeros : (a b : ℕ) → a < 2 ^ 32 → b < 2 ^ 32 → a ≢ b → count_
 few_zeros a b h k d =
     let t = leading_top 32 (bit_xor a b) (differ_some a b d) (xor_of_32 a b h k) in omega (arith, t.1)
 
+-- the highest digit in which two numbers differ is that many below the highest of 32
+pub highest_by_zeros : (a b : ℕ) → a < 2 ^ 32 → b < 2 ^ 32 → a ≢ b
+    → (a / 2 ^ (31 - count_leading_zeros 32 (bit_xor a b) + 1) ≡ b / 2 ^ (31 - count_leading_zeros 32 (bit_xor a b) + 1))
+    × (a / 2 ^ (31 - count_leading_zeros 32 (bit_xor a b)) ≢ b / 2 ^ (31 - count_leading_zeros 32 (bit_xor a b)))
+highest_by_zeros a b h k d =
+    highest_digit a b (31 - count_leading_zeros 32 (bit_xor a b)) h k d (omega (arith, few_zeros a b h k d))
+
 -- two numbers that agree down to a bit and differ in it: the lower one lies in the lower half of what they share
 pub parts : (a b j : ℕ) → a / 2 ^ (j + 1) ≡ b / 2 ^ (j + 1) → a / 2 ^ j ≢ b / 2 ^ j → a < b
     → (a / 2 ^ (j + 1) * 2 ^ (j + 1) ≤ a) × (a < a / 2 ^ (j + 1) * 2 ^ (j + 1) + 2 ^ j)

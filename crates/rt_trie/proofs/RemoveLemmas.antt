@@ -1,5 +1,5 @@
 -- What taking a pair out, and then a node that isn't needed, makes of a link.
-use Rattle.std.proofs.Common.{◌≡◌, ℕ, ◌⊎◌, ◌+◌, Bool, true, false, [], ◌∷◌, ◌++◌, Option, Some, None, inl, inr, refl, sym, subst, ap, ◌∙◌, arith}
+use Rattle.std.proofs.Common.{◌≡◌, ℕ, ◌⊎◌, ◌+◌, ◌<◌, Bool, true, false, [], ◌∷◌, ◌++◌, Option, Some, None, inl, inr, refl, sym, subst, ap, ◌∙◌, arith}
 use Rattle.std.specs.Prelude.{Box}
 use Rattle.rt_cidr.specs.declared.prefixes.Prefix.{Prefix}
 use Rattle.rt_trie.specs.declared.nodes.Link.{Link, Empty, Leaf, Fork', Full'}
@@ -9,16 +9,16 @@ use Rattle.rt_trie.specs.declared.nodes.FullNode.{FullNode}
 use Rattle.rt_trie.specs.Map.{Pairs, same_prefix, get, erase}
 use Rattle.rt_trie.specs.declared.nodes.Position.{Position}
 use Rattle.rt_trie.specs.declared.nodes.Position.TheVariants.{Here, Left, Right, Above, Apart}
-use Rattle.rt_trie.proofs.InsertLemmas.{get_above, get_apart}
-use Rattle.rt_trie.specs.Blocks.{IsKeyOf, IsChild, middle, past}
+use Rattle.rt_trie.proofs.InsertLemmas.{get_above, get_apart, made_full_below}
+use Rattle.rt_trie.specs.Blocks.{IsChild, middle, past}
 use Rattle.rt_trie.specs.inside.Blocks.{StandsAt}
 use Rattle.rt_trie.specs.inside.Links.{own_pair, pairs, IsVacant, IsLone, IsLeafOf, IsNode}
-use Rattle.rt_trie.specs.Links.{root, AreHalves, IsLawfulBelow, IsLawfulTrie}
+use Rattle.rt_trie.specs.Links.{root, IsLawfulBelow, IsLawfulTrie}
 use Rattle.rt_trie.specs.inside.Changes.{IsErased, IsSpliced, AreSidesOf}
 use Rattle.rt_trie.proofs.OrderLemmas.{same_tells, same_rank}
 use Rattle.rt_cidr.proofs.Promised.{size_pos}
-use Rattle.rt_trie.proofs.PairLemmas.{AllKeys-map, IsOther, IsHigher, IsLower, IsOther-higher, IsOther-lower, erase-skip, erase-none, erase-front, erase-here}
-use Rattle.rt_trie.proofs.NodeLemmas.{upper_higher, lower_lower, own_other, sides_higher}
+use Rattle.rt_trie.proofs.PairLemmas.{AllKeys-map, IsOther, IsHigher, IsOther-higher, erase-skip, erase-none, erase-front, erase-here}
+use Rattle.rt_trie.proofs.NodeLemmas.{upper_other, lower_other, own_other, sides_higher}
 use Rattle.rt_trie.proofs.LinkLemmas.{if_some_map, IsView, within_lower, within_upper, sides_of, of_fork, of_full, key_of_full, node_get-unstored}
 
 -- a child of a child on a side is a child there
@@ -70,28 +70,27 @@ module _ {V A : Type 0} where
       sides_apart link n.prefix n.left n.right
       (subst (λ o. IsNode link n.prefix o n.left n.right) none (of_full b n link e f h)) (rw f one.1)
 
-  -- p is taken out on one side
-  erase_left : (old mid : Link V A) (q : Prefix) (w : Option V) (l r k : Link V A) (p : Prefix) → IsNode old q w l r → IsNode mid q w k r
-      → IsChild q false p → IsErased l k p → pairs mid ≡ erase (pairs old) p
-  erase_left old mid q w l r k p n m c i =
-      let s = sides_of old q w l r n in
-      m.pairs_are ∙ sym (ap (λ x. erase x p) n.pairs_are
-      ∙ erase-skip (own_pair q w) (pairs l ++ pairs r) p (own_other q w (pairs l) (pairs r) s p (omega (arith, c.long)))
-      ∙ ap (λ x. own_pair q w ++ x) (erase-front (pairs l) (pairs r) p
-      (AllKeys-map (IsHigher p) (IsOther p) (pairs r) (λ x. IsOther-higher p x)
-      (upper_higher q w (pairs l) (pairs r) s p (omega (arith, c.to, size_pos p.len))))
-      ∙ ap (λ x. x ++ pairs r) (sym i.pairs_are)))
+  -- what is taken out below a node is taken out of its sides
+  erase_below : (old mid : Link V A) (q : Prefix) (w : Option V) (l r : Link V A) (p : Prefix) (rest : Pairs V) → IsNode old q w l r → q.len < p.len
+      → pairs mid ≡ own_pair q w ++ rest → erase (pairs l ++ pairs r) p ≡ rest → pairs mid ≡ erase (pairs old) p
+  erase_below old mid q w l r p rest n long e f =
+      e ∙ sym (ap (λ x. erase x p) n.pairs_are
+      ∙ erase-skip (own_pair q w) (pairs l ++ pairs r) p (own_other q w (pairs l) (pairs r) (sides_of old q w l r n) p long)
+      ∙ ap (λ x. own_pair q w ++ x) f)
 
-  erase_right : (old mid : Link V A) (q : Prefix) (w : Option V) (l r k : Link V A) (p : Prefix) → IsNode old q w l r → IsNode mid q w l k
-      → IsChild q true p → IsErased r k p → pairs mid ≡ erase (pairs old) p
-  erase_right old mid q w l r k p n m c i =
-      let s = sides_of old q w l r n in
-      m.pairs_are ∙ sym (ap (λ x. erase x p) n.pairs_are
-      ∙ erase-skip (own_pair q w) (pairs l ++ pairs r) p (own_other q w (pairs l) (pairs r) s p (omega (arith, c.long)))
-      ∙ ap (λ x. own_pair q w ++ x) (erase-skip (pairs l) (pairs r) p
-      (AllKeys-map (IsLower p) (IsOther p) (pairs l) (λ x. IsOther-lower p x)
-      (lower_lower q w (pairs l) (pairs r) s p c.from))
-      ∙ ap (λ x. pairs l ++ x) (sym i.pairs_are)))
+  -- p is taken out on one side
+  module _ (old mid : Link V A) (q : Prefix) (w : Option V) (l r k : Link V A) (p : Prefix) (n : IsNode old q w l r) where
+    erase_left : IsNode mid q w k r → IsChild q false p → IsErased l k p → pairs mid ≡ erase (pairs old) p
+    erase_left m c i =
+        erase_below old mid q w l r p (pairs k ++ pairs r) n (omega (arith, c.long)) m.pairs_are
+        (erase-front (pairs l) (pairs r) p (upper_other q w (pairs l) (pairs r) (sides_of old q w l r n) p (omega (arith, c.to, size_pos p.len)))
+        ∙ ap (λ x. x ++ pairs r) (sym i.pairs_are))
+
+    erase_right : IsNode mid q w l k → IsChild q true p → IsErased r k p → pairs mid ≡ erase (pairs old) p
+    erase_right m c i =
+        erase_below old mid q w l r p (pairs l ++ pairs k) n (omega (arith, c.long)) m.pairs_are
+        (erase-skip (pairs l) (pairs r) p (lower_other q w (pairs l) (pairs r) (sides_of old q w l r n) p c.from)
+        ∙ ap (λ x. pairs l ++ x) (sym i.pairs_are))
 
   -- a node's own value is taken out
   erase_own : (old mid : Link V A) (q : Prefix) (w : Option V) (l r : Link V A) → IsNode old q w l r → IsNode mid q None l r
@@ -108,21 +107,6 @@ module _ {V A : Type 0} where
     pub pairs_are : pairs mid ≡ erase (pairs old) p
     pub below : IsLawfulBelow mid
     pub root_is : root mid ≡ root old
-
-  pub made_below_full : (len base : ℕ) (b : Box (FullNode V A) A) (q : Prefix) (w : Option V) (l r : Link V A) → IsKeyOf len base q → b.value.prefix ≡ q
-      → b.value.value ≡ w → b.value.left ≡ l → b.value.right ≡ r → AreHalves q l r → IsLawfulTrie l → IsLawfulTrie r
-      → IsNode (Full len base b) q w l r × IsLawfulBelow (Full len base b)
-  made_below_full len base b q w l r key e f i j h k m = (
-    rw (e, f, i, j) (record {
-      pairs_are = refl;
-      root_is = refl;
-      count_is = refl;
-      halves = h;
-      left_lawful = k;
-      right_lawful = m;
-    }),
-    rw (e, i, j) (h, k, m, key),
-  )
 
   -- p was taken out on one side of a node
   pub halfway_left : (old : Link V A) (q : Prefix) (w : Option V) (l r k : Link V A) (make : Link V A → Link V A → Link V A) (p : Prefix)
@@ -142,7 +126,7 @@ module _ {V A : Type 0} where
       → b.value.value ≡ None → b.value.left ≡ m.left → b.value.right ≡ m.right → IsHalfway old (Full len base b) p
   halfway_full_here {len} {base} f m old p e g h i b x w y z =
       let n = of_full f m old e g h.0 in
-      let u = made_below_full len base b m.prefix None m.left m.right (key_of_full f m old e g h.0) x w y z n.halves n.left_lawful n.right_lawful in
+      let u = made_full_below len base b m.prefix None m.left m.right (key_of_full f m old e g h.0) x w y z n.halves n.left_lawful n.right_lawful in
       rw i (record { pairs_are = erase_own old (Full len base b) m.prefix m.value m.left m.right n u.0; below = u.1; root_is = u.0.root_is ∙ sym n.root_is })
 
   -- and the whole removal

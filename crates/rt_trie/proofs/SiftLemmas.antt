@@ -15,7 +15,7 @@ use Rattle.rt_trie.specs.inside.Changes.{IsSpliced, StaysChild}
 use Rattle.rt_trie.specs.Sifted.{with_pair, IsSifted}
 use Rattle.rt_trie.specs.inside.Sifted.{IsSiftedLink}
 use Rattle.rt_trie.proofs.LinkLemmas.{IsView, of_leaf, of_full, key_of_leaf, key_of_full}
-use Rattle.rt_trie.proofs.RemoveLemmas.{made_below_full}
+use Rattle.rt_trie.proofs.InsertLemmas.{made_full_below}
 
 -- a list that is joined to what is left stands behind it
 with_pair-append : {V : Type 0} (b : Bool) (p : Prefix) (v : V) (xs ys : Pairs V) → with_pair b p v xs ++ ys ≡ with_pair b p v (xs ++ ys)
@@ -107,7 +107,7 @@ module _ {V S : Type 0} (done : S → Bool) (judges : S → Prefix → V → S �
     half_full {len} {base} s a b t f x old w m n e g h own left right =
         let o = of_full f x old e g h.0 in
         let new = with_value f (record { prefix = x.prefix; value = w; left = m; right = n }) in
-        let u = made_below_full len base new x.prefix w m n (key_of_full f x old e g h.0) refl refl refl refl
+        let u = made_full_below len base new x.prefix w m n (key_of_full f x old e g h.0) refl refl refl refl
         (still_halves a b t old x.prefix x.value x.left x.right m n o left right) left.lawful right.lawful in
         record {
           sifted = node_sifted s a b t old (Full len base new) x.prefix x.value w x.left x.right m n o u.0 own left right;

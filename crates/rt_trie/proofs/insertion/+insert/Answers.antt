@@ -4,7 +4,7 @@ use Rattle.rt_trie.specs.declared.nodes.Position.TheVariants.{Above, Apart}
 use Rattle.rt_trie.specs.inside.Blocks.{StandsAt}
 use Rattle.rt_trie.specs.inside.Changes.{Inserts}
 use Rattle.rt_trie.proofs.InsertLemmas.{insert_left, insert_right, insert_here, insert_leaf}
-use Rattle.rt_trie.proofs.LinkLemmas.{view_fork, view_full, key_of_leaf, key_of_fork, key_of_full, seen_from_leaf, seen_from_fork, seen_from_full, key_short}
+use Rattle.rt_trie.proofs.LinkLemmas.{view_fork, view_full, key_of_leaf, key_of_fork, key_of_full, seen_from_leaf, seen_from_fork, seen_from_full, short_fork, short_full, short_leaf}
 use Rattle.rt_trie.proofs.insertion.+insert.Goals as goal
 
 pub returns-in-Left-position_of : goal.returns-in-Left-position_of
@@ -111,19 +111,13 @@ pub insert_below_leaf-requires-clause-leaf : goal.insert_below_leaf-requires-cla
 insert_below_leaf-requires-clause-leaf g t c = sym (ap (λ (x : LeafNode _). x.prefix) c.deref.ensures)
 
 pub position_of-requires : goal.position_of-requires
-position_of-requires g t c =
-    let b = c.in-Leaf.leaf in
-    key_short b.value.prefix (key_of_leaf b b.value c.args.link.now c.in-Leaf.is refl c.requires.lawful.0)
+position_of-requires g t c = short_leaf c.in-Leaf.leaf c.args.link.now c.in-Leaf.is c.requires.lawful.0
 
 pub position_of-requires-in-Fork : goal.position_of-requires-in-Fork
-position_of-requires-in-Fork g t c =
-    let b = c.in-Fork.fork in
-    key_short b.value.prefix (key_of_fork b b.value c.args.link.now c.in-Fork.is refl c.requires.lawful.0)
+position_of-requires-in-Fork g t c = short_fork c.in-Fork.fork c.args.link.now c.in-Fork.is c.requires.lawful.0
 
 pub position_of-requires-in-Full : goal.position_of-requires-in-Full
-position_of-requires-in-Full g t c =
-    let b = c.in-Full.full in
-    key_short b.value.prefix (key_of_full b b.value c.args.link.now c.in-Full.is refl c.requires.lawful.0)
+position_of-requires-in-Full g t c = short_full c.in-Full.full c.args.link.now c.in-Full.is c.requires.lawful.0
 
 pub returns-in-Left : goal.returns-in-Left
 returns-in-Left g t c =

@@ -4,7 +4,7 @@ use Rattle.rt_trie.specs.declared.nodes.Link.{Link}
 use Rattle.rt_trie.specs.declared.nodes.Position.TheVariants.{Left, Right}
 use Rattle.rt_trie.specs.inside.Links.{count}
 use Rattle.rt_trie.proofs.RemoveLemmas.{IsHalfway, halfway_left, halfway_right, halfway_full_here, erased_of, erased_same, erased_leaf, fork_none, full_none}
-use Rattle.rt_trie.proofs.LinkLemmas.{key_short, key_of_fork, key_of_full, of_fork, of_full, view_fork, view_full, get_left, get_right, get_own}
+use Rattle.rt_trie.proofs.LinkLemmas.{short_fork, short_full, key_of_fork, key_of_full, of_fork, of_full, view_fork, view_full, get_left, get_right, get_own}
 use Rattle.rt_trie.proofs.removal.+remove.Goals as goal
 use Rattle.rt_trie.proofs.removal.+remove.Goals.{in-Fork+in-Left, in-Fork+in-Right, in-Full+in-Here-position_of, in-Full+in-Left-position_of, in-Full+in-Right-position_of}
 
@@ -14,15 +14,9 @@ is_leaf_of-requires g t c = rw c.in-Leaf.is (c.in-Leaf.field-2.value.prefix, ref
 pub remove_leaf-requires-clause-leaf : goal.remove_leaf-requires-clause-leaf
 remove_leaf-requires-clause-leaf g t c = (c.args.p, c.is_leaf_of.ensures.here c.if-is_leaf_of.true)
 
-pub returns-then-is_leaf_of-clause-value : goal.returns-then-is_leaf_of-clause-value
-returns-then-is_leaf_of-clause-value g t c = sym (c.remove_leaf.ensures.value c.args.p (c.is_leaf_of.ensures.here c.if-is_leaf_of.true))
-
 pub returns-then-is_leaf_of-clause-erased : goal.returns-then-is_leaf_of-clause-erased
 returns-then-is_leaf_of-clause-erased g t c =
     erased_leaf c.args.link.now _ c.args.p (c.is_leaf_of.ensures.here c.if-is_leaf_of.true) c.remove_leaf.ensures.empty
-
-pub returns-else-is_leaf_of-clause-value : goal.returns-else-is_leaf_of-clause-value
-returns-else-is_leaf_of-clause-value g t c = sym (c.is_leaf_of.ensures.other c.if-is_leaf_of.false)
 
 pub returns-else-is_leaf_of-clause-erased : goal.returns-else-is_leaf_of-clause-erased
 returns-else-is_leaf_of-clause-erased g t c =
@@ -163,11 +157,7 @@ returns-clause-value g t c =
     ]
 
 pub position_of-requires : goal.position_of-requires
-position_of-requires g t c =
-    let b = c.in-Fork.fork in
-    key_short b.value.prefix (key_of_fork b b.value c.args.link.now c.in-Fork.is refl c.requires.lawful.0)
+position_of-requires g t c = short_fork c.in-Fork.fork c.args.link.now c.in-Fork.is c.requires.lawful.0
 
 pub position_of-requires-in-Full : goal.position_of-requires-in-Full
-position_of-requires-in-Full g t c =
-    let b = c.in-Full.full in
-    key_short b.value.prefix (key_of_full b b.value c.args.link.now c.in-Full.is refl c.requires.lawful.0)
+position_of-requires-in-Full g t c = short_full c.in-Full.full c.args.link.now c.in-Full.is c.requires.lawful.0

@@ -1,5 +1,5 @@
 use Rattle.std.proofs.Common.{refl, sym, ◌∙◌, arith}
-use Rattle.rt_trie.proofs.LinkLemmas.{of_fork, of_full, key_short, key_of_fork, key_of_full, node_get-lower, node_get-upper, node_get-here, node_get-past, node_get-unstored}
+use Rattle.rt_trie.proofs.LinkLemmas.{of_fork, of_full, short_fork, short_full, key_of_fork, key_of_full, node_get-lower, node_get-upper, node_get-here, node_get-past, node_get-unstored}
 use Rattle.rt_trie.proofs.BlockLemmas.{middle_of_key}
 use Rattle.rt_trie.proofs.search.get.Goals as goal
 
@@ -63,11 +63,7 @@ loop-link-preserved g c =
     }
 
 pub middle-requires : goal.middle-requires
-middle-requires g c =
-    let b = c.in-Fork.fork in
-    key_short b.value.prefix (key_of_fork b b.value c.loop-link.link.now c.in-Fork.is refl c.loop-link.invariant.lawful)
+middle-requires g c = short_fork c.in-Fork.fork c.loop-link.link.now c.in-Fork.is c.loop-link.invariant.lawful
 
 pub middle-requires-in-Full : goal.middle-requires-in-Full
-middle-requires-in-Full g c =
-    let b = c.in-Full.full in
-    key_short b.value.prefix (key_of_full b b.value c.loop-link.link.now c.in-Full.is refl c.loop-link.invariant.lawful)
+middle-requires-in-Full g c = short_full c.in-Full.full c.loop-link.link.now c.in-Full.is c.loop-link.invariant.lawful

@@ -1,7 +1,7 @@
 use Rattle.std.proofs.Common.{refl, sym, ap, ◌∙◌}
 use Rattle.rt_trie.specs.Map.{pair_copied}
 use Rattle.rt_trie.proofs.NodeLemmas.{best_stored, best_unstored}
-use Rattle.rt_trie.proofs.LinkLemmas.{none_unless, of_fork, of_full, key_short, key_of_leaf, key_of_fork, key_of_full, side_below, step_side, step_none}
+use Rattle.rt_trie.proofs.LinkLemmas.{none_unless, of_fork, of_full, short_fork, short_full, short_leaf, key_of_fork, key_of_full, side_below, step_side, step_none}
 use Rattle.rt_trie.proofs.BlockLemmas.{not_covered}
 use Rattle.rt_trie.proofs.search.step.Goals as goal
 use Rattle.rt_trie.proofs.search.step.Goals.{in-Some, in_default}
@@ -45,43 +45,13 @@ returns-after-full-clause-sought g c =
     ])
 
 pub offset-requires : goal.offset-requires
-offset-requires g c =
-    let b = c.in-Leaf.leaf in
-    key_short b.value.prefix (key_of_leaf b b.value c.args.link.now c.in-Leaf.is refl c.requires)
+offset-requires g c = short_leaf c.in-Leaf.leaf c.args.link.now c.in-Leaf.is c.requires
 
 pub offset-offset-requires : goal.offset-offset-requires
-offset-offset-requires g c =
-    let b = c.in-Fork.fork in
-    key_short b.value.prefix (key_of_fork b b.value c.args.link.now c.in-Fork.is refl c.requires)
+offset-offset-requires g c = short_fork c.in-Fork.fork c.args.link.now c.in-Fork.is c.requires
 
 pub offset-offset-requires-in-Full : goal.offset-offset-requires-in-Full
-offset-offset-requires-in-Full g c =
-    let b = c.in-Full.full in
-    key_short b.value.prefix (key_of_full b b.value c.args.link.now c.in-Full.is refl c.requires)
-
-pub returns-then-offset-ge-END-clause-lawful : goal.returns-then-offset-ge-END-clause-lawful
-returns-then-offset-ge-END-clause-lawful g c = tt
-
-pub returns-then-offset-ge-END-clause-down : goal.returns-then-offset-ge-END-clause-down
-returns-then-offset-ge-END-clause-down g c = tt
-
-pub returns-then-offset-ge-END-2-clause-lawful : goal.returns-then-offset-ge-END-2-clause-lawful
-returns-then-offset-ge-END-2-clause-lawful g c = tt
-
-pub returns-then-offset-ge-END-2-clause-down : goal.returns-then-offset-ge-END-2-clause-down
-returns-then-offset-ge-END-2-clause-down g c = tt
-
-pub returns-in-Empty-clause-lawful : goal.returns-in-Empty-clause-lawful
-returns-in-Empty-clause-lawful g c = tt
-
-pub returns-in-Empty-clause-down : goal.returns-in-Empty-clause-down
-returns-in-Empty-clause-down g c = tt
-
-pub returns-after-offset-lt-END-clause-lawful : goal.returns-after-offset-lt-END-clause-lawful
-returns-after-offset-lt-END-clause-lawful g c = tt
-
-pub returns-after-offset-lt-END-clause-down : goal.returns-after-offset-lt-END-clause-down
-returns-after-offset-lt-END-clause-down g c = tt
+offset-offset-requires-in-Full g c = short_full c.in-Full.full c.args.link.now c.in-Full.is c.requires
 
 pub returns-else-offset-ge-END-clause-lawful : goal.returns-else-offset-ge-END-clause-lawful
 returns-else-offset-ge-END-clause-lawful g c =
