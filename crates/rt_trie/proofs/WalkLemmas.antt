@@ -43,6 +43,11 @@ link_at-set_other (x ∷ xs) (suc j) (suc k) r n = link_at-set_other xs j k r (�
 longer_root : (k : ℕ) (o : Option Prefix) (q : Prefix) → o ≡ Some q → IfSome o (λ x. k ≤ x.len) → k ≤ q.len
 longer_root k o q e h = rw e at h
 
+-- the last link of the stack, a node, has given way to its two sides, and nothing else has changed
+abbrev pub GivesWay : {V A : Type 0} → List (Bor (Link V A)) → List (Bor (Link V A)) → ℕ → Prefix → Option V → Type 0
+GivesWay xs ys m q v =
+    IsWalkStack ys (m - 1 + 2) × (own_pair q v ++ stack_pairs ys (m - 1 + 2) ≡ stack_pairs xs m) × (weight_of ys (m - 1 + 2) < weight_of xs m)
+
 module _ {V A : Type 0} where
   -- what is changed at an index and after it leaves what is before
   rest_below : (xs ys : List (Bor (Link V A))) (k : ℕ) → ((j : ℕ) → j < k → link_at ys j ≡ link_at xs j) → stack_pairs ys k ≡ stack_pairs xs k
@@ -95,7 +100,7 @@ module _ {V A : Type 0} where
   pub walk_at : (xs ys : List (Bor (Link V A))) (m : ℕ) (link left right : Link V A) (q : Prefix) (v : Option V) → IsWalkStack xs m → 0 < m
       → link_at xs (m - 1) ≡ Some link → (IsLawfulBelow link → IsNode link q v left right) → link_at ys (m - 1) ≡ Some right
       → link_at ys (m - 1 + 1) ≡ Some left → ((j : ℕ) → j < m - 1 → link_at ys j ≡ link_at xs j) → length ys ≡ length xs
-      → IsWalkStack ys (m - 1 + 2) × (own_pair q v ++ stack_pairs ys (m - 1 + 2) ≡ stack_pairs xs m) × (weight_of ys (m - 1 + 2) < weight_of xs m)
+      → GivesWay xs ys m q v
   walk_at xs ys m link left right q v a pos at node r l below size =
       let em : m ≡ suc (m - 1) = omega arith in
       let en : m - 1 + 2 ≡ suc (suc (m - 1)) = omega arith in

@@ -1,12 +1,13 @@
-use Rattle.std.proofs.Common.{◌≡◌, ◌+◌, refl, sym, ap, ◌∙◌, inl, inr}
+use Rattle.std.proofs.Common.{◌≡◌, ℕ, ◌+◌, refl, sym, ap, ◌∙◌, inl, inr}
 use Rattle.std.specs.Box.{with_value}
 use Rattle.rt_trie.specs.declared.nodes.Link.{Link}
 use Rattle.rt_trie.specs.declared.nodes.Position.TheVariants.{Left, Right}
 use Rattle.rt_trie.specs.inside.Links.{count}
 use Rattle.rt_trie.proofs.RemoveLemmas.{IsHalfway, halfway_left, halfway_right, halfway_full_here, erased_of, erased_same, erased_leaf, fork_none, full_none}
 use Rattle.rt_trie.proofs.LinkLemmas.{short_fork, short_full, key_of_fork, key_of_full, of_fork, of_full, view_fork, view_full, get_left, get_right, get_own}
+use Rattle.rt_trie.proofs.removal.+remove.Given.{Over}
 use Rattle.rt_trie.proofs.removal.+remove.Goals as goal
-use Rattle.rt_trie.proofs.removal.+remove.Goals.{in-Fork+in-Left, in-Fork+in-Right, in-Full+in-Here-position_of, in-Full+in-Left-position_of, in-Full+in-Right-position_of}
+use Rattle.rt_trie.proofs.removal.+remove.Goals.{Joined-link, in-Fork+in-Left, in-Fork+in-Right, in-Full+in-Here-position_of, in-Full+in-Left-position_of, in-Full+in-Right-position_of}
 
 pub is_leaf_of-requires : goal.is_leaf_of-requires
 is_leaf_of-requires g t c = rw c.in-Leaf.is (c.in-Leaf.field-2.value.prefix, refl)
@@ -56,44 +57,11 @@ returns-in-Above-clause-erased g t c =
     (full_none c.in-Full.full c.in-Full.full.value old p _ c.in-Full.is refl c.requires.lawful
     (c.position_of-in-Full.ensures c.in-Full.full.value.prefix key) c.in-Above.is) c.in-Full.is
 
-pub splice-requires-clause-lawful : goal.splice-requires-clause-lawful
-splice-requires-clause-lawful g t c =
+-- the link before what isn't needed is taken away
+halfway : (g : Over) (t : ℕ) (c : Joined-link g t) → IsHalfway c.args.link.now c.match-link.link c.args.p
+halfway g t c =
     let old = c.args.link.now in
     let p = c.args.p in
-    elim c.match-link.branch [
-      | in-Fork+in-Left w ↦
-          let m = w.deref_mut.result.now in
-          let position = w.in-Left.ensures m.prefix (key_of_fork w.in-Fork.fork m old w.in-Fork.is w.deref_mut.ensures.value c.requires.lawful.0) in
-          rw w.link-is (IsHalfway.below (halfway_left old m.prefix _ m.left m.right w.remove.new.link _ p
-          (view_fork w.in-Fork.fork m old w.in-Fork.is w.deref_mut.ensures.value c.requires.lawful.0) position w.remove.ensures.erased))
-      | in-Fork+in-Right w ↦
-          let m = w.deref_mut-in-Right.result.now in
-          let position = w.in-Right.ensures m.prefix (key_of_fork w.in-Fork.fork m old w.in-Fork.is w.deref_mut-in-Right.ensures.value c.requires.lawful.0) in
-          rw w.link-is (IsHalfway.below (halfway_right old m.prefix _ m.left m.right w.remove-in-Right.new.link _ p
-          (view_fork w.in-Fork.fork m old w.in-Fork.is w.deref_mut-in-Right.ensures.value c.requires.lawful.0) position w.remove-in-Right.ensures.erased))
-      | in-Full+in-Left-position_of w ↦
-          let m = w.deref_mut-in-Left-position_of.result.now in
-          let position = w.in-Left-position_of.ensures m.prefix (key_of_full w.in-Full.full m old w.in-Full.is w.deref_mut-in-Left-position_of.ensures.value c.requires.lawful.0) in
-          rw w.link-is (IsHalfway.below (halfway_left old m.prefix _ m.left m.right w.remove-in-Left-position_of.new.link _ p
-          (view_full w.in-Full.full m old w.in-Full.is w.deref_mut-in-Left-position_of.ensures.value c.requires.lawful.0) position w.remove-in-Left-position_of.ensures.erased))
-      | in-Full+in-Right-position_of w ↦
-          let m = w.deref_mut-in-Right-position_of.result.now in
-          let position = w.in-Right-position_of.ensures m.prefix (key_of_full w.in-Full.full m old w.in-Full.is w.deref_mut-in-Right-position_of.ensures.value c.requires.lawful.0) in
-          rw w.link-is (IsHalfway.below (halfway_right old m.prefix _ m.left m.right w.remove-in-Right-position_of.new.link _ p
-          (view_full w.in-Full.full m old w.in-Full.is w.deref_mut-in-Right-position_of.ensures.value c.requires.lawful.0) position w.remove-in-Right-position_of.ensures.erased))
-      | in-Full+in-Here-position_of w ↦
-          let m = w.deref_mut-in-Here-position_of.result.now in
-          let position = w.in-Here-position_of.ensures m.prefix (key_of_full w.in-Full.full m old w.in-Full.is w.deref_mut-in-Here-position_of.ensures.value c.requires.lawful.0) in
-          rw w.link-is (IsHalfway.below (halfway_full_here w.in-Full.full m old p w.in-Full.is w.deref_mut-in-Here-position_of.ensures.value c.requires.lawful position
-          (with_value w.in-Full.full (record { prefix = m.prefix; value = w.take.new.self; left = m.left; right = m.right }))
-          refl w.take.ensures.after refl refl))
-    ]
-
-pub returns-clause-erased : goal.returns-clause-erased
-returns-clause-erased g t c =
-    let old = c.args.link.now in
-    let p = c.args.p in
-    let h : IsHalfway old c.match-link.link p =
     elim c.match-link.branch [
       | in-Fork+in-Left w ↦
           let m = w.deref_mut.result.now in
@@ -121,8 +89,14 @@ returns-clause-erased g t c =
           rw w.link-is (halfway_full_here w.in-Full.full m old p w.in-Full.is w.deref_mut-in-Here-position_of.ensures.value c.requires.lawful position
           (with_value w.in-Full.full (record { prefix = m.prefix; value = w.take.new.self; left = m.left; right = m.right }))
           refl w.take.ensures.after refl refl)
-    ] in
-    erased_of old c.match-link.link c.splice.new.link p h c.splice.ensures.spliced
+    ]
+
+pub splice-requires-clause-lawful : goal.splice-requires-clause-lawful
+splice-requires-clause-lawful g t c = (halfway g t (goal.at.splice-requires-clause-lawful g t c).Joined-link).below
+
+pub returns-clause-erased : goal.returns-clause-erased
+returns-clause-erased g t c =
+    erased_of c.args.link.now c.match-link.link c.splice.new.link c.args.p (halfway g t (goal.at.returns-clause-erased g t c).Joined-link) c.splice.ensures.spliced
 
 pub returns-clause-value : goal.returns-clause-value
 returns-clause-value g t c =

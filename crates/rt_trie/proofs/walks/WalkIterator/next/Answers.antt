@@ -1,7 +1,8 @@
-use Rattle.std.proofs.Common.{◌≡◌, suc, ◌-◌, length, sym, subst, ap, ◌∙◌, arith}
+use Rattle.std.proofs.Common.{◌≡◌, suc, ◌-◌, length, sym, ap, ◌∙◌, arith}
 use Rattle.std.specs.Option.{option_copied}
-use Rattle.rt_trie.specs.inside.Links.{IsNode}
-use Rattle.rt_trie.proofs.WalkLemmas.{walk_at, empty_at, leaf_step}
+use Rattle.rt_trie.proofs.WalkLemmas.{GivesWay, walk_at, empty_at, leaf_step}
+use Rattle.rt_trie.proofs.walks.WalkIterator.next.Given.{Over}
+use Rattle.rt_trie.proofs.walks.WalkIterator.next.Goals.{After-put_sides}
 use Rattle.rt_trie.proofs.walks.WalkIterator.next.Goals as goal
 
 pub loop-self-preserved-in-Vacant : goal.loop-self-preserved-in-Vacant
@@ -18,55 +19,36 @@ loop-self-smaller-in-Vacant g c =
     let s = empty_at c.loop-self.self-inside.stack c.loop-self.self-inside.len c.link_at.result.now i.stack (omega arith) c.link_at.ensures c.in-Vacant.ensures in
     s.2
 
+-- a node on top of the stack gives way to its sides
+branch_step : (g : Over) (c : After-put_sides g)
+    → GivesWay c.loop-self.self-inside.stack c.put_sides.new.stack c.loop-self.self-inside.len c.in-Branch.prefix (option_copied c.in-Branch.value)
+branch_step g c =
+    let b = c.in-Branch in
+    let sides = c.put_sides.ensures in
+    walk_at c.loop-self.self-inside.stack c.put_sides.new.stack c.loop-self.self-inside.len c.link_at.result.now b.left.now b.right.now b.prefix (option_copied b.value)
+    c.loop-self.invariant.stack (omega arith) c.link_at.ensures b.ensures.0 sides.right sides.left sides.below sides.size
+
 pub loop-self-preserved : goal.loop-self-preserved
 loop-self-preserved g c =
-    let b = c.in-Branch in
-    let i = c.loop-self.invariant in
-    let link = c.link_at.result.now in
-    let sides = c.put_sides.ensures in
-    let s = walk_at c.loop-self.self-inside.stack c.put_sides.new.stack c.loop-self.self-inside.len link b.left.now b.right.now b.prefix _ i.stack (omega arith)
-    c.link_at.ensures (λ h. subst (λ o. IsNode link b.prefix o b.left.now b.right.now) (ap option_copied c.in_default.is) (b.ensures.0 h)) sides.right sides.left sides.below sides.size in
-    record { stack = s.0; same = s.1 ∙ i.same }
+    let s = branch_step g (goal.at.loop-self-preserved g c).After-put_sides in
+    record { stack = s.0; same = (rw c.in_default.is at s.1) ∙ c.loop-self.invariant.same }
 
 pub loop-self-smaller : goal.loop-self-smaller
-loop-self-smaller g c =
-    let b = c.in-Branch in
-    let i = c.loop-self.invariant in
-    let link = c.link_at.result.now in
-    let sides = c.put_sides.ensures in
-    let s = walk_at c.loop-self.self-inside.stack c.put_sides.new.stack c.loop-self.self-inside.len link b.left.now b.right.now b.prefix _ i.stack (omega arith)
-    c.link_at.ensures (λ h. subst (λ o. IsNode link b.prefix o b.left.now b.right.now) (ap option_copied c.in_default.is) (b.ensures.0 h)) sides.right sides.left sides.below sides.size in
-    s.2
+loop-self-smaller g c = (branch_step g (goal.at.loop-self-smaller g c).After-put_sides).2
 
 pub invariant_of-self-in-Some : goal.invariant_of-self-in-Some
-invariant_of-self-in-Some g c =
-    let b = c.in-Branch in
-    let i = c.loop-self.invariant in
-    let link = c.link_at.result.now in
-    let sides = c.put_sides.ensures in
-    let s = walk_at c.loop-self.self-inside.stack c.put_sides.new.stack c.loop-self.self-inside.len link b.left.now b.right.now b.prefix _ i.stack (omega arith)
-    c.link_at.ensures (λ h. subst (λ o. IsNode link b.prefix o b.left.now b.right.now) (ap option_copied c.in-Some.is) (b.ensures.0 h)) sides.right sides.left sides.below sides.size in
-    s.0
+invariant_of-self-in-Some g c = (branch_step g (goal.at.invariant_of-self-in-Some g c).After-put_sides).0
 
 pub returns-in-Some-clause-steps : goal.returns-in-Some-clause-steps
 returns-in-Some-clause-steps g c =
-    let b = c.in-Branch in
-    let i = c.loop-self.invariant in
-    let link = c.link_at.result.now in
-    let sides = c.put_sides.ensures in
-    let s = walk_at c.loop-self.self-inside.stack c.put_sides.new.stack c.loop-self.self-inside.len link b.left.now b.right.now b.prefix _ i.stack (omega arith)
-    c.link_at.ensures (λ h. subst (λ o. IsNode link b.prefix o b.left.now b.right.now) (ap option_copied c.in-Some.is) (b.ensures.0 h)) sides.right sides.left sides.below sides.size in
-    sym (s.1 ∙ i.same)
+    let s = branch_step g (goal.at.returns-in-Some-clause-steps g c).After-put_sides in
+    sym ((rw c.in-Some.is at s.1) ∙ c.loop-self.invariant.same)
 
 pub returns-in-Some-clause-goes : goal.returns-in-Some-clause-goes
 returns-in-Some-clause-goes g c =
-    let b = c.in-Branch in
-    let i = c.loop-self.invariant in
-    let link = c.link_at.result.now in
-    let sides = c.put_sides.ensures in
-    let s = walk_at c.loop-self.self-inside.stack c.put_sides.new.stack c.loop-self.self-inside.len link b.left.now b.right.now b.prefix _ i.stack (omega arith)
-    c.link_at.ensures (λ h. subst (λ o. IsNode link b.prefix o b.left.now b.right.now) (ap option_copied c.in-Some.is) (b.ensures.0 h)) sides.right sides.left sides.below sides.size in
-    record { on = λ f. (tt, tt, omega (arith, ap length (sym (s.1 ∙ i.same)))); keeps = tt; rests = λ f. tt }
+    let s = branch_step g (goal.at.returns-in-Some-clause-goes g c).After-put_sides in
+    let steps = sym ((rw c.in-Some.is at s.1) ∙ c.loop-self.invariant.same) in
+    record { on = λ f. (tt, tt, omega (arith, ap length steps)); keeps = tt; rests = λ f. tt }
 
 pub returns-in-Single-clause-goes : goal.returns-in-Single-clause-goes
 returns-in-Single-clause-goes g c =
