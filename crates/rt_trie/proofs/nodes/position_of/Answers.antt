@@ -1,33 +1,37 @@
-use Rattle.std.proofs.Common.{◌<◌, sym, ◌∙◌, inl, inr, arith}
+use Rattle.std.proofs.Common.{◌≡◌, ◌<◌, ◌≤◌, true, sym, ◌∙◌, inl, inr, arith}
 use Rattle.rt_trie.proofs.BlockLemmas.{longer_of, range_of_covers, outside_of_covers, not_covered, lower_half, upper_half, ends_before}
 use Rattle.rt_trie.proofs.OrderLemmas.{same_tells}
 use Rattle.std.proofs.lemmas.Bool.{cases_lt, false≢true}
-use Rattle.rt_trie.specs.Blocks.{middle}
+use Rattle.rt_cidr.specs.declared.prefixes.Prefix.{Prefix}
+use Rattle.rt_cidr.specs.Prefix.{covers}
+use Rattle.rt_trie.specs.Blocks.{IsKeyOf, middle, past}
 use Rattle.rt_trie.proofs.nodes.position_of.Goals as goal
-use Rattle.rt_trie.proofs.nodes.position_of.Goals.{else-len-via-then-len+else-offset-lt-END, else-len-via-else-len, else-len-2-via-then-len-2+else-covers, else-len-2-via-else-len-2}
+use Rattle.rt_trie.proofs.nodes.position_of.Goals.{Then-offset-lt-END, else-len-via-then-len+else-offset-lt-END, else-len-via-else-len, else-len-2-via-then-len-2+else-covers, else-len-2-via-else-len-2}
+
+-- a prefix that begins where the key covers it begins in its block
+begins_inside : (c : Then-offset-lt-END) (q : Prefix) → IsKeyOf c.args.len c.args.base q
+    → (covers q (record { 0 = c.base.result }) ≡ true) × (q.base ≤ c.args.p.now.base) × (c.args.p.now.base < past q) × (c.args.p.now.len ≤ 32)
+begins_inside c q k =
+    let covered = (c.offset-offset.ensures.covered q k).1 c.if-offset-lt-END.true in
+    let r = range_of_covers q (record { 0 = c.base.result }) covered in
+    (covered, omega arith, omega arith, c.args.p.now.is_prefix.short)
 
 pub returns-then-offset-lt-HALF : goal.returns-then-offset-lt-HALF
 returns-then-offset-lt-HALF c = λ q k.
     let p = c.args.p.now in
-    let t = p.is_prefix.short in
-    let o = c.offset-offset.ensures in
-    let covered = (o.covered q k).1 c.if-offset-lt-END.true in
-    let r = range_of_covers q (record { 0 = c.base.result }) covered in
+    let r = begins_inside (goal.at.returns-then-offset-lt-HALF c).Then-offset-lt-END q k in
     let lt : q.len < 32 = omega (arith, k.len_is) in
     let low : p.base < middle q = elim (cases_lt p.base (middle q)) [
       | inl l ↦ l
-      | inr ge ↦ absurd (omega (arith, (o.half q k covered lt).1 (omega arith)))
+      | inr ge ↦ absurd (omega (arith, (c.offset-offset.ensures.half q k r.0 lt).1 (omega arith)))
     ] in
     record { long = omega (arith, k.len_is); from = omega arith; to = lower_half q p (omega (arith, k.len_is)) low }
 
 pub returns-else-offset-lt-HALF : goal.returns-else-offset-lt-HALF
 returns-else-offset-lt-HALF c = λ q k.
     let p = c.args.p.now in
-    let t = p.is_prefix.short in
-    let o = c.offset-offset.ensures in
-    let covered = (o.covered q k).1 c.if-offset-lt-END.true in
-    let r = range_of_covers q (record { 0 = c.base.result }) covered in
-    let m = (o.half q k covered (omega (arith, k.len_is))).0 c.if-offset-lt-HALF.false in
+    let r = begins_inside (goal.at.returns-else-offset-lt-HALF c).Then-offset-lt-END q k in
+    let m = (c.offset-offset.ensures.half q k r.0 (omega (arith, k.len_is))).0 c.if-offset-lt-HALF.false in
     record { long = omega (arith, k.len_is); from = omega arith; to = upper_half q p (omega (arith, k.len_is)) (omega arith) }
 
 pub returns-then-is_key_of : goal.returns-then-is_key_of
