@@ -16,7 +16,7 @@ use Rattle.rt_trie.specs.declared.nodes.LeafNode.{LeafNode}
 use Rattle.rt_trie.specs.declared.nodes.ForkNode.{ForkNode}
 use Rattle.rt_trie.specs.declared.nodes.FullNode.{FullNode}
 use Rattle.rt_trie.specs.Map.{Pairs, same_prefix, get, first, next_after, before, IsOrdered, IsLongest}
-use Rattle.rt_trie.specs.Blocks.{IsKeyOf, IsInBlock, IsChild, middle, past}
+use Rattle.rt_trie.specs.Blocks.{IsKeyOf, IsInBlock, IsChild, middle, middle_at, past}
 use Rattle.rt_trie.specs.inside.Blocks.{StandsAt}
 use Rattle.rt_trie.specs.declared.nodes.Position.{Position}
 use Rattle.rt_trie.specs.declared.nodes.Position.TheVariants.{Here, Left, Right, Above, Apart}
@@ -27,6 +27,7 @@ use Rattle.rt_cidr.proofs.Promised.{size_pos}
 use Rattle.rt_trie.proofs.NodeLemmas.{AreSides, get-lower, get-upper, get-here, get-past, IsOrdered-node, cover-lower, cover-upper, cover-none, after-lower, after-upper, after-all, after-past}
 use Rattle.rt_trie.proofs.PairLemmas.{AllKeys, AllKeys-append, AllKeys-map, or_assoc, first-append, last_cover-none, last_cover-append}
 use Rattle.rt_trie.proofs.LongestLemmas.{longest_is}
+use Rattle.rt_trie.proofs.BlockLemmas.{middle_of_key}
 
 -- the pairs lie within a block
 abbrev pub AllWithin : {V : Type 0} → ℕ → ℕ → ℕ → Pairs V → Type 0
@@ -80,6 +81,12 @@ own_key q = record { len_is = refl; base_is = refl }
 -- a key's length is no more than an address has bits
 pub key_short : {len base : ℕ} (q : Prefix) → IsKeyOf len base q → len ≤ 32
 key_short q k = let s = q.is_prefix.short in omega (arith, k.len_is)
+
+-- a look-up of p in the link is one in the side on which p lies
+abbrev pub GoesOn : {V A : Type 0} → Link V A → Link V A → Link V A → Prefix → ℕ → Type 0
+GoesOn link left right p edge =
+    (p.base < edge → IsLawfulBelow left × (get (pairs link) p ≡ get (pairs left) p))
+    × (edge ≤ p.base → IsLawfulBelow right × (get (pairs link) p ≡ get (pairs right) p))
 
 module _ {V A : Type 0} where
   of_fork_at : (len base : ℕ) (b : Box (ForkNode V A) A) → IsLawfulBelow (Fork len base b) → IsNode (Fork len base b) b.value.prefix None b.value.left b.value.right
@@ -168,6 +175,14 @@ module _ {V A : Type 0} where
       → q.len < p.len → middle q ≤ p.base → get (pairs link) p ≡ get (pairs right) p
   node_get-upper link q v left right n p h k =
       ap (λ m. get m p) n.pairs_are ∙ get-upper q v (pairs left) (pairs right) (sides_of link q v left right n) p h k
+
+  -- what a look-up finds on the side where it goes on, as the link's two numbers tell it
+  pub goes_on : {len base : ℕ} (link : Link V A) (q : Prefix) (v : Option V) (left right : Link V A) (n : IsNode link q v left right) → IsKeyOf len base q
+      → (p : Prefix) (edge : ℕ) → len < p.len → edge ≡ middle_at len base → GoesOn link left right p edge
+  goes_on link q v left right n k p edge h e = (
+    λ lower. (n.left_lawful.0, node_get-lower link q v left right n p (omega (arith, k.len_is)) (omega (arith, e, middle_of_key k))),
+    λ upper. (n.right_lawful.0, node_get-upper link q v left right n p (omega (arith, k.len_is)) (omega (arith, e, middle_of_key k))),
+  )
 
   pub node_get-here : (link : Link V A) (q : Prefix) (v : Option V) (left right : Link V A) (n : IsNode link q v left right) (p : Prefix)
       → p.len ≤ q.len → same_prefix q p ≡ true → get (pairs link) p ≡ v
