@@ -2,7 +2,8 @@ use Rattle.std.proofs.Common.{◌≡◌, ℕ, ◌+◌, refl, sym, ap, ◌∙◌,
 use Rattle.std.specs.Box.{with_value}
 use Rattle.rt_trie.specs.declared.nodes.Link.{Link}
 use Rattle.rt_trie.specs.declared.nodes.Position.TheVariants.{Left, Right}
-use Rattle.rt_trie.specs.inside.Links.{count}
+use Rattle.rt_trie.specs.Map.{get}
+use Rattle.rt_trie.specs.inside.Links.{pairs, count}
 use Rattle.rt_trie.proofs.RemoveLemmas.{IsHalfway, halfway_left, halfway_right, halfway_full_here, erased_of, erased_same, erased_leaf, fork_none, full_none}
 use Rattle.rt_trie.proofs.LinkLemmas.{short_fork, short_full, key_of_fork, key_of_full, of_fork, of_full, view_fork, view_full, get_left, get_right, get_own}
 use Rattle.rt_trie.proofs.removal.+remove.Given.{Over}
@@ -57,78 +58,64 @@ returns-in-Above-clause-erased g t c =
     (full_none c.in-Full.full c.in-Full.full.value old p _ c.in-Full.is refl c.requires.lawful
     (c.position_of-in-Full.ensures c.in-Full.full.value.prefix key) c.in-Above.is) c.in-Full.is
 
--- the link before what isn't needed is taken away
-halfway : (g : Over) (t : ℕ) (c : Joined-link g t) → IsHalfway c.args.link.now c.match-link.link c.args.p
+-- the link before what isn't needed is taken away, and what stood at p
+halfway : (g : Over) (t : ℕ) (c : Joined-link g t) → IsHalfway c.args.link.now c.match-link.link c.args.p × (c.match-link.gone ≡ get (pairs c.args.link.now) c.args.p)
 halfway g t c =
     let old = c.args.link.now in
     let p = c.args.p in
     elim c.match-link.branch [
       | in-Fork+in-Left w ↦
           let m = w.deref_mut.result.now in
-          let position = w.in-Left.ensures m.prefix (key_of_fork w.in-Fork.fork m old w.in-Fork.is w.deref_mut.ensures.value c.requires.lawful.0) in
-          rw w.link-is (halfway_left old m.prefix _ m.left m.right w.remove.new.link _ p
-          (view_fork w.in-Fork.fork m old w.in-Fork.is w.deref_mut.ensures.value c.requires.lawful.0) position w.remove.ensures.erased)
+          let position = w.in-Left.ensures m.prefix (key_of_fork w.in-Fork.fork m old w.in-Fork.is w.deref_mut.ensures.value c.requires.lawful.0) in (
+            rw w.link-is (halfway_left old m.prefix _ m.left m.right w.remove.new.link _ p
+                (view_fork w.in-Fork.fork m old w.in-Fork.is w.deref_mut.ensures.value c.requires.lawful.0) position w.remove.ensures.erased),
+            w.gone-is ∙ w.remove.ensures.value
+                ∙ sym (get_left old m.prefix _ m.left m.right (of_fork w.in-Fork.fork m old w.in-Fork.is w.deref_mut.ensures.value c.requires.lawful.0) p position),
+          )
       | in-Fork+in-Right w ↦
           let m = w.deref_mut-in-Right.result.now in
-          let position = w.in-Right.ensures m.prefix (key_of_fork w.in-Fork.fork m old w.in-Fork.is w.deref_mut-in-Right.ensures.value c.requires.lawful.0) in
-          rw w.link-is (halfway_right old m.prefix _ m.left m.right w.remove-in-Right.new.link _ p
-          (view_fork w.in-Fork.fork m old w.in-Fork.is w.deref_mut-in-Right.ensures.value c.requires.lawful.0) position w.remove-in-Right.ensures.erased)
+          let position = w.in-Right.ensures m.prefix (key_of_fork w.in-Fork.fork m old w.in-Fork.is w.deref_mut-in-Right.ensures.value c.requires.lawful.0) in (
+            rw w.link-is (halfway_right old m.prefix _ m.left m.right w.remove-in-Right.new.link _ p
+                (view_fork w.in-Fork.fork m old w.in-Fork.is w.deref_mut-in-Right.ensures.value c.requires.lawful.0) position w.remove-in-Right.ensures.erased),
+            w.gone-is ∙ w.remove-in-Right.ensures.value
+                ∙ sym (get_right old m.prefix _ m.left m.right (of_fork w.in-Fork.fork m old w.in-Fork.is w.deref_mut-in-Right.ensures.value c.requires.lawful.0) p position),
+          )
       | in-Full+in-Left-position_of w ↦
           let m = w.deref_mut-in-Left-position_of.result.now in
-          let position = w.in-Left-position_of.ensures m.prefix (key_of_full w.in-Full.full m old w.in-Full.is w.deref_mut-in-Left-position_of.ensures.value c.requires.lawful.0) in
-          rw w.link-is (halfway_left old m.prefix _ m.left m.right w.remove-in-Left-position_of.new.link _ p
-          (view_full w.in-Full.full m old w.in-Full.is w.deref_mut-in-Left-position_of.ensures.value c.requires.lawful.0) position w.remove-in-Left-position_of.ensures.erased)
+          let position = w.in-Left-position_of.ensures m.prefix (key_of_full w.in-Full.full m old w.in-Full.is w.deref_mut-in-Left-position_of.ensures.value c.requires.lawful.0) in (
+            rw w.link-is (halfway_left old m.prefix _ m.left m.right w.remove-in-Left-position_of.new.link _ p
+                (view_full w.in-Full.full m old w.in-Full.is w.deref_mut-in-Left-position_of.ensures.value c.requires.lawful.0) position w.remove-in-Left-position_of.ensures.erased),
+            w.gone-is ∙ w.remove-in-Left-position_of.ensures.value
+                ∙ sym (get_left old m.prefix _ m.left m.right (of_full w.in-Full.full m old w.in-Full.is w.deref_mut-in-Left-position_of.ensures.value c.requires.lawful.0) p position),
+          )
       | in-Full+in-Right-position_of w ↦
           let m = w.deref_mut-in-Right-position_of.result.now in
-          let position = w.in-Right-position_of.ensures m.prefix (key_of_full w.in-Full.full m old w.in-Full.is w.deref_mut-in-Right-position_of.ensures.value c.requires.lawful.0) in
-          rw w.link-is (halfway_right old m.prefix _ m.left m.right w.remove-in-Right-position_of.new.link _ p
-          (view_full w.in-Full.full m old w.in-Full.is w.deref_mut-in-Right-position_of.ensures.value c.requires.lawful.0) position w.remove-in-Right-position_of.ensures.erased)
+          let position = w.in-Right-position_of.ensures m.prefix (key_of_full w.in-Full.full m old w.in-Full.is w.deref_mut-in-Right-position_of.ensures.value c.requires.lawful.0) in (
+            rw w.link-is (halfway_right old m.prefix _ m.left m.right w.remove-in-Right-position_of.new.link _ p
+                (view_full w.in-Full.full m old w.in-Full.is w.deref_mut-in-Right-position_of.ensures.value c.requires.lawful.0) position w.remove-in-Right-position_of.ensures.erased),
+            w.gone-is ∙ w.remove-in-Right-position_of.ensures.value
+                ∙ sym (get_right old m.prefix _ m.left m.right (of_full w.in-Full.full m old w.in-Full.is w.deref_mut-in-Right-position_of.ensures.value c.requires.lawful.0) p position),
+          )
       | in-Full+in-Here-position_of w ↦
           let m = w.deref_mut-in-Here-position_of.result.now in
-          let position = w.in-Here-position_of.ensures m.prefix (key_of_full w.in-Full.full m old w.in-Full.is w.deref_mut-in-Here-position_of.ensures.value c.requires.lawful.0) in
-          rw w.link-is (halfway_full_here w.in-Full.full m old p w.in-Full.is w.deref_mut-in-Here-position_of.ensures.value c.requires.lawful position
-          (with_value w.in-Full.full (record { prefix = m.prefix; value = w.take.new.self; left = m.left; right = m.right }))
-          refl w.take.ensures.after refl refl)
+          let position = w.in-Here-position_of.ensures m.prefix (key_of_full w.in-Full.full m old w.in-Full.is w.deref_mut-in-Here-position_of.ensures.value c.requires.lawful.0) in (
+            rw w.link-is (halfway_full_here w.in-Full.full m old p w.in-Full.is w.deref_mut-in-Here-position_of.ensures.value c.requires.lawful position
+                (with_value w.in-Full.full (record { prefix = m.prefix; value = w.take.new.self; left = m.left; right = m.right }))
+                refl w.take.ensures.after refl refl),
+            w.gone-is ∙ w.take.ensures.value
+                ∙ sym (get_own old m.prefix _ m.left m.right (of_full w.in-Full.full m old w.in-Full.is w.deref_mut-in-Here-position_of.ensures.value c.requires.lawful.0) p position),
+          )
     ]
 
 pub splice-requires-clause-lawful : goal.splice-requires-clause-lawful
-splice-requires-clause-lawful g t c = (halfway g t (goal.at.splice-requires-clause-lawful g t c).Joined-link).below
+splice-requires-clause-lawful g t c = (halfway g t (goal.at.splice-requires-clause-lawful g t c).Joined-link).0.below
 
 pub returns-clause-erased : goal.returns-clause-erased
 returns-clause-erased g t c =
-    erased_of c.args.link.now c.match-link.link c.splice.new.link c.args.p (halfway g t (goal.at.returns-clause-erased g t c).Joined-link) c.splice.ensures.spliced
+    erased_of c.args.link.now c.match-link.link c.splice.new.link c.args.p (halfway g t (goal.at.returns-clause-erased g t c).Joined-link).0 c.splice.ensures.spliced
 
 pub returns-clause-value : goal.returns-clause-value
-returns-clause-value g t c =
-    let old = c.args.link.now in
-    let p = c.args.p in
-    elim c.match-link.branch [
-      | in-Fork+in-Left w ↦
-          let m = w.deref_mut.result.now in
-          let position = w.in-Left.ensures m.prefix (key_of_fork w.in-Fork.fork m old w.in-Fork.is w.deref_mut.ensures.value c.requires.lawful.0) in
-          w.gone-is ∙ w.remove.ensures.value
-          ∙ sym (get_left old m.prefix _ m.left m.right (of_fork w.in-Fork.fork m old w.in-Fork.is w.deref_mut.ensures.value c.requires.lawful.0) p position)
-      | in-Fork+in-Right w ↦
-          let m = w.deref_mut-in-Right.result.now in
-          let position = w.in-Right.ensures m.prefix (key_of_fork w.in-Fork.fork m old w.in-Fork.is w.deref_mut-in-Right.ensures.value c.requires.lawful.0) in
-          w.gone-is ∙ w.remove-in-Right.ensures.value
-          ∙ sym (get_right old m.prefix _ m.left m.right (of_fork w.in-Fork.fork m old w.in-Fork.is w.deref_mut-in-Right.ensures.value c.requires.lawful.0) p position)
-      | in-Full+in-Left-position_of w ↦
-          let m = w.deref_mut-in-Left-position_of.result.now in
-          let position = w.in-Left-position_of.ensures m.prefix (key_of_full w.in-Full.full m old w.in-Full.is w.deref_mut-in-Left-position_of.ensures.value c.requires.lawful.0) in
-          w.gone-is ∙ w.remove-in-Left-position_of.ensures.value
-          ∙ sym (get_left old m.prefix _ m.left m.right (of_full w.in-Full.full m old w.in-Full.is w.deref_mut-in-Left-position_of.ensures.value c.requires.lawful.0) p position)
-      | in-Full+in-Right-position_of w ↦
-          let m = w.deref_mut-in-Right-position_of.result.now in
-          let position = w.in-Right-position_of.ensures m.prefix (key_of_full w.in-Full.full m old w.in-Full.is w.deref_mut-in-Right-position_of.ensures.value c.requires.lawful.0) in
-          w.gone-is ∙ w.remove-in-Right-position_of.ensures.value
-          ∙ sym (get_right old m.prefix _ m.left m.right (of_full w.in-Full.full m old w.in-Full.is w.deref_mut-in-Right-position_of.ensures.value c.requires.lawful.0) p position)
-      | in-Full+in-Here-position_of w ↦
-          let m = w.deref_mut-in-Here-position_of.result.now in
-          let position = w.in-Here-position_of.ensures m.prefix (key_of_full w.in-Full.full m old w.in-Full.is w.deref_mut-in-Here-position_of.ensures.value c.requires.lawful.0) in
-          w.gone-is ∙ w.take.ensures.value
-          ∙ sym (get_own old m.prefix _ m.left m.right (of_full w.in-Full.full m old w.in-Full.is w.deref_mut-in-Here-position_of.ensures.value c.requires.lawful.0) p position)
-    ]
+returns-clause-value g t c = (halfway g t (goal.at.returns-clause-value g t c).Joined-link).1
 
 pub position_of-requires : goal.position_of-requires
 position_of-requires g t c = short_fork c.in-Fork.fork c.args.link.now c.in-Fork.is c.requires.lawful.0
