@@ -17,63 +17,62 @@ use rt_cidr::Prefix;
 use std::alloc::Allocator;
 use std::mem;
 
-/// A pair to put in: its prefix, and its value in a slot, in which what stood at the prefix is left. With it go the memory
-/// for nodes, and how many nodes the trie has.
+/// A value to put in, in a slot in which what stood at its prefix is left. With it go the memory for nodes, and how many nodes
+/// the trie has.
 #[derive(Drop)]
-pub(crate) struct NewPair<V, A: Allocator> {
-    pub prefix: Prefix,
+pub(crate) struct NewValue<V, A: Allocator> {
     pub value: Option<V>,
     pub alloc: A,
     pub nodes: usize,
 }
 
-/// Puts the pair in below the link. Where memory is refused the answer is `false`, and nothing has changed.
+/// Puts the value in at p below the link. Where memory is refused the answer is `false`, and nothing has changed.
 pub(crate) fn insert<V: Drop, A: Allocator + Copy>(
     link: &mut Link<V, A>,
-    pair: &mut NewPair<V, A>,
+    p: Prefix,
+    given: &mut NewValue<V, A>,
 ) -> bool
     requires lawful { IsLawfulTrie link.old }
-    requires room { pair.old.nodes + 2 < 2 ^ 64 }
-    requires given { IsSome pair.old.value }
-    ensures { Inserts link.old link.new pair.old.nodes pair.new.nodes pair.old.prefix pair.old.value pair.new.value result }
+    requires room { given.old.nodes + 2 < 2 ^ 64 }
+    requires given { IsSome given.old.value }
+    ensures { Inserts link.old link.new given.old.nodes given.new.nodes p given.old.value given.new.value result }
 {
-    let p = pair.prefix;
     match link {
-        Link::Empty => insert_at_empty(link, pair),
+        Link::Empty => insert_at_empty(link, p, given),
         Link::Leaf(len, base, leaf) => {
             let base = *base;
             let q = leaf.prefix;
             match position_of(*len, base, &p) {
                 Position::Here => {
-                    exchange(&mut leaf.value, &mut pair.value);
+                    exchange(&mut leaf.value, &mut given.value);
                     true
                 }
-                Position::Left | Position::Right => insert_below_leaf(link, pair, q),
-                Position::Above => insert_above(link, pair, base),
-                Position::Apart => insert_beside(link, pair, base),
+                Position::Left | Position::Right => insert_below_leaf(link, p, given, q),
+                Position::Above => insert_above(link, p, given, base),
+                Position::Apart => insert_beside(link, p, given, base),
             }
         }
         Link::Fork(len, base, fork) => {
             let base = *base;
             match position_of(*len, base, &p) {
-                Position::Here => insert_at_fork(link, pair),
-                Position::Left => insert(&mut fork.left, pair),
-                Position::Right => insert(&mut fork.right, pair),
-                Position::Above => insert_above(link, pair, base),
-                Position::Apart => insert_beside(link, pair, base),
+                Position::Here => insert_at_fork(link, p, given),
+                Position::Left => insert(&mut fork.left, p, given),
+                Position::Right => insert(&mut fork.right, p, given),
+                Position::Above => insert_above(link, p, given, base),
+                Position::Apart => insert_beside(link, p, given, base),
             }
         }
         Link::Full(len, base, full) => {
             let base = *base;
             match position_of(*len, base, &p) {
                 Position::Here => {
-                    mem::swap(&mut full.value, &mut pair.value);
+                    mem::swap(&mut full.value, &mut given.value);
                     true
                 }
-                Position::Left => insert(&mut full.left, pair),
-                Position::Right => insert(&mut full.right, pair),
-                Position::Above => insert_above(link, pair, base),
-                Position::Apart => insert_beside(link, pair, base),
+                Position::Left => insert(&mut full.left, p, given),
+                Position::Right => insert(&mut full.right, p, given),
+                Position::Above => insert_above(link, p, given, base),
+                Position::Apart => insert_beside(link, p, given, base),
             }
         }
     }
@@ -96,19 +95,19 @@ fn exchange<V: Drop>(stored: &mut V, value: &mut Option<V>)
 #[inline(never)]
 fn insert_at_empty<V: Drop, A: Allocator + Copy>(
     link: &mut Link<V, A>,
-    pair: &mut NewPair<V, A>,
+    p: Prefix,
+    given: &mut NewValue<V, A>,
 ) -> bool
     requires empty { link.old ≡ Empty }
-    requires room { pair.old.nodes + 2 < 2 ^ 64 }
-    requires given { IsSome pair.old.value }
-    ensures { Inserts link.old link.new pair.old.nodes pair.new.nodes pair.old.prefix pair.old.value pair.new.value result }
+    requires room { given.old.nodes + 2 < 2 ^ 64 }
+    requires given { IsSome given.old.value }
+    ensures { Inserts link.old link.new given.old.nodes given.new.nodes p given.old.value given.new.value result }
 {
-    let p = pair.prefix;
-    let Some(leaf) = leaf_of(pair.alloc, p, &mut pair.value) else {
+    let Some(leaf) = leaf_of(given.alloc, p, &mut given.value) else {
         return false;
     };
     *link = Link::of_leaf(leaf);
-    pair.nodes += 1;
+    given.nodes += 1;
     true
 }
 
@@ -180,35 +179,29 @@ fn on_side<V, A: Allocator>(
 #[inline(never)]
 fn insert_below_leaf<V: Drop, A: Allocator + Copy>(
     link: &mut Link<V, A>,
-    pair: &mut NewPair<V, A>,
+    p: Prefix,
+    given: &mut NewValue<V, A>,
     q: Prefix,
 ) -> bool
     requires leaf { IsLeafOf q link.old }
-    requires below { IsChild q false pair.old.prefix ⊎ IsChild q true pair.old.prefix }
-    requires room { pair.old.nodes + 2 < 2 ^ 64 }
-    requires given { IsSome pair.old.value }
-    ensures { Inserts link.old link.new pair.old.nodes pair.new.nodes pair.old.prefix pair.old.value pair.new.value result }
+    requires below { IsChild q false p ⊎ IsChild q true p }
+    requires room { given.old.nodes + 2 < 2 ^ 64 }
+    requires given { IsSome given.old.value }
+    ensures { Inserts link.old link.new given.old.nodes given.new.nodes p given.old.value given.new.value result }
 {
-    let p = pair.prefix;
-    let Some(mut full) = new_full(pair.alloc, q) else {
+    let Some(mut full) = new_full(given.alloc, q) else {
         return false;
     };
     let Link::Leaf(_, _, mut leaf) = mem::replace(link, Link::Empty) else {
         unreachable!()
     };
-    let Some(given) = pair.value.take() else {
+    let Some(value) = given.value.take() else {
         unreachable!()
     };
     let LeafNode {
         prefix: _,
         value: above,
-    } = mem::replace(
-        &mut *leaf,
-        LeafNode {
-            prefix: p,
-            value: given,
-        },
-    );
+    } = mem::replace(&mut *leaf, LeafNode { prefix: p, value });
     let (left, right) = on_side(&q, p.base(), Link::of_leaf(leaf));
     *full = FullNode {
         prefix: q,
@@ -217,7 +210,7 @@ fn insert_below_leaf<V: Drop, A: Allocator + Copy>(
         right,
     };
     *link = Link::of_full(full);
-    pair.nodes += 1;
+    given.nodes += 1;
     true
 }
 
@@ -225,15 +218,15 @@ fn insert_below_leaf<V: Drop, A: Allocator + Copy>(
 #[inline(never)]
 fn insert_at_fork<V: Drop, A: Allocator + Copy>(
     link: &mut Link<V, A>,
-    pair: &mut NewPair<V, A>,
+    p: Prefix,
+    given: &mut NewValue<V, A>,
 ) -> bool
     requires lawful { IsLawfulTrie link.old }
-    requires fork { IsForkOf pair.old.prefix link.old }
-    requires given { IsSome pair.old.value }
-    ensures { Inserts link.old link.new pair.old.nodes pair.new.nodes pair.old.prefix pair.old.value pair.new.value result }
+    requires fork { IsForkOf p link.old }
+    requires given { IsSome given.old.value }
+    ensures { Inserts link.old link.new given.old.nodes given.new.nodes p given.old.value given.new.value result }
 {
-    let p = pair.prefix;
-    let Some(mut full) = new_full(pair.alloc, p) else {
+    let Some(mut full) = new_full(given.alloc, p) else {
         return false;
     };
     let Link::Fork(_, _, fork) = mem::replace(link, Link::Empty) else {
@@ -246,7 +239,7 @@ fn insert_at_fork<V: Drop, A: Allocator + Copy>(
     } = Box::into_inner(fork);
     *full = FullNode {
         prefix: p,
-        value: pair.value.take(),
+        value: given.value.take(),
         left,
         right,
     };
@@ -258,28 +251,28 @@ fn insert_at_fork<V: Drop, A: Allocator + Copy>(
 #[inline(never)]
 fn insert_above<V: Drop, A: Allocator + Copy>(
     link: &mut Link<V, A>,
-    pair: &mut NewPair<V, A>,
+    p: Prefix,
+    given: &mut NewValue<V, A>,
     base: u32,
 ) -> bool
     requires lawful { IsLawfulTrie link.old }
-    requires seen { IsSeenFrom link.old base pair.old.prefix Above }
-    requires room { pair.old.nodes + 2 < 2 ^ 64 }
-    requires given { IsSome pair.old.value }
-    ensures { Inserts link.old link.new pair.old.nodes pair.new.nodes pair.old.prefix pair.old.value pair.new.value result }
+    requires seen { IsSeenFrom link.old base p Above }
+    requires room { given.old.nodes + 2 < 2 ^ 64 }
+    requires given { IsSome given.old.value }
+    ensures { Inserts link.old link.new given.old.nodes given.new.nodes p given.old.value given.new.value result }
 {
-    let p = pair.prefix;
-    let Some(mut full) = new_full(pair.alloc, p) else {
+    let Some(mut full) = new_full(given.alloc, p) else {
         return false;
     };
     let (left, right) = on_side(&p, base, mem::replace(link, Link::Empty));
     *full = FullNode {
         prefix: p,
-        value: pair.value.take(),
+        value: given.value.take(),
         left,
         right,
     };
     *link = Link::of_full(full);
-    pair.nodes += 1;
+    given.nodes += 1;
     true
 }
 
@@ -287,26 +280,26 @@ fn insert_above<V: Drop, A: Allocator + Copy>(
 #[inline(never)]
 fn insert_beside<V: Drop, A: Allocator + Copy>(
     link: &mut Link<V, A>,
-    pair: &mut NewPair<V, A>,
+    p: Prefix,
+    given: &mut NewValue<V, A>,
     base: u32,
 ) -> bool
     requires lawful { IsLawfulTrie link.old }
-    requires seen { IsSeenFrom link.old base pair.old.prefix Apart }
-    requires room { pair.old.nodes + 2 < 2 ^ 64 }
-    requires given { IsSome pair.old.value }
-    ensures { Inserts link.old link.new pair.old.nodes pair.new.nodes pair.old.prefix pair.old.value pair.new.value result }
+    requires seen { IsSeenFrom link.old base p Apart }
+    requires room { given.old.nodes + 2 < 2 ^ 64 }
+    requires given { IsSome given.old.value }
+    ensures { Inserts link.old link.new given.old.nodes given.new.nodes p given.old.value given.new.value result }
 {
-    let p = pair.prefix;
     let prefix = common_prefix(&p, base);
     let node = ForkNode {
         prefix,
         left: Link::Empty,
         right: Link::Empty,
     };
-    let Some(mut fork) = Box::new(pair.alloc, node).ok() else {
+    let Some(mut fork) = Box::new(given.alloc, node).ok() else {
         return false;
     };
-    let Some(new) = leaf_of(pair.alloc, p, &mut pair.value) else {
+    let Some(new) = leaf_of(given.alloc, p, &mut given.value) else {
         return false;
     };
     let new = Link::of_leaf(new);
@@ -322,7 +315,7 @@ fn insert_beside<V: Drop, A: Allocator + Copy>(
         right,
     };
     *link = Link::of_fork(fork);
-    pair.nodes += 2;
+    given.nodes += 2;
     true
 }
 

@@ -9,7 +9,7 @@ ghost use Rattle.rt_trie.specs.Lawful.{IsLawful};
 ghost use Rattle.rt_trie.specs.Sifted.{IsSifted};
 
 use crate::descent::{Descent, WayDown};
-use crate::insertion::NewPair;
+use crate::insertion::NewValue;
 use crate::nodes::Link;
 use crate::sifting::{self, Sieve};
 use crate::walks::Walk;
@@ -108,20 +108,19 @@ impl<V: Drop, A: Allocator + Copy> Trie<V, A> {
         ensures refused { IfErr result (λ back. (back ≡ v) × (self.new ≡ self.old)) }
         ensures stored_succeeds { IsSome (get self.old.pairs p) → IsOk result }
     {
-        let mut pair = NewPair {
-            prefix: p,
+        let mut given = NewValue {
             value: Some(v),
             alloc: self.alloc,
             nodes: self.nodes,
         };
-        if insertion::insert(&mut self.root, &mut pair) {
-            self.nodes = pair.nodes;
-            if pair.value.is_none() {
+        if insertion::insert(&mut self.root, p, &mut given) {
+            self.nodes = given.nodes;
+            if given.value.is_none() {
                 self.len += 1;
             }
-            return Ok(pair.value);
+            return Ok(given.value);
         }
-        let Some(back) = pair.value else {
+        let Some(back) = given.value else {
             unreachable!()
         };
         Err(back)

@@ -11,14 +11,14 @@ returns g c =
     let q = r.seen.node in
     let s = c.on_side-left.result in
     let e = c.replace.ensures.value in
-    rw c.of_full.ensures (above_insert c.args.link.now c.args.pair.now.nodes _ q c.args.pair.now.prefix c.args.pair.now.value c.take.new.self c.take.result
+    rw c.of_full.ensures (above_insert c.args.link.now c.args.given.now.nodes _ q c.args.p c.args.given.now.value c.take.new.self c.take.result
     r.lawful r.seen.root_is r.seen.stands c.take.ensures.value c.take.ensures.after refl s
-    (λ (h : q.base < middle c.args.pair.now.prefix). c.on_side-left.ensures.left (omega (arith, r.seen.base_is, h)) ∙ ap (λ (x : Link _ _). (x, Empty)) e)
-    (λ (h : middle c.args.pair.now.prefix ≤ q.base). c.on_side-left.ensures.right (omega (arith, r.seen.base_is, h)) ∙ ap (λ (x : Link _ _). (Empty, x)) e)
-    (with_value c.in-Some.full (record { prefix = c.args.pair.now.prefix; value = c.take.result; left = s.0; right = s.1 })) refl refl refl refl)
+    (λ (h : q.base < middle c.args.p). c.on_side-left.ensures.left (omega (arith, r.seen.base_is, h)) ∙ ap (λ (x : Link _ _). (x, Empty)) e)
+    (λ (h : middle c.args.p ≤ q.base). c.on_side-left.ensures.right (omega (arith, r.seen.base_is, h)) ∙ ap (λ (x : Link _ _). (Empty, x)) e)
+    (with_value c.in-Some.full (record { prefix = c.args.p; value = c.take.result; left = s.0; right = s.1 })) refl refl refl refl)
 
 pub returns-in_default : goal.returns-in_default
 returns-in_default g c =
     let r = c.requires in
-    refused c.args.link.now c.args.pair.now.nodes c.args.pair.now.prefix c.args.pair.now.value
-    (get_above c.args.link.now r.seen.node c.args.pair.now.prefix r.lawful r.seen.root_is r.seen.stands)
+    refused c.args.link.now c.args.given.now.nodes c.args.p c.args.given.now.value
+    (get_above c.args.link.now r.seen.node c.args.p r.lawful r.seen.root_is r.seen.stands)

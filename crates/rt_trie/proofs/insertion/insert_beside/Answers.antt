@@ -10,7 +10,7 @@ returns g c =
     let r = c.requires in
     let leaf = c.in-Some-leaf_of in
     let fork = with_value c.in-Some.fork (record { prefix = c.common_prefix-prefix.result; left = c.if-base.left.0; right = c.if-base.left.1 }) in
-    rw c.of_fork.ensures (beside_insert c.args.link.now c.args.pair.now.nodes _ r.seen.node c.args.pair.now.prefix c.common_prefix-prefix.result c.args.pair.now.value c.leaf_of.new.value leaf.new
+    rw c.of_fork.ensures (beside_insert c.args.link.now c.args.given.now.nodes _ r.seen.node c.args.p c.common_prefix-prefix.result c.args.given.now.value c.leaf_of.new.value leaf.new
     r.lawful r.seen.root_is r.seen.stands leaf.ensures.made.0 leaf.ensures.made.1 leaf.ensures.made.2 refl fork refl
     (elim c.if-base.branch [
       | then-base w ↦ inl (
@@ -27,12 +27,12 @@ returns g c =
 
 pub returns-in_default : goal.returns-in_default
 returns-in_default g c =
-    refused c.args.link.now c.args.pair.now.nodes c.args.pair.now.prefix c.args.pair.now.value
-    (get_apart c.args.link.now c.requires.seen.node c.args.pair.now.prefix c.requires.lawful c.requires.seen.root_is c.requires.seen.stands)
+    refused c.args.link.now c.args.given.now.nodes c.args.p c.args.given.now.value
+    (get_apart c.args.link.now c.requires.seen.node c.args.p c.requires.lawful c.requires.seen.root_is c.requires.seen.stands)
 
 pub returns-in_default-leaf_of : goal.returns-in_default-leaf_of
 returns-in_default-leaf_of g c = record {
-  absent = get_apart c.args.link.now c.requires.seen.node c.args.pair.now.prefix c.requires.lawful c.requires.seen.root_is c.requires.seen.stands;
+  absent = get_apart c.args.link.now c.requires.seen.node c.args.p c.requires.lawful c.requires.seen.root_is c.requires.seen.stands;
   back_is = c.in_default-leaf_of.ensures.refused;
   same = refl;
   counted = refl;

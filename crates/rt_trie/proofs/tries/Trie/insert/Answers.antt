@@ -18,8 +18,8 @@ pub invariant_of-self : goal.invariant_of-self
 invariant_of-self g c =
     let old = c.self.inside.root in
     let new = c.insert.new.link in
-    let slot = c.insert.new.pair.value in
-    let i = subst (λ b. Inserts old new c.self.inside.nodes c.insert.new.pair.nodes c.args.p (Some c.args.v) slot b) c.if-insert.true c.insert.ensures in
+    let slot = c.insert.new.given.value in
+    let i = subst (λ b. Inserts old new c.self.inside.nodes c.insert.new.given.nodes c.args.p (Some c.args.v) slot b) c.if-insert.true c.insert.ensures in
     let put : IsPut old new c.args.p c.args.v = i.put in
     let e = sym i.had_is ∙ none_is slot c.if-is_none.ensures in
     record {
@@ -32,8 +32,8 @@ pub invariant_of-self-else-is_none : goal.invariant_of-self-else-is_none
 invariant_of-self-else-is_none g c =
     let old = c.self.inside.root in
     let new = c.insert.new.link in
-    let slot = c.insert.new.pair.value in
-    let i = subst (λ b. Inserts old new c.self.inside.nodes c.insert.new.pair.nodes c.args.p (Some c.args.v) slot b) c.if-insert.true c.insert.ensures in
+    let slot = c.insert.new.given.value in
+    let i = subst (λ b. Inserts old new c.self.inside.nodes c.insert.new.given.nodes c.args.p (Some c.args.v) slot b) c.if-insert.true c.insert.ensures in
     let put : IsPut old new c.args.p c.args.v = i.put in
     record {
       lawful = put.lawful;
@@ -48,5 +48,5 @@ invariant_of-self-else-is_none g c =
 
 pub returns-then-insert-clause-had : goal.returns-then-insert-clause-had
 returns-then-insert-clause-had g c =
-    let i = subst (λ b. Inserts c.self.inside.root c.insert.new.link c.self.inside.nodes c.insert.new.pair.nodes c.args.p (Some c.args.v) c.insert.new.pair.value b) c.if-insert.true c.insert.ensures in
+    let i = subst (λ b. Inserts c.self.inside.root c.insert.new.link c.self.inside.nodes c.insert.new.given.nodes c.args.p (Some c.args.v) c.insert.new.given.value b) c.if-insert.true c.insert.ensures in
     i.had_is ∙ ap (λ (x : TrieContents _). get x.pairs c.args.p) c.self.view_is
