@@ -38,7 +38,7 @@ impl Count {
     }
 }
 
-// Enters and leaves so often.
+/// Enters and leaves so often.
 fn pass_often<R: Wait, const L: u32>(
     rt: &R,
     lock: &TreeLock<Count, L>,
@@ -57,14 +57,21 @@ fn pass_often<R: Wait, const L: u32>(
     pass
 }
 
-// The same with the mutex.
+/// The same with the mutex.
 fn lock_often<R: Wait>(rt: &R, mutex: &Mutex<Count>, times: u64) {
     for _ in 0..times {
         mutex.lock(rt).add();
     }
 }
 
-// The lock, and the passes of its first places.
+/// How many threads enter, and how often each of them.
+#[derive(Clone, Copy)]
+struct Load {
+    threads: usize,
+    each: u64,
+}
+
+/// The lock, and the passes of its first places.
 fn made<const L: u32>(
     alloc: Global,
     threads: usize,
@@ -84,12 +91,11 @@ fn made<const L: u32>(
 fn tree<R: Threads + Wait + Clock + Sync, const L: u32>(
     rt: &R,
     alloc: Global,
-    threads: usize,
-    each: u64,
+    load: Load,
 ) -> Option<Duration>
     requires { (1 ≤ L) × (L ≤ 6) }
 {
-    let (lock, passes) = made::<L>(alloc, threads)?;
+    let (lock, passes) = made::<L>(alloc, load.threads)?;
     let shared = &lock;
     let start = Instant::now(rt).ok()?;
     let passes = thread::map_vec(
@@ -98,50 +104,49 @@ fn tree<R: Threads + Wait + Clock + Sync, const L: u32>(
         &|pass: Pass<Count>| -> Pass<Count>
             requires { pass.lock ≡ shared.now }
             ensures { result.lock ≡ shared.entry.now }
-        { pass_often(rt, shared, pass, each) },
+        { pass_often(rt, shared, pass, load.each) },
     );
     let time = start.elapsed(rt).ok()?;
     drop(passes.ok()?);
     Some(time)
 }
 
-// The same with the mutex.
-fn mutex<R: Threads + Wait + Clock + Sync>(
-    rt: &R,
-    alloc: Global,
-    threads: usize,
-    each: u64,
-) -> Option<Duration> {
+/// The same with the mutex.
+fn mutex<R: Threads + Wait + Clock + Sync>(rt: &R, alloc: Global, load: Load) -> Option<Duration> {
     let mutex = Mutex::new(Count(0));
     let shared = &mutex;
     let start = Instant::now(rt).ok()?;
-    let done = thread::map_indices(rt, alloc, threads, &|_| lock_often(rt, shared, each));
+    let done = thread::map_indices(
+        rt,
+        alloc,
+        load.threads,
+        &|_| lock_often(rt, shared, load.each),
+    );
     let time = start.elapsed(rt).ok()?;
     drop(done.ok()?);
     Some(time)
 }
 
-// A passage of a tree of so many levels; of the mutex where there is no such tree.
+/// A passage of a tree of so many levels; of the mutex where there is no such tree.
 fn timed<R: Threads + Wait + Clock + Sync>(
     rt: &R,
     alloc: Global,
     levels: u64,
-    threads: usize,
-    each: u64,
+    load: Load,
 ) -> Option<Duration> {
     match levels {
-        1 => tree::<_, 1>(rt, alloc, threads, each),
-        2 => tree::<_, 2>(rt, alloc, threads, each),
-        3 => tree::<_, 3>(rt, alloc, threads, each),
-        4 => tree::<_, 4>(rt, alloc, threads, each),
-        5 => tree::<_, 5>(rt, alloc, threads, each),
-        6 => tree::<_, 6>(rt, alloc, threads, each),
-        _ => mutex(rt, alloc, threads, each),
+        1 => tree::<_, 1>(rt, alloc, load),
+        2 => tree::<_, 2>(rt, alloc, load),
+        3 => tree::<_, 3>(rt, alloc, load),
+        4 => tree::<_, 4>(rt, alloc, load),
+        5 => tree::<_, 5>(rt, alloc, load),
+        6 => tree::<_, 6>(rt, alloc, load),
+        _ => mutex(rt, alloc, load),
     }
 }
 
-// Makes so many passages in all, by so many threads, and writes a line: the levels, or 0 for the mutex; the threads; how
-// many passages were made; and the nanoseconds that they took.
+/// Makes so many passages in all, by so many threads, and writes a line: the levels, or 0 for the mutex; the threads; how
+/// many passages were made; and the nanoseconds that they took.
 fn report<R: Threads + Wait + Clock + Eprint + Sync>(
     rt: &R,
     alloc: Global,
@@ -151,7 +156,11 @@ fn report<R: Threads + Wait + Clock + Eprint + Sync>(
 ) -> io::Result<()> {
     let each = passages.checked_div(u64::from(threads)).unwrap_or(0);
     let all = each.wrapping_mul(u64::from(threads));
-    match timed(rt, alloc, levels, threads as usize, each) {
+    let load = Load {
+        threads: threads as usize,
+        each,
+    };
+    match timed(rt, alloc, levels, load) {
         Some(time) => {
             let nanos = time.as_nanos();
             eprintln!(rt; "{levels} {threads} {all} {nanos}")
@@ -160,10 +169,10 @@ fn report<R: Threads + Wait + Clock + Eprint + Sync>(
     }
 }
 
-// What the arguments ask for.
+/// What the arguments ask for.
 struct Asked {
     passages: u64,
-    // The levels and the threads of the one case that is asked for.
+    /// The levels and the threads of the one case that is asked for.
     case: Option<(u64, u32)>,
 }
 

@@ -106,12 +106,11 @@ fn count(rt: &HostRuntime) -> io::Result<u32> {
     Ok(FEW)
 }
 
+/// A value for each prefix.
+type Values = Trie<u64, Global>;
+
 /// The time of an insertion.
-fn insert_all(
-    rt: &(impl Clock + CpuClock),
-    trie: &mut Trie<u64, Global>,
-    n: u32,
-) -> io::Result<Times> {
+fn insert_all<R: Clock + CpuClock>(rt: &R, trie: &mut Values, n: u32) -> io::Result<Times> {
     let mut draws = Draws { seed: 1 };
     let watch = Stopwatch::start(rt)?;
     for k in 0..n {
@@ -122,27 +121,29 @@ fn insert_all(
     watch.per_call(rt, n)
 }
 
-/// The time of a longest match, and the sum of the values that they find.
-fn look_up_each(
-    rt: &(impl Clock + CpuClock),
-    trie: &Trie<u64, Global>,
-    n: u32,
-) -> io::Result<(Times, u64)> {
-    let mut draws = Draws { seed: 2 };
+/// The sum of the values that so many longest matches find.
+fn sum_of(trie: &Values, draws: &mut Draws, count: u32) -> u64 {
     let mut found = 0u64;
-    let watch = Stopwatch::start(rt)?;
-    for _ in 0..n {
+    for _ in 0..count {
         if let Some((_, value)) = trie.longest(Addr(draws.next())) {
             found = found.wrapping_add(*value);
         }
     }
+    found
+}
+
+/// The time of a longest match, and the sum of the values that they find.
+fn look_up_each<R: Clock + CpuClock>(rt: &R, trie: &Values, n: u32) -> io::Result<(Times, u64)> {
+    let mut draws = Draws { seed: 2 };
+    let watch = Stopwatch::start(rt)?;
+    let found = sum_of(trie, &mut draws, n);
     Ok((watch.per_call(rt, n)?, found))
 }
 
 /// The time of a longest match where `BATCH` are asked for together, and the sum of the values that they find.
-fn look_up_together(
-    rt: &(impl Clock + CpuClock),
-    trie: &Trie<u64, Global>,
+fn look_up_together<R: Clock + CpuClock>(
+    rt: &R,
+    trie: &Values,
     n: u32,
 ) -> io::Result<(Times, u64)> {
     let mut draws = Draws { seed: 2 };
@@ -161,11 +162,7 @@ fn look_up_together(
             }
         }
     }
-    for _ in 0..n as usize % BATCH {
-        if let Some((_, value)) = trie.longest(Addr(draws.next())) {
-            found = found.wrapping_add(*value);
-        }
-    }
+    found = found.wrapping_add(sum_of(trie, &mut draws, n % BATCH as u32));
     Ok((watch.per_call(rt, n)?, found))
 }
 
@@ -188,22 +185,14 @@ impl Sieve<u64> for Thousandths {
 }
 
 /// The time of a walk that takes out one of a thousand, for each prefix.
-fn retain_most(
-    rt: &(impl Clock + CpuClock),
-    trie: &mut Trie<u64, Global>,
-    n: u32,
-) -> io::Result<Times> {
+fn retain_most<R: Clock + CpuClock>(rt: &R, trie: &mut Values, n: u32) -> io::Result<Times> {
     let watch = Stopwatch::start(rt)?;
     trie.retain(&mut Thousandths);
     watch.per_call(rt, n)
 }
 
 /// The time of a removal.
-fn remove_all(
-    rt: &(impl Clock + CpuClock),
-    trie: &mut Trie<u64, Global>,
-    n: u32,
-) -> io::Result<Times> {
+fn remove_all<R: Clock + CpuClock>(rt: &R, trie: &mut Values, n: u32) -> io::Result<Times> {
     let mut draws = Draws { seed: 1 };
     let watch = Stopwatch::start(rt)?;
     for _ in 0..n {
@@ -215,7 +204,7 @@ fn remove_all(
 }
 
 fn run(rt: &HostRuntime, alloc: Global, n: u32) -> io::Result<()> {
-    let mut trie: Trie<u64, Global> = Trie::new(alloc);
+    let mut trie: Values = Trie::new(alloc);
     let insert = insert_all(rt, &mut trie, n)?;
     let (len, nodes) = (trie.len(), trie.nodes());
     let (longest, found) = look_up_each(rt, &trie, n)?;
