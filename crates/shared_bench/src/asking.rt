@@ -8,9 +8,10 @@ use rt_shared::{FeedPass, Outcome, SharedRib};
 use std::alloc::{AllocError, Global};
 use std::sync::{Mutex, Wait};
 
-/// How often each feed asks, and how many commands at once.
+/// How many feeds ask, how often each of them, and how many commands at once.
 #[derive(Clone, Copy)]
 pub struct Load {
+    pub threads: usize,
     pub rounds: u64,
     pub batch: usize,
 }
@@ -54,36 +55,14 @@ pub fn ask_table<R: Wait>(
 ) -> FeedPass
     requires { pass.table ≡ table.now }
 {
-    if load.batch == 1 {
-        table_one_by_one(rt, table, pass, load.rounds)
-    } else {
-        table_in_batches(rt, alloc, table, pass, load)
-    }
-}
-
-fn table_one_by_one<R: Wait>(rt: &R, table: &SharedRib<6>, pass: FeedPass, rounds: u64) -> FeedPass
-    requires { pass.table ≡ table.now }
-{
     let mut pass = pass;
     let feed = pass.feed();
-    for number in 0..rounds {
-        let _ = table.apply(rt, &mut pass, command(feed, number));
-    }
-    pass
-}
-
-fn table_in_batches<R: Wait>(
-    rt: &R,
-    alloc: Global,
-    table: &SharedRib<6>,
-    pass: FeedPass,
-    load: Load,
-) -> FeedPass
-    requires { pass.table ≡ table.now }
-{
-    let mut pass = pass;
-    let mut out = Vec::new(alloc);
-    if let Ok(cmds) = first_commands(alloc, pass.feed(), load.batch) {
+    if load.batch == 1 {
+        for number in 0..load.rounds {
+            let _ = table.apply(rt, &mut pass, command(feed, number));
+        }
+    } else if let Ok(cmds) = first_commands(alloc, feed, load.batch) {
+        let mut out = Vec::new(alloc);
         for _ in 0..load.rounds {
             out.clear();
             let _ = table.apply_batch(rt, &mut pass, &cmds, &mut out);
@@ -105,21 +84,8 @@ pub fn ask_book<R: Wait>(
         for number in 0..load.rounds {
             let _ = book.lock(rt).apply(feed, command(feed, number));
         }
-    } else {
-        book_in_batches(rt, alloc, book, place, load);
-    }
-}
-
-fn book_in_batches<R: Wait>(
-    rt: &R,
-    alloc: Global,
-    book: &Mutex<Book<Global>>,
-    place: usize,
-    load: Load,
-) {
-    let feed = (place % 64) as u32 + 1;
-    let mut out = Vec::new(alloc);
-    if let Ok(cmds) = first_commands(alloc, feed, load.batch) {
+    } else if let Ok(cmds) = first_commands(alloc, feed, load.batch) {
+        let mut out = Vec::new(alloc);
         for _ in 0..load.rounds {
             out.clear();
             if out.try_reserve(cmds.len()).is_ok() {

@@ -24,7 +24,7 @@ const FEW: u64 = 20_000;
 /// How many routes a feed may have.
 const LIMIT: u32 = 100;
 
-// The shared table, and the passes of its first feeds.
+/// The shared table, and the passes of its first feeds.
 fn made(alloc: Global, threads: usize) -> Option<(SharedRib<6>, Vec<FeedPass>)>
     ensures { IfSome result (λ m. All (λ p. p.table ≡ m.0) m.1.items) }
 {
@@ -37,14 +37,9 @@ fn made(alloc: Global, threads: usize) -> Option<(SharedRib<6>, Vec<FeedPass>)>
     }
 }
 
-// The time of the shared table, each feed on a thread of its own.
-fn table<R: Threads + Wait + Clock + Sync>(
-    rt: &R,
-    alloc: Global,
-    threads: usize,
-    load: Load,
-) -> Option<Duration> {
-    let (table, passes) = made(alloc, threads)?;
+/// The time of the shared table, each feed on a thread of its own.
+fn table<R: Threads + Wait + Clock + Sync>(rt: &R, alloc: Global, load: Load) -> Option<Duration> {
+    let (table, passes) = made(alloc, load.threads)?;
     let shared = &table;
     let start = Instant::now(rt).ok()?;
     let passes = thread::map_vec(
@@ -59,20 +54,15 @@ fn table<R: Threads + Wait + Clock + Sync>(
     Some(time)
 }
 
-// The same of a book under the mutex.
-fn mutex<R: Threads + Wait + Clock + Sync>(
-    rt: &R,
-    alloc: Global,
-    threads: usize,
-    load: Load,
-) -> Option<Duration> {
+/// The same of a book under the mutex.
+fn mutex<R: Threads + Wait + Clock + Sync>(rt: &R, alloc: Global, load: Load) -> Option<Duration> {
     let mutex = Mutex::new(Book::new(alloc, LIMIT));
     let shared = &mutex;
     let start = Instant::now(rt).ok()?;
     let done = thread::map_indices(
         rt,
         alloc,
-        threads,
+        load.threads,
         &|place| { ask_book(rt, alloc, shared, place, load) },
     );
     let time = start.elapsed(rt).ok()?;
@@ -89,8 +79,8 @@ struct Case {
     batch: u32,
 }
 
-// Runs the case, and writes a line: 1 for the shared table or 0 for the mutex; the threads; the commands of a batch; how many
-// commands were made; and the nanoseconds that they took.
+/// Runs the case, and writes a line: 1 for the shared table or 0 for the mutex; the threads; the commands of a batch; how many
+/// commands were made; and the nanoseconds that they took.
 fn report<R: Threads + Wait + Clock + Eprint + Sync>(
     rt: &R,
     alloc: Global,
@@ -104,13 +94,14 @@ fn report<R: Threads + Wait + Clock + Eprint + Sync>(
     } = case;
     let rounds = (commands / u64::from(threads.max(1))) / u64::from(batch.max(1));
     let load = Load {
+        threads: threads as usize,
         rounds,
         batch: batch as usize,
     };
     let time = if is_table {
-        table(rt, alloc, threads as usize, load)
+        table(rt, alloc, load)
     } else {
-        mutex(rt, alloc, threads as usize, load)
+        mutex(rt, alloc, load)
     };
     let made = rounds
         .wrapping_mul(u64::from(threads))
@@ -125,7 +116,7 @@ fn report<R: Threads + Wait + Clock + Eprint + Sync>(
     }
 }
 
-// The commands in all, and the case that is asked for, if one is.
+/// The commands in all, and the case that is asked for, if one is.
 fn wanted(rt: &HostRuntime) -> io::Result<(u64, Option<Case>)> {
     let mut numbers = [FEW, 0, 0, 0];
     for (at, word) in env::args(rt)?.skip(1).take(4).enumerate() {
