@@ -6,7 +6,7 @@ use crate::report::{Answer, Report};
 use rt_cidr::{Addr, Prefix, TextFault};
 use rt_rib::{Hop, Reply, Route};
 use std::alloc::{AllocError, Global};
-use std::io::Write;
+use std::io::{self, Write};
 use std::test::Fail;
 
 /// A route of feed 1.
