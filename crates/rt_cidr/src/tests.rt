@@ -243,7 +243,7 @@ fn contains_prefixes(rt: HostRuntime) {
     }
 }
 
-// A `put` that always answers a fault is seen here.
+/// A `put` that always answers a fault is seen here.
 #[test]
 fn puts_all_one_byte_a_call(rt: HostRuntime) -> Result<(), Fail> {
     let mut writer = Narrow::new(rt.alloc(), usize::MAX, None);
@@ -265,7 +265,7 @@ fn assert_fault(rt: &impl Abort, written: io::Result<()>, kind: ErrorKind) {
     }
 }
 
-// A fault is handed on at once, whatever its kind, and nothing is tried again.
+/// A fault is handed on at once, whatever its kind, and nothing is tried again.
 #[test]
 fn hands_on_the_writers_fault(rt: HostRuntime) {
     for kind in [
@@ -301,7 +301,7 @@ fn flush_held(rt: &impl Abort, alloc: Global, kind: ErrorKind) -> Result<(), All
     Ok(())
 }
 
-// Where a text has no room, the fault is that of writing what was held, or that of writing the text.
+/// Where a text has no room, the fault is that of writing what was held, or that of writing the text.
 fn overfill(
     rt: &impl Abort,
     alloc: Global,
@@ -316,7 +316,7 @@ fn overfill(
     Ok(())
 }
 
-// A `write_to`, or a call of a buffer, that answers another fault than the writer's is seen here.
+/// A `write_to`, or a call of a buffer, that answers another fault than the writer's is seen here.
 #[test]
 fn hands_on_the_fault_of_what_it_writes(rt: HostRuntime) -> Result<(), Fail> {
     let long = Vec::from_elem(rt.alloc(), b'x', OUTPUT_BYTES + 10)?;
@@ -352,8 +352,8 @@ impl Write for Faltering {
     }
 }
 
-// What a fault leaves is held, so that a buffer which is flushed again and again writes each byte once. One that tries
-// again by itself, as std's does after `Interrupted`, is seen here.
+/// What a fault leaves is held, so that a buffer which is flushed again and again writes each byte once. One that tries
+/// again by itself, as std's does after `Interrupted`, is seen here.
 #[test]
 fn holds_what_a_fault_leaves(rt: HostRuntime) -> Result<(), Fail> {
     let mut writer = Faltering {
@@ -374,7 +374,7 @@ fn holds_what_a_fault_leaves(rt: HostRuntime) -> Result<(), Fail> {
     Ok(())
 }
 
-// A buffer that is dropped writes nothing, and one that is flushed while it holds nothing doesn't either.
+/// A buffer that is dropped writes nothing, and one that is flushed while it holds nothing doesn't either.
 #[test]
 fn writes_when_it_is_told_to(rt: HostRuntime) -> Result<(), Fail> {
     let mut writer = Unflushed::new(rt.alloc());
@@ -424,7 +424,7 @@ impl Write for Unflushed {
     }
 }
 
-// A `put` that flushes the writer is seen here.
+/// A `put` that flushes the writer is seen here.
 #[test]
 fn never_flushes_the_writer(rt: HostRuntime) -> Result<(), Fail> {
     let mut writer = Unflushed::new(rt.alloc());
@@ -453,7 +453,7 @@ fn put_pieces(rt: &impl Abort, w: &mut impl Write, wanted: &mut Vec<u8>) {
     }
 }
 
-// A buffer that hands on each piece by itself, or is never full, is seen here.
+/// A buffer that hands on each piece by itself, or is never full, is seen here.
 #[test]
 fn gathers_pieces_into_few_large_writes(rt: HostRuntime) -> Result<(), Fail> {
     let mut writer = Unflushed::new(rt.alloc());

@@ -78,7 +78,7 @@ pub(crate) fn insert<V: Drop, A: Allocator + Copy>(
     }
 }
 
-// The value in the slot and the one that is stored change places.
+/// The value in the slot and the one that is stored change places.
 #[inline(never)]
 fn exchange<V: Drop>(stored: &mut V, value: &mut Option<V>)
     requires given { IsSome value.old }
@@ -91,7 +91,7 @@ fn exchange<V: Drop>(stored: &mut V, value: &mut Option<V>)
     *value = Some(mem::replace(stored, given));
 }
 
-// A leaf where nothing was.
+/// A leaf where nothing was.
 #[inline(never)]
 fn insert_at_empty<V: Drop, A: Allocator + Copy>(
     link: &mut Link<V, A>,
@@ -111,7 +111,7 @@ fn insert_at_empty<V: Drop, A: Allocator + Copy>(
     true
 }
 
-// A leaf of p with the value in the slot, which is left there where memory is refused.
+/// A leaf of p with the value in the slot, which is left there where memory is refused.
 fn leaf_of<V: Drop, A: Allocator + Copy>(
     alloc: A,
     p: Prefix,
@@ -143,7 +143,7 @@ fn leaf_of<V: Drop, A: Allocator + Copy>(
     }
 }
 
-// A full node with neither value nor branches yet.
+/// A full node with neither value nor branches yet.
 fn new_full<V: Drop, A: Allocator + Copy>(
     alloc: A,
     prefix: Prefix,
@@ -159,7 +159,7 @@ fn new_full<V: Drop, A: Allocator + Copy>(
     Box::new(alloc, node).ok()
 }
 
-// The child in the place of a left and a right one: on the side of the parent where its first address lies.
+/// The child in the place of a left and a right one: on the side of the parent where its first address lies.
 fn on_side<V, A: Allocator>(
     parent: &Prefix,
     base: u32,
@@ -175,7 +175,7 @@ fn on_side<V, A: Allocator>(
     }
 }
 
-// The leaf at q becomes a full node, and its box holds p below it.
+/// The leaf at q becomes a full node, and its box holds p below it.
 #[inline(never)]
 fn insert_below_leaf<V: Drop, A: Allocator + Copy>(
     link: &mut Link<V, A>,
@@ -214,7 +214,7 @@ fn insert_below_leaf<V: Drop, A: Allocator + Copy>(
     true
 }
 
-// The fork at p becomes a full node, as its prefix is stored now.
+/// The fork at p becomes a full node, as its prefix is stored now.
 #[inline(never)]
 fn insert_at_fork<V: Drop, A: Allocator + Copy>(
     link: &mut Link<V, A>,
@@ -247,7 +247,7 @@ fn insert_at_fork<V: Drop, A: Allocator + Copy>(
     true
 }
 
-// A full node for p, with what was here, whose base this is, on one of its sides.
+/// A full node for p, with what was here, whose base this is, on one of its sides.
 #[inline(never)]
 fn insert_above<V: Drop, A: Allocator + Copy>(
     link: &mut Link<V, A>,
@@ -276,7 +276,7 @@ fn insert_above<V: Drop, A: Allocator + Copy>(
     true
 }
 
-// A fork where p and what was here, whose base this is, go to two sides.
+/// A fork where p and what was here, whose base this is, go to two sides.
 #[inline(never)]
 fn insert_beside<V: Drop, A: Allocator + Copy>(
     link: &mut Link<V, A>,
@@ -319,7 +319,7 @@ fn insert_beside<V: Drop, A: Allocator + Copy>(
     true
 }
 
-// The longest prefix that contains both p and one with this base, which share no address.
+/// The longest prefix that contains both p and one with this base, which share no address.
 fn common_prefix(p: &Prefix, base: u32) -> Prefix
     requires { (q : Prefix) × (base ≡ q.base) × StandsAt q p.now Apart }
     ensures { (q : Prefix) → base ≡ q.base → StandsAt q p.now Apart
@@ -334,7 +334,7 @@ fn common_prefix(p: &Prefix, base: u32) -> Prefix
     prefix
 }
 
-// The first bit in which two addresses differ, counted from the last bit of an address.
+/// The first bit in which two addresses differ, counted from the last bit of an address.
 fn highest_difference(a: u32, b: u32) -> u8
     requires differ { a ≢ b }
     ensures bit { result ≤ 31 }

@@ -136,7 +136,7 @@ pub(crate) fn middle(len: u8, base: u32) -> u64
     base as u64 + (1u64 << (32 - len)) / 2
 }
 
-// Where the upper half of a prefix's addresses begins, as `offset` counts them.
+/// Where the upper half of a prefix's addresses begins, as `offset` counts them.
 const HALF: u64 = 1 << 31;
 
 /// Where a prefix's addresses end, as `offset` counts them.

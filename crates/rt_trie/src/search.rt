@@ -138,8 +138,8 @@ pub(crate) fn longest_many<'a, V, A: Allocator>(
     }
 }
 
-// The answers of so many addresses from a place on, one in each lane. The first lanes of the order go on, a step in each in
-// turn; one that has ended gives its place there to the last of them.
+/// The answers of so many addresses from a place on, one in each lane. The first lanes of the order go on, a step in each in
+/// turn; one that has ended gives its place there to the last of them.
 fn longest_in_lanes<'a, V, A: Allocator>(
     root: &'a Link<V, A>,
     addresses: &[Addr],
@@ -183,7 +183,7 @@ fn longest_in_lanes<'a, V, A: Allocator>(
     }
 }
 
-// Whose turn is next of so many: that of k, or of the first where k is past the last.
+/// Whose turn is next of so many: that of k, or of the first where k is past the last.
 #[inline(always)]
 fn turn(k: usize, going: usize) -> usize
     ensures { 0 < going → result < going }

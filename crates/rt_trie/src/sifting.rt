@@ -72,7 +72,7 @@ pub(crate) fn retain<V: Drop, A: Allocator + Drop, S: Sieve<V>>(
     splice(link, nodes);
 }
 
-// Shows the sieve a node's own pair, if it has a value.
+/// Shows the sieve a node's own pair, if it has a value.
 fn retain_own<V: Drop, S: Sieve<V>>(
     prefix: Prefix,
     value: &mut Option<V>,

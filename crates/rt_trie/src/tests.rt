@@ -13,7 +13,7 @@ use std::alloc::{Allocator, Global};
 use std::process::Abort;
 use std::test::Fail;
 
-// Prefixes of which some contain others.
+/// Prefixes of which some contain others.
 static STORED: [&str; 6] = [
     "0.0.0.0/0",
     "10.0.0.0/8",
@@ -27,12 +27,12 @@ fn prefix(rt: &impl Abort, text: &str) -> Prefix {
     Prefix::parse(text.as_bytes()).expect(rt, "a prefix")
 }
 
-// k.0.0.0/8
+/// k.0.0.0/8
 fn eighth(rt: &impl Abort, k: u32) -> Prefix {
     Prefix::new(k.wrapping_mul(1 << 24), 8).expect(rt, "a prefix")
 }
 
-// The first prefixes with the values 1, 2 and so on.
+/// The first prefixes with the values 1, 2 and so on.
 fn numbered(rt: &impl Abort, alloc: Global, texts: &[&str]) -> Vec<(Prefix, u32)> {
     let mut pairs = Vec::new(alloc);
     let mut value = 0u32;
@@ -43,7 +43,7 @@ fn numbered(rt: &impl Abort, alloc: Global, texts: &[&str]) -> Vec<(Prefix, u32)
     pairs
 }
 
-// Puts in a value where none is.
+/// Puts in a value where none is.
 fn put_new<A: Allocator + Copy>(rt: &impl Abort, trie: &mut Trie<u32, A>, p: Prefix, value: u32) {
     assert_eq!(rt; trie.insert(p, value), Ok(None));
 }
@@ -84,7 +84,7 @@ fn assert_after<A: Allocator + Copy>(
     assert_eq!(rt; trie.after(p), next);
 }
 
-// Of 1.0.0.0/8 to 64.0.0.0/8, the first, and what comes after a prefix that is stored or not.
+/// Of 1.0.0.0/8 to 64.0.0.0/8, the first, and what comes after a prefix that is stored or not.
 fn assert_next<A: Allocator + Copy>(rt: &impl Abort, trie: &Trie<u32, A>) {
     assert_eq!(rt; trie.first(), Some(eighth(rt, 1)));
     assert_after(rt, trie, eighth(rt, 1), Some(eighth(rt, 2)));
@@ -111,7 +111,7 @@ fn take_out<A: Allocator + Copy>(
     assert_eq!(rt; trie.remove(p), value);
 }
 
-// Puts in 1.0.0.0/8 to 64.0.0.0/8, with what `first` and `after` say of them, and takes them out again.
+/// Puts in 1.0.0.0/8 to 64.0.0.0/8, with what `first` and `after` say of them, and takes them out again.
 fn fill_and_empty<A: Allocator + Copy>(rt: &impl Abort, alloc: A) {
     let mut trie: Trie<u32, A> = Trie::new(alloc);
     put_eighths(rt, &mut trie);
@@ -126,7 +126,7 @@ fn sixty_four_prefixes(rt: HostRuntime) {
     fill_and_empty(&rt, rt.alloc());
 }
 
-// More prefixes than a hundred thousand, and the last address by itself.
+/// More prefixes than a hundred thousand, and the last address by itself.
 #[test]
 fn more_than_100_000_prefixes(rt: HostRuntime) {
     let mut trie: Trie<u32, Global> = Trie::new(rt.alloc());
@@ -170,7 +170,7 @@ fn next_pair<A: Allocator + Copy>(walk: &mut Walk<'_, u32, A>) -> Option<(Prefix
     Some((p, *value))
 }
 
-// What a caller sees of a trie: these pairs, in order.
+/// What a caller sees of a trie: these pairs, in order.
 fn assert_pairs<A: Allocator + Copy>(
     rt: &impl Abort,
     trie: &Trie<u32, A>,
@@ -184,7 +184,7 @@ fn assert_pairs<A: Allocator + Copy>(
     assert_eq!(rt; next_pair(&mut walk), None);
 }
 
-// Each pair is the longest match of its base, where no prefix is inside another.
+/// Each pair is the longest match of its base, where no prefix is inside another.
 fn assert_found<A: Allocator + Copy>(
     rt: &impl Abort,
     trie: &Trie<u32, A>,
@@ -195,12 +195,12 @@ fn assert_found<A: Allocator + Copy>(
     }
 }
 
-// A block of the region's least size, if there is one left.
+/// A block of the region's least size, if there is one left.
 fn least_block(heap: &LocalHeap) -> Option<Box<u8, &LocalHeap>> {
     Box::new(heap, 0u8).ok()
 }
 
-// Takes all memory that is left in the region, in such blocks.
+/// Takes all memory that is left in the region, in such blocks.
 fn take_the_rest<'h>(
     rt: &impl Abort,
     heap: &'h LocalHeap,
@@ -272,7 +272,7 @@ fn a_value_is_written_in_place(rt: HostRuntime) {
     assert_eq!(rt; trie.len(), 64);
 }
 
-// The prefix of so many bits, at most 32, that covers the address.
+/// The prefix of so many bits, at most 32, that covers the address.
 fn covering(rt: &impl Abort, address: u32, len: u32) -> Prefix {
     let len = len % 33;
     let past = 32 - len;

@@ -73,7 +73,7 @@ impl<'a, V, A: Allocator> Iterator for Walk<'a, V, A> {
     }
 }
 
-// The link at an index.
+/// The link at an index.
 fn link_at<'a, V, A: Allocator>(stack: &[&'a Link<V, A>], k: usize) -> &'a Link<V, A>
     requires { k < length stack.now }
     ensures { link_at stack.now k ≡ Some result.now }
@@ -81,7 +81,7 @@ fn link_at<'a, V, A: Allocator>(stack: &[&'a Link<V, A>], k: usize) -> &'a Link<
     stack[k]
 }
 
-// Puts two links at an index and the one after it.
+/// Puts two links at an index and the one after it.
 fn put_sides<'a, V, A: Allocator>(
     stack: &mut [&'a Link<V, A>],
     k: usize,

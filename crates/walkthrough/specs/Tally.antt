@@ -17,7 +17,7 @@ abbrev pub KeepsOthers : ℕ → Tally → Tally → Type 0
 KeepsOthers place a b = (other : ℕ) → other ≢ place → KeepsPart other a b
 
 -- the lock's pass of this place, which has counted nothing
-pub record IsFresh (lock : LockId) (place : ℕ) (pass : IdlePass Tally) : Type 0 where
+pub record IsFreshPass (lock : LockId) (place : ℕ) (pass : IdlePass Tally) : Type 0 where
   pub of_lock : pass.lock ≡ lock
   pub at_place : pass.place ≡ place
   pub counted : part place pass.seen ≡ 0

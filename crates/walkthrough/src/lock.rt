@@ -1,6 +1,6 @@
 //! `ya_lock`: a value that two threads change in turn, each its own part, and what is known of it at the end.
 ghost use Rattle.std.specs.Prelude.{◌≡◌, refl, ◌+◌, ◌^◌, ◌<◌, IfOk};
-ghost use Rattle.walkthrough.specs.Tally.{part, KeepsPart, KeepsOthers, keeps_after, IsFresh};
+ghost use Rattle.walkthrough.specs.Tally.{part, KeepsPart, KeepsOthers, keeps_after, IsFreshPass};
 
 use std::alloc::Global;
 use std::sync::Wait;
@@ -67,7 +67,7 @@ fn count<R: Wait>(rt: &R, lock: &TreeLock<Tally, 1>, pass: Pass<Tally>, times: u
 
 /// A lock of two places, and the pass of each.
 fn lock_of_two(alloc: Global) -> Result<(TreeLock<Tally, 1>, Pass<Tally>, Pass<Tally>), NoMemory>
-    ensures { IfOk result (λ made. IsFresh made.0 0 made.1 × IsFresh made.0 1 made.2) }
+    ensures { IfOk result (λ made. IsFreshPass made.0 0 made.1 × IsFreshPass made.0 1 made.2) }
 {
     let start = Tally {
         first: 0,

@@ -21,7 +21,7 @@ fn table_of_two(alloc: Global) -> Result<(SharedRib<1>, FeedPass, FeedPass), Ref
     Ok((table, first, second))
 }
 
-/// Asks the commands in one entry of the lock, so that no other feed's come between, and gives the pass back.
+/// Asks the commands in one critical section, so that no other feed's come between, and gives the pass back.
 fn ask<R: Wait>(
     rt: &R,
     alloc: Global,

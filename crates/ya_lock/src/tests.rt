@@ -54,20 +54,20 @@ impl Marks {
         }
     }
 
-    // MarksAdded a mark, or leaves the list as it is where memory runs out.
+    /// MarksAdded a mark, or leaves the list as it is where memory runs out.
     fn add(&mut self, place: usize)
         ensures { MarksAdded place self.old.places.items self.new.places.items }
     {
         let _ = self.places.push(place);
     }
 
-    // How many marks the place has made.
+    /// How many marks the place has made.
     fn count(&self, place: usize) -> usize {
         self.places.iter().filter(|p| **p == place).count()
     }
 }
 
-// A lock and its passes.
+/// A lock and its passes.
 fn made<V: Kept + Drop, const L: u32>(
     alloc: Global,
     value: V,
@@ -81,7 +81,7 @@ fn made<V: Kept + Drop, const L: u32>(
     }
 }
 
-// What a place does inside before it makes its mark.
+/// What a place does inside before it makes its mark.
 #[derive(Clone, Copy)]
 enum Hold {
     Nothing,
@@ -105,7 +105,7 @@ impl Hold {
     }
 }
 
-// Enters as often as that, and makes a mark each time.
+/// Enters as often as that, and makes a mark each time.
 fn mark<R: Wait + Clock, const L: u32>(
     rt: &R,
     lock: &TreeLock<Marks, L>,
@@ -151,8 +151,8 @@ fn hands_back_what_it_refuses(rt: HostRuntime) {
     }
 }
 
-// Enters with the last pass, confirms all others under its guard, and closes the lock. How many were confirmed, and the
-// marks.
+/// Enters with the last pass, confirms all others under its guard, and closes the lock. How many were confirmed, and the
+/// marks.
 fn settle<R: Wait, const L: u32>(
     rt: &R,
     lock: TreeLock<Marks, L>,
@@ -170,7 +170,7 @@ fn settle<R: Wait, const L: u32>(
     Some((others, lock.close(guard)))
 }
 
-// The marks of two threads, which make so many each.
+/// The marks of two threads, which make so many each.
 fn by_two<R: Threads + Wait + Clock + Sync>(
     rt: &R,
     alloc: Global,
@@ -190,7 +190,7 @@ fn by_two<R: Threads + Wait + Clock + Sync>(
     Ok(lock.close(guard))
 }
 
-// The marks of so many threads, or of one for each place where those are fewer, which make so many each.
+/// The marks of so many threads, or of one for each place where those are fewer, which make so many each.
 fn by_all<R: Threads + Wait + Clock + Sync, const L: u32>(
     rt: &R,
     alloc: Global,
@@ -223,7 +223,7 @@ fn two_threads_count(rt: HostRuntime) -> Result<(), Fail> {
     Ok(())
 }
 
-// Whether so many threads, or one for each place where those are fewer, make so many marks each, none of them lost.
+/// Whether so many threads, or one for each place where those are fewer, make so many marks each, none of them lost.
 fn all_are_counted<R: Threads + Wait + Clock + Sync, const L: u32>(
     rt: &R,
     alloc: Global,
@@ -250,7 +250,7 @@ fn a_thread_for_each_place_counts(rt: HostRuntime) -> Result<(), Fail> {
     Ok(())
 }
 
-// Whether so many threads at each height make so many marks each.
+/// Whether so many threads at each height make so many marks each.
 fn all_heights_are_counted<R: Threads + Wait + Clock + Sync>(
     rt: &R,
     alloc: Global,
@@ -283,7 +283,7 @@ fn no_wake_is_lost(rt: HostRuntime) -> Result<(), Fail> {
     Ok(())
 }
 
-// Comes in so slowly that a rival which finds it there sleeps until it has announced itself.
+/// Comes in so slowly that a rival which finds it there sleeps until it has announced itself.
 fn come_slowly<R: Wait + Clock>(rt: &R, lock: &TreeLock<Marks, 1>, pass: Pass<Marks>) -> bool
     requires { pass.lock ≡ lock.now }
 {
@@ -308,7 +308,7 @@ fn come_slowly<R: Wait + Clock>(rt: &R, lock: &TreeLock<Marks, 1>, pass: Pass<Ma
     competes
 }
 
-// Is inside for a fifth of a second.
+/// Is inside for a fifth of a second.
 fn stay<R: Wait + Clock, const L: u32>(rt: &R, lock: &TreeLock<Marks, L>, pass: Pass<Marks>)
     requires { pass.lock ≡ lock.now }
 {
@@ -317,7 +317,7 @@ fn stay<R: Wait + Clock, const L: u32>(rt: &R, lock: &TreeLock<Marks, L>, pass: 
     let _ = lock.leave(guard);
 }
 
-// The processor time of a passage that begins a little later.
+/// The processor time of a passage that begins a little later.
 fn time_of<R: Wait + Clock + CpuClock, const L: u32>(
     rt: &R,
     lock: &TreeLock<Marks, L>,
@@ -332,7 +332,7 @@ fn time_of<R: Wait + Clock + CpuClock, const L: u32>(
     rt.thread_cpu_time().ok()?.checked_sub(before)
 }
 
-// The processor time of a thread that waits for another which is inside for a fifth of a second.
+/// The processor time of a thread that waits for another which is inside for a fifth of a second.
 fn time_of_a_wait<R: Threads + Wait + Clock + CpuClock + Sync>(
     rt: &R,
     alloc: Global,
@@ -349,7 +349,7 @@ fn time_of_a_wait<R: Threads + Wait + Clock + CpuClock + Sync>(
     Ok(time.ok_or("a clock")?)
 }
 
-// Whether a place that sleeps until its rival announces itself comes in, and the rival after it.
+/// Whether a place that sleeps until its rival announces itself comes in, and the rival after it.
 fn both_come_in<R: Threads + Wait + Clock + CpuClock + Sync>(
     rt: &R,
     alloc: Global,
@@ -408,7 +408,7 @@ fn a_pass_is_confirmed_while_the_other_place_is_inside(rt: HostRuntime) -> Resul
     Ok(())
 }
 
-// How many passes are confirmed under one open guard.
+/// How many passes are confirmed under one open guard.
 fn confirmed<R: Wait, const L: u32>(rt: &R, alloc: Global) -> Result<usize, Fail>
     requires { (1 ≤ L) × (L ≤ 6) }
 {

@@ -183,7 +183,7 @@ fn judge_runs<R: Threads + Wait + Sync + Abort>(
     Ok(interleaved)
 }
 
-// On one processor the feeds may as well run one after another.
+/// On one processor the feeds may as well run one after another.
 #[test]
 fn some_order_explains_each_of_500_runs(rt: HostRuntime) -> Result<(), Fail> {
     let mut interleaved = 0usize;

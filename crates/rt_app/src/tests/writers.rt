@@ -188,7 +188,7 @@ fn stops_after_each<R: Threads + Wait + Sync + Abort>(
     Ok(())
 }
 
-// Each of these two takes some ten seconds.
+/// Each of these two takes some ten seconds.
 #[test]
 fn a_fault_after_any_even_number_of_bytes_leaves_a_beginning(rt: HostRuntime) -> Result<(), Fail> {
     stops_after_each(&rt, rt.alloc(), 0)

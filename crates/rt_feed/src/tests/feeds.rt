@@ -166,8 +166,8 @@ fn faulty_and_skipped_lines_take_no_place_in_a_batch(rt: HostRuntime) -> Result<
     Ok(())
 }
 
-// A run that gives up beyond a million lines or answers, or that wants the room of a whole batch before it has the
-// commands, is seen here.
+/// A run that gives up beyond a million lines or answers, or that wants the room of a whole batch before it has the
+/// commands, is seen here.
 #[test]
 fn a_batch_may_have_more_than_a_million_commands(rt: HostRuntime) -> Result<(), Fail> {
     let count = 1_000_001;

@@ -269,7 +269,7 @@ fn push_table(text: &mut Vec<u8>, count: usize) -> Result<(), AllocError> {
     Ok(())
 }
 
-// A report or a table that gives up beyond some number of lines is seen here.
+/// A report or a table that gives up beyond some number of lines is seen here.
 #[test]
 fn prints_hundreds_of_thousands_of_lines(rt: HostRuntime) -> Result<(), Fail> {
     let alloc = rt.alloc();

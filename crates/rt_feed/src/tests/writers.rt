@@ -109,8 +109,8 @@ fn assert_stops(rt: &impl Abort, alloc: Global, room: usize, code: i32) -> Resul
     Ok(())
 }
 
-// A writer of text that gives another fault than the writer's, at the first call or at any later one, is seen here. The
-// numbers are those of an interrupted call, a full disk and a broken pipe.
+/// A writer of text that gives another fault than the writer's, at the first call or at any later one, is seen here. The
+/// numbers are those of an interrupted call, a full disk and a broken pipe.
 #[test]
 fn stops_with_the_writers_own_fault_after_each_byte(rt: HostRuntime) -> Result<(), Fail> {
     for code in [4, 28, 32] {
@@ -159,8 +159,8 @@ impl Write for Counting {
     }
 }
 
-// An empty write, or a flush between lines or at the end, is seen here: no clause can tell, since neither changes what
-// the writer holds.
+/// An empty write, or a flush between lines or at the end, is seen here: no clause can tell, since neither changes what
+/// the writer holds.
 #[test]
 fn makes_one_write_for_each_line_and_no_other_call(rt: HostRuntime) -> Result<(), Fail> {
     let mut out = Counting::new();

@@ -17,24 +17,24 @@ static ABSENT: [&str; 4] = [
     "255.255.255.255/32",
 ];
 
-// Puts in each prefix that is not stored, with the value 1.
+/// Puts in each prefix that is not stored, with the value 1.
 fn fill<A: Allocator + Copy>(rt: &impl Abort, trie: &mut Trie<u32, A>) {
     for text in STORED.iter() {
         assert_eq!(rt; trie.insert(prefix(rt, text), 1), Ok(None));
     }
 }
 
-// Looks up the prefix's own address and another, together.
+/// Looks up the prefix's own address and another, together.
 fn look_up_two<A: Allocator + Copy>(trie: &Trie<u32, A>, p: Prefix) {
     let addresses = [Addr(p.base()), Addr(0)];
     let mut answers = [None, None];
     trie.longest_many(&addresses, &mut answers);
 }
 
-// A trie whose requests for memory are counted.
+/// A trie whose requests for memory are counted.
 type CountedTrie<'m> = Trie<u32, &'m Counted<Global>>;
 
-// Each call at a prefix that changes no more than a value.
+/// Each call at a prefix that changes no more than a value.
 fn call_at(rt: &impl Abort, memory: &Counted<Global>, trie: &mut CountedTrie<'_>, text: &str) {
     let asked = memory.asked();
     let p = prefix(rt, text);
@@ -50,7 +50,7 @@ fn call_at(rt: &impl Abort, memory: &Counted<Global>, trie: &mut CountedTrie<'_>
     assert_eq!(rt; memory.asked(), asked, "after {text}");
 }
 
-// The calls that are of the whole trie, or change nothing.
+/// The calls that are of the whole trie, or change nothing.
 fn call_at_whole(rt: &impl Abort, memory: &Counted<Global>, trie: &CountedTrie<'_>) {
     let asked = memory.asked();
     assert_eq!(rt; (trie.len(), trie.nodes()), (6, 7));

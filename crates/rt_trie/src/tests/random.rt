@@ -8,14 +8,14 @@ use rt_cidr::{Addr, Prefix};
 use std::alloc::{Allocator, Global};
 use std::process::Abort;
 
-// A map as a plain list of pairs in order.
+/// A map as a plain list of pairs in order.
 #[derive(Drop)]
 struct PlainList {
     pairs: Vec<(Prefix, u32)>,
 }
 
 impl PlainList {
-    // The index of a prefix, or that at which it would go.
+    /// The index of a prefix, or that at which it would go.
     fn index_of(&self, p: Prefix) -> Result<usize, usize> {
         self.pairs.binary_search_by_key(&p, |x| x.0)
     }
@@ -63,13 +63,13 @@ impl PlainList {
     }
 }
 
-// The next number of a linear congruence.
+/// The next number of a linear congruence.
 fn next_number(seed: u64) -> u64 {
     seed.wrapping_mul(6_364_136_223_846_793_005)
         .wrapping_add(1_442_695_040_888_963_407)
 }
 
-// Makes one change to both: an insertion or a removal.
+/// Makes one change to both: an insertion or a removal.
 fn change_both<A: Allocator + Copy>(
     rt: &impl Abort,
     trie: &mut Trie<u32, A>,
@@ -106,7 +106,7 @@ fn random_changes_beside_a_sorted_list(rt: HostRuntime) {
     }
 }
 
-// Numbers each pair that it is shown, and keeps one of four of them, by lot, until it was shown so many.
+/// Numbers each pair that it is shown, and keeps one of four of them, by lot, until it was shown so many.
 #[derive(Drop)]
 struct Lots {
     seed: u64,
@@ -130,7 +130,7 @@ impl Sieve<u32> for Lots {
     }
 }
 
-// Sieves both, from one seed and to one end.
+/// Sieves both, from one seed and to one end.
 fn sieve_both<A: Allocator + Copy>(
     rt: &impl Abort,
     alloc: Global,
@@ -167,7 +167,7 @@ fn sieves_beside_a_sorted_list(rt: HostRuntime) {
     sieve_both(&rt, rt.alloc(), &mut trie, &mut list, seed, 0);
 }
 
-// Looks all addresses up together, and compares each answer with that of the address alone.
+/// Looks all addresses up together, and compares each answer with that of the address alone.
 fn assert_together(rt: &impl Abort, alloc: Global, trie: &Trie<u32, Global>, addresses: &[Addr]) {
     let mut answers = vec![in alloc; None; addresses.len()].expect(rt, "memory");
     trie.longest_many(addresses, &mut answers);

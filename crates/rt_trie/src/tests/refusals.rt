@@ -11,8 +11,8 @@ use std::alloc::{Allocator, Global};
 use std::process::Abort;
 use std::test::Fail;
 
-// Asks to put in a new pair, and adds it to the list where it is put in. Where memory is refused the value comes back and
-// no node is made.
+/// Asks to put in a new pair, and adds it to the list where it is put in. Where memory is refused the value comes back and
+/// no node is made.
 fn ask<A: Allocator + Copy>(
     rt: &impl Abort,
     trie: &mut Trie<u32, A>,
@@ -44,7 +44,7 @@ fn a_region_of_512_bytes_refuses_and_keeps(rt: HostRuntime) -> Result<(), Fail> 
     Ok(())
 }
 
-// What stays where memory is refused: the pairs, the nodes, and nothing at the new prefix.
+/// What stays where memory is refused: the pairs, the nodes, and nothing at the new prefix.
 fn assert_kept<A: Allocator + Copy>(
     rt: &impl Abort,
     trie: &Trie<u32, A>,
@@ -57,7 +57,7 @@ fn assert_kept<A: Allocator + Copy>(
     assert_pairs(rt, trie, pairs);
 }
 
-// Asks to put in the value 7. Where memory is refused it comes back, and trie and region are as they were.
+/// Asks to put in the value 7. Where memory is refused it comes back, and trie and region are as they were.
 fn is_put_in<'h>(
     rt: &impl Abort,
     heap: &'h LocalHeap,
@@ -78,7 +78,7 @@ fn is_put_in<'h>(
     false
 }
 
-// Gives back one block more each time, until the prefix is put in: how often it was refused.
+/// Gives back one block more each time, until the prefix is put in: how often it was refused.
 fn refusals<'h>(
     rt: &impl Abort,
     heap: &'h LocalHeap,
@@ -96,9 +96,9 @@ fn refusals<'h>(
     panic!(rt; "never put in");
 }
 
-// Puts in the pairs, then the new one, in a region where nothing is left, then one block, and so on until it is put in.
-// So each box that the insertion asks for is refused, the first at the start and the last just before the end; each time
-// the trie is as it was, and the region too.
+/// Puts in the pairs, then the new one, in a region where nothing is left, then one block, and so on until it is put in.
+/// So each box that the insertion asks for is refused, the first at the start and the last just before the end; each time
+/// the trie is as it was, and the region too.
 fn refuse_each_box(
     rt: &impl Abort,
     alloc: Global,
@@ -158,7 +158,7 @@ fn each_box_of_each_insertion_refused_in_turn(rt: HostRuntime) -> Result<(), Fai
     Ok(())
 }
 
-// Each removal in a region where nothing is left: a leaf below a fork, a full node with one branch, one with two.
+/// Each removal in a region where nothing is left: a leaf below a fork, a full node with one branch, one with two.
 fn take_each<'h>(
     rt: &impl Abort,
     heap: &'h LocalHeap,
@@ -174,7 +174,7 @@ fn take_each<'h>(
     }
 }
 
-// What is asked where nothing is put in.
+/// What is asked where nothing is put in.
 fn assert_answers<A: Allocator + Copy>(
     rt: &impl Abort,
     trie: &Trie<u32, A>,

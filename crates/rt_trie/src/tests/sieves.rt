@@ -11,7 +11,7 @@ use rt_cidr::Prefix;
 use std::alloc::Global;
 use std::test::Fail;
 
-// Gives up all but the prefixes of one length.
+/// Gives up all but the prefixes of one length.
 #[derive(Drop)]
 struct OfLength {
     len: u8,
@@ -49,7 +49,7 @@ fn a_sieve_needs_no_memory(rt: HostRuntime) -> Result<(), Fail> {
     Ok(())
 }
 
-// Values that lie in a region of their own: what the region has in use are the values that were not dropped.
+/// Values that lie in a region of their own: what the region has in use are the values that were not dropped.
 #[test]
 fn a_sieve_drops_each_value_that_it_gives_up(rt: HostRuntime) -> Result<(), Fail> {
     let heap = LocalHeap::new(rt.alloc(), 65_536)?;
