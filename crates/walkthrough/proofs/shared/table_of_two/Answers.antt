@@ -1,18 +1,14 @@
-use Rattle.std.proofs.Common.{◌≡◌, ◌∙◌, ap, ◌++◌, ◌∷◌, [], List, Option, All, refl, subst, arith}
-use Rattle.std.specs.Option.{option_to_list}
+use Rattle.std.proofs.Common.{◌≡◌, ◌∙◌, ◌∷◌, [], All, refl, subst, arith}
 use Rattle.rt_shared.specs.Table.{HeldPass, ArePassesOf}
-use Rattle.walkthrough.proofs.Two.{two_of}
+use Rattle.rt_shared.proofs.Testing.{both_popped}
 use Rattle.walkthrough.proofs.shared.table_of_two.Goals as goal
 
 pub returns : goal.returns
 returns c =
-    let e = c.in_ok-table.ensures in let first = c.in_ok-first.first in let second = c.in_ok-second.second in let rest : List HeldPass = c.pop-2.new.self.items in
-    let one : c.pop.new.self.items ≡ rest ++ first ∷ [] = c.pop-2.ensures.items ∙ ap (λ (o : Option HeldPass). rest ++ option_to_list o) c.in_ok-first.ensures.ok_part in
-    let two : c.in_ok-table.passes.items ≡ c.pop.new.self.items ++ second ∷ [] =
-    c.pop.ensures.items ∙ ap (λ (o : Option HeldPass). c.pop.new.self.items ++ option_to_list o) c.in_ok-second.ensures.ok_part in
-    let both : c.in_ok-table.passes.items ≡ first ∷ second ∷ [] =
-    two_of rest c.in_ok-table.passes.items first second (e.passes.count ∙ e.table.1) (two ∙ ap (λ (l : List HeldPass). l ++ second ∷ []) one) in
-    let are : ArePassesOf c.in_ok-table.table (first ∷ second ∷ []) = subst (ArePassesOf c.in_ok-table.table) both e.passes in
+    let made = c.in_ok-table in let e = made.ensures in let first = c.in_ok-first.first in let second = c.in_ok-second.second in
+    let both =
+    (both_popped made.passes.items _ c.pop-2.new.self.items _ _ first second (e.passes.count ∙ e.table.1) c.pop.ensures.items c.in_ok-second.ensures.ok_part c.pop-2.ensures.items c.in_ok-first.ensures.ok_part) in
+    let are : ArePassesOf made.table (first ∷ second ∷ []) = subst (ArePassesOf made.table) both e.passes in
     let seen : All (λ (p : HeldPass). p.seen ≡ []) (first ∷ second ∷ []) = subst (All (λ (p : HeldPass). p.seen ≡ [])) both e.seen in (
       e.table.0,
       record {
