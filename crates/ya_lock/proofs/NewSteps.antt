@@ -16,7 +16,7 @@ use Rattle.ya_core.specs.declared.process.Process.TheVariants.{Idle}
 use Rattle.ya_core.specs.Soundness.{IsSoundState}
 use Rattle.ya_lock.specs.declared.view.View.{View}
 use Rattle.ya_lock.specs.declared.view.View.TheVariants.{Unused, Making, Filling, HandingOut, Seated, Joining, Spent}
-use Rattle.ya_lock.specs.Rule.{making_index, row_length, words_in, GlobalView, ValueInSlot, ViewFits, Obeys, Rule}
+use Rattle.ya_lock.specs.Rule.{making_index, row_length, GlobalView, ValueInSlot, ViewFits, Obeys, Rule}
 use Rattle.ya_core.specs.Worlds.{is_inside}
 use Rattle.ya_lock.specs.inside.StepEffects.{Slots, BeginsMaking, TakesSlot, GivesValue, HandsOutLast}
 use Rattle.ya_core.proofs.Promised.{opens as opens_sound}
