@@ -30,7 +30,7 @@ pub fills_none : (lines : List Line) (index : ℕ) → take index lines ++ fille
 fills_none lines index = rw (filled-none, take-append-drop) refl
 
 module _ (lines : List Line) (index : ℕ) (d : Line) (here : index < length lines) where
-  -- the lines up to a index and the one there
+  -- the lines up to an index and the one there
   one_more : (rest : List Line) → take (index + 1) lines ++ rest ≡ take index lines ++ get_or lines index d ∷ rest
   one_more rest = rw (add-one index, take-suc lines index d here) (append_assoc (take index lines) (get_or lines index d ∷ []) rest)
 
@@ -77,7 +77,7 @@ length-filled (line ∷ lines) (outcome ∷ outcomes) = elim (cases_Bool (is_fau
   | inr other ↦ rw (filled-given line lines outcome outcomes other) (ap suc (length-filled lines outcomes))
 ]
 
--- the lines of which those from a index on were given outcomes
+-- the lines of which those from an index on were given outcomes
 refilled : ℕ → List Line → List Outcome → List Line
 refilled first lines outcomes = take first lines ++ filled (drop first lines) outcomes
 

@@ -119,7 +119,7 @@ fn prefix_of(feed: u32, j: u32) -> Result<Prefix, TextFault> {
     Prefix::new(feed.wrapping_shl(24).wrapping_add(j.wrapping_shl(8)), 24)
 }
 
-/// GrowsByFeed 500 routes of the pass's feed, by rising preference, and counts those that were added.
+/// Adds 500 routes of the pass's feed, by rising preference, and counts those that were added.
 fn add_many<R: Wait, const L: u32>(
     rt: &R,
     table: &SharedRib<L>,
@@ -425,7 +425,7 @@ fn batches_of_each_size_are_answered(rt: HostRuntime) -> Result<(), Fail> {
 /// How many routes the large table has: more than 65,536.
 const ROUTES: u32 = 66_000;
 
-/// GrowsByFeed that many routes of feed 1, all at once.
+/// Adds that many routes of feed 1, all at once.
 fn add_routes<R: Wait + Abort, const L: u32>(
     rt: &R,
     alloc: Global,

@@ -288,12 +288,6 @@ module _ {V A : Type 0} where
         counted = omega (arith, x.count_is);
       }
 
-  -- a leaf goes where nothing was
-  pub put_leaf : (b : Box (LeafNode V) A) (p : Prefix) (v : V) → b.value.prefix ≡ p → b.value.value ≡ v → IsPut Empty (leaf_link b) p v
-  put_leaf b p v e f =
-      let k = made_leaf b p v e f in
-      record { pairs_are = k.pairs_are; lawful = k.lawful; filled = filled_of (leaf_link b) p k.root_is; stays = stays_new Empty (leaf_link b) p k.root_is }
-
   -- the value given was put where nothing stood, and the slot is left empty
   inserted : (old new : Link V A) (n m : ℕ) (p : Prefix) (given slot stored : Option V) → stored ≡ given → slot ≡ None → get (pairs old) p ≡ None
       → m + count old ≡ n + count new → ((v : V) → stored ≡ Some v → IsPut old new p v) → IsInserted old new n m p given slot
@@ -306,11 +300,6 @@ module _ {V A : Type 0} where
   -- nothing was done, and nothing stands at p
   pub refused : (link : Link V A) (n : ℕ) (p : Prefix) (given : Option V) → get (pairs link) p ≡ None → IsRefused link link n n p given given
   refused link n p given h = record { absent = h; back_is = refl; same = refl; counted = refl }
-
-  pub empty_insert : (b : Box (LeafNode V) A) (old : Link V A) (n m : ℕ) (p : Prefix) (given slot : Option V) → old ≡ Empty → b.value.prefix ≡ p
-      → given ≡ Some b.value.value → slot ≡ None → m ≡ n + 1 → IsInserted old (leaf_link b) n m p given slot
-  empty_insert b old n m p given slot e f i none j =
-      rw e (inserted Empty (leaf_link b) n m p given slot (Some b.value.value) (sym i) none refl (omega (arith, j)) (λ v o. put_leaf b p v f (some_same o)))
 
   -- a leaf at q, as a node
   leaf_node : {len base : ℕ} (b : Box (LeafNode V) A) (old : Link V A) (q : Prefix) → old ≡ Leaf len base b → b.value.prefix ≡ q
@@ -335,37 +324,6 @@ module _ {V A : Type 0} where
         had_is = had ∙ ap (λ (z : LeafNode V). Some z.value) g ∙ sym (get_own old m.prefix (Some b.value.value) Empty Empty x p i);
         counted = omega (arith, x.count_is);
       }
-
-  pub leaf_absent : {len base : ℕ} (b : Box (LeafNode V) A) (old : Link V A) (q p : Prefix) → old ≡ Leaf len base b → b.value.prefix ≡ q
-      → IsChild q false p ⊎ IsChild q true p → get (pairs old) p ≡ None
-  leaf_absent b old q p e f h = elim h [
-    | inl c ↦ get_left old q (Some b.value.value) Empty Empty (leaf_node b old q e f) p c
-    | inr c ↦ get_right old q (Some b.value.value) Empty Empty (leaf_node b old q e f) p c
-  ]
-
-  -- the leaf at q becomes a full node with a leaf of p on the side where p lies
-  pub below_leaf_insert : {len base : ℕ} (b k : Box (LeafNode V) A) (old : Link V A) (n m : ℕ) (q p : Prefix) (given slot : Option V) → old ≡ Leaf len base b → b.value.prefix ≡ q
-      → IsChild q false p ⊎ IsChild q true p → k.value.prefix ≡ p → given ≡ Some k.value.value → slot ≡ None → m ≡ n + 1 → (sides : Link V A × Link V A)
-      → (p.base < middle q → sides ≡ (leaf_link k, Empty)) → (middle q ≤ p.base → sides ≡ (Empty, leaf_link k)) → (f : Box (FullNode V A) A)
-      → f.value.prefix ≡ q → f.value.value ≡ Some b.value.value → f.value.left ≡ sides.0 → f.value.right ≡ sides.1
-      → IsInserted old (full_link f) n m p given slot
-  below_leaf_insert b k old n m q p given slot e g h i j none o sides lo hi f x y z w =
-      let a = leaf_node b old q e g in
-      let leaf = made_leaf k p k.value.value i refl in
-      elim h [
-        | inl c ↦
-            let s = lo (omega (arith, c.to, size_pos p.len)) in
-            let u = made_full f q b.value.value (leaf_link k) Empty x y (z ∙ ap (λ (t : Link V A × Link V A). t.0) s) (w ∙ ap (λ (t : Link V A × Link V A). t.1) s)
-            (record { lower = child_link q false (leaf_link k) p leaf.root_is c; upper = tt }) leaf.lawful (tt, tt) in
-            inserted old (full_link f) n m p given slot (Some k.value.value) (sym j) none (leaf_absent b old q p e g (inl c)) (omega (arith, o, a.count_is, u.0.count_is))
-            (λ v t. put_left old (full_link f) q (Some b.value.value) Empty Empty (leaf_link k) p v a u.0 u.1 c (put_leaf k p v i (some_same t)))
-        | inr c ↦
-            let s = hi c.from in
-            let u = made_full f q b.value.value Empty (leaf_link k) x y (z ∙ ap (λ (t : Link V A × Link V A). t.0) s) (w ∙ ap (λ (t : Link V A × Link V A). t.1) s)
-            (record { lower = tt; upper = child_link q true (leaf_link k) p leaf.root_is c }) (tt, tt) leaf.lawful in
-            inserted old (full_link f) n m p given slot (Some k.value.value) (sym j) none (leaf_absent b old q p e g (inr c)) (omega (arith, o, a.count_is, u.0.count_is))
-            (λ v t. put_right old (full_link f) q (Some b.value.value) Empty Empty (leaf_link k) p v a u.0 u.1 c (put_leaf k p v i (some_same t)))
-      ]
 
   -- the fork at p becomes a full node
   pub at_fork_insert : {len base : ℕ} (b : Box (ForkNode V A) A) (x : ForkNode V A) (old : Link V A) (n : ℕ) (p : Prefix) (given slot stored : Option V) → old ≡ Fork len base b

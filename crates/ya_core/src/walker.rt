@@ -152,7 +152,7 @@ impl Walker {
         }
     }
 
-    /// WalkLeadsTo on by the value that the load found.
+    /// Goes on by the value that the load found.
     #[inline(always)]
     pub fn saw(&mut self, value: u64)
         requires { FitsDue self.old value }
@@ -166,7 +166,7 @@ impl Walker {
         self.go_on(value)
     }
 
-    /// WalkLeadsTo on after the store. Where it leads is the same for every value.
+    /// Goes on after the store. Where it leads is the same for every value.
     #[inline(always)]
     pub fn done(&mut self)
         requires { IsStore (due self.old) }
@@ -235,7 +235,7 @@ impl Walker {
         }
     }
 
-    /// WalkLeadsTo on after the access that is due, which loaded or stored the value.
+    /// Goes on after the access that is due, which loaded or stored the value.
     #[inline(always)]
     fn go_on(&mut self, value: u64)
         requires { MayBeTold (due self.old) value }

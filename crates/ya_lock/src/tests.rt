@@ -54,7 +54,7 @@ impl Marks {
         }
     }
 
-    /// MarksAdded a mark, or leaves the list as it is where memory runs out.
+    /// Adds a mark, or leaves the list as it is where memory runs out.
     fn add(&mut self, place: usize)
         ensures { MarksAdded place self.old.places.items self.new.places.items }
     {
