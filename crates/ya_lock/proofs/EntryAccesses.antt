@@ -14,7 +14,7 @@ abbrev pub LeadsTo : ℕ → ℕ → Process → Process → Type 0
 LeadsTo levels place before after = (found : ℕ) × (after ≡ next_of levels place before found)
 
 -- so it does from where the process is known to stand
-known : (levels place : ℕ) (before point after : Process) → before ≡ point → LeadsTo levels place before after
+pub known : (levels place : ℕ) (before point after : Process) → before ≡ point → LeadsTo levels place before after
     → LeadsTo levels place point after
 known levels place before point after is h =
     (h.0, h.1 ∙ ap (λ (p : Process). next_of levels place p h.0) is)

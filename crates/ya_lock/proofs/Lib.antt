@@ -9,4 +9,5 @@ pub mod TreeSize
 pub mod GuardSeats
 pub mod RuleMeaning
 pub mod EntryAccesses
+pub mod StoredFor
 pub mod Examples

@@ -1,10 +1,11 @@
 -- A lock has the words of one tree.
-use Rattle.std.proofs.Common.{◌≡◌, ℕ, ◌^◌, ◌<◌, sym, ap, ◌∙◌, subst}
+use Rattle.std.proofs.Common.{◌≡◌, ℕ, ◌*◌, ◌^◌, ◌<◌, ◌≤◌, sym, ap, ◌∙◌, subst, arith}
+use Rattle.ya_core.specs.ArbitrationTree.{count_of_words}
 use Rattle.ya_lock.specs.Lock.{LockId}
 use Rattle.ya_lock.specs.inside.Lock.{HasTree, HasPlace}
 use Rattle.ya_lock.specs.inside.Rule.{bell_index}
-use Rattle.ya_lock.specs.Rule.{row_length}
-use Rattle.ya_lock.proofs.Words.{same_height, bell_within}
+use Rattle.ya_lock.specs.Rule.{making_index, row_length}
+use Rattle.ya_lock.proofs.Words.{same_height, bell_within, making_is, making_small}
 
 -- two trees that have the words of one lock are of one height
 pub one_tree : (x y : LockId) (a b : ℕ) → x ≡ y → HasTree x a → HasTree y b → a ≡ b
@@ -22,3 +23,18 @@ pub place_below : (x y : LockId) (place levels shape : ℕ) → x ≡ y → HasT
     → place < 2 ^ shape
 place_below x y place levels shape e h s p =
     subst (λ (l : ℕ). place < 2 ^ l) (one_tree x y p.levels levels e p.words h ∙ sym s) p.below
+
+-- where a word of the tree lies is a small number
+pub word_fits : (levels number : ℕ) → levels ≤ 6 → number < count_of_words levels → 8 * number ≤ 4584
+word_fits levels number most below =
+    let count : ℕ = count_of_words levels in let making : ℕ = making_index levels in
+    let lies : 8 * count ≡ making = making_is levels in let small : making ≤ 4584 = making_small levels most in
+    let h : number < count = below in omega arith
+
+-- and it is a word of the lock
+pub word_in_row : (lock : LockId) (levels number : ℕ) → HasTree lock levels → number < count_of_words levels
+    → 8 * number < lock.words
+word_in_row lock levels number h below =
+    subst (λ (n : ℕ). 8 * number < n) (sym h)
+    (let count : ℕ = count_of_words levels in let making : ℕ = making_index levels in let places : ℕ = 2 ^ levels in
+    let lies : 8 * count ≡ making = making_is levels in let less : number < count = below in omega arith)

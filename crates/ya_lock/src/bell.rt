@@ -3,7 +3,7 @@
 ghost use Rattle.std.specs.Prelude.{◌≡◌, ◌^◌, ◌<◌, ◌≤◌, true};
 ghost use Rattle.ya_core.specs.WalkerModel.{is_waiting};
 ghost use Rattle.ya_lock.specs.inside.Rule.{bell_index};
-ghost use Rattle.ya_lock.specs.inside.EntryProgress.{HasLooked};
+ghost use Rattle.ya_lock.specs.inside.EntryProgress.{HasLooked, HasStoredFor};
 ghost use Rattle.ya_lock.specs.inside.Lock.{SeatOnEntry};
 
 use crate::ghost_value::GhostValue;
@@ -15,14 +15,15 @@ use crate::tree_lock::TreeLock;
 use std::sync::Wait;
 use ya_core::Walker;
 
-/// How often a place that waits looks at its spin word before it sleeps: after the first 7 times it spins, each time twice
-/// as long, and then it yields.
-pub const PATIENCE: u32 = 37;
+/// How often a place that waits looks at its spin word before it sleeps. After each look it spins, twice as long each
+/// time up to 64 pauses. It never yields: beside other work a yield gives a whole time slice away, for which all others
+/// wait.
+pub const PATIENCE: u32 = 14;
 
 impl<V: Kept + Drop, const L: u32> TreeLock<V, L> {
     /// Where the bell of a place lies.
     #[inline(always)]
-    fn bell(place: usize) -> usize
+    pub(crate) fn bell(place: usize) -> usize
         requires levels { (1 ≤ L) × (L ≤ 6) }
         requires place { place < 2 ^ L }
         ensures { result ≡ bell_index L place }
@@ -75,11 +76,13 @@ impl<V: Kept + Drop, const L: u32> TreeLock<V, L> {
         walker
     }
 
-    /// Wakes a rival that sleeps, once its spin word was stored in.
+    /// Wakes a rival that sleeps. The process stands just behind its store in the rival's spin word: a bell that is
+    /// looked at earlier may be set after the look, and then nobody rings it.
     #[inline(always)]
     pub(crate) fn ring(&self, seat: &mut LockSeat<V>, rival: usize)
         requires lock { seat.old.table_id ≡ self.now }
         requires rival { rival < 2 ^ L }
+        requires stored { HasStoredFor L rival seat.old.me.0 }
         ensures lock { seat.new.table_id ≡ seat.old.table_id }
         ensures same { seat.new.me ≡ seat.old.me }
     {

@@ -16,6 +16,7 @@ pub struct Guard<V> {
     pub(crate) remote: u64,
     pub(crate) value: V,
     pub(crate) found: GhostValue<V>,
+    pub(crate) crowded: u32,
 }
 
 impl<V> Model for Guard<V> {

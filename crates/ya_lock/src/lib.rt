@@ -30,6 +30,7 @@
 #![tactic(auto)]
 
 mod bell;
+mod door;
 mod ghost_value;
 mod guard;
 mod kept;

@@ -77,6 +77,7 @@ impl<V: Kept + Drop, const L: u32> TreeLock<V, L> {
                 place,
                 remote: 0,
                 seen: seen.again(),
+                crowded: 0,
             });
         }
         shared.load::<HandOutLast>(&mut maker, 0);
@@ -85,6 +86,7 @@ impl<V: Kept + Drop, const L: u32> TreeLock<V, L> {
             place: last,
             remote: 0,
             seen,
+            crowded: 0,
         });
         passes
     }

@@ -13,6 +13,8 @@ pub struct Pass<V> {
     pub(crate) place: usize,
     pub(crate) remote: u64,
     pub(crate) seen: GhostValue<V>,
+    /// How many entries in a row have found somebody at the root.
+    pub(crate) crowded: u32,
 }
 
 impl<V> Model for Pass<V> {

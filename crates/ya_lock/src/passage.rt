@@ -142,10 +142,10 @@ impl<V: Kept + Drop, const L: u32> TreeLock<V, L> {
         progress
     }
 
-    /// Waits: loads the spin word of its process until the process may go on, and lets other threads go on between two
-    /// loads.
+    /// Waits: loads the spin word of its process until the process may go on. It spins between the first loads, and
+    /// then it sleeps between two.
     #[inline(never)]
-    fn spin<R: Wait>(
+    pub(crate) fn spin<R: Wait>(
         &self,
         rt: &R,
         seat: &mut LockSeat<V>,
@@ -174,7 +174,7 @@ impl<V: Kept + Drop, const L: u32> TreeLock<V, L> {
                     walker = self.sleep(rt, seat, place, walker, seen);
                 } else {
                     patience -= 1;
-                    backoff.snooze();
+                    backoff.spin();
                 }
             }
             if !waits(&walker) {
@@ -278,9 +278,9 @@ impl<V: Kept + Drop, const L: u32> TreeLock<V, L> {
     {
         loop {
             self.exit_step(seat, &mut walker, seen);
-            if let Process::Leaving(_, ExitPoint::X3(rival)) = walker.process() {
+            if let Process::Leaving(_, ExitPoint::X3(next)) = walker.process() {
                 self.exit_step(seat, &mut walker, seen);
-                self.ring(seat, rival);
+                self.ring(seat, next);
             }
             if let Process::Idle = walker.process() {
                 return walker.remote();
@@ -323,6 +323,8 @@ impl<V: Kept + Drop, const L: u32> TreeLock<V, L> {
         ensures levels { walker.new.levels ≡ L }
         ensures place { walker.new.place ≡ walker.old.place }
         ensures going { SeatOnExit seen.now.value walker.new seat.new.me }
+        ensures next { op_of walker.old ≢ Op.Idle → (found : ℕ)
+            × (walker.new.process ≡ next_of L walker.old.place walker.old.process found) }
         ensures onward { op_of walker.old ≢ Op.Idle → points_ahead walker.new < points_ahead walker.old }
         ensures ahead { points_ahead walker.new ≤ points_ahead walker.old }
         ensures least { walker.old.remote ≤ walker.new.remote }

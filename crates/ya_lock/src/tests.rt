@@ -293,6 +293,7 @@ fn come_slowly<R: Wait + Clock>(rt: &R, lock: &TreeLock<Marks, 1>, pass: Pass<Ma
         place,
         remote: _,
         seen,
+        crowded: _,
     } = pass;
     let mut walker = Walker::new(TreeLock::<Marks, 1>::shape(), place);
     walker.begin_entry();

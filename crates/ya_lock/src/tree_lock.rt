@@ -69,8 +69,10 @@ impl<V: Kept + Drop, const L: u32> TreeLock<V, L> {
             place,
             remote: _,
             seen,
+            crowded,
         } = pass;
         let shared = &self.table.shared;
+        let crowded = self.come_to_door(rt, place, crowded);
         let remote = self.acquire(rt, &mut seat, place, &seen);
         let Some(value) = shared.exchange(&mut seat, SLOT, None) else {
             unreachable!()
@@ -82,6 +84,7 @@ impl<V: Kept + Drop, const L: u32> TreeLock<V, L> {
             remote,
             value,
             found,
+            crowded,
         }
     }
 
@@ -100,6 +103,7 @@ impl<V: Kept + Drop, const L: u32> TreeLock<V, L> {
             remote,
             value,
             found: _,
+            crowded,
         } = guard;
         let seen = GhostValue::of(&value);
         let None = self.table.shared.exchange(&mut seat, SLOT, Some(value)) else {
@@ -115,6 +119,7 @@ impl<V: Kept + Drop, const L: u32> TreeLock<V, L> {
             place,
             remote,
             seen,
+            crowded,
         }
     }
 
@@ -132,6 +137,7 @@ impl<V: Kept + Drop, const L: u32> TreeLock<V, L> {
             remote,
             value,
             found,
+            crowded,
         } = guard;
         let Pass { seat: idle, .. } = pass;
         self.table.shared.join_seat::<JoinPass>(&mut seat, idle);
@@ -142,6 +148,7 @@ impl<V: Kept + Drop, const L: u32> TreeLock<V, L> {
             remote,
             value,
             found,
+            crowded,
         }
     }
 
@@ -157,6 +164,7 @@ impl<V: Kept + Drop, const L: u32> TreeLock<V, L> {
             remote: _,
             value,
             found: _,
+            crowded: _,
         } = guard;
         let mut closed = table.close_with(seat);
         let _empty = closed.take(SLOT);

@@ -1,10 +1,13 @@
 -- Where an entry has come to.
 use Rattle.std.specs.Prelude.{◌≡◌, ℕ, ◌⊎◌, false}
 use Rattle.ya_core.specs.declared.process.Process.{Process}
-use Rattle.ya_core.specs.declared.process.Process.TheVariants.{Idle, Entering, Inside}
-use Rattle.ya_core.specs.declared.process.EntryPoint.TheVariants.{E1, E8, E9, E10}
-use Rattle.ya_core.specs.Steps.{won}
+use Rattle.ya_core.specs.declared.process.Process.TheVariants.{Idle, Entering, Inside, Leaving}
+use Rattle.ya_core.specs.declared.process.EntryPoint.TheVariants.{E1, E7, E8, E9, E10}
+use Rattle.ya_core.specs.declared.process.ExitPoint.TheVariants.{X3}
+use Rattle.ya_core.specs.Steps.{won, next_of}
 use Rattle.ya_core.specs.WalkerModel.{Walk, walk}
+use Rattle.ya_lock.specs.declared.view.View.{View}
+use Rattle.ya_lock.specs.declared.view.View.TheVariants.{Seated}
 use Rattle.ya_lock.specs.declared.passage.EntryProgress.{EntryProgress}
 use Rattle.ya_lock.specs.declared.passage.EntryProgress.TheVariants as progress
 
@@ -32,3 +35,11 @@ HasPassed levels _ after = ⊥
 -- one look at its spin word: it still waits, or its wait is over
 abbrev pub HasLooked : ℕ → Process → Process → Type 0
 HasLooked levels before after = (after ≡ before) ⊎ HasPassed levels before after
+
+-- by its seat's view, the process stands where its store in the spin word of the rival leads: behind e7, or behind x3
+abbrev pub HasStoredFor : {V : Type 0} → ℕ → ℕ → View V → Type 0
+HasStoredFor levels rival (Seated place process seen count) =
+    (level found : ℕ)
+    × ((process ≡ next_of levels place (Entering level (E7 rival)) found)
+    ⊎ (process ≡ next_of levels place (Leaving level (X3 rival)) found))
+HasStoredFor levels rival _ = ⊥

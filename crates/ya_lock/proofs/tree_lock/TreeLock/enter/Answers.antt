@@ -4,6 +4,14 @@ use Rattle.ya_lock.proofs.TreeSize.{place_below}
 use Rattle.ya_lock.proofs.GuardSeats.{has_slot, guarded}
 use Rattle.ya_lock.proofs.tree_lock.TreeLock.enter.Goals as goal
 
+pub come_to_door-crowded-requires : goal.come_to_door-crowded-requires
+come_to_door-crowded-requires g c =
+    let same = ap (λ (q : IdlePass g.row.V.Denot). q.lock) c.pass.view_is ∙ c.requires in (
+      lit< tt,
+      place_below c.pass.inside.seat.table_id c.self.inside.table.shared.table_id c.pass.inside.place g.row.L g.row.L
+          (same ∙ sym c.self.view_is) c.self.invariant.words refl c.pass.invariant.in_tree,
+    )
+
 pub acquire-remote-requires : goal.acquire-remote-requires
 acquire-remote-requires g c =
     let same = ap (λ (q : IdlePass g.row.V.Denot). q.lock) c.pass.view_is ∙ c.requires in (

@@ -1,0 +1,59 @@
+//! The door: where the lock is crowded a place naps before its first access, so that who is awake goes in and out alone
+//! (Dice and Kogan, *Avoiding Scalability Collapse by Restricting Concurrency*, Euro-Par 2019). A nap is tuning, as a bell
+//! is: it ends by itself, so no wake can be lost, and no contract rests on it.
+ghost use Rattle.std.specs.Prelude.{◌^◌, ◌<◌, ◌≤◌};
+
+use crate::kept::Kept;
+use crate::rule::SPACING;
+use crate::tree_lock::TreeLock;
+use std::sync::Wait;
+use std::time::Duration;
+
+/// How many entries in a row find somebody at the root before one naps: places that enter now and then never do.
+const CROWDED: u32 = 4;
+
+/// A place's share of a turn, in microseconds. A nap lasts as long as the shares of all places.
+const SHARE: u64 = 100;
+
+impl<V: Kept + Drop, const L: u32> TreeLock<V, L> {
+    /// Naps once where somebody is at the root, as at so many entries before this one in a row. How many it has now been.
+    #[inline(always)]
+    pub(crate) fn come_to_door<R: Wait>(&self, rt: &R, place: usize, crowded: u32) -> u32
+        requires { place < 2 ^ L }
+    {
+        if !self.is_taken() {
+            return 0;
+        }
+        if crowded < CROWDED {
+            return crowded + 1;
+        }
+        self.nap(rt, place);
+        crowded
+    }
+
+    /// Whether some place competes at the root, or is inside. It is a guess: the words are looked at one after the other.
+    #[inline(always)]
+    fn is_taken(&self) -> bool {
+        self.is_taken_from(0) || self.is_taken_from(1)
+    }
+
+    /// Whether some place competes on that side of the root.
+    #[inline(always)]
+    fn is_taken_from(&self, side: usize) -> bool
+        requires { side < 2 }
+    {
+        let shared = &self.table.shared;
+        shared.peek(SPACING * Self::shape().c(L, 0, side)) != 0
+    }
+
+    /// Sleeps as long as all places have their share of a turn, or until a rival rings.
+    #[cold]
+    #[inline(never)]
+    fn nap<R: Wait>(&self, rt: &R, place: usize)
+        requires { place < 2 ^ L }
+    {
+        let shared = &self.table.shared;
+        let turn = Duration::from_micros(SHARE << L);
+        shared.park_timeout(rt, Self::bell(place), 0, turn);
+    }
+}
