@@ -85,7 +85,8 @@ fn made<V: Kept + Drop, const L: u32>(
 #[derive(Clone, Copy)]
 enum Hold {
     Nothing,
-    // It spins, longer each time and then shortly again: all others come to sleep, or almost do.
+    // It spins about as long as another place looks before it sleeps, a little more or less each time: some ring just when
+    // the other is about to sleep.
     Spins,
     // It sleeps, and so do all others.
     Sleeps,
@@ -96,7 +97,7 @@ impl Hold {
         match self {
             Hold::Nothing => {}
             Hold::Spins => {
-                for _ in 0..round.wrapping_mul(61) % 2048 {
+                for _ in 0..round.wrapping_mul(61) % 1024 {
                     hint::spin_loop();
                 }
             }
@@ -277,9 +278,9 @@ fn threads_that_sleep_are_woken(rt: HostRuntime) -> Result<(), Fail> {
 
 #[test]
 fn no_wake_is_lost(rt: HostRuntime) -> Result<(), Fail> {
-    assert!(rt; all_heights_are_counted(&rt, rt.alloc(), 2, 10_000, Hold::Spins)?);
-    assert!(rt; all_heights_are_counted(&rt, rt.alloc(), 8, 500, Hold::Spins)?);
-    assert!(rt; all_heights_are_counted(&rt, rt.alloc(), 64, 60, Hold::Spins)?);
+    assert!(rt; all_heights_are_counted(&rt, rt.alloc(), 2, 4_000, Hold::Spins)?);
+    assert!(rt; all_heights_are_counted(&rt, rt.alloc(), 8, 400, Hold::Spins)?);
+    assert!(rt; all_heights_are_counted(&rt, rt.alloc(), 64, 40, Hold::Spins)?);
     Ok(())
 }
 
@@ -333,19 +334,23 @@ fn time_of<R: Wait + Clock + CpuClock, const L: u32>(
     rt.thread_cpu_time().ok()?.checked_sub(before)
 }
 
-/// The processor time of a thread that waits for another which is inside for a fifth of a second.
-fn time_of_a_wait<R: Threads + Wait + Clock + CpuClock + Sync>(
+/// The processor time of the last place, which waits at the root for the first one. That is inside for a fifth of a
+/// second.
+fn time_of_a_wait<R: Threads + Wait + Clock + CpuClock + Sync, const L: u32>(
     rt: &R,
     alloc: Global,
-) -> Result<Duration, Fail> {
-    let (lock, mut passes) = made::<Marks, 1>(alloc, Marks::new(alloc))?;
-    let second = passes.pop().ok_or("a second pass")?;
+) -> Result<Duration, Fail>
+    requires { (1 ≤ L) × (L ≤ 6) }
+{
+    let (lock, mut passes) = made::<Marks, L>(alloc, Marks::new(alloc))?;
+    let last = passes.pop().ok_or("a last pass")?;
+    passes.truncate(1);
     let first = passes.pop().ok_or("a first pass")?;
     let shared = &lock;
     let ((), time) = thread::join(
         rt,
         move || stay(rt, shared, first),
-        move || time_of(rt, shared, second),
+        move || time_of(rt, shared, last),
     );
     Ok(time.ok_or("a clock")?)
 }
@@ -375,7 +380,10 @@ fn a_place_that_sleeps_is_woken_by_a_rival_that_came_later(rt: HostRuntime) -> R
 
 #[test]
 fn a_thread_that_waits_leaves_the_processor_to_others(rt: HostRuntime) -> Result<(), Fail> {
-    assert!(rt; time_of_a_wait(&rt, rt.alloc())? < Duration::from_millis(50));
+    assert!(rt; time_of_a_wait::<_, 1>(&rt, rt.alloc())? < Duration::from_millis(50));
+    assert!(rt; time_of_a_wait::<_, 2>(&rt, rt.alloc())? < Duration::from_millis(50));
+    assert!(rt; time_of_a_wait::<_, 3>(&rt, rt.alloc())? < Duration::from_millis(50));
+    assert!(rt; time_of_a_wait::<_, 6>(&rt, rt.alloc())? < Duration::from_millis(50));
     Ok(())
 }
 
