@@ -53,7 +53,7 @@ impl<V: Kept + Drop, const L: u32> TreeLock<V, L> {
         requires { place < 2 ^ L }
     {
         let shared = &self.table.shared;
-        let turn = Duration::from_micros(SHARE << L);
-        shared.park_timeout(rt, Self::bell(place), 0, turn);
+        let share_of_all = Duration::from_micros(SHARE << L);
+        shared.park_timeout(rt, Self::bell(place), 0, share_of_all);
     }
 }
