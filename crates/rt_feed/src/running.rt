@@ -38,7 +38,6 @@ pub fn run_feed<R: Wait, G: Gate>(
     let mut run = FeedRun::new(alloc, version);
     let mut rest = lines;
     let mut number = version.first_line() - 1;
-    let _bytes = text.len();
     while let Some((line, next)) = next_line(rest) {
         number += 1;
         run.read(rt, number, line, batch, gate)?;
