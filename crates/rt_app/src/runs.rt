@@ -1,5 +1,5 @@
 //! A run: feed texts in, their reports and the table out.
-ghost use Rattle.std.specs.Prelude.{◌≡◌, ◌≢◌, ◌↔◌, ℕ, List, ◌+◌, ◌≤◌, ◌++◌, [], map, length, vec_len, vec_capacity, All, Some, None, IfOk, IsSome};
+ghost use Rattle.std.specs.Prelude.{◌≡◌, ◌≢◌, ◌↔◌, ◌⊎◌, ℕ, List, ◌+◌, ◌*◌, ◌^◌, ◌<◌, ◌≤◌, ◌++◌, [], map, length, vec_len, vec_capacity, All, Some, None, IfOk, IsSome};
 ghost use Rattle.rt_rib.specs.declared.limits.TheConstants.{MOST_FEEDS};
 ghost use Rattle.rt_rib.specs.Book.{IsLimit};
 ghost use Rattle.std.specs.List.{list_any};
@@ -12,7 +12,7 @@ use crate::faults::AppFault;
 use crate::output::{Output, write_output};
 use crate::tallies::REFUSED;
 use rt_feed::{Feed, Report, RunFault, TableGate, run_feeds};
-use rt_rib::{Book, MOST_FEEDS};
+use rt_rib::{Book, MOST_FEEDS, Refused};
 use rt_shared::{FeedPass, SharedRib};
 use std::alloc::{AllocError, Global};
 use std::io::Write;
@@ -20,11 +20,8 @@ use std::mem::ManuallyDrop;
 use std::sync::Wait;
 use std::thread::Threads;
 
-/// The most texts that a run takes: as many as the lock has places.
+/// The most texts that a run takes: as many as the highest lock has places.
 pub const MOST_TEXTS: usize = MOST_FEEDS;
-
-/// The levels of the lock's tree.
-const LEVELS: u32 = 6;
 
 /// The status where some line was faulty.
 const FAULTY: u8 = 2;
@@ -80,16 +77,38 @@ pub(crate) fn run_all<R: Threads + Wait + Sync>(
     ensures refused { result ≢ Err RunFault.FeedCount }
     ensures no_text { (result ≡ Err RunFault.NoText) ↔ (texts.now ≡ []) }
 {
-    if texts.is_empty() {
-        return Err(RunFault::NoText);
+    let ran = match texts.len() {
+        0 => return Err(RunFault::NoText),
+        1..=2 => run_in_tree::<_, 1>(rt, alloc, texts, limit, batch),
+        3..=4 => run_in_tree::<_, 2>(rt, alloc, texts, limit, batch),
+        5..=8 => run_in_tree::<_, 3>(rt, alloc, texts, limit, batch),
+        9..=16 => run_in_tree::<_, 4>(rt, alloc, texts, limit, batch),
+        17..=32 => run_in_tree::<_, 5>(rt, alloc, texts, limit, batch),
+        _ => run_in_tree::<_, 6>(rt, alloc, texts, limit, batch),
+    };
+    match ran {
+        Ok(ran) => Ok(ran),
+        Err(Refused) => Err(RunFault::Memory),
     }
-    let Ok((table, passes)) = SharedRib::<LEVELS>::new(alloc, limit) else {
-        return Err(RunFault::Memory);
-    };
-    let Ok(ended) = run_passes(rt, alloc, &table, passes, texts, batch) else {
-        return Err(RunFault::Memory);
-    };
-    let Ended { passes, reports } = ended;
+}
+
+/// Runs the texts over one table behind a lock of L levels: as few as have a place for each text.
+fn run_in_tree<R: Threads + Wait + Sync, const L: u32>(
+    rt: &R,
+    alloc: Global,
+    texts: &[Vec<u8>],
+    limit: u32,
+    batch: usize,
+) -> Result<Ran, Refused>
+    requires levels { (1 ≤ L) × (L ≤ 6) }
+    requires placed { length texts.now ≤ 2 ^ L }
+    requires fewest { (L ≡ 1) ⊎ (2 ^ L < 2 * length texts.now) }
+    requires limited { IsLimit limit }
+    requires batched { 1 ≤ batch }
+    ensures { IfOk result (λ ran. RunOverBook (map (λ text. text.items) texts.now) limit batch ran.reports.items ran.book) }
+{
+    let (table, passes) = SharedRib::<L>::new(alloc, limit)?;
+    let Ended { passes, reports } = run_passes(rt, alloc, &table, passes, texts, batch)?;
     let book = table.settle(rt, passes);
     Ok(Ran { reports, book })
 }
@@ -102,10 +121,10 @@ struct Ended {
 }
 
 /// Runs the texts, the k-th by the k-th of the table's passes, and gives all its passes back.
-fn run_passes<R: Threads + Wait + Sync>(
+fn run_passes<R: Threads + Wait + Sync, const L: u32>(
     rt: &R,
     alloc: Global,
-    table: &SharedRib<LEVELS>,
+    table: &SharedRib<L>,
     passes: Vec<FeedPass>,
     texts: &[Vec<u8>],
     batch: usize,
@@ -133,11 +152,11 @@ fn run_passes<R: Threads + Wait + Sync>(
 }
 
 /// A gate to the table for each pass.
-fn open_gates<'a>(
+fn open_gates<'a, const L: u32>(
     alloc: Global,
-    table: &'a SharedRib<LEVELS>,
+    table: &'a SharedRib<L>,
     passes: Vec<FeedPass>,
-) -> Result<Vec<Feed<TableGate<'a, LEVELS>>>, AllocError>
+) -> Result<Vec<Feed<TableGate<'a, L>>>, AllocError>
     requires { All (λ p. p.table ≡ table.now) passes.items }
     ensures { IfOk result (λ feeds. feeds.items ≡ map (λ p. record { gate = p; report = None }) passes.items) }
 {
@@ -152,8 +171,8 @@ fn open_gates<'a>(
 }
 
 /// Takes the feeds, which have all been run, apart into their passes and their reports.
-fn close_gates(
-    feeds: Vec<Feed<TableGate<'_, LEVELS>>>,
+fn close_gates<const L: u32>(
+    feeds: Vec<Feed<TableGate<'_, L>>>,
     passes: &mut Vec<FeedPass>,
     reports: &mut Vec<Report>,
 )

@@ -123,7 +123,8 @@ fn put_table(alloc: Global, feeds: u32, output: &mut String) -> Result<(), Alloc
 
 #[test]
 fn a_place_for_each_of_64_feeds(rt: HostRuntime) -> Result<(), Fail> {
-    for feeds in [16, 17, 64] {
+    // The least and the greatest number of feeds of each height of the lock's tree.
+    for feeds in [1, 2, 3, 4, 5, 8, 9, 16, 17, 32, 33, 64] {
         let texts = meeting(rt.alloc(), feeds)?;
         let output = met(rt.alloc(), feeds)?;
         compare(

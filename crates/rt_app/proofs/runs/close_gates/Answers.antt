@@ -6,7 +6,7 @@ use Rattle.rt_app.proofs.Pushing.{map_more}
 use Rattle.rt_app.proofs.runs.close_gates.Goals as goal
 
 pub loop-feed-preserved : goal.loop-feed-preserved
-loop-feed-preserved c =
+loop-feed-preserved g c =
     let now = c.loop-feed in
     let report = c.in-Some-report.report in
     record {

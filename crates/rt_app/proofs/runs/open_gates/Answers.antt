@@ -5,7 +5,7 @@ use Rattle.rt_app.proofs.Pushing.{map_more}
 use Rattle.rt_app.proofs.runs.open_gates.Goals as goal
 
 pub loop-pass-preserved : goal.loop-pass-preserved
-loop-pass-preserved c =
+loop-pass-preserved g c =
     let feed_of : HeldPass → Feed HeldPass = λ p. record { gate = p; report = None } in
     record {
       opened = map_more feed_of c.loop-pass.feeds.items _ c.loop-pass.yielded c.in-Some.pass _ c.loop-pass.invariant.opened c.push_reserved.ensures.items (ap feed_of c.new.ensures);

@@ -3,7 +3,7 @@ use Rattle.rt_app.proofs.runs.open_gates.Given as goal
 
 -- a feed for each pass so far, and room for the others
 abbrev pub invariant-loop-pass : goal.invariant-loop-pass
-invariant-loop-pass l = record {
+invariant-loop-pass g l = record {
   opened : l.feeds.items ≡ map (λ p. record { gate = p; report = None }) l.yielded;
   room : vec_len l.fn.passes ≤ vec_capacity l.feeds;
 }
