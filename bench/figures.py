@@ -1,7 +1,8 @@
 """Where the benches keep what they measured: `bench/figures/NAME.json` has the machine, the day, and a row for each case.
 
 A bench that is called with `--store` writes its file there. `docs/figures` makes the tables of docs/PERFORMANCE.md out of these
-files, and `docs/pictures/draw_figures.py` the pictures."""
+files, and `docs/pictures/draw_figures.py` the pictures. It measures in the ordinary scheduling class, and doesn't begin to measure
+for a file while the machine has other work: half a processor's or more."""
 import datetime
 import json
 import os
@@ -9,13 +10,29 @@ import pathlib
 import platform
 import re
 import sys
+import time
 
 FOLDER = pathlib.Path(__file__).resolve().parent / "figures"
 
 
 def words():
-    """The words of the command line but `--store`."""
+    """The words of the command line but `--store`, with which the machine has to be quiet."""
+    if "--store" in sys.argv and (others := working_processors()) > 0.5:
+        sys.exit(f"{sys.argv[0]}: {others:.1f} processors work for others; figures are kept of a quiet machine alone")
     return [word for word in sys.argv[1:] if word != "--store"]
+
+
+def working_processors():
+    """How many processors' time the machine's work takes, by the kernel's counts over a second."""
+    before = working_seconds()
+    time.sleep(1)
+    return working_seconds() - before
+
+
+def working_seconds():
+    """The processor time since the start of the machine that was not idle, in seconds."""
+    user, nice, system, _idle, _waiting, *rest = pathlib.Path("/proc/stat").read_text().split("\n")[0].split()[1:9]
+    return sum(int(part) for part in (user, nice, system, *rest)) / os.sysconf("SC_CLK_TCK")
 
 
 def machine():

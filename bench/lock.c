@@ -1,10 +1,10 @@
-// The lock's algorithm in plain C: the same words, steps and order, each access sequentially consistent, the same backing off
-// between two loads of a spin word, and the same bells, by which places sleep that wait for long. Its arguments are the passages in all, the levels and the threads; it times
-// them as the lock's benchmark does, in one line on standard error.
+// The lock's algorithm in plain C: the same words, steps and order, each access sequentially consistent, the same spinning
+// between two loads of a spin word, the same bells, by which places sleep that wait for long, and the same naps at the door.
+// Its arguments are the passages in all, the levels and the threads; it times them as the lock's benchmark does, in one line on
+// standard error.
 #define _GNU_SOURCE
 #include <linux/futex.h>
 #include <pthread.h>
-#include <sched.h>
 #include <stdatomic.h>
 #include <stdint.h>
 #include <stdio.h>
@@ -17,7 +17,13 @@
 #define SPACING 8
 #endif
 #ifndef PATIENCE
-#define PATIENCE 37
+#define PATIENCE 14
+#endif
+#ifndef CROWDED
+#define CROWDED 4
+#endif
+#ifndef SHARE
+#define SHARE 100 // microseconds
 #endif
 
 typedef _Atomic uint64_t word;
@@ -42,13 +48,9 @@ static word *p_word(struct tree *t, int h, uint64_t place) { return at(t, 3 * (t
 // A place's bell lies behind the tree and the making word of the lock, which this one has no use for.
 static word *bell_word(struct tree *t, uint64_t place) { return at(t, 3 * (t->places - 1) + t->levels * t->places + 1 + place); }
 
-// As crossbeam's Backoff: it spins for a while, twice as long each time, and then yields.
-static void snooze(unsigned step) {
-    if (step <= 6) {
-        for (unsigned i = 0; i < 1u << step; i++) __builtin_ia32_pause();
-    } else {
-        sched_yield();
-    }
+// As crossbeam's Backoff spins: twice as long each time, up to 64 pauses.
+static void back_off(unsigned step) {
+    for (unsigned i = 0; i < 1u << (step < 6 ? step : 6); i++) __builtin_ia32_pause();
 }
 
 // Waits until the spin word is at least so much: for a while by looking again and again, and then asleep.
@@ -56,7 +58,7 @@ static void wait_for(struct tree *t, uint64_t place, word *spin, uint64_t least)
     word *bell = bell_word(t, place);
     for (unsigned step = 0; atomic_load(spin) < least; step++) {
         if (step < PATIENCE) {
-            snooze(step);
+            back_off(step);
             continue;
         }
         atomic_store(bell, 1);
@@ -105,6 +107,20 @@ static void leave_level(struct tree *t, int h, uint64_t p) {
     }
 }
 
+static int is_taken(struct tree *t) {
+    return atomic_load(c_word(t, t->levels, 0, 0)) != 0 || atomic_load(c_word(t, t->levels, 0, 1)) != 0;
+}
+
+// Naps where somebody is at the root, as at so many entries before this one in a row. How many it has now been.
+static unsigned come_to_door(struct tree *t, uint64_t place, unsigned crowded) {
+    if (!is_taken(t)) return 0;
+    if (crowded < CROWDED) return crowded + 1;
+    uint64_t nap = SHARE * 1000ull << t->levels;
+    struct timespec time = {nap / 1000000000, nap % 1000000000};
+    syscall(SYS_futex, bell_word(t, place), FUTEX_WAIT_PRIVATE, 0, &time, 0, 0);
+    return crowded;
+}
+
 struct job {
     struct tree *tree;
     uint64_t place, times;
@@ -113,7 +129,9 @@ struct job {
 static void *run(void *arg) {
     struct job *j = arg;
     struct tree *t = j->tree;
+    unsigned crowded = 0;
     for (uint64_t i = 0; i < j->times; i++) {
+        crowded = come_to_door(t, j->place, crowded);
         for (int h = 1; h <= t->levels; h++) enter_level(t, h, j->place);
         t->count++;
         for (int h = t->levels; h >= 1; h--) leave_level(t, h, j->place);

@@ -18,7 +18,7 @@ import figures
 ROOT = pathlib.Path(__file__).resolve().parent.parent
 CRATE = ROOT / "crates" / "lock_bench"
 ALONE = [(levels, 1) for levels in range(1, 7)]
-TOGETHER = [(6, threads) for threads in (2, 4, 16, 64)]
+TOGETHER = [(1, 2), *((levels, threads) for levels in range(2, 7) for threads in (2, 4)), (6, 16), (6, 64)]
 
 
 def build(folder):
