@@ -6,12 +6,10 @@ mod telling;
 ghost use Rattle.std.specs.Prelude.{◌≡◌, ◌≤◌, length, vec_len, IfOk};
 ghost use Rattle.rt_rib.specs.declared.limits.TheConstants.{MOST_FEEDS};
 
-use crate::command_line::{self, Refusal, ReplayRequest, Request, RunRequest};
-use crate::faults::AppFault;
-use crate::replays::replay_text;
-use crate::runs::{MOST_TEXTS, run_texts};
+use command_line::{Refusal, ReplayRequest, Request, RunRequest};
 use rt_cidr::put;
 use rt_feed::RunFault;
+use rt_run::{AppFault, MOST_TEXTS, replay_text, run_texts};
 use showing::{show_answers, show_routes};
 use std::alloc::{AllocError, AllocFailed, Global};
 use std::fs;

@@ -2,11 +2,10 @@
 
 use super::telling::{FaultyLines, tell_faulty, tell_tally};
 use super::{Stop, read_feeds, read_file};
-use crate::command_line::{LookupRequest, TableRequest};
-use crate::shown::{lookup_texts, table_texts};
-use crate::tallies::{NOT_TAKEN, Taken};
+use command_line::{LookupRequest, TableRequest};
 use rt_cidr::Addr;
 use rt_feed::{next_line, parse_address_line};
+use rt_run::{NOT_TAKEN, Taken, lookup_texts, table_texts};
 use std::alloc::{AllocError, Global};
 use std::io::Write;
 use std::rt::Files;

@@ -1,7 +1,7 @@
 //! What of a file was not taken, for standard error: one line a kind. A fault of standard error itself is dropped.
 
-use crate::tallies::Tally;
 use rt_feed::{Answer, LineFault};
+use rt_run::Tally;
 use std::io::Write;
 
 /// The faulty lines of a file.

@@ -1,9 +1,8 @@
 //! Each fault has its status and its text. The other ways to stop are rows of the calls.
-use crate::faults::AppFault;
 use crate::program::Stop;
 use crate::program::telling::tell_tally;
-use crate::tallies::Tally;
 use rt_feed::{Answer, Line, LineFault, RunFault};
+use rt_run::{AppFault, Tally};
 use ya_core::ReplayFault;
 
 static FAULTS: [(AppFault, u8, &str); 7] = [

@@ -1,0 +1,59 @@
+-- A text that goes to a writer through a new buffer: what stands in the writer after each fault.
+use Rattle.std.proofs.Common.{◌≡◌, ◌==◌, ℕ, ◌<◌, true, false, List, [], ◌∷◌, ◌++◌, length, Option, refl, arith, length-append, eqb-true}
+use Rattle.std.specs.List.{flat_map}
+use Rattle.std.specs.Io.KnownBytes.{Appends, Keeps}
+use Rattle.std.proofs.KnownBytes.{Appends-kept}
+use Rattle.rt_cidr.specs.Output.{AppendsBeginning, buffered}
+use Rattle.rt_cidr.proofs.Promised.{stops, stops_held}
+use Rattle.rt_cidr.specs.declared.address.Addr.{Addr}
+use Rattle.rt_rib.specs.declared.routes.Route.{Route}
+use Rattle.rt_rib.specs.LookUp.{look_up}
+use Rattle.rt_feed.specs.Printed.{table_text, rows_text, count_text, row_text, found_text}
+use Rattle.rt_run.specs.TableText.{answers_text}
+
+module _ (name name' : ℕ) (a began below b c d : Option (List ℕ)) (held held' text : List ℕ) (is_began : began ≡ a) (is_below : below ≡ a) (none : held ≡ []) where
+  -- the fault came before all was put into the buffer
+  pub stops_within : AppendsBeginning (buffered name began below held) (buffered name' b c held') text → (name ≡ name' → d ≡ c) → AppendsBeginning a d text
+  stops_within begun same = stops name name' a b c d held' text same (rw (is_began, is_below, none) at begun)
+
+  -- or when the rest was written
+  pub stops_at_the_end : (middle : Option (List ℕ)) → Appends (buffered name began below held) middle text → Keeps middle (buffered name' b c held') → 0 < length held' → 0 < length text
+      → (name ≡ name' → d ≡ c) → AppendsBeginning a d text
+  stops_at_the_end middle put kept some given same =
+      stops_held name name' a b c d held' text same
+      (rw (is_began, is_below, none) at (Appends-kept (buffered name began below held) middle (buffered name' b c held') text put kept)) some given
+
+-- no run's text is empty
+pub run_text-some : (reports : List ℕ) (routes : List Route) → 0 < length (reports ++ table_text routes)
+unfolding count_text
+run_text-some reports routes = simp length-append (omega arith)
+
+-- the texts of some things are empty where there is none of them, as none of the texts is
+module _ {X : Type 0} (text : X → List ℕ) (some : (x : X) → 0 < length (text x)) where
+  texts-none : (xs : List X) → (length xs == 0) ≡ true → flat_map text xs ≡ []
+  texts-none [] h = refl
+  texts-none (x ∷ xs) h = absurd (omega (arith, eqb-true (length (x ∷ xs)) 0 h))
+
+  texts-some : (xs : List X) → (length xs == 0) ≡ false → 0 < length (flat_map text xs)
+  texts-some [] h = absurd cc
+  texts-some (x ∷ xs) h = let first = some x in simp length-append (omega arith)
+
+row-some : (route : Route) → 0 < length (row_text route)
+unfolding row_text
+row-some route = simp length-append (omega arith)
+
+found-some : (addr : Addr) (found : Option Route) → 0 < length (found_text addr found)
+unfolding found_text
+found-some addr found = simp length-append (omega arith)
+
+pub rows-none : (routes : List Route) → (length routes == 0) ≡ true → rows_text routes ≡ []
+rows-none = texts-none row_text row-some
+
+pub rows-some : (routes : List Route) → (length routes == 0) ≡ false → 0 < length (rows_text routes)
+rows-some = texts-some row_text row-some
+
+pub answers-none : (addresses : List Addr) (table : List Route) → (length addresses == 0) ≡ true → answers_text addresses table ≡ []
+answers-none addresses table = texts-none (λ addr. found_text addr (look_up addr table)) (λ addr. found-some addr (look_up addr table)) addresses
+
+pub answers-some : (addresses : List Addr) (table : List Route) → (length addresses == 0) ≡ false → 0 < length (answers_text addresses table)
+answers-some addresses table = texts-some (λ addr. found_text addr (look_up addr table)) (λ addr. found-some addr (look_up addr table)) addresses

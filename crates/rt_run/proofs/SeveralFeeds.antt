@@ -1,0 +1,289 @@
+-- Several feeds over one table: their reports and the journal that the table settles to explain one another.
+use Rattle.std.proofs.Common.{◌≡◌, ◌≢◌, ℕ, zero, suc, ◌+◌, ◌-◌, ◌<◌, ◌≤◌, ◌⊎◌, inl, inr, Option, Some, None, List, [], ◌∷◌, ◌++◌, All, length, map, take, drop, get_or, refl, sym, ap, subst, ◌∙◌, arith, append-nil, length-append, length-drop}
+use Rattle.std.specs.Prelude.{MatchOption}
+use Rattle.std.specs.List.{list_any}
+use Rattle.std.proofs.lemmas.List.{get_or-map, get_or-drop, get_or-append_right, get_or_append_left, length-map, length-take-le, get_or-take, get_or_default, drop_all, take_all}
+use Rattle.std.proofs.lemmas.List.Elements.{All-nil}
+use Rattle.std.proofs.lemmas.Option.{slice_get-get_or, slice_get_within, same_Some}
+use Rattle.rt_rib.specs.declared.commands.Entry.{Entry}
+use Rattle.rt_rib.specs.Book.{BookContents, table_of}
+use Rattle.rt_shared.specs.Table.{SharedId, HeldPass, ArePassesOf, Settles}
+use Rattle.rt_shared.specs.Visits.{Since, Uncut}
+use Rattle.rt_feed.specs.declared.report.Line.{Line}
+use Rattle.rt_feed.specs.declared.feeds.Feed.{Feed}
+use Rattle.rt_feed.specs.Reports.{has_refusal, has_fault}
+use Rattle.rt_feed.specs.LineOutcomes.{LineOutcome, report_lines, some_refused, some_faulty}
+use Rattle.rt_feed.specs.Visits.{Visit, visit_of, entries}
+use Rattle.rt_feed.specs.FeedRuns.{RunsFeed, StopsWithin}
+use Rattle.rt_feed.specs.Feeds.{RunsOne}
+use Rattle.rt_feed.specs.Printed.{table_text}
+use Rattle.rt_feed.proofs.Promised.{has_refusal-report_lines, has_fault-report_lines}
+use Rattle.rt_shared.proofs.Promised.{uncut_since}
+use Rattle.rt_run.specs.RunText.{Explains, ExplainsFrom, reports_text, IsRunText, outcomes_status}
+use Rattle.rt_run.specs.inside.RunResults.{RunOverBook, reports_status}
+
+-- what a gate to the table holds, and its name
+abbrev pub holds : HeldPass → List Visit → Type 0
+holds gate visits = Uncut gate.feed (map (entries gate.feed) visits) gate.seen
+
+abbrev pub name : HeldPass → SharedId × ℕ
+name gate = (gate.table, gate.feed)
+
+-- a feed's report and its text, which the journal explains
+record IsExplained (batch feed : ℕ) (journal : List Entry) (text : List ℕ) (report : List Line) : Type 0 where
+  lines : List LineOutcome
+  explains : Explains batch feed journal text lines
+  reported : report ≡ report_lines 1 lines
+
+map-both : {A B C : Type 0} (g : B → C) (f : A → B) (xs : List A) → map g (map f xs) ≡ map (λ x. g (f x)) xs
+map-both g f [] = refl
+map-both g f (x ∷ xs) = ap (λ ys. g (f x) ∷ ys) (map-both g f xs)
+
+-- what a feed ran through the gate of a fresh pass is explained by the settled journal
+explained : (batch feed : ℕ) (journal : List Entry) (text : List ℕ) (old new : HeldPass) (report : List Line) → RunsFeed holds batch text old new report → old.seen ≡ [] → new.feed ≡ feed
+    → Since feed new.seen journal → IsExplained batch feed journal text report
+explained batch feed journal text old new report runs fresh same since =
+    let pieces = runs.asks.pieces in
+    let none : holds old [] = subst (λ (seen : List Entry). Uncut old.feed [] seen) (sym fresh) (All-nil _) in
+    let held : Uncut new.feed (map (entries new.feed) (map visit_of pieces)) new.seen = runs.asks.gained [] none in
+    let mine : Uncut feed (map (entries feed) (map visit_of pieces)) new.seen = subst (λ (n : ℕ). Uncut n (map (entries n) (map visit_of pieces)) new.seen) same held in
+    record {
+      lines = runs.outcomes;
+      explains = record {
+        becomes = runs.asks.becomes;
+        pieces = pieces;
+        cut = runs.asks.cut;
+        uncut = subst (λ (visits : List (List Entry)). Uncut feed visits journal) (map-both (entries feed) visit_of pieces) (uncut_since feed _ new.seen journal mine since);
+      };
+      reported = runs.reported;
+    }
+
+-- one feed after another
+record AreExplained (batch feed : ℕ) (journal : List Entry) (texts : List (List ℕ)) (reports : List (List Line)) : Type 0 where
+  outcomes : List (List LineOutcome)
+  explained : ExplainsFrom batch feed journal texts outcomes
+  reported : reports ≡ map (report_lines 1) outcomes
+
+all_explained : {V : Type 0} (items : V → List ℕ) (batch feed : ℕ) (journal : List Entry) (texts : List V) (reports : List (List Line)) → length reports ≡ length texts
+    → ((i m : ℕ) (t : V) (r : List Line) → i < length texts → m ≡ feed + i → IsExplained batch m journal (items (get_or texts i t)) (get_or reports i r))
+    → AreExplained batch feed journal (map items texts) reports
+all_explained items batch feed journal [] [] same each = record { outcomes = []; explained = tt; reported = refl }
+all_explained items batch feed journal [] (report ∷ reports) same each = absurd (omega (arith, same))
+all_explained items batch feed journal (text ∷ texts) [] same each = absurd (omega (arith, same))
+all_explained items batch feed journal (text ∷ texts) (report ∷ reports) same each =
+    let head = each 0 feed text report (omega arith) (omega arith) in
+    let rest = all_explained items batch (feed + 1) journal texts reports (omega (arith, same)) (λ i m t r here is. each (suc i) m t r (omega (arith, here)) (omega (arith, is))) in
+    record {
+      outcomes = head.lines ∷ rest.outcomes;
+      explained = (head.explains, rest.explained);
+      reported = ap (λ (r : List Line). r ∷ reports) head.reported ∙ ap (λ rs. report_lines 1 head.lines ∷ rs) rest.reported;
+    }
+
+-- one number is at most another, or the other is below it
+le_or_lt : (m n : ℕ) → (m ≤ n) ⊎ (n < m)
+le_or_lt zero n = inl (omega arith)
+le_or_lt (suc m) zero = inr (omega arith)
+le_or_lt (suc m) (suc n) = elim (le_or_lt m n) [ inl le ↦ inl (omega (arith, le)) | inr lt ↦ inr (omega (arith, lt)) ]
+
+-- what is needed of the places in lists; here a tactic sees nothing else
+below_more : (i m n : ℕ) → i < m → m ≤ n → i < n
+below_more i m n here more = omega (arith, here, more)
+
+with_rest : (m n : ℕ) → m ≤ n → m + (n - m) ≡ n
+with_rest m n within = omega (arith, within)
+
+before_next : (n : ℕ) → 1 ≤ n → (n - 1) + 1 ≡ n
+before_next n positive = omega (arith, positive)
+
+before_below : (n m : ℕ) → 1 ≤ n → n ≤ m → n - 1 < m
+before_below n m positive within = omega (arith, positive, within)
+
+before_past : (m n : ℕ) → m < n → m ≤ n - 1
+before_past m n past = omega (arith, past)
+
+one_more : (i : ℕ) → 1 + i ≡ i + 1
+one_more i = omega arith
+
+as_below : (i m n : ℕ) → n ≡ m → i < m → i < n
+as_below i m n same here = subst (λ (k : ℕ). i < k) (sym same) here
+
+-- where there is a place there is a text
+some_text : {V : Type 0} (texts : List V) (i : ℕ) → i < length texts → V
+some_text [] i here = absurd (omega (arith, here))
+some_text (text ∷ texts) i here = text
+
+-- the passes of a table, of which the first are in gates to it: their gates, before and after a run of as many texts
+module _ {V : Type 0} (items : V → List ℕ) (texts : List V) (table : SharedId) (batch : ℕ) (passes : List HeldPass) (dealt : ArePassesOf table passes)
+    (fresh : All (λ (p : HeldPass). p.seen ≡ []) passes) (few : length texts ≤ length passes) (feeds feeds' : List (Feed HeldPass))
+    (opened : feeds ≡ map (λ p. record { gate = p; report = None }) (take (length texts) passes)) (as_many : length feeds' ≡ length feeds)
+    (ran : (i : ℕ) (t : V) (d : Feed HeldPass) → i < length texts → RunsOne name holds batch (items (get_or texts i t)) (get_or feeds i d).gate (get_or feeds' i d).gate (get_or feeds' i d).report) where
+  -- a pass and a feed that stand in no list
+  no_pass : HeldPass
+  no_pass = record { table = table; feed = 0; seen = [] }
+
+  no_feed : Feed HeldPass
+  no_feed = record { gate = record { table = table; feed = 0; seen = [] }; report = None }
+
+  open_feed : HeldPass → Feed HeldPass
+  open_feed p = record { gate = p; report = None }
+
+  n_feeds : length feeds' ≡ length texts
+  n_feeds = as_many ∙ (ap length opened ∙ (length-map (take (length texts) passes) (λ p. record { gate = p; report = None }) ∙ length-take-le (length texts) passes few))
+
+  -- the gate of a feed before the run is its pass
+  gate_before : (i : ℕ) → i < length texts → (get_or feeds i no_feed).gate ≡ get_or passes i no_pass
+  unfolding no_pass no_feed open_feed
+  gate_before i here =
+      let within : i < length (take (length texts) passes) = as_below i _ _ (length-take-le (length texts) passes few) here in
+      ap (λ (fs : List (Feed HeldPass)). (get_or fs i no_feed).gate) opened
+      ∙ (ap (λ (f : Feed HeldPass). f.gate) (get_or-map open_feed (take (length texts) passes) i no_pass no_feed within) ∙ get_or-take (length texts) passes i no_pass here)
+
+  -- the passes as they come back: those of the gates, and those that were idle
+  back : List HeldPass
+  back = map (λ (f : Feed HeldPass). f.gate) feeds' ++ drop (length texts) passes
+
+  n_gates : length (map (λ (f : Feed HeldPass). f.gate) feeds') ≡ length texts
+  n_gates = length-map feeds' (λ (f : Feed HeldPass). f.gate) ∙ n_feeds
+
+  n_back : length back ≡ length passes
+  unfolding back
+  n_back =
+      length-append (map (λ (f : Feed HeldPass). f.gate) feeds') (drop (length texts) passes)
+      ∙ (ap (λ (n : ℕ). n + length (drop (length texts) passes)) n_gates
+      ∙ (ap (λ (n : ℕ). length texts + n) (length-drop (length texts) passes) ∙ with_rest (length texts) (length passes) few))
+
+  -- the first come back from the gates
+  ran_back : (i : ℕ) → i < length texts → get_or back i no_pass ≡ (get_or feeds' i no_feed).gate
+  unfolding back no_pass no_feed
+  ran_back i here =
+      get_or_append_left (map (λ (f : Feed HeldPass). f.gate) feeds') (drop (length texts) passes) no_pass i (as_below i _ _ n_gates here)
+      ∙ get_or-map (λ (f : Feed HeldPass). f.gate) feeds' i no_feed no_pass (as_below i _ _ n_feeds here)
+
+  -- and the others as they were
+  idle_back : (i : ℕ) → length texts ≤ i → get_or back i no_pass ≡ get_or passes i no_pass
+  unfolding back
+  idle_back i idle =
+      let at : length texts + (i - length texts) ≡ i = with_rest (length texts) i idle in
+      get_or-append_right (map (λ (f : Feed HeldPass). f.gate) feeds') (drop (length texts) passes) (length texts) i no_pass n_gates idle
+      ∙ (get_or-drop (length texts) passes (i - length texts) no_pass ∙ ap (λ (k : ℕ). get_or passes k no_pass) at)
+
+  -- all of them with the names that they had
+  named_back : (i : ℕ) → name (get_or back i no_pass) ≡ name (get_or passes i no_pass)
+  named_back i = elim (le_or_lt (length texts) i) [
+    | inl idle ↦ ap name (idle_back i idle)
+    | inr here ↦ ap name (ran_back i here) ∙ ((ran i (some_text texts i here) no_feed here).named ∙ ap name (gate_before i here))
+  ]
+
+  feed_back : (i : ℕ) → i < length passes → (get_or back i no_pass).feed ≡ i + 1
+  feed_back i here = ap (λ (p : SharedId × ℕ). p.1) (named_back i) ∙ dealt.feeds i (get_or passes i no_pass) (slice_get-get_or passes i no_pass here)
+
+  -- they are the passes of the table
+  pub are_back : ArePassesOf table (map (λ (f : Feed HeldPass). f.gate) feeds' ++ drop (length texts) passes)
+  unfolding back
+  are_back = record {
+    count = n_back ∙ dealt.count;
+    tables = λ k d here.
+        let within : k < length passes = as_below k _ _ (sym n_back) here in
+        ap (λ (p : HeldPass). p.table) (get_or_default back k d no_pass here) ∙ (ap (λ (p : SharedId × ℕ). p.0) (named_back k) ∙ dealt.tables k no_pass within);
+    feeds = λ i p is.
+        let here = slice_get_within back i p is in
+        let found : p ≡ get_or back i no_pass = same_Some _ _ (sym is ∙ slice_get-get_or back i no_pass here) in
+        ap (λ (q : HeldPass). q.feed) found ∙ feed_back i (as_below i _ _ (sym n_back) here);
+  }
+
+  module _ (journal : List Entry) (settled : Settles table (map (λ (f : Feed HeldPass). f.gate) feeds' ++ drop (length texts) passes) journal) where
+    -- what a pass has not seen is not its feed's
+    since_back : (i : ℕ) → i < length passes → Since (i + 1) (get_or back i no_pass).seen journal
+    unfolding back
+    since_back i here =
+        subst (λ (feed : ℕ). Since feed (get_or back i no_pass).seen journal) (feed_back i here) (settled.since i no_pass (as_below i _ _ n_back here))
+
+    -- so no entry is of a feed that has no text
+    pub no_other : All (λ (e : Entry). (1 ≤ e.feed) × (e.feed ≤ length texts)) journal
+    no_other k d here =
+        let of = settled.of_feeds k d here in
+        let feed = (get_or journal k d).feed in
+        elim (le_or_lt feed (length texts)) [
+          | inl within ↦ (of.0, within)
+          | inr past ↦
+              let i = feed - 1 in
+              let next : i + 1 ≡ feed = before_next feed of.0 in
+              let within : i < length passes = as_below i _ _ dealt.count (before_below feed table.feeds of.0 of.1) in
+              let since = since_back i within in
+              let unseen : (get_or back i no_pass).seen ≡ [] = ap (λ (p : HeldPass). p.seen) (idle_back i (before_past (length texts) feed past)) ∙ fresh i no_pass within in
+              let all : journal ≡ since.others = since.grown ∙ ap (λ (seen : List Entry). seen ++ since.others) unseen in
+              let other : feed ≢ i + 1 =
+              subst (λ (l : List Entry). (get_or l k d).feed ≢ i + 1) (sym all) (since.by_others k d (subst (λ (l : List Entry). k < length l) all here)) in
+              absurd (other (sym next))
+        ]
+
+    -- and each report is explained
+    module _ (reports : List (List Line)) (reported : map Some reports ≡ map (λ (f : Feed HeldPass). f.report) feeds') where
+      n_reports : length reports ≡ length texts
+      n_reports = sym (length-map reports Some) ∙ (ap length reported ∙ (length-map feeds' (λ (f : Feed HeldPass). f.report) ∙ n_feeds))
+
+      report_at : (i : ℕ) (r : List Line) → i < length texts → (get_or feeds' i no_feed).report ≡ Some (get_or reports i r)
+      report_at i r here =
+          sym (get_or-map (λ (f : Feed HeldPass). f.report) feeds' i no_feed None (as_below i _ _ n_feeds here))
+          ∙ (ap (λ (rs : List (Option (List Line))). get_or rs i None) (sym reported) ∙ get_or-map Some reports i r None (as_below i _ _ n_reports here))
+
+      explained_at : (i m : ℕ) (t' : V) (r : List Line) → i < length texts → m ≡ 1 + i → IsExplained batch m journal (items (get_or texts i t')) (get_or reports i r)
+      explained_at i m t' r here is =
+          let within : i < length passes = below_more i _ _ here few in
+          let run = ran i t' no_feed here in
+          let old = (get_or feeds i no_feed).gate in
+          let new = (get_or feeds' i no_feed).gate in
+          let report = get_or reports i r in
+          let runs : RunsFeed holds batch (items (get_or texts i t')) old new report =
+          subst (λ (o : Option (List Line)). MatchOption o (StopsWithin holds batch (items (get_or texts i t')) old new) (λ lines. RunsFeed holds batch (items (get_or texts i t')) old new lines)) (report_at i r here) run.runs in
+          let unseen : old.seen ≡ [] = ap (λ (p : HeldPass). p.seen) (gate_before i here) ∙ fresh i no_pass within in
+          let next : m ≡ i + 1 = is ∙ one_more i in
+          let mine : new.feed ≡ m = ap (λ (p : HeldPass). p.feed) (sym (ran_back i here)) ∙ (feed_back i within ∙ sym next) in
+          let since : Since m new.seen journal =
+          subst (λ (p : HeldPass). Since m p.seen journal) (ran_back i here) (subst (λ (f : ℕ). Since f (get_or back i no_pass).seen journal) (sym next) (since_back i within)) in
+          explained batch m journal (items (get_or texts i t')) old new report runs unseen mine since
+
+      -- so the texts were run to their ends
+      pub run_over_book : (book : BookContents) → book.journal ≡ journal → book.limit ≡ table.limit → RunOverBook (map items texts) table.limit batch reports book
+      run_over_book book journaled limited =
+          let all = all_explained items batch 1 journal texts reports n_reports explained_at in
+          record {
+            limited = limited;
+            outcomes = all.outcomes;
+            history = record {
+              lawful = rw journaled settled.lawful;
+              explained = rw journaled all.explained;
+              no_other = rw (journaled, length-map texts items) no_other;
+            };
+            reported = all.reported;
+            counted = n_reports ∙ sym (length-map texts items);
+          }
+
+-- the tests of the reports are those of the lines
+some_refusal : (outcomes : List (List LineOutcome)) → list_any has_refusal (map (report_lines 1) outcomes) ≡ list_any some_refused outcomes
+some_refusal [] = refl
+some_refusal (lines ∷ outcomes) = rw (has_refusal-report_lines 1 lines, some_refusal outcomes) refl
+
+some_fault : (outcomes : List (List LineOutcome)) → list_any has_fault (map (report_lines 1) outcomes) ≡ list_any some_faulty outcomes
+some_fault [] = refl
+some_fault (lines ∷ outcomes) = rw (has_fault-report_lines 1 lines, some_fault outcomes) refl
+
+-- so the status of the reports is that of what the lines became
+pub reports_status-lines : (outcomes : List (List LineOutcome)) → reports_status (map (report_lines 1) outcomes) ≡ outcomes_status outcomes
+reports_status-lines outcomes = rw (some_refusal outcomes, some_fault outcomes) refl
+
+-- what is written of them is a run's text
+pub run_text : (texts : List (List ℕ)) (limit batch : ℕ) (reports : List (List Line)) (book : BookContents) (bytes : List ℕ) → RunOverBook texts limit batch reports book
+    → bytes ≡ reports_text 1 reports ++ table_text (table_of book) → IsRunText texts limit batch bytes (reports_status reports)
+run_text texts limit batch reports book bytes ran printed = record {
+  journal = book.journal;
+  outcomes = ran.outcomes;
+  history = ran.history;
+  printed = rw (printed, ran.reported, ran.limited) refl;
+  is_status = rw ran.reported (reports_status-lines ran.outcomes);
+}
+
+-- a vector that was written through a slice of all its elements holds what was written
+pub all_written : {X : Type 0} (len : ℕ) (new items : List X) → len ≡ length items → length new ≡ length items → take len (new ++ drop (length new) items) ≡ new
+all_written len new items full same =
+    rw (drop_all (length new) items (omega (arith, same)), append-nil) (take_all len new (omega (arith, full, same)))

@@ -1,0 +1,20 @@
+use Rattle.std.proofs.Common.{refl}
+use Rattle.ya_replay.proofs.Promised.{replay_text-some}
+use Rattle.rt_run.proofs.Buffered.{run_text-some, answers-none, answers-some, rows-none, rows-some}
+use Rattle.rt_run.proofs.output.Output.is_empty.Goals as goal
+
+pub returns-in-Run : goal.returns-in-Run
+returns-in-Run c = rw c.in-Run.is (record { none = λ same. absurd cc; some = λ same. run_text-some _ _ })
+
+pub returns-in-Answers : goal.returns-in-Answers
+returns-in-Answers c =
+    rw (c.in-Answers.is, c.is_empty.ensures)
+    (record { none = answers-none c.in-Answers.addresses.now _; some = answers-some c.in-Answers.addresses.now _ })
+
+pub returns-in-Routes : goal.returns-in-Routes
+returns-in-Routes c =
+    rw (c.in-Routes.is, c.is_empty-in-Routes.ensures)
+    (record { none = rows-none c.in-Routes.routes.now; some = rows-some c.in-Routes.routes.now })
+
+pub returns-in-Replay : goal.returns-in-Replay
+returns-in-Replay c = rw c.in-Replay.is (record { none = λ same. absurd cc; some = λ same. replay_text-some _ _ })

@@ -1,0 +1,7 @@
+use Rattle.std.proofs.lemmas.Result.{IfErr-weaker}
+use Rattle.rt_cidr.proofs.Promised.{begins_after}
+use Rattle.rt_run.proofs.output.write_run.Goals as goal
+
+pub returns-clause-err : goal.returns-clause-err
+returns-clause-err g c =
+    IfErr-weaker c.write_table.result _ _ (λ _ begun. begins_after _ _ _ _ _ c.in_ok-write_reports.ensures.ok begun) c.write_table.ensures.err

@@ -1,0 +1,44 @@
+-- What is written, as the text of one value.
+use Rattle.std.specs.Prelude.{◌≡◌, ℕ, ◌<◌, ◌≤◌, ◌^◌, List, ◌++◌, length, Option, Result, Ok, Err}
+use Rattle.std.specs.Io.KnownBytes.{Appends}
+use Rattle.rt_cidr.specs.Output.{AppendsBeginning}
+use Rattle.rt_rib.specs.declared.limits.TheConstants.{MOST_FEEDS}
+use Rattle.rt_rib.specs.declared.routes.Route.{Route}
+use Rattle.rt_rib.specs.Book.{table_of}
+use Rattle.rt_feed.specs.declared.faults.RunFault.TheVariants as fault
+use Rattle.rt_feed.specs.Printed.{rows_text, table_text}
+use Rattle.rt_run.specs.declared.faults.AppFault.{AppFault}
+use Rattle.rt_run.specs.declared.faults.AppFault.TheVariants.{Run, Replay, Write}
+use Rattle.rt_run.specs.declared.output.Output.{Output}
+use Rattle.rt_run.specs.declared.output.Output.TheVariants as output
+use Rattle.rt_run.specs.declared.shown.Shown.{Shown}
+use Rattle.rt_run.specs.declared.shown.Shown.TheVariants as shown
+use Rattle.ya_replay.specs.ReplayText.{replay_text_of}
+use Rattle.rt_run.specs.RunText.{reports_text}
+use Rattle.rt_run.specs.TableText.{answers_text, routes_text}
+
+-- the text of the reports and the table, of the answers, of the routes, or of a replay
+abbrev pub output_text : Output → List ℕ
+output_text (output.Run reports routes) = reports_text 1 reports.now ++ table_text routes.now
+output_text (output.Answers book addresses) = answers_text addresses.now (table_of book.now)
+output_text (output.Routes routes) = rows_text routes.now
+output_text (output.Replay steps inside) = replay_text_of steps.now inside
+
+-- of reports there are at most as many as feeds, and of steps so many that each has a number
+abbrev pub IsOutput : Output → Type 0
+IsOutput (output.Run reports routes) = length reports.now ≤ MOST_FEEDS
+IsOutput (output.Answers book addresses) = Unit {0}
+IsOutput (output.Routes routes) = Unit {0}
+IsOutput (output.Replay steps inside) = length steps.now < 2 ^ 63
+
+-- the text was put behind what the writer had; nothing was, for want of memory; or a beginning of the text
+abbrev pub Writes : List ℕ → Option (List ℕ) → Option (List ℕ) → Result (Unit {0}) AppFault → Type 0
+Writes text old new (Ok done) = Appends old new text
+Writes text old new (Err (Run refusal)) = (refusal ≡ fault.Memory) × (new ≡ old)
+Writes text old new (Err (Replay fault)) = ⊥
+Writes text old new (Err Write) = AppendsBeginning old new text
+
+-- the text of what is asked of a table
+abbrev pub shown_text : Shown → List Route → List ℕ
+shown_text (shown.Answers addresses) table = answers_text addresses.now table
+shown_text (shown.Routes only_best) table = routes_text only_best table

@@ -1,0 +1,54 @@
+//! What holds of every run of feeds, however its threads ran. Each function is a theorem: calling it makes its clause
+//! known, and it does nothing.
+ghost use Rattle.rt_run.specs.SameTable.{EndsInUnion, AnswersAlone, EndInOneTable, ShowsUnion, ShowOneTable};
+
+use rt_feed::laws::one_reading;
+use rt_rib::laws::{feeds_stand_alone, one_table_of_set, table_by_entry};
+use rt_shared::laws::visits;
+
+/// Where no command was refused for want of memory, a run ends in the table of the union, over all its texts, of the
+/// sets that the commands of each leave by themselves.
+pub fn ends_in_union()
+    ensures { EndsInUnion }
+{
+    feeds_stand_alone();
+    table_by_entry();
+    visits();
+    one_reading();
+}
+
+/// There the replies to `add`, `replace`, `withdraw` and `purge` are those that a text has where no other feed asks.
+pub fn answers_alone()
+    ensures { AnswersAlone }
+{
+    feeds_stand_alone();
+    visits();
+}
+
+/// So two runs of the same texts and limit end in one table, whatever their batches and however their threads ran.
+pub fn end_in_one_table()
+    ensures { EndInOneTable }
+{
+    ends_in_union();
+    one_table_of_set();
+}
+
+/// Where no command was refused for want of memory, `lookup_texts` and `table_texts` tell of the union: so what they write is
+/// a function of the texts, the limit and what is asked alone.
+pub fn shows_union()
+    ensures { ShowsUnion }
+{
+    feeds_stand_alone();
+    table_by_entry();
+    visits();
+    one_reading();
+}
+
+/// So two runs of the same texts and limit write the same bytes where the same is asked, whatever their batches and however
+/// their threads ran.
+pub fn show_one_table()
+    ensures { ShowOneTable }
+{
+    shows_union();
+    one_table_of_set();
+}

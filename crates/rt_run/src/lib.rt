@@ -1,0 +1,34 @@
+//! Runs of feed texts, and what they write: one reply a command and the sorted table, or what the finished table says.
+//!
+//! [`run_texts`] is a run over values: the texts of 1 to 64 feeds, each on a thread of its own, over one table behind the
+//! lock, and a writer. Its clause `text` is the theorem from bytes to bytes: what was written is a run's text.
+//! [`lookup_texts`] and [`table_texts`] run texts in the same way and tell of the finished table alone: what look-ups of
+//! addresses find in it, or its routes; and they give how much of each text was taken.
+//! [`replay_text`] does the same for a schedule of the lock: one line for each atomic step of the one run that it names.
+//! `laws` says what holds of every run, however its threads ran.
+//!
+//! ```text
+//! // the reports of all feeds and then the table, and the exit status of the run
+//! let status = run_texts(&rt, alloc, texts.as_slice(), 65_536, 64, &mut out)?;
+//! ```
+//!
+//! Contracts see texts as lists of bytes, and of a writer what is in it, where that is known. After a fault of the writer
+//! a beginning of the text was written; after any other refusal nothing was.
+#![tactic(auto)]
+
+mod faults;
+pub mod laws;
+mod output;
+mod replays;
+mod runs;
+mod shown;
+mod tallies;
+
+pub use faults::AppFault;
+pub use replays::replay_text;
+pub use runs::{MOST_TEXTS, run_texts};
+pub use shown::{lookup_texts, table_texts};
+pub use tallies::{NOT_TAKEN, Taken, Tally};
+
+#[cfg(test)]
+mod tests;

@@ -1,0 +1,162 @@
+//! What is written: a run's reports and table, what its finished table says, or a replay. All goes through one buffer.
+ghost use Rattle.std.specs.Prelude.{◌≡◌, ◌++◌, [], ◌<◌, ◌≤◌, true, false, length, OnOk, OnErr};
+ghost use Rattle.std.specs.Io.KnownBytes.{Appends};
+ghost use Rattle.rt_cidr.specs.Output.{AppendsBeginning};
+ghost use Rattle.rt_rib.specs.declared.limits.TheConstants.{MOST_FEEDS};
+ghost use Rattle.rt_rib.specs.Book.{table_of};
+ghost use Rattle.rt_feed.specs.Printed.{table_text};
+ghost use Rattle.rt_run.specs.RunText.{reports_text};
+ghost use Rattle.rt_run.specs.TableText.{answers_text};
+ghost use Rattle.rt_run.specs.inside.Outputs.{IsOutput, output_text, Writes};
+
+use crate::faults::AppFault;
+use rt_cidr::{Addr, OutputBuffer, OutputRoom};
+use rt_feed::{Report, RunFault, write_found, write_report, write_rows, write_table};
+use rt_rib::{Book, Route};
+use std::alloc::Global;
+use std::io::{self, Write};
+use ya_core::Step;
+use ya_replay::write_replay;
+
+/// So many addresses are looked up together.
+const PIECE: usize = 256;
+
+/// What is to be written.
+#[derive(Clone, Copy)]
+pub(crate) enum Output<'a> {
+    /// The reports, the k-th as feed k's, and then the table of these routes.
+    Run(&'a [Report], &'a [Route]),
+    /// What a look-up of each address finds in the book.
+    Answers(&'a Book<Global>, &'a [Addr]),
+    /// The routes alone.
+    Routes(&'a [Route]),
+    /// The steps of a replay, and who is inside after them.
+    Replay(&'a [Step], Option<usize>),
+}
+
+impl Output<'_> {
+    /// Whether there is nothing to write.
+    fn is_empty(&self) -> bool
+        ensures none { result ≡ true → output_text self.now ≡ [] }
+        ensures some { result ≡ false → 0 < length (output_text self.now) }
+    {
+        match self {
+            Output::Run(..) => false,
+            Output::Answers(_, addresses) => addresses.is_empty(),
+            Output::Routes(routes) => routes.is_empty(),
+            Output::Replay(..) => false,
+        }
+    }
+}
+
+/// Writes the output in few large writes, where there is anything to write.
+pub(crate) fn write_output<W: Write>(
+    alloc: Global,
+    output: Output<'_>,
+    w: &mut W,
+) -> Result<(), AppFault>
+    requires { IsOutput output }
+    ensures { Writes (output_text output.entry) (W.contents w.old) (W.contents w.new) result }
+{
+    let Ok(room) = OutputRoom::new(alloc) else {
+        return Err(AppFault::Run(RunFault::Memory));
+    };
+    if output.is_empty() {
+        return Ok(());
+    }
+    match write_buffered(w, room, output) {
+        Ok(()) => Ok(()),
+        Err(_) => Err(AppFault::Write),
+    }
+}
+
+/// Writes the output in few large writes. Takes no memory.
+pub(crate) fn write_buffered<W: Write>(
+    w: &mut W,
+    room: OutputRoom,
+    output: Output<'_>,
+) -> Result<(), io::Error>
+    requires empty { room ≡ [] }
+    requires output { IsOutput output }
+    requires some { 0 < length (output_text output) }
+    ensures ok { OnOk result (Appends (W.contents w.old) (W.contents w.new) (output_text output.entry)) }
+    ensures err { OnErr result (AppendsBeginning (W.contents w.old) (W.contents w.new) (output_text output.entry)) }
+{
+    let mut buffer = OutputBuffer::new(w, room);
+    if let Err(fault) = write_parts(&mut buffer, output) {
+        let _ = buffer.into_writer();
+        return Err(fault);
+    }
+    let flushed = buffer.flush();
+    let _ = buffer.into_writer();
+    flushed
+}
+
+/// Writes the output, one part after another.
+fn write_parts<W: Write>(w: &mut W, output: Output<'_>) -> Result<(), io::Error>
+    requires { IsOutput output }
+    ensures ok { OnOk result (Appends (W.contents w.old) (W.contents w.new) (output_text output.entry)) }
+    ensures err { OnErr result (AppendsBeginning (W.contents w.old) (W.contents w.new) (output_text output.entry)) }
+{
+    match output {
+        Output::Run(reports, routes) => write_run(w, reports, routes),
+        Output::Answers(book, addresses) => write_answers(w, book, addresses),
+        Output::Routes(routes) => write_rows(w, routes),
+        Output::Replay(steps, inside) => write_replay(w, steps, inside),
+    }
+}
+
+/// Writes the reports, the k-th as feed k's, and then the table.
+fn write_run<W: Write>(w: &mut W, reports: &[Report], routes: &[Route]) -> Result<(), io::Error>
+    requires few { length reports.now ≤ MOST_FEEDS }
+    ensures ok { OnOk result (Appends (W.contents w.old) (W.contents w.new) (reports_text 1 reports.now ++ table_text routes.now)) }
+    ensures err { OnErr result (AppendsBeginning (W.contents w.old) (W.contents w.new) (reports_text 1 reports.now ++ table_text routes.now)) }
+{
+    write_reports(w, reports)?;
+    write_table(w, routes)
+}
+
+/// Writes the reports, the k-th as feed k's.
+fn write_reports<W: Write>(w: &mut W, reports: &[Report]) -> Result<(), io::Error>
+    requires few { length reports.now ≤ MOST_FEEDS }
+    ensures ok { OnOk result (Appends (W.contents w.old) (W.contents w.new) (reports_text 1 reports.now)) }
+    ensures err { OnErr result (AppendsBeginning (W.contents w.old) (W.contents w.new) (reports_text 1 reports.now)) }
+{
+    for (index, report) in reports.iter().enumerate() {
+        write_report(w, index as u32 + 1, report)?;
+    }
+    Ok(())
+}
+
+/// Writes what a look-up of each address finds in the book.
+fn write_answers<W: Write>(
+    w: &mut W,
+    book: &Book<Global>,
+    addresses: &[Addr],
+) -> Result<(), io::Error>
+    ensures ok { OnOk result (Appends (W.contents w.old) (W.contents w.new) (answers_text addresses.now (table_of book.now))) }
+    ensures err { OnErr result (AppendsBeginning (W.contents w.old) (W.contents w.new) (answers_text addresses.now (table_of book.now))) }
+{
+    let mut rest = addresses;
+    while !rest.is_empty() {
+        let (piece, behind) = rest.split_at(rest.len().min(PIECE));
+        write_piece(w, book, piece)?;
+        rest = behind;
+    }
+    Ok(())
+}
+
+/// Writes what a look-up of each of a few addresses finds in the book.
+fn write_piece<W: Write>(w: &mut W, book: &Book<Global>, piece: &[Addr]) -> Result<(), io::Error>
+    requires few { length piece.now ≤ 256 }
+    ensures ok { OnOk result (Appends (W.contents w.old) (W.contents w.new) (answers_text piece.now (table_of book.now))) }
+    ensures err { OnErr result (AppendsBeginning (W.contents w.old) (W.contents w.new) (answers_text piece.now (table_of book.now))) }
+{
+    let mut places = [None; PIECE];
+    let found = &mut places[..piece.len()];
+    book.look_up(piece, found);
+    for (index, address) in piece.iter().enumerate() {
+        write_found(w, *address, found[index])?;
+    }
+    Ok(())
+}

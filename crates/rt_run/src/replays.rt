@@ -1,0 +1,41 @@
+//! A replay: one schedule of the lock, and the text of its steps.
+ghost use Rattle.std.specs.Prelude.{◌≡◌, ◌↔◌, ◌≤◌, ◌^◌, Any};
+ghost use Rattle.ya_core.specs.ArbitrationTree.{HasShape};
+ghost use Rattle.rt_run.specs.Replayed.{LeavesReplay};
+
+use crate::faults::AppFault;
+use crate::output::{Output, write_buffered};
+use rt_cidr::OutputRoom;
+use std::alloc::Global;
+use std::io::Write;
+use ya_core::{ReplayFault, replay};
+use ya_replay::inside_place;
+
+/// Replays a schedule of the lock in a tree of that many levels, in which the picked places step one after another from
+/// the start, and writes to `w` one line for each step and then who is inside. Gives 0 where all was written. Refuses
+/// levels other than 1 to 6 with P2, else a pick that is no place with P1, else want of memory with P3, and then nothing
+/// was written. After `Write` a beginning of the text was written.
+pub fn replay_text<W: Write>(
+    alloc: Global,
+    levels: u32,
+    picks: &[u32],
+    w: &mut W,
+) -> Result<u8, AppFault>
+    ensures text { LeavesReplay levels picks.now (W.contents w.old) (W.contents w.new) result }
+    ensures levels { (result ≡ Err (AppFault.Replay ReplayFault.Levels)) ↔ (HasShape levels → ⊥) }
+    ensures place { (result ≡ Err (AppFault.Replay ReplayFault.Place))
+        ↔ (HasShape levels × Any (λ pick. 2 ^ levels ≤ pick) picks.now) }
+{
+    let steps = match replay(alloc, levels, picks) {
+        Ok(steps) => steps,
+        Err(fault) => return Err(AppFault::Replay(fault)),
+    };
+    let Ok(room) = OutputRoom::new(alloc) else {
+        return Err(AppFault::Replay(ReplayFault::Memory));
+    };
+    let inside = inside_place(steps.as_slice());
+    match write_buffered(w, room, Output::Replay(steps.as_slice(), inside)) {
+        Ok(()) => Ok(0),
+        Err(_) => Err(AppFault::Write),
+    }
+}

@@ -1,0 +1,151 @@
+//! What the finished table says: the answers of look-ups, or its routes, once all feeds have ended.
+ghost use Rattle.std.specs.Prelude.{◌≡◌, ◌≢◌, ◌↔◌, ℕ, List, ◌≤◌, [], map, length, if◌then◌else◌, IfOk};
+ghost use Rattle.rt_rib.specs.declared.limits.TheConstants.{MOST_FEEDS};
+ghost use Rattle.rt_rib.specs.Book.{IsLimit, table_of};
+ghost use Rattle.rt_run.specs.inside.RunResults.{RunOverBook};
+ghost use Rattle.rt_run.specs.TableText.{answers_text, routes_text, LeavesShown};
+ghost use Rattle.rt_rib.specs.LookUp.{best_routes};
+ghost use Rattle.rt_run.specs.inside.Outputs.{shown_text, Writes};
+
+use crate::faults::AppFault;
+use crate::output::{Output, write_output};
+use crate::runs::{Ran, run_all};
+use crate::tallies::{Taken, taken_of};
+use rt_cidr::Addr;
+use rt_feed::RunFault;
+use rt_rib::{Book, Refused, Route, keep_best};
+use std::alloc::Global;
+use std::io::Write;
+use std::mem::ManuallyDrop;
+use std::sync::Wait;
+use std::thread::Threads;
+
+/// Runs the texts as `run_texts` does, and when all have ended writes to `w`, for each address in order, the best route of
+/// the longest prefix that covers it: `ADDR route PREFIX feed F pref P via HOP`, or `ADDR no route`. Nothing else is
+/// written, so that where no command was refused for want of memory the bytes are a function of the texts, the limit and the
+/// addresses (`laws::shows_union`). Gives how much of the texts was taken, where all was written. Its faults are those of
+/// `run_texts`, and F3 also where there is no memory for what was taken.
+pub fn lookup_texts<R: Threads + Wait + Sync, W: Write>(
+    rt: &R,
+    alloc: Global,
+    texts: &[Vec<u8>],
+    limit: u32,
+    batch: usize,
+    addresses: &[Addr],
+    w: &mut W,
+) -> Result<Taken, AppFault>
+    requires limited { IsLimit limit }
+    requires few { length texts.now ≤ MOST_FEEDS }
+    requires batched { 1 ≤ batch }
+    ensures text { LeavesShown (map (λ text. text.items) texts.now) limit batch (answers_text addresses.now) (W.contents w.old) (W.contents w.new) result }
+    ensures no_text { (result ≡ Err (AppFault.Run RunFault.NoText)) ↔ (texts.now ≡ []) }
+{
+    show_texts(rt, alloc, texts, limit, batch, Shown::Answers(addresses), w)
+}
+
+/// Runs the texts as `run_texts` does, and when all have ended writes to `w` the table's routes in order, without its first
+/// line, or with `only_best` of each prefix the route that a look-up would give. What it gives, and its faults, are as for
+/// `lookup_texts`.
+pub fn table_texts<R: Threads + Wait + Sync, W: Write>(
+    rt: &R,
+    alloc: Global,
+    texts: &[Vec<u8>],
+    limit: u32,
+    batch: usize,
+    only_best: bool,
+    w: &mut W,
+) -> Result<Taken, AppFault>
+    requires limited { IsLimit limit }
+    requires few { length texts.now ≤ MOST_FEEDS }
+    requires batched { 1 ≤ batch }
+    ensures text { LeavesShown (map (λ text. text.items) texts.now) limit batch (routes_text only_best) (W.contents w.old) (W.contents w.new) result }
+    ensures no_text { (result ≡ Err (AppFault.Run RunFault.NoText)) ↔ (texts.now ≡ []) }
+{
+    show_texts(rt, alloc, texts, limit, batch, Shown::Routes(only_best), w)
+}
+
+/// What is asked of the finished table.
+#[derive(Clone, Copy)]
+enum Shown<'a> {
+    /// What a look-up of each address finds.
+    Answers(&'a [Addr]),
+    /// Its routes, or only the best of each prefix.
+    Routes(bool),
+}
+
+/// Runs the texts, and writes what is asked of their table.
+fn show_texts<R: Threads + Wait + Sync, W: Write>(
+    rt: &R,
+    alloc: Global,
+    texts: &[Vec<u8>],
+    limit: u32,
+    batch: usize,
+    shown: Shown<'_>,
+    w: &mut W,
+) -> Result<Taken, AppFault>
+    requires limited { IsLimit limit }
+    requires few { length texts.now ≤ MOST_FEEDS }
+    requires batched { 1 ≤ batch }
+    ensures text { LeavesShown (map (λ text. text.items) texts.now) limit batch (shown_text shown.entry) (W.contents w.old) (W.contents w.new) result }
+    ensures no_text { (result ≡ Err (AppFault.Run RunFault.NoText)) ↔ (texts.now ≡ []) }
+{
+    let ran = match run_all(rt, alloc, texts, limit, batch) {
+        Ok(ran) => ran,
+        Err(refusal) => return Err(AppFault::Run(refusal)),
+    };
+    let written = show_ran(alloc, &ran, shown, w);
+    // As for a run: the system takes the table's pages back at once.
+    let _ = ManuallyDrop::new(ran.book);
+    written
+}
+
+/// Writes what is asked of a run's table, and tells how much of the texts was taken.
+fn show_ran<W: Write>(
+    alloc: Global,
+    ran: &Ran,
+    shown: Shown<'_>,
+    w: &mut W,
+) -> Result<Taken, AppFault>
+    ensures text { (texts : List (List ℕ)) (limit batch : ℕ) → RunOverBook texts limit batch ran.now.reports.items ran.now.book
+        → LeavesShown texts limit batch (shown_text shown.entry) (W.contents w.old) (W.contents w.new) result }
+    ensures ran { result ≢ Err (AppFault.Run RunFault.NoText) }
+{
+    let Ok(taken) = taken_of(alloc, ran.reports.as_slice()) else {
+        return Err(AppFault::Run(RunFault::Memory));
+    };
+    match write_shown(alloc, &ran.book, shown, w) {
+        Ok(()) => Ok(taken),
+        Err(fault) => Err(fault),
+    }
+}
+
+/// Writes what is asked of the book's table.
+fn write_shown<W: Write>(
+    alloc: Global,
+    book: &Book<Global>,
+    shown: Shown<'_>,
+    w: &mut W,
+) -> Result<(), AppFault>
+    ensures { Writes (shown_text shown.entry (table_of book.now)) (W.contents w.old) (W.contents w.new) result }
+{
+    match shown {
+        Shown::Answers(addresses) => write_output(alloc, Output::Answers(book, addresses), w),
+        Shown::Routes(only_best) => {
+            let Ok(routes) = routes_of(alloc, book, only_best) else {
+                return Err(AppFault::Run(RunFault::Memory));
+            };
+            write_output(alloc, Output::Routes(routes.as_slice()), w)
+        }
+    }
+}
+
+/// The routes of the book, or only the best of each prefix.
+fn routes_of(alloc: Global, book: &Book<Global>, only_best: bool) -> Result<Vec<Route>, Refused>
+    ensures { IfOk result (λ routes. routes.items ≡ (if only_best then best_routes (table_of book.now) else table_of book.now)) }
+{
+    let mut routes = book.routes(alloc)?;
+    if only_best {
+        keep_best(&mut routes);
+    }
+    Ok(routes)
+}

@@ -1,0 +1,142 @@
+//! How much of its texts a run has taken, for those who don't read its reports.
+ghost use Rattle.std.specs.Prelude.{◌≡◌, count_by, find, map, IfOk};
+ghost use Rattle.std.specs.List.{list_any};
+ghost use Rattle.rt_feed.specs.declared.report.Line.{Line};
+ghost use Rattle.rt_feed.specs.Reports.{is_fault, is_refusal};
+ghost use Rattle.rt_run.specs.TableText.{was_full, tally_of, has_refused, has_left_out, tallies_status, IsTaken};
+
+use rt_feed::{Answer, Line, Report};
+use rt_rib::Reply;
+use std::alloc::{AllocError, Global};
+
+/// The status where some command was refused for want of memory.
+pub(crate) const REFUSED: u8 = 5;
+
+/// The status where something of a text was not taken: a faulty line, or an `add` over the limit where no report tells it.
+pub const NOT_TAKEN: u8 = 2;
+
+/// What of a feed's text was not taken.
+#[derive(Clone, Copy, PartialEq, Eq, Debug)]
+pub struct Tally {
+    /// How many lines were faulty.
+    pub faulty: usize,
+    /// The first of them: its number, from 1, and its fault.
+    pub first_faulty: Option<Line>,
+    /// How many `add`s were over the limit.
+    pub full: usize,
+    /// How many commands were refused for want of memory.
+    pub refused: usize,
+}
+
+impl Tally {
+    /// Whether a command was refused for want of memory.
+    fn has_refused(&self) -> bool
+        ensures { result ≡ has_refused self.now }
+    {
+        self.refused > 0
+    }
+
+    /// Whether a line was faulty, or an `add` over the limit.
+    fn has_left_out(&self) -> bool
+        ensures { result ≡ has_left_out self.now }
+    {
+        self.faulty > 0 || self.full > 0
+    }
+}
+
+/// How much of its texts a run has taken.
+#[derive(Debug, Drop)]
+pub struct Taken {
+    /// The exit status: 5 where some command was refused for want of memory, else 2 where some line was faulty or some
+    /// `add` over the limit, else 0.
+    pub status: u8,
+    /// What was not taken of each text, in the order of the feeds.
+    pub tallies: Vec<Tally>,
+}
+
+/// Tells of the reports how much of the texts was taken.
+pub(crate) fn taken_of(alloc: Global, reports: &[Report]) -> Result<Taken, AllocError>
+    ensures { IfOk result (λ taken. IsTaken reports.now taken) }
+{
+    let tallies = tallies_of(alloc, reports)?;
+    let status = status_of(tallies.as_slice());
+    Ok(Taken { status, tallies })
+}
+
+fn tallies_of(alloc: Global, reports: &[Report]) -> Result<Vec<Tally>, AllocError>
+    ensures { IfOk result (λ tallies. tallies.items ≡ map tally_of reports.now) }
+{
+    reports.iter().map(|report| tally_of(report)).collect(alloc)
+}
+
+/// What of a text was not taken, by its report.
+fn tally_of(report: &Report) -> Tally
+    ensures { result ≡ tally_of report.now }
+{
+    let lines = report.lines();
+    Tally {
+        faulty: count_faulty(lines),
+        first_faulty: first_faulty(lines),
+        full: count_full(lines),
+        refused: count_refused(lines),
+    }
+}
+
+fn count_faulty(lines: &[Line]) -> usize
+    ensures { result ≡ count_by (λ (line : Line). is_fault line.answer) lines.now }
+{
+    lines.iter().filter(|line| line.answer.is_fault()).count()
+}
+
+fn first_faulty(lines: &[Line]) -> Option<Line>
+    ensures { result ≡ find (λ (line : Line). is_fault line.answer) lines.now }
+{
+    lines.iter().copied().find(|line| line.answer.is_fault())
+}
+
+fn count_full(lines: &[Line]) -> usize
+    ensures { result ≡ count_by (λ (line : Line). was_full line.answer) lines.now }
+{
+    lines.iter().filter(|line| was_full(line.answer)).count()
+}
+
+fn count_refused(lines: &[Line]) -> usize
+    ensures { result ≡ count_by (λ (line : Line). is_refusal line.answer) lines.now }
+{
+    lines.iter().filter(|line| line.answer.is_refusal()).count()
+}
+
+/// Whether an `add` was over the limit.
+fn was_full(answer: Answer) -> bool
+    ensures { result ≡ was_full answer }
+{
+    match answer {
+        Answer::Did(Reply::Full) => true,
+        _ => false,
+    }
+}
+
+/// The status of a run of which this was not taken.
+fn status_of(tallies: &[Tally]) -> u8
+    ensures { result ≡ tallies_status tallies.now }
+{
+    if any_refused(tallies) {
+        REFUSED
+    } else if any_left_out(tallies) {
+        NOT_TAKEN
+    } else {
+        0
+    }
+}
+
+fn any_refused(tallies: &[Tally]) -> bool
+    ensures { result ≡ list_any has_refused tallies.now }
+{
+    tallies.iter().any(|tally| tally.has_refused())
+}
+
+fn any_left_out(tallies: &[Tally]) -> bool
+    ensures { result ≡ list_any has_left_out tallies.now }
+{
+    tallies.iter().any(|tally| tally.has_left_out())
+}

@@ -1,0 +1,5 @@
+pub mod Promised
+pub mod Numbered
+pub mod Replaying
+pub mod WhoIsInside
+pub mod Examples

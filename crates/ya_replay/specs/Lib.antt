@@ -1,0 +1,2 @@
+pub mod ReplayText
+pub mod inside

@@ -1,0 +1,47 @@
+-- The text of a replay: one line for each atomic step, and then who is inside.
+use Rattle.std.specs.Prelude.{ℕ, ◌+◌, Bool, true, false, List, [], ◌∷◌, ◌++◌, codes, decimal, Option, None, Some}
+use Rattle.ya_core.specs.declared.word.Word.{Word}
+use Rattle.ya_core.specs.declared.word.Word.TheVariants.{C, T, P}
+use Rattle.ya_core.specs.declared.step.Mark.{Mark}
+use Rattle.ya_core.specs.declared.step.Mark.TheVariants.{Plain, Inside, Out}
+use Rattle.ya_core.specs.declared.step.Step.{Step}
+
+-- a word's letter, its level, and its node or place
+unfoldable pub level_text : List ℕ → ℕ → ℕ → List ℕ
+level_text letter level index = letter ++ (decimal level ++ (codes "." ++ decimal index))
+
+-- `C<level>.<node>.<side>`, `T<level>.<node>` or `P<level>.<place>`
+unfoldable pub word_text : Word → List ℕ
+word_text (C level node side) = level_text (codes "C") level node ++ (codes "." ++ decimal side)
+word_text (T level node) = level_text (codes "T") level node
+word_text (P level place) = level_text (codes "P") level place
+
+-- what the step brought about, and LF
+unfoldable pub mark_text : Mark → List ℕ
+mark_text Plain = codes "\n"
+mark_text Inside = codes " inside\n"
+mark_text Out = codes " out\n"
+
+-- `:=` for a store, `=` for a load
+unfoldable pub sign_text : Bool → List ℕ
+sign_text true = codes " := "
+sign_text false = codes " = "
+
+-- `NUMBER pPLACE WORD := VALUE` or `NUMBER pPLACE WORD = VALUE`, and the mark
+unfoldable pub step_text : ℕ → Step → List ℕ
+step_text number step =
+    decimal number ++ (codes " p" ++ (decimal step.place ++ (codes " " ++ (word_text step.word ++ (sign_text step.store ++ (decimal step.value ++ mark_text step.mark))))))
+
+-- the lines of these steps, the first of them with this number
+abbrev pub steps_text : ℕ → List Step → List ℕ
+steps_text number [] = []
+steps_text number (step ∷ steps) = step_text number step ++ steps_text (number + 1) steps
+
+-- `inside pPLACE`, or `inside none`
+unfoldable pub inside_text : Option ℕ → List ℕ
+inside_text None = codes "inside none\n"
+inside_text (Some place) = codes "inside p" ++ (decimal place ++ codes "\n")
+
+-- the text of a replay that made these steps, after which this place is inside
+abbrev pub replay_text_of : List Step → Option ℕ → List ℕ
+replay_text_of steps inside = steps_text 1 steps ++ inside_text inside

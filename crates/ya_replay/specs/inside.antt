@@ -1,0 +1,2 @@
+-- What no public clause speaks of: the words of private contracts, of invariants and of proofs.
+pub mod ReplayText

@@ -1,0 +1,169 @@
+//! The text of a replay: the atomic steps of one schedule of the lock, one a line, and then who is inside.
+//!
+//! [`write_replay`] writes the steps that `ya_core::replay` gives, and [`inside_place`] tells who is inside after them.
+//!
+//! ```
+//! let steps = replay(alloc, 1, &[0, 0, 0, 0])?;
+//! write_replay(&mut out, steps.as_slice(), inside_place(steps.as_slice()))?;
+//! ```
+//!
+//! Contracts see the text as the list of its bytes, as those of `rt_cidr` do, and of a writer what is in it. After a fault
+//! of the writer a beginning of the text was written. No call takes memory.
+#![tactic(auto)]
+
+ghost use Rattle.std.specs.Prelude.{◌≡◌, ℕ, List, ◌≤◌, ◌<◌, ◌++◌, ◌^◌, [], length, codes, decimal, OnOk, OnErr};
+ghost use Rattle.std.specs.Io.KnownBytes.{Appends};
+ghost use Rattle.rt_cidr.specs.Output.{AppendsBeginning};
+ghost use Rattle.rt_cidr.specs.ShortText.{FitsInShortText};
+ghost use Rattle.ya_core.specs.Steps.{State, opening};
+ghost use Rattle.ya_core.specs.Machines.{ReplaysTo};
+ghost use Rattle.ya_core.specs.Worlds.{TellsInside};
+ghost use Rattle.ya_replay.specs.ReplayText.{level_text, word_text, mark_text, sign_text, step_text, steps_text, inside_text, replay_text_of};
+ghost use Rattle.ya_replay.specs.inside.ReplayText.{inside_next};
+
+use rt_cidr::{ShortText, put};
+use std::io::{self, Write};
+use ya_core::{Mark, Step, Word};
+
+/// Writes the text of a replay that made these steps, after which that place is inside.
+pub fn write_replay<W: Write>(
+    w: &mut W,
+    steps: &[Step],
+    inside: Option<usize>,
+) -> Result<(), io::Error>
+    requires numbered { length steps.now < 2 ^ 63 }
+    ensures ok { OnOk result (Appends (W.contents w.old) (W.contents w.new) (replay_text_of steps.now inside)) }
+    ensures err { OnErr result (AppendsBeginning (W.contents w.old) (W.contents w.new) (replay_text_of steps.now inside)) }
+{
+    write_steps(w, steps)?;
+    write_inside(w, inside)
+}
+
+/// Writes the last line.
+#[tactic(auto, using(crate::proofs::Replaying::inside_fits))]
+fn write_inside<W: Write>(w: &mut W, inside: Option<usize>) -> Result<(), io::Error>
+    ensures ok { OnOk result (Appends (W.contents w.old) (W.contents w.new) (inside_text inside)) }
+    ensures err { OnErr result (AppendsBeginning (W.contents w.old) (W.contents w.new) (inside_text inside)) }
+{
+    let mut text = ShortText::new();
+    prepend_inside(&mut text, inside);
+    put(w, text.as_bytes())
+}
+
+/// Writes the steps' lines.
+#[tactic(auto, using(crate::proofs::Replaying::step_fits))]
+fn write_steps<W: Write>(w: &mut W, steps: &[Step]) -> Result<(), io::Error>
+    requires numbered { length steps.now < 2 ^ 63 }
+    ensures ok { OnOk result (Appends (W.contents w.old) (W.contents w.new) (steps_text 1 steps.now)) }
+    ensures err { OnErr result (AppendsBeginning (W.contents w.old) (W.contents w.new) (steps_text 1 steps.now)) }
+{
+    let mut text = ShortText::new();
+    for (index, step) in steps.iter().enumerate() {
+        text.clear();
+        prepend_step(&mut text, index as u64 + 1, step);
+        put(w, text.as_bytes())?;
+    }
+    Ok(())
+}
+
+/// Who is inside in the state to which these steps of a replay lead.
+pub fn inside_place(steps: &[Step]) -> Option<usize>
+    ensures { (levels : ℕ) (picks : List ℕ) (last : State) → 1 ≤ levels → ReplaysTo levels opening picks steps.now last → TellsInside last result }
+{
+    let mut inside = None;
+    for step in steps {
+        inside = inside_next(inside, step);
+    }
+    inside
+}
+
+/// Who is inside after one step more.
+fn inside_next(inside: Option<usize>, step: &Step) -> Option<usize>
+    ensures { result ≡ inside_next inside step.now }
+{
+    match step.mark {
+        Mark::Inside => Some(step.place),
+        Mark::Plain | Mark::Out => inside.filter(|place| *place != step.place),
+    }
+}
+
+// Each function below puts its text in front.
+
+/// The last line: who is inside.
+#[tactic(auto, using(rt_cidr::proofs::Promised::prepending), unfolding(crate::specs::ReplayText::inside_text))]
+fn prepend_inside(text: &mut ShortText, inside: Option<usize>)
+    requires room { FitsInShortText (inside_text inside) text.old }
+    ensures { text.new ≡ inside_text inside ++ text.old }
+{
+    match inside {
+        None => text.prepend(b"inside none\n"),
+        Some(place) => {
+            text.prepend(b"\n");
+            text.prepend_decimal(place as u64);
+            text.prepend(b"inside p");
+        }
+    }
+}
+
+/// The step's line.
+#[tactic(auto, using(rt_cidr::proofs::Promised::prepending), unfolding(crate::specs::ReplayText::step_text))]
+fn prepend_step(text: &mut ShortText, number: u64, step: &Step)
+    requires room { FitsInShortText (step_text number step.now) text.old }
+    ensures { text.new ≡ step_text number step.now ++ text.old }
+{
+    text.prepend(mark_word(step.mark));
+    text.prepend_decimal(step.value);
+    text.prepend(sign_word(step.store));
+    prepend_word(text, &step.word);
+    text.prepend(b" ");
+    text.prepend_decimal(step.place as u64);
+    text.prepend(b" p");
+    text.prepend_decimal(number);
+}
+
+/// The word's name.
+#[tactic(auto, using(rt_cidr::proofs::Promised::prepending), unfolding(crate::specs::ReplayText::word_text))]
+fn prepend_word(text: &mut ShortText, word: &Word)
+    requires room { FitsInShortText (word_text word.now) text.old }
+    ensures { text.new ≡ word_text word.now ++ text.old }
+{
+    match word {
+        Word::C(level, node, side) => {
+            text.prepend_decimal(*side as u64);
+            text.prepend(b".");
+            prepend_level(text, b"C", *level, *node);
+        }
+        Word::T(level, node) => prepend_level(text, b"T", *level, *node),
+        Word::P(level, place) => prepend_level(text, b"P", *level, *place),
+    }
+}
+
+/// A word's letter, its level, and its node or place.
+#[tactic(auto, using(rt_cidr::proofs::Promised::prepending), unfolding(crate::specs::ReplayText::level_text))]
+fn prepend_level(text: &mut ShortText, letter: &[u8; 1], level: u32, index: usize)
+    requires room { FitsInShortText (level_text letter.now level index) text.old }
+    ensures { text.new ≡ level_text letter.now level index ++ text.old }
+{
+    text.prepend_decimal(index as u64);
+    text.prepend(b".");
+    text.prepend_decimal(u64::from(level));
+    text.prepend(letter);
+}
+
+#[tactic(auto, unfolding(crate::specs::ReplayText::mark_text))]
+fn mark_word(mark: Mark) -> &'static [u8]
+    ensures { result.now ≡ mark_text mark }
+{
+    match mark {
+        Mark::Plain => b"\n",
+        Mark::Inside => b" inside\n",
+        Mark::Out => b" out\n",
+    }
+}
+
+#[tactic(auto, unfolding(crate::specs::ReplayText::sign_text))]
+fn sign_word(store: bool) -> &'static [u8]
+    ensures { result.now ≡ sign_text store }
+{
+    if store { b" := " } else { b" = " }
+}
