@@ -1,5 +1,6 @@
 """What the converters have in common: how a table is read, ranked, and written as feed files."""
 import argparse
+import contextlib
 import dataclasses
 import functools
 import ipaddress
@@ -8,6 +9,8 @@ import os
 import pathlib
 import re
 import shutil
+import signal
+import stat
 import sys
 
 GREATEST = 4294967295
@@ -15,6 +18,13 @@ MOST_FILES = 64
 DISCARD = "discard"
 # what stands for the next hop of a connected network, as in the output of `route -n`
 CONNECTED = "0.0.0.0"
+BLOCK = 1 << 20
+# so many lines are kept before they are written
+MOST_WAITING = 200000
+GZIP, COMPRESSED = b"\x1f\x8b", "the input is compressed: give it through zcat"
+OCTETS = {str(octet): octet for octet in range(256)}
+# the bits past a prefix of that length
+HOST_BITS = {str(length): (1 << 32 - length) - 1 for length in range(33)}
 
 
 class Refused(Exception):
@@ -35,28 +45,114 @@ class Notes:
 
     def __init__(self):
         self.left_out = {}
+        self.told = {}
 
     def leave_out(self, name, number=1):
         self.left_out[name] = self.left_out.get(name, 0) + number
 
+    def tell(self, name, number=1):
+        """Counts what is taken and yet has to be told."""
+        self.told[name] = self.told.get(name, 0) + number
+
     def report(self, taken, what):
         parts = [f"{number} {name}" for name, number in self.left_out.items()]
-        return f"took {taken} {what}; left out " + (", ".join(parts) or "nothing")
+        lines = [f"took {taken} {what}; left out " + (", ".join(parts) or "nothing")]
+        return "\n".join(lines + [f"{number} {name}" for name, number in self.told.items()])
+
+
+class Wrong(ValueError):
+    """A field of the input isn't what it should be; the text says how."""
+
+
+class Progress:
+    """Where standard error is a terminal, a line there that is written over each second and erased at the end."""
+
+    def __init__(self):
+        self.lines = self.files = None
+
+    def tell(self, *_):
+        parts = []
+        if self.lines:
+            parts.append(f"{self.lines.number:,} lines")
+            if self.lines.size:
+                parts.append(f"{100 * self.lines.done // self.lines.size} % of the input")
+        if self.files:
+            parts.append(f"{len(self.files.waiting)} sources, {self.files.taken:,} routes written")
+        os.write(2, ("\r\033[K" + ", ".join(parts)).encode())
+
+    def __enter__(self):
+        if sys.stderr.isatty():
+            signal.signal(signal.SIGALRM, self.tell)
+            signal.setitimer(signal.ITIMER_REAL, 1, 1)
+
+    def __exit__(self, *_):
+        if sys.stderr.isatty():
+            signal.setitimer(signal.ITIMER_REAL, 0)
+            os.write(2, b"\r\033[K")
+
+
+PROGRESS = Progress()
+
+
+class Lines:
+    """The lines of standard input, block by block; `number` and `line` are of the one that was given last."""
+
+    def __init__(self, after_block=lambda: None):
+        self.number, self.line = 0, ""
+        status = os.fstat(0)
+        self.size = status.st_size if stat.S_ISREG(status.st_mode) else 0
+        self.done = 0
+        self.after_block = after_block
+        PROGRESS.lines = self
+
+    def blocks(self):
+        """Whole lines; bytes that aren't UTF-8 stand in no part that is used."""
+        rest = b""
+        while data := sys.stdin.buffer.read1(BLOCK):
+            if self.done == 0 and data.startswith(GZIP):
+                raise Refused(COMPRESSED)
+            self.done += len(data)
+            whole, newline, data = data.rpartition(b"\n")
+            if newline:
+                yield (rest + whole).decode("utf-8", errors="replace").replace("\r\n", "\n").split("\n")
+                rest = b""
+            rest += data
+        if self.done == 0:
+            raise Refused("the input is empty")
+        if rest:
+            yield [rest.decode("utf-8", errors="replace")]
+
+    def __iter__(self):
+        for block in self.blocks():
+            for self.number, self.line in enumerate(block, self.number + 1):
+                yield self.line
+            self.after_block()
+
+    @contextlib.contextmanager
+    def named(self):
+        """What goes wrong with a line is refused by the line's number."""
+        try:
+            yield
+        except Wrong as wrong:
+            raise Refused(f"line {self.number}: {wrong}") from None
+        except (ValueError, LookupError):
+            raise not_understood(self.number, self.line) from None
+
+
+def input_lines():
+    """The lines of standard input with their numbers."""
+    lines = Lines()
+    return ((lines.number, line) for line in lines)
 
 
 def input_text():
     """Standard input as text; bytes that aren't UTF-8 stand in no part that is used."""
     data = sys.stdin.buffer.read()
-    if data.startswith(b"\x1f\x8b"):
-        raise Refused("the input is compressed: give it through zcat")
+    if data.startswith(GZIP):
+        raise Refused(COMPRESSED)
     if not data.strip():
         raise Refused("the input is empty")
     return data.decode("utf-8", errors="replace")
-
-
-def input_lines():
-    """The lines of standard input with their numbers."""
-    return enumerate(input_text().splitlines(), 1)
 
 
 def input_json():
@@ -81,26 +177,52 @@ def member(record, name, kind, absent=None):
     return value
 
 
+def address_number(text):
+    """The number of an IPv4 address; ValueError or KeyError where the text is none."""
+    first, second, third, fourth = text.split(".")
+    return OCTETS[first] << 24 | OCTETS[second] << 16 | OCTETS[third] << 8 | OCTETS[fourth]
+
+
 @functools.lru_cache(65536)
-def is_prefix(text):
-    """Whether the text is an IPv4 prefix; False for one of IPv6, and anything else is refused."""
+def is_ipv6(text, kind):
     try:
-        network = ipaddress.ip_network(text)
+        kind(text)
     except ValueError:
-        raise Refused(f"{text!r} is no prefix") from None
-    # a prefix has one text: no mask in place of the length, no leading zeros
-    if network.version == 4 and str(network) != text:
-        raise Refused(f"{text!r} is no prefix")
-    return network.version == 4
+        return False
+    return True
+
+
+def prefix_of(text, trailing_bits=False):
+    """The text of an IPv4 prefix, None for one of IPv6; anything else is Wrong. A prefix has one text: no mask in place
+    of the length, no leading zeros; bits past the length only where `trailing_bits` are to be cleared."""
+    address, _, length = text.partition("/")
+    try:
+        number, past = address_number(address), HOST_BITS[length]
+    except (ValueError, KeyError):
+        if is_ipv6(text, ipaddress.IPv6Interface if trailing_bits else ipaddress.IPv6Network):
+            return None
+        raise Wrong(f"{text!r} is no prefix") from None
+    if number & past == 0:
+        return text
+    if trailing_bits:
+        return f"{ipaddress.IPv4Address(number & ~past)}/{length}"
+    raise Wrong(f"{text!r} is no prefix")
+
+
+def is_prefix(text):
+    """Whether the text is an IPv4 prefix; False for one of IPv6, and anything else is Wrong."""
+    return prefix_of(text) is not None
 
 
 @functools.lru_cache(65536)
 def is_address(text):
-    """Whether the text is an IPv4 address; False for one of IPv6, and anything else is refused."""
+    """Whether the text is an IPv4 address; False for one of IPv6, and anything else is Wrong."""
     try:
-        return ipaddress.ip_address(text).version == 4
-    except ValueError:
-        raise Refused(f"{text!r} is no address") from None
+        return address_number(text) is not None
+    except (ValueError, KeyError):
+        if is_ipv6(text, ipaddress.IPv6Address):
+            return False
+        raise Wrong(f"{text!r} is no address") from None
 
 
 def hop_of(prefix, address, arguments):
@@ -108,7 +230,7 @@ def hop_of(prefix, address, arguments):
     if is_address(address):
         return arguments.connected if address == CONNECTED else address
     if arguments.ipv6_hop is None:
-        raise Refused(f"{prefix} has an IPv6 next hop ({address}): --ipv6-hop says which address stands for such hops")
+        raise Wrong(f"{prefix} has an IPv6 next hop ({address}): --ipv6-hop says which address stands for such hops")
     return arguments.ipv6_hop
 
 
@@ -146,14 +268,11 @@ def preferences(prefix, offers, by_rank):
     return [GREATEST - offer.wish for offer in offers]
 
 
-def feeds_of(table, by_rank, notes):
-    """The lines of each source's feed, of a table that maps a prefix to its offers, best first."""
-    feeds = {}
-    for prefix, offers in table.items():
-        offers = one_each(offers, notes)
-        for offer, preference in zip(offers, preferences(prefix, offers, by_rank)):
-            feeds.setdefault(offer.source, []).append(f"add {prefix} {preference} {offer.hop}")
-    return feeds
+def add_lines(files, prefix, offers, by_rank, notes):
+    """Adds the offers of a prefix, best first, to the feeds of their sources."""
+    offers = one_each(offers, notes)
+    for offer, preference in zip(offers, preferences(prefix, offers, by_rank)):
+        files.lines(offer.source).append(f"add {prefix} {preference} {offer.hop}\n")
 
 
 def file_names(sources):
@@ -162,51 +281,99 @@ def file_names(sources):
     for source in sources:
         plain = stem = re.sub(r"^[.-]", "_", re.sub(r"[^A-Za-z0-9_.-]", "_", source)) or "_"
         number = 1
-        while stem in names.values():
+        while stem in names:
             number += 1
             stem = f"{plain}-{number}"
-        names[source] = stem
-    return {source: f"{name}.feed" for source, name in names.items()}
+        names[stem] = source
+    return [f"{name}.feed" for name in names]
 
 
-def save(folder, feeds):
-    """Writes the feeds into a new folder that takes the place of the given one only when all is written."""
-    folder = pathlib.Path(folder).resolve()
-    if folder.exists() and any(entry.suffix != ".feed" for entry in folder.iterdir()):
-        raise Refused(f"{folder} holds other things than feed files; name a new folder")
-    folder.parent.mkdir(parents=True, exist_ok=True)
-    new = folder.with_name(f".{folder.name}.new-{os.getpid()}")
-    old = folder.with_name(f".{folder.name}.old-{os.getpid()}")
-    new.mkdir()
-    try:
-        for source, name in file_names(feeds).items():
-            (new / name).write_text("version 2\n" + "".join(f"{line}\n" for line in feeds[source]))
-        if folder.exists():
-            folder.rename(old)
-        new.rename(folder)
-    finally:
-        if old.exists() and not folder.exists():
-            old.rename(folder)
-        shutil.rmtree(new, ignore_errors=True)
-        shutil.rmtree(old, ignore_errors=True)
+class FeedFiles:
+    """Feed files in a new folder, which takes the place of the given one only when all is written.
 
+    A source's lines are appended to its list in `waiting`, in the order of which the files are numbered until they are
+    named."""
 
-def finish(arguments, feeds, notes, what="routes"):
-    """Writes the feeds and says what was taken; a table of which nothing is taken is refused."""
-    taken = sum(len(lines) for lines in feeds.values())
-    if taken == 0:
-        raise Refused(notes.report(0, what) + "; nothing is written")
-    save(arguments.folder, feeds)
-    print(notes.report(taken, what), file=sys.stderr)
-    if len(feeds) > MOST_FILES:
-        print(f"{len(feeds)} feeds were written; `yarib run` takes at most {MOST_FILES} files", file=sys.stderr)
+    def __init__(self, folder):
+        self.folder = pathlib.Path(folder).resolve()
+        if self.folder.exists() and any(entry.suffix != ".feed" for entry in self.folder.iterdir()):
+            raise Refused(f"{self.folder} holds other things than feed files; name a new folder")
+        self.new = self.folder.with_name(f".{self.folder.name}.new-{os.getpid()}")
+        self.old = self.folder.with_name(f".{self.folder.name}.old-{os.getpid()}")
+        self.waiting = {}
+        self.taken = 0
+        PROGRESS.files = self
+
+    def __enter__(self):
+        return self
+
+    def __exit__(self, *_):
+        if self.old.exists() and not self.folder.exists():
+            self.old.rename(self.folder)
+        shutil.rmtree(self.new, ignore_errors=True)
+        shutil.rmtree(self.old, ignore_errors=True)
+
+    def lines(self, source):
+        return self.waiting.setdefault(source, [])
+
+    def flush(self, most=MOST_WAITING):
+        """Writes what waits, if it is more than that many lines."""
+        if sum(map(len, self.waiting.values())) <= most:
+            return
+        self.new.mkdir(parents=True, exist_ok=True)
+        for number, lines in enumerate(self.waiting.values()):
+            if lines:
+                with open(self.new / str(number), "a") as file:
+                    file.writelines(lines)
+                self.taken += len(lines)
+                lines.clear()
+
+    def written(self, source):
+        """The lines of a source that are written."""
+        number = list(self.waiting).index(source)
+        if (self.new / str(number)).exists():
+            with open(self.new / str(number)) as file:
+                yield from file
+
+    def rewrite(self, source, lines):
+        """Writes other lines in place of a source's."""
+        number = list(self.waiting).index(source)
+        with open(self.new / "rewritten", "w") as file:
+            file.writelines(lines)
+        (self.new / "rewritten").rename(self.new / str(number))
+
+    def put_in_place(self, names):
+        """Gives the files of the sources that have lines their names, and the folder its place."""
+        named = [number for number in range(len(names)) if (self.new / str(number)).exists()]
+        for number, name in zip(named, file_names([names[number] for number in named])):
+            with open(self.new / name, "w") as file:
+                file.write("version 2\n")
+                with open(self.new / str(number)) as lines:
+                    shutil.copyfileobj(lines, file, BLOCK)
+            (self.new / str(number)).unlink()
+        if self.folder.exists():
+            self.folder.rename(self.old)
+        self.new.rename(self.folder)
+        return len(named)
+
+    def finish(self, notes, what="routes", names=None):
+        """Puts the files in their place and says what was taken; a table of which nothing is taken is refused."""
+        self.flush(0)
+        if self.taken == 0:
+            raise Refused(notes.report(0, what).replace("\n", "; ") + "; nothing is written")
+        number = self.put_in_place(names or list(self.waiting))
+        print(notes.report(self.taken, what), file=sys.stderr)
+        if number > MOST_FILES:
+            print(f"{number} feeds were written; `yarib run` takes at most {MOST_FILES} files", file=sys.stderr)
 
 
 def convert_table(arguments, read):
-    """Converts the table that `read(arguments, notes)` gives: of each prefix its offers, best first."""
+    """Converts the table that `read(arguments, notes, files)` gives: each prefix with its offers, best first."""
     notes = Notes()
-    table = read(arguments, notes)
-    finish(arguments, feeds_of(table, arguments.by == "rank", notes), notes)
+    with FeedFiles(arguments.folder) as files:
+        for prefix, offers in read(arguments, notes, files):
+            add_lines(files, prefix, offers, arguments.by == "rank", notes)
+        files.finish(notes)
 
 
 def parser(documentation, numbers=("local-pref",)):
@@ -239,11 +406,16 @@ def run(convert, *arguments):
     """Runs a converter; what it can't do is one line on standard error and status 1."""
     name = pathlib.Path(sys.argv[0]).name
     try:
-        convert(*arguments)
+        with PROGRESS:
+            convert(*arguments)
         sys.stdout.flush()
-    except (Refused, OSError) as error:
-        # what is left to be flushed has nobody to read it
-        sys.stdout = None
-        sys.exit(f"{name}: {error}")
+        return
+    except (Refused, Wrong, OSError) as error:
+        said = f"{name}: {error}"
+    except MemoryError:
+        said = f"{name}: the memory is not enough for this input; nothing is written"
     except KeyboardInterrupt:
         sys.exit(130)
+    # what is left to be flushed has nobody to read it
+    sys.stdout = None
+    sys.exit(said)

@@ -1,54 +1,113 @@
 """What the converters out of a table have in common: the best route of each prefix, as `yarib run` prints it."""
 import re
+import sys
 
 import feeds
 
-LINE = re.compile(r"(\S+) feed \d+ pref \d+ via (\S+)")
 REPORT = re.compile(r"\d+:\d+ .+")
 HEAD = re.compile(r"table (\d+)")
 
 
-def table_lines():
+def table_lines(lines):
     """The table's lines: those after `table COUNT`, or all where the input is a bare list."""
-    lines = list(feeds.input_lines())
-    reports = 0
-    while reports < len(lines) and REPORT.fullmatch(lines[reports][1]):
+    given = iter(lines)
+    reports, head, rows = 0, None, 0
+    for line in given:
+        head = HEAD.fullmatch(line)
+        if head or not REPORT.fullmatch(line):
+            break
         reports += 1
-    head = HEAD.fullmatch(lines[reports][1]) if reports < len(lines) else None
+    if head is None and reports:
+        raise feeds.Refused("the table is missing: a report alone was given")
     if head is None:
-        if reports:
-            raise feeds.Refused("the table is missing: a report alone was given")
-        return lines
-    rows = lines[reports + 1 :]
-    if len(rows) != int(head[1]):
-        raise feeds.Refused(f"the table should have {head[1]} routes and has {len(rows)}")
-    return rows
+        yield line
+    for line in given:
+        rows += 1
+        yield line
+    if head and rows != int(head[1]):
+        raise feeds.Refused(f"the table should have {head[1]} routes and has {rows}")
 
 
 def best_routes():
     """The prefixes and next hops of the best routes: of each prefix the first line."""
     best = {}
-    for number, line in table_lines():
-        match = LINE.fullmatch(line)
-        if not match or not feeds.is_prefix(match[1]) or not (match[2] == feeds.DISCARD or feeds.is_address(match[2])):
-            raise feeds.not_understood(number, line)
-        best.setdefault(match[1], match[2])
+    lines = feeds.Lines()
+    hops = {feeds.DISCARD: feeds.DISCARD}
+    with lines.named():
+        for line in table_lines(lines):
+            prefix, feed, number, pref, preference, via, hop = line.split(" ")
+            if (feed, pref, via) != ("feed", "pref", "via") or not number.isdecimal() or not preference.isdecimal():
+                raise ValueError
+            if hop not in hops:
+                if not feeds.is_address(hop):
+                    raise ValueError
+                hops[hop] = hop
+            if prefix not in best:
+                if not feeds.is_prefix(prefix):
+                    raise ValueError
+                best[prefix] = hops[hop]
     if not best:
         raise feeds.Refused("the table has no routes; nothing is written")
     return best
 
 
-def convert(documentation, discard, via, device, before="", after=""):
-    """Writes each best route by the pattern of its kind; connected networks come first, since next hops lie in them."""
+class Links:
+    """The connected networks of a table, in which the next hops of others may lie."""
+
+    def __init__(self, prefixes):
+        self.networks = {}
+        for prefix in prefixes:
+            address, _, length = prefix.partition("/")
+            self.networks.setdefault(feeds.HOST_BITS[length], set()).add(feeds.address_number(address))
+        self.known = {}
+
+    def has(self, hop):
+        if hop not in self.known:
+            number = feeds.address_number(hop)
+            self.known[hop] = any(number & ~past in bases for past, bases in self.networks.items())
+        return self.known[hop]
+
+
+def devices_of(connected, named):
+    """The interface of each connected network: `PREFIX=NAME`, or `NAME` where there is only one."""
+    devices = dict(word.split("=", 1) for word in named if "=" in word)
+    plain = [word for word in named if "=" not in word]
+    if len(plain) > 1:
+        raise feeds.Refused(f"--device {plain[0]} and --device {plain[1]}: which is meant has to be said, PREFIX=NAME")
+    for prefix in devices:
+        if prefix not in connected:
+            raise feeds.Refused(f"--device {prefix}={devices[prefix]}: that is no connected network of the table")
+    left = [prefix for prefix in connected if prefix not in devices]
+    if not plain and left:
+        raise feeds.Refused(f"{left[0]} is a connected network: --device says over which interface")
+    if len(left) > 1:
+        several = ", ".join(left)
+        raise feeds.Refused(f"several connected networks ({several}): --device PREFIX=NAME says each one's interface")
+    return devices | {prefix: plain[0] for prefix in left}
+
+
+def options(documentation):
     parser = feeds.plain_parser(documentation)
-    parser.add_argument("--device", metavar="NAME", help="the interface of connected networks (next hop 0.0.0.0)")
-    arguments = parser.parse_args()
+    parser.add_argument("--device", metavar="[PREFIX=]NAME", action="append", default=[],
+                        help="the interface of a connected network (next hop 0.0.0.0); without PREFIX, of the only one")
+    return parser
+
+
+def convert(patterns, arguments, tell_outside=None, before="", after=""):
+    """Writes each best route by the pattern of its kind; connected networks come first, since next hops lie in them."""
     best = best_routes()
-    text = before
-    for prefix in sorted(best, key=lambda prefix: best[prefix] != feeds.CONNECTED):
-        hop = best[prefix]
-        if hop == feeds.CONNECTED and not arguments.device:
-            raise feeds.Refused(f"{prefix} is a connected network: --device says over which interface")
-        pattern = {feeds.DISCARD: discard, feeds.CONNECTED: device}.get(hop, via)
-        text += pattern.format(prefix=prefix, hop=hop, device=arguments.device) + "\n"
-    print(text + after, end="")
+    connected = [prefix for prefix, hop in best.items() if hop == feeds.CONNECTED]
+    devices = devices_of(connected, arguments.device)
+    links = Links(connected)
+    outside = 0
+    sys.stdout.write(before)
+    sys.stdout.writelines(patterns["device"].format(prefix=prefix, device=devices[prefix]) for prefix in connected)
+    for prefix, hop in best.items():
+        if hop == feeds.CONNECTED:
+            continue
+        kind = "discard" if hop == feeds.DISCARD else "via" if links.has(hop) else "outside"
+        outside += kind == "outside"
+        sys.stdout.write(patterns[kind].format(prefix=prefix, hop=hop))
+    sys.stdout.write(after)
+    if outside and tell_outside:
+        print(f"{outside} {tell_outside}", file=sys.stderr)
