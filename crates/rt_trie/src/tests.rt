@@ -126,13 +126,17 @@ fn sixty_four_prefixes(rt: HostRuntime) {
     fill_and_empty(&rt, rt.alloc());
 }
 
+/// The k-th of 2^24 prefixes of length 24, none of which contains another.
+fn numbered_prefix(rt: &impl Abort, k: u32) -> Prefix {
+    Prefix::new(k.wrapping_mul(256), 24).expect(rt, "a prefix")
+}
+
 /// More prefixes than a hundred thousand, and the last address by itself.
 #[test]
 fn more_than_100_000_prefixes(rt: HostRuntime) {
     let mut trie: Trie<u32, Global> = Trie::new(rt.alloc());
     for k in 0..100_100u32 {
-        let p = Prefix::new(k.wrapping_mul(256), 24).expect(&rt, "a prefix");
-        put_new(&rt, &mut trie, p, k);
+        put_new(&rt, &mut trie, numbered_prefix(&rt, k), k);
     }
     let last = prefix(&rt, "255.255.255.255/32");
     put_new(&rt, &mut trie, last, 0);

@@ -1,7 +1,8 @@
-//! How often each call of a trie asks for memory, which for all but a new prefix is never, and how much is in use once prefixes
-//! have gone.
+//! How often each call of a trie asks for memory, which for all but a new prefix is never, in a small trie and a large one, and
+//! how much is in use once prefixes have gone.
 
-use super::{STORED, prefix};
+use super::sieves::OfLength;
+use super::{STORED, numbered_prefix, prefix, put_new};
 use crate::Trie;
 use counted_memory::Counted;
 use linked_list_allocator::LocalHeap;
@@ -67,7 +68,7 @@ fn nothing_but_a_new_prefix_asks_for_memory(rt: HostRuntime) {
     let mut trie: CountedTrie<'_> = Trie::new(&memory);
     assert_eq!(&rt; memory.asked(), 0, "new");
     fill(&rt, &mut trie);
-    // A node for each of the six, and one at which 10.0.0.0/8 and 192.0.2.0/24 part.
+    // A node for each of the six, and one for 10.0.0.0/14, at which 10.1.0.0/16 and 10.2.0.0/16 part.
     assert_eq!(&rt; memory.asked(), 7, "insert");
     for text in STORED.iter() {
         call_at(&rt, &memory, &mut trie, text);
@@ -87,6 +88,103 @@ fn nothing_but_a_new_prefix_asks_for_memory(rt: HostRuntime) {
         assert_eq!(&rt; trie.remove(prefix(&rt, text)), Some(2));
         assert_eq!(&rt; memory.asked(), asked, "remove {text}");
     }
+}
+
+/// A new prefix asks for one box where it goes below a leaf, above a node or to a fork, and beside a node for two.
+#[test]
+fn a_new_prefix_asks_for_a_box_or_two(rt: HostRuntime) {
+    let rows = [
+        // Where nothing was; below a leaf, a fork beside it, and at that fork.
+        ("10.1.0.0/16", 1),
+        ("10.1.2.0/24", 1),
+        ("10.2.0.0/16", 2),
+        ("10.0.0.0/14", 1),
+        // Above a full node, beside it, and above it below a fork.
+        ("10.0.0.0/8", 1),
+        ("192.0.2.0/24", 2),
+        ("0.0.0.0/1", 1),
+        // Above a leaf, beside one below a full node, above that fork and at it.
+        ("192.0.0.0/8", 1),
+        ("192.0.3.0/24", 2),
+        ("192.0.0.0/16", 1),
+        ("192.0.2.0/23", 1),
+        // Beside a full node, beside a fork, and at the root.
+        ("193.0.0.0/8", 2),
+        ("208.0.0.0/8", 2),
+        ("0.0.0.0/0", 1),
+    ];
+    let memory = Counted::new(rt.alloc());
+    let mut trie: CountedTrie<'_> = Trie::new(&memory);
+    for (text, boxes) in rows {
+        let asked = memory.asked();
+        put_new(&rt, &mut trie, prefix(&rt, text), 1);
+        assert_eq!(&rt; memory.asked().wrapping_sub(asked), boxes, "{text}");
+    }
+}
+
+/// How many prefixes the large trie has: more than 65,536.
+const MANY: u32 = 66_000;
+
+/// A trie of so many prefixes, none of which contains another: all but the first ask for a leaf and a fork.
+fn fill_many(rt: &impl Abort, memory: &Counted<Global>, trie: &mut CountedTrie<'_>) {
+    for k in 0..MANY {
+        put_new(rt, trie, numbered_prefix(rt, k), k);
+    }
+    assert_eq!(rt; memory.asked(), 2 * u64::from(MANY) - 1, "insert");
+}
+
+/// Each prefix of the large trie looked up by itself, and put in once more.
+fn call_at_each(rt: &impl Abort, trie: &mut CountedTrie<'_>) {
+    for k in 0..MANY {
+        let p = numbered_prefix(rt, k);
+        assert_eq!(rt; trie.get(p).copied(), Some(k));
+        assert!(rt; trie.get_mut(p).is_some());
+        assert!(rt; trie.longest(Addr(p.base())).is_some());
+        assert_eq!(rt; trie.insert(p, k), Ok(Some(k)));
+        assert_eq!(rt; trie.after(p).is_some(), k < MANY - 1);
+    }
+}
+
+/// The large trie's addresses, looked up together.
+fn look_up_each(rt: &impl Abort, alloc: Global, trie: &CountedTrie<'_>) -> Result<(), Fail> {
+    let mut addresses = Vec::new(alloc);
+    for k in 0..MANY {
+        addresses.push(Addr(numbered_prefix(rt, k).base()))?;
+    }
+    let mut answers = vec![in alloc; None; addresses.len()]?;
+    trie.longest_many(&addresses, &mut answers);
+    assert!(rt; answers.iter().all(|answer| answer.is_some()));
+    Ok(())
+}
+
+/// A walk over the large trie.
+fn walk_many(rt: &impl Abort, trie: &CountedTrie<'_>) {
+    assert_eq!(rt; trie.len(), MANY as usize);
+    assert_eq!(rt; trie.walk().count(), MANY as usize);
+}
+
+#[test]
+fn a_large_trie_asks_for_its_nodes_alone(rt: HostRuntime) -> Result<(), Fail> {
+    let memory = Counted::new(rt.alloc());
+    let mut trie: CountedTrie<'_> = Trie::new(&memory);
+    fill_many(&rt, &memory, &mut trie);
+    let asked = memory.asked();
+    call_at_each(&rt, &mut trie);
+    assert_eq!(&rt; memory.asked(), asked, "a call at a stored prefix");
+    look_up_each(&rt, rt.alloc(), &trie)?;
+    assert_eq!(&rt; memory.asked(), asked, "longest_many");
+    walk_many(&rt, &trie);
+    assert_eq!(&rt; memory.asked(), asked, "walk");
+    for k in 0..MANY / 2 {
+        assert_eq!(&rt; trie.remove(numbered_prefix(&rt, k)), Some(k));
+    }
+    assert_eq!(&rt; memory.asked(), asked, "remove");
+    trie.retain(&mut OfLength { len: 24 });
+    assert_eq!(&rt; trie.len(), (MANY / 2) as usize);
+    trie.retain(&mut OfLength { len: 8 });
+    assert_eq!(&rt; trie.len(), 0);
+    assert_eq!(&rt; memory.asked(), asked, "retain");
+    Ok(())
 }
 
 #[test]

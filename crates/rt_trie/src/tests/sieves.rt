@@ -13,8 +13,8 @@ use std::test::Fail;
 
 /// Gives up all but the prefixes of one length.
 #[derive(Drop)]
-struct OfLength {
-    len: u8,
+pub(crate) struct OfLength {
+    pub len: u8,
 }
 
 impl<V> Sieve<V> for OfLength {
