@@ -13,7 +13,7 @@ use Rattle.ya_core.specs.ArbitrationTree.{node_of, side_of, nodes_below, number_
 use Rattle.ya_core.specs.FlatRow.{is_word}
 use Rattle.ya_core.specs.Steps.{State, StepsTo, LeadTo, Accesses, opening, entry_access, exit_access, access_of, won, after_exit, entry_next, exit_next, next_of, value_of}
 use Rattle.ya_core.specs.WalkerModel.{walk, due_of, due, CanStand, cost_of_word, cost_of, walk_after, MayFind, MayBeTold, WalkLeadsTo, BeginsEntry, BeginsExit}
-use Rattle.ya_core.specs.Progress.{SomeoneGoesOn, CanLeadTo, SomeoneGoesOnIn, Announces, Wins, Neither, is_entering, is_to_announce, deed_of, announces, LevelSees, HasNotWon, is_rival, is_win, times_overtaken}
+use Rattle.ya_core.specs.Progress.{SomeoneGoesOn, CanLeadTo, SomeoneGoesOnIn, Announces, Wins, Neither, is_entering, is_to_announce, deed_of, announces, LevelStep, LevelSees, HasNotWon, is_rival, is_win, times_overtaken}
 use Rattle.ya_core.specs.Fairness.{IsRunOfSchedule, IsFair, Eventually, is_on_way_in, is_on_way_out}
 use Rattle.ya_core.specs.Worlds.{Marked, World, Event, Steps, Appends, WorldSteps, WorldAppends, IsInside, IsReached, Runs, Happens, any_entry, is_inside, opening_world}
 
@@ -104,6 +104,18 @@ not_itself = refl
 not_at_another_node : is_rival 1 2 1 ≡ false
 unfolding node_of side_of
 not_at_another_node = refl
+
+at_the_root_each_of_the_other_half : is_rival 2 1 2 ≡ true
+unfolding node_of side_of
+at_the_root_each_of_the_other_half = refl
+
+at_the_root_not_its_neighbour : is_rival 2 2 3 ≡ false
+unfolding node_of side_of
+at_the_root_not_its_neighbour = refl
+
+at_the_third_level_one_of_the_upper_four : is_rival 3 1 6 ≡ true
+unfolding node_of side_of
+at_the_third_level_one_of_the_upper_four = refl
 
 -- times_overtaken
 once_by_the_rival :
@@ -309,6 +321,19 @@ seven_where_it_competes =
 three_more_on_the_way_out : WalkLeadsTo (walk 1 0 Inside true 7) (0 ∷ 2 ∷ 2 ∷ []) (walk 1 0 Idle false 10)
 unfolding node_of side_of
 three_more_on_the_way_out = (tt, ((omega arith, refl), (tt, refl)))
+
+alone_six_at_two_levels : WalkLeadsTo (walk 2 0 Idle true 0) (1 ∷ 1 ∷ 0 ∷ 0 ∷ 1 ∷ 1 ∷ 0 ∷ 0 ∷ []) (walk 2 0 Inside false 6)
+unfolding node_of side_of
+alone_six_at_two_levels = (tt, (tt, (tt, (inl refl, (tt, (tt, (tt, (inl refl, refl))))))))
+
+at_the_root_it_finds_one_of_the_other_half : WalkLeadsTo (walk 2 0 (Entering 2 E4) false 5) (3 ∷ []) (walk 2 0 (Entering 2 (E5 2)) false 6)
+unfolding node_of side_of
+at_the_root_it_finds_one_of_the_other_half = (inr (omega arith, refl, refl), refl)
+
+at_the_root_not_its_neighbour_there : ¬ WalkLeadsTo (walk 2 0 (Entering 2 E4) false 5) (2 ∷ []) (walk 2 0 (Entering 2 (E5 1)) false 6)
+unfolding node_of side_of
+at_the_root_not_its_neighbour_there (inl nil, rest) = cc
+at_the_root_not_its_neighbour_there (inr h, rest) = let side = h.2 in cc
 
 -- is_inside
 one_inside_is : is_inside Inside ≡ true
@@ -524,6 +549,21 @@ one_that_has_begun_goes_on = record {
 nobody_where_all_are_idle : ¬ SomeoneGoesOn 1 opening
 nobody_where_all_are_idle h = h.busy refl
 
+-- a state that no run reaches: place 0 waits, and no other takes part
+abbrev one_waits : ℕ → Process
+one_waits zero = Entering 1 E10
+one_waits (suc place) = Idle
+
+abbrev stuck : State
+stuck = record { words = λ word. 0; processes = one_waits }
+
+stays_stuck : (place : ℕ) (s : State) → stuck.processes place ≢ Idle → StepsTo 1 place stuck s → s.processes place ≡ stuck.processes place
+stays_stuck zero s busy step = step.process
+stays_stuck (suc place) s busy step = absurd (busy refl)
+
+nobody_where_the_only_one_waits : ¬ SomeoneGoesOn 1 stuck
+nobody_where_the_only_one_waits h = h.goes_on (stays_stuck h.place h.after h.busy h.step)
+
 -- LevelSees
 a_claim_and_then_an_announcement : LevelSees 1 1 opening (record { place = 0; deed = Neither } ∷ announces 0 ∷ [])
 unfolding node_of side_of
@@ -536,6 +576,28 @@ a_claim_and_then_an_announcement = (
 
 no_win_by_the_first_step : ¬ LevelSees 1 1 opening (record { place = 0; deed = Wins } ∷ [])
 no_win_by_the_first_step h = let deed = h.2 in cc
+
+-- what a level sees of the steps of these places
+abbrev seen_of : ℕ → ℕ → List ℕ → State → List LevelStep
+seen_of levels level [] s = []
+seen_of levels level (place ∷ places) s =
+    record { place = place; deed = deed_of level (s.processes place) ((after levels place s).processes place) }
+    ∷ seen_of levels level places (after levels place s)
+
+sees : (levels level : ℕ) (places : List ℕ) (s : State) → AllIn levels places → LevelSees levels level s (seen_of levels level places s)
+sees levels level [] s within = tt
+sees levels level (place ∷ places) s within =
+    (after levels place s, steps_to levels place s within.0, refl, sees levels level places (after levels place s) within.1)
+
+-- a step of place 0 that does neither
+abbrev neither : LevelStep
+neither = record { place = 0; deed = Neither }
+
+the_root_sees_nothing_of_the_leaf :
+    LevelSees 2 2 opening (neither ∷ neither ∷ neither ∷ neither ∷ neither ∷ announces 0 ∷ [])
+unfolding node_of side_of
+the_root_sees_nothing_of_the_leaf =
+    sees 2 2 (0 ∷ 0 ∷ 0 ∷ 0 ∷ 0 ∷ 0 ∷ []) opening (omega arith, (omega arith, (omega arith, (omega arith, (omega arith, (omega arith, tt))))))
 
 -- place 0 steps at all times
 abbrev alone : ℕ → State
@@ -575,6 +637,21 @@ unfair_to_place_0 states run fair =
     let first = subst (λ s. (states 1).processes 0 ≡ next_of 1 0 (s.processes 0) (value_of s.words (access_of 1 0 (s.processes 0)))) run.start (run.steps 0).process in
     let begun : (states 1).processes 0 ≡ Entering 1 E2 = first in
     let again = fair 0 1 (λ idle. cc) in not_again again.0 again.1 again.2
+
+-- place 1 steps once, and then place 0 at all times
+abbrev place_1_once : ℕ → ℕ
+place_1_once zero = 1
+place_1_once (suc time) = 0
+
+not_place_1_again : (time : ℕ) → 1 ≤ time → place_1_once time ≢ 1
+not_place_1_again zero later same = omega (arith, later)
+not_place_1_again (suc time) later same = cc
+
+unfair_to_place_1 : (states : ℕ → State) → IsRunOfSchedule 1 place_1_once states → ¬ IsFair place_1_once states
+unfair_to_place_1 states run fair =
+    let first = subst (λ s. (states 1).processes 1 ≡ next_of 1 1 (s.processes 1) (value_of s.words (access_of 1 1 (s.processes 1)))) run.start (run.steps 0).process in
+    let begun : (states 1).processes 1 ≡ Entering 1 E2 = first in
+    let again = fair 1 1 (λ idle. cc) in not_place_1_again again.0 again.1 again.2
 
 -- the world after an event
 abbrev stepped : {X : Type 0} → ℕ → World X → State → Bool → Bool → World X
@@ -713,6 +790,13 @@ one_inside_goes_on = record {
 
 nobody_at_the_start : ¬ SomeoneGoesOnIn 1 (opening_world {X = ℕ})
 nobody_at_the_start h = h.busy refl
+
+-- the world of that state
+abbrev stuck_world : World ℕ
+stuck_world = stepped 0 opening_world stuck false false
+
+nobody_in_the_world_where_the_only_one_waits : ¬ SomeoneGoesOnIn 1 stuck_world
+nobody_in_the_world_where_the_only_one_waits h = h.goes_on (stays_stuck h.place h.after.state h.busy h.step.state)
 
 -- IsReached
 both_make_an_entry : (world : World ℕ) × IsReached 1 any_entry one_after_the_other world × (world.content ≡ (0, 7) ∷ (1, 8) ∷ [])
