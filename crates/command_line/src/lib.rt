@@ -44,6 +44,8 @@ macro_rules! taken_notes {
 Standard error tells of each file what was not taken, one line a kind:
   yarib: FILE: faulty lines: N, the first LINE: FAULT
   yarib: FILE: adds over the limit: N
+  yarib: FILE: adds of a prefix already there: N
+  yarib: FILE: replaces and withdraws of a prefix not there: N
   yarib: FILE: commands refused for want of memory: N
 
 Exit status, the greatest that applies:

@@ -11,7 +11,7 @@ use Rattle.rt_rib.specs.declared.routes.Hop.TheVariants.{Discard}
 use Rattle.rt_rib.specs.declared.routes.Route.{Route}
 use Rattle.rt_rib.specs.declared.commands.Cmd.{Cmd}
 use Rattle.rt_rib.specs.declared.commands.Cmd.TheVariants.{Add, Dump, Purge}
-use Rattle.rt_rib.specs.declared.commands.Reply.TheVariants.{Added, Exists, Full, Dumped}
+use Rattle.rt_rib.specs.declared.commands.Reply.TheVariants.{Added, Exists, Full, Missing, Dumped}
 use Rattle.rt_rib.specs.declared.commands.Entry.{Entry}
 use Rattle.rt_rib.specs.Sequential.{reply_of, table_after}
 use Rattle.rt_rib.specs.Journal.{table_of_journal, IsAnswered, IsLawfulJournal}
@@ -113,20 +113,28 @@ a_fault = record { number = 1; answer = answer.Fault fault.Hop }
 
 -- tally_of
 faults_and_an_add_over_the_limit : tally_of (a_fault ∷ record { number = 2; answer = answer.Did Full } ∷ record { number = 5; answer = answer.Fault fault.Text } ∷ [])
-    ≡ record { faulty = 2; first_faulty = Some a_fault; full = 1; refused = 0 }
+    ≡ record { faulty = 2; first_faulty = Some a_fault; full = 1; existing = 0; missing = 0; refused = 0 }
 faults_and_an_add_over_the_limit = refl
 
-all_was_taken : tally_of (record { number = 1; answer = answer.Did (Dumped 0) } ∷ []) ≡ record { faulty = 0; first_faulty = None; full = 0; refused = 0 }
+-- an add of a prefix that is there, and two commands about one that is not
+found_otherwise : tally_of (record { number = 1; answer = answer.Did Exists } ∷ record { number = 2; answer = answer.Did Missing } ∷ record { number = 4; answer = answer.Did Missing } ∷ [])
+    ≡ record { faulty = 0; first_faulty = None; full = 0; existing = 1; missing = 2; refused = 0 }
+found_otherwise = refl
+
+all_was_taken : tally_of (record { number = 1; answer = answer.Did (Dumped 0) } ∷ []) ≡ record { faulty = 0; first_faulty = None; full = 0; existing = 0; missing = 0; refused = 0 }
 all_was_taken = refl
 
 -- tallies_status
-nothing_left_out : tallies_status (record { faulty = 0; first_faulty = None; full = 0; refused = 0 } ∷ []) ≡ 0
+nothing_left_out : tallies_status (record { faulty = 0; first_faulty = None; full = 0; existing = 0; missing = 0; refused = 0 } ∷ []) ≡ 0
 nothing_left_out = refl
 
-an_add_was_over_the_limit : tallies_status (record { faulty = 0; first_faulty = None; full = 1; refused = 0 } ∷ []) ≡ 2
+an_add_was_over_the_limit : tallies_status (record { faulty = 0; first_faulty = None; full = 1; existing = 0; missing = 0; refused = 0 } ∷ []) ≡ 2
 an_add_was_over_the_limit = refl
 
-a_refusal_before_what_was_left_out : tallies_status (record { faulty = 1; first_faulty = Some a_fault; full = 1; refused = 0 } ∷ record { faulty = 0; first_faulty = None; full = 0; refused = 1 } ∷ []) ≡ 5
+what_was_found_otherwise_is_no_fault : tallies_status (record { faulty = 0; first_faulty = None; full = 0; existing = 2; missing = 3; refused = 0 } ∷ []) ≡ 0
+what_was_found_otherwise_is_no_fault = refl
+
+a_refusal_before_what_was_left_out : tallies_status (record { faulty = 1; first_faulty = Some a_fault; full = 1; existing = 0; missing = 0; refused = 0 } ∷ record { faulty = 0; first_faulty = None; full = 0; existing = 0; missing = 0; refused = 1 } ∷ []) ≡ 5
 a_refusal_before_what_was_left_out = refl
 
 -- a text of one line, and its entry

@@ -7,7 +7,7 @@ use Rattle.rt_cidr.specs.Output.{AppendsBeginning}
 use Rattle.rt_rib.specs.declared.routes.Route.{Route}
 use Rattle.rt_rib.specs.declared.commands.Entry.{Entry}
 use Rattle.rt_rib.specs.declared.commands.Reply.{Reply}
-use Rattle.rt_rib.specs.declared.commands.Reply.TheVariants.{Full}
+use Rattle.rt_rib.specs.declared.commands.Reply.TheVariants.{Full, Exists, Missing}
 use Rattle.rt_rib.specs.LookUp.{look_up, best_routes}
 use Rattle.rt_rib.specs.Journal.{table_of_journal}
 use Rattle.rt_feed.specs.declared.report.Line.{Line}
@@ -31,6 +31,28 @@ answers_text addresses table = flat_map (λ addr. found_text addr (look_up addr 
 abbrev pub routes_text : Bool → List Route → List ℕ
 routes_text only_best table = rows_text (if only_best then best_routes table else table)
 
+-- the reply of an `add` of a prefix that is there already
+abbrev pub is_existing : Reply → Bool
+is_existing Exists = true
+is_existing _ = false
+
+-- an `add` found its prefix there already
+abbrev pub was_existing : Answer → Bool
+was_existing (Did reply) = is_existing reply
+was_existing Refused = false
+was_existing (Fault fault) = false
+
+-- the reply of a `replace` or `withdraw` of a prefix that is not there
+abbrev pub is_missing : Reply → Bool
+is_missing Missing = true
+is_missing _ = false
+
+-- a `replace` or `withdraw` found no route of its prefix
+abbrev pub was_missing : Answer → Bool
+was_missing (Did reply) = is_missing reply
+was_missing Refused = false
+was_missing (Fault fault) = false
+
 -- the reply of an `add` beyond the limit
 abbrev pub is_full : Reply → Bool
 is_full Full = true
@@ -48,6 +70,8 @@ tally_of report = record {
   faulty = count_by (λ (line : Line). is_fault line.answer) report;
   first_faulty = find (λ (line : Line). is_fault line.answer) report;
   full = count_by (λ (line : Line). was_full line.answer) report;
+  existing = count_by (λ (line : Line). was_existing line.answer) report;
+  missing = count_by (λ (line : Line). was_missing line.answer) report;
   refused = count_by (λ (line : Line). is_refusal line.answer) report;
 }
 

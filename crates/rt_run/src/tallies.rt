@@ -3,7 +3,7 @@ ghost use Rattle.std.specs.Prelude.{◌≡◌, count_by, find, map, IfOk};
 ghost use Rattle.std.specs.List.{list_any};
 ghost use Rattle.rt_feed.specs.declared.report.Line.{Line};
 ghost use Rattle.rt_feed.specs.Reports.{is_fault, is_refusal};
-ghost use Rattle.rt_run.specs.TableText.{was_full, tally_of, has_refused, has_left_out, tallies_status, IsTaken};
+ghost use Rattle.rt_run.specs.TableText.{was_full, was_existing, was_missing, tally_of, has_refused, has_left_out, tallies_status, IsTaken};
 
 use rt_feed::{Answer, Line, Report};
 use rt_rib::Reply;
@@ -24,6 +24,10 @@ pub struct Tally {
     pub first_faulty: Option<Line>,
     /// How many `add`s were over the limit.
     pub full: usize,
+    /// How many `add`s found their prefix there already.
+    pub existing: usize,
+    /// How many `replace`s and `withdraw`s found no route of their prefix.
+    pub missing: usize,
     /// How many commands were refused for want of memory.
     pub refused: usize,
 }
@@ -78,6 +82,8 @@ fn tally_of(report: &Report) -> Tally
         faulty: count_faulty(lines),
         first_faulty: first_faulty(lines),
         full: count_full(lines),
+        existing: count_existing(lines),
+        missing: count_missing(lines),
         refused: count_refused(lines),
     }
 }
@@ -100,6 +106,18 @@ fn count_full(lines: &[Line]) -> usize
     lines.iter().filter(|line| was_full(line.answer)).count()
 }
 
+fn count_existing(lines: &[Line]) -> usize
+    ensures { result ≡ count_by (λ (line : Line). was_existing line.answer) lines.now }
+{
+    lines.iter().filter(|line| was_existing(line.answer)).count()
+}
+
+fn count_missing(lines: &[Line]) -> usize
+    ensures { result ≡ count_by (λ (line : Line). was_missing line.answer) lines.now }
+{
+    lines.iter().filter(|line| was_missing(line.answer)).count()
+}
+
 fn count_refused(lines: &[Line]) -> usize
     ensures { result ≡ count_by (λ (line : Line). is_refusal line.answer) lines.now }
 {
@@ -112,6 +130,26 @@ fn was_full(answer: Answer) -> bool
 {
     match answer {
         Answer::Did(Reply::Full) => true,
+        _ => false,
+    }
+}
+
+/// Whether an `add` found its prefix there already.
+fn was_existing(answer: Answer) -> bool
+    ensures { result ≡ was_existing answer }
+{
+    match answer {
+        Answer::Did(Reply::Exists) => true,
+        _ => false,
+    }
+}
+
+/// Whether a `replace` or `withdraw` found no route of its prefix.
+fn was_missing(answer: Answer) -> bool
+    ensures { result ≡ was_missing answer }
+{
+    match answer {
+        Answer::Did(Reply::Missing) => true,
         _ => false,
     }
 }

@@ -38,7 +38,6 @@ where
     if let Some(name) = request.more {
         let text = read_file(rt, name)?;
         add_addresses(text.as_slice(), &mut asked)?;
-        tell_faulty(err, name, asked.faulty);
     }
     let batch = run.batch as usize;
     let addresses = asked.addresses.as_slice();
@@ -52,6 +51,9 @@ where
         out,
     ) {
         Ok(taken) => {
+            if let Some(name) = request.more {
+                tell_faulty(err, name, asked.faulty);
+            }
             let status = tell_taken(err, run.files.as_slice(), &taken);
             Ok(if status == 0 && asked.faulty.count > 0 {
                 NOT_TAKEN

@@ -58,6 +58,10 @@ pub(super) fn tell_faulty<E: Write>(err: &mut E, name: &str, faulty: FaultyLines
 pub(super) fn tell_tally<E: Write>(err: &mut E, name: &str, tally: &Tally) {
     tell_faulty(err, name, FaultyLines::of(tally));
     tell_count(err, name, "adds over the limit", tally.full);
+    let existing = "adds of a prefix already there";
+    tell_count(err, name, existing, tally.existing);
+    let missing = "replaces and withdraws of a prefix not there";
+    tell_count(err, name, missing, tally.missing);
     let refused = "commands refused for want of memory";
     tell_count(err, name, refused, tally.refused);
 }

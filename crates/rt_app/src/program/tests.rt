@@ -33,7 +33,7 @@ fn each_fault_has_its_status_and_text(rt: HostRuntime) {
     }
 }
 
-/// A tally of three kinds is told in three lines, and one of none in none.
+/// A tally of five kinds is told in five lines, and one of none in none.
 #[test]
 fn what_was_not_taken_is_told(rt: HostRuntime) {
     let first = Line {
@@ -44,12 +44,16 @@ fn what_was_not_taken_is_told(rt: HostRuntime) {
         faulty: 2,
         first_faulty: Some(first),
         full: 7,
+        existing: 4,
+        missing: 5,
         refused: 1,
     };
     let none = Tally {
         faulty: 0,
         first_faulty: None,
         full: 0,
+        existing: 0,
+        missing: 0,
         refused: 0,
     };
     let mut err = Vec::new(rt.alloc());
@@ -58,6 +62,8 @@ fn what_was_not_taken_is_told(rt: HostRuntime) {
     let told =
         "yarib: a.feed: faulty lines: 2, the first 3: E6: the preference is no decimal from 0 to 4294967295
 yarib: a.feed: adds over the limit: 7
+yarib: a.feed: adds of a prefix already there: 4
+yarib: a.feed: replaces and withdraws of a prefix not there: 5
 yarib: a.feed: commands refused for want of memory: 1
 ";
     assert!(rt; err.as_slice() == told.as_bytes());

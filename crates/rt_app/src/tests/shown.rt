@@ -8,7 +8,7 @@ use std::test::Fail;
 use std::thread::Threads;
 
 /// The files that stand where the calls are made.
-static FILES: [(&str, &str); 12] = [
+static FILES: [(&str, &str); 13] = [
     (
         "north.feed",
         "# Has a way to all of 10.0.0.0/8, and a better one to a part of it.
@@ -75,6 +75,15 @@ frob
         "lookup 10.1.2.3\nadd 10.1.2.0/24 1 192.0.2.7\nadd 10.1.2.3/32 1 192.0.2.7\nwithdraw 10.1.2.3/32\n",
     ),
     ("cr.txt", "10.0.0.1\r\n"),
+    (
+        "again.feed",
+        "add 10.0.0.0/8 30 192.0.2.8
+add 10.0.0.0/8 20 192.0.2.8
+replace 10.1.0.0/16 20 192.0.2.8
+withdraw 10.2.0.0/16
+lookup 11.0.0.1
+",
+    ),
 ];
 
 /// A call, and how it ends.
@@ -107,7 +116,7 @@ fn what_the_table_says(rt: HostRuntime) -> Result<(), Fail> {
     compare(&rt)
 }
 
-static ROWS: [Shown; 20] = [
+static ROWS: [Shown; 22] = [
     Shown {
         words: &[
             "yarib",
@@ -272,6 +281,31 @@ static ROWS: [Shown; 20] = [
         err: "yarib: west.feed: faulty lines: 2, the first 2: E5: a bit past the prefix's length is set
 yarib: west.feed: adds over the limit: 1
 yarib: north.feed: adds over the limit: 1
+",
+    },
+    // What was found otherwise is told, and is no fault.
+    Shown {
+        words: &["yarib", "table", "again.feed", "equal.feed", "again.feed"],
+        status: 0,
+        out: "10.0.0.0/8 feed 1 pref 30 via 192.0.2.8
+10.0.0.0/8 feed 2 pref 30 via 192.0.2.5
+10.0.0.0/8 feed 3 pref 30 via 192.0.2.8
+",
+        err: "yarib: again.feed: adds of a prefix already there: 1
+yarib: again.feed: replaces and withdraws of a prefix not there: 2
+yarib: again.feed: adds of a prefix already there: 1
+yarib: again.feed: replaces and withdraws of a prefix not there: 2
+",
+    },
+    Shown {
+        words: &["yarib", "lookup", "--addresses", "odd.txt", "again.feed"],
+        status: 2,
+        out: "10.0.0.1 route 10.0.0.0/8 feed 1 pref 30 via 192.0.2.8
+10.0.0.3 route 10.0.0.0/8 feed 1 pref 30 via 192.0.2.8
+",
+        err: "yarib: odd.txt: faulty lines: 2, the first 2: E3: the field is no prefix or address
+yarib: again.feed: adds of a prefix already there: 1
+yarib: again.feed: replaces and withdraws of a prefix not there: 2
 ",
     },
     // A faulty line is no address and has no answer.

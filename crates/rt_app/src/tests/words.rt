@@ -249,6 +249,25 @@ fn closed_outputs(rt: HostRuntime) -> Result<(), Fail> {
     Ok(())
 }
 
+/// Files and a text of addresses of which not all is taken: nothing is told of them where the output can't be written.
+#[test]
+fn nothing_is_told_where_the_output_is_closed(rt: HostRuntime) -> Result<(), Fail> {
+    fs::write(&rt, "odd.txt", b"10.0.0.1\nfrob\n")?;
+    fs::write(&rt, "odd.feed", b"add 10.0.0.0/8 1 192.0.2.1\nfrob\n")?;
+    for words in NOT_ALL_TAKEN.iter() {
+        let owned = owned_words(rt.alloc(), words)?;
+        let mut err = Vec::new(rt.alloc());
+        let status = run_words(&rt, rt.alloc(), owned.as_slice(), &mut Closed, &mut err);
+        assert!(rt; status == 6 && err.as_slice() == b"yarib: cannot write\n".as_slice());
+    }
+    Ok(())
+}
+
+static NOT_ALL_TAKEN: [&[&str]; 2] = [
+    &["yarib", "lookup", "--addresses", "odd.txt", "odd.feed"],
+    &["yarib", "table", "odd.feed"],
+];
+
 static CALLS: [Call; 32] = [
     Call {
         words: &["yarib", "run", "pair.feed"],
