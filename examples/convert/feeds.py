@@ -3,6 +3,7 @@ import argparse
 import contextlib
 import dataclasses
 import functools
+import gc
 import ipaddress
 import json
 import os
@@ -405,6 +406,8 @@ def ipv4(text):
 def run(convert, *arguments):
     """Runs a converter; what it can't do is one line on standard error and status 1."""
     name = pathlib.Path(sys.argv[0]).name
+    # nothing that is kept refers to itself, so there is nothing for the collector of cycles to find
+    gc.disable()
     try:
         with PROGRESS:
             convert(*arguments)
