@@ -1,7 +1,8 @@
 -- Examples by which definitions are tested, each under a line with the definition's name. Both sides are computed. The
 -- value that the lock lends is a number here, which others can only raise.
-use Rattle.std.proofs.Common.{◌≡◌, ℕ, zero, suc, ◌≤◌, List, [], ◌∷◌, ◌++◌, ◌∙◌, refl, sym, subst, arith, None, Some, replicate, set}
+use Rattle.std.proofs.Common.{◌≡◌, ◌≢◌, ℕ, zero, suc, ◌≤◌, List, [], ◌∷◌, ◌++◌, ◌∙◌, refl, sym, subst, arith, None, Some, replicate, set}
 use Rattle.std.specs.Prelude as std
+use Rattle.std.specs.Prelude.{IsTrue}
 use mathlib.Core.Option.{Option, none, some, some-injective, some-ne-none}
 use lib.ListN.{get_elem?}
 use Rattle.atomic_table.specs.Table.{State}
@@ -11,7 +12,7 @@ use Rattle.ya_core.specs.declared.process.EntryPoint.TheVariants.{E8}
 use Rattle.ya_core.specs.declared.process.Process.{Process}
 use Rattle.ya_core.specs.declared.process.Process.TheVariants.{Idle, Entering, Inside}
 use Rattle.ya_core.specs.ArbitrationTree.{node_of, side_of, number_of, count_of_words}
-use Rattle.ya_core.specs.Soundness.{IsSoundState}
+use Rattle.ya_core.specs.Soundness.{IsSoundState, claims, phase_of}
 use Rattle.ya_core.proofs.Promised.{opens}
 use Rattle.ya_lock.specs.declared.view.View.{View}
 use Rattle.ya_lock.specs.declared.view.View.TheVariants.{Unused, Making, Filling, HandingOut, Seated, Joining, Spent}
@@ -141,6 +142,24 @@ one_that_waits_for_nobody h =
         one_that_waits_for_a_1_does_not (subst (GoesOn stuck 1 1) (sym is.1) (subst (λ q. GoesOn stuck 1 q process) (sym is.0) goes_on))
     alone (suc seat) place process value has goes_on = some-ne-none has.0 (sym has.1)
 
+-- the same, and place 0 is away
+abbrev stuck_beside_one_away : State (std.Option ℕ) (View ℕ)
+stuck_beside_one_away = moment (some (Some 7) ∷ []) (Seated 1 (Entering 1 E8) 5 4 ∷ Seated 0 Idle 7 0 ∷ [])
+
+one_that_is_away_does_not_count : ¬ SomeSeatGoesOn stuck_beside_one_away 1
+one_that_is_away_does_not_count h =
+    let found = h 0 1 (Entering 1 E8) 5 (Seated 1 (Entering 1 E8) 5 4, refl, (refl, refl, refl)) (λ same. cc) in
+    nobody_else found.0 found.1 found.2.0 found.2.1.0 found.2.1.1 found.2.1.2 found.2.1.3
+  where
+    nobody_else : (seat place : ℕ) (process : Process) (value : ℕ) → HasProcess stuck_beside_one_away seat place process value
+        → process ≢ Idle → ¬ GoesOn stuck_beside_one_away 1 place process
+    nobody_else zero place process value has busy goes_on =
+        let is = is_view stuck_beside_one_away 0 (Seated 1 (Entering 1 E8) 5 4) place process value has refl in
+        one_that_waits_for_a_1_does_not (subst (GoesOn stuck 1 1) (sym is.1) (subst (λ q. GoesOn stuck 1 q process) (sym is.0) goes_on))
+    nobody_else (suc zero) place process value has busy goes_on =
+        let is = is_view stuck_beside_one_away 1 (Seated 0 Idle 7 0) place process value has refl in busy (sym is.1)
+    nobody_else (suc (suc seat)) place process value has busy goes_on = some-ne-none has.0 (sym has.1)
+
 -- OneSeatAPlace
 each_has_its_own : OneSeatAPlace both_away
 each_has_its_own one other place x y v w a b = (away_both one place x v a).0 ∙ sym (away_both other place y w b).0
@@ -185,6 +204,11 @@ not_lowered : ¬ IsFresh (moment (some (Some 4) ∷ []) both_away.views) raised
 not_lowered h =
     let fresh = (h 1 1 5 4 (Idle, λ same. cc, (Seated 1 Idle 5 0, refl, (refl, refl, refl)))).0 refl in omega (arith, fresh)
 
+not_below_what_one_inside_found : ¬ IsFresh (moment (none ∷ []) (Seated 0 Inside 4 3 ∷ Seated 1 Idle 5 0 ∷ [])) raised
+not_below_what_one_inside_found h =
+    let away = h 1 1 5 4 (Idle, λ same. cc, (Seated 1 Idle 5 0, refl, (refl, refl, refl))) in
+    let fresh = away.1 0 0 (Seated 0 Inside 4 3, refl, (refl, refl, refl)) in omega (arith, fresh)
+
 -- no seat makes passes where both are away
 no_maker : (seat : ℕ) (view : View ℕ) → get_elem? both_away.views seat ≡ some view → ¬ IsMaking view
 no_maker zero view at making = subst IsMaking (sym (some-injective (Seated 0 Idle 7 0) view at)) making
@@ -218,6 +242,10 @@ nobody_knows_anything_before : ¬ IsMadeByOne {V = ℕ} (record { words = replic
 unfolding making_index count_of_words
 nobody_knows_anything_before h = let unused = h.unused refl 0 (Seated 0 Idle 7 0) refl in cc
 
+no_pass_that_is_still_to_be_made : ¬ IsMadeByOne (moment (some (Some 7) ∷ []) (HandingOut 1 7 ∷ Seated 1 Idle 7 0 ∷ [])) 1
+no_pass_that_is_still_to_be_made h =
+    h.not_made 0 1 7 refl 1 1 Idle 7 (omega arith) (Seated 1 Idle 7 0, refl, (refl, refl, refl))
+
 -- ShowsCore
 all_idle : ShowsCore both_away 1
 all_idle = (
@@ -232,6 +260,22 @@ not_two_of_the_core h =
     let first = h.2 0 0 Idle 7 (Seated 0 Idle 7 0, refl, (refl, refl, refl)) in
     let second = h.2 1 0 Inside 7 (Seated 0 Inside 7 0, refl, (refl, refl, refl)) in
     let both : Idle ≡ Inside = sym first ∙ second in cc
+
+-- a word C names place 1, of which no seat has the process
+abbrev claimed : State (std.Option ℕ) (View ℕ)
+claimed = record { words = replicate 8 0 ++ 2 ∷ replicate 32 0; homes = some (Some 7) ∷ []; views = Seated 0 Idle 7 0 ∷ [] }
+
+nobody_has_place_1 : (seat : ℕ) (process : Process) (value : ℕ) → ¬ HasProcess claimed seat 1 process value
+nobody_has_place_1 zero process value has =
+    let is = is_view claimed 0 (Seated 0 Idle 7 0) 1 process value has refl in omega (arith, is.0)
+nobody_has_place_1 (suc seat) process value has = some-ne-none has.0 (sym has.1)
+
+no_claim_of_a_place_without_a_view : ¬ ShowsCore claimed 1
+unfolding words_in index_of number_of
+no_claim_of_a_place_without_a_view (processes, sound, shown, idle) =
+    let away : processes 1 ≡ Idle = idle 1 nobody_has_place_1 in
+    let claimant = (sound.sound 1 (omega arith) (omega arith)).claimant 0 1 1 refl in
+    let named = subst (λ process. IsTrue (claims (phase_of 1 1 process))) away claimant.2 in cc
 
 -- IsLockState
 where_both_are_away : IsLockState raised 1 both_away
