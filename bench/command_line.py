@@ -414,6 +414,8 @@ def not_taken(yarib):
     both = answer + "10.0.0.2" + answer[8:]
     expect("faulty addresses", run([yarib, "lookup", "--addresses", "asked.txt", "row.feed"]), (2, both, asked))
     expect("faults of all files", run([yarib, "lookup", *one, "--addresses", "asked.txt", "three.feed"]), (2, both, asked + faulty + over))
+    files_told(yarib)
+    addresses_told(yarib)
     for word in ("10.0.0.256", "", "10.0.0.1/32", "10.0.0.01", " 10.0.0.1", "x"):
         ended = run([yarib, "lookup", "--address", "10.0.0.1", f"--address={word}", "missing"])
         expect(f"the address {word!r}", ended, (3, "", f"yarib: no address: {word}\n"))
@@ -421,12 +423,62 @@ def not_taken(yarib):
     for command in (["lookup", "--address", "10.0.0.1"], ["table"]):
         expect(f"{command} of a missing file", run([yarib, *command, "row.feed", "missing"]), (4, "", "yarib: cannot read missing\n"))
         expect(f"{command} of 65 files", run([yarib, *command, *["missing"] * 65]), (3, "", "yarib: more than 64 files\n"))
+        missing = run([yarib, *command, "row.feed", "nor", "missing"])
+        expect(f"{command}: the first missing file is named", missing, (4, "", "yarib: cannot read nor\n"))
         misused(f"{command} of no file", run([yarib, *command]), "<FILE>")
         misused(f"{command} with --limit 0", run([yarib, *command, "--limit", "0", "row.feed"]), "--limit")
     expect("a missing text of addresses", run([yarib, "lookup", "--addresses", "missing", "row.feed"]), (4, "", "yarib: cannot read missing\n"))
+    missing = run([yarib, "lookup", "--addresses", "missing", "row.feed", "nor"])
+    expect("a feed file is named before the text of addresses", missing, (4, "", "yarib: cannot read nor\n"))
+    pathlib.Path("-").unlink(missing_ok=True)
+    ended = run([yarib, "lookup", "--addresses", "-", "row.feed"], input=b"10.0.0.1\n")
+    expect("- is no standard input of addresses", ended, (4, "", "yarib: cannot read -\n"))
+    pathlib.Path("-").write_text("10.0.0.1\n")
+    expect("- is a file of addresses", run([yarib, "lookup", "--addresses", "-", "row.feed"]), (0, answer, ""))
+    os.remove("-")
+    misused("--addresses twice", run([yarib, "lookup", "--addresses", "asked.txt", "--addresses", "asked.txt", "row.feed"]), "--addresses")
     misused("--best of a look-up", run([yarib, "lookup", "--best", "--address", "10.0.0.1", "row.feed"]), "--best")
     misused("--address of a table", run([yarib, "table", "--address", "10.0.0.1", "row.feed"]), "--address")
     misused("--best of a run", run([yarib, "run", "--best", "row.feed"]), "--best")
+
+
+def files_told(yarib):
+    """Each file is told of, by the whole of its name and as often as it is named."""
+    os.makedirs("a folder/deep", exist_ok=True)
+    long = "a folder/deep/kinds.feed"
+    pathlib.Path(long).write_text("# note\n\n" + ROW + ROW + "replace 11.0.0.0/8 1 192.0.2.1\nwithdraw 12.0.0.0/8\n"
+                                  "withdraw 12.0.0.0/8\nadd 13.0.0.0/8 1 192.0.2.1\nfrob\ndump 1\n")
+    pathlib.Path("again.feed").write_text(ROW + ROW)
+    pathlib.Path("gone.feed").write_text("withdraw 10.0.0.0/8\n")
+    kinds = "".join(f"yarib: {long}: {what}\n" for what in ("faulty lines: 2, the first 9: E1: the first field is no command",
+                    "adds over the limit: 1", "adds of a prefix already there: 1", "replaces and withdraws of a prefix not there: 3"))
+    again = "yarib: again.feed: adds of a prefix already there: 1\n"
+    gone = "yarib: gone.feed: replaces and withdraws of a prefix not there: 1\n"
+    table = lambda *names: run([yarib, "table", "--best", "--limit", "1", *names])
+    expect("all kinds of one file", table(long), (2, route(1), kinds))
+    expect("an add of what is there", table("again.feed"), (0, route(1), again))
+    expect("a withdrawal of what isn't there", table("gone.feed"), (0, "", gone))
+    expect("a third file and one that is named again", table("row.feed", "gone.feed", long, "again.feed", long, "gone.feed"), (2, route(1), gone + kinds + again + kinds + gone))
+    pathlib.Path("over.feed").write_text(ROW + "add 11.0.0.0/8 1 192.0.2.1\n")
+    expect("adds over the limit alone", run([yarib, "table", "--limit", "1", "over.feed"]), (2, route(1), "yarib: over.feed: adds over the limit: 1\n"))
+    many = [f"{name}.feed" for name in ("again", "gone", "row")] * 21 + ["again.feed"]
+    expect("64 files, most of them told of", table(*many), (0, route(1), (again + gone) * 21 + again))
+
+
+def addresses_told(yarib):
+    """The first faulty address is told by its number among all lines, of a text longer than any buffer too."""
+    skipped = "# note\n\n" * 3_000
+    pathlib.Path("asked.txt").write_text(skipped + "10.0.0.1\n" + skipped * 2 + "frob\n10.0.0.1\nfrob\n")
+    line = 3 * 6_000 + 2
+    told = f"yarib: asked.txt: faulty lines: 2, the first {line}: E3: the field is no prefix or address\n"
+    asked = [yarib, "lookup", "--addresses", "asked.txt"]
+    answer = "10.0.0.1 route " + route(1)
+    expect("a long text of addresses", run([*asked, "row.feed"]), (2, answer * 2, told))
+    pathlib.Path("asked.txt").write_text("10.0.0.1\n" * 20_000)
+    expect("20,000 addresses", run([*asked, "row.feed"]), (0, answer * 20_000, ""))
+    pathlib.Path("asked.txt").write_text("frob\n10.0.0.1\n")
+    with open("/dev/full", "w") as full:
+        expect("nothing is told where the output is full", run([*asked, "faulty.feed", "row.feed"], stdout=full), CANNOT_WRITE)
 
 
 def closed_outputs(yarib):

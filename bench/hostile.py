@@ -71,6 +71,8 @@ def judge(what, ended, ample, texts):
     if ended == ample:
         return "as with ample memory"
     status, out, err = ended
+    if status == 5 and re.search(r"^yarib: .*: commands refused for want of memory: [1-9]", err, re.MULTILINE):
+        return "with commands refused"
     if (status, out) == (5, "") and err in ("yarib: fault F3\n", "yarib: fault P3\n"):
         return "with status 5 and nothing printed"
     refused = {tuple(map(int, pair)) for pair in re.findall(r"^(\d+):(\d+) refused$", out, re.MULTILINE)}
@@ -85,6 +87,8 @@ def little_memory(yarib, folder):
         ("one small file", ["run", *text_files(folder, "small", row)], row, 4_096, 0),
         ("one long file", ["run", "--batch", "100", *text_files(folder, "long", long)], long, 65_536, 0.005),
         ("64 files", ["run", *text_files(folder, "own", many)], many, 65_536, 0.02),
+        ("a look-up in 64 files", ["lookup", "--address", "9.2.3.4", *text_files(folder, "own", many)], None, 65_536, 0.1),
+        ("the table of 64 files", ["table", *text_files(folder, "own", many)], None, 65_536, 0.1),
         ("a replay", ["replay", "--levels", "6", *["5", "63"] * 100], None, 4_096, 0),
         ("the help", ["run", "--help"], None, 4_096, 0),
     ]
@@ -118,6 +122,12 @@ def files(yarib, folder):
     expect("one empty file of 64", (status, out.count(" added\n"), "table 63\n" in out, err), (0, 63, True, ""))
     both = "1:1 added\n2:1 added\ntable 2\n" + "".join(f"10.0.0.0/8 feed {k} pref 100 via 192.0.2.1\n" for k in (1, 2))
     expect("the same file twice", run([yarib, "run", row, row]), (0, both, ""))
+    expect("look-ups in one of 64 files that is missing", run([yarib, "lookup", "--address", "10.0.0.1", *sixty, empty, missing, folder]), unreadable(missing))
+    for count in (1, 7, 64):
+        listed = "".join(f"10.0.0.0/8 feed {k} pref 100 via 192.0.2.1\n" for k in range(1, count + 1))
+        expect(f"the table of {count} files", run([yarib, "table", *[row] * count]), (0, listed, ""))
+        found = run([yarib, "lookup", "--addresses", "/dev/stdin", *[row] * count], input=b"10.0.0.1\n")
+        expect(f"addresses from a pipe and {count} files", found, (0, "10.0.0.1 route " + listed.splitlines(True)[0], ""))
     expect("a pipe as /dev/stdin", run([yarib, "run", "/dev/stdin"], input=ROW.encode()), (0, ROW_OUT, ""))
     with open(row) as text:
         expect("a file as /dev/stdin", run([yarib, "run", "/dev/stdin"], stdin=text), (0, ROW_OUT, ""))
@@ -153,7 +163,9 @@ def outputs(yarib, folder):
     large.write_text(AGAIN * 2_500)
     row.write_text(ROW)
     cannot = (6, "", "yarib: cannot write\n")
-    for words in (["run", row], ["run", large], ["replay", "--levels", "1", "0"], ["run", "--help"], ["--version"]):
+    asked = folder / "asked.txt"
+    asked.write_text("10.0.0.1\n" * 5_000)
+    for words in (["run", row], ["run", large], ["lookup", "--addresses", asked, row], ["table", row], ["replay", "--levels", "1", "0"], ["run", "--help"], ["--version"]):
         name = " ".join(str(word) for word in words if not isinstance(word, pathlib.Path))
         with open("/dev/full", "w") as full:
             expect(f"{name}: a full output", run([yarib, *words], stdout=full), cannot)

@@ -305,9 +305,9 @@ def check_crate(check):
     return compare
 
 
-def run_text(texts, refused):
-    """What a run of these texts prints if these lines, by feed and number, are refused."""
-    table, printed = Table(65_536), []
+def ran(texts, refused, limit=65_536):
+    """The lines of the reports that a run of these texts prints if these lines, by feed and number, are refused, and its table."""
+    table, printed = Table(limit), []
     for feed, text in enumerate(texts, 1):
         for at, line in enumerate(text.splitlines(), 1):
             if (at, line) == (1, "version 2") or line.startswith("#"):
@@ -319,6 +319,12 @@ def run_text(texts, refused):
             else:
                 answer = table.apply(feed, line.split())
             printed.append(f"{feed}:{at} {answer}")
+    return printed, table
+
+
+def run_text(texts, refused):
+    """What a run of these texts prints if these lines, by feed and number, are refused."""
+    printed, table = ran(texts, refused)
     return "".join(line + "\n" for line in printed + [f"table {len(table.routes)}"] + table.listed())
 
 
@@ -338,6 +344,44 @@ def check_run(texts):
             kinds.add("a line of a run")
 
     return compare
+
+
+NOT_TAKEN = {"full": "adds over the limit", "exists": "adds of a prefix already there",
+             "missing": "replaces and withdraws of a prefix not there", "refused": "commands refused for want of memory"}
+
+
+def told_text(texts, names, limit=65_536):
+    """What `lookup` and `table` tell of these texts, of which no line is refused, whose faulty lines are E1."""
+    printed, _ = ran(texts, set(), limit)
+    told = ""
+    for feed, name in enumerate(names, 1):
+        answers = [line.split(" ", 1) for line in printed if line.startswith(f"{feed}:")]
+        faulty = [place.split(":")[1] for place, answer in answers if answer == "fault E1"]
+        if faulty:
+            told += f"yarib: {name}: faulty lines: {len(faulty)}, the first {faulty[0]}: E1: the first field is no command\n"
+        for answer, what in NOT_TAKEN.items():
+            if count := sum(found == answer for _, found in answers):
+                told += f"yarib: {name}: {what}: {count}\n"
+    return told
+
+
+def answers_text(texts, addresses, limit=65_536):
+    """What a look-up of these addresses prints of these texts."""
+    _, table = ran(texts, set(), limit)
+    return "".join(f"{addr} {table.best(addr)}\n" for addr in addresses)
+
+
+def check_shown(ending, ample, kinds):
+    """A look-up or list of the table: all is as it was, or nothing is printed and nothing told, or commands were refused."""
+    if (ending.status, ending.out, ending.err) == (5, "", "yarib: fault F3\n"):
+        kinds.add("lookup or table")
+        return
+    if ending.status != 5:
+        agree(ending[:3], ample[:3], "all of it")
+        return
+    told = [line for line in ending.err.splitlines() if re.fullmatch(r"yarib: .*: commands refused for want of memory: [1-9]\d*", line)]
+    agree(len(told) > 0, True, "that refused commands are told")
+    kinds.add("a command of a look-up or list")
 
 
 def check_same(ending, ample, kinds):
@@ -391,6 +435,11 @@ def cases(folder, yarib, libraries):
         paths = files(folder, name.replace(" ", ""), texts)
         for batch in ("1", "3"):
             yield f"{name}, --batch {batch}", [yarib, "run", "--batch", batch, *paths], check_run(texts)
+    (folder / "asked.txt").write_text("10.0.0.1\nfrob\n" + "".join(f"{feed}.2.3.4\n" for feed in range(1, 65)))
+    for name, texts in (("one file", row), ("three files", three), ("64 files", many)):
+        paths = files(folder, name.replace(" ", ""), texts)
+        yield f"a look-up in {name}", [yarib, "lookup", "--addresses", folder / "asked.txt", *paths], check_shown
+        yield f"the table of {name}", [yarib, "table", "--best", *paths], check_shown
     yield "a replay", [yarib, "replay", "--levels", "1", "0", "0", "0", "0"], check_same
     yield "a replay of 6 levels", [yarib, "replay", "--levels", "6"] + ["5", "63"] * 30, check_same
     yield "the help", [yarib, "run", "--help"], check_same
@@ -405,7 +454,7 @@ def check_refused_words(ending, ample, kinds):
 
 KINDS = {
     "TreeLock::new", "SharedRib::new", "SharedRib::apply_batch", "SharedRib::routes", "a command of a batch", "Book::routes",
-    "run_feed", "run_feeds", "a command of a feed", "run_texts", "a line of a run", "fault F3", "fault P3",
+    "lookup or table", "a command of a look-up or list", "run_feed", "run_feeds", "a command of a feed", "run_texts", "a line of a run", "fault F3", "fault P3",
 } | {"SharedRib::apply " + name for name in ("Add", "Replace", "Withdraw", "Lookup", "Dump", "Purge")}
 
 

@@ -68,6 +68,24 @@ def counted_text(yarib, count, text, batch, *words):
     return requests, held
 
 
+def shown(yarib, count):
+    """Twice as many answers and rows cost no request for each, nor does any while they are written."""
+    adds = "".join(f"add {address(0x0A00_0000 + (at << 8))}/24 1 192.0.2.1\n" for at in range(10_000))
+    pathlib.Path("text.feed").write_text(adds)
+    few, many = (counted_shown(yarib, count, ["lookup", "--addresses", "asked.txt"], lines) for lines in (20_000, 40_000))
+    expect(f"answers: {many - few} requests more", many - few <= DOUBLING, True)
+    listed = counted_shown(yarib, count, ["table"], 1)
+    run_of = counted([yarib, "run", "--batch", "256", "text.feed"], count)[0]
+    expect(f"a table: {listed - run_of} requests more than a run", listed - run_of <= DOUBLING, True)
+
+
+def counted_shown(yarib, count, words, lines):
+    pathlib.Path("asked.txt").write_text("".join(f"10.0.{at & 255}.1\n" for at in range(lines)))
+    requests, _, at_writes = counted([yarib, *words, "text.feed"], count)
+    expect(f"{words} of {lines}: requests while it writes", len(set(at_writes)), 1)
+    return requests
+
+
 def routes(yarib, count):
     """A route costs two boxes at most, and one that comes and goes a box; and all is given back."""
     prefix = lambda at: f"{address(0x0A00_0000 + (at << 8))}/24"
@@ -91,7 +109,7 @@ def main():
         count = pathlib.Path(folder) / "count.so"
         subprocess.run(["gcc", "-O2", "-shared", "-fPIC", "-o", count, TOP / "bench" / "count.c"], check=True)
         os.chdir(folder)
-        for rows in (commands, routes):
+        for rows in (commands, routes, shown):
             rows(yarib, count)
             print(f"{rows.__name__}: done", flush=True)
         os.chdir("/")

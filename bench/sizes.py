@@ -5,7 +5,8 @@ Usage: bench/sizes.py [YARIB]. Builds ./yarib first unless a built program is na
 
 That a call which wants memory gets it where there is some, no clause can say. So: a million routes of one feed and more than a
 million lines, entries and answers; each number of files from 1 to 64, with as many offers of one prefix; feeds with other
-texts of their own; batches about the sizes at which lists grow; the greatest numbers and the last address.
+texts of their own; batches about the sizes at which lists grow; the greatest numbers and the last address. `lookup` and
+`table` are called on each number of files, on 300,000 routes and with 100,000 addresses.
 """
 import os
 import pathlib
@@ -13,18 +14,18 @@ import sys
 import tempfile
 
 from hostile import built, expect, failures, run
-from refused_growth import address, run_text
+from refused_growth import address, answers_text, ran, run_text, told_text
 
 MOST = 1_000_000
 
 
-def compare(what, ended, status, out):
+def compare(what, ended, status, out, err=""):
     """As expect, but for outputs too long to be shown: the first line that differs is."""
-    if (ended[0], ended[2]) == (status, "") and ended[1] == out:
+    if (ended[0], ended[2]) == (status, err) and ended[1] == out:
         return
     found, wanted = ended[1].splitlines(), out.splitlines()
     at = next((at for at, pair in enumerate(zip(found, wanted)) if pair[0] != pair[1]), min(len(found), len(wanted)))
-    expect(what, (ended[0], ended[2][:200], at + 1, found[at : at + 1]), (status, "", at + 1, wanted[at : at + 1]))
+    expect(what, (ended[0], ended[2], at + 1, found[at : at + 1]), (status, err, at + 1, wanted[at : at + 1]))
 
 
 def million(yarib):
@@ -111,6 +112,7 @@ add {feed + 10}.128.0.0/9 0 discard
         for batch in ("1", "3", "1024") if count in (1, 2, 5, 9, 17, 40, 64) else ("2",):
             ended = run([yarib, "run", "--batch", batch, *names[:count]])
             compare(f"{count} feeds in batches of {batch}", ended, 0, run_text(texts[:count], set()))
+        shown(yarib, texts[:count], names[:count])
     pathlib.Path("empty.feed").write_text("")
     pathlib.Path("last.feed").write_text("dump\n" + texts[-1].replace("version 2\n", "").replace("discard", "192.0.2.9") + "dump\n")
     answers = ["dumped 0", "added", "added", "added", "route 74.0.0.0/8 feed 64 pref 64 via 192.0.2.1", "replaced", "withdrawn", "added", "dumped 3"]
@@ -119,6 +121,23 @@ add {feed + 10}.128.0.0/9 0 discard
               "255.255.255.255/32 feed 64 pref 4294967294 via 192.0.2.64"]
     wanted = report + "table 3\n" + "".join(line + "\n" for line in routes)
     compare("feed 64 alone asks", run([yarib, "run", *["empty.feed"] * 63, "last.feed"]), 0, wanted)
+
+
+def shown(yarib, texts, names):
+    """What `lookup` and `table` print and tell of these files; each has a line that isn't taken, by turns of another kind."""
+    turns = ("frob", "add 10.0.0.0/8 1 192.0.2.1", "withdraw 9.0.0.0/8", "add 99.0.0.0/8 1 192.0.2.1")
+    texts = [text + turns[feed % 4] + "\n" for feed, text in enumerate(texts)]
+    names = [f"shown-{name}" for name in names]
+    for name, text in zip(names, texts):
+        pathlib.Path(name).write_text(text)
+    asked = [addr for feed in range(1, len(names) + 1) for addr in (f"{feed + 10}.129.0.1", f"{feed + 10}.1.2.3")]
+    asked += ["10.9.8.7", "255.255.255.255", "9.9.9.9"]
+    words = [word for addr in asked for word in ("--address", addr)]
+    told, status = told_text(texts, names, 3), 2
+    compare(f"a look-up in {len(names)} files", run([yarib, "lookup", "--limit", "3", *words, *names]), status, answers_text(texts, asked, 3), told)
+    listed = ran(texts, set(), 3)[1].listed()
+    out = "".join(line + "\n" for line in listed)
+    compare(f"the table of {len(names)} files", run([yarib, "table", "--limit", "3", *names]), status, out, told)
 
 
 def many_offers(yarib):
@@ -130,7 +149,28 @@ def many_offers(yarib):
     offers = lambda base: "".join(f"{base}/24 feed {feed} pref {9 - feed} via 192.0.2.{feed}\n" for feed in (3, 2, 1))
     sorted_bases = [address(0x0100_0000 + (at << 8)) for at in range(100_000)]
     ended = run([yarib, "run", "--limit", "100000", "--batch", "256", "1.feed", "2.feed", "3.feed"])
-    compare("300,000 routes of three feeds", ended, 0, report + "table 300000\n" + "".join(map(offers, sorted_bases)))
+    routes = "".join(map(offers, sorted_bases))
+    compare("300,000 routes of three feeds", ended, 0, report + "table 300000\n" + routes)
+    best = "".join(f"{base}/24 feed 3 pref 6 via 192.0.2.3\n" for base in sorted_bases)
+    words = ["--limit", "100000", "1.feed", "2.feed", "3.feed"]
+    compare("the table of 300,000 routes", run([yarib, "table", *words]), 0, routes)
+    compare("the best of 300,000 routes", run([yarib, "table", "--best", *words]), 0, best)
+    pathlib.Path("asked.txt").write_text("".join(f"{base}\n" for base in bases))
+    answers = "".join(f"{base} route {base}/24 feed 3 pref 6 via 192.0.2.3\n" for base in bases)
+    compare("100,000 addresses", run([yarib, "lookup", "--addresses", "asked.txt", *words]), 0, answers)
+    at_limit(yarib)
+
+
+def at_limit(yarib):
+    """As many routes as a feed may have where no limit is given, and one more."""
+    routes = [f"10.{at >> 8}.{at & 255}.0/24" for at in range(65_536)]
+    listed = [f"{prefix} feed 1 pref 1 via 192.0.2.1\n" for prefix in routes]
+    for more, status, err in ((0, 0, ""), (1, 2, "yarib: full.feed: adds over the limit: 1\n")):
+        adds = [f"add {prefix} 1 192.0.2.1\n" for prefix in routes + ["11.0.0.0/24"] * more]
+        pathlib.Path("full.feed").write_text("".join(adds))
+        compare(f"the table of a full feed and {more} more", run([yarib, "table", "full.feed"]), status, "".join(listed), err)
+        ended = run([yarib, "lookup", "--address", "10.255.255.1", "--address", "11.0.0.1", "full.feed"])
+        compare(f"look-ups in a full feed and {more} more", ended, status, f"10.255.255.1 route {listed[-1]}11.0.0.1 no route\n", err)
 
 
 def main():
