@@ -109,7 +109,10 @@ fn count_full(lines: &[Line]) -> usize
 fn count_existing(lines: &[Line]) -> usize
     ensures { result ≡ count_by (λ (line : Line). was_existing line.answer) lines.now }
 {
-    lines.iter().filter(|line| was_existing(line.answer)).count()
+    lines
+        .iter()
+        .filter(|line| was_existing(line.answer))
+        .count()
 }
 
 fn count_missing(lines: &[Line]) -> usize
