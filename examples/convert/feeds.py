@@ -78,7 +78,8 @@ class Progress:
             if self.lines.size:
                 parts.append(f"{100 * self.lines.done // self.lines.size} % of the input")
         if self.files:
-            parts.append(f"{len(self.files.waiting)} sources, {self.files.taken:,} routes written")
+            taken = self.files.taken + sum(map(len, self.files.waiting.values()))
+            parts.append(f"{len(self.files.waiting)} sources, {taken:,} routes")
         os.write(2, ("\r\033[K" + ", ".join(parts)).encode())
 
     def __enter__(self):
@@ -87,6 +88,10 @@ class Progress:
             signal.setitimer(signal.ITIMER_REAL, 1, 1)
 
     def __exit__(self, *_):
+        self.erase()
+
+    def erase(self):
+        """Ends it, before anything else is said there."""
         if sys.stderr.isatty():
             signal.setitimer(signal.ITIMER_REAL, 0)
             os.write(2, b"\r\033[K")
@@ -363,6 +368,7 @@ class FeedFiles:
         if self.taken == 0:
             raise Refused(notes.report(0, what).replace("\n", "; ") + "; nothing is written")
         number = self.put_in_place(names or list(self.waiting))
+        PROGRESS.erase()
         print(notes.report(self.taken, what), file=sys.stderr)
         if number > MOST_FILES:
             print(f"{number} feeds were written; `yarib run` takes at most {MOST_FILES} files", file=sys.stderr)
