@@ -426,6 +426,15 @@ one_of_greater_preference_is_no_best_match h = let better = h.best (route ten_8 
 an_add_is_its_own : is_own (Add ten_8 5 Discard) ≡ true
 an_add_is_its_own = refl
 
+a_replace_is_its_own : is_own (Replace ten_8 5 Discard) ≡ true
+a_replace_is_its_own = refl
+
+a_withdraw_is_its_own : is_own (Withdraw ten_8) ≡ true
+a_withdraw_is_its_own = refl
+
+a_dump_is_not : is_own Dump ≡ false
+a_dump_is_not = refl
+
 a_look_up_is_not : is_own (Lookup at_last) ≡ false
 a_look_up_is_not = refl
 
