@@ -18,6 +18,7 @@ use Rattle.rt_rib.specs.declared.commands.Reply.TheVariants.{Added, Found, Dumpe
 use Rattle.rt_rib.specs.declared.commands.Entry.{Entry}
 use Rattle.rt_rib.specs.LookUp.{look_up}
 use Rattle.rt_rib.specs.Sequential.{reply_of, table_after}
+use Rattle.rt_rib.specs.Book.{HoldsTable}
 use Rattle.rt_rib.specs.Journal.{table_of_journal, IsLawfulJournal}
 use Rattle.rt_rib.proofs.Promised.{ten_8, at_10_1_2_3, route_via, entry, empty_book, holds_no_route, IsLawfulJournal-nil, IsLawfulJournal-push}
 use Rattle.rt_shared.specs.declared.lent.Lent.{Lent}
@@ -132,6 +133,9 @@ a_run_in_which_both_are_answered = (
 no_tree_of_no_level : (world : World Act) → ¬ IsRunTo 1 0 world
 no_tree_of_no_level world h = omega (arith, h.0)
 
+a_run_of_two_levels : IsRunTo 1 2 (follow 2 (Steps 3 ∷ []) opening_world)
+a_run_of_two_levels = (omega arith, Steps 3 ∷ [], runs 2 (IsSequential 1) (Steps 3 ∷ []) opening_world (omega arith, tt))
+
 -- NoTwoInside
 nobody_at_the_start : NoTwoInside opening_world
 nobody_at_the_start p q one other = cc
@@ -146,6 +150,9 @@ nothing_at_the_start place = refl
 no_entry_that_nobody_made : ¬ HasAllMade (record { state = opening; content = (0, (Dump, Dumped 0)) ∷ []; copies = λ place. []; doing = λ place. []; made = λ place. [] })
 no_entry_that_nobody_made h = let entries = h 0 in cc
 
+nothing_made_that_is_lost : ¬ HasAllMade (record { state = opening; content = []; copies = λ place. []; doing = λ place. []; made = λ place. (Dump, Dumped 0) ∷ [] })
+nothing_made_that_is_lost h = let entries = h 0 in cc
+
 -- FindsBest
 no_look_up_no_wrong_one : FindsBest 1 (dump 1 ∷ [])
 no_look_up_no_wrong_one feed addr r [] later same =
@@ -157,6 +164,10 @@ no_look_up_no_wrong_one feed addr r (e ∷ f ∷ earlier) later same = cc
 nothing_in_an_empty_table : ¬ FindsBest 1 (entry 1 (Lookup at_10_1_2_3) (Found its_route) ∷ [])
 unfolding table_of_journal
 nothing_in_an_empty_table h = let match = h 1 at_10_1_2_3 its_route [] [] refl in omega (arith, match.contained.1)
+
+nothing_for_another_feed_either : ¬ FindsBest 1 (entry 2 (Lookup at_10_1_2_3) (Found its_route) ∷ [])
+unfolding table_of_journal
+nothing_for_another_feed_either h = let match = h 2 at_10_1_2_3 its_route [] [] refl in omega (arith, match.contained.1)
 
 -- a dump leaves no route
 no_route_by_a_dump : table_of_journal 1 (dump 2 ∷ []) ≡ []
@@ -203,6 +214,9 @@ at_rest = moment (some (Some dumped) ∷ [])
 the_first_has_one : HasPass at_rest
 the_first_has_one = (0, 0, (Idle, (new, (Seated 0 Idle new 0, refl, (refl, refl, refl)))))
 
+one_that_is_inside_has_one : HasPass (record { words = []; homes = none ∷ []; views = Seated 0 Inside new 0 ∷ [] })
+one_that_is_inside_has_one = (0, 0, (Inside, (new, (Seated 0 Inside new 0, refl, (refl, refl, refl)))))
+
 none_before_they_are_made : ¬ HasPass (record { words = []; homes = some None ∷ []; views = [] })
 none_before_they_are_made (seat, place, (process, (seen, has))) = some-ne-none has.0 (sym has.1)
 
@@ -236,6 +250,19 @@ the_dump_was_seen_by_its_feed = record {
 
 not_with_the_book_out : ¬ IsAtRest (moment (none ∷ []))
 not_with_the_book_out h = let in_slot = h.in_slot in cc
+
+-- the book has an entry of feed 2, of which the pass of feed 2 knows nothing
+not_where_its_own_entry_is_unseen : ¬ IsAtRest (record { words = []; homes = some (Some dumped) ∷ []; views = Seated 1 Idle new 0 ∷ [] })
+not_where_its_own_entry_is_unseen h =
+    let same : dumped ≡ h.lent = cc in
+    let since = h.since 0 1 new (Idle, (λ inside. cc), (Seated 1 Idle new 0, refl, (refl, refl, refl))) in
+    not_its_own 2 (subst (λ (lent : Lent). Since 2 [] lent.book.journal) (sym same) since)
+
+the_trie_holds_what_the_journal_leaves : (s : Moment) (rest : IsAtRest s) → HoldsTable rest.lent.book
+the_trie_holds_what_the_journal_leaves s rest = rest.holds
+
+the_journal_is_lawful : (s : Moment) (rest : IsAtRest s) → IsLawfulJournal rest.lent.book.limit rest.lent.book.journal
+the_journal_is_lawful s rest = rest.lawful
 
 -- MeetsHeadline
 both_away : MeetsHeadline at_rest
