@@ -3,7 +3,7 @@
 
 Usage: bench/busy.py [--store] [ROUNDS [LINES]]. Needs a built program (./yarib --version builds it), rustc and python3. It starts
 twice as many busy processes as there are processors, in the ordinary scheduling class, and ends them by their ids. For each
-number of files and batch all run ROUNDS times in turn (5 if left out) with so many lines in all (16,000 if left out). Prints
+number of files and batch all run ROUNDS times in turn (5 if left out) with so many lines in all (160,000 if left out). Prints
 the middle time on the clock and of the processors, in milliseconds, the least and the greatest on the clock, and the ratios to
 one file and to the plain program; the last rows are of the quiet machine. --store keeps the figures in bench/figures/.
 """
@@ -73,7 +73,7 @@ def rows(folder, programs, others, rounds):
 def main():
     words = figures.words()
     rounds = int(words[0]) if words else 5
-    lines = int(words[1]) if len(words) > 1 else 16_000
+    lines = int(words[1]) if len(words) > 1 else 160_000
     subprocess.run([run.TOP / "yarib", "--version"], check=True, stdout=subprocess.DEVNULL)
     with tempfile.TemporaryDirectory() as made:
         folder = pathlib.Path(made)
