@@ -54,6 +54,12 @@ impl OutputRoom {
         OUTPUT_BYTES - self.bytes.len()
     }
 
+    /// How many bytes its memory has.
+    #[cfg(test)]
+    pub(crate) fn capacity(&self) -> usize {
+        self.bytes.capacity()
+    }
+
     /// Puts the text at the end.
     fn append(&mut self, text: &[u8])
         requires room { length self.old + length text.now ≤ OUTPUT_BYTES }

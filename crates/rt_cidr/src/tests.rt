@@ -10,12 +10,12 @@ use std::test::Fail;
 struct Narrow {
     taken: Vec<u8>,
     room: usize,
-    fault: Option<ErrorKind>,
+    fault: Option<io::Error>,
     is_over: bool,
 }
 
 impl Narrow {
-    fn new(alloc: Global, room: usize, fault: Option<ErrorKind>) -> Narrow {
+    fn new(alloc: Global, room: usize, fault: Option<io::Error>) -> Narrow {
         Narrow {
             taken: Vec::new(alloc),
             room,
@@ -30,7 +30,7 @@ impl Write for Narrow {
         if !self.is_over && self.taken.len() == self.room {
             self.is_over = true;
             return match self.fault {
-                Some(kind) => Err(io::Error::from(kind)),
+                Some(fault) => Err(fault),
                 None => Ok(0),
             };
         }
@@ -258,47 +258,76 @@ fn puts_all_one_byte_a_call(rt: HostRuntime) -> Result<(), Fail> {
     Ok(())
 }
 
-fn assert_fault(rt: &impl Abort, written: io::Result<()>, kind: ErrorKind) {
+/// That it was answered this very fault: its kind, the system's number or what its maker said.
+fn assert_fault(
+    rt: &impl Abort,
+    alloc: Global,
+    written: io::Result<()>,
+    fault: io::Error,
+) -> Result<(), Fail> {
+    let wanted = format!(in alloc; "{fault:?}")?;
     match written {
-        Ok(()) => panic!(rt; "no fault"),
-        Err(fault) => assert!(rt; fault.kind() == kind),
+        Ok(()) => panic!(rt; "no fault, in place of {wanted}"),
+        Err(told) => {
+            let told = format!(in alloc; "{told:?}")?;
+            assert_eq!(rt; told.as_str(), wanted.as_str());
+        }
     }
+    Ok(())
 }
 
-/// A fault is handed on at once, whatever its kind, and nothing is tried again.
-#[test]
-fn hands_on_the_writers_fault(rt: HostRuntime) {
+/// Each of the system's numbers, its kind without the number, the kinds without one, and a fault that a writer puts in words.
+fn each_fault(alloc: Global) -> Result<Vec<io::Error>, AllocError> {
+    let mut faults = Vec::new(alloc);
+    for code in 1..134i32 {
+        let fault = io::Error::from_raw_os_error(code);
+        faults.push(fault)?;
+        faults.push(io::Error::from(fault.kind()))?;
+    }
     for kind in [
-        ErrorKind::BrokenPipe,
-        ErrorKind::Interrupted,
-        ErrorKind::WouldBlock,
+        ErrorKind::InvalidData,
+        ErrorKind::WriteZero,
+        ErrorKind::UnexpectedEof,
         ErrorKind::Other,
     ] {
+        faults.push(io::Error::from(kind))?;
+    }
+    faults.push(io::Error::other("the writer's own words"))?;
+    Ok(faults)
+}
+
+/// A fault is handed on at once, whatever it is, and nothing is tried again.
+#[test]
+fn hands_on_the_writers_fault(rt: HostRuntime) -> Result<(), Fail> {
+    for fault in &each_fault(rt.alloc())? {
         for room in [0, 3] {
-            let mut writer = Narrow::new(rt.alloc(), room, Some(kind));
-            assert_fault(&rt, put(&mut writer, b"10.0.0.0/8"), kind);
+            let mut writer = Narrow::new(rt.alloc(), room, Some(*fault));
+            let written = put(&mut writer, b"10.0.0.0/8");
+            assert_fault(&rt, rt.alloc(), written, *fault)?;
             assert_eq!(rt; writer.taken.len(), room);
         }
     }
+    Ok(())
 }
 
 /// A writer that fails at its fourth byte.
-fn failing(alloc: Global, kind: ErrorKind) -> Narrow {
-    Narrow::new(alloc, 3, Some(kind))
+fn failing(alloc: Global, fault: io::Error) -> Narrow {
+    Narrow::new(alloc, 3, Some(fault))
 }
 
-fn write_values(rt: &impl Abort, alloc: Global, kind: ErrorKind) {
-    let prefix = Prefix::new(0, 0).expect(rt, "a prefix");
-    assert_fault(rt, Addr(1).write_to(&mut failing(alloc, kind)), kind);
-    assert_fault(rt, prefix.write_to(&mut failing(alloc, kind)), kind);
+fn write_values(rt: &impl Abort, alloc: Global, fault: io::Error) -> Result<(), Fail> {
+    let written = Addr(1).write_to(&mut failing(alloc, fault));
+    assert_fault(rt, alloc, written, fault)?;
+    let written = Prefix::new(0, 0)?.write_to(&mut failing(alloc, fault));
+    assert_fault(rt, alloc, written, fault)
 }
 
-fn flush_held(rt: &impl Abort, alloc: Global, kind: ErrorKind) -> Result<(), AllocError> {
-    let mut writer = failing(alloc, kind);
+fn flush_held(rt: &impl Abort, alloc: Global, fault: io::Error) -> Result<(), Fail> {
+    let mut writer = failing(alloc, fault);
     let mut buffer = OutputBuffer::new(&mut writer, OutputRoom::new(alloc)?);
     put(&mut buffer, b"held").expect(rt, "room");
-    assert_fault(rt, buffer.flush(), kind);
-    Ok(())
+    let flushed = buffer.flush();
+    assert_fault(rt, alloc, flushed, fault)
 }
 
 /// Where a text has no room, the fault is that of writing what was held, or that of writing the text.
@@ -307,24 +336,24 @@ fn overfill(
     alloc: Global,
     held: &[u8],
     long: &[u8],
-    kind: ErrorKind,
-) -> Result<(), AllocError> {
-    let mut writer = failing(alloc, kind);
+    fault: io::Error,
+) -> Result<(), Fail> {
+    let mut writer = failing(alloc, fault);
     let mut buffer = OutputBuffer::new(&mut writer, OutputRoom::new(alloc)?);
     put(&mut buffer, held).expect(rt, "room");
-    assert_fault(rt, put(&mut buffer, long), kind);
-    Ok(())
+    let written = put(&mut buffer, long);
+    assert_fault(rt, alloc, written, fault)
 }
 
 /// A `write_to`, or a call of a buffer, that answers another fault than the writer's is seen here.
 #[test]
 fn hands_on_the_fault_of_what_it_writes(rt: HostRuntime) -> Result<(), Fail> {
     let long = Vec::from_elem(rt.alloc(), b'x', OUTPUT_BYTES + 10)?;
-    for kind in [ErrorKind::BrokenPipe, ErrorKind::Interrupted] {
-        write_values(&rt, rt.alloc(), kind);
-        flush_held(&rt, rt.alloc(), kind)?;
-        overfill(&rt, rt.alloc(), b"held", &long, kind)?;
-        overfill(&rt, rt.alloc(), b"", &long, kind)?;
+    for fault in &each_fault(rt.alloc())? {
+        write_values(&rt, rt.alloc(), *fault)?;
+        flush_held(&rt, rt.alloc(), *fault)?;
+        overfill(&rt, rt.alloc(), b"held", &long, *fault)?;
+        overfill(&rt, rt.alloc(), b"", &long, *fault)?;
     }
     Ok(())
 }
@@ -363,7 +392,13 @@ fn holds_what_a_fault_leaves(rt: HostRuntime) -> Result<(), Fail> {
     let mut buffer = OutputBuffer::new(&mut writer, OutputRoom::new(rt.alloc())?);
     put(&mut buffer, b"10.0.0.0/8")?;
     for _ in 0u32..5 {
-        assert_fault(&rt, buffer.flush(), ErrorKind::Interrupted);
+        let flushed = buffer.flush();
+        assert_fault(
+            &rt,
+            rt.alloc(),
+            flushed,
+            io::Error::from(ErrorKind::Interrupted),
+        )?;
     }
     // The last two bytes go out by the call after the fifth fault.
     let last = buffer.flush();
@@ -391,16 +426,23 @@ fn writes_when_it_is_told_to(rt: HostRuntime) -> Result<(), Fail> {
 fn a_write_of_nothing_is_write_zero(rt: HostRuntime) -> Result<(), Fail> {
     let prefix = Prefix::new(0, 0)?;
     let mut writer = Narrow::new(rt.alloc(), 3, None);
-    assert_fault(&rt, prefix.write_to(&mut writer), ErrorKind::WriteZero);
+    let written = prefix.write_to(&mut writer);
+    assert_fault(
+        &rt,
+        rt.alloc(),
+        written,
+        io::Error::from(ErrorKind::WriteZero),
+    )?;
     assert_eq!(rt; writer.taken.as_slice(), b"0.0".as_slice());
     Ok(())
 }
 
-/// Takes all that it is given, counts the calls, and fails where it is flushed.
+/// Takes all that it is given, counts the writes and the flushes, and fails where it is flushed.
 #[derive(Drop)]
 struct Unflushed {
     taken: Vec<u8>,
     calls: usize,
+    flushes: usize,
 }
 
 impl Unflushed {
@@ -408,6 +450,7 @@ impl Unflushed {
         Unflushed {
             taken: Vec::new(alloc),
             calls: 0,
+            flushes: 0,
         }
     }
 }
@@ -420,11 +463,12 @@ impl Write for Unflushed {
     }
 
     fn flush(&mut self) -> io::Result<()> {
+        self.flushes = self.flushes.saturating_add(1);
         Err(io::Error::from(ErrorKind::Other))
     }
 }
 
-/// A `put` that flushes the writer is seen here.
+/// A `put`, or a `flush` of a buffer, that flushes the writer is seen here, also where it takes no notice of the fault.
 #[test]
 fn never_flushes_the_writer(rt: HostRuntime) -> Result<(), Fail> {
     let mut writer = Unflushed::new(rt.alloc());
@@ -437,7 +481,43 @@ fn never_flushes_the_writer(rt: HostRuntime) -> Result<(), Fail> {
         writer.taken.as_slice(),
         b"10.0.0.0/8 via 192.0.2.1".as_slice()
     );
+    assert_eq!(rt; writer.flushes, 0);
     Ok(())
+}
+
+/// Writes a text of this size behind what is held. It goes out whole, and what was held by itself where the text has no room
+/// behind it.
+fn write_long(
+    rt: &impl Abort,
+    alloc: Global,
+    held: &[u8],
+    size: usize,
+    calls: usize,
+) -> Result<(), Fail> {
+    let long = Vec::from_elem(alloc, b'x', size)?;
+    let mut writer = Unflushed::new(alloc);
+    let mut buffer = OutputBuffer::new(&mut writer, OutputRoom::new(alloc)?);
+    put(&mut buffer, held)?;
+    assert_eq!(rt; buffer.write(&long)?, size);
+    buffer.flush()?;
+    drop(buffer);
+    assert!(rt; writer.taken.starts_with(held) && writer.taken.ends_with(&long));
+    assert_eq!(rt; writer.taken.len(), held.len().wrapping_add(size));
+    assert_eq!(rt; (writer.calls, writer.flushes), (calls, 0));
+    Ok(())
+}
+
+/// A buffer that gives up at a text which just fills it is seen here, and one that takes more memory than it has to.
+#[test]
+fn takes_texts_about_as_long_as_itself(rt: HostRuntime) -> Result<(), Fail> {
+    assert_eq!(rt; OUTPUT_BYTES, 65_536);
+    assert_eq!(rt; OutputRoom::new(rt.alloc())?.capacity(), OUTPUT_BYTES);
+    for size in [OUTPUT_BYTES - 1, OUTPUT_BYTES, OUTPUT_BYTES + 1] {
+        write_long(&rt, rt.alloc(), b"", size, 1)?;
+        write_long(&rt, rt.alloc(), b"held", size, 2)?;
+    }
+    write_long(&rt, rt.alloc(), b"held", OUTPUT_BYTES - 4, 1)?;
+    write_long(&rt, rt.alloc(), b"held", OUTPUT_BYTES - 3, 2)
 }
 
 /// The letter of this number, ten times.
@@ -472,7 +552,7 @@ fn gathers_pieces_into_few_large_writes(rt: HostRuntime) -> Result<(), Fail> {
     put(&mut buffer, b"held")?;
     put(&mut buffer, wanted.as_slice())?;
     drop(buffer);
-    assert_eq!(rt; writer.calls, 6);
+    assert_eq!(rt; (writer.calls, writer.flushes), (6, 0));
     let mut all = Vec::from_slice(rt.alloc(), wanted.as_slice())?;
     all.extend_from_slice(b"held")?;
     all.extend_from_slice(wanted.as_slice())?;
