@@ -47,7 +47,7 @@ def compare(cases, batch, rounds):
     return [[[made[case][kind] for made in rounds] for case in range(3)] for kind in range(2)]
 
 
-def row(folder, programs, files, batch, others, rounds):
+def row(folder, programs, files, batch, others, rounds, lines):
     """Measures one case, prints its row and gives its measures."""
     several, one = (sorted((folder / str(count)).iterdir()) for count in (files, 1))
     clock, processors = compare((*programs, several, one), batch, rounds)
@@ -58,14 +58,14 @@ def row(folder, programs, files, batch, others, rounds):
         f" {ours[0] / alone[0]:>7.2f} {ours[0] / plain[0]:>8.2f} {used[0] / used[1]:>10.2f}",
         flush=True,
     )
-    return {"others": others, "files": files, "batch": batch, "clock": [ours, alone, plain], "processors": used}
+    return {"others": others, "files": files, "batch": batch, "lines": lines, "clock": [ours, alone, plain], "processors": used}
 
 
-def rows(folder, programs, others, rounds):
+def rows(folder, programs, others, rounds, lines):
     """Each case beside so many busy processes."""
     started = start_others(others)
     try:
-        return [row(folder, programs, files, batch, others, rounds) for files in FILES for batch in BATCHES]
+        return [row(folder, programs, files, batch, others, rounds, lines) for files in FILES for batch in BATCHES]
     finally:
         end_others(started)
 
@@ -84,7 +84,7 @@ def main():
         programs = (run.TOP / "out" / "yarib", run.build_peer(folder))
         print("                      several files on the clock  one file    plain     ratios of the clock  of processors")
         print("beside files batch    middle   least    most   middle   middle to one  to plain     to one")
-        measured = [found for others in (2 * os.cpu_count(), 0) for found in rows(folder, programs, others, rounds)]
+        measured = [found for others in (2 * os.cpu_count(), 0) for found in rows(folder, programs, others, rounds, len(table))]
     figures.keep("busy", rounds, measured)
 
 

@@ -15,10 +15,16 @@ import time
 FOLDER = pathlib.Path(__file__).resolve().parent / "figures"
 
 
+# The machine's clock and the time that its host kept from it, when the measuring began.
+began = None
+
+
 def words():
     """The words of the command line but `--store`, with which the machine has to be quiet."""
+    global began
     if "--store" in sys.argv and (others := working_processors()) > 0.5:
         sys.exit(f"{sys.argv[0]}: {others:.1f} processors work for others; figures are kept of a quiet machine alone")
+    began = time.monotonic(), stolen_seconds()
     return [word for word in sys.argv[1:] if word != "--store"]
 
 
@@ -33,6 +39,17 @@ def working_seconds():
     """The processor time since the start of the machine that was not idle, in seconds."""
     user, nice, system, _idle, _waiting, *rest = pathlib.Path("/proc/stat").read_text().split("\n")[0].split()[1:9]
     return sum(int(part) for part in (user, nice, system, *rest)) / os.sysconf("SC_CLK_TCK")
+
+
+def stolen_seconds():
+    """The processor time since the start of the machine that its host gave to others, in seconds."""
+    return int(pathlib.Path("/proc/stat").read_text().split()[8]) / os.sysconf("SC_CLK_TCK")
+
+
+def stolen():
+    """How many processors' time the host gave to others while it was measured, on the average."""
+    clock, before = began
+    return round((stolen_seconds() - before) / (time.monotonic() - clock), 2)
 
 
 def machine():
@@ -50,7 +67,7 @@ def keep(name, rounds, rows):
     if "--store" not in sys.argv:
         return
     FOLDER.mkdir(exist_ok=True)
-    head = {"machine": machine(), "made": datetime.date.today().isoformat(), "rounds": rounds}
+    head = {"machine": machine(), "made": datetime.date.today().isoformat(), "rounds": rounds, "stolen": stolen()}
     lines = ",\n    ".join(json.dumps(row) for row in rows)
     text = json.dumps(head)[:-1] + f', "rows": [\n    {lines}\n]}}\n'
     json.loads(text)

@@ -1,11 +1,12 @@
 #!/usr/bin/env python3
 """Draws what the benches measured, out of bench/figures/.
 
-Usage: docs/pictures/draw_figures.py [--check]. Writes time_by_prefixes.svg, time_by_feeds.svg, lock_by_threads.svg and
-trie_by_size.svg beside itself, or with --check compares them with what it would write. Each axis begins at zero, but for the
+Usage: docs/pictures/draw_figures.py [--check]. Writes time_by_prefixes.svg, time_by_feeds.svg, time_beside_others.svg,
+lock_by_threads.svg and trie_by_size.svg beside itself, or with --check compares them with what it would write. Each axis begins at zero, but for the
 lower ones, which have one place for each number that was measured.
 """
 import pathlib
+import statistics
 import sys
 
 from picture import BLUE, GREEN, INK, QUIET, Picture, settle
@@ -108,6 +109,28 @@ def time_by_feeds():
     return charts("Feeds that announce the same 20,000 prefixes, on the clock", "µs a line", "feeds", PROGRAM, panels, kept)
 
 
+def time_beside_others():
+    kept = figures.kept("busy")
+    kinds = [("plain Rust", ORANGE, True), ("yarib, batch 1", QUIET, False), ("batch 256", BLUE, False)]
+    panels = [(title, busy_lines([row for row in kept["rows"] if bool(row["others"]) == busy])) for title, busy in BESIDE]
+    return charts("The same lines in one file and in several, on the clock", "µs a line", "files", kinds, panels, kept)
+
+
+BESIDE = (("nothing else on the machine", False), ("beside busy processes", True))
+
+
+def busy_lines(rows):
+    """Microseconds a line of the plain program and of both batches, by the number of files: the middle of the rounds. What one
+    file takes is the middle over the cases of its batch."""
+    plain = statistics.median(row["clock"][2][0] * 1000 / row["lines"] for row in rows)
+    lines = [[(files, plain) for files in (1, *sorted({row["files"] for row in rows}))]]
+    for batch in (1, 256):
+        mine = [row for row in rows if row["batch"] == batch]
+        one = statistics.median(row["clock"][1][0] * 1000 / row["lines"] for row in mine)
+        lines.append([(1, one)] + [(row["files"], row["clock"][0][0] * 1000 / row["lines"]) for row in mine])
+    return lines
+
+
 def lock_by_threads():
     kept = figures.kept("lock")
     rows = [row for row in kept["rows"] if row["levels"] == 6]
@@ -132,5 +155,5 @@ def trie_by_size():
 
 settle(
     "draw_figures.py",
-    [(draw.__name__, draw()) for draw in (time_by_prefixes, time_by_feeds, lock_by_threads, trie_by_size)],
+    [(draw.__name__, draw()) for draw in (time_by_prefixes, time_by_feeds, time_beside_others, lock_by_threads, trie_by_size)],
 )
