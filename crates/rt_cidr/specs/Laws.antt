@@ -54,16 +54,18 @@ WritesAddress = (address : ℕ) → address < 2 ^ 32 → IsAddressText (address_
 abbrev pub WritesPrefix : Type 0
 WritesPrefix = (p : Prefix) → IsPrefixText (prefix_text p.base p.len) p.base p.len
 
--- what is written is read again
+-- what is written of a number is read again
 abbrev pub ReadsDecimalAgain : Type 0
 ReadsDecimalAgain =
     (n : ℕ) (answer : Option ℕ) → n < 2 ^ 32 → ReadsDecimal (decimal n) answer → answer ≡ Some n
 
+-- the same of an address
 abbrev pub ReadsAddressAgain : Type 0
 ReadsAddressAgain =
     (a : Addr) (answer : Result Addr TextFault) → a.0 < 2 ^ 32 →
     ReadsAddress (address_text a.0) answer → answer ≡ Ok a
 
+-- the same of a prefix
 abbrev pub ReadsPrefixAgain : Type 0
 ReadsPrefixAgain =
     (p : Prefix) (answer : Result Prefix TextFault) →

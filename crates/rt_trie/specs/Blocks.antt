@@ -7,6 +7,7 @@ use Rattle.rt_cidr.specs.Cidr.{size_of}
 abbrev pub middle_at : ℕ → ℕ → ℕ
 middle_at len base = base + size_of len / 2
 
+-- the same of a prefix
 abbrev pub middle : Prefix → ℕ
 middle q = middle_at q.len q.base
 

@@ -16,10 +16,11 @@ PutIsSeen V = (m : Pairs V) (p : Prefix) (v : V) (q : Prefix) → get (put m p v
 abbrev pub EraseIsSeen : Type 0 → Type 0
 EraseIsSeen V = (m : Pairs V) (p q : Prefix) → IsOrdered m → get (erase m p) q ≡ (if same_prefix p q then None else get m q)
 
--- both keep the pairs in order, so none stands there twice
+-- putting in keeps the pairs in order, so none stands there twice
 abbrev pub PutKeepsOrder : Type 0 → Type 0
 PutKeepsOrder V = (m : Pairs V) (p : Prefix) (v : V) → IsOrdered m → IsOrdered (put m p v)
 
+-- and so does taking out
 abbrev pub EraseKeepsOrder : Type 0 → Type 0
 EraseKeepsOrder V = (m : Pairs V) (p : Prefix) → IsOrdered m → IsOrdered (erase m p)
 
@@ -59,6 +60,7 @@ pub record IsChildByBit (parent : Prefix) (upper : Bool) (c : Prefix) : Type 0 w
   pub contained : IsTrue (contains parent c)
   pub next_bit : (c.base / (size_of parent.len / 2)) % 2 ≡ (if upper then 1 else 0)
 
+-- so a child of a lawful trie, by blocks of addresses, is one by bits, and the other way round
 abbrev pub ChildByNextBit : Type 0
 ChildByNextBit = (parent c : Prefix) (upper : Bool) → IsChild parent upper c ↔ IsChildByBit parent upper c
 
@@ -75,5 +77,6 @@ IsLawfulByBits (Leaf len base b) = IsKeyOf len base b.value.prefix
 IsLawfulByBits (Fork' len base p left right q) = IsLawfulNode q None left right × IsLawfulByBits left × IsLawfulByBits right × IsKeyOf len base q
 IsLawfulByBits (Full' len base p left right q v) = IsLawfulNode q v left right × IsLawfulByBits left × IsLawfulByBits right × IsKeyOf len base q
 
+-- and so a trie is lawful by blocks of addresses exactly where it is lawful by bits
 abbrev pub LawfulByBits : Type 0 → Type 0 → Type 0
 LawfulByBits V A = (link : Link V A) → IsLawfulTrie link ↔ IsLawfulByBits link

@@ -66,10 +66,11 @@ IsLongest m a None = All (λ y. covers y.0 a ≡ false) m
 IsLongest m a (Some x) =
     Contains m x × IsTrue (covers x.0 a) × All (λ y. IsTrue (covers y.0 a) → y.0.len ≤ x.0.len) m
 
--- the address and the answer at an index
+-- the address at an index
 abbrev pub address_at : List Addr → ℕ → Addr
 address_at addresses k = slice_index_or addresses k (record { 0 = 0 })
 
+-- the answer at an index
 abbrev pub answer_at : {V : Type 0} → List (Option (Prefix × Bor V)) → ℕ → Option (Prefix × V)
 answer_at answers k = pair_copied (slice_index_or answers k None)
 
