@@ -39,6 +39,7 @@ def misused(what, found, *parts):
 # Files
 
 
+# Fails where three files are run in another order: `the files ['one.feed', 'two.feed', 'three.feed']`.
 def file_order(yarib):
     for name, hop in (("one", 1), ("two", 2), ("three", 3)):
         pathlib.Path(f"{name}.feed").write_text(f"add 10.{hop}.0.0/16 7 192.0.2.{hop}\n")
@@ -48,6 +49,7 @@ def file_order(yarib):
         expect(f"the files {names}", run([yarib, "run", *names]), (0, "1:1 added\n2:1 added\n3:1 added\n" + table(*routes), ""))
 
 
+# Fails where 64 files are too many: `64 files`.
 def many_files(yarib):
     names = []
     for feed in range(1, 66):
@@ -62,6 +64,7 @@ def many_files(yarib):
     expect("65 files, the first missing", run([yarib, "run", "missing", *names[:64]]), too_many)
 
 
+# Fails where the last file is named, not the first that can't be read: `two missing files`.
 def unreadable(yarib):
     os.mkdir("folder")
     cannot = lambda name: (4, "", f"yarib: cannot read {name}\n")
@@ -78,6 +81,7 @@ def unreadable(yarib):
     expect("missing behind --", run([yarib, "run", "--", "--limit"]), cannot("--limit"))
 
 
+# Fails where a name of 300 bytes can't be read: the file.
 def names(yarib):
     long = "d" * 150 + "/" + "f" * 149
     os.mkdir("d" * 150)
@@ -121,6 +125,7 @@ def texts(yarib):
 # Numbers
 
 
+# Fails where `--limit 0` or `1000001`, `--batch 0` or `1025` is taken, or `--limit 2` is 3: the option and its number.
 def limits(yarib):
     lines = [f"add 10.{k}.0.0/16 1 192.0.2.1\n" for k in range(1, 5)]
     pathlib.Path("four.feed").write_text("".join(lines))
@@ -143,6 +148,8 @@ def limits(yarib):
     misused("--limit before run", run([yarib, "--limit", "1", "run", "row.feed"]), "--limit")
 
 
+# Fails where 32 commands are asked for `--batch 64`, or 512 for `--batch 1024`: `32 in place of 64`, `512 in place of
+# 1024`.
 def batches(yarib):
     """Each batch has an effect that no other has: the dumps of a second feed change at its multiples alone, and to those."""
     expect("--batch 1000", batch_seen(yarib, ["--batch", "1000"], 1000), 1000)
@@ -265,6 +272,7 @@ class Tree:
         return "".join(lines) + f"inside {'none' if self.inside is None else f'p{self.inside}'}\n"
 
 
+# Fails where the last of 13 picks is left out, or P3 is answered to 1,000 picks or to six levels: the replay.
 def replays(yarib):
     def compare(levels, picks, *shown):
         words = list(shown or map(str, picks))
@@ -301,6 +309,7 @@ def replays(yarib):
 # Help, version and what is no command
 
 
+# Fails where a line of a help page is missing or says another thing: the page.
 def pages(yarib):
     page = lambda name: (TOP / "bench" / "help" / f"{name}.txt").read_text()
     for words in (["--help"], ["-h"], ["help"]):
@@ -330,6 +339,7 @@ STATUSES = [
 ]
 
 
+# Fails where a fault has another meaning in the help: `the help says E6 preference`.
 def help_is_true(yarib):
     help_text = run([yarib, "run", "--help"])[1]
     for said, line in FAULTS:
@@ -481,6 +491,7 @@ def addresses_told(yarib):
         expect("nothing is told where the output is full", run([*asked, "faulty.feed", "row.feed"], stdout=full), CANNOT_WRITE)
 
 
+# Fails where status 0 is given though help or version can't be written: `['--help'] to a closed output`.
 def closed_outputs(yarib):
     calls = (["lookup", "--help"], ["table", "--help"], ["lookup", "--address", "10.0.0.1", "row.feed"], ["table", "row.feed"],
              ["--help"], ["help", "run"], ["run", "--help"], ["replay", "--help"], ["--version"], ["-V"], ["replay", "--levels", "6"],

@@ -52,6 +52,7 @@ KINDS = {
 }
 
 
+# Fails where `run_feed` makes a list for each line: `lookup, in batches of 1: 20003 requests more`.
 def commands(yarib, count):
     """Twice as many lines that take no memory cost no request for each."""
     for name, line in KINDS.items():

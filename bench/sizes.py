@@ -28,6 +28,7 @@ def compare(what, ended, status, out, err=""):
     expect(what, (ended[0], ended[2], at + 1, found[at : at + 1]), (status, err, at + 1, wanted[at : at + 1]))
 
 
+# Fails where a journal of 1,000,000 entries or more never grows: `a million routes`, `1:1048578 refused`.
 def million(yarib):
     """A feed that fills its limit with single addresses in no order, the last one among them, and goes on."""
     bases = [0xFFFF_FFFF - at * 2_654_435_761 % 2**32 for at in range(MOST)]
@@ -70,6 +71,7 @@ def of_one_feed(count):
     return "".join(line + "\n" for line in lines)
 
 
+# Fails where 8, 257 or 513 commands at once are refused, or the 8th of a batch: `in batches of 8`.
 def batches(yarib):
     text = of_one_feed(2_100)
     out = run_text([text], set())
@@ -84,6 +86,7 @@ def batches(yarib):
             compare(f"{count} commands in batches of {batch}", run([yarib, "run", "--batch", str(batch), "count.feed"]), 0, out)
 
 
+# Fails where a `purge` of more than 1,024 routes is refused where the journal has no room: `a purge of 65536`.
 def purges(yarib):
     for count in (1, 1_023, 1_024, 1_025, 5_000, 65_536):
         adds = [f"add 10.{at >> 8}.{at & 255}.0/24 1 192.0.2.1\n" for at in range(count)]
@@ -93,6 +96,11 @@ def purges(yarib):
         compare(f"a purge of {count}", run([yarib, "run", "--batch", "64", "purge.feed"]), 0, out)
 
 
+# Fails where F3 is answered to 40 texts, or the ninth or the 64th offer of a prefix is refused: `40 feeds in batches of
+# 1`, `9 feeds in batches of 1`, `64 feeds in batches of 1`.
+# Fails where an `add` of preference 2^32 - 1 or of 255.255.255.255/32 is refused: `1 feeds in batches of 1`, `1:3
+# refused`.
+# Fails where a `dump` of feed 64 is refused where the journal has no room: `feed 64 alone asks`, `64:1 refused`.
 def feeds(yarib):
     """From 1 to 64 feeds: each offers one prefix and the last address, and has routes of its own."""
     texts = []
@@ -140,6 +148,8 @@ def shown(yarib, texts, names):
     compare(f"the table of {len(names)} files", run([yarib, "table", "--limit", "3", *names]), status, out, told)
 
 
+# Fails where F3 is answered above 200,000 routes, a limit over 65,536 is refused, or a journal of 200,000 entries or
+# more never grows: `300,000 routes of three feeds`.
 def many_offers(yarib):
     """300,000 routes of three feeds, the same prefixes for each."""
     bases = [address(0x0100_0000 + (at * 40_503 % 100_000 << 8)) for at in range(100_000)]

@@ -69,6 +69,7 @@ fn assert_prefix_text(rt: &impl Abort, alloc: Global, prefix: Prefix, text: &str
     assert_eq!(rt; written.as_slice(), text.as_bytes());
 }
 
+/// Fails where `Prefix::write_to` returns a fault at once.
 #[test]
 fn reads_prefixes_and_writes_them_again(rt: HostRuntime) -> Result<(), Fail> {
     for (text, base, len) in [
@@ -124,6 +125,7 @@ fn assert_address(rt: &impl Abort, alloc: Global, text: &str, address: Addr) {
     assert_eq!(rt; written.as_slice(), text.as_bytes());
 }
 
+/// Fails where `Addr::write_to` returns a fault at once.
 #[test]
 fn reads_addresses_and_writes_them_again(rt: HostRuntime) {
     for (text, address) in [
@@ -156,6 +158,7 @@ fn refuses_addresses(rt: HostRuntime) {
     }
 }
 
+/// Fails where `Display` or `Debug` shows another text for a `TextFault`.
 #[test]
 fn faults_have_their_texts(rt: HostRuntime) -> Result<(), Fail> {
     for (fault, shown, name) in [
@@ -243,7 +246,7 @@ fn contains_prefixes(rt: HostRuntime) {
     }
 }
 
-/// A `put` that always answers a fault is seen here.
+/// Fails where `put` returns `WriteZero` at once.
 #[test]
 fn puts_all_one_byte_a_call(rt: HostRuntime) -> Result<(), Fail> {
     let mut writer = Narrow::new(rt.alloc(), usize::MAX, None);
@@ -297,6 +300,8 @@ fn each_fault(alloc: Global) -> Result<Vec<io::Error>, AllocError> {
 }
 
 /// A fault is handed on at once, whatever it is, and nothing is tried again.
+/// Fails where `put` answers another fault than the writer's.
+/// Fails where `put` tells another kind in place of `TimedOut`: both faults.
 #[test]
 fn hands_on_the_writers_fault(rt: HostRuntime) -> Result<(), Fail> {
     for fault in &each_fault(rt.alloc())? {
@@ -345,7 +350,8 @@ fn overfill(
     assert_fault(rt, alloc, written, fault)
 }
 
-/// A `write_to`, or a call of a buffer, that answers another fault than the writer's is seen here.
+/// Fails where `write` or `flush` of an `OutputBuffer`, or a `write_to`, answers another fault than the writer's.
+/// Fails where `flush` loses the number of the fault: both faults.
 #[test]
 fn hands_on_the_fault_of_what_it_writes(rt: HostRuntime) -> Result<(), Fail> {
     let long = Vec::from_elem(rt.alloc(), b'x', OUTPUT_BYTES + 10)?;
@@ -381,8 +387,8 @@ impl Write for Faltering {
     }
 }
 
-/// What a fault leaves is held, so that a buffer which is flushed again and again writes each byte once. One that tries
-/// again by itself, as std's does after `Interrupted`, is seen here.
+/// What a fault leaves is held, so that a buffer which is flushed again and again writes each byte once.
+/// Fails where an `OutputBuffer` tries again by itself after a fault, as std's does after `Interrupted`.
 #[test]
 fn holds_what_a_fault_leaves(rt: HostRuntime) -> Result<(), Fail> {
     let mut writer = Faltering {
@@ -410,6 +416,7 @@ fn holds_what_a_fault_leaves(rt: HostRuntime) -> Result<(), Fail> {
 }
 
 /// A buffer that is dropped writes nothing, and one that is flushed while it holds nothing doesn't either.
+/// Fails where an `OutputBuffer` writes when it is dropped, as std's `BufWriter` does.
 #[test]
 fn writes_when_it_is_told_to(rt: HostRuntime) -> Result<(), Fail> {
     let mut writer = Unflushed::new(rt.alloc());
@@ -468,7 +475,8 @@ impl Write for Unflushed {
     }
 }
 
-/// A `put`, or a `flush` of a buffer, that flushes the writer is seen here, also where it takes no notice of the fault.
+/// Fails where `put`, or `send` of an `OutputBuffer`, flushes the writer below and ignores its fault: one flush,
+/// instead of none.
 #[test]
 fn never_flushes_the_writer(rt: HostRuntime) -> Result<(), Fail> {
     let mut writer = Unflushed::new(rt.alloc());
@@ -507,7 +515,9 @@ fn write_long(
     Ok(())
 }
 
-/// A buffer that gives up at a text which just fills it is seen here, and one that takes more memory than it has to.
+/// Fails where `write` gives up at a text that just fills the buffer, of 65,536 bytes: the fault.
+/// Fails where an `OutputRoom` takes 16 times as much memory: 1,048,576, instead of 65,536.
+/// Fails where the writer below is flushed: one flush, instead of none.
 #[test]
 fn takes_texts_about_as_long_as_itself(rt: HostRuntime) -> Result<(), Fail> {
     assert_eq!(rt; OUTPUT_BYTES, 65_536);
@@ -533,7 +543,7 @@ fn put_pieces(rt: &impl Abort, w: &mut impl Write, wanted: &mut Vec<u8>) {
     }
 }
 
-/// A buffer that hands on each piece by itself, or is never full, is seen here.
+/// Fails where an `OutputBuffer` passes on each piece by itself, or holds more than its 64 KB.
 #[test]
 fn gathers_pieces_into_few_large_writes(rt: HostRuntime) -> Result<(), Fail> {
     let mut writer = Unflushed::new(rt.alloc());

@@ -96,6 +96,7 @@ fn a_book_may_go_to_another_thread(rt: HostRuntime) {
     send(Book::new(rt.alloc(), 1));
 }
 
+/// Fails where `Book::apply` or `Book::routes` always returns `Refused`.
 #[test]
 fn worked_run(rt: HostRuntime) -> Result<(), Fail> {
     let wide = prefix(&rt, addr(10, 0, 0, 0), 8);

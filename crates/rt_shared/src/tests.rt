@@ -86,6 +86,7 @@ fn ask<R: Wait + Abort>(rt: &R, table: &SharedRib<1>, pass: &mut FeedPass, cmd: 
     assert_eq!(rt; table.apply(rt, pass, cmd), Ok(reply));
 }
 
+/// Fails where `SharedRib::new` or `apply` always returns `Refused`.
 #[test]
 fn a_feed_finds_what_another_added(rt: HostRuntime) -> Result<(), Fail> {
     let cmd = add(ten()?, 1);
@@ -321,6 +322,7 @@ fn assert_routes<R: Wait + Abort>(
     assert_eq!(rt; left.as_slice(), routes);
 }
 
+/// Fails where `SharedRib::apply_batch` or `routes` always returns `Refused`.
 #[test]
 fn a_batch_has_an_outcome_for_each_command(rt: HostRuntime) -> Result<(), Fail> {
     let cmd = add(ten()?, 1);
@@ -410,6 +412,8 @@ fn ask_sizes<R: Wait + Abort, const L: u32>(
     asked
 }
 
+/// Fails where `apply_batch` refuses a batch of 8 or of more than 512 commands, the 8th of a batch, or those beyond its
+/// 1,024th; `apply` beyond 1,024 entries: `Err(Refused)`, or `of 8 commands`, `of 1025 commands`, `command 0`.
 #[test]
 fn batches_of_each_size_are_answered(rt: HostRuntime) -> Result<(), Fail> {
     let cmds = commands(rt.alloc(), 4_097)?;
@@ -443,6 +447,7 @@ fn add_routes<R: Wait + Abort, const L: u32>(
     Ok(())
 }
 
+/// Fails where `routes` refuses beyond 65,536 routes, or to a feed without an entry: `Refused`.
 #[test]
 fn more_than_65_536_routes_are_shared(rt: HostRuntime) -> Result<(), Fail> {
     let (table, mut first, mut second) = pair(rt.alloc(), 1_000_000)?;
@@ -455,6 +460,8 @@ fn more_than_65_536_routes_are_shared(rt: HostRuntime) -> Result<(), Fail> {
     Ok(())
 }
 
+/// Fails where `SharedRib::new` refuses a limit over 65,536, or at some number of levels, that of 16 feeds say:
+/// `Refused`.
 #[test]
 fn tables_of_each_size_are_made(rt: HostRuntime) -> Result<(), Fail> {
     let alloc = rt.alloc();

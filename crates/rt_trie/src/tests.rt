@@ -121,6 +121,7 @@ fn fill_and_empty<A: Allocator + Copy>(rt: &impl Abort, alloc: A) {
     assert_counts(rt, &trie, 0, 0);
 }
 
+/// Fails where `insert` of a new prefix always returns `Err`.
 #[test]
 fn sixty_four_prefixes(rt: HostRuntime) {
     fill_and_empty(&rt, rt.alloc());
@@ -132,6 +133,7 @@ fn numbered_prefix(rt: &impl Abort, k: u32) -> Prefix {
 }
 
 /// More prefixes than a hundred thousand, and the last address by itself.
+/// Fails where `insert` returns `Err` at the last address, or beyond 100,000 prefixes.
 #[test]
 fn more_than_100_000_prefixes(rt: HostRuntime) {
     let mut trie: Trie<u32, Global> = Trie::new(rt.alloc());
@@ -199,12 +201,12 @@ fn assert_found<A: Allocator + Copy>(
     }
 }
 
-/// A block of the region's least size, if there is one left.
+/// A block of the region's least size, if it still has one.
 fn least_block(heap: &LocalHeap) -> Option<Box<u8, &LocalHeap>> {
     Box::new(heap, 0u8).ok()
 }
 
-/// Takes all memory that is left in the region, in such blocks.
+/// Takes all memory that the region still has, in such blocks.
 fn take_the_rest<'h>(
     rt: &impl Abort,
     heap: &'h LocalHeap,

@@ -85,6 +85,7 @@ fn walk(rt: &impl Abort, walker: &mut Walker, words: &mut [u64]) -> Op {
     walker.op()
 }
 
+/// Fails where `Machine::new` always returns want of memory.
 #[test]
 #[tactic(auto, using(std::proofs::lemmas::Nat::pow_pos))]
 fn four_steps_lead_a_place_inside(rt: HostRuntime) -> Result<(), Fail> {
@@ -117,6 +118,7 @@ fn schedules_are_refused_in_order(rt: HostRuntime) -> Result<(), Fail> {
     Ok(())
 }
 
+/// Fails where `Display` or `Debug` shows another text for a `ReplayFault`.
 #[test]
 fn faults_have_their_texts(rt: HostRuntime) -> Result<(), Fail> {
     for (fault, shown, name) in [
@@ -164,6 +166,8 @@ fn name(alloc: Global, word: Word) -> Result<String, Fail> {
 }
 
 /// 200 schedules of 2,000 picks against a second machine.
+/// Fails where `Machine::new` or `replay` always returns want of memory.
+/// Fails where the store that wakes a rival, e7 of the tree, is of 2, not of 1: 2, instead of 1.
 #[test]
 fn a_second_machine_takes_the_same_steps(rt: HostRuntime) -> Result<(), Fail> {
     let alloc = rt.alloc();

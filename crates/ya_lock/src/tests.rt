@@ -240,6 +240,8 @@ fn all_are_counted<R: Threads + Wait + Clock + Sync, const L: u32>(
     Ok(each && marks.places.len() == places.wrapping_mul(times))
 }
 
+/// Fails where `TreeLock::new` always gives the value back, as all tests here do.
+/// Fails where `enter` waits forever at some number of levels, or `spin` never loads.
 #[test]
 fn a_thread_for_each_place_counts(rt: HostRuntime) -> Result<(), Fail> {
     assert!(rt; all_are_counted::<_, 1>(&rt, rt.alloc(), 64, 500, Hold::Nothing)?);
@@ -268,6 +270,7 @@ fn all_heights_are_counted<R: Threads + Wait + Clock + Sync>(
     Ok(all)
 }
 
+/// Fails where a bell isn't rung after x3: it hangs.
 #[test]
 fn threads_that_sleep_are_woken(rt: HostRuntime) -> Result<(), Fail> {
     assert!(rt; all_heights_are_counted(&rt, rt.alloc(), 2, 100, Hold::Sleeps)?);
@@ -276,6 +279,9 @@ fn threads_that_sleep_are_woken(rt: HostRuntime) -> Result<(), Fail> {
     Ok(())
 }
 
+/// Fails where a bell isn't rung after x3: it hangs.
+/// Fails where a place parks on its bell without a second look, or a waker wakes and stores no 0: it hangs in most of
+/// its runs.
 #[test]
 fn no_wake_is_lost(rt: HostRuntime) -> Result<(), Fail> {
     assert!(rt; all_heights_are_counted(&rt, rt.alloc(), 2, 4_000, Hold::Spins)?);
@@ -368,18 +374,21 @@ fn both_come_in<R: Threads + Wait + Clock + CpuClock + Sync>(
     Ok(competed && time.is_some())
 }
 
+/// Fails where a bell isn't rung after e7: it hangs.
 #[test]
 fn a_place_that_sleeps_is_woken_by_a_rival_that_came_later(rt: HostRuntime) -> Result<(), Fail> {
     assert!(rt; both_come_in(&rt, rt.alloc())?);
     Ok(())
 }
 
+/// Fails where a place never sleeps, by the processor time of a wait of a fifth of a second.
 #[test]
 fn a_thread_that_waits_leaves_the_processor_to_others(rt: HostRuntime) -> Result<(), Fail> {
     assert!(rt; time_of_a_wait(&rt, rt.alloc())? < Duration::from_millis(50));
     Ok(())
 }
 
+/// Fails where a flag or a mutex beside the tree, which `docs/accesses` finds, is one for all locks.
 #[test]
 fn two_locks_are_open_at_once(rt: HostRuntime) -> Result<(), Fail> {
     let (one, mut passes) = made::<Number, 2>(rt.alloc(), Number(7))?;

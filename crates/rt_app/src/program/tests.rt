@@ -23,6 +23,8 @@ static FAULTS: [(AppFault, u8, &str); 7] = [
     (AppFault::Write, 6, "yarib: cannot write\n"),
 ];
 
+/// Fails where a fault has another status or text.
+/// Fails where F2 has status 5: `of "yarib: fault F2\n"`.
 #[test]
 fn each_fault_has_its_status_and_text(rt: HostRuntime) {
     for (fault, status, text) in FAULTS.iter() {
@@ -34,6 +36,7 @@ fn each_fault_has_its_status_and_text(rt: HostRuntime) {
 }
 
 /// A tally of five kinds is told in five lines, and one of none in none.
+/// Fails where something else is told of what was not taken.
 #[test]
 fn what_was_not_taken_is_told(rt: HostRuntime) {
     let first = Line {

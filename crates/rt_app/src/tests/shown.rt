@@ -111,6 +111,8 @@ fn compare<R: Files + Threads + Wait + Sync + AllocGlobal + Abort>(rt: &R) -> Re
     Ok(())
 }
 
+/// Fails where `lookup_texts` or `table_texts` always returns F3 or `Write`, a faulty line of a text of addresses is
+/// answered, or the addresses come in another order than the command line's and then the file's.
 #[test]
 fn what_the_table_says(rt: HostRuntime) -> Result<(), Fail> {
     compare(&rt)

@@ -100,6 +100,9 @@ fn compare<R: Files + Threads + Wait + Sync + AllocGlobal + Abort>(
     Ok(())
 }
 
+/// Fails where each file is taken for one for which memory was refused, or for a misuse.
+/// Fails where a folder is taken for an empty file: `["yarib", "run", "."]`.
+/// Fails where `--levels 255` is refused on the command line, instead of with P2.
 #[test]
 fn calls_end_as_they_should(rt: HostRuntime) -> Result<(), Fail> {
     write_files(&rt)?;
@@ -115,6 +118,7 @@ fn too_many(alloc: Global) -> Result<Vec<&'static str>, AllocError> {
     Ok(words)
 }
 
+/// Fails where the files are read before they are counted: the status is not 3.
 #[test]
 fn more_than_64_files_are_refused_unread(rt: HostRuntime) -> Result<(), Fail> {
     let words = too_many(rt.alloc())?;
@@ -136,6 +140,8 @@ fn many_routes(alloc: Global) -> Result<Vec<u8>, Fail> {
     Ok(text)
 }
 
+/// Fails where a feed may have another number of routes where no limit is asked, or `--limit 1000000` isn't taken.
+/// Fails where the limit is 65,535 where nothing is asked: `["yarib", "run", "--batch", "1024", "many.feed"]`.
 #[test]
 fn a_feed_may_have_65_536_routes_where_nothing_is_asked(rt: HostRuntime) -> Result<(), Fail> {
     fs::write(&rt, "many.feed", many_routes(rt.alloc())?.as_slice())?;
@@ -211,6 +217,7 @@ fn on_screen<R: Files + Threads + Wait + Sync + AllocGlobal + Abort>(
     Ok(printed)
 }
 
+/// Fails where the help's replay shows another value: `$ yarib replay --levels 1 0 0 0 0`.
 #[test]
 fn the_examples_of_the_help_are_what_is_printed(rt: HostRuntime) -> Result<(), Fail> {
     write_files(&rt)?;
@@ -237,6 +244,7 @@ impl Write for Closed {
     }
 }
 
+/// Fails where status 0 is given to an output that takes nothing: the status is not 6.
 #[test]
 fn closed_outputs(rt: HostRuntime) -> Result<(), Fail> {
     fs::write(&rt, "empty.feed", b"")?;
@@ -250,6 +258,7 @@ fn closed_outputs(rt: HostRuntime) -> Result<(), Fail> {
 }
 
 /// Files and a text of addresses of which not all is taken: nothing is told of them where the output can't be written.
+/// Fails where something is told of what was not taken though the output could not be written.
 #[test]
 fn nothing_is_told_where_the_output_is_closed(rt: HostRuntime) -> Result<(), Fail> {
     fs::write(&rt, "odd.txt", b"10.0.0.1\nfrob\n")?;

@@ -30,6 +30,7 @@ fn skips_what_a_feed_skips(rt: HostRuntime) {
     }
 }
 
+/// Fails where a carriage return after an address is swallowed: `192.0.2.1` and CR is an address, instead of `Text`.
 #[test]
 fn tells_the_fault_of_a_line(rt: HostRuntime) {
     let faulty: [&[u8]; 10] = [

@@ -3,6 +3,8 @@
 use crate::faults::*;
 use std::test::Fail;
 
+/// Fails where `Display` or `Debug` shows another text for a `RunFault`.
+/// Fails where F2 shows `F1`: both texts.
 #[test]
 fn faults_have_their_texts(rt: HostRuntime) -> Result<(), Fail> {
     let faults = [

@@ -136,6 +136,9 @@ fn text_of(alloc: Global, report: &Report) -> Result<Vec<u8>, Fail> {
     Ok(text)
 }
 
+/// Fails where `run_feed` always returns M3.
+/// Fails where a refused command is asked again: `1:2 dumped 0`, instead of `1:2 refused`.
+/// Fails where a refused command has no line, or ends the feed: `1:2` is missing, or `1:3`.
 #[test]
 fn a_refused_command_is_reported_and_the_rest_go_on(rt: HostRuntime) -> Result<(), Fail> {
     let mut gate = new_recording(rt.alloc());
@@ -147,6 +150,10 @@ fn a_refused_command_is_reported_and_the_rest_go_on(rt: HostRuntime) -> Result<(
     Ok(())
 }
 
+/// Fails where `run_feed` asks one by one where it was told a batch.
+/// Fails where a batch is cut in two: the gate had 1, 2, 1, 2, 0, 1 commands, instead of 3, 3, 1.
+/// Fails where a faulty line ends a batch: the gate had 2, 3, 2.
+/// Fails where the commands of a refused batch are asked again one by one: `1:6 dumped 0`, instead of `1:6 refused`.
 #[test]
 fn faulty_and_skipped_lines_take_no_place_in_a_batch(rt: HostRuntime) -> Result<(), Fail> {
     let mut gate = new_recording(rt.alloc());
@@ -166,8 +173,8 @@ fn faulty_and_skipped_lines_take_no_place_in_a_batch(rt: HostRuntime) -> Result<
     Ok(())
 }
 
-/// A run that gives up beyond a million lines or answers, or that wants the room of a whole batch before it has the
-/// commands, is seen here.
+/// Fails where `run_feed` returns M3 beyond 1,000,000 lines or answers, or asks at once for the room of a whole batch,
+/// of `usize::MAX` commands say: `Refused`.
 #[test]
 fn a_batch_may_have_more_than_a_million_commands(rt: HostRuntime) -> Result<(), Fail> {
     let count = 1_000_001;
@@ -182,6 +189,8 @@ fn a_batch_may_have_more_than_a_million_commands(rt: HostRuntime) -> Result<(), 
     Ok(())
 }
 
+/// Fails where more texts than feeds are run: `Ok(())`, instead of `FeedCount`.
+/// Fails where the feeds are asked before they are counted: a gate was called once, instead of never.
 #[test]
 fn a_run_without_texts_or_with_other_feeds_asks_nothing(rt: HostRuntime) -> Result<(), Fail> {
     let mut feeds = Vec::new(rt.alloc());
@@ -249,6 +258,10 @@ fn assert_meet<R: Threads + Wait + Sync + Abort>(
     Ok(())
 }
 
+/// Fails where `run_feeds` always returns F3.
+/// Fails where feeds run one after another, always or only where a batch is more than one command, or 8 or 16 at a
+/// time: a report has a refusal, as `2 feeds, 1 at once`, `2 feeds, 3 at once`, `17 feeds, 1 at once`.
+/// Fails where 63 feeds run at a time: it does not end in the time of a test.
 #[test]
 fn feeds_are_asked_at_the_same_time(rt: HostRuntime) -> Result<(), Fail> {
     for gates in [2, 3, 16, 17, 63, 64] {

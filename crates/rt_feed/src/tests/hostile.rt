@@ -179,6 +179,11 @@ fn change(line: &mut Vec<u8>, command: &[u8], at: usize, byte: u8) -> Result<(),
     Ok(())
 }
 
+/// Fails where NUL ends a field as a space does: `add`, NUL, `10.0.0.0/8 100 192.0.2.1` is a command, instead of fault
+/// 1.
+/// Fails where a carriage return at the end is swallowed: `.. 255.255.255.25` and CR is a command, instead of fault 7.
+/// Fails where `:` is a digit, one past `9`: `add :0.0.0.0/8 ..` is a command, instead of fault 3.
+/// Fails where the length 33 is taken as 32: `add 255.255.255.255/33 ..` is a command, instead of fault 4.
 #[test]
 fn every_byte_at_every_place(rt: HostRuntime) -> Result<(), Fail> {
     let mut line = Vec::new(rt.alloc());
@@ -193,6 +198,9 @@ fn every_byte_at_every_place(rt: HostRuntime) -> Result<(), Fail> {
     Ok(())
 }
 
+/// Fails where two spaces are taken as one: `add  10.0.0.0/8 ..` is a command, instead of fault 2.
+/// Fails where a leading zero is let through: `add 010.0.0.0/8 ..` is a command, instead of fault 3.
+/// Fails where from 2^32 on a preference wraps to 0: `.. 14294967295 ..` is a preference, instead of fault 6.
 #[test]
 fn a_byte_more_or_less_at_every_place(rt: HostRuntime) -> Result<(), Fail> {
     let mut line = Vec::new(rt.alloc());
@@ -216,6 +224,7 @@ fn a_byte_more_or_less_at_every_place(rt: HostRuntime) -> Result<(), Fail> {
     Ok(())
 }
 
+/// Fails where 129 bytes are read: `#` and 128 bytes `1` say nothing, instead of fault 8.
 #[test]
 fn lines_about_128_bytes(rt: HostRuntime) -> Result<(), Fail> {
     let fronts: [&[u8]; 8] = [
@@ -269,6 +278,8 @@ fn hostile_line(state: &mut u64, line: &mut Vec<u8>) -> Result<(), AllocError> {
     line.extend_from_slice(pick(state, &ENDS))
 }
 
+/// Fails where a last line without LF is dropped: `a line is missing`.
+/// Fails where a number wraps at 2^64: `replace 10.0.0.0/18446744073709551624 ..` has fault 6, instead of fault 4.
 #[test]
 fn forty_thousand_lines_of_hostile_feeds(rt: HostRuntime) -> Result<(), Fail> {
     for seed in 1..=40 {

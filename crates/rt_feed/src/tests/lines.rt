@@ -14,6 +14,7 @@ fn assert_lines(rt: &impl Abort, text: &[u8], lines: &[&[u8]]) {
     assert_eq!(rt; next_line(rest), None, "after {text:?}");
 }
 
+/// Fails where a last line without LF is dropped: it ends where it wants a line.
 #[test]
 fn cuts_texts_into_lines(rt: HostRuntime) {
     let texts: [(&[u8], &[&[u8]]); 7] = [

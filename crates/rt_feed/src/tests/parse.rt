@@ -23,6 +23,7 @@ fn assert_answers(rt: &impl Abort, line: &[u8], answer: Result<Option<Cmd>, Line
     assert_answer(rt, line, Version::Two, answer);
 }
 
+/// Fails where a space at the end is let through: `add 10.0.0.0/8 1 192.0.2.1 ` is a command, instead of `FieldCount`.
 #[test]
 fn tells_the_first_fault(rt: HostRuntime) {
     let faulty: [(&[u8], LineFault); 27] = [
@@ -103,6 +104,7 @@ fn reads_each_command(rt: HostRuntime) -> Result<(), Fail> {
     Ok(())
 }
 
+/// Fails where a line that begins with NUL is skipped: `Ok(None)` at 0, instead of `Command`.
 #[test]
 fn one_byte_is_no_command(rt: HostRuntime) -> Result<(), Fail> {
     for byte in 0..=u8::MAX {
@@ -168,6 +170,8 @@ fn no_version_has_more(rt: HostRuntime) {
     }
 }
 
+/// Fails where `Display` or `Debug` shows another text for a `LineFault`.
+/// Fails where E8 tells of 127 bytes: both texts.
 #[test]
 fn faults_have_their_texts(rt: HostRuntime) -> Result<(), Fail> {
     let faults = [

@@ -81,7 +81,7 @@ table 3
     Ok(())
 }
 
-/// A report with a withdrawal and a count, and the routes that are left.
+/// A report with a withdrawal and a count, and the routes that remain.
 fn withdrawing(alloc: Global) -> Result<(Report, [Route; 2]), Fail> {
     let ten = route(b"10.0.0.0/8", 10, b"192.0.2.1")?;
     let other = route(b"10.2.0.0/16", 10, b"192.0.2.3")?;
@@ -117,6 +117,7 @@ fn prints_a_withdrawal_and_a_count(rt: HostRuntime) -> Result<(), Fail> {
     Ok(())
 }
 
+/// Fails where `write_report` gives up at once.
 #[test]
 fn prints_every_other_answer(rt: HostRuntime) -> Result<(), Fail> {
     let alloc = rt.alloc();
@@ -179,6 +180,7 @@ table 1
     Ok(())
 }
 
+/// Fails where `write_found` gives up at once.
 #[test]
 fn prints_what_was_found(rt: HostRuntime) -> Result<(), Fail> {
     let ten = route(b"10.0.0.0/8", u32::MAX, b"192.0.2.1")?;
@@ -204,6 +206,7 @@ fn prints_what_was_found(rt: HostRuntime) -> Result<(), Fail> {
     Ok(())
 }
 
+/// Fails where `write_rows` gives up at once.
 #[test]
 fn prints_rows_alone(rt: HostRuntime) -> Result<(), Fail> {
     let ten = route(b"10.0.0.0/8", 10, b"192.0.2.1")?;
@@ -220,6 +223,7 @@ fn prints_rows_alone(rt: HostRuntime) -> Result<(), Fail> {
     Ok(())
 }
 
+/// Fails where `write_table` gives up at once.
 #[test]
 fn prints_an_empty_table(rt: HostRuntime) -> Result<(), Fail> {
     assert_eq!(rt;
@@ -269,7 +273,7 @@ fn push_table(text: &mut Vec<u8>, count: usize) -> Result<(), AllocError> {
     Ok(())
 }
 
-/// A report or a table that gives up beyond some number of lines is seen here.
+/// Fails where `write_report` or `write_table` gives up beyond some number of lines.
 #[test]
 fn prints_hundreds_of_thousands_of_lines(rt: HostRuntime) -> Result<(), Fail> {
     let alloc = rt.alloc();

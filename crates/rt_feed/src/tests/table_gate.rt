@@ -72,6 +72,7 @@ fn ask_both<R: Wait + Abort>(
     Ok(())
 }
 
+/// Fails where `TableGate::apply` or `apply_batch` asks and answers `Refused`: `Err(Refused)`.
 #[test]
 fn gates_answer_by_their_table(rt: HostRuntime) -> Result<(), Fail> {
     let alloc = rt.alloc();
@@ -125,6 +126,7 @@ fn ask_many<R: Wait + Abort>(
     Ok(())
 }
 
+/// Fails where `TableGate::apply_batch` refuses a batch of 8, or of more than 1,024: `8 at once`, `1025 at once`.
 #[test]
 fn gates_take_batches_of_each_size(rt: HostRuntime) -> Result<(), Fail> {
     let alloc = rt.alloc();

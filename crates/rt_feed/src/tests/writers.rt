@@ -77,6 +77,7 @@ impl Write for Narrow {
     }
 }
 
+/// Fails where `put` takes each write for a whole one: `1` is all that is written.
 #[test]
 fn writes_a_byte_a_call(rt: HostRuntime) -> Result<(), Fail> {
     let mut out = Narrow {
@@ -109,8 +110,11 @@ fn assert_stops(rt: &impl Abort, alloc: Global, room: usize, code: i32) -> Resul
     Ok(())
 }
 
-/// A writer of text that gives another fault than the writer's, at the first call or at any later one, is seen here. The
-/// numbers are those of an interrupted call, a full disk and a broken pipe.
+/// The numbers are those of an interrupted call, a full disk and a broken pipe.
+/// Fails where a line of the report, a row, the count or what was found loses the number of the writer's fault: `None`,
+/// instead of `Some(4)`, `after 0 bytes`, `81`, `73`, `243`.
+/// Fails where the lines after the first answer another fault, if only another number of its kind: `Some(5)`, instead
+/// of `Some(4)`, `after 10 bytes`.
 #[test]
 fn stops_with_the_writers_own_fault_after_each_byte(rt: HostRuntime) -> Result<(), Fail> {
     for code in [4, 28, 32] {
@@ -159,8 +163,11 @@ impl Write for Counting {
     }
 }
 
-/// An empty write, or a flush between lines or at the end, is seen here: no clause can tell, since neither changes what
-/// the writer holds.
+/// No clause can tell: neither an empty write nor a flush changes what the writer holds.
+/// Fails where the writer is flushed after each row, or each line of the report: `(10, 0, 4)`, `(10, 0, 3)`, instead of
+/// `(10, 0, 0)`.
+/// Fails where it is flushed, or asked to write nothing, where there is no line: `(0, 0, 1)`, `(0, 1, 0)`, instead of
+/// `(0, 0, 0)`.
 #[test]
 fn makes_one_write_for_each_line_and_no_other_call(rt: HostRuntime) -> Result<(), Fail> {
     let mut out = Counting::new();

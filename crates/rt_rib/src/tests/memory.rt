@@ -51,6 +51,8 @@ fn ask_both<A: Allocator + Copy>(
     Ok(())
 }
 
+/// Fails where `Book::new`, a look-up, one of many, `read_ahead`, a replacement, a withdrawal or a purge asks for
+/// memory beside the entry's, even if it gives it back at once.
 #[test]
 fn nothing_but_the_journal_and_an_add_asks_for_memory(rt: HostRuntime) -> Result<(), Fail> {
     let memory = Counted::new(rt.alloc());
@@ -90,6 +92,7 @@ fn nothing_but_the_journal_and_an_add_asks_for_memory(rt: HostRuntime) -> Result
     Ok(())
 }
 
+/// Fails where a withdrawal or a purge never gives back a list of offers.
 #[test]
 fn what_is_withdrawn_or_purged_is_given_back(rt: HostRuntime) -> Result<(), Fail> {
     let heap = LocalHeap::new(rt.alloc(), REGION)?;

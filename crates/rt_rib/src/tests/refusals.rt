@@ -11,7 +11,7 @@ use std::test::Fail;
 /// How many routes a feed may have.
 const LIMIT: u32 = 5;
 
-/// Takes all memory that is left in the region, in blocks of its least size.
+/// Takes all memory that the region still has, in blocks of its least size.
 fn take_the_rest<'h>(
     heap: &'h LocalHeap,
     blocks: &mut Vec<Box<u8, &'h LocalHeap>>,
@@ -25,7 +25,7 @@ fn take_the_rest<'h>(
     Err(Fail::from("the region is too large"))
 }
 
-/// Takes up the room that the journal has left, where there is no memory for more.
+/// Takes up the room that the journal still has, where there is no memory for more.
 fn fill(book: &mut Book<&LocalHeap>) -> Result<(), Fail> {
     for _ in 0..100u32 {
         if book.apply(2, Cmd::Dump).is_err() {
@@ -152,6 +152,8 @@ fn commands(rt: &impl Abort, wide: Prefix) -> [Cmd; 8] {
     ]
 }
 
+/// Fails where `Book::routes` takes its memory from the book's allocator, not from the one that it is given.
+/// Fails where `Added` is answered where the trie was refused a node: nothing was refused where something had to be.
 #[test]
 fn each_growth_of_each_command_refused_in_turn(rt: HostRuntime) -> Result<(), Fail> {
     let heap = LocalHeap::new(rt.alloc(), 4_096)?;

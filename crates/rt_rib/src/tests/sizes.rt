@@ -51,6 +51,8 @@ fn rows(route: Route) -> [(Cmd, Reply, Reply); 6] {
     ]
 }
 
+/// Fails where `Book::apply` refuses the greatest address, preference or feed, in an `add` or where the journal has to
+/// grow.
 #[test]
 fn the_greatest_values_are_answered(rt: HostRuntime) -> Result<(), Fail> {
     let mut book = Book::new(rt.alloc(), 1_000_000);
@@ -62,6 +64,7 @@ fn the_greatest_values_are_answered(rt: HostRuntime) -> Result<(), Fail> {
     Ok(())
 }
 
+/// Fails where an `add` of a prefix that has 4, 8 or 63 offers is refused.
 #[test]
 fn every_feed_offers_one_prefix(rt: HostRuntime) -> Result<(), Fail> {
     let mut book = Book::new(rt.alloc(), 1);
@@ -80,6 +83,8 @@ fn every_feed_offers_one_prefix(rt: HostRuntime) -> Result<(), Fail> {
     Ok(())
 }
 
+/// Fails where `Book::routes` refuses beyond 65,536 routes.
+/// Fails where a purge of more than 1,024 routes is refused where the journal has to grow.
 #[test]
 fn more_than_65_536_routes_are_listed_and_purged(rt: HostRuntime) -> Result<(), Fail> {
     let mut book = Book::new(rt.alloc(), 1_000_000);
@@ -98,6 +103,7 @@ fn more_than_65_536_routes_are_listed_and_purged(rt: HostRuntime) -> Result<(), 
     Ok(())
 }
 
+/// Fails where `Book::apply` refuses beyond 200,000 or 1,000,000 entries.
 #[test]
 fn more_than_a_million_entries_are_kept(rt: HostRuntime) -> Result<(), Fail> {
     let mut book = Book::new(rt.alloc(), 1);

@@ -77,6 +77,8 @@ fn compare_batches<R: Threads + Wait + Sync + Abort>(
     }
 }
 
+/// Fails where `run_feed` always returns M3, or `run_feeds` F3.
+/// Fails where F3 is returned for two feeds in batches of 2: `in batches of 2`, and the output that it wants.
 #[test]
 fn feeds_meet_in_one_table(rt: HostRuntime) -> Result<(), Fail> {
     let alloc = rt.alloc();
@@ -121,6 +123,7 @@ fn put_table(alloc: Global, feeds: u32, output: &mut String) -> Result<(), Alloc
     Ok(())
 }
 
+/// Fails where F3 is returned for 17 feeds: the table of 17 feeds that it wants.
 #[test]
 fn a_place_for_each_of_64_feeds(rt: HostRuntime) -> Result<(), Fail> {
     // The least and the greatest number of feeds of each height of the lock's tree.
@@ -140,6 +143,7 @@ fn a_place_for_each_of_64_feeds(rt: HostRuntime) -> Result<(), Fail> {
     Ok(())
 }
 
+/// Fails where F3 is returned in batches of 700: `in batches of 700`, and the output that it wants.
 #[test]
 fn every_batch_size_gives_the_same_output(rt: HostRuntime) -> Result<(), Fail> {
     let row = &BATCHED[0];
@@ -172,6 +176,7 @@ fn have_met(output: &[u8]) -> bool {
         .any(|part| part == b" dumped 1".as_slice())
 }
 
+/// Fails where `run_texts` bypasses `run_feeds` and runs one feed after another.
 #[test]
 fn feeds_run_at_the_same_time(rt: HostRuntime) -> Result<(), Fail> {
     let texts = coming_and_going(rt.alloc())?;

@@ -41,6 +41,7 @@ fn alone<R: Threads + Wait + Sync + Abort>(
     Ok(())
 }
 
+/// Fails where F3 is returned for a line of 129 bytes: the line.
 #[test]
 fn faults_are_told(rt: HostRuntime) -> Result<(), Fail> {
     for (text, fault) in FAULTY.iter() {
@@ -50,6 +51,7 @@ fn faults_are_told(rt: HostRuntime) -> Result<(), Fail> {
     Ok(())
 }
 
+/// Fails where F3 is returned for a text of one byte: `of [0]`.
 #[test]
 fn texts_of_one_byte(rt: HostRuntime) -> Result<(), Fail> {
     for byte in 0..=u8::MAX {

@@ -281,8 +281,8 @@ fn number_of(unasked: &[&[Ask<'_>]], feeds: &[Vec<Ask<'_>>]) -> usize {
     number
 }
 
-/// The state after the next visit of the feed at this index, which has these commands left, if it has one and the answers
-/// are those that were printed.
+/// The state after the next visit of the feed at this index, which still has these commands, if it has one and the
+/// answers are those that were printed.
 fn after_visit<'b, 'a>(
     alloc: Global,
     state: &State<'b, 'a>,

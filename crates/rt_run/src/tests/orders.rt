@@ -184,6 +184,7 @@ fn judge_runs<R: Threads + Wait + Sync + Abort>(
 }
 
 /// On one processor the feeds may as well run one after another.
+/// Fails where a look-up answers the last offer of the longest prefix, not the best: `2 feeds of seed 1`.
 #[test]
 fn some_order_explains_each_of_500_runs(rt: HostRuntime) -> Result<(), Fail> {
     let mut interleaved = 0usize;
@@ -292,7 +293,7 @@ fn losing_a_withdrawal<R: Threads + Wait + Sync + Abort>(
     Ok(Some(with_answer(alloc, output.as_str(), lost.heading, "withdrawn")?))
 }
 
-/// Fails where some order of the visits of the drawn texts explains the output.
+/// Aborts if some order of the visits of the drawn texts explains the output.
 fn refute<R: Abort>(
     rt: &R,
     alloc: Global,
@@ -305,6 +306,7 @@ fn refute<R: Abort>(
     Ok(())
 }
 
+/// Fails where the judge finds an order for whatever was written: the seed and the output.
 #[test]
 fn no_order_explains_a_lost_withdrawal(rt: HostRuntime) -> Result<(), Fail> {
     let alloc = rt.alloc();
@@ -372,6 +374,7 @@ fn swapping_replies(alloc: Global, output: &str) -> Result<Option<String>, Alloc
     Ok(Some(with_answer(alloc, first.as_str(), other.heading, one.answer)?))
 }
 
+/// Fails where the judge finds an order for whatever was written: the seed and the output.
 #[test]
 fn no_order_explains_swapped_replies(rt: HostRuntime) -> Result<(), Fail> {
     let alloc = rt.alloc();
@@ -604,6 +607,7 @@ fn owned_texts(alloc: Global, texts: &[&str]) -> Result<Vec<String>, AllocError>
     Ok(owned)
 }
 
+/// Fails where the judge finds an order for whatever was written: the output.
 #[test]
 fn the_judge_tells_what_an_order_explains(rt: HostRuntime) -> Result<(), Fail> {
     let alloc = rt.alloc();

@@ -11,6 +11,7 @@ struct Trace {
     text: &'static str,
 }
 
+/// Fails where `replay` always returns want of memory, or `replay_text` P3 or `Write`, if only where nothing is picked.
 #[test]
 fn traces(rt: HostRuntime) {
     for trace in TRACES.iter() {

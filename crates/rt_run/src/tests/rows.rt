@@ -86,6 +86,8 @@ fn compare_rows<R: Threads + Wait + Sync + Abort>(
     Ok(())
 }
 
+/// Fails where `run_texts` always returns F3 or `Write`, or every command is reported as refused.
+/// Fails where F3 is returned for one of the texts: the output that it wants.
 #[test]
 fn worked_runs(rt: HostRuntime) -> Result<(), Fail> {
     compare_rows(&rt, rt.alloc(), &ROWS)?;

@@ -129,6 +129,8 @@ const WAYS: [(usize, ErrorKind); 5] = [
     (usize::MAX, ErrorKind::BrokenPipe),
 ];
 
+/// Fails where `run_texts` gives another fault than `Write` where the writer fails.
+/// Fails where a byte more is written after the fault: `after 0 bytes`.
 #[test]
 fn a_fault_within_a_small_output_leaves_a_beginning(rt: HostRuntime) -> Result<(), Fail> {
     let alloc = rt.alloc();
@@ -146,6 +148,9 @@ fn a_fault_within_a_small_output_leaves_a_beginning(rt: HostRuntime) -> Result<(
     Ok(())
 }
 
+/// Fails where `run_texts` gives another fault than `Write` where the writer fails.
+/// Fails where a byte more is written after the fault: `after 0 bytes`.
+/// Fails where `put`, and so `run_texts`, tries again after `Interrupted`, as std's `write_all` does.
 #[test]
 fn a_fault_in_any_buffer_leaves_a_beginning(rt: HostRuntime) -> Result<(), Fail> {
     let alloc = rt.alloc();
@@ -189,16 +194,22 @@ fn stops_after_each<R: Threads + Wait + Sync + Abort>(
 }
 
 /// Each of these two takes some ten seconds.
+/// Fails where `run_texts` gives another fault than `Write` where the writer fails.
+/// Fails where a byte more is written after the fault: `after 0 bytes`.
 #[test]
 fn a_fault_after_any_even_number_of_bytes_leaves_a_beginning(rt: HostRuntime) -> Result<(), Fail> {
     stops_after_each(&rt, rt.alloc(), 0)
 }
 
+/// Fails where `run_texts` gives another fault than `Write` where the writer fails.
+/// Fails where a byte more is written after the fault: `after 1 bytes`.
 #[test]
 fn a_fault_after_any_odd_number_of_bytes_leaves_a_beginning(rt: HostRuntime) -> Result<(), Fail> {
     stops_after_each(&rt, rt.alloc(), 1)
 }
 
+/// Fails where `put` returns `WriteZero` at once.
+/// Fails where `put` takes each write for a whole one: `1 at once`.
 #[test]
 fn all_is_written_however_little_a_call_takes(rt: HostRuntime) -> Result<(), Fail> {
     let alloc = rt.alloc();
@@ -215,6 +226,8 @@ fn all_is_written_however_little_a_call_takes(rt: HostRuntime) -> Result<(), Fai
     Ok(())
 }
 
+/// Fails where `run_texts` passes on each line by itself, or flushes the writer.
+/// Fails where the buffer is passed on between the reports and the table: 6 calls, instead of 5.
 #[test]
 fn the_output_goes_out_in_few_large_writes(rt: HostRuntime) -> Result<(), Fail> {
     let alloc = rt.alloc();

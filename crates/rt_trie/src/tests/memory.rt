@@ -62,6 +62,8 @@ fn call_at_whole(rt: &impl Abort, memory: &Counted<Global>, trie: &CountedTrie<'
     assert_eq!(rt; memory.asked(), asked, "first");
 }
 
+/// Fails where `Trie::new`, `get`, `longest`, `longest_many`, `remove` or an `insert` of a stored prefix asks for
+/// memory, even if it gives it back at once.
 #[test]
 fn nothing_but_a_new_prefix_asks_for_memory(rt: HostRuntime) {
     let memory = Counted::new(rt.alloc());
@@ -91,6 +93,8 @@ fn nothing_but_a_new_prefix_asks_for_memory(rt: HostRuntime) {
 }
 
 /// A new prefix asks for one box where it goes below a leaf, above a node or to a fork, and beside a node for two.
+/// Fails where an insertion asks for a box more than it keeps, above a node, at a fork, below a leaf or beside a node:
+/// its prefix, and 2, instead of 1, or 3, instead of 2.
 #[test]
 fn a_new_prefix_asks_for_a_box_or_two(rt: HostRuntime) {
     let rows = [
@@ -163,6 +167,8 @@ fn walk_many(rt: &impl Abort, trie: &CountedTrie<'_>) {
     assert_eq!(rt; trie.walk().count(), MANY as usize);
 }
 
+/// Fails where `retain` asks for a block beyond 100 prefixes, `longest_many` beyond 64 addresses, a walk or `remove`
+/// beyond 1,000 prefixes, `longest` beyond 65,000: the call, and a number of requests that isn't 131,999.
 #[test]
 fn a_large_trie_asks_for_its_nodes_alone(rt: HostRuntime) -> Result<(), Fail> {
     let memory = Counted::new(rt.alloc());
@@ -187,6 +193,7 @@ fn a_large_trie_asks_for_its_nodes_alone(rt: HostRuntime) -> Result<(), Fail> {
     Ok(())
 }
 
+/// Fails where `remove` keeps the memory of a node.
 #[test]
 fn what_goes_is_given_back(rt: HostRuntime) -> Result<(), Fail> {
     let heap = LocalHeap::new(rt.alloc(), 65_536)?;

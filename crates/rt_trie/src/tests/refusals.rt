@@ -96,7 +96,7 @@ fn refusals<'h>(
     panic!(rt; "never put in");
 }
 
-/// Puts in the pairs, then the new one, in a region where nothing is left, then one block, and so on until it is put in.
+/// Puts in the pairs, then the new one, in a region that is full, then with one block, and so on until it is put in.
 /// So each box that the insertion asks for is refused, the first at the start and the last just before the end; each time
 /// the trie is as it was, and the region too.
 fn refuse_each_box(
@@ -115,6 +115,8 @@ fn refuse_each_box(
     assert_eq!(rt; trie.len(), pairs.len().wrapping_add(1));
 }
 
+/// Fails where `insert` keeps a box that it was given when the next is refused, a fork's when the leaf's is: the region
+/// is not as it was.
 #[test]
 fn each_box_of_each_insertion_refused_in_turn(rt: HostRuntime) -> Result<(), Fail> {
     let heap = LocalHeap::new(rt.alloc(), 2_048)?;
@@ -158,7 +160,7 @@ fn each_box_of_each_insertion_refused_in_turn(rt: HostRuntime) -> Result<(), Fai
     Ok(())
 }
 
-/// Each removal in a region where nothing is left: a leaf below a fork, a full node with one branch, one with two.
+/// Each removal in a region that is full: a leaf below a fork, a full node with one branch, one with two.
 fn take_each<'h>(
     rt: &impl Abort,
     heap: &'h LocalHeap,
@@ -188,6 +190,7 @@ fn assert_answers<A: Allocator + Copy>(
     assert_longest(rt, trie, 0x0a01_0203, Some((narrow, 4)));
 }
 
+/// Fails where a call other than `insert` needs memory of its own.
 #[test]
 fn nothing_but_an_insertion_asks_for_memory(rt: HostRuntime) -> Result<(), Fail> {
     let heap = LocalHeap::new(rt.alloc(), 2_048)?;

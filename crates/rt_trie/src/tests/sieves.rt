@@ -31,6 +31,7 @@ impl<V> Sieve<V> for OfLength {
     }
 }
 
+/// Fails where `retain` needs memory of its own.
 #[test]
 fn a_sieve_needs_no_memory(rt: HostRuntime) -> Result<(), Fail> {
     let heap = LocalHeap::new(rt.alloc(), 2_048)?;
@@ -50,6 +51,7 @@ fn a_sieve_needs_no_memory(rt: HostRuntime) -> Result<(), Fail> {
 }
 
 /// Values that lie in a region of their own: what the region has in use are the values that were not dropped.
+/// Fails where `retain` never drops a value that it takes out; none is dropped twice, by the language.
 #[test]
 fn a_sieve_drops_each_value_that_it_gives_up(rt: HostRuntime) -> Result<(), Fail> {
     let heap = LocalHeap::new(rt.alloc(), 65_536)?;
