@@ -6,7 +6,7 @@ ghost use Rattle.rt_cidr.specs.Output.{AppendsBeginning};
 use std::io::{self, ErrorKind, Write};
 
 /// Writes all the bytes, by as many calls of `write` as the writer needs. The writer's fault is handed on at once,
-/// whatever its kind, also `Interrupted`; a `write` that takes none of the bytes that are left is answered as
+/// whatever its kind, also `Interrupted`; a `write` that takes none of the bytes that remain is answered as
 /// `WriteZero`. After a fault what was written is a beginning of the bytes, and never all of them; so where nothing is
 /// to be written, nothing fails. The writer is not flushed. Takes no memory.
 pub fn put<W: Write>(w: &mut W, bytes: &[u8]) -> Result<(), io::Error>

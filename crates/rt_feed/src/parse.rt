@@ -166,7 +166,7 @@ fn cut_field(text: &[u8]) -> (&[u8], Option<&[u8]>)
     cut_at(text, b' ')
 }
 
-/// Makes sure that no field is left; any other number of fields is E2.
+/// Makes sure that no field remains; any other number of fields is E2.
 fn no_field(rest: Option<&[u8]>) -> Result<(), LineFault>
     ensures { MatchResult result
         (λ none. fields_of_rest rest.entry ≡ [])
@@ -178,7 +178,7 @@ fn no_field(rest: Option<&[u8]>) -> Result<(), LineFault>
     }
 }
 
-/// The one field that is left; any other number of fields is E2.
+/// The one field that remains; any other number of fields is E2.
 fn only_field(rest: Option<&[u8]>) -> Result<&[u8], LineFault>
     ensures { MatchResult result
         (λ field. fields_of_rest rest.entry ≡ field.now ∷ [])
@@ -191,7 +191,7 @@ fn only_field(rest: Option<&[u8]>) -> Result<&[u8], LineFault>
     }
 }
 
-/// The three fields that are left; any other number of fields is E2.
+/// The three fields that remain; any other number of fields is E2.
 fn three_fields(rest: Option<&[u8]>) -> Result<(&[u8], &[u8], &[u8]), LineFault>
     ensures { MatchResult result
         (λ three. fields_of_rest rest.entry ≡ three.0.now ∷ three.1.now ∷ three.2.now ∷ [])

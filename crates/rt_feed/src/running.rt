@@ -18,7 +18,7 @@ use std::sync::Wait;
 /// else the commands that are gathered when there are that many, or the text ends. Lines that are skipped or faulty take
 /// no place in a batch. A command that is refused for want of memory is reported so, as is each one of a batch that is
 /// refused (M2). M3: `Refused` where the report or the batch could not grow; the gate was then asked the commands of a
-/// beginning of the text, and some line that is not skipped is left.
+/// beginning of the text, and some line that is not skipped remains.
 pub fn run_feed<R: Wait, G: Gate>(
     rt: &R,
     alloc: Global,

@@ -1,4 +1,4 @@
--- The text of the replay of a schedule, and what is left of it in a writer.
+-- The text of the replay of a schedule, and what it leaves in a writer.
 use Rattle.std.specs.Prelude.{◌≡◌, ℕ, List, Option, Result, Ok, Err}
 use Rattle.std.specs.Io.KnownBytes.{Appends}
 use Rattle.rt_cidr.specs.Output.{AppendsBeginning}

@@ -30,7 +30,7 @@ const FAULTY: u8 = 2;
 /// `batch` commands at once of one table, and writes to `w` each feed's report in order and then the table. Gives the
 /// status where all was written: 5 where some command was refused for want of memory, else 2 where some line was faulty,
 /// else 0. No text at all is F1 and want of memory outside of a command F3, and then nothing was written. After `Write` a
-/// beginning of such a text was written. The table's memory is left to the end of the process.
+/// beginning of such a text was written. The table's memory is held to the end of the process.
 pub fn run_texts<R: Threads + Wait + Sync, W: Write>(
     rt: &R,
     alloc: Global,

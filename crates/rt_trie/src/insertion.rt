@@ -1,7 +1,8 @@
 //! Putting a value into a trie. Every box is made before the first link is changed.
 //!
-//! The value comes in a slot, and what stood in its place is left there. So the way down carries a `bool` alone, each call
-//! of it is its function's last act, and what it may change at its end stands in functions of their own: it becomes a loop.
+//! The value comes in an option, in which what stood in its place goes back. So the way down carries a `bool` alone, each
+//! call of it is its function's last act, and what it may change at its end stands in functions of their own: it becomes a
+//! loop.
 
 ghost use Rattle.std.specs.Prelude.{◌≡◌, ◌≢◌, ◌+◌, ◌/◌, ◌<◌, ◌≤◌, ◌^◌, ◌⊎◌, false, true, None, Some, IsSome, IfSome, IfNone};
 ghost use Rattle.rt_trie.specs.declared.nodes.Link.TheVariants.{Empty};
@@ -17,8 +18,8 @@ use rt_cidr::Prefix;
 use std::alloc::Allocator;
 use std::mem;
 
-/// A value to put in, in a slot in which what stood at its prefix is left. With it go the memory for nodes, and how many nodes
-/// the trie has.
+/// A value to put in, and then what stood at its prefix. With it go the memory for nodes, and how many nodes the
+/// trie has.
 #[derive(Drop)]
 pub(crate) struct NewValue<V, A: Allocator> {
     pub value: Option<V>,
@@ -78,7 +79,7 @@ pub(crate) fn insert<V: Drop, A: Allocator + Copy>(
     }
 }
 
-/// The value in the slot and the one that is stored change places.
+/// The given value and the one that is stored change places.
 #[inline(never)]
 fn exchange<V: Drop>(stored: &mut V, value: &mut Option<V>)
     requires given { IsSome value.old }
@@ -111,7 +112,7 @@ fn insert_at_empty<V: Drop, A: Allocator + Copy>(
     true
 }
 
-/// A leaf of p with the value in the slot, which is left there where memory is refused.
+/// A leaf of p with the given value, which stays there where memory is refused.
 fn leaf_of<V: Drop, A: Allocator + Copy>(
     alloc: A,
     p: Prefix,

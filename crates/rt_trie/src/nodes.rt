@@ -28,7 +28,7 @@ pub(crate) struct ForkNode<V, A: Allocator> {
     pub prefix: Prefix,
 }
 
-/// A stored prefix with others below it, or what is left of one: a removal takes no memory, so it makes no node of
+/// A stored prefix with others below it, or what remains of one: a removal takes no memory, so it makes no node of
 /// another kind.
 #[cycle(links)]
 #[derive(Drop)]

@@ -169,7 +169,7 @@ allowance levels (Entering level point) begun = 7 * levels
 allowance levels Inside begun = if begun then 10 * levels else 7 * levels
 allowance levels (Leaving level point) begun = 10 * levels
 
--- the remote accesses that were made and the budget that is left are together at most seven a level in, ten in all
+-- the remote accesses that were made and the budget that remains are together at most seven a level in, ten in all
 abbrev pub CountIsKept : ℕ → ℕ → Process → Bool → Type 0
 CountIsKept levels remote process begun = remote + budget_of levels process begun ≤ allowance levels process begun
 

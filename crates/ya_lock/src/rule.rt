@@ -8,8 +8,8 @@ use crate::view::View;
 use atomic_table::{Seat, Table, TableRule};
 use std::alloc::{Allocator, Global};
 
-/// The words of the tree lie a cache line apart, so that a place that spins on its own word is left alone by stores in
-/// others.
+/// The words of the tree lie a cache line apart, so that stores in others don't disturb a place that spins on its own
+/// word.
 pub const SPACING: usize = 8;
 
 /// The lent value has the table's one slot.

@@ -1,4 +1,4 @@
--- What is left of a link once a sieve was shown its pairs.
+-- What remains of a link once a sieve was shown its pairs.
 use Rattle.std.specs.Prelude.{Bool}
 use Rattle.rt_cidr.specs.declared.prefixes.Prefix.{Prefix}
 use Rattle.rt_trie.specs.declared.nodes.Link.{Link}
