@@ -3,7 +3,7 @@
 
 use super::sieves::OfLength;
 use super::{STORED, numbered_prefix, prefix, put_new};
-use crate::Trie;
+use rt_trie::Trie;
 use counted_memory::Counted;
 use linked_list_allocator::LocalHeap;
 use rt_cidr::{Addr, Prefix};

@@ -6,7 +6,7 @@ mod random;
 mod refusals;
 mod sieves;
 
-use crate::{Trie, Walk};
+use rt_trie::{Trie, Walk};
 use linked_list_allocator::LocalHeap;
 use rt_cidr::{Addr, Prefix};
 use std::alloc::{Allocator, Global};

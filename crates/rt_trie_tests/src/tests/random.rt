@@ -3,7 +3,7 @@
 ghost use Rattle.std.specs.Prelude.{nat_eq};
 
 use super::{assert_pairs, covering, longest};
-use crate::{Sieve, Trie};
+use rt_trie::{Sieve, Trie};
 use rt_cidr::{Addr, Prefix};
 use std::alloc::{Allocator, Global};
 use std::process::Abort;
