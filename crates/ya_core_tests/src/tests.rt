@@ -2,11 +2,11 @@
 mod second_machine;
 
 use self::second_machine::Second;
-use super::laws::Accept;
-use super::*;
 use std::alloc::Global;
 use std::process::Abort;
 use std::test::*;
+use ya_core::laws::Accept;
+use ya_core::*;
 
 #[test]
 fn words_have_their_numbers(rt: HostRuntime) -> Result<(), Fail> {
@@ -64,7 +64,7 @@ fn begin(walker: &mut Walker) {
 }
 
 /// Lets the walker load and store until it asks for nothing more, and gives what it asks for then.
-#[tactic(auto, using(crate::proofs::DueAccess::store_asked))]
+#[tactic(auto, using(ya_core::proofs::DueAccess::store_asked))]
 fn walk(rt: &impl Abort, walker: &mut Walker, words: &mut [u64]) -> Op {
     for _ in 0..1000 {
         match walker.op() {
