@@ -3,8 +3,8 @@ ghost use Rattle.std.specs.Prelude.{◌≡◌, ℕ, ◌+◌, ◌*◌, ◌^◌, �
 ghost use Rattle.rt_rib.specs.Book.{IsLimit};
 ghost use Rattle.rt_shared.specs.tests.Testing.{AreBoth};
 
-use crate::laws::passes as passes_kept;
-use crate::{FeedPass, Outcome, Refused, SharedRib};
+use rt_shared::laws::passes as passes_kept;
+use rt_shared::{FeedPass, Outcome, Refused, SharedRib};
 use rt_cidr::{Addr, Prefix, TextFault};
 use rt_rib::{Book, Cmd, Entry, Hop, Reply, Route, feed_ok};
 use std::alloc::Global;
