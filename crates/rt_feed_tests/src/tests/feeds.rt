@@ -1,12 +1,7 @@
 //! Feeds through gates that record, refuse and wait for one another.
 ghost use Rattle.std.specs.Prelude.{◌≤◌};
 
-use crate::faults::RunFault;
-use crate::feeds::*;
-use crate::gates::Gate;
-use crate::print::write_report;
-use crate::report::Report;
-use crate::running::run_feed;
+use rt_feed::*;
 use rt_rib::{Cmd, Refused, Reply};
 use rt_shared::Outcome;
 use std::alloc::{AllocError, Global};

@@ -1,6 +1,6 @@
 //! Texts and their lines.
 
-use crate::lines::*;
+use rt_feed::*;
 use std::process::Abort;
 
 /// The text has these lines and no more.

@@ -1,9 +1,7 @@
 //! Writers that take little, that fail, and that count what they are asked.
 use super::print::route;
 use super::report::report_of;
-use crate::parse::LineFault;
-use crate::print::*;
-use crate::report::{Answer, Report};
+use rt_feed::*;
 use rt_cidr::{Addr, TextFault};
 use rt_rib::{Hop, Reply, Route};
 use std::alloc::Global;

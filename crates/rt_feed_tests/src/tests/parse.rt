@@ -1,7 +1,5 @@
 //! Lines and the answers to them: the first fault of each kind, and commands read as what they say.
-use crate::lines::next_line;
-use crate::parse::*;
-use crate::versions::Version;
+use rt_feed::*;
 use rt_cidr::{Addr, Prefix};
 use rt_rib::{Cmd, Hop};
 use std::process::Abort;

@@ -1,6 +1,5 @@
 //! Lines of a text of addresses, and what each is answered.
-use crate::addresses::*;
-use crate::parse::LineFault;
+use rt_feed::*;
 use rt_cidr::Addr;
 use std::process::Abort;
 

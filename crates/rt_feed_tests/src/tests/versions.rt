@@ -1,6 +1,6 @@
 //! Texts and their versions.
 
-use crate::versions::*;
+use rt_feed::*;
 use std::process::Abort;
 
 /// The text is of the version, and these are its lines.

@@ -1,7 +1,6 @@
 //! Reports.
 
-use crate::parse::LineFault;
-use crate::report::*;
+use rt_feed::*;
 use rt_rib::Reply;
 use std::alloc::{AllocError, Global};
 use std::process::Abort;

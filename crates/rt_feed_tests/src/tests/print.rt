@@ -1,8 +1,6 @@
 //! Printed reports, tables and answers of look-ups, byte for byte.
 use super::report::report_of;
-use crate::parse::LineFault;
-use crate::print::*;
-use crate::report::{Answer, Report};
+use rt_feed::*;
 use rt_cidr::{Addr, Prefix, TextFault};
 use rt_rib::{Hop, Reply, Route};
 use std::alloc::{AllocError, Global};

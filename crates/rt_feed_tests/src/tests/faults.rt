@@ -1,6 +1,6 @@
 //! What a run is refused for, in words.
 
-use crate::faults::*;
+use rt_feed::*;
 use std::test::Fail;
 
 #[test]

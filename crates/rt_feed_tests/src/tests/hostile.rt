@@ -1,8 +1,6 @@
 //! Hostile lines, for the tests: what `parse_line` answers to each is compared with a plain reader's answer.
 
-use crate::lines::next_line;
-use crate::parse::{LineFault, parse_line};
-use crate::versions::Version;
+use rt_feed::{LineFault, Version, next_line, parse_line};
 use plain::{Offer, Said, reading};
 use rt_rib::{Cmd, Hop};
 use std::alloc::AllocError;
