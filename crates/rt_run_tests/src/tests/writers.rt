@@ -2,8 +2,7 @@
 ghost use Rattle.std.specs.Prelude.{◌≡◌, ◌≤◌, length, vec_len, IfOk};
 ghost use Rattle.rt_rib.specs.declared.limits.TheConstants.{MOST_FEEDS};
 
-use crate::faults::AppFault;
-use crate::runs::run_texts;
+use rt_run::{AppFault, run_texts};
 use crate::tests::rows::one_text;
 use rt_cidr::OUTPUT_BYTES;
 use std::alloc::Global;
