@@ -5,10 +5,11 @@ mod random;
 mod refusals;
 mod sizes;
 
-use crate::offers::{Offer, Offers};
-use crate::*;
+use linked_list_allocator::LocalHeap;
 use rt_cidr::{Addr, Prefix};
-use std::alloc::{Allocator, Global};
+use rt_rib::*;
+use rt_trie::Trie;
+use std::alloc::Allocator;
 use std::process::Abort;
 use std::test::Fail;
 
@@ -229,10 +230,21 @@ fn a_purged_feed_starts_anew(rt: HostRuntime) -> Result<(), Fail> {
     Ok(())
 }
 
+/// The first route of a prefix takes the memory of a node with a value of 24 bytes, and no more.
 #[test]
-fn one_offer_lies_in_its_node(rt: HostRuntime) {
-    assert_eq!(rt; std::mem::size_of::<Offer>(), 16);
-    assert_eq!(rt; std::mem::size_of::<Offers<Global>>(), 24);
+fn one_offer_lies_in_its_node(rt: HostRuntime) -> Result<(), Fail> {
+    let heap = LocalHeap::new(rt.alloc(), 65_536)?;
+    let other = LocalHeap::new(rt.alloc(), 65_536)?;
+    let node = LocalHeap::new(rt.alloc(), 65_536)?;
+    let wide = prefix(&rt, addr(10, 0, 0, 0), 8);
+    let mut book = Book::new(&heap, 10);
+    let mut idle = Book::new(&other, 10);
+    ask(&rt, &mut book, (1, add(wide, 10, 1), Reply::Added))?;
+    ask(&rt, &mut idle, (1, Cmd::Dump, Reply::Dumped(0)))?;
+    let mut trie: Trie<[u64; 3], &LocalHeap> = Trie::new(&node);
+    assert!(&rt; trie.insert(wide, [0; 3]).is_ok());
+    assert_eq!(&rt; heap.used(), other.used().wrapping_add(node.used()));
+    Ok(())
 }
 
 #[test]

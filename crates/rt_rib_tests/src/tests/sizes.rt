@@ -1,6 +1,6 @@
 //! A book at its greatest sizes and values: where memory is ample, each command is answered.
 use super::{add, addr, ask, prefix, route, via};
-use crate::*;
+use rt_rib::*;
 use rt_cidr::Addr;
 use std::process::Abort;
 use std::test::Fail;

@@ -1,6 +1,6 @@
 //! Look-ups of many addresses at once, and the best routes of a table.
 use super::{add, addr, prefix, route};
-use crate::*;
+use rt_rib::*;
 use rt_cidr::Addr;
 use std::alloc::Allocator;
 use std::process::Abort;

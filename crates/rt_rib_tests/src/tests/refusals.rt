@@ -1,7 +1,7 @@
 //! A book whose memory is refused: each growth of each command in turn.
 use super::plain::Plain;
 use super::{add, addr, ask, assert_routes, prefix, route, via};
-use crate::*;
+use rt_rib::*;
 use linked_list_allocator::LocalHeap;
 use rt_cidr::Prefix;
 use std::alloc::{AllocError, Global};

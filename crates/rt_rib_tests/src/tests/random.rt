@@ -3,7 +3,7 @@ ghost use Rattle.std.specs.Prelude.{◌<◌};
 
 use super::ask;
 use super::plain::Plain;
-use crate::*;
+use rt_rib::*;
 use rt_cidr::{Addr, Prefix, TextFault};
 use std::alloc::Global;
 use std::process::Abort;
