@@ -2,6 +2,7 @@ pub mod Buffered
 pub mod Answering
 pub mod Outputs
 pub mod Pushing
+pub mod Tallying
 pub mod SeveralFeeds
 pub mod SameTables
 pub mod Replayed
