@@ -3,10 +3,10 @@ ghost use Rattle.std.specs.Prelude.{◌≡◌, ℕ, ◌+◌, ◌*◌, ◌^◌, �
 ghost use Rattle.rt_rib.specs.Book.{IsLimit};
 ghost use Rattle.rt_shared.specs.tests.Testing.{AreBoth};
 
-use rt_shared::laws::passes as passes_kept;
-use rt_shared::{FeedPass, Outcome, Refused, SharedRib};
 use rt_cidr::{Addr, Prefix, TextFault};
 use rt_rib::{Book, Cmd, Entry, Hop, Reply, Route, feed_ok};
+use rt_shared::laws::passes as passes_kept;
+use rt_shared::{FeedPass, Outcome, Refused, SharedRib};
 use std::alloc::Global;
 use std::process::Abort;
 use std::sync::Wait;

@@ -6,9 +6,9 @@ mod random;
 mod refusals;
 mod sieves;
 
-use rt_trie::{Trie, Walk};
 use linked_list_allocator::LocalHeap;
 use rt_cidr::{Addr, Prefix};
+use rt_trie::{Trie, Walk};
 use std::alloc::{Allocator, Global};
 use std::process::Abort;
 use std::test::Fail;

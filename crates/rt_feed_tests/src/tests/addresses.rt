@@ -1,6 +1,6 @@
 //! Lines of a text of addresses, and what each is answered.
-use rt_feed::*;
 use rt_cidr::Addr;
+use rt_feed::*;
 use std::process::Abort;
 
 /// What the line is answered.

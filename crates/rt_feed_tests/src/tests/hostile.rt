@@ -1,7 +1,7 @@
 //! Hostile lines, for the tests: what `parse_line` answers to each is compared with a plain reader's answer.
 
-use rt_feed::{LineFault, Version, next_line, parse_line};
 use plain::{Offer, Said, reading};
+use rt_feed::{LineFault, Version, next_line, parse_line};
 use rt_rib::{Cmd, Hop};
 use std::alloc::AllocError;
 use std::process::Abort;

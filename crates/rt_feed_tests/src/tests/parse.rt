@@ -1,6 +1,6 @@
 //! Lines and the answers to them: the first fault of each kind, and commands read as what they say.
-use rt_feed::*;
 use rt_cidr::{Addr, Prefix};
+use rt_feed::*;
 use rt_rib::{Cmd, Hop};
 use std::process::Abort;
 use std::test::Fail;

@@ -1,7 +1,7 @@
 //! Printed reports, tables and answers of look-ups, byte for byte.
 use super::report::report_of;
-use rt_feed::*;
 use rt_cidr::{Addr, Prefix, TextFault};
+use rt_feed::*;
 use rt_rib::{Hop, Reply, Route};
 use std::alloc::{AllocError, Global};
 use std::io::{self, Write};

@@ -3,8 +3,8 @@ ghost use Rattle.std.specs.Prelude.{◌≡◌, IfOk};
 ghost use Rattle.rt_rib.specs.Book.{IsLimit};
 ghost use Rattle.rt_shared.specs.tests.Testing.{AreBoth};
 
-use rt_feed::*;
 use rt_cidr::{Addr, Prefix, TextFault};
+use rt_feed::*;
 use rt_rib::{Cmd, Entry, Hop, Refused, Reply, Route};
 use rt_shared::{FeedPass, Outcome, SharedRib};
 use std::alloc::Global;

@@ -1,8 +1,8 @@
 //! Writers that take little, that fail, and that count what they are asked.
 use super::print::route;
 use super::report::report_of;
-use rt_feed::*;
 use rt_cidr::{Addr, TextFault};
+use rt_feed::*;
 use rt_rib::{Hop, Reply, Route};
 use std::alloc::Global;
 use std::io::{self, Write};

@@ -1,7 +1,7 @@
 //! Look-ups of many addresses at once, and the best routes of a table.
 use super::{add, addr, prefix, route};
-use rt_rib::*;
 use rt_cidr::Addr;
+use rt_rib::*;
 use std::alloc::Allocator;
 use std::process::Abort;
 use std::test::Fail;

@@ -1,9 +1,9 @@
 //! How often a book asks for memory and how much it holds, beside a book with as long a journal and no route.
 use super::{add, ask, prefix, via};
-use rt_rib::*;
 use counted_memory::Counted;
 use linked_list_allocator::LocalHeap;
 use rt_cidr::{Addr, Prefix};
+use rt_rib::*;
 use std::alloc::Allocator;
 use std::process::Abort;
 use std::test::Fail;

@@ -1,7 +1,7 @@
 //! The sequential table as its definition says it, over a plain list in no order: each command goes through the
 //! whole list, and a look-up filters it three times.
-use rt_rib::{Cmd, Hop, Reply, Route};
 use rt_cidr::{Addr, Prefix};
+use rt_rib::{Cmd, Hop, Reply, Route};
 use std::alloc::{AllocError, Global};
 
 #[derive(Drop)]

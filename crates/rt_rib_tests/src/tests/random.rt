@@ -3,8 +3,8 @@ ghost use Rattle.std.specs.Prelude.{◌<◌};
 
 use super::ask;
 use super::plain::Plain;
-use rt_rib::*;
 use rt_cidr::{Addr, Prefix, TextFault};
+use rt_rib::*;
 use std::alloc::Global;
 use std::process::Abort;
 use std::test::Fail;

@@ -1,9 +1,9 @@
 //! A book whose memory is refused: each growth of each command in turn.
 use super::plain::Plain;
 use super::{add, addr, ask, assert_routes, prefix, route, via};
-use rt_rib::*;
 use linked_list_allocator::LocalHeap;
 use rt_cidr::Prefix;
+use rt_rib::*;
 use std::alloc::{AllocError, Global};
 use std::process::Abort;
 use std::test::Fail;

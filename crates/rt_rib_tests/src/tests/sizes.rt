@@ -1,7 +1,7 @@
 //! A book at its greatest sizes and values: where memory is ample, each command is answered.
 use super::{add, addr, ask, prefix, route, via};
-use rt_rib::*;
 use rt_cidr::Addr;
+use rt_rib::*;
 use std::process::Abort;
 use std::test::Fail;
 

@@ -3,10 +3,10 @@
 
 use super::sieves::OfLength;
 use super::{STORED, numbered_prefix, prefix, put_new};
-use rt_trie::Trie;
 use counted_memory::Counted;
 use linked_list_allocator::LocalHeap;
 use rt_cidr::{Addr, Prefix};
+use rt_trie::Trie;
 use std::alloc::{Allocator, Global};
 use std::process::Abort;
 use std::test::Fail;

@@ -3,8 +3,8 @@
 ghost use Rattle.std.specs.Prelude.{nat_eq};
 
 use super::{assert_pairs, covering, longest};
-use rt_trie::{Sieve, Trie};
 use rt_cidr::{Addr, Prefix};
+use rt_trie::{Sieve, Trie};
 use std::alloc::{Allocator, Global};
 use std::process::Abort;
 

@@ -4,9 +4,9 @@ use super::{
     STORED, assert_after, assert_counts, assert_found, assert_longest, assert_pairs, assert_value,
     eighth, numbered, prefix, put_all, put_over, take_out, take_the_rest, write_at,
 };
-use rt_trie::Trie;
 use linked_list_allocator::LocalHeap;
 use rt_cidr::Prefix;
+use rt_trie::Trie;
 use std::alloc::{Allocator, Global};
 use std::process::Abort;
 use std::test::Fail;

@@ -5,9 +5,9 @@ ghost use Rattle.std.specs.Prelude.{false};
 use super::{
     STORED, assert_counts, assert_value, covering, eighth, numbered, prefix, put_all, take_the_rest,
 };
-use rt_trie::{Sieve, Trie};
 use linked_list_allocator::LocalHeap;
 use rt_cidr::Prefix;
+use rt_trie::{Sieve, Trie};
 use std::alloc::Global;
 use std::test::Fail;
 
