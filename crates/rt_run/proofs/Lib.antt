@@ -2,7 +2,6 @@ pub mod Buffered
 pub mod Answering
 pub mod Outputs
 pub mod Pushing
-pub mod Tallying
 pub mod SeveralFeeds
 pub mod SameTables
 pub mod Replayed
