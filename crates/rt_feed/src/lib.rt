@@ -48,6 +48,3 @@ pub use rt_shared::Outcome;
 pub use running::run_feed;
 pub use table_gate::TableGate;
 pub use versions::{Version, text_body, text_version};
-
-#[cfg(test)]
-mod tests;

@@ -118,8 +118,9 @@ impl<A: Allocator + Copy> Book<A> {
     }
 
     /// How many nodes the trie of the routes takes.
-    #[cfg(test)]
-    pub(crate) fn nodes(&self) -> usize {
+    pub fn nodes(&self) -> usize
+        ensures { result ≡ self.now.trie.nodes }
+    {
         self.table.nodes()
     }
 

@@ -35,8 +35,6 @@ mod purge;
 mod refused;
 mod routes;
 mod table;
-#[cfg(test)]
-mod tests;
 
 pub use ahead::AHEAD;
 pub use book::Book;

@@ -10,7 +10,7 @@ use std::alloc::Allocator;
 use std::marker::Model;
 
 /// What a feed offers for a prefix: its route, but for the prefix.
-#[derive(Clone, Copy, PartialEq, Eq, Debug)]
+#[derive(Clone, Copy)]
 pub(crate) struct Offer {
     pub feed: u32,
     pub pref: u32,

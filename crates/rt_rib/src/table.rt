@@ -96,8 +96,9 @@ impl<A: Allocator + Copy> Table<A> {
     }
 
     /// How many nodes the map takes.
-    #[cfg(test)]
-    pub(crate) fn nodes(&self) -> usize {
+    pub(crate) fn nodes(&self) -> usize
+        ensures { result ≡ self.now.trie.nodes }
+    {
         self.map.nodes()
     }
 

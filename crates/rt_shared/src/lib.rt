@@ -17,8 +17,6 @@ mod outcome;
 mod sequential;
 mod serving;
 mod shared_rib;
-#[cfg(test)]
-mod tests;
 
 pub use feed_pass::FeedPass;
 pub use lent::Lent;

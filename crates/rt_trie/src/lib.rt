@@ -26,8 +26,6 @@ mod nodes;
 mod removal;
 mod search;
 mod sifting;
-#[cfg(test)]
-mod tests;
 mod tries;
 mod walks;
 

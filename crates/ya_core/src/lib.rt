@@ -40,6 +40,3 @@ pub use shape::Shape;
 pub use step::{Mark, Step};
 pub use walker::{Op, Walker};
 pub use word::{Access, Word};
-
-#[cfg(test)]
-mod tests;

@@ -13,7 +13,7 @@ pub enum Mark {
 }
 
 /// One atomic step of one place, as the machine tells it.
-#[derive(Clone, Copy, Debug, PartialEq, Eq)]
+#[derive(Clone, Copy, Debug)]
 pub struct Step {
     /// The place that took the step.
     pub place: usize,

@@ -1,0 +1,571 @@
+//! Texts read and written, and writers that take a byte a call, fail or hold too little.
+use rt_cidr::*;
+use std::alloc::{AllocError, Global};
+use std::io::{self, ErrorKind, Write};
+use std::process::Abort;
+use std::test::Fail;
+
+/// Takes one byte a call. Once it holds `room` bytes it answers one fault, or else takes nothing, and then goes on.
+#[derive(Drop)]
+struct Narrow {
+    taken: Vec<u8>,
+    room: usize,
+    fault: Option<io::Error>,
+    is_over: bool,
+}
+
+impl Narrow {
+    fn new(alloc: Global, room: usize, fault: Option<io::Error>) -> Narrow {
+        Narrow {
+            taken: Vec::new(alloc),
+            room,
+            fault,
+            is_over: false,
+        }
+    }
+}
+
+impl Write for Narrow {
+    fn write(&mut self, buf: &[u8]) -> io::Result<usize> {
+        if !self.is_over && self.taken.len() == self.room {
+            self.is_over = true;
+            return match self.fault {
+                Some(fault) => Err(fault),
+                None => Ok(0),
+            };
+        }
+        match buf {
+            [first, ..] => {
+                self.taken.push(*first)?;
+                Ok(1)
+            }
+            [] => Ok(0),
+        }
+    }
+
+    fn flush(&mut self) -> io::Result<()> {
+        Ok(())
+    }
+}
+
+fn parse_prefix(rt: &impl Abort, text: &str) -> Prefix {
+    Prefix::parse(text.as_bytes()).expect(rt, text)
+}
+
+fn parse_address(rt: &impl Abort, text: &str) -> Addr {
+    Addr::parse(text.as_bytes()).expect(rt, text)
+}
+
+fn assert_prefix(rt: &impl Abort, text: &str, base: u32, len: u8) {
+    let prefix = parse_prefix(rt, text);
+    assert_eq!(rt; prefix.base(), base);
+    assert_eq!(rt; prefix.len(), len);
+    assert_eq!(rt; Prefix::new(base, len), Ok(prefix));
+}
+
+fn assert_prefix_text(rt: &impl Abort, alloc: Global, prefix: Prefix, text: &str) {
+    let mut written = Vec::new(alloc);
+    prefix.write_to(&mut written).expect(rt, text);
+    assert_eq!(rt; written.as_slice(), text.as_bytes());
+}
+
+/// Fails where `Prefix::write_to` returns a fault at once.
+#[test]
+fn reads_prefixes_and_writes_them_again(rt: HostRuntime) -> Result<(), Fail> {
+    for (text, base, len) in [
+        ("0.0.0.0/0", 0, 0),
+        ("10.0.0.0/8", 167_772_160, 8),
+        ("192.0.2.128/25", 3_221_226_112, 25),
+        ("255.255.255.255/32", 4_294_967_295, 32),
+        ("0.0.0.1/32", 1, 32),
+    ] {
+        assert_prefix(&rt, text, base, len);
+        assert_prefix_text(&rt, rt.alloc(), Prefix::new(base, len)?, text);
+    }
+    Ok(())
+}
+
+#[test]
+fn refuses_prefixes(rt: HostRuntime) {
+    for (text, fault) in [
+        ("192.0.2.128/24", TextFault::Bits),
+        ("0.0.0.1/31", TextFault::Bits),
+        ("1.1.1.1/0", TextFault::Bits),
+        ("10.0.0.0/33", TextFault::Length),
+        ("10.0.0.1/33", TextFault::Length),
+        ("10.0.0.0/99999999999999999999", TextFault::Length),
+        ("256.0.0.0/33", TextFault::Text),
+        ("10.0.0.0/08", TextFault::Text),
+        ("10.0.0.0/00", TextFault::Text),
+        ("10.0.0.0/", TextFault::Text),
+        ("10.0.0.0", TextFault::Text),
+        ("/8", TextFault::Text),
+        ("10.0.0.0/-1", TextFault::Text),
+        ("+10.0.0.0/8", TextFault::Text),
+        ("", TextFault::Text),
+        (" 10.0.0.0/8", TextFault::Text),
+        ("10.0.0.0/8 ", TextFault::Text),
+        ("10. 0.0.0/8", TextFault::Text),
+        ("10.0.0.0 /8", TextFault::Text),
+        ("10.0.0.0/ 8", TextFault::Text),
+        ("010.0.0.0/8", TextFault::Text),
+        ("10.0.0/8", TextFault::Text),
+        ("10.0.0.0.0/8", TextFault::Text),
+    ] {
+        assert_eq!(rt; Prefix::parse(text.as_bytes()), Err(fault), "{text}");
+    }
+    assert_eq!(rt; Prefix::new(1, 33), Err(TextFault::Length));
+    assert_eq!(rt; Prefix::new(1, 31), Err(TextFault::Bits));
+}
+
+fn assert_address(rt: &impl Abort, alloc: Global, text: &str, address: Addr) {
+    assert_eq!(rt; Addr::parse(text.as_bytes()), Ok(address));
+    let mut written = Vec::new(alloc);
+    address.write_to(&mut written).expect(rt, text);
+    assert_eq!(rt; written.as_slice(), text.as_bytes());
+}
+
+/// Fails where `Addr::write_to` returns a fault at once.
+#[test]
+fn reads_addresses_and_writes_them_again(rt: HostRuntime) {
+    for (text, address) in [
+        ("0.0.0.0", 0),
+        ("192.0.2.1", 3_221_225_985),
+        ("198.51.100.255", 3_325_256_959),
+        ("255.255.255.255", 4_294_967_295),
+    ] {
+        assert_address(&rt, rt.alloc(), text, Addr(address));
+    }
+}
+
+#[test]
+fn refuses_addresses(rt: HostRuntime) {
+    for text in [
+        "",
+        "1.2.3",
+        "1.2.3.4.",
+        "1.2.3.04",
+        "1.2.3.256",
+        "1.2.3.4/5",
+        "1..3.4",
+        "a.2.3.4",
+    ] {
+        assert_eq!(rt;
+            Addr::parse(text.as_bytes()),
+            Err(TextFault::Text),
+            "{text}"
+        );
+    }
+}
+
+/// Fails where `Display` or `Debug` shows another text for a `TextFault`.
+#[test]
+fn faults_have_their_texts(rt: HostRuntime) -> Result<(), Fail> {
+    for (fault, shown, name) in [
+        (TextFault::Text, "the text is not of the form", "Text"),
+        (TextFault::Length, "the length is over 32", "Length"),
+        (TextFault::Bits, "a bit past the length is set", "Bits"),
+    ] {
+        assert_eq!(rt; format!(in rt.alloc(); "{fault}")?.as_str(), shown);
+        assert_eq!(rt; format!(in rt.alloc(); "{fault:?}")?.as_str(), name);
+    }
+    Ok(())
+}
+
+#[test]
+fn reads_and_writes_decimals(rt: HostRuntime) {
+    for (text, number) in [
+        ("0", Some(0)),
+        ("100", Some(100)),
+        ("4294967295", Some(4_294_967_295)),
+        ("4294967296", None),
+        ("42949672950", None),
+        ("18446744073709551617", None),
+        ("", None),
+        ("00", None),
+        ("01", None),
+        ("+1", None),
+        ("1 ", None),
+    ] {
+        assert_eq!(rt; decimal_u32(text.as_bytes()), number, "{text}");
+    }
+}
+
+#[tactic(auto, using(rt_cidr::proofs::ShortTexts::prepending, rt_cidr::proofs::ShortTexts::lengths))]
+#[test]
+fn builds_a_short_text_from_its_back(rt: HostRuntime) -> Result<(), Fail> {
+    let mut text = ShortText::new();
+    assert_eq!(rt; text.as_bytes(), b"".as_slice());
+    text.prepend_decimal(u64::MAX);
+    text.prepend(b" to ");
+    Prefix::parse(b"192.0.2.128/25")?.prepend_to(&mut text);
+    text.prepend(b"");
+    assert_eq!(rt;
+        text.as_bytes(),
+        b"192.0.2.128/25 to 18446744073709551615".as_slice()
+    );
+    text.clear();
+    assert_eq!(rt; text.as_bytes(), b"".as_slice());
+    text.prepend(&[b'x'; SHORT_TEXT_BYTES]);
+    assert_eq!(rt; text.as_bytes().len(), SHORT_TEXT_BYTES);
+    Ok(())
+}
+
+#[test]
+fn covers_addresses(rt: HostRuntime) {
+    let block = parse_prefix(&rt, "192.0.2.128/25");
+    for (address, is_covered) in [
+        ("192.0.2.127", false),
+        ("192.0.2.128", true),
+        ("192.0.2.255", true),
+        ("192.0.3.0", false),
+    ] {
+        assert_eq!(rt;
+            block.covers(parse_address(&rt, address)),
+            is_covered,
+            "{address}"
+        );
+    }
+}
+
+#[test]
+fn contains_prefixes(rt: HostRuntime) {
+    let block = parse_prefix(&rt, "192.0.2.128/25");
+    for (other, is_contained) in [
+        ("192.0.2.128/25", true),
+        ("192.0.2.128/26", true),
+        ("192.0.2.255/32", true),
+        ("192.0.2.0/24", false),
+        ("192.0.2.0/25", false),
+    ] {
+        assert_eq!(rt;
+            block.contains(&parse_prefix(&rt, other)),
+            is_contained,
+            "{other}"
+        );
+    }
+}
+
+/// Fails where `put` returns `WriteZero` at once.
+#[test]
+fn puts_all_one_byte_a_call(rt: HostRuntime) -> Result<(), Fail> {
+    let mut writer = Narrow::new(rt.alloc(), usize::MAX, None);
+    put(&mut writer, b"10.0.0.0/8 via 192.0.2.1")?;
+    put(&mut writer, b"")?;
+    Prefix::new(0, 0)?.write_to(&mut writer)?;
+    Addr(1).write_to(&mut writer)?;
+    assert_eq!(rt;
+        writer.taken.as_slice(),
+        b"10.0.0.0/8 via 192.0.2.10.0.0.0/00.0.0.1".as_slice()
+    );
+    Ok(())
+}
+
+/// That it was answered this very fault: its kind, the system's number or what its maker said.
+fn assert_fault(
+    rt: &impl Abort,
+    alloc: Global,
+    written: io::Result<()>,
+    fault: io::Error,
+) -> Result<(), Fail> {
+    let wanted = format!(in alloc; "{fault:?}")?;
+    match written {
+        Ok(()) => panic!(rt; "no fault, in place of {wanted}"),
+        Err(told) => {
+            let told = format!(in alloc; "{told:?}")?;
+            assert_eq!(rt; told.as_str(), wanted.as_str());
+        }
+    }
+    Ok(())
+}
+
+/// Each of the system's numbers, its kind without the number, the kinds without one, and a fault that a writer puts in words.
+fn each_fault(alloc: Global) -> Result<Vec<io::Error>, AllocError> {
+    let mut faults = Vec::new(alloc);
+    for code in 1..134i32 {
+        let fault = io::Error::from_raw_os_error(code);
+        faults.push(fault)?;
+        faults.push(io::Error::from(fault.kind()))?;
+    }
+    for kind in [
+        ErrorKind::InvalidData,
+        ErrorKind::WriteZero,
+        ErrorKind::UnexpectedEof,
+        ErrorKind::Other,
+    ] {
+        faults.push(io::Error::from(kind))?;
+    }
+    faults.push(io::Error::other("the writer's own words"))?;
+    Ok(faults)
+}
+
+/// A fault is handed on at once, whatever it is, and nothing is tried again.
+/// Fails where `put` answers another fault than the writer's.
+/// Fails where `put` tells another kind in place of `TimedOut`: both faults.
+#[test]
+fn hands_on_the_writers_fault(rt: HostRuntime) -> Result<(), Fail> {
+    for fault in &each_fault(rt.alloc())? {
+        for room in [0, 3] {
+            let mut writer = Narrow::new(rt.alloc(), room, Some(*fault));
+            let written = put(&mut writer, b"10.0.0.0/8");
+            assert_fault(&rt, rt.alloc(), written, *fault)?;
+            assert_eq!(rt; writer.taken.len(), room);
+        }
+    }
+    Ok(())
+}
+
+/// A writer that fails at its fourth byte.
+fn failing(alloc: Global, fault: io::Error) -> Narrow {
+    Narrow::new(alloc, 3, Some(fault))
+}
+
+fn write_values(rt: &impl Abort, alloc: Global, fault: io::Error) -> Result<(), Fail> {
+    let written = Addr(1).write_to(&mut failing(alloc, fault));
+    assert_fault(rt, alloc, written, fault)?;
+    let written = Prefix::new(0, 0)?.write_to(&mut failing(alloc, fault));
+    assert_fault(rt, alloc, written, fault)
+}
+
+fn flush_held(rt: &impl Abort, alloc: Global, fault: io::Error) -> Result<(), Fail> {
+    let mut writer = failing(alloc, fault);
+    let mut buffer = OutputBuffer::new(&mut writer, OutputRoom::new(alloc)?);
+    put(&mut buffer, b"held").expect(rt, "room");
+    let flushed = buffer.flush();
+    assert_fault(rt, alloc, flushed, fault)
+}
+
+/// Where a text has no room, the fault is that of writing what was held, or that of writing the text.
+fn overfill(
+    rt: &impl Abort,
+    alloc: Global,
+    held: &[u8],
+    long: &[u8],
+    fault: io::Error,
+) -> Result<(), Fail> {
+    let mut writer = failing(alloc, fault);
+    let mut buffer = OutputBuffer::new(&mut writer, OutputRoom::new(alloc)?);
+    put(&mut buffer, held).expect(rt, "room");
+    let written = put(&mut buffer, long);
+    assert_fault(rt, alloc, written, fault)
+}
+
+/// Fails where `write` or `flush` of an `OutputBuffer`, or a `write_to`, answers another fault than the writer's.
+/// Fails where `flush` loses the number of the fault: both faults.
+#[test]
+fn hands_on_the_fault_of_what_it_writes(rt: HostRuntime) -> Result<(), Fail> {
+    let long = Vec::from_elem(rt.alloc(), b'x', OUTPUT_BYTES + 10)?;
+    for fault in &each_fault(rt.alloc())? {
+        write_values(&rt, rt.alloc(), *fault)?;
+        flush_held(&rt, rt.alloc(), *fault)?;
+        overfill(&rt, rt.alloc(), b"held", &long, *fault)?;
+        overfill(&rt, rt.alloc(), b"", &long, *fault)?;
+    }
+    Ok(())
+}
+
+/// Fails at its first call and then at each second one, and else takes two bytes.
+#[derive(Drop)]
+struct Faltering {
+    taken: Vec<u8>,
+    calls: u32,
+}
+
+impl Write for Faltering {
+    fn write(&mut self, buf: &[u8]) -> io::Result<usize> {
+        self.calls = self.calls.saturating_add(1);
+        if self.calls % 2 == 1 {
+            return Err(io::Error::from(ErrorKind::Interrupted));
+        }
+        let count = buf.len().min(2);
+        self.taken.extend_from_slice(&buf[..count])?;
+        Ok(count)
+    }
+
+    fn flush(&mut self) -> io::Result<()> {
+        Err(io::Error::from(ErrorKind::Other))
+    }
+}
+
+/// What a fault leaves is held, so that a buffer which is flushed again and again writes each byte once.
+/// Fails where an `OutputBuffer` tries again by itself after a fault, as std's does after `Interrupted`.
+#[test]
+fn holds_what_a_fault_leaves(rt: HostRuntime) -> Result<(), Fail> {
+    let mut writer = Faltering {
+        taken: Vec::new(rt.alloc()),
+        calls: 0,
+    };
+    let mut buffer = OutputBuffer::new(&mut writer, OutputRoom::new(rt.alloc())?);
+    put(&mut buffer, b"10.0.0.0/8")?;
+    for _ in 0u32..5 {
+        let flushed = buffer.flush();
+        assert_fault(
+            &rt,
+            rt.alloc(),
+            flushed,
+            io::Error::from(ErrorKind::Interrupted),
+        )?;
+    }
+    // The last two bytes go out by the call after the fifth fault.
+    let last = buffer.flush();
+    drop(buffer);
+    assert_eq!(rt; writer.taken.as_slice(), b"10.0.0.0/8".as_slice());
+    assert!(rt; last.is_ok());
+    assert_eq!(rt; writer.calls, 10);
+    Ok(())
+}
+
+/// A buffer that is dropped writes nothing, and one that is flushed while it holds nothing doesn't either.
+/// Fails where an `OutputBuffer` writes when it is dropped, as std's `BufWriter` does.
+#[test]
+fn writes_when_it_is_told_to(rt: HostRuntime) -> Result<(), Fail> {
+    let mut writer = Unflushed::new(rt.alloc());
+    let mut buffer = OutputBuffer::new(&mut writer, OutputRoom::new(rt.alloc())?);
+    buffer.flush()?;
+    assert_eq!(rt; buffer.write(b"")?, 0);
+    assert_eq!(rt; buffer.write(b"10.0.0.0/8")?, 10);
+    drop(buffer);
+    assert_eq!(rt; writer.calls, 0);
+    Ok(())
+}
+
+#[test]
+fn a_write_of_nothing_is_write_zero(rt: HostRuntime) -> Result<(), Fail> {
+    let prefix = Prefix::new(0, 0)?;
+    let mut writer = Narrow::new(rt.alloc(), 3, None);
+    let written = prefix.write_to(&mut writer);
+    assert_fault(
+        &rt,
+        rt.alloc(),
+        written,
+        io::Error::from(ErrorKind::WriteZero),
+    )?;
+    assert_eq!(rt; writer.taken.as_slice(), b"0.0".as_slice());
+    Ok(())
+}
+
+/// Takes all that it is given, counts the writes and the flushes, and fails where it is flushed.
+#[derive(Drop)]
+struct Unflushed {
+    taken: Vec<u8>,
+    calls: usize,
+    flushes: usize,
+}
+
+impl Unflushed {
+    fn new(alloc: Global) -> Unflushed {
+        Unflushed {
+            taken: Vec::new(alloc),
+            calls: 0,
+            flushes: 0,
+        }
+    }
+}
+
+impl Write for Unflushed {
+    fn write(&mut self, buf: &[u8]) -> io::Result<usize> {
+        self.taken.extend_from_slice(buf)?;
+        self.calls = self.calls.saturating_add(1);
+        Ok(buf.len())
+    }
+
+    fn flush(&mut self) -> io::Result<()> {
+        self.flushes = self.flushes.saturating_add(1);
+        Err(io::Error::from(ErrorKind::Other))
+    }
+}
+
+/// Fails where `put`, or `send` of an `OutputBuffer`, flushes the writer below and ignores its fault: one flush,
+/// instead of none.
+#[test]
+fn never_flushes_the_writer(rt: HostRuntime) -> Result<(), Fail> {
+    let mut writer = Unflushed::new(rt.alloc());
+    put(&mut writer, b"10.0.0.0/8")?;
+    let mut buffer = OutputBuffer::new(&mut writer, OutputRoom::new(rt.alloc())?);
+    put(&mut buffer, b" via 192.0.2.1")?;
+    buffer.flush()?;
+    drop(buffer);
+    assert_eq!(rt;
+        writer.taken.as_slice(),
+        b"10.0.0.0/8 via 192.0.2.1".as_slice()
+    );
+    assert_eq!(rt; writer.flushes, 0);
+    Ok(())
+}
+
+/// Writes a text of this size behind what is held. It goes out whole, and what was held by itself where the text has no room
+/// behind it.
+fn write_long(
+    rt: &impl Abort,
+    alloc: Global,
+    held: &[u8],
+    size: usize,
+    calls: usize,
+) -> Result<(), Fail> {
+    let long = Vec::from_elem(alloc, b'x', size)?;
+    let mut writer = Unflushed::new(alloc);
+    let mut buffer = OutputBuffer::new(&mut writer, OutputRoom::new(alloc)?);
+    put(&mut buffer, held)?;
+    assert_eq!(rt; buffer.write(&long)?, size);
+    buffer.flush()?;
+    drop(buffer);
+    assert!(rt; writer.taken.starts_with(held) && writer.taken.ends_with(&long));
+    assert_eq!(rt; writer.taken.len(), held.len().wrapping_add(size));
+    assert_eq!(rt; (writer.calls, writer.flushes), (calls, 0));
+    Ok(())
+}
+
+/// Fails where `write` gives up at a text that just fills the buffer, of 65,536 bytes: the fault.
+/// Fails where an `OutputRoom` takes 16 times as much memory: 1,048,576, instead of 65,536.
+/// Fails where the writer below is flushed: one flush, instead of none.
+#[test]
+fn takes_texts_about_as_long_as_itself(rt: HostRuntime) -> Result<(), Fail> {
+    assert_eq!(rt; OUTPUT_BYTES, 65_536);
+    assert_eq!(rt; OutputRoom::new(rt.alloc())?.capacity(), OUTPUT_BYTES);
+    for size in [OUTPUT_BYTES - 1, OUTPUT_BYTES, OUTPUT_BYTES + 1] {
+        write_long(&rt, rt.alloc(), b"", size, 1)?;
+        write_long(&rt, rt.alloc(), b"held", size, 2)?;
+    }
+    write_long(&rt, rt.alloc(), b"held", OUTPUT_BYTES - 4, 1)?;
+    write_long(&rt, rt.alloc(), b"held", OUTPUT_BYTES - 3, 2)
+}
+
+/// The letter of this number, ten times.
+fn piece(number: u32) -> [u8; 10] {
+    [b'a' + (number % 26) as u8; 10]
+}
+
+/// Puts 20,000 pieces into the writer, and behind one another into the list.
+fn put_pieces(rt: &impl Abort, w: &mut impl Write, wanted: &mut Vec<u8>) {
+    for i in 0u32..20_000 {
+        put(w, &piece(i)).expect(rt, "no fault");
+        wanted.extend_from_slice(&piece(i)).expect(rt, "memory");
+    }
+}
+
+/// Fails where an `OutputBuffer` passes on each piece by itself, or holds more than its 64 KB.
+#[test]
+fn gathers_pieces_into_few_large_writes(rt: HostRuntime) -> Result<(), Fail> {
+    let mut writer = Unflushed::new(rt.alloc());
+    let mut wanted = Vec::new(rt.alloc());
+    let mut buffer = OutputBuffer::new(&mut writer, OutputRoom::new(rt.alloc())?);
+    put_pieces(&rt, &mut buffer, &mut wanted);
+    let _ = buffer.into_writer();
+    assert_eq!(rt; writer.calls, 3);
+
+    let mut writer = Unflushed::new(rt.alloc());
+    let mut wanted = Vec::new(rt.alloc());
+    let mut buffer = OutputBuffer::new(&mut writer, OutputRoom::new(rt.alloc())?);
+    put_pieces(&rt, &mut buffer, &mut wanted);
+    buffer.flush()?;
+    // A text that is longer than the buffer goes out at once, behind what was held.
+    put(&mut buffer, b"held")?;
+    put(&mut buffer, wanted.as_slice())?;
+    drop(buffer);
+    assert_eq!(rt; (writer.calls, writer.flushes), (6, 0));
+    let mut all = Vec::from_slice(rt.alloc(), wanted.as_slice())?;
+    all.extend_from_slice(b"held")?;
+    all.extend_from_slice(wanted.as_slice())?;
+    assert_eq!(rt; writer.taken.as_slice(), all.as_slice());
+    Ok(())
+}

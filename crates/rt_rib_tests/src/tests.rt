@@ -1,0 +1,259 @@
+mod lookups;
+mod memory;
+mod plain;
+mod random;
+mod refusals;
+mod sizes;
+
+use linked_list_allocator::LocalHeap;
+use rt_cidr::{Addr, Prefix};
+use rt_rib::*;
+use rt_trie::Trie;
+use std::alloc::Allocator;
+use std::process::Abort;
+use std::test::Fail;
+
+/// The address of four octets.
+fn addr(a: u8, b: u8, c: u8, d: u8) -> Addr {
+    Addr(u32::from_be_bytes([a, b, c, d]))
+}
+
+/// The prefix with this base and length.
+fn prefix(rt: &impl Abort, base: Addr, len: u8) -> Prefix {
+    Prefix::new(base.0, len).expect(rt, "no prefix")
+}
+
+/// The next hop 192.0.2.x of the worked runs.
+fn via(octet: u8) -> Hop {
+    Hop::Via(addr(192, 0, 2, octet))
+}
+
+fn add(prefix: Prefix, pref: u32, feed: u8) -> Cmd {
+    Cmd::Add {
+        prefix,
+        pref,
+        hop: via(feed),
+    }
+}
+
+/// A route of the worked run, whose next hop has the number of its feed.
+fn route(prefix: Prefix, feed: u8, pref: u32) -> Route {
+    Route {
+        prefix,
+        feed: feed as u32,
+        pref,
+        hop: via(feed),
+    }
+}
+
+/// A command of a feed, and what it is to be answered.
+type Row = (u32, Cmd, Reply);
+
+/// Asks the book one row and compares the reply, and the entry that the journal has gained.
+fn ask<A: Allocator + Copy>(
+    rt: &impl Abort,
+    book: &mut Book<A>,
+    (feed, cmd, reply): Row,
+) -> Result<(), Refused> {
+    assert!(rt; feed_ok(feed));
+    let entries = book.journal().len();
+    assert_eq!(rt; book.apply(feed, cmd)?, reply, "{cmd:?} of feed {feed}");
+    assert_eq!(rt; book.journal().len(), entries.wrapping_add(1));
+    assert_eq!(rt;
+        book.journal().last().copied(),
+        Some(Entry { feed, cmd, reply })
+    );
+    Ok(())
+}
+
+/// Asks the book row by row.
+fn ask_all<A: Allocator + Copy>(
+    rt: &impl Abort,
+    book: &mut Book<A>,
+    rows: &[Row],
+) -> Result<(), Refused> {
+    for row in rows {
+        ask(rt, book, *row)?;
+    }
+    Ok(())
+}
+
+/// Compares the book's routes.
+fn assert_routes<A: Allocator + Copy>(
+    rt: &impl Abort,
+    alloc: A,
+    book: &Book<A>,
+    routes: &[Route],
+) -> Result<(), Refused> {
+    assert_eq!(rt; book.routes(alloc)?.as_slice(), routes);
+    Ok(())
+}
+
+/// What takes only values that may be moved to another thread, as a lock that lends a book does.
+fn send<T: Send + Drop>(_value: T) {}
+
+#[test]
+fn a_book_may_go_to_another_thread(rt: HostRuntime) {
+    send(Book::new(rt.alloc(), 1));
+}
+
+/// Fails where `Book::apply` or `Book::routes` always returns `Refused`.
+#[test]
+fn worked_run(rt: HostRuntime) -> Result<(), Fail> {
+    let wide = prefix(&rt, addr(10, 0, 0, 0), 8);
+    let narrow = prefix(&rt, addr(10, 0, 0, 0), 16);
+    let other = prefix(&rt, addr(11, 0, 0, 0), 8);
+    let look_up = Cmd::Lookup {
+        addr: addr(10, 0, 0, 1),
+    };
+    let replace = Cmd::Replace {
+        prefix: wide,
+        pref: 4,
+        hop: via(2),
+    };
+    let rows = [
+        (2, add(wide, 5, 2), Reply::Added),
+        (1, add(wide, 5, 1), Reply::Added),
+        (3, look_up, Reply::Found(route(wide, 1, 5))),
+        (2, replace, Reply::Replaced),
+        (3, look_up, Reply::Found(route(wide, 2, 4))),
+        (3, Cmd::Withdraw { prefix: wide }, Reply::Missing),
+        (1, add(narrow, 9, 1), Reply::Added),
+        (1, add(other, 1, 1), Reply::Full),
+        (1, add(narrow, 1, 1), Reply::Exists),
+        (2, look_up, Reply::Found(route(narrow, 1, 9))),
+        (64, Cmd::Dump, Reply::Dumped(3)),
+    ];
+    let mut book = Book::new(rt.alloc(), 2);
+    ask_all(&rt, &mut book, &rows)?;
+    let expected = [route(wide, 2, 4), route(wide, 1, 5), route(narrow, 1, 9)];
+    assert_routes(&rt, rt.alloc(), &book, &expected)?;
+    Ok(())
+}
+
+#[test]
+fn nodes_come_and_go_with_their_prefixes(rt: HostRuntime) -> Result<(), Fail> {
+    let wide = prefix(&rt, addr(10, 0, 0, 0), 8);
+    let one = prefix(&rt, addr(10, 1, 0, 0), 16);
+    let two = prefix(&rt, addr(10, 2, 0, 0), 16);
+    let look_up = Cmd::Lookup {
+        addr: addr(10, 1, 2, 3),
+    };
+    let rows = [
+        (1, add(wide, 10, 1), Reply::Added, 1),
+        (1, add(one, 10, 1), Reply::Added, 2),
+        // The two long ones part at 10.0.0.0/14, where no route is.
+        (1, add(two, 10, 1), Reply::Added, 4),
+        (3, look_up, Reply::Found(route(one, 1, 10)), 4),
+        // A second offer for a prefix takes no node, and its going leaves the node of the first.
+        (2, add(one, 9, 2), Reply::Added, 4),
+        (3, look_up, Reply::Found(route(one, 2, 9)), 4),
+        (2, Cmd::Withdraw { prefix: one }, Reply::Withdrawn, 4),
+        (1, Cmd::Withdraw { prefix: one }, Reply::Withdrawn, 2),
+        (3, look_up, Reply::Found(route(wide, 1, 10)), 2),
+        (3, Cmd::Dump, Reply::Dumped(2), 2),
+        (1, Cmd::Purge, Reply::Purged(2), 0),
+    ];
+    let mut book = Book::new(rt.alloc(), 10);
+    assert_eq!(rt; book.nodes(), 0);
+    for (feed, cmd, reply, nodes) in rows {
+        ask(&rt, &mut book, (feed, cmd, reply))?;
+        assert_eq!(rt; book.nodes(), nodes);
+    }
+    Ok(())
+}
+
+#[test]
+fn a_purge_takes_the_feeds_own_routes_alone(rt: HostRuntime) -> Result<(), Fail> {
+    let wide = prefix(&rt, addr(10, 0, 0, 0), 8);
+    let narrow = prefix(&rt, addr(10, 1, 0, 0), 16);
+    let other = prefix(&rt, addr(192, 0, 2, 0), 24);
+    let rows = [
+        (1, Cmd::Purge, Reply::Purged(0)),
+        (1, add(wide, 1, 1), Reply::Added),
+        (2, add(wide, 2, 2), Reply::Added),
+        (1, add(narrow, 3, 1), Reply::Added),
+        (3, add(narrow, 1, 3), Reply::Added),
+        (2, add(other, 1, 2), Reply::Added),
+        (1, add(other, 1, 1), Reply::Full),
+        (1, Cmd::Purge, Reply::Purged(2)),
+        (1, Cmd::Purge, Reply::Purged(0)),
+        (1, Cmd::Withdraw { prefix: wide }, Reply::Missing),
+        (4, Cmd::Purge, Reply::Purged(0)),
+    ];
+    let mut book = Book::new(rt.alloc(), 2);
+    ask_all(&rt, &mut book, &rows)?;
+    let expected = [route(wide, 2, 2), route(narrow, 3, 1), route(other, 2, 1)];
+    assert_routes(&rt, rt.alloc(), &book, &expected)?;
+    // The root parts 10.0.0.0/8 from 192.0.2.0/24, and 10.1.0.0/16 lies below the former.
+    assert_eq!(rt; book.nodes(), 4);
+    Ok(())
+}
+
+#[test]
+fn a_purged_feed_starts_anew(rt: HostRuntime) -> Result<(), Fail> {
+    let wide = prefix(&rt, addr(10, 0, 0, 0), 8);
+    let narrow = prefix(&rt, addr(10, 1, 0, 0), 16);
+    let other = prefix(&rt, addr(192, 0, 2, 0), 24);
+    let discard = Cmd::Add {
+        prefix: narrow,
+        pref: 0,
+        hop: Hop::Discard,
+    };
+    let found = Route {
+        prefix: narrow,
+        feed: 1,
+        pref: 0,
+        hop: Hop::Discard,
+    };
+    let look_up = Cmd::Lookup {
+        addr: addr(10, 1, 2, 3),
+    };
+    let rows = [
+        (1, add(wide, 1, 1), Reply::Added, 1),
+        (3, add(narrow, 1, 3), Reply::Added, 2),
+        (1, add(narrow, 3, 1), Reply::Added, 2),
+        (1, add(other, 1, 1), Reply::Full, 2),
+        (1, Cmd::Purge, Reply::Purged(2), 1),
+        // It may have as many routes as its limit again, and a discard route is found like any other.
+        (1, add(other, 1, 1), Reply::Added, 3),
+        (1, discard, Reply::Added, 3),
+        (4, look_up, Reply::Found(found), 3),
+        (3, Cmd::Purge, Reply::Purged(1), 3),
+        (1, Cmd::Purge, Reply::Purged(2), 0),
+        (1, look_up, Reply::NoRoute, 0),
+    ];
+    let mut book = Book::new(rt.alloc(), 2);
+    for (feed, cmd, reply, nodes) in rows {
+        ask(&rt, &mut book, (feed, cmd, reply))?;
+        assert_eq!(rt; book.nodes(), nodes);
+    }
+    Ok(())
+}
+
+/// The first route of a prefix takes the memory of a node with a value of 24 bytes, and no more.
+#[test]
+fn one_offer_lies_in_its_node(rt: HostRuntime) -> Result<(), Fail> {
+    let heap = LocalHeap::new(rt.alloc(), 65_536)?;
+    let other = LocalHeap::new(rt.alloc(), 65_536)?;
+    let node = LocalHeap::new(rt.alloc(), 65_536)?;
+    let wide = prefix(&rt, addr(10, 0, 0, 0), 8);
+    let mut book = Book::new(&heap, 10);
+    let mut idle = Book::new(&other, 10);
+    ask(&rt, &mut book, (1, add(wide, 10, 1), Reply::Added))?;
+    ask(&rt, &mut idle, (1, Cmd::Dump, Reply::Dumped(0)))?;
+    let mut trie: Trie<[u64; 3], &LocalHeap> = Trie::new(&node);
+    assert!(&rt; trie.insert(wide, [0; 3]).is_ok());
+    assert_eq!(&rt; heap.used(), other.used().wrapping_add(node.used()));
+    Ok(())
+}
+
+#[test]
+fn limits_and_feeds(rt: HostRuntime) {
+    for (limit, fits) in [(0, false), (1, true), (1_000_000, true), (1_000_001, false)] {
+        assert_eq!(rt; limit_ok(limit), fits);
+    }
+    for (feed, fits) in [(0, false), (1, true), (64, true), (65, false)] {
+        assert_eq!(rt; feed_ok(feed), fits);
+    }
+}

@@ -1,0 +1,8 @@
+use Rattle.std.proofs.Common.{◌≡◌}
+use Rattle.rt_shared_tests.proofs.tests.add_many.Given as goal
+
+abbrev pub invariant-loop-j : goal.invariant-loop-j
+invariant-loop-j g l = record {
+  table : l.pass.table ≡ l.table;
+  feed : l.pass.feed ≡ l.fn.pass.feed;
+}

@@ -1,0 +1,209 @@
+//! Insertions that succeed, and those that are refused memory, which change nothing to be seen.
+
+use super::{
+    STORED, assert_after, assert_counts, assert_found, assert_longest, assert_pairs, assert_value,
+    eighth, numbered, prefix, put_all, put_over, take_out, take_the_rest, write_at,
+};
+use linked_list_allocator::LocalHeap;
+use rt_cidr::Prefix;
+use rt_trie::Trie;
+use std::alloc::{Allocator, Global};
+use std::process::Abort;
+use std::test::Fail;
+
+/// Asks to put in a new pair, and adds it to the list where it is put in. Where memory is refused the value comes back and
+/// no node is made.
+fn ask<A: Allocator + Copy>(
+    rt: &impl Abort,
+    trie: &mut Trie<u32, A>,
+    stored: &mut Vec<(Prefix, u32)>,
+    pair: (Prefix, u32),
+) {
+    let nodes = trie.nodes();
+    let answer = trie.insert(pair.0, pair.1);
+    if answer.is_ok() {
+        assert_eq!(rt; answer, Ok(None));
+        stored.push(pair).expect(rt, "memory");
+    } else {
+        assert_eq!(rt; answer, Err(pair.1));
+        assert_eq!(rt; trie.nodes(), nodes);
+    }
+}
+
+#[test]
+fn a_region_of_512_bytes_refuses_and_keeps(rt: HostRuntime) -> Result<(), Fail> {
+    let heap = LocalHeap::new(rt.alloc(), 512)?;
+    let mut trie: Trie<u32, &LocalHeap> = Trie::new(&heap);
+    let mut stored = Vec::new(rt.alloc());
+    for k in 1..65u32 {
+        ask(&rt, &mut trie, &mut stored, (eighth(&rt, k), k));
+        assert_pairs(&rt, &trie, &stored);
+        assert_found(&rt, &trie, &stored);
+    }
+    assert!(rt; 1 < stored.len() && stored.len() < 64);
+    Ok(())
+}
+
+/// What stays where memory is refused: the pairs, the nodes, and nothing at the new prefix.
+fn assert_kept<A: Allocator + Copy>(
+    rt: &impl Abort,
+    trie: &Trie<u32, A>,
+    nodes: usize,
+    pairs: &[(Prefix, u32)],
+    p: Prefix,
+) {
+    assert_value(rt, trie, p, None);
+    assert_counts(rt, trie, pairs.len(), nodes);
+    assert_pairs(rt, trie, pairs);
+}
+
+/// Asks to put in the value 7. Where memory is refused it comes back, and trie and region are as they were.
+fn is_put_in<'h>(
+    rt: &impl Abort,
+    heap: &'h LocalHeap,
+    trie: &mut Trie<u32, &'h LocalHeap>,
+    pairs: &[(Prefix, u32)],
+    p: Prefix,
+) -> bool {
+    let nodes = trie.nodes();
+    let left = heap.free();
+    let answer = trie.insert(p, 7);
+    if answer.is_ok() {
+        assert_eq!(rt; answer, Ok(None));
+        return true;
+    }
+    assert_eq!(rt; answer, Err(7));
+    assert_kept(rt, trie, nodes, pairs, p);
+    assert_eq!(rt; heap.free(), left);
+    false
+}
+
+/// Gives back one block more each time, until the prefix is put in: how often it was refused.
+fn refusals<'h>(
+    rt: &impl Abort,
+    heap: &'h LocalHeap,
+    blocks: &mut Vec<Box<u8, &'h LocalHeap>>,
+    trie: &mut Trie<u32, &'h LocalHeap>,
+    pairs: &[(Prefix, u32)],
+    p: Prefix,
+) -> u32 {
+    for refused in 0..20u32 {
+        if is_put_in(rt, heap, trie, pairs, p) {
+            return refused;
+        }
+        drop(blocks.pop());
+    }
+    panic!(rt; "never put in");
+}
+
+/// Puts in the pairs, then the new one, in a region that is full, then with one block, and so on until it is put in.
+/// So each box that the insertion asks for is refused, the first at the start and the last just before the end; each time
+/// the trie is as it was, and the region too.
+fn refuse_each_box(
+    rt: &impl Abort,
+    alloc: Global,
+    heap: &LocalHeap,
+    pairs: &[(Prefix, u32)],
+    p: Prefix,
+) {
+    let mut trie: Trie<u32, &LocalHeap> = Trie::new(heap);
+    put_all(rt, &mut trie, pairs);
+    let mut blocks = Vec::new(alloc);
+    take_the_rest(rt, heap, &mut blocks);
+    assert!(rt; refusals(rt, heap, &mut blocks, &mut trie, pairs, p) > 0);
+    assert_value(rt, &trie, p, Some(7));
+    assert_eq!(rt; trie.len(), pairs.len().wrapping_add(1));
+}
+
+/// Fails where `insert` keeps a box that it was given when the next is refused, a fork's when the leaf's is: the region
+/// is not as it was.
+#[test]
+fn each_box_of_each_insertion_refused_in_turn(rt: HostRuntime) -> Result<(), Fail> {
+    let heap = LocalHeap::new(rt.alloc(), 2_048)?;
+    let wide = "10.0.0.0/8";
+    let one = "10.1.0.0/16";
+    let two = "10.2.0.0/16";
+    let apart = "192.0.2.0/24";
+    let low = "1.0.0.0/8";
+    let rows: [(&[&str], &str); 19] = [
+        // A leaf where nothing was.
+        (&[], wide),
+        // A leaf that becomes a full node, with the new one on either side.
+        (&[wide], one),
+        (&[wide], "10.255.0.0/16"),
+        // A fork that becomes a full node.
+        (&[one, two], "10.0.0.0/14"),
+        // A full node above a leaf, a fork and a full node, on either side.
+        (&[one], wide),
+        (&[one, two], wide),
+        (&[wide, one], "0.0.0.0/0"),
+        (&[apart], "192.0.0.0/16"),
+        (&[apart], "0.0.0.0/0"),
+        // A fork beside a leaf, a fork and a full node, on either side: two boxes.
+        (&[one], apart),
+        (&[one], low),
+        (&[one, two], apart),
+        (&[one, two], low),
+        (&[wide, one], apart),
+        (&[wide, one], low),
+        // And further down: on the left and on the right of a fork and of a full node.
+        (&[one, two], "10.1.2.0/24"),
+        (&[one, two], "10.2.2.0/24"),
+        (&[wide, one], "10.1.2.0/24"),
+        (&[wide, "10.255.0.0/16"], "10.255.2.0/24"),
+    ];
+    for (stored, new) in rows {
+        let pairs = numbered(&rt, rt.alloc(), stored);
+        refuse_each_box(&rt, rt.alloc(), &heap, &pairs, prefix(&rt, new));
+        assert_eq!(&rt; heap.used(), 0);
+    }
+    Ok(())
+}
+
+/// Each removal in a region that is full: a leaf below a fork, a full node with one branch, one with two.
+fn take_each<'h>(
+    rt: &impl Abort,
+    heap: &'h LocalHeap,
+    blocks: &mut Vec<Box<u8, &'h LocalHeap>>,
+    trie: &mut Trie<u32, &'h LocalHeap>,
+    pairs: &[(Prefix, u32)],
+) {
+    for (p, value) in pairs {
+        assert_value(rt, trie, *p, Some(*value));
+        take_out(rt, trie, *p, Some(*value));
+        take_out(rt, trie, *p, None);
+        take_the_rest(rt, heap, blocks);
+    }
+}
+
+/// What is asked where nothing is put in.
+fn assert_answers<A: Allocator + Copy>(
+    rt: &impl Abort,
+    trie: &Trie<u32, A>,
+    pairs: &[(Prefix, u32)],
+) {
+    let narrow = prefix(rt, "10.1.2.0/24");
+    assert_counts(rt, trie, 6, 7);
+    assert_pairs(rt, trie, pairs);
+    assert_eq!(rt; trie.first(), Some(prefix(rt, "0.0.0.0/0")));
+    assert_after(rt, trie, narrow, Some(prefix(rt, "10.2.0.0/16")));
+    assert_longest(rt, trie, 0x0a01_0203, Some((narrow, 4)));
+}
+
+/// Fails where a call other than `insert` needs memory of its own.
+#[test]
+fn nothing_but_an_insertion_asks_for_memory(rt: HostRuntime) -> Result<(), Fail> {
+    let heap = LocalHeap::new(rt.alloc(), 2_048)?;
+    let mut trie: Trie<u32, &LocalHeap> = Trie::new(&heap);
+    let pairs = numbered(&rt, rt.alloc(), &STORED);
+    put_all(&rt, &mut trie, &pairs);
+    let mut blocks = Vec::new(rt.alloc());
+    take_the_rest(&rt, &heap, &mut blocks);
+    assert_answers(&rt, &trie, &pairs);
+    put_over(&rt, &mut trie, prefix(&rt, "10.0.0.0/8"), 20, 2);
+    write_at(&rt, &mut trie, prefix(&rt, "10.0.0.0/8"), 2);
+    take_each(&rt, &heap, &mut blocks, &mut trie, &pairs);
+    assert_counts(&rt, &trie, 0, 0);
+    assert_pairs(&rt, &trie, &[]);
+    Ok(())
+}
