@@ -257,3 +257,13 @@ fn limits_and_feeds(rt: HostRuntime) {
         assert_eq!(rt; feed_ok(feed), fits);
     }
 }
+
+/// Fails where `Display` or `Debug` shows another text for `Refused`.
+#[test]
+fn the_fault_has_its_text(rt: HostRuntime) -> Result<(), Fail> {
+    let fault = Refused;
+    let shown = format!(in rt.alloc(); "{fault}")?;
+    assert_eq!(rt; shown.as_str(), "memory was refused");
+    assert_eq!(rt; format!(in rt.alloc(); "{fault:?}")?.as_str(), "Refused");
+    Ok(())
+}

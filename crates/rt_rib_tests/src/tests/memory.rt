@@ -4,31 +4,37 @@ use counted_memory::Counted;
 use linked_list_allocator::LocalHeap;
 use rt_cidr::{Addr, Prefix};
 use rt_rib::*;
-use std::alloc::Allocator;
+use std::alloc::{Allocator, Global};
 use std::process::Abort;
 use std::test::Fail;
 
 /// The size of a region: more than the books here want.
-const REGION: usize = 1_048_576;
+const REGION: usize = 8_388_608;
 
-/// How many feeds there are, and how many prefixes each has.
-const FEEDS: u8 = 6;
+/// How many feeds there are: all.
+const FEEDS: u8 = 64;
 
-const PREFIXES: u32 = 50;
+/// How many prefixes there are. The k-th has offers of the first k + 1 feeds: so there is a list of each length.
+const PREFIXES: u32 = 64;
 
 /// The k-th of the prefixes.
 fn nth(rt: &impl Abort, k: u32) -> Prefix {
     prefix(rt, Addr(k.wrapping_mul(0x0111_0000) & 0xfff0_0000), 12)
 }
 
-/// Each feed adds a route to each prefix; the other book gains as many entries.
+/// How many of the prefixes the feed has no offer for: the first ones.
+fn skipped(feed: u8) -> u32 {
+    u32::from(feed).saturating_sub(1)
+}
+
+/// Each feed adds a route to each prefix but for those; the other book gains as many entries.
 fn fill<A: Allocator + Copy>(
     rt: &impl Abort,
     book: &mut Book<A>,
     idle: &mut Book<A>,
 ) -> Result<(), Refused> {
     for feed in 1..=FEEDS {
-        for k in 0..PREFIXES {
+        for k in skipped(feed)..PREFIXES {
             let cmd = add(nth(rt, k), k, feed);
             ask(rt, book, (feed as u32, cmd, Reply::Added))?;
             ask(rt, idle, (1, Cmd::Dump, Reply::Dumped(0)))?;
@@ -51,6 +57,11 @@ fn ask_both<A: Allocator + Copy>(
     Ok(())
 }
 
+/// How many requests more were made for the routes of a book than for its entries alone.
+fn asked_for_routes(memory: &Counted<Global>, other: &Counted<Global>) -> u64 {
+    memory.asked().wrapping_sub(other.asked())
+}
+
 /// Fails where `Book::new`, a look-up, one of many, `read_ahead`, a replacement, a withdrawal or a purge asks for
 /// memory beside the entry's, even if it gives it back at once.
 #[test]
@@ -61,7 +72,7 @@ fn nothing_but_the_journal_and_an_add_asks_for_memory(rt: HostRuntime) -> Result
     let mut idle = Book::new(&other, 100);
     assert_eq!(rt; memory.asked(), 0);
     fill(&rt, &mut book, &mut idle)?;
-    let routes = memory.asked().wrapping_sub(other.asked());
+    let routes = asked_for_routes(&memory, &other);
     for k in 0..1_000u32 {
         let addr = Addr(k.wrapping_mul(0x0123_4567));
         let prefix = nth(&rt, k % PREFIXES);
@@ -88,11 +99,27 @@ fn nothing_but_the_journal_and_an_add_asks_for_memory(rt: HostRuntime) -> Result
     }
     assert_eq!(rt; book.journal().len(), idle.journal().len());
     assert_eq!(rt; book.nodes(), 0);
-    assert_eq!(rt; memory.asked().wrapping_sub(other.asked()), routes);
+    assert_eq!(rt; asked_for_routes(&memory, &other), routes);
     Ok(())
 }
 
-/// Fails where a withdrawal or a purge never gives back a list of offers.
+/// The feed withdraws its routes one by one; the other book gains as many entries.
+fn withdraw<A: Allocator + Copy>(
+    rt: &impl Abort,
+    book: &mut Book<A>,
+    idle: &mut Book<A>,
+    feed: u8,
+) -> Result<(), Refused> {
+    for k in skipped(feed)..PREFIXES {
+        let prefix = nth(rt, k);
+        let cmd = Cmd::Withdraw { prefix };
+        ask(rt, book, (feed as u32, cmd, Reply::Withdrawn))?;
+        ask(rt, idle, (1, Cmd::Dump, Reply::Dumped(0)))?;
+    }
+    Ok(())
+}
+
+/// Fails where a withdrawal or a purge never gives back a list of offers, if only one that had room for more than 8.
 #[test]
 fn what_is_withdrawn_or_purged_is_given_back(rt: HostRuntime) -> Result<(), Fail> {
     let heap = LocalHeap::new(rt.alloc(), REGION)?;
@@ -102,24 +129,143 @@ fn what_is_withdrawn_or_purged_is_given_back(rt: HostRuntime) -> Result<(), Fail
     for round in 0..3u32 {
         fill(&rt, &mut book, &mut idle)?;
         for feed in 1..=FEEDS {
-            for k in 0..PREFIXES {
-                if round != 1 {
-                    let cmd = Cmd::Withdraw {
-                        prefix: nth(&rt, k),
-                    };
-                    ask(&rt, &mut book, (feed as u32, cmd, Reply::Withdrawn))?;
-                    ask(&rt, &mut idle, (1, Cmd::Dump, Reply::Dumped(0)))?;
-                }
+            let mut gone = PREFIXES.saturating_sub(skipped(feed));
+            if round != 1 {
+                withdraw(&rt, &mut book, &mut idle, feed)?;
+                gone = 0;
             }
-            let gone = if round == 1 { PREFIXES } else { 0 };
-            ask(
-                &rt,
-                &mut book,
-                (feed as u32, Cmd::Purge, Reply::Purged(gone)),
-            )?;
+            let purged = (feed as u32, Cmd::Purge, Reply::Purged(gone));
+            ask(&rt, &mut book, purged)?;
             ask(&rt, &mut idle, (1, Cmd::Dump, Reply::Dumped(0)))?;
         }
         assert_eq!(rt; heap.used(), other.used());
     }
+    Ok(())
+}
+
+/// How many prefixes the large book has: more than 65,536, and so many that its trie isn't taken to lie in cache.
+const MANY: u32 = 66_000;
+
+/// The k-th of the prefixes of the large book, none of which contains another.
+fn narrow(rt: &impl Abort, k: u32) -> Prefix {
+    prefix(rt, Addr(k.wrapping_mul(256)), 24)
+}
+
+/// Feed 1 adds a route to each of the prefixes of the large book, and feed 64 one to every other.
+fn fill_many<A: Allocator + Copy>(
+    rt: &impl Abort,
+    book: &mut Book<A>,
+    idle: &mut Book<A>,
+) -> Result<(), Refused> {
+    for k in 0..MANY {
+        ask_both(book, idle, 1, add(narrow(rt, k), k, 1))?;
+        if k % 2 == 0 {
+            ask_both(book, idle, 64, add(narrow(rt, k), k, 64))?;
+        }
+    }
+    Ok(())
+}
+
+/// A look-up, a dump and a replacement at each of the prefixes of the large book, all of them read ahead.
+fn ask_at_each<A: Allocator + Copy>(
+    rt: &impl Abort,
+    book: &mut Book<A>,
+    idle: &mut Book<A>,
+) -> Result<(), Refused> {
+    for k in 0..MANY {
+        let prefix = narrow(rt, k);
+        let addr = Addr(prefix.base());
+        let (pref, hop) = (k, via(64));
+        let cmds = [
+            Cmd::Lookup { addr },
+            Cmd::Dump,
+            Cmd::Replace { prefix, pref, hop },
+        ];
+        book.read_ahead(&cmds);
+        for cmd in cmds {
+            ask_both(book, idle, 1, cmd)?;
+        }
+    }
+    Ok(())
+}
+
+/// Looks up as many addresses as the large book has prefixes, together.
+fn look_up_each<A: Allocator + Copy>(
+    rt: &impl Abort,
+    alloc: Global,
+    book: &Book<A>,
+) -> Result<(), Fail> {
+    let mut addresses = Vec::new(alloc);
+    for k in 0..MANY {
+        addresses.push(Addr(narrow(rt, k).base()))?;
+    }
+    let mut answers = vec![in alloc; None; addresses.len()]?;
+    book.look_up(&addresses, &mut answers);
+    assert!(rt; answers.iter().all(|answer| answer.is_some()));
+    Ok(())
+}
+
+/// Feed 1 withdraws half of its routes from the large book and purges the others, and feed 64 purges all of its.
+fn empty_many<A: Allocator + Copy>(
+    rt: &impl Abort,
+    book: &mut Book<A>,
+    idle: &mut Book<A>,
+) -> Result<(), Refused> {
+    for k in 0..MANY / 2 {
+        let prefix = narrow(rt, k);
+        ask_both(book, idle, 1, Cmd::Withdraw { prefix })?;
+    }
+    ask_both(book, idle, 1, Cmd::Purge)?;
+    ask_both(book, idle, 64, Cmd::Purge)
+}
+
+/// Fails where `Book::new` of a limit over 100,000 asks for memory, an `add` for a block too many in a trie of more than
+/// 65,536 nodes, `read_ahead` for one in a trie of more than 8,192, `look_up` for one for more than 20 addresses, or a
+/// purge for one for more than 1,000 routes.
+#[test]
+fn a_large_book_asks_for_its_entries_and_routes_alone(rt: HostRuntime) -> Result<(), Fail> {
+    let memory = Counted::new(rt.alloc());
+    let other = Counted::new(rt.alloc());
+    let mut book = Book::new(&memory, MOST_ROUTES);
+    let mut idle = Book::new(&other, MOST_ROUTES);
+    assert_eq!(rt; memory.asked(), 0, "new");
+    fill_many(&rt, &mut book, &mut idle)?;
+    // A leaf for each prefix and a fork for all but one, and a box and a list for each second offer.
+    let routes = 3 * u64::from(MANY) - 1;
+    assert_eq!(rt; asked_for_routes(&memory, &other), routes, "add");
+    ask_at_each(&rt, &mut book, &mut idle)?;
+    assert_eq!(rt;
+        asked_for_routes(&memory, &other),
+        routes,
+        "a command at each"
+    );
+    look_up_each(&rt, rt.alloc(), &book)?;
+    assert_eq!(rt; asked_for_routes(&memory, &other), routes, "look_up");
+    empty_many(&rt, &mut book, &mut idle)?;
+    assert_eq!(rt;
+        (book.nodes(), book.journal().len()),
+        (0, idle.journal().len())
+    );
+    assert_eq!(rt;
+        asked_for_routes(&memory, &other),
+        routes,
+        "withdraw and purge"
+    );
+    Ok(())
+}
+
+/// Fails where `keep_best` asks for memory.
+#[test]
+fn the_best_of_many_routes_are_kept_in_their_list(rt: HostRuntime) -> Result<(), Fail> {
+    let memory = Counted::new(rt.alloc());
+    let other = Counted::new(rt.alloc());
+    let mut book = Book::new(&memory, MOST_ROUTES);
+    let mut idle = Book::new(&other, MOST_ROUTES);
+    fill_many(&rt, &mut book, &mut idle)?;
+    let mut routes = book.routes(&memory)?;
+    let asked = memory.asked();
+    keep_best(&mut routes);
+    assert_eq!(rt; routes.len(), MANY as usize);
+    assert_eq!(rt; memory.asked(), asked);
     Ok(())
 }
