@@ -29,6 +29,7 @@ use Rattle.rt_feed.specs.Addresses.{AnswersAddressLine}
 use Rattle.rt_feed.specs.Lines.{lf, CutsLine}
 use Rattle.rt_feed.specs.Versions.{TellsTwo, IsBody}
 use Rattle.rt_feed.specs.LineOutcomes.{LineOutcome, skipped, faulty, asked, reading, heading, LinesBecome, Becomes, line_answer, answer_of, numbered, report_lines, asked_by, asked_of, was_refused, was_faulty, some_refused, some_faulty}
+use Rattle.rt_feed.specs.Reports.{is_refusal, is_fault}
 use Rattle.rt_feed.specs.Visits.{visit_of, reply_to, entries, concatenated, piece_of, IsCut}
 use Rattle.rt_feed.specs.Printed.{hop_text, route_text, reply_text, fault_text, answer_text, line_text, report_text, row_text, count_text, rows_text, table_text, found_text}
 
@@ -420,6 +421,26 @@ one_was_faulty = refl
 
 a_refusal_is_no_fault : some_faulty (asked Dump outcome.Refused ∷ []) ≡ false
 a_refusal_is_no_fault = refl
+
+-- is_refusal
+a_refused_command : is_refusal answer.Refused ≡ true
+a_refused_command = refl
+
+a_reply_is_no_refusal : is_refusal (answer.Did Added) ≡ false
+a_reply_is_no_refusal = refl
+
+a_faulty_line_is_no_refusal : is_refusal (answer.Fault fault.Hop) ≡ false
+a_faulty_line_is_no_refusal = refl
+
+-- is_fault
+a_faulty_line : is_fault (answer.Fault fault.Hop) ≡ true
+a_faulty_line = refl
+
+a_reply_is_no_fault : is_fault (answer.Did Full) ≡ false
+a_reply_is_no_fault = refl
+
+a_refused_command_is_no_fault : is_fault answer.Refused ≡ false
+a_refused_command_is_no_fault = refl
 
 -- reply_to
 with_its_reply : reply_to Dump (outcome.Did (Dumped 0)) ≡ (Dump, Dumped 0) ∷ []

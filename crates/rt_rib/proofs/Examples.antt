@@ -21,7 +21,7 @@ use Rattle.rt_rib.specs.Table.{below_then, is_of, has, count_of, is_better, prec
 use Rattle.rt_rib.specs.LookUp.{matching, longest_of, best, look_up, best_routes}
 use Rattle.rt_rib.specs.Sequential.{reply_of, table_after}
 use Rattle.rt_rib.specs.Journal.{table_of_journal, IsAnswered, IsLawfulJournal}
-use Rattle.rt_rib.specs.Book.{IsLimit, BookContents, OfferTrie, table_of, HoldsTable}
+use Rattle.rt_rib.specs.Book.{IsLimit, BookContents, OfferTrie, table_of, HoldsRoutes, HoldsTable}
 use Rattle.rt_rib.specs.Laws.{IsBestMatch, is_own, feed_entries}
 use Rattle.rt_rib.proofs.Tables.{IsTable-nil, IsTable-put_in}
 use Rattle.rt_rib.proofs.Best.{look_up_finds_best}
@@ -579,6 +579,34 @@ a_node_too_many_was_counted h = let count = h.lawful.count in cc
 
 a_node_without_its_value : ¬ HoldsTable (book_with (record { pairs = two_prefixes; nodes = 2; tree = Node ten_8 false (Node ten_1_16 true Vacant Vacant) Vacant }))
 a_node_without_its_value h = let stored = h.lawful.stored in cc
+
+-- a trie of one prefix with one offer
+abbrev one_offer : OfferTrie
+one_offer = record { pairs = (ten_8, offer 1 5 ∷ []) ∷ []; nodes = 1; tree = Node ten_8 true Vacant Vacant }
+
+-- HoldsRoutes
+holds_one_route : HoldsRoutes one_offer (route ten_8 1 5 ∷ [])
+holds_one_route = record {
+  lawful = record { tree = (record { needed = λ e. cc; lower = tt; upper = tt }, tt, tt); stored = refl; count = refl };
+  map = record {
+    ordered = (tt, tt);
+    each = each_of ten_8 (offer 1 5 ∷ []) [] (record { some = omega arith; ranked = IsRanked-one (offer 1 5) }) (λ p offers found. cc);
+  };
+  exactly = refl;
+  once = IsTable-put_in (route ten_8 1 5) [] refl IsTable-nil;
+}
+
+not_without_the_one_it_holds : ¬ HoldsRoutes one_offer []
+not_without_the_one_it_holds h = let exactly = h.exactly in cc
+
+not_by_two_nodes : ¬ HoldsRoutes (record { pairs = (ten_8, offer 1 5 ∷ []) ∷ []; nodes = 2; tree = Node ten_8 true Vacant Vacant }) (route ten_8 1 5 ∷ [])
+not_by_two_nodes h = let count = h.lawful.count in cc
+
+not_by_a_prefix_without_offers : ¬ HoldsRoutes (record { pairs = (ten_8, []) ∷ []; nodes = 1; tree = Node ten_8 true Vacant Vacant }) []
+not_by_a_prefix_without_offers h = none_is_not (h.map.each ten_8 [] refl)
+
+none_of_them_twice : (trie : OfferTrie) → ¬ HoldsRoutes trie (route ten_8 1 5 ∷ route ten_8 1 5 ∷ [])
+none_of_them_twice trie h = let same = h.once.single 0 1 (route ten_8 1 5) (omega arith) (omega arith) in cc
 
 -- a book without a route
 abbrev pub empty_book : List Entry → BookContents

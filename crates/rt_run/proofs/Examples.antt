@@ -1,10 +1,10 @@
 -- Examples by which definitions are tested, each under a line with the definition's name. Both sides are computed, but for
 -- the texts that are written for numbers, which have one spelling each.
-use Rattle.std.proofs.Common.{◌≡◌, ◌≢◌, ℕ, ◌<◌, ◌≤◌, ◌==◌, ◌&&◌, nat_le, Bool, true, false, if◌then◌else◌, Some, None, Ok, Err, List, [], ◌∷◌, ◌++◌, length, map, filter, take, drop, inl, inr, codes, refl, sym, ap, subst, arith}
-use Rattle.std.specs.List.{All, list_any, list_all}
+use Rattle.std.proofs.Common.{◌≡◌, ◌≢◌, ℕ, ◌+◌, ◌<◌, ◌≤◌, ◌==◌, ◌&&◌, nat_le, Bool, true, false, if◌then◌else◌, Some, None, Ok, Err, List, [], ◌∷◌, ◌++◌, length, map, filter, take, drop, inl, inr, codes, refl, sym, ap, ◌∙◌, subst, arith}
+use Rattle.std.specs.List.{All, list_any, list_all, slice_get}
 use Rattle.std.proofs.lemmas.Bool.{and_parts, eqb-true, eqb-false, leb-true}
 use Rattle.std.proofs.lemmas.List.Elements.{All-nil, All-cons}
-use Rattle.rt_cidr.proofs.Promised.{written_0, written_1, written_2, written_3, written_4, written_5, written_6, written_10, written_30, written_50, written_10_0_0_0_8, written_10_1_0_0_16, written_10_9_0_0_16, written_192_0_2_1, written_192_0_2_2}
+use Rattle.rt_cidr.proofs.Promised.{written_0, written_1, written_2, written_3, written_4, written_5, written_6, written_10, written_30, written_50, written_10_0_0_0_8, written_10_1_0_0_16, written_10_9_0_0_16, written_192_0_2_1, written_192_0_2_2, written_10_1_2_3, written_10_9_0_1}
 use Rattle.ya_core.specs.declared.schedule.ReplayFault.TheVariants as replay
 use Rattle.ya_core.specs.Steps.{opening}
 use Rattle.rt_rib.specs.declared.routes.Hop.TheVariants.{Discard}
@@ -15,7 +15,8 @@ use Rattle.rt_rib.specs.declared.commands.Reply.TheVariants.{Added, Exists, Full
 use Rattle.rt_rib.specs.declared.commands.Entry.{Entry}
 use Rattle.rt_rib.specs.Sequential.{reply_of, table_after}
 use Rattle.rt_rib.specs.Journal.{table_of_journal, IsAnswered, IsLawfulJournal}
-use Rattle.rt_rib.proofs.Promised.{entry, ten_8, ten_1_16, ten_2_16, ten_9_16, via_192_0_2, route_via, tutorial, the_journal_of_the_tutorial, the_table_of_the_tutorial}
+use Rattle.rt_rib.specs.LookUp.{look_up}
+use Rattle.rt_rib.proofs.Promised.{entry, at_10_1_2_3, at_10_9_0_1, ten_8, ten_1_16, ten_2_16, ten_9_16, via_192_0_2, route_via, tutorial, the_journal_of_the_tutorial, the_table_of_the_tutorial}
 use Rattle.rt_shared.specs.Visits.{Uncut}
 use Rattle.rt_shared.specs.declared.outcome.Outcome.{Outcome}
 use Rattle.rt_shared.specs.declared.outcome.Outcome.TheVariants.{Did, Refused}
@@ -26,7 +27,7 @@ use Rattle.rt_feed.specs.Versions.{TellsTwo}
 use Rattle.rt_feed.specs.Lines.{CutsLine}
 use Rattle.rt_feed.specs.Visits.{concatenated, piece_of, visit_of, entries}
 use Rattle.rt_feed.specs.LineOutcomes.{skipped, faulty, asked, LineOutcome, asked_of, report_lines, some_refused, some_faulty}
-use Rattle.rt_feed.specs.Printed.{line_text, answer_text, reply_text, route_text, row_text, count_text, table_text}
+use Rattle.rt_feed.specs.Printed.{line_text, answer_text, reply_text, route_text, row_text, count_text, table_text, found_text}
 use Rattle.rt_feed.specs.declared.report.Answer.TheVariants as answer
 use Rattle.rt_feed.specs.declared.faults.RunFault.TheVariants as run
 use Rattle.rt_feed.proofs.Promised.{north, north_read, south, south_read, east, east_read, what_north_becomes, what_south_becomes, what_east_becomes}
@@ -34,8 +35,10 @@ use Rattle.rt_run.specs.declared.faults.AppFault.TheVariants.{Run, Replay, Write
 use Rattle.rt_run.specs.RunText.{Explains, ExplainsFrom, reports_text, IsHistory, IsRunText, outcomes_status, LeavesRunText}
 use Rattle.ya_replay.specs.ReplayText.{inside_text}
 use Rattle.rt_run.specs.Replayed.{IsReplayText, LeavesReplay}
-use Rattle.rt_run.specs.TableText.{tally_of, tallies_status}
-use Rattle.rt_run.specs.SameTable.{commands, Asks, table_alone, LeavesAlone, IsUnion, IsAnsweredAlone, printed_reports}
+use Rattle.rt_run.specs.declared.tallies.Tally.{Tally}
+use Rattle.rt_run.specs.declared.tallies.Taken.{Taken}
+use Rattle.rt_run.specs.TableText.{answers_text, routes_text, is_existing, was_existing, is_missing, was_missing, is_full, was_full, tally_of, has_refused, has_left_out, tallies_status, IsTaken, IsShown, LeavesShown}
+use Rattle.rt_run.specs.SameTable.{commands, Asks, table_alone, LeavesAlone, IsUnion, IsAnsweredAlone, printed_reports, EndsInUnion, AnswersAlone, EndInOneTable, ShowsUnion, ShowOneTable}
 
 -- commands
 whatever_became_of_them : commands ((Dump, Did (Dumped 0)) ∷ (Purge, Refused) ∷ []) ≡ Dump ∷ Purge ∷ []
@@ -50,6 +53,10 @@ its_own_limit : table_alone 1 2 (commands (asked_of east_read)) ≡ route_via te
 unfolding table_alone table_after
 its_own_limit = refl
 
+one_route_at_most : table_alone 1 2 (Add ten_8 5 Discard ∷ Add ten_9_16 5 Discard ∷ []) ≡ route_via ten_8 2 5 Discard ∷ []
+unfolding table_alone table_after
+one_route_at_most = refl
+
 -- Asks
 what_south_asks :
     Asks south (Add ten_8 20 (via_192_0_2 2) ∷ Add ten_2_16 20 (via_192_0_2 2) ∷ Purge ∷ Add ten_8 30 (via_192_0_2 2) ∷ [])
@@ -59,6 +66,10 @@ what_south_asks = (skipped ∷ south_read, what_south_becomes, refl)
 a_route_of_south : LeavesAlone (north ∷ south ∷ east ∷ []) 65536 1 (route_via ten_8 2 30 (via_192_0_2 2))
 unfolding table_alone table_after
 a_route_of_south = (south, commands (asked_of south_read), refl, what_south_asks, (0, omega arith, refl))
+
+a_route_of_north : LeavesAlone (north ∷ south ∷ east ∷ []) 65536 0 (route_via ten_8 1 50 (via_192_0_2 1))
+unfolding table_alone table_after
+a_route_of_north = (north, commands (asked_of north_read), refl, (north_read, what_north_becomes, refl), (0, omega arith, refl))
 
 no_text_leaves_none : (k : ℕ) (r : Route) → ¬ LeavesAlone [] 65536 k r
 no_text_leaves_none k r (text, cmds, at, asks, has) = cc
@@ -107,6 +118,53 @@ some_line_was_faulty = refl
 a_refusal_before_a_fault : outcomes_status ((faulty fault.Hop ∷ []) ∷ (asked Dump Refused ∷ []) ∷ []) ≡ 5
 a_refusal_before_a_fault = refl
 
+-- two routes to one prefix, the better one first
+abbrev two_to_ten_8 : List Route
+two_to_ten_8 = route_via ten_8 2 30 Discard ∷ route_via ten_8 1 50 Discard ∷ []
+
+-- routes_text
+all_of_them : routes_text false two_to_ten_8 ≡ codes "10.0.0.0/8 feed 2 pref 30 via discard\n10.0.0.0/8 feed 1 pref 50 via discard\n"
+unfolding row_text route_text
+all_of_them = rw (written_10_0_0_0_8, written_1, written_2, written_30, written_50) refl
+
+only_the_best : routes_text true two_to_ten_8 ≡ codes "10.0.0.0/8 feed 2 pref 30 via discard\n"
+unfolding row_text route_text
+only_the_best = rw (written_10_0_0_0_8, written_2, written_30) refl
+
+-- answers_text
+one_is_covered_and_one_is_not :
+    answers_text (at_10_1_2_3 ∷ at_10_9_0_1 ∷ []) (route_via ten_1_16 1 10 Discard ∷ [])
+    ≡ codes "10.1.2.3 route 10.1.0.0/16 feed 1 pref 10 via discard\n10.9.0.1 no route\n"
+unfolding look_up found_text reply_text route_text
+one_is_covered_and_one_is_not = rw (written_10_1_2_3, written_10_9_0_1, written_10_1_0_0_16, written_1, written_10) refl
+
+-- is_existing
+exists_alone : map is_existing (Exists ∷ Added ∷ Full ∷ Missing ∷ Dumped 0 ∷ []) ≡ true ∷ false ∷ false ∷ false ∷ false ∷ []
+exists_alone = refl
+
+-- is_missing
+missing_alone : map is_missing (Missing ∷ Added ∷ Exists ∷ Full ∷ Dumped 0 ∷ []) ≡ true ∷ false ∷ false ∷ false ∷ false ∷ []
+missing_alone = refl
+
+-- is_full
+full_alone : map is_full (Full ∷ Added ∷ Exists ∷ Missing ∷ Dumped 0 ∷ []) ≡ true ∷ false ∷ false ∷ false ∷ false ∷ []
+full_alone = refl
+
+-- was_existing
+an_add_that_was_answered_exists :
+    map was_existing (answer.Did Exists ∷ answer.Did Added ∷ answer.Refused ∷ answer.Fault fault.Hop ∷ []) ≡ true ∷ false ∷ false ∷ false ∷ []
+an_add_that_was_answered_exists = refl
+
+-- was_missing
+one_that_was_answered_missing :
+    map was_missing (answer.Did Missing ∷ answer.Did Added ∷ answer.Refused ∷ answer.Fault fault.Hop ∷ []) ≡ true ∷ false ∷ false ∷ false ∷ []
+one_that_was_answered_missing = refl
+
+-- was_full
+an_add_that_was_answered_full :
+    map was_full (answer.Did Full ∷ answer.Did Added ∷ answer.Refused ∷ answer.Fault fault.Hop ∷ []) ≡ true ∷ false ∷ false ∷ false ∷ []
+an_add_that_was_answered_full = refl
+
 -- a line's fault, as a report tells it
 abbrev a_fault : Line
 a_fault = record { number = 1; answer = answer.Fault fault.Hop }
@@ -124,6 +182,27 @@ found_otherwise = refl
 all_was_taken : tally_of (record { number = 1; answer = answer.Did (Dumped 0) } ∷ []) ≡ record { faulty = 0; first_faulty = None; full = 0; existing = 0; missing = 0; refused = 0 }
 all_was_taken = refl
 
+-- so many faulty lines, adds over the limit and refused commands, and one command each that was answered `exists` and `missing`
+abbrev tally : ℕ → ℕ → ℕ → Tally
+tally wrong over unanswered = record { faulty = wrong; first_faulty = None; full = over; existing = 1; missing = 1; refused = unanswered }
+
+-- has_refused
+a_refused_command : has_refused (tally 0 0 1) ≡ true
+a_refused_command = refl
+
+what_was_left_out_was_not_refused : has_refused (tally 1 1 0) ≡ false
+what_was_left_out_was_not_refused = refl
+
+-- has_left_out
+a_faulty_line_is_left_out : has_left_out (tally 1 0 0) ≡ true
+a_faulty_line_is_left_out = refl
+
+an_add_over_the_limit_is_left_out : has_left_out (tally 0 1 0) ≡ true
+an_add_over_the_limit_is_left_out = refl
+
+what_was_refused_was_not_left_out : has_left_out (tally 0 0 1) ≡ false
+what_was_refused_was_not_left_out = refl
+
 -- tallies_status
 nothing_left_out : tallies_status (record { faulty = 0; first_faulty = None; full = 0; existing = 0; missing = 0; refused = 0 } ∷ []) ≡ 0
 nothing_left_out = refl
@@ -131,11 +210,26 @@ nothing_left_out = refl
 an_add_was_over_the_limit : tallies_status (record { faulty = 0; first_faulty = None; full = 1; existing = 0; missing = 0; refused = 0 } ∷ []) ≡ 2
 an_add_was_over_the_limit = refl
 
+one_text_of_two_had_a_faulty_line : tallies_status (tally 0 0 0 ∷ tally 1 0 0 ∷ []) ≡ 2
+one_text_of_two_had_a_faulty_line = refl
+
 what_was_found_otherwise_is_no_fault : tallies_status (record { faulty = 0; first_faulty = None; full = 0; existing = 2; missing = 3; refused = 0 } ∷ []) ≡ 0
 what_was_found_otherwise_is_no_fault = refl
 
 a_refusal_before_what_was_left_out : tallies_status (record { faulty = 1; first_faulty = Some a_fault; full = 1; existing = 0; missing = 0; refused = 0 } ∷ record { faulty = 0; first_faulty = None; full = 0; existing = 0; missing = 0; refused = 1 } ∷ []) ≡ 5
 a_refusal_before_what_was_left_out = refl
+
+-- IsTaken
+a_faulty_line_gives_status_2 : (taken : Taken) → taken.tallies.items ≡ tally_of (a_fault ∷ []) ∷ [] → taken.status ≡ 2 → IsTaken ((a_fault ∷ []) ∷ []) taken
+a_faulty_line_gives_status_2 taken tallied status =
+    record { tallied = tallied; is_status = subst (λ tallies. taken.status ≡ tallies_status tallies) (sym tallied) status }
+
+not_status_0 : (taken : Taken) → taken.tallies.items ≡ tally_of (a_fault ∷ []) ∷ [] → taken.status ≡ 0 → ¬ IsTaken ((a_fault ∷ []) ∷ []) taken
+not_status_0 taken tallied status h =
+    let other : taken.status ≡ 2 = subst (λ tallies. taken.status ≡ tallies_status tallies) tallied h.is_status in omega (arith, status, other)
+
+no_report_without_its_tally : (taken : Taken) → taken.tallies.items ≡ [] → ¬ IsTaken ([] ∷ []) taken
+no_report_without_its_tally taken none h = let one : [] ≡ tally_of [] ∷ [] = sym none ∙ h.tallied in cc
 
 -- a text of one line, and its entry
 abbrev text : List ℕ
@@ -386,17 +480,152 @@ no_run_has_status_1 texts limit batch bytes h = none_is_1 (list_any some_refused
 behind_what_the_writer_had : LeavesRunText (text ∷ []) 1 1 (Some (codes "x")) (Some (codes "x1:1 dumped 0\ntable 0\n")) (Ok 0)
 behind_what_the_writer_had = (codes "1:1 dumped 0\ntable 0\n", the_run_of_a_dump, refl)
 
+whatever_was_run :
+    (texts : List (List ℕ)) (limit batch : ℕ) (old bytes : List ℕ) (status : ℕ) → IsRunText texts limit batch bytes status
+    → LeavesRunText texts limit batch (Some old) (Some (old ++ bytes)) (Ok status)
+whatever_was_run texts limit batch old bytes status is = (bytes, is, refl)
+
+nothing_but_the_text_of_a_run :
+    (texts : List (List ℕ)) (limit batch : ℕ) (new : List ℕ) (status : ℕ) → LeavesRunText texts limit batch (Some []) (Some new) (Ok status)
+    → IsRunText texts limit batch new status
+nothing_but_the_text_of_a_run texts limit batch new status (bytes, is, same) =
+    let all : bytes ≡ new = sym same in subst (λ b. IsRunText texts limit batch b status) all is
+
 nothing_where_it_was_refused : LeavesRunText [] 1 1 (Some (codes "x")) (Some (codes "x")) (Err (Run run.NoText))
 nothing_where_it_was_refused = ((λ same. cc), refl)
 
 a_beginning_where_it_could_not_be_written : LeavesRunText (text ∷ []) 1 1 (Some []) (Some (codes "1:1 dum")) (Err Write)
 a_beginning_where_it_could_not_be_written = (codes "1:1 dumped 0\ntable 0\n", 0, the_run_of_a_dump, record { count = 7; within = omega arith; appended = refl })
 
+a_beginning_of_whatever_was_to_be_written :
+    (texts : List (List ℕ)) (limit batch status : ℕ) → IsRunText texts limit batch (codes "table 0\n") status
+    → LeavesRunText texts limit batch (Some (codes "x")) (Some (codes "xtab")) (Err Write)
+a_beginning_of_whatever_was_to_be_written texts limit batch status is =
+    (codes "table 0\n", status, is, record { count = 3; within = omega arith; appended = refl })
+
 never_as_F2 : ¬ LeavesRunText (text ∷ []) 1 1 (Some []) (Some []) (Err (Run run.FeedCount))
 never_as_F2 h = h.0 refl
 
+nothing_else_as_F1 : ¬ LeavesRunText [] 1 1 (Some []) (Some (codes "x")) (Err (Run run.NoText))
+nothing_else_as_F1 h = let same = h.1 in cc
+
+nothing_else_as_F3 : ¬ LeavesRunText (text ∷ []) 1 1 (Some []) (Some (codes "x")) (Err (Run run.Memory))
+nothing_else_as_F3 h = let same = h.1 in cc
+
+never_as_a_replay : ¬ LeavesRunText (text ∷ []) 1 1 (Some []) (Some []) (Err (Replay replay.Place))
+never_as_a_replay h = h
+
+nothing_lost_where_it_could_not_be_written : ¬ LeavesRunText (text ∷ []) 1 1 (Some (codes "x")) (Some []) (Err Write)
+nothing_lost_where_it_could_not_be_written (bytes, status, is, begins) = let lost : [] ≡ 120 ∷ take begins.count bytes = begins.appended in cc
+
 never_without_a_text : ¬ LeavesRunText (text ∷ []) 1 1 (Some []) (Some []) (Ok 0)
 never_without_a_text (bytes, is, same) = let none : [] ≡ bytes = same in nothing_printed_is_no_run (text ∷ []) 1 1 0 (subst (λ b. IsRunText (text ∷ []) 1 1 b 0) (sym none) is)
+
+-- what each text of the tutorial became
+abbrev the_tutorials_outcomes : List (List LineOutcome)
+the_tutorials_outcomes = north_read ∷ (skipped ∷ south_read) ∷ (skipped ∷ east_read) ∷ []
+
+-- IsShown
+what_is_told_of_the_tutorial :
+    (text_of : List Route → List ℕ) (taken : Taken) → IsTaken (map (report_lines 1) the_tutorials_outcomes) taken
+    → IsShown (north ∷ south ∷ east ∷ []) 65536 1 text_of (text_of (table_of_journal 65536 tutorial)) taken
+what_is_told_of_the_tutorial text_of taken told =
+    record { journal = tutorial; outcomes = the_tutorials_outcomes; history = the_history_of_the_tutorial; shown = refl; told = told }
+
+no_table_untold : (bytes : List ℕ) (taken : Taken) → taken.tallies.items ≡ [] → ¬ IsShown (text ∷ []) 1 1 table_text bytes taken
+no_table_untold bytes taken none h = by h.outcomes h.history.explained h.told.tallied
+  where
+    by : (outcomes : List (List LineOutcome)) → ExplainsFrom 1 1 h.journal (text ∷ []) outcomes → taken.tallies.items ≢ map tally_of (map (report_lines 1) outcomes)
+    by [] explained same = explained
+    by (one ∷ others) explained same = let some : [] ≡ tally_of (report_lines 1 one) ∷ map tally_of (map (report_lines 1) others) = sym none ∙ same in cc
+
+-- where there is no text there is no feed, and no entry
+nobody_asks : (journal : List Entry) → All (λ (e : Entry). (1 ≤ e.feed) × (e.feed ≤ 0)) journal → journal ≡ []
+nobody_asks [] all = refl
+nobody_asks (e ∷ journal) all = let its = all 0 e (omega arith) in absurd (omega (arith, its.0, its.1))
+
+-- how many routes there are, as a byte
+abbrev length_text : List Route → List ℕ
+length_text table = length table ∷ []
+
+-- IsShown
+no_route_of_no_text : (taken : Taken) → ¬ IsShown [] 1 1 length_text (1 ∷ []) taken
+unfolding table_of_journal
+no_route_of_no_text taken h =
+    let shown = subst (λ (journal : List Entry). 1 ∷ [] ≡ length_text (table_of_journal 1 journal)) (nobody_asks h.journal h.history.no_other) h.shown in
+    let none : ◌≡◌ {A = List ℕ} (1 ∷ []) (0 ∷ []) = shown in cc
+
+-- LeavesShown
+whatever_was_told :
+    (texts : List (List ℕ)) (limit batch : ℕ) (text_of : List Route → List ℕ) (old bytes : List ℕ) (taken : Taken)
+    → IsShown texts limit batch text_of bytes taken → LeavesShown texts limit batch text_of (Some old) (Some (old ++ bytes)) (Ok taken)
+whatever_was_told texts limit batch text_of old bytes taken is = (bytes, is, refl)
+
+nothing_but_what_is_told :
+    (texts : List (List ℕ)) (limit batch : ℕ) (text_of : List Route → List ℕ) (new : List ℕ) (taken : Taken)
+    → LeavesShown texts limit batch text_of (Some []) (Some new) (Ok taken) → IsShown texts limit batch text_of new taken
+nothing_but_what_is_told texts limit batch text_of new taken (bytes, is, same) =
+    let all : bytes ≡ new = sym same in subst (λ b. IsShown texts limit batch text_of b taken) all is
+
+no_table_in_place_of_what_the_writer_had : (taken : Taken) → ¬ LeavesShown (text ∷ []) 1 1 table_text (Some (codes "x")) (Some []) (Ok taken)
+no_table_in_place_of_what_the_writer_had taken (bytes, is, same) = let lost : [] ≡ 120 ∷ bytes = same in cc
+
+no_table_where_it_was_refused : LeavesShown [] 1 1 table_text (Some (codes "x")) (Some (codes "x")) (Err (Run run.NoText))
+no_table_where_it_was_refused = ((λ same. cc), refl)
+
+no_other_bytes_as_F1 : ¬ LeavesShown [] 1 1 table_text (Some []) (Some (codes "x")) (Err (Run run.NoText))
+no_other_bytes_as_F1 h = let same = h.1 in cc
+
+no_other_bytes_as_F3 : ¬ LeavesShown (text ∷ []) 1 1 table_text (Some []) (Some (codes "x")) (Err (Run run.Memory))
+no_other_bytes_as_F3 h = let same = h.1 in cc
+
+a_table_is_never_refused_as_F2 : ¬ LeavesShown (text ∷ []) 1 1 table_text (Some []) (Some []) (Err (Run run.FeedCount))
+a_table_is_never_refused_as_F2 h = h.0 refl
+
+nor_as_a_replay : ¬ LeavesShown (text ∷ []) 1 1 table_text (Some []) (Some []) (Err (Replay replay.Place))
+nor_as_a_replay h = h
+
+a_beginning_of_it_where_it_could_not_be_written :
+    (texts : List (List ℕ)) (limit batch : ℕ) (text_of : List Route → List ℕ) (taken : Taken)
+    → IsShown texts limit batch text_of (codes "table 0\n") taken → LeavesShown texts limit batch text_of (Some (codes "x")) (Some (codes "xtab")) (Err Write)
+a_beginning_of_it_where_it_could_not_be_written texts limit batch text_of taken is =
+    (codes "table 0\n", taken, is, record { count = 3; within = omega arith; appended = refl })
+
+no_bytes_lost_where_the_table_could_not_be_written : ¬ LeavesShown (text ∷ []) 1 1 table_text (Some (codes "x")) (Some []) (Err Write)
+no_bytes_lost_where_the_table_could_not_be_written (bytes, taken, is, begins) = let lost : [] ≡ 120 ∷ take begins.count bytes = begins.appended in cc
+
+-- EndsInUnion
+a_run_with_a_faulty_line_ends_in_the_union :
+    EndsInUnion → (texts : List (List ℕ)) (limit batch : ℕ) (bytes : List ℕ) (run : IsRunText texts limit batch bytes 2)
+    → (union : List Route) × IsUnion texts limit union × (bytes ≡ printed_reports run.outcomes ++ table_text union)
+a_run_with_a_faulty_line_ends_in_the_union law texts limit batch bytes run = law texts limit batch bytes 2 run (λ same. omega (arith, same))
+
+-- AnswersAlone
+its_replies_are_as_if_alone :
+    AnswersAlone → (texts : List (List ℕ)) (limit batch : ℕ) (bytes : List ℕ) (run : IsRunText texts limit batch bytes 2) (k : ℕ) (lines : List LineOutcome)
+    → slice_get run.outcomes k ≡ Some lines → IsAnsweredAlone limit (k + 1) (asked_of lines)
+its_replies_are_as_if_alone law texts limit batch bytes run = law texts limit batch bytes 2 run (λ same. omega (arith, same))
+
+-- EndInOneTable
+batches_of_1_and_of_512_end_in_one_table :
+    EndInOneTable → (texts : List (List ℕ)) (limit : ℕ) (bytes bytes' : List ℕ) (run : IsRunText texts limit 1 bytes 0) (run' : IsRunText texts limit 512 bytes' 2)
+    → (table : List Route) × (bytes ≡ printed_reports run.outcomes ++ table_text table) × (bytes' ≡ printed_reports run'.outcomes ++ table_text table)
+batches_of_1_and_of_512_end_in_one_table law texts limit bytes bytes' run run' =
+    law texts limit 1 512 bytes bytes' 0 2 run run' (λ same. omega (arith, same)) (λ same. omega (arith, same))
+
+-- ShowsUnion
+what_is_told_is_told_of_the_union :
+    ShowsUnion → (texts : List (List ℕ)) (limit batch : ℕ) (text_of : List Route → List ℕ) (bytes : List ℕ) (taken : Taken)
+    → IsShown texts limit batch text_of bytes taken → taken.status ≡ 2 → (union : List Route) × IsUnion texts limit union × (bytes ≡ text_of union)
+what_is_told_is_told_of_the_union law texts limit batch text_of bytes taken shown is =
+    law texts limit batch text_of bytes taken shown (λ same. omega (arith, is, same))
+
+-- ShowOneTable
+batches_of_1_and_of_512_tell_the_same :
+    ShowOneTable → (texts : List (List ℕ)) (limit : ℕ) (text_of : List Route → List ℕ) (bytes bytes' : List ℕ) (taken taken' : Taken)
+    → IsShown texts limit 1 text_of bytes taken → IsShown texts limit 512 text_of bytes' taken' → taken.status ≡ 0 → taken'.status ≡ 2 → bytes ≡ bytes'
+batches_of_1_and_of_512_tell_the_same law texts limit text_of bytes bytes' taken taken' shown shown' is is' =
+    law texts limit 1 512 text_of bytes bytes' taken taken' shown shown' (λ same. omega (arith, is, same)) (λ same. omega (arith, is', same))
 
 -- IsReplayText
 nothing_picked : IsReplayText 1 [] (codes "inside none\n")

@@ -14,7 +14,7 @@ use Rattle.ya_lock.specs.LockState.{IsOf, HasProcess}
 use Rattle.rt_rib.specs.declared.routes.Hop.TheVariants.{Discard}
 use Rattle.rt_rib.specs.declared.routes.Route.{Route}
 use Rattle.rt_rib.specs.declared.commands.Cmd.TheVariants.{Add, Lookup, Dump, Purge}
-use Rattle.rt_rib.specs.declared.commands.Reply.TheVariants.{Added, Found, Dumped, Purged}
+use Rattle.rt_rib.specs.declared.commands.Reply.TheVariants.{Added, Full, Found, Dumped, Purged}
 use Rattle.rt_rib.specs.declared.commands.Entry.{Entry}
 use Rattle.rt_rib.specs.LookUp.{look_up}
 use Rattle.rt_rib.specs.Sequential.{reply_of, table_after}
@@ -133,6 +133,16 @@ a_run_in_which_both_are_answered = (
 no_tree_of_no_level : (world : World Act) → ¬ IsRunTo 1 0 world
 no_tree_of_no_level world h = omega (arith, h.0)
 
+-- feed 1 adds a route where no feed may have any
+abbrev one_too_many : List (Event Act)
+one_too_many = Steps 0 ∷ Steps 0 ∷ Steps 0 ∷ Steps 0 ∷ Appends 0 (Add ten_8 5 Discard, Full) ∷ []
+
+-- IsRunTo
+a_run_in_which_an_add_is_over_the_limit : IsRunTo 0 1 (follow 1 one_too_many opening_world)
+unfolding node_of side_of table_of_journal table_after reply_of
+a_run_in_which_an_add_is_over_the_limit =
+    (omega arith, one_too_many, runs 1 (IsSequential 0) one_too_many opening_world (omega arith, (omega arith, (omega arith, (omega arith, ((refl, refl), tt))))))
+
 a_run_of_two_levels : IsRunTo 1 2 (follow 2 (Steps 3 ∷ []) opening_world)
 a_run_of_two_levels = (omega arith, Steps 3 ∷ [], runs 2 (IsSequential 1) (Steps 3 ∷ []) opening_world (omega arith, tt))
 
@@ -140,7 +150,23 @@ a_run_of_two_levels = (omega arith, Steps 3 ∷ [], runs 2 (IsSequential 1) (Ste
 nobody_at_the_start : NoTwoInside opening_world
 nobody_at_the_start p q one other = cc
 
-not_where_all_are : ¬ NoTwoInside (record { state = record { words = λ word. 0; processes = λ place. Inside }; content = []; copies = λ place. []; doing = λ place. []; made = λ place. [] })
+-- a world in which these are the processes, and nothing was made
+abbrev world_of : (ℕ → Process) → World Act
+world_of processes =
+    record { state = record { words = λ word. 0; processes = processes }; content = []; copies = λ place. []; doing = λ place. []; made = λ place. [] }
+
+-- place 0 alone is inside
+abbrev first_inside : ℕ → Process
+first_inside zero = Inside
+first_inside (suc place) = Idle
+
+-- NoTwoInside
+one_may_be : NoTwoInside (world_of first_inside)
+one_may_be zero zero one other = refl
+one_may_be zero (suc q) one other = cc
+one_may_be (suc p) q one other = cc
+
+not_where_all_are : ¬ NoTwoInside (world_of (λ place. Inside))
 not_where_all_are h = let same = h 0 1 refl refl in omega (arith, same)
 
 -- HasAllMade
@@ -169,6 +195,15 @@ nothing_for_another_feed_either : ¬ FindsBest 1 (entry 2 (Lookup at_10_1_2_3) (
 unfolding table_of_journal
 nothing_for_another_feed_either h = let match = h 2 at_10_1_2_3 its_route [] [] refl in omega (arith, match.contained.1)
 
+nothing_behind_a_dump : ¬ FindsBest 1 (dump 1 ∷ entry 2 (Lookup at_10_1_2_3) (Found its_route) ∷ [])
+unfolding table_of_journal table_after
+nothing_behind_a_dump h = let match = h 2 at_10_1_2_3 its_route (dump 1 ∷ []) [] refl in omega (arith, match.contained.1)
+
+nothing_that_is_added_later : ¬ FindsBest 1 (entry 2 (Lookup at_10_1_2_3) (Found its_route) ∷ entry 1 (Add ten_8 5 Discard) Added ∷ [])
+unfolding table_of_journal
+nothing_that_is_added_later h =
+    let match = h 2 at_10_1_2_3 its_route [] (entry 1 (Add ten_8 5 Discard) Added ∷ []) refl in omega (arith, match.contained.1)
+
 -- a dump leaves no route
 no_route_by_a_dump : table_of_journal 1 (dump 2 ∷ []) ≡ []
 unfolding table_of_journal table_after
@@ -193,6 +228,12 @@ dumped = record { book = empty_book (dump 2 ∷ []); feeds = 2; lawful = lawful_
 the_journal_alone_has_changed : HasSameBounds new dumped
 the_journal_alone_has_changed = record { limit = refl; feeds = refl }
 
+not_with_another_limit : (a b : Lent) → b.book.limit ≢ a.book.limit → ¬ HasSameBounds a b
+not_with_another_limit a b other h = other h.limit
+
+not_with_more_feeds : (a b : Lent) → b.feeds ≢ a.feeds → ¬ HasSameBounds a b
+not_with_more_feeds a b other h = other h.feeds
+
 by_feed_2 : Since 1 [] (dump 2 ∷ [])
 by_feed_2 = record { others = dump 2 ∷ []; grown = refl; by_others = none_by_1 }
 
@@ -202,6 +243,9 @@ while_the_first_place_was_away = record { same = the_journal_alone_has_changed; 
 
 not_while_the_second_was : ¬ GrowsByOthers 1 new dumped
 not_while_the_second_was h = not_its_own 2 h.since
+
+not_to_another_limit : (place : ℕ) (a b : Lent) → b.book.limit ≢ a.book.limit → ¬ GrowsByOthers place a b
+not_to_another_limit place a b other h = other h.same.limit
 
 -- both passes are away, and the second place's feed was answered since the first was last inside
 abbrev moment : List (Option (std.Option Lent)) → Moment
@@ -214,8 +258,8 @@ at_rest = moment (some (Some dumped) ∷ [])
 the_first_has_one : HasPass at_rest
 the_first_has_one = (0, 0, (Idle, (new, (Seated 0 Idle new 0, refl, (refl, refl, refl)))))
 
-one_that_is_inside_has_one : HasPass (record { words = []; homes = none ∷ []; views = Seated 0 Inside new 0 ∷ [] })
-one_that_is_inside_has_one = (0, 0, (Inside, (new, (Seated 0 Inside new 0, refl, (refl, refl, refl)))))
+one_that_is_inside_has_one : HasPass (record { words = []; homes = none ∷ []; views = Seated 1 Inside new 0 ∷ [] })
+one_that_is_inside_has_one = (0, 1, (Inside, (new, (Seated 1 Inside new 0, refl, (refl, refl, refl)))))
 
 none_before_they_are_made : ¬ HasPass (record { words = []; homes = some None ∷ []; views = [] })
 none_before_they_are_made (seat, place, (process, (seen, has))) = some-ne-none has.0 (sym has.1)

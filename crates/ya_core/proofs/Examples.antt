@@ -326,6 +326,11 @@ alone_six_at_two_levels : WalkLeadsTo (walk 2 0 Idle true 0) (1 ∷ 1 ∷ 0 ∷ 
 unfolding node_of side_of
 alone_six_at_two_levels = (tt, (tt, (tt, (inl refl, (tt, (tt, (tt, (inl refl, refl))))))))
 
+alone_nine_at_three_levels :
+    WalkLeadsTo (walk 3 0 Idle true 0) (1 ∷ 1 ∷ 0 ∷ 0 ∷ 1 ∷ 1 ∷ 0 ∷ 0 ∷ 1 ∷ 1 ∷ 0 ∷ 0 ∷ []) (walk 3 0 Inside false 9)
+unfolding node_of side_of
+alone_nine_at_three_levels = (tt, (tt, (tt, (inl refl, (tt, (tt, (tt, (inl refl, (tt, (tt, (tt, (inl refl, refl))))))))))))
+
 at_the_root_it_finds_one_of_the_other_half : WalkLeadsTo (walk 2 0 (Entering 2 E4) false 5) (3 ∷ []) (walk 2 0 (Entering 2 (E5 2)) false 6)
 unfolding node_of side_of
 at_the_root_it_finds_one_of_the_other_half = (inr (omega arith, refl, refl), refl)
@@ -598,6 +603,13 @@ the_root_sees_nothing_of_the_leaf :
 unfolding node_of side_of
 the_root_sees_nothing_of_the_leaf =
     sees 2 2 (0 ∷ 0 ∷ 0 ∷ 0 ∷ 0 ∷ 0 ∷ []) opening (omega arith, (omega arith, (omega arith, (omega arith, (omega arith, (omega arith, tt))))))
+
+the_third_level_sees_nothing_of_those_below :
+    LevelSees 3 3 opening (neither ∷ neither ∷ neither ∷ neither ∷ neither ∷ neither ∷ neither ∷ neither ∷ neither ∷ announces 0 ∷ [])
+unfolding node_of side_of
+the_third_level_sees_nothing_of_those_below =
+    sees 3 3 (0 ∷ 0 ∷ 0 ∷ 0 ∷ 0 ∷ 0 ∷ 0 ∷ 0 ∷ 0 ∷ 0 ∷ []) opening
+    (omega arith, (omega arith, (omega arith, (omega arith, (omega arith, (omega arith, (omega arith, (omega arith, (omega arith, (omega arith, tt))))))))))
 
 -- place 0 steps at all times
 abbrev alone : ℕ → State

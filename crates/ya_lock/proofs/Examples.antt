@@ -81,6 +81,10 @@ stuck = moment (some (Some 7) ∷ []) (Seated 1 (Entering 1 E8) 5 4 ∷ [])
 abbrev two_inside : State (std.Option ℕ) (View ℕ)
 two_inside = moment (none ∷ []) (Seated 0 Inside 7 3 ∷ Seated 1 Inside 7 4 ∷ [])
 
+-- place 1 is away, in seat 0, and the value is not in its slot
+abbrev first_seat_away : State (std.Option ℕ) (View ℕ)
+first_seat_away = moment (none ∷ []) (Seated 1 Idle 7 0 ∷ [])
+
 -- HasProcess
 seat_1_has_place_1 : HasProcess one_inside 1 1 (Entering 1 E8) 5
 seat_1_has_place_1 = (Seated 1 (Entering 1 E8) 5 4, refl, (refl, refl, refl))
@@ -91,6 +95,9 @@ there_is_no_seat_2 h = some-ne-none h.0 (sym h.1)
 -- IsAway
 place_1_is : IsAway one_inside 1 1 5
 place_1_is = (Entering 1 E8, λ same. cc, seat_1_has_place_1)
+
+in_another_seat_it_is : IsAway first_seat_away 0 1 7
+in_another_seat_it_is = (Idle, λ same. cc, (Seated 1 Idle 7 0, refl, (refl, refl, refl)))
 
 -- the seat's view is this one
 is_view : (s : State (std.Option ℕ) (View ℕ)) (seat : ℕ) (view : View ℕ) (place : ℕ) (process : Process) (value : ℕ)
@@ -126,6 +133,15 @@ an_idle_process_goes_on same = cc
 one_that_waits_for_a_1_does_not : ¬ GoesOn stuck 1 1 (Entering 1 E8)
 unfolding words_in index_of number_of making_index count_of_words
 one_that_waits_for_a_1_does_not goes_on = goes_on refl
+
+-- place 0 waits, and its spin word was set to 1
+abbrev woken : State (std.Option ℕ) (View ℕ)
+woken = record { words = replicate 24 0 ++ 1 ∷ replicate 16 0; homes = some (Some 7) ∷ []; views = Seated 0 (Entering 1 E8) 5 4 ∷ [] }
+
+-- GoesOn
+one_whose_word_is_1_does : GoesOn woken 1 0 (Entering 1 E8)
+unfolding words_in index_of number_of
+one_whose_word_is_1_does same = cc
 
 -- SomeSeatGoesOn
 nobody_takes_part : SomeSeatGoesOn both_away 1
@@ -175,6 +191,10 @@ none_inside one other p q v w a b = absurd (none_where_both_are_away one p v a)
 not_two : ¬ OneInside two_inside
 not_two h = let same = h 0 1 0 1 7 7 (Seated 0 Inside 7 3, refl, (refl, refl, refl)) (Seated 1 Inside 7 4, refl, (refl, refl, refl)) in omega (arith, same)
 
+not_two_that_found_two_values : ¬ OneInside (moment (none ∷ []) (Seated 0 Inside 7 3 ∷ Seated 1 Inside 8 4 ∷ []))
+not_two_that_found_two_values h =
+    let same = h 0 1 0 1 7 8 (Seated 0 Inside 7 3, refl, (refl, refl, refl)) (Seated 1 Inside 8 4, refl, (refl, refl, refl)) in omega (arith, same)
+
 -- IsInSlot
 in_slot_where_both_are_away : IsInSlot both_away
 in_slot_where_both_are_away = (λ seat place value has. absurd (none_where_both_are_away seat place value has), λ seat place process value has away. (7, refl))
@@ -188,6 +208,15 @@ not_in_slot_where_one_is h = let out = h.0 0 0 7 (Seated 0 Inside 7 3, refl, (re
 not_out_where_none_is : ¬ IsInSlot (moment (none ∷ []) both_away.views)
 not_out_where_none_is h =
     let home = h.1 0 0 Idle 7 (Seated 0 Idle 7 0, refl, (refl, refl, refl)) none_where_both_are_away in let out = home.1 in cc
+
+nobody_inside_there : NoneInside first_seat_away
+nobody_inside_there zero place value has =
+    let is = is_view first_seat_away 0 (Seated 1 Idle 7 0) place Inside value has refl in let idle : Idle ≡ Inside = is.1 in cc
+nobody_inside_there (suc seat) place value has = some-ne-none has.0 (sym has.1)
+
+not_out_where_only_place_1_has_a_seat : ¬ IsInSlot first_seat_away
+not_out_where_only_place_1_has_a_seat h =
+    let home = h.1 0 1 Idle 7 (Seated 1 Idle 7 0, refl, (refl, refl, refl)) nobody_inside_there in let out = home.1 in cc
 
 -- what others may have made of a number while a place was away
 abbrev raised : ℕ → ℕ → ℕ → Type 0
@@ -208,6 +237,19 @@ not_below_what_one_inside_found : ¬ IsFresh (moment (none ∷ []) (Seated 0 Ins
 not_below_what_one_inside_found h =
     let away = h 1 1 5 4 (Idle, λ same. cc, (Seated 1 Idle 5 0, refl, (refl, refl, refl))) in
     let fresh = away.1 0 0 (Seated 0 Inside 4 3, refl, (refl, refl, refl)) in omega (arith, fresh)
+
+-- what others may have made of it while place 1 was away
+abbrev raised_without_1 : ℕ → ℕ → ℕ → Type 0
+raised_without_1 place seen now = place ≡ 1 → seen ≤ now
+
+not_lowered_for_place_1_in_seat_0 : ¬ IsFresh (moment (some (Some 4) ∷ []) (Seated 1 Idle 5 0 ∷ [])) raised_without_1
+not_lowered_for_place_1_in_seat_0 h =
+    let fresh = (h 0 1 5 4 (Idle, λ same. cc, (Seated 1 Idle 5 0, refl, (refl, refl, refl)))).0 refl refl in omega (arith, fresh)
+
+nor_below_what_one_in_seat_1_found : ¬ IsFresh (moment (none ∷ []) (Seated 1 Idle 5 0 ∷ Seated 0 Inside 4 3 ∷ [])) raised_without_1
+nor_below_what_one_in_seat_1_found h =
+    let away = h 0 1 5 4 (Idle, λ same. cc, (Seated 1 Idle 5 0, refl, (refl, refl, refl))) in
+    let fresh = away.1 1 0 (Seated 0 Inside 4 3, refl, (refl, refl, refl)) refl in omega (arith, fresh)
 
 -- no seat makes passes where both are away
 no_maker : (seat : ℕ) (view : View ℕ) → get_elem? both_away.views seat ≡ some view → ¬ IsMaking view
@@ -238,6 +280,60 @@ all_passes_made = record {
 not_by_two : ¬ IsMadeByOne (moment (some None ∷ []) (Making ∷ Making ∷ [])) 1
 not_by_two h = let same = h.one_maker 0 1 Making Making refl tt refl tt in omega (arith, same)
 
+not_by_two_of_which_one_hands_out : ¬ IsMadeByOne (moment (some None ∷ []) (Making ∷ HandingOut 1 7 ∷ [])) 1
+not_by_two_of_which_one_hands_out h = let same = h.one_maker 0 1 Making (HandingOut 1 7) refl tt refl tt in omega (arith, same)
+
+-- a table of which nobody has begun to make the passes
+abbrev unmade : State (std.Option ℕ) (View ℕ)
+unmade = record { words = replicate 41 0; homes = some None ∷ []; views = Unused ∷ [] }
+
+all_unused : (seat : ℕ) (view : View ℕ) → get_elem? unmade.views seat ≡ some view → view ≡ Unused
+all_unused zero view at = sym (some-injective Unused view at)
+all_unused (suc seat) view at = absurd (some-ne-none view (sym at))
+
+-- IsMadeByOne
+before_they_are_made : IsMadeByOne unmade 1
+unfolding making_index count_of_words
+before_they_are_made = record {
+  unused = λ word seat view at. all_unused seat view at;
+  empty = λ word. refl;
+  one_maker = λ one other v w at making there also. absurd (subst IsMaking (all_unused one v at) making);
+  unfilled = λ seat view at filling. absurd (subst IsFilling (all_unused seat view at) filling);
+  not_made = λ seat first given at. let none = all_unused seat (HandingOut first given) at in cc;
+}
+
+not_with_a_value_before : ¬ IsMadeByOne {V = ℕ} (record { words = replicate 41 0; homes = some (Some 7) ∷ []; views = [] }) 1
+unfolding making_index count_of_words
+not_with_a_value_before h = let empty = h.empty refl in cc
+
+-- seat 0 makes the passes, and seat 1 is unused
+abbrev being_made : State (std.Option ℕ) (View ℕ)
+being_made = moment (some None ∷ []) (Making ∷ Unused ∷ [])
+
+nobody_has_a_place_yet : (seat place : ℕ) (process : Process) (value : ℕ) → ¬ HasProcess being_made seat place process value
+nobody_has_a_place_yet zero place process value has = is_view being_made 0 Making place process value has refl
+nobody_has_a_place_yet (suc zero) place process value has = is_view being_made 1 Unused place process value has refl
+nobody_has_a_place_yet (suc (suc seat)) place process value has = some-ne-none has.0 (sym has.1)
+
+first_makes : (seat : ℕ) (view : View ℕ) → get_elem? being_made.views seat ≡ some view → IsMaking view → seat ≡ 0
+first_makes zero view at making = refl
+first_makes (suc zero) view at making = absurd (subst IsMaking (sym (some-injective Unused view at)) making)
+first_makes (suc (suc seat)) view at making = absurd (some-ne-none view (sym at))
+
+-- IsMadeByOne
+one_makes_them : IsMadeByOne being_made 1
+unfolding making_index count_of_words
+one_makes_them = record {
+  unused = λ word. let none : 1 ≡ 0 = word in absurd (omega (arith, none));
+  empty = λ word. refl;
+  one_maker = λ one other v w at making there also. first_makes one v at making ∙ sym (first_makes other w there also);
+  unfilled = λ seat view at filling other place process value. nobody_has_a_place_yet other place process value;
+  not_made = λ seat first given at other place process value behind. nobody_has_a_place_yet other place process value;
+}
+
+nobody_has_a_place_while_it_is_filled : ¬ IsMadeByOne (moment (some None ∷ []) (Filling ∷ Seated 0 Idle 7 0 ∷ [])) 1
+nobody_has_a_place_while_it_is_filled h = h.unfilled 0 Filling refl tt 1 0 Idle 7 (Seated 0 Idle 7 0, refl, (refl, refl, refl))
+
 nobody_knows_anything_before : ¬ IsMadeByOne {V = ℕ} (record { words = replicate 41 0; homes = some None ∷ []; views = Seated 0 Idle 7 0 ∷ [] }) 1
 unfolding making_index count_of_words
 nobody_knows_anything_before h = let unused = h.unused refl 0 (Seated 0 Idle 7 0) refl in cc
@@ -245,6 +341,10 @@ nobody_knows_anything_before h = let unused = h.unused refl 0 (Seated 0 Idle 7 0
 no_pass_that_is_still_to_be_made : ¬ IsMadeByOne (moment (some (Some 7) ∷ []) (HandingOut 1 7 ∷ Seated 1 Idle 7 0 ∷ [])) 1
 no_pass_that_is_still_to_be_made h =
     h.not_made 0 1 7 refl 1 1 Idle 7 (omega arith) (Seated 1 Idle 7 0, refl, (refl, refl, refl))
+
+no_pass_that_another_seat_is_still_to_make : ¬ IsMadeByOne (moment (some (Some 7) ∷ []) (Seated 1 Idle 7 0 ∷ Unused ∷ HandingOut 1 7 ∷ [])) 1
+no_pass_that_another_seat_is_still_to_make h =
+    h.not_made 2 1 7 refl 0 1 Idle 7 (omega arith) (Seated 1 Idle 7 0, refl, (refl, refl, refl))
 
 -- ShowsCore
 all_idle : ShowsCore both_away 1
