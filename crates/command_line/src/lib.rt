@@ -196,6 +196,8 @@ pub struct RunRequest<'a> {
     pub batch: u32,
     /// The names of the feed files.
     pub files: Vec<&'a str>,
+    /// Whether a terminal is told how far the run has come.
+    pub progress: bool,
     pub ghost some_routes: { 1 ≤ limit },
     pub ghost few_routes: { limit ≤ 1000000 },
     pub ghost batched: { 1 ≤ batch },
@@ -300,6 +302,7 @@ fn run_command<'a>(alloc: Global) -> Result<Command<'a>, AllocError> {
         .after_help(RUN_NOTES)
         .arg(limit(alloc))?
         .arg(batch(alloc, DEFAULT_BATCH))?
+        .arg(progress(alloc))?
         .arg(files(alloc))
 }
 
@@ -309,6 +312,7 @@ fn lookup_command<'a>(alloc: Global) -> Result<Command<'a>, AllocError> {
         .after_help(LOOKUP_NOTES)
         .arg(limit(alloc))?
         .arg(batch(alloc, UNSEEN_BATCH))?
+        .arg(progress(alloc))?
         .arg(address(alloc))?
         .arg(addresses(alloc))?
         .arg(files(alloc))
@@ -321,6 +325,7 @@ fn table_command<'a>(alloc: Global) -> Result<Command<'a>, AllocError> {
         .arg(best(alloc))?
         .arg(limit(alloc))?
         .arg(batch(alloc, UNSEEN_BATCH))?
+        .arg(progress(alloc))?
         .arg(files(alloc))
 }
 
@@ -356,12 +361,19 @@ fn batch<'a>(alloc: Global, unless_given: &'a str) -> Arg<'a> {
     number(alloc, "batch", "K", 1, 1024, help).default_value(unless_given)
 }
 
+fn progress<'a>(alloc: Global) -> Arg<'a> {
+    Arg::new(alloc, "progress")
+        .long("progress")
+        .action(ArgAction::SetTrue)
+        .help("Say on standard error how far the run has come, if it is a terminal")
+}
+
 fn files<'a>(alloc: Global) -> Arg<'a> {
     Arg::new(alloc, "files")
         .value_name("FILE")
         .required(true)
         .num_args(1..)
-        .help("Feed files, 1 to 64: one command a line")
+        .help("Feed files, 1 to 64: one command a line; /dev/stdin may be one")
 }
 
 fn replay_command<'a>(alloc: Global) -> Result<Command<'a>, AllocError> {
@@ -446,6 +458,7 @@ fn run_request<'a>(alloc: Global, asked: &ArgMatches<'a>) -> Result<RunRequest<'
         limit,
         batch,
         files,
+        progress: asked.get_flag("progress"),
     })
 }
 
