@@ -1,7 +1,7 @@
 """What the converters have in common: how a table is read, ranked, and written as feed files."""
 import argparse
+import codecs
 import contextlib
-import dataclasses
 import functools
 import gc
 import ipaddress
@@ -11,8 +11,10 @@ import pathlib
 import re
 import shutil
 import signal
+import socket
 import stat
 import sys
+import typing
 
 GREATEST = 4294967295
 MOST_FILES = 64
@@ -20,10 +22,18 @@ DISCARD = "discard"
 # what stands for the next hop of a connected network, as in the output of `route -n`
 CONNECTED = "0.0.0.0"
 BLOCK = 1 << 20
+# seconds between two lines of progress
+EACH = 1
+# a line of more bytes is none of a table's
+LONGEST = 1 << 24
+# of JSON: what isn't text, and what may stand between values
+LONGEST_WORD, BLANKS = 16, re.compile(r"[ \t\r\n]*")
+KINDS = {"[": "a list", "{": "an object"}
+# of what many routes have alike, so many are known
+MOST_KNOWN = 16384
 # so many lines are kept before they are written
 MOST_WAITING = 200000
-GZIP, COMPRESSED = b"\x1f\x8b", "the input is compressed: give it through zcat"
-OCTETS = {str(octet): octet for octet in range(256)}
+GZIP = b"\x1f\x8b"
 # the bits past a prefix of that length
 HOST_BITS = {str(length): (1 << 32 - length) - 1 for length in range(33)}
 
@@ -32,8 +42,7 @@ class Refused(Exception):
     """The input can't be converted; the text says why."""
 
 
-@dataclasses.dataclass
-class Offer:
+class Offer(typing.NamedTuple):
     """What one source offers for a prefix. `wish` is the daemon's own number, of which the greater one wins."""
 
     source: str
@@ -69,107 +78,238 @@ class Progress:
     """Where standard error is a terminal, a line there that is written over each second and erased at the end."""
 
     def __init__(self):
-        self.lines = self.files = None
+        self.input = self.files = None
 
     def tell(self, *_):
         parts = []
-        if self.lines:
-            parts.append(f"{self.lines.number:,} lines")
-            if self.lines.size:
-                parts.append(f"{100 * self.lines.done // self.lines.size} % of the input")
+        if self.input:
+            parts.append(f"{self.input.lines:,} lines")
+            if self.input.size:
+                parts.append(f"{100 * self.input.done // self.input.size} % of the input")
         if self.files:
             taken = self.files.taken + sum(map(len, self.files.waiting.values()))
             parts.append(f"{len(self.files.waiting)} sources, {taken:,} routes")
         os.write(2, ("\r\033[K" + ", ".join(parts)).encode())
 
     def __enter__(self):
-        if sys.stderr.isatty():
+        if is_terminal():
             signal.signal(signal.SIGALRM, self.tell)
-            signal.setitimer(signal.ITIMER_REAL, 1, 1)
+            signal.setitimer(signal.ITIMER_REAL, EACH, EACH)
 
     def __exit__(self, *_):
         self.erase()
 
     def erase(self):
         """Ends it, before anything else is said there."""
-        if sys.stderr.isatty():
+        if is_terminal():
             signal.setitimer(signal.ITIMER_REAL, 0)
             os.write(2, b"\r\033[K")
+
+
+def is_terminal():
+    # standard error may be closed
+    return sys.stderr is not None and sys.stderr.isatty()
 
 
 PROGRESS = Progress()
 
 
-class Lines:
-    """The lines of standard input, block by block; `number` and `line` are of the one that was given last."""
+class Input:
+    """Standard input, block by block; what wants to be called after each sets `after_block`.
 
-    def __init__(self, after_block=lambda: None):
-        self.number, self.line = 0, ""
+    `before` lines precede what is in use, `lines` and `done` bytes were read in all, and `size` is the input's size
+    where that is known."""
+
+    def __init__(self):
         status = os.fstat(0)
         self.size = status.st_size if stat.S_ISREG(status.st_mode) else 0
-        self.done = 0
-        self.after_block = after_block
-        PROGRESS.lines = self
+        self.done = self.before = self.lines = 0
+        self.after_block = lambda: None
+        PROGRESS.input = self
 
     def blocks(self):
-        """Whole lines; bytes that aren't UTF-8 stand in no part that is used."""
-        rest = b""
-        while data := sys.stdin.buffer.read1(BLOCK):
+        while data := os.read(0, BLOCK):
             if self.done == 0 and data.startswith(GZIP):
-                raise Refused(COMPRESSED)
+                raise Refused("the input is compressed: give it through zcat")
             self.done += len(data)
-            whole, newline, data = data.rpartition(b"\n")
-            if newline:
-                yield (rest + whole).decode("utf-8", errors="replace").replace("\r\n", "\n").split("\n")
-                rest = b""
-            rest += data
+            yield data
         if self.done == 0:
             raise Refused("the input is empty")
+
+
+class Lines(Input):
+    """The entries of standard input, which here are its lines."""
+
+    def __init__(self):
+        super().__init__()
+        # of the last block: the entries, and the one in use
+        self.entries, self.place, self.entry = [], 0, ""
+
+    def last_end(self, data, begin):
+        """The end of the last whole entry, which is not before `begin`; -1 where there is none."""
+        return data.rfind(b"\n", begin)
+
+    def split(self, text):
+        return text.split("\n")
+
+    def texts(self):
+        """Whole entries; bytes that aren't UTF-8 stand in no part that is used."""
+        rest = b""
+        for data in self.blocks():
+            begin = max(0, len(rest) - 1)
+            rest += data
+            end = self.last_end(rest, begin)
+            if end >= 0:
+                yield text_of(rest[:end])
+                rest = rest[end + 1 :]
+            if len(rest) > LONGEST:
+                raise Refused(f"line {self.lines + 1} begins what is too long for a table: {text_of(rest[:100])!r}")
         if rest:
-            yield [rest.decode("utf-8", errors="replace")]
+            yield text_of(rest.removesuffix(b"\n"))
 
     def __iter__(self):
-        for block in self.blocks():
-            for self.number, self.line in enumerate(block, self.number + 1):
-                yield self.line
+        for text in self.texts():
+            self.before = self.lines
+            self.lines += text.count("\n") + 1
+            self.entries = self.split(text)
+            for self.place, self.entry in enumerate(self.entries):
+                yield self.entry
             self.after_block()
 
     @contextlib.contextmanager
     def named(self):
-        """What goes wrong with a line is refused by the line's number."""
+        """What goes wrong with a line is refused by the line's number. An error may say in `behind` how many lines
+        behind the first of its entry the line stands."""
+        try:
+            yield
+        except (ValueError, LookupError) as error:
+            behind = getattr(error, "behind", 0)
+            number = self.before + 1 + behind + sum(entry.count("\n") + 1 for entry in self.entries[: self.place])
+            line = self.entry.split("\n")[behind]
+            what = f": {error}" if isinstance(error, Wrong) else f" is not understood: {line[:100]!r}"
+            raise Refused(f"line {number}{what}") from None
+
+
+class Entries(Lines):
+    """The lines of standard input that don't begin with a tab, each with those behind it that do."""
+
+    def last_end(self, data, begin):
+        end = len(data)
+        while (end := data.rfind(b"\n", begin, end)) >= 0:
+            if data[end + 1 : end + 2] not in (b"", b"\t"):
+                break
+        return end
+
+    def split(self, text):
+        return re.split(r"\n(?!\t)", text)
+
+
+def text_of(data):
+    return data.decode("utf-8", errors="replace").replace("\r\n", "\n")
+
+
+class Json(Input):
+    """The JSON document of standard input. It is read piece by piece, and what was read isn't kept."""
+
+    def __init__(self):
+        super().__init__()
+        self.pieces = codecs.iterdecode(self.blocks(), "utf-8", errors="replace")
+        self.decode = json.JSONDecoder().raw_decode
+        # what waits to be read begins there
+        self.text, self.at, self.ended = "", 0, False
+
+    def more(self):
+        """Reads on, as much again as waits, so that a long value is begun anew few times."""
+        self.lines = self.before = self.before + self.text.count("\n", 0, self.at)
+        texts, wanted = [self.text[self.at :]], max(BLOCK, len(self.text) - self.at)
+        while wanted > 0 and not self.ended:
+            texts.append(next(self.pieces, ""))
+            wanted, self.ended = wanted - len(texts[-1]), not texts[-1]
+        self.text, self.at = "".join(texts), 0
+        self.after_block()
+
+    def wrong(self, what, at):
+        line = self.before + self.text.count("\n", 0, at) + 1
+        return Refused(f"the input is no JSON of that daemon: {what} at line {line}, before {self.text[at : at + 40]!r}")
+
+    def sign(self):
+        """The next character that is no blank, which is left to be read; "" at the input's end."""
+        while True:
+            self.at = BLANKS.match(self.text, self.at).end()
+            if self.at < len(self.text) or self.ended:
+                return self.text[self.at : self.at + 1]
+            self.more()
+
+    def take(self, sign):
+        found = self.sign()
+        if found != sign:
+            kind = f"{KINDS[sign]} was expected" if found in KINDS else f"{sign!r} is missing"
+            raise self.wrong(kind, self.at)
+        self.at += 1
+
+    def value(self):
+        """The next value as a whole."""
+        self.sign()
+        while True:
+            try:
+                value, end = self.decode(self.text, self.at)
+            except json.JSONDecodeError as error:
+                # what is only cut off may be whole when more is read
+                cut = error.msg.startswith("Unterminated") or error.pos > len(self.text) - LONGEST_WORD
+                if self.ended or not cut:
+                    raise self.wrong(error.msg, error.pos) from None
+            except (ValueError, RecursionError) as error:
+                raise self.wrong(str(error), self.at) from None
+            else:
+                # a number may go on
+                if end < len(self.text) or self.ended:
+                    self.at = end
+                    return value
+            self.more()
+
+    def elements(self):
+        """The values of an array."""
+        self.take("[")
+        between = "," if self.sign() != "]" else "]"
+        while between == ",":
+            yield self.value()
+            between = self.after_value("]")
+        self.take("]")
+
+    def members(self):
+        """The names of an object's members; the value of each is to be read when its name is given."""
+        self.take("{")
+        between = "," if self.sign() != "}" else "}"
+        while between == ",":
+            name = self.value()
+            if not isinstance(name, str):
+                raise self.wrong("a name is missing", self.at)
+            self.take(":")
+            yield name
+            between = self.after_value("}")
+        self.take("}")
+
+    def after_value(self, last):
+        """The sign behind a value: a comma, which is taken, or that of the end, which is left."""
+        sign = self.sign()
+        if sign == ",":
+            self.at += 1
+        elif sign != last:
+            raise self.wrong(f"',' or {last!r} is missing", self.at)
+        return sign
+
+    def end(self):
+        if self.sign():
+            raise self.wrong("something behind its end", self.at)
+
+    @contextlib.contextmanager
+    def named(self):
+        """What is wrong with a value is refused by the line on which the value ends."""
         try:
             yield
         except Wrong as wrong:
-            raise Refused(f"line {self.number}: {wrong}") from None
-        except (ValueError, LookupError):
-            raise not_understood(self.number, self.line) from None
-
-
-def input_lines():
-    """The lines of standard input with their numbers."""
-    lines = Lines()
-    return ((lines.number, line) for line in lines)
-
-
-def input_text():
-    """Standard input as text; bytes that aren't UTF-8 stand in no part that is used."""
-    data = sys.stdin.buffer.read()
-    if data.startswith(GZIP):
-        raise Refused(COMPRESSED)
-    if not data.strip():
-        raise Refused("the input is empty")
-    return data.decode("utf-8", errors="replace")
-
-
-def input_json():
-    try:
-        return json.loads(input_text())
-    except (ValueError, RecursionError) as error:
-        raise Refused(f"the input is no JSON: {error}") from None
-
-
-def not_understood(number, line):
-    return Refused(f"line {number} is not understood: {line[:100]!r}")
+            line = self.before + self.text.count("\n", 0, self.at) + 1
+            raise Refused(f"line {line}: {wrong}") from None
 
 
 def member(record, name, kind, absent=None):
@@ -184,12 +324,12 @@ def member(record, name, kind, absent=None):
 
 
 def address_number(text):
-    """The number of an IPv4 address; ValueError or KeyError where the text is none."""
-    first, second, third, fourth = text.split(".")
-    return OCTETS[first] << 24 | OCTETS[second] << 16 | OCTETS[third] << 8 | OCTETS[fourth]
+    """The number of an IPv4 address; OSError or ValueError where the text is none. An address has one text, without
+    leading zeros."""
+    return int.from_bytes(socket.inet_pton(socket.AF_INET, text), "big")
 
 
-@functools.lru_cache(65536)
+@functools.lru_cache(MOST_KNOWN)
 def is_ipv6(text, kind):
     try:
         kind(text)
@@ -203,8 +343,8 @@ def prefix_of(text, trailing_bits=False):
     of the length, no leading zeros; bits past the length only where `trailing_bits` are to be cleared."""
     address, _, length = text.partition("/")
     try:
-        number, past = address_number(address), HOST_BITS[length]
-    except (ValueError, KeyError):
+        number, past = int.from_bytes(socket.inet_pton(socket.AF_INET, address), "big"), HOST_BITS[length]
+    except (OSError, ValueError, KeyError):
         if is_ipv6(text, ipaddress.IPv6Interface if trailing_bits else ipaddress.IPv6Network):
             return None
         raise Wrong(f"{text!r} is no prefix") from None
@@ -220,12 +360,12 @@ def is_prefix(text):
     return prefix_of(text) is not None
 
 
-@functools.lru_cache(65536)
+@functools.lru_cache(MOST_KNOWN)
 def is_address(text):
     """Whether the text is an IPv4 address; False for one of IPv6, and anything else is Wrong."""
     try:
         return address_number(text) is not None
-    except (ValueError, KeyError):
+    except (OSError, ValueError):
         if is_ipv6(text, ipaddress.IPv6Address):
             return False
         raise Wrong(f"{text!r} is no address") from None
@@ -257,6 +397,8 @@ def chosen_first(prefix, paths, notes, valid="valid", best="best"):
 
 def one_each(offers, notes):
     """The offers of a prefix without the further ones of a source, for a feed has one route to a prefix."""
+    if len(offers) == 1:
+        return offers
     first = {}
     for offer in offers:
         if first.setdefault(offer.source, offer) is not offer:
@@ -277,8 +419,9 @@ def preferences(prefix, offers, by_rank):
 def add_lines(files, prefix, offers, by_rank, notes):
     """Adds the offers of a prefix, best first, to the feeds of their sources."""
     offers = one_each(offers, notes)
-    for offer, preference in zip(offers, preferences(prefix, offers, by_rank)):
-        files.lines(offer.source).append(f"add {prefix} {preference} {offer.hop}\n")
+    for (source, hop, _), preference in zip(offers, preferences(prefix, offers, by_rank)):
+        lines = files.waiting.get(source) or files.lines(source)
+        lines.append(f"add {prefix} {preference} {hop}\n")
 
 
 def file_names(sources):
@@ -374,12 +517,17 @@ class FeedFiles:
             print(f"{number} feeds were written; `yarib run` takes at most {MOST_FILES} files", file=sys.stderr)
 
 
-def convert_table(arguments, read):
-    """Converts the table that `read(arguments, notes, files)` gives: each prefix with its offers, best first."""
-    notes = Notes()
+def convert_table(arguments, given, read):
+    """Converts the table that `read(given, arguments, notes)` gives: each prefix with its offers, best first."""
+    notes, met = Notes(), set()
     with FeedFiles(arguments.folder) as files:
-        for prefix, offers in read(arguments, notes, files):
-            add_lines(files, prefix, offers, arguments.by == "rank", notes)
+        given.after_block = files.flush
+        with given.named():
+            for prefix, offers in read(given, arguments, notes):
+                if prefix in met:
+                    raise Refused(f"{prefix} comes twice: that is more than one table, or one that isn't in order")
+                met.add(prefix)
+                add_lines(files, prefix, offers, arguments.by == "rank", notes)
         files.finish(notes)
 
 
@@ -422,7 +570,7 @@ def run(convert, *arguments):
     except (Refused, Wrong, OSError) as error:
         said = f"{name}: {error}"
     except MemoryError:
-        said = f"{name}: the memory is not enough for this input; nothing is written"
+        said = f"{name}: the memory is not enough for this input"
     except KeyboardInterrupt:
         sys.exit(130)
     # what is left to be flushed has nobody to read it

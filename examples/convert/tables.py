@@ -1,4 +1,5 @@
 """What the converters out of a table have in common: the best route of each prefix, as `yarib run` prints it."""
+import functools
 import re
 import sys
 
@@ -51,21 +52,21 @@ def best_routes():
     return best
 
 
-class Links:
-    """The connected networks of a table, in which the next hops of others may lie."""
+def kinds(connected):
+    """What tells the kind of a route with a next hop: whether it lies in one of the connected networks."""
+    networks = {}
+    for prefix in connected:
+        address, _, length = prefix.partition("/")
+        networks.setdefault(feeds.HOST_BITS[length], set()).add(feeds.address_number(address))
 
-    def __init__(self, prefixes):
-        self.networks = {}
-        for prefix in prefixes:
-            address, _, length = prefix.partition("/")
-            self.networks.setdefault(feeds.HOST_BITS[length], set()).add(feeds.address_number(address))
-        self.known = {}
+    @functools.lru_cache(feeds.MOST_KNOWN)
+    def kind(hop):
+        if hop in (feeds.DISCARD, feeds.CONNECTED):
+            return hop
+        number = feeds.address_number(hop)
+        return "via" if any(number & ~past in bases for past, bases in networks.items()) else "outside"
 
-    def has(self, hop):
-        if hop not in self.known:
-            number = feeds.address_number(hop)
-            self.known[hop] = any(number & ~past in bases for past, bases in self.networks.items())
-        return self.known[hop]
+    return kind
 
 
 def devices_of(connected, named):
@@ -93,21 +94,25 @@ def options(documentation):
     return parser
 
 
+def around(pattern, hop):
+    """What a pattern writes before a route's prefix and behind it."""
+    before, _, behind = pattern.partition("{prefix}")
+    return before, behind.format(hop=hop)
+
+
 def convert(patterns, arguments, tell_outside=None, before="", after=""):
     """Writes each best route by the pattern of its kind; connected networks come first, since next hops lie in them."""
+    if sys.stdout is None:
+        raise feeds.Refused("standard output is closed")
     best = best_routes()
     connected = [prefix for prefix, hop in best.items() if hop == feeds.CONNECTED]
     devices = devices_of(connected, arguments.device)
-    links = Links(connected)
-    outside = 0
+    kind = kinds(connected)
+    text = functools.lru_cache(feeds.MOST_KNOWN)(lambda hop: around(patterns[kind(hop)], hop))
     sys.stdout.write(before)
     sys.stdout.writelines(patterns["device"].format(prefix=prefix, device=devices[prefix]) for prefix in connected)
-    for prefix, hop in best.items():
-        if hop == feeds.CONNECTED:
-            continue
-        kind = "discard" if hop == feeds.DISCARD else "via" if links.has(hop) else "outside"
-        outside += kind == "outside"
-        sys.stdout.write(patterns[kind].format(prefix=prefix, hop=hop))
+    sys.stdout.writelines(prefix.join(text(hop)) for prefix, hop in best.items() if hop != feeds.CONNECTED)
     sys.stdout.write(after)
+    outside = sum(kind(hop) == "outside" for hop in best.values())
     if outside and tell_outside:
         print(f"{outside} {tell_outside}", file=sys.stderr)
