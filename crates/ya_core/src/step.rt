@@ -13,7 +13,7 @@ pub enum Mark {
 }
 
 /// One atomic step of one place, as the machine tells it.
-#[derive(Clone, Copy, Debug)]
+#[derive(Clone, Copy, Debug, PartialEq, Eq)]
 pub struct Step {
     /// The place that took the step.
     pub place: usize,
