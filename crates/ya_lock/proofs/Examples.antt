@@ -16,7 +16,7 @@ use Rattle.ya_core.specs.Soundness.{IsSoundState, claims, phase_of}
 use Rattle.ya_core.proofs.Promised.{opens}
 use Rattle.ya_lock.specs.declared.view.View.{View}
 use Rattle.ya_lock.specs.declared.view.View.TheVariants.{Unused, Making, Filling, HandingOut, Seated, Joining, Spent}
-use Rattle.ya_lock.specs.Rule.{index_of, making_index, words_in}
+use Rattle.ya_lock.specs.Rule.{index_of, making_index, words_in, place_of_view, GlobalView, IsBegun, ViewFits, Rule}
 use Rattle.ya_lock.specs.LockState.{IsOf, IsFilling, IsMaking, HasProcess, IsAway, NoneInside, ShowsCore, GoesOn, SomeSeatGoesOn}
 use Rattle.ya_lock.specs.LockState.{OneSeatAPlace, OneInside, IsInSlot, IsFresh, IsMadeByOne, IsLockState}
 use Rattle.ya_lock.proofs.Words.{words_zero, words_behind}
@@ -391,3 +391,64 @@ where_both_are_away = record {
 
 not_where_two_are_inside : ¬ IsLockState raised 1 two_inside
 not_where_two_are_inside h = not_two h.exclusion
+
+-- both places are away, and the row is as long as a lock's
+abbrev both_made : State (std.Option ℕ) (View ℕ)
+both_made = record {
+  words = set (replicate 64 0) (making_index 1) 1;
+  homes = some (Some 7) ∷ [];
+  views = Seated 0 Idle 7 0 ∷ Seated 1 Idle 5 0 ∷ [];
+}
+
+-- the seat of each of the two places, and what all seats together show
+abbrev seats : ℕ → Option ℕ
+seats zero = some 0
+seats (suc zero) = some 1
+seats (suc (suc place)) = none
+
+abbrev both_are_away : GlobalView ℕ
+both_are_away = record { seat_of = seats; processes = λ place. Idle; maker = none; content = some 7 }
+
+its_seat : (place seat : ℕ) → seats place ≡ some seat
+    → (view : View ℕ) × (get_elem? both_made.views seat ≡ some view) × (place_of_view view ≡ some place)
+its_seat zero seat is =
+    subst (λ (n : ℕ). (view : View ℕ) × (get_elem? both_made.views n ≡ some view) × (place_of_view view ≡ some 0)) (some-injective 0 seat is)
+    (Seated 0 Idle 7 0, refl, refl)
+its_seat (suc zero) seat is =
+    subst (λ (n : ℕ). (view : View ℕ) × (get_elem? both_made.views n ≡ some view) × (place_of_view view ≡ some 1)) (some-injective 1 seat is)
+    (Seated 1 Idle 5 0, refl, refl)
+its_seat (suc (suc place)) seat is = absurd (some-ne-none seat (sym is))
+
+has_begun : IsBegun raised 1 both_made both_are_away
+unfolding making_index count_of_words
+has_begun unmade = let clash : 1 ≡ 0 = unmade in omega (arith, clash)
+
+its_view_fits : (seat : ℕ) (view : View ℕ) → get_elem? both_made.views seat ≡ some view → ViewFits raised 1 both_made both_are_away seat view
+its_view_fits zero view at =
+    subst (ViewFits raised 1 both_made both_are_away 0) (some-injective (Seated 0 Idle 7 0) view at) (has_begun, refl, refl, (7, refl, omega arith))
+its_view_fits (suc zero) view at =
+    subst (ViewFits raised 1 both_made both_are_away 1) (some-injective (Seated 1 Idle 5 0) view at) (has_begun, refl, refl, (7, refl, omega arith))
+its_view_fits (suc (suc seat)) view at = absurd (some-ne-none view (sym at))
+
+-- Rule
+once_both_passes_were_made : Rule raised 1 both_made
+unfolding making_index count_of_words
+once_both_passes_were_made = (
+  both_are_away,
+  record {
+    wide = refl;
+    unmade = λ empty. let clash : 1 ≡ 0 = empty in absurd (omega (arith, clash));
+    before = λ given. absurd (some-ne-none 7 given);
+    seated = its_seat;
+    absent = λ place away. refl;
+    sound =
+        subst (λ (words : Word → ℕ). IsSoundState 1 record { words = words; processes = λ place. Idle })
+        (sym (words_behind 1 (making_index 1) (replicate 64 0) 1 (omega arith) ∙ words_zero 1 64)) (opens 1);
+    lies = (λ away. refl, λ place is. cc);
+    fits = its_view_fits;
+  },
+)
+
+not_in_a_row_without_bells : ¬ Rule raised 1 both_away
+unfolding making_index count_of_words
+not_in_a_row_without_bells h = let wide : 41 ≡ 64 = h.1.wide in omega (arith, wide)
