@@ -1,2 +1,3 @@
 -- What the contracts of tests alone speak of.
+pub mod Led
 pub mod Marks

@@ -12,6 +12,10 @@ use std::time::Duration;
 use std::{hint, thread};
 use ya_core::Walker;
 
+mod led;
+mod waits;
+mod wakes;
+
 /// A number that any place may change in any way.
 #[derive(Debug, Drop, PartialEq)]
 struct Number(u64);

@@ -1,0 +1,139 @@
+//! Wakes just when the one to be woken falls asleep.
+ghost use Rattle.std.specs.Prelude.{◌≡◌, ◌<◌, IfOk};
+
+use crate::rule::SPACING;
+use crate::tests::{Number, made};
+use crate::{Pass, TreeLock};
+use std::alloc::Global;
+use std::sync::Wait;
+use std::test::Fail;
+use std::thread::Threads;
+use std::time::{Clock, Duration, Instant};
+use std::{hint, thread};
+
+/// What a place that is inside waits for before it goes out.
+#[derive(Clone, Copy)]
+enum Sign {
+    /// The other has announced itself: it looks at its spin word some times, and then it sleeps.
+    Announced,
+    /// The other has set its bell, and is about to sleep.
+    Bell,
+}
+
+impl Sign {
+    /// Whether that place of two has given the sign.
+    fn is_given(self, lock: &TreeLock<Number, 1>, place: usize) -> bool
+        requires { place < 2 }
+    {
+        let shared = &lock.table.shared;
+        let shape = TreeLock::<Number, 1>::shape();
+        match self {
+            Sign::Announced => shared.peek(SPACING * shape.t(1, 0)) == place as u64 + 1,
+            Sign::Bell => shared.peek(TreeLock::<Number, 1>::bell(place)) == 1,
+        }
+    }
+
+    /// Waits until that place of two gives the sign, though not for long where it doesn't come. Whether it came.
+    fn wait(self, lock: &TreeLock<Number, 1>, place: usize) -> bool
+        requires { place < 2 }
+    {
+        for _ in 0..20_000 {
+            if self.is_given(lock, place) {
+                return true;
+            }
+            hint::spin_loop();
+        }
+        false
+    }
+}
+
+/// As many pauses.
+fn pause(times: usize) {
+    for _ in 0..times {
+        hint::spin_loop();
+    }
+}
+
+/// The sign that a place waits for this time, and how many pauses it makes after it: now until the other is about to
+/// look for the last time, a little more or less each time, and now until it is about to sleep.
+fn sign_of(round: usize) -> (Sign, usize) {
+    if round % 2 == 0 {
+        (Sign::Bell, round / 2 % 64)
+    } else {
+        (Sign::Announced, round / 2 % 1024)
+    }
+}
+
+/// Enters for two seconds, and goes out just when the other place falls asleep. How often the other gave the sign.
+fn wake_often<R: Wait + Clock>(rt: &R, lock: &TreeLock<Number, 1>, pass: Pass<Number>) -> usize
+    requires { pass.lock ≡ lock.now }
+{
+    let Ok(start) = Instant::now(rt) else {
+        return 0;
+    };
+    let mut pass = pass;
+    let mut given = 0usize;
+    for round in 0..usize::MAX {
+        if !is_early(rt, start) {
+            break;
+        }
+        let (more, back) = wake_once(rt, lock, pass, round);
+        if more {
+            given = given.wrapping_add(1);
+        }
+        pass = back;
+    }
+    given
+}
+
+/// Whether two seconds haven't passed.
+fn is_early<R: Clock>(rt: &R, start: Instant) -> bool {
+    start
+        .elapsed(rt)
+        .is_ok_and(|past| past < Duration::from_secs(2))
+}
+
+/// Enters without a nap at the door, and goes out just when the other place falls asleep. Whether it gave the sign.
+fn wake_once<R: Wait>(
+    rt: &R,
+    lock: &TreeLock<Number, 1>,
+    pass: Pass<Number>,
+    round: usize,
+) -> (bool, Pass<Number>)
+    requires { pass.lock ≡ lock.now }
+    ensures { result.1.lock ≡ lock.now }
+{
+    let mut pass = pass;
+    pass.crowded = 0;
+    let guard = lock.enter(rt, pass);
+    let other = if guard.place() == 0 { 1 } else { 0 };
+    let (sign, pauses) = sign_of(round);
+    let given = sign.wait(lock, other);
+    pause(pauses);
+    (given, lock.leave(guard))
+}
+
+/// How often each of two places gave the other a sign.
+fn wake_each_other<R: Threads + Wait + Clock + Sync>(
+    rt: &R,
+    alloc: Global,
+) -> Result<(usize, usize), Fail> {
+    let (lock, mut passes) = made::<Number, 1>(alloc, Number(0))?;
+    let second = passes.pop().ok_or("a second pass")?;
+    let first = passes.pop().ok_or("a first pass")?;
+    let shared = &lock;
+    Ok(thread::join(
+        rt,
+        move || wake_often(rt, shared, first),
+        move || wake_often(rt, shared, second),
+    ))
+}
+
+/// Fails where a waker wakes without storing 0 in the bell, or before it stores it, and where a place parks on its bell
+/// without a second look: it hangs.
+#[test]
+fn a_place_that_falls_asleep_is_woken(rt: HostRuntime) -> Result<(), Fail> {
+    let (first, second) = wake_each_other(&rt, rt.alloc())?;
+    assert!(rt; first > 100 && second > 100, "{first} and {second} signs");
+    Ok(())
+}
