@@ -3,6 +3,7 @@ ghost use Rattle.std.specs.Prelude.{◌≡◌, ◌≢◌, ℕ, ◌+◌, ◌^◌,
 ghost use Rattle.ya_lock.specs.tests.Marks.{MarksGrow, MarksAdded, marks_grow_same, marks_added_same, marks_grow_by_other};
 
 use crate::{Kept, NoMemory, Pass, TreeLock};
+use led::LedPlace;
 use std::alloc::Global;
 use std::rt::{Clock, CpuClock};
 use std::sync::Wait;
@@ -10,7 +11,6 @@ use std::test::Fail;
 use std::thread::Threads;
 use std::time::Duration;
 use std::{hint, thread};
-use ya_core::Walker;
 
 mod led;
 mod waits;
@@ -294,30 +294,17 @@ fn no_wake_is_lost(rt: HostRuntime) -> Result<(), Fail> {
     Ok(())
 }
 
-/// Comes in so slowly that a rival which finds it there sleeps until it has announced itself.
-fn come_slowly<R: Wait + Clock>(rt: &R, lock: &TreeLock<Marks, 1>, pass: Pass<Marks>) -> bool
-    requires { pass.lock ≡ lock.now }
+/// Looks, for ten seconds at most, until the other place sleeps, and then announces itself and comes in. Whether the other
+/// slept, and then competed.
+fn come_late<R: Wait + Clock>(rt: &R, lock: &TreeLock<Marks, 1>, led: LedPlace<Marks, 1>) -> bool
+    requires { led ≡ lock.now }
 {
-    let _ = &lock.table;
-    let Pass {
-        mut seat,
-        place,
-        remote: _,
-        seen,
-        crowded: _,
-    } = pass;
-    let mut walker = Walker::new(TreeLock::<Marks, 1>::shape(), place);
-    walker.begin_entry();
-    lock.entry_step(&mut seat, &mut walker, &seen);
-    thread::sleep(rt, Duration::from_millis(50));
-    lock.entry_step(&mut seat, &mut walker, &seen);
-    lock.entry_step(&mut seat, &mut walker, &seen);
-    lock.entry_step(&mut seat, &mut walker, &seen);
-    let competes = lock.progress(&seat, &walker, &seen).is_none();
-    if competes {
-        let _ = lock.compete(rt, &mut seat, place, walker, &seen);
-    }
-    competes
+    let slept = (0..10_000).any(|_| {
+        thread::sleep(rt, Duration::from_millis(1));
+        led::sleeps(lock, 1)
+    });
+    let competed = led.advance(lock, 3).compete(rt, lock);
+    slept && competed
 }
 
 /// Is inside for a fifth of a second.
@@ -370,9 +357,13 @@ fn both_come_in<R: Threads + Wait + Clock + CpuClock + Sync>(
     let second = passes.pop().ok_or("a second pass")?;
     let first = passes.pop().ok_or("a first pass")?;
     let shared = &lock;
+    // It competes, so that the other waits for it, and hasn't announced itself.
+    let led = LedPlace::begin(shared, first).advance(shared, 1);
     let (competed, time) = thread::join(
         rt,
-        move || come_slowly(rt, shared, first),
+        move || -> bool
+            requires { led ≡ shared.now }
+        { come_late(rt, shared, led) },
         move || time_of(rt, shared, second),
     );
     Ok(competed && time.is_some())

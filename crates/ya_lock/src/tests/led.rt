@@ -1,5 +1,5 @@
 //! Places that are led in by hand, an access at a time.
-ghost use Rattle.std.specs.Prelude.{◌≡◌, IfSome};
+ghost use Rattle.std.specs.Prelude.{◌≡◌, ◌^◌, ◌<◌, IfSome};
 
 use crate::ghost_value::GhostValue;
 use crate::passage::EntryProgress;
@@ -9,6 +9,14 @@ use std::marker::Model;
 use std::sync::Wait;
 use std::time::{CpuClock, Duration};
 use ya_core::{EntryPoint, Process, Walker};
+
+/// Whether that place sleeps, or is about to.
+pub(crate) fn sleeps<V: Kept + Drop, const L: u32>(lock: &TreeLock<V, L>, place: usize) -> bool
+    requires { place < 2 ^ L }
+{
+    let shared = &lock.table.shared;
+    shared.peek(TreeLock::<V, L>::bell(place)) == 1
+}
 
 /// A place on its way in, which makes its accesses when it is told to. Contracts see its lock.
 #[derive(Drop)]
@@ -92,6 +100,23 @@ impl<V: Kept + Drop, const L: u32> LedPlace<V, L> {
             walker,
             seen,
         }
+    }
+
+    /// Competes with a rival that it found, and comes inside where no level is above. Whether it found one.
+    pub(crate) fn compete<R: Wait>(self, rt: &R, lock: &TreeLock<V, L>) -> bool
+        requires { self ≡ lock.now }
+    {
+        let LedPlace {
+            mut seat,
+            place,
+            walker,
+            seen,
+        } = self;
+        let Process::Entering(_, EntryPoint::E5(_)) = walker.process() else {
+            return false;
+        };
+        let _ = lock.compete(rt, &mut seat, place, walker, &seen);
+        true
     }
 
     /// The processor time that it takes to wait to be let in at its level, or nothing where it isn't at that wait.

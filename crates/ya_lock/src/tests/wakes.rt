@@ -2,6 +2,7 @@
 ghost use Rattle.std.specs.Prelude.{◌≡◌, ◌<◌, IfOk};
 
 use crate::rule::SPACING;
+use crate::tests::led::sleeps;
 use crate::tests::{Number, made};
 use crate::{Pass, TreeLock};
 use std::alloc::Global;
@@ -29,7 +30,7 @@ impl Sign {
         let shape = TreeLock::<Number, 1>::shape();
         match self {
             Sign::Announced => shared.peek(SPACING * shape.t(1, 0)) == place as u64 + 1,
-            Sign::Bell => shared.peek(TreeLock::<Number, 1>::bell(place)) == 1,
+            Sign::Bell => sleeps(lock, place),
         }
     }
 
@@ -54,13 +55,16 @@ fn pause(times: usize) {
     }
 }
 
+/// How many pauses a place makes between its first look at its spin word and its last before it sleeps.
+const PAUSES: usize = 575;
+
 /// The sign that a place waits for this time, and how many pauses it makes after it: now until the other is about to
-/// look for the last time, a little more or less each time, and now until it is about to sleep.
+/// sleep, and now until it is about to look for the last time, a little more or less each time.
 fn sign_of(round: usize) -> (Sign, usize) {
     if round % 2 == 0 {
         (Sign::Bell, round / 2 % 64)
     } else {
-        (Sign::Announced, round / 2 % 1024)
+        (Sign::Announced, PAUSES - 75 + round / 2 % 200)
     }
 }
 
@@ -134,6 +138,6 @@ fn wake_each_other<R: Threads + Wait + Clock + Sync>(
 #[test]
 fn a_place_that_falls_asleep_is_woken(rt: HostRuntime) -> Result<(), Fail> {
     let (first, second) = wake_each_other(&rt, rt.alloc())?;
-    assert!(rt; first > 100 && second > 100, "{first} and {second} signs");
+    assert!(rt; first > 10 && second > 10, "{first} and {second} signs");
     Ok(())
 }

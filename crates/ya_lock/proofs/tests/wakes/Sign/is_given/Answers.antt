@@ -1,6 +1,6 @@
 use Rattle.std.proofs.Common.{arith, ℕ, ◌*◌, ◌<◌, ◌≤◌, subst}
 use Rattle.ya_core.specs.ArbitrationTree.{count_of_words}
-use Rattle.ya_lock.proofs.TreeSize.{word_fits, word_in_row, bell_in}
+use Rattle.ya_lock.proofs.TreeSize.{word_fits, word_in_row}
 use Rattle.ya_lock.proofs.tests.wakes.Sign.is_given.Goals as goal
 
 pub overflow_mul-t : goal.overflow_mul-t
@@ -13,8 +13,3 @@ pub peek-requires : goal.peek-requires
 peek-requires c =
     word_in_row c.lock.inside.table.shared.table_id 1 c.t.result c.lock.invariant.words
     (subst (λ (l : ℕ). c.t.result < count_of_words l) c.shape-shape.ensures c.t.ensures.within)
-
-pub peek-requires-in-Bell : goal.peek-requires-in-Bell
-peek-requires-in-Bell c =
-    bell_in c.lock.inside.table.shared.table_id 1 c.args.place c.bell.result c.lock.invariant.words c.requires
-    c.bell.ensures
