@@ -10,8 +10,8 @@ use Rattle.ya_core.specs.Steps.{opening}
 use Rattle.rt_rib.specs.declared.routes.Hop.TheVariants.{Discard}
 use Rattle.rt_rib.specs.declared.routes.Route.{Route}
 use Rattle.rt_rib.specs.declared.commands.Cmd.{Cmd}
-use Rattle.rt_rib.specs.declared.commands.Cmd.TheVariants.{Add, Dump, Purge}
-use Rattle.rt_rib.specs.declared.commands.Reply.TheVariants.{Added, Exists, Full, Missing, Dumped}
+use Rattle.rt_rib.specs.declared.commands.Cmd.TheVariants.{Add, Withdraw, Dump, Purge}
+use Rattle.rt_rib.specs.declared.commands.Reply.TheVariants.{Added, Exists, Full, Withdrawn, Missing, Dumped}
 use Rattle.rt_rib.specs.declared.commands.Entry.{Entry}
 use Rattle.rt_rib.specs.Sequential.{reply_of, table_after}
 use Rattle.rt_rib.specs.Journal.{table_of_journal, IsAnswered, IsLawfulJournal}
@@ -97,6 +97,18 @@ as_if_there_were_no_other (x ∷ y ∷ earlier) later cmd outcome same own = cc
 not_otherwise : ¬ IsAnsweredAlone 1 2 ((Add ten_8 5 Discard, Did Exists) ∷ [])
 unfolding table_alone reply_of
 not_otherwise h = let same = h [] [] (Add ten_8 5 Discard) (Did Exists) refl refl in cc
+
+not_a_second_route_where_one_is_the_limit :
+    ¬ IsAnsweredAlone 1 2 ((Add ten_8 5 Discard, Did Added) ∷ (Add ten_9_16 5 Discard, Did Added) ∷ [])
+unfolding table_alone table_after reply_of
+not_a_second_route_where_one_is_the_limit h =
+    let same = h ((Add ten_8 5 Discard, Did Added) ∷ []) [] (Add ten_9_16 5 Discard) (Did Added) refl refl in cc
+
+nor_its_withdrawal :
+    ¬ IsAnsweredAlone 1 2 ((Add ten_8 5 Discard, Did Added) ∷ (Add ten_9_16 5 Discard, Did Full) ∷ (Withdraw ten_9_16, Did Withdrawn) ∷ [])
+unfolding table_alone table_after reply_of
+nor_its_withdrawal h =
+    let same = h ((Add ten_8 5 Discard, Did Added) ∷ (Add ten_9_16 5 Discard, Did Full) ∷ []) [] (Withdraw ten_9_16) (Did Withdrawn) refl refl in cc
 
 -- reports_text
 the_second_is_of_feed_2 : reports_text 1 ([] ∷ (record { number = 1; answer = answer.Refused } ∷ []) ∷ []) ≡ codes "2:1 refused\n"
@@ -420,6 +432,9 @@ not_by_an_empty_journal h = no_entry h.pieces h.cut.whole h.cut.last h.cut.full 
 each_by_its_feed : ExplainsFrom 1 1 tutorial (north ∷ south ∷ east ∷ []) (north_read ∷ (skipped ∷ south_read) ∷ (skipped ∷ east_read) ∷ [])
 each_by_its_feed = (the_lines_of_north, (the_lines_of_south, (the_lines_of_east, tt)))
 
+no_lines_of_no_text : ¬ ExplainsFrom 1 1 tutorial [] (north_read ∷ [])
+no_lines_of_no_text h = h
+
 no_text_left_out : ¬ ExplainsFrom 1 1 tutorial (north ∷ []) []
 no_text_left_out h = h
 
@@ -595,37 +610,37 @@ no_bytes_lost_where_the_table_could_not_be_written : ¬ LeavesShown (text ∷ []
 no_bytes_lost_where_the_table_could_not_be_written (bytes, taken, is, begins) = let lost : [] ≡ 120 ∷ take begins.count bytes = begins.appended in cc
 
 -- EndsInUnion
-a_run_with_a_faulty_line_ends_in_the_union :
-    EndsInUnion → (texts : List (List ℕ)) (limit batch : ℕ) (bytes : List ℕ) (run : IsRunText texts limit batch bytes 2)
+a_run_in_batches_of_512_ends_in_the_union :
+    EndsInUnion → (texts : List (List ℕ)) (limit : ℕ) (bytes : List ℕ) (status : ℕ) (run : IsRunText texts limit 512 bytes status) → status ≢ 5
     → (union : List Route) × IsUnion texts limit union × (bytes ≡ printed_reports run.outcomes ++ table_text union)
-a_run_with_a_faulty_line_ends_in_the_union law texts limit batch bytes run = law texts limit batch bytes 2 run (λ same. omega (arith, same))
+a_run_in_batches_of_512_ends_in_the_union law texts limit bytes status run done = law texts limit 512 bytes status run done
 
 -- AnswersAlone
 its_replies_are_as_if_alone :
-    AnswersAlone → (texts : List (List ℕ)) (limit batch : ℕ) (bytes : List ℕ) (run : IsRunText texts limit batch bytes 2) (k : ℕ) (lines : List LineOutcome)
-    → slice_get run.outcomes k ≡ Some lines → IsAnsweredAlone limit (k + 1) (asked_of lines)
-its_replies_are_as_if_alone law texts limit batch bytes run = law texts limit batch bytes 2 run (λ same. omega (arith, same))
+    AnswersAlone → (texts : List (List ℕ)) (limit : ℕ) (bytes : List ℕ) (status : ℕ) (run : IsRunText texts limit 512 bytes status) → status ≢ 5
+    → (k : ℕ) (lines : List LineOutcome) → slice_get run.outcomes k ≡ Some lines → IsAnsweredAlone limit (k + 1) (asked_of lines)
+its_replies_are_as_if_alone law texts limit bytes status run done = law texts limit 512 bytes status run done
 
 -- EndInOneTable
 batches_of_1_and_of_512_end_in_one_table :
-    EndInOneTable → (texts : List (List ℕ)) (limit : ℕ) (bytes bytes' : List ℕ) (run : IsRunText texts limit 1 bytes 0) (run' : IsRunText texts limit 512 bytes' 2)
+    EndInOneTable → (texts : List (List ℕ)) (limit : ℕ) (bytes bytes' : List ℕ) (status status' : ℕ)
+    (run : IsRunText texts limit 1 bytes status) (run' : IsRunText texts limit 512 bytes' status') → status ≢ 5 → status' ≢ 5
     → (table : List Route) × (bytes ≡ printed_reports run.outcomes ++ table_text table) × (bytes' ≡ printed_reports run'.outcomes ++ table_text table)
-batches_of_1_and_of_512_end_in_one_table law texts limit bytes bytes' run run' =
-    law texts limit 1 512 bytes bytes' 0 2 run run' (λ same. omega (arith, same)) (λ same. omega (arith, same))
+batches_of_1_and_of_512_end_in_one_table law texts limit bytes bytes' status status' run run' done done' =
+    law texts limit 1 512 bytes bytes' status status' run run' done done'
 
 -- ShowsUnion
 what_is_told_is_told_of_the_union :
-    ShowsUnion → (texts : List (List ℕ)) (limit batch : ℕ) (text_of : List Route → List ℕ) (bytes : List ℕ) (taken : Taken)
-    → IsShown texts limit batch text_of bytes taken → taken.status ≡ 2 → (union : List Route) × IsUnion texts limit union × (bytes ≡ text_of union)
-what_is_told_is_told_of_the_union law texts limit batch text_of bytes taken shown is =
-    law texts limit batch text_of bytes taken shown (λ same. omega (arith, is, same))
+    ShowsUnion → (texts : List (List ℕ)) (limit : ℕ) (text_of : List Route → List ℕ) (bytes : List ℕ) (taken : Taken)
+    → IsShown texts limit 512 text_of bytes taken → taken.status ≢ 5 → (union : List Route) × IsUnion texts limit union × (bytes ≡ text_of union)
+what_is_told_is_told_of_the_union law texts limit text_of bytes taken shown done = law texts limit 512 text_of bytes taken shown done
 
 -- ShowOneTable
 batches_of_1_and_of_512_tell_the_same :
     ShowOneTable → (texts : List (List ℕ)) (limit : ℕ) (text_of : List Route → List ℕ) (bytes bytes' : List ℕ) (taken taken' : Taken)
-    → IsShown texts limit 1 text_of bytes taken → IsShown texts limit 512 text_of bytes' taken' → taken.status ≡ 0 → taken'.status ≡ 2 → bytes ≡ bytes'
-batches_of_1_and_of_512_tell_the_same law texts limit text_of bytes bytes' taken taken' shown shown' is is' =
-    law texts limit 1 512 text_of bytes bytes' taken taken' shown shown' (λ same. omega (arith, is, same)) (λ same. omega (arith, is', same))
+    → IsShown texts limit 1 text_of bytes taken → IsShown texts limit 512 text_of bytes' taken' → taken.status ≢ 5 → taken'.status ≢ 5 → bytes ≡ bytes'
+batches_of_1_and_of_512_tell_the_same law texts limit text_of bytes bytes' taken taken' shown shown' done done' =
+    law texts limit 1 512 text_of bytes bytes' taken taken' shown shown' done done'
 
 -- IsReplayText
 nothing_picked : IsReplayText 1 [] (codes "inside none\n")
