@@ -35,41 +35,31 @@ fn look_up_two<A: Allocator + Copy>(trie: &Trie<u32, A>, p: Prefix) {
 /// A trie whose requests for memory are counted.
 type CountedTrie<'m> = Trie<u32, &'m Counted<Global>>;
 
-/// So often was memory asked for until now, and the call at this prefix did not ask for it.
-fn assert_asked(rt: &impl Abort, memory: &Counted<Global>, asked: u64, call: &str, text: &str) {
-    assert_eq!(rt; memory.asked(), asked, "{call} {text}");
-}
-
-/// How many pairs a walk shows.
-fn walked(trie: &CountedTrie<'_>) -> usize {
-    trie.walk().count()
-}
-
 /// Each call at a prefix that changes no more than a value.
 fn call_at(rt: &impl Abort, memory: &Counted<Global>, trie: &mut CountedTrie<'_>, text: &str) {
     let asked = memory.asked();
     let p = prefix(rt, text);
     let is_stored = trie.get(p).is_some();
-    assert_asked(rt, memory, asked, "get", text);
+    assert_eq!(rt; memory.asked(), asked, "get {text}");
     assert_eq!(rt; trie.get_mut(p).is_some(), is_stored);
-    assert_asked(rt, memory, asked, "get_mut", text);
+    assert_eq!(rt; memory.asked(), asked, "get_mut {text}");
     assert!(rt; trie.longest(Addr(p.base())).is_some());
-    assert_asked(rt, memory, asked, "longest", text);
+    assert_eq!(rt; memory.asked(), asked, "longest {text}");
     look_up_two(trie, p);
-    assert_asked(rt, memory, asked, "longest_many", text);
+    assert_eq!(rt; memory.asked(), asked, "longest_many {text}");
     let _ = trie.after(p);
-    assert_asked(rt, memory, asked, "after", text);
+    assert_eq!(rt; memory.asked(), asked, "after {text}");
 }
 
 /// The calls that are of the whole trie, or change nothing.
 fn call_at_whole(rt: &impl Abort, memory: &Counted<Global>, trie: &CountedTrie<'_>) {
     let asked = memory.asked();
     assert_eq!(rt; (trie.len(), trie.nodes()), (6, 7));
-    assert_asked(rt, memory, asked, "len and nodes", "");
-    assert_eq!(rt; walked(trie), 6);
-    assert_asked(rt, memory, asked, "walk", "");
+    assert_eq!(rt; memory.asked(), asked, "len and nodes");
+    assert_eq!(rt; trie.walk().count(), 6);
+    assert_eq!(rt; memory.asked(), asked, "walk");
     assert!(rt; trie.first().is_some());
-    assert_asked(rt, memory, asked, "first", "");
+    assert_eq!(rt; memory.asked(), asked, "first");
 }
 
 /// Fails where `Trie::new`, `get`, `longest`, `longest_many`, `remove` or an `insert` of a stored prefix asks for
@@ -86,19 +76,19 @@ fn nothing_but_a_new_prefix_asks_for_memory(rt: HostRuntime) {
         call_at(&rt, &memory, &mut trie, text);
         let asked = memory.asked();
         assert_eq!(&rt; trie.insert(prefix(&rt, text), 2), Ok(Some(1)));
-        assert_asked(&rt, &memory, asked, "insert again", text);
+        assert_eq!(&rt; memory.asked(), asked, "insert {text} again");
     }
     for text in ABSENT.iter() {
         call_at(&rt, &memory, &mut trie, text);
         let asked = memory.asked();
         assert_eq!(&rt; trie.remove(prefix(&rt, text)), None);
-        assert_asked(&rt, &memory, asked, "remove", text);
+        assert_eq!(&rt; memory.asked(), asked, "remove {text}");
     }
     call_at_whole(&rt, &memory, &trie);
     let asked = memory.asked();
     for text in STORED.iter() {
         assert_eq!(&rt; trie.remove(prefix(&rt, text)), Some(2));
-        assert_asked(&rt, &memory, asked, "remove", text);
+        assert_eq!(&rt; memory.asked(), asked, "remove {text}");
     }
 }
 
@@ -174,7 +164,7 @@ fn look_up_each(rt: &impl Abort, alloc: Global, trie: &CountedTrie<'_>) -> Resul
 /// A walk over the large trie.
 fn walk_many(rt: &impl Abort, trie: &CountedTrie<'_>) {
     assert_eq!(rt; trie.len(), MANY as usize);
-    assert_eq!(rt; walked(trie), MANY as usize);
+    assert_eq!(rt; trie.walk().count(), MANY as usize);
 }
 
 /// Fails where `retain` asks for a block beyond 100 prefixes, `longest_many` beyond 64 addresses, a walk or `remove`
@@ -186,20 +176,20 @@ fn a_large_trie_asks_for_its_nodes_alone(rt: HostRuntime) -> Result<(), Fail> {
     fill_many(&rt, &memory, &mut trie);
     let asked = memory.asked();
     call_at_each(&rt, &mut trie);
-    assert_asked(&rt, &memory, asked, "a call at a stored prefix", "");
+    assert_eq!(&rt; memory.asked(), asked, "a call at a stored prefix");
     look_up_each(&rt, rt.alloc(), &trie)?;
-    assert_asked(&rt, &memory, asked, "longest_many", "");
+    assert_eq!(&rt; memory.asked(), asked, "longest_many");
     walk_many(&rt, &trie);
-    assert_asked(&rt, &memory, asked, "walk", "");
+    assert_eq!(&rt; memory.asked(), asked, "walk");
     for k in 0..MANY / 2 {
         assert_eq!(&rt; trie.remove(numbered_prefix(&rt, k)), Some(k));
     }
-    assert_asked(&rt, &memory, asked, "remove", "");
+    assert_eq!(&rt; memory.asked(), asked, "remove");
     trie.retain(&mut OfLength { len: 24 });
     assert_eq!(&rt; trie.len(), (MANY / 2) as usize);
     trie.retain(&mut OfLength { len: 8 });
     assert_eq!(&rt; trie.len(), 0);
-    assert_asked(&rt, &memory, asked, "retain", "");
+    assert_eq!(&rt; memory.asked(), asked, "retain");
     Ok(())
 }
 
