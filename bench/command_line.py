@@ -11,12 +11,10 @@ with a model of the tree, written from docs/FORMATS.md. How many commands are as
 import math
 import os
 import pathlib
-import pty
 import random
 import subprocess
 import sys
 import tempfile
-import tty
 
 from hostile import ROW, ROW_OUT, TOP, built, close_all, expect, failures, run
 
@@ -509,58 +507,6 @@ def closed_outputs(yarib):
         expect(f"{words} to a closed output", run([yarib, *words], stdout=None, preexec_fn=lambda: os.close(1)), wanted)
 
 
-# The line of --progress
-
-ERASED = "\r" + " " * 32 + "\r"
-
-
-def on_terminal(words, out_too=False):
-    """Status, standard output, and what a terminal as standard error is sent, to the byte; it may be standard output too."""
-    screen, terminal = pty.openpty()
-    tty.setraw(terminal)
-    child = subprocess.Popen(words, stdout=terminal if out_too else subprocess.PIPE, stderr=terminal)
-    os.close(terminal)
-    out = child.communicate(timeout=120)[0] or b""
-    sent = b""
-    while piece := sent_to(screen):
-        sent += piece
-    os.close(screen)
-    return child.returncode, out.decode(), sent.decode()
-
-
-def sent_to(screen):
-    """What the terminal was sent and wasn't read yet; nothing once nobody can write to it."""
-    try:
-        return os.read(screen, 65_536)
-    except OSError:
-        return b""
-
-
-def progress(yarib):
-    erased = lambda *texts: "".join(f"yarib: {text}{ERASED}" for text in texts)
-    whole = erased("files read: 0 of 2", "files read: 1 of 2", "feeds running: 2")
-    two = [yarib, "run", "row.feed", "row.feed"]
-    out = "1:1 added\n2:1 added\n" + table(route(1), route(2))
-    line = [*two, "--progress"]
-    expect("--progress", on_terminal(line), (0, out, whole + erased("writing")))
-    expect("--progress, both outputs the terminal", on_terminal(line, out_too=True), (0, "", whole + out))
-    expect("--progress, no terminal", run(line), (0, out, ""))
-    expect("no --progress", on_terminal(two), (0, out, ""))
-    expect("no --progress, both outputs the terminal", on_terminal(two, out_too=True), (0, "", out))
-    one = erased("files read: 0 of 1", "feeds running: 1")
-    fault = "yarib: faulty.feed: faulty lines: 1, the first 1: E1: the first field is no command\n"
-    expect("--progress, nothing to write", on_terminal([yarib, "table", "--progress", "faulty.feed"]), (2, "", one + fault))
-    asked = [yarib, "lookup", "--progress", "--address", "10.0.0.1", "faulty.feed"]
-    expect("--progress of a look-up", on_terminal(asked), (2, "10.0.0.1 no route\n", one + erased("writing") + fault))
-    missing = on_terminal([yarib, "run", "--progress", "row.feed", "missing"])
-    expect("--progress, a missing file", missing, (4, "", erased("files read: 0 of 2", "files read: 1 of 2") + "yarib: cannot read missing\n"))
-    expect("--progress of 65 files", on_terminal([yarib, "table", "--progress", *["missing"] * 65]), (3, "", "yarib: more than 64 files\n"))
-    pathlib.Path("long.feed").write_text(ROW * 100_000)
-    added = "1:1 added\n" + "".join(f"1:{number} exists\n" for number in range(2, 100_001)) + table(route(1))
-    expect("--progress, a long output", on_terminal([yarib, "run", "--progress", "long.feed"]), (0, added, one + erased("writing")))
-    misused("--progress of a replay", run([yarib, "replay", "--progress", "--levels", "1"]), "--progress")
-
-
 def main():
     program = built(sys.argv[1:])
     with tempfile.TemporaryDirectory() as apart, tempfile.TemporaryDirectory() as folder:
@@ -570,7 +516,7 @@ def main():
         os.chdir(folder)
         for name, text in (("row", ROW), ("empty", ""), ("faulty", "frob\n")):
             pathlib.Path(f"{name}.feed").write_text(text)
-        for rows in (file_order, many_files, unreadable, names, texts, limits, batches, twice, replays, finished_tables, not_taken, pages, help_is_true, closed_outputs, progress):
+        for rows in (file_order, many_files, unreadable, names, texts, limits, batches, twice, replays, finished_tables, not_taken, pages, help_is_true, closed_outputs):
             rows(yarib)
             print(f"{rows.__name__.replace('_', ' ')}: done", flush=True)
         os.chdir("/")

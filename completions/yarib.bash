@@ -10,9 +10,9 @@ _yarib() {
     run:--limit | run:--batch | lookup:--limit | lookup:--batch | lookup:--address | table:--limit | table:--batch | replay:--levels) return ;;
   esac
   case ${COMP_WORDS[1]} in
-    run) options="--limit --batch --progress --help" ;;
-    lookup) options="--address --addresses --limit --batch --progress --help" ;;
-    table) options="--best --limit --batch --progress --help" ;;
+    run) options="--limit --batch --help" ;;
+    lookup) options="--address --addresses --limit --batch --help" ;;
+    table) options="--best --limit --batch --help" ;;
     replay) options="--levels --help" ;;
     help) options="run lookup table replay" ;;
     *) return ;;

@@ -196,8 +196,6 @@ pub struct RunRequest<'a> {
     pub batch: u32,
     /// The names of the feed files.
     pub files: Vec<&'a str>,
-    /// Whether a terminal is told how far the run has come.
-    pub progress: bool,
     pub ghost some_routes: { 1 ≤ limit },
     pub ghost few_routes: { limit ≤ 1000000 },
     pub ghost batched: { 1 ≤ batch },
@@ -302,7 +300,6 @@ fn run_command<'a>(alloc: Global) -> Result<Command<'a>, AllocError> {
         .after_help(RUN_NOTES)
         .arg(limit(alloc))?
         .arg(batch(alloc, DEFAULT_BATCH))?
-        .arg(progress(alloc))?
         .arg(files(alloc))
 }
 
@@ -312,7 +309,6 @@ fn lookup_command<'a>(alloc: Global) -> Result<Command<'a>, AllocError> {
         .after_help(LOOKUP_NOTES)
         .arg(limit(alloc))?
         .arg(batch(alloc, UNSEEN_BATCH))?
-        .arg(progress(alloc))?
         .arg(address(alloc))?
         .arg(addresses(alloc))?
         .arg(files(alloc))
@@ -325,7 +321,6 @@ fn table_command<'a>(alloc: Global) -> Result<Command<'a>, AllocError> {
         .arg(best(alloc))?
         .arg(limit(alloc))?
         .arg(batch(alloc, UNSEEN_BATCH))?
-        .arg(progress(alloc))?
         .arg(files(alloc))
 }
 
@@ -361,19 +356,12 @@ fn batch<'a>(alloc: Global, unless_given: &'a str) -> Arg<'a> {
     number(alloc, "batch", "K", 1, 1024, help).default_value(unless_given)
 }
 
-fn progress<'a>(alloc: Global) -> Arg<'a> {
-    Arg::new(alloc, "progress")
-        .long("progress")
-        .action(ArgAction::SetTrue)
-        .help("Say on standard error how far the run has come, if it is a terminal")
-}
-
 fn files<'a>(alloc: Global) -> Arg<'a> {
     Arg::new(alloc, "files")
         .value_name("FILE")
         .required(true)
         .num_args(1..)
-        .help("Feed files, 1 to 64: one command a line; /dev/stdin may be one")
+        .help("Feed files, 1 to 64: one command a line")
 }
 
 fn replay_command<'a>(alloc: Global) -> Result<Command<'a>, AllocError> {
@@ -458,7 +446,6 @@ fn run_request<'a>(alloc: Global, asked: &ArgMatches<'a>) -> Result<RunRequest<'
         limit,
         batch,
         files,
-        progress: asked.get_flag("progress"),
     })
 }
 

@@ -2,13 +2,12 @@
 //!
 //! [`run_words`] is the program over its words. It has the command line read by `command_line`, reads the files, calls
 //! `rt_run` for what is asked, and turns each outcome into an exit status and a text on standard error. All of this is only
-//! tested; what is written of runs and replays is proved in `rt_run`. [`run_words_on`] also tells a terminal, where it is
-//! asked to, how far the run has come.
+//! tested; what is written of runs and replays is proved in `rt_run`.
 #![tactic(auto)]
 
 mod program;
 
-pub use program::{Terminals, run_words, run_words_on};
+pub use program::run_words;
 use rt_cidr::put;
 pub use rt_feed::RunFault;
 pub use rt_run::{
@@ -16,7 +15,7 @@ pub use rt_run::{
 };
 use std::alloc::Global;
 use std::env;
-use std::io::{self, ErrorKind, IsTerminal, Write};
+use std::io::{self, ErrorKind, Write};
 use std::process::ExitCode;
 
 fn main(rt: HostRuntime) -> ExitCode {
@@ -27,13 +26,7 @@ fn main(rt: HostRuntime) -> ExitCode {
         Ok(words) => words,
         Err(fault) => return ExitCode::from(tell_words_fault(&fault, &mut err)),
     };
-    let terminals = Terminals {
-        out: stdout.is_terminal(),
-        err: stderr.is_terminal(),
-    };
-    let words = words.as_slice();
-    let status = run_words_on(&rt, alloc, words, terminals, &mut out, &mut err);
-    ExitCode::from(status)
+    ExitCode::from(run_words(&rt, alloc, words.as_slice(), &mut out, &mut err))
 }
 
 fn read_words(rt: &HostRuntime, alloc: Global) -> io::Result<Vec<String>> {

@@ -1,6 +1,5 @@
 //! The program over its words: reads the files, runs them, and turns each outcome into a status and a text.
 
-mod screen;
 mod showing;
 mod telling;
 
@@ -11,8 +10,6 @@ use command_line::{Refusal, ReplayRequest, Request, RunRequest};
 use rt_cidr::put;
 use rt_feed::RunFault;
 use rt_run::{AppFault, MOST_TEXTS, replay_text, run_texts};
-pub use screen::Terminals;
-use screen::{Screen, Stage};
 use showing::{show_answers, show_routes};
 use std::alloc::{AllocError, AllocFailed, Global};
 use std::fs;
@@ -111,37 +108,13 @@ pub fn run_words<R: Files + Threads + Wait + Sync + AllocGlobal, O: Write, E: Wr
     out: &mut O,
     err: &mut E,
 ) -> u8 {
-    let neither = Terminals {
-        out: false,
-        err: false,
-    };
-    run_words_on(rt, alloc, words, neither, out, err)
-}
-
-/// Does what `run_words` does. Where `err` is a terminal and the words ask for it, it says there how far a run has come.
-pub fn run_words_on<R, O, E>(
-    rt: &R,
-    alloc: Global,
-    words: &[String],
-    terminals: Terminals,
-    out: &mut O,
-    err: &mut E,
-) -> u8
-where
-    R: Files + Threads + Wait + Sync + AllocGlobal,
-    O: Write,
-    E: Write,
-{
-    let mut screen = Screen::new(err, terminals);
-    let status = match carry_out(rt, alloc, words, out, &mut screen) {
+    match carry_out(rt, alloc, words, out, err) {
         Ok(status) => status,
         Err(stop) => {
-            let _ = stop.tell(&mut screen);
+            let _ = stop.tell(err);
             stop.status()
         }
-    };
-    screen.erase();
-    status
+    }
 }
 
 fn carry_out<'a, R, O, E>(
@@ -149,7 +122,7 @@ fn carry_out<'a, R, O, E>(
     alloc: Global,
     words: &'a [String],
     out: &mut O,
-    screen: &mut Screen<'_, E>,
+    err: &mut E,
 ) -> Result<u8, Stop<'a>>
 where
     R: Files + Threads + Wait + Sync + AllocGlobal,
@@ -157,9 +130,9 @@ where
     E: Write,
 {
     match command_line::read(alloc, words) {
-        Ok(Request::Run(asked)) => run_files(rt, alloc, &asked, out, screen),
-        Ok(Request::Lookup(asked)) => show_answers(rt, alloc, &asked, out, screen),
-        Ok(Request::Table(asked)) => show_routes(rt, alloc, &asked, out, screen),
+        Ok(Request::Run(asked)) => run_files(rt, alloc, &asked, out),
+        Ok(Request::Lookup(asked)) => show_answers(rt, alloc, &asked, out, err),
+        Ok(Request::Table(asked)) => show_routes(rt, alloc, &asked, out, err),
         Ok(Request::Replay(asked)) => show_replay(alloc, &asked, out),
         Err(Refusal::Shown(text)) => shown(text.as_bytes(), out),
         Err(Refusal::Misused(text)) => Err(Stop::Misused(text)),
@@ -167,22 +140,15 @@ where
     }
 }
 
-fn run_files<'a, R, O, E>(
+fn run_files<'a, R: Files + Threads + Wait + Sync + AllocGlobal, O: Write>(
     rt: &R,
     alloc: Global,
     asked: &RunRequest<'a>,
     out: &mut O,
-    screen: &mut Screen<'_, E>,
-) -> Result<u8, Stop<'a>>
-where
-    R: Files + Threads + Wait + Sync + AllocGlobal,
-    O: Write,
-    E: Write,
-{
-    let texts = read_feeds(rt, alloc, asked, screen)?;
+) -> Result<u8, Stop<'a>> {
+    let texts = read_feeds(rt, alloc, asked)?;
     let batch = asked.batch as usize;
-    let mut out = screen.beside(texts.len(), out);
-    match run_texts(rt, alloc, texts.as_slice(), asked.limit, batch, &mut out) {
+    match run_texts(rt, alloc, texts.as_slice(), asked.limit, batch, out) {
         Ok(status) => Ok(status),
         Err(fault) => Err(Stop::Fault(fault)),
     }
@@ -207,32 +173,28 @@ fn shown<'a, O: Write>(text: &[u8], out: &mut O) -> Result<u8, Stop<'a>> {
 }
 
 /// The texts of the feed files, of which none is read where there are more than a run takes.
-fn read_feeds<'a, R: Files + AllocGlobal, E: Write>(
+fn read_feeds<'a, R: Files + AllocGlobal>(
     rt: &R,
     alloc: Global,
     asked: &RunRequest<'a>,
-    screen: &mut Screen<'_, E>,
 ) -> Result<Vec<Vec<u8>>, Stop<'a>>
     ensures { IfOk result (λ texts. vec_len texts ≤ MOST_FEEDS) }
 {
     if asked.files.len() > MOST_TEXTS {
         return Err(Stop::TooMany);
     }
-    screen.begin(asked.progress);
-    read_files(rt, alloc, asked.files.as_slice(), screen)
+    read_files(rt, alloc, asked.files.as_slice())
 }
 
-fn read_files<'a, R: Files + AllocGlobal, E: Write>(
+fn read_files<'a, R: Files + AllocGlobal>(
     rt: &R,
     alloc: Global,
     names: &[&'a str],
-    screen: &mut Screen<'_, E>,
 ) -> Result<Vec<Vec<u8>>, Stop<'a>>
     ensures { IfOk result (λ texts. vec_len texts ≡ length names.entry.now) }
 {
     let mut texts = Vec::new(alloc);
     for name in names {
-        screen.show(Stage::Reading(texts.len(), names.len()));
         texts.push(read_file(rt, name)?)?;
     }
     Ok(texts)

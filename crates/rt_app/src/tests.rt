@@ -1,5 +1,4 @@
 //! The program over its words.
 
-mod progress;
 mod shown;
 mod words;
