@@ -55,9 +55,8 @@ impl OutputRoom {
     }
 
     /// How many bytes its memory has.
-    pub fn capacity(&self) -> usize
-        ensures { OUTPUT_BYTES ≤ result }
-    {
+    #[cfg(test)]
+    pub(crate) fn capacity(&self) -> usize {
         self.bytes.capacity()
     }
 
