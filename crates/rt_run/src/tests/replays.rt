@@ -1,5 +1,6 @@
 //! Replays of schedules, byte for byte, and schedules that are refused.
-use rt_run::{AppFault, replay_text};
+use crate::faults::AppFault;
+use crate::replays::replay_text;
 use ya_core::ReplayFault;
 
 /// A schedule, and the text of its replay.
