@@ -118,7 +118,7 @@ fn what_the_table_says(rt: HostRuntime) -> Result<(), Fail> {
     compare(&rt)
 }
 
-static ROWS: [Shown; 23] = [
+static ROWS: [Shown; 22] = [
     Shown {
         words: &[
             "yarib",
@@ -283,16 +283,6 @@ static ROWS: [Shown; 23] = [
         err: "yarib: west.feed: faulty lines: 2, the first 2: E5: a bit past the prefix's length is set
 yarib: west.feed: adds over the limit: 1
 yarib: north.feed: adds over the limit: 1
-",
-    },
-    // Faulty lines by themselves give status 2.
-    Shown {
-        words: &["yarib", "table", "west.feed"],
-        status: 2,
-        out: "10.0.0.0/8 feed 1 pref 40 via 192.0.2.4
-10.4.0.0/16 feed 1 pref 40 via 192.0.2.4
-",
-        err: "yarib: west.feed: faulty lines: 2, the first 2: E5: a bit past the prefix's length is set
 ",
     },
     // What was found otherwise is told, and is no fault.
