@@ -55,8 +55,9 @@ impl OutputRoom {
     }
 
     /// How many bytes its memory has.
-    #[cfg(test)]
-    pub(crate) fn capacity(&self) -> usize {
+    pub fn capacity(&self) -> usize
+        ensures { OUTPUT_BYTES ≤ result }
+    {
         self.bytes.capacity()
     }
 

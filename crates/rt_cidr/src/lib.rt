@@ -34,6 +34,3 @@ pub use decimals::decimal_u32;
 pub use output::put;
 pub use prefixes::{Prefix, TextFault};
 pub use short_text::{SHORT_TEXT_BYTES, ShortText};
-
-#[cfg(test)]
-mod tests;

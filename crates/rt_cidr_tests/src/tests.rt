@@ -1,5 +1,5 @@
 //! Texts read and written, and writers that take a byte a call, fail or hold too little.
-use super::*;
+use rt_cidr::*;
 use std::alloc::{AllocError, Global};
 use std::io::{self, ErrorKind, Write};
 use std::process::Abort;
@@ -191,7 +191,7 @@ fn reads_and_writes_decimals(rt: HostRuntime) {
     }
 }
 
-#[tactic(auto, using(crate::proofs::ShortTexts::prepending, crate::proofs::ShortTexts::lengths))]
+#[tactic(auto, using(rt_cidr::proofs::ShortTexts::prepending, rt_cidr::proofs::ShortTexts::lengths))]
 #[test]
 fn builds_a_short_text_from_its_back(rt: HostRuntime) -> Result<(), Fail> {
     let mut text = ShortText::new();
