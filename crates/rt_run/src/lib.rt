@@ -29,6 +29,3 @@ pub use replays::replay_text;
 pub use runs::{MOST_TEXTS, run_texts};
 pub use shown::{lookup_texts, table_texts};
 pub use tallies::{NOT_TAKEN, Taken, Tally};
-
-#[cfg(test)]
-mod tests;

@@ -1,9 +1,8 @@
 ghost use Rattle.std.specs.Prelude.{◌≡◌, vec_len, IfOk};
 
-use crate::faults::AppFault;
-use crate::runs::{MOST_TEXTS, run_texts};
 use rt_feed::RunFault;
 use rt_rib::limit_ok;
+use rt_run::{AppFault, MOST_TEXTS, run_texts};
 use std::alloc::Global;
 use std::process::Abort;
 use std::sync::Wait;

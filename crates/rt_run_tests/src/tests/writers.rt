@@ -2,10 +2,9 @@
 ghost use Rattle.std.specs.Prelude.{◌≡◌, ◌≤◌, length, vec_len, IfOk};
 ghost use Rattle.rt_rib.specs.declared.limits.TheConstants.{MOST_FEEDS};
 
-use crate::faults::AppFault;
-use crate::runs::run_texts;
 use crate::tests::rows::one_text;
 use rt_cidr::OUTPUT_BYTES;
+use rt_run::{AppFault, run_texts};
 use std::alloc::Global;
 use std::io::{self, ErrorKind, Write};
 use std::process::Abort;

@@ -1,6 +1,6 @@
 use denote.Text.{Utf8}
 use denote.Shadow.{shadow}
-use Rattle.rt_run.proofs.tests.judge.read_report.Given as goal
+use Rattle.rt_run_tests.proofs.tests.judge.read_report.Given as goal
 
 abbrev pub invariant-loop-i : goal.invariant-loop-i
 invariant-loop-i l =

@@ -1,6 +1,5 @@
 //! Replays of schedules, byte for byte, and schedules that are refused.
-use crate::faults::AppFault;
-use crate::replays::replay_text;
+use rt_run::{AppFault, replay_text};
 use ya_core::ReplayFault;
 
 /// A schedule, and the text of its replay.
