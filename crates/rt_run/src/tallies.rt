@@ -1,8 +1,8 @@
 //! How much of its texts a run has taken, for those who don't read its reports.
-ghost use Rattle.std.specs.Prelude.{◌≡◌, count_by, find, map, IfOk};
+ghost use Rattle.std.specs.Prelude.{◌≡◌, find, map, IfOk};
 ghost use Rattle.std.specs.List.{list_any};
 ghost use Rattle.rt_feed.specs.declared.report.Line.{Line};
-ghost use Rattle.rt_feed.specs.Reports.{is_fault, is_refusal};
+ghost use Rattle.rt_feed.specs.Reports.{is_fault};
 ghost use Rattle.rt_run.specs.TableText.{was_full, was_existing, was_missing, tally_of, has_refused, has_left_out, tallies_status, IsTaken};
 
 use rt_feed::{Answer, Line, Report};
@@ -16,7 +16,7 @@ pub(crate) const REFUSED: u8 = 5;
 pub const NOT_TAKEN: u8 = 2;
 
 /// What of a feed's text was not taken.
-#[derive(Clone, Copy, PartialEq, Eq, Debug)]
+#[derive(Clone, Copy, Debug)]
 pub struct Tally {
     /// How many lines were faulty.
     pub faulty: usize,
@@ -78,53 +78,28 @@ fn tally_of(report: &Report) -> Tally
     ensures { result ≡ tally_of report.now }
 {
     let lines = report.lines();
-    Tally {
-        faulty: count_faulty(lines),
+    let mut tally = Tally {
+        faulty: 0,
         first_faulty: first_faulty(lines),
-        full: count_full(lines),
-        existing: count_existing(lines),
-        missing: count_missing(lines),
-        refused: count_refused(lines),
+        full: 0,
+        existing: 0,
+        missing: 0,
+        refused: 0,
+    };
+    for line in lines {
+        tally.faulty += usize::from(line.answer.is_fault());
+        tally.full += usize::from(was_full(line.answer));
+        tally.existing += usize::from(was_existing(line.answer));
+        tally.missing += usize::from(was_missing(line.answer));
+        tally.refused += usize::from(line.answer.is_refusal());
     }
-}
-
-fn count_faulty(lines: &[Line]) -> usize
-    ensures { result ≡ count_by (λ (line : Line). is_fault line.answer) lines.now }
-{
-    lines.iter().filter(|line| line.answer.is_fault()).count()
+    tally
 }
 
 fn first_faulty(lines: &[Line]) -> Option<Line>
     ensures { result ≡ find (λ (line : Line). is_fault line.answer) lines.now }
 {
     lines.iter().copied().find(|line| line.answer.is_fault())
-}
-
-fn count_full(lines: &[Line]) -> usize
-    ensures { result ≡ count_by (λ (line : Line). was_full line.answer) lines.now }
-{
-    lines.iter().filter(|line| was_full(line.answer)).count()
-}
-
-fn count_existing(lines: &[Line]) -> usize
-    ensures { result ≡ count_by (λ (line : Line). was_existing line.answer) lines.now }
-{
-    lines
-        .iter()
-        .filter(|line| was_existing(line.answer))
-        .count()
-}
-
-fn count_missing(lines: &[Line]) -> usize
-    ensures { result ≡ count_by (λ (line : Line). was_missing line.answer) lines.now }
-{
-    lines.iter().filter(|line| was_missing(line.answer)).count()
-}
-
-fn count_refused(lines: &[Line]) -> usize
-    ensures { result ≡ count_by (λ (line : Line). is_refusal line.answer) lines.now }
-{
-    lines.iter().filter(|line| line.answer.is_refusal()).count()
 }
 
 /// Whether an `add` was over the limit.
