@@ -409,6 +409,11 @@ def finished_tables(yarib):
     expect("addresses from a pipe", ended, (0, answers, ""))
 
 
+# Fails where `--addresses -` is taken for an empty text: `- is no standard input of addresses`.
+# Fails where `--addresses` is taken twice: `--addresses twice`.
+# Fails where the text of addresses is read before the feed files: `a feed file is named before the text of addresses`.
+# Fails where nothing is told of the feed files beside a faulty address: `faults of all files`.
+# Fails where a faulty address leaves status 0: `faulty addresses`.
 def not_taken(yarib):
     """What standard error tells of each file, and the status."""
     pathlib.Path("three.feed").write_text(ROW + "frob\nadd 11.0.0.0/8 1 192.0.2.1\nadd 12.0.0.0/8 1 192.0.2.1\nlookup 1\n")
@@ -452,6 +457,10 @@ def not_taken(yarib):
     misused("--best of a run", run([yarib, "run", "--best", "row.feed"]), "--best")
 
 
+# Fails where nothing is told from the third file on, of a file that is named twice, or of it the second time: `a third
+# file and one that is named again`.
+# Fails where only the last part of a name is told: `all kinds of one file`.
+# Fails where `table` gives status 0 where there were only `add`s over the limit: `adds over the limit alone`.
 def files_told(yarib):
     """Each file is told of, by the whole of its name and as often as it is named."""
     os.makedirs("a folder/deep", exist_ok=True)
@@ -475,6 +484,10 @@ def files_told(yarib):
     expect("64 files, most of them told of", table(*many), (0, route(1), (again + gone) * 21 + again))
 
 
+# Fails where the first faulty address is numbered without the lines that are skipped, or only 64 KB of the text are read:
+# `a long text of addresses`.
+# Fails where F3 is given to more than 2,000 addresses, or status 6 to more than 2,000 answers: `20,000 addresses`.
+# Fails where a faulty address is told though the output can't be written: `nothing is told where the output is full`.
 def addresses_told(yarib):
     """The first faulty address is told by its number among all lines, of a text longer than any buffer too."""
     skipped = "# note\n\n" * 3_000

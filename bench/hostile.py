@@ -20,7 +20,7 @@ import tempfile
 import time
 
 import figures
-from refused_growth import files as text_files, own_text, run_text
+from refused_growth import Wrong, check_shown, files as text_files, own_text, refuse_each, refuser, run_text
 
 TOP = pathlib.Path(__file__).resolve().parent.parent
 ROW = "add 10.0.0.0/8 100 192.0.2.1\n"
@@ -106,9 +106,33 @@ def little_memory(yarib, folder):
         print(f"{name} under rising limits: " + ", ".join(f"{count} ended {kind}" for kind, count in kinds.items()), flush=True)
 
 
+# Fails where status 2 stands in place of 5, or another text tells of refused commands: `['lookup', '--address'] in two
+# files`, `['table'] in two files`.
+# Fails where status 2 stands in place of 5 only beside a faulty address: `['lookup', '--addresses'] in two files`.
+def refused_commands(yarib, folder):
+    """Each request for memory of a look-up and of a list is refused in turn, those for its commands among them."""
+    refuse = refuser(folder)
+    paths = text_files(folder, "refused", [AGAIN, ROW])
+    asked = folder / "faulty.txt"
+    asked.write_text("10.0.0.1\nfrob\n")
+    for words in (["lookup", "--addresses", asked], ["lookup", "--address", "10.0.0.1"], ["table"]):
+        name, kinds = f"{words[:2]} in two files", set()
+        try:
+            refuse_each([yarib, *words, *paths], check_shown, refuse, False, kinds)
+        except Wrong as wrong:
+            expect(name, str(wrong), "as foreseen")
+            continue
+        expect(f"{name}: what was refused", kinds, {"lookup or table", "a command of a look-up or list"})
+    print("refused commands: done", flush=True)
+
+
 # Files
 
 
+# Fails where `lookup` or `table` answers F3 to more than 6 texts, or the seventh file of `table` can't be read: `the table
+# of 7 files`.
+# Fails where F3 is answered to more than 33 texts, or 64 files are too many for `lookup`: `addresses from a pipe and 64
+# files`.
 def files(yarib, folder):
     row, empty, missing = folder / "row.feed", folder / "empty.feed", folder / "missing.feed"
     row.write_text(ROW)
@@ -281,6 +305,7 @@ def main():
         files(yarib, folder)
         outputs(yarib, folder)
         little_memory(yarib, folder)
+        refused_commands(yarib, folder)
         if "--large" in sys.argv[1:]:
             large_texts(yarib, folder)
     sys.exit(f"{len(failures)} wrong" if failures else 0)

@@ -23,10 +23,16 @@ TOP = pathlib.Path(__file__).resolve().parent.parent
 Ending = collections.namedtuple("Ending", "status out err refused")
 
 
-def build(folder):
-    """The paths of the program, of the crate's program and of what refuses."""
+def refuser(folder):
+    """The path of what refuses."""
     refuse = folder / "refuse.so"
     subprocess.run(["gcc", "-O2", "-shared", "-fPIC", "-o", refuse, TOP / "bench" / "refuse.c"], check=True)
+    return refuse
+
+
+def build(folder):
+    """The paths of the program, of the crate's program and of what refuses."""
+    refuse = refuser(folder)
     if len(sys.argv) > 2:
         return pathlib.Path(sys.argv[1]).resolve(), pathlib.Path(sys.argv[2]).resolve(), refuse
     subprocess.run([TOP / "yarib", "--version"], check=True, stdout=subprocess.DEVNULL)
@@ -458,24 +464,30 @@ KINDS = {
 } | {"SharedRib::apply " + name for name in ("Add", "Replace", "Withdraw", "Lookup", "Dump", "Purge")}
 
 
+def refuse_each(words, compare, refuse, rest, kinds):
+    """Refuses each request of a case in turn, with all later ones where `rest` says so, and gives how many there are."""
+    ample = run(words, refuse, 0, False)
+    at = 0
+    while at == 0 or ending.refused:
+        at += 1
+        ending = run(words, refuse, at, rest)
+        try:
+            compare(ending, ample, kinds)
+        except Wrong as wrong:
+            raise Wrong(f"request {at} refused{' and all later ones' if rest else ''}: {wrong}\n{ending}") from wrong
+    return at - 1
+
+
 def main():
     kinds = set()
     with tempfile.TemporaryDirectory() as made:
         folder = pathlib.Path(made)
         yarib, libraries, refuse = build(folder)
         for name, words, compare in cases(folder, yarib, libraries):
-            ample = run(words, refuse, 0, False)
-            counts = []
-            for rest in (False, True):
-                at = 0
-                while at == 0 or ending.refused:
-                    at += 1
-                    ending = run(words, refuse, at, rest)
-                    try:
-                        compare(ending, ample, kinds)
-                    except Wrong as wrong:
-                        sys.exit(f"{name}: request {at} refused{' and all later ones' if rest else ''}: {wrong}\n{ending}")
-                counts.append(at - 1)
+            try:
+                counts = [refuse_each(words, compare, refuse, rest, kinds) for rest in (False, True)]
+            except Wrong as wrong:
+                sys.exit(f"{name}: {wrong}")
             print(f"{name}: {counts[0]} requests refused in turn, and {counts[1]} with all later ones", flush=True)
     if kinds != KINDS:
         sys.exit(f"kinds of refusal that were not met, or not foreseen: {sorted(kinds ^ KINDS)}")

@@ -150,6 +150,7 @@ def shown(yarib, texts, names):
 
 # Fails where F3 is answered above 200,000 routes, a limit over 65,536 is refused, or a journal of 200,000 entries or
 # more never grows: `300,000 routes of three feeds`.
+# Fails where `lookup` and `table` answer F3 above 65,536 routes: `the table of 300,000 routes`, `100,000 addresses`.
 def many_offers(yarib):
     """300,000 routes of three feeds, the same prefixes for each."""
     bases = [address(0x0100_0000 + (at * 40_503 % 100_000 << 8)) for at in range(100_000)]
@@ -171,6 +172,7 @@ def many_offers(yarib):
     at_limit(yarib)
 
 
+# Fails where a feed of `lookup` may have 65,535 routes where no limit is given: `look-ups in a full feed and 0 more`.
 def at_limit(yarib):
     """As many routes as a feed may have where no limit is given, and one more."""
     routes = [f"10.{at >> 8}.{at & 255}.0/24" for at in range(65_536)]
