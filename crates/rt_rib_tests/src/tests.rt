@@ -259,6 +259,7 @@ fn limits_and_feeds(rt: HostRuntime) {
 }
 
 /// Fails where `Display` or `Debug` shows another text for `Refused`.
+/// Fails where `Display` shows `no memory`: both texts.
 #[test]
 fn the_fault_has_its_text(rt: HostRuntime) -> Result<(), Fail> {
     let fault = Refused;
