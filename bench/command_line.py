@@ -460,6 +460,7 @@ def not_taken(yarib):
 # Fails where nothing is told from the third file on, of a file that is named twice, or of it the second time: `a third
 # file and one that is named again`.
 # Fails where only the last part of a name is told: `all kinds of one file`.
+# Fails where an `add` of a prefix already there is told as one over the limit: `an add of what is there`.
 # Fails where `table` gives status 0 where there were only `add`s over the limit: `adds over the limit alone`.
 def files_told(yarib):
     """Each file is told of, by the whole of its name and as often as it is named."""
