@@ -4,8 +4,8 @@ use super::report::report_of;
 use rt_cidr::{Addr, TextFault};
 use rt_feed::*;
 use rt_rib::{Hop, Reply, Route};
-use std::alloc::Global;
-use std::io::{self, Write};
+use std::alloc::{AllocError, Global};
+use std::io::{self, ErrorKind, Write};
 use std::process::Abort;
 use std::test::Fail;
 
@@ -48,21 +48,20 @@ table 2
 0.0.0.0 no route
 ";
 
-/// Takes at most `each` bytes a call. After `room` bytes it fails once, as the system does with this number, and then goes
-/// on.
+/// Takes at most `each` bytes a call. After `room` bytes it answers this fault once, and then goes on.
 #[derive(Drop)]
 struct Narrow {
     taken: Vec<u8>,
     each: usize,
     room: usize,
-    code: i32,
+    fault: io::Error,
 }
 
 impl Write for Narrow {
     fn write(&mut self, buf: &[u8]) -> io::Result<usize> {
         if self.room == 0 {
             self.room = usize::MAX;
-            return Err(io::Error::from_raw_os_error(self.code));
+            return Err(self.fault);
         }
         let count = buf.len().min(self.each).min(self.room);
         self.taken.extend_from_slice(&buf[..count])?;
@@ -82,7 +81,7 @@ fn writes_a_byte_a_call(rt: HostRuntime) -> Result<(), Fail> {
         taken: Vec::new(rt.alloc()),
         each: 1,
         room: usize::MAX,
-        code: 0,
+        fault: io::Error::from(ErrorKind::Other),
     };
     write_each(&mut out, &three_lines(rt.alloc())?, &two_routes()?)?;
     assert_eq!(rt; out.taken.as_slice(), EACH);
@@ -90,16 +89,19 @@ fn writes_a_byte_a_call(rt: HostRuntime) -> Result<(), Fail> {
 }
 
 /// After so many bytes the writer's own fault is what every text answers, and nothing more was written.
-fn assert_stops(rt: &impl Abort, alloc: Global, room: usize, code: i32) -> Result<(), Fail> {
+fn assert_stops(rt: &impl Abort, alloc: Global, room: usize, fault: io::Error) -> Result<(), Fail> {
     let mut out = Narrow {
         taken: Vec::new(alloc),
         each: 7,
         room,
-        code,
+        fault,
     };
     let written = write_each(&mut out, &three_lines(alloc)?, &two_routes()?);
-    let told = written.err().and_then(|fault| fault.raw_os_error());
-    assert_eq!(rt; told, Some(code), "after {room} bytes");
+    let told = written.err();
+    let number = told.and_then(|fault| fault.raw_os_error());
+    assert_eq!(rt; number, fault.raw_os_error(), "after {room} bytes");
+    let kind = told.map(|fault| fault.kind());
+    assert_eq!(rt; kind, Some(fault.kind()), "after {room} bytes");
     assert_eq!(rt; out.taken.len(), room);
     assert!(rt;
         EACH.starts_with(out.taken.as_slice()),
@@ -117,7 +119,38 @@ fn assert_stops(rt: &impl Abort, alloc: Global, room: usize, code: i32) -> Resul
 fn stops_with_the_writers_own_fault_after_each_byte(rt: HostRuntime) -> Result<(), Fail> {
     for code in [4, 28, 32] {
         for room in 0..EACH.len() {
-            assert_stops(&rt, rt.alloc(), room, code)?;
+            assert_stops(&rt, rt.alloc(), room, io::Error::from_raw_os_error(code))?;
+        }
+    }
+    Ok(())
+}
+
+/// Each of the system's numbers, its kind without the number, and the kinds without one.
+fn each_fault(alloc: Global) -> Result<Vec<io::Error>, AllocError> {
+    let mut faults = Vec::new(alloc);
+    for code in 1..134i32 {
+        let fault = io::Error::from_raw_os_error(code);
+        faults.push(fault)?;
+        faults.push(io::Error::from(fault.kind()))?;
+    }
+    for kind in [
+        ErrorKind::InvalidData,
+        ErrorKind::WriteZero,
+        ErrorKind::UnexpectedEof,
+        ErrorKind::Other,
+    ] {
+        faults.push(io::Error::from(kind))?;
+    }
+    Ok(faults)
+}
+
+/// Fails where what was found answers `Other` in place of the system's `TimedOut`: `None`, instead of `Some(110)`, `after 250
+/// bytes`.
+#[test]
+fn stops_with_a_fault_of_any_kind(rt: HostRuntime) -> Result<(), Fail> {
+    for fault in &each_fault(rt.alloc())? {
+        for tenth in 0..EACH.len() / 10 {
+            assert_stops(&rt, rt.alloc(), 10 * tenth, *fault)?;
         }
     }
     Ok(())
