@@ -132,6 +132,19 @@ fn faults_have_their_texts(rt: HostRuntime) -> Result<(), Fail> {
     Ok(())
 }
 
+/// Fails where `Display` or `Debug` shows another text for `NoMemory`.
+/// Fails where `Display` shows `memory was refused`: both texts.
+#[test]
+fn want_of_memory_has_its_text(rt: HostRuntime) -> Result<(), Fail> {
+    let fault = NoMemory;
+    assert_eq!(rt;
+        format!(in rt.alloc(); "{fault}")?.as_str(),
+        "out of memory"
+    );
+    assert_eq!(rt; format!(in rt.alloc(); "{fault:?}")?.as_str(), "NoMemory");
+    Ok(())
+}
+
 /// Entries that may follow in any order.
 struct Anything;
 
