@@ -1,11 +1,13 @@
 #!/usr/bin/env python3
 """Runs the program in hostile surroundings: little memory, files that are none, outputs that take nothing, very long texts.
 
-Usage: bench/hostile.py [--large [--store]] [YARIB]. Builds ./yarib first unless a built program is named. Linux, python3.
+Usage: bench/hostile.py [--large [--store]] [YARIB]. Builds ./yarib first unless a built program is named. Linux, python3,
+gcc and glibc.
 
 Little memory: the program is run under rising limits of its address space. It must end as with ample memory, or with status 5
 and nothing on standard output, or with status 5 and what the model of refused_growth.py prints without the commands that it
-says were refused; never by a signal. Limits under which it can't be loaded at all are left out. With --large (some minutes, and up to 8 GB of memory) texts
+says were refused; never by a signal. Limits under which it can't be loaded at all are left out. Then each request of a look-up
+and of a list is refused in turn, as refused_growth.py does it for all kinds of runs. With --large (some minutes, and up to 8 GB of memory) texts
 of 1 to 10 million lines and lines of 100 MB to 1 GB are run, and time and memory for a line or a byte are printed; --store keeps these figures in bench/figures/.
 """
 import contextlib
