@@ -21,7 +21,7 @@ marked-append place [] ys = refl
 marked-append place (x ∷ xs) ys = ap (λ zs. (place, x) ∷ zs) (marked-append place xs ys)
 
 -- the entries of a place in two lists, one after the other
-entries_of-append : {X : Type 0} (place : ℕ) (xs ys : List (Marked X))
+pub entries_of-append : {X : Type 0} (place : ℕ) (xs ys : List (Marked X))
     → entries_of place (xs ++ ys) ≡ entries_of place xs ++ entries_of place ys
 entries_of-append place [] ys = refl
 entries_of-append place (x ∷ xs) ys = cases (x.0 == place) (entries_of-append place xs ys)
@@ -33,7 +33,7 @@ entries_of-append place (x ∷ xs) ys = cases (x.0 == place) (entries_of-append 
     cases false rest = rest
 
 -- all marked entries are those of their place, and of no other
-entries_of-marked : {X : Type 0} (place : ℕ) (xs : List X) → entries_of place (marked place xs) ≡ xs
+pub entries_of-marked : {X : Type 0} (place : ℕ) (xs : List X) → entries_of place (marked place xs) ≡ xs
 entries_of-marked place [] = refl
 entries_of-marked place (x ∷ xs) = cases (place == place) (grind (arith, nat_tests)) (entries_of-marked place xs)
   where
@@ -42,7 +42,7 @@ entries_of-marked place (x ∷ xs) = cases (place == place) (grind (arith, nat_t
     cases true is rest = ap (λ zs. x ∷ zs) rest
     cases false is rest = cc
 
-entries_of-marked_other : {X : Type 0} (place other : ℕ) (xs : List X) → other ≢ place
+pub entries_of-marked_other : {X : Type 0} (place other : ℕ) (xs : List X) → other ≢ place
     → entries_of place (marked other xs) ≡ []
 entries_of-marked_other place other [] apart = refl
 entries_of-marked_other place other (x ∷ xs) apart =
@@ -210,7 +210,7 @@ module _ {X : Type 0} (levels : ℕ) (ok : List (Marked X) → Marked X → Type
             (λ q apart h. subst (EachMayFollow ok) (sym (adds.others_copy q apart)) (is.lawful_copy q h))
 
   -- each event keeps it
-  kept_event : (event : Event X) (old new : World X) → IsKept levels ok old → Happens levels ok event old new
+  pub kept_event : (event : Event X) (old new : World X) → IsKept levels ok old → Happens levels ok event old new
       → IsKept levels ok new
   kept_event (Steps place) old new is step = cases (is_inside (old.state.processes place)) refl
     where

@@ -1,5 +1,5 @@
 -- Examples by which definitions are tested, each under a line with the definition's name. Both sides are computed.
-use Rattle.std.proofs.Common.{◌≡◌, ◌≢◌, ℕ, zero, suc, ◌+◌, ◌^◌, ◌<◌, ◌≤◌, Bool, true, false, if◌then◌else◌, List, [], ◌∷◌, ◌++◌, ◌==◌, ◌&&◌, Some, None, inl, inr, map, refl, ap, subst, ◌∙◌, arith}
+use Rattle.std.proofs.Common.{◌≡◌, ◌≢◌, ℕ, zero, suc, ◌+◌, ◌^◌, ◌<◌, ◌≤◌, Bool, true, false, if◌then◌else◌, List, [], ◌∷◌, ◌++◌, ◌==◌, ◌&&◌, Some, None, inl, inr, map, refl, ap, sym, subst, ◌∙◌, arith}
 use Rattle.std.proofs.lemmas.Bool.{false_from_ne_true, eq-eqb, eqb-true, ne_eqb, and_from, and_parts}
 use Rattle.ya_core.specs.declared.word.Word.{Word}
 use Rattle.ya_core.specs.declared.word.Word.TheVariants.{C, T, P}
@@ -15,7 +15,9 @@ use Rattle.ya_core.specs.Steps.{State, StepsTo, LeadTo, Accesses, opening, entry
 use Rattle.ya_core.specs.WalkerModel.{walk, due_of, due, CanStand, cost_of_word, cost_of, walk_after, MayFind, MayBeTold, WalkLeadsTo, BeginsEntry, BeginsExit}
 use Rattle.ya_core.specs.Progress.{SomeoneGoesOn, CanLeadTo, SomeoneGoesOnIn, Announces, Wins, Neither, is_entering, is_to_announce, deed_of, announces, LevelStep, LevelSees, HasNotWon, is_rival, is_win, times_overtaken}
 use Rattle.ya_core.specs.Fairness.{IsRunOfSchedule, IsFair, Eventually, is_on_way_in, is_on_way_out}
-use Rattle.ya_core.specs.Worlds.{Marked, World, Event, Steps, Appends, WorldSteps, WorldAppends, IsInside, IsReached, Runs, Happens, any_entry, is_inside, opening_world}
+use Rattle.ya_core.specs.Worlds.{Marked, World, Event, Steps, Appends, WorldSteps, WorldAppends, IsInside, IsReached, Runs, Happens, any_entry, is_inside, opening_world, entries_of}
+use Rattle.ya_core.specs.RealTime.{KeepsRealTimeOrder}
+use Rattle.ya_core.proofs.Content.{entries_of-marked_other}
 
 -- node_of
 two_neighbours_share_a_leaf : node_of 1 2 ≡ node_of 1 3
@@ -826,3 +828,51 @@ both_make_an_entry_where_they_compete = (
   runs 1 any_entry both_compete opening_world (omega arith, (omega arith, (omega arith, (omega arith, (omega arith, (omega arith, (omega arith, (omega arith, (omega arith, ((refl, tt), (omega arith, (omega arith, (omega arith, (omega arith, (omega arith, (omega arith, (omega arith, (omega arith, (omega arith, (omega arith, ((refl, tt), (omega arith, (omega arith, tt))))))))))))))))))))))),
   refl,
 )
+
+-- what is so of places 0 and 1 and of all others is so of each
+each_place : (A : ℕ → Type 0) → A 0 → A 1 → ((place : ℕ) → A (suc (suc place))) → (place : ℕ) → A place
+each_place A first second others zero = first
+each_place A first second others (suc zero) = second
+each_place A first second others (suc (suc place)) = others place
+
+-- what places 0 and 1 made
+abbrev of_two : List ℕ → List ℕ → ℕ → List ℕ
+of_two first second zero = first
+of_two first second (suc zero) = second
+of_two first second (suc (suc place)) = []
+
+-- a world with this content, in which they made these
+abbrev made_by_both : List (Marked ℕ) → List ℕ → List ℕ → World ℕ
+made_by_both content first second =
+    record { state = opening; content = content; copies = λ _. []; doing = λ _. []; made = of_two first second }
+
+-- place 0 made 7
+abbrev one_was_made : World ℕ
+one_was_made = made_by_both ((0, 7) ∷ []) (7 ∷ []) []
+
+-- KeepsRealTimeOrder
+what_was_made_stands_first : KeepsRealTimeOrder one_was_made (made_by_both ((0, 7) ∷ (1, 8) ∷ []) (7 ∷ []) (8 ∷ []))
+what_was_made_stands_first = record {
+  since = (1, 8) ∷ [];
+  content = refl;
+  made = each_place (λ place. entries_of place ((0, 7) ∷ []) ≡ of_two (7 ∷ []) [] place) refl refl
+      (λ place. entries_of-marked_other (suc (suc place)) 0 (7 ∷ []) (λ same. cc));
+  made_since = each_place (λ place. of_two (7 ∷ []) (8 ∷ []) place ≡ of_two (7 ∷ []) [] place ++ entries_of place ((1, 8) ∷ [])) refl refl
+      (λ place. sym (entries_of-marked_other (suc (suc place)) 1 (8 ∷ []) (λ same. cc)));
+}
+
+nothing_comes_before_it : ¬ KeepsRealTimeOrder one_was_made (made_by_both ((1, 8) ∷ (0, 7) ∷ []) (7 ∷ []) (8 ∷ []))
+nothing_comes_before_it h =
+    let content = h.content in
+    let entry : ◌≡◌ {A = Marked ℕ} (1, 8) (0, 7) = cc in let place : ◌≡◌ {A = ℕ} 1 0 = ap (λ x. x.0) entry in cc
+
+it_is_not_lost : ¬ KeepsRealTimeOrder one_was_made (made_by_both [] (7 ∷ []) [])
+it_is_not_lost h = let content = h.content in cc
+
+what_was_made_by_then_is_there : ¬ KeepsRealTimeOrder (made_by_both [] (7 ∷ []) []) (made_by_both ((0, 7) ∷ []) (7 ∷ []) [])
+what_was_made_by_then_is_there h = let made = h.made 0 in cc
+
+what_is_made_since_is_there : ¬ KeepsRealTimeOrder one_was_made (made_by_both ((0, 7) ∷ []) (7 ∷ []) (8 ∷ []))
+what_is_made_since_is_there h =
+    let none : h.since ≡ [] = (let content = h.content in cc) in
+    let made = h.made_since 1 ∙ ap (λ xs. entries_of 1 xs) none in cc

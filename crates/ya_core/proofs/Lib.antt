@@ -13,6 +13,7 @@ pub mod Phases
 pub mod LevelSteps
 pub mod Invariant
 pub mod Content
+pub mod RealTime
 pub mod Deadlock
 pub mod Rivalry
 pub mod NextPoints

@@ -5,6 +5,7 @@ pub mod WalkerModel
 pub mod FlatRow
 pub mod Machines
 pub mod Worlds
+pub mod RealTime
 pub mod Progress
 pub mod Fairness
 pub mod inside

@@ -12,7 +12,8 @@ ghost use Rattle.ya_core.specs.Progress.{LevelSees, HasNotWon, times_overtaken};
 ghost use Rattle.ya_core.specs.Fairness.{IsRunOfSchedule, IsFair, Eventually, is_on_way_in, is_on_way_out};
 ghost use Rattle.ya_core.specs.WalkerModel.{Walk, IsWalk, BeginsEntry, BeginsExit, WalkLeadsTo, AccessIsWithin, MayFind};
 ghost use Rattle.ya_core.specs.Worlds.{Marked, World, Event, WorldSteps, WorldAppends};
-ghost use Rattle.ya_core.specs.Worlds.{IsReached, IsInside, EachMayFollow, any_entry, entries_of, places_of};
+ghost use Rattle.ya_core.specs.Worlds.{IsReached, Runs, IsInside, EachMayFollow, any_entry, entries_of, places_of};
+ghost use Rattle.ya_core.specs.RealTime.{KeepsRealTimeOrder};
 
 /// The invariant holds at the start, and each step of any place keeps it, in a tree of any number of levels.
 pub fn soundness()
@@ -142,4 +143,13 @@ pub fn content<K: Accept>()
         → IsReached levels K.ok events world → IsReached levels any_entry events world }
     ensures lawful { (levels : ℕ) (events : List (Event K.Entry)) (world : World K.Entry)
         → 1 ≤ levels → IsReached levels K.ok events world → EachMayFollow K.ok world.content }
+{}
+
+/// Each run is *linearizable* (Herlihy and Wing 1990): beside what [`content`] says, the content stands in the order of
+/// real time. At each time of a run it begins the content at every later time, and has all that was made by then. So what
+/// was made by a passage that has ended stands before everything that a passage makes that begins later.
+pub fn real_time<X>()
+    ensures { (levels : ℕ) (earlier later : List (Event X)) (early late : World X)
+        → 1 ≤ levels → IsReached levels any_entry earlier early → Runs levels any_entry early later late
+        → KeepsRealTimeOrder early late }
 {}
