@@ -1,11 +1,11 @@
 -- Runs of a fair schedule: what each step keeps ends where each step of one place takes that place nearer to something.
-use Rattle.std.proofs.Common.{◌≡◌, ◌≢◌, ℕ, zero, suc, ◌+◌, ◌-◌, ◌<◌, ◌≤◌, ◌==◌, Bool, true, false, refl, arith, ap}
-use Rattle.std.proofs.Common.{subst, ◌⊎◌, inl, inr}
-use Rattle.std.proofs.lemmas.Bool.Decides.{nat_tests}
+use Rattle.std.proofs.Common.{◌≡◌, ◌≢◌, ℕ, zero, suc, ◌+◌, ◌-◌, ◌<◌, ◌≤◌, arith, ap, subst, ◌⊎◌, inl, inr}
+use Rattle.std.specs.Prelude.{Option, Some}
 use Rattle.ya_core.specs.declared.process.Process.{Process}
 use Rattle.ya_core.specs.declared.process.Process.TheVariants.{Idle}
-use Rattle.ya_core.specs.Steps.{State, StepsTo}
-use Rattle.ya_core.specs.Fairness.{Eventually}
+use Rattle.ya_core.specs.Steps.{State}
+use Rattle.ya_core.specs.Fairness.{PickLeadsTo, Eventually}
+use Rattle.ya_core.proofs.Picks.{is_picked, others_stay}
 
 -- what is so at a later time is so at a time later than an earlier one
 pub sooner : (So : ℕ → Type 0) (time later : ℕ) → time ≤ later → Eventually later So → Eventually time So
@@ -27,10 +27,10 @@ until While So keeps (suc d) n m e holds =
         by_rest (inl found) = inl (sooner So n (n + 1) (omega arith) found)
         by_rest (inr holds) = inr holds
 
-module _ (levels : ℕ) (schedule : ℕ → ℕ) (states : ℕ → State)
-    (step : (time : ℕ) → StepsTo levels (schedule time) (states time) (states (time + 1)))
+module _ (levels : ℕ) (schedule : ℕ → Option ℕ) (states : ℕ → State)
+    (step : (time : ℕ) → PickLeadsTo levels (schedule time) (states time) (states (time + 1)))
     (fair : (place time : ℕ) → (states time).processes place ≢ Idle
-    → Eventually time (λ later. schedule later ≡ place)) where
+    → Eventually time (λ later. schedule later ≡ Some place)) where
   -- the process of a place at a time
   abbrev at : ℕ → ℕ → Process
   at place time = (states time).processes place
@@ -38,10 +38,10 @@ module _ (levels : ℕ) (schedule : ℕ → ℕ) (states : ℕ → State)
   -- what each step keeps ends where each step of one place takes that place nearer to something
   module _ (q : ℕ) (While So : ℕ → Type 0) (points : Process → ℕ) (busy : (n : ℕ) → While n → at q n ≢ Idle)
       (keeps : (n : ℕ) → While n → So (n + 1) ⊎ While (n + 1))
-      (falls : (n : ℕ) → While n → While (n + 1) → schedule n ≡ q → points (at q (n + 1)) < points (at q n)) where
+      (falls : (n : ℕ) → While n → While (n + 1) → schedule n ≡ Some q → points (at q (n + 1)) < points (at q n)) where
     -- up to its next step
     to_step : (fuel : ℕ) → ((n : ℕ) → points (at q n) < fuel → While n → Eventually n So) → (d n m : ℕ) → m ≡ n + d
-        → schedule m ≡ q → points (at q n) < fuel + 1 → While n → Eventually n So
+        → schedule m ≡ Some q → points (at q n) < fuel + 1 → While n → Eventually n So
     to_step fuel again zero n m e picks less holds =
         by_step (keeps n holds)
       where
@@ -49,7 +49,7 @@ module _ (levels : ℕ) (schedule : ℕ → ℕ) (states : ℕ → State)
         by_step (inl ends) = (n + 1, omega arith, ends)
         by_step (inr goes) =
             let same : m ≡ n = omega (arith, e) in
-            let now : schedule n ≡ q = subst (λ k. schedule k ≡ q) same picks in
+            let now : schedule n ≡ Some q = subst (λ k. schedule k ≡ Some q) same picks in
             let nearer = falls n holds goes now in
             sooner So n (n + 1) (omega arith) (again (n + 1) (omega (arith, nearer, less)) goes)
     to_step fuel again (suc d) n m e picks less holds =
@@ -58,15 +58,14 @@ module _ (levels : ℕ) (schedule : ℕ → ℕ) (states : ℕ → State)
         by_step : So (n + 1) ⊎ While (n + 1)
             → (points (at q (n + 1)) < fuel + 1 → While (n + 1) → Eventually (n + 1) So) → Eventually n So
         by_step (inl ends) rest = (n + 1, omega arith, ends)
-        by_step (inr goes) rest = sooner So n (n + 1) (omega arith) (by_place (schedule n == q) refl)
+        by_step (inr goes) rest = sooner So n (n + 1) (omega arith) (by_place (is_picked (schedule n) q))
           where
-            by_place : (b : Bool) → (schedule n == q) ≡ b → Eventually (n + 1) So
-            by_place true own =
-                let now : schedule n ≡ q = grind (arith, nat_tests) in
+            by_place : (schedule n ≡ Some q) ⊎ (schedule n ≢ Some q) → Eventually (n + 1) So
+            by_place (inl now) =
                 let nearer = falls n holds goes now in again (n + 1) (omega (arith, nearer, less)) goes
-            by_place false other =
-                let apart : q ≢ schedule n = grind (arith, nat_tests) in
-                let same : points (at q (n + 1)) ≡ points (at q n) = ap points ((step n).others q apart) in
+            by_place (inr other) =
+                let same : points (at q (n + 1)) ≡ points (at q n) =
+                ap points (others_stay levels (schedule n) (states n) (states (n + 1)) q (step n) other) in
                 rest (omega (arith, same, less)) goes
 
     within : (fuel n : ℕ) → points (at q n) < fuel → While n → Eventually n So

@@ -17,6 +17,7 @@ pub mod RealTime
 pub mod Deadlock
 pub mod Rivalry
 pub mod NextPoints
+pub mod Picks
 pub mod FairRuns
 pub mod Starvation
 pub mod Schedules

@@ -2,44 +2,42 @@
 -- each of its steps, until the word is there; and who isn't stuck comes nearer itself.
 use Rattle.std.proofs.Common.{◌≡◌, ◌≢◌, ℕ, zero, suc, ◌+◌, ◌-◌, ◌<◌, ◌≤◌, ◌==◌, Bool, true, false, refl, arith, ap}
 use Rattle.std.proofs.Common.{sym, ◌∙◌, subst, ◌⊎◌, inl, inr, IsTrue}
+use Rattle.std.specs.Prelude.{Option, Some}
 use Rattle.std.proofs.lemmas.Bool.Decides.{nat_tests}
 use Rattle.ya_core.specs.declared.process.EntryPoint.{EntryPoint}
 use Rattle.ya_core.specs.declared.process.EntryPoint.TheVariants.{E1}
 use Rattle.ya_core.specs.declared.process.Process.{Process}
 use Rattle.ya_core.specs.declared.process.Process.TheVariants.{Idle, Entering, Inside, Leaving}
 use Rattle.ya_core.specs.ArbitrationTree.{AreRivals}
-use Rattle.ya_core.specs.Steps.{State, StepsTo, value_of, access_of, next_of, entry_next}
+use Rattle.ya_core.specs.Steps.{State, value_of, access_of, next_of, entry_next}
 use Rattle.ya_core.specs.Soundness.{phase_of, entry_phase, IsProper, IsSoundState}
 use Rattle.ya_core.specs.WalkerModel.{points_of}
-use Rattle.ya_core.specs.Fairness.{Eventually, is_on_way_in, is_on_way_out}
+use Rattle.ya_core.specs.Fairness.{PickLeadsTo, Eventually, is_on_way_in, is_on_way_out}
 use Rattle.ya_core.proofs.PhaseKinds.{competes}
 use Rattle.ya_core.proofs.Phases.{competes_at}
 use Rattle.ya_core.proofs.Deadlock.{IsStuck, stuck_at, last}
-use Rattle.ya_core.proofs.Rivalry.{nearer_or_stuck, not_both, not_both_stuck, stands_still, stuck_before}
-use Rattle.ya_core.proofs.Rivalry.{still_competes, stuck_level}
+use Rattle.ya_core.proofs.Rivalry.{nearer_or_stuck, not_both, not_both_stuck, stuck_level}
+use Rattle.ya_core.proofs.Picks.{is_picked, picked_steps, others_stay, stuck_stays, was_stuck, rival_stays}
 use Rattle.ya_core.proofs.NextPoints.{few_points, same_points, Onward, onward, is_past_the_root, Outward, outward}
 use Rattle.ya_core.proofs.NextPoints.{past_by_out}
 use Rattle.ya_core.proofs.FairRuns.{sooner, until, ends}
 
-module _ (levels : ℕ) (some : 1 ≤ levels) (schedule : ℕ → ℕ) (states : ℕ → State)
+module _ (levels : ℕ) (some : 1 ≤ levels) (schedule : ℕ → Option ℕ) (states : ℕ → State)
     (sound : (time : ℕ) → IsSoundState levels (states time))
-    (step : (time : ℕ) → StepsTo levels (schedule time) (states time) (states (time + 1)))
+    (step : (time : ℕ) → PickLeadsTo levels (schedule time) (states time) (states (time + 1)))
     (fair : (place time : ℕ) → (states time).processes place ≢ Idle
-    → Eventually time (λ later. schedule later ≡ place)) where
+    → Eventually time (λ later. schedule later ≡ Some place)) where
   -- the process of a place at a time
   abbrev at : ℕ → ℕ → Process
   at place time = (states time).processes place
 
   -- the process of a place that is picked goes on as its row says, any other stays
-  stepped : (p n : ℕ) → schedule n ≡ p
+  stepped : (p n : ℕ) → schedule n ≡ Some p
       → at p (n + 1) ≡ next_of levels p (at p n) (value_of (states n).words (access_of levels p (at p n)))
-  stepped p n picks =
-      subst
-      (λ q. at q (n + 1) ≡ next_of levels q (at q n) (value_of (states n).words (access_of levels q (at q n)))) picks
-      (step n).process
+  stepped p n picks = (picked_steps levels (schedule n) (states n) (states (n + 1)) p (step n) picks).process
 
-  stayed : (p n : ℕ) → schedule n ≢ p → at p (n + 1) ≡ at p n
-  stayed p n other = (step n).others p (λ same. other (sym same))
+  stayed : (p n : ℕ) → schedule n ≢ Some p → at p (n + 1) ≡ at p n
+  stayed p n other = others_stay levels (schedule n) (states n) (states (n + 1)) p (step n) other
 
   -- a place isn't stuck at a time
   abbrev IsFree : ℕ → ℕ → Type 0
@@ -56,7 +54,7 @@ module _ (levels : ℕ) (some : 1 ≤ levels) (schedule : ℕ → ℕ) (states :
       by_step (inr stuck) = inr stuck
 
   -- the step of one who isn't stuck takes it nearer
-  comes_nearer : (p n : ℕ) → IsFree p n → schedule n ≡ p
+  comes_nearer : (p n : ℕ) → IsFree p n → schedule n ≡ Some p
       → points_of levels (at p (n + 1)) false < points_of levels (at p n) true
   comes_nearer p n ready picks = subst (λ x. points_of levels x false < points_of levels (at p n) true)
       (sym (stepped p n picks)) (by_step (nearer_or_stuck levels some (states n) (sound n) p))
@@ -86,13 +84,13 @@ module _ (levels : ℕ) (some : 1 ≤ levels) (schedule : ℕ → ℕ) (states :
       (λ n ready idle. (let both = sym ready.0 ∙ idle in cc)) keeps
       (λ n ready later picks. absurd (moves n ready later picks)) n ready
     where
-      nearer_now : (n : ℕ) → Ready p (Entering level point) n → schedule n ≡ p
+      nearer_now : (n : ℕ) → Ready p (Entering level point) n → schedule n ≡ Some p
           → points_of levels (at p (n + 1)) false < points_of levels (Entering level point) false
       nearer_now n ready picks =
           subst (λ x. points_of levels (at p (n + 1)) false < points_of levels x true) ready.0
           (comes_nearer p n ready.1 picks)
 
-      moves : (n : ℕ) → Ready p (Entering level point) n → Ready p (Entering level point) (n + 1) → schedule n ≡ p → ⊥
+      moves : (n : ℕ) → Ready p (Entering level point) n → Ready p (Entering level point) (n + 1) → schedule n ≡ Some p → ⊥
       moves n ready later picks =
           let less = nearer_now n ready picks in
           let same : points_of levels (at p (n + 1)) false ≡ points_of levels (Entering level point) false =
@@ -100,23 +98,21 @@ module _ (levels : ℕ) (some : 1 ≤ levels) (schedule : ℕ → ℕ) (states :
 
       keeps : (n : ℕ) → Ready p (Entering level point) n
           → Nearer p level point (n + 1) ⊎ Ready p (Entering level point) (n + 1)
-      keeps n ready = by_place (schedule n == p) refl
+      keeps n ready = by_place (is_picked (schedule n) p)
         where
-          by_place : (b : Bool) → (schedule n == p) ≡ b
+          by_place : (schedule n ≡ Some p) ⊎ (schedule n ≢ Some p)
               → Nearer p level point (n + 1) ⊎ Ready p (Entering level point) (n + 1)
-          by_place true own =
-              let picks : schedule n ≡ p = grind (arith, nat_tests) in
+          by_place (inl picks) =
               let v = value_of (states n).words (access_of levels p (at p n)) in
               let now : at p (n + 1) ≡ entry_next levels level p point v =
               stepped p n picks ∙ ap (λ x. next_of levels p x v) ready.0 in
               inl (nearer_now n ready picks, subst (Onward level) (sym now) (onward levels level p point v))
-          by_place false other =
-              let apart : schedule n ≢ p = grind (arith, nat_tests) in
+          by_place (inr other) =
               inr (
-                stayed p n apart ∙ ready.0,
+                stayed p n other ∙ ready.0,
                 λ l stuck. ready.1 l
-                    (stuck_before levels some (states n) (sound n) (schedule n) (states (n + 1)) (step n)
-                    (sound (n + 1)) p l apart stuck),
+                    (was_stuck levels some (schedule n) (states n) (states (n + 1)) (step n) (sound n)
+                    (sound (n + 1)) p l other stuck),
               )
 
   -- who is past the root is idle at some time, or what is to end before ended
@@ -133,7 +129,7 @@ module _ (levels : ℕ) (some : 1 ≤ levels) (schedule : ℕ → ℕ) (states :
         let here = stuck_at levels (states n) some (sound n) p l stuck in
         let none = subst (λ x. IsTrue (is_past_the_root x)) here.1 leaves.1 in cc
 
-    leaves_out : (n : ℕ) → Leaves n → schedule n ≡ p → Outward (at p (n + 1))
+    leaves_out : (n : ℕ) → Leaves n → schedule n ≡ Some p → Outward (at p (n + 1))
     leaves_out n leaves picks =
         subst Outward (sym (stepped p n picks))
         (outward levels p (at p n) (value_of (states n).words (access_of levels p (at p n))) leaves.1)
@@ -141,21 +137,21 @@ module _ (levels : ℕ) (some : 1 ≤ levels) (schedule : ℕ → ℕ) (states :
     leaves_keeps : (n : ℕ) → Leaves n → So (n + 1) ⊎ Leaves (n + 1)
     leaves_keeps n leaves = by_step (keeps n leaves.0)
       where
-        by_place : While (n + 1) → (b : Bool) → (schedule n == p) ≡ b → So (n + 1) ⊎ Leaves (n + 1)
-        by_place goes true own = by_out (leaves_out n leaves (grind (arith, nat_tests)))
+        by_place : While (n + 1) → (schedule n ≡ Some p) ⊎ (schedule n ≢ Some p) → So (n + 1) ⊎ Leaves (n + 1)
+        by_place goes (inl picks) = by_out (leaves_out n leaves picks)
           where
             by_out : Outward (at p (n + 1)) → So (n + 1) ⊎ Leaves (n + 1)
             by_out (inl idle) = inl (busy (n + 1) goes idle)
             by_out (inr way) = inr (goes, past_by_out (at p (n + 1)) way)
-        by_place goes false other =
-            let same : at p (n + 1) ≡ at p n = stayed p n (grind (arith, nat_tests)) in
+        by_place goes (inr other) =
+            let same : at p (n + 1) ≡ at p n = stayed p n other in
             inr (goes, subst (λ x. IsTrue (is_past_the_root x)) (sym same) leaves.1)
 
         by_step : So (n + 1) ⊎ While (n + 1) → So (n + 1) ⊎ Leaves (n + 1)
         by_step (inl ends) = inl ends
-        by_step (inr goes) = by_place goes (schedule n == p) refl
+        by_step (inr goes) = by_place goes (is_picked (schedule n) p)
 
-    leaves_falls : (n : ℕ) → Leaves n → Leaves (n + 1) → schedule n ≡ p
+    leaves_falls : (n : ℕ) → Leaves n → Leaves (n + 1) → schedule n ≡ Some p
         → points_of levels (at p (n + 1)) true < points_of levels (at p n) true
     leaves_falls n leaves later picks = by_out (leaves_out n leaves picks)
       where
@@ -181,7 +177,7 @@ module _ (levels : ℕ) (some : 1 ≤ levels) (schedule : ℕ → ℕ) (states :
     held_keeps n held = by_state (free_or_stuck p (n + 1))
       where
         same : at p (n + 1) ≡ Entering level point
-        same = stands_still levels some (states n) (sound n) (schedule n) (states (n + 1)) (step n) (sound (n + 1)) p
+        same = stuck_stays levels some (schedule n) (states n) (states (n + 1)) (step n) (sound n) (sound (n + 1)) p
             level held.stuck ∙ held.stands
 
         by_state : IsFree p (n + 1) ⊎ ((l : ℕ) × IsStuck (states (n + 1)) p l)
@@ -194,7 +190,7 @@ module _ (levels : ℕ) (some : 1 ≤ levels) (schedule : ℕ → ℕ) (states :
               stands = same;
               stuck = still;
               competing =
-                  still_competes levels some (states n) (sound n) (schedule n) (states (n + 1)) (step n)
+                  rival_stays levels some (schedule n) (states n) (states (n + 1)) (step n) (sound n)
                   (sound (n + 1)) p level q still rivals held.competing;
             })
 
@@ -240,27 +236,27 @@ module _ (levels : ℕ) (some : 1 ≤ levels) (schedule : ℕ → ℕ) (states :
         keeps : (n : ℕ) → Here n → (Ready p (Entering level point) (n + 1) ⊎ Gone (n + 1)) ⊎ Here (n + 1)
         keeps n here = by_step (held_keeps n here.0)
           where
-            by_place : HeldUp (n + 1) → (b : Bool) → (schedule n == q) ≡ b
+            by_place : HeldUp (n + 1) → (schedule n ≡ Some q) ⊎ (schedule n ≢ Some q)
                 → (Ready p (Entering level point) (n + 1) ⊎ Gone (n + 1)) ⊎ Here (n + 1)
-            by_place held true own =
+            by_place held (inl picks) =
                 let v = value_of (states n).words (access_of levels q (at q n)) in
                 let now : at q (n + 1) ≡ entry_next levels level q here.1.0 v =
-                stepped q n (grind (arith, nat_tests)) ∙ ap (λ x. next_of levels q x v) here.1.1 in
+                stepped q n picks ∙ ap (λ x. next_of levels q x v) here.1.1 in
                 by_next (subst (Onward level) (sym now) (onward levels level q here.1.0 v))
               where
                 by_next : Onward level (at q (n + 1))
                     → (Ready p (Entering level point) (n + 1) ⊎ Gone (n + 1)) ⊎ Here (n + 1)
                 by_next (inl there) = inr (held, there)
                 by_next (inr gone) = inl (inr (held, gone))
-            by_place held false other =
-                inr (held, (here.1.0, stayed q n (grind (arith, nat_tests)) ∙ here.1.1))
+            by_place held (inr other) =
+                inr (held, (here.1.0, stayed q n other ∙ here.1.1))
 
             by_step : Ready p (Entering level point) (n + 1) ⊎ HeldUp (n + 1)
                 → (Ready p (Entering level point) (n + 1) ⊎ Gone (n + 1)) ⊎ Here (n + 1)
             by_step (inl ready) = inl (inl ready)
-            by_step (inr held) = by_place held (schedule n == q) refl
+            by_step (inr held) = by_place held (is_picked (schedule n) q)
 
-        falls : (n : ℕ) → Here n → Here (n + 1) → schedule n ≡ q
+        falls : (n : ℕ) → Here n → Here (n + 1) → schedule n ≡ Some q
             → points_of levels (at q (n + 1)) false < points_of levels (at q n) false
         falls n here later picks =
             let less = comes_nearer q n ready picks in

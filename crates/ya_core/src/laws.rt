@@ -1,7 +1,7 @@
 //! What holds of every run of the lock's core, whatever the order in which the places step: laws of the definitions by
 //! which the walker and the machine are specified. Each is a function with an empty body, whose contract is the law.
 
-ghost use Rattle.std.specs.Prelude.{◌≡◌, ◌≢◌, ℕ, ◌+◌, ◌*◌, ◌^◌, ◌<◌, ◌≤◌, ◌⊎◌, IsTrue, List, ◌∷◌, ◌++◌};
+ghost use Rattle.std.specs.Prelude.{◌≡◌, ◌≢◌, ℕ, ◌+◌, ◌*◌, ◌^◌, ◌<◌, ◌≤◌, ◌⊎◌, IsTrue, Option, Some, List, ◌∷◌, ◌++◌};
 ghost use Rattle.ya_core.specs.declared.word.Word.{Word};
 ghost use Rattle.ya_core.specs.ArbitrationTree.{IsWord, number_of, count_of_words};
 ghost use Rattle.ya_core.specs.Steps.{State, StepsTo, LeadTo, opening, access_of, value_of};
@@ -9,7 +9,7 @@ ghost use Rattle.ya_core.specs.Soundness.{IsSoundState};
 ghost use Rattle.ya_core.specs.declared.process.Process.TheVariants as process;
 ghost use Rattle.ya_core.specs.Progress.{SomeoneGoesOn, SomeoneGoesOnIn, CanLeadTo, LevelStep, announces};
 ghost use Rattle.ya_core.specs.Progress.{LevelSees, HasNotWon, times_overtaken};
-ghost use Rattle.ya_core.specs.Fairness.{IsRunOfSchedule, IsFair, Eventually, is_on_way_in, is_on_way_out};
+ghost use Rattle.ya_core.specs.Fairness.{IsRunOfSchedule, IsFair, PicksEachAgain, Eventually, is_on_way_in, is_on_way_out};
 ghost use Rattle.ya_core.specs.WalkerModel.{Walk, IsWalk, BeginsEntry, BeginsExit, WalkLeadsTo, AccessIsWithin, MayFind};
 ghost use Rattle.ya_core.specs.Worlds.{Marked, World, Event, WorldSteps, WorldAppends};
 ghost use Rattle.ya_core.specs.Worlds.{IsReached, Runs, IsInside, EachMayFollow, any_entry, entries_of, places_of};
@@ -80,26 +80,32 @@ pub fn no_deadlock<X>()
         → world.state.processes place ≢ process.Idle → SomeoneGoesOnIn levels world }
 {}
 
-/// Nobody starves: in the run of a fair schedule a place that is on its way in is inside then or later, and one that is
-/// inside or on its way out is idle then or later. A schedule is fair where each place that isn't idle takes a step
-/// then or later. Each schedule of places of the tree has a run, and one alone, and some schedule is fair.
+/// Nobody starves: in the run of a fair schedule, from any state where the invariant holds, a place that is on its way in
+/// is inside then or later, and one that is inside or on its way out is idle then or later. A schedule picks at each time
+/// a place, which steps, or none; so a run that ends has one too. It is fair where each place that isn't idle is picked
+/// then or later. Each schedule of places of the tree has a run from each state, and one alone. Some schedule is fair from
+/// each state where the invariant holds, and gives each place its turn again and again.
 pub fn starvation_freedom()
-    ensures inside { (levels : ℕ) (schedule : ℕ → ℕ) (states : ℕ → State)
-        → 1 ≤ levels → IsRunOfSchedule levels schedule states → IsFair schedule states
+    ensures inside { (levels : ℕ) (schedule : ℕ → Option ℕ) (first : State) (states : ℕ → State)
+        → 1 ≤ levels → IsSoundState levels first → IsRunOfSchedule levels schedule first states
+        → IsFair schedule states
         → (place time : ℕ) → IsTrue (is_on_way_in ((states time).processes place))
         → Eventually time (λ later. IsInside (states later) place) }
-    ensures idle { (levels : ℕ) (schedule : ℕ → ℕ) (states : ℕ → State)
-        → 1 ≤ levels → IsRunOfSchedule levels schedule states → IsFair schedule states
+    ensures idle { (levels : ℕ) (schedule : ℕ → Option ℕ) (first : State) (states : ℕ → State)
+        → 1 ≤ levels → IsSoundState levels first → IsRunOfSchedule levels schedule first states
+        → IsFair schedule states
         → (place time : ℕ)
         → IsInside (states time) place ⊎ IsTrue (is_on_way_out ((states time).processes place))
         → Eventually time (λ later. (states later).processes place ≡ process.Idle) }
-    ensures run { (levels : ℕ) (schedule : ℕ → ℕ) → ((time : ℕ) → schedule time < 2 ^ levels)
-        → (states : ℕ → State) × IsRunOfSchedule levels schedule states }
-    ensures one { (levels : ℕ) (schedule : ℕ → ℕ) (states other : ℕ → State)
-        → IsRunOfSchedule levels schedule states → IsRunOfSchedule levels schedule other
+    ensures run { (levels : ℕ) (schedule : ℕ → Option ℕ) (first : State)
+        → ((time place : ℕ) → schedule time ≡ Some place → place < 2 ^ levels)
+        → (states : ℕ → State) × IsRunOfSchedule levels schedule first states }
+    ensures one { (levels : ℕ) (schedule : ℕ → Option ℕ) (first : State) (states other : ℕ → State)
+        → IsRunOfSchedule levels schedule first states → IsRunOfSchedule levels schedule first other
         → (time : ℕ) → other time ≡ states time }
-    ensures fair { (levels : ℕ) → 1 ≤ levels
-        → (schedule : ℕ → ℕ) × (states : ℕ → State) × IsRunOfSchedule levels schedule states × IsFair schedule states }
+    ensures fair { (levels : ℕ) (first : State) → 1 ≤ levels → IsSoundState levels first
+        → (turns : ℕ → ℕ) × (states : ℕ → State) × IsRunOfSchedule levels (λ time. Some (turns time)) first states
+        × IsFair (λ time. Some (turns time)) states × PicksEachAgain levels turns }
 {}
 
 /// In every run, from a place's store of T at a node until it wins that node, the other side wins the node at most
