@@ -361,7 +361,7 @@ fn files<'a>(alloc: Global) -> Arg<'a> {
         .value_name("FILE")
         .required(true)
         .num_args(1..)
-        .help("Feed files, 1 to 64: one command a line")
+        .help("Feed files, 1 to 64: one command a line; /dev/stdin may be one")
 }
 
 fn replay_command<'a>(alloc: Global) -> Result<Command<'a>, AllocError> {
