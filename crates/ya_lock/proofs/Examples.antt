@@ -19,6 +19,8 @@ use Rattle.ya_lock.specs.declared.view.View.TheVariants.{Unused, Making, Filling
 use Rattle.ya_lock.specs.Rule.{index_of, making_index, words_in, place_of_view, GlobalView, IsBegun, ViewFits, Rule}
 use Rattle.ya_lock.specs.LockState.{IsOf, IsFilling, IsMaking, HasProcess, IsAway, NoneInside, ShowsCore, GoesOn, SomeSeatGoesOn}
 use Rattle.ya_lock.specs.LockState.{OneSeatAPlace, OneInside, IsInSlot, IsFresh, IsMadeByOne, IsLockState}
+use Rattle.ya_lock.specs.Lock.{LockId, IdlePass, OpenGuard, new_pass, guard_of, pass_of}
+use Rattle.ya_lock.specs.GuardLends.{guard_with_value}
 use Rattle.ya_lock.proofs.Words.{words_zero, words_behind}
 
 -- index_of
@@ -452,3 +454,30 @@ once_both_passes_were_made = (
 not_in_a_row_without_bells : ¬ Rule raised 1 both_away
 unfolding making_index count_of_words
 not_in_a_row_without_bells h = let wide : 41 ≡ 64 = h.1.wide in omega (arith, wide)
+
+-- the pass of place 1, which has entered never; its guard, which found 9 after three remote accesses; and the pass again,
+-- once the guard left 8
+abbrev a_new_pass : LockId → IdlePass ℕ
+a_new_pass lock = new_pass lock 1 7
+
+abbrev its_guard : LockId → OpenGuard ℕ
+its_guard lock = guard_of (a_new_pass lock) 9 3
+
+abbrev its_pass_again : LockId → IdlePass ℕ
+its_pass_again lock = pass_of (guard_with_value (its_guard lock) 8) 5
+
+-- new_pass
+one_that_has_entered_never : (lock : LockId) → (a_new_pass lock).view ≡ Seated 1 Idle 7 0
+one_that_has_entered_never lock = refl
+
+-- guard_of
+its_process_is_inside : (lock : LockId) → (its_guard lock).view ≡ Seated 1 Inside 9 3
+its_process_is_inside lock = refl
+
+-- guard_with_value
+it_stays_inside : (lock : LockId) → (guard_with_value (its_guard lock) 8).view ≡ Seated 1 Inside 9 3
+it_stays_inside lock = refl
+
+-- pass_of
+its_process_is_idle : (lock : LockId) → (its_pass_again lock).view ≡ Seated 1 Idle 8 5
+its_process_is_idle lock = refl

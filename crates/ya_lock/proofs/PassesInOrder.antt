@@ -1,7 +1,9 @@
 -- The passes that are made in order.
 use Rattle.std.proofs.Common.{◌≡◌, ℕ, zero, suc, ◌+◌, ◌<◌, List, [], ◌∷◌, ◌++◌, length, slice_get, Some, refl, sym, ap}
 use Rattle.std.proofs.Common.{◌∙◌, arith, subst}
-use Rattle.ya_lock.specs.Lock.{LockId, IdlePass}
+use Rattle.ya_core.specs.declared.process.Process.TheVariants.{Idle}
+use Rattle.ya_lock.specs.declared.view.View.TheVariants.{Seated}
+use Rattle.ya_lock.specs.Lock.{LockId, IdlePass, new_pass}
 use native.Mathlib.Decide.{ℕ_discrete}
 
 module _ {X : Type 0} where
@@ -29,9 +31,9 @@ module _ {X : Type 0} where
 -- the same of the passes that `new` makes, whose parts are told one by one
 pub one_more_pass : {V : Type 0} (lock : LockId) (seen : V) (l items : List (IdlePass V)) (n : ℕ) (x : IdlePass V)
     → items ≡ l ++ x ∷ [] → length l ≡ n → x.lock ≡ lock → x.place ≡ n → x.seen ≡ seen → x.remote ≡ 0
-    → ((k : ℕ) → k < n → slice_get l k ≡ Some (record { lock = lock; place = k; seen = seen; remote = 0 })) → (k : ℕ)
-    → k < n + 1 → slice_get items k ≡ Some (record { lock = lock; place = k; seen = seen; remote = 0 })
-one_more_pass {V} lock seen l items n x e long a b c d all k h =
-    let f : ℕ → IdlePass V = λ j. record { lock = lock; place = j; seen = seen; remote = 0 } in
+    → x.view ≡ Seated n Idle seen 0 → ((k : ℕ) → k < n → slice_get l k ≡ Some (new_pass lock k seen)) → (k : ℕ)
+    → k < n + 1 → slice_get items k ≡ Some (new_pass lock k seen)
+one_more_pass {V} lock seen l items n x e long a b c d v all k h =
+    let f : ℕ → IdlePass V = λ j. new_pass lock j seen in
     subst (λ (m : List (IdlePass V)). slice_get m k ≡ Some (f k)) (sym e)
-    (one_more f l n x long (λ j. record { lock = a j; place = b j; seen = c j; remote = d j }) all k h)
+    (one_more f l n x long (λ j. record { lock = a j; place = b j; seen = c j; remote = d j; view = v j }) all k h)

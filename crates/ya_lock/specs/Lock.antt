@@ -2,38 +2,58 @@
 use Rattle.std.specs.Prelude.{◌≡◌, ℕ, ◌^◌, ◌<◌, List, length, slice_get}
 use Rattle.std.specs.Prelude.{Some}
 use Rattle.atomic_table.specs.Seated.{TableId}
+use Rattle.ya_core.specs.declared.process.Process.TheVariants.{Idle, Inside}
+use Rattle.ya_lock.specs.declared.view.View.{View}
+use Rattle.ya_lock.specs.declared.view.View.TheVariants.{Seated}
 
 -- which lock it is: that of no other lock is the same
 abbrev pub LockId : Type 0
 LockId = TableId
 
--- a pass: its lock and place, what it has seen of the lent value, and the remote accesses of its last passage
+-- a pass: its lock and place, what it has seen of the lent value, the remote accesses of its last passage, and the view
+-- of its seat
 pub record IdlePass (V : Type 0) : Type 0 where
   pub lock : LockId
   pub place : ℕ
   pub seen : V
   pub remote : ℕ
+  pub view : View V
 
--- a guard: its lock and place, the lent value as it was found and as it is now, and the remote accesses of its entry
+-- a guard: its lock and place, the lent value as it was found and as it is now, the remote accesses of its entry, and the
+-- view of its seat
 pub record OpenGuard (V : Type 0) : Type 0 where
   pub lock : LockId
   pub place : ℕ
   pub found : V
   pub value : V
   pub remote : ℕ
+  pub view : View V
 
--- the guard that a pass becomes, whose entry found this value and made so many remote accesses
+-- the guard that a pass becomes, whose entry found this value and made so many remote accesses: its process is inside
 abbrev pub guard_of : {V : Type 0} → IdlePass V → V → ℕ → OpenGuard V
-guard_of pass found remote =
-    record { lock = pass.lock; place = pass.place; found = found; value = found; remote = remote }
+guard_of pass found remote = record {
+  lock = pass.lock;
+  place = pass.place;
+  found = found;
+  value = found;
+  remote = remote;
+  view = Seated pass.place Inside found remote;
+}
 
--- the pass that a guard becomes: it has seen the value that the guard leaves
+-- the pass that a guard becomes: it has seen the value that the guard leaves, and its process is idle
 abbrev pub pass_of : {V : Type 0} → OpenGuard V → ℕ → IdlePass V
-pass_of guard remote = record { lock = guard.lock; place = guard.place; seen = guard.value; remote = remote }
+pass_of guard remote = record {
+  lock = guard.lock;
+  place = guard.place;
+  seen = guard.value;
+  remote = remote;
+  view = Seated guard.place Idle guard.value remote;
+}
 
--- the pass of a place that has not been inside yet
+-- the pass of a place that has not been inside yet: its process is idle
 abbrev pub new_pass : {V : Type 0} → LockId → ℕ → V → IdlePass V
-new_pass lock place value = record { lock = lock; place = place; seen = value; remote = 0 }
+new_pass lock place value =
+    record { lock = lock; place = place; seen = value; remote = 0; view = Seated place Idle value 0 }
 
 -- the passes of all places of a lock of so many levels in order, each of which has seen the value
 pub record ArePassesInOrder {V : Type 0} (lock : LockId) (levels : ℕ) (value : V) (passes : List (IdlePass V)) : Type 0 where

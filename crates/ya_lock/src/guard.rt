@@ -9,7 +9,8 @@ use crate::rule::LockSeat;
 use std::marker::Model;
 
 /// The lent value, while the place of a pass is inside. Spend it by `leave` or `close`. Contracts see its lock, its
-/// place, the value as it was found at the entry and as it is now, and how many remote accesses the entry made.
+/// place, the value as it was found at the entry and as it is now, how many remote accesses the entry made, and the view
+/// of its seat.
 pub struct Guard<V> {
     pub(crate) seat: LockSeat<V>,
     pub(crate) place: usize,
@@ -31,6 +32,7 @@ impl<V> Model for Guard<V> {
       found = g.found.value;
       value = g.value;
       remote = g.remote;
+      view = g.seat.me.0;
     } };
 
     ghost invariant = { λ g. SeatInside g.seat.table_id g.place g.found.value g.remote g.seat.me };

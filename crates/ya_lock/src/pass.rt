@@ -6,7 +6,7 @@ use crate::rule::LockSeat;
 use std::marker::Model;
 
 /// The right to enter one lock from one place, while the place is away. Contracts see its lock, its place, the lent
-/// value as the pass has last seen it, and how many remote accesses its last passage made.
+/// value as the pass has last seen it, how many remote accesses its last passage made, and the view of its seat.
 #[derive(Drop)]
 pub struct Pass<V> {
     pub(crate) seat: LockSeat<V>,
@@ -28,6 +28,7 @@ impl<V> Model for Pass<V> {
       place = p.place;
       seen = p.seen.value;
       remote = p.remote;
+      view = p.seat.me.0;
     } };
 
     ghost invariant = { λ p. SeatIdle p.seat.table_id p.place p.seen.value p.remote p.seat.me };

@@ -1,10 +1,12 @@
-use Rattle.std.proofs.Common.{arith, refl, ◌≡◌, ℕ, ◌-◌, ◌^◌, ◌≤◌, sym, ap, ◌∙◌, subst, vec_len}
+use Rattle.std.proofs.Common.{arith, refl, ◌≡◌, ℕ, ◌-◌, ◌^◌, ◌≤◌, [], sym, ap, ◌∙◌, subst, vec_len}
 use Rattle.atomic_table.specs.Table.{Allows, Splits}
 use Rattle.std.specs.Prelude.{Option}
 use Rattle.atomic_table.specs.Table.{Me}
 use Rattle.std.proofs.lemmas.Nat.{pow_pos}
+use Rattle.ya_core.specs.declared.process.Process.TheVariants.{Idle}
 use Rattle.ya_lock.specs.Lock.{IdlePass}
 use Rattle.ya_lock.specs.declared.view.View.{View}
+use Rattle.ya_lock.specs.declared.view.View.TheVariants.{Seated}
 use Rattle.ya_lock.specs.Rule.{Rule}
 use Rattle.ya_lock.specs.inside.StepEffects.{handed_out, rest_to_hand_out, HandsOutLast}
 use Rattle.ya_lock.proofs.NewSteps.{splits, ends}
@@ -32,14 +34,22 @@ loop-place-preserved g c =
     let i = c.loop-place.invariant in let e = c.split_seat-seat.ensures in let p = c.push_reserved.ensures in
     let n : ℕ = c.loop-place.place in
     let x : IdlePass g.row.V.Denot =
-    record { lock = c.split_seat-seat.result.table_id; place = n; seen = c.again.result.value; remote = 0 } in
+    record {
+      lock = c.split_seat-seat.result.table_id;
+      place = n;
+      seen = c.again.result.value;
+      remote = 0;
+      view = c.split_seat-seat.result.me.0;
+    } in
     record {
       same = e.0 ∙ i.same;
       view = e.2 ∙ ap (λ (m : Me (Option g.row.V.Denot) (View g.row.V.Denot)). (rest_to_hand_out m.0, m.1)) i.view;
       count = omega (arith, p.len, i.count);
       made = one_more_pass c.args.self.now c.args.seen.value c.loop-place.passes.items c.push_reserved.new.self.items n
           x p.items (sym c.loop-place.passes.ok.0 ∙ i.count) (e.3 ∙ i.same)
-          refl c.again.ensures refl i.made;
+          refl c.again.ensures refl
+          (ap (λ (m : Me (Option g.row.V.Denot) (View g.row.V.Denot)). m.0) e.4
+          ∙ ap (λ (m : Me (Option g.row.V.Denot) (View g.row.V.Denot)). handed_out m.0) i.view) i.made;
       capacity = subst (λ (m : ℕ). 2 ^ g.row.L ≤ m) (sym p.capacity) i.capacity;
     }
 
@@ -72,12 +82,16 @@ returns g c =
       place = c.places-last.result - 1;
       seen = c.args.seen.value;
       remote = 0;
+      view = c.load.new.seat.me.0;
     } in
+    let last_view : c.load.new.seat.me ≡ (Seated n Idle c.args.seen.value 0, []) =
+    subst (λ (m : Me (Option g.row.V.Denot) (View g.row.V.Denot)). HandsOutLast m.0 m.1 c.load.new.seat.me) i.view e.2 in
     let held : vec_len c.loop-place.passes ≡ n = i.count in
     record {
       count = omega (arith, p.len);
       each = λ k h.
           one_more_pass c.args.self.now c.args.seen.value c.loop-place.passes.items c.push_reserved-2.new.self.items n x
           p.items (sym c.loop-place.passes.ok.0 ∙ i.count) (e.0 ∙ i.same)
-          last refl refl i.made k (omega arith);
+          last refl refl
+          (ap (λ (m : Me (Option g.row.V.Denot) (View g.row.V.Denot)). m.0) last_view) i.made k (omega arith);
     }
