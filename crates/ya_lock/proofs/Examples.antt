@@ -8,15 +8,16 @@ use lib.ListN.{get_elem?}
 use Rattle.atomic_table.specs.Table.{State}
 use Rattle.ya_core.specs.declared.word.Word.{Word}
 use Rattle.ya_core.specs.declared.word.Word.TheVariants.{C, P}
-use Rattle.ya_core.specs.declared.process.EntryPoint.TheVariants.{E8}
+use Rattle.ya_core.specs.declared.process.EntryPoint.TheVariants.{E1, E2, E3, E4, E8}
+use Rattle.ya_core.specs.declared.process.ExitPoint.TheVariants.{X1}
 use Rattle.ya_core.specs.declared.process.Process.{Process}
-use Rattle.ya_core.specs.declared.process.Process.TheVariants.{Idle, Entering, Inside}
+use Rattle.ya_core.specs.declared.process.Process.TheVariants.{Idle, Entering, Inside, Leaving}
 use Rattle.ya_core.specs.ArbitrationTree.{node_of, side_of, number_of, count_of_words}
 use Rattle.ya_core.specs.Soundness.{IsSoundState, claims, phase_of}
 use Rattle.ya_core.proofs.Promised.{opens}
 use Rattle.ya_lock.specs.declared.view.View.{View}
 use Rattle.ya_lock.specs.declared.view.View.TheVariants.{Unused, Making, Filling, HandingOut, Seated, Joining, Spent}
-use Rattle.ya_lock.specs.Rule.{index_of, making_index, words_in, place_of_view, GlobalView, IsBegun, ViewFits, Rule}
+use Rattle.ya_lock.specs.Rule.{index_of, making_index, words_in, place_of_view, least_at, least_count, GlobalView, IsBegun, ViewFits, Rule}
 use Rattle.ya_lock.specs.LockState.{IsOf, IsFilling, IsMaking, HasProcess, IsAway, NoneInside, ShowsCore, GoesOn, SomeSeatGoesOn}
 use Rattle.ya_lock.specs.LockState.{OneSeatAPlace, OneInside, IsInSlot, IsFresh, IsMadeByOne, IsLockState}
 use Rattle.ya_lock.specs.Lock.{LockId, IdlePass, OpenGuard, new_pass, guard_of, pass_of}
@@ -427,9 +428,9 @@ has_begun unmade = let clash : 1 ≡ 0 = unmade in omega (arith, clash)
 
 its_view_fits : (seat : ℕ) (view : View ℕ) → get_elem? both_made.views seat ≡ some view → ViewFits raised 1 both_made both_are_away seat view
 its_view_fits zero view at =
-    subst (ViewFits raised 1 both_made both_are_away 0) (some-injective (Seated 0 Idle 7 0) view at) (has_begun, refl, refl, (7, refl, omega arith))
+    subst (ViewFits raised 1 both_made both_are_away 0) (some-injective (Seated 0 Idle 7 0) view at) (has_begun, refl, refl, (7, refl, omega arith), (let none : 0 ≤ 0 = omega arith in none))
 its_view_fits (suc zero) view at =
-    subst (ViewFits raised 1 both_made both_are_away 1) (some-injective (Seated 1 Idle 5 0) view at) (has_begun, refl, refl, (7, refl, omega arith))
+    subst (ViewFits raised 1 both_made both_are_away 1) (some-injective (Seated 1 Idle 5 0) view at) (has_begun, refl, refl, (7, refl, omega arith), (let none : 0 ≤ 0 = omega arith in none))
 its_view_fits (suc (suc seat)) view at = absurd (some-ne-none view (sym at))
 
 -- Rule
@@ -481,3 +482,39 @@ it_stays_inside lock = refl
 -- pass_of
 its_process_is_idle : (lock : LockId) → (its_pass_again lock).view ≡ Seated 1 Idle 8 5
 its_process_is_idle lock = refl
+
+-- least_at
+nothing_before_the_claim : least_at E1 ≡ 0
+nothing_before_the_claim = refl
+
+one_after_the_claim : least_at E2 ≡ 1
+one_after_the_claim = refl
+
+two_after_the_announcement : least_at E3 ≡ 2
+two_after_the_announcement = refl
+
+its_own_spin_word_does_not_count : least_at E4 ≡ 2
+its_own_spin_word_does_not_count = refl
+
+three_once_it_has_looked_for_a_rival : least_at E8 ≡ 3
+three_once_it_has_looked_for_a_rival = refl
+
+-- least_count
+a_place_that_is_idle_made_any_number : least_count 2 Idle ≡ 0
+a_place_that_is_idle_made_any_number = refl
+
+three_at_the_level_that_it_won : least_count 2 (Entering 2 E2) ≡ 4
+three_at_the_level_that_it_won = refl
+
+three_at_each_level_inside : least_count 2 Inside ≡ 6
+three_at_each_level_inside = refl
+
+still_so_on_its_way_out : least_count 2 (Leaving 1 X1) ≡ 6
+still_so_on_its_way_out = refl
+
+-- ViewFits
+no_count_is_reset_inside : (s : State (std.Option ℕ) (View ℕ)) (x : GlobalView ℕ) (seat : ℕ) → ¬ ViewFits raised 1 s x seat (Seated 0 Inside 7 0)
+no_count_is_reset_inside s x seat fits = let least : 3 ≤ 0 = fits.4 in omega (arith, least)
+
+nor_while_it_takes_in_a_pass : (s : State (std.Option ℕ) (View ℕ)) (x : GlobalView ℕ) (seat : ℕ) → ¬ ViewFits raised 1 s x seat (Joining 0 7 1 5 0)
+nor_while_it_takes_in_a_pass s x seat fits = let least : 3 ≤ 0 = fits.5 in omega (arith, least)

@@ -1,5 +1,5 @@
 -- A step of one process leaves the rule to the other seats.
-use Rattle.std.proofs.Common.{◌≡◌, ◌≢◌, ℕ, zero, suc, eqb, Bool, true, false, cond, List, [], ◌∷◌, ◌++◌, length, set}
+use Rattle.std.proofs.Common.{◌≡◌, ◌≢◌, ℕ, zero, suc, ◌≤◌, eqb, Bool, true, false, cond, List, [], ◌∷◌, ◌++◌, length, set}
 use Rattle.std.proofs.Common.{sym, refl, ap, ◌∙◌, subst, slice_index, ⊎_elim, eq-eqb, ne_eqb}
 use Rattle.std.specs.Prelude as std
 use mathlib.Core.Option.{Option, none, some, some-injective, some-ne-none}
@@ -13,7 +13,7 @@ use Rattle.ya_lock.specs.declared.view.View.{View}
 use Rattle.ya_lock.specs.declared.view.View.TheVariants.{Unused, Making, Filling, HandingOut, Seated, Joining, Spent}
 use Rattle.ya_lock.specs.inside.StepEffects.{Slots}
 use Rattle.ya_lock.proofs.Words.{word_kept}
-use Rattle.ya_lock.specs.Rule.{making_index, words_in, place_of_view, GlobalView, KnowsValue, ValueInSlot, ViewFits, Obeys, Rule}
+use Rattle.ya_lock.specs.Rule.{making_index, words_in, place_of_view, GlobalView, KnowsValue, ValueInSlot, least_count, ViewFits, Obeys, Rule}
 use Rattle.ya_core.specs.Worlds.{is_inside}
 
 -- what a seat has once its view was set
@@ -116,6 +116,7 @@ module _ {V : Type 0} (since : ℕ → V → V → Type 0) (levels : ℕ) where
         f.1,
         moved_else x.processes place process k other ∙ f.2,
         knows_later x place content k value (is_inside p) later other (ap is_inside f.2) f.3,
+        f.4,
       )
   other_fits s t x id place process content now is word here later seat (Joining k value j seen count) ne f =
       let other = other_place x place id k seat here f.1 ne in
@@ -125,6 +126,7 @@ module _ {V : Type 0} (since : ℕ → V → V → Type 0) (levels : ℕ) where
         moved_else x.processes place process k other ∙ f.2,
         both.0,
         both.1,
+        f.5,
       )
   other_fits s t x id place process content now is word here later seat Spent ne f = λ e. f (sym word ∙ e)
 
@@ -175,11 +177,12 @@ module _ {V : Type 0} (since : ℕ → V → V → Type 0) (levels : ℕ) where
       → length row ≡ length s.words → slice_index row (making_index levels) ≡ slice_index s.words (making_index levels)
       → IsSoundState levels (record { words = words_in levels row; processes = moved x.processes place process })
       → ValueInSlot since (moved x.processes place process) homes content
-      → KnowsValue since content place (is_inside process) next → Later x place content
+      → KnowsValue since content place (is_inside process) next → least_count levels process ≤ total
+      → Later x place content
       → Obeys since levels record { words = row; homes = homes; views = set s.views id (Seated place process next total) }
       (gone_on x place process content)
   goes_on s x o id place before process value next now then' count total content row homes at' begun here was is long word sound
-      lies knows later =
+      lies knows least later =
       let t : St = record { words = row; homes = homes; views = set s.views id (Seated place process next total) } in
       record {
         wide = long ∙ o.wide;
@@ -192,7 +195,7 @@ module _ {V : Type 0} (since : ℕ → V → V → Type 0) (levels : ℕ) where
         lies = lies;
         fits = λ seat view at. ⊎_elim
             (λ p. subst (λ (y : View V). ViewFits since levels t (gone_on x place process content) seat y) p.1
-            ((λ e. begun (sym word ∙ e)), here ∙ ap some (sym p.0), moved_here x.processes place process, knows))
+            ((λ e. begun (sym word ∙ e)), here ∙ ap some (sym p.0), moved_here x.processes place process, knows, least))
             (λ p. other_fits s t x id place process content now was word here later seat view p.0
             (o.fits seat view p.1))
             (at_set s.views id seat (Seated place process next total) view at);
@@ -207,8 +210,8 @@ module _ {V : Type 0} (since : ℕ → V → V → Type 0) (levels : ℕ) where
   refits s t x begun seat Making slot f = (begun f.0, f.1, f.2, slot f.1 ∙ f.3)
   refits s t x begun seat Filling slot f = (begun f.0, f.1, f.2, ap length (slot f.1) ∙ f.3)
   refits s t x begun seat (HandingOut first value) slot f = (begun f.0, f.1, f.2, f.3)
-  refits s t x begun seat (Seated place process value count) slot f = (begun f.0, f.1, f.2, f.3)
-  refits s t x begun seat (Joining place value other seen count) slot f = (begun f.0, f.1, f.2, f.3, f.4)
+  refits s t x begun seat (Seated place process value count) slot f = (begun f.0, f.1, f.2, f.3, f.4)
+  refits s t x begun seat (Joining place value other seen count) slot f = (begun f.0, f.1, f.2, f.3, f.4, f.5)
   refits s t x begun seat Spent slot f = begun f
 
   -- what a load that changes no word has to show

@@ -1,4 +1,5 @@
 pub mod Words
+pub mod LeastCounts
 pub mod Frames
 pub mod ProcessSteps
 pub mod NewSteps

@@ -308,6 +308,7 @@ module _ {V : Type 0} (since : ℕ → V → V → Type 0) (since_same : (place 
     seated_else x place number p (unseated x place p seat free f.1) ∙ f.1,
     f.2,
     f.3,
+    f.4,
   )
   handed_fits s t x id place number m free words homes seat (Joining p value other seen count) ne f = (
     subst (λ (r : List ℕ). slice_index r (making_index levels) ≢ 0) (sym words) f.0,
@@ -315,6 +316,7 @@ module _ {V : Type 0} (since : ℕ → V → V → Type 0) (since_same : (place 
     f.2,
     f.3,
     f.4,
+    f.5,
   )
   handed_fits s t x id place number m free words homes seat Spent ne f =
       subst (λ (r : List ℕ). slice_index r (making_index levels) ≢ 0) (sym words) f
@@ -364,6 +366,10 @@ module _ {V : Type 0} (since : ℕ → V → V → Type 0) (since_same : (place 
       sits_else since levels views id (HandingOut place value) (Seated place Idle value 0) at k seat
       (λ h. some-ne-none k (sym h)) (sits (sym (seated_else x place id k ne) ∙ e))
 
+  -- a place that has entered never made no remote access
+  nothing_yet : 0 ≤ 0
+  nothing_yet = omega arith
+
   -- the dealer splits off the pass of its first place
   pub splits : (id place : ℕ) (value : V) → place + 1 < 2 ^ levels
       → Splits (Rule since levels) id (HandingOut place value) (HandingOut (place + 1) value) (Seated place Idle value 0)
@@ -395,7 +401,7 @@ module _ {V : Type 0} (since : ℕ → V → V → Type 0) (since_same : (place 
               (λ p. handed_fits s t x id place (length views) f.1 here.0 refl refl seat view p.0 (o.fits seat view p.1))
               (at_set s.views id seat (HandingOut (place + 1) value) view old))
               (λ p. subst (λ (v : View V). ViewFits since levels t y seat v) p.1
-              (f.0, seated_here x place (length views) ∙ ap some (sym p.0), o.absent place here.0, here.1))
+              (f.0, seated_here x place (length views) ∙ ap some (sym p.0), o.absent place here.0, here.1, nothing_yet))
               (at_end views (Seated place Idle value 0) view seat there);
         },
       )
@@ -425,7 +431,7 @@ module _ {V : Type 0} (since : ℕ → V → V → Type 0) (since_same : (place 
             lies = o.lies;
             fits = λ seat view there. ⊎_elim
                 (λ p. subst (λ (v : View V). ViewFits since levels t y seat v) p.1
-                (f.0, seated_here x place id ∙ ap some (sym p.0), o.absent place here.0, here.1))
+                (f.0, seated_here x place id ∙ ap some (sym p.0), o.absent place here.0, here.1, nothing_yet))
                 (λ p. handed_fits s t x id place id f.1 here.0 refl refl seat view p.0 (o.fits seat view p.1))
                 (at_set s.views id seat w view there);
           },

@@ -26,6 +26,7 @@ use Rattle.ya_lock.specs.inside.StepEffects.{value_after, Slots, CarriesValue, P
 use Rattle.ya_core.proofs.Promised.{keeps as kept_by_step, finds, is_inside_is, excludes}
 use Rattle.ya_lock.proofs.Words.{index_below, word_in, word_set, word_set_other, word_kept}
 use Rattle.ya_lock.proofs.Frames.{moved, moved_here, moved_else, Same, Changed, gone_on, goes_on}
+use Rattle.ya_lock.proofs.LeastCounts.{least_kept}
 
 -- a process that leaves the inside isn't inside
 leaves : (levels place n : ℕ) (p : Process) → p ≡ Inside → is_inside (next_of levels place p n) ≡ false
@@ -181,7 +182,8 @@ module _ {V : Type 0} (since done : ℕ → V → V → Type 0) (since_same : (p
           gone_on since levels x place p' x.content,
           goes_on since levels s x o id place (x.processes place) p' value now now now count (total x place count) x.content (set s.words i n)
               (set s.homes 0 none) step.view f.0 f.1 knows.1 knows.1 step.long step.word step.sound after
-              (subst (λ (b : Bool). KnowsValue since x.content place b now) (sym is) knows.1) (Same refl),
+              (subst (λ (b : Bool). KnowsValue since x.content place b now) (sym is) knows.1)
+              (least_kept levels place (x.processes place) n count f.4) (Same refl),
         ),
         (
           step.found,
@@ -221,7 +223,8 @@ module _ {V : Type 0} (since done : ℕ → V → V → Type 0) (since_same : (p
           goes_on since levels s x o id place (x.processes place) p' value value knows.0 knows.0 count (total x place count) x.content
               (set s.words i n) s.homes step.view f.0 f.1 knows.1 knows.1 step.long step.word step.sound
               (same_lies x place p' s.homes x.content was is o.lies)
-              (subst (λ (b : Bool). KnowsValue since x.content place b value) (sym is) knows) (Same refl),
+              (subst (λ (b : Bool). KnowsValue since x.content place b value) (sym is) knows)
+              (least_kept levels place (x.processes place) n count f.4) (Same refl),
         ),
         (
           step.found,
@@ -263,6 +266,7 @@ module _ {V : Type 0} (since done : ℕ → V → V → Type 0) (since_same : (p
           goes_on since levels s x o id place (x.processes place) p' value next value next count (total x place count) (some next)
               (set s.words i n) homes step.view f.0 f.1 knows refl step.long step.word step.sound after
               (subst (λ (b : Bool). KnowsValue since (some next) place b next) (sym is) (next, refl, since_same place next))
+              (least_kept levels place (x.processes place) n count f.4)
               (Changed alone
               (λ other v ne k. (
                 next,

@@ -1,13 +1,15 @@
 -- The rule of the running lock: what its words, the lent value and all seats' views show between any two atomic steps.
-use Rattle.std.specs.Prelude.{◌≡◌, ◌≢◌, ℕ, ◌+◌, ◌*◌, ◌^◌, ◌<◌, ◌≤◌, Bool, true, false, if◌then◌else◌, List, [], ◌∷◌}
+use Rattle.std.specs.Prelude.{◌≡◌, ◌≢◌, ℕ, ◌+◌, ◌-◌, ◌*◌, ◌^◌, ◌<◌, ◌≤◌, Bool, true, false, if◌then◌else◌, List, [], ◌∷◌}
 use Rattle.std.specs.Prelude.{length, slice_index, None, Some}
 use Rattle.std.specs.Prelude as std
 use mathlib.Core.Option.{Option, none, some}
 use lib.ListN.{get_elem?}
 use Rattle.atomic_table.specs.Table.{State}
 use Rattle.ya_core.specs.declared.word.Word.{Word}
+use Rattle.ya_core.specs.declared.process.EntryPoint.{EntryPoint}
+use Rattle.ya_core.specs.declared.process.EntryPoint.TheVariants.{E1, E2, E3, E4}
 use Rattle.ya_core.specs.declared.process.Process.{Process}
-use Rattle.ya_core.specs.declared.process.Process.TheVariants.{Idle, Inside}
+use Rattle.ya_core.specs.declared.process.Process.TheVariants.{Idle, Entering, Inside, Leaving}
 use Rattle.ya_core.specs.ArbitrationTree.{number_of, count_of_words}
 use Rattle.ya_core.specs.Soundness.{IsSoundState}
 use Rattle.ya_core.specs.FlatRow.{is_word}
@@ -37,6 +39,21 @@ abbrev pub place_of_view : {V : Type 0} → View V → Option ℕ
 place_of_view (Seated place process value count) = some place
 place_of_view (Joining place value other seen count) = some place
 place_of_view _ = none
+
+-- how many remote accesses a process has made at least at a level, by the point where it stands on its way in
+abbrev pub least_at : EntryPoint → ℕ
+least_at E1 = 0
+least_at E2 = 1
+least_at E3 = 2
+least_at E4 = 2
+least_at _ = 3
+
+-- and how many since its last entry began: three at each level that it has won
+abbrev pub least_count : ℕ → Process → ℕ
+least_count levels Idle = 0
+least_count levels (Entering level point) = 3 * (level - 1) + least_at point
+least_count levels Inside = 3 * levels
+least_count levels (Leaving level point) = 3 * levels
 
 -- what all seats together show: the seat of each place, where one has its process; each place's process; the seat that
 -- makes the passes; and the lent value, once it was given
@@ -74,10 +91,10 @@ module _ {V : Type 0} (since : ℕ → V → V → Type 0) where
         × ((place : ℕ) → first ≤ place → (x.seat_of place ≡ none) × KnowsValue x.content place false value)
     ViewFits seat (Seated place process value count) =
         IsBegun × (x.seat_of place ≡ some seat) × (x.processes place ≡ process)
-        × KnowsValue x.content place (is_inside process) value
+        × KnowsValue x.content place (is_inside process) value × (least_count levels process ≤ count)
     ViewFits seat (Joining place value other seen count) =
         IsBegun × (x.seat_of place ≡ some seat) × (x.processes place ≡ Inside) × KnowsValue x.content place true value
-        × KnowsValue x.content other false seen
+        × KnowsValue x.content other false seen × (least_count levels Inside ≤ count)
     ViewFits seat Spent = IsBegun
 
     -- the global view is what the words, the value and the views show
