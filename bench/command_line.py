@@ -11,10 +11,14 @@ with a model of the tree, written from docs/FORMATS.md. How many commands are as
 import math
 import os
 import pathlib
+import pty
 import random
+import select
 import subprocess
 import sys
 import tempfile
+import time
+import tty
 
 from hostile import ROW, ROW_OUT, TOP, built, close_all, expect, failures, run
 
@@ -521,6 +525,69 @@ def closed_outputs(yarib):
         expect(f"{words} to a closed output", run([yarib, *words], stdout=None, preexec_fn=lambda: os.close(1)), wanted)
 
 
+# The line on a terminal, which is first written after a second
+
+ERASED = "\r" + " " * 32 + "\r"
+
+
+def on_terminal(words, told=None, go_on=lambda: None, out_too=False):
+    """Status, standard output, and what a terminal as standard error is sent beside the line; it may be standard output too.
+    Where the run is held up, the line has to say what is `told` before `go_on` is called, and may else say `OTHERS`."""
+    screen, terminal = pty.openpty()
+    tty.setraw(terminal)
+    child = subprocess.Popen(words, stdout=terminal if out_too else subprocess.PIPE, stderr=terminal)
+    os.close(terminal)
+    sent = b""
+    while told and told.encode() not in sent and select.select([screen], [], [], 60)[0]:
+        sent += os.read(screen, 65_536)
+    go_on()
+    out = child.communicate(timeout=120)[0] or b""
+    while piece := sent_to(screen):
+        sent += piece
+    os.close(screen)
+    *lines, rest = sent.decode().split(ERASED)
+    if told not in (lines or [None]) or not OTHERS.issuperset(lines):
+        rest = sent.decode()
+    return child.returncode, out.decode(), rest
+
+
+OTHERS = {"yarib: files read: 0 of 1", "yarib: files read: 1 of 2", "yarib: feeds running: 1", "yarib: feeds running: 2", "yarib: writing"}
+
+
+def sent_to(screen):
+    """What the terminal was sent and wasn't read yet; nothing once nobody can write to it."""
+    try:
+        return os.read(screen, 65_536)
+    except OSError:
+        return b""
+
+
+# Fails where a run of less than a second says something, or one that isn't on a terminal; where the line isn't erased before
+# another text and at the end; where nothing is said after a second.
+def progress(yarib):
+    os.mkfifo("slow.feed")
+    goes_on = lambda text: lambda: pathlib.Path("slow.feed").write_text(text)
+    fault = "yarib: slow.feed: faulty lines: 1, the first 1: E1: the first field is no command\n"
+    expect("a short run on a terminal", on_terminal([yarib, "run", "row.feed"]), (0, ROW_OUT, ""))
+    expect("a short run on a terminal alone", on_terminal([yarib, "run", "row.feed"], out_too=True), (0, "", ROW_OUT))
+    expect("a missing file on a terminal", on_terminal([yarib, "run", "missing"]), (4, "", "yarib: cannot read missing\n"))
+    slow, none_read = [yarib, "run", "slow.feed"], "yarib: files read: 0 of 1"
+    expect("a slow file", on_terminal(slow, none_read, goes_on(ROW)), (0, ROW_OUT, ""))
+    expect("a slow file, on a terminal alone", on_terminal(slow, none_read, goes_on(ROW), True), (0, "", ROW_OUT))
+    two = on_terminal([yarib, "table", "row.feed", "slow.feed"], "yarib: files read: 1 of 2", goes_on("frob\n"))
+    expect("a slow second file, and a fault", two, (2, "10.0.0.0/8 feed 1 pref 100 via 192.0.2.1\n", fault))
+    asked = [yarib, "lookup", "--address", "10.0.0.1", "slow.feed"]
+    expect("a slow file of a look-up", on_terminal(asked, none_read, goes_on("frob\n")), (2, "10.0.0.1 no route\n", fault))
+    child = subprocess.Popen(slow, stdout=subprocess.PIPE, stderr=subprocess.PIPE, text=True)
+    time.sleep(1.5)
+    goes_on(ROW)()
+    expect("a slow file, no terminal", child.communicate(timeout=120), (ROW_OUT, ""))
+    # What isn't read holds the run up when it writes.
+    pathlib.Path("long.feed").write_text(ROW * 100_000)
+    added = "1:1 added\n" + "".join(f"1:{number} exists\n" for number in range(2, 100_001)) + table(route(1))
+    expect("a long output", on_terminal([yarib, "run", "long.feed"], "yarib: writing"), (0, added, ""))
+
+
 def main():
     program = built(sys.argv[1:])
     with tempfile.TemporaryDirectory() as apart, tempfile.TemporaryDirectory() as folder:
@@ -530,7 +597,7 @@ def main():
         os.chdir(folder)
         for name, text in (("row", ROW), ("empty", ""), ("faulty", "frob\n")):
             pathlib.Path(f"{name}.feed").write_text(text)
-        for rows in (file_order, many_files, unreadable, names, texts, limits, batches, twice, replays, finished_tables, not_taken, pages, help_is_true, closed_outputs):
+        for rows in (file_order, many_files, unreadable, names, texts, limits, batches, twice, replays, finished_tables, not_taken, pages, help_is_true, closed_outputs, progress):
             rows(yarib)
             print(f"{rows.__name__.replace('_', ' ')}: done", flush=True)
         os.chdir("/")

@@ -2,21 +2,25 @@
 //!
 //! [`run_words`] is the program over its words. It has the command line read by `command_line`, reads the files, calls
 //! `rt_run` for what is asked, and turns each outcome into an exit status and a text on standard error. All of this is only
-//! tested; what is written of runs and replays is proved in `rt_run`.
+//! tested; what is written of runs and replays is proved in `rt_run`. Where standard error is a terminal, `main` also starts
+//! a thread that says there how far a run has come ([`Line`]).
 #![tactic(auto)]
 
 mod program;
 
-pub use program::run_words;
+pub use program::{Line, run_words, run_words_beside};
 use rt_cidr::put;
 pub use rt_feed::RunFault;
 pub use rt_run::{
     AppFault, MOST_TEXTS, Taken, Tally, laws, lookup_texts, replay_text, run_texts, table_texts,
 };
 use std::alloc::Global;
-use std::env;
-use std::io::{self, ErrorKind, Write};
+use std::io::{self, ErrorKind, IsTerminal, Write};
 use std::process::ExitCode;
+use std::rt::Files;
+use std::sync::Wait;
+use std::thread::Threads;
+use std::{env, thread};
 
 fn main(rt: HostRuntime) -> ExitCode {
     let alloc = rt.alloc();
@@ -26,7 +30,35 @@ fn main(rt: HostRuntime) -> ExitCode {
         Ok(words) => words,
         Err(fault) => return ExitCode::from(tell_words_fault(&fault, &mut err)),
     };
-    ExitCode::from(run_words(&rt, alloc, words.as_slice(), &mut out, &mut err))
+    let words = words.as_slice();
+    if !stderr.is_terminal() {
+        return ExitCode::from(run_words(&rt, alloc, words, &mut out, &mut err));
+    }
+    let line = Line::new(stdout.is_terminal());
+    let status = run_on_terminal(&rt, words, &line, &stderr, &mut out, &mut err);
+    ExitCode::from(status)
+}
+
+/// Carries out the words, while a thread says on the terminal how far a run has come. Where no thread can be made, nothing is
+/// said.
+fn run_on_terminal<R, T, O, E>(
+    rt: &R,
+    words: &[String],
+    line: &Line,
+    terminal: &T,
+    out: &mut O,
+    err: &mut E,
+) -> u8
+where
+    R: Files + Threads + Wait + Sync + AllocGlobal,
+    T: Print + Sync,
+    O: Write,
+    E: Write,
+{
+    thread::scope(thread::scope_env(), rt, |scope| {
+        let _ = scope.spawn(move || line.keep(rt, terminal));
+        run_words_beside(rt, rt.alloc(), words, line, out, err)
+    })
 }
 
 fn read_words(rt: &HostRuntime, alloc: Global) -> io::Result<Vec<String>> {

@@ -1,5 +1,6 @@
 //! The program over its words: reads the files, runs them, and turns each outcome into a status and a text.
 
+mod screen;
 mod showing;
 mod telling;
 
@@ -10,6 +11,9 @@ use command_line::{Refusal, ReplayRequest, Request, RunRequest};
 use rt_cidr::put;
 use rt_feed::RunFault;
 use rt_run::{AppFault, MOST_TEXTS, replay_text, run_texts};
+pub use screen::Line;
+use screen::Screen;
+pub(crate) use screen::Stage;
 use showing::{show_answers, show_routes};
 use std::alloc::{AllocError, AllocFailed, Global};
 use std::fs;
@@ -108,13 +112,33 @@ pub fn run_words<R: Files + Threads + Wait + Sync + AllocGlobal, O: Write, E: Wr
     out: &mut O,
     err: &mut E,
 ) -> u8 {
-    match carry_out(rt, alloc, words, out, err) {
+    run_words_beside(rt, alloc, words, &Line::new(false), out, err)
+}
+
+/// Does what `run_words` does beside a line on `err`, which another thread may write (`Line::keep`).
+pub fn run_words_beside<R, O, E>(
+    rt: &R,
+    alloc: Global,
+    words: &[String],
+    line: &Line,
+    out: &mut O,
+    err: &mut E,
+) -> u8
+where
+    R: Files + Threads + Wait + Sync + AllocGlobal,
+    O: Write,
+    E: Write,
+{
+    let mut screen = Screen::new(rt, line, err);
+    let status = match carry_out(rt, alloc, words, out, &mut screen) {
         Ok(status) => status,
         Err(stop) => {
-            let _ = stop.tell(err);
+            let _ = stop.tell(&mut screen);
             stop.status()
         }
-    }
+    };
+    screen.end();
+    status
 }
 
 fn carry_out<'a, R, O, E>(
@@ -122,7 +146,7 @@ fn carry_out<'a, R, O, E>(
     alloc: Global,
     words: &'a [String],
     out: &mut O,
-    err: &mut E,
+    screen: &mut Screen<'_, R, E>,
 ) -> Result<u8, Stop<'a>>
 where
     R: Files + Threads + Wait + Sync + AllocGlobal,
@@ -130,9 +154,9 @@ where
     E: Write,
 {
     match command_line::read(alloc, words) {
-        Ok(Request::Run(asked)) => run_files(rt, alloc, &asked, out),
-        Ok(Request::Lookup(asked)) => show_answers(rt, alloc, &asked, out, err),
-        Ok(Request::Table(asked)) => show_routes(rt, alloc, &asked, out, err),
+        Ok(Request::Run(asked)) => run_files(rt, alloc, &asked, out, screen),
+        Ok(Request::Lookup(asked)) => show_answers(rt, alloc, &asked, out, screen),
+        Ok(Request::Table(asked)) => show_routes(rt, alloc, &asked, out, screen),
         Ok(Request::Replay(asked)) => show_replay(alloc, &asked, out),
         Err(Refusal::Shown(text)) => shown(text.as_bytes(), out),
         Err(Refusal::Misused(text)) => Err(Stop::Misused(text)),
@@ -140,15 +164,22 @@ where
     }
 }
 
-fn run_files<'a, R: Files + Threads + Wait + Sync + AllocGlobal, O: Write>(
+fn run_files<'a, R, O, E>(
     rt: &R,
     alloc: Global,
     asked: &RunRequest<'a>,
     out: &mut O,
-) -> Result<u8, Stop<'a>> {
-    let texts = read_feeds(rt, alloc, asked)?;
+    screen: &mut Screen<'_, R, E>,
+) -> Result<u8, Stop<'a>>
+where
+    R: Files + Threads + Wait + Sync + AllocGlobal,
+    O: Write,
+    E: Write,
+{
+    let texts = read_feeds(rt, alloc, asked, screen)?;
     let batch = asked.batch as usize;
-    match run_texts(rt, alloc, texts.as_slice(), asked.limit, batch, out) {
+    let mut out = screen.beside(texts.len(), out);
+    match run_texts(rt, alloc, texts.as_slice(), asked.limit, batch, &mut out) {
         Ok(status) => Ok(status),
         Err(fault) => Err(Stop::Fault(fault)),
     }
@@ -173,28 +204,31 @@ fn shown<'a, O: Write>(text: &[u8], out: &mut O) -> Result<u8, Stop<'a>> {
 }
 
 /// The texts of the feed files, of which none is read where there are more than a run takes.
-fn read_feeds<'a, R: Files + AllocGlobal>(
+fn read_feeds<'a, R: Files + Wait + AllocGlobal, E: Write>(
     rt: &R,
     alloc: Global,
     asked: &RunRequest<'a>,
+    screen: &mut Screen<'_, R, E>,
 ) -> Result<Vec<Vec<u8>>, Stop<'a>>
     ensures { IfOk result (λ texts. vec_len texts ≤ MOST_FEEDS) }
 {
     if asked.files.len() > MOST_TEXTS {
         return Err(Stop::TooMany);
     }
-    read_files(rt, alloc, asked.files.as_slice())
+    read_files(rt, alloc, asked.files.as_slice(), screen)
 }
 
-fn read_files<'a, R: Files + AllocGlobal>(
+fn read_files<'a, R: Files + Wait + AllocGlobal, E: Write>(
     rt: &R,
     alloc: Global,
     names: &[&'a str],
+    screen: &mut Screen<'_, R, E>,
 ) -> Result<Vec<Vec<u8>>, Stop<'a>>
     ensures { IfOk result (λ texts. vec_len texts ≡ length names.entry.now) }
 {
     let mut texts = Vec::new(alloc);
     for name in names {
+        screen.set(Stage::Reading(texts.len(), names.len()));
         texts.push(read_file(rt, name)?)?;
     }
     Ok(texts)

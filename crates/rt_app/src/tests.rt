@@ -1,4 +1,5 @@
 //! The program over its words.
 
+mod progress;
 mod shown;
 mod words;

@@ -1,5 +1,6 @@
 //! `lookup` and `table`: what the table says that feed files leave, and what of the files was not taken.
 
+use super::screen::Screen;
 use super::telling::{FaultyLines, tell_faulty, tell_tally};
 use super::{Stop, read_feeds, read_file};
 use command_line::{LookupRequest, TableRequest};
@@ -25,7 +26,7 @@ pub(super) fn show_answers<'a, R, O, E>(
     alloc: Global,
     request: &LookupRequest<'a>,
     out: &mut O,
-    err: &mut E,
+    screen: &mut Screen<'_, R, E>,
 ) -> Result<u8, Stop<'a>>
 where
     R: Files + Threads + Wait + Sync + AllocGlobal,
@@ -34,13 +35,14 @@ where
 {
     let run = &request.run;
     let mut asked = named_addresses(alloc, request)?;
-    let texts = read_feeds(rt, alloc, run)?;
+    let texts = read_feeds(rt, alloc, run, screen)?;
     if let Some(name) = request.more {
         let text = read_file(rt, name)?;
         add_addresses(text.as_slice(), &mut asked)?;
     }
     let batch = run.batch as usize;
     let addresses = asked.addresses.as_slice();
+    let mut out = screen.beside(texts.len(), out);
     match lookup_texts(
         rt,
         alloc,
@@ -48,13 +50,13 @@ where
         run.limit,
         batch,
         addresses,
-        out,
+        &mut out,
     ) {
         Ok(taken) => {
             if let Some(name) = request.more {
-                tell_faulty(err, name, asked.faulty);
+                tell_faulty(screen, name, asked.faulty);
             }
-            let status = tell_taken(err, run.files.as_slice(), &taken);
+            let status = tell_taken(screen, run.files.as_slice(), &taken);
             Ok(if status == 0 && asked.faulty.count > 0 {
                 NOT_TAKEN
             } else {
@@ -71,7 +73,7 @@ pub(super) fn show_routes<'a, R, O, E>(
     alloc: Global,
     request: &TableRequest<'a>,
     out: &mut O,
-    err: &mut E,
+    screen: &mut Screen<'_, R, E>,
 ) -> Result<u8, Stop<'a>>
 where
     R: Files + Threads + Wait + Sync + AllocGlobal,
@@ -79,11 +81,20 @@ where
     E: Write,
 {
     let run = &request.run;
-    let texts = read_feeds(rt, alloc, run)?;
+    let texts = read_feeds(rt, alloc, run, screen)?;
     let batch = run.batch as usize;
     let best = request.only_best;
-    match table_texts(rt, alloc, texts.as_slice(), run.limit, batch, best, out) {
-        Ok(taken) => Ok(tell_taken(err, run.files.as_slice(), &taken)),
+    let mut out = screen.beside(texts.len(), out);
+    match table_texts(
+        rt,
+        alloc,
+        texts.as_slice(),
+        run.limit,
+        batch,
+        best,
+        &mut out,
+    ) {
+        Ok(taken) => Ok(tell_taken(screen, run.files.as_slice(), &taken)),
         Err(fault) => Err(Stop::Fault(fault)),
     }
 }
