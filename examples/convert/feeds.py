@@ -235,6 +235,9 @@ class Json(Input):
     def sign(self):
         """The next character that is no blank, which is left to be read; "" at the input's end."""
         while True:
+            found = self.text[self.at : self.at + 1]
+            if found and not found.isspace():
+                return found
             self.at = BLANKS.match(self.text, self.at).end()
             if self.at < len(self.text) or self.ended:
                 return self.text[self.at : self.at + 1]
@@ -317,8 +320,8 @@ def member(record, name, kind, absent=None):
     if not isinstance(record, dict):
         raise Refused(f"an object was expected: {json.dumps(record)[:100]}")
     value = record.get(name, absent)
-    # true and false are numbers for Python alone
-    if not isinstance(value, kind) or (kind is int and isinstance(value, bool)):
+    # true and false are numbers for `isinstance` alone
+    if type(value) is not kind:
         raise Refused(f"the member {name!r} is missing or of another kind: {json.dumps(record)[:100]}")
     return value
 
@@ -397,29 +400,26 @@ def chosen_first(prefix, paths, notes, valid="valid", best="best"):
 
 def one_each(offers, notes):
     """The offers of a prefix without the further ones of a source, for a feed has one route to a prefix."""
-    if len(offers) == 1:
-        return offers
     first = {}
     for offer in offers:
-        if first.setdefault(offer.source, offer) is not offer:
-            notes.leave_out("further routes of a source to one prefix")
-    return list(first.values())
+        first.setdefault(offer.source, offer)
+    if len(first) < len(offers):
+        notes.leave_out("further routes of a source to one prefix", len(offers) - len(first))
+    return first.values()
 
 
-def preferences(prefix, offers, by_rank):
-    """The preference of each offer: its place in the daemon's order, or the daemon's number turned round."""
-    if by_rank:
-        return range(1, len(offers) + 1)
-    for offer in offers:
-        if offer.wish is None or offer.wish > GREATEST:
-            raise Refused(f"the route of {offer.source} to {prefix} has none of the numbers that --by asks for")
-    return [GREATEST - offer.wish for offer in offers]
+def preference_of(prefix, offer):
+    """The daemon's number turned round."""
+    if offer.wish is None or offer.wish > GREATEST:
+        raise Refused(f"the route of {offer.source} to {prefix} has none of the numbers that --by asks for")
+    return GREATEST - offer.wish
 
 
 def add_lines(files, prefix, offers, by_rank, notes):
     """Adds the offers of a prefix, best first, to the feeds of their sources."""
-    offers = one_each(offers, notes)
-    for (source, hop, _), preference in zip(offers, preferences(prefix, offers, by_rank)):
+    for rank, offer in enumerate(one_each(offers, notes) if len(offers) > 1 else offers, 1):
+        source, hop, _ = offer
+        preference = rank if by_rank else preference_of(prefix, offer)
         lines = files.waiting.get(source) or files.lines(source)
         lines.append(f"add {prefix} {preference} {hop}\n")
 
@@ -495,9 +495,9 @@ class FeedFiles:
         """Gives the files of the sources that have lines their names, and the folder its place."""
         named = [number for number in range(len(names)) if (self.new / str(number)).exists()]
         for number, name in zip(named, file_names([names[number] for number in named])):
-            with open(self.new / name, "w") as file:
-                file.write("version 2\n")
-                with open(self.new / str(number)) as lines:
+            with open(self.new / name, "wb") as file:
+                file.write(b"version 2\n")
+                with open(self.new / str(number), "rb") as lines:
                     shutil.copyfileobj(lines, file, BLOCK)
             (self.new / str(number)).unlink()
         if self.folder.exists():

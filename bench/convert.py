@@ -1,0 +1,151 @@
+#!/usr/bin/env python3
+"""Times the converters of examples/convert on tables that it makes.
+
+Usage: bench/convert.py [--peers] [ROUTES [ROUNDS]]. Needs python3 alone. The inputs have ROUTES prefixes (1,000,000 if left out)
+with the lengths of a real table, and 100,000 different paths; each is read from a file ROUNDS times (1 if left out). With --peers
+there is one input, a dump of 20 peers with so many routes each, which for 1,000,000 is a file of 2 GB. Prints for each converter
+the least time on the clock and of the processors (user and system), and the peak memory.
+"""
+import json
+import os
+import pathlib
+import random
+import subprocess
+import sys
+import tempfile
+import time
+
+import run
+
+CONVERTERS = run.TOP / "examples" / "convert"
+PEERS = 20
+PATHS = 100_000
+
+
+def prefixes(count):
+    """So many prefixes in rising order, as daemons and collectors list them."""
+    return [f"{run.address(base)}/{length}" for base, length in sorted(run.real_prefixes(count, random.Random(1)))]
+
+
+def paths():
+    draw = random.Random(2)
+    return [" ".join(str(draw.randrange(1, 400_000)) for _ in range(draw.randrange(2, 6))) for _ in range(PATHS)]
+
+
+def dumped(count, peers=1):
+    """A table dump as `bgpdump -m` prints it."""
+    draw, some = random.Random(3), paths()
+    row = "TABLE_DUMP2|1795441783|B|192.0.2.{0}|6500{0}|{1}|6500{0} {2}|IGP|192.0.2.{0}|0|{3}|6500{0}:{3}|NAG||\n"
+    for prefix in prefixes(count):
+        for peer in range(1, peers + 1):
+            yield row.format(peer, prefix, draw.choice(some), draw.randrange(100))
+
+
+def updates(count):
+    """Updates of one peer: an announcement of each prefix, and a fifth of them changed or withdrawn."""
+    draw, some = random.Random(3), paths()
+    announced = "BGP4MP|1795441783|A|192.0.2.1|65001|{}|65001 {}|IGP|192.0.2.1|0|0||NAG||\n"
+    for number, prefix in enumerate(prefixes(count)):
+        yield announced.format(prefix, draw.choice(some))
+        if number % 10 == 0:
+            yield announced.format(prefix, draw.choice(some))
+        if number % 10 == 5:
+            yield f"BGP4MP|1795441783|W|192.0.2.1|65001|{prefix}\n"
+
+
+def of_bird(count):
+    """What `birdc show route` prints."""
+    yield "BIRD 2.0.12 ready.\nTable master4:\n"
+    for prefix in prefixes(count):
+        yield f"{prefix:20} unicast [peer1 09:20:39.677] * (100) [AS65001i]\n\tvia 192.0.2.1 on eth0\n"
+
+
+def of_bird_all(count):
+    """What `birdc show route all` prints of routes from BGP."""
+    draw, some = random.Random(3), paths()
+    yield "BIRD 2.0.12 ready.\nTable master4:\n"
+    for prefix in prefixes(count):
+        yield (f"{prefix:20} unicast [peer1 09:20:39.677] * (100) [AS65001i]\n\tvia 192.0.2.1 on eth0\n"
+               f"\tType: BGP univ\n\tBGP.origin: IGP\n\tBGP.as_path: 65001 {draw.choice(some)}\n"
+               "\tBGP.next_hop: 192.0.2.1\n\tBGP.local_pref: 100\n")
+
+
+def of_frr(count):
+    yield '{"vrfName":"default","defaultLocPrf":100,"routes":{\n'
+    for number, prefix in enumerate(prefixes(count)):
+        path = {"valid": True, "bestpath": True, "peerId": "192.0.2.1", "path": "65001", "origin": "IGP",
+                "nexthops": [{"ip": "192.0.2.1", "afi": "ipv4", "used": True}]}
+        yield f'{"," if number else ""}"{prefix}": {json.dumps([path])}\n'
+    yield "}}\n"
+
+
+def of_kernel(count):
+    for number, prefix in enumerate(prefixes(count)):
+        route = {"dst": prefix, "gateway": "192.0.2.1", "dev": "eth0", "protocol": "bird", "metric": 32, "flags": []}
+        yield ("," if number else "[") + json.dumps(route)
+    yield "]\n"
+
+
+def of_table(count):
+    """What `yarib run` prints."""
+    yield f"table {count}\n"
+    for prefix in prefixes(count):
+        yield f"{prefix} feed 1 pref 1 via 192.0.2.1\n"
+
+
+INPUTS = (
+    ("bgpdump-to-feeds", "a dump", dumped),
+    ("bgpdump-to-feeds", "updates", updates),
+    ("bird-to-feeds", "show route", of_bird),
+    ("bird-to-feeds", "show route all", of_bird_all),
+    ("frr-to-feeds", "JSON", of_frr),
+    ("ip-to-feeds", "JSON", of_kernel),
+    ("table-to-bird", "a table", of_table),
+    ("table-to-frr", "a table", of_table),
+    ("table-to-ip", "a table", of_table),
+)
+OF_PEERS = (("bgpdump-to-feeds", f"{PEERS} peers", lambda count: dumped(count, PEERS)),)
+
+
+def write(path, lines):
+    """Writes an input, in a process of its own, so that this one stays small: a child's peak memory counts what its parent had."""
+    child = os.fork()
+    if child == 0:
+        with open(path, "w") as file:
+            file.writelines(lines)
+        os._exit(0)
+    if os.waitpid(child, 0)[1] != 0:
+        sys.exit(f"{path} could not be written")
+
+
+def measure(words, path):
+    """Seconds on the clock and of the processors, and peak bytes of a converter that reads that file."""
+    with open(path, "rb") as file:
+        start = time.perf_counter()
+        child = subprocess.Popen(words, stdin=file, stdout=subprocess.DEVNULL, stderr=subprocess.PIPE)
+        _, status, usage = os.wait4(child.pid, 0)
+    seconds = time.perf_counter() - start
+    said = child.stderr.read().decode()
+    child.stderr.close()
+    child.returncode = os.waitstatus_to_exitcode(status)
+    if child.returncode != 0:
+        sys.exit(f"{words}: status {child.returncode}: {said}")
+    return seconds, usage.ru_utime + usage.ru_stime, usage.ru_maxrss * 1024
+
+
+def main():
+    numbers = [int(word) for word in sys.argv[1:] if word != "--peers"]
+    count = numbers[0] if numbers else 1_000_000
+    rounds = numbers[1] if len(numbers) > 1 else 1
+    for name, about, lines in OF_PEERS if "--peers" in sys.argv else INPUTS:
+        with tempfile.TemporaryDirectory() as made:
+            path, folder = pathlib.Path(made) / "input", pathlib.Path(made) / "feeds"
+            write(path, lines(count))
+            words = [CONVERTERS / name, *([folder] if name.endswith("feeds") else [])]
+            seconds, processors, peak = (min(column) for column in zip(*(measure(words, path) for _ in range(rounds))))
+        row = f"clock {seconds:6.1f} s | processors {processors:6.1f} s | memory {peak / 1e6:4.0f} MB"
+        print(f"{name:16} {about:14} | {row}", flush=True)
+
+
+if __name__ == "__main__":
+    main()
