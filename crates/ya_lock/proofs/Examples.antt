@@ -1,8 +1,9 @@
--- Examples by which definitions are tested, each under a line with the definition's name. Both sides are computed. The
--- value that the lock lends is a number here, which others can only raise.
+-- Examples by which definitions are tested, each under a line with the definition's name. Both sides are computed, and
+-- what a relation says is spelled out for some values. The value that the lock lends is a number here, which others can
+-- only raise.
 use Rattle.std.proofs.Common.{◌≡◌, ◌≢◌, ℕ, zero, suc, ◌≤◌, List, [], ◌∷◌, ◌++◌, ◌∙◌, refl, sym, subst, arith, None, Some, replicate, set}
 use Rattle.std.specs.Prelude as std
-use Rattle.std.specs.Prelude.{IsTrue}
+use Rattle.std.specs.Prelude.{IsTrue, ◌<◌, ◌^◌, Bool, true, false, length, slice_get, slice_index}
 use mathlib.Core.Option.{Option, none, some, some-injective, some-ne-none}
 use lib.ListN.{get_elem?}
 use Rattle.atomic_table.specs.Table.{State}
@@ -17,12 +18,16 @@ use Rattle.ya_core.specs.Soundness.{IsSoundState, claims, phase_of}
 use Rattle.ya_core.proofs.Promised.{opens}
 use Rattle.ya_lock.specs.declared.view.View.{View}
 use Rattle.ya_lock.specs.declared.view.View.TheVariants.{Unused, Making, Filling, HandingOut, Seated, Joining, Spent}
-use Rattle.ya_lock.specs.Rule.{index_of, making_index, words_in, place_of_view, least_at, least_count, GlobalView, IsBegun, ViewFits, Rule}
+use Rattle.ya_lock.specs.Rule.{index_of, making_index, words_in, place_of_view, least_at, least_count, GlobalView, IsBegun, ViewFits, Rule, row_length, KnowsValue, ValueInSlot, Obeys}
 use Rattle.ya_lock.specs.LockState.{IsOf, IsFilling, IsMaking, HasProcess, IsAway, NoneInside, ShowsCore, GoesOn, SomeSeatGoesOn}
 use Rattle.ya_lock.specs.LockState.{OneSeatAPlace, OneInside, IsInSlot, IsFresh, IsMadeByOne, IsLockState}
 use Rattle.ya_lock.specs.Lock.{LockId, IdlePass, OpenGuard, new_pass, guard_of, pass_of}
 use Rattle.ya_lock.specs.GuardLends.{guard_with_value}
 use Rattle.ya_lock.proofs.Words.{words_zero, words_behind}
+use Rattle.atomic_table.specs.Seated.{TableId}
+use Rattle.ya_core.specs.Worlds.{is_inside}
+use Rattle.ya_lock.specs.Lock.{LockId, IdlePass, OpenGuard, guard_of, pass_of, new_pass, ArePassesInOrder}
+use Rattle.ya_lock.specs.GuardLends.{guard_with_value}
 
 -- index_of
 the_last_word_of_one_level : index_of 1 (P 1 1) ≡ 32
@@ -518,3 +523,126 @@ no_count_is_reset_inside s x seat fits = let least : 3 ≤ 0 = fits.4 in omega (
 
 nor_while_it_takes_in_a_pass : (s : State (std.Option ℕ) (View ℕ)) (x : GlobalView ℕ) (seat : ℕ) → ¬ ViewFits raised 1 s x seat (Joining 0 7 1 5 0)
 nor_while_it_takes_in_a_pass s x seat fits = let least : 3 ≤ 0 = fits.5 in omega (arith, least)
+
+some_global_view_obeys : (s : State (std.Option ℕ) (View ℕ)) → Rule raised 2 s → (x : GlobalView ℕ) × Obeys raised 2 s x
+some_global_view_obeys s h = h
+
+-- row_length
+of_one_level_and_of_two : (row_length 1 ≡ 64) × (row_length 2 ≡ 176)
+unfolding making_index count_of_words
+of_one_level_and_of_two = (refl, refl)
+
+-- place_of_view
+of_a_seated_and_of_a_joining_process :
+    (place_of_view {V = ℕ} (Seated 3 Idle 7 0) ≡ some 3) × (place_of_view {V = ℕ} (Joining 2 7 1 5 3) ≡ some 2)
+    × (place_of_view {V = ℕ} Spent ≡ none) × (place_of_view {V = ℕ} (HandingOut 1 7) ≡ none)
+of_a_seated_and_of_a_joining_process = (refl, refl, refl, refl)
+
+-- LockId
+a_lock_is_known_by_its_table : TableId → LockId
+a_lock_is_known_by_its_table id = id
+
+-- IdlePass
+the_parts_of_a_pass :
+    (lock : LockId)
+    → ((new_pass {V = ℕ} lock 1 7).lock ≡ lock) × ((new_pass {V = ℕ} lock 1 7).place ≡ 1) × ((new_pass {V = ℕ} lock 1 7).seen ≡ 7) × ((new_pass {V = ℕ} lock 1 7).remote ≡ 0)
+the_parts_of_a_pass lock = (refl, refl, refl, refl)
+
+-- OpenGuard
+the_parts_of_a_guard :
+    (lock : LockId)
+    → ((guard_of (new_pass {V = ℕ} lock 1 7) 8 3).lock ≡ lock) × ((guard_of (new_pass {V = ℕ} lock 1 7) 8 3).place ≡ 1) × ((guard_of (new_pass {V = ℕ} lock 1 7) 8 3).found ≡ 8)
+    × ((guard_of (new_pass {V = ℕ} lock 1 7) 8 3).value ≡ 8) × ((guard_of (new_pass {V = ℕ} lock 1 7) 8 3).remote ≡ 3)
+the_parts_of_a_guard lock = (refl, refl, refl, refl, refl)
+
+-- guard_of
+it_has_what_its_entry_found :
+    (lock : LockId) → guard_of (new_pass {V = ℕ} lock 1 7) 8 3 ≡ record { lock = lock; place = 1; found = 8; value = 8; remote = 3 }
+it_has_what_its_entry_found lock = refl
+
+-- guard_with_value
+with_another_value :
+    (lock : LockId) → guard_with_value (guard_of (new_pass {V = ℕ} lock 1 7) 8 3) 9 ≡ record { lock = lock; place = 1; found = 8; value = 9; remote = 3 }
+with_another_value lock = refl
+
+-- pass_of
+it_has_seen_what_its_guard_leaves :
+    (lock : LockId) → pass_of {V = ℕ} (record { lock = lock; place = 1; found = 8; value = 9; remote = 3 }) 6 ≡ record { lock = lock; place = 1; seen = 9; remote = 6 }
+it_has_seen_what_its_guard_leaves lock = refl
+
+-- new_pass
+it_has_made_no_access_yet : (lock : LockId) → new_pass {V = ℕ} lock 1 7 ≡ record { lock = lock; place = 1; seen = 7; remote = 0 }
+it_has_made_no_access_yet lock = refl
+
+-- ArePassesInOrder
+four_passes_of_two_levels :
+    (lock : LockId) (passes : List (IdlePass ℕ)) → ArePassesInOrder {V = ℕ} lock 2 7 passes
+    → (length passes ≡ 4) × ((place : ℕ) → place < 4 → slice_get passes place ≡ Some (new_pass lock place 7))
+four_passes_of_two_levels lock passes h = (h.count, h.each)
+
+-- GlobalView
+what_all_seats_show :
+    (both_are_away.seat_of 1 ≡ some 1) × (both_are_away.processes 1 ≡ Idle) × (both_are_away.maker ≡ none) × (both_are_away.content ≡ some 7)
+what_all_seats_show = (refl, refl, refl, refl)
+
+-- KnowsValue
+inside_it_is_the_content : (content : Option ℕ) → KnowsValue raised content 1 true 7 → content ≡ some 7
+inside_it_is_the_content content h = h
+
+else_the_content_is_what_it_may_have_become :
+    (content : Option ℕ) → KnowsValue raised content 1 false 7 → (now : ℕ) × (content ≡ some now) × raised 1 7 now
+else_the_content_is_what_it_may_have_become content h = h
+
+-- ValueInSlot
+it_lies_there_where_nobody_is_inside :
+    (processes : ℕ → Process) (homes : List (Option (std.Option ℕ))) → ValueInSlot raised processes homes (some 7)
+    → (((place : ℕ) → is_inside (processes place) ≡ false) → homes ≡ some (Some 7) ∷ [])
+    × ((place : ℕ) → is_inside (processes place) ≡ true → homes ≡ none ∷ [])
+it_lies_there_where_nobody_is_inside processes homes h = h
+
+before_it_was_given_it_lies_nowhere : (processes : ℕ → Process) (homes : List (Option (std.Option ℕ))) → ValueInSlot raised processes homes none
+before_it_was_given_it_lies_nowhere processes homes = tt
+
+-- IsBegun
+the_making_word_is_not_0 : (s : State (std.Option ℕ) (View ℕ)) (x : GlobalView ℕ) → IsBegun raised 1 s x → slice_index s.words 40 ≢ 0
+unfolding making_index count_of_words
+the_making_word_is_not_0 s x h = h
+
+-- ViewFits
+what_a_maker_shows :
+    (s : State (std.Option ℕ) (View ℕ)) (x : GlobalView ℕ)
+    → (ViewFits raised 2 s x 5 Making → IsBegun raised 2 s x × (x.maker ≡ some 5) × (x.content ≡ none) × (s.homes ≡ some None ∷ []))
+    × (ViewFits raised 2 s x 5 Filling → IsBegun raised 2 s x × (x.maker ≡ some 5) × (x.content ≡ none) × (length s.homes ≡ 1))
+    × (ViewFits raised 2 s x 5 (HandingOut 1 7)
+    → IsBegun raised 2 s x × (x.maker ≡ some 5) × (1 < 4)
+    × ((place : ℕ) → 1 ≤ place → (x.seat_of place ≡ none) × KnowsValue raised x.content place false 7))
+what_a_maker_shows s x = (λ h. h, λ h. h, λ h. h)
+
+what_a_process_shows :
+    (s : State (std.Option ℕ) (View ℕ)) (x : GlobalView ℕ)
+    → (ViewFits raised 2 s x 5 (Seated 1 Idle 7 3)
+    → IsBegun raised 2 s x × (x.seat_of 1 ≡ some 5) × (x.processes 1 ≡ Idle) × KnowsValue raised x.content 1 false 7)
+    × (ViewFits raised 2 s x 5 (Seated 1 Inside 7 3)
+    → IsBegun raised 2 s x × (x.seat_of 1 ≡ some 5) × (x.processes 1 ≡ Inside) × KnowsValue raised x.content 1 true 7)
+    × (ViewFits raised 2 s x 5 (Joining 1 7 2 6 3)
+    → IsBegun raised 2 s x × (x.seat_of 1 ≡ some 5) × (x.processes 1 ≡ Inside) × KnowsValue raised x.content 1 true 7
+    × KnowsValue raised x.content 2 false 6)
+what_a_process_shows s x = (λ h. h, λ h. h, λ h. h)
+
+what_one_that_has_none_shows :
+    (s : State (std.Option ℕ) (View ℕ)) (x : GlobalView ℕ) → ViewFits raised 2 s x 5 Unused × (ViewFits raised 2 s x 5 Spent → IsBegun raised 2 s x)
+what_one_that_has_none_shows s x = (tt, λ h. h)
+
+-- Obeys
+what_it_says_of_place_1_and_seat_5 :
+    (s : State (std.Option ℕ) (View ℕ)) (x : GlobalView ℕ) → Obeys raised 2 s x
+    → (length s.words ≡ row_length 2)
+    × (slice_index s.words (making_index 2) ≡ 0 → (x.content ≡ none) × (s.homes ≡ some None ∷ []))
+    × (x.content ≡ none → x.seat_of 1 ≡ none)
+    × (x.seat_of 1 ≡ some 5 → (view : View ℕ) × (get_elem? s.views 5 ≡ some view) × (place_of_view view ≡ some 1))
+    × (x.seat_of 1 ≡ none → x.processes 1 ≡ Idle)
+    × IsSoundState 2 (record { words = words_in 2 s.words; processes = x.processes })
+    × ValueInSlot raised x.processes s.homes x.content
+    × ((view : View ℕ) → get_elem? s.views 5 ≡ some view → ViewFits raised 2 s x 5 view)
+what_it_says_of_place_1_and_seat_5 s x h =
+    (h.wide, h.unmade, λ none_given. h.before none_given 1, h.seated 1 5, h.absent 1, h.sound, h.lies, h.fits 5)
