@@ -1,18 +1,25 @@
 -- Examples by which definitions are tested, each under a line with the definition's name. Both sides are computed, but for
--- the texts that are written for numbers, which have one spelling each.
-use Rattle.std.proofs.Common.{◌≡◌, ℕ, ◌+◌, ◌*◌, ◌^◌, ◌<◌, Bool, true, false, List, [], ◌∷◌, ◌++◌, ◌||◌, Some, Ok, Err, codes, decimal, take, eqb, refl, ap, subst, ◌∙◌, arith}
+-- the texts that are written for numbers, which have one spelling each. What a relation or a law says is spelled out for
+-- some values.
+use Rattle.std.proofs.Common.{map, length, slice_index, ◌/◌, ◌%◌, ◌≡◌, ℕ, ◌+◌, ◌*◌, ◌^◌, ◌<◌, Bool, true, false, List, [], ◌∷◌, ◌++◌, ◌||◌, Some, Ok, Err, codes, decimal, take, eqb, refl, ap, subst, ◌∙◌, arith}
 use Rattle.std.proofs.lemmas.Bool.{eq-eqb, or_right}
 use Rattle.std.proofs.lemmas.List.Folds.{list_any-append}
 use Rattle.std.specs.List.{list_any}
+use Rattle.std.specs.Str.Parse.{IsNumeral, digits_value}
 use Rattle.rt_cidr.specs.declared.address.Addr.{Addr}
 use Rattle.rt_cidr.specs.declared.prefixes.Prefix.{Prefix}
 use Rattle.rt_cidr.specs.declared.prefixes.TextFault.TheVariants.{Text, Length, Bits}
 use Rattle.rt_cidr.specs.Cidr.{size_of, IsPrefix}
-use Rattle.rt_cidr.specs.Output.{AppendsBeginning}
+use Rattle.rt_cidr.specs.Output.{AppendsBeginning, buffered}
 use Rattle.rt_cidr.specs.Prefix.{covers, contains, same_prefix}
 use Rattle.rt_cidr.specs.Text.{dot, slash, zero_digit, IsDecimal, IsOctetText, IsAddressText, IsPrefixText, address_text, prefix_text}
-use Rattle.rt_cidr.specs.Reading.{ReadsPrefix}
+use Rattle.rt_cidr.specs.Reading.{ReadsPrefix, ReadsDecimal, ReadsAddress, AnswersPair}
 use Rattle.rt_cidr.proofs.Texts.{decimal_is_decimal, decimal_one_text, address_text_is_address, address_one_text, address_one_number, prefix_text_is_pair, pair_one_text, pair_one_value}
+use Rattle.std.specs.Prelude.{◌↔◌, ◌≤◌, IsTrue, Option, None, Result}
+use Rattle.rt_cidr.specs.declared.prefixes.TextFault.{TextFault}
+use Rattle.rt_cidr.specs.declared.short_text.TheConstants.{SHORT_TEXT_BYTES}
+use Rattle.rt_cidr.specs.ShortText.{FitsInShortText}
+use Rattle.rt_cidr.specs.Laws.{HasOneNumber, HasOneText, HasOnePair, PairHasOneText, AddressFits, HasOneAnswer, PairHasOneAnswer, WritesDecimal, WritesAddress, WritesPrefix, ReadsDecimalAgain, ReadsAddressAgain, ReadsPrefixAgain, SamePrefix, CoversItsRange, ContainsByRange, ContainsWhatItCovers, CoveringAreNested, CoveringAreSame}
 
 -- 0.0.0.0/0, 10.0.0.0/8, 255.255.255.255/32
 abbrev everything : Prefix
@@ -35,6 +42,9 @@ all_addresses = refl
 one_address : size_of 32 ≡ 1
 one_address = refl
 
+half_of_them_with_each_bit : map size_of (0 ∷ 1 ∷ 8 ∷ 31 ∷ 32 ∷ []) ≡ 4294967296 ∷ 2147483648 ∷ 16777216 ∷ 2 ∷ 1 ∷ []
+half_of_them_with_each_bit = refl
+
 -- IsPrefix
 a_prefix_of_8_bits : IsPrefix 167772160 8
 a_prefix_of_8_bits = record { short = omega arith; fits = omega arith; clear = refl }
@@ -44,6 +54,12 @@ a_bit_past_the_length_is_set h = let none = h.clear in cc
 
 no_prefix_of_33_bits : ¬ IsPrefix 0 33
 no_prefix_of_33_bits h = omega (arith, h.short)
+
+no_length_of_33 : ¬ IsPrefix 0 33
+no_length_of_33 h = omega (arith, h.short)
+
+no_base_of_33_bits : ¬ IsPrefix 4294967296 0
+no_base_of_33_bits h = omega (arith, h.fits)
 
 -- covers
 the_first_of_its_addresses : covers ten_8 (at 167772160) ≡ true
@@ -139,12 +155,19 @@ no_digit_at_all n h = omega (arith, h.digits.0)
 no_sign : (n : ℕ) → ¬ IsDecimal (codes "+1") n
 no_sign n h = omega (arith, h.digits.1.0)
 
+the_digits_the_value_and_no_leading_zero :
+    (text : List ℕ) → IsDecimal text 7 → IsNumeral 10 text × (digits_value 10 text ≡ 7) × (slice_index text 0 ≡ 48 → length text ≡ 1)
+the_digits_the_value_and_no_leading_zero text h = (h.digits, h.value, h.no_leading_zero)
+
 -- IsOctetText
 the_greatest_octet : IsOctetText (codes "255") 255
 the_greatest_octet = record { spelled = decimal_255; fits = omega arith }
 
 no_octet_of_256 : (n : ℕ) → ¬ IsOctetText (codes "256") n
 no_octet_of_256 n h = let value = h.spelled.value in omega (arith, h.fits)
+
+a_decimal_below_256 : (text : List ℕ) (octet : ℕ) → IsOctetText text octet → IsDecimal text octet × (octet < 256)
+a_decimal_below_256 text octet h = (h.spelled, h.fits)
 
 -- addresses are of these octets
 octet_0 : IsOctetText (codes "0") 0
@@ -200,6 +223,13 @@ the_last_address = four_octets the_greatest_octet the_greatest_octet the_greates
 the_first_octet_is_the_most_significant : ¬ IsAddressText (codes "10.0.0.0") 10
 the_first_octet_is_the_most_significant h = let same = address_one_number (codes "10.0.0.0") 167772160 10 address_10_0_0_0 h in cc
 
+its_octets :
+    (text : List ℕ) (address : ℕ) (h : IsAddressText text address)
+    → IsOctetText h.first_text h.first × IsOctetText h.second_text h.second × IsOctetText h.third_text h.third × IsOctetText h.fourth_text h.fourth
+    × (text ≡ h.first_text ++ 46 ∷ (h.second_text ++ 46 ∷ (h.third_text ++ 46 ∷ h.fourth_text)))
+    × (address ≡ h.first * 16777216 + h.second * 65536 + h.third * 256 + h.fourth)
+its_octets text address h = (h.is_first, h.is_second, h.is_third, h.is_fourth, h.joined, h.value)
+
 -- IsPrefixText
 pub pair_10_0_0_0_8 : IsPrefixText (codes "10.0.0.0/8") 167772160 8
 pair_10_0_0_0_8 = record { address_part = codes "10.0.0.0"; len_part = codes "8"; is_address = address_10_0_0_0; is_len = decimal_8; joined = refl }
@@ -210,6 +240,10 @@ pair_10_0_0_1_8 = record { address_part = codes "10.0.0.1"; len_part = codes "8"
 pub pair_10_0_0_1_33 : IsPrefixText (codes "10.0.0.1/33") 167772161 33
 pair_10_0_0_1_33 = record { address_part = codes "10.0.0.1"; len_part = codes "33"; is_address = address_10_0_0_1; is_len = decimal_33; joined = refl }
 
+its_address_and_its_length :
+    (text : List ℕ) (h : IsPrefixText text 7 8) → IsAddressText h.address_part 7 × IsDecimal h.len_part 8 × (text ≡ h.address_part ++ 47 ∷ h.len_part)
+its_address_and_its_length text h = (h.is_address, h.is_len, h.joined)
+
 -- address_text
 pub written_192_0_2_1 : address_text 3221225985 ≡ codes "192.0.2.1"
 written_192_0_2_1 = address_one_text (address_text 3221225985) (codes "192.0.2.1") 3221225985 (address_text_is_address 3221225985 (omega arith)) address_192_0_2_1
@@ -217,9 +251,20 @@ written_192_0_2_1 = address_one_text (address_text 3221225985) (codes "192.0.2.1
 written_last : address_text 4294967295 ≡ codes "255.255.255.255"
 written_last = address_one_text (address_text 4294967295) (codes "255.255.255.255") 4294967295 (address_text_is_address 4294967295 (omega arith)) the_last_address
 
+its_four_octets :
+    (address : ℕ)
+    → address_text address
+    ≡ decimal (address / 16777216 % 256) ++ 46 ∷ (decimal (address / 65536 % 256) ++ 46 ∷ (decimal (address / 256 % 256) ++ 46 ∷ decimal (address % 256)))
+unfolding address_text
+its_four_octets address = refl
+
 -- prefix_text
 pub written_10_0_0_0_8 : prefix_text 167772160 8 ≡ codes "10.0.0.0/8"
 written_10_0_0_0_8 = pair_one_text (prefix_text 167772160 8) (codes "10.0.0.0/8") 167772160 8 (prefix_text_is_pair 167772160 8 (omega arith) (omega arith)) pair_10_0_0_0_8
+
+the_address_a_slash_and_the_length : prefix_text 7 8 ≡ address_text 7 ++ 47 ∷ decimal 8
+unfolding prefix_text
+the_address_a_slash_and_the_length = refl
 
 -- what is written for these numbers
 pub written_0 : decimal 0 ≡ codes "0"
@@ -285,6 +330,19 @@ not_bits_before_length (address, len, is, short, none) =
 
 pub bit_past_the_length : ReadsPrefix (codes "10.0.0.1/8") (Err Bits)
 bit_past_the_length = (167772161, 8, pair_10_0_0_1_8, omega arith, a_bit_past_the_length_is_set)
+
+the_prefix_of_a_text : (text : List ℕ) → ReadsPrefix text (Ok ten_8) → IsPrefixText text 167772160 8
+the_prefix_of_a_text text h = h
+
+no_pair_has_it : (text : List ℕ) → ReadsPrefix text (Err Text) → (address len : ℕ) → ¬ IsPrefixText text address len
+no_pair_has_it text h = h
+
+its_length_is_above_32 : (text : List ℕ) → ReadsPrefix text (Err Length) → (address len : ℕ) × IsPrefixText text address len × (32 < len)
+its_length_is_above_32 text h = h
+
+its_length_is_not_but_a_bit_is_past_it :
+    (text : List ℕ) → ReadsPrefix text (Err Bits) → (address len : ℕ) × IsPrefixText text address len × (len ≤ 32) × ¬ IsPrefix address len
+its_length_is_not_but_a_bit_is_past_it text h = h
 
 -- texts of the tutorial's feeds, and what is written for their numbers, addresses and prefixes
 decimal_4 : IsDecimal (codes "4") 4
@@ -391,3 +449,131 @@ written_30 = decimal_one_text (decimal 30) (codes "30") 30 (decimal_is_decimal 3
 
 pub written_50 : decimal 50 ≡ codes "50"
 written_50 = decimal_one_text (decimal 50) (codes "50") 50 (decimal_is_decimal 50 (omega arith)) decimal_50
+
+-- ReadsDecimal
+the_number_of_a_text : (text : List ℕ) → ReadsDecimal text (Some 7) → IsDecimal text 7 × (7 < 4294967296)
+the_number_of_a_text text h = h
+
+none_of_its_numbers : (text : List ℕ) → ReadsDecimal text None → (n : ℕ) → n < 4294967296 → ¬ IsDecimal text n
+none_of_its_numbers text h = h
+
+-- ReadsAddress
+the_address_of_a_text : (text : List ℕ) → ReadsAddress text (Ok (at 7)) → IsAddressText text 7
+the_address_of_a_text text h = h
+
+no_address_has_it : (text : List ℕ) → ReadsAddress text (Err Text) → (address : ℕ) → ¬ IsAddressText text address
+no_address_has_it text h = h
+
+no_other_fault_of_an_address : (text : List ℕ) → (¬ ReadsAddress text (Err Length)) × (¬ ReadsAddress text (Err Bits))
+no_other_fault_of_an_address text = (λ h. h, λ h. h)
+
+-- AnswersPair
+the_prefix_of_a_pair : (base len : ℕ) → AnswersPair base len (Ok ten_8) → (167772160 ≡ base) × (8 ≡ len)
+the_prefix_of_a_pair base len h = h
+
+a_pair_is_no_text : (base len : ℕ) → ¬ AnswersPair base len (Err Text)
+a_pair_is_no_text base len h = h
+
+a_length_above_32 : (base len : ℕ) → AnswersPair base len (Err Length) → 32 < len
+a_length_above_32 base len h = h
+
+a_bit_past_the_length : (base len : ℕ) → AnswersPair base len (Err Bits) → (len ≤ 32) × (¬ IsPrefix base len)
+a_bit_past_the_length base len h = h
+
+-- buffered
+what_is_below_and_then_what_is_held : buffered 9 (Some (1 ∷ [])) (Some (1 ∷ 2 ∷ [])) (3 ∷ []) ≡ Some (9 ∷ 1 ∷ 1 ∷ 2 ∷ 3 ∷ [])
+what_is_below_and_then_what_is_held = refl
+
+nothing_is_below_yet : buffered 9 (Some (1 ∷ [])) (Some (1 ∷ [])) (3 ∷ []) ≡ Some (9 ∷ 1 ∷ 1 ∷ 3 ∷ [])
+nothing_is_below_yet = refl
+
+not_where_less_is_below_than_at_first : buffered 9 (Some (1 ∷ 2 ∷ [])) (Some (1 ∷ [])) (3 ∷ []) ≡ None
+not_where_less_is_below_than_at_first = refl
+
+nor_where_the_writer_tells_nothing : (buffered 9 (Some []) None [] ≡ None) × (buffered 9 None (Some []) [] ≡ None) × (buffered 9 None None [] ≡ None)
+nor_where_the_writer_tells_nothing = (refl, refl, refl)
+
+-- FitsInShortText
+as_many_bytes_as_the_room_has : (text old : List ℕ) → FitsInShortText text old → length text + length old ≤ SHORT_TEXT_BYTES
+as_many_bytes_as_the_room_has text old h = h
+
+-- HasOneNumber
+no_text_is_of_7_and_of_8 : HasOneNumber IsDecimal → (text : List ℕ) → IsDecimal text 7 → ¬ IsDecimal text 8
+no_text_is_of_7_and_of_8 law text seven eight = let same = law text 7 8 seven eight in cc
+
+-- HasOneText
+two_texts_of_7_are_one : HasOneText IsDecimal → (text other : List ℕ) → IsDecimal text 7 → IsDecimal other 7 → text ≡ other
+two_texts_of_7_are_one law text other = law text other 7
+
+-- HasOnePair
+two_pairs_of_a_text_are_one : HasOnePair → (text : List ℕ) (len : ℕ) → IsPrefixText text 1 8 → IsPrefixText text 2 len → (◌≡◌ {A = ℕ} 1 2) × (8 ≡ len)
+two_pairs_of_a_text_are_one law text len = law text 1 2 8 len
+
+-- PairHasOneText
+two_texts_of_a_pair_are_one : PairHasOneText → (text other : List ℕ) → IsPrefixText text 1 8 → IsPrefixText other 1 8 → text ≡ other
+two_texts_of_a_pair_are_one law text other = law text other 1 8
+
+-- AddressFits
+of_32_bits : AddressFits → (text : List ℕ) (address : ℕ) → IsAddressText text address → address < 4294967296
+of_32_bits law = law
+
+-- HasOneAnswer
+never_both_7_and_none : HasOneAnswer ReadsDecimal → (text : List ℕ) → ReadsDecimal text (Some 7) → ¬ ReadsDecimal text None
+never_both_7_and_none law text seven none = let same = law text (Some 7) None seven none in cc
+
+-- PairHasOneAnswer
+never_two_faults : PairHasOneAnswer → (base len : ℕ) → AnswersPair base len (Err Length) → ¬ AnswersPair base len (Err Bits)
+never_two_faults law base len long bits = let same = law base len (Err Length) (Err Bits) long bits in cc
+
+-- WritesDecimal
+every_number_of_64_bits : WritesDecimal → (n : ℕ) → n < 18446744073709551616 → IsDecimal (decimal n) n
+every_number_of_64_bits law = law
+
+-- WritesAddress
+every_number_of_32_bits : WritesAddress → (address : ℕ) → address < 4294967296 → IsAddressText (address_text address) address
+every_number_of_32_bits law = law
+
+-- WritesPrefix
+ten_8_is_written : WritesPrefix → IsPrefixText (prefix_text 167772160 8) 167772160 8
+ten_8_is_written law = law ten_8
+
+-- ReadsDecimalAgain
+a_number_of_32_bits_is_read : ReadsDecimalAgain → (n : ℕ) (answer : Option ℕ) → n < 4294967296 → ReadsDecimal (decimal n) answer → answer ≡ Some n
+a_number_of_32_bits_is_read law = law
+
+-- ReadsAddressAgain
+an_address_is_read :
+    ReadsAddressAgain → (a : Addr) (answer : Result Addr TextFault) → a.0 < 4294967296 → ReadsAddress (address_text a.0) answer → answer ≡ Ok a
+an_address_is_read law = law
+
+-- ReadsPrefixAgain
+ten_8_is_read : ReadsPrefixAgain → (answer : Result Prefix TextFault) → ReadsPrefix (prefix_text 167772160 8) answer → answer ≡ Ok ten_8
+ten_8_is_read law = law ten_8
+
+-- SamePrefix
+ten_8_is_one : SamePrefix → (p : Prefix) → p.base ≡ 167772160 → p.len ≡ 8 → p ≡ ten_8
+ten_8_is_one law p = law p ten_8
+
+-- CoversItsRange
+the_range_of_ten_8 : CoversItsRange → (a : Addr) → IsTrue (covers ten_8 a) ↔ ((167772160 ≤ a.0) × (a.0 < 184549376))
+the_range_of_ten_8 law = law ten_8
+
+-- ContainsByRange
+what_lies_in_ten_8 : ContainsByRange → (q : Prefix) → IsTrue (contains ten_8 q) ↔ ((8 ≤ q.len) × (167772160 ≤ q.base) × (q.base < 184549376))
+what_lies_in_ten_8 law = law ten_8
+
+-- ContainsWhatItCovers
+whose_addresses_ten_8_covers :
+    ContainsWhatItCovers → (q : Prefix)
+    → IsTrue (contains ten_8 q) ↔ ((a : Addr) → a.0 < 4294967296 → IsTrue (covers q a) → IsTrue (covers ten_8 a))
+whose_addresses_ten_8_covers law = law ten_8
+
+-- CoveringAreNested
+what_covers_one_of_its_addresses_and_is_no_shorter :
+    CoveringAreNested → (q : Prefix) (a : Addr) → IsTrue (covers ten_8 a) → IsTrue (covers q a) → 8 ≤ q.len → IsTrue (contains ten_8 q)
+what_covers_one_of_its_addresses_and_is_no_shorter law = law ten_8
+
+-- CoveringAreSame
+what_covers_one_of_its_addresses_and_is_as_long :
+    CoveringAreSame → (q : Prefix) (a : Addr) → IsTrue (covers ten_8 a) → IsTrue (covers q a) → 8 ≡ q.len → ten_8 ≡ q
+what_covers_one_of_its_addresses_and_is_as_long law = law ten_8
