@@ -1,4 +1,5 @@
--- Examples by which definitions are tested, each under a line with the definition's name. Both sides are computed.
+-- Examples by which definitions are tested, each under a line with the definition's name. Both sides are computed, and
+-- what a relation or a law says is spelled out for some values.
 use Rattle.std.proofs.Common.{◌≡◌, ℕ, ◌+◌, Bool, true, false, if◌then◌else◌, Some, None, List, [], ◌∷◌, ◌++◌, refl, sym, subst, arith}
 use Rattle.std.proofs.lemmas.List.Elements.{All-nil, All-cons}
 use Rattle.std.proofs.lemmas.List.Kept.{AllPairs-cons}
@@ -21,12 +22,15 @@ use Rattle.rt_rib.specs.Table.{below_then, is_of, has, count_of, is_better, prec
 use Rattle.rt_rib.specs.LookUp.{matching, longest_of, best, look_up, best_routes}
 use Rattle.rt_rib.specs.Sequential.{reply_of, table_after}
 use Rattle.rt_rib.specs.Journal.{table_of_journal, IsAnswered, IsLawfulJournal}
-use Rattle.rt_rib.specs.Book.{IsLimit, BookContents, OfferTrie, table_of, HoldsRoutes, HoldsTable}
-use Rattle.rt_rib.specs.Laws.{IsBestMatch, is_own, feed_entries}
+use Rattle.rt_rib.specs.Book.{IsLimit, BookContents, OfferTrie, table_of, HoldsRoutes, HoldsTable, IsFeed, Applies, Refuses, IsAdd}
+use Rattle.rt_rib.specs.Laws.{IsBestMatch, is_own, feed_entries, PutInAdds, TakeOutLeavesOthers, OneTableOfSet, LookUpFindsBest, TableByEntry, LawfulByEntry, LawfulIsDetermined, asked, feed_routes, FeedsStandAlone}
 use Rattle.rt_rib.proofs.Tables.{IsTable-nil, IsTable-put_in}
 use Rattle.rt_rib.proofs.Best.{look_up_finds_best}
 use Rattle.rt_rib.proofs.OfferLists.{IsRanked-one}
 use Rattle.rt_rib.proofs.Journals.{IsTable-of_journal, IsLawfulJournal-nil, IsLawfulJournal-push}
+use Rattle.std.specs.Prelude.{◌↔◌, ◌⊎◌, ◌≤◌, ◌<◌, length}
+use Rattle.std.specs.List.{Contains}
+use Rattle.rt_cidr.specs.Prefix.{covers}
 
 -- prefixes of the examples: all addresses, 10.0.0.0/8, 10.0.0.0/16, 10.1.0.0/16, and the last address by itself
 abbrev everything : Prefix
@@ -165,6 +169,12 @@ by_preference_before_feed = refl
 
 by_feed_last : precedes (route ten_8 2 30) (route ten_8 1 30) ≡ false
 by_feed_last = refl
+
+not_by_length_after_base : precedes (route ten_1_16 1 0) (route ten_8 2 9) ≡ false
+not_by_length_after_base = refl
+
+not_the_longer_of_one_base : precedes (route ten_0_16 1 0) (route ten_8 2 9) ≡ false
+not_the_longer_of_one_base = refl
 
 -- put_in
 put_in_stands_in_dump_order :
@@ -410,6 +420,10 @@ one_entry_of_it_left_out : ¬ IsLawfulJournal 1 (entry 1 (Lookup at_10_1_2_3) (F
 unfolding table_of_journal table_after reply_of look_up
 one_entry_of_it_left_out h = let first = h.answered [] (entry 1 (Lookup at_10_1_2_3) (Found (route ten_8 1 5))) [] refl in cc
 
+each_entry_is_answered :
+    (earlier later : List Entry) (e : Entry) → IsLawfulJournal 1 (earlier ++ e ∷ later) → e.reply ≡ reply_of 1 (table_of_journal 1 earlier) e.feed e.cmd
+each_entry_is_answered earlier later e h = h.answered earlier e later refl
+
 -- IsBestMatch
 the_longest_is_the_best_match : IsBestMatch at_10_2_3_4 (route ten_8 2 30 ∷ []) (route ten_8 2 30)
 unfolding look_up
@@ -421,6 +435,13 @@ a_shorter_is_no_best_match h = omega (arith, h.longest (route ten_1_16 1 100) (2
 one_of_greater_preference_is_no_best_match :
     ¬ IsBestMatch at_10_2_3_4 (route ten_8 2 30 ∷ route ten_8 1 50 ∷ []) (route ten_8 1 50)
 one_of_greater_preference_is_no_best_match h = let better = h.best (route ten_8 2 30) (0, omega arith, refl) refl refl in cc
+
+what_a_best_match_is :
+    (table : List Route) → IsBestMatch at_10_1_2_3 table (route ten_8 1 5)
+    → Contains table (route ten_8 1 5) × (covers ten_8 at_10_1_2_3 ≡ true)
+    × ((s : Route) → Contains table s → covers s.prefix at_10_1_2_3 ≡ true → s.prefix.len ≤ 8)
+    × ((s : Route) → Contains table s → covers s.prefix at_10_1_2_3 ≡ true → s.prefix.len ≡ 8 → is_better s (route ten_8 1 5) ≡ false)
+what_a_best_match_is table h = (h.contained, h.covering, h.longest, h.best)
 
 -- is_own
 an_add_is_its_own : is_own (Add ten_8 5 Discard) ≡ true
@@ -456,6 +477,9 @@ greatest_limit = (omega arith, omega arith)
 
 no_limit_of_none : ¬ IsLimit 0
 no_limit_of_none h = omega (arith, h.0)
+
+no_limit_above_the_greatest : ¬ IsLimit 1000001
+no_limit_above_the_greatest h = omega (arith, h.1)
 
 -- what a feed offers, and a map of two prefixes
 abbrev offer : ℕ → ℕ → Offer
@@ -500,6 +524,9 @@ two_are_offers = record { some = omega arith; ranked = two_ranked }
 
 none_is_not : ¬ IsOffers []
 none_is_not h = omega (arith, h.some)
+
+two_in_order_at_least_one : (offers : List Offer) → IsOffers offers → (0 < length offers) × IsRanked offers
+two_in_order_at_least_one offers h = (h.some, h.ranked)
 
 -- whatever stands at a prefix of the map are offers, where those of its first prefix and of the rest are
 each_of : (q : Prefix) (first : List Offer) (rest : Map) → IsOffers first
@@ -619,3 +646,101 @@ holds_no_route journal none = record {
   exactly = sym none;
   once = IsTable-of_journal 1 journal;
 }
+
+-- IsFeed
+the_first_and_the_last : IsFeed 1 × IsFeed 64
+the_first_and_the_last = ((omega arith, omega arith), (omega arith, omega arith))
+
+none_before_and_none_behind : (¬ IsFeed 0) × (¬ IsFeed 65)
+none_before_and_none_behind = (λ h. omega (arith, h.0), λ h. omega (arith, h.1))
+
+-- IsAdd
+an_add_may_want_memory : IsAdd (Add ten_8 5 Discard)
+an_add_may_want_memory = tt
+
+a_replace_wants_none : ¬ IsAdd (Replace ten_8 5 Discard)
+a_replace_wants_none h = h
+
+-- feed_routes
+those_of_feed_2 : feed_routes 2 (route everything 1 9 ∷ route ten_8 2 30 ∷ route ten_8 3 50 ∷ []) ≡ route ten_8 2 30 ∷ []
+those_of_feed_2 = refl
+
+-- PutInAdds
+what_a_route_more_contains :
+    PutInAdds → (x : Route) (table : List Route) → Contains (put_in (route ten_8 1 5) table) x ↔ (Contains table x ⊎ (route ten_8 1 5 ≡ x))
+what_a_route_more_contains law = law (route ten_8 1 5)
+
+-- TakeOutLeavesOthers
+what_is_left_without_feed_1s :
+    TakeOutLeavesOthers → (x : Route) (table : List Route) → Contains (take_out 1 ten_8 table) x ↔ (Contains table x × (is_of 1 ten_8 x ≡ false))
+what_is_left_without_feed_1s law = law 1 ten_8
+
+-- OneTableOfSet
+one_table_of_what_both_contain :
+    OneTableOfSet → (t : List Route) → IsTable t → IsTable nested → ((x : Route) → Contains t x ↔ Contains nested x) → t ≡ nested
+one_table_of_what_both_contain law t = law t nested
+
+-- LookUpFindsBest
+what_is_found_is_the_best_match :
+    LookUpFindsBest → (table : List Route) → IsTable table
+    → ((r : Route) → (look_up at_last table ≡ Some r) ↔ IsBestMatch at_last table r)
+    × ((look_up at_last table ≡ None) ↔ ((s : Route) → Contains table s → covers s.prefix at_last ≡ false))
+what_is_found_is_the_best_match law = law at_last
+
+-- TableByEntry
+by_one_entry_more :
+    TableByEntry → (journal : List Entry)
+    → IsTable (table_of_journal 1 journal) × (table_of_journal 1 [] ≡ [])
+    × (table_of_journal 1 (journal ++ entry 2 Purge (Purged 0) ∷ []) ≡ table_after 1 (table_of_journal 1 journal) 2 Purge)
+by_one_entry_more law journal = (law.table 1 journal, law.empty 1, law.step 1 journal (entry 2 Purge (Purged 0)))
+
+-- LawfulByEntry
+lawful_with_one_entry_more :
+    LawfulByEntry → (journal : List Entry)
+    → IsLawfulJournal 1 []
+    × (IsLawfulJournal 1 (journal ++ entry 2 Purge (Purged 0) ∷ []) ↔ (IsLawfulJournal 1 journal × IsAnswered 1 journal (entry 2 Purge (Purged 0))))
+lawful_with_one_entry_more law journal = (law.empty 1, law.step 1 journal (entry 2 Purge (Purged 0)))
+
+-- asked
+who_asked_what : asked (entry 1 Dump (Dumped 0) ∷ entry 2 Purge (Purged 0) ∷ []) ≡ (1, Dump) ∷ (2, Purge) ∷ []
+who_asked_what = refl
+
+-- LawfulIsDetermined
+one_lawful_journal_of_what_was_asked :
+    LawfulIsDetermined → (j k : List Entry) → IsLawfulJournal 1 j → IsLawfulJournal 1 k → asked j ≡ asked k → j ≡ k
+one_lawful_journal_of_what_was_asked law = law 1
+
+-- FeedsStandAlone
+feed_2_stands_alone :
+    FeedsStandAlone → (journal : List Entry)
+    → (feed_routes 2 (table_of_journal 1 journal) ≡ table_of_journal 1 (feed_entries 2 journal))
+    × (true ≡ true → reply_of 1 (table_of_journal 1 journal) 2 Purge ≡ reply_of 1 (table_of_journal 1 (feed_entries 2 journal)) 2 Purge)
+feed_2_stands_alone law journal = law 1 2 journal Purge
+
+-- Applies
+what_an_answered_dump_does :
+    (old new : BookContents) → Applies old new 2 Dump (Dumped 0)
+    → (Dumped 0 ≡ reply_of old.limit (table_of old) 2 Dump) × (new.limit ≡ old.limit)
+    × (new.journal ≡ old.journal ++ entry 2 Dump (Dumped 0) ∷ []) × (old.room ≤ new.room + 1)
+what_an_answered_dump_does old new h = (h.replied, h.limited, h.journaled, h.roomy)
+
+-- Refuses
+what_a_refused_dump_leaves :
+    (old new : BookContents) → Refuses old new Dump
+    → (new.limit ≡ old.limit) × (new.journal ≡ old.journal) × (new.trie ≡ old.trie) × (old.room ≤ new.room) × ((old.room ≡ 0) ⊎ IsAdd Dump)
+what_a_refused_dump_leaves old new h = (h.limited, h.journaled, h.kept, h.roomy, h.wanted)
+
+-- BookContents
+the_parts_of_a_book :
+    ((book_with (record { pairs = two_prefixes; nodes = 2; tree = two_nodes })).limit ≡ 2)
+    × ((book_with (record { pairs = two_prefixes; nodes = 2; tree = two_nodes })).trie.nodes ≡ 2)
+    × ((empty_book (entry 1 Dump (Dumped 0) ∷ [])).journal ≡ entry 1 Dump (Dumped 0) ∷ []) × ((empty_book []).room ≡ 0)
+the_parts_of_a_book = (refl, refl, refl, refl)
+
+-- Map
+of_one_prefix : Map
+of_one_prefix = (ten_8, offer 1 5 ∷ []) ∷ []
+
+-- OfferTrie
+of_one_node : OfferTrie
+of_one_node = record { pairs = (ten_8, offer 1 5 ∷ []) ∷ []; nodes = 1; tree = Node ten_8 true Vacant Vacant }
