@@ -1,5 +1,6 @@
 -- Examples by which definitions are tested, each under a line with the definition's name. Both sides are computed, but for
--- the texts that are written for numbers, which have one spelling each.
+-- the texts that are written for numbers, which have one spelling each. What a relation or a law says is spelled out for
+-- some values.
 use Rattle.std.proofs.Common.{◌≡◌, ◌≢◌, ℕ, true, false, List, [], ◌∷◌, ◌++◌, length, map, slice_index, eqb, Some, None, Ok, Err, inl, inr, codes, refl, sym, ap, ◌∙◌, subst, arith}
 use Rattle.std.proofs.lemmas.Bool.{or_parts, eqb-false}
 use Rattle.std.proofs.lemmas.List.Elements.{All-nil, All-cons}
@@ -7,7 +8,7 @@ use Rattle.std.specs.List.{All, list_any}
 use Rattle.rt_cidr.specs.declared.address.Addr.{Addr}
 use Rattle.rt_cidr.specs.declared.prefixes.TextFault.{TextFault}
 use Rattle.rt_cidr.specs.declared.prefixes.TextFault.TheVariants.{Text, Length, Bits}
-use Rattle.rt_cidr.specs.Text.{IsDecimal, IsAddressText, IsPrefixText}
+use Rattle.rt_cidr.specs.Text.{IsDecimal, IsAddressText, IsPrefixText, address_text, prefix_text}
 use Rattle.rt_cidr.proofs.Promised.{pair_10_0_0_1_33, pair_10_0_0_1_8, length_before_bits, bit_past_the_length, a_bit_past_the_length_is_set}
 use Rattle.rt_cidr.proofs.Promised.{written_192_0_2_1, written_10_0_0_0_8, written_0, written_1, written_2, written_3, written_4, written_5, written_10, written_20, written_30, written_50, written_100, decimal_4294967296, no_address_without_a_dot, no_prefix_without_a_dot}
 use Rattle.rt_cidr.proofs.Promised.{decimal_is_decimal, decimal_one_number, address_text_is_address, pair_one_value, prefix_is_written}
@@ -27,11 +28,22 @@ use Rattle.rt_feed.specs.CommandText.{space, words, route_words, command_text, H
 use Rattle.rt_feed.specs.Grammar.{prefix, preference, hop, address, hash, is_skipped, fields, route_kinds, purge_kinds, kinds_after, prefix_fault, IsOfKind, IsFaultOf, IsFirstFault, IsFaultAmong, IsFaultAfter, IsFaultOfFields, AnswersLine}
 use Rattle.rt_feed.specs.Addresses.{AnswersAddressLine}
 use Rattle.rt_feed.specs.Lines.{lf, CutsLine}
-use Rattle.rt_feed.specs.Versions.{TellsTwo, IsBody}
+use Rattle.rt_feed.specs.Versions.{TellsTwo, IsBody, IsVersion}
 use Rattle.rt_feed.specs.LineOutcomes.{LineOutcome, skipped, faulty, asked, reading, heading, LinesBecome, Becomes, line_answer, answer_of, numbered, report_lines, asked_by, asked_of, was_refused, was_faulty, some_refused, some_faulty}
-use Rattle.rt_feed.specs.Reports.{is_refusal, is_fault}
-use Rattle.rt_feed.specs.Visits.{visit_of, reply_to, entries, concatenated, piece_of, IsCut}
+use Rattle.rt_feed.specs.Reports.{is_refusal, is_fault, NumbersRise, has_refusal, has_fault}
+use Rattle.rt_feed.specs.Visits.{visit_of, reply_to, entries, concatenated, piece_of, IsCut, Visit, Gains, AnswersBatch}
 use Rattle.rt_feed.specs.Printed.{hop_text, route_text, reply_text, fault_text, answer_text, line_text, report_text, row_text, count_text, rows_text, table_text, found_text}
+use Rattle.std.specs.Prelude.{◌↔◌, ◌⊎◌, ◌<◌, ◌≤◌, Option, IsSome, MatchOption, AllPairs, decimal, zip}
+use Rattle.rt_cidr.specs.declared.prefixes.Prefix.{Prefix}
+use Rattle.rt_cidr.specs.Reading.{ReadsPrefix}
+use Rattle.rt_rib.specs.declared.routes.Hop.{Hop}
+use Rattle.rt_shared.specs.declared.outcome.Outcome.{Outcome}
+use Rattle.rt_feed.specs.declared.report.Line.{Line}
+use Rattle.rt_feed.specs.declared.versions.Version.{Version}
+use Rattle.std.specs.declared.result.Result.{Result}
+use Rattle.rt_feed.specs.FeedRuns.{AsksLines, RunsFeed, IsTold, StopsWithin}
+use Rattle.rt_feed.specs.Feeds.{RunsOne}
+use Rattle.rt_feed.specs.Laws.{LineHasOneAnswer, AddressLineHasOneAnswer, CommandIsReadAgain, OnlyItsTextIsRead, OlderTextsStay, TextHasOneCut, TextHasOneReading}
 
 -- the address 192.0.2.1, and the command of the first line of examples/first.feed
 abbrev at_192_0_2_1 : Addr
@@ -66,6 +78,13 @@ words_of_a_replacement = refl
 words_of_a_purge : words Purge ≡ codes "purge" ∷ []
 words_of_a_purge = refl
 
+of_each_command :
+    (p : Prefix) (pref : ℕ) (next : Hop) (a : Addr)
+    → (words (Add p pref next) ≡ codes "add" ∷ route_words p pref next) × (words (Replace p pref next) ≡ codes "replace" ∷ route_words p pref next)
+    × (words (Withdraw p) ≡ codes "withdraw" ∷ prefix_text p.base p.len ∷ []) × (words (Lookup a) ≡ codes "lookup" ∷ address_text a.0 ∷ [])
+    × (words Dump ≡ codes "dump" ∷ []) × (words Purge ≡ codes "purge" ∷ [])
+of_each_command p pref next a = (refl, refl, refl, refl, refl, refl)
+
 -- HasHop
 an_address_in_version_1 : HasHop One (Via at_192_0_2_1)
 an_address_in_version_1 = omega arith
@@ -75,6 +94,10 @@ discard_in_version_2 = refl
 
 no_discard_in_version_1 : ¬ HasHop One Discard
 no_discard_in_version_1 h = cc
+
+what_each_version_has :
+    (a : Addr) → (HasHop One (Via a) → a.0 < 4294967296) × (HasHop One Discard → One ≡ Two)
+what_each_version_has a = (λ h. h, λ h. h)
 
 -- command_text
 the_text_of_an_add : command_text add_10 ≡ codes "add 10.0.0.0/8 100 192.0.2.1"
@@ -98,6 +121,16 @@ version_2_has_it = refl
 
 version_1_has_no_discard : ¬ HasCommand One (Add ten_8 100 Discard)
 version_1_has_no_discard h = let same = h.1 in cc
+
+what_it_asks_of_each :
+    (version : Version) (p : Prefix) (pref : ℕ) (next : Hop) (a : Addr)
+    → (HasCommand version (Add p pref next) → (pref < 4294967296) × HasHop version next)
+    × (HasCommand version (Replace p pref next) → (pref < 4294967296) × HasHop version next)
+    × (HasCommand version (Lookup a) → a.0 < 4294967296) × (HasCommand version Purge → version ≡ Two)
+what_it_asks_of_each version p pref next a = (λ h. h, λ h. h, λ h. h, λ h. h)
+
+and_nothing_of_two : (version : Version) (p : Prefix) → HasCommand version (Withdraw p) × HasCommand version Dump
+and_nothing_of_two version p = (tt, tt)
 
 -- is_skipped
 an_empty_line_is_skipped : is_skipped [] ≡ true
@@ -125,6 +158,11 @@ a_purge_in_version_2 = refl
 
 names_are_in_small_letters : kinds_after Two (codes "Dump") ≡ None
 names_are_in_small_letters = refl
+
+after_each_name :
+    map (kinds_after One) (codes "add" ∷ codes "replace" ∷ codes "withdraw" ∷ codes "lookup" ∷ codes "dump" ∷ codes "frob" ∷ [])
+    ≡ Some (prefix ∷ preference ∷ hop One ∷ []) ∷ Some (prefix ∷ preference ∷ hop One ∷ []) ∷ Some (prefix ∷ []) ∷ Some (address ∷ []) ∷ Some [] ∷ None ∷ []
+after_each_name = refl
 
 -- route_kinds
 of_version_2 : route_kinds Two ≡ prefix ∷ preference ∷ hop Two ∷ []
@@ -184,6 +222,14 @@ is_no_hop (Via a, fits, same) =
     no_address_without_a_dot (codes "10") a.0 refl (subst (λ text. IsAddressText text a.0) (sym same) (address_text_is_address a.0 fits))
 is_no_hop (Discard, has, same) = cc
 
+what_each_kind_is :
+    (field : List ℕ)
+    → (IsOfKind prefix field → (p : Prefix) × (field ≡ prefix_text p.base p.len))
+    × (IsOfKind preference field → (pref : ℕ) × (pref < 4294967296) × (field ≡ decimal pref))
+    × (IsOfKind (hop One) field → (next : Hop) × HasHop One next × (field ≡ hop_text next))
+    × (IsOfKind address field → (a : Addr) × (a.0 < 4294967296) × (field ≡ address_text a.0))
+what_each_kind_is field = (λ h. h, λ h. h, λ h. h, λ h. h)
+
 -- IsFaultOf
 a_length_of_33_is_E4 : IsFaultOf prefix (codes "10.0.0.1/33") fault.PrefixLength
 a_length_of_33_is_E4 = (Length, length_before_bits, refl)
@@ -196,6 +242,13 @@ an_address_is_E3 = refl
 
 an_address_is_not_E7 : ¬ IsFaultOf address (codes "10") fault.Hop
 an_address_is_not_E7 h = cc
+
+the_fault_of_each_kind :
+    (field : List ℕ) (answer : LineFault)
+    → (IsFaultOf prefix field answer → (reason : TextFault) × ReadsPrefix field (Err reason) × (answer ≡ prefix_fault reason))
+    × (IsFaultOf preference field answer → answer ≡ fault.Preference) × (IsFaultOf (hop One) field answer → answer ≡ fault.Hop)
+    × (IsFaultOf address field answer → answer ≡ fault.Text)
+the_fault_of_each_kind field answer = (λ h. h, λ h. h, λ h. h, λ h. h)
 
 -- no fault of a prefix is one of a preference
 of_a_prefix : (reason : TextFault) → fault.Preference ≢ prefix_fault reason
@@ -214,6 +267,14 @@ not_the_second_before_the_first : ¬ IsFirstFault (prefix ∷ preference ∷ [])
 not_the_second_before_the_first (inl first) = of_a_prefix first.1.0 first.1.2
 not_the_second_before_the_first (inr second) = no_prefix_33 second.0
 
+none_where_a_list_is_at_its_end : (answer : LineFault) → (¬ IsFirstFault [] [] answer) × (¬ IsFirstFault (preference ∷ []) [] answer)
+none_where_a_list_is_at_its_end answer = (λ h. h, λ h. h)
+
+this_one_or_a_later :
+    (field : List ℕ) (rest : List (List ℕ)) (answer : LineFault) → IsFirstFault (preference ∷ address ∷ []) (field ∷ rest) answer
+    → ((¬ IsOfKind preference field) × IsFaultOf preference field answer) ⊎ (IsOfKind preference field × IsFirstFault (address ∷ []) rest answer)
+this_one_or_a_later field rest answer h = h
+
 -- IsFaultAmong
 a_field_too_few : IsFaultAmong (prefix ∷ []) [] fault.FieldCount
 a_field_too_few = inl ((λ same. omega (arith, same)), refl)
@@ -222,6 +283,11 @@ one_too_many_before_the_first : ¬ IsFaultAmong (address ∷ []) (codes "10" ∷
 one_too_many_before_the_first (inl many) = let same = many.1 in cc
 one_too_many_before_the_first (inr as_many) = let same : 2 ≡ 1 = as_many.0 in omega (arith, same)
 
+not_so_many_or_the_first :
+    (rest : List (List ℕ)) (answer : LineFault) → IsFaultAmong (preference ∷ []) rest answer
+    → ((length rest ≢ 1) × (answer ≡ fault.FieldCount)) ⊎ ((length rest ≡ 1) × IsFirstFault (preference ∷ []) rest answer)
+not_so_many_or_the_first rest answer h = h
+
 -- IsFaultAfter
 no_command : IsFaultAfter None [] fault.Command
 no_command = refl
@@ -229,12 +295,21 @@ no_command = refl
 a_command_with_a_field_too_few : IsFaultAfter (Some (prefix ∷ [])) [] fault.FieldCount
 a_command_with_a_field_too_few = a_field_too_few
 
+after_no_name_and_after_one :
+    (rest : List (List ℕ)) (answer : LineFault)
+    → (IsFaultAfter None rest answer → answer ≡ fault.Command) × (IsFaultAfter (Some (preference ∷ [])) rest answer → IsFaultAmong (preference ∷ []) rest answer)
+after_no_name_and_after_one rest answer = (λ h. h, λ h. h)
+
 -- IsFaultOfFields
 a_withdrawal_of_nothing : IsFaultOfFields One (codes "withdraw" ∷ []) fault.FieldCount
 a_withdrawal_of_nothing = a_field_too_few
 
 no_fault_of_no_field : (answer : LineFault) → ¬ IsFaultOfFields One [] answer
 no_fault_of_no_field answer h = h
+
+after_the_name :
+    (name : List ℕ) (rest : List (List ℕ)) (answer : LineFault) → IsFaultOfFields One (name ∷ rest) answer → IsFaultAfter (kinds_after One name) rest answer
+after_the_name name rest answer h = h
 
 -- AnswersLine
 an_add : AnswersLine One (codes "add 10.0.0.0/8 100 192.0.2.1") (Ok (Some add_10))
@@ -286,6 +361,14 @@ a_comment_of_128_bytes = (omega arith, refl)
 one_byte_more_is_E8_whatever_it_says : AnswersLine One (codes "#################################################################################################################################") (Err fault.LineLength)
 one_byte_more_is_E8_whatever_it_says = inl (omega arith, refl)
 
+what_an_answer_says :
+    (line : List ℕ) (answer : LineFault)
+    → (AnswersLine One line (Ok (Some Dump)) → HasCommand One Dump × (line ≡ command_text Dump))
+    × (AnswersLine One line (Ok None) → (length line ≤ 128) × (is_skipped line ≡ true))
+    × (AnswersLine One line (Err answer)
+    → ((128 < length line) × (answer ≡ fault.LineLength)) ⊎ ((length line ≤ 128) × (is_skipped line ≡ false) × IsFaultOfFields One (fields line) answer))
+what_an_answer_says line answer = (λ h. h, λ h. h, λ h. h)
+
 -- AnswersAddressLine
 an_address_alone : AnswersAddressLine (codes "192.0.2.1") (Ok (Some at_192_0_2_1))
 an_address_alone = (omega arith, sym written_192_0_2_1)
@@ -298,6 +381,15 @@ what_is_no_address_is_E3 = inr (omega arith, refl, no_address_10, refl)
 
 a_comment_of_129_bytes_is_E8 : AnswersAddressLine (codes "#################################################################################################################################") (Err fault.LineLength)
 a_comment_of_129_bytes_is_E8 = inl (omega arith, refl)
+
+what_an_answer_to_an_address_says :
+    (line : List ℕ) (addr : Addr) (answer : LineFault)
+    → (AnswersAddressLine line (Ok (Some addr)) → (addr.0 < 4294967296) × (line ≡ address_text addr.0))
+    × (AnswersAddressLine line (Ok None) → (length line ≤ 128) × (is_skipped line ≡ true))
+    × (AnswersAddressLine line (Err answer)
+    → ((128 < length line) × (answer ≡ fault.LineLength))
+    ⊎ ((length line ≤ 128) × (is_skipped line ≡ false) × (¬ IsOfKind address line) × (answer ≡ fault.Text)))
+what_an_answer_to_an_address_says line addr answer = (λ h. h, λ h. h, λ h. h)
 
 -- a text without LF is a line's
 unbroken : (text : List ℕ) → list_any (λ byte. eqb byte lf) text ≡ false → All (λ byte. byte ≢ lf) text
@@ -324,6 +416,11 @@ nothing_has_no_line line rest h = elim h.ended [
   | inr whole ↦ whole.1 (sym whole.0)
 ]
 
+without_an_LF_up_to_the_first :
+    (text line rest : List ℕ) → CutsLine text line rest
+    → All (λ byte. byte ≢ 10) line × ((text ≡ line ++ 10 ∷ rest) ⊎ ((text ≡ line) × (line ≢ []) × (rest ≡ [])))
+without_an_LF_up_to_the_first text line rest h = (h.unbroken, h.ended)
+
 -- TellsTwo
 the_first_line_and_no_more : TellsTwo (codes "version 2\npurge") (codes "purge")
 the_first_line_and_no_more = record { unbroken = unbroken (codes "version 2") refl; ended = inl refl }
@@ -337,6 +434,9 @@ not_with_a_space_behind rest h = elim h.ended [
   | inr whole ↦ let tenth : 32 ≡ 0 = ap (λ text. slice_index text 9) whole.0 in omega (arith, tenth)
 ]
 
+its_first_line_is_this : (text rest : List ℕ) → TellsTwo text rest → CutsLine text (codes "version 2") rest
+its_first_line_is_this text rest h = h
+
 -- IsBody
 version_2_is_told_by_the_first_line : IsBody (codes "version 2\npurge") Two (codes "purge")
 version_2_is_told_by_the_first_line = record { unbroken = unbroken (codes "version 2") refl; ended = inl refl }
@@ -349,6 +449,11 @@ version_1_has_all_lines = (
   ],
   refl,
 )
+
+all_lines_or_those_behind_the_first :
+    (text lines : List ℕ)
+    → (IsBody text One lines → ((rest : List ℕ) → ¬ TellsTwo text rest) × (lines ≡ text)) × (IsBody text Two lines → TellsTwo text lines)
+all_lines_or_those_behind_the_first text lines = (λ h. h, λ h. h)
 
 -- reading
 what_a_line_asks_whatever_became_of_it :
@@ -498,6 +603,11 @@ two_in_one_piece_of_two = record {
 
 not_a_short_piece_before_another : ¬ IsCut {X = ℕ} 2 (1 ∷ 2 ∷ 3 ∷ []) ((1 ∷ []) ∷ (2 ∷ 3 ∷ []) ∷ [])
 not_a_short_piece_before_another h = let two = first_is_whole 2 (1 ∷ []) (2 ∷ 3 ∷ []) [] h.whole h.last h.full h.is_cut in cc
+
+the_pieces_of_a_cut :
+    (xs : List ℕ) (pieces : List (List ℕ)) (h : IsCut 2 xs pieces)
+    → All (λ piece. length piece ≡ 2) h.whole × (length h.last < 2) × (xs ≡ concatenated h.whole ++ h.last) × (pieces ≡ h.whole ++ piece_of h.last)
+the_pieces_of_a_cut xs pieces h = (h.full, h.fewer, h.is_joined, h.is_cut)
 
 -- hop_text
 an_address_as_next_hop : hop_text (Via at_192_0_2_1) ≡ codes "192.0.2.1"
@@ -706,6 +816,14 @@ lines_of_east = (
 no_line_left_out : ¬ LinesBecome One (codes "dump\n") [] []
 no_line_left_out same = cc
 
+the_first_of_them :
+    (lines : List ℕ) (rest : List ℕ) (outcomes : List LineOutcome) → LinesBecome One lines (skipped ∷ outcomes) rest
+    → (line : List ℕ) × (next : List ℕ) × CutsLine lines line next × AnswersLine One line (Ok None) × LinesBecome One next outcomes rest
+the_first_of_them lines rest outcomes h = h
+
+where_none_is_left : (lines rest : List ℕ) → LinesBecome One lines [] rest → lines ≡ rest
+where_none_is_left lines rest h = h
+
 -- north's first byte is none of `version 2`
 north_tells_no_version : (rest : List ℕ) → ¬ TellsTwo north rest
 north_tells_no_version rest h = elim h.ended [
@@ -723,6 +841,11 @@ what_south_becomes = record { version = Two; lines = south_lines; read = south_r
 pub what_east_becomes : Becomes east (skipped ∷ east_read) []
 what_east_becomes = record { version = Two; lines = east_lines; read = east_read; body = cut (codes "version 2") east_lines refl; become = lines_of_east; joined = refl }
 
+the_lines_of_its_version :
+    (text rest : List ℕ) (outcomes : List LineOutcome) (h : Becomes text outcomes rest)
+    → IsBody text h.version h.lines × LinesBecome h.version h.lines h.read rest × (outcomes ≡ heading h.version ++ h.read)
+the_lines_of_its_version text rest outcomes h = (h.body, h.become, h.joined)
+
 -- found_text
 a_route_was_found : found_text at_192_0_2_1 (Some route_10) ≡ codes "192.0.2.1 route 10.0.0.0/8 feed 1 pref 100 via 192.0.2.1\n"
 unfolding found_text reply_text route_text
@@ -731,3 +854,109 @@ a_route_was_found = rw (written_10_0_0_0_8, written_1, written_100, written_192_
 no_route_was_found : found_text at_192_0_2_1 None ≡ codes "192.0.2.1 no route\n"
 unfolding found_text reply_text
 no_route_was_found = rw written_192_0_2_1 refl
+
+-- LineHasOneAnswer
+one_answer_of_version_2 :
+    LineHasOneAnswer → (line : List ℕ) (one two : Result (Option Cmd) LineFault) → AnswersLine Two line one → AnswersLine Two line two → one ≡ two
+one_answer_of_version_2 law = law Two
+
+-- AddressLineHasOneAnswer
+an_address_or_a_fault :
+    AddressLineHasOneAnswer → (line : List ℕ) (two : Result (Option Addr) LineFault)
+    → AnswersAddressLine line (Err fault.Text) → AnswersAddressLine line two → Err fault.Text ≡ two
+an_address_or_a_fault law line = law line (Err fault.Text)
+
+-- CommandIsReadAgain
+a_dump_is_read_as_a_dump :
+    CommandIsReadAgain → (answer : Result (Option Cmd) LineFault) → HasCommand One Dump → AnswersLine One (command_text Dump) answer → answer ≡ Ok (Some Dump)
+a_dump_is_read_as_a_dump law = law One Dump
+
+-- OnlyItsTextIsRead
+no_other_line_is_read_as_a_dump :
+    OnlyItsTextIsRead → (line : List ℕ) → AnswersLine One line (Ok (Some Dump)) → HasCommand One Dump × (line ≡ command_text Dump)
+no_other_line_is_read_as_a_dump law line = law One line Dump
+
+-- OlderTextsStay
+all_lines_by_version_1 :
+    OlderTextsStay → (text : List ℕ) → ((rest : List ℕ) → ¬ TellsTwo text rest) → Becomes text (skipped ∷ []) [] ↔ LinesBecome One text (skipped ∷ []) []
+all_lines_by_version_1 law text = law text (skipped ∷ [])
+
+-- TextHasOneCut
+two_first_lines_are_one :
+    TextHasOneCut → (text line rest : List ℕ) → CutsLine text line rest → CutsLine text (codes "a") (codes "b") → (line ≡ codes "a") × (rest ≡ codes "b")
+two_first_lines_are_one law text line rest = law text line rest (codes "a") (codes "b")
+
+-- TextHasOneReading
+whatever_became_of_its_commands :
+    TextHasOneReading → (text : List ℕ) (outcomes : List LineOutcome)
+    → Becomes text outcomes [] → Becomes text (skipped ∷ []) [] → map reading outcomes ≡ map reading (skipped ∷ [])
+whatever_became_of_its_commands law text outcomes = law text outcomes (skipped ∷ [])
+
+-- IsVersion
+the_lines_that_it_reads : (text : List ℕ) → IsVersion text Two → (lines : List ℕ) × IsBody text Two lines
+the_lines_that_it_reads text h = h
+
+-- NumbersRise
+each_is_smaller_than_the_later : (lines : List Line) → NumbersRise lines → AllPairs (λ (earlier later : Line). earlier.number < later.number) lines
+each_is_smaller_than_the_later lines h = h
+
+-- has_refusal
+in_one_of_two_lines :
+    (has_refusal (record { number = 1; answer = answer.Did Added } ∷ record { number = 2; answer = answer.Refused } ∷ []) ≡ true)
+    × (has_refusal (record { number = 1; answer = answer.Fault fault.Hop } ∷ []) ≡ false)
+in_one_of_two_lines = (refl, refl)
+
+-- has_fault
+in_the_second_of_two :
+    (has_fault (record { number = 1; answer = answer.Did Added } ∷ record { number = 2; answer = answer.Fault fault.Hop } ∷ []) ≡ true)
+    × (has_fault (record { number = 1; answer = answer.Refused } ∷ []) ≡ false)
+in_the_second_of_two = (refl, refl)
+
+-- Visit
+a_command_and_its_reply : Visit
+a_command_and_its_reply = (Dump, Dumped 0) ∷ []
+
+-- Gains
+what_a_gate_holds_besides :
+    {G : Type 0} (holds : G → List Visit → Type 0) (old new : G) (more : List Visit) → Gains holds old new more
+    → (visits : List Visit) → holds old visits → holds new (visits ++ more)
+what_a_gate_holds_besides holds old new more h = h
+
+-- AnswersBatch
+one_visit_with_an_outcome_for_each :
+    {G : Type 0} (holds : G → List Visit → Type 0) (old new : G) (out out' : List Outcome) (h : AnswersBatch holds old new (Dump ∷ []) out out')
+    → (length h.outcomes ≡ 1) × (out' ≡ out ++ h.outcomes) × Gains holds old new (visit_of (zip (Dump ∷ []) h.outcomes) ∷ [])
+one_visit_with_an_outcome_for_each holds old new out out' h = (h.each, h.appended, h.gained)
+
+-- AsksLines
+a_visit_for_each_piece :
+    {G : Type 0} (holds : G → List Visit → Type 0) (text rest : List ℕ) (outcomes : List LineOutcome) (old new : G)
+    (h : AsksLines holds 2 text outcomes rest old new)
+    → Becomes text outcomes rest × IsCut 2 (asked_of outcomes) h.pieces × Gains holds old new (map visit_of h.pieces)
+a_visit_for_each_piece holds text rest outcomes old new h = (h.becomes, h.cut, h.gained)
+
+-- RunsFeed
+the_whole_text_and_its_report :
+    {G : Type 0} (holds : G → List Visit → Type 0) (text : List ℕ) (old new : G) (report : List Line) (h : RunsFeed holds 2 text old new report)
+    → AsksLines holds 2 text h.outcomes [] old new × (report ≡ report_lines 1 h.outcomes)
+the_whole_text_and_its_report holds text old new report h = (h.asks, h.reported)
+
+-- IsTold
+a_command_or_a_fault :
+    (line : List ℕ) → IsTold One line → (outcome : LineOutcome) × AnswersLine One line (reading outcome) × (line_answer outcome ≢ None)
+a_command_or_a_fault line h = h
+
+-- StopsWithin
+before_a_line_that_is_told :
+    {G : Type 0} (holds : G → List Visit → Type 0) (text : List ℕ) (old new : G) (h : StopsWithin holds 2 text old new)
+    → AsksLines holds 2 text h.outcomes h.unasked old new × LinesBecome h.asks.becomes.version h.unasked h.more h.rest × CutsLine h.rest h.line h.next
+    × IsTold h.asks.becomes.version h.line
+before_a_line_that_is_told holds text old new h = (h.asks, h.become, h.cut, h.told)
+
+-- RunsOne
+its_report_or_a_beginning :
+    {G : Type 0} (name : G → ℕ) (holds : G → List Visit → Type 0) (text : List ℕ) (old new : G) (report : Option (List Line))
+    → RunsOne name holds 2 text old new report
+    → (name new ≡ name old) × MatchOption report (StopsWithin holds 2 text old new) (λ lines. RunsFeed holds 2 text old new lines)
+    × (text ≡ [] → IsSome report)
+its_report_or_a_beginning name holds text old new report h = (h.named, h.runs, h.nothing)
