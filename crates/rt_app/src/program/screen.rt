@@ -49,6 +49,7 @@ pub struct Line {
 }
 
 impl Line {
+    /// A line that says nothing yet; whether standard output goes to a terminal, too.
     pub fn new(beside_output: bool) -> Line {
         Line {
             beside_output,
