@@ -546,9 +546,8 @@ def on_terminal(words, told=None, go_on=lambda: None, out_too=False):
         sent += piece
     os.close(screen)
     *lines, rest = sent.decode().split(ERASED)
-    if told not in (lines or [None]) or not OTHERS.issuperset(lines):
-        rest = sent.decode()
-    return child.returncode, out.decode(), rest
+    is_told = told in lines if told else not lines
+    return child.returncode, out.decode(), rest if is_told and OTHERS.issuperset(lines) else f"{lines}, and then {rest}"
 
 
 OTHERS = {"yarib: files read: 0 of 1", "yarib: files read: 1 of 2", "yarib: feeds running: 1", "yarib: feeds running: 2", "yarib: writing"}
