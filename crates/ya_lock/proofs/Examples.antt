@@ -557,21 +557,27 @@ the_parts_of_a_guard lock = (refl, refl, refl, refl, refl)
 
 -- guard_of
 it_has_what_its_entry_found :
-    (lock : LockId) → guard_of (new_pass {V = ℕ} lock 1 7) 8 3 ≡ record { lock = lock; place = 1; found = 8; value = 8; remote = 3 }
+    (lock : LockId) → guard_of (new_pass {V = ℕ} lock 1 7) 8 3
+    ≡ record { lock = lock; place = 1; found = 8; value = 8; remote = 3; view = Seated 1 Inside 8 3 }
 it_has_what_its_entry_found lock = refl
 
 -- guard_with_value
 with_another_value :
-    (lock : LockId) → guard_with_value (guard_of (new_pass {V = ℕ} lock 1 7) 8 3) 9 ≡ record { lock = lock; place = 1; found = 8; value = 9; remote = 3 }
+    (lock : LockId) → guard_with_value (guard_of (new_pass {V = ℕ} lock 1 7) 8 3) 9
+    ≡ record { lock = lock; place = 1; found = 8; value = 9; remote = 3; view = Seated 1 Inside 8 3 }
 with_another_value lock = refl
 
 -- pass_of
 it_has_seen_what_its_guard_leaves :
-    (lock : LockId) → pass_of {V = ℕ} (record { lock = lock; place = 1; found = 8; value = 9; remote = 3 }) 6 ≡ record { lock = lock; place = 1; seen = 9; remote = 6 }
+    (lock : LockId)
+    → pass_of {V = ℕ} (record { lock = lock; place = 1; found = 8; value = 9; remote = 3; view = Seated 1 Inside 8 3 }) 6
+    ≡ record { lock = lock; place = 1; seen = 9; remote = 6; view = Seated 1 Idle 9 6 }
 it_has_seen_what_its_guard_leaves lock = refl
 
 -- new_pass
-it_has_made_no_access_yet : (lock : LockId) → new_pass {V = ℕ} lock 1 7 ≡ record { lock = lock; place = 1; seen = 7; remote = 0 }
+it_has_made_no_access_yet :
+    (lock : LockId) → new_pass {V = ℕ} lock 1 7
+    ≡ record { lock = lock; place = 1; seen = 7; remote = 0; view = Seated 1 Idle 7 0 }
 it_has_made_no_access_yet lock = refl
 
 -- ArePassesInOrder
@@ -621,12 +627,13 @@ what_a_maker_shows s x = (λ h. h, λ h. h, λ h. h)
 what_a_process_shows :
     (s : State (std.Option ℕ) (View ℕ)) (x : GlobalView ℕ)
     → (ViewFits raised 2 s x 5 (Seated 1 Idle 7 3)
-    → IsBegun raised 2 s x × (x.seat_of 1 ≡ some 5) × (x.processes 1 ≡ Idle) × KnowsValue raised x.content 1 false 7)
+    → IsBegun raised 2 s x × (x.seat_of 1 ≡ some 5) × (x.processes 1 ≡ Idle) × KnowsValue raised x.content 1 false 7 × (0 ≤ 3))
     × (ViewFits raised 2 s x 5 (Seated 1 Inside 7 3)
-    → IsBegun raised 2 s x × (x.seat_of 1 ≡ some 5) × (x.processes 1 ≡ Inside) × KnowsValue raised x.content 1 true 7)
+    → IsBegun raised 2 s x × (x.seat_of 1 ≡ some 5) × (x.processes 1 ≡ Inside) × KnowsValue raised x.content 1 true 7
+    × (6 ≤ 3))
     × (ViewFits raised 2 s x 5 (Joining 1 7 2 6 3)
     → IsBegun raised 2 s x × (x.seat_of 1 ≡ some 5) × (x.processes 1 ≡ Inside) × KnowsValue raised x.content 1 true 7
-    × KnowsValue raised x.content 2 false 6)
+    × KnowsValue raised x.content 2 false 6 × (6 ≤ 3))
 what_a_process_shows s x = (λ h. h, λ h. h, λ h. h)
 
 what_one_that_has_none_shows :
