@@ -31,6 +31,13 @@ ten_8 = record { base = 167772160; len = 8; is_prefix = record { short = omega a
 abbrev last_32 : Prefix
 last_32 = record { base = 4294967295; len = 32; is_prefix = record { short = omega arith; fits = omega arith; clear = refl } }
 
+-- 0.0.0.0/8 and 10.0.0.0/16
+abbrev zero_8 : Prefix
+zero_8 = record { base = 0; len = 8; is_prefix = record { short = omega arith; fits = omega arith; clear = refl } }
+
+abbrev ten_0_16 : Prefix
+ten_0_16 = record { base = 167772160; len = 16; is_prefix = record { short = omega arith; fits = omega arith; clear = refl } }
+
 -- the address of this number
 abbrev at : ℕ → Addr
 at n = record { 0 = n }
@@ -46,6 +53,9 @@ half_of_them_with_each_bit : map size_of (0 ∷ 1 ∷ 8 ∷ 31 ∷ 32 ∷ []) �
 half_of_them_with_each_bit = refl
 
 -- IsPrefix
+the_last_address_by_itself : IsPrefix 4294967295 32
+the_last_address_by_itself = record { short = omega arith; fits = omega arith; clear = refl }
+
 a_prefix_of_8_bits : IsPrefix 167772160 8
 a_prefix_of_8_bits = record { short = omega arith; fits = omega arith; clear = refl }
 
@@ -81,6 +91,9 @@ length_32_covers_one : covers last_32 (at 4294967294) ≡ false
 length_32_covers_one = refl
 
 -- same_prefix
+of_one_base_or_of_one_length_alone : (same_prefix ten_8 ten_0_16 ≡ false) × (same_prefix ten_8 zero_8 ≡ false)
+of_one_base_or_of_one_length_alone = (refl, refl)
+
 the_same : same_prefix ten_8 ten_8 ≡ true
 the_same = refl
 
@@ -88,6 +101,12 @@ of_another_base : same_prefix everything ten_8 ≡ false
 of_another_base = refl
 
 -- contains
+a_longer_one_at_its_base : contains ten_8 ten_0_16 ≡ true
+a_longer_one_at_its_base = refl
+
+no_shorter_one_at_its_base : contains zero_8 everything ≡ false
+no_shorter_one_at_its_base = refl
+
 itself : contains ten_8 ten_8 ≡ true
 itself = refl
 
@@ -487,7 +506,7 @@ what_is_below_and_then_what_is_held = refl
 nothing_is_below_yet : buffered 9 (Some (1 ∷ [])) (Some (1 ∷ [])) (3 ∷ []) ≡ Some (9 ∷ 1 ∷ 1 ∷ 3 ∷ [])
 nothing_is_below_yet = refl
 
-not_where_less_is_below_than_at_first : buffered 9 (Some (1 ∷ 2 ∷ [])) (Some (1 ∷ [])) (3 ∷ []) ≡ None
+not_where_less_is_below_than_at_first : buffered 9 (Some (1 ∷ 2 ∷ [])) (Some (1 ∷ [])) (3 ∷ 4 ∷ []) ≡ None
 not_where_less_is_below_than_at_first = refl
 
 nor_where_the_writer_tells_nothing : (buffered 9 (Some []) None [] ≡ None) × (buffered 9 None (Some []) [] ≡ None) × (buffered 9 None None [] ≡ None)
@@ -498,8 +517,8 @@ as_many_bytes_as_the_room_has : (text old : List ℕ) → FitsInShortText text o
 as_many_bytes_as_the_room_has text old h = h
 
 -- HasOneNumber
-no_text_is_of_7_and_of_8 : HasOneNumber IsDecimal → (text : List ℕ) → IsDecimal text 7 → ¬ IsDecimal text 8
-no_text_is_of_7_and_of_8 law text seven eight = let same = law text 7 8 seven eight in cc
+the_number_of_a_text_of_7_is_7 : HasOneNumber IsDecimal → (text : List ℕ) (n : ℕ) → IsDecimal text 7 → IsDecimal text n → 7 ≡ n
+the_number_of_a_text_of_7_is_7 law text = law text 7
 
 -- HasOneText
 two_texts_of_7_are_one : HasOneText IsDecimal → (text other : List ℕ) → IsDecimal text 7 → IsDecimal other 7 → text ≡ other
@@ -522,8 +541,9 @@ never_both_7_and_none : HasOneAnswer ReadsDecimal → (text : List ℕ) → Read
 never_both_7_and_none law text seven none = let same = law text (Some 7) None seven none in cc
 
 -- PairHasOneAnswer
-never_two_faults : PairHasOneAnswer → (base len : ℕ) → AnswersPair base len (Err Length) → ¬ AnswersPair base len (Err Bits)
-never_two_faults law base len long bits = let same = law base len (Err Length) (Err Bits) long bits in cc
+no_other_answer_where_a_bit_is_past_the_length :
+    PairHasOneAnswer → (base : ℕ) (two : Result Prefix TextFault) → AnswersPair base 8 (Err Bits) → AnswersPair base 8 two → Err Bits ≡ two
+no_other_answer_where_a_bit_is_past_the_length law base = law base 8 (Err Bits)
 
 -- WritesDecimal
 every_number_of_64_bits : WritesDecimal → (n : ℕ) → n < 18446744073709551616 → IsDecimal (decimal n) n
