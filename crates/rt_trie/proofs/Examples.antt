@@ -60,6 +60,9 @@ not_itself = refl
 neither_a_greater_base_nor_a_lesser_length : (before ten_128_9 ten_8 ≡ false) × (before ten_0_16 ten_8 ≡ false) × (before ten_1_16 ten_8 ≡ false)
 neither_a_greater_base_nor_a_lesser_length = (refl, refl, refl)
 
+not_a_shorter_one_of_a_greater_base : before ten_128_9 ten_1_16 ≡ false
+not_a_shorter_one_of_a_greater_base = refl
+
 -- IsBeforeAll
 before_both : IsBeforeAll ten_8 two
 before_both = (refl, (refl, tt))
@@ -215,6 +218,9 @@ none_where_none_covers m a h = h
 the_second_of_two : address_at (record { 0 = 7 } ∷ record { 0 = 9 } ∷ []) 1 ≡ record { 0 = 9 }
 the_second_of_two = refl
 
+the_least_behind_the_last : address_at [] 0 ≡ record { 0 = 0 }
+the_least_behind_the_last = refl
+
 -- middle_at
 where_the_upper_half_begins : middle_at 8 167772160 ≡ 176160768
 where_the_upper_half_begins = refl
@@ -256,6 +262,9 @@ where_one_is_stored_or_two_part : (m : Pairs ℕ) → IsNodeAt m ten_8 → IsSto
 where_one_is_stored_or_two_part m h = h
 
 -- CountsNodes
+it_lists_them_without_values : (m : Pairs ℕ) → CountsNodes m 3 → Pairs (Unit {0})
+it_lists_them_without_values m h = h.nodes
+
 three_nodes_listed_in_order :
     (m : Pairs ℕ) (h : CountsNodes m 3) → IsOrdered h.nodes × (IsStored h.nodes ten_8 ↔ IsNodeAt m ten_8) × (length h.nodes ≡ 3)
 three_nodes_listed_in_order m h = (h.ordered, h.each ten_8, h.count)
