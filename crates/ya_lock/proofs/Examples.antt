@@ -1,7 +1,7 @@
 -- Examples by which definitions are tested, each under a line with the definition's name. Both sides are computed, and
 -- what a relation says is spelled out for some values. The value that the lock lends is a number here, which others can
 -- only raise.
-use Rattle.std.proofs.Common.{◌≡◌, ◌≢◌, ℕ, zero, suc, ◌≤◌, List, [], ◌∷◌, ◌++◌, ◌∙◌, refl, sym, subst, arith, None, Some, replicate, set}
+use Rattle.std.proofs.Common.{◌≡◌, ◌≢◌, ℕ, zero, suc, ◌≤◌, true, false, List, [], ◌∷◌, ◌++◌, ◌∙◌, refl, sym, subst, arith, None, Some, replicate, set}
 use Rattle.std.specs.Prelude as std
 use Rattle.std.specs.Prelude.{IsTrue, ◌<◌, ◌^◌, Bool, true, false, length, slice_get, slice_index}
 use mathlib.Core.Option.{Option, none, some, some-injective, some-ne-none}
@@ -23,6 +23,8 @@ use Rattle.ya_lock.specs.LockState.{IsOf, IsFilling, IsMaking, HasProcess, IsAwa
 use Rattle.ya_lock.specs.LockState.{OneSeatAPlace, OneInside, IsInSlot, IsFresh, IsMadeByOne, IsLockState}
 use Rattle.ya_lock.specs.Lock.{LockId, IdlePass, OpenGuard, new_pass, guard_of, pass_of}
 use Rattle.ya_lock.specs.GuardLends.{guard_with_value}
+use Rattle.ya_lock.specs.DueStep.{count_from, count_after, IsReady, process_after, TakesStep, EachMayStep}
+use Rattle.ya_lock.proofs.DueSteps.{each_may_step}
 use Rattle.ya_lock.proofs.Words.{words_zero, words_behind}
 use Rattle.atomic_table.specs.Seated.{TableId}
 use Rattle.ya_core.specs.Worlds.{is_inside}
@@ -653,3 +655,56 @@ what_it_says_of_place_1_and_seat_5 :
     × ((view : View ℕ) → get_elem? s.views 5 ≡ some view → ViewFits raised 2 s x 5 view)
 what_it_says_of_place_1_and_seat_5 s x h =
     (h.wide, h.unmade, λ none_given. h.before none_given 1, h.seated 1 5, h.absent 1, h.sound, h.lies, h.fits 5)
+
+-- count_from
+a_new_entry_begins_with_none : count_from Idle 9 ≡ 0
+a_new_entry_begins_with_none = refl
+
+one_under_way_goes_on_counting : count_from Inside 9 ≡ 9
+one_under_way_goes_on_counting = refl
+
+-- count_after
+the_claim_of_a_new_entry_counts : count_after 1 0 Idle 9 ≡ 1
+the_claim_of_a_new_entry_counts = refl
+
+its_own_spin_word_adds_nothing : count_after 1 0 (Entering 1 E3) 2 ≡ 2
+its_own_spin_word_adds_nothing = refl
+
+-- IsReady
+with_a_value_to_leave : IsReady raised true 0 7 ((0, Some 9) ∷ [])
+with_a_value_to_leave = (9, refl, omega arith)
+
+not_without_its_slot : ¬ IsReady raised true 0 7 []
+not_without_its_slot h = let slots = h.1 in cc
+
+nor_with_one_that_is_not_inside : ¬ IsReady raised false 0 7 ((0, Some 9) ∷ [])
+nor_with_one_that_is_not_inside slots = cc
+
+-- process_after
+it_has_claimed_its_leaf : process_after 1 both_made 0 Idle ≡ Entering 1 E2
+it_has_claimed_its_leaf = refl
+
+-- both passes, and place 1 has raised what it saw while place 0 claimed its leaf
+abbrev once_claimed : View ℕ → State (std.Option ℕ) (View ℕ)
+once_claimed other = record { words = set both_made.words 0 1; homes = both_made.homes; views = Seated 0 (Entering 1 E2) 7 1 ∷ other ∷ [] }
+
+-- TakesStep
+the_claim_is_counted : (t : State (std.Option ℕ) (View ℕ)) → TakesStep raised 1 0 0 Idle 0 both_made t
+    → (value : ℕ) × (get_elem? t.views 0 ≡ some (Seated 0 (Entering 1 E2) value 1))
+the_claim_is_counted t step = (step.value, step.own)
+
+it_does_not_stay : ¬ TakesStep raised 1 0 0 Idle 0 both_made both_made
+it_does_not_stay step =
+    let own : some (Seated 0 Idle 7 0) ≡ some (Seated 0 (Entering 1 E2) step.value 1) = step.own in
+    let same = some-injective (Seated 0 Idle 7 0) (Seated 0 (Entering 1 E2) step.value 1) own in cc
+
+no_other_view_changes : ¬ TakesStep raised 1 0 0 Idle 0 both_made (once_claimed (Seated 1 Idle 6 0))
+no_other_view_changes step =
+    let other : ◌≡◌ {A = Option (View ℕ)} (some (Seated 1 Idle 6 0)) (some (Seated 1 Idle 5 0)) = step.others 1 (λ same. cc) in
+    let same = some-injective (Seated 1 Idle 6 0) (Seated 1 Idle 5 0) other in cc
+
+-- EachMayStep
+each_of_both_may_step : EachMayStep raised raised 1 both_made
+each_of_both_may_step =
+    each_may_step raised raised (λ place a. omega arith)
+    (λ place other a b c apart since done. omega (arith, since, done)) 1 (omega arith) both_made once_both_passes_were_made

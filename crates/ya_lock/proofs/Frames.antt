@@ -11,7 +11,7 @@ use Rattle.ya_core.specs.declared.process.Process.{Process}
 use Rattle.ya_core.specs.Soundness.{IsSoundState}
 use Rattle.ya_lock.specs.declared.view.View.{View}
 use Rattle.ya_lock.specs.declared.view.View.TheVariants.{Unused, Making, Filling, HandingOut, Seated, Joining, Spent}
-use Rattle.ya_lock.specs.inside.StepEffects.{Slots}
+use Rattle.ya_lock.specs.DueStep.{Slots}
 use Rattle.ya_lock.proofs.Words.{word_kept}
 use Rattle.ya_lock.specs.Rule.{making_index, words_in, place_of_view, GlobalView, KnowsValue, ValueInSlot, least_count, ViewFits, Obeys, Rule}
 use Rattle.ya_core.specs.Worlds.{is_inside}

@@ -2,6 +2,7 @@ pub mod Words
 pub mod LeastCounts
 pub mod Frames
 pub mod ProcessSteps
+pub mod DueSteps
 pub mod NewSteps
 pub mod BellStores
 pub mod ConfirmSteps

@@ -22,7 +22,8 @@ use Rattle.ya_lock.specs.declared.view.View.{View}
 use Rattle.ya_lock.specs.declared.view.View.TheVariants.{Seated}
 use Rattle.ya_lock.specs.Rule.{index_of, making_index, words_in, GlobalView, KnowsValue, ValueInSlot, ViewFits, Obeys, Rule}
 use Rattle.ya_core.specs.Worlds.{is_inside}
-use Rattle.ya_lock.specs.inside.StepEffects.{value_after, Slots, CarriesValue, ProcessSteps, IsReady, HasMade, count_after}
+use Rattle.ya_lock.specs.inside.StepEffects.{value_after, CarriesValue, ProcessSteps, HasMade}
+use Rattle.ya_lock.specs.DueStep.{Slots, IsReady, count_after}
 use Rattle.ya_core.proofs.Promised.{keeps as kept_by_step, finds, is_inside_is, excludes}
 use Rattle.ya_lock.proofs.Words.{index_below, word_in, word_set, word_set_other, word_kept}
 use Rattle.ya_lock.proofs.Frames.{moved, moved_here, moved_else, Same, Changed, gone_on, goes_on}
@@ -33,13 +34,13 @@ leaves : (levels place n : ℕ) (p : Process) → p ≡ Inside → is_inside (ne
 leaves levels place n p e = subst (λ (p : Process). is_inside (next_of levels place p n) ≡ false) (sym e) refl
 
 -- what an access leaves is what the core says that it loads or stores
-value_is : (levels i : ℕ) (row : List ℕ) (a : Access) → IsWord levels (word_of a) → i ≡ index_of levels (word_of a)
+pub value_is : (levels i : ℕ) (row : List ℕ) (a : Access) → IsWord levels (word_of a) → i ≡ index_of levels (word_of a)
     → value_of (words_in levels row) a ≡ value_after a (slice_index row i)
 value_is levels i row (Load w) h e = word_in levels row w h ∙ ap (λ (j : ℕ). slice_index row j) (sym e)
 value_is levels i row (Store w m) h e = refl
 
 -- and the words after it are those that the core says
-accesses : (levels i : ℕ) (row : List ℕ) (a : Access) → IsWord levels (word_of a) → i ≡ index_of levels (word_of a)
+pub accesses : (levels i : ℕ) (row : List ℕ) (a : Access) → IsWord levels (word_of a) → i ≡ index_of levels (word_of a)
     → i < length row
     → Accesses a (words_in levels row) (words_in levels (set row i (value_after a (slice_index row i))))
 accesses levels i row (Load w) h e l = λ other. ap (λ (r : List ℕ). words_in levels r other) (word_kept row i)
@@ -302,7 +303,7 @@ module _ {V : Type 0} (since done : ℕ → V → V → Type 0) (since_same : (p
       passes s x id place i n value count slots step e h knows
 
   -- the step that is due keeps the rule
-  answers : (s : St) (x : GlobalView V) → Obeys since levels s x → (id place i : ℕ) (value : V) (count : ℕ) (slots : Slots V)
+  pub answers : (s : St) (x : GlobalView V) → Obeys since levels s x → (id place i : ℕ) (value : V) (count : ℕ) (slots : Slots V)
       → get_elem? s.views id ≡ some (Seated place (x.processes place) value count)
       → place < 2 ^ levels → IsWord levels (word_of (due x place)) → i ≡ index_of levels (word_of (due x place))
       → IsReady done (is_inside (x.processes place)) place value slots

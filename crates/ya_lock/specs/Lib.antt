@@ -2,5 +2,6 @@ pub mod Rule
 pub mod Lock
 pub mod GuardLends
 pub mod LockState
+pub mod DueStep
 pub mod inside
 pub mod tests

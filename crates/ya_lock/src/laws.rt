@@ -1,6 +1,7 @@
-//! What the rule of the lock's table means, as the contract of a function that does nothing.
+//! What the rule of the lock's table means, as contracts of functions that do nothing.
 ghost use Rattle.std.specs.Prelude.{ℕ, ◌≤◌};
 ghost use Rattle.ya_lock.specs.LockState.{IsLockState};
+ghost use Rattle.ya_lock.specs.DueStep.{EachMayStep};
 
 use crate::kept::Kept;
 use crate::rule::{LockTable, Ruled};
@@ -15,4 +16,12 @@ pub fn rule<V: Kept, const L: u32>()
     requires { 1 ≤ L }
     ensures { (s : _) → ⟦<LockTable<V> as Ruled<Option<V>, View<V>, u32>>⟧.rule L s
         → IsLockState V.since L s }
+{}
+
+/// At each such moment each seat of a process may take the step that is due, whatever the words and all other views are:
+/// one load or store, by which that seat's view goes on as the core says, no other view changes, and the rule is kept.
+pub fn steps<V: Kept, const L: u32>()
+    requires { 1 ≤ L }
+    ensures { (s : _) → ⟦<LockTable<V> as Ruled<Option<V>, View<V>, u32>>⟧.rule L s
+        → EachMayStep V.since V.done L s }
 {}

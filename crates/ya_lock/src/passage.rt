@@ -6,7 +6,8 @@ ghost use Rattle.ya_core.specs.Steps.{next_of};
 ghost use Rattle.ya_core.specs.WalkerModel.{IsWalk, walk, op_of, walk_after, MovesOn, budget, points_ahead, is_waiting};
 ghost use Rattle.ya_core.specs.Worlds.{is_inside};
 ghost use Rattle.ya_lock.specs.declared.view.View.TheVariants.{Seated};
-ghost use Rattle.ya_lock.specs.inside.StepEffects.{HasMade, IsReady, ProcessSteps};
+ghost use Rattle.ya_lock.specs.inside.StepEffects.{HasMade, ProcessSteps};
+ghost use Rattle.ya_lock.specs.DueStep.{IsReady};
 ghost use Rattle.ya_lock.specs.inside.EntryProgress.{progress_walk, HasPassed, HasLooked, IsBelow};
 ghost use Rattle.ya_lock.specs.inside.Lock.{SeatOnEntry, SeatOnExit};
 

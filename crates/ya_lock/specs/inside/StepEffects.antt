@@ -7,29 +7,16 @@ use Rattle.ya_core.specs.declared.word.Access.TheVariants.{Load, Store}
 use Rattle.ya_core.specs.declared.process.Process.{Process}
 use Rattle.ya_core.specs.declared.process.Process.TheVariants.{Idle, Inside}
 use Rattle.ya_core.specs.Steps.{access_of, next_of}
-use Rattle.ya_core.specs.WalkerModel.{MayBeTold, cost_of}
+use Rattle.ya_core.specs.WalkerModel.{MayBeTold}
 use Rattle.ya_lock.specs.declared.view.View.{View}
 use Rattle.ya_lock.specs.declared.view.View.TheVariants.{Making, Filling, HandingOut, Seated, Joining}
 use Rattle.ya_core.specs.Worlds.{is_inside}
-
--- the slots that a seat has taken, each with its value
-abbrev pub Slots : Type 0 → Type 0
-Slots V = List (ℕ × std.Option V)
+use Rattle.ya_lock.specs.DueStep.{Slots, count_after}
 
 -- the number that an access leaves in its word, where it found this one
 abbrev pub value_after : Access → ℕ → ℕ
 value_after (Load word) found = found
 value_after (Store word value) found = value
-
--- the remote accesses of a process since its last entry began: the next access of an idle one begins an entry
-abbrev pub count_from : Process → ℕ → ℕ
-count_from Idle last = 0
-count_from _ count = count
-
--- with the access that is due, which counts where it is remote
-abbrev pub count_after : ℕ → ℕ → Process → ℕ → ℕ
-count_after levels place process count =
-    count_from process count + cost_of place (access_of levels place process)
 
 module _ {V : Type 0} where
   -- the view is that of the place's process which has seen the value, and which has made so many remote accesses since
@@ -37,12 +24,6 @@ module _ {V : Type 0} where
   abbrev pub HasMade : ℕ → V → Process → ℕ → View V → Type 0
   HasMade place value Idle remote view = (last : ℕ) × (view ≡ Seated place Idle value last) × (remote ≡ 0)
   HasMade place value process remote view = view ≡ Seated place process value remote
-
-  -- a process that is to leave the inside has put a value in the slot which its place may leave of what it found; every
-  -- other one has no slot
-  abbrev pub IsReady : (done : ℕ → V → V → Type 0) → Bool → ℕ → V → Slots V → Type 0
-  IsReady done true place value slots = (next : V) × (slots ≡ (0, Some next) ∷ []) × done place value next
-  IsReady done false place value slots = slots ≡ []
 
   -- the swap that begins to make the passes: the seat is the maker where it found 0
   abbrev pub BeginsMaking : ℕ → Me (std.Option V) (View V) → Type 0

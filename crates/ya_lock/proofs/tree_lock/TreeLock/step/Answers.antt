@@ -13,7 +13,8 @@ use Rattle.ya_lock.specs.declared.view.View.{View}
 use Rattle.ya_lock.specs.Rule.{index_of, making_index, row_length, Rule}
 use Rattle.ya_lock.specs.Lock.{LockId}
 use Rattle.ya_lock.specs.inside.Lock.{IsLockTable}
-use Rattle.ya_lock.specs.inside.StepEffects.{ProcessSteps, HasMade, IsReady, value_after}
+use Rattle.ya_lock.specs.inside.StepEffects.{ProcessSteps, HasMade, value_after}
+use Rattle.ya_lock.specs.DueStep.{IsReady}
 use Rattle.ya_lock.proofs.Words.{making_small, index_below, index_is}
 use Rattle.ya_lock.proofs.ProcessSteps.{counted, allows}
 use Rattle.ya_lock.proofs.tree_lock.TreeLock.step.Goals as goal

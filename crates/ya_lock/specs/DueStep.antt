@@ -1,0 +1,59 @@
+-- The step that is due to a process, as its seat takes it.
+use Rattle.std.specs.Prelude.{◌≡◌, ◌≢◌, ℕ, ◌+◌, ◌^◌, ◌<◌, Bool, true, false, List, [], ◌∷◌, Some}
+use Rattle.std.specs.Prelude as std
+use mathlib.Core.Option.{some}
+use lib.ListN.{get_elem?}
+use Rattle.atomic_table.specs.Table.{State}
+use Rattle.ya_core.specs.declared.process.Process.{Process}
+use Rattle.ya_core.specs.declared.process.Process.TheVariants.{Idle}
+use Rattle.ya_core.specs.Steps.{Accesses, access_of, next_of, value_of}
+use Rattle.ya_core.specs.WalkerModel.{cost_of}
+use Rattle.ya_core.specs.Worlds.{is_inside}
+use Rattle.ya_lock.specs.declared.view.View.{View}
+use Rattle.ya_lock.specs.declared.view.View.TheVariants.{Seated}
+use Rattle.ya_lock.specs.Rule.{words_in, Rule}
+
+-- the slots that a seat has taken, each with its value
+abbrev pub Slots : Type 0 → Type 0
+Slots V = List (ℕ × std.Option V)
+
+-- the remote accesses of a process since its last entry began: the next access of an idle one begins an entry
+abbrev pub count_from : Process → ℕ → ℕ
+count_from Idle last = 0
+count_from _ count = count
+
+-- with the access that is due, which counts where it is remote
+abbrev pub count_after : ℕ → ℕ → Process → ℕ → ℕ
+count_after levels place process count =
+    count_from process count + cost_of place (access_of levels place process)
+
+module _ {V : Type 0} where
+  -- a process that is to leave the inside has put a value in the slot which its place may leave of what it found; every
+  -- other one has no slot
+  abbrev pub IsReady : (done : ℕ → V → V → Type 0) → Bool → ℕ → V → Slots V → Type 0
+  IsReady done true place value slots = (next : V) × (slots ≡ (0, Some next) ∷ []) × done place value next
+  IsReady done false place value slots = slots ≡ []
+
+  -- the process after its step, by the words as they are
+  abbrev pub process_after : ℕ → State (std.Option V) (View V) → ℕ → Process → Process
+  process_after levels s place process =
+      next_of levels place process (value_of (words_in levels s.words) (access_of levels place process))
+
+  -- from the one moment to the next a seat takes the step that is due to its process: the access happens, its view goes on
+  -- as the core's row says and counts the access, no other seat's view changes, and the rule holds
+  pub record TakesStep (since : ℕ → V → V → Type 0) (levels seat place : ℕ) (process : Process) (count : ℕ)
+      (s t : State (std.Option V) (View V)) : Type 0 where
+    pub access : Accesses (access_of levels place process) (words_in levels s.words) (words_in levels t.words)
+    pub value : V
+    pub own : get_elem? t.views seat
+        ≡ some (Seated place (process_after levels s place process) value (count_after levels place process count))
+    pub others : (other : ℕ) → other ≢ seat → get_elem? t.views other ≡ get_elem? s.views other
+    pub rule : Rule since levels t
+
+  -- each seat of a process that is ready may take the step that is due
+  abbrev pub EachMayStep : (since done : ℕ → V → V → Type 0) → ℕ → State (std.Option V) (View V) → Type 0
+  EachMayStep since done levels s =
+      (seat place : ℕ) (process : Process) (value : V) (count : ℕ) (slots : Slots V)
+      → get_elem? s.views seat ≡ some (Seated place process value count) → place < 2 ^ levels
+      → IsReady done (is_inside process) place value slots
+      → (t : State (std.Option V) (View V)) × TakesStep since levels seat place process count s t
