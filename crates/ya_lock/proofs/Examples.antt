@@ -1,7 +1,7 @@
 -- Examples by which definitions are tested, each under a line with the definition's name. Both sides are computed, and
 -- what a relation says is spelled out for some values. The value that the lock lends is a number here, which others can
 -- only raise.
-use Rattle.std.proofs.Common.{◌≡◌, ◌≢◌, ℕ, zero, suc, ◌≤◌, true, false, List, [], ◌∷◌, ◌++◌, ◌∙◌, refl, sym, subst, arith, None, Some, replicate, set}
+use Rattle.std.proofs.Common.{◌≡◌, ◌≢◌, ℕ, zero, suc, ◌≤◌, List, [], ◌∷◌, ◌++◌, ◌∙◌, refl, sym, subst, arith, None, Some, replicate, set}
 use Rattle.std.specs.Prelude as std
 use Rattle.std.specs.Prelude.{IsTrue, ◌<◌, ◌^◌, Bool, true, false, length, slice_get, slice_index}
 use mathlib.Core.Option.{Option, none, some, some-injective, some-ne-none}
