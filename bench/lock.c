@@ -22,6 +22,15 @@
 #ifndef CROWDED
 #define CROWDED 4
 #endif
+#ifndef FORGOTTEN
+#define FORGOTTEN 1000
+#endif
+#ifndef LOOKS
+#define LOOKS 4
+#endif
+#ifndef SPINS
+#define SPINS 7
+#endif
 #ifndef SHARE
 #define SHARE 100 // microseconds
 #endif
@@ -111,14 +120,24 @@ static int is_taken(struct tree *t) {
     return atomic_load(c_word(t, t->levels, 0, 0)) != 0 || atomic_load(c_word(t, t->levels, 0, 1)) != 0;
 }
 
-// Naps where somebody is at the root, as at so many entries before this one in a row. How many it has now been.
+// Whether somebody is at the root at one of the next few looks.
+static int is_taken_again(struct tree *t) {
+    for (unsigned look = 0; look < LOOKS; look++) {
+        if (is_taken(t)) return 1;
+        for (unsigned step = 0; step < SPINS; step++) back_off(step);
+    }
+    return 0;
+}
+
+// Naps where somebody is at the root, as at so many entries before this one in a row, or as after the place's last nap. What
+// the place then remembers: how many entries in a row found somebody, or from there on how many since its nap found nobody.
 static unsigned come_to_door(struct tree *t, uint64_t place, unsigned crowded) {
-    if (!is_taken(t)) return 0;
+    if (!is_taken(t)) return crowded >= CROWDED && crowded < CROWDED + FORGOTTEN ? crowded + 1 : 0;
     if (crowded < CROWDED) return crowded + 1;
     uint64_t nap = SHARE * 1000ull << t->levels;
     struct timespec time = {nap / 1000000000, nap % 1000000000};
     syscall(SYS_futex, bell_word(t, place), FUTEX_WAIT_PRIVATE, 0, &time, 0, 0);
-    return crowded;
+    return is_taken_again(t) ? CROWDED : 0;
 }
 
 struct job {

@@ -6,29 +6,54 @@ ghost use Rattle.std.specs.Prelude.{◌^◌, ◌<◌, ◌≤◌};
 use crate::kept::Kept;
 use crate::rule::SPACING;
 use crate::tree_lock::TreeLock;
+use crossbeam_utils::Backoff;
 use std::sync::Wait;
 use std::time::Duration;
 
 /// How many entries in a row find somebody at the root before one naps: places that enter now and then never do.
 const CROWDED: u32 = 4;
 
+/// After how many entries in a row that find nobody a place that napped forgets the crowd.
+const FORGOTTEN: u32 = 1_000;
+
+/// How often a place looks for the crowd after a nap: where it finds nobody each time, the crowd is gone.
+const LOOKS: u32 = 4;
+
+/// How often it spins between two looks, twice as long each time: together some microseconds, more than a short turn.
+const SPINS: u32 = 7;
+
 /// A place's share of a turn, in microseconds. A nap lasts as long as the shares of all places.
 const SHARE: u64 = 100;
 
 impl<V: Kept + Drop, const L: u32> TreeLock<V, L> {
-    /// Naps once where somebody is at the root, as at so many entries before this one in a row. How many it has now been.
+    /// Naps once where the lock is crowded. `crowded` is what the place remembers, and the result what it then does: below
+    /// `CROWDED` how many entries in a row found somebody at the root, and from there on how many since its nap found
+    /// nobody. Who remembers a crowd naps as soon as it finds somebody, so that one of the two goes on alone.
     #[inline(always)]
     pub(crate) fn come_to_door<R: Wait>(&self, rt: &R, place: usize, crowded: u32) -> u32
         requires { place < 2 ^ L }
     {
         if !self.is_taken() {
-            return 0;
+            return found_nobody(crowded);
         }
         if crowded < CROWDED {
             return crowded + 1;
         }
         self.nap(rt, place);
-        crowded
+        if self.is_taken_again() { CROWDED } else { 0 }
+    }
+
+    /// Whether somebody is at the root at one of the next few looks.
+    #[cold]
+    #[inline(never)]
+    fn is_taken_again(&self) -> bool {
+        for _look in 0..LOOKS {
+            if self.is_taken() {
+                return true;
+            }
+            spin();
+        }
+        false
     }
 
     /// Whether some place competes at the root, or is inside. It is a guess: the words are looked at one after the other.
@@ -55,5 +80,23 @@ impl<V: Kept + Drop, const L: u32> TreeLock<V, L> {
         let shared = &self.table.shared;
         let share_of_all = Duration::from_micros(SHARE << L);
         shared.park_timeout(rt, Self::bell(place), 0, share_of_all);
+    }
+}
+
+/// What a place remembers after an entry that found nobody at the root.
+#[inline(always)]
+fn found_nobody(crowded: u32) -> u32 {
+    if CROWDED <= crowded && crowded < CROWDED + FORGOTTEN {
+        crowded + 1
+    } else {
+        0
+    }
+}
+
+/// Spins for as long as a turn with a short hold takes.
+fn spin() {
+    let backoff = Backoff::new();
+    for _round in 0..SPINS {
+        backoff.spin();
     }
 }

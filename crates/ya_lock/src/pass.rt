@@ -13,7 +13,7 @@ pub struct Pass<V> {
     pub(crate) place: usize,
     pub(crate) remote: u64,
     pub(crate) seen: GhostValue<V>,
-    /// How many entries in a row have found somebody at the root.
+    /// What the place remembers of its last entries, as the door counts them.
     pub(crate) crowded: u32,
 }
 
