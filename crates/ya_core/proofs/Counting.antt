@@ -98,7 +98,7 @@ cost_of_own : (level place : ℕ) → cost_of_word place (P level place) ≡ 0
 cost_of_own level place = grind (arith, nat_tests)
 
 -- a step on the way in, or out, costs what the budget loses
-cheaper_entry : (levels level place : ℕ) (point : EntryPoint) (value : ℕ) → level ≤ levels
+pub cheaper_entry : (levels level place : ℕ) (point : EntryPoint) (value : ℕ) → level ≤ levels
     → cost_of place (entry_access level place point) + budget_of levels
     (entry_next levels level place point value) false ≤ 7 * (levels - level) + entry_cost point
 cheaper_entry levels level place E1 value most = omega arith
@@ -126,7 +126,7 @@ cheaper_entry levels level place E10 value most =
     (value == 2) _ _ (λ _. omega (arith, cost_of_own level place, (ahead_won levels level most).1))
     (λ _. omega (arith, cost_of_own level place))
 
-cheaper_exit : (levels level place : ℕ) (point : ExitPoint) (value : ℕ)
+pub cheaper_exit : (levels level place : ℕ) (point : ExitPoint) (value : ℕ)
     → cost_of place (exit_access level place point) + budget_of levels
     (exit_next level place point value) false ≤ 3 * (level - 1) + exit_points point
 cheaper_exit levels level place X1 value = omega arith

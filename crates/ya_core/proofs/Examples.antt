@@ -17,6 +17,7 @@ use Rattle.ya_core.specs.Steps.{State, StepsTo, LeadTo, Accesses, opening, entry
 use Rattle.ya_core.specs.WalkerModel.{walk, due_of, due, CanStand, cost_of_word, cost_of, walk_after, MayFind, MayBeTold, WalkLeadsTo, BeginsEntry, BeginsExit, Walk, FitsAccess, FitsDue, IsStore, op_of_access, op_at_rest, op_of_due, op_of, entry_ahead, entry_points, entry_cost, exit_points, budget_of, budget, points_of, points_ahead, is_waiting, MovesOn, allowance, CountIsKept, IsWalk, OpIsWithin, AccessIsWithin}
 use Rattle.ya_core.specs.Progress.{SomeoneGoesOn, CanLeadTo, SomeoneGoesOnIn, Announces, Wins, Neither, is_entering, is_to_announce, deed_of, announces, LevelStep, LevelSees, HasNotWon, is_rival, is_win, times_overtaken}
 use Rattle.ya_core.specs.Fairness.{PickLeadsTo, IsRunOfSchedule, IsFair, PicksEachAgain, Eventually, is_on_way_in, is_on_way_out}
+use Rattle.ya_core.specs.PassageCounts.{cost_of_pick, remote_accesses}
 use Rattle.ya_core.specs.Worlds.{Marked, World, Event, Steps, Appends, WorldSteps, WorldAppends, IsInside, IsReached, Runs, Happens, any_entry, is_inside, opening_world, entries_of, TellsInside, places_of, FollowsFrom, EachMayFollow}
 use Rattle.ya_core.specs.RealTime.{KeepsRealTimeOrder}
 use Rattle.ya_core.proofs.Content.{entries_of-marked_other}
@@ -897,6 +898,10 @@ none_is_picked = refl
 nobody_steps_who_is_not_picked : ¬ PickLeadsTo 1 None opening (after 1 0 opening)
 nobody_steps_who_is_not_picked same = let process : Entering 1 E2 ≡ Idle = ap (λ s. s.processes 0) same in cc
 
+a_step_or_nothing :
+    (old new : State) → (PickLeadsTo 2 (Some 1) old new → StepsTo 2 1 old new) × (PickLeadsTo 2 None old new → new ≡ old)
+a_step_or_nothing old new = (λ h. h, λ h. h)
+
 -- IsRunOfSchedule
 the_run_of_place_0 : IsRunOfSchedule 1 (λ time. Some 0) opening alone
 the_run_of_place_0 = record {
@@ -1004,6 +1009,37 @@ unfolding node_of side_of
 unfair_where_nobody_is_picked fair =
     let found = fair 0 1 (λ idle. (let both : Entering 1 E2 ≡ Idle = idle in cc)) in let none : ◌≡◌ {A = Option ℕ} None (Some 0) = found.2 in cc
 
+-- place 1 waits at its own spin word
+abbrev at_its_spin_word : State
+at_its_spin_word = record { words = λ _. 0; processes = λ place. if place == 1 then Entering 1 E8 else Idle }
+
+-- cost_of_pick
+its_claim_is_one : cost_of_pick 1 2 opening (Some 1) ≡ 1
+its_claim_is_one = refl
+
+a_look_at_its_own_spin_word_is_none : cost_of_pick 1 2 at_its_spin_word (Some 1) ≡ 0
+a_look_at_its_own_spin_word_is_none = refl
+
+what_another_does_is_none : cost_of_pick 1 2 opening (Some 0) ≡ 0
+what_another_does_is_none = refl
+
+none_where_none_is_picked : cost_of_pick 1 2 opening None ≡ 0
+none_where_none_is_picked = refl
+
+-- remote_accesses
+three_until_it_is_inside_and_two_until_it_is_idle :
+    (remote_accesses 0 1 one_passage passing 4 ≡ 3) × (remote_accesses 0 1 one_passage passing 7 ≡ 5)
+unfolding node_of side_of
+three_until_it_is_inside_and_two_until_it_is_idle = (refl, refl)
+
+none_before_the_run : (schedule : ℕ → Option ℕ) (states : ℕ → State) → remote_accesses 1 2 schedule states 0 ≡ 0
+none_before_the_run schedule states = refl
+
+those_before_and_that_of_the_last_pick :
+    (schedule : ℕ → Option ℕ) (states : ℕ → State)
+    → remote_accesses 1 2 schedule states 4 ≡ remote_accesses 1 2 schedule states 3 + cost_of_pick 1 2 (states 3) (schedule 3)
+those_before_and_that_of_the_last_pick schedule states = refl
+
 -- places 0 and 1 in turn
 abbrev alternately : ℕ → ℕ
 alternately zero = 0
@@ -1021,6 +1057,10 @@ two_in_turn place (suc (suc time)) room = let found = two_in_turn place time roo
 
 never_the_turn_of_place_1 : ¬ PicksEachAgain 1 (λ time. 0)
 never_the_turn_of_place_1 again = let found = again 1 0 (omega arith) in let same : ◌≡◌ {A = ℕ} 0 1 = found.2 in cc
+
+the_turn_of_each_of_four_places :
+    (turns : ℕ → ℕ) → PicksEachAgain 2 turns → (place time : ℕ) → place < 4 → Eventually time (λ later. turns later ≡ place)
+the_turn_of_each_of_four_places turns h = h
 
 -- the world after an event
 abbrev stepped : {X : Type 0} → ℕ → World X → State → Bool → Bool → World X
@@ -1269,6 +1309,13 @@ what_is_made_since_is_there : ¬ KeepsRealTimeOrder one_was_made (made_by_both (
 what_is_made_since_is_there h =
     let none : h.since ≡ [] = (let content = h.content in cc) in
     let made = h.made_since 1 ∙ ap (λ xs. entries_of 1 xs) none in cc
+
+what_it_says_of_each_place :
+    (early late : World ℕ) → KeepsRealTimeOrder early late
+    → (since : List (Marked ℕ)) × (late.content ≡ early.content ++ since)
+    × ((place : ℕ) → entries_of place early.content ≡ early.made place)
+    × ((place : ℕ) → late.made place ≡ early.made place ++ entries_of place since)
+what_it_says_of_each_place early late h = (h.since, h.content, h.made, h.made_since)
 
 from_the_opening_one :
     (may : List (Marked ℕ) → Marked ℕ → Type 0) (events : List (Event ℕ)) (world : World ℕ)

@@ -21,6 +21,7 @@ pub mod Picks
 pub mod FairRuns
 pub mod Starvation
 pub mod Schedules
+pub mod PassageCounts
 pub mod TurnSteps
 pub mod LevelWins
 pub mod Overtaking

@@ -8,4 +8,5 @@ pub mod Worlds
 pub mod RealTime
 pub mod Progress
 pub mod Fairness
+pub mod PassageCounts
 pub mod inside

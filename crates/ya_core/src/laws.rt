@@ -10,6 +10,7 @@ ghost use Rattle.ya_core.specs.declared.process.Process.TheVariants as process;
 ghost use Rattle.ya_core.specs.Progress.{SomeoneGoesOn, SomeoneGoesOnIn, CanLeadTo, LevelStep, announces};
 ghost use Rattle.ya_core.specs.Progress.{LevelSees, HasNotWon, times_overtaken};
 ghost use Rattle.ya_core.specs.Fairness.{IsRunOfSchedule, IsFair, PicksEachAgain, Eventually, is_on_way_in, is_on_way_out};
+ghost use Rattle.ya_core.specs.PassageCounts.{remote_accesses};
 ghost use Rattle.ya_core.specs.WalkerModel.{Walk, IsWalk, BeginsEntry, BeginsExit, WalkLeadsTo, AccessIsWithin, MayFind};
 ghost use Rattle.ya_core.specs.Worlds.{Marked, World, Event, WorldSteps, WorldAppends};
 ghost use Rattle.ya_core.specs.Worlds.{IsReached, Runs, IsInside, EachMayFollow, any_entry, entries_of, places_of};
@@ -117,8 +118,22 @@ pub fn one_overtaking()
         → HasNotWon place during → times_overtaken level place during ≤ 1 }
 {}
 
-/// A place makes at most seven remote accesses a level from `begin_entry` until it is inside, and at most three a level
-/// from `begin_exit` until it is idle again, whatever it loads.
+/// In every run a place makes at most seven remote accesses a level from a time when it is idle until it is inside, and at
+/// most three a level from a time when it is inside until it is idle, however long it waits. The run begins at that time,
+/// with any state, so it may be the rest of a longer one.
+pub fn passage_count()
+    ensures way_in { (levels place end : ℕ) (schedule : ℕ → Option ℕ) (first : State) (states : ℕ → State)
+        → 1 ≤ levels → IsRunOfSchedule levels schedule first states → first.processes place ≡ process.Idle
+        → ((time : ℕ) → time < end → ¬ IsInside (states time) place)
+        → remote_accesses place levels schedule states end ≤ 7 * levels }
+    ensures way_out { (levels place end : ℕ) (schedule : ℕ → Option ℕ) (first : State) (states : ℕ → State)
+        → 1 ≤ levels → IsRunOfSchedule levels schedule first states → IsInside first place
+        → ((time : ℕ) → time < end → (states time).processes place ≢ process.Idle)
+        → remote_accesses place levels schedule states end ≤ 3 * levels }
+{}
+
+/// The same of a walker, whatever it loads: at most seven remote accesses a level from `begin_entry` until it is inside,
+/// and at most three a level from `begin_exit` until it is idle again.
 pub fn access_count()
     ensures way_in { (start end : Walk) (values : List ℕ)
         → IsWalk start → BeginsEntry start → WalkLeadsTo start values end → end.remote ≤ 7 * start.levels }

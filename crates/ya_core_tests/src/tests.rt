@@ -165,8 +165,10 @@ fn laws_can_be_called() {
     laws::no_deadlock::<u64>();
     laws::starvation_freedom();
     laws::one_overtaking();
+    laws::passage_count();
     laws::access_count();
     laws::content::<Anything>();
+    laws::real_time::<u64>();
 }
 
 /// The name of a word in text.
