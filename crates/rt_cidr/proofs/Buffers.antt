@@ -1,5 +1,7 @@
 -- What a buffer over a writer shows of its contents, and what that says of the writer below.
-use Rattle.std.proofs.Common.{◌≡◌, ℕ, ◌+◌, ◌-◌, ◌<◌, ◌≤◌, List, [], ◌∷◌, ◌++◌, length, take, drop, Option, Some, None, Bool, true, false, nat_le, arith, refl, sym, ap, ◌∙◌, subst, length-append, length-take, append_assoc, append-nil, take-append-drop}
+use Rattle.std.proofs.Common.{◌≡◌, ℕ, ◌+◌, ◌-◌, ◌<◌, ◌≤◌, List, [], ◌∷◌, ◌++◌, length, take, drop, Option, Some, None}
+use Rattle.std.proofs.Common.{Bool, true, false, nat_le, arith, refl, sym, ap, ◌∙◌, subst, length-append, length-take}
+use Rattle.std.proofs.Common.{append_assoc, append-nil, take-append-drop}
 use Rattle.std.specs.Io.KnownBytes.{Appends}
 use Rattle.std.proofs.lemmas.Bool.Decides.{nat_tests}
 use Rattle.std.proofs.Math.Seq.{take-append_seam, take-append-add}
@@ -65,10 +67,11 @@ module _ (name name' : ℕ) (a b c d : Option (List ℕ)) (held text : List ℕ)
           let is = shows name name' xs b c held text gains in record {
             count = length is.bytes - length xs;
             within = omega (arith, some, is.longer, ap length is.parts, length-append is.bytes held, length-append xs text);
-            appended = subst (λ now. Appends (Some xs) now (take (length is.bytes - length xs) text)) (sym (same is.one ∙ is.is_below)) (begins_so xs is.bytes held text is.parts is.longer);
+            appended = subst (λ now. Appends (Some xs) now (take (length is.bytes - length xs) text))
+                (sym (same is.one ∙ is.is_below)) (begins_so xs is.bytes held text is.parts is.longer);
           }
 
-  -- and where a fault let the buffer have no more than a beginning of it
+  -- a beginning of it lies there, too, where a fault let the buffer have no more than a beginning
   pub stops : AppendsBeginning (buffered name a a []) (buffered name' b c held) text → AppendsBeginning a d text
   stops begun = cases a begun
     where
@@ -81,6 +84,15 @@ module _ (name name' : ℕ) (a b c d : Option (List ℕ)) (held text : List ℕ)
           sym (append_assoc is.bytes held (drop k text)) ∙ ap (λ bytes. bytes ++ drop k text) is.parts ∙ append_assoc xs (take k text) (drop k text)
           ∙ ap (λ bytes. xs ++ bytes) (take-append-drop k text) in record {
             count = length is.bytes - length xs;
-            within = omega (arith, begun.within, is.longer, ap length is.parts, length-append is.bytes held, length-append xs (take k text), length-take k text);
-            appended = subst (λ now. Appends (Some xs) now (take (length is.bytes - length xs) text)) (sym (same is.one ∙ is.is_below)) (begins_so xs is.bytes (held ++ drop k text) text parts is.longer);
+            within = omega (
+              arith,
+              begun.within,
+              is.longer,
+              ap length is.parts,
+              length-append is.bytes held,
+              length-append xs (take k text),
+              length-take k text,
+            );
+            appended = subst (λ now. Appends (Some xs) now (take (length is.bytes - length xs) text))
+                (sym (same is.one ∙ is.is_below)) (begins_so xs is.bytes (held ++ drop k text) text parts is.longer);
           }

@@ -1,7 +1,9 @@
 -- Examples by which definitions are tested, each under a line with the definition's name. Both sides are computed, but for
 -- the texts that are written for numbers, which have one spelling each. What a relation or a law says is spelled out for
 -- some values.
-use Rattle.std.proofs.Common.{map, length, slice_index, ◌/◌, ◌%◌, ◌≡◌, ℕ, ◌+◌, ◌*◌, ◌^◌, ◌<◌, Bool, true, false, List, [], ◌∷◌, ◌++◌, ◌||◌, Some, Ok, Err, codes, decimal, take, eqb, refl, ap, subst, ◌∙◌, arith}
+use Rattle.std.proofs.Common.{map, length, slice_index, ◌/◌, ◌%◌, ◌≡◌, ℕ, ◌+◌, ◌*◌, ◌^◌, ◌<◌, Bool, true, false, List}
+use Rattle.std.proofs.Common.{[], ◌∷◌, ◌++◌, ◌||◌, Some, Ok, Err, codes, decimal, take, eqb, refl, ap, subst, ◌∙◌}
+use Rattle.std.proofs.Common.{arith}
 use Rattle.std.proofs.lemmas.Bool.{eq-eqb, or_right}
 use Rattle.std.proofs.lemmas.List.Folds.{list_any-append}
 use Rattle.std.specs.List.{list_any}
@@ -14,12 +16,16 @@ use Rattle.rt_cidr.specs.Output.{AppendsBeginning, buffered}
 use Rattle.rt_cidr.specs.Prefix.{covers, contains, same_prefix}
 use Rattle.rt_cidr.specs.Text.{dot, slash, zero_digit, IsDecimal, IsOctetText, IsAddressText, IsPrefixText, address_text, prefix_text}
 use Rattle.rt_cidr.specs.Reading.{ReadsPrefix, ReadsDecimal, ReadsAddress, AnswersPair}
-use Rattle.rt_cidr.proofs.Texts.{decimal_is_decimal, decimal_one_text, address_text_is_address, address_one_text, address_one_number, prefix_text_is_pair, pair_one_text, pair_one_value}
+use Rattle.rt_cidr.proofs.Texts.{decimal_is_decimal, decimal_one_text, address_text_is_address, address_one_text}
+use Rattle.rt_cidr.proofs.Texts.{address_one_number, prefix_text_is_pair, pair_one_text, pair_one_value}
 use Rattle.std.specs.Prelude.{◌↔◌, ◌≤◌, IsTrue, Option, None, Result}
 use Rattle.rt_cidr.specs.declared.prefixes.TextFault.{TextFault}
 use Rattle.rt_cidr.specs.declared.short_text.TheConstants.{SHORT_TEXT_BYTES}
 use Rattle.rt_cidr.specs.ShortText.{FitsInShortText}
-use Rattle.rt_cidr.specs.Laws.{HasOneNumber, HasOneText, HasOnePair, PairHasOneText, AddressFits, HasOneAnswer, PairHasOneAnswer, WritesDecimal, WritesAddress, WritesPrefix, ReadsDecimalAgain, ReadsAddressAgain, ReadsPrefixAgain, SamePrefix, CoversItsRange, ContainsByRange, ContainsWhatItCovers, CoveringAreNested, CoveringAreSame}
+use Rattle.rt_cidr.specs.Laws.{HasOneNumber, HasOneText, HasOnePair, PairHasOneText, AddressFits, HasOneAnswer}
+use Rattle.rt_cidr.specs.Laws.{PairHasOneAnswer, WritesDecimal, WritesAddress, WritesPrefix, ReadsDecimalAgain}
+use Rattle.rt_cidr.specs.Laws.{ReadsAddressAgain, ReadsPrefixAgain, SamePrefix, CoversItsRange, ContainsByRange}
+use Rattle.rt_cidr.specs.Laws.{ContainsWhatItCovers, CoveringAreNested, CoveringAreSame}
 
 -- 0.0.0.0/0, 10.0.0.0/8, 255.255.255.255/32
 abbrev everything : Prefix
@@ -163,7 +169,24 @@ pub decimal_255 : IsDecimal (codes "255") 255
 decimal_255 = record { digits = (omega arith, (omega arith, (omega arith, (omega arith, tt)))); value = refl; no_leading_zero = λ zero. cc }
 
 pub decimal_4294967296 : IsDecimal (codes "4294967296") 4294967296
-decimal_4294967296 = record { digits = (omega arith, (omega arith, (omega arith, (omega arith, (omega arith, (omega arith, (omega arith, (omega arith, (omega arith, (omega arith, (omega arith, tt))))))))))); value = refl; no_leading_zero = λ zero. cc }
+decimal_4294967296 =
+    record {
+      digits = (
+        omega arith,
+        (
+          omega arith,
+          (
+            omega arith,
+            (
+              omega arith,
+              (omega arith, (omega arith, (omega arith, (omega arith, (omega arith, (omega arith, (omega arith, tt))))))),
+            ),
+          ),
+        ),
+      );
+      value = refl;
+      no_leading_zero = λ zero. cc;
+    }
 
 no_leading_zero : ¬ IsDecimal (codes "08") 8
 no_leading_zero h = let one = h.no_leading_zero refl in cc
@@ -265,10 +288,12 @@ its_address_and_its_length text h = (h.is_address, h.is_len, h.joined)
 
 -- address_text
 pub written_192_0_2_1 : address_text 3221225985 ≡ codes "192.0.2.1"
-written_192_0_2_1 = address_one_text (address_text 3221225985) (codes "192.0.2.1") 3221225985 (address_text_is_address 3221225985 (omega arith)) address_192_0_2_1
+written_192_0_2_1 = address_one_text (address_text 3221225985) (codes "192.0.2.1") 3221225985
+    (address_text_is_address 3221225985 (omega arith)) address_192_0_2_1
 
 written_last : address_text 4294967295 ≡ codes "255.255.255.255"
-written_last = address_one_text (address_text 4294967295) (codes "255.255.255.255") 4294967295 (address_text_is_address 4294967295 (omega arith)) the_last_address
+written_last = address_one_text (address_text 4294967295) (codes "255.255.255.255") 4294967295
+    (address_text_is_address 4294967295 (omega arith)) the_last_address
 
 its_four_octets :
     (address : ℕ)
@@ -279,7 +304,8 @@ its_four_octets address = refl
 
 -- prefix_text
 pub written_10_0_0_0_8 : prefix_text 167772160 8 ≡ codes "10.0.0.0/8"
-written_10_0_0_0_8 = pair_one_text (prefix_text 167772160 8) (codes "10.0.0.0/8") 167772160 8 (prefix_text_is_pair 167772160 8 (omega arith) (omega arith)) pair_10_0_0_0_8
+written_10_0_0_0_8 = pair_one_text (prefix_text 167772160 8) (codes "10.0.0.0/8") 167772160 8
+    (prefix_text_is_pair 167772160 8 (omega arith) (omega arith)) pair_10_0_0_0_8
 
 the_address_a_slash_and_the_length : prefix_text 7 8 ≡ address_text 7 ++ 47 ∷ decimal 8
 unfolding prefix_text
@@ -431,16 +457,48 @@ pub written_10_9_0_1 : address_text 168361985 ≡ codes "10.9.0.1"
 written_10_9_0_1 = written_as_address (codes "10.9.0.1") 168361985 (omega arith) address_10_9_0_1
 
 pub written_10_1_0_0_16 : prefix_text 167837696 16 ≡ codes "10.1.0.0/16"
-written_10_1_0_0_16 = pair_one_text (prefix_text 167837696 16) (codes "10.1.0.0/16") 167837696 16 (prefix_text_is_pair 167837696 16 (omega arith) (omega arith)) (record { address_part = codes "10.1.0.0"; len_part = codes "16"; is_address = address_10_1_0_0; is_len = decimal_16; joined = refl })
+written_10_1_0_0_16 = pair_one_text (prefix_text 167837696 16) (codes "10.1.0.0/16") 167837696 16
+    (prefix_text_is_pair 167837696 16 (omega arith) (omega arith))
+    (record {
+      address_part = codes "10.1.0.0";
+      len_part = codes "16";
+      is_address = address_10_1_0_0;
+      is_len = decimal_16;
+      joined = refl;
+    })
 
 pub written_10_2_0_0_16 : prefix_text 167903232 16 ≡ codes "10.2.0.0/16"
-written_10_2_0_0_16 = pair_one_text (prefix_text 167903232 16) (codes "10.2.0.0/16") 167903232 16 (prefix_text_is_pair 167903232 16 (omega arith) (omega arith)) (record { address_part = codes "10.2.0.0"; len_part = codes "16"; is_address = address_10_2_0_0; is_len = decimal_16; joined = refl })
+written_10_2_0_0_16 = pair_one_text (prefix_text 167903232 16) (codes "10.2.0.0/16") 167903232 16
+    (prefix_text_is_pair 167903232 16 (omega arith) (omega arith))
+    (record {
+      address_part = codes "10.2.0.0";
+      len_part = codes "16";
+      is_address = address_10_2_0_0;
+      is_len = decimal_16;
+      joined = refl;
+    })
 
 pub written_10_3_0_0_16 : prefix_text 167968768 16 ≡ codes "10.3.0.0/16"
-written_10_3_0_0_16 = pair_one_text (prefix_text 167968768 16) (codes "10.3.0.0/16") 167968768 16 (prefix_text_is_pair 167968768 16 (omega arith) (omega arith)) (record { address_part = codes "10.3.0.0"; len_part = codes "16"; is_address = address_10_3_0_0; is_len = decimal_16; joined = refl })
+written_10_3_0_0_16 = pair_one_text (prefix_text 167968768 16) (codes "10.3.0.0/16") 167968768 16
+    (prefix_text_is_pair 167968768 16 (omega arith) (omega arith))
+    (record {
+      address_part = codes "10.3.0.0";
+      len_part = codes "16";
+      is_address = address_10_3_0_0;
+      is_len = decimal_16;
+      joined = refl;
+    })
 
 pub written_10_9_0_0_16 : prefix_text 168361984 16 ≡ codes "10.9.0.0/16"
-written_10_9_0_0_16 = pair_one_text (prefix_text 168361984 16) (codes "10.9.0.0/16") 168361984 16 (prefix_text_is_pair 168361984 16 (omega arith) (omega arith)) (record { address_part = codes "10.9.0.0"; len_part = codes "16"; is_address = address_10_9_0_0; is_len = decimal_16; joined = refl })
+written_10_9_0_0_16 = pair_one_text (prefix_text 168361984 16) (codes "10.9.0.0/16") 168361984 16
+    (prefix_text_is_pair 168361984 16 (omega arith) (omega arith))
+    (record {
+      address_part = codes "10.9.0.0";
+      len_part = codes "16";
+      is_address = address_10_9_0_0;
+      is_len = decimal_16;
+      joined = refl;
+    })
 
 pub written_2 : decimal 2 ≡ codes "2"
 written_2 = decimal_one_text (decimal 2) (codes "2") 2 (decimal_is_decimal 2 (omega arith)) decimal_2

@@ -1,5 +1,7 @@
 -- A reader's piece at the front of a text is the only one there, and pieces are joined at a mark in one way.
-use Rattle.std.proofs.Common.{◌≡◌, ◌≢◌, ℕ, ◌+◌, ◌*◌, ◌^◌, ◌<◌, ◌≤◌, List, [], ◌∷◌, ◌++◌, length, get_or, take, drop, refl, sym, ap, ◌∙◌, arith, append_assoc, take-append-drop, length-take-le, get_or-drop, add-zero, append-nil, inl, inr, lit≤, Result, Ok, Err, Some, None}
+use Rattle.std.proofs.Common.{◌≡◌, ◌≢◌, ℕ, ◌+◌, ◌*◌, ◌^◌, ◌<◌, ◌≤◌, List, [], ◌∷◌, ◌++◌, length, get_or, take, drop}
+use Rattle.std.proofs.Common.{refl, sym, ap, ◌∙◌, arith, append_assoc, take-append-drop, length-take-le, get_or-drop}
+use Rattle.std.proofs.Common.{add-zero, append-nil, inl, inr, lit≤, Result, Ok, Err, Some, None}
 use Rattle.std.proofs.lemmas.Bool.{cases_lt}
 use Rattle.std.proofs.lemmas.List.{nil_from_length}
 use Rattle.std.specs.Char.{digit_value}
@@ -18,12 +20,13 @@ NoFront IsText text = (n : ℕ) (rest : List ℕ) → ¬ (StartsBy IsText text n
 abbrev pub IsReadOnce : (List ℕ → ℕ → Type 0) → Type 0
 IsReadOnce IsText = (text : List ℕ) (n m : ℕ) (rest others : List ℕ) → StartsBy IsText text n rest → StartsBy IsText text m others → (n ≡ m) × (rest ≡ others)
 
--- so it is where a piece is digits, and has one number
+-- a text has at most one piece of digits at its front, with one number
 pub digits_read_once : (IsText : List ℕ → ℕ → Type 0) →
     ((text : List ℕ) (n : ℕ) → IsText text n → AllDigits 10 text) →
     ((text : List ℕ) (n m : ℕ) → IsText text n → IsText text m → n ≡ m) → IsReadOnce IsText
 digits_read_once IsText digits same text n m rest others one two =
-    let cut = cut_once one.piece two.piece rest others (digits one.piece n one.is_piece) (digits two.piece m two.is_piece) one.ends two.ends (sym one.joined ∙ two.joined) in
+    let cut = cut_once one.piece two.piece rest others (digits one.piece n one.is_piece)
+    (digits two.piece m two.is_piece) one.ends two.ends (sym one.joined ∙ two.joined) in
     (same two.piece n m (rw cut.0 at one.is_piece) two.is_piece, cut.1)
 
 pub octet_read_once : IsReadOnce IsOctetText
@@ -40,7 +43,8 @@ module _ (text : List ℕ) (value len : ℕ) (front : LeadingDigits text value l
   front_piece : (n : ℕ) (rest : List ℕ) (h : StartsBy IsCappedDecimal text n rest) → h.piece ≡ take len text
   front_piece n rest h =
       let ends : 10 ≤ digit_value (get_or (drop len text) 0 0) = rw (get_or-drop len text 0 0, add-zero) front.ends in
-      (cut_once h.piece (take len text) rest (drop len text) h.is_piece.spelled.digits.1 front.digits h.ends ends (sym h.joined ∙ sym (take-append-drop len text))).0
+      (cut_once h.piece (take len text) rest (drop len text) h.is_piece.spelled.digits.1 front.digits h.ends ends
+      (sym h.joined ∙ sym (take-append-drop len text))).0
 
   front_length : (n : ℕ) (rest : List ℕ) (h : StartsBy IsCappedDecimal text n rest) → length h.piece ≡ len
   front_length n rest h = ap length (front_piece n rest h) ∙ length-take-le len text front.within
@@ -136,7 +140,13 @@ module _ (IsHigh IsLow : List ℕ → ℕ → Type 0) (mark scale : ℕ) (mark_e
         high = both.high;
         low = both.low;
         after = both.low_text ++ rest;
-        is_high = record { piece = both.high_text; is_piece = both.is_high; joined = h.joined ∙ ap (λ t. t ++ rest) both.joined ∙ append_assoc both.high_text (mark ∷ both.low_text) rest; ends = mark_ends };
+        is_high = record {
+          piece = both.high_text;
+          is_piece = both.is_high;
+          joined = h.joined
+              ∙ ap (λ t. t ++ rest) both.joined ∙ append_assoc both.high_text (mark ∷ both.low_text) rest;
+          ends = mark_ends;
+        };
         is_low = record { piece = both.low_text; is_piece = both.is_low; joined = refl; ends = h.ends };
         value = both.value;
       }
@@ -221,7 +231,7 @@ halves_are_address text address h =
       value = omega (arith, h.value, high.value, low.value);
     }
 
--- the same at the front of a text
+-- an address at the front of a text is two halves joined by a dot there
 pub address_front_is_halves : (text : List ℕ) (n : ℕ) (rest : List ℕ) → StartsBy IsAddressText text n rest →
     StartsBy (IsJoined IsHalfText IsHalfText dot (2 ^ 16)) text n rest
 address_front_is_halves = front_as IsAddressText (IsJoined IsHalfText IsHalfText dot (2 ^ 16)) address_is_halves
@@ -235,7 +245,8 @@ half_read_once = joined_read_once IsOctetText IsOctetText dot (2 ^ 8) (lit≤ tt
 
 pub address_read_once : IsReadOnce IsAddressText
 address_read_once text n m rest others one two =
-    joined_read_once IsHalfText IsHalfText dot (2 ^ 16) (lit≤ tt) half_read_once half_read_once text n m rest others (address_front_is_halves text n rest one) (address_front_is_halves text m others two)
+    joined_read_once IsHalfText IsHalfText dot (2 ^ 16) (lit≤ tt) half_read_once half_read_once text n m rest others
+    (address_front_is_halves text n rest one) (address_front_is_halves text m others two)
 
 -- a half has 16 bits, an address 32
 pub half_fits : (text : List ℕ) (n : ℕ) → IsHalfText text n → n < 2 ^ 16
@@ -310,7 +321,7 @@ pair_of_pieces text other after address len one marked two = (
   two.is_value,
 )
 
--- and of none where something stands after the decimal
+-- where something stands after the decimal the text is of no pair
 pub no_pair_before : (text other after rest : List ℕ) (address len : ℕ) →
     StartsBy IsAddressText text address other → other ≡ slash ∷ after →
     StartsBy IsCappedDecimal after len rest → 1 ≤ length rest → ReadsPair text None

@@ -32,7 +32,7 @@ covering_are_nested p q a by_p by_q le =
     let shared = fewer_bits p.len q.len a.0 q.base le q.is_prefix.short (covered q a by_q) in
     and_from _ _ (le-leb _ _ le) (eq-eqb _ _ (sym shared ∙ covered p a by_p))
 
--- so two that are equally long are equal
+-- of two that cover one address and are equally long each is the other
 pub covering_are_same : (p q : Prefix) (a : Addr) → IsTrue (covers p a) → IsTrue (covers q a) → p.len ≡ q.len → p ≡ q
 covering_are_same p q a by_p by_q len =
     let one = covered p a by_p in

@@ -14,7 +14,11 @@ IsPrefix-prop base len = hlevel props
 
 pair_same : (base len : ℕ) (one two : IsPrefix base len) →
     ◌≡◌ {A = Prefix} (record { base = base; len = len; is_prefix = one }) (record { base = base; len = len; is_prefix = two })
-pair_same base len one two = ap (λ (h : IsPrefix base len). let p : Prefix = record { base = base; len = len; is_prefix = h } in p) (IsPrefix-prop base len one two)
+pair_same base len one two = ap (λ (h : IsPrefix base len). let p : Prefix = record {
+  base = base;
+  len = len;
+  is_prefix = h;
+} in p) (IsPrefix-prop base len one two)
 
 -- two prefixes of equal base and equal length are equal
 pub same_prefix : (p q : Prefix) → p.base ≡ q.base → p.len ≡ q.len → p ≡ q

@@ -34,5 +34,5 @@ unfolding prefix_text
 length-prefix_text base len =
     omega (arith, length-append (address_text base) (slash ∷ decimal len), length-address_text base, length-decimal len)
 
--- so that each has room in a short text
+-- a decimal, an address and a prefix have room in a short text
 pub ruleset lengths = (length-decimal, length-address_text, length-prefix_text)

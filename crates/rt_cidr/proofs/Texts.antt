@@ -65,7 +65,7 @@ decimal_one_text s t n one two =
     let same : length s ≡ length t = omega (arith, no_longer s t n one two, no_longer t s n two one) in
     (same_digits 0 0 s t same one.digits.1 two.digits.1 (one.value ∙ sym two.value)).1
 
--- so has each address
+-- each address has one text, each text at most one address
 pub address_one_number : (text : List ℕ) (m n : ℕ) → IsAddressText text m → IsAddressText text n → m ≡ n
 address_one_number text m n one two =
     (address_read_once text m n [] [] (front_of_whole IsAddressText text m one) (front_of_whole IsAddressText text n two)).0
@@ -82,7 +82,7 @@ address_one_text s t n one two =
     let fourth = same_octet_text _ _ _ _ one.is_fourth two.is_fourth (omega (arith, value)) in
     one.joined ∙ rw (first, second, third, fourth) (sym two.joined)
 
--- and each pair
+-- each pair has one text, each text at most one pair
 pub pair_one_value : (text : List ℕ) (a b m n : ℕ) → IsPrefixText text a m → IsPrefixText text b n → (a ≡ b) × (m ≡ n)
 pair_one_value text a b m n one two =
     let parts = address_read_once text a b (slash ∷ one.len_part) (slash ∷ two.len_part) (front text a m one) (front text b n two) in

@@ -10,6 +10,7 @@ use crate::decimals::read_decimal;
 use crate::output::put;
 use crate::prefixes::TextFault;
 use crate::short_text::ShortText;
+use std::fmt;
 use std::io::{self, Write};
 
 /// An IPv4 address, its first octet the most significant.
@@ -60,6 +61,20 @@ impl Addr {
         let mut text = ShortText::new();
         self.prepend_to(&mut text);
         put(w, text.as_bytes())
+    }
+}
+
+impl fmt::Display for Addr {
+    ghost use Rattle.std.specs.Prelude.{Some};
+    ghost use Rattle.rt_cidr.specs.Text.{address_text};
+
+    ghost output = { λ address. Some (address_text address.0) };
+
+    #[tactic(auto, unfolding(crate::specs::Text::address_text))]
+    fn fmt<W: fmt::Write>(&self, f: &mut fmt::Formatter<W>) -> fmt::Result {
+        let (first, second) = ((self.0 >> 24) % 256, (self.0 >> 16) % 256);
+        let (third, fourth) = ((self.0 >> 8) % 256, self.0 % 256);
+        write!(f, "{first}.{second}.{third}.{fourth}")
     }
 }
 

@@ -11,6 +11,7 @@ use crate::address::{Addr, after_mark, read_address};
 use crate::decimals::read_decimal;
 use crate::output::put;
 use crate::short_text::ShortText;
+use std::fmt;
 use std::io::{self, Write};
 use thiserror::Error;
 
@@ -126,6 +127,19 @@ impl Prefix {
         let mut text = ShortText::new();
         self.prepend_to(&mut text);
         put(w, text.as_bytes())
+    }
+}
+
+impl fmt::Display for Prefix {
+    ghost use Rattle.std.specs.Prelude.{Some};
+    ghost use Rattle.rt_cidr.specs.Text.{prefix_text};
+
+    ghost output = { λ prefix. Some (prefix_text prefix.base prefix.len) };
+
+    #[tactic(auto, unfolding(crate::specs::Text::prefix_text))]
+    fn fmt<W: fmt::Write>(&self, f: &mut fmt::Formatter<W>) -> fmt::Result {
+        let (base, len) = (Addr(self.base), self.len);
+        write!(f, "{base}/{len}")
     }
 }
 

@@ -1,11 +1,14 @@
 -- How the blocks of two prefixes lie to each other: in a half, or apart.
-use Rattle.std.proofs.Common.{◌≡◌, ◌≢◌, ℕ, ◌+◌, ◌-◌, ◌*◌, ◌/◌, ◌^◌, ◌<◌, ◌≤◌, ◌⊎◌, inl, inr, ⊎_elim, ◌↔◌, ◌%◌, Bool, true, false, cond, refl, sym, subst, ap, ◌∙◌, arith, add-mul}
+use Rattle.std.proofs.Common.{◌≡◌, ◌≢◌, ℕ, ◌+◌, ◌-◌, ◌*◌, ◌/◌, ◌^◌, ◌<◌, ◌≤◌, ◌⊎◌, inl, inr, ⊎_elim, ◌↔◌, ◌%◌, Bool}
+use Rattle.std.proofs.Common.{true, false, cond, refl, sym, subst, ap, ◌∙◌, arith, add-mul}
 use Rattle.std.proofs.lemmas.Nat.{pow_pos, pow-add, div-add-mod', mod_below, div-mul-add}
 use Rattle.std.specs.Int.{◌∣◌}
 use Rattle.std.proofs.Math.Pow.{pow_mono}
 use Rattle.std.proofs.lemmas.Bool.{cases_lt, false≢true}
 use Rattle.std.proofs.lemmas.Bool.Decides.{eqb_tells, leb_tells}
-use Rattle.std.proofs.Math.Nat.{mul_assoc, dvd_trans, dvd-mul_right, dvd-mul_left_of_dvd, dvd-add, dvd-sub, dvd_of_mod-eq-zero, le_of_dvd, mul-div_cancel_left, mul-le-mul_left, mul-le-mul_right, mul-lt-mul_of_pos_right}
+use Rattle.std.proofs.Math.Nat.{mul_assoc, dvd_trans, dvd-mul_right, dvd-mul_left_of_dvd, dvd-add, dvd-sub}
+use Rattle.std.proofs.Math.Nat.{dvd_of_mod-eq-zero, le_of_dvd, mul-div_cancel_left, mul-le-mul_left, mul-le-mul_right}
+use Rattle.std.proofs.Math.Nat.{mul-lt-mul_of_pos_right}
 use Rattle.rt_cidr.specs.declared.prefixes.Prefix.{Prefix}
 use Rattle.rt_cidr.specs.declared.address.Addr.{Addr}
 use Rattle.rt_cidr.proofs.Promised.{size_pos}
@@ -174,7 +177,7 @@ whole_size len h =
     let e : (32 - len) + len ≡ 32 = omega arith in
     sym (pow-add 2 (32 - len) len) ∙ ap (λ n. 2 ^ n) e
 
--- and half of them
+-- half of the addresses of a prefix
 half_whole : (len : ℕ) → len < 32 → size_of len / 2 * 2 ^ len ≡ 2147483648
 half_whole len h =
     let e : (32 - (len + 1)) + len ≡ 31 = omega arith in
@@ -249,7 +252,11 @@ child_reading parent c false = (
         omega (arith, w.long),
         elim (contains_tells parent c) [
           | inl r ↦ r.0
-          | inr r ↦ elim r.1 [ inl x ↦ absurd (omega (arith, w.long)) | inr y ↦ elim y [ inl z ↦ absurd (omega (arith, w.from)) | inr z ↦ absurd (omega arith) ] ]
+          | inr r ↦ elim r.1 [
+            | inl x ↦ absurd (omega (arith, w.long))
+            | inr y ↦ elim y
+                [ inl z ↦ absurd (omega (arith, w.from)) | inr z ↦ absurd (omega arith) ]
+          ]
         ],
         t.0 b,
       ),

@@ -2,11 +2,15 @@
 -- what a relation or a law says is spelled out for some values.
 use Rattle.std.proofs.Common.{◌≡◌, ℕ, true, false, Some, None, [], ◌∷◌, refl, arith}
 use Rattle.rt_cidr.specs.declared.prefixes.Prefix.{Prefix}
-use Rattle.rt_trie.specs.Map.{Pairs, before, IsBeforeAll, IsOrdered, get, same_prefix, IsStored, put, erase, first, next_after, IsLongest, address_at, answer_at, pair_copied, AreLongest}
+use Rattle.rt_trie.specs.Map.{Pairs, before, IsBeforeAll, IsOrdered, get, same_prefix, IsStored, put, erase, first}
+use Rattle.rt_trie.specs.Map.{next_after, IsLongest, address_at, answer_at, pair_copied, AreLongest}
 use Rattle.rt_trie.specs.Tree.{Tree, Vacant, Node, top, size, stored}
-use Rattle.rt_trie.specs.Laws.{IsChildByBit, PutIsSeen, EraseIsSeen, PutKeepsOrder, EraseKeepsOrder, PairsAreFound, MapHasOneList, FirstIsLeast, NoneIsFirst, AfterIsNext, NoneIsAfter, ChildByNextBit, IsLawfulNode, IsLawfulByBits, LawfulByBits}
+use Rattle.rt_trie.specs.Laws.{IsChildByBit, PutIsSeen, EraseIsSeen, PutKeepsOrder, EraseKeepsOrder, PairsAreFound}
+use Rattle.rt_trie.specs.Laws.{MapHasOneList, FirstIsLeast, NoneIsFirst, AfterIsNext, NoneIsAfter, ChildByNextBit}
+use Rattle.rt_trie.specs.Laws.{IsLawfulNode, IsLawfulByBits, LawfulByBits}
 use Rattle.rt_trie.specs.Lawful.{IsLawfulAt, IsLawfulTree, IsLawful}
-use Rattle.std.specs.Prelude.{◌↔◌, ◌⊎◌, ◌+◌, ◌<◌, ◌≤◌, ◌++◌, ◌/◌, ◌%◌, Bool, List, Option, IsTrue, IsSome, IfSome, IfNone, All, Contains, Box, is_some, length, map, slice_index_or, if◌then◌else◌}
+use Rattle.std.specs.Prelude.{◌↔◌, ◌⊎◌, ◌+◌, ◌<◌, ◌≤◌, ◌++◌, ◌/◌, ◌%◌, Bool, List, Option, IsTrue, IsSome, IfSome}
+use Rattle.std.specs.Prelude.{IfNone, All, Contains, Box, is_some, length, map, slice_index_or, if◌then◌else◌}
 use Rattle.rt_cidr.specs.declared.address.Addr.{Addr}
 use Rattle.rt_cidr.specs.Cidr.{size_of}
 use Rattle.rt_cidr.specs.Prefix.{covers, contains}

@@ -1,5 +1,6 @@
 -- What each way to put a pair in makes of a link.
-use Rattle.std.proofs.Common.{◌≡◌, ℕ, ◌+◌, ◌<◌, ◌≤◌, Bool, true, false, [], ◌∷◌, ◌++◌, ◌⊎◌, Option, Some, None, inl, inr, refl, sym, subst, ap, ◌∙◌, arith, append-nil}
+use Rattle.std.proofs.Common.{◌≡◌, ℕ, ◌+◌, ◌<◌, ◌≤◌, Bool, true, false, [], ◌∷◌, ◌++◌, ◌⊎◌, Option, Some, None, inl}
+use Rattle.std.proofs.Common.{inr, refl, sym, subst, ap, ◌∙◌, arith, append-nil}
 use Rattle.std.specs.Prelude.{Box}
 use Rattle.std.specs.Box.{with_value}
 use Rattle.std.proofs.lemmas.Bool.{cases_lt}
@@ -18,10 +19,13 @@ use Rattle.rt_trie.specs.Links.{root, AreHalves, IsChildLink, IsFilled, IsLawful
 use Rattle.rt_trie.specs.inside.Changes.{IsPut, IsInserted, IsRefused, Inserts}
 use Rattle.rt_cidr.proofs.Promised.{size_pos}
 use Rattle.rt_trie.proofs.BlockLemmas.{lower_half}
-use Rattle.rt_trie.proofs.PairLemmas.{AllKeys, AllKeys-map, IsHigher, IsLower, IsOther, IsOther-higher, IsOther-lower, get-none, put-first, put-skip, put-front, put-here}
+use Rattle.rt_trie.proofs.PairLemmas.{AllKeys, AllKeys-map, IsHigher, IsLower, IsOther, IsOther-higher, IsOther-lower}
+use Rattle.rt_trie.proofs.PairLemmas.{get-none, put-first, put-skip, put-front, put-here}
 use Rattle.rt_trie.proofs.NodeLemmas.{sides_higher, upper_higher, lower_lower, own_lower}
 use Rattle.rt_trie.proofs.PartLemmas.{child_of_parts}
-use Rattle.rt_trie.proofs.LinkLemmas.{if_some_map, if_some_is, IsOn, IsView, pairs_within, sides_of, of_fork, of_full, own_key, key_of_leaf, key_of_full, node_get-unstored, get_left, get_right, get_own}
+use Rattle.rt_trie.proofs.LinkLemmas.{if_some_map, if_some_is, IsOn, IsView, pairs_within, sides_of, of_fork, of_full}
+use Rattle.rt_trie.proofs.LinkLemmas.{own_key, key_of_leaf, key_of_full, node_get-unstored, get_left, get_right}
+use Rattle.rt_trie.proofs.LinkLemmas.{get_own}
 
 -- what is within a prefix lies in one of its halves
 pub half_above : (q p : Prefix) → StandsAt q p Above → q.base < middle p → IsChild p false q
@@ -40,7 +44,7 @@ module _ {V A : Type 0} where
     rw (e, i, j) (h, k, m, key),
   )
 
-  -- and with a value
+  -- a full node with a value, made of lawful sides
   made_full_at : (len base : ℕ) (b : Box (FullNode V A) A) (q : Prefix) (v : V) (l r : Link V A) → IsKeyOf len base q → b.value.prefix ≡ q
       → b.value.value ≡ Some v → b.value.left ≡ l → b.value.right ≡ r → AreHalves q l r → IsLawfulTrie l → IsLawfulTrie r
       → IsNode (Full len base b) q (Some v) l r × IsLawfulTrie (Full len base b)
@@ -48,7 +52,7 @@ module _ {V A : Type 0} where
       let n = made_full_below len base b q (Some v) l r key e f i j h k m in
       (n.0, (n.1, rw f tt))
 
-  -- and in a link of its own
+  -- a full node in a link of its own
   made_full : (b : Box (FullNode V A) A) (q : Prefix) (v : V) (l r : Link V A) → b.value.prefix ≡ q → b.value.value ≡ Some v
       → b.value.left ≡ l → b.value.right ≡ r → AreHalves q l r → IsLawfulTrie l → IsLawfulTrie r
       → IsNode (full_link b) q (Some v) l r × IsLawfulTrie (full_link b)
@@ -219,7 +223,7 @@ module _ {V A : Type 0} where
             (child_of_parts parent c p q upper k u (rw e at w));
       }
 
-  -- and p on the right
+  -- a fork where p and the old link part, p on the right
   pub part_right : (old leaf : Link V A) (q p c : Prefix) (v : V) → IsLawfulTrie old → root old ≡ Some q → IsLeafWith leaf p v → PartsAt c q p
       → (b : Box (ForkNode V A) A) → b.value.prefix ≡ c → b.value.left ≡ old → b.value.right ≡ leaf → IsPut old (fork_link b) p v
   part_right old leaf q p c v h e m k b i j o =
@@ -274,7 +278,8 @@ module _ {V A : Type 0} where
         (get_right old q w l r x.node p c) (omega (arith, x.node.count_is, x.counts l k)) (λ e. ap (λ y. make l y) e ∙ x.same)
 
   -- the value of a full node, and what is in the slot, change places
-  pub insert_here : {len base : ℕ} (f : Box (FullNode V A) A) (m : FullNode V A) (old : Link V A) (n : ℕ) (p : Prefix) (given stored slot : Option V) → old ≡ Full len base f
+  pub insert_here : {len base : ℕ} (f : Box (FullNode V A) A) (m : FullNode V A) (old : Link V A) (n : ℕ) (p : Prefix)
+      (given stored slot : Option V) → old ≡ Full len base f
       → m ≡ f.value → IsLawfulTrie old → p ≡ m.prefix → stored ≡ given → slot ≡ m.value
       → IsInserted old (Full len base (with_value f (record { prefix = m.prefix; value = stored; left = m.left; right = m.right }))) n n p given slot
   insert_here {len} {base} f m old n p given stored slot e g h i same had =
@@ -282,7 +287,8 @@ module _ {V A : Type 0} where
       let x = of_full f m old e g h.0 in record {
         put = if_some_is given (IsPut old (Full len base b) p)
             (λ v o.
-            let u = made_full_at len base b m.prefix v m.left m.right (key_of_full f m old e g h.0) refl (same ∙ o) refl refl x.halves x.left_lawful x.right_lawful in
+            let u = made_full_at len base b m.prefix v m.left m.right (key_of_full f m old e g h.0) refl
+            (same ∙ o) refl refl x.halves x.left_lawful x.right_lawful in
             subst (λ y. IsPut old (Full len base b) y v) (sym i) (put_value old (Full len base b) m.prefix m.value v m.left m.right x u.0 u.1));
         had_is = had ∙ sym (get_own old m.prefix m.value m.left m.right x p i);
         counted = omega (arith, x.count_is);
@@ -305,17 +311,32 @@ module _ {V A : Type 0} where
   leaf_node : {len base : ℕ} (b : Box (LeafNode V) A) (old : Link V A) (q : Prefix) → old ≡ Leaf len base b → b.value.prefix ≡ q
       → IsNode old q (Some b.value.value) Empty Empty
   leaf_node b old q e f = subst (λ y. IsNode old y (Some b.value.value) Empty Empty) f
-      (rw e (record { pairs_are = refl; root_is = refl; count_is = refl; halves = record { lower = tt; upper = tt }; left_lawful = (tt, tt); right_lawful = (tt, tt) }))
+      (rw e (record {
+        pairs_are = refl;
+        root_is = refl;
+        count_is = refl;
+        halves = record { lower = tt; upper = tt };
+        left_lawful = (tt, tt);
+        right_lawful = (tt, tt);
+      }))
 
   -- the value of a leaf, and what is in the slot, change places
-  pub insert_leaf : {len base : ℕ} (b : Box (LeafNode V) A) (m : LeafNode V) (old : Link V A) (n : ℕ) (p : Prefix) (given slot : Option V) (stored : V) → old ≡ Leaf len base b
+  pub insert_leaf : {len base : ℕ} (b : Box (LeafNode V) A) (m : LeafNode V) (old : Link V A) (n : ℕ) (p : Prefix)
+      (given slot : Option V) (stored : V) → old ≡ Leaf len base b
       → m ≡ b.value → IsLawfulTrie old → p ≡ m.prefix → given ≡ Some stored → slot ≡ Some m.value
       → IsInserted old (Leaf len base (with_value b (record { prefix = m.prefix; value = stored }))) n n p given slot
   insert_leaf {len} {base} b m old n p given slot stored e g h i same had =
       let k = with_value b (record { prefix = m.prefix; value = stored }) in
       let x = leaf_node b old m.prefix e (sym (ap (λ (y : LeafNode V). y.prefix) g)) in
       let y : IsNode (Leaf len base k) m.prefix (Some stored) Empty Empty =
-      record { pairs_are = refl; root_is = refl; count_is = refl; halves = record { lower = tt; upper = tt }; left_lawful = (tt, tt); right_lawful = (tt, tt) } in
+      record {
+        pairs_are = refl;
+        root_is = refl;
+        count_is = refl;
+        halves = record { lower = tt; upper = tt };
+        left_lawful = (tt, tt);
+        right_lawful = (tt, tt);
+      } in
       let put : IsPut old (Leaf len base k) m.prefix stored =
       put_value old (Leaf len base k) m.prefix (Some b.value.value) stored Empty Empty x y (key_of_leaf b m old e g h.0, tt) in
       record {
@@ -326,7 +347,8 @@ module _ {V A : Type 0} where
       }
 
   -- the fork at p becomes a full node
-  pub at_fork_insert : {len base : ℕ} (b : Box (ForkNode V A) A) (x : ForkNode V A) (old : Link V A) (n : ℕ) (p : Prefix) (given slot stored : Option V) → old ≡ Fork len base b
+  pub at_fork_insert : {len base : ℕ} (b : Box (ForkNode V A) A) (x : ForkNode V A) (old : Link V A) (n : ℕ)
+      (p : Prefix) (given slot stored : Option V) → old ≡ Fork len base b
       → x ≡ b.value → IsLawfulTrie old → x.prefix ≡ p → stored ≡ given → slot ≡ None → (f : Box (FullNode V A) A) → f.value.prefix ≡ p
       → f.value.value ≡ stored → f.value.left ≡ x.left → f.value.right ≡ x.right → IsInserted old (full_link f) n n p given slot
   at_fork_insert b x old n p given slot stored e g h i same none f j k l r =

@@ -1,5 +1,7 @@
 -- Look-ups that go on in turn: what one step in one lane makes of all.
-use Rattle.std.proofs.Common.{◌≡◌, ◌≢◌, ℕ, zero, suc, ◌+◌, ◌<◌, ◌≤◌, ◌⊎◌, List, [], ◌∷◌, Option, Some, None, length, set, get_or, inl, inr, refl, sym, ap, ◌∙◌, arith, get_or-set_same, get_or-set_other, length-set}
+use Rattle.std.proofs.Common.{◌≡◌, ◌≢◌, ℕ, zero, suc, ◌+◌, ◌<◌, ◌≤◌, ◌⊎◌, List, [], ◌∷◌, Option, Some, None, length}
+use Rattle.std.proofs.Common.{set, get_or, inl, inr, refl, sym, ap, ◌∙◌, arith, get_or-set_same, get_or-set_other}
+use Rattle.std.proofs.Common.{length-set}
 use Rattle.std.specs.Borrow.{Bor}
 use Rattle.std.proofs.lemmas.Bool.{cases_lt}
 use Rattle.std.proofs.lemmas.Bool.Decides.{eqb_tells}
@@ -81,7 +83,7 @@ module _ {V A : Type 0} where
   lane_sought lanes addresses answers start j =
       or_else (last_cover (pairs (link_at lanes j)) (address_at addresses (start + j))) (answer_at answers (start + j))
 
-  -- and what is found at last, by what is read
+  -- what is found at last in a lane, by what is read of it
   pub as_read : (lanes : List (Bor (Link V A))) (us : List Addr) (answers : List (Option (Prefix × Bor V))) (start lane : ℕ) (d : Bor (Link V A))
       (e : Option (Prefix × Bor V)) → lane < length lanes → start + lane < length answers
       → or_else (last_cover (pairs (get_or lanes lane d).now) (address_at us (start + lane))) (pair_copied (get_or answers (start + lane) e))
@@ -218,7 +220,8 @@ module _ {V A : Type 0} where
           record {
             lawful = w.lawful;
             found = λ j jl. elim (same_or j lane) [
-              | inl e ↦ rw (e, changed, same) (or_again (last_cover (pairs (link_at lanes lane)) (address_at us (start + lane))) (answer_at answers (start + lane)) ∙ w.found lane s)
+              | inl e ↦ rw (e, changed, same) (or_again (last_cover (pairs (link_at lanes lane))
+                  (address_at us (start + lane))) (answer_at answers (start + lane)) ∙ w.found lane s)
               | inr n ↦ rw (kept (start + j) (λ e. n (omega arith))) (w.found j jl)
             ];
             ended = λ j jl. elim (same_or j lane) [

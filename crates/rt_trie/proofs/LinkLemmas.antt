@@ -1,5 +1,6 @@
 -- The pairs of a lawful link lie where its root lies, and in order.
-use Rattle.std.proofs.Common.{◌≡◌, ℕ, suc, ◌⊎◌, ◌↔◌, ◌+◌, ◌<◌, ◌≤◌, [], ◌++◌, Option, Some, None, Bool, true, false, cond, leb, inl, inr, refl, sym, subst, ap, ◌∙◌, arith}
+use Rattle.std.proofs.Common.{◌≡◌, ℕ, suc, ◌⊎◌, ◌↔◌, ◌+◌, ◌<◌, ◌≤◌, [], ◌++◌, Option, Some, None, Bool, true, false}
+use Rattle.std.proofs.Common.{cond, leb, inl, inr, refl, sym, subst, ap, ◌∙◌, arith}
 use Rattle.rt_cidr.specs.declared.prefixes.Prefix.{Prefix}
 use Rattle.std.specs.Prelude.{Box, IfNone, IfSome, is_some}
 use Rattle.std.proofs.lemmas.Bool.{cases_lt, false≢true}
@@ -24,7 +25,8 @@ use Rattle.rt_trie.specs.inside.Links.{own_pair, pairs, count, IsNode, IsForkOf,
 use Rattle.rt_trie.specs.Links.{root, AreHalves, IsFilled, IsNeeded, IsLawfulBelow, IsLawfulTrie}
 use Rattle.rt_trie.proofs.OrderLemmas.{same_rank, same_tells, rank_of_before, rank_of_not_before}
 use Rattle.rt_cidr.proofs.Promised.{size_pos}
-use Rattle.rt_trie.proofs.NodeLemmas.{AreSides, get-lower, get-upper, get-here, get-past, IsOrdered-node, cover-lower, cover-upper, cover-none, after-lower, after-upper, after-all, after-past}
+use Rattle.rt_trie.proofs.NodeLemmas.{AreSides, get-lower, get-upper, get-here, get-past, IsOrdered-node, cover-lower}
+use Rattle.rt_trie.proofs.NodeLemmas.{cover-upper, cover-none, after-lower, after-upper, after-all, after-past}
 use Rattle.rt_trie.proofs.PairLemmas.{AllKeys, AllKeys-append, AllKeys-map, or_assoc, first-append, last_cover-none, last_cover-append}
 use Rattle.rt_trie.proofs.LongestLemmas.{longest_is}
 use Rattle.rt_trie.proofs.BlockLemmas.{middle_of_key}
@@ -51,7 +53,7 @@ module _ {V : Type 0} where
       (AllKeys-map (IsInBlock q.base (middle q) (q.len + 1)) (IsInBlock lo hi len) xs (λ x. within_lower lo hi len q x h) l)
       (AllKeys-map (IsInBlock (middle q) (past q) (q.len + 1)) (IsInBlock lo hi len) ys (λ x. within_upper lo hi len q x h) r)
 
-  -- and so with the prefix's own pair
+  -- the pairs of two halves and the prefix's own lie where the whole does
   pub node_within : (lo hi len : ℕ) (q : Prefix) (v : Option V) (xs ys : Pairs V) → IsInBlock lo hi len q
       → AllWithin q.base (middle q) (q.len + 1) xs → AllWithin (middle q) (past q) (q.len + 1) ys
       → AllWithin lo hi len (own_pair q v ++ (xs ++ ys))
@@ -89,10 +91,12 @@ GoesOn link left right p edge =
     × (edge ≤ p.base → IsLawfulBelow right × (get (pairs link) p ≡ get (pairs right) p))
 
 module _ {V A : Type 0} where
-  of_fork_at : (len base : ℕ) (b : Box (ForkNode V A) A) → IsLawfulBelow (Fork len base b) → IsNode (Fork len base b) b.value.prefix None b.value.left b.value.right
+  of_fork_at : (len base : ℕ) (b : Box (ForkNode V A) A) → IsLawfulBelow (Fork len base b)
+      → IsNode (Fork len base b) b.value.prefix None b.value.left b.value.right
   of_fork_at len base b h = record { pairs_are = refl; root_is = refl; count_is = refl; halves = h.0; left_lawful = h.1; right_lawful = h.2 }
 
-  of_full_at : (len base : ℕ) (b : Box (FullNode V A) A) → IsLawfulBelow (Full len base b) → IsNode (Full len base b) b.value.prefix b.value.value b.value.left b.value.right
+  of_full_at : (len base : ℕ) (b : Box (FullNode V A) A) → IsLawfulBelow (Full len base b)
+      → IsNode (Full len base b) b.value.prefix b.value.value b.value.left b.value.right
   of_full_at len base b h = record { pairs_are = refl; root_is = refl; count_is = refl; halves = h.0; left_lawful = h.1; right_lawful = h.2 }
 
   pub of_fork : {len base : ℕ} (b : Box (ForkNode V A) A) (n : ForkNode V A) (link : Link V A) → link ≡ Fork len base b → n ≡ b.value → IsLawfulBelow link
@@ -116,7 +120,7 @@ module _ {V A : Type 0} where
       → IsKeyOf len base n.prefix
   key_of_full {len} {base} b n link e f h = let k : IsLawfulBelow (Full len base b) = subst IsLawfulBelow e h in rw f k.3
 
-  -- so its length is no more than an address has bits
+  -- the length that a link keeps is no more than an address has bits
   pub short_leaf : {len base : ℕ} (b : Box (LeafNode V) A) (link : Link V A) → link ≡ Leaf len base b → IsLawfulBelow link → len ≤ 32
   short_leaf b link e h = key_short b.value.prefix (key_of_leaf b b.value link e refl h)
 
@@ -127,19 +131,22 @@ module _ {V A : Type 0} where
   short_full b link e h = key_short b.value.prefix (key_of_full b b.value link e refl h)
 
   -- where a prefix stands, as seen from the link's two numbers, it stands as seen from the node
-  pub seen_from_leaf : {len base : ℕ} (b : Box (LeafNode V) A) (link : Link V A) (p : Prefix) (position : Position) → link ≡ Leaf len base b → IsLawfulBelow link
+  pub seen_from_leaf : {len base : ℕ} (b : Box (LeafNode V) A) (link : Link V A) (p : Prefix) (position : Position)
+      → link ≡ Leaf len base b → IsLawfulBelow link
       → ((q : Prefix) → IsKeyOf len base q → StandsAt q p position) → IsSeenFrom (Leaf len base b) base p position
   seen_from_leaf b link p position e h s =
       let k = key_of_leaf b b.value link e refl h in
       record { node = b.value.prefix; root_is = refl; base_is = k.base_is; stands = s b.value.prefix k }
 
-  pub seen_from_fork : {len base : ℕ} (b : Box (ForkNode V A) A) (link : Link V A) (p : Prefix) (position : Position) → link ≡ Fork len base b → IsLawfulBelow link
+  pub seen_from_fork : {len base : ℕ} (b : Box (ForkNode V A) A) (link : Link V A) (p : Prefix) (position : Position)
+      → link ≡ Fork len base b → IsLawfulBelow link
       → ((q : Prefix) → IsKeyOf len base q → StandsAt q p position) → IsSeenFrom (Fork len base b) base p position
   seen_from_fork b link p position e h s =
       let k = key_of_fork b b.value link e refl h in
       record { node = b.value.prefix; root_is = refl; base_is = k.base_is; stands = s b.value.prefix k }
 
-  pub seen_from_full : {len base : ℕ} (b : Box (FullNode V A) A) (link : Link V A) (p : Prefix) (position : Position) → link ≡ Full len base b → IsLawfulBelow link
+  pub seen_from_full : {len base : ℕ} (b : Box (FullNode V A) A) (link : Link V A) (p : Prefix) (position : Position)
+      → link ≡ Full len base b → IsLawfulBelow link
       → ((q : Prefix) → IsKeyOf len base q → StandsAt q p position) → IsSeenFrom (Full len base b) base p position
   seen_from_full b link p position e h s =
       let k = key_of_full b b.value link e refl h in
@@ -152,47 +159,97 @@ module _ {V A : Type 0} where
     upper = pairs_within right (middle q) (past q) (q.len + 1) r.0 h.upper;
   }
 
-  pub sides_of : (link : Link V A) (q : Prefix) (v : Option V) (left right : Link V A) → IsNode link q v left right
-      → AreSides q (pairs left) (pairs right)
-  sides_of link q v left right n = sides_at q left right n.halves n.left_lawful n.right_lawful
+  module _ (link : Link V A) (q : Prefix) (v : Option V) (left right : Link V A) (n : IsNode link q v left right) where
+    pub sides_of : AreSides q (pairs left) (pairs right)
+    sides_of = sides_at q left right n.halves n.left_lawful n.right_lawful
 
-  -- each side is lawful, with fewer nodes
-  pub below_left : (link : Link V A) (q : Prefix) (v : Option V) (left right : Link V A) → IsNode link q v left right
-      → IsLawfulTrie left × (count left < count link)
-  below_left link q v left right n = (n.left_lawful, omega (arith, n.count_is))
+    -- each side is lawful, with fewer nodes
+    pub below_left : IsLawfulTrie left × (count left < count link)
+    below_left = (n.left_lawful, omega (arith, n.count_is))
 
-  pub below_right : (link : Link V A) (q : Prefix) (v : Option V) (left right : Link V A) → IsNode link q v left right
-      → IsLawfulTrie right × (count right < count link)
-  below_right link q v left right n = (n.right_lawful, omega (arith, n.count_is))
+    pub below_right : IsLawfulTrie right × (count right < count link)
+    below_right = (n.right_lawful, omega (arith, n.count_is))
 
-  -- the look-up goes to one side, or ends here
-  pub node_get-lower : (link : Link V A) (q : Prefix) (v : Option V) (left right : Link V A) (n : IsNode link q v left right) (p : Prefix)
-      → q.len < p.len → p.base < middle q → get (pairs link) p ≡ get (pairs left) p
-  node_get-lower link q v left right n p h k =
-      ap (λ m. get m p) n.pairs_are ∙ get-lower q v (pairs left) (pairs right) (sides_of link q v left right n) p h k
+    -- the look-up goes to one side, or ends here
+    pub node_get-lower : (p : Prefix) → q.len < p.len → p.base < middle q → get (pairs link) p ≡ get (pairs left) p
+    node_get-lower p h k =
+        ap (λ m. get m p) n.pairs_are ∙ get-lower q v (pairs left) (pairs right) sides_of p h k
 
-  pub node_get-upper : (link : Link V A) (q : Prefix) (v : Option V) (left right : Link V A) (n : IsNode link q v left right) (p : Prefix)
-      → q.len < p.len → middle q ≤ p.base → get (pairs link) p ≡ get (pairs right) p
-  node_get-upper link q v left right n p h k =
-      ap (λ m. get m p) n.pairs_are ∙ get-upper q v (pairs left) (pairs right) (sides_of link q v left right n) p h k
+    pub node_get-upper : (p : Prefix) → q.len < p.len → middle q ≤ p.base → get (pairs link) p ≡ get (pairs right) p
+    node_get-upper p h k =
+        ap (λ m. get m p) n.pairs_are ∙ get-upper q v (pairs left) (pairs right) sides_of p h k
 
-  -- what a look-up finds on the side where it goes on, as the link's two numbers tell it
-  pub goes_on : {len base : ℕ} (link : Link V A) (q : Prefix) (v : Option V) (left right : Link V A) (n : IsNode link q v left right) → IsKeyOf len base q
-      → (p : Prefix) (edge : ℕ) → len < p.len → edge ≡ middle_at len base → GoesOn link left right p edge
-  goes_on link q v left right n k p edge h e = (
-    λ lower. (n.left_lawful.0, node_get-lower link q v left right n p (omega (arith, k.len_is)) (omega (arith, e, middle_of_key k))),
-    λ upper. (n.right_lawful.0, node_get-upper link q v left right n p (omega (arith, k.len_is)) (omega (arith, e, middle_of_key k))),
-  )
+    -- what a look-up finds on the side where it goes on, as the link's two numbers tell it
+    pub goes_on : {len base : ℕ} → IsKeyOf len base q
+        → (p : Prefix) (edge : ℕ) → len < p.len → edge ≡ middle_at len base → GoesOn link left right p edge
+    goes_on k p edge h e = (
+      λ lower. (n.left_lawful.0, node_get-lower p (omega (arith, k.len_is)) (omega (arith, e, middle_of_key k))),
+      λ upper. (n.right_lawful.0, node_get-upper p (omega (arith, k.len_is)) (omega (arith, e, middle_of_key k))),
+    )
 
-  pub node_get-here : (link : Link V A) (q : Prefix) (v : Option V) (left right : Link V A) (n : IsNode link q v left right) (p : Prefix)
-      → p.len ≤ q.len → same_prefix q p ≡ true → get (pairs link) p ≡ v
-  node_get-here link q v left right n p h k =
-      ap (λ m. get m p) n.pairs_are ∙ get-here q v (pairs left) (pairs right) (sides_of link q v left right n) p h k
+    pub node_get-here : (p : Prefix) → p.len ≤ q.len → same_prefix q p ≡ true → get (pairs link) p ≡ v
+    node_get-here p h k =
+        ap (λ m. get m p) n.pairs_are ∙ get-here q v (pairs left) (pairs right) sides_of p h k
 
-  pub node_get-past : (link : Link V A) (q : Prefix) (v : Option V) (left right : Link V A) (n : IsNode link q v left right) (p : Prefix)
-      → p.len ≤ q.len → same_prefix q p ≡ false → get (pairs link) p ≡ None
-  node_get-past link q v left right n p h k =
-      ap (λ m. get m p) n.pairs_are ∙ get-past q v (pairs left) (pairs right) (sides_of link q v left right n) p h k
+    pub node_get-past : (p : Prefix) → p.len ≤ q.len → same_prefix q p ≡ false → get (pairs link) p ≡ None
+    node_get-past p h k =
+        ap (λ m. get m p) n.pairs_are ∙ get-past q v (pairs left) (pairs right) sides_of p h k
+
+    -- the longest match is looked for on one side, with the node's own pair to fall back on
+    pub node_cover-lower : (a : Addr)
+        → a.0 < middle q → last_cover (pairs link) a ≡ or_else (last_cover (pairs left) a) (last_cover (own_pair q v) a)
+    node_cover-lower a h =
+        ap (λ m. last_cover m a) n.pairs_are ∙ cover-lower q v (pairs left) (pairs right) sides_of a h
+
+    pub node_cover-upper : (a : Addr)
+        → middle q ≤ a.0 → last_cover (pairs link) a ≡ or_else (last_cover (pairs right) a) (last_cover (own_pair q v) a)
+    node_cover-upper a h =
+        ap (λ m. last_cover m a) n.pairs_are ∙ cover-upper q v (pairs left) (pairs right) sides_of a h
+
+    pub node_cover-none : (a : Addr) → covers q a ≡ false → last_cover (pairs link) a ≡ None
+    node_cover-none a h =
+        ap (λ m. last_cover m a) n.pairs_are ∙ cover-none q v (pairs left) (pairs right) sides_of a h
+
+    -- a prefix that covers one address has nothing below it
+    none_below : (a : Addr)
+        → q.len ≡ 32 → last_cover (pairs link) a ≡ or_else (last_cover (pairs left) a) (last_cover (own_pair q v) a)
+    none_below a h =
+        let s = sides_of in
+        let l : last_cover (pairs left) a ≡ None = last_cover-none (pairs left) a
+        (AllKeys-map (IsInBlock q.base (middle q) (q.len + 1)) (λ x. covers x a ≡ false) (pairs left)
+        (λ x w. let t = x.is_prefix.short in absurd (omega (arith, w.long))) s.lower) in
+        let r : last_cover (pairs right) a ≡ None = last_cover-none (pairs right) a
+        (AllKeys-map (IsInBlock (middle q) (past q) (q.len + 1)) (λ x. covers x a ≡ false) (pairs right)
+        (λ x w. let t = x.is_prefix.short in absurd (omega (arith, w.long))) s.upper) in
+        ap (λ m. last_cover m a) n.pairs_are ∙ last_cover-append (own_pair q v) (pairs left ++ pairs right) a
+        ∙ ap (λ o. or_else o (last_cover (own_pair q v) a)) (last_cover-append (pairs left) (pairs right) a ∙ cc (l, r))
+
+    -- a look-up goes on in the half where the address lies, with the node's own pair to fall back on
+    pub step_lower : (a : Addr)
+        (best found : Option (Prefix × V)) → (q.len < 32 → (middle q ≤ a.0 → ⊥)) → or_else (last_cover (own_pair q v) a) best ≡ found
+        → or_else (last_cover (pairs left) a) found ≡ or_else (last_cover (pairs link) a) best
+    step_lower a best found h e =
+        let s = q.is_prefix.short in
+        let here : last_cover (pairs link) a ≡ or_else (last_cover (pairs left) a) (last_cover (own_pair q v) a) =
+        elim (cases_lt q.len 32) [
+          | inl lt ↦ node_cover-lower a (elim (cases_lt a.0 (middle q)) [ inl low ↦ low | inr high ↦ absurd (h lt high) ])
+          | inr ge ↦ none_below a (omega arith)
+        ] in
+        ap (λ x. or_else (last_cover (pairs left) a) x) (sym e)
+        ∙ sym (ap (λ x. or_else x best) here ∙ or_assoc (last_cover (pairs left) a) (last_cover (own_pair q v) a) best)
+
+    pub step_upper : (a : Addr)
+        (best found : Option (Prefix × V)) → middle q ≤ a.0 → or_else (last_cover (own_pair q v) a) best ≡ found
+        → or_else (last_cover (pairs right) a) found ≡ or_else (last_cover (pairs link) a) best
+    step_upper a best found h e =
+        ap (λ x. or_else (last_cover (pairs right) a) x) (sym e)
+        ∙ sym (ap (λ x. or_else x best) (node_cover-upper a h)
+        ∙ or_assoc (last_cover (pairs right) a) (last_cover (own_pair q v) a) best)
+
+    -- where the node does not cover the address, the best so far is the answer
+    pub step_none : (a : Addr)
+        (best : Option (Prefix × V)) → covers q a ≡ false → best ≡ or_else (last_cover (pairs link) a) best
+    step_none a best h = sym (ap (λ x. or_else x best) (node_cover-none a h))
 
   pub node_get-unstored : (link : Link V A) (q : Prefix) (left right : Link V A) (n : IsNode link q None left right) (p : Prefix)
       → p.len ≤ q.len → get (pairs link) p ≡ None
@@ -210,59 +267,7 @@ module _ {V A : Type 0} where
   pairs_ordered (Full' i j p left right q v) h =
       IsOrdered-node q v (pairs left) (pairs right) (sides_at q left right h.0 h.1 h.2) (pairs_ordered left h.1.0) (pairs_ordered right h.2.0)
 
-  -- the longest match is looked for on one side, with the node's own pair to fall back on
-  pub node_cover-lower : (link : Link V A) (q : Prefix) (v : Option V) (left right : Link V A) (n : IsNode link q v left right) (a : Addr)
-      → a.0 < middle q → last_cover (pairs link) a ≡ or_else (last_cover (pairs left) a) (last_cover (own_pair q v) a)
-  node_cover-lower link q v left right n a h =
-      ap (λ m. last_cover m a) n.pairs_are ∙ cover-lower q v (pairs left) (pairs right) (sides_of link q v left right n) a h
-
-  pub node_cover-upper : (link : Link V A) (q : Prefix) (v : Option V) (left right : Link V A) (n : IsNode link q v left right) (a : Addr)
-      → middle q ≤ a.0 → last_cover (pairs link) a ≡ or_else (last_cover (pairs right) a) (last_cover (own_pair q v) a)
-  node_cover-upper link q v left right n a h =
-      ap (λ m. last_cover m a) n.pairs_are ∙ cover-upper q v (pairs left) (pairs right) (sides_of link q v left right n) a h
-
-  pub node_cover-none : (link : Link V A) (q : Prefix) (v : Option V) (left right : Link V A) (n : IsNode link q v left right) (a : Addr)
-      → covers q a ≡ false → last_cover (pairs link) a ≡ None
-  node_cover-none link q v left right n a h =
-      ap (λ m. last_cover m a) n.pairs_are ∙ cover-none q v (pairs left) (pairs right) (sides_of link q v left right n) a h
-
-  -- a prefix that covers one address has nothing below it
-  none_below : (link : Link V A) (q : Prefix) (v : Option V) (left right : Link V A) (n : IsNode link q v left right) (a : Addr)
-      → q.len ≡ 32 → last_cover (pairs link) a ≡ or_else (last_cover (pairs left) a) (last_cover (own_pair q v) a)
-  none_below link q v left right n a h =
-      let s = sides_of link q v left right n in
-      let l : last_cover (pairs left) a ≡ None = last_cover-none (pairs left) a
-      (AllKeys-map (IsInBlock q.base (middle q) (q.len + 1)) (λ x. covers x a ≡ false) (pairs left)
-      (λ x w. let t = x.is_prefix.short in absurd (omega (arith, w.long))) s.lower) in
-      let r : last_cover (pairs right) a ≡ None = last_cover-none (pairs right) a
-      (AllKeys-map (IsInBlock (middle q) (past q) (q.len + 1)) (λ x. covers x a ≡ false) (pairs right)
-      (λ x w. let t = x.is_prefix.short in absurd (omega (arith, w.long))) s.upper) in
-      ap (λ m. last_cover m a) n.pairs_are ∙ last_cover-append (own_pair q v) (pairs left ++ pairs right) a
-      ∙ ap (λ o. or_else o (last_cover (own_pair q v) a)) (last_cover-append (pairs left) (pairs right) a ∙ cc (l, r))
-
-  -- a look-up goes on in the half where the address lies, with the node's own pair to fall back on
-  pub step_lower : (link : Link V A) (q : Prefix) (v : Option V) (left right : Link V A) (n : IsNode link q v left right) (a : Addr)
-      (best found : Option (Prefix × V)) → (q.len < 32 → (middle q ≤ a.0 → ⊥)) → or_else (last_cover (own_pair q v) a) best ≡ found
-      → or_else (last_cover (pairs left) a) found ≡ or_else (last_cover (pairs link) a) best
-  step_lower link q v left right n a best found h e =
-      let s = q.is_prefix.short in
-      let here : last_cover (pairs link) a ≡ or_else (last_cover (pairs left) a) (last_cover (own_pair q v) a) =
-      elim (cases_lt q.len 32) [
-        | inl lt ↦ node_cover-lower link q v left right n a (elim (cases_lt a.0 (middle q)) [ inl low ↦ low | inr high ↦ absurd (h lt high) ])
-        | inr ge ↦ none_below link q v left right n a (omega arith)
-      ] in
-      ap (λ x. or_else (last_cover (pairs left) a) x) (sym e)
-      ∙ sym (ap (λ x. or_else x best) here ∙ or_assoc (last_cover (pairs left) a) (last_cover (own_pair q v) a) best)
-
-  pub step_upper : (link : Link V A) (q : Prefix) (v : Option V) (left right : Link V A) (n : IsNode link q v left right) (a : Addr)
-      (best found : Option (Prefix × V)) → middle q ≤ a.0 → or_else (last_cover (own_pair q v) a) best ≡ found
-      → or_else (last_cover (pairs right) a) found ≡ or_else (last_cover (pairs link) a) best
-  step_upper link q v left right n a best found h e =
-      ap (λ x. or_else (last_cover (pairs right) a) x) (sym e)
-      ∙ sym (ap (λ x. or_else x best) (node_cover-upper link q v left right n a h)
-      ∙ or_assoc (last_cover (pairs right) a) (last_cover (own_pair q v) a) best)
-
-  -- and it goes on where `side` says, of an address so far into the node's
+  -- a look-up goes on where `side` says, of an address so far into the node's
   pub step_side : (link : Link V A) (q : Prefix) (v : Option V) (left right below : Bor (Link V A)) (n : IsNode link q v left.now right.now) (a : Addr)
       (best found : Option (Prefix × V)) (offset : ℕ) → (q.len < 32 → (2147483648 ≤ offset) ↔ (middle q ≤ a.0))
       → (q.len ≡ 32 → offset < 2147483648) → below ≡ cond (leb (suc offset) 2147483648) left right
@@ -291,11 +296,6 @@ module _ {V A : Type 0} where
   pub side_below : (link : Link V A) (q : Prefix) (v : Option V) (left right below : Bor (Link V A)) (n : IsNode link q v left.now right.now) (offset : ℕ)
       → below ≡ cond (leb (suc offset) 2147483648) left right → IsLawfulBelow below.now × (count below.now < count link)
   side_below link q v left right below n offset e = picked_below link q v left right below n (leb (suc offset) 2147483648) e
-
-  -- where the node does not cover the address, the best so far is the answer
-  pub step_none : (link : Link V A) (q : Prefix) (v : Option V) (left right : Link V A) (n : IsNode link q v left right) (a : Addr)
-      (best : Option (Prefix × V)) → covers q a ≡ false → best ≡ or_else (last_cover (pairs link) a) best
-  step_none link q v left right n a best h = sym (ap (λ x. or_else x best) (node_cover-none link q v left right n a h))
 
   -- the last pair that covers the address is the longest
   pub longest_of : (link : Link V A) (a : Addr) (o : Option (Prefix × V)) → IsLawfulBelow link → last_cover (pairs link) a ≡ o
@@ -345,7 +345,8 @@ module _ {V A : Type 0} where
       → first (pairs link) ≡ first (pairs left)
   first_left link q v left right n e f =
       let i = filled_first left n.left_lawful f in
-      ap first n.pairs_are ∙ ap (λ v. first (own_pair q v ++ (pairs left ++ pairs right))) e ∙ first-append (pairs left) (pairs right) ∙ ap (λ o. or_else o (first (pairs right))) i.1 ∙ sym i.1
+      ap first n.pairs_are ∙ ap (λ v. first (own_pair q v ++ (pairs left ++ pairs right))) e
+      ∙ first-append (pairs left) (pairs right) ∙ ap (λ o. or_else o (first (pairs right))) i.1 ∙ sym i.1
 
 pub none_unless : {X : Type 0} (o : Option X) → ((x : X) → o ≡ Some x → ⊥) → o ≡ None
 none_unless None h = refl
@@ -356,51 +357,50 @@ none_of None h = refl
 none_of (Some x) h = absurd (false≢true h)
 
 module _ {V A : Type 0} where
-  -- the least prefix after p, by where p stands as seen from the node
-  pub node_after-lower : (link : Link V A) (q : Prefix) (v : Option V) (left right : Link V A) (n : IsNode link q v left right) (p : Prefix)
-      (r : Position) → StandsAt q p r → (r ≡ Here) ⊎ (r ≡ Left) → next_after (pairs link) p ≡ or_else (next_after (pairs left) p) (first (pairs right))
-  node_after-lower link q v left right n p r s e =
-      ap (λ m. next_after m p) n.pairs_are
-      ∙ elim e [
-        | inl h ↦ let i : p ≡ q = subst (StandsAt q p) h s in here i
-        | inr h ↦ let w : IsInBlock q.base (middle q) (q.len + 1) p = subst (StandsAt q p) h s in
-            let t = q.is_prefix.short in
-            after-lower q v (pairs left) (pairs right) (sides_of link q v left right n) p (omega (arith, w.from, w.long))
-            (λ y k. let u = p.is_prefix.short in omega (arith, w.to, k.from, size_pos p.len))
-      ]
-    where
-      here : p ≡ q → next_after (own_pair q v ++ (pairs left ++ pairs right)) p ≡ or_else (next_after (pairs left) p) (first (pairs right))
-      here i = rw i (after-lower q v (pairs left) (pairs right) (sides_of link q v left right n) q (omega arith)
-          (λ y k. omega (arith, k.long, k.from)))
-
-  pub node_after-upper : (link : Link V A) (q : Prefix) (v : Option V) (left right : Link V A) (n : IsNode link q v left right) (p : Prefix)
-      (r : Position) → StandsAt q p r → r ≡ Right → next_after (pairs link) p ≡ next_after (pairs right) p
-  node_after-upper link q v left right n p r s h =
-      let w : IsInBlock (middle q) (past q) (q.len + 1) p = subst (StandsAt q p) h s in
-      ap (λ m. next_after m p) n.pairs_are
-      ∙ after-upper q v (pairs left) (pairs right) (sides_of link q v left right n) p (omega (arith, w.from, w.long)) w.from
-
-  pub node_after-all : (link : Link V A) (q : Prefix) (v : Option V) (left right : Link V A) (n : IsNode link q v left right) (p : Prefix)
-      → before p q ≡ true → next_after (pairs link) p ≡ first (pairs link)
-  node_after-all link q v left right n p h =
-      ap (λ m. next_after m p) n.pairs_are
-      ∙ after-all q v (pairs left) (pairs right) (sides_of link q v left right n) p (rank_of_before p q h) ∙ sym (ap first n.pairs_are)
-
-  pub node_after-none : (link : Link V A) (q : Prefix) (v : Option V) (left right : Link V A) (n : IsNode link q v left right) (p : Prefix)
-      (r : Position) → StandsAt q p r → (r ≡ Above) ⊎ (r ≡ Apart) → before p q ≡ false → next_after (pairs link) p ≡ None
-  node_after-none link q v left right n p r s e h =
-      ap (λ m. next_after m p) n.pairs_are
-      ∙ after-past q v (pairs left) (pairs right) (sides_of link q v left right n) p (elim e [
-        | inl i ↦ let w : IsInBlock p.base (past p) (p.len + 1) q = subst (StandsAt q p) i s in
-            absurd (omega (arith, rank_of_not_before p q h, w.from, w.long))
-        | inr i ↦ let w : (past q ≤ p.base) ⊎ (past p ≤ q.base) = subst (StandsAt q p) i s in elim w [
-          | inl k ↦ k
-          | inr k ↦ let t = p.is_prefix.short in absurd (omega (arith, rank_of_not_before p q h, size_pos p.len))
+  module _ (link : Link V A) (q : Prefix) (v : Option V) (left right : Link V A) (n : IsNode link q v left right) where
+    -- the least prefix after p, by where p stands as seen from the node
+    pub node_after-lower : (p : Prefix) (r : Position) → StandsAt q p r → (r ≡ Here) ⊎ (r ≡ Left)
+        → next_after (pairs link) p ≡ or_else (next_after (pairs left) p) (first (pairs right))
+    node_after-lower p r s e =
+        ap (λ m. next_after m p) n.pairs_are
+        ∙ elim e [
+          | inl h ↦ let i : p ≡ q = subst (StandsAt q p) h s in here i
+          | inr h ↦ let w : IsInBlock q.base (middle q) (q.len + 1) p = subst (StandsAt q p) h s in
+              let t = q.is_prefix.short in
+              after-lower q v (pairs left) (pairs right) (sides_of link q v left right n) p (omega (arith, w.from, w.long))
+              (λ y k. let u = p.is_prefix.short in omega (arith, w.to, k.from, size_pos p.len))
         ]
-      ])
+      where
+        here : p ≡ q → next_after (own_pair q v ++ (pairs left ++ pairs right)) p ≡ or_else (next_after (pairs left) p) (first (pairs right))
+        here i = rw i (after-lower q v (pairs left) (pairs right) (sides_of link q v left right n) q (omega arith)
+            (λ y k. omega (arith, k.long, k.from)))
+
+    pub node_after-upper : (p : Prefix) (r : Position) → StandsAt q p r → r ≡ Right → next_after (pairs link) p ≡ next_after (pairs right) p
+    node_after-upper p r s h =
+        let w : IsInBlock (middle q) (past q) (q.len + 1) p = subst (StandsAt q p) h s in
+        ap (λ m. next_after m p) n.pairs_are
+        ∙ after-upper q v (pairs left) (pairs right) (sides_of link q v left right n) p (omega (arith, w.from, w.long)) w.from
+
+    pub node_after-all : (p : Prefix) → before p q ≡ true → next_after (pairs link) p ≡ first (pairs link)
+    node_after-all p h =
+        ap (λ m. next_after m p) n.pairs_are
+        ∙ after-all q v (pairs left) (pairs right) (sides_of link q v left right n) p (rank_of_before p q h) ∙ sym (ap first n.pairs_are)
+
+    pub node_after-none : (p : Prefix) (r : Position) → StandsAt q p r → (r ≡ Above) ⊎ (r ≡ Apart) → before p q ≡ false → next_after (pairs link) p ≡ None
+    node_after-none p r s e h =
+        ap (λ m. next_after m p) n.pairs_are
+        ∙ after-past q v (pairs left) (pairs right) (sides_of link q v left right n) p (elim e [
+          | inl i ↦ let w : IsInBlock p.base (past p) (p.len + 1) q = subst (StandsAt q p) i s in
+              absurd (omega (arith, rank_of_not_before p q h, w.from, w.long))
+          | inr i ↦ let w : (past q ≤ p.base) ⊎ (past p ≤ q.base) = subst (StandsAt q p) i s in elim w [
+            | inl k ↦ k
+            | inr k ↦ let t = p.is_prefix.short in absurd (omega (arith, rank_of_not_before p q h, size_pos p.len))
+          ]
+        ])
 
   -- the prefix of a fork, and of a leaf
-  pub fork_prefix : {len base : ℕ} (b : Box (ForkNode V A) A) (n : ForkNode V A) (link : Link V A) (p : Prefix) → link ≡ Fork len base b → n ≡ b.value → IsForkOf p link
+  pub fork_prefix : {len base : ℕ} (b : Box (ForkNode V A) A) (n : ForkNode V A) (link : Link V A) (p : Prefix)
+      → link ≡ Fork len base b → n ≡ b.value → IsForkOf p link
       → n.prefix ≡ p
   fork_prefix b n link p e f h = let k : b.value.prefix ≡ p = subst (IsForkOf p) e h in rw f k
 
@@ -430,7 +430,8 @@ if_some_is None P f = tt
 if_some_is (Some x) P f = f x refl
 
 -- one view of a fork and a full node: the node, and what it is with other sides
-pub record IsView {V A : Type 0} (link : Link V A) (q : Prefix) (v : Option V) (left right : Link V A) (with_sides : Link V A → Link V A → Link V A) : Type 0 where
+pub record IsView {V A : Type 0} (link : Link V A) (q : Prefix) (v : Option V) (left right : Link V A)
+    (with_sides : Link V A → Link V A → Link V A) : Type 0 where
   pub node : IsNode link q v left right
   pub same : with_sides left right ≡ link
   pub again : (l r : Link V A) → AreHalves q l r → IsLawfulTrie l → IsLawfulTrie r → IsNode (with_sides l r) q v l r × IsLawfulBelow (with_sides l r)
@@ -448,7 +449,8 @@ none_if (Some v) P h e = cc
 
 module _ {V A : Type 0} where
   view_fork_at : (len base : ℕ) (b : Box (ForkNode V A) A) → IsLawfulBelow (Fork len base b)
-      → IsView (Fork len base b) b.value.prefix None b.value.left b.value.right (λ l r. Fork len base (with_value b (record { prefix = b.value.prefix; left = l; right = r })))
+      → IsView (Fork len base b) b.value.prefix None b.value.left b.value.right
+      (λ l r. Fork len base (with_value b (record { prefix = b.value.prefix; left = l; right = r })))
   view_fork_at len base b h = record {
     node = of_fork_at len base b h;
     same = refl;
@@ -478,18 +480,16 @@ module _ {V A : Type 0} where
       → IsView link n.prefix n.value n.left n.right (λ l r. Full len base (with_value b (record { prefix = n.prefix; value = n.value; left = l; right = r })))
   view_full {len} {base} b n link e f h = rw (f, e) (view_full_at len base b (subst IsLawfulBelow e h))
 
-  -- what stands at a prefix on one side of a node stands there in that side's link
-  pub get_left : (link : Link V A) (q : Prefix) (v : Option V) (left right : Link V A) (n : IsNode link q v left right) (p : Prefix)
-      → IsChild q false p → get (pairs link) p ≡ get (pairs left) p
-  get_left link q v left right n p c = node_get-lower link q v left right n p (omega (arith, c.long)) (omega (arith, c.to, size_pos p.len))
+  module _ (link : Link V A) (q : Prefix) (v : Option V) (left right : Link V A) (n : IsNode link q v left right) where
+    -- what stands at a prefix on one side of a node stands there in that side's link
+    pub get_left : (p : Prefix) → IsChild q false p → get (pairs link) p ≡ get (pairs left) p
+    get_left p c = node_get-lower link q v left right n p (omega (arith, c.long)) (omega (arith, c.to, size_pos p.len))
 
-  pub get_right : (link : Link V A) (q : Prefix) (v : Option V) (left right : Link V A) (n : IsNode link q v left right) (p : Prefix)
-      → IsChild q true p → get (pairs link) p ≡ get (pairs right) p
-  get_right link q v left right n p c = node_get-upper link q v left right n p (omega (arith, c.long)) c.from
+    pub get_right : (p : Prefix) → IsChild q true p → get (pairs link) p ≡ get (pairs right) p
+    get_right p c = node_get-upper link q v left right n p (omega (arith, c.long)) c.from
 
-  -- and its own prefix
-  pub get_own : (link : Link V A) (q : Prefix) (v : Option V) (left right : Link V A) (n : IsNode link q v left right) (p : Prefix)
-      → p ≡ q → get (pairs link) p ≡ v
-  get_own link q v left right n p i =
-      node_get-here link q v left right n p (omega (arith, ap (λ (x : Prefix). x.len) i))
-      (same_rank q p (sym (ap (λ (x : Prefix). x.base) i)) (sym (ap (λ (x : Prefix). x.len) i)))
+    -- what stands at a node's own prefix is its value
+    pub get_own : (p : Prefix) → p ≡ q → get (pairs link) p ≡ v
+    get_own p i =
+        node_get-here link q v left right n p (omega (arith, ap (λ (x : Prefix). x.len) i))
+        (same_rank q p (sym (ap (λ (x : Prefix). x.base) i)) (sym (ap (λ (x : Prefix). x.len) i)))

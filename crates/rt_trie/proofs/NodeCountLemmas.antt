@@ -218,7 +218,8 @@ module _ {V A : Type 0} where
       (nodes_within left q.base (middle q) (q.len + 1) h.1.0 h.0.lower)
       (nodes_within right (middle q) (past q) (q.len + 1) h.2.0 h.0.upper)
 
-  node_sides : (q : Prefix) (left right : Link V A) → AreHalves q left right → IsLawfulTrie left → IsLawfulTrie right → AreSides q (nodes_of left) (nodes_of right)
+  node_sides : (q : Prefix) (left right : Link V A) → AreHalves q left right → IsLawfulTrie left → IsLawfulTrie right
+      → AreSides q (nodes_of left) (nodes_of right)
   node_sides q left right h l r = record {
     lower = nodes_within left q.base (middle q) (q.len + 1) l.0 h.lower;
     upper = nodes_within right (middle q) (past q) (q.len + 1) r.0 h.upper;

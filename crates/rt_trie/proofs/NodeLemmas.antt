@@ -10,7 +10,9 @@ use Rattle.rt_trie.specs.inside.Links.{own_pair}
 use Rattle.rt_trie.proofs.OrderLemmas.{rank, lower_rank, other_rank}
 use Rattle.rt_cidr.proofs.Promised.{size_pos}
 use Rattle.rt_trie.proofs.BlockLemmas.{covers_tells, outside_of_covers}
-use Rattle.rt_trie.proofs.PairLemmas.{AllKeys, AllKeys-append, AllKeys-map, IsOther, IsLower, IsHigher, IsOther-lower, IsOther-higher, get-skip, get-none, get-front, after-append, after-skip, after-none, after-first, or_none, last_cover-none, last_cover-append}
+use Rattle.rt_trie.proofs.PairLemmas.{AllKeys, AllKeys-append, AllKeys-map, IsOther, IsLower, IsHigher, IsOther-lower}
+use Rattle.rt_trie.proofs.PairLemmas.{IsOther-higher, get-skip, get-none, get-front, after-append, after-skip}
+use Rattle.rt_trie.proofs.PairLemmas.{after-none, after-first, or_none, last_cover-none, last_cover-append}
 
 -- the pairs on the two sides lie in the two halves
 pub record AreSides {V : Type 0} (q : Prefix) (xs ys : Pairs V) : Type 0 where

@@ -26,7 +26,7 @@ same_above a b k h =
     let e : bit_xor a b ≡ 0 * 2 ^ k + bit_xor a b = omega arith in
     xor_zero (a / 2 ^ k) (b / 2 ^ k) (sym (xor_shr a b k) ∙ ap (λ n. n / 2 ^ k) e ∙ div-mul-add 0 (2 ^ k) (bit_xor a b) h)
 
--- and not from it on
+-- they don't agree from that digit on
 differ_in : (a b j : ℕ) → 2 ^ j ≤ bit_xor a b → a / 2 ^ j ≢ b / 2 ^ j
 differ_in a b j h e =
     let z : bit_xor a b / 2 ^ j ≡ 0 = xor_shr a b j ∙ ap (λ n. bit_xor (a / 2 ^ j) n) (sym e) ∙ xor_self (a / 2 ^ j) in
@@ -49,7 +49,7 @@ highest_digit a b n h k d e =
       differ_in a b n (subst (λ m. 2 ^ m ≤ bit_xor a b) i t.2),
     )
 
--- so there are at most 31 of them
+-- the digits in which two addresses differ have at most 31 leading zeros
 pub few_zeros : (a b : ℕ) → a < 2 ^ 32 → b < 2 ^ 32 → a ≢ b → count_leading_zeros 32 (bit_xor a b) ≤ 31
 few_zeros a b h k d =
     let t = leading_top 32 (bit_xor a b) (differ_some a b d) (xor_of_32 a b h k) in omega (arith, t.1)
@@ -187,7 +187,7 @@ parent_shorter parent c low high upper k l h = elim (cases_lt parent.len c.len) 
       ]
     ]
 
--- and lies in that half too
+-- that prefix lies in the half, too
 pub child_of_parts : (parent c low high : Prefix) (upper : Bool) → PartsAt c low high → IsChild parent upper low → IsChild parent upper high
     → IsChild parent upper c
 child_of_parts parent c low high false k l h =

@@ -129,7 +129,7 @@ module _ {V A : Type 0} where
       let u = made_full_below len base b m.prefix None m.left m.right (key_of_full f m old e g h.0) x w y z n.halves n.left_lawful n.right_lawful in
       rw i (record { pairs_are = erase_own old (Full len base b) m.prefix m.value m.left m.right n u.0; below = u.1; root_is = u.0.root_is ∙ sym n.root_is })
 
-  -- and the whole removal
+  -- the whole removal of p, by what became of its side
   pub erased_of : (old mid new : Link V A) (p : Prefix) → IsHalfway old mid p → IsSpliced mid new → IsErased old new p
   erased_of old mid new p h s = record {
     pairs_are = s.pairs_are ∙ h.pairs_are;
@@ -146,7 +146,8 @@ module _ {V A : Type 0} where
   }
 
   -- at a fork nothing is stored but on its sides
-  pub fork_none : {len base : ℕ} (b : Box (ForkNode V A) A) (n : ForkNode V A) (old : Link V A) (p : Prefix) (r : Position) → old ≡ Fork len base b → n ≡ b.value
+  pub fork_none : {len base : ℕ} (b : Box (ForkNode V A) A) (n : ForkNode V A) (old : Link V A) (p : Prefix)
+      (r : Position) → old ≡ Fork len base b → n ≡ b.value
       → IsLawfulTrie old → StandsAt n.prefix p r → (r ≡ Left → ⊥) → (r ≡ Right → ⊥) → get (pairs old) p ≡ None
   fork_none b n old p Here e f h s x y =
       node_get-unstored old n.prefix n.left n.right (of_fork b n old e f h.0) p (omega (arith, ap (λ (z : Prefix). z.len) s))
@@ -156,7 +157,8 @@ module _ {V A : Type 0} where
   fork_none b n old p Apart e f h s x y = get_apart old n.prefix p h (of_fork b n old e f h.0).root_is s
 
   -- at a full node, its own value aside
-  pub full_none : {len base : ℕ} (b : Box (FullNode V A) A) (n : FullNode V A) (old : Link V A) (p : Prefix) (r : Position) → old ≡ Full len base b → n ≡ b.value
+  pub full_none : {len base : ℕ} (b : Box (FullNode V A) A) (n : FullNode V A) (old : Link V A) (p : Prefix)
+      (r : Position) → old ≡ Full len base b → n ≡ b.value
       → IsLawfulTrie old → StandsAt n.prefix p r → (r ≡ Above) ⊎ (r ≡ Apart) → get (pairs old) p ≡ None
   full_none b n old p r e f h s o = elim o [
     | inl i ↦ get_above old n.prefix p h (of_full b n old e f h.0).root_is (subst (StandsAt n.prefix p) i s)

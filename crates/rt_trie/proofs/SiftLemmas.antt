@@ -32,17 +32,19 @@ module _ {V S : Type 0} (done : S → Bool) (judges : S → Prefix → V → S �
   sifted_done s [] e = (refl, refl)
   sifted_done s ((p, v) ∷ xs) e = inl (e, refl, refl)
 
-  -- and nothing else
+  -- a sieve that is done leaves nothing else
   done_leaves : (s t : S) (xs new : Pairs V) → done s ≡ true → IsSifted done judges s t xs new → (t ≡ s) × (new ≡ xs)
   done_leaves s t [] new e h = h
   done_leaves s t ((p, v) ∷ xs) new e h = elim h [ inl i ↦ (i.1, i.2) | inr i ↦ absurd (both_ways (done s) i.0 e) ]
 
   -- one pair that it was shown
-  pub sifted_one : (s t : S) (p : Prefix) (v w : V) (stays : Bool) → done s ≡ false → judges s p v t w stays → IsSifted done judges s t ((p, v) ∷ []) (with_pair stays p w [])
+  pub sifted_one : (s t : S) (p : Prefix) (v w : V) (stays : Bool) → done s ≡ false → judges s p v t w stays
+      → IsSifted done judges s t ((p, v) ∷ []) (with_pair stays p w [])
   sifted_one s t p v w stays wanted judged = inr (wanted, t, [], record { made = w; stays = stays; judged = judged; new_is = refl }, (refl, refl))
 
   -- one list after another
-  pub sifted_append : (s m t : S) (xs ys ls rs : Pairs V) → IsSifted done judges s m xs ls → IsSifted done judges m t ys rs → IsSifted done judges s t (xs ++ ys) (ls ++ rs)
+  pub sifted_append : (s m t : S) (xs ys ls rs : Pairs V) → IsSifted done judges s m xs ls
+      → IsSifted done judges m t ys rs → IsSifted done judges s t (xs ++ ys) (ls ++ rs)
   sifted_append s m t [] ys ls rs h k = rw h.1 (subst (λ z. IsSifted done judges z t ys rs) h.0 k)
   sifted_append s m t ((p, v) ∷ xs) ys ls rs h k = elim h [
     | inl i ↦
@@ -115,7 +117,7 @@ module _ {V S : Type 0} (done : S → Bool) (judges : S → Prefix → V → S �
           root_is = u.0.root_is ∙ sym o.root_is;
         }
 
-    -- and the whole
+    -- a node whose sides were sifted is sifted as a whole
     pub sifted_of : (s t : S) (old mid new : Link V A) → IsHalfSifted s t old mid → IsSpliced mid new → IsSiftedLink done judges s t old new
     sifted_of s t old mid new h k = record {
       sifted = rw k.pairs_are h.sifted;
@@ -129,12 +131,19 @@ module _ {V S : Type 0} (done : S → Bool) (judges : S → Prefix → V → S �
     leaf_goes s t b old w e wanted judged =
         rw e (record { sifted = sifted_one s t b.value.prefix b.value.value w false wanted judged; lawful = (tt, tt); stays = λ parent upper k. tt })
 
-    pub leaf_stays : {len base : ℕ} (s t : S) (b : Box (LeafNode V) A) (x : LeafNode V) (old : Link V A) (w : V) → old ≡ Leaf len base b → x ≡ b.value → IsLawfulTrie old
-        → done s ≡ false → judges s b.value.prefix b.value.value t w true → IsSiftedLink done judges s t old (Leaf len base (with_value b (record { prefix = x.prefix; value = w })))
+    pub leaf_stays : {len base : ℕ} (s t : S) (b : Box (LeafNode V) A) (x : LeafNode V) (old : Link V A) (w : V)
+        → old ≡ Leaf len base b → x ≡ b.value → IsLawfulTrie old
+        → done s ≡ false → judges s b.value.prefix b.value.value t w true
+        → IsSiftedLink done judges s t old (Leaf len base (with_value b (record { prefix = x.prefix; value = w })))
     leaf_stays {len} {base} s t b x old w e g h wanted judged =
         let key = key_of_leaf b x old e g h.0 in
         let stays : StaysChild old (Leaf len base (with_value b (record { prefix = x.prefix; value = w }))) = rw (e, g) (λ parent upper k. k) in
-        record { sifted = rw (of_leaf b x old e g) (rw g (sifted_one s t b.value.prefix b.value.value w true wanted judged)); lawful = (key, tt); stays = stays }
+        record {
+          sifted = rw (of_leaf b x old e g)
+              (rw g (sifted_one s t b.value.prefix b.value.value w true wanted judged));
+          lawful = (key, tt);
+          stays = stays;
+        }
 
 -- how many pairs a node has: its own, and those of its sides
 pub node_length : {V A : Type 0} (link : Link V A) (q : Prefix) (v : Option V) (l r : Link V A) → IsNode link q v l r

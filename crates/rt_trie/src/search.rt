@@ -6,6 +6,7 @@ ghost use Rattle.rt_trie.specs.Map.{get, first, next_after, pair_copied, IsLonge
 ghost use Rattle.rt_trie.specs.inside.Links.{pairs, count};
 ghost use Rattle.rt_trie.specs.Links.{IsLawfulBelow, IsLawfulTrie};
 ghost use Rattle.rt_trie.specs.inside.LookUps.{or_else, last_cover, sought};
+ghost use Rattle.rt_trie.specs.declared.search.TheConstants.{LANES};
 
 use crate::nodes::{END, Link, NodeView, Position, is_key_of, middle, offset, position_of, side};
 use rt_cidr::{Addr, Prefix};
@@ -148,7 +149,7 @@ fn longest_in_lanes<'a, V, A: Allocator>(
     size: usize,
 )
     requires lawful { IsLawfulTrie root.now }
-    requires lanes { size ≤ 8 }
+    requires lanes { size ≤ LANES }
     requires within { start + size ≤ length addresses.now }
     requires size { length answers.old ≡ length addresses.now }
     ensures each { (j : ℕ) → j < size

@@ -1,6 +1,6 @@
 //! The map that callers see.
 
-ghost use Rattle.std.specs.Prelude.{◌≡◌, ◌+◌, ◌-◌, ◌*◌, ◌≤◌, [], length, IsSome, IsOk, IfOk, IfErr, OnOk};
+ghost use Rattle.std.specs.Prelude.{◌≡◌, ◌↔◌, IsTrue, ◌+◌, ◌-◌, ◌*◌, ◌≤◌, [], length, IsSome, IsOk, IfOk, IfErr, OnOk};
 ghost use Rattle.std.specs.Borrow.{sem};
 ghost use Rattle.std.specs.Option.{option_copied, option_copied_mut};
 ghost use Rattle.rt_trie.specs.Map.{get, put, erase, first, next_after, pair_copied, IsOrdered, IsLongest, AreLongest};
@@ -70,6 +70,13 @@ impl<V: Drop, A: Allocator + Copy> Trie<V, A> {
         ensures ordered { IsOrdered self.now.pairs }
     {
         self.len
+    }
+
+    /// Whether no prefix is stored.
+    pub fn is_empty(&self) -> bool
+        ensures { IsTrue result ↔ (self.now.pairs ≡ []) }
+    {
+        self.len() == 0
     }
 
     /// How many nodes the map takes: one for each prefix that is stored, and one for each other at which two that are stored

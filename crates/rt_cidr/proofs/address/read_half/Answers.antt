@@ -17,7 +17,8 @@ returns-in_err-after_mark c =
 pub returns-in_err-low : goal.returns-in_err-low
 returns-in_err-low c =
     rw c.from_residual-in_err-low.ensures
-    (no_low IsOctetText IsOctetText dot (2 ^ 8) (lit≤ tt) c.args.text.now octet_read_once _ _ _ c.in_ok-high.ensures c.in_ok-after_mark.ensures c.in_err-low.ensures)
+    (no_low IsOctetText IsOctetText dot (2 ^ 8) (lit≤ tt) c.args.text.now octet_read_once _ _ _ c.in_ok-high.ensures
+    c.in_ok-after_mark.ensures c.in_err-low.ensures)
 
 pub returns : goal.returns
 returns c =

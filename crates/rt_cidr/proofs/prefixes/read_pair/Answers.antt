@@ -15,13 +15,17 @@ pub returns-in_err-after_mark : goal.returns-in_err-after_mark
 returns-in_err-after_mark c =
     let text = c.args.text.now in
     rw c.from_residual-in_err-after_mark.ensures
-    (λ address len h. no_mark IsAddressText IsCappedDecimal slash 0 (lit≤ tt) text address_read_once _ _ c.in_ok-base.ensures c.in_err-after_mark.ensures _ _ (pair_is_joined text address len h))
+    (λ address len h. no_mark IsAddressText IsCappedDecimal slash 0
+    (lit≤ tt) text address_read_once _ _ c.in_ok-base.ensures c.in_err-after_mark.ensures _ _
+    (pair_is_joined text address len h))
 
 pub returns-in_err-len : goal.returns-in_err-len
 returns-in_err-len c =
     let text = c.args.text.now in
     rw c.from_residual-in_err-len.ensures
-    (λ address len h. no_low IsAddressText IsCappedDecimal slash 0 (lit≤ tt) text address_read_once _ _ _ c.in_ok-base.ensures c.in_ok-after_mark.ensures c.in_err-len.ensures _ _ (pair_is_joined text address len h))
+    (λ address len h. no_low IsAddressText IsCappedDecimal slash 0
+    (lit≤ tt) text address_read_once _ _ _ c.in_ok-base.ensures c.in_ok-after_mark.ensures c.in_err-len.ensures _ _
+    (pair_is_joined text address len h))
 
 pub returns-then-not-is_empty : goal.returns-then-not-is_empty
 returns-then-not-is_empty c =

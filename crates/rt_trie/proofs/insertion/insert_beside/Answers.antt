@@ -10,7 +10,8 @@ returns g c =
     let r = c.requires in
     let leaf = c.in-Some-leaf_of in
     let fork = with_value c.in-Some.fork (record { prefix = c.common_prefix-prefix.result; left = c.if-base.left.0; right = c.if-base.left.1 }) in
-    rw c.of_fork.ensures (beside_insert c.args.link.now c.args.given.now.nodes _ r.seen.node c.args.p c.common_prefix-prefix.result c.args.given.now.value c.leaf_of.new.value leaf.new
+    rw c.of_fork.ensures (beside_insert c.args.link.now c.args.given.now.nodes _ r.seen.node c.args.p
+    c.common_prefix-prefix.result c.args.given.now.value c.leaf_of.new.value leaf.new
     r.lawful r.seen.root_is r.seen.stands leaf.ensures.made.0 leaf.ensures.made.1 leaf.ensures.made.2 refl fork refl
     (elim c.if-base.branch [
       | then-base w ↦ inl (

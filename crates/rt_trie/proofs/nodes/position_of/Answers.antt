@@ -6,7 +6,9 @@ use Rattle.rt_cidr.specs.declared.prefixes.Prefix.{Prefix}
 use Rattle.rt_cidr.specs.Prefix.{covers}
 use Rattle.rt_trie.specs.Blocks.{IsKeyOf, middle, past}
 use Rattle.rt_trie.proofs.nodes.position_of.Goals as goal
-use Rattle.rt_trie.proofs.nodes.position_of.Goals.{Then-offset-lt-END, else-len-via-then-len+else-offset-lt-END, else-len-via-else-len, else-len-2-via-then-len-2+else-covers, else-len-2-via-else-len-2}
+use Rattle.rt_trie.proofs.nodes.position_of.Goals.{Then-offset-lt-END, else-len-via-then-len+else-offset-lt-END}
+use Rattle.rt_trie.proofs.nodes.position_of.Goals.{else-len-via-else-len, else-len-2-via-then-len-2+else-covers}
+use Rattle.rt_trie.proofs.nodes.position_of.Goals.{else-len-2-via-else-len-2}
 
 -- a prefix that begins where the key covers it begins in its block
 begins_inside : (c : Then-offset-lt-END) (q : Prefix) → IsKeyOf c.args.len c.args.base q

@@ -59,7 +59,8 @@ returns-in-Above-clause-erased g t c =
     (c.position_of-in-Full.ensures c.in-Full.full.value.prefix key) c.in-Above.is) c.in-Full.is
 
 -- the link before what isn't needed is taken away, and what stood at p
-halfway : (g : Over) (t : ℕ) (c : Joined-link g t) → IsHalfway c.args.link.now c.match-link.link c.args.p × (c.match-link.gone ≡ get (pairs c.args.link.now) c.args.p)
+halfway : (g : Over) (t : ℕ) (c : Joined-link g t) → IsHalfway c.args.link.now c.match-link.link c.args.p
+    × (c.match-link.gone ≡ get (pairs c.args.link.now) c.args.p)
 halfway g t c =
     let old = c.args.link.now in
     let p = c.args.p in
@@ -70,7 +71,9 @@ halfway g t c =
             rw w.link-is (halfway_left old m.prefix _ m.left m.right w.remove.new.link _ p
                 (view_fork w.in-Fork.fork m old w.in-Fork.is w.deref_mut.ensures.value c.requires.lawful.0) position w.remove.ensures.erased),
             w.gone-is ∙ w.remove.ensures.value
-                ∙ sym (get_left old m.prefix _ m.left m.right (of_fork w.in-Fork.fork m old w.in-Fork.is w.deref_mut.ensures.value c.requires.lawful.0) p position),
+                ∙ sym (get_left old m.prefix _ m.left m.right
+                (of_fork w.in-Fork.fork m old w.in-Fork.is w.deref_mut.ensures.value c.requires.lawful.0) p
+                position),
           )
       | in-Fork+in-Right w ↦
           let m = w.deref_mut-in-Right.result.now in
@@ -78,32 +81,48 @@ halfway g t c =
             rw w.link-is (halfway_right old m.prefix _ m.left m.right w.remove-in-Right.new.link _ p
                 (view_fork w.in-Fork.fork m old w.in-Fork.is w.deref_mut-in-Right.ensures.value c.requires.lawful.0) position w.remove-in-Right.ensures.erased),
             w.gone-is ∙ w.remove-in-Right.ensures.value
-                ∙ sym (get_right old m.prefix _ m.left m.right (of_fork w.in-Fork.fork m old w.in-Fork.is w.deref_mut-in-Right.ensures.value c.requires.lawful.0) p position),
+                ∙ sym (get_right old m.prefix _ m.left m.right
+                (of_fork w.in-Fork.fork m old w.in-Fork.is w.deref_mut-in-Right.ensures.value c.requires.lawful.0) p
+                position),
           )
       | in-Full+in-Left-position_of w ↦
           let m = w.deref_mut-in-Left-position_of.result.now in
-          let position = w.in-Left-position_of.ensures m.prefix (key_of_full w.in-Full.full m old w.in-Full.is w.deref_mut-in-Left-position_of.ensures.value c.requires.lawful.0) in (
+          let position = w.in-Left-position_of.ensures m.prefix
+          (key_of_full w.in-Full.full m old w.in-Full.is w.deref_mut-in-Left-position_of.ensures.value
+          c.requires.lawful.0) in (
             rw w.link-is (halfway_left old m.prefix _ m.left m.right w.remove-in-Left-position_of.new.link _ p
-                (view_full w.in-Full.full m old w.in-Full.is w.deref_mut-in-Left-position_of.ensures.value c.requires.lawful.0) position w.remove-in-Left-position_of.ensures.erased),
+                (view_full w.in-Full.full m old w.in-Full.is w.deref_mut-in-Left-position_of.ensures.value
+                c.requires.lawful.0) position w.remove-in-Left-position_of.ensures.erased),
             w.gone-is ∙ w.remove-in-Left-position_of.ensures.value
-                ∙ sym (get_left old m.prefix _ m.left m.right (of_full w.in-Full.full m old w.in-Full.is w.deref_mut-in-Left-position_of.ensures.value c.requires.lawful.0) p position),
+                ∙ sym (get_left old m.prefix _ m.left m.right
+                (of_full w.in-Full.full m old w.in-Full.is w.deref_mut-in-Left-position_of.ensures.value
+                c.requires.lawful.0) p position),
           )
       | in-Full+in-Right-position_of w ↦
           let m = w.deref_mut-in-Right-position_of.result.now in
-          let position = w.in-Right-position_of.ensures m.prefix (key_of_full w.in-Full.full m old w.in-Full.is w.deref_mut-in-Right-position_of.ensures.value c.requires.lawful.0) in (
+          let position = w.in-Right-position_of.ensures m.prefix
+          (key_of_full w.in-Full.full m old w.in-Full.is w.deref_mut-in-Right-position_of.ensures.value
+          c.requires.lawful.0) in (
             rw w.link-is (halfway_right old m.prefix _ m.left m.right w.remove-in-Right-position_of.new.link _ p
-                (view_full w.in-Full.full m old w.in-Full.is w.deref_mut-in-Right-position_of.ensures.value c.requires.lawful.0) position w.remove-in-Right-position_of.ensures.erased),
+                (view_full w.in-Full.full m old w.in-Full.is w.deref_mut-in-Right-position_of.ensures.value
+                c.requires.lawful.0) position w.remove-in-Right-position_of.ensures.erased),
             w.gone-is ∙ w.remove-in-Right-position_of.ensures.value
-                ∙ sym (get_right old m.prefix _ m.left m.right (of_full w.in-Full.full m old w.in-Full.is w.deref_mut-in-Right-position_of.ensures.value c.requires.lawful.0) p position),
+                ∙ sym (get_right old m.prefix _ m.left m.right
+                (of_full w.in-Full.full m old w.in-Full.is w.deref_mut-in-Right-position_of.ensures.value
+                c.requires.lawful.0) p position),
           )
       | in-Full+in-Here-position_of w ↦
           let m = w.deref_mut-in-Here-position_of.result.now in
-          let position = w.in-Here-position_of.ensures m.prefix (key_of_full w.in-Full.full m old w.in-Full.is w.deref_mut-in-Here-position_of.ensures.value c.requires.lawful.0) in (
+          let position = w.in-Here-position_of.ensures m.prefix
+          (key_of_full w.in-Full.full m old w.in-Full.is w.deref_mut-in-Here-position_of.ensures.value
+          c.requires.lawful.0) in (
             rw w.link-is (halfway_full_here w.in-Full.full m old p w.in-Full.is w.deref_mut-in-Here-position_of.ensures.value c.requires.lawful position
                 (with_value w.in-Full.full (record { prefix = m.prefix; value = w.take.new.self; left = m.left; right = m.right }))
                 refl w.take.ensures.after refl refl),
             w.gone-is ∙ w.take.ensures.value
-                ∙ sym (get_own old m.prefix _ m.left m.right (of_full w.in-Full.full m old w.in-Full.is w.deref_mut-in-Here-position_of.ensures.value c.requires.lawful.0) p position),
+                ∙ sym (get_own old m.prefix _ m.left m.right
+                (of_full w.in-Full.full m old w.in-Full.is w.deref_mut-in-Here-position_of.ensures.value
+                c.requires.lawful.0) p position),
           )
     ]
 
@@ -112,7 +131,8 @@ splice-requires-clause-lawful g t c = (halfway g t (goal.at.splice-requires-clau
 
 pub returns-clause-erased : goal.returns-clause-erased
 returns-clause-erased g t c =
-    erased_of c.args.link.now c.match-link.link c.splice.new.link c.args.p (halfway g t (goal.at.returns-clause-erased g t c).Joined-link).0 c.splice.ensures.spliced
+    erased_of c.args.link.now c.match-link.link c.splice.new.link c.args.p
+    (halfway g t (goal.at.returns-clause-erased g t c).Joined-link).0 c.splice.ensures.spliced
 
 pub returns-clause-value : goal.returns-clause-value
 returns-clause-value g t c = (halfway g t (goal.at.returns-clause-value g t c).Joined-link).1

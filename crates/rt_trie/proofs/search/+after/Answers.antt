@@ -49,7 +49,8 @@ pub returns-in-Right : goal.returns-in-Right
 returns-in-Right g t c =
     let b = c.in-Branch in
     let n = b.ensures.0 c.requires.0 in
-    c.after-in-Right.ensures ∙ sym (node_after-upper _ _ _ _ _ n c.args.p _ (c.position_of.ensures b.prefix (record { len_is = c.len.ensures; base_is = c.base.ensures })) c.in-Right.is)
+    c.after-in-Right.ensures ∙ sym (node_after-upper _ _ _ _ _ n c.args.p _
+    (c.position_of.ensures b.prefix (record { len_is = c.len.ensures; base_is = c.base.ensures })) c.in-Right.is)
 
 pub returns-then-lt-2 : goal.returns-then-lt-2
 returns-then-lt-2 g t c =
@@ -62,7 +63,9 @@ pub returns-else-lt-2 : goal.returns-else-lt-2
 returns-else-lt-2 g t c =
     let b = c.in-Branch in
     let n = b.ensures.0 c.requires.0 in
-    sym (node_after-none _ _ _ _ _ n c.args.p _ (c.position_of.ensures b.prefix (record { len_is = c.len.ensures; base_is = c.base.ensures })) c.in-Above.is (sym (lt_before c.args.p b.prefix) ∙ sym c.if-lt-2.ensures))
+    sym (node_after-none _ _ _ _ _ n c.args.p _ (c.position_of.ensures b.prefix
+    (record { len_is = c.len.ensures; base_is = c.base.ensures })) c.in-Above.is
+    (sym (lt_before c.args.p b.prefix) ∙ sym c.if-lt-2.ensures))
 
 pub after-requires : goal.after-requires
 after-requires g t c = λ κs l.

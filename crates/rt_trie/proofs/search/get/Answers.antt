@@ -1,5 +1,6 @@
 use Rattle.std.proofs.Common.{refl, sym, ◌∙◌, arith}
-use Rattle.rt_trie.proofs.LinkLemmas.{of_fork, of_full, short_fork, short_full, key_of_fork, key_of_full, GoesOn, goes_on, node_get-here, node_get-past, node_get-unstored}
+use Rattle.rt_trie.proofs.LinkLemmas.{of_fork, of_full, short_fork, short_full, key_of_fork, key_of_full, GoesOn}
+use Rattle.rt_trie.proofs.LinkLemmas.{goes_on, node_get-here, node_get-past, node_get-unstored}
 use Rattle.rt_trie.proofs.search.get.Given.{Over}
 use Rattle.rt_trie.proofs.search.get.Goals.{After-middle, After-middle-in-Full}
 use Rattle.rt_trie.proofs.search.get.Goals as goal

@@ -1,5 +1,6 @@
 use Rattle.std.proofs.Common.{◌<◌, ◌+◌, None, refl, sym, subst, ap, ◌∙◌, inl, inr, arith, length-set, get_or, get_or-set_other}
 use Rattle.std.specs.Prelude.{IfSome}
+use Rattle.rt_trie.specs.declared.search.TheConstants.{LANES}
 use Rattle.rt_trie.specs.Map.{pair_copied, address_at}
 use Rattle.rt_trie.specs.inside.Links.{count}
 use Rattle.rt_trie.specs.Links.{IsLawfulBelow}
@@ -13,8 +14,9 @@ pub loop-going-init : goal.loop-going-init
 loop-going-init g c =
     let i = c.loop-k.invariant in
     record {
-      way = set_out c.args.root c.args.addresses.now c.args.start c.args.size 8 c.loop-k.order c.loop-k.answers c.requires.lawful.0 c.requires.lanes
-          (omega (arith, c.requires.lanes)) i.order_long (omega (arith, c.requires.within, i.long)) (λ j h. i.listed j (omega arith)) (λ j h. i.none j (omega arith));
+      way = set_out c.args.root c.args.addresses.now c.args.start c.args.size LANES c.loop-k.order c.loop-k.answers c.requires.lawful.0 c.requires.lanes
+          (omega (arith, c.requires.lanes)) i.order_long (omega (arith, c.requires.within, i.long))
+          (λ j h. i.listed j (omega arith)) (λ j h. i.none j (omega arith));
       turn = λ h. h;
       rest = i.rest;
       long = i.long;
@@ -33,7 +35,8 @@ loop-going-smaller g c =
     let first = i.turn c.loop-going-test.true in
     elim c.match-step.branch [
       | in-Some w ↦
-          let down = subst (λ o. IfSome o (λ n. count n.now < count (get_or c.loop-going.lanes (get_or c.loop-going.order c.loop-going.k 0) c.index-lanes-lane.result).now))
+          let down = subst (λ o. IfSome o (λ n. count n.now < count
+          (get_or c.loop-going.lanes (get_or c.loop-going.order c.loop-going.k 0) c.index-lanes-lane.result).now))
           w.in-Some.is c.step.ensures.down in
           rw (w.lanes-is, w.going-is) (gone_less _ _ _ _ _ _ _ c.loop-going.k _ _ i.way first refl w.in-Some.below c.index-lanes-lane.result down)
       | in-None w ↦ rw (w.lanes-is, w.going-is) (omega arith)

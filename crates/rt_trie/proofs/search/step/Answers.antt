@@ -1,7 +1,8 @@
 use Rattle.std.proofs.Common.{refl, sym, ap, ◌∙◌}
 use Rattle.rt_trie.specs.Map.{pair_copied}
 use Rattle.rt_trie.proofs.NodeLemmas.{best_stored, best_unstored}
-use Rattle.rt_trie.proofs.LinkLemmas.{none_unless, of_fork, of_full, short_fork, short_full, short_leaf, key_of_fork, key_of_full, side_below, step_side, step_none}
+use Rattle.rt_trie.proofs.LinkLemmas.{none_unless, of_fork, of_full, short_fork, short_full, short_leaf, key_of_fork}
+use Rattle.rt_trie.proofs.LinkLemmas.{key_of_full, side_below, step_side, step_none}
 use Rattle.rt_trie.proofs.BlockLemmas.{not_covered}
 use Rattle.rt_trie.proofs.search.step.Goals as goal
 use Rattle.rt_trie.proofs.search.step.Goals.{in-Some, in_default}
@@ -55,16 +56,20 @@ offset-offset-requires-in-Full g c = short_full c.in-Full.full c.args.link.now c
 
 pub returns-else-offset-ge-END-clause-lawful : goal.returns-else-offset-ge-END-clause-lawful
 returns-else-offset-ge-END-clause-lawful g c =
-    (side_below _ _ _ _ _ _ (of_fork c.in-Fork.fork c.as_ref-fork.result.now c.args.link.now c.in-Fork.is c.as_ref-fork.ensures c.requires) c.offset-offset.result c.side.ensures).0
+    (side_below _ _ _ _ _ _ (of_fork c.in-Fork.fork c.as_ref-fork.result.now c.args.link.now c.in-Fork.is
+    c.as_ref-fork.ensures c.requires) c.offset-offset.result c.side.ensures).0
 
 pub returns-else-offset-ge-END-clause-down : goal.returns-else-offset-ge-END-clause-down
 returns-else-offset-ge-END-clause-down g c =
-    (side_below _ _ _ _ _ _ (of_fork c.in-Fork.fork c.as_ref-fork.result.now c.args.link.now c.in-Fork.is c.as_ref-fork.ensures c.requires) c.offset-offset.result c.side.ensures).1
+    (side_below _ _ _ _ _ _ (of_fork c.in-Fork.fork c.as_ref-fork.result.now c.args.link.now c.in-Fork.is
+    c.as_ref-fork.ensures c.requires) c.offset-offset.result c.side.ensures).1
 
 pub returns-after-full-clause-lawful : goal.returns-after-full-clause-lawful
 returns-after-full-clause-lawful g c =
-    (side_below _ _ _ _ _ _ (of_full c.in-Full.full c.as_ref-full.result.now c.args.link.now c.in-Full.is c.as_ref-full.ensures c.requires) c.offset-offset-in-Full.result c.side-in-Full.ensures).0
+    (side_below _ _ _ _ _ _ (of_full c.in-Full.full c.as_ref-full.result.now c.args.link.now c.in-Full.is
+    c.as_ref-full.ensures c.requires) c.offset-offset-in-Full.result c.side-in-Full.ensures).0
 
 pub returns-after-full-clause-down : goal.returns-after-full-clause-down
 returns-after-full-clause-down g c =
-    (side_below _ _ _ _ _ _ (of_full c.in-Full.full c.as_ref-full.result.now c.args.link.now c.in-Full.is c.as_ref-full.ensures c.requires) c.offset-offset-in-Full.result c.side-in-Full.ensures).1
+    (side_below _ _ _ _ _ _ (of_full c.in-Full.full c.as_ref-full.result.now c.args.link.now c.in-Full.is
+    c.as_ref-full.ensures c.requires) c.offset-offset-in-Full.result c.side-in-Full.ensures).1

@@ -26,7 +26,8 @@ returns-then-not-keeps-clause-sifted g t c =
 
 pub returns-else-not-keeps-clause-sifted : goal.returns-else-not-keeps-clause-sifted
 returns-else-not-keeps-clause-sifted g t c =
-    leaf_stays g.S.Sieve.done g.S.Sieve.judges c.args.sieve.now c.keeps.new.self c.in-Leaf.leaf c.deref_mut.result.now c.args.link.now c.keeps.new.value c.in-Leaf.is
+    leaf_stays g.S.Sieve.done g.S.Sieve.judges c.args.sieve.now c.keeps.new.self c.in-Leaf.leaf c.deref_mut.result.now
+    c.args.link.now c.keeps.new.value c.in-Leaf.is
     c.deref_mut.ensures.value c.requires.lawful (sym c.is_done.ensures ∙ c.if-is_done.false)
     (rw (c.deref.ensures, c.deref_mut.ensures.value, c.if-not-keeps.false) at c.keeps.ensures)
 
@@ -41,10 +42,12 @@ splice-requires-clause-lawful g t c =
           let m = w.as_mut-fork.result.now in
           rw w.link-is (IsHalfSifted.below (half_fork done judges s w.retain.new.sieve w.retain-in-Fork.new.sieve old m.prefix m.left m.right
           w.retain.new.link w.retain-in-Fork.new.link _
-          (view_fork w.in-Fork.fork m old w.in-Fork.is w.as_mut-fork.ensures.value c.requires.lawful.0) w.retain.ensures.sifted w.retain-in-Fork.ensures.sifted))
+          (view_fork w.in-Fork.fork m old w.in-Fork.is w.as_mut-fork.ensures.value c.requires.lawful.0)
+          w.retain.ensures.sifted w.retain-in-Fork.ensures.sifted))
       | in-Full w ↦
           let m = w.as_mut-full.result.now in
-          rw w.link-is (IsHalfSifted.below (half_full done judges s w.retain_own.new.sieve w.retain-in-Full.new.sieve w.retain-in-Full-2.new.sieve w.in-Full.full m old
+          rw w.link-is (IsHalfSifted.below (half_full done judges s w.retain_own.new.sieve w.retain-in-Full.new.sieve
+          w.retain-in-Full-2.new.sieve w.in-Full.full m old
           w.retain_own.new.value w.retain-in-Full.new.link w.retain-in-Full-2.new.link w.in-Full.is w.as_mut-full.ensures.value c.requires.lawful
           w.retain_own.ensures.sifted w.retain-in-Full.ensures.sifted w.retain-in-Full-2.ensures.sifted))
     ]
@@ -63,7 +66,8 @@ returns-clause-sifted g t c =
           (view_fork w.in-Fork.fork m old w.in-Fork.is w.as_mut-fork.ensures.value c.requires.lawful.0) w.retain.ensures.sifted w.retain-in-Fork.ensures.sifted)
       | in-Full w ↦
           let m = w.as_mut-full.result.now in
-          rw (w.link-is, w.sieve-is) (half_full done judges s w.retain_own.new.sieve w.retain-in-Full.new.sieve w.retain-in-Full-2.new.sieve w.in-Full.full m old
+          rw (w.link-is, w.sieve-is) (half_full done judges s w.retain_own.new.sieve w.retain-in-Full.new.sieve
+          w.retain-in-Full-2.new.sieve w.in-Full.full m old
           w.retain_own.new.value w.retain-in-Full.new.link w.retain-in-Full-2.new.link w.in-Full.is w.as_mut-full.ensures.value c.requires.lawful
           w.retain_own.ensures.sifted w.retain-in-Full.ensures.sifted w.retain-in-Full-2.ensures.sifted)
     ] in

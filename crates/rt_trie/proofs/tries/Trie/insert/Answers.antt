@@ -48,5 +48,6 @@ invariant_of-self-else-is_none g c =
 
 pub returns-then-insert-clause-had : goal.returns-then-insert-clause-had
 returns-then-insert-clause-had g c =
-    let i = subst (λ b. Inserts c.self.inside.root c.insert.new.link c.self.inside.nodes c.insert.new.given.nodes c.args.p (Some c.args.v) c.insert.new.given.value b) c.if-insert.true c.insert.ensures in
+    let i = subst (λ b. Inserts c.self.inside.root c.insert.new.link c.self.inside.nodes c.insert.new.given.nodes
+    c.args.p (Some c.args.v) c.insert.new.given.value b) c.if-insert.true c.insert.ensures in
     i.had_is ∙ ap (λ (x : TrieContents _). get x.pairs c.args.p) c.self.view_is

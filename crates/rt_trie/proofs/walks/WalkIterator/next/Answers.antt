@@ -9,14 +9,16 @@ pub loop-self-preserved-in-Vacant : goal.loop-self-preserved-in-Vacant
 loop-self-preserved-in-Vacant g c =
     let i = c.loop-self.invariant in
     let test = c.loop-self-test.true in
-    let s = empty_at c.loop-self.self-inside.stack c.loop-self.self-inside.len c.link_at.result.now i.stack (omega arith) c.link_at.ensures c.in-Vacant.ensures in
+    let s = empty_at c.loop-self.self-inside.stack c.loop-self.self-inside.len c.link_at.result.now i.stack
+    (omega arith) c.link_at.ensures c.in-Vacant.ensures in
     record { stack = s.0; same = s.1 ∙ i.same }
 
 pub loop-self-smaller-in-Vacant : goal.loop-self-smaller-in-Vacant
 loop-self-smaller-in-Vacant g c =
     let i = c.loop-self.invariant in
     let test = c.loop-self-test.true in
-    let s = empty_at c.loop-self.self-inside.stack c.loop-self.self-inside.len c.link_at.result.now i.stack (omega arith) c.link_at.ensures c.in-Vacant.ensures in
+    let s = empty_at c.loop-self.self-inside.stack c.loop-self.self-inside.len c.link_at.result.now i.stack
+    (omega arith) c.link_at.ensures c.in-Vacant.ensures in
     s.2
 
 -- a node on top of the stack gives way to its sides
@@ -25,7 +27,8 @@ branch_step : (g : Over) (c : After-put_sides g)
 branch_step g c =
     let b = c.in-Branch in
     let sides = c.put_sides.ensures in
-    walk_at c.loop-self.self-inside.stack c.put_sides.new.stack c.loop-self.self-inside.len c.link_at.result.now b.left.now b.right.now b.prefix (option_copied b.value)
+    walk_at c.loop-self.self-inside.stack c.put_sides.new.stack c.loop-self.self-inside.len c.link_at.result.now
+    b.left.now b.right.now b.prefix (option_copied b.value)
     c.loop-self.invariant.stack (omega arith) c.link_at.ensures b.ensures.0 sides.right sides.left sides.below sides.size
 
 pub loop-self-preserved : goal.loop-self-preserved
