@@ -69,50 +69,56 @@ fn assert_prefix_text(rt: &impl Abort, alloc: Global, prefix: Prefix, text: &str
     assert_eq!(rt; written.as_slice(), text.as_bytes());
 }
 
+/// Prefixes' texts, bases and lengths.
+static PREFIXES: [(&str, u32, u8); 5] = [
+    ("0.0.0.0/0", 0, 0),
+    ("10.0.0.0/8", 167_772_160, 8),
+    ("192.0.2.128/25", 3_221_226_112, 25),
+    ("255.255.255.255/32", 4_294_967_295, 32),
+    ("0.0.0.1/32", 1, 32),
+];
+
 /// Fails where `Prefix::write_to` returns a fault at once.
 #[test]
 fn reads_prefixes_and_writes_them_again(rt: HostRuntime) -> Result<(), Fail> {
-    for (text, base, len) in [
-        ("0.0.0.0/0", 0, 0),
-        ("10.0.0.0/8", 167_772_160, 8),
-        ("192.0.2.128/25", 3_221_226_112, 25),
-        ("255.255.255.255/32", 4_294_967_295, 32),
-        ("0.0.0.1/32", 1, 32),
-    ] {
-        assert_prefix(&rt, text, base, len);
-        assert_prefix_text(&rt, rt.alloc(), Prefix::new(base, len)?, text);
+    for (text, base, len) in PREFIXES.iter() {
+        assert_prefix(&rt, text, *base, *len);
+        assert_prefix_text(&rt, rt.alloc(), Prefix::new(*base, *len)?, text);
     }
     Ok(())
 }
 
+/// Texts that are no prefix, each with its fault.
+static NO_PREFIXES: [(&str, TextFault); 23] = [
+    ("192.0.2.128/24", TextFault::Bits),
+    ("0.0.0.1/31", TextFault::Bits),
+    ("1.1.1.1/0", TextFault::Bits),
+    ("10.0.0.0/33", TextFault::Length),
+    ("10.0.0.1/33", TextFault::Length),
+    ("10.0.0.0/99999999999999999999", TextFault::Length),
+    ("256.0.0.0/33", TextFault::Text),
+    ("10.0.0.0/08", TextFault::Text),
+    ("10.0.0.0/00", TextFault::Text),
+    ("10.0.0.0/", TextFault::Text),
+    ("10.0.0.0", TextFault::Text),
+    ("/8", TextFault::Text),
+    ("10.0.0.0/-1", TextFault::Text),
+    ("+10.0.0.0/8", TextFault::Text),
+    ("", TextFault::Text),
+    (" 10.0.0.0/8", TextFault::Text),
+    ("10.0.0.0/8 ", TextFault::Text),
+    ("10. 0.0.0/8", TextFault::Text),
+    ("10.0.0.0 /8", TextFault::Text),
+    ("10.0.0.0/ 8", TextFault::Text),
+    ("010.0.0.0/8", TextFault::Text),
+    ("10.0.0/8", TextFault::Text),
+    ("10.0.0.0.0/8", TextFault::Text),
+];
+
 #[test]
 fn refuses_prefixes(rt: HostRuntime) {
-    for (text, fault) in [
-        ("192.0.2.128/24", TextFault::Bits),
-        ("0.0.0.1/31", TextFault::Bits),
-        ("1.1.1.1/0", TextFault::Bits),
-        ("10.0.0.0/33", TextFault::Length),
-        ("10.0.0.1/33", TextFault::Length),
-        ("10.0.0.0/99999999999999999999", TextFault::Length),
-        ("256.0.0.0/33", TextFault::Text),
-        ("10.0.0.0/08", TextFault::Text),
-        ("10.0.0.0/00", TextFault::Text),
-        ("10.0.0.0/", TextFault::Text),
-        ("10.0.0.0", TextFault::Text),
-        ("/8", TextFault::Text),
-        ("10.0.0.0/-1", TextFault::Text),
-        ("+10.0.0.0/8", TextFault::Text),
-        ("", TextFault::Text),
-        (" 10.0.0.0/8", TextFault::Text),
-        ("10.0.0.0/8 ", TextFault::Text),
-        ("10. 0.0.0/8", TextFault::Text),
-        ("10.0.0.0 /8", TextFault::Text),
-        ("10.0.0.0/ 8", TextFault::Text),
-        ("010.0.0.0/8", TextFault::Text),
-        ("10.0.0/8", TextFault::Text),
-        ("10.0.0.0.0/8", TextFault::Text),
-    ] {
-        assert_eq!(rt; Prefix::parse(text.as_bytes()), Err(fault), "{text}");
+    for (text, fault) in NO_PREFIXES.iter() {
+        assert_eq!(rt; Prefix::parse(text.as_bytes()), Err(*fault), "{text}");
     }
     assert_eq!(rt; Prefix::new(1, 33), Err(TextFault::Length));
     assert_eq!(rt; Prefix::new(1, 31), Err(TextFault::Bits));
@@ -125,31 +131,37 @@ fn assert_address(rt: &impl Abort, alloc: Global, text: &str, address: Addr) {
     assert_eq!(rt; written.as_slice(), text.as_bytes());
 }
 
+/// Addresses' texts and numbers.
+static ADDRESSES: [(&str, u32); 4] = [
+    ("0.0.0.0", 0),
+    ("192.0.2.1", 3_221_225_985),
+    ("198.51.100.255", 3_325_256_959),
+    ("255.255.255.255", 4_294_967_295),
+];
+
 /// Fails where `Addr::write_to` returns a fault at once.
 #[test]
 fn reads_addresses_and_writes_them_again(rt: HostRuntime) {
-    for (text, address) in [
-        ("0.0.0.0", 0),
-        ("192.0.2.1", 3_221_225_985),
-        ("198.51.100.255", 3_325_256_959),
-        ("255.255.255.255", 4_294_967_295),
-    ] {
-        assert_address(&rt, rt.alloc(), text, Addr(address));
+    for (text, address) in ADDRESSES.iter() {
+        assert_address(&rt, rt.alloc(), text, Addr(*address));
     }
 }
 
+/// Texts that are no address.
+static NO_ADDRESSES: [&str; 8] = [
+    "",
+    "1.2.3",
+    "1.2.3.4.",
+    "1.2.3.04",
+    "1.2.3.256",
+    "1.2.3.4/5",
+    "1..3.4",
+    "a.2.3.4",
+];
+
 #[test]
 fn refuses_addresses(rt: HostRuntime) {
-    for text in [
-        "",
-        "1.2.3",
-        "1.2.3.4.",
-        "1.2.3.04",
-        "1.2.3.256",
-        "1.2.3.4/5",
-        "1..3.4",
-        "a.2.3.4",
-    ] {
+    for text in NO_ADDRESSES.iter() {
         assert_eq!(rt;
             Addr::parse(text.as_bytes()),
             Err(TextFault::Text),
@@ -158,36 +170,42 @@ fn refuses_addresses(rt: HostRuntime) {
     }
 }
 
+/// Each fault, its text and its name.
+static FAULTS: [(TextFault, &str, &str); 3] = [
+    (TextFault::Text, "the text is not of the form", "Text"),
+    (TextFault::Length, "the length is over 32", "Length"),
+    (TextFault::Bits, "a bit past the length is set", "Bits"),
+];
+
 /// Fails where `Display` or `Debug` shows another text for a `TextFault`.
 #[test]
 fn faults_have_their_texts(rt: HostRuntime) -> Result<(), Fail> {
-    for (fault, shown, name) in [
-        (TextFault::Text, "the text is not of the form", "Text"),
-        (TextFault::Length, "the length is over 32", "Length"),
-        (TextFault::Bits, "a bit past the length is set", "Bits"),
-    ] {
-        assert_eq!(rt; format!(in rt.alloc(); "{fault}")?.as_str(), shown);
-        assert_eq!(rt; format!(in rt.alloc(); "{fault:?}")?.as_str(), name);
+    for (fault, shown, name) in FAULTS.iter() {
+        assert_eq!(rt; format!(in rt.alloc(); "{fault}")?.as_str(), *shown);
+        assert_eq!(rt; format!(in rt.alloc(); "{fault:?}")?.as_str(), *name);
     }
     Ok(())
 }
 
+/// Texts, and the number of each that is one.
+static DECIMALS: [(&str, Option<u32>); 11] = [
+    ("0", Some(0)),
+    ("100", Some(100)),
+    ("4294967295", Some(4_294_967_295)),
+    ("4294967296", None),
+    ("42949672950", None),
+    ("18446744073709551617", None),
+    ("", None),
+    ("00", None),
+    ("01", None),
+    ("+1", None),
+    ("1 ", None),
+];
+
 #[test]
 fn reads_and_writes_decimals(rt: HostRuntime) {
-    for (text, number) in [
-        ("0", Some(0)),
-        ("100", Some(100)),
-        ("4294967295", Some(4_294_967_295)),
-        ("4294967296", None),
-        ("42949672950", None),
-        ("18446744073709551617", None),
-        ("", None),
-        ("00", None),
-        ("01", None),
-        ("+1", None),
-        ("1 ", None),
-    ] {
-        assert_eq!(rt; decimal_u32(text.as_bytes()), number, "{text}");
+    for (text, number) in DECIMALS.iter() {
+        assert_eq!(rt; decimal_u32(text.as_bytes()), *number, "{text}");
     }
 }
 
@@ -211,36 +229,42 @@ fn builds_a_short_text_from_its_back(rt: HostRuntime) -> Result<(), Fail> {
     Ok(())
 }
 
+/// Addresses, and whether 192.0.2.128/25 covers them.
+static COVERED: [(&str, bool); 4] = [
+    ("192.0.2.127", false),
+    ("192.0.2.128", true),
+    ("192.0.2.255", true),
+    ("192.0.3.0", false),
+];
+
 #[test]
 fn covers_addresses(rt: HostRuntime) {
     let block = parse_prefix(&rt, "192.0.2.128/25");
-    for (address, is_covered) in [
-        ("192.0.2.127", false),
-        ("192.0.2.128", true),
-        ("192.0.2.255", true),
-        ("192.0.3.0", false),
-    ] {
+    for (address, is_covered) in COVERED.iter() {
         assert_eq!(rt;
             block.covers(parse_address(&rt, address)),
-            is_covered,
+            *is_covered,
             "{address}"
         );
     }
 }
 
+/// Prefixes, and whether 192.0.2.128/25 contains them.
+static CONTAINED: [(&str, bool); 5] = [
+    ("192.0.2.128/25", true),
+    ("192.0.2.128/26", true),
+    ("192.0.2.255/32", true),
+    ("192.0.2.0/24", false),
+    ("192.0.2.0/25", false),
+];
+
 #[test]
 fn contains_prefixes(rt: HostRuntime) {
     let block = parse_prefix(&rt, "192.0.2.128/25");
-    for (other, is_contained) in [
-        ("192.0.2.128/25", true),
-        ("192.0.2.128/26", true),
-        ("192.0.2.255/32", true),
-        ("192.0.2.0/24", false),
-        ("192.0.2.0/25", false),
-    ] {
+    for (other, is_contained) in CONTAINED.iter() {
         assert_eq!(rt;
             block.contains(&parse_prefix(&rt, other)),
-            is_contained,
+            *is_contained,
             "{other}"
         );
     }
@@ -493,6 +517,12 @@ fn never_flushes_the_writer(rt: HostRuntime) -> Result<(), Fail> {
     Ok(())
 }
 
+/// That the text is these two, one behind the other.
+fn assert_joined(rt: &impl Abort, text: &[u8], first: &[u8], second: &[u8]) {
+    assert!(rt; text.starts_with(first) && text.ends_with(second));
+    assert_eq!(rt; text.len(), first.len().wrapping_add(second.len()));
+}
+
 /// Writes a text of this size behind what is held. It goes out whole, and what was held by itself where the text has no room
 /// behind it.
 fn write_long(
@@ -509,8 +539,7 @@ fn write_long(
     assert_eq!(rt; buffer.write(&long)?, size);
     buffer.flush()?;
     drop(buffer);
-    assert!(rt; writer.taken.starts_with(held) && writer.taken.ends_with(&long));
-    assert_eq!(rt; writer.taken.len(), held.len().wrapping_add(size));
+    assert_joined(rt, &writer.taken, held, &long);
     assert_eq!(rt; (writer.calls, writer.flushes), (calls, 0));
     Ok(())
 }
@@ -530,9 +559,9 @@ fn takes_texts_about_as_long_as_itself(rt: HostRuntime) -> Result<(), Fail> {
     write_long(&rt, rt.alloc(), b"held", OUTPUT_BYTES - 3, 2)
 }
 
-/// The letter of this number, ten times.
+/// The number's lowest byte, ten times.
 fn piece(number: u32) -> [u8; 10] {
-    [b'a' + (number % 26) as u8; 10]
+    [number.to_le_bytes()[0]; 10]
 }
 
 /// Puts 20,000 pieces into the writer, and behind one another into the list.
