@@ -1,4 +1,22 @@
 """What the converters have in common: how a table is read, ranked, and written as feed files."""
+import os
+import sys
+
+NAME = os.path.basename(sys.argv[0])
+NO_MEMORY = f"{NAME}: the memory is not enough for this input"
+
+
+def say_in_one_line(kind, error, _):
+    """What Python would show as a traceback. Where memory ends modules can't be loaded, which is told in many ways."""
+    if issubclass(kind, (MemoryError, ImportError, SystemError)):
+        os.write(2, b"%s\n" % NO_MEMORY.encode())
+    elif not issubclass(kind, KeyboardInterrupt):
+        os.write(2, f"{NAME}: {kind.__name__}: {error}\n".encode())
+
+
+# before anything else is loaded
+sys.excepthook = say_in_one_line
+
 import argparse
 import codecs
 import contextlib
@@ -6,15 +24,15 @@ import functools
 import gc
 import ipaddress
 import json
-import os
+import operator
 import pathlib
 import re
 import shutil
 import signal
-import socket
 import stat
-import sys
+import struct
 import typing
+from socket import AF_INET, inet_pton
 
 GREATEST = 4294967295
 MOST_FILES = 64
@@ -34,6 +52,8 @@ MOST_KNOWN = 16384
 # so many lines are kept before they are written
 MOST_WAITING = 200000
 GZIP = b"\x1f\x8b"
+# the number of an address's four bytes
+NUMBER = struct.Struct(">I").unpack
 # the bits past a prefix of that length
 HOST_BITS = {str(length): (1 << 32 - length) - 1 for length in range(33)}
 
@@ -142,8 +162,8 @@ class Lines(Input):
 
     def __init__(self):
         super().__init__()
-        # of the last block: the entries, and the one in use
-        self.entries, self.place, self.entry = [], 0, ""
+        # of the last block: the entries, and what gives those that are not in use yet
+        self.entries, self.rest = [], iter(())
 
     def last_end(self, data, begin):
         """The end of the last whole entry, which is not before `begin`; -1 where there is none."""
@@ -172,8 +192,8 @@ class Lines(Input):
             self.before = self.lines
             self.lines += text.count("\n") + 1
             self.entries = self.split(text)
-            for self.place, self.entry in enumerate(self.entries):
-                yield self.entry
+            self.rest = iter(self.entries)
+            yield from self.rest
             self.after_block()
 
     @contextlib.contextmanager
@@ -184,8 +204,9 @@ class Lines(Input):
             yield
         except (ValueError, LookupError) as error:
             behind = getattr(error, "behind", 0)
-            number = self.before + 1 + behind + sum(entry.count("\n") + 1 for entry in self.entries[: self.place])
-            line = self.entry.split("\n")[behind]
+            *earlier, entry = self.entries[: len(self.entries) - operator.length_hint(self.rest)]
+            number = self.before + 1 + behind + sum(entry.count("\n") + 1 for entry in earlier)
+            line = entry.split("\n")[behind]
             what = f": {error}" if isinstance(error, Wrong) else f" is not understood: {line[:100]!r}"
             raise Refused(f"line {number}{what}") from None
 
@@ -246,8 +267,8 @@ class Json(Input):
     def take(self, sign):
         found = self.sign()
         if found != sign:
-            kind = f"{KINDS[sign]} was expected" if found in KINDS else f"{sign!r} is missing"
-            raise self.wrong(kind, self.at)
+            is_other = found in KINDS and sign in KINDS
+            raise self.wrong(f"{KINDS[sign]} was expected" if is_other else f"{sign!r} is missing", self.at)
         self.at += 1
 
     def value(self):
@@ -317,7 +338,7 @@ class Json(Input):
 
 def member(record, name, kind, absent=None):
     """The member of a JSON object; `absent` stands for one that isn't there, which is refused if that is None."""
-    if not isinstance(record, dict):
+    if type(record) is not dict:
         raise Refused(f"an object was expected: {json.dumps(record)[:100]}")
     value = record.get(name, absent)
     # true and false are numbers for `isinstance` alone
@@ -329,7 +350,7 @@ def member(record, name, kind, absent=None):
 def address_number(text):
     """The number of an IPv4 address; OSError or ValueError where the text is none. An address has one text, without
     leading zeros."""
-    return int.from_bytes(socket.inet_pton(socket.AF_INET, text), "big")
+    return NUMBER(inet_pton(AF_INET, text))[0]
 
 
 @functools.lru_cache(MOST_KNOWN)
@@ -346,7 +367,7 @@ def prefix_of(text, trailing_bits=False):
     of the length, no leading zeros; bits past the length only where `trailing_bits` are to be cleared."""
     address, _, length = text.partition("/")
     try:
-        number, past = int.from_bytes(socket.inet_pton(socket.AF_INET, address), "big"), HOST_BITS[length]
+        number, past = NUMBER(inet_pton(AF_INET, address))[0], HOST_BITS[length]
     except (OSError, ValueError, KeyError):
         if is_ipv6(text, ipaddress.IPv6Interface if trailing_bits else ipaddress.IPv6Network):
             return None
@@ -385,14 +406,15 @@ def hop_of(prefix, address, arguments):
 
 def chosen_first(prefix, paths, notes, valid="valid", best="best"):
     """The paths to an IPv4 prefix that a BGP daemon may use, its choice first; none where it has no choice."""
-    if not is_prefix(prefix):
+    if prefix_of(prefix) is None:
         notes.leave_out("of IPv6", len(paths))
         return []
     usable = [path for path in paths if valid is None or member(path, valid, bool, False)]
     if len(usable) < len(paths):
         notes.leave_out("that are not valid", len(paths) - len(usable))
-    usable.sort(key=lambda path: not member(path, best, bool, False))
-    if usable and not usable[0].get(best):
+    if len(usable) > 1:
+        usable.sort(key=lambda path: not member(path, best, bool, False))
+    if usable and not member(usable[0], best, bool, False):
         notes.leave_out("of prefixes without a chosen path", len(usable))
         return []
     return usable
@@ -473,7 +495,7 @@ class FeedFiles:
         for number, lines in enumerate(self.waiting.values()):
             if lines:
                 with open(self.new / str(number), "a") as file:
-                    file.writelines(lines)
+                    file.write("".join(lines))
                 self.taken += len(lines)
                 lines.clear()
 
@@ -559,7 +581,6 @@ def ipv4(text):
 
 def run(convert, *arguments):
     """Runs a converter; what it can't do is one line on standard error and status 1."""
-    name = pathlib.Path(sys.argv[0]).name
     # nothing that is kept refers to itself, so there is nothing for the collector of cycles to find
     gc.disable()
     try:
@@ -568,9 +589,9 @@ def run(convert, *arguments):
         sys.stdout.flush()
         return
     except (Refused, Wrong, OSError) as error:
-        said = f"{name}: {error}"
+        said = f"{NAME}: {error}"
     except MemoryError:
-        said = f"{name}: the memory is not enough for this input"
+        said = NO_MEMORY
     except KeyboardInterrupt:
         sys.exit(130)
     # what is left to be flushed has nobody to read it
