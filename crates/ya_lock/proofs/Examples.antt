@@ -1,7 +1,7 @@
 -- Examples by which definitions are tested, each under a line with the definition's name. Both sides are computed, and
 -- what a relation says is spelled out for some values. The value that the lock lends is a number here, which others can
 -- only raise.
-use Rattle.std.proofs.Common.{◌≡◌, ◌≢◌, ℕ, zero, suc, ◌≤◌, List, [], ◌∷◌, ◌++◌, ◌∙◌, refl, sym, subst, arith, None, Some, replicate, set}
+use Rattle.std.proofs.Common.{◌≡◌, ◌≢◌, ℕ, zero, suc, ◌+◌, ◌≤◌, List, [], ◌∷◌, ◌++◌, ◌∙◌, refl, sym, subst, arith, None, Some, replicate, set}
 use Rattle.std.specs.Prelude as std
 use Rattle.std.specs.Prelude.{IsTrue, ◌<◌, ◌^◌, Bool, true, false, length, slice_get, slice_index}
 use mathlib.Core.Option.{Option, none, some, some-injective, some-ne-none}
@@ -14,6 +14,8 @@ use Rattle.ya_core.specs.declared.process.ExitPoint.TheVariants.{X1}
 use Rattle.ya_core.specs.declared.process.Process.{Process}
 use Rattle.ya_core.specs.declared.process.Process.TheVariants.{Idle, Entering, Inside, Leaving}
 use Rattle.ya_core.specs.ArbitrationTree.{node_of, side_of, number_of, count_of_words}
+use Rattle.ya_core.specs.Steps.{Accesses, access_of, next_of, value_of}
+use Rattle.ya_core.specs.WalkerModel.{cost_of}
 use Rattle.ya_core.specs.Soundness.{IsSoundState, claims, phase_of}
 use Rattle.ya_core.proofs.Promised.{opens}
 use Rattle.ya_lock.specs.declared.view.View.{View}
@@ -23,7 +25,7 @@ use Rattle.ya_lock.specs.LockState.{IsOf, IsFilling, IsMaking, HasProcess, IsAwa
 use Rattle.ya_lock.specs.LockState.{OneSeatAPlace, OneInside, IsInSlot, IsFresh, IsMadeByOne, IsLockState}
 use Rattle.ya_lock.specs.Lock.{LockId, IdlePass, OpenGuard, new_pass, guard_of, pass_of}
 use Rattle.ya_lock.specs.GuardLends.{guard_with_value}
-use Rattle.ya_lock.specs.DueStep.{count_from, count_after, IsReady, process_after, TakesStep, EachMayStep}
+use Rattle.ya_lock.specs.DueStep.{Slots, count_from, count_after, IsReady, process_after, TakesStep, EachMayStep}
 use Rattle.ya_lock.proofs.DueSteps.{each_may_step}
 use Rattle.ya_lock.proofs.Words.{words_zero, words_behind}
 use Rattle.atomic_table.specs.Seated.{TableId}
@@ -402,6 +404,97 @@ where_both_are_away = record {
 not_where_two_are_inside : ¬ IsLockState raised 1 two_inside
 not_where_two_are_inside h = not_two h.exclusion
 
+-- IsOf
+whose_view_it_is :
+    (place p value v other seen count : ℕ) (process x : Process)
+    → (IsOf (Seated place process value count) p x v → (place ≡ p) × (process ≡ x) × (value ≡ v))
+    × (IsOf (Joining place value other seen count) p x v → (place ≡ p) × (Inside ≡ x) × (value ≡ v))
+whose_view_it_is place p value v other seen count process x = (λ h. h, λ h. h)
+
+-- HasProcess
+some_view_of_the_seat_is_the_process :
+    (s : State (std.Option ℕ) (View ℕ)) (seat place : ℕ) (process : Process) (value : ℕ) → HasProcess s seat place process value
+    → (view : View ℕ) × (get_elem? s.views seat ≡ some view) × IsOf view place process value
+some_view_of_the_seat_is_the_process s seat place process value h = h
+
+-- IsAway
+some_process_that_is_not_inside :
+    (s : State (std.Option ℕ) (View ℕ)) (seat place value : ℕ) → IsAway s seat place value
+    → (process : Process) × (process ≢ Inside) × HasProcess s seat place process value
+some_process_that_is_not_inside s seat place value h = h
+
+-- NoneInside
+no_seat_has_one_inside : (s : State (std.Option ℕ) (View ℕ)) → NoneInside s → (seat place value : ℕ) → ¬ HasProcess s seat place Inside value
+no_seat_has_one_inside s h = h
+
+-- GoesOn
+its_step_changes_the_process :
+    (s : State (std.Option ℕ) (View ℕ)) (process : Process) → GoesOn s 2 1 process
+    → next_of 2 1 process (value_of (words_in 2 s.words) (access_of 2 1 process)) ≢ process
+its_step_changes_the_process s process h = h
+
+-- SomeSeatGoesOn
+where_one_takes_part_one_goes_on :
+    (s : State (std.Option ℕ) (View ℕ)) → SomeSeatGoesOn s 2 → (seat place : ℕ) (process : Process) (value : ℕ)
+    → HasProcess s seat place process value → process ≢ Idle
+    → (other q : ℕ) × ((x : Process) × ((v : ℕ) × HasProcess s other q x v × (x ≢ Idle) × GoesOn s 2 q x))
+where_one_takes_part_one_goes_on s h = h
+
+-- OneSeatAPlace
+two_views_of_a_place_are_of_one_seat :
+    (s : State (std.Option ℕ) (View ℕ)) → OneSeatAPlace s → (one other place : ℕ) (x y : Process) (v w : ℕ)
+    → HasProcess s one place x v → HasProcess s other place y w → one ≡ other
+two_views_of_a_place_are_of_one_seat s h = h
+
+-- OneInside
+two_views_inside_are_of_one_seat :
+    (s : State (std.Option ℕ) (View ℕ)) → OneInside s → (one other p q v w : ℕ)
+    → HasProcess s one p Inside v → HasProcess s other q Inside w → one ≡ other
+two_views_inside_are_of_one_seat s h = h
+
+-- IsInSlot
+where_the_value_is :
+    (s : State (std.Option ℕ) (View ℕ)) → IsInSlot s
+    → ((seat place value : ℕ) → HasProcess s seat place Inside value → s.homes ≡ none ∷ [])
+    × ((seat place : ℕ) (process : Process) (value : ℕ) → HasProcess s seat place process value → NoneInside s
+    → (now : ℕ) × (s.homes ≡ some (Some now) ∷ []))
+where_the_value_is s h = h
+
+-- IsFresh
+what_has_become_of_what_was_seen :
+    (since : ℕ → ℕ → ℕ → Type 0) (s : State (std.Option ℕ) (View ℕ)) → IsFresh s since → (seat place seen now : ℕ) → IsAway s seat place seen
+    → ((s.homes ≡ some (Some now) ∷ [] → since place seen now)
+    × ((one other : ℕ) → HasProcess s one other Inside now → since place seen now))
+what_has_become_of_what_was_seen since s h = h
+
+-- IsMadeByOne
+how_the_passes_are_made :
+    (s : State (std.Option ℕ) (View ℕ)) → IsMadeByOne s 2
+    → (slice_index s.words (making_index 2) ≡ 0 → (seat : ℕ) (view : View ℕ) → get_elem? s.views seat ≡ some view → view ≡ Unused)
+    × (slice_index s.words (making_index 2) ≡ 0 → s.homes ≡ some None ∷ [])
+    × ((one other : ℕ) (v w : View ℕ) → get_elem? s.views one ≡ some v → IsMaking v → get_elem? s.views other ≡ some w
+    → IsMaking w → one ≡ other)
+    × ((seat : ℕ) (view : View ℕ) → get_elem? s.views seat ≡ some view → IsFilling view
+    → (other place : ℕ) (process : Process) (value : ℕ) → ¬ HasProcess s other place process value)
+    × ((seat first given : ℕ) → get_elem? s.views seat ≡ some (HandingOut first given)
+    → (other place : ℕ) (process : Process) (value : ℕ) → first ≤ place → ¬ HasProcess s other place process value)
+how_the_passes_are_made s h = (h.unused, h.empty, h.one_maker, h.unfilled, h.not_made)
+
+-- ShowsCore
+what_words_and_views_show :
+    (s : State (std.Option ℕ) (View ℕ)) → ShowsCore s 2
+    → (processes : ℕ → Process) × IsSoundState 2 (record { words = words_in 2 s.words; processes = processes })
+    × ((seat place : ℕ) (process : Process) (value : ℕ) → HasProcess s seat place process value → processes place ≡ process)
+    × ((place : ℕ) → ((seat : ℕ) (process : Process) (value : ℕ) → ¬ HasProcess s seat place process value)
+    → processes place ≡ Idle)
+what_words_and_views_show s h = h
+
+-- IsLockState
+what_each_moment_shows :
+    (since : ℕ → ℕ → ℕ → Type 0) (s : State (std.Option ℕ) (View ℕ)) → IsLockState since 2 s
+    → ShowsCore s 2 × SomeSeatGoesOn s 2 × OneSeatAPlace s × OneInside s × IsInSlot s × IsFresh s since × IsMadeByOne s 2
+what_each_moment_shows since s h = (h.core, h.progress, h.places, h.exclusion, h.value, h.fresh, h.making)
+
 -- both places are away, and the row is as long as a lock's
 abbrev both_made : State (std.Option ℕ) (View ℕ)
 both_made = record {
@@ -458,6 +551,64 @@ once_both_passes_were_made = (
     fits = its_view_fits;
   },
 )
+
+-- both passes were made, and each has seen the value, whatever that is
+abbrev both_have_seen : {V : Type 0} → V → State (std.Option V) (View V)
+both_have_seen value = record {
+  words = both_made.words;
+  homes = some (Some value) ∷ [];
+  views = Seated 0 Idle value 0 ∷ Seated 1 Idle value 0 ∷ [];
+}
+
+abbrev both_away_with : {V : Type 0} → V → GlobalView V
+both_away_with value = record { seat_of = seats; processes = λ place. Idle; maker = none; content = some value }
+
+module _ {V : Type 0} (since : ℕ → V → V → Type 0) (value : V) (same : (place : ℕ) → since place value value) where
+  seat_of_each : (place seat : ℕ) → seats place ≡ some seat
+      → (view : View V) × (get_elem? (both_have_seen value).views seat ≡ some view) × (place_of_view view ≡ some place)
+  seat_of_each zero seat is =
+      subst (λ (n : ℕ). (view : View V) × (get_elem? (both_have_seen value).views n ≡ some view) × (place_of_view view ≡ some 0)) (some-injective 0 seat is)
+      (Seated 0 Idle value 0, refl, refl)
+  seat_of_each (suc zero) seat is =
+      subst (λ (n : ℕ). (view : View V) × (get_elem? (both_have_seen value).views n ≡ some view) × (place_of_view view ≡ some 1)) (some-injective 1 seat is)
+      (Seated 1 Idle value 0, refl, refl)
+  seat_of_each (suc (suc place)) seat is = absurd (some-ne-none seat (sym is))
+
+  making_has_begun : IsBegun since 1 (both_have_seen value) (both_away_with value)
+  unfolding making_index count_of_words
+  making_has_begun unmade = let clash : 1 ≡ 0 = unmade in omega (arith, clash)
+
+  view_of_each : (seat : ℕ) (view : View V) → get_elem? (both_have_seen value).views seat ≡ some view
+      → ViewFits since 1 (both_have_seen value) (both_away_with value) seat view
+  view_of_each zero view at =
+      subst (ViewFits since 1 (both_have_seen value) (both_away_with value) 0) (some-injective (Seated 0 Idle value 0) view at)
+      (making_has_begun, refl, refl, (value, refl, same 0), (let none : 0 ≤ 0 = omega arith in none))
+  view_of_each (suc zero) view at =
+      subst (ViewFits since 1 (both_have_seen value) (both_away_with value) 1) (some-injective (Seated 1 Idle value 0) view at)
+      (making_has_begun, refl, refl, (value, refl, same 1), (let none : 0 ≤ 0 = omega arith in none))
+  view_of_each (suc (suc seat)) view at = absurd (some-ne-none view (sym at))
+
+  both_passes_seen : Rule since 1 (both_have_seen value)
+  unfolding making_index count_of_words
+  both_passes_seen = (
+    both_away_with value,
+    record {
+      wide = refl;
+      unmade = λ empty. let clash : 1 ≡ 0 = empty in absurd (omega (arith, clash));
+      before = λ given. absurd (some-ne-none value given);
+      seated = seat_of_each;
+      absent = λ place away. refl;
+      sound =
+          subst (λ (words : Word → ℕ). IsSoundState 1 record { words = words; processes = λ place. Idle })
+          (sym (words_behind 1 (making_index 1) (replicate 64 0) 1 (omega arith) ∙ words_zero 1 64)) (opens 1);
+      lies = (λ away. refl, λ place is. cc);
+      fits = view_of_each;
+    },
+  )
+
+-- Rule
+whatever_is_lent : {V : Type 0} (since : ℕ → V → V → Type 0) (value : V) → ((place : ℕ) → since place value value) → Rule since 1 (both_have_seen value)
+whatever_is_lent since value same = both_passes_seen since value same
 
 not_in_a_row_without_bells : ¬ Rule raised 1 both_away
 unfolding making_index count_of_words
@@ -703,7 +854,46 @@ no_other_view_changes step =
     let other : ◌≡◌ {A = Option (View ℕ)} (some (Seated 1 Idle 6 0)) (some (Seated 1 Idle 5 0)) = step.others 1 (λ same. cc) in
     let same = some-injective (Seated 1 Idle 6 0) (Seated 1 Idle 5 0) other in cc
 
+-- Slots
+each_slot_with_its_value : Slots ℕ → List (ℕ × std.Option ℕ)
+each_slot_with_its_value slots = slots
+
+-- IsReady
+what_its_slot_holds :
+    (done : ℕ → ℕ → ℕ → Type 0) (slots : Slots ℕ)
+    → (IsReady done true 1 7 slots → (next : ℕ) × (slots ≡ (0, Some next) ∷ []) × done 1 7 next)
+    × (IsReady done false 1 7 slots → slots ≡ [])
+what_its_slot_holds done slots = (λ h. h, λ h. h)
+
+-- process_after
+where_place_1_goes :
+    (s : State (std.Option ℕ) (View ℕ)) (process : Process)
+    → process_after 2 s 1 process ≡ next_of 2 1 process (value_of (words_in 2 s.words) (access_of 2 1 process))
+where_place_1_goes s process = refl
+
+-- count_after
+what_place_1_has_made :
+    (process : Process) (count : ℕ) → count_after 2 1 process count ≡ count_from process count + cost_of 1 (access_of 2 1 process)
+what_place_1_has_made process count = refl
+
+-- TakesStep
+what_a_step_of_place_1_in_seat_5_is :
+    (since : ℕ → ℕ → ℕ → Type 0) (process : Process) (s t : State (std.Option ℕ) (View ℕ)) → TakesStep since 2 5 1 process 4 s t
+    → Accesses (access_of 2 1 process) (words_in 2 s.words) (words_in 2 t.words)
+    × ((value : ℕ) × (get_elem? t.views 5 ≡ some (Seated 1 (process_after 2 s 1 process) value (count_after 2 1 process 4))))
+    × ((other : ℕ) → other ≢ 5 → get_elem? t.views other ≡ get_elem? s.views other)
+    × Rule since 2 t
+what_a_step_of_place_1_in_seat_5_is since process s t h = (h.access, (h.value, h.own), h.others, h.rule)
+
 -- EachMayStep
+which_step_each_seat_may_take :
+    (since done : ℕ → ℕ → ℕ → Type 0) (s : State (std.Option ℕ) (View ℕ)) → EachMayStep since done 2 s
+    → (seat place : ℕ) (process : Process) (value : ℕ) (count : ℕ) (slots : Slots ℕ)
+    → get_elem? s.views seat ≡ some (Seated place process value count) → place < 4
+    → IsReady done (is_inside process) place value slots
+    → (t : State (std.Option ℕ) (View ℕ)) × TakesStep since 2 seat place process count s t
+which_step_each_seat_may_take since done s h = h
+
 each_of_both_may_step : EachMayStep raised raised 1 both_made
 each_of_both_may_step =
     each_may_step raised raised (λ place a. omega arith)
