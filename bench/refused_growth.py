@@ -213,6 +213,10 @@ def check_table(lines, ample, kinds):
                 kinds.add("SharedRib::routes")
             else:
                 agree(routes_of(line), table.listed(), "the routes")
+        elif line == "room Err(Refused)":
+            kinds.add("Book::reserve")
+        elif line.startswith("room"):
+            agree(line, "room Ok(())", "the room")
         elif line.startswith("journal"):
             feed, command, reply = journal.pop(0) if journal else (0, "nothing", "")
             agree(line, f"journal feed {feed} {command} {reply}", "the journal")
@@ -459,7 +463,7 @@ def check_refused_words(ending, ample, kinds):
 
 
 KINDS = {
-    "TreeLock::new", "SharedRib::new", "SharedRib::apply_batch", "SharedRib::routes", "a command of a batch", "Book::routes",
+    "TreeLock::new", "SharedRib::new", "SharedRib::apply_batch", "SharedRib::routes", "a command of a batch", "Book::reserve", "Book::routes",
     "lookup or table", "a command of a look-up or list", "run_feed", "run_feeds", "a command of a feed", "run_texts", "a line of a run", "fault F3", "fault P3",
 } | {"SharedRib::apply " + name for name in ("Add", "Replace", "Withdraw", "Lookup", "Dump", "Purge")}
 

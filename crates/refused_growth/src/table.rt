@@ -13,6 +13,9 @@ use std::sync::Wait;
 /// How many routes a feed may have.
 const LIMIT: u32 = 2;
 
+/// For how many entries more the book that is left is to have room.
+const ENTRIES: usize = 1_000;
+
 /// The commands that are asked one by one, each with the place of its feed.
 const TURNS: [(usize, &[u8]); 14] = [
     (0, b"add 10.0.0.0/8 5 192.0.2.1"),
@@ -168,7 +171,8 @@ fn ask_all<R: Wait + Print>(
     ask_batches(rt, alloc, &table, &mut passes)?;
     routes_by(rt, alloc, &table, &mut passes, 1)?;
     routes_by(rt, alloc, &table, &mut passes, 0)?;
-    let book = table.settle(rt, passes);
+    let mut book = table.settle(rt, passes);
+    println!(rt; "room {:?}", book.reserve(ENTRIES))?;
     tell(rt, alloc, &book)
 }
 

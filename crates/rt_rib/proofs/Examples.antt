@@ -22,7 +22,7 @@ use Rattle.rt_rib.specs.Table.{below_then, is_of, has, count_of, is_better, prec
 use Rattle.rt_rib.specs.LookUp.{matching, longest_of, best, look_up, best_routes}
 use Rattle.rt_rib.specs.Sequential.{reply_of, table_after}
 use Rattle.rt_rib.specs.Journal.{table_of_journal, IsAnswered, IsLawfulJournal}
-use Rattle.rt_rib.specs.Book.{IsLimit, BookContents, OfferTrie, table_of, HoldsRoutes, HoldsTable, IsFeed, Applies, Refuses, IsAdd}
+use Rattle.rt_rib.specs.Book.{IsLimit, BookContents, OfferTrie, table_of, HoldsRoutes, HoldsTable, IsFeed, Applies, Refuses, Reserves}
 use Rattle.rt_rib.specs.Laws.{IsBestMatch, is_own, feed_entries, PutInAdds, TakeOutLeavesOthers, OneTableOfSet, LookUpFindsBest, TableByEntry, LawfulByEntry, LawfulIsDetermined, asked, feed_routes, FeedsStandAlone}
 use Rattle.rt_rib.proofs.Tables.{IsTable-nil, IsTable-put_in}
 use Rattle.rt_rib.proofs.Best.{look_up_finds_best}
@@ -654,13 +654,6 @@ the_first_and_the_last = ((omega arith, omega arith), (omega arith, omega arith)
 none_before_and_none_behind : (¬ IsFeed 0) × (¬ IsFeed 65)
 none_before_and_none_behind = (λ h. omega (arith, h.0), λ h. omega (arith, h.1))
 
--- IsAdd
-an_add_may_want_memory : IsAdd (Add ten_8 5 Discard)
-an_add_may_want_memory = tt
-
-a_replace_wants_none : ¬ IsAdd (Replace ten_8 5 Discard)
-a_replace_wants_none h = h
-
 -- feed_routes
 those_of_feed_2 : feed_routes 2 (route everything 1 9 ∷ route ten_8 2 30 ∷ route ten_8 3 50 ∷ []) ≡ route ten_8 2 30 ∷ []
 those_of_feed_2 = refl
@@ -726,9 +719,16 @@ what_an_answered_dump_does old new h = (h.replied, h.limited, h.journaled, h.roo
 
 -- Refuses
 what_a_refused_dump_leaves :
-    (old new : BookContents) → Refuses old new Dump
-    → (new.limit ≡ old.limit) × (new.journal ≡ old.journal) × (new.trie ≡ old.trie) × (old.room ≤ new.room) × ((old.room ≡ 0) ⊎ IsAdd Dump)
+    (old new : BookContents) → Refuses old new 2 Dump
+    → (new.limit ≡ old.limit) × (new.journal ≡ old.journal) × (new.trie ≡ old.trie) × (old.room ≤ new.room)
+    × ((old.room ≡ 0) ⊎ (reply_of old.limit (table_of old) 2 Dump ≡ Added))
 what_a_refused_dump_leaves old new h = (h.limited, h.journaled, h.kept, h.roomy, h.wanted)
+
+-- Reserves
+what_a_book_with_room_for_three_is :
+    (old new : BookContents) → Reserves old new 3
+    → (new.limit ≡ old.limit) × (new.journal ≡ old.journal) × (new.trie ≡ old.trie) × (old.room ≤ new.room) × (3 ≤ new.room)
+what_a_book_with_room_for_three_is old new h = (h.limited, h.journaled, h.kept, h.roomy, h.reserved)
 
 -- BookContents
 the_parts_of_a_book :

@@ -1,5 +1,5 @@
 -- A table keeps its counts as routes are put in, changed and taken out.
-use Rattle.std.proofs.Common.{◌≡◌, ℕ, ◌+◌, ◌-◌, ◌<◌, true, false, List, [], ◌∷◌, ◌++◌, length, get_or, sym, ◌∙◌, ap, subst, arith}
+use Rattle.std.proofs.Common.{◌≡◌, ℕ, ◌+◌, ◌-◌, ◌<◌, true, false, List, [], ◌∷◌, ◌++◌, length, get_or, refl, sym, ◌∙◌, ap, subst, arith}
 use Rattle.std.proofs.Math.ListN.{set}
 use Rattle.std.proofs.lemmas.List.Elements.{All-push}
 use Rattle.rt_cidr.specs.declared.prefixes.Prefix.{Prefix}
@@ -45,6 +45,13 @@ module _ (limit : ℕ) (counts : List ℕ) (m : Map) (h : IsCounted limit counts
     added_serves =
         let own = AreCounts-own limit counts (routes_of m) r.feed h.counted feed in
         added limit (routes_of m) r fresh (omega arith) (routes_of n) is
+
+  -- what an add is answered where the feed hasn't the route, nor as many as the limit allows
+  pub to_be_added : (r : Route) → IsFeed r.feed → has r.feed r.prefix (routes_of m) ≡ false → get_or counts (r.feed - 1) 0 < limit
+      → reply_of limit (routes_of m) r.feed (Add r.prefix r.pref r.hop) ≡ Added
+  to_be_added r feed fresh room =
+      let own = AreCounts-own limit counts (routes_of m) r.feed h.counted feed in
+      sym ((added limit (routes_of m) r fresh (omega arith) (put_in r (routes_of m)) refl).replied)
 
   module _ (feed : ℕ) (is_feed : IsFeed feed) (p : Prefix) (there : has feed p (routes_of m) ≡ true) (n : Map) (map : IsMap n) (is : routes_of n ≡ take_out feed p (routes_of m)) where
     -- without the feed's route it is a table, and the lowered count is right

@@ -5,8 +5,8 @@ use Rattle.rt_trie.specs.Lawful.{IsLawful}
 use Rattle.rt_rib.specs.declared.routes.Route.{Route}
 use Rattle.rt_rib.specs.declared.offers.Offer.{Offer}
 use Rattle.rt_rib.specs.declared.commands.Cmd.{Cmd}
-use Rattle.rt_rib.specs.declared.commands.Cmd.TheVariants.{Add}
 use Rattle.rt_rib.specs.declared.commands.Reply.{Reply}
+use Rattle.rt_rib.specs.declared.commands.Reply.TheVariants.{Added}
 use Rattle.rt_rib.specs.declared.commands.Entry.{Entry}
 use Rattle.rt_rib.specs.declared.limits.TheConstants.{MOST_FEEDS, MOST_ROUTES}
 use Rattle.rt_rib.specs.Sequential.{reply_of}
@@ -58,16 +58,19 @@ pub record Applies (old new : BookContents) (feed : ℕ) (cmd : Cmd) (reply : Re
   pub journaled : new.journal ≡ old.journal ++ record { feed = feed; cmd = cmd; reply = reply } ∷ []
   pub roomy : old.room ≤ new.room + 1
 
--- an `add`, which alone may want memory for its route
-abbrev pub IsAdd : Cmd → Type 0
-IsAdd (Add prefix pref hop) = Unit {0}
-IsAdd _ = ⊥
-
 -- the command was refused for memory: limit, journal and trie are as they were, no room is lost, and there was none or the
--- command is an `add`
-pub record Refuses (old new : BookContents) (cmd : Cmd) : Type 0 where
+-- command is one that puts a route in
+pub record Refuses (old new : BookContents) (feed : ℕ) (cmd : Cmd) : Type 0 where
   pub limited : new.limit ≡ old.limit
   pub journaled : new.journal ≡ old.journal
   pub kept : new.trie ≡ old.trie
   pub roomy : old.room ≤ new.room
-  pub wanted : (old.room ≡ 0) ⊎ IsAdd cmd
+  pub wanted : (old.room ≡ 0) ⊎ (reply_of old.limit (table_of old) feed cmd ≡ Added)
+
+-- the journal has room for so many entries, and no less than it had; limit, journal and trie are as they were
+pub record Reserves (old new : BookContents) (entries : ℕ) : Type 0 where
+  pub limited : new.limit ≡ old.limit
+  pub journaled : new.journal ≡ old.journal
+  pub kept : new.trie ≡ old.trie
+  pub roomy : old.room ≤ new.room
+  pub reserved : entries ≤ new.room

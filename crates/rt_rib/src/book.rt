@@ -1,5 +1,5 @@
 //! The book: a table with the journal of all that it answered, and nothing but what keeps the two in step.
-ghost use Rattle.std.specs.Prelude.{◌≡◌, [], length, map, IfOk, OnErr};
+ghost use Rattle.std.specs.Prelude.{◌≡◌, ◌<◌, [], length, map, IfOk, OnOk, OnErr};
 ghost use Rattle.std.specs.List.{All};
 ghost use Rattle.rt_rib.specs.Book.{IsLimit, IsFeed};
 
@@ -47,13 +47,14 @@ impl<A: Allocator + Copy> Book<A> {
     ghost use Rattle.rt_rib.specs.Journal.{IsLawfulJournal};
     ghost use Rattle.rt_rib.specs.Table.{IsTable};
     ghost use Rattle.rt_rib.specs.LookUp.{look_up};
-    ghost use Rattle.rt_rib.specs.Book.{table_of, Applies, Refuses, HoldsTable};
+    ghost use Rattle.rt_rib.specs.Book.{table_of, Applies, Refuses, Reserves, HoldsTable};
 
-    /// An empty book in which each feed may have so many routes. It takes no memory.
+    /// An empty book in which each feed may have so many routes. It takes no memory, so its journal has no room yet.
     pub fn new(alloc: A, limit: u32) -> Book<A>
         requires { IsLimit limit }
         ensures limit { result.limit ≡ limit }
         ensures journal { result.journal ≡ [] }
+        ensures room { result.room ≡ 0 }
         ensures holds { HoldsTable result }
     {
         let table = Table::new(alloc, limit);
@@ -64,13 +65,25 @@ impl<A: Allocator + Copy> Book<A> {
         }
     }
 
-    /// Answers a command of the feed and keeps command and reply as one entry at the journal's end. Every command may
-    /// want memory for that entry, and an `add` for its route: M1 is `Refused`, and then routes and journal are as they
-    /// were.
+    /// Gives the journal room for so many entries. So many commands then need no memory for theirs: only a route that is
+    /// put in may still be refused any. M1: `Refused` where memory was refused, and then the book is as it was.
+    pub fn reserve(&mut self, entries: usize) -> Result<(), Refused>
+        ensures ok { OnOk result (Reserves self.old self.new entries) }
+        ensures err { OnErr result ((self.new ≡ self.old) × (self.old.room < entries)) }
+        ensures holds { HoldsTable self.new }
+    {
+        self.table.holds();
+        self.journal.try_reserve(entries)?;
+        Ok(())
+    }
+
+    /// Answers a command of the feed and keeps command and reply as one entry at the journal's end. Where the journal has
+    /// no room, the entry needs memory, and a route that is put in may need some of its own: M1 is `Refused`, and then
+    /// routes and journal are as they were.
     pub fn apply(&mut self, feed: u32, cmd: Cmd) -> Result<Reply, Refused>
         requires { IsFeed feed }
         ensures ok { IfOk result (λ reply. Applies self.old self.new feed cmd reply) }
-        ensures err { OnErr result (Refuses self.old self.new cmd) }
+        ensures err { OnErr result (Refuses self.old self.new feed cmd) }
         ensures holds { HoldsTable self.new }
     {
         self.table.holds();

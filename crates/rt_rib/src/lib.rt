@@ -16,8 +16,8 @@
 //! [`Book::routes`] gives them in dump order. [`laws`] says what holds of every set of routes and of every journal.
 //!
 //! The routes lie in a trie: under each prefix what is offered for it, the best offer first (`src/map.rt`, `src/offers.rt`). So
-//! a look-up goes down once and reads one offer, only an `Add` grows anything but the journal, and a `Purge` goes over the map
-//! once, up to the last route of its feed (`src/purge.rt`). Who has several commands at hand lets the trie wait for the memory
+//! a look-up goes down once and reads one offer, only an `Add` grows anything but the journal, whose room [`Book::reserve`]
+//! makes beforehand, and a `Purge` goes over the map once, up to the last route of its feed (`src/purge.rt`). Who has several commands at hand lets the trie wait for the memory
 //! of all of them at once by [`Book::read_ahead`] (`src/ahead.rt`).
 //!
 //! Only tested, since no clause says it: that a command succeeds where there is memory, and whose memory a list takes.

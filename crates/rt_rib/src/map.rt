@@ -60,8 +60,8 @@ pub(crate) fn has<A: Allocator + Copy>(map: &Map<A>, feed: u32, prefix: Prefix) 
     }
 }
 
-/// Puts in the route, unless its feed has one to its prefix, and answers whether it has. Where memory is refused the map is as
-/// it was.
+/// Puts in the route, unless its feed has one to its prefix, and answers whether it has. Where memory is refused the feed has
+/// none, and the map is as it was.
 pub(crate) fn put_in<A: Allocator + Copy>(
     map: &mut Map<A>,
     alloc: A,
@@ -72,6 +72,7 @@ pub(crate) fn put_in<A: Allocator + Copy>(
     ensures kept { IfOk result (λ had. IsTrue had → map.new.pairs ≡ map.old.pairs) }
     ensures more { IfOk result (λ had. had ≡ false → routes_of map.new.pairs ≡ put_in route (routes_of map.old.pairs)) }
     ensures refused { OnErr result (map.new ≡ map.old) }
+    ensures wanted { OnErr result (has route.feed route.prefix (routes_of map.old.pairs) ≡ false) }
     ensures map { IsMap map.new.pairs }
 {
     map_laws::<A>();

@@ -1,9 +1,11 @@
 //! The sequential table: its routes as offers in a map, how many each feed has, and the answers to commands.
 ghost use Rattle.std.specs.Prelude.{◌≡◌, ◌^◌, ◌<◌, [], length, map, sum, IfOk, OnErr};
 ghost use Rattle.rt_rib.specs.declared.commands.Cmd.TheVariants.{Add, Replace, Withdraw, Purge};
+ghost use Rattle.rt_rib.specs.declared.commands.Reply.TheVariants.{Added};
+ghost use Rattle.rt_rib.specs.Sequential.{reply_of};
 ghost use Rattle.rt_rib.specs.Table.{IsTable};
 ghost use Rattle.rt_rib.specs.LookUp.{look_up};
-ghost use Rattle.rt_rib.specs.Book.{IsLimit, IsFeed, IsAdd, HoldsRoutes};
+ghost use Rattle.rt_rib.specs.Book.{IsLimit, IsFeed, HoldsRoutes};
 ghost use Rattle.rt_rib.specs.inside.TableState.{table_state, Serves};
 
 use crate::commands::{Cmd, Reply};
@@ -102,12 +104,13 @@ impl<A: Allocator + Copy> Table<A> {
         self.map.nodes()
     }
 
-    /// Answers a command of the feed. Only an `add` wants memory, and where it is refused the table stays as it was.
+    /// Answers a command of the feed. Only a route that is put in wants memory, and where it is refused the table stays as
+    /// it was.
     pub(crate) fn apply(&mut self, feed: u32, cmd: Cmd) -> Result<Reply, Refused>
         requires { IsFeed feed }
         ensures ok { IfOk result (λ reply. Serves (table_state self.old) (table_state self.new) feed cmd reply) }
         ensures err { OnErr result (self.new ≡ self.old) }
-        ensures wanted { OnErr result (IsAdd cmd) }
+        ensures wanted { OnErr result (reply_of self.old.limit self.old.routes feed cmd ≡ Added) }
     {
         match cmd {
             Cmd::Add { prefix, pref, hop } => self.add(Route {
@@ -138,6 +141,8 @@ impl<A: Allocator + Copy> Table<A> {
         ensures ok { let cmd = Add route.prefix route.pref route.hop in
             IfOk result (λ reply. Serves (table_state self.old) (table_state self.new) route.feed cmd reply) }
         ensures err { OnErr result (self.new ≡ self.old) }
+        ensures wanted { let cmd = Add route.prefix route.pref route.hop in
+            OnErr result (reply_of self.old.limit self.old.routes route.feed cmd ≡ Added) }
     {
         let own = (route.feed - 1) as usize;
         if self.counts[own] >= self.limit {

@@ -49,7 +49,7 @@ nothing_answered feed (cmd ∷ cmds) = refl
 
 -- a book that has answered a command, or refused it, has added what is the feed's
 pub adds_applied : {E : Type 0} (place feed : ℕ) (cmd : Cmd) (old new : Lent) (r : Result Reply E) → feed ≡ feed_of place → new.feeds ≡ old.feeds
-    → IfOk r (λ reply. Applies old.book new.book feed cmd reply) → OnErr r (Refuses old.book new.book cmd) → GrowsByFeed place old new
+    → IfOk r (λ reply. Applies old.book new.book feed cmd reply) → OnErr r (Refuses old.book new.book feed cmd) → GrowsByFeed place old new
 adds_applied place feed cmd old new (Ok reply) is feeds did refused = record {
   same = record { limit = did.limited; feeds = feeds };
   own = record { feed = feed; cmd = cmd; reply = reply } ∷ [];

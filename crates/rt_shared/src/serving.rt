@@ -46,7 +46,7 @@ impl Lent {
         requires { (1 ≤ feed) × (feed ≤ self.old.feeds) }
         ensures feeds { self.new.feeds ≡ self.old.feeds }
         ensures ok { IfOk result (λ reply. Applies self.old.book self.new.book feed cmd reply) }
-        ensures err { OnErr result (Refuses self.old.book self.new.book cmd) }
+        ensures err { OnErr result (Refuses self.old.book self.new.book feed cmd) }
     {
         lawful_by_entry();
         self.book.apply(feed, cmd)

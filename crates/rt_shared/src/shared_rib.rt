@@ -1,5 +1,5 @@
 //! The shared table itself.
-ghost use Rattle.std.specs.Prelude.{◌≡◌, ℕ, ◌+◌, ◌^◌, ◌<◌, ◌≤◌, [], ◌∷◌, ◌++◌, IfOk, OnErr, IsOk, OnOk, All};
+ghost use Rattle.std.specs.Prelude.{◌≡◌, ℕ, ◌+◌, ◌^◌, ◌<◌, ◌≤◌, [], ◌∷◌, ◌++◌, length, IfOk, OnErr, IsOk, OnOk, All, vec_len, vec_capacity};
 ghost use Rattle.rt_rib.specs.declared.limits.TheConstants.{MOST_FEEDS};
 ghost use Rattle.rt_rib.specs.Book.{IsLimit};
 ghost use Rattle.rt_rib.specs.Journal.{table_of_journal, IsLawfulJournal};
@@ -84,7 +84,8 @@ impl<const L: u32> SharedRib<L> {
 
     /// Answers commands of the pass's feed in order, in one piece of the journal, and appends an outcome of each to `out`.
     /// A command that is refused memory (M1) leaves no entry, and the rest go on. Where there is no command, nothing is
-    /// entered. M2: `Refused` where `out` was refused memory; then nothing was entered. It may wait.
+    /// entered. M2: `Refused` where `out` had no room for the outcomes and was refused memory; then nothing was entered. It
+    /// may wait.
     pub fn apply_batch<R: Wait>(
         &self,
         rt: &R,
@@ -97,6 +98,7 @@ impl<const L: u32> SharedRib<L> {
         ensures feed { pass.new.feed ≡ pass.old.feed }
         ensures ok { OnOk result (MakesVisitWith self.now.limit pass.old.feed pass.old.seen cmds.now out.old.items out.new.items pass.new.seen) }
         ensures err { OnErr result ((pass.new ≡ pass.old) × (out.new.items ≡ out.old.items)) }
+        ensures full { OnErr result (vec_capacity out.old < vec_len out.old + length cmds.now) }
         ensures empty { cmds.now ≡ [] → (pass.new ≡ pass.old) × IsOk result }
     {
         let feed = pass.feed;

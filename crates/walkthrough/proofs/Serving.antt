@@ -63,7 +63,7 @@ holds_answer cmd old new (Ok reply) a = λ visits held. holds_more old.journal n
 holds_answer cmd old new (Err e) a = tt
 
 -- one that it refused is none
-pub holds_refusal : (cmd : Cmd) (old new : BookContents) (result : Result Reply Refused) → OnErr result (Refuses old new cmd)
+pub holds_refusal : (cmd : Cmd) (old new : BookContents) (result : Result Reply Refused) → OnErr result (Refuses old new 1 cmd)
     → OnErr result ((visits : List Visit) → HasVisits old.journal visits → HasVisits new.journal (visits ++ [] ∷ []))
 holds_refusal cmd old new (Ok reply) e = tt
 holds_refusal cmd old new (Err refused) e = λ visits held. holds_same old.journal new.journal visits held e.journaled

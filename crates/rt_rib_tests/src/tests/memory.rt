@@ -104,6 +104,49 @@ fn nothing_but_the_journal_and_an_add_asks_for_memory(rt: HostRuntime) -> Result
     Ok(())
 }
 
+/// Asks one command of each kind of feed 1, whose routes are those to the prefixes, in turn; none of them puts a route in.
+fn ask_nth<A: Allocator + Copy>(
+    rt: &impl Abort,
+    book: &mut Book<A>,
+    k: u32,
+) -> Result<Reply, Refused> {
+    let prefix = nth(rt, k % PREFIXES);
+    let (pref, hop) = (k, via(1));
+    let addr = Addr(k.wrapping_mul(0x0123_4567));
+    match k % 5 {
+        0 => book.apply(1, Cmd::Lookup { addr }),
+        1 => book.apply(1, Cmd::Replace { prefix, pref, hop }),
+        2 => book.apply(1, add(prefix, pref, 1)),
+        3 => book.apply(2, Cmd::Purge),
+        _ => book.apply(3, Cmd::Withdraw { prefix }),
+    }
+}
+
+/// Fails where `reserve` does nothing, or makes room for fewer entries than it was asked for.
+/// Fails where a command that puts no route in is refused though there is room, if only in a journal of over 1,000 entries.
+/// Fails where `reserve` asks for memory though there is room.
+#[test]
+fn what_was_reserved_is_not_asked_for_again(rt: HostRuntime) -> Result<(), Fail> {
+    let memory = Counted::new(rt.alloc());
+    let mut book = Book::new(&memory, 100);
+    book.reserve(0)?;
+    assert_eq!(rt; memory.asked(), 0);
+    for k in 0..PREFIXES {
+        ask(&rt, &mut book, (1, add(nth(&rt, k), k, 1), Reply::Added))?;
+    }
+    for entries in [1u32, 7, 100, 5_000] {
+        book.reserve(entries as usize)?;
+        let asked = memory.asked();
+        for k in 0..entries {
+            book.reserve((entries - k) as usize)?;
+            let _ = ask_nth(&rt, &mut book, k)?;
+        }
+        book.reserve(0)?;
+        assert_eq!(rt; memory.asked(), asked, "{entries} entries");
+    }
+    Ok(())
+}
+
 /// The feed withdraws its routes one by one; the other book gains as many entries.
 fn withdraw<A: Allocator + Copy>(
     rt: &impl Abort,

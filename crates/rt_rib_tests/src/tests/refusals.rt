@@ -195,6 +195,28 @@ fn refuse<'h>(
     Ok(())
 }
 
+/// Fails where `reserve` answers `Ok` though memory is refused, or a refused one leaves the book with less room.
+#[test]
+fn reserved_room_lasts_where_all_memory_is_taken(rt: HostRuntime) -> Result<(), Fail> {
+    let heap = LocalHeap::new(rt.alloc(), 4_096)?;
+    let mut book = Book::new(&heap, LIMIT);
+    for entries in [1_000usize, usize::MAX] {
+        assert_eq!(rt; book.reserve(entries), Err(Refused));
+        assert_eq!(rt; heap.used(), 0);
+    }
+    let cmd = add(prefix(&rt, addr(10, 0, 0, 0), 8), 1, 1);
+    ask(&rt, &mut book, (1, cmd, Reply::Added))?;
+    book.reserve(9)?;
+    let mut blocks = Vec::new(rt.alloc());
+    take_the_rest(&heap, &mut blocks)?;
+    assert_eq!(rt; book.reserve(1_000), Err(Refused));
+    for _ in 0..9u32 {
+        ask(&rt, &mut book, (2, Cmd::Dump, Reply::Dumped(1)))?;
+    }
+    assert_eq!(rt; book.journal().len(), 10);
+    Ok(())
+}
+
 #[test]
 fn refused_room_for_a_route_makes_no_entry(rt: HostRuntime) -> Result<(), Fail> {
     let heap = LocalHeap::new(rt.alloc(), 4_096)?;

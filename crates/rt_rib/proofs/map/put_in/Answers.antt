@@ -27,6 +27,11 @@ returns-in_err-put-clause-refused g c =
     (ap (λ (pairs : Map). record c.args.map.now { pairs = pairs })
     (unchanged c.map_laws.ensures c.args.map.now.pairs c.requires c.args.route.prefix c.in-Some.offers.now c.put.new.self c.in-Some.ensures.value c.in_err-put.ensures.refused))
 
+pub returns-in_err-put-clause-wanted : goal.returns-in_err-put-clause-wanted
+returns-in_err-put-clause-wanted g c =
+    err_from c.from_residual.result
+    (is_had c.map_laws.ensures c.args.map.now.pairs c.requires c.args.route.prefix c.in-Some.offers.now c.put.new.self c.in-Some.ensures.value c.args.route.feed ∙ sym c.has.ensures ∙ c.if-has.false)
+
 pub returns-in_err-put-clause-map : goal.returns-in_err-put-clause-map
 returns-in_err-put-clause-map g c = IsMap-put c.map_laws.ensures c.args.map.now.pairs c.requires c.args.route.prefix c.put.new.self c.put.ensures.lawful
 
@@ -55,3 +60,6 @@ returns-in-Ok-clause-more g c =
 pub returns-in-Ok-clause-map : goal.returns-in-Ok-clause-map
 returns-in-Ok-clause-map g c =
     rw (c.in-Ok.ensures.put, c.one.ensures, c.offer_of-offer.ensures) (IsMap-put c.map_laws.ensures c.args.map.now.pairs c.requires c.args.route.prefix _ (IsOffers-one (offer_of c.args.route)))
+
+pub returns-clause-wanted : goal.returns-clause-wanted
+returns-clause-wanted g c = none_had c.map_laws.ensures c.args.map.now.pairs c.requires c.args.route.prefix c.args.route.feed c.in_default.ensures.value

@@ -3,7 +3,7 @@ use Rattle.rt_rib.specs.Book.{OfferTrie}
 use Rattle.rt_rib.specs.inside.TableState.{StoredTable}
 use Rattle.rt_rib.specs.Maps.{routes_of}
 use Rattle.rt_rib.proofs.Counts.{AreCounts-own}
-use Rattle.rt_rib.proofs.TableChanges.{kept_counted, kept_serves, added_counted, added_serves}
+use Rattle.rt_rib.proofs.TableChanges.{kept_counted, kept_serves, added_counted, added_serves, to_be_added}
 use Rattle.rt_rib.proofs.CommandCases.{exists, full}
 use Rattle.rt_rib.proofs.MapChanges.{err_from}
 use Rattle.rt_rib.proofs.table.Table.add.Goals as goal
@@ -31,6 +31,11 @@ returns-in_err-put_in-clause-err g c =
     let limit = c.self.inside.limit in
     let shown : OfferTrie → StoredTable = λ m. record { limit = limit; routes = routes_of m.pairs; trie = m } in
     err_from c.from_residual.result (ap shown c.in_err-put_in.ensures.refused ∙ c.self.view_is)
+
+pub returns-in_err-put_in-clause-wanted : goal.returns-in_err-put_in-clause-wanted
+returns-in_err-put_in-clause-wanted g c =
+    err_from c.from_residual.result
+    (rw (← c.self.view_is) (to_be_added c.self.inside.limit c.self.inside.counts c.self.inside.map.pairs c.self.invariant c.self.told c.args.route c.requires c.in_err-put_in.ensures.wanted c.if-self-own.false))
 
 pub invariant_of-self-then-branch : goal.invariant_of-self-then-branch
 invariant_of-self-then-branch g c = kept_counted c.self.inside.limit c.self.inside.counts c.self.inside.map.pairs c.put_in.new.map.pairs c.self.invariant (c.in_ok-put_in.ensures.kept c.if-branch.true)
