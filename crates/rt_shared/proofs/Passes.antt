@@ -17,7 +17,8 @@ abbrev pub HasFeed : IdlePass Lent → Type 0
 HasFeed p = p.place < p.seen.feeds
 
 -- what a pass has seen is lawful
-pub seen_is_lawful : (feed : ℕ) (pass : Option (IdlePass Lent)) → HoldsLockPass feed pass → IsLawfulJournal (held_pass feed pass).table.limit (held_pass feed pass).seen
+pub seen_is_lawful : (feed : ℕ) (pass : Option (IdlePass Lent)) → HoldsLockPass feed pass
+    → IsLawfulJournal (held_pass feed pass).table.limit (held_pass feed pass).seen
 seen_is_lawful feed (Some pass) there = pass.seen.lawful
 seen_is_lawful feed None there = absurd there
 
@@ -26,17 +27,19 @@ pub all_amid : {X : Type 0} (P : X → Type 0) (xs ys : List X) (x : X) → All 
 all_amid P [] ys x all = All-head P x ys all
 all_amid P (y ∷ xs) ys x all = all_amid P xs ys x (All-tail P y (xs ++ x ∷ ys) all)
 
--- and of those before them
+-- what holds of all holds of a beginning of them
 pub all_front : {X : Type 0} (P : X → Type 0) (xs ys : List X) → All P (xs ++ ys) → All P xs
 all_front P [] ys all = All-nil P
 all_front P (x ∷ xs) ys all = All-cons P x xs (All-head P x (xs ++ ys) all) (all_front P xs ys (All-tail P x (xs ++ ys) all))
 
 -- the last pass is one of the table's
 pub last_of : (table : SharedId) (passes rest : List HeldPass) (last : HeldPass) → ArePassesOf table passes → passes ≡ rest ++ last ∷ [] → last.table ≡ table
-last_of table passes rest last are is = all_amid (λ (p : HeldPass). p.table ≡ table) rest [] last (subst (All (λ (p : HeldPass). p.table ≡ table)) is are.tables)
+last_of table passes rest last are is = all_amid (λ (p : HeldPass). p.table ≡ table) rest [] last
+    (subst (All (λ (p : HeldPass). p.table ≡ table)) is are.tables)
 
 -- a pass of a table is one of its lock
-pub lock_of : (feed : ℕ) (pass : Option (IdlePass Lent)) (idle : IdlePass Lent) (held : HeldPass) (table own : SharedId) → pass ≡ Some idle → held_pass feed pass ≡ held → held.table ≡ table → own ≡ table → idle.lock ≡ own.lock
+pub lock_of : (feed : ℕ) (pass : Option (IdlePass Lent)) (idle : IdlePass Lent) (held : HeldPass) (table own : SharedId)
+    → pass ≡ Some idle → held_pass feed pass ≡ held → held.table ≡ table → own ≡ table → idle.lock ≡ own.lock
 lock_of feed pass idle held table own there view of self =
     ap (λ (p : HeldPass). p.table.lock) (sym (ap (held_pass feed) there) ∙ view) ∙ ap (λ (t : SharedId). t.lock) (of ∙ sym self)
 
@@ -45,13 +48,16 @@ pub spaced : 64 < 9223372036854775808
 spaced = omega arith
 
 -- what the lock says of its pass holds of the feed's
-pub since_of : (idle : IdlePass Lent) (pass : HeldPass) (now : Lent) → feed_of idle.place ≡ pass.feed → idle.seen.book.journal ≡ pass.seen → GrowsByOthers idle.place idle.seen now → Since pass.feed pass.seen now.book.journal
+pub since_of : (idle : IdlePass Lent) (pass : HeldPass) (now : Lent) → feed_of idle.place ≡ pass.feed
+    → idle.seen.book.journal ≡ pass.seen → GrowsByOthers idle.place idle.seen now
+    → Since pass.feed pass.seen now.book.journal
 since_of idle pass now feed seen grows =
     subst (λ (n : ℕ). Since n pass.seen now.book.journal) feed (subst (λ (l : List Entry). Since (feed_of idle.place) l now.book.journal) seen grows.since)
 
 -- passes of the same tables and feeds
 pub passes_kept : (table : SharedId) (old new : List HeldPass) → ArePassesOf table old → length new ≡ length old
-    → ((i : ℕ) (d : HeldPass) → i < length old → ((get_or new i d).table ≡ (get_or old i d).table) × ((get_or new i d).feed ≡ (get_or old i d).feed)) → ArePassesOf table new
+    → ((i : ℕ) (d : HeldPass) → i < length old → ((get_or new i d).table ≡ (get_or old i d).table)
+    × ((get_or new i d).feed ≡ (get_or old i d).feed)) → ArePassesOf table new
 passes_kept table old new are long each = record {
   count = long ∙ are.count;
   tables = λ k d h. (each k d (omega arith)).0 ∙ are.tables k d (omega arith);
@@ -63,7 +69,8 @@ passes_kept table old new are long each = record {
 }
 
 -- the passes of a lock that has just been made, as those of the feeds of a table
-module _ (lock : LockId) (levels : ℕ) (lent : Lent) (passes : List (IdlePass Lent)) (deal : ArePassesInOrder lock levels lent passes) (few : 2 ^ levels ≡ lent.feeds) where
+module _ (lock : LockId) (levels : ℕ) (lent : Lent) (passes : List (IdlePass Lent))
+    (deal : ArePassesInOrder lock levels lent passes) (few : 2 ^ levels ≡ lent.feeds) where
   -- the k-th of them
   at_place : (k : ℕ) (d : IdlePass Lent) → k < length passes → get_or passes k d ≡ new_pass lock k lent
   at_place k d h = let e = slice_get-get_or passes k d h in let f = deal.each k (omega (arith, deal.count)) in cc

@@ -19,7 +19,14 @@ both_popped {X} xs shorter rest last before first second two is of_second then o
     let both : xs ≡ shorter ++ second ∷ [] = is ∙ ap (λ (o : Option X). shorter ++ option_to_list o) of_second in
     two_of rest xs first second two (both ∙ ap (λ (l : List X). l ++ second ∷ []) one)
 
-pub are_both : (table : SharedId) (passes : List HeldPass) (first second : HeldPass) → ArePassesOf table passes → table.feeds ≡ 2 → passes ≡ first ∷ second ∷ [] → AreBoth table first second
+pub are_both : (table : SharedId) (passes : List HeldPass) (first second : HeldPass) → ArePassesOf table passes
+    → table.feeds ≡ 2 → passes ≡ first ∷ second ∷ [] → AreBoth table first second
 are_both table passes first second are two is =
     let both : ArePassesOf table (first ∷ second ∷ []) = subst (ArePassesOf table) is are in
-    record { two = two; of_first = both.tables 0 first (omega arith); of_second = both.tables 1 first (omega arith); one = both.feeds 0 first refl; other = both.feeds 1 second refl }
+    record {
+      two = two;
+      of_first = both.tables 0 first (omega arith);
+      of_second = both.tables 1 first (omega arith);
+      one = both.feeds 0 first refl;
+      other = both.feeds 1 second refl;
+    }

@@ -19,13 +19,15 @@ more_behind before visit rest more journal e =
     ap (λ (l : List Entry). l ++ more) e ∙ (append_assoc before (visit ++ rest) more ∙ ap (λ (l : List Entry). before ++ l) (append_assoc visit rest more))
 
 -- entries of others cut nothing
-uncut_others : (feed : ℕ) (visits : List (List Entry)) (journal more : List Entry) → Uncut feed visits journal → NoneBy feed more → Uncut feed visits (journal ++ more)
+uncut_others : (feed : ℕ) (visits : List (List Entry)) (journal more : List Entry) → Uncut feed visits journal
+    → NoneBy feed more → Uncut feed visits (journal ++ more)
 uncut_others feed [] journal more none none' = All-append (λ (e : Entry). e.feed ≢ feed) journal more none none'
 uncut_others feed (visit ∷ visits) journal more (before, rest, is, none, all, uncut) none' =
     (before, rest ++ more, more_behind before visit rest more journal is, none, all, uncut_others feed visits rest more uncut none')
 
 -- a visit at the end
-pub uncut_visit : (feed : ℕ) (visits : List (List Entry)) (journal own : List Entry) → Uncut feed visits journal → AllBy feed own → Uncut feed (visits ++ own ∷ []) (journal ++ own)
+pub uncut_visit : (feed : ℕ) (visits : List (List Entry)) (journal own : List Entry) → Uncut feed visits journal
+    → AllBy feed own → Uncut feed (visits ++ own ∷ []) (journal ++ own)
 uncut_visit feed [] journal own none all = (journal, [], ap (λ (l : List Entry). journal ++ l) (sym (append-nil own)), none, all, All-nil _)
 uncut_visit feed (visit ∷ visits) journal own (before, rest, is, none, all, uncut) all' =
     (before, rest ++ own, more_behind before visit rest own journal is, none, all, uncut_visit feed visits rest own uncut all')
@@ -33,11 +35,13 @@ uncut_visit feed (visit ∷ visits) journal own (before, rest, is, none, all, un
 pub uncut_since : (feed : ℕ) (visits : List (List Entry)) (a b : List Entry) → Uncut feed visits a → Since feed a b → Uncut feed visits b
 uncut_since feed visits a b uncut since = subst (Uncut feed visits) (sym since.grown) (uncut_others feed visits a since.others uncut since.by_others)
 
-pub uncut_by_visit : (limit feed : ℕ) (visits : List (List Entry)) (seen now : List Entry) (cmds : List Cmd) (outcomes : List Outcome) → Uncut feed visits seen → MakesVisit limit feed seen cmds outcomes now
+pub uncut_by_visit : (limit feed : ℕ) (visits : List (List Entry)) (seen now : List Entry) (cmds : List Cmd)
+    (outcomes : List Outcome) → Uncut feed visits seen → MakesVisit limit feed seen cmds outcomes now
     → Uncut feed (visits ++ answered feed cmds outcomes ∷ []) now
 uncut_by_visit limit feed visits seen now cmds outcomes uncut visit =
     subst (Uncut feed (visits ++ answered feed cmds outcomes ∷ [])) (sym visit.added)
-    (uncut_visit feed visits visit.found (answered feed cmds outcomes) (uncut_since feed visits seen visit.found uncut visit.since) (all_answered feed cmds outcomes))
+    (uncut_visit feed visits visit.found (answered feed cmds outcomes)
+    (uncut_since feed visits seen visit.found uncut visit.since) (all_answered feed cmds outcomes))
 
 -- the entries of a feed, where there are none
 no_entries : (feed : ℕ) (journal : List Entry) → NoneBy feed journal → feed_entries feed journal ≡ []
@@ -46,7 +50,7 @@ no_entries feed (e ∷ es) none =
     let other : (e.feed == feed) ≡ false = ne_eqb e.feed feed (All-head (λ (x : Entry). x.feed ≢ feed) e es none) in
     rw other (no_entries feed es (All-tail (λ (x : Entry). x.feed ≢ feed) e es none))
 
--- and where there are no others
+-- the entries of a feed, where there are no others
 own_entries : (feed : ℕ) (journal : List Entry) → AllBy feed journal → feed_entries feed journal ≡ journal
 own_entries feed [] all = refl
 own_entries feed (e ∷ es) all =
@@ -55,15 +59,19 @@ own_entries feed (e ∷ es) all =
 
 pub entries_since : (feed : ℕ) (a b : List Entry) → Since feed a b → feed_entries feed b ≡ feed_entries feed a
 entries_since feed a b since =
-    ap (feed_entries feed) since.grown ∙ (filter-append (λ (e : Entry). e.feed == feed) a since.others ∙ (ap (λ (l : List Entry). feed_entries feed a ++ l) (no_entries feed since.others since.by_others)
+    ap (feed_entries feed) since.grown ∙ (filter-append (λ (e : Entry). e.feed == feed) a since.others
+    ∙ (ap (λ (l : List Entry). feed_entries feed a ++ l) (no_entries feed since.others since.by_others)
     ∙ append-nil (feed_entries feed a)))
 
-pub entries_of_visits : (feed : ℕ) (visits : List (List Entry)) (journal : List Entry) → Uncut feed visits journal → feed_entries feed journal ≡ flat_map (λ visit. visit) visits
+pub entries_of_visits : (feed : ℕ) (visits : List (List Entry)) (journal : List Entry) → Uncut feed visits journal
+    → feed_entries feed journal ≡ flat_map (λ visit. visit) visits
 entries_of_visits feed [] journal none = no_entries feed journal none
 entries_of_visits feed (visit ∷ visits) journal (before, rest, is, none, all, uncut) =
     let own : Entry → Bool = λ e. e.feed == feed in
-    ap (feed_entries feed) is ∙ (filter-append own before (visit ++ rest) ∙ (ap (λ (l : List Entry). l ++ feed_entries feed (visit ++ rest)) (no_entries feed before none)
-    ∙ (filter-append own visit rest ∙ (ap (λ (l : List Entry). l ++ feed_entries feed rest) (own_entries feed visit all) ∙ ap (λ (l : List Entry). visit ++ l) (entries_of_visits feed visits rest uncut)))))
+    ap (feed_entries feed) is ∙ (filter-append own before (visit ++ rest)
+    ∙ (ap (λ (l : List Entry). l ++ feed_entries feed (visit ++ rest)) (no_entries feed before none)
+    ∙ (filter-append own visit rest ∙ (ap (λ (l : List Entry). l ++ feed_entries feed rest) (own_entries feed visit all)
+    ∙ ap (λ (l : List Entry). visit ++ l) (entries_of_visits feed visits rest uncut)))))
 
 pub since_again : (feed : ℕ) (a b c : List Entry) → Since feed a b → Since feed b c → Since feed a c
 since_again feed a b c s t = subst (Since feed a) (sym t.grown) (since_others feed a b t.others s t.by_others)

@@ -32,7 +32,13 @@ a_store_and_a_load = refl
 abbrev four_steps : List Step
 four_steps =
     record { place = 0; word = C 1 0 0; store = true; value = 1; mark = Plain } ∷ record { place = 0; word = T 1 0; store = true; value = 1; mark = Plain }
-    ∷ record { place = 0; word = P 1 0; store = true; value = 0; mark = Plain } ∷ record { place = 0; word = C 1 0 1; store = false; value = 0; mark = Inside } ∷ []
+    ∷ record { place = 0; word = P 1 0; store = true; value = 0; mark = Plain } ∷ record {
+      place = 0;
+      word = C 1 0 1;
+      store = false;
+      value = 0;
+      mark = Inside;
+    } ∷ []
 
 abbrev four_lines : List ℕ
 four_lines = codes "1 p0 C1.0.0 := 1\n2 p0 T1.0 := 1\n3 p0 P1.0 := 0\n4 p0 C1.0.1 = 0 inside\n"

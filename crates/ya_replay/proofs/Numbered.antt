@@ -1,5 +1,6 @@
 -- The texts of numbered items, one after another, as they are written.
-use Rattle.std.proofs.Common.{◌≡◌, ℕ, ◌+◌, ◌<◌, List, [], ◌∷◌, ◌++◌, length, take, drop, get_or, refl, sym, ap, ◌∙◌, arith, append_assoc, append-nil, add-zero, add-one, length-take, take-append-drop, Option}
+use Rattle.std.proofs.Common.{◌≡◌, ℕ, ◌+◌, ◌<◌, List, [], ◌∷◌, ◌++◌, length, take, drop, get_or, refl, sym, ap, ◌∙◌}
+use Rattle.std.proofs.Common.{arith, append_assoc, append-nil, add-zero, add-one, length-take, take-append-drop, Option}
 use Rattle.std.proofs.Math.Seq.{take-suc}
 use Rattle.std.specs.Io.KnownBytes.{Appends}
 use Rattle.rt_cidr.specs.Output.{AppendsBeginning}
@@ -20,11 +21,15 @@ module _ {X : Type 0} (one : ℕ → X → List ℕ) (all : ℕ → List X → L
     all-take : all 1 (take (k + 1) xs) ≡ all 1 (take k xs) ++ one (k + 1) x
     all-take =
         let so_far : 1 + length (take k xs) ≡ k + 1 = omega (arith, length-take k xs) in
-        let last : take (k + 1) xs ≡ take k xs ++ x ∷ [] = ap (λ (n : ℕ). take n xs) (add-one k) ∙ (take-suc xs k x here ∙ ap (λ (y : X). take k xs ++ y ∷ []) (sym is)) in
-        let lone : all (k + 1) (x ∷ []) ≡ one (k + 1) x = more (k + 1) x [] ∙ (ap (λ (t : List ℕ). one (k + 1) x ++ t) (none (k + 1 + 1)) ∙ append-nil (one (k + 1) x)) in
-        ap (all 1) last ∙ (all-append 1 (take k xs) (x ∷ []) ∙ (ap (λ (n : ℕ). all 1 (take k xs) ++ all n (x ∷ [])) so_far ∙ ap (λ (t : List ℕ). all 1 (take k xs) ++ t) lone))
+        let last : take (k + 1) xs ≡ take k xs ++ x ∷ [] = ap (λ (n : ℕ). take n xs) (add-one k)
+        ∙ (take-suc xs k x here ∙ ap (λ (y : X). take k xs ++ y ∷ []) (sym is)) in
+        let lone : all (k + 1) (x ∷ []) ≡ one (k + 1) x = more (k + 1) x []
+        ∙ (ap (λ (t : List ℕ). one (k + 1) x ++ t) (none (k + 1 + 1)) ∙ append-nil (one (k + 1) x)) in
+        ap (all 1) last ∙ (all-append 1 (take k xs) (x ∷ [])
+        ∙ (ap (λ (n : ℕ). all 1 (take k xs) ++ all n (x ∷ [])) so_far
+        ∙ ap (λ (t : List ℕ). all 1 (take k xs) ++ t) lone))
 
-    -- and so the rest follows
+    -- the text of the rest follows
     all-rest : (rest : List ℕ) × (all 1 xs ≡ (all 1 (take k xs) ++ one (k + 1) x) ++ rest)
     all-rest = (
       _,

@@ -16,12 +16,14 @@ module _ (steps : List Step) (k : ℕ) (d : Step) (here : k < length steps) (a b
   -- the next step's line is put behind those before it
   pub appends_next : Appends b c (step_text (k + 1) (get_or steps k d)) → Appends a c (steps_text 1 (take (k + 1) steps))
   appends_next second =
-      numbered.appends_next step_text steps_text (λ n. refl) (λ n x xs. refl) steps k (get_or steps k d) here (get_or_default steps k d (get_or steps k d) here) a b c first second
+      numbered.appends_next step_text steps_text (λ n. refl) (λ n x xs. refl) steps k (get_or steps k d) here
+      (get_or_default steps k d (get_or steps k d) here) a b c first second
 
   -- a fault within it leaves a beginning of all lines
   pub begins_all : AppendsBeginning b c (step_text (k + 1) (get_or steps k d)) → AppendsBeginning a c (steps_text 1 steps)
   begins_all second =
-      numbered.begins_all step_text steps_text (λ n. refl) (λ n x xs. refl) steps k (get_or steps k d) here (get_or_default steps k d (get_or steps k d) here) a b c first second
+      numbered.begins_all step_text steps_text (λ n. refl) (λ n x xs. refl) steps k (get_or steps k d) here
+      (get_or_default steps k d (get_or steps k d) here) a b c first second
 
 -- how long the lines are at most
 level_fits : (letter : List ℕ) (level index : ℕ) → length (level_text letter level index) ≤ length letter + 129

@@ -1,5 +1,6 @@
 -- The last line of a replay: who is inside after its steps is who is inside in the state to which they lead.
-use Rattle.std.proofs.Common.{◌≡◌, ◌≢◌, ℕ, ◌≤◌, ◌==◌, Bool, true, false, if◌then◌else◌, refl, arith, ap, sym, ◌∙◌, subst, List, [], ◌∷◌, fold, Option, None, Some}
+use Rattle.std.proofs.Common.{◌≡◌, ◌≢◌, ℕ, ◌≤◌, ◌==◌, Bool, true, false, if◌then◌else◌, refl, arith, ap, sym, ◌∙◌}
+use Rattle.std.proofs.Common.{subst, List, [], ◌∷◌, fold, Option, None, Some}
 use Rattle.std.proofs.lemmas.Bool.Decides.{nat_tests}
 use Rattle.ya_core.specs.declared.process.Process.{Process}
 use Rattle.ya_core.specs.declared.process.Process.TheVariants.{Idle, Entering, Inside, Leaving}
@@ -65,9 +66,12 @@ module _ (levels place : ℕ) (s after : State) (some : 1 ≤ levels) (sound : I
 
       cases : (b : Bool) → is_inside (after.processes place) ≡ b → TellsInside after (inside_next inside (step_of levels place s))
       cases true won =
-          subst (λ b. TellsInside after (if b then Some place else (if text.is_the_one_inside inside place then None else inside))) (sym (marked true won)) (tells_won won)
+          subst (λ b. TellsInside after (if b then Some place else
+          (if text.is_the_one_inside inside place then None else inside))) (sym (marked true won)) (tells_won won)
       cases false out =
-          subst (λ b. TellsInside after (if b then Some place else (if text.is_the_one_inside inside place then None else inside))) (sym (marked false out)) (tells_out out inside tells)
+          subst (λ b. TellsInside after (if b then Some place else
+          (if text.is_the_one_inside inside place then None else inside))) (sym (marked false out))
+          (tells_out out inside tells)
 
 -- so do all steps, one after another
 tells_from : (levels : ℕ) (picks : List ℕ) (steps : List Step) (s last : State) (inside : Option ℕ) → 1 ≤ levels → IsSoundState levels s → TellsInside s inside
@@ -82,6 +86,7 @@ tells_from levels [] (step ∷ steps) s last inside some sound tells run = absur
 tells_from levels (place ∷ picks) [] s last inside some sound tells run = absurd run
 
 -- so who is inside after the steps of a replay is who is inside in the state to which they lead
-pub tells_after : (levels : ℕ) (picks : List ℕ) (steps : List Step) (last : State) → 1 ≤ levels → ReplaysTo levels opening picks steps last → TellsInside last (inside_after steps)
+pub tells_after : (levels : ℕ) (picks : List ℕ) (steps : List Step) (last : State) → 1 ≤ levels
+    → ReplaysTo levels opening picks steps last → TellsInside last (inside_after steps)
 tells_after levels picks steps last some run =
     tells_from levels picks steps opening last None some (opens levels) (λ place. (λ e. absurd cc, λ h. absurd cc)) run

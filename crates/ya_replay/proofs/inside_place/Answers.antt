@@ -8,5 +8,6 @@ use Rattle.ya_replay.proofs.inside_place.Goals as goal
 pub returns : goal.returns
 returns c levels picks last some run =
     let steps = c.args.steps.now in
-    let all : c.loop-step.inside ≡ inside_after steps = c.loop-step.invariant ∙ ap inside_after (take_all c.loop-step.step-index steps c.loop-step-test.false) in
+    let all : c.loop-step.inside ≡ inside_after steps = c.loop-step.invariant
+    ∙ ap inside_after (take_all c.loop-step.step-index steps c.loop-step-test.false) in
     subst (λ inside. TellsInside last inside) (sym all) (tells_after levels picks steps last some run)

@@ -10,7 +10,8 @@ returns-clause-exclusion g c = λ levels world run.
 
 pub returns-clause-made : goal.returns-clause-made
 returns-clause-made g c = λ levels world run place.
-    entries_same place world.content ∙ ap (map (entry_of place)) (c.content.ensures.kept levels run.1 world run.0 (c.content.ensures.any levels run.1 world run.2) place)
+    entries_same place world.content ∙ ap (map (entry_of place))
+    (c.content.ensures.kept levels run.1 world run.0 (c.content.ensures.any levels run.1 world run.2) place)
 
 pub returns-clause-lawful : goal.returns-clause-lawful
 returns-clause-lawful g c = c.journal.ensures
@@ -19,4 +20,5 @@ pub returns-clause-table : goal.returns-clause-table
 returns-clause-table g c = λ levels world run. c.table_by_entry.ensures.table g.row.LIMIT (journal_of world.content)
 
 pub returns-clause-best : goal.returns-clause-best
-returns-clause-best g c = λ levels world run. finds_best c.look_up_finds_best.ensures c.table_by_entry.ensures g.row.LIMIT (journal_of world.content) (c.journal.ensures levels world run)
+returns-clause-best g c = λ levels world run. finds_best c.look_up_finds_best.ensures c.table_by_entry.ensures
+    g.row.LIMIT (journal_of world.content) (c.journal.ensures levels world run)
