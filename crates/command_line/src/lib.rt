@@ -11,162 +11,21 @@
 //! ```
 #![tactic(auto)]
 
+mod notes;
+
 ghost use Rattle.std.specs.Prelude.{◌≤◌};
 
 use clap::builder::ValueParser;
 use clap::error::ErrorKind;
 use clap::{Arg, ArgAction, ArgMatches, Command, Error};
+use notes::{LOOKUP_NOTES, REPLAY_NOTES, RUN_NOTES, TABLE_NOTES};
 use std::alloc::{AllocError, AllocFailed, Global};
 
-/// The most routes that one feed may have. `feed_notes` says it too.
+/// The most routes that one feed may have. `notes` says it too.
 const MOST_ROUTES: u32 = 1_000_000;
 
-/// How many routes one feed may have, where the command line does not say. `feed_notes` says it too.
+/// How many routes one feed may have, where the command line does not say. `notes` says it too.
 const DEFAULT_LIMIT: &str = "65536";
-
-/// Notes on feed files: some texts, what is said of the limit, and further texts.
-macro_rules! feed_notes {
-    ($($before:literal),*; $($after:literal),*) => {
-        concat!(
-            $($before,)*
-            "A feed has at most 65536 routes if --limit is left out, and at most 1000000 in\nany case. ",
-            $($after),*
-        )
-    };
-}
-
-/// Notes of `lookup` and `table`: a text, what both say of what was not taken and of the exit status, and an example.
-macro_rules! taken_notes {
-    ($before:literal, $example:literal) => {
-        feed_notes!(
-            $before,
-            "\
-Standard error tells of each file what was not taken, one line a kind:
-  yarib: FILE: faulty lines: N, the first LINE: FAULT
-  yarib: FILE: adds over the limit: N
-  yarib: FILE: adds of a prefix already there: N
-  yarib: FILE: replaces and withdraws of a prefix not there: N
-  yarib: FILE: commands refused for want of memory: N
-
-Exit status, the greatest that applies:
-  0 done   2 faulty line, or add over the limit   3 command line
-  4 unreadable file   5 memory refused   6 output not written
-
-";
-            "`run --help` has the commands of feed files and the faults.\n\n",
-            $example
-        )
-    };
-}
-
-/// What `run --help` says of feed files, their faults and the exit status.
-const RUN_NOTES: &str = feed_notes!(
-    "\
-Commands, one a line; an empty line and one that begins with # are skipped:
-  add PREFIX PREF HOP      put in a route of this feed
-  replace PREFIX PREF HOP  change preference and next hop of this feed's route
-  withdraw PREFIX          take out this feed's route
-  lookup ADDR              the best route of the longest prefix that covers it
-  dump                     the number of routes of all feeds
-  purge                    take out all routes of this feed (version 2)
-PREF is 0 to 4294967295, and the least wins; of equal ones the first file's.
-Where the first line is `version 2`, HOP is an address or discard.
-
-Faults, the first that a line has:
-  E8 over 128 bytes   E1 no command   E2 number of fields
-  E3 prefix or address   E4 prefix length   E5 bits past the length
-  E6 preference   E7 next hop
-
-Exit status, the greatest that applies:
-  0 done   2 faulty line   3 command line   4 unreadable file
-  5 memory refused   6 output not written
-
-";
-    "Each add beyond is answered full, with status 0: look for full in the
-report. `lookup` and `table` tell of such adds on standard error, with status 2.
-
-Example, where one.feed says `add 10.0.0.0/8 100 192.0.2.1`:
-  $ yarib run one.feed
-  1:1 added
-  table 1
-  10.0.0.0/8 feed 1 pref 100 via 192.0.2.1
-
-Several feeds, where two.feed says `add 10.0.0.0/8 50 192.0.2.2`:
-  $ yarib run --batch 64 one.feed two.feed
-  1:1 added
-  2:1 added
-  table 2
-  10.0.0.0/8 feed 2 pref 50 via 192.0.2.2
-  10.0.0.0/8 feed 1 pref 100 via 192.0.2.1
-"
-);
-
-/// What `lookup --help` says of the addresses, the answers, what is told of the files, and the exit status.
-const LOOKUP_NOTES: &str = taken_notes!(
-    "\
-Each address has one line, in order, when all feeds have ended: those of
---address, and then those of --addresses, one a line. An empty line and one that
-begins with # are skipped.
-  ADDR route PREFIX feed F pref P via HOP   of the longest prefix that covers
-                                            it, the route of the least P
-  ADDR no route                             no prefix covers it
-
-",
-    "Example, where one.feed says `add 10.0.0.0/8 100 192.0.2.1`:
-  $ yarib lookup --address 10.1.2.3 --address 11.0.0.1 one.feed
-  10.1.2.3 route 10.0.0.0/8 feed 1 pref 100 via 192.0.2.1
-  11.0.0.1 no route
-"
-);
-
-/// What `table --help` says of the routes, what is told of the files, and the exit status.
-const TABLE_NOTES: &str = taken_notes!(
-    "\
-Each route has one line, when all feeds have ended, sorted by base address,
-length, preference and feed; with --best only the one of each prefix that a
-look-up would give:
-  PREFIX feed F pref P via HOP
-
-",
-    "Example, where one.feed says `add 10.0.0.0/8 100 192.0.2.1`, and two.feed
-`add 10.0.0.0/8 50 192.0.2.2`:
-  $ yarib table one.feed two.feed
-  10.0.0.0/8 feed 2 pref 50 via 192.0.2.2
-  10.0.0.0/8 feed 1 pref 100 via 192.0.2.1
-  $ yarib table --best one.feed two.feed
-  10.0.0.0/8 feed 2 pref 50 via 192.0.2.2
-"
-);
-
-/// What `replay --help` says of a step's line, its words and marks, and the exit status.
-const REPLAY_NOTES: &str = "\
-A tree of L levels has 2 to the power of L places, numbered from 0. Each step
-has one line: its number, p and the place, the word, `:=` and the value that was
-stored or `=` and the value that was loaded, and a mark where there is one.
-
-Words, all 0 at the start; a process is named by its place + 1:
-  C<level>.<node>.<side>   who competes on that side of the node
-  T<level>.<node>          who announced itself there last
-  P<level>.<place>         what the place waits on: 0, 1 or 2
-
-Marks:
-  inside   the step won the root: its place is inside
-  out      the step ended the passage
-
-The last line is `inside p` and the place that is inside, or `inside none`.
-
-Exit status:
-  0 done   5 memory refused (P3)   6 output not written
-  3 command line, a pick that is no place (P1), levels not 1 to 6 (P2)
-
-Example:
-  $ yarib replay --levels 1 0 0 0 0
-  1 p0 C1.0.0 := 1
-  2 p0 T1.0 := 1
-  3 p0 P1.0 := 0
-  4 p0 C1.0.1 = 0 inside
-  inside p0
-";
 
 /// How many commands of a feed `run` asks at once, where the command line does not say.
 const DEFAULT_BATCH: &str = "1";
@@ -175,7 +34,7 @@ const DEFAULT_BATCH: &str = "1";
 const UNSEEN_BATCH: &str = "256";
 
 /// What the words of a command line ask for.
-#[derive(Drop)]
+#[derive(Debug, Drop)]
 pub enum Request<'a> {
     /// To run feed files.
     Run(RunRequest<'a>),
@@ -188,7 +47,7 @@ pub enum Request<'a> {
 }
 
 /// Which feed files to run.
-#[derive(Drop)]
+#[derive(Debug, Drop)]
 pub struct RunRequest<'a> {
     /// How many routes a feed may have.
     pub limit: u32,
@@ -202,7 +61,7 @@ pub struct RunRequest<'a> {
 }
 
 /// Which addresses to look up, after which feed files.
-#[derive(Drop)]
+#[derive(Debug, Drop)]
 pub struct LookupRequest<'a> {
     /// The feed files.
     pub run: RunRequest<'a>,
@@ -213,7 +72,7 @@ pub struct LookupRequest<'a> {
 }
 
 /// Which routes to list, after which feed files.
-#[derive(Drop)]
+#[derive(Debug, Drop)]
 pub struct TableRequest<'a> {
     /// The feed files.
     pub run: RunRequest<'a>,
@@ -222,7 +81,7 @@ pub struct TableRequest<'a> {
 }
 
 /// Which schedule to show.
-#[derive(Drop)]
+#[derive(Debug, Drop)]
 pub struct ReplayRequest {
     /// How many levels the tree has.
     pub levels: u32,
@@ -231,7 +90,7 @@ pub struct ReplayRequest {
 }
 
 /// Why there is nothing to do.
-#[derive(Drop)]
+#[derive(Debug, Drop)]
 pub enum Refusal {
     /// Help or the version was asked for: its text.
     Shown(String),

@@ -8,14 +8,14 @@
 
 mod program;
 
+use program::Stop;
 pub use program::{Line, run_words, run_words_beside};
-use rt_cidr::put;
 pub use rt_feed::RunFault;
 pub use rt_run::{
     AppFault, MOST_TEXTS, Taken, Tally, laws, lookup_texts, replay_text, run_texts, table_texts,
 };
 use std::alloc::Global;
-use std::io::{self, ErrorKind, IsTerminal, Write};
+use std::io::{self, IsTerminal, Write};
 use std::process::ExitCode;
 use std::rt::Files;
 use std::sync::Wait;
@@ -28,7 +28,7 @@ fn main(rt: HostRuntime) -> ExitCode {
     let (mut out, mut err) = (io::writer(&stdout), io::writer(&stderr));
     let words = match read_words(&rt, alloc) {
         Ok(words) => words,
-        Err(fault) => return ExitCode::from(tell_words_fault(&fault, &mut err)),
+        Err(fault) => return ExitCode::from(Stop::of_words(&fault).end(&mut err)),
     };
     let words = words.as_slice();
     if !stderr.is_terminal() {
@@ -63,16 +63,6 @@ where
 
 fn read_words(rt: &HostRuntime, alloc: Global) -> io::Result<Vec<String>> {
     Ok(env::args(rt)?.collect(alloc)?)
-}
-
-/// Tells why the words could not be read, and gives the status.
-fn tell_words_fault<E: Write>(fault: &io::Error, err: &mut E) -> u8 {
-    let (text, status): (&[u8], u8) = match fault.kind() {
-        ErrorKind::OutOfMemory => (b"yarib: fault F3\n", 5),
-        _ => (b"yarib: arguments are not UTF-8\n", 3),
-    };
-    let _ = put(err, text);
-    status
 }
 
 #[cfg(test)]

@@ -33,7 +33,7 @@ impl Stage {
 
 /// What the line is to say, if anything, and whether it is there.
 #[derive(Drop)]
-struct Now {
+struct LineState {
     stage: Option<Stage>,
     is_shown: bool,
     is_over: bool,
@@ -44,7 +44,7 @@ struct Now {
 pub struct Line {
     /// Whether standard output goes to a terminal, too.
     beside_output: bool,
-    now: Mutex<Now>,
+    now: Mutex<LineState>,
     over: Parker,
 }
 
@@ -53,7 +53,7 @@ impl Line {
     pub fn new(beside_output: bool) -> Line {
         Line {
             beside_output,
-            now: Mutex::new(Now {
+            now: Mutex::new(LineState {
                 stage: None,
                 is_shown: false,
                 is_over: false,

@@ -15,8 +15,8 @@ use std::thread::Threads;
 
 /// The addresses that are asked, and the faulty lines of their file.
 #[derive(Drop)]
-struct Asked {
-    addresses: Vec<Addr>,
+struct Addresses {
+    asked: Vec<Addr>,
     faulty: FaultyLines,
 }
 
@@ -34,37 +34,32 @@ where
     E: Write,
 {
     let run = &request.run;
-    let mut asked = named_addresses(alloc, request)?;
+    let mut addresses = named_addresses(alloc, request)?;
     let texts = read_feeds(rt, alloc, run, screen)?;
     if let Some(name) = request.more {
         let text = read_file(rt, name)?;
-        add_addresses(text.as_slice(), &mut asked)?;
+        add_addresses(text.as_slice(), &mut addresses)?;
     }
     let batch = run.batch as usize;
-    let addresses = asked.addresses.as_slice();
     let mut out = screen.beside(texts.len(), out);
-    match lookup_texts(
+    let taken = lookup_texts(
         rt,
         alloc,
         texts.as_slice(),
         run.limit,
         batch,
-        addresses,
+        addresses.asked.as_slice(),
         &mut out,
-    ) {
-        Ok(taken) => {
-            if let Some(name) = request.more {
-                tell_faulty(screen, name, asked.faulty);
-            }
-            let status = tell_taken(screen, run.files.as_slice(), &taken);
-            Ok(if status == 0 && asked.faulty.count > 0 {
-                NOT_TAKEN
-            } else {
-                status
-            })
-        }
-        Err(fault) => Err(Stop::Fault(fault)),
+    )?;
+    if let Some(name) = request.more {
+        tell_faulty(screen, name, addresses.faulty);
     }
+    let status = tell_taken(screen, run.files.as_slice(), &taken);
+    Ok(if status == 0 && addresses.faulty.count > 0 {
+        NOT_TAKEN
+    } else {
+        status
+    })
 }
 
 /// Lists the routes, or only the best of each prefix.
@@ -85,7 +80,7 @@ where
     let batch = run.batch as usize;
     let best = request.only_best;
     let mut out = screen.beside(texts.len(), out);
-    match table_texts(
+    let taken = table_texts(
         rt,
         alloc,
         texts.as_slice(),
@@ -93,10 +88,8 @@ where
         batch,
         best,
         &mut out,
-    ) {
-        Ok(taken) => Ok(tell_taken(screen, run.files.as_slice(), &taken)),
-        Err(fault) => Err(Stop::Fault(fault)),
-    }
+    )?;
+    Ok(tell_taken(screen, run.files.as_slice(), &taken))
 }
 
 /// Tells of each file what was not taken, and gives the status.
@@ -108,32 +101,32 @@ fn tell_taken<E: Write>(err: &mut E, names: &[&str], taken: &Taken) -> u8 {
 }
 
 /// The addresses of the command line.
-fn named_addresses<'a>(alloc: Global, request: &LookupRequest<'a>) -> Result<Asked, Stop<'a>> {
+fn named_addresses<'a>(alloc: Global, request: &LookupRequest<'a>) -> Result<Addresses, Stop<'a>> {
     if request.addresses.is_empty() && request.more.is_none() {
         return Err(Stop::NothingAsked);
     }
-    let mut addresses = Vec::new(alloc);
+    let mut asked = Vec::new(alloc);
     for word in &request.addresses {
         let Ok(address) = Addr::parse(word.as_bytes()) else {
             return Err(Stop::NoAddress(word));
         };
-        addresses.push(address)?;
+        asked.push(address)?;
     }
     let faulty = FaultyLines::none();
-    Ok(Asked { addresses, faulty })
+    Ok(Addresses { asked, faulty })
 }
 
 /// Puts the addresses of a text behind the others, and counts its faulty lines.
-fn add_addresses(text: &[u8], asked: &mut Asked) -> Result<(), AllocError> {
+fn add_addresses(text: &[u8], addresses: &mut Addresses) -> Result<(), AllocError> {
     let mut rest = text;
     for number in 1..usize::MAX {
         let Some((line, behind)) = next_line(rest) else {
             break;
         };
         match parse_address_line(line) {
-            Ok(Some(address)) => asked.addresses.push(address)?,
+            Ok(Some(address)) => addresses.asked.push(address)?,
             Ok(None) => {}
-            Err(fault) => asked.faulty.put(number, fault),
+            Err(fault) => addresses.faulty.put(number, fault),
         }
         rest = behind;
     }
