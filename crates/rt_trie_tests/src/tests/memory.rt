@@ -92,37 +92,39 @@ fn nothing_but_a_new_prefix_asks_for_memory(rt: HostRuntime) {
     }
 }
 
+/// New prefixes in turn, each with how many boxes it asks for.
+static NEW: [(&str, u64); 14] = [
+    // Where nothing was; below a leaf, a fork beside it, and at that fork.
+    ("10.1.0.0/16", 1),
+    ("10.1.2.0/24", 1),
+    ("10.2.0.0/16", 2),
+    ("10.0.0.0/14", 1),
+    // Above a full node, beside it, and above it below a fork.
+    ("10.0.0.0/8", 1),
+    ("192.0.2.0/24", 2),
+    ("0.0.0.0/1", 1),
+    // Above a leaf, beside one below a full node, above that fork and at it.
+    ("192.0.0.0/8", 1),
+    ("192.0.3.0/24", 2),
+    ("192.0.0.0/16", 1),
+    ("192.0.2.0/23", 1),
+    // Beside a full node, beside a fork, and at the root.
+    ("193.0.0.0/8", 2),
+    ("208.0.0.0/8", 2),
+    ("0.0.0.0/0", 1),
+];
+
 /// A new prefix asks for one box where it goes below a leaf, above a node or to a fork, and beside a node for two.
 /// Fails where an insertion asks for a box more than it keeps, above a node, at a fork, below a leaf or beside a node:
 /// its prefix, and 2, instead of 1, or 3, instead of 2.
 #[test]
 fn a_new_prefix_asks_for_a_box_or_two(rt: HostRuntime) {
-    let rows = [
-        // Where nothing was; below a leaf, a fork beside it, and at that fork.
-        ("10.1.0.0/16", 1),
-        ("10.1.2.0/24", 1),
-        ("10.2.0.0/16", 2),
-        ("10.0.0.0/14", 1),
-        // Above a full node, beside it, and above it below a fork.
-        ("10.0.0.0/8", 1),
-        ("192.0.2.0/24", 2),
-        ("0.0.0.0/1", 1),
-        // Above a leaf, beside one below a full node, above that fork and at it.
-        ("192.0.0.0/8", 1),
-        ("192.0.3.0/24", 2),
-        ("192.0.0.0/16", 1),
-        ("192.0.2.0/23", 1),
-        // Beside a full node, beside a fork, and at the root.
-        ("193.0.0.0/8", 2),
-        ("208.0.0.0/8", 2),
-        ("0.0.0.0/0", 1),
-    ];
     let memory = Counted::new(rt.alloc());
     let mut trie: CountedTrie<'_> = Trie::new(&memory);
-    for (text, boxes) in rows {
+    for (text, boxes) in NEW.iter() {
         let asked = memory.asked();
         put_new(&rt, &mut trie, prefix(&rt, text), 1);
-        assert_eq!(&rt; memory.asked().wrapping_sub(asked), boxes, "{text}");
+        assert_eq!(&rt; memory.asked().wrapping_sub(asked), *boxes, "{text}");
     }
 }
 

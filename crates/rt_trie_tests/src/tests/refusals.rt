@@ -115,44 +115,51 @@ fn refuse_each_box(
     assert_eq!(rt; trie.len(), pairs.len().wrapping_add(1));
 }
 
+const WIDE: &str = "10.0.0.0/8";
+
+const ONE: &str = "10.1.0.0/16";
+
+const TWO: &str = "10.2.0.0/16";
+
+const APART: &str = "192.0.2.0/24";
+
+const LOW: &str = "1.0.0.0/8";
+
+/// What is stored, and the new prefix.
+static INSERTIONS: [(&[&str], &str); 19] = [
+    // A leaf where nothing was.
+    (&[], WIDE),
+    // A leaf that becomes a full node, with the new one on either side.
+    (&[WIDE], ONE),
+    (&[WIDE], "10.255.0.0/16"),
+    // A fork that becomes a full node.
+    (&[ONE, TWO], "10.0.0.0/14"),
+    // A full node above a leaf, a fork and a full node, on either side.
+    (&[ONE], WIDE),
+    (&[ONE, TWO], WIDE),
+    (&[WIDE, ONE], "0.0.0.0/0"),
+    (&[APART], "192.0.0.0/16"),
+    (&[APART], "0.0.0.0/0"),
+    // A fork beside a leaf, a fork and a full node, on either side: two boxes.
+    (&[ONE], APART),
+    (&[ONE], LOW),
+    (&[ONE, TWO], APART),
+    (&[ONE, TWO], LOW),
+    (&[WIDE, ONE], APART),
+    (&[WIDE, ONE], LOW),
+    // And further down: on the left and on the right of a fork and of a full node.
+    (&[ONE, TWO], "10.1.2.0/24"),
+    (&[ONE, TWO], "10.2.2.0/24"),
+    (&[WIDE, ONE], "10.1.2.0/24"),
+    (&[WIDE, "10.255.0.0/16"], "10.255.2.0/24"),
+];
+
 /// Fails where `insert` keeps a box that it was given when the next is refused, a fork's when the leaf's is: the region
 /// is not as it was.
 #[test]
 fn each_box_of_each_insertion_refused_in_turn(rt: HostRuntime) -> Result<(), Fail> {
     let heap = LocalHeap::new(rt.alloc(), 2_048)?;
-    let wide = "10.0.0.0/8";
-    let one = "10.1.0.0/16";
-    let two = "10.2.0.0/16";
-    let apart = "192.0.2.0/24";
-    let low = "1.0.0.0/8";
-    let rows: [(&[&str], &str); 19] = [
-        // A leaf where nothing was.
-        (&[], wide),
-        // A leaf that becomes a full node, with the new one on either side.
-        (&[wide], one),
-        (&[wide], "10.255.0.0/16"),
-        // A fork that becomes a full node.
-        (&[one, two], "10.0.0.0/14"),
-        // A full node above a leaf, a fork and a full node, on either side.
-        (&[one], wide),
-        (&[one, two], wide),
-        (&[wide, one], "0.0.0.0/0"),
-        (&[apart], "192.0.0.0/16"),
-        (&[apart], "0.0.0.0/0"),
-        // A fork beside a leaf, a fork and a full node, on either side: two boxes.
-        (&[one], apart),
-        (&[one], low),
-        (&[one, two], apart),
-        (&[one, two], low),
-        (&[wide, one], apart),
-        (&[wide, one], low),
-        // And further down: on the left and on the right of a fork and of a full node.
-        (&[one, two], "10.1.2.0/24"),
-        (&[one, two], "10.2.2.0/24"),
-        (&[wide, one], "10.1.2.0/24"),
-        (&[wide, "10.255.0.0/16"], "10.255.2.0/24"),
-    ];
-    for (stored, new) in rows {
+    for (stored, new) in INSERTIONS.iter() {
         let pairs = numbered(&rt, rt.alloc(), stored);
         refuse_each_box(&rt, rt.alloc(), &heap, &pairs, prefix(&rt, new));
         assert_eq!(&rt; heap.used(), 0);
