@@ -1,12 +1,12 @@
 //! Runs of random texts, each explained by some order of its feeds' visits; and outputs that no order explains.
 use crate::tests::judge::explains;
-use crate::tests::rows::run;
+use crate::tests::rows::{is_early, run};
 use std::alloc::{AllocError, Global};
 use std::process::Abort;
 use std::sync::Wait;
 use std::test::Fail;
 use std::thread::Threads;
-use std::time::{Clock, Duration, Instant};
+use std::time::{Clock, Instant};
 use std::{str, thread};
 
 /// Few prefixes, so that feeds meet, and addresses that they cover.
@@ -170,13 +170,6 @@ struct RunCounts {
     interleaved: usize,
 }
 
-/// Whether four seconds haven't passed.
-fn is_early<R: Clock>(rt: &R, start: Instant) -> bool {
-    start
-        .elapsed(rt)
-        .is_ok_and(|past| past < Duration::from_secs(4))
-}
-
 /// Judges up to 100 runs of so many feeds with so many lines each, on a busy machine as many as begin in four seconds.
 fn judge_runs<R: Threads + Wait + Clock + Sync + Abort>(
     rt: &R,
@@ -187,7 +180,7 @@ fn judge_runs<R: Threads + Wait + Clock + Sync + Abort>(
 ) -> Result<(), Fail> {
     let start = Instant::now(rt)?;
     for seed in 1..=100 {
-        if !is_early(rt, start) {
+        if !is_early(rt, start, 4) {
             break;
         }
         let drawn = draw_texts(alloc, seed, feeds, lines)?;

@@ -8,6 +8,7 @@ use std::process::Abort;
 use std::sync::Wait;
 use std::test::Fail;
 use std::thread::Threads;
+use std::time::{Clock, Duration, Instant};
 
 /// A worked run: a feed's text, the limit, and what has to be written with which status.
 pub struct Row {
@@ -26,6 +27,13 @@ pub fn one_text(alloc: Global, text: &[u8]) -> Result<Vec<Vec<u8>>, Fail>
     let mut texts = Vec::new(alloc);
     texts.push(Vec::from_slice(alloc, text)?)?;
     Ok(texts)
+}
+
+/// Whether so many seconds haven't passed.
+pub fn is_early<R: Clock>(rt: &R, start: Instant, seconds: u64) -> bool {
+    start
+        .elapsed(rt)
+        .is_ok_and(|past| past < Duration::from_secs(seconds))
 }
 
 /// How a run ended, and what it wrote.

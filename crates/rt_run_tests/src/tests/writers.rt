@@ -2,7 +2,7 @@
 ghost use Rattle.std.specs.Prelude.{◌≡◌, ◌≤◌, length, vec_len, IfOk};
 ghost use Rattle.rt_rib.specs.declared.limits.TheConstants.{MOST_FEEDS};
 
-use crate::tests::rows::one_text;
+use crate::tests::rows::{is_early, one_text};
 use rt_cidr::OUTPUT_BYTES;
 use rt_run::{AppFault, run_texts};
 use std::alloc::Global;
@@ -11,6 +11,7 @@ use std::process::Abort;
 use std::sync::Wait;
 use std::test::Fail;
 use std::thread::Threads;
+use std::time::Instant;
 
 /// Takes at most so many bytes a call and so many in all, answers a fault of this kind once, and takes the rest: whoever
 /// goes on after the fault is seen by what stands there. A flush counts as a call, and is a fault.
@@ -94,10 +95,10 @@ fn stops<R: Threads + Wait + Sync + Abort>(
     assert!(rt; stopped, "after {room} bytes, {at_once} a call");
 }
 
-/// The first bytes, those about the end of a buffer, and some others.
+/// The first bytes, of three lines, those about the end of a buffer, and some others.
 fn is_tried(room: usize) -> bool {
     let past = room % OUTPUT_BYTES;
-    room < 1_000 || past < 4 || past >= OUTPUT_BYTES - 4 || past % 1_999 == 0
+    room < 200 || past < 4 || past >= OUTPUT_BYTES - 4 || past % 1_999 == 0
 }
 
 /// Lets the writer fail after each count of bytes that is tried.
@@ -168,43 +169,38 @@ fn a_fault_in_any_buffer_leaves_a_beginning(rt: HostRuntime) -> Result<(), Fail>
     Ok(())
 }
 
-/// Lets the writer fail after each count of bytes, of an output of more than one buffer, that leaves this remainder.
-fn stops_after_each<R: Threads + Wait + Sync + Abort>(
-    rt: &R,
-    alloc: Global,
-    remainder: usize,
-) -> Result<(), Fail> {
-    let (texts, output) = looked_up(alloc, 920)?;
-    assert!(rt; output.len() > OUTPUT_BYTES);
-    for room in 0..output.len() {
-        if room % 2 == remainder {
-            stops(
-                rt,
-                alloc,
-                texts.as_slice(),
-                output.as_slice(),
-                room,
-                usize::MAX,
-                ErrorKind::Other,
-            );
-        }
-    }
-    Ok(())
-}
+/// Greater than the length of the output below, and prime: multiples of it leave each remainder once, now here, now there.
+const STRIDE: usize = 104_729;
 
-/// Each of these two takes some ten seconds.
+/// Lets the writer fail after each count of bytes of an output of more than one buffer, now near its beginning, now near its
+/// end; on a busy machine after as many of them as begin in twenty seconds.
 /// Fails where `run_texts` gives another fault than `Write` where the writer fails.
 /// Fails where a byte more is written after the fault: `after 0 bytes`.
 #[test]
-fn a_fault_after_any_even_number_of_bytes_leaves_a_beginning(rt: HostRuntime) -> Result<(), Fail> {
-    stops_after_each(&rt, rt.alloc(), 0)
-}
-
-/// Fails where `run_texts` gives another fault than `Write` where the writer fails.
-/// Fails where a byte more is written after the fault: `after 1 bytes`.
-#[test]
-fn a_fault_after_any_odd_number_of_bytes_leaves_a_beginning(rt: HostRuntime) -> Result<(), Fail> {
-    stops_after_each(&rt, rt.alloc(), 1)
+fn a_fault_after_any_number_of_bytes_leaves_a_beginning(rt: HostRuntime) -> Result<(), Fail> {
+    let alloc = rt.alloc();
+    let (texts, output) = looked_up(alloc, 920)?;
+    let len = output.len();
+    assert!(rt; OUTPUT_BYTES < len && len < STRIDE);
+    let start = Instant::now(&rt)?;
+    let mut tried = 0usize;
+    for multiple in 0..len {
+        if !is_early(&rt, start, 20) {
+            break;
+        }
+        stops(
+            &rt,
+            alloc,
+            texts.as_slice(),
+            output.as_slice(),
+            multiple.wrapping_mul(STRIDE) % len,
+            usize::MAX,
+            ErrorKind::Other,
+        );
+        tried = multiple;
+    }
+    assert!(rt; tried > 100, "{tried} of {len}");
+    Ok(())
 }
 
 /// Fails where `put` returns `WriteZero` at once.
