@@ -2,7 +2,6 @@ pub mod Book
 pub mod Cover
 pub mod Gate
 pub mod Replay
-pub mod Run
 pub mod Shared
 pub mod Tally
 pub mod Trie

@@ -7,7 +7,6 @@ mod cover;
 mod gate;
 mod lock;
 mod replay;
-mod run;
 mod shared;
 mod trie;
 
@@ -38,14 +37,16 @@ fn tell_alone<W: Write>(alloc: Global, out: &mut W) -> Result<()> {
     let narrow = (Prefix::parse(b"10.1.0.0/16")?, 2);
     let addr = Addr::parse(b"10.1.2.3")?;
     if let Some((prefix, port)) = trie::port_of(alloc, wide, narrow, addr)? {
-        writeln!(out, "{prefix} is the longest, its port {port}")?;
+        prefix.write_to(out)?;
+        writeln!(out, " is the longest, its port {port}")?;
     }
 
     let announce = add(b"10.0.0.0/8", 100, b"192.0.2.1")?;
     let replies = book::two_feeds(alloc, announce, Cmd::Lookup { addr })?;
     if let (Reply::Added, Reply::Found(route)) = replies {
-        let (prefix, feed) = (route.prefix, route.feed);
-        writeln!(out, "{prefix} is found, a route of feed {feed}")?;
+        let feed = route.feed;
+        route.prefix.write_to(out)?;
+        writeln!(out, " is found, a route of feed {feed}")?;
     }
 
     let alone = replay::somebody_inside(alloc, 1, &[0, 0, 0, 0])?;
@@ -57,7 +58,7 @@ fn tell_alone<W: Write>(alloc: Global, out: &mut W) -> Result<()> {
     Ok(())
 }
 
-/// With a lock: a value lent to two threads, a shared table, a gate and a whole run.
+/// With a lock: a value lent to two threads, a shared table and a gate.
 fn tell_together<R: Threads + Wait + Sync, W: Write>(
     rt: &R,
     alloc: Global,
@@ -77,10 +78,6 @@ fn tell_together<R: Threads + Wait + Sync, W: Write>(
     write_report(out, 1, &report)?;
     let entries = book.journal().len();
     writeln!(out, "entries in the journal: {entries}")?;
-
-    let texts = [b"add 10.0.0.0/8 100 192.0.2.1\n".to_vec(alloc)?];
-    let output = run::output_of(rt, alloc, &texts)?;
-    out.write_all(output.as_slice())?;
     Ok(())
 }
 
