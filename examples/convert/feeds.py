@@ -226,7 +226,8 @@ class Entries(Lines):
 
 
 def text_of(data):
-    return data.decode("utf-8", errors="replace").replace("\r\n", "\n")
+    text = data.decode("utf-8", errors="replace")
+    return text.replace("\r\n", "\n") if "\r" in text else text
 
 
 class Json(Input):
