@@ -1,4 +1,5 @@
 //! A gate that takes no memory.
+ghost use Rattle.std.specs.Prelude.{[]};
 
 use rt_feed::{Gate, Outcome};
 use rt_rib::{Cmd, Refused, Reply};
@@ -47,6 +48,8 @@ impl Gate for Remembering {
     ghost name = { λ _. tt };
 
     ghost holds = { λ _ _. Unit {0} };
+
+    ghost holds_some = { λ _. ([], tt) };
 
     fn apply<R: Wait>(&mut self, _rt: &R, cmd: Cmd) -> Result<Reply, Refused> {
         self.remember(cmd);

@@ -3,3 +3,4 @@ pub mod Fields
 pub mod Filling
 pub mod Lines
 pub mod FeedRuns
+pub mod HeldVisits

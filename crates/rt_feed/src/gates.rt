@@ -7,7 +7,8 @@ use rt_shared::Outcome;
 use std::sync::Wait;
 
 /// Answers the commands of one feed. A gate has a name, which no call changes, and holds visits: what each call
-/// answered, in order. A command that was refused is in no visit. A gate can go to a thread.
+/// answered, in order. A command that was refused is in no visit. Each gate holds some visits, so what it gains says
+/// something of it. A gate can go to a thread.
 pub trait Gate: Send {
     /// What names a gate.
     ghost Name: { Type 0 };
@@ -35,4 +36,7 @@ pub trait Gate: Send {
         ensures name { name self.new ≡ name self.old }
         ensures ok { OnOk result (AnswersBatch holds self.old self.new cmds.now out.old.items out.new.items) }
         ensures err { OnErr result ((out.new.items ≡ out.old.items) × Gains holds self.old self.new ([] ∷ [])) };
+
+    /// No gate holds nothing: there are visits that it holds.
+    ghost holds_some: { (gate : Self) → (visits : List Visit) × holds gate visits };
 }

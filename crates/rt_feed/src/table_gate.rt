@@ -57,12 +57,15 @@ impl<'a, const L: u32> Gate for TableGate<'a, L> {
     ghost use Rattle.rt_shared.specs.Table.{SharedId};
     ghost use Rattle.rt_shared.specs.Visits.{Uncut};
     ghost use Rattle.rt_feed.specs.Visits.{entries};
+    ghost use Rattle.rt_feed.specs.inside.HeldVisits.{visits_in};
 
     ghost Name = { SharedId × ℕ };
 
     ghost name = { λ gate. (gate.table, gate.feed) };
 
     ghost holds = { λ gate visits. Uncut gate.feed (map (entries gate.feed) visits) gate.seen };
+
+    ghost holds_some = { λ gate. visits_in gate.feed gate.seen };
 
     fn apply<R: Wait>(&mut self, rt: &R, cmd: Cmd) -> Result<Reply, Refused> {
         self.table.apply(rt, &mut self.pass, cmd)

@@ -5,3 +5,4 @@ pub mod Replay
 pub mod Shared
 pub mod Tally
 pub mod Trie
+pub mod inside

@@ -1,5 +1,5 @@
 //! `rt_feed`: a feed's text through a gate of one's own, here to a book that no other feed shares.
-ghost use Rattle.std.specs.Prelude.{◌≡◌, ◌++◌, IfOk};
+ghost use Rattle.std.specs.Prelude.{◌≡◌, ◌++◌, IfOk, All};
 ghost use Rattle.rt_feed.specs.Visits.{entries, reply_to};
 ghost use Rattle.walkthrough.specs.Gate.{IsRunOf};
 
@@ -16,6 +16,7 @@ const LIMIT: u32 = 10;
 pub struct OwnBook {
     /// The book.
     pub book: Book<Global>,
+    ghost by_feed_1: { All (λ e. e.feed ≡ 1) book.journal },
 }
 
 impl OwnBook {
@@ -32,12 +33,15 @@ impl OwnBook {
 
 impl Gate for OwnBook {
     ghost use Rattle.walkthrough.specs.Gate.{HasVisits};
+    ghost use Rattle.walkthrough.specs.inside.HeldVisits.{all_in_one};
 
     ghost Name = { Unit {0} };
 
     ghost name = { λ _. tt };
 
     ghost holds = { λ gate visits. HasVisits gate.book.journal visits };
+
+    ghost holds_some = { λ gate. all_in_one gate.book.journal gate.by_feed_1 };
 
     fn apply<R: Wait>(&mut self, _rt: &R, cmd: Cmd) -> Result<Reply, Refused> {
         self.book.apply(1, cmd)

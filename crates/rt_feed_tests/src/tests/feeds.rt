@@ -1,5 +1,5 @@
 //! Feeds through gates that record, refuse and wait for one another.
-ghost use Rattle.std.specs.Prelude.{◌≤◌};
+ghost use Rattle.std.specs.Prelude.{◌≤◌, []};
 
 use rt_feed::*;
 use rt_rib::{Cmd, Refused, Reply};
@@ -31,6 +31,8 @@ impl Gate for Recording {
     ghost name = { λ _. tt };
 
     ghost holds = { λ _ _. Unit {0} };
+
+    ghost holds_some = { λ _. ([], tt) };
 
     fn apply<R: Wait>(&mut self, _rt: &R, _cmd: Cmd) -> Result<Reply, Refused> {
         self.calls = self.calls.wrapping_add(1);
@@ -91,6 +93,8 @@ impl<'a> Gate for Meeting<'a> {
     ghost name = { λ _. tt };
 
     ghost holds = { λ _ _. Unit {0} };
+
+    ghost holds_some = { λ _. ([], tt) };
 
     fn apply<R: Wait>(&mut self, _rt: &R, _cmd: Cmd) -> Result<Reply, Refused> {
         if self.gathering.have_met() {

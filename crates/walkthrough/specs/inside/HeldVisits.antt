@@ -1,0 +1,20 @@
+-- Why a gate to a book of its own holds some visits: all that its journal has may be one.
+use Rattle.std.proofs.Common.{◌≡◌, ℕ, List, [], ◌∷◌, ◌++◌, All, map, refl, sym, ap, ◌∙◌, append-nil}
+use Rattle.std.proofs.lemmas.List.Elements.{All-head, All-tail}
+use Rattle.rt_rib.specs.declared.commands.Entry.{Entry}
+use Rattle.rt_feed.specs.Visits.{Visit, entries}
+use Rattle.walkthrough.specs.Gate.{HasVisits}
+
+-- the commands of a journal with their replies
+told : List Entry → Visit
+told journal = map (λ e. (e.cmd, e.reply)) journal
+
+-- as entries of feed 1 they are the journal, if it has no others
+told_by_1 : (journal : List Entry) → All (λ e. e.feed ≡ 1) journal → entries 1 (told journal) ≡ journal
+told_by_1 [] own = refl
+told_by_1 (e ∷ es) own =
+    ap (λ (l : List Entry). record { feed = 1; cmd = e.cmd; reply = e.reply } ∷ l) (told_by_1 es (All-tail (λ (x : Entry). x.feed ≡ 1) e es own))
+    ∙ ap (λ (n : ℕ). record { feed = n; cmd = e.cmd; reply = e.reply } ∷ es) (sym (All-head (λ (x : Entry). x.feed ≡ 1) e es own))
+
+pub all_in_one : (journal : List Entry) → All (λ e. e.feed ≡ 1) journal → (visits : List Visit) × HasVisits journal visits
+all_in_one journal own = (told journal ∷ [], sym (ap (entries 1) (append-nil (told journal)) ∙ told_by_1 journal own))
