@@ -2,16 +2,14 @@
 use Rattle.std.proofs.Common.{◌≡◌, ℕ, ◌+◌, ◌<◌, ◌≤◌, inl, inr, List, [], ◌∷◌, ◌++◌, ◌≢◌, suc, add-zero, length, map, All, Option, Some, None, Ok, sym, ◌∙◌, ap, refl, subst, arith, append_assoc, length-append}
 use Rattle.std.proofs.lemmas.List.{append-nil}
 use Rattle.std.proofs.lemmas.List.Elements.{All-nil, All-cons, All-append, All-weaker}
-use Rattle.rt_shared.specs.declared.outcome.Outcome.TheVariants as outcome
 use Rattle.rt_feed.specs.declared.report.Line.{Line}
 use Rattle.rt_feed.specs.declared.report.Answer.{Answer}
-use Rattle.rt_feed.specs.Reports.{has_refusal, has_fault}
 use Rattle.rt_feed.specs.declared.versions.Version.{Version}
 use Rattle.rt_feed.specs.declared.versions.Version.TheVariants.{One, Two}
 use Rattle.rt_feed.specs.Versions.{IsBody}
 use Rattle.rt_feed.specs.Grammar.{AnswersLine}
 use Rattle.rt_feed.specs.Lines.{CutsLine}
-use Rattle.rt_feed.specs.LineOutcomes.{LineOutcome, skipped, faulty, asked, some_refused, some_faulty, LinesBecome, Becomes, heading, reading, line_answer, numbered, report_lines, asked_by, asked_of}
+use Rattle.rt_feed.specs.LineOutcomes.{LineOutcome, skipped, faulty, asked, LinesBecome, Becomes, heading, reading, line_answer, numbered, report_lines, asked_by, asked_of}
 
 -- more lines after some
 pub become-append : (version : Version) (lines middle rest : List ℕ) (outcomes more : List LineOutcome) → LinesBecome version lines outcomes middle → LinesBecome version middle more rest
@@ -159,18 +157,3 @@ report_lines-below number (outcome ∷ outcomes) =
 pub asked_of-append : (outcomes more : List LineOutcome) → asked_of (outcomes ++ more) ≡ asked_of outcomes ++ asked_of more
 asked_of-append [] more = refl
 asked_of-append (outcome ∷ outcomes) more = ap (λ asked. asked_by outcome ++ asked) (asked_of-append outcomes more) ∙ sym (append_assoc (asked_by outcome) (asked_of outcomes) (asked_of more))
-
--- a report tells of a refusal where some command was refused, and of a fault where some line was faulty
-pub has_refusal-report_lines : (number : ℕ) (outcomes : List LineOutcome) → has_refusal (report_lines number outcomes) ≡ some_refused outcomes
-has_refusal-report_lines number [] = refl
-has_refusal-report_lines number (skipped ∷ outcomes) = has_refusal-report_lines (number + 1) outcomes
-has_refusal-report_lines number (faulty fault ∷ outcomes) = has_refusal-report_lines (number + 1) outcomes
-has_refusal-report_lines number (asked cmd outcome.Refused ∷ outcomes) = refl
-has_refusal-report_lines number (asked cmd (outcome.Did reply) ∷ outcomes) = has_refusal-report_lines (number + 1) outcomes
-
-pub has_fault-report_lines : (number : ℕ) (outcomes : List LineOutcome) → has_fault (report_lines number outcomes) ≡ some_faulty outcomes
-has_fault-report_lines number [] = refl
-has_fault-report_lines number (skipped ∷ outcomes) = has_fault-report_lines (number + 1) outcomes
-has_fault-report_lines number (faulty fault ∷ outcomes) = refl
-has_fault-report_lines number (asked cmd outcome.Refused ∷ outcomes) = has_fault-report_lines (number + 1) outcomes
-has_fault-report_lines number (asked cmd (outcome.Did reply) ∷ outcomes) = has_fault-report_lines (number + 1) outcomes

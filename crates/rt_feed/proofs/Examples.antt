@@ -6,10 +6,8 @@ use Rattle.std.proofs.lemmas.Bool.{or_parts, eqb-false}
 use Rattle.std.proofs.lemmas.List.Elements.{All-nil, All-cons}
 use Rattle.std.specs.List.{All, list_any}
 use Rattle.rt_cidr.specs.declared.address.Addr.{Addr}
-use Rattle.rt_cidr.specs.declared.prefixes.TextFault.{TextFault}
-use Rattle.rt_cidr.specs.declared.prefixes.TextFault.TheVariants.{Text, Length, Bits}
+use Rattle.rt_cidr.specs.Cidr.{IsPrefix}
 use Rattle.rt_cidr.specs.Text.{IsDecimal, IsAddressText, IsPrefixText, address_text, prefix_text}
-use Rattle.rt_cidr.proofs.Promised.{pair_10_0_0_1_33, pair_10_0_0_1_8, length_before_bits, bit_past_the_length, a_bit_past_the_length_is_set}
 use Rattle.rt_cidr.proofs.Promised.{written_192_0_2_1, written_10_0_0_0_8, written_0, written_1, written_2, written_3, written_4, written_5, written_10, written_20, written_30, written_50, written_100, decimal_4294967296, no_address_without_a_dot, no_prefix_without_a_dot}
 use Rattle.rt_cidr.proofs.Promised.{decimal_is_decimal, decimal_one_number, address_text_is_address, pair_one_value, prefix_is_written}
 use Rattle.rt_cidr.proofs.Promised.{written_192_0_2_2, written_192_0_2_3, written_10_1_2_3, written_10_9_0_1, written_10_1_0_0_16, written_10_2_0_0_16, written_10_3_0_0_16, written_10_9_0_0_16}
@@ -25,17 +23,17 @@ use Rattle.rt_feed.specs.declared.parse.LineFault.TheVariants as fault
 use Rattle.rt_feed.specs.declared.report.Answer.TheVariants as answer
 use Rattle.rt_feed.specs.declared.versions.Version.TheVariants.{One, Two}
 use Rattle.rt_feed.specs.CommandText.{space, words, route_words, command_text, HasHop, HasCommand}
-use Rattle.rt_feed.specs.Grammar.{prefix, preference, hop, address, hash, is_skipped, fields, route_kinds, purge_kinds, kinds_after, prefix_fault, IsOfKind, IsFaultOf, IsFirstFault, IsFaultAmong, IsFaultAfter, IsFaultOfFields, AnswersLine}
+use Rattle.rt_feed.specs.Grammar.{prefix, preference, hop, address, hash, is_skipped, fields, purge_kinds, kinds_after, IsOfKind, IsPairText, IsFaultOf, IsFirstFault, IsFaultAfter, IsFaultOfFields, AnswersLine}
+use Rattle.rt_feed.proofs.Pairs.{pair-read}
 use Rattle.rt_feed.specs.Addresses.{AnswersAddressLine}
 use Rattle.rt_feed.specs.Lines.{lf, CutsLine}
 use Rattle.rt_feed.specs.Versions.{TellsTwo, IsBody, IsVersion}
-use Rattle.rt_feed.specs.LineOutcomes.{LineOutcome, skipped, faulty, asked, reading, heading, LinesBecome, Becomes, line_answer, answer_of, numbered, report_lines, asked_by, asked_of, was_refused, was_faulty, some_refused, some_faulty}
+use Rattle.rt_feed.specs.LineOutcomes.{LineOutcome, skipped, faulty, asked, reading, heading, LinesBecome, Becomes, line_answer, answer_of, numbered, report_lines, asked_by, asked_of}
 use Rattle.rt_feed.specs.Reports.{is_refusal, is_fault, NumbersRise, has_refusal, has_fault}
 use Rattle.rt_feed.specs.Visits.{visit_of, reply_to, entries, concatenated, piece_of, IsCut, Visit, Gains, AnswersBatch}
 use Rattle.rt_feed.specs.Printed.{hop_text, route_text, reply_text, fault_text, answer_text, line_text, report_text, row_text, count_text, rows_text, table_text, found_text}
-use Rattle.std.specs.Prelude.{◌↔◌, ◌⊎◌, ◌<◌, ◌≤◌, Option, IsSome, MatchOption, AllPairs, decimal, zip}
+use Rattle.std.specs.Prelude.{◌↔◌, ◌⊎◌, ◌<◌, ◌≤◌, ◌-◌, ◌^◌, ◌%◌, Option, IsSome, MatchOption, AllPairs, decimal, zip}
 use Rattle.rt_cidr.specs.declared.prefixes.Prefix.{Prefix}
-use Rattle.rt_cidr.specs.Reading.{ReadsPrefix}
 use Rattle.rt_rib.specs.declared.routes.Hop.{Hop}
 use Rattle.rt_shared.specs.declared.outcome.Outcome.{Outcome}
 use Rattle.rt_feed.specs.declared.report.Line.{Line}
@@ -164,10 +162,6 @@ after_each_name :
     ≡ Some (prefix ∷ preference ∷ hop One ∷ []) ∷ Some (prefix ∷ preference ∷ hop One ∷ []) ∷ Some (prefix ∷ []) ∷ Some (address ∷ []) ∷ Some [] ∷ None ∷ []
 after_each_name = refl
 
--- route_kinds
-of_version_2 : route_kinds Two ≡ prefix ∷ preference ∷ hop Two ∷ []
-of_version_2 = refl
-
 -- purge_kinds
 a_word_of_version_2 : purge_kinds Two ≡ Some []
 a_word_of_version_2 = refl
@@ -175,22 +169,38 @@ a_word_of_version_2 = refl
 no_word_of_version_1 : purge_kinds One ≡ None
 no_word_of_version_1 = refl
 
--- prefix_fault
-E3_E4_and_E5 : map prefix_fault (Text ∷ Length ∷ Bits ∷ []) ≡ fault.Text ∷ fault.PrefixLength ∷ fault.PrefixBits ∷ []
-E3_E4_and_E5 = refl
+-- IsPairText
+of_a_length_over_32 : IsPairText (codes "192.0.2.1/50") 3221225985 50
+of_a_length_over_32 =
+    (codes "50", omega arith, subst (λ digits. IsDecimal digits 50) written_50 (decimal_is_decimal 50 (omega arith)), rw written_192_0_2_1 refl)
+
+of_an_address_with_a_bit : IsPairText (codes "192.0.2.1/10") 3221225985 10
+of_an_address_with_a_bit =
+    (codes "10", omega arith, subst (λ digits. IsDecimal digits 10) written_10 (decimal_is_decimal 10 (omega arith)), rw written_192_0_2_1 refl)
+
+of_no_pair_without_a_dot : (base len : ℕ) → ¬ IsPairText (codes "10/33") base len
+of_no_pair_without_a_dot base len is = no_prefix_without_a_dot (codes "10/33") base len refl (pair-read (codes "10/33") base len is)
+
+what_a_pair_says :
+    (text : List ℕ) (base len : ℕ) → IsPairText text base len
+    → (digits : List ℕ) × (base < 4294967296) × IsDecimal digits len × (text ≡ address_text base ++ 47 ∷ digits)
+what_a_pair_says text base len h = h
 
 -- IsOfKind
-no_prefix_33 : ¬ IsOfKind prefix (codes "10.0.0.1/33")
-no_prefix_33 (p, same) =
-    let is : IsPrefixText (codes "10.0.0.1/33") p.base p.len = subst (λ text. IsPrefixText text p.base p.len) (sym same) (prefix_is_written p) in
-    let one = pair_one_value (codes "10.0.0.1/33") p.base 167772161 p.len 33 is pair_10_0_0_1_33 in
+no_prefix_50 : ¬ IsOfKind prefix (codes "192.0.2.1/50")
+no_prefix_50 (p, same) =
+    let is : IsPrefixText (codes "192.0.2.1/50") p.base p.len = subst (λ text. IsPrefixText text p.base p.len) (sym same) (prefix_is_written p) in
+    let one = pair_one_value (codes "192.0.2.1/50") p.base 3221225985 p.len 50 is (pair-read (codes "192.0.2.1/50") 3221225985 50 of_a_length_over_32) in
     omega (arith, one.1, p.is_prefix.short)
 
-no_prefix_with_a_bit : ¬ IsOfKind prefix (codes "10.0.0.1/8")
+a_bit_is_set : ¬ IsPrefix 3221225985 10
+a_bit_is_set h = let clear : 3221225985 % 2 ^ (32 - 10) ≡ 0 = h.clear in omega (arith, clear)
+
+no_prefix_with_a_bit : ¬ IsOfKind prefix (codes "192.0.2.1/10")
 no_prefix_with_a_bit (p, same) =
-    let is : IsPrefixText (codes "10.0.0.1/8") p.base p.len = subst (λ text. IsPrefixText text p.base p.len) (sym same) (prefix_is_written p) in
-    let one = pair_one_value (codes "10.0.0.1/8") p.base 167772161 p.len 8 is pair_10_0_0_1_8 in
-    a_bit_past_the_length_is_set (rw (one.0, one.1) at p.is_prefix)
+    let is : IsPrefixText (codes "192.0.2.1/10") p.base p.len = subst (λ text. IsPrefixText text p.base p.len) (sym same) (prefix_is_written p) in
+    let one = pair_one_value (codes "192.0.2.1/10") p.base 3221225985 p.len 10 is (pair-read (codes "192.0.2.1/10") 3221225985 10 of_an_address_with_a_bit) in
+    a_bit_is_set (rw (one.0, one.1) at p.is_prefix)
 
 no_prefix_33_by_1 : ¬ IsOfKind prefix (codes "10/33")
 no_prefix_33_by_1 (p, same) =
@@ -231,8 +241,14 @@ what_each_kind_is :
 what_each_kind_is field = (λ h. h, λ h. h, λ h. h, λ h. h)
 
 -- IsFaultOf
-a_length_of_33_is_E4 : IsFaultOf prefix (codes "10.0.0.1/33") fault.PrefixLength
-a_length_of_33_is_E4 = (Length, length_before_bits, refl)
+a_length_of_50_is_E4 : IsFaultOf prefix (codes "192.0.2.1/50") fault.PrefixLength
+a_length_of_50_is_E4 = (3221225985, 50, of_a_length_over_32, omega arith)
+
+a_bit_past_the_length_is_E5 : IsFaultOf prefix (codes "192.0.2.1/10") fault.PrefixBits
+a_bit_past_the_length_is_E5 = (3221225985, 10, of_an_address_with_a_bit, omega arith, a_bit_is_set)
+
+no_pair_is_E3 : IsFaultOf prefix (codes "10/33") fault.Text
+no_pair_is_E3 = of_no_pair_without_a_dot
 
 a_preference_is_E6 : IsFaultOf preference (codes "x") fault.Preference
 a_preference_is_E6 = refl
@@ -245,27 +261,25 @@ an_address_is_not_E7 h = cc
 
 the_fault_of_each_kind :
     (field : List ℕ) (answer : LineFault)
-    → (IsFaultOf prefix field answer → (reason : TextFault) × ReadsPrefix field (Err reason) × (answer ≡ prefix_fault reason))
+    → (IsFaultOf prefix field fault.Text → (base len : ℕ) → ¬ IsPairText field base len)
+    × (IsFaultOf prefix field fault.PrefixLength → (base len : ℕ) × IsPairText field base len × (32 < len))
+    × (IsFaultOf prefix field fault.PrefixBits → (base len : ℕ) × IsPairText field base len × (len ≤ 32) × ¬ IsPrefix base len)
+    × (¬ IsFaultOf prefix field fault.Command) × (¬ IsFaultOf prefix field fault.FieldCount) × (¬ IsFaultOf prefix field fault.Preference)
+    × (¬ IsFaultOf prefix field fault.Hop) × (¬ IsFaultOf prefix field fault.LineLength)
     × (IsFaultOf preference field answer → answer ≡ fault.Preference) × (IsFaultOf (hop One) field answer → answer ≡ fault.Hop)
     × (IsFaultOf address field answer → answer ≡ fault.Text)
-the_fault_of_each_kind field answer = (λ h. h, λ h. h, λ h. h, λ h. h)
-
--- no fault of a prefix is one of a preference
-of_a_prefix : (reason : TextFault) → fault.Preference ≢ prefix_fault reason
-of_a_prefix Text same = cc
-of_a_prefix Length same = cc
-of_a_prefix Bits same = cc
+the_fault_of_each_kind field answer = (λ h. h, λ h. h, λ h. h, λ h. h, λ h. h, λ h. h, λ h. h, λ h. h, λ h. h, λ h. h, λ h. h)
 
 -- IsFirstFault
-the_first_from_the_left : IsFirstFault (prefix ∷ preference ∷ []) (codes "10.0.0.1/33" ∷ codes "4294967296" ∷ []) fault.PrefixLength
-the_first_from_the_left = inl (no_prefix_33, a_length_of_33_is_E4)
+the_first_from_the_left : IsFirstFault (prefix ∷ preference ∷ []) (codes "192.0.2.1/50" ∷ codes "4294967296" ∷ []) fault.PrefixLength
+the_first_from_the_left = inl (no_prefix_50, a_length_of_50_is_E4)
 
 the_second_where_the_first_is_right : IsFirstFault (prefix ∷ preference ∷ []) (codes "10.0.0.0/8" ∷ codes "4294967296" ∷ []) fault.Preference
 the_second_where_the_first_is_right = inr (is_10, inl (preference_too_large, refl))
 
-not_the_second_before_the_first : ¬ IsFirstFault (prefix ∷ preference ∷ []) (codes "10.0.0.1/33" ∷ codes "4294967296" ∷ []) fault.Preference
-not_the_second_before_the_first (inl first) = of_a_prefix first.1.0 first.1.2
-not_the_second_before_the_first (inr second) = no_prefix_33 second.0
+not_the_second_before_the_first : ¬ IsFirstFault (prefix ∷ preference ∷ []) (codes "192.0.2.1/50" ∷ codes "4294967296" ∷ []) fault.Preference
+not_the_second_before_the_first (inl first) = first.1
+not_the_second_before_the_first (inr second) = no_prefix_50 second.0
 
 none_where_a_list_is_at_its_end : (answer : LineFault) → (¬ IsFirstFault [] [] answer) × (¬ IsFirstFault (preference ∷ []) [] answer)
 none_where_a_list_is_at_its_end answer = (λ h. h, λ h. h)
@@ -275,30 +289,24 @@ this_one_or_a_later :
     → ((¬ IsOfKind preference field) × IsFaultOf preference field answer) ⊎ (IsOfKind preference field × IsFirstFault (address ∷ []) rest answer)
 this_one_or_a_later field rest answer h = h
 
--- IsFaultAmong
-a_field_too_few : IsFaultAmong (prefix ∷ []) [] fault.FieldCount
+-- IsFaultAfter
+a_field_too_few : IsFaultAfter (Some (prefix ∷ [])) [] fault.FieldCount
 a_field_too_few = inl ((λ same. omega (arith, same)), refl)
 
-one_too_many_before_the_first : ¬ IsFaultAmong (address ∷ []) (codes "10" ∷ codes "x" ∷ []) fault.Text
+one_too_many_before_the_first : ¬ IsFaultAfter (Some (address ∷ [])) (codes "10" ∷ codes "x" ∷ []) fault.Text
 one_too_many_before_the_first (inl many) = let same = many.1 in cc
 one_too_many_before_the_first (inr as_many) = let same : 2 ≡ 1 = as_many.0 in omega (arith, same)
 
 not_so_many_or_the_first :
-    (rest : List (List ℕ)) (answer : LineFault) → IsFaultAmong (preference ∷ []) rest answer
+    (rest : List (List ℕ)) (answer : LineFault) → IsFaultAfter (Some (preference ∷ [])) rest answer
     → ((length rest ≢ 1) × (answer ≡ fault.FieldCount)) ⊎ ((length rest ≡ 1) × IsFirstFault (preference ∷ []) rest answer)
 not_so_many_or_the_first rest answer h = h
 
--- IsFaultAfter
 no_command : IsFaultAfter None [] fault.Command
 no_command = refl
 
-a_command_with_a_field_too_few : IsFaultAfter (Some (prefix ∷ [])) [] fault.FieldCount
-a_command_with_a_field_too_few = a_field_too_few
-
-after_no_name_and_after_one :
-    (rest : List (List ℕ)) (answer : LineFault)
-    → (IsFaultAfter None rest answer → answer ≡ fault.Command) × (IsFaultAfter (Some (preference ∷ [])) rest answer → IsFaultAmong (preference ∷ []) rest answer)
-after_no_name_and_after_one rest answer = (λ h. h, λ h. h)
+after_no_name : (rest : List (List ℕ)) (answer : LineFault) → IsFaultAfter None rest answer → answer ≡ fault.Command
+after_no_name rest answer h = h
 
 -- IsFaultOfFields
 a_withdrawal_of_nothing : IsFaultOfFields One (codes "withdraw" ∷ []) fault.FieldCount
@@ -332,16 +340,16 @@ two_spaces_are_E2_before_E3 = inr (omega arith, refl, inl ((λ e. cc), refl))
 
 no_prefix_is_E3_before_E4 : AnswersLine One (codes "withdraw 10/33") (Err fault.Text)
 no_prefix_is_E3_before_E4 =
-    inr (omega arith, refl, inr (refl, inl (no_prefix_33_by_1, (Text, (λ base len. no_prefix_without_a_dot (codes "10/33") base len refl), refl))))
+    inr (omega arith, refl, inr (refl, inl (no_prefix_33_by_1, of_no_pair_without_a_dot)))
 
 no_address_is_E3 : AnswersLine One (codes "lookup 10") (Err fault.Text)
 no_address_is_E3 = inr (omega arith, refl, inr (refl, inl (no_address_10, refl)))
 
-a_length_of_33_is_E4_before_E5 : AnswersLine One (codes "withdraw 10.0.0.1/33") (Err fault.PrefixLength)
-a_length_of_33_is_E4_before_E5 = inr (omega arith, refl, inr (refl, inl (no_prefix_33, (Length, length_before_bits, refl))))
+a_length_of_50_is_E4_before_E5 : AnswersLine One (codes "withdraw 192.0.2.1/50") (Err fault.PrefixLength)
+a_length_of_50_is_E4_before_E5 = inr (omega arith, refl, inr (refl, inl (no_prefix_50, a_length_of_50_is_E4)))
 
-a_bit_too_many_is_E5_before_E6 : AnswersLine One (codes "add 10.0.0.1/8 4294967296 discard") (Err fault.PrefixBits)
-a_bit_too_many_is_E5_before_E6 = inr (omega arith, refl, inr (refl, inl (no_prefix_with_a_bit, (Bits, bit_past_the_length, refl))))
+a_bit_too_many_is_E5_before_E6 : AnswersLine One (codes "add 192.0.2.1/10 4294967296 discard") (Err fault.PrefixBits)
+a_bit_too_many_is_E5_before_E6 = inr (omega arith, refl, inr (refl, inl (no_prefix_with_a_bit, a_bit_past_the_length_is_E5)))
 
 a_preference_too_large_is_E6_before_E7 : AnswersLine One (codes "add 10.0.0.0/8 4294967296 discard") (Err fault.Preference)
 a_preference_too_large_is_E6_before_E7 = inr (omega arith, refl, inr (refl, inr (is_10, inl (preference_too_large, refl))))
@@ -498,34 +506,6 @@ a_faulty_line_asked_nothing = refl
 -- asked_of
 the_commands_alone : asked_of (skipped ∷ faulty fault.Command ∷ asked Dump (outcome.Did (Dumped 0)) ∷ []) ≡ (Dump, outcome.Did (Dumped 0)) ∷ []
 the_commands_alone = refl
-
--- was_refused
-one_that_was_done_was_not : was_refused (asked Dump (outcome.Did (Dumped 0))) ≡ false
-one_that_was_done_was_not = refl
-
-one_for_want_of_memory_was : was_refused (asked Dump outcome.Refused) ≡ true
-one_for_want_of_memory_was = refl
-
--- was_faulty
-a_comment_was_not : was_faulty skipped ≡ false
-a_comment_was_not = refl
-
-a_line_without_a_hop_was : was_faulty (faulty fault.Hop) ≡ true
-a_line_without_a_hop_was = refl
-
--- some_refused
-one_was_refused : some_refused (asked Dump (outcome.Did (Dumped 0)) ∷ asked Dump outcome.Refused ∷ []) ≡ true
-one_was_refused = refl
-
-a_fault_is_no_refusal : some_refused (faulty fault.Hop ∷ []) ≡ false
-a_fault_is_no_refusal = refl
-
--- some_faulty
-one_was_faulty : some_faulty (skipped ∷ faulty fault.Hop ∷ []) ≡ true
-one_was_faulty = refl
-
-a_refusal_is_no_fault : some_faulty (asked Dump outcome.Refused ∷ []) ≡ false
-a_refusal_is_no_fault = refl
 
 -- is_refusal
 a_refused_command : is_refusal answer.Refused ≡ true

@@ -5,7 +5,7 @@ use Rattle.rt_cidr.specs.declared.address.Addr.{Addr}
 use Rattle.rt_cidr.specs.declared.prefixes.Prefix.{Prefix}
 use Rattle.rt_cidr.specs.Reading.{ReadsAddress, ReadsPrefix}
 use Rattle.rt_cidr.specs.Text.{IsAddressText, IsPrefixText, address_text, prefix_text}
-use Rattle.rt_cidr.specs.Laws.{HasOneAnswer, WritesPrefix, WritesAddress, ReadsPrefixAgain, ReadsAddressAgain}
+use Rattle.rt_cidr.specs.Laws.{WritesPrefix, WritesAddress, ReadsPrefixAgain, ReadsAddressAgain}
 use Rattle.rt_rib.specs.declared.routes.Hop.{Hop}
 use Rattle.rt_rib.specs.declared.routes.Hop.TheVariants.{Via, Discard}
 use Rattle.rt_rib.specs.declared.commands.Cmd.{Cmd}
@@ -15,13 +15,14 @@ use Rattle.rt_feed.specs.declared.versions.Version.{Version}
 use Rattle.rt_feed.specs.declared.versions.Version.TheVariants.{Two}
 use Rattle.rt_feed.specs.CommandText.{words, route_words, HasHop, HasCommand}
 use Rattle.rt_feed.specs.Printed.{hop_text}
-use Rattle.rt_feed.specs.Grammar.{Kind, prefix, preference, hop, address, IsFaultOf, IsFirstFault, IsFaultAmong, IsFaultAfter, IsFaultOfFields, prefix_fault, kinds_after, route_kinds, fields, AnswersLine}
+use Rattle.rt_feed.specs.Grammar.{Kind, prefix, preference, hop, address, IsFaultOf, IsFirstFault, IsFaultAfter, IsFaultOfFields, kinds_after, fields, AnswersLine}
+use Rattle.rt_feed.specs.inside.Fields.{route_kinds, IsFaultAmong}
 use Rattle.rt_feed.specs.Laws.{LineHasOneAnswer}
+use Rattle.rt_feed.proofs.Pairs.{one_prefix_fault}
 use Rattle.rt_feed.proofs.Words.{address-ne-discard, fields-command_text, length-command_text, not_skipped-command_text}
 
 -- what rt_cidr promises of prefixes and addresses and their text
 pub record Texts : Type 0 where
-  pub prefix_once : HasOneAnswer ReadsPrefix
   pub prefix_written : WritesPrefix
   pub prefix_again : ReadsPrefixAgain
   pub address_written : WritesAddress
@@ -64,9 +65,7 @@ one_command texts version cmd other fits fits' same = absurd (omega (arith, ap (
 
 -- a field has one fault
 one_fault : Texts → (kind : Kind) (field : List ℕ) (one two : LineFault) → IsFaultOf kind field one → IsFaultOf kind field two → one ≡ two
-one_fault texts prefix field one two is other =
-    let same : Err is.0 ≡ Err other.0 = texts.prefix_once field (Err is.0) (Err other.0) is.1 other.1 in
-    let reason : is.0 ≡ other.0 = cc in is.2 ∙ (ap prefix_fault reason ∙ sym other.2)
+one_fault texts prefix field one two is other = one_prefix_fault field one two is other
 one_fault texts preference field one two is other = is ∙ sym other
 one_fault texts (hop version) field one two is other = is ∙ sym other
 one_fault texts address field one two is other = is ∙ sym other

@@ -41,7 +41,6 @@ HasHop version Discard = version ≡ Two
 abbrev pub HasCommand : Version → Cmd → Type 0
 HasCommand version (Add prefix pref hop) = (pref < 2 ^ 32) × HasHop version hop
 HasCommand version (Replace prefix pref hop) = (pref < 2 ^ 32) × HasHop version hop
-HasCommand version (Withdraw prefix) = Unit {0}
 HasCommand version (Lookup addr) = addr.0 < 2 ^ 32
-HasCommand version Dump = Unit {0}
 HasCommand version Purge = version ≡ Two
+HasCommand version cmd = Unit {0}

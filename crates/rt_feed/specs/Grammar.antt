@@ -1,13 +1,11 @@
 -- The grammar of one line of a feed's text, without its LF: the command whose text it is, or the first fault that it has.
-use Rattle.std.specs.Prelude.{◌≡◌, ◌≢◌, ℕ, ◌^◌, ◌<◌, ◌≤◌, ◌==◌, ◌⊎◌, Bool, true, false, if◌then◌else◌, List, [], ◌∷◌, length, codes, decimal, bytes_eq, Option, None, Some, Ok, Err}
+use Rattle.std.specs.Prelude.{◌≡◌, ◌≢◌, ℕ, ◌^◌, ◌<◌, ◌≤◌, ◌==◌, ◌⊎◌, ◌||◌, Bool, true, false, if◌then◌else◌, List, [], ◌∷◌, ◌++◌, length, codes, decimal, bytes_eq, Option, None, Some, Ok, Err}
 use Rattle.std.specs.declared.result.Result.{Result}
 use Rattle.std.specs.List.{slice_split}
 use Rattle.rt_cidr.specs.declared.address.Addr.{Addr}
 use Rattle.rt_cidr.specs.declared.prefixes.Prefix.{Prefix}
-use Rattle.rt_cidr.specs.declared.prefixes.TextFault.{TextFault}
-use Rattle.rt_cidr.specs.declared.prefixes.TextFault.TheVariants.{Text, Length, Bits}
-use Rattle.rt_cidr.specs.Reading.{ReadsPrefix}
-use Rattle.rt_cidr.specs.Text.{address_text, prefix_text}
+use Rattle.rt_cidr.specs.Cidr.{IsPrefix}
+use Rattle.rt_cidr.specs.Text.{slash, IsDecimal, address_text, prefix_text}
 use Rattle.rt_rib.specs.declared.routes.Hop.{Hop}
 use Rattle.rt_rib.specs.declared.commands.Cmd.{Cmd}
 use Rattle.rt_feed.specs.declared.parse.TheConstants.{LINE_BYTES}
@@ -45,29 +43,28 @@ IsOfKind preference field = (pref : ℕ) × (pref < 2 ^ 32) × (field ≡ decima
 IsOfKind (hop version) field = (next : Hop) × HasHop version next × (field ≡ hop_text next)
 IsOfKind address field = (a : Addr) × (a.0 < 2 ^ 32) × (field ≡ address_text a.0)
 
--- the line's fault for a text that is no prefix
-abbrev pub prefix_fault : TextFault → LineFault
-prefix_fault Text = fault.Text
-prefix_fault Length = fault.PrefixLength
-prefix_fault Bits = fault.PrefixBits
+-- the text is this pair's: a 32-bit address, a slash, and a length of any size, which is a plain decimal
+abbrev pub IsPairText : List ℕ → ℕ → ℕ → Type 0
+IsPairText text base len =
+    (digits : List ℕ) × (base < 2 ^ 32) × IsDecimal digits len × (text ≡ address_text base ++ slash ∷ digits)
 
--- the fault of a field that is not what it is to be
+-- the fault of a field that is not what it is to be; of one that is to be a prefix, that it is no pair's text, or what is
+-- wrong with the pair
 abbrev pub IsFaultOf : Kind → List ℕ → LineFault → Type 0
-IsFaultOf prefix field answer = (reason : TextFault) × ReadsPrefix field (Err reason) × (answer ≡ prefix_fault reason)
+IsFaultOf prefix field fault.Text = (base len : ℕ) → ¬ IsPairText field base len
+IsFaultOf prefix field fault.PrefixLength = (base len : ℕ) × IsPairText field base len × (32 < len)
+IsFaultOf prefix field fault.PrefixBits =
+    (base len : ℕ) × IsPairText field base len × (len ≤ 32) × ¬ IsPrefix base len
+IsFaultOf prefix field answer = ⊥
 IsFaultOf preference field answer = answer ≡ fault.Preference
 IsFaultOf (hop version) field answer = answer ≡ fault.Hop
 IsFaultOf address field answer = answer ≡ fault.Text
 
 -- the fault of the first field, from the left, that is not what it is to be
 abbrev pub IsFirstFault : List Kind → List (List ℕ) → LineFault → Type 0
-IsFirstFault [] rest answer = ⊥
-IsFirstFault (kind ∷ kinds) [] answer = ⊥
 IsFirstFault (kind ∷ kinds) (field ∷ rest) answer =
     ((¬ IsOfKind kind field) × IsFaultOf kind field answer) ⊎ (IsOfKind kind field × IsFirstFault kinds rest answer)
-
--- what follows `add` and `replace`
-abbrev pub route_kinds : Version → List Kind
-route_kinds version = prefix ∷ preference ∷ hop version ∷ []
+IsFirstFault kinds rest answer = ⊥
 
 -- what follows `purge`, which is a command's name in version 2 alone
 abbrev pub purge_kinds : Version → Option (List Kind)
@@ -77,24 +74,20 @@ purge_kinds Two = Some []
 -- what the fields after this one are to be, if it is a command's name
 abbrev pub kinds_after : Version → List ℕ → Option (List Kind)
 kinds_after version name =
-    if bytes_eq name (codes "add") then Some (route_kinds version)
-    else if bytes_eq name (codes "replace") then Some (route_kinds version)
+    if bytes_eq name (codes "add") || bytes_eq name (codes "replace") then Some (prefix ∷ preference ∷ hop version ∷ [])
     else if bytes_eq name (codes "withdraw") then Some (prefix ∷ [])
     else if bytes_eq name (codes "lookup") then Some (address ∷ [])
     else if bytes_eq name (codes "dump") then Some []
     else if bytes_eq name (codes "purge") then purge_kinds version
     else None
 
--- the fault of the fields after a command's name, which are to be these: that they are not so many, or the first of theirs
-abbrev pub IsFaultAmong : List Kind → List (List ℕ) → LineFault → Type 0
-IsFaultAmong kinds rest answer =
-    ((length rest ≢ length kinds) × (answer ≡ fault.FieldCount))
-    ⊎ ((length rest ≡ length kinds) × IsFirstFault kinds rest answer)
-
--- the fault after a first field, which names no command or one that takes these
+-- the fault after a first field: that it names no command; or, of the fields that follow and are to be these, that they
+-- are not so many, or the first of theirs
 abbrev pub IsFaultAfter : Option (List Kind) → List (List ℕ) → LineFault → Type 0
 IsFaultAfter None rest answer = answer ≡ fault.Command
-IsFaultAfter (Some kinds) rest answer = IsFaultAmong kinds rest answer
+IsFaultAfter (Some kinds) rest answer =
+    ((length rest ≢ length kinds) × (answer ≡ fault.FieldCount))
+    ⊎ ((length rest ≡ length kinds) × IsFirstFault kinds rest answer)
 
 -- the first fault of a line's fields from the left
 abbrev pub IsFaultOfFields : Version → List (List ℕ) → LineFault → Type 0

@@ -1,9 +1,7 @@
 -- What each line of a feed's text became, and what a list of that says: the report's lines, and the commands with what
 -- became of them.
-use Rattle.std.specs.Prelude.{◌≡◌, ℕ, ◌+◌, Bool, false, List, [], ◌∷◌, ◌++◌, Option, None, Some, Ok, Err}
+use Rattle.std.specs.Prelude.{◌≡◌, ℕ, ◌+◌, List, [], ◌∷◌, ◌++◌, Option, None, Some, Ok, Err}
 use Rattle.std.specs.declared.result.Result.{Result}
-use Rattle.std.specs.List.{list_any}
-use Rattle.std.specs.Option.{option_map_or}
 use Rattle.rt_rib.specs.declared.commands.Cmd.{Cmd}
 use Rattle.rt_shared.specs.declared.outcome.Outcome.{Outcome}
 use Rattle.rt_shared.specs.declared.outcome.Outcome.TheVariants as outcome
@@ -15,7 +13,6 @@ use Rattle.rt_feed.specs.declared.versions.Version.{Version}
 use Rattle.rt_feed.specs.declared.versions.Version.TheVariants.{One, Two}
 use Rattle.rt_feed.specs.Grammar.{AnswersLine}
 use Rattle.rt_feed.specs.Lines.{CutsLine}
-use Rattle.rt_feed.specs.Reports.{is_refusal, is_fault}
 use Rattle.rt_feed.specs.Versions.{IsBody}
 
 -- what one line became: nothing, a fault, or a command with what became of it
@@ -75,27 +72,10 @@ report_lines number (outcome ∷ outcomes) = numbered number (line_answer outcom
 
 -- the line's command with what became of it, if it is one
 abbrev pub asked_by : LineOutcome → List (Cmd × Outcome)
-asked_by skipped = []
-asked_by (faulty fault) = []
 asked_by (asked cmd outcome) = (cmd, outcome) ∷ []
+asked_by _ = []
 
 -- the commands of the lines in order, each with what became of it
 abbrev pub asked_of : List LineOutcome → List (Cmd × Outcome)
 asked_of [] = []
 asked_of (outcome ∷ outcomes) = asked_by outcome ++ asked_of outcomes
-
--- the line's command was refused for want of memory
-abbrev pub was_refused : LineOutcome → Bool
-was_refused outcome = option_map_or is_refusal (line_answer outcome) false
-
--- the line was faulty
-abbrev pub was_faulty : LineOutcome → Bool
-was_faulty outcome = option_map_or is_fault (line_answer outcome) false
-
--- some command was refused
-abbrev pub some_refused : List LineOutcome → Bool
-some_refused outcomes = list_any was_refused outcomes
-
--- some line was faulty
-abbrev pub some_faulty : List LineOutcome → Bool
-some_faulty outcomes = list_any was_faulty outcomes

@@ -5,7 +5,6 @@ ghost use Rattle.rt_feed.specs.Laws.{LineHasOneAnswer, AddressLineHasOneAnswer, 
 pub fn one_answer()
     ensures { LineHasOneAnswer }
 {
-    rt_cidr::laws::one_answer();
     rt_cidr::laws::written();
     rt_cidr::laws::read_again();
 }
@@ -14,7 +13,6 @@ pub fn one_answer()
 pub fn one_address()
     ensures { AddressLineHasOneAnswer }
 {
-    rt_cidr::laws::one_answer();
     rt_cidr::laws::written();
     rt_cidr::laws::read_again();
 }

@@ -4,8 +4,8 @@ ghost use Rattle.rt_cidr.specs.Text.{address_text, prefix_text};
 ghost use Rattle.rt_feed.specs.declared.parse.TheConstants.{LINE_BYTES};
 ghost use Rattle.rt_feed.specs.CommandText.{HasHop};
 ghost use Rattle.rt_feed.specs.Printed.{hop_text};
-ghost use Rattle.rt_feed.specs.Grammar.{Kind, route_kinds, kinds_after, is_skipped, fields, IsFaultAmong, AnswersLine};
-ghost use Rattle.rt_feed.specs.inside.Fields.{fields_of_rest, name_text, IsRoute, IsFaulty, AnswersFields};
+ghost use Rattle.rt_feed.specs.Grammar.{Kind, kinds_after, is_skipped, fields, AnswersLine};
+ghost use Rattle.rt_feed.specs.inside.Fields.{fields_of_rest, name_text, route_kinds, prefix_fault, IsRoute, IsFaulty, IsFaultAmong, AnswersFields};
 
 use crate::lines::cut_at;
 use crate::versions::Version;
@@ -240,14 +240,24 @@ fn parse_prefix(field: &[u8]) -> Result<Prefix, LineFault>
         (λ prefix. field.now ≡ prefix_text prefix.base prefix.len)
         (λ answer. IsFaulty Kind.prefix field.now answer) }
 {
+    laws::one_value();
     laws::one_text();
     laws::written();
     laws::read_again();
     match Prefix::parse(field) {
         Ok(prefix) => Ok(prefix),
-        Err(TextFault::Text) => Err(LineFault::Text),
-        Err(TextFault::Length) => Err(LineFault::PrefixLength),
-        Err(TextFault::Bits) => Err(LineFault::PrefixBits),
+        Err(reason) => Err(prefix_fault(reason)),
+    }
+}
+
+/// The line's fault for a text that is no prefix.
+fn prefix_fault(reason: TextFault) -> LineFault
+    ensures { result ≡ prefix_fault reason }
+{
+    match reason {
+        TextFault::Text => LineFault::Text,
+        TextFault::Length => LineFault::PrefixLength,
+        TextFault::Bits => LineFault::PrefixBits,
     }
 }
 

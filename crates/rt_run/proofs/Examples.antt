@@ -1,7 +1,7 @@
 -- Examples by which definitions are tested, each under a line with the definition's name. Both sides are computed, but for
 -- the texts that are written for numbers, which have one spelling each.
-use Rattle.std.proofs.Common.{◌≡◌, ◌≢◌, ℕ, ◌+◌, ◌<◌, ◌≤◌, ◌==◌, ◌&&◌, nat_le, Bool, true, false, if◌then◌else◌, Some, None, Ok, Err, List, [], ◌∷◌, ◌++◌, length, map, filter, take, drop, inl, inr, codes, refl, sym, ap, ◌∙◌, subst, arith}
-use Rattle.std.specs.List.{All, list_any, list_all, slice_get}
+use Rattle.std.proofs.Common.{◌≡◌, ◌≢◌, ℕ, ◌+◌, ◌<◌, ◌≤◌, ◌==◌, ◌&&◌, nat_le, ◌*◌, zero, suc, Bool, true, false, if◌then◌else◌, Some, None, Ok, Err, List, [], ◌∷◌, ◌++◌, length, map, filter, take, drop, inl, inr, codes, refl, sym, ap, ◌∙◌, subst, arith}
+use Rattle.std.specs.List.{All, list_any, list_all, slice_get, Contains}
 use Rattle.std.proofs.lemmas.Bool.{and_parts, eqb-true, eqb-false, leb-true}
 use Rattle.std.proofs.lemmas.List.Elements.{All-nil, All-cons}
 use Rattle.rt_cidr.proofs.Promised.{written_0, written_1, written_2, written_3, written_4, written_5, written_6, written_10, written_30, written_50, written_10_0_0_0_8, written_10_1_0_0_16, written_10_9_0_0_16, written_192_0_2_1, written_192_0_2_2, written_10_1_2_3, written_10_9_0_1}
@@ -21,58 +21,56 @@ use Rattle.rt_shared.specs.Visits.{Uncut}
 use Rattle.rt_shared.specs.declared.outcome.Outcome.{Outcome}
 use Rattle.rt_shared.specs.declared.outcome.Outcome.TheVariants.{Did, Refused}
 use Rattle.rt_feed.specs.declared.parse.LineFault.TheVariants as fault
-use Rattle.rt_feed.specs.declared.report.Line.{Line}
 use Rattle.rt_feed.specs.declared.versions.Version.TheVariants.{One}
 use Rattle.rt_feed.specs.Versions.{TellsTwo}
 use Rattle.rt_feed.specs.Lines.{CutsLine}
-use Rattle.rt_feed.specs.Visits.{concatenated, piece_of, visit_of, entries}
-use Rattle.rt_feed.specs.LineOutcomes.{skipped, faulty, asked, LineOutcome, asked_of, report_lines, some_refused, some_faulty}
-use Rattle.rt_feed.specs.Printed.{line_text, answer_text, reply_text, route_text, row_text, count_text, table_text, found_text}
-use Rattle.rt_feed.specs.declared.report.Answer.TheVariants as answer
+use Rattle.std.specs.Simd.{first_chunks}
+use Rattle.rt_feed.specs.LineOutcomes.{skipped, faulty, asked, LineOutcome, Becomes, asked_of}
+use Rattle.rt_feed.specs.Printed.{reply_text, fault_text, route_text, row_text, count_text, table_text, found_text}
 use Rattle.rt_feed.specs.declared.faults.RunFault.TheVariants as run
 use Rattle.rt_feed.proofs.Promised.{north, north_read, south, south_read, east, east_read, what_north_becomes, what_south_becomes, what_east_becomes}
 use Rattle.rt_run.specs.declared.faults.AppFault.TheVariants.{Run, Replay, Write}
-use Rattle.rt_run.specs.RunText.{Explains, ExplainsFrom, reports_text, IsHistory, IsRunText, outcomes_status, LeavesRunText}
+use Rattle.rt_run.specs.RunText.{entries_of, Explains, ExplainsFrom, told_of, told_text, lines_text, feeds_text, was_faulty, was_told, some_refused, status_of, IsHistory, IsRunText, Leaves}
 use Rattle.ya_replay.specs.ReplayText.{inside_text}
 use Rattle.rt_run.specs.Replayed.{IsReplayText, LeavesReplay}
-use Rattle.rt_run.specs.declared.tallies.Tally.{Tally}
 use Rattle.rt_run.specs.declared.tallies.Taken.{Taken}
-use Rattle.rt_run.specs.TableText.{answers_text, routes_text, is_existing, was_existing, is_missing, was_missing, is_full, was_full, tally_of, has_refused, has_left_out, tallies_status, IsTaken, IsShown, LeavesShown}
-use Rattle.rt_run.specs.SameTable.{commands, Asks, table_alone, LeavesAlone, IsUnion, IsAnsweredAlone, printed_reports, EndsInUnion, AnswersAlone, EndInOneTable, ShowsUnion, ShowOneTable}
+use Rattle.rt_run.specs.TableText.{answers_text, routes_text, first_fault, tally_of, was_left_out, IsShown}
+use Rattle.rt_run.specs.SameTable.{table_alone, LeavesAlone, IsUnion, IsAnsweredAlone, LeavesUnion, AnswersAlone, HaveOneUnion, EndsInUnion, EndInOneTable, ShowsUnion, ShowOneTable}
 
--- commands
-whatever_became_of_them : commands ((Dump, Did (Dumped 0)) ∷ (Purge, Refused) ∷ []) ≡ Dump ∷ Purge ∷ []
-whatever_became_of_them = refl
+-- entries_of
+what_was_refused_has_no_entry :
+    entries_of 2 ((Dump, Did (Dumped 0)) ∷ (Purge, Refused) ∷ (Dump, Did (Dumped 1)) ∷ []) ≡ entry 2 Dump (Dumped 0) ∷ entry 2 Dump (Dumped 1) ∷ []
+what_was_refused_has_no_entry = refl
 
 -- table_alone
-what_south_leaves : table_alone 65536 2 (commands (asked_of south_read)) ≡ route_via ten_8 2 30 (via_192_0_2 2) ∷ []
+what_south_leaves : table_alone 65536 2 (asked_of south_read) ≡ route_via ten_8 2 30 (via_192_0_2 2) ∷ []
 unfolding table_alone table_after
 what_south_leaves = refl
 
-its_own_limit : table_alone 1 2 (commands (asked_of east_read)) ≡ route_via ten_9_16 2 10 Discard ∷ []
+its_own_limit : table_alone 1 2 (asked_of east_read) ≡ route_via ten_9_16 2 10 Discard ∷ []
 unfolding table_alone table_after
 its_own_limit = refl
 
-one_route_at_most : table_alone 1 2 (Add ten_8 5 Discard ∷ Add ten_9_16 5 Discard ∷ []) ≡ route_via ten_8 2 5 Discard ∷ []
+one_route_at_most : table_alone 1 2 ((Add ten_8 5 Discard, Refused) ∷ (Add ten_9_16 5 Discard, Did Added) ∷ []) ≡ route_via ten_8 2 5 Discard ∷ []
 unfolding table_alone table_after
 one_route_at_most = refl
-
--- Asks
-what_south_asks :
-    Asks south (Add ten_8 20 (via_192_0_2 2) ∷ Add ten_2_16 20 (via_192_0_2 2) ∷ Purge ∷ Add ten_8 30 (via_192_0_2 2) ∷ [])
-what_south_asks = (skipped ∷ south_read, what_south_becomes, refl)
 
 -- LeavesAlone
 a_route_of_south : LeavesAlone (north ∷ south ∷ east ∷ []) 65536 1 (route_via ten_8 2 30 (via_192_0_2 2))
 unfolding table_alone table_after
-a_route_of_south = (south, commands (asked_of south_read), refl, what_south_asks, (0, omega arith, refl))
+a_route_of_south = (south, skipped ∷ south_read, refl, what_south_becomes, (0, omega arith, refl))
 
 a_route_of_north : LeavesAlone (north ∷ south ∷ east ∷ []) 65536 0 (route_via ten_8 1 50 (via_192_0_2 1))
 unfolding table_alone table_after
-a_route_of_north = (north, commands (asked_of north_read), refl, (north_read, what_north_becomes, refl), (0, omega arith, refl))
+a_route_of_north = (north, north_read, refl, what_north_becomes, (0, omega arith, refl))
+
+what_it_leaves :
+    (texts : List (List ℕ)) (limit k : ℕ) (r : Route) → LeavesAlone texts limit k r
+    → (text : List ℕ) × (lines : List LineOutcome) × (slice_get texts k ≡ Some text) × Becomes text lines [] × Contains (table_alone limit (k + 1) (asked_of lines)) r
+what_it_leaves texts limit k r h = h
 
 no_text_leaves_none : (k : ℕ) (r : Route) → ¬ LeavesAlone [] 65536 k r
-no_text_leaves_none k r (text, cmds, at, asks, has) = cc
+no_text_leaves_none k r (text, lines, at, becomes, has) = cc
 
 -- IsUnion
 of_no_text : IsUnion [] 65536 []
@@ -110,24 +108,60 @@ unfolding table_alone table_after reply_of
 nor_its_withdrawal h =
     let same = h ((Add ten_8 5 Discard, Did Added) ∷ (Add ten_9_16 5 Discard, Did Full) ∷ []) [] (Withdraw ten_9_16) (Did Withdrawn) refl refl in cc
 
--- reports_text
-the_second_is_of_feed_2 : reports_text 1 ([] ∷ (record { number = 1; answer = answer.Refused } ∷ []) ∷ []) ≡ codes "2:1 refused\n"
-unfolding line_text answer_text
-the_second_is_of_feed_2 = rw (written_2, written_1) refl
+-- told_of
+what_is_told_of_each :
+    map told_of (skipped ∷ faulty fault.Hop ∷ asked Dump Refused ∷ asked Dump (Did Added) ∷ [])
+    ≡ None ∷ Some (codes "fault E7") ∷ Some (codes "refused") ∷ Some (codes "added") ∷ []
+unfolding fault_text reply_text
+what_is_told_of_each = refl
 
--- printed_reports
-a_comment_has_no_line : printed_reports ((skipped ∷ asked Dump (Did (Dumped 0)) ∷ []) ∷ []) ≡ codes "1:2 dumped 0\n"
-unfolding line_text answer_text reply_text
-a_comment_has_no_line = rw (written_1, written_2, written_0) refl
+-- told_text
+a_line_of_feed_2 : told_text 2 3 (asked Dump Refused) ≡ codes "2:3 refused\n"
+a_line_of_feed_2 = rw (written_2, written_3) refl
 
--- outcomes_status
-all_was_done : outcomes_status ((skipped ∷ asked Dump (Did (Dumped 0)) ∷ []) ∷ [] ∷ []) ≡ 0
+nothing_is_told_of_a_comment : told_text 2 3 skipped ≡ []
+nothing_is_told_of_a_comment = refl
+
+-- lines_text
+a_comment_has_its_number : lines_text 1 1 (skipped ∷ asked Dump Refused ∷ asked Dump Refused ∷ []) ≡ codes "1:2 refused\n1:3 refused\n"
+a_comment_has_its_number = rw (written_1, written_2, written_3) refl
+
+-- feeds_text
+the_second_is_of_feed_2 : feeds_text 1 ((asked Dump Refused ∷ []) ∷ (skipped ∷ asked Dump (Did (Dumped 0)) ∷ []) ∷ []) ≡ codes "1:1 refused\n2:2 dumped 0\n"
+unfolding reply_text
+the_second_is_of_feed_2 = rw (written_1, written_2, written_0) refl
+
+-- was_faulty
+a_fault_alone : map was_faulty (skipped ∷ faulty fault.Hop ∷ asked Dump Refused ∷ asked Dump (Did (Dumped 0)) ∷ []) ≡ false ∷ true ∷ false ∷ false ∷ []
+a_fault_alone = refl
+
+-- was_told
+full_alone :
+    map (was_told (codes "full")) (skipped ∷ faulty fault.Hop ∷ asked Dump Refused ∷ asked Dump (Did Full) ∷ asked Dump (Did Exists) ∷ [])
+    ≡ false ∷ false ∷ false ∷ true ∷ false ∷ []
+unfolding fault_text reply_text
+full_alone = refl
+
+-- some_refused
+one_of_the_second_was : some_refused ((skipped ∷ []) ∷ (faulty fault.Hop ∷ asked Dump Refused ∷ []) ∷ []) ≡ true
+unfolding fault_text
+one_of_the_second_was = refl
+
+none_was : some_refused ((skipped ∷ faulty fault.Hop ∷ asked Dump (Did (Dumped 0)) ∷ []) ∷ [] ∷ []) ≡ false
+unfolding fault_text reply_text
+none_was = refl
+
+-- status_of
+all_was_done : status_of was_faulty ((skipped ∷ asked Dump (Did (Dumped 0)) ∷ []) ∷ [] ∷ []) ≡ 0
+unfolding reply_text
 all_was_done = refl
 
-some_line_was_faulty : outcomes_status ([] ∷ (faulty fault.Hop ∷ []) ∷ []) ≡ 2
+some_line_was_faulty : status_of was_faulty ([] ∷ (faulty fault.Hop ∷ []) ∷ []) ≡ 2
+unfolding fault_text
 some_line_was_faulty = refl
 
-a_refusal_before_a_fault : outcomes_status ((faulty fault.Hop ∷ []) ∷ (asked Dump Refused ∷ []) ∷ []) ≡ 5
+a_refusal_before_a_fault : status_of was_faulty ((faulty fault.Hop ∷ []) ∷ (asked Dump Refused ∷ []) ∷ []) ≡ 5
+unfolding fault_text
 a_refusal_before_a_fault = refl
 
 -- two routes to one prefix, the better one first
@@ -150,98 +184,46 @@ one_is_covered_and_one_is_not :
 unfolding look_up found_text reply_text route_text
 one_is_covered_and_one_is_not = rw (written_10_1_2_3, written_10_9_0_1, written_10_1_0_0_16, written_1, written_10) refl
 
--- is_existing
-exists_alone : map is_existing (Exists ∷ Added ∷ Full ∷ Missing ∷ Dumped 0 ∷ []) ≡ true ∷ false ∷ false ∷ false ∷ false ∷ []
-exists_alone = refl
+-- first_fault
+the_second_line_has_the_first : first_fault 3 (asked Dump Refused ∷ faulty fault.Hop ∷ faulty fault.Text ∷ []) ≡ Some (4, fault.Hop)
+the_second_line_has_the_first = refl
 
--- is_missing
-missing_alone : map is_missing (Missing ∷ Added ∷ Exists ∷ Full ∷ Dumped 0 ∷ []) ≡ true ∷ false ∷ false ∷ false ∷ false ∷ []
-missing_alone = refl
-
--- is_full
-full_alone : map is_full (Full ∷ Added ∷ Exists ∷ Missing ∷ Dumped 0 ∷ []) ≡ true ∷ false ∷ false ∷ false ∷ false ∷ []
-full_alone = refl
-
--- was_existing
-an_add_that_was_answered_exists :
-    map was_existing (answer.Did Exists ∷ answer.Did Added ∷ answer.Refused ∷ answer.Fault fault.Hop ∷ []) ≡ true ∷ false ∷ false ∷ false ∷ []
-an_add_that_was_answered_exists = refl
-
--- was_missing
-one_that_was_answered_missing :
-    map was_missing (answer.Did Missing ∷ answer.Did Added ∷ answer.Refused ∷ answer.Fault fault.Hop ∷ []) ≡ true ∷ false ∷ false ∷ false ∷ []
-one_that_was_answered_missing = refl
-
--- was_full
-an_add_that_was_answered_full :
-    map was_full (answer.Did Full ∷ answer.Did Added ∷ answer.Refused ∷ answer.Fault fault.Hop ∷ []) ≡ true ∷ false ∷ false ∷ false ∷ []
-an_add_that_was_answered_full = refl
-
--- a line's fault, as a report tells it
-abbrev a_fault : Line
-a_fault = record { number = 1; answer = answer.Fault fault.Hop }
+no_line_has_one : first_fault 1 (skipped ∷ asked Dump Refused ∷ []) ≡ None
+no_line_has_one = refl
 
 -- tally_of
-faults_and_an_add_over_the_limit : tally_of (a_fault ∷ record { number = 2; answer = answer.Did Full } ∷ record { number = 5; answer = answer.Fault fault.Text } ∷ [])
-    ≡ record { faulty = 2; first_faulty = Some a_fault; full = 1; existing = 0; missing = 0; refused = 0 }
+faults_and_an_add_over_the_limit :
+    tally_of (faulty fault.Hop ∷ asked Dump (Did Full) ∷ skipped ∷ faulty fault.Text ∷ [])
+    ≡ record { faulty = 2; first_faulty = Some (1, fault.Hop); full = 1; existing = 0; missing = 0; refused = 0 }
+unfolding fault_text reply_text
 faults_and_an_add_over_the_limit = refl
 
 -- an add of a prefix that is there, and two commands about one that is not
-found_otherwise : tally_of (record { number = 1; answer = answer.Did Exists } ∷ record { number = 2; answer = answer.Did Missing } ∷ record { number = 4; answer = answer.Did Missing } ∷ [])
+found_otherwise :
+    tally_of (asked Dump (Did Exists) ∷ asked Dump (Did Missing) ∷ skipped ∷ asked Dump (Did Missing) ∷ [])
     ≡ record { faulty = 0; first_faulty = None; full = 0; existing = 1; missing = 2; refused = 0 }
+unfolding reply_text
 found_otherwise = refl
 
-all_was_taken : tally_of (record { number = 1; answer = answer.Did (Dumped 0) } ∷ []) ≡ record { faulty = 0; first_faulty = None; full = 0; existing = 0; missing = 0; refused = 0 }
+-- tally_of
+refused_alone : tally_of (asked Dump Refused ∷ []) ≡ record { faulty = 0; first_faulty = None; full = 0; existing = 0; missing = 0; refused = 1 }
+refused_alone = refl
+
+all_was_taken : tally_of (asked Dump (Did (Dumped 0)) ∷ []) ≡ record { faulty = 0; first_faulty = None; full = 0; existing = 0; missing = 0; refused = 0 }
+unfolding reply_text
 all_was_taken = refl
 
--- so many faulty lines, adds over the limit and refused commands, and one command each that was answered `exists` and `missing`
-abbrev tally : ℕ → ℕ → ℕ → Tally
-tally wrong over unanswered = record { faulty = wrong; first_faulty = None; full = over; existing = 1; missing = 1; refused = unanswered }
-
--- has_refused
-a_refused_command : has_refused (tally 0 0 1) ≡ true
-a_refused_command = refl
-
-what_was_left_out_was_not_refused : has_refused (tally 1 1 0) ≡ false
-what_was_left_out_was_not_refused = refl
-
--- has_left_out
-a_faulty_line_is_left_out : has_left_out (tally 1 0 0) ≡ true
+-- was_left_out
+a_faulty_line_is_left_out : was_left_out (faulty fault.Hop) ≡ true
 a_faulty_line_is_left_out = refl
 
-an_add_over_the_limit_is_left_out : has_left_out (tally 0 1 0) ≡ true
+an_add_over_the_limit_is_left_out : was_left_out (asked Dump (Did Full)) ≡ true
+unfolding reply_text
 an_add_over_the_limit_is_left_out = refl
 
-what_was_refused_was_not_left_out : has_left_out (tally 0 0 1) ≡ false
-what_was_refused_was_not_left_out = refl
-
--- tallies_status
-nothing_left_out : tallies_status (record { faulty = 0; first_faulty = None; full = 0; existing = 0; missing = 0; refused = 0 } ∷ []) ≡ 0
-nothing_left_out = refl
-
-an_add_was_over_the_limit : tallies_status (record { faulty = 0; first_faulty = None; full = 1; existing = 0; missing = 0; refused = 0 } ∷ []) ≡ 2
-an_add_was_over_the_limit = refl
-
-one_text_of_two_had_a_faulty_line : tallies_status (tally 0 0 0 ∷ tally 1 0 0 ∷ []) ≡ 2
-one_text_of_two_had_a_faulty_line = refl
-
-what_was_found_otherwise_is_no_fault : tallies_status (record { faulty = 0; first_faulty = None; full = 0; existing = 2; missing = 3; refused = 0 } ∷ []) ≡ 0
-what_was_found_otherwise_is_no_fault = refl
-
-a_refusal_before_what_was_left_out : tallies_status (record { faulty = 1; first_faulty = Some a_fault; full = 1; existing = 0; missing = 0; refused = 0 } ∷ record { faulty = 0; first_faulty = None; full = 0; existing = 0; missing = 0; refused = 1 } ∷ []) ≡ 5
-a_refusal_before_what_was_left_out = refl
-
--- IsTaken
-a_faulty_line_gives_status_2 : (taken : Taken) → taken.tallies.items ≡ tally_of (a_fault ∷ []) ∷ [] → taken.status ≡ 2 → IsTaken ((a_fault ∷ []) ∷ []) taken
-a_faulty_line_gives_status_2 taken tallied status =
-    record { tallied = tallied; is_status = subst (λ tallies. taken.status ≡ tallies_status tallies) (sym tallied) status }
-
-not_status_0 : (taken : Taken) → taken.tallies.items ≡ tally_of (a_fault ∷ []) ∷ [] → taken.status ≡ 0 → ¬ IsTaken ((a_fault ∷ []) ∷ []) taken
-not_status_0 taken tallied status h =
-    let other : taken.status ≡ 2 = subst (λ tallies. taken.status ≡ tallies_status tallies) tallied h.is_status in omega (arith, status, other)
-
-no_report_without_its_tally : (taken : Taken) → taken.tallies.items ≡ [] → ¬ IsTaken ([] ∷ []) taken
-no_report_without_its_tally taken none h = let one : [] ≡ tally_of [] ∷ [] = sym none ∙ h.tallied in cc
+all_else_is_not : map was_left_out (skipped ∷ asked Dump Refused ∷ asked Dump (Did Exists) ∷ asked Dump (Did Missing) ∷ []) ≡ false ∷ false ∷ false ∷ false ∷ []
+unfolding reply_text
+all_else_is_not = refl
 
 -- a text of one line, and its entry
 abbrev text : List ℕ
@@ -296,15 +278,8 @@ the_history_of_a_dump = record {
         become = (codes "dump", [], cut_after_dump, (tt, refl), refl);
         joined = refl;
       };
-      pieces = ((Dump, Did (Dumped 0)) ∷ []) ∷ [];
-      cut = record {
-        whole = ((Dump, Did (Dumped 0)) ∷ []) ∷ [];
-        last = [];
-        full = All-cons (λ piece. length piece ≡ 1) ((Dump, Did (Dumped 0)) ∷ []) [] refl (All-nil (λ piece. length piece ≡ 1));
-        fewer = omega arith;
-        is_joined = refl;
-        is_cut = refl;
-      };
+      count = 1;
+      hold = omega arith;
       uncut = ([], [], refl, All-nil (λ (e : Entry). e.feed ≢ 1), All-cons (λ (e : Entry). e.feed ≡ 1) dumped [] refl (All-nil (λ (e : Entry). e.feed ≡ 1)), All-nil (λ (e : Entry). e.feed ≢ 1));
     },
     tt,
@@ -314,7 +289,7 @@ the_history_of_a_dump = record {
 
 -- IsRunText
 the_run_of_a_dump : IsRunText (text ∷ []) 1 1 (codes "1:1 dumped 0\ntable 0\n") 0
-unfolding table_of_journal table_after reply_of line_text answer_text reply_text count_text
+unfolding table_of_journal table_after reply_of reply_text count_text
 the_run_of_a_dump = record {
   journal = dumped ∷ [];
   outcomes = lines ∷ [];
@@ -349,58 +324,36 @@ each_alone feed (e ∷ journal) = by (e.feed == feed) refl (each_alone feed jour
     )
     by false is uncut = behind_another feed e (alone (filter (λ e. e.feed == feed) journal)) journal (eqb-false e.feed feed is) uncut
 
--- a feed's commands in pieces of one
-abbrev ones : List (Cmd × Outcome) → List (List (Cmd × Outcome))
-ones [] = []
-ones (one ∷ others) = (one ∷ []) ∷ ones others
-
-all_ones : (all : List (Cmd × Outcome)) → All (λ piece. length piece ≡ 1) (ones all)
-all_ones [] = All-nil (λ piece. length piece ≡ 1)
-all_ones (one ∷ others) = All-cons (λ piece. length piece ≡ 1) (one ∷ []) (ones others) refl (all_ones others)
-
--- and in pieces of two
-abbrev pairs : List (Cmd × Outcome) → List (List (Cmd × Outcome))
-pairs [] = []
-pairs (one ∷ []) = (one ∷ []) ∷ []
-pairs (one ∷ other ∷ others) = (one ∷ other ∷ []) ∷ pairs others
-
 -- Explains
 the_lines_of_north : Explains 1 1 tutorial north north_read
 the_lines_of_north = record {
   becomes = what_north_becomes;
-  pieces = ones (asked_of north_read);
-  cut = record { whole = ones (asked_of north_read); last = []; full = all_ones (asked_of north_read); fewer = omega arith; is_joined = refl; is_cut = refl };
+  count = length (asked_of north_read);
+  hold = omega arith;
   uncut = each_alone 1 tutorial;
 }
 
 the_lines_of_south : Explains 1 2 tutorial south (skipped ∷ south_read)
 the_lines_of_south = record {
   becomes = what_south_becomes;
-  pieces = ones (asked_of south_read);
-  cut = record { whole = ones (asked_of south_read); last = []; full = all_ones (asked_of south_read); fewer = omega arith; is_joined = refl; is_cut = refl };
+  count = length (asked_of south_read);
+  hold = omega arith;
   uncut = each_alone 2 tutorial;
 }
 
 the_lines_of_east : Explains 1 3 tutorial east (skipped ∷ east_read)
 the_lines_of_east = record {
   becomes = what_east_becomes;
-  pieces = ones (asked_of east_read);
-  cut = record { whole = ones (asked_of east_read); last = []; full = all_ones (asked_of east_read); fewer = omega arith; is_joined = refl; is_cut = refl };
+  count = length (asked_of east_read);
+  hold = omega arith;
   uncut = each_alone 3 tutorial;
 }
 
 the_same_lines_in_pieces_of_two : Explains 2 1 tutorial north north_read
 the_same_lines_in_pieces_of_two = record {
   becomes = what_north_becomes;
-  pieces = pairs (asked_of north_read);
-  cut = record {
-    whole = take 1 (pairs (asked_of north_read));
-    last = drop 2 (asked_of north_read);
-    full = All-cons (λ piece. length piece ≡ 2) (take 2 (asked_of north_read)) [] refl (All-nil (λ piece. length piece ≡ 2));
-    fewer = omega arith;
-    is_joined = refl;
-    is_cut = refl;
-  };
+  count = 2;
+  hold = omega arith;
   uncut = (
     [],
     drop 2 tutorial,
@@ -413,20 +366,22 @@ the_same_lines_in_pieces_of_two = record {
 }
 
 -- a command that was answered in a piece has its entry
-no_entry : (pieces whole : List (List (Cmd × Outcome))) (last : List (Cmd × Outcome)) → All (λ piece. length piece ≡ 1) whole → length last < 1
-    → (Dump, Did (Dumped 0)) ∷ [] ≡ concatenated whole ++ last → pieces ≡ whole ++ piece_of last → ¬ Uncut 1 (map (λ piece. entries 1 (visit_of piece)) pieces) []
-no_entry pieces whole (one ∷ others) full fewer same cut uncut = omega (arith, fewer)
-no_entry pieces [] [] full fewer same cut uncut = cc
-no_entry pieces ([] ∷ whole) [] full fewer same cut uncut = let one : 0 ≡ 1 = full 0 [] (omega arith) in omega (arith, one)
-no_entry pieces ((one ∷ others) ∷ whole) [] full fewer same cut uncut =
-    let first : (Dump, Did (Dumped 0)) ≡ one = cc in
-    let all = subst (λ pieces. Uncut 1 (map (λ piece. entries 1 (visit_of piece)) pieces) []) cut uncut in
-    let its = subst (λ (one : Cmd × Outcome). Uncut 1 (map (λ piece. entries 1 (visit_of piece)) ((one ∷ others) ∷ (whole ++ []))) []) (sym first) all in
-    nothing_else its.0 dumped (entries 1 (visit_of others) ++ its.1) its.2
+no_entry : (count : ℕ) → 1 ≤ count * 1 → ¬ Uncut 1 (map (entries_of 1) (first_chunks 1 count (asked_of lines))) []
+no_entry zero hold uncut = absurd (omega (arith, hold))
+no_entry (suc count) hold (before, rest, same, none, own, more) = nothing_else before dumped rest same
 
 -- Explains
 not_by_an_empty_journal : ¬ Explains 1 1 [] text lines
-not_by_an_empty_journal h = no_entry h.pieces h.cut.whole h.cut.last h.cut.full h.cut.fewer h.cut.is_joined h.cut.is_cut h.uncut
+not_by_an_empty_journal h = no_entry h.count h.hold h.uncut
+
+not_in_fewer_pieces_than_hold_all : ¬ ((h : Explains 1 1 (dumped ∷ []) text lines) × (h.count ≡ 0))
+not_in_fewer_pieces_than_hold_all (h, none) = let hold : 1 ≤ h.count * 1 = h.hold in omega (arith, hold, none)
+
+what_explains_a_text :
+    (batch feed : ℕ) (journal : List Entry) (text : List ℕ) (lines : List LineOutcome) → (h : Explains batch feed journal text lines)
+    → Becomes text lines [] × (length (asked_of lines) ≤ h.count * batch)
+    × Uncut feed (map (entries_of feed) (first_chunks batch h.count (asked_of lines))) journal
+what_explains_a_text batch feed journal text lines h = (h.becomes, h.hold, h.uncut)
 
 -- ExplainsFrom
 each_by_its_feed : ExplainsFrom 1 1 tutorial (north ∷ south ∷ east ∷ []) (north_read ∷ (skipped ∷ south_read) ∷ (skipped ∷ east_read) ∷ [])
@@ -464,7 +419,7 @@ the_history_of_the_tutorial = record {
 
 -- IsRunText
 the_run_of_the_tutorial : IsRunText (north ∷ south ∷ east ∷ []) 65536 1 the_tutorials_page 0
-unfolding line_text answer_text reply_text count_text row_text route_text
+unfolding reply_text count_text row_text route_text
 the_run_of_the_tutorial = record {
   journal = tutorial;
   outcomes = north_read ∷ (skipped ∷ south_read) ∷ (skipped ∷ east_read) ∷ [];
@@ -475,7 +430,7 @@ the_run_of_the_tutorial = record {
 
 nothing_printed_is_no_run : (texts : List (List ℕ)) (limit batch status : ℕ) → ¬ IsRunText texts limit batch [] status
 unfolding count_text
-nothing_printed_is_no_run texts limit batch status h = ends (reports_text 1 (map (report_lines 1) h.outcomes)) h.printed
+nothing_printed_is_no_run texts limit batch status h = ends (feeds_text 1 h.outcomes) h.printed
   where
     ends : (reports : List ℕ) → [] ≢ reports ++ table_text (table_of_journal limit h.journal)
     ends [] same = cc
@@ -489,51 +444,51 @@ none_is_1 false false same = cc
 
 -- IsRunText
 no_run_has_status_1 : (texts : List (List ℕ)) (limit batch : ℕ) (bytes : List ℕ) → ¬ IsRunText texts limit batch bytes 1
-no_run_has_status_1 texts limit batch bytes h = none_is_1 (list_any some_refused h.outcomes) (list_any some_faulty h.outcomes) h.is_status
+no_run_has_status_1 texts limit batch bytes h = none_is_1 (some_refused h.outcomes) (list_any (list_any was_faulty) h.outcomes) h.is_status
 
--- LeavesRunText
-behind_what_the_writer_had : LeavesRunText (text ∷ []) 1 1 (Some (codes "x")) (Some (codes "x1:1 dumped 0\ntable 0\n")) (Ok 0)
+-- Leaves
+behind_what_the_writer_had : Leaves (IsRunText (text ∷ []) 1 1) (Some (codes "x")) (Some (codes "x1:1 dumped 0\ntable 0\n")) (Ok 0)
 behind_what_the_writer_had = (codes "1:1 dumped 0\ntable 0\n", the_run_of_a_dump, refl)
 
 whatever_was_run :
     (texts : List (List ℕ)) (limit batch : ℕ) (old bytes : List ℕ) (status : ℕ) → IsRunText texts limit batch bytes status
-    → LeavesRunText texts limit batch (Some old) (Some (old ++ bytes)) (Ok status)
+    → Leaves (IsRunText texts limit batch) (Some old) (Some (old ++ bytes)) (Ok status)
 whatever_was_run texts limit batch old bytes status is = (bytes, is, refl)
 
 nothing_but_the_text_of_a_run :
-    (texts : List (List ℕ)) (limit batch : ℕ) (new : List ℕ) (status : ℕ) → LeavesRunText texts limit batch (Some []) (Some new) (Ok status)
+    (texts : List (List ℕ)) (limit batch : ℕ) (new : List ℕ) (status : ℕ) → Leaves (IsRunText texts limit batch) (Some []) (Some new) (Ok status)
     → IsRunText texts limit batch new status
 nothing_but_the_text_of_a_run texts limit batch new status (bytes, is, same) =
     let all : bytes ≡ new = sym same in subst (λ b. IsRunText texts limit batch b status) all is
 
-nothing_where_it_was_refused : LeavesRunText [] 1 1 (Some (codes "x")) (Some (codes "x")) (Err (Run run.NoText))
+nothing_where_it_was_refused : Leaves (IsRunText [] 1 1) (Some (codes "x")) (Some (codes "x")) (Err (Run run.NoText))
 nothing_where_it_was_refused = ((λ same. cc), refl)
 
-a_beginning_where_it_could_not_be_written : LeavesRunText (text ∷ []) 1 1 (Some []) (Some (codes "1:1 dum")) (Err Write)
+a_beginning_where_it_could_not_be_written : Leaves (IsRunText (text ∷ []) 1 1) (Some []) (Some (codes "1:1 dum")) (Err Write)
 a_beginning_where_it_could_not_be_written = (codes "1:1 dumped 0\ntable 0\n", 0, the_run_of_a_dump, record { count = 7; within = omega arith; appended = refl })
 
 a_beginning_of_whatever_was_to_be_written :
     (texts : List (List ℕ)) (limit batch status : ℕ) → IsRunText texts limit batch (codes "table 0\n") status
-    → LeavesRunText texts limit batch (Some (codes "x")) (Some (codes "xtab")) (Err Write)
+    → Leaves (IsRunText texts limit batch) (Some (codes "x")) (Some (codes "xtab")) (Err Write)
 a_beginning_of_whatever_was_to_be_written texts limit batch status is =
     (codes "table 0\n", status, is, record { count = 3; within = omega arith; appended = refl })
 
-never_as_F2 : ¬ LeavesRunText (text ∷ []) 1 1 (Some []) (Some []) (Err (Run run.FeedCount))
+never_as_F2 : ¬ Leaves (IsRunText (text ∷ []) 1 1) (Some []) (Some []) (Err (Run run.FeedCount))
 never_as_F2 h = h.0 refl
 
-nothing_else_as_F1 : ¬ LeavesRunText [] 1 1 (Some []) (Some (codes "x")) (Err (Run run.NoText))
+nothing_else_as_F1 : ¬ Leaves (IsRunText [] 1 1) (Some []) (Some (codes "x")) (Err (Run run.NoText))
 nothing_else_as_F1 h = let same = h.1 in cc
 
-nothing_else_as_F3 : ¬ LeavesRunText (text ∷ []) 1 1 (Some []) (Some (codes "x")) (Err (Run run.Memory))
+nothing_else_as_F3 : ¬ Leaves (IsRunText (text ∷ []) 1 1) (Some []) (Some (codes "x")) (Err (Run run.Memory))
 nothing_else_as_F3 h = let same = h.1 in cc
 
-never_as_a_replay : ¬ LeavesRunText (text ∷ []) 1 1 (Some []) (Some []) (Err (Replay replay.Place))
+never_as_a_replay : ¬ Leaves (IsRunText (text ∷ []) 1 1) (Some []) (Some []) (Err (Replay replay.Place))
 never_as_a_replay h = h
 
-nothing_lost_where_it_could_not_be_written : ¬ LeavesRunText (text ∷ []) 1 1 (Some (codes "x")) (Some []) (Err Write)
+nothing_lost_where_it_could_not_be_written : ¬ Leaves (IsRunText (text ∷ []) 1 1) (Some (codes "x")) (Some []) (Err Write)
 nothing_lost_where_it_could_not_be_written (bytes, status, is, begins) = let lost : [] ≡ 120 ∷ take begins.count bytes = begins.appended in cc
 
-never_without_a_text : ¬ LeavesRunText (text ∷ []) 1 1 (Some []) (Some []) (Ok 0)
+never_without_a_text : ¬ Leaves (IsRunText (text ∷ []) 1 1) (Some []) (Some []) (Ok 0)
 never_without_a_text (bytes, is, same) = let none : [] ≡ bytes = same in nothing_printed_is_no_run (text ∷ []) 1 1 0 (subst (λ b. IsRunText (text ∷ []) 1 1 b 0) (sym none) is)
 
 -- what each text of the tutorial became
@@ -542,17 +497,27 @@ the_tutorials_outcomes = north_read ∷ (skipped ∷ south_read) ∷ (skipped �
 
 -- IsShown
 what_is_told_of_the_tutorial :
-    (text_of : List Route → List ℕ) (taken : Taken) → IsTaken (map (report_lines 1) the_tutorials_outcomes) taken
+    (text_of : List Route → List ℕ) (taken : Taken) → taken.tallies.items ≡ map tally_of the_tutorials_outcomes → taken.status ≡ 0
     → IsShown (north ∷ south ∷ east ∷ []) 65536 1 text_of (text_of (table_of_journal 65536 tutorial)) taken
-what_is_told_of_the_tutorial text_of taken told =
-    record { journal = tutorial; outcomes = the_tutorials_outcomes; history = the_history_of_the_tutorial; shown = refl; told = told }
+unfolding reply_text
+what_is_told_of_the_tutorial text_of taken tallied status = record {
+  journal = tutorial;
+  outcomes = the_tutorials_outcomes;
+  history = the_history_of_the_tutorial;
+  shown = refl;
+  tallied = tallied;
+  is_status = status;
+}
+
+its_status_is_told : (bytes : List ℕ) (taken : Taken) → taken.status ≡ 1 → ¬ IsShown (text ∷ []) 1 1 table_text bytes taken
+its_status_is_told bytes taken one h = none_is_1 (some_refused h.outcomes) (list_any (list_any was_left_out) h.outcomes) (sym one ∙ h.is_status)
 
 no_table_untold : (bytes : List ℕ) (taken : Taken) → taken.tallies.items ≡ [] → ¬ IsShown (text ∷ []) 1 1 table_text bytes taken
-no_table_untold bytes taken none h = by h.outcomes h.history.explained h.told.tallied
+no_table_untold bytes taken none h = by h.outcomes h.history.explained h.tallied
   where
-    by : (outcomes : List (List LineOutcome)) → ExplainsFrom 1 1 h.journal (text ∷ []) outcomes → taken.tallies.items ≢ map tally_of (map (report_lines 1) outcomes)
+    by : (outcomes : List (List LineOutcome)) → ExplainsFrom 1 1 h.journal (text ∷ []) outcomes → taken.tallies.items ≢ map tally_of outcomes
     by [] explained same = explained
-    by (one ∷ others) explained same = let some : [] ≡ tally_of (report_lines 1 one) ∷ map tally_of (map (report_lines 1) others) = sym none ∙ same in cc
+    by (one ∷ others) explained same = let some : [] ≡ tally_of one ∷ map tally_of others = sym none ∙ same in cc
 
 -- where there is no text there is no feed, and no entry
 nobody_asks : (journal : List Entry) → All (λ (e : Entry). (1 ≤ e.feed) × (e.feed ≤ 0)) journal → journal ≡ []
@@ -570,62 +535,72 @@ no_route_of_no_text taken h =
     let shown = subst (λ (journal : List Entry). 1 ∷ [] ≡ length_text (table_of_journal 1 journal)) (nobody_asks h.journal h.history.no_other) h.shown in
     let none : ◌≡◌ {A = List ℕ} (1 ∷ []) (0 ∷ []) = shown in cc
 
--- LeavesShown
+-- Leaves
 whatever_was_told :
     (texts : List (List ℕ)) (limit batch : ℕ) (text_of : List Route → List ℕ) (old bytes : List ℕ) (taken : Taken)
-    → IsShown texts limit batch text_of bytes taken → LeavesShown texts limit batch text_of (Some old) (Some (old ++ bytes)) (Ok taken)
+    → IsShown texts limit batch text_of bytes taken → Leaves (IsShown texts limit batch text_of) (Some old) (Some (old ++ bytes)) (Ok taken)
 whatever_was_told texts limit batch text_of old bytes taken is = (bytes, is, refl)
 
 nothing_but_what_is_told :
     (texts : List (List ℕ)) (limit batch : ℕ) (text_of : List Route → List ℕ) (new : List ℕ) (taken : Taken)
-    → LeavesShown texts limit batch text_of (Some []) (Some new) (Ok taken) → IsShown texts limit batch text_of new taken
+    → Leaves (IsShown texts limit batch text_of) (Some []) (Some new) (Ok taken) → IsShown texts limit batch text_of new taken
 nothing_but_what_is_told texts limit batch text_of new taken (bytes, is, same) =
     let all : bytes ≡ new = sym same in subst (λ b. IsShown texts limit batch text_of b taken) all is
 
-no_table_in_place_of_what_the_writer_had : (taken : Taken) → ¬ LeavesShown (text ∷ []) 1 1 table_text (Some (codes "x")) (Some []) (Ok taken)
+no_table_in_place_of_what_the_writer_had : (taken : Taken) → ¬ Leaves (IsShown (text ∷ []) 1 1 table_text) (Some (codes "x")) (Some []) (Ok taken)
 no_table_in_place_of_what_the_writer_had taken (bytes, is, same) = let lost : [] ≡ 120 ∷ bytes = same in cc
 
-no_table_where_it_was_refused : LeavesShown [] 1 1 table_text (Some (codes "x")) (Some (codes "x")) (Err (Run run.NoText))
+no_table_where_it_was_refused : Leaves (IsShown [] 1 1 table_text) (Some (codes "x")) (Some (codes "x")) (Err (Run run.NoText))
 no_table_where_it_was_refused = ((λ same. cc), refl)
 
-no_other_bytes_as_F1 : ¬ LeavesShown [] 1 1 table_text (Some []) (Some (codes "x")) (Err (Run run.NoText))
+no_other_bytes_as_F1 : ¬ Leaves (IsShown [] 1 1 table_text) (Some []) (Some (codes "x")) (Err (Run run.NoText))
 no_other_bytes_as_F1 h = let same = h.1 in cc
 
-no_other_bytes_as_F3 : ¬ LeavesShown (text ∷ []) 1 1 table_text (Some []) (Some (codes "x")) (Err (Run run.Memory))
+no_other_bytes_as_F3 : ¬ Leaves (IsShown (text ∷ []) 1 1 table_text) (Some []) (Some (codes "x")) (Err (Run run.Memory))
 no_other_bytes_as_F3 h = let same = h.1 in cc
 
-a_table_is_never_refused_as_F2 : ¬ LeavesShown (text ∷ []) 1 1 table_text (Some []) (Some []) (Err (Run run.FeedCount))
+a_table_is_never_refused_as_F2 : ¬ Leaves (IsShown (text ∷ []) 1 1 table_text) (Some []) (Some []) (Err (Run run.FeedCount))
 a_table_is_never_refused_as_F2 h = h.0 refl
 
-nor_as_a_replay : ¬ LeavesShown (text ∷ []) 1 1 table_text (Some []) (Some []) (Err (Replay replay.Place))
+nor_as_a_replay : ¬ Leaves (IsShown (text ∷ []) 1 1 table_text) (Some []) (Some []) (Err (Replay replay.Place))
 nor_as_a_replay h = h
 
 a_beginning_of_it_where_it_could_not_be_written :
     (texts : List (List ℕ)) (limit batch : ℕ) (text_of : List Route → List ℕ) (taken : Taken)
-    → IsShown texts limit batch text_of (codes "table 0\n") taken → LeavesShown texts limit batch text_of (Some (codes "x")) (Some (codes "xtab")) (Err Write)
+    → IsShown texts limit batch text_of (codes "table 0\n") taken → Leaves (IsShown texts limit batch text_of) (Some (codes "x")) (Some (codes "xtab")) (Err Write)
 a_beginning_of_it_where_it_could_not_be_written texts limit batch text_of taken is =
     (codes "table 0\n", taken, is, record { count = 3; within = omega arith; appended = refl })
 
-no_bytes_lost_where_the_table_could_not_be_written : ¬ LeavesShown (text ∷ []) 1 1 table_text (Some (codes "x")) (Some []) (Err Write)
+no_bytes_lost_where_the_table_could_not_be_written : ¬ Leaves (IsShown (text ∷ []) 1 1 table_text) (Some (codes "x")) (Some []) (Err Write)
 no_bytes_lost_where_the_table_could_not_be_written (bytes, taken, is, begins) = let lost : [] ≡ 120 ∷ take begins.count bytes = begins.appended in cc
+
+-- LeavesUnion
+batches_of_512_leave_the_union :
+    LeavesUnion → (texts : List (List ℕ)) (limit : ℕ) (journal : List Entry) (outcomes : List (List LineOutcome)) → IsHistory texts limit 512 journal outcomes
+    → some_refused outcomes ≡ false → IsUnion texts limit (table_of_journal limit journal)
+batches_of_512_leave_the_union law texts limit journal outcomes history none = law texts limit 512 journal outcomes history none
+
+-- AnswersAlone
+its_replies_are_as_if_alone :
+    AnswersAlone → (texts : List (List ℕ)) (limit : ℕ) (journal : List Entry) (outcomes : List (List LineOutcome)) → IsHistory texts limit 512 journal outcomes
+    → some_refused outcomes ≡ false → (k : ℕ) (lines : List LineOutcome) → slice_get outcomes k ≡ Some lines → IsAnsweredAlone limit (k + 1) (asked_of lines)
+its_replies_are_as_if_alone law texts limit journal outcomes history none k lines is = law texts limit 512 journal outcomes history none k lines is
+
+-- HaveOneUnion
+two_unions_of_a_text_are_one : HaveOneUnion → (one other : List Route) → IsUnion (text ∷ []) 5 one → IsUnion (text ∷ []) 5 other → one ≡ other
+two_unions_of_a_text_are_one law one other is also = law (text ∷ []) 5 one other is also
 
 -- EndsInUnion
 a_run_in_batches_of_512_ends_in_the_union :
     EndsInUnion → (texts : List (List ℕ)) (limit : ℕ) (bytes : List ℕ) (status : ℕ) (run : IsRunText texts limit 512 bytes status) → status ≢ 5
-    → (union : List Route) × IsUnion texts limit union × (bytes ≡ printed_reports run.outcomes ++ table_text union)
+    → (union : List Route) × IsUnion texts limit union × (bytes ≡ feeds_text 1 run.outcomes ++ table_text union)
 a_run_in_batches_of_512_ends_in_the_union law texts limit bytes status run done = law texts limit 512 bytes status run done
-
--- AnswersAlone
-its_replies_are_as_if_alone :
-    AnswersAlone → (texts : List (List ℕ)) (limit : ℕ) (bytes : List ℕ) (status : ℕ) (run : IsRunText texts limit 512 bytes status) → status ≢ 5
-    → (k : ℕ) (lines : List LineOutcome) → slice_get run.outcomes k ≡ Some lines → IsAnsweredAlone limit (k + 1) (asked_of lines)
-its_replies_are_as_if_alone law texts limit bytes status run done = law texts limit 512 bytes status run done
 
 -- EndInOneTable
 batches_of_1_and_of_512_end_in_one_table :
     EndInOneTable → (texts : List (List ℕ)) (limit : ℕ) (bytes bytes' : List ℕ) (status status' : ℕ)
     (run : IsRunText texts limit 1 bytes status) (run' : IsRunText texts limit 512 bytes' status') → status ≢ 5 → status' ≢ 5
-    → (table : List Route) × (bytes ≡ printed_reports run.outcomes ++ table_text table) × (bytes' ≡ printed_reports run'.outcomes ++ table_text table)
+    → (table : List Route) × (bytes ≡ feeds_text 1 run.outcomes ++ table_text table) × (bytes' ≡ feeds_text 1 run'.outcomes ++ table_text table)
 batches_of_1_and_of_512_end_in_one_table law texts limit bytes bytes' status status' run run' done done' =
     law texts limit 1 512 bytes bytes' status status' run run' done done'
 

@@ -1,5 +1,7 @@
 pub mod Buffered
 pub mod Answering
+pub mod Telling
+pub mod Pieces
 pub mod Outputs
 pub mod Pushing
 pub mod SeveralFeeds

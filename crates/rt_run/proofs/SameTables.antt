@@ -1,14 +1,11 @@
 -- Why the table of a run, and the replies on a feed's own routes, are what each feed's commands give by themselves.
-use Rattle.std.proofs.Common.{◌≡◌, ◌≢◌, ℕ, zero, suc, ◌+◌, ◌-◌, ◌<◌, ◌≤◌, ◌⊎◌, inl, inr, true, false, Option, Some, None, Ok, Err, List, [], ◌∷◌, ◌++◌, Bool, All, length, map, take, drop, refl, sym, ap, subst, ◌∙◌, arith, append_assoc, append-nil, zero-add, eqb-true}
-use Rattle.std.specs.Prelude.{fold, if◌then◌else◌, nat_lt, count_by, cond, ◌||◌}
-use Rattle.std.proofs.lemmas.Bool.Decides.{nat_tests}
-use Rattle.std.proofs.lemmas.List.Sums.{sum_by-cons}
+use Rattle.std.proofs.Common.{◌≡◌, ◌≢◌, ℕ, zero, suc, ◌+◌, ◌-◌, ◌<◌, ◌≤◌, ◌⊎◌, inl, inr, true, false, Option, Some, None, Ok, Err, List, [], ◌∷◌, ◌++◌, Bool, All, length, map, take, drop, refl, sym, ap, subst, ◌∙◌, arith, codes, append_assoc, append-nil, zero-add, eqb-true}
+use Rattle.std.specs.Prelude.{fold, if◌then◌else◌, ◌||◌}
 use Rattle.std.specs.declared.result.Result.{Result}
 use Rattle.std.specs.List.{slice_get, list_any, flat_map, filter, Contains}
 use Rattle.std.proofs.lemmas.Bool.{cases_Bool, eq-eqb, cond-true, cond-false, false≢true, or_parts}
 use Rattle.std.specs.Bool.{◌==◌}
 use Rattle.std.proofs.lemmas.List.{map-append}
-use Rattle.std.proofs.lemmas.Grind.{flat_map-append}
 use Rattle.std.proofs.lemmas.List.Elements.{All-head, All-contains, All-contains_itself, All-filter, Contains-append_right, filter-append, filter_passes}
 use Rattle.std.proofs.Math.Seq.{split_at}
 use Rattle.std.proofs.lemmas.Option.{slice_get_within}
@@ -25,16 +22,14 @@ use Rattle.rt_shared.specs.declared.outcome.Outcome.TheVariants as outcome
 use Rattle.rt_shared.specs.Laws.{EntriesOfVisits}
 use Rattle.rt_feed.specs.declared.parse.LineFault.{LineFault}
 use Rattle.rt_feed.specs.Laws.{TextHasOneReading}
-use Rattle.rt_feed.specs.LineOutcomes.{LineOutcome, skipped, faulty, asked, reading, asked_of, report_lines, some_refused, some_faulty}
-use Rattle.rt_feed.specs.declared.report.Line.{Line}
-use Rattle.rt_feed.specs.Reports.{is_refusal}
-use Rattle.rt_feed.proofs.Promised.{has_refusal-report_lines}
-use Rattle.rt_feed.specs.Visits.{Visit, IsCut, visit_of, reply_to, concatenated, piece_of, entries}
+use Rattle.rt_feed.specs.LineOutcomes.{LineOutcome, skipped, faulty, asked, reading, Becomes, asked_of}
+use Rattle.rt_feed.specs.Visits.{Visit, visit_of, entries}
 use Rattle.rt_feed.specs.Printed.{table_text}
-use Rattle.rt_run.specs.RunText.{Explains, ExplainsFrom, IsHistory, outcomes_status}
-use Rattle.rt_run.specs.SameTable.{commands, Asks, table_alone, IsUnion, IsAnsweredAlone, printed_reports, EndsInUnion, AnswersAlone, EndInOneTable, ShowsUnion, ShowOneTable}
-use Rattle.rt_run.specs.TableText.{tally_of, tallies_status}
-use Rattle.rt_run.specs.TableText as tally
+use Rattle.rt_run.specs.RunText.{Explains, ExplainsFrom, feeds_text, was_told, some_refused, was_faulty, status_of, IsHistory}
+use Rattle.rt_run.proofs.Pieces.{entries-visit, entries-chunks}
+use Rattle.rt_run.specs.TableText.{was_left_out}
+use Rattle.rt_run.proofs.Telling.{agree-refused}
+use Rattle.rt_run.specs.SameTable.{table_alone, LeavesAlone, IsUnion, IsAnsweredAlone, LeavesUnion, AnswersAlone, HaveOneUnion, EndsInUnion, EndInOneTable, ShowsUnion, ShowOneTable}
 
 -- what a line asks shows in what it says
 abbrev asked_in : Result (Option Cmd) LineFault → List Cmd
@@ -42,86 +37,77 @@ asked_in (Ok (Some cmd)) = cmd ∷ []
 asked_in (Ok None) = []
 asked_in (Err fault) = []
 
+-- the commands, whatever became of them
+abbrev commands : List (Cmd × Outcome) → List Cmd
+commands all = map (λ one. one.0) all
+
 commands-reading : (lines : List LineOutcome) → commands (asked_of lines) ≡ flat_map asked_in (map reading lines)
 commands-reading [] = refl
 commands-reading (skipped ∷ lines) = commands-reading lines
 commands-reading (faulty fault ∷ lines) = commands-reading lines
 commands-reading (asked cmd outcome ∷ lines) = ap (λ cmds. cmd ∷ cmds) (commands-reading lines)
 
--- so a text asks its commands in one way
-one_asking : TextHasOneReading → (text : List ℕ) (cmds others : List Cmd) → Asks text cmds → Asks text others → cmds ≡ others
-one_asking once text cmds others is other =
-    is.2 ∙ (commands-reading is.0 ∙ (ap (flat_map asked_in) (once text is.0 other.0 is.1 other.1) ∙ (sym (commands-reading other.0) ∙ sym other.2)))
+-- so a text has the same commands, whatever became of them
+one_asking : TextHasOneReading → (text : List ℕ) (lines others : List LineOutcome) → Becomes text lines [] → Becomes text others []
+    → commands (asked_of lines) ≡ commands (asked_of others)
+one_asking once text lines others is other =
+    commands-reading lines ∙ (ap (flat_map asked_in) (once text lines others is other) ∙ sym (commands-reading others))
 
--- of two lists of commands, one after another, those with a reply
-visit_of-append : (xs ys : List (Cmd × Outcome)) → visit_of (xs ++ ys) ≡ visit_of xs ++ visit_of ys
-visit_of-append [] ys = refl
-visit_of-append (x ∷ xs) ys = ap (λ visit. reply_to x.0 x.1 ++ visit) (visit_of-append xs ys) ∙ sym (append_assoc (reply_to x.0 x.1) (visit_of xs) (visit_of ys))
+-- and what they leave by themselves is told by the commands alone
+alone-commands_from : (limit feed : ℕ) (table : List Route) (all : List (Cmd × Outcome))
+    → fold (λ table one. table_after limit table feed one.0) table all ≡ fold (λ table cmd. table_after limit table feed cmd) table (commands all)
+alone-commands_from limit feed table [] = refl
+alone-commands_from limit feed table (one ∷ all) = alone-commands_from limit feed (table_after limit table feed one.0) all
 
--- the answered ones as entries of a feed
-abbrev entries_of : ℕ → List (Cmd × Outcome) → List Entry
-entries_of feed asks = entries feed (visit_of asks)
-
-entries_of-append : (feed : ℕ) (xs ys : List (Cmd × Outcome)) → entries_of feed (xs ++ ys) ≡ entries_of feed xs ++ entries_of feed ys
-entries_of-append feed xs ys =
-    ap (entries feed) (visit_of-append xs ys) ∙ map-append (λ p. record { feed = feed; cmd = p.0; reply = p.1 }) (visit_of xs) (visit_of ys)
-
--- the entries of pieces, one after another, are those of the list that was cut
-entries-concatenated : (feed : ℕ) (pieces : List (List (Cmd × Outcome))) → flat_map (λ visit. visit) (map (entries_of feed) pieces) ≡ entries_of feed (concatenated pieces)
-entries-concatenated feed [] = refl
-entries-concatenated feed (piece ∷ pieces) = ap (λ rest. entries_of feed piece ++ rest) (entries-concatenated feed pieces) ∙ sym (entries_of-append feed piece (concatenated pieces))
-
-entries-last : (feed : ℕ) (last : List (Cmd × Outcome)) → flat_map (λ visit. visit) (map (entries_of feed) (piece_of last)) ≡ entries_of feed last
-entries-last feed [] = refl
-entries-last feed (one ∷ last) = append-nil (entries_of feed (one ∷ last))
-
-entries-cut : (feed size : ℕ) (asks : List (Cmd × Outcome)) (pieces : List (List (Cmd × Outcome))) → IsCut size asks pieces
-    → flat_map (λ visit. visit) (map (entries_of feed) pieces) ≡ entries_of feed asks
-entries-cut feed size asks pieces cut =
-    let one = map (entries_of feed) cut.whole in
-    let two = map (entries_of feed) (piece_of cut.last) in
-    ap (λ ps. flat_map (λ visit. visit) (map (entries_of feed) ps)) cut.is_cut
-    ∙ (ap (flat_map (λ visit. visit)) (map-append (entries_of feed) cut.whole (piece_of cut.last))
-    ∙ (flat_map-append (λ visit. visit) one two
-    ∙ (ap (λ es. es ++ flat_map (λ visit. visit) two) (entries-concatenated feed cut.whole)
-    ∙ (ap (λ es. entries_of feed (concatenated cut.whole) ++ es) (entries-last feed cut.last)
-    ∙ (sym (entries_of-append feed (concatenated cut.whole) cut.last) ∙ ap (entries_of feed) (sym cut.is_joined))))))
+alone-commands : (limit feed : ℕ) (all others : List (Cmd × Outcome)) → commands all ≡ commands others → table_alone limit feed all ≡ table_alone limit feed others
+unfolding table_alone
+alone-commands limit feed all others same =
+    alone-commands_from limit feed [] all ∙ (ap (λ cmds. fold (λ table cmd. table_after limit table feed cmd) [] cmds) same ∙ sym (alone-commands_from limit feed [] others))
 
 -- so the journal's entries of a feed are those of its answered commands
 entries_explained : EntriesOfVisits → (batch feed : ℕ) (journal : List Entry) (text : List ℕ) (lines : List LineOutcome) → Explains batch feed journal text lines
     → feed_entries feed journal ≡ entries feed (visit_of (asked_of lines))
 entries_explained law batch feed journal text lines explains =
-    law feed (map (λ piece. entries feed (visit_of piece)) explains.pieces) journal explains.uncut ∙ entries-cut feed batch (asked_of lines) explains.pieces explains.cut
-
--- what a feed's entries leave is what their commands leave
-table-entries_from : (limit feed : ℕ) (table : List Route) (visit : Visit)
-    → fold (λ table e. table_after limit table e.feed e.cmd) table (entries feed visit) ≡ fold (λ table cmd. table_after limit table feed cmd) table (map (λ p. p.0) visit)
-table-entries_from limit feed table [] = refl
-table-entries_from limit feed table (p ∷ visit) = table-entries_from limit feed (table_after limit table feed p.0) visit
-
-table-entries : (limit feed : ℕ) (visit : Visit) → table_of_journal limit (entries feed visit) ≡ table_alone limit feed (map (λ p. p.0) visit)
-unfolding table_of_journal table_alone
-table-entries limit feed visit = table-entries_from limit feed [] visit
+    law feed _ journal explains.uncut ∙ (entries-chunks feed batch explains.count (asked_of lines) explains.hold ∙ entries-visit feed (asked_of lines))
 
 -- a command that has its reply
 abbrev did : Cmd × Reply → Cmd × Outcome
 did p = (p.0, outcome.Did p.1)
 
+-- what a feed's entries leave is what their commands leave
+table-entries_from : (limit feed : ℕ) (table : List Route) (visit : Visit)
+    → fold (λ table e. table_after limit table e.feed e.cmd) table (entries feed visit) ≡ fold (λ table one. table_after limit table feed one.0) table (map did visit)
+table-entries_from limit feed table [] = refl
+table-entries_from limit feed table (p ∷ visit) = table-entries_from limit feed (table_after limit table feed p.0) visit
+
+table-entries : (limit feed : ℕ) (visit : Visit) → table_of_journal limit (entries feed visit) ≡ table_alone limit feed (map did visit)
+unfolding table_of_journal table_alone
+table-entries limit feed visit = table-entries_from limit feed [] visit
+
+-- the line's command was refused
+abbrev was_refused : LineOutcome → Bool
+was_refused (asked cmd outcome.Refused) = true
+was_refused _ = false
+
+refused-told : (line : LineOutcome) → was_told (codes "refused") line ≡ was_refused line
+refused-told skipped = refl
+refused-told (faulty fault) = agree-refused (faulty fault)
+refused-told (asked cmd outcome.Refused) = refl
+refused-told (asked cmd (outcome.Did reply)) = agree-refused (asked cmd (outcome.Did reply))
+
+none_refused : (lines : List LineOutcome) → list_any (was_told (codes "refused")) lines ≡ false → list_any was_refused lines ≡ false
+none_refused [] none = refl
+none_refused (line ∷ lines) none =
+    let parts = or_parts (was_told (codes "refused") line) (list_any (was_told (codes "refused")) lines) none in
+    ap (λ b. b || list_any was_refused lines) (sym (refused-told line) ∙ parts.0) ∙ none_refused lines parts.1
+
 -- where none was refused, all have
-all_did : (lines : List LineOutcome) → some_refused lines ≡ false → asked_of lines ≡ map did (visit_of (asked_of lines))
+all_did : (lines : List LineOutcome) → list_any was_refused lines ≡ false → asked_of lines ≡ map did (visit_of (asked_of lines))
 all_did [] none = refl
 all_did (skipped ∷ lines) none = all_did lines none
 all_did (faulty fault ∷ lines) none = all_did lines none
 all_did (asked cmd (outcome.Did reply) ∷ lines) none = ap (λ rest. (cmd, outcome.Did reply) ∷ rest) (all_did lines none)
 all_did (asked cmd outcome.Refused ∷ lines) none = absurd (false≢true (sym none))
-
-commands-did : (visit : Visit) → commands (map did visit) ≡ map (λ p. p.0) visit
-commands-did [] = refl
-commands-did (p ∷ visit) = ap (λ cmds. p.0 ∷ cmds) (commands-did visit)
-
--- so they are the visit's
-commands-visit : (lines : List LineOutcome) → some_refused lines ≡ false → commands (asked_of lines) ≡ map (λ p. p.0) (visit_of (asked_of lines))
-commands-visit lines none = ap commands (all_did lines none) ∙ commands-did (visit_of (asked_of lines))
 
 -- one command among those that have their replies
 record IsAmong (visit : Visit) (earlier : List (Cmd × Outcome)) (cmd : Cmd) (is : Outcome) : Type 0 where
@@ -201,7 +187,7 @@ stands_in (x ∷ journal) feed front back e is = elim (cases_Bool (x.feed == fee
 
 -- a reply on a feed's own routes is what its earlier commands give by themselves
 answered_alone : FeedsStandAlone → EntriesOfVisits → (limit batch feed : ℕ) (journal : List Entry) (text : List ℕ) (lines : List LineOutcome) → IsLawfulJournal limit journal
-    → Explains batch feed journal text lines → some_refused lines ≡ false → IsAnsweredAlone limit feed (asked_of lines)
+    → Explains batch feed journal text lines → list_any was_refused lines ≡ false → IsAnsweredAlone limit feed (asked_of lines)
 answered_alone alone law limit batch feed journal text lines lawful explains none earlier later cmd is split own =
     let visit = visit_of (asked_of lines) in
     let one = among visit earlier later cmd is (sym (all_did lines none) ∙ split) in
@@ -209,17 +195,17 @@ answered_alone alone law limit batch feed journal text lines lawful explains non
     let parts : feed_entries feed journal ≡ entries feed one.front ++ e ∷ entries feed one.back =
     entries_explained law batch feed journal text lines explains ∙ (ap (entries feed) one.split ∙ map-append (λ p. record { feed = feed; cmd = p.0; reply = p.1 }) one.front ((cmd, one.reply) ∷ one.back)) in
     let here = stands_in journal feed (entries feed one.front) (entries feed one.back) e parts in
-    let same_table : table_of_journal limit (feed_entries feed here.earlier) ≡ table_alone limit feed (commands earlier) =
-    ap (table_of_journal limit) here.before ∙ (table-entries limit feed one.front ∙ (ap (table_alone limit feed) (sym (commands-did one.front)) ∙ ap (λ o. table_alone limit feed (commands o)) (sym one.before))) in
+    let same_table : table_of_journal limit (feed_entries feed here.earlier) ≡ table_alone limit feed earlier =
+    ap (table_of_journal limit) here.before ∙ (table-entries limit feed one.front ∙ ap (table_alone limit feed) (sym one.before)) in
     one.had ∙ ap outcome.Did
     (lawful.answered here.earlier e here.later here.split ∙ ((alone limit feed here.earlier cmd).1 own ∙ ap (λ table. reply_of limit table feed cmd) same_table))
 
 -- what a feed has in the table is what its commands leave by themselves
 routes_alone : FeedsStandAlone → EntriesOfVisits → (limit batch feed : ℕ) (journal : List Entry) (text : List ℕ) (lines : List LineOutcome) (cmd : Cmd)
-    → Explains batch feed journal text lines → some_refused lines ≡ false → feed_routes feed (table_of_journal limit journal) ≡ table_alone limit feed (commands (asked_of lines))
+    → Explains batch feed journal text lines → list_any was_refused lines ≡ false → feed_routes feed (table_of_journal limit journal) ≡ table_alone limit feed (asked_of lines)
 routes_alone alone law limit batch feed journal text lines cmd explains none =
     (alone limit feed journal cmd).0 ∙ (ap (table_of_journal limit) (entries_explained law batch feed journal text lines explains)
-    ∙ (table-entries limit feed (visit_of (asked_of lines)) ∙ ap (table_alone limit feed) (sym (commands-visit lines none))))
+    ∙ (table-entries limit feed (visit_of (asked_of lines)) ∙ ap (table_alone limit feed) (sym (all_did lines none))))
 
 -- what the k-th text's lines became, and that the journal explains it as this feed's
 record IsOfFeed (batch feed k : ℕ) (journal : List Entry) (outcomes : List (List LineOutcome)) (text : List ℕ) : Type 0 where
@@ -253,10 +239,13 @@ at_place (x ∷ xs) zero within = (x, refl)
 at_place (x ∷ xs) (suc k) within = at_place xs k (omega (arith, within))
 
 -- where no command was refused at all, none of one feed's was
-none_of_one : (outcomes : List (List LineOutcome)) (k : ℕ) (lines : List LineOutcome) → list_any some_refused outcomes ≡ false → slice_get outcomes k ≡ Some lines → some_refused lines ≡ false
+none_of_one : (outcomes : List (List LineOutcome)) (k : ℕ) (lines : List LineOutcome) → some_refused outcomes ≡ false → slice_get outcomes k ≡ Some lines → list_any was_refused lines ≡ false
 none_of_one [] k lines none is = absurd (cc)
-none_of_one (first ∷ outcomes) zero lines none is = let same : first ≡ lines = cc in ap some_refused (sym same) ∙ (or_parts (some_refused first) (list_any some_refused outcomes) none).0
-none_of_one (first ∷ outcomes) (suc k) lines none is = none_of_one outcomes k lines ((or_parts (some_refused first) (list_any some_refused outcomes) none).1) is
+none_of_one (first ∷ outcomes) zero lines none is =
+    let same : first ≡ lines = cc in
+    ap (list_any was_refused) (sym same) ∙ none_refused first ((or_parts (list_any (was_told (codes "refused")) first) (some_refused outcomes) none).0)
+none_of_one (first ∷ outcomes) (suc k) lines none is =
+    none_of_one outcomes k lines ((or_parts (list_any (was_told (codes "refused")) first) (some_refused outcomes) none).1) is
 
 -- a status that is 5 where something is so tells that it is not
 not_5 : (is : Bool) (other status : ℕ) → status ≡ (if is then 5 else other) → status ≢ 5 → is ≡ false
@@ -264,8 +253,8 @@ not_5 true other status e not = absurd (not e)
 not_5 false other status e not = refl
 
 -- so the status of a run tells that none was
-none_refused : (outcomes : List (List LineOutcome)) (status : ℕ) → status ≡ outcomes_status outcomes → status ≢ 5 → list_any some_refused outcomes ≡ false
-none_refused outcomes status = not_5 (list_any some_refused outcomes) (if list_any some_faulty outcomes then 2 else 0) status
+by_status : (is_so : LineOutcome → Bool) (outcomes : List (List LineOutcome)) (status : ℕ) → status ≡ status_of is_so outcomes → status ≢ 5 → some_refused outcomes ≡ false
+by_status is_so outcomes status = not_5 (some_refused outcomes) (if list_any (list_any is_so) outcomes then 2 else 0) status
 
 -- a feed that has an entry has a text
 has_text : (journal : List Entry) (n feed : ℕ) → All (λ e. (1 ≤ e.feed) × (e.feed ≤ n)) journal → (own : List Entry) → feed_entries feed journal ≡ own
@@ -300,9 +289,8 @@ from_own feed r table c =
     All-contains (Contains table) (feed_routes feed table) r (All-filter (λ s. s.feed == feed) (Contains table) table (All-contains_itself table)) c
 
 -- what a journal leaves is the union of what each text leaves by itself
-pub union_of_run : FeedsStandAlone → TableByEntry → EntriesOfVisits → TextHasOneReading → (texts : List (List ℕ)) (limit batch : ℕ) (journal : List Entry)
-    (outcomes : List (List LineOutcome)) → IsHistory texts limit batch journal outcomes → list_any some_refused outcomes ≡ false → IsUnion texts limit (table_of_journal limit journal)
-union_of_run alone by_entry law once texts limit batch journal outcomes history none =
+pub leaves_union : FeedsStandAlone → TableByEntry → EntriesOfVisits → TextHasOneReading → LeavesUnion
+leaves_union alone by_entry law once texts limit batch journal outcomes history none =
     let table = table_of_journal limit journal in
     let of_feed = λ (k : ℕ) (text : List ℕ) (is : slice_get texts k ≡ Some text). of_text batch 1 k (k + 1) journal texts outcomes text (omega arith) history.explained is in
     let routes = λ (k : ℕ) (text : List ℕ) (here : IsOfFeed batch (k + 1) k journal outcomes text).
@@ -323,9 +311,9 @@ union_of_run alone by_entry law once texts limit batch journal outcomes history 
                     k,
                     (
                       text.0,
-                      commands (asked_of here.lines),
+                      here.lines,
                       text.1,
-                      (here.lines, here.explains.becomes, refl),
+                      here.explains.becomes,
                       subst (λ l. Contains l r) (ap (λ f. feed_routes f table) number ∙ routes k text.0 here) own,
                     ),
                   )
@@ -334,74 +322,52 @@ union_of_run alone by_entry law once texts limit batch journal outcomes history 
             let k = some.0 in
             let text = some.1.0 in
             let here = of_feed k text some.1.2 in
-            let same = one_asking once text some.1.1 (commands (asked_of here.lines)) some.1.3 (here.lines, here.explains.becomes, refl) in
-            let own = subst (λ l. Contains l r) (ap (table_alone limit (k + 1)) same ∙ sym (routes k text here)) some.1.4 in
+            let same = one_asking once text some.1.1 here.lines some.1.3 here.explains.becomes in
+            let own = subst (λ l. Contains l r) (alone-commands limit (k + 1) (asked_of some.1.1) (asked_of here.lines) same ∙ sym (routes k text here)) some.1.4 in
             from_own (k + 1) r table own),
       );
     }
 
-pub ends_in_union : FeedsStandAlone → TableByEntry → EntriesOfVisits → TextHasOneReading → EndsInUnion
-ends_in_union alone by_entry law once texts limit batch bytes status run not = (
+pub ends_in_union : LeavesUnion → EndsInUnion
+ends_in_union leaves texts limit batch bytes status run not = (
   table_of_journal limit run.journal,
-  union_of_run alone by_entry law once texts limit batch run.journal run.outcomes run.history (none_refused run.outcomes status run.is_status not),
+  leaves texts limit batch run.journal run.outcomes run.history (by_status was_faulty run.outcomes status run.is_status not),
   run.printed,
 )
 
 -- and a set has one table
-pub one_union : OneTableOfSet → (texts : List (List ℕ)) (limit : ℕ) (one other : List Route) → IsUnion texts limit one → IsUnion texts limit other → other ≡ one
+pub one_union : OneTableOfSet → HaveOneUnion
 one_union one_table texts limit one other here there =
-    one_table other one there.table here.table (λ r. (
-      (λ c. (here.contains r).1 ((there.contains r).0 c)),
+    one_table one other here.table there.table (λ r. (
       (λ c. (there.contains r).1 ((here.contains r).0 c)),
+      (λ c. (here.contains r).1 ((there.contains r).0 c)),
     ))
 
 pub answers_alone : FeedsStandAlone → EntriesOfVisits → AnswersAlone
-answers_alone alone law texts limit batch bytes status run not k lines is =
-    let none = none_refused run.outcomes status run.is_status not in
-    let within : k < length texts = omega (arith, slice_get_within run.outcomes k lines is, as_many batch 1 run.journal texts run.outcomes run.history.explained) in
+answers_alone alone law texts limit batch journal outcomes history none k lines is =
+    let within : k < length texts = omega (arith, slice_get_within outcomes k lines is, as_many batch 1 journal texts outcomes history.explained) in
     let text = at_place texts k within in
-    let here = of_text batch 1 k (k + 1) run.journal texts run.outcomes text.0 (omega arith) run.history.explained text.1 in
+    let here = of_text batch 1 k (k + 1) journal texts outcomes text.0 (omega arith) history.explained text.1 in
     let same : here.lines ≡ lines = (let a = here.stands in cc) in
     subst (λ l. IsAnsweredAlone limit (k + 1) (asked_of l)) same
-    (answered_alone alone law limit batch (k + 1) run.journal text.0 here.lines run.history.lawful here.explains (none_of_one run.outcomes k here.lines none here.stands))
+    (answered_alone alone law limit batch (k + 1) journal text.0 here.lines history.lawful here.explains (none_of_one outcomes k here.lines none here.stands))
 
-pub end_in_one_table : EndsInUnion → OneTableOfSet → EndInOneTable
+pub end_in_one_table : EndsInUnion → HaveOneUnion → EndInOneTable
 end_in_one_table ends one texts limit batch batch' bytes bytes' status status' run run' not not' =
     let here = ends texts limit batch bytes status run not in
     let there = ends texts limit batch' bytes' status' run' not' in
-    let same : there.0 ≡ here.0 = one_union one texts limit here.0 there.0 here.1 there.1 in
-    (here.0, here.2, there.2 ∙ ap (λ t. printed_reports run'.outcomes ++ table_text t) same)
+    let same : there.0 ≡ here.0 = one texts limit there.0 here.0 there.1 here.1 in
+    (here.0, here.2, there.2 ∙ ap (λ t. feeds_text 1 run'.outcomes ++ table_text t) same)
 
--- a count is above 0 where something passes the test
-one_is_some : (n : ℕ) → nat_lt 0 (1 + n) ≡ true
-one_is_some n = grind (arith, nat_tests)
+pub shows_union : LeavesUnion → ShowsUnion
+shows_union leaves texts limit batch text_of bytes taken is not = (
+  table_of_journal limit is.journal,
+  leaves texts limit batch is.journal is.outcomes is.history (by_status was_left_out is.outcomes taken.status is.is_status not),
+  is.shown,
+)
 
-counts_more : (is rest : Bool) (n : ℕ) → nat_lt 0 n ≡ rest → nat_lt 0 (cond is 1 0 + n) ≡ (is || rest)
-counts_more true rest n counted = one_is_some n
-counts_more false rest n counted = ap (λ m. nat_lt 0 m) (zero-add n) ∙ counted
-
-counts_some : {X : Type 0} (test : X → Bool) (xs : List X) → nat_lt 0 (count_by test xs) ≡ list_any test xs
-counts_some test [] = refl
-counts_some test (x ∷ xs) = ap (λ m. nat_lt 0 m) (sum_by-cons (λ y. cond (test y) 1 0) x xs) ∙ counts_more (test x) (list_any test xs) (count_by test xs) (counts_some test xs)
-
--- so tallies tell of a refused command where there is one
-tallies_refused : (outcomes : List (List LineOutcome)) → list_any tally.has_refused (map tally_of (map (report_lines 1) outcomes)) ≡ list_any some_refused outcomes
-tallies_refused [] = refl
-tallies_refused (lines ∷ outcomes) =
-    ap (λ b. b || list_any tally.has_refused (map tally_of (map (report_lines 1) outcomes))) (counts_some (λ (line : Line). is_refusal line.answer) (report_lines 1 lines) ∙ has_refusal-report_lines 1 lines)
-    ∙ ap (λ b. some_refused lines || b) (tallies_refused outcomes)
-
-pub shows_union : FeedsStandAlone → TableByEntry → EntriesOfVisits → TextHasOneReading → ShowsUnion
-shows_union alone by_entry law once texts limit batch text_of bytes taken is not =
-    let status = is.told.is_status ∙ ap tallies_status is.told.tallied in
-    let none = sym (tallies_refused is.outcomes) ∙ not_5 (list_any tally.has_refused (map tally_of (map (report_lines 1) is.outcomes))) _ taken.status status not in (
-      table_of_journal limit is.journal,
-      union_of_run alone by_entry law once texts limit batch is.journal is.outcomes is.history none,
-      is.shown,
-    )
-
-pub show_one_table : ShowsUnion → OneTableOfSet → ShowOneTable
+pub show_one_table : ShowsUnion → HaveOneUnion → ShowOneTable
 show_one_table shows one texts limit batch batch' text_of bytes bytes' taken taken' is is' not not' =
     let here = shows texts limit batch text_of bytes taken is not in
     let there = shows texts limit batch' text_of bytes' taken' is' not' in
-    here.2 ∙ (ap text_of (sym (one_union one texts limit here.0 there.0 here.1 there.1)) ∙ sym there.2)
+    here.2 ∙ (ap text_of (one texts limit here.0 there.0 here.1 there.1) ∙ sym there.2)

@@ -1,7 +1,6 @@
 -- Several feeds over one table: their reports and the journal that the table settles to explain one another.
 use Rattle.std.proofs.Common.{◌≡◌, ◌≢◌, ℕ, zero, suc, ◌+◌, ◌-◌, ◌<◌, ◌≤◌, ◌⊎◌, inl, inr, Option, Some, None, List, [], ◌∷◌, ◌++◌, All, length, map, take, drop, get_or, refl, sym, ap, subst, ◌∙◌, arith, append-nil, length-append, length-drop}
 use Rattle.std.specs.Prelude.{MatchOption}
-use Rattle.std.specs.List.{list_any}
 use Rattle.std.proofs.lemmas.List.{get_or-map, get_or-drop, get_or-append_right, get_or_append_left, length-map, length-take-le, get_or-take, get_or_default, drop_all, take_all}
 use Rattle.std.proofs.lemmas.List.Elements.{All-nil}
 use Rattle.std.proofs.lemmas.Option.{slice_get-get_or, slice_get_within, same_Some}
@@ -11,15 +10,17 @@ use Rattle.rt_shared.specs.Table.{SharedId, HeldPass, ArePassesOf, Settles}
 use Rattle.rt_shared.specs.Visits.{Since, Uncut}
 use Rattle.rt_feed.specs.declared.report.Line.{Line}
 use Rattle.rt_feed.specs.declared.feeds.Feed.{Feed}
-use Rattle.rt_feed.specs.Reports.{has_refusal, has_fault}
-use Rattle.rt_feed.specs.LineOutcomes.{LineOutcome, report_lines, some_refused, some_faulty}
+use Rattle.rt_feed.specs.LineOutcomes.{LineOutcome, report_lines, asked_of}
 use Rattle.rt_feed.specs.Visits.{Visit, visit_of, entries}
 use Rattle.rt_feed.specs.FeedRuns.{RunsFeed, StopsWithin}
 use Rattle.rt_feed.specs.Feeds.{RunsOne}
 use Rattle.rt_feed.specs.Printed.{table_text}
-use Rattle.rt_feed.proofs.Promised.{has_refusal-report_lines, has_fault-report_lines}
 use Rattle.rt_shared.proofs.Promised.{uncut_since}
-use Rattle.rt_run.specs.RunText.{Explains, ExplainsFrom, reports_text, IsRunText, outcomes_status}
+use Rattle.std.specs.Simd.{first_chunks}
+use Rattle.rt_run.specs.RunText.{Explains, ExplainsFrom, entries_of, IsRunText}
+use Rattle.rt_run.specs.inside.Outputs.{reports_text}
+use Rattle.rt_run.proofs.Pieces.{entries-visits, chunks-cut, cut-holds}
+use Rattle.rt_run.proofs.Telling.{feeds-text, reports_status-lines}
 use Rattle.rt_run.specs.inside.RunResults.{RunOverBook, reports_status}
 
 -- what a gate to the table holds, and its name
@@ -47,13 +48,15 @@ explained batch feed journal text old new report runs fresh same since =
     let none : holds old [] = subst (λ (seen : List Entry). Uncut old.feed [] seen) (sym fresh) (All-nil _) in
     let held : Uncut new.feed (map (entries new.feed) (map visit_of pieces)) new.seen = runs.asks.gained [] none in
     let mine : Uncut feed (map (entries feed) (map visit_of pieces)) new.seen = subst (λ (n : ℕ). Uncut n (map (entries n) (map visit_of pieces)) new.seen) same held in
+    let same_visits : map (entries feed) (map visit_of pieces) ≡ map (entries_of feed) (first_chunks batch (length pieces) (asked_of runs.outcomes)) =
+    map-both (entries feed) visit_of pieces ∙ (entries-visits feed pieces ∙ ap (map (entries_of feed)) (sym (chunks-cut batch (asked_of runs.outcomes) pieces runs.asks.cut))) in
     record {
       lines = runs.outcomes;
       explains = record {
         becomes = runs.asks.becomes;
-        pieces = pieces;
-        cut = runs.asks.cut;
-        uncut = subst (λ (visits : List (List Entry)). Uncut feed visits journal) (map-both (entries feed) visit_of pieces) (uncut_since feed _ new.seen journal mine since);
+        count = length pieces;
+        hold = cut-holds batch (asked_of runs.outcomes) pieces runs.asks.cut;
+        uncut = subst (λ (visits : List (List Entry)). Uncut feed visits journal) same_visits (uncut_since feed _ new.seen journal mine since);
       };
       reported = runs.reported;
     }
@@ -259,19 +262,6 @@ module _ {V : Type 0} (items : V → List ℕ) (texts : List V) (table : SharedI
             counted = n_reports ∙ sym (length-map texts items);
           }
 
--- the tests of the reports are those of the lines
-some_refusal : (outcomes : List (List LineOutcome)) → list_any has_refusal (map (report_lines 1) outcomes) ≡ list_any some_refused outcomes
-some_refusal [] = refl
-some_refusal (lines ∷ outcomes) = rw (has_refusal-report_lines 1 lines, some_refusal outcomes) refl
-
-some_fault : (outcomes : List (List LineOutcome)) → list_any has_fault (map (report_lines 1) outcomes) ≡ list_any some_faulty outcomes
-some_fault [] = refl
-some_fault (lines ∷ outcomes) = rw (has_fault-report_lines 1 lines, some_fault outcomes) refl
-
--- so the status of the reports is that of what the lines became
-pub reports_status-lines : (outcomes : List (List LineOutcome)) → reports_status (map (report_lines 1) outcomes) ≡ outcomes_status outcomes
-reports_status-lines outcomes = rw (some_refusal outcomes, some_fault outcomes) refl
-
 -- what is written of them is a run's text
 pub run_text : (texts : List (List ℕ)) (limit batch : ℕ) (reports : List (List Line)) (book : BookContents) (bytes : List ℕ) → RunOverBook texts limit batch reports book
     → bytes ≡ reports_text 1 reports ++ table_text (table_of book) → IsRunText texts limit batch bytes (reports_status reports)
@@ -279,7 +269,7 @@ run_text texts limit batch reports book bytes ran printed = record {
   journal = book.journal;
   outcomes = ran.outcomes;
   history = ran.history;
-  printed = rw (printed, ran.reported, ran.limited) refl;
+  printed = rw (printed, ran.reported, ran.limited, feeds-text 1 ran.outcomes) refl;
   is_status = rw ran.reported (reports_status-lines ran.outcomes);
 }
 

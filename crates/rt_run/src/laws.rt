@@ -1,15 +1,15 @@
 //! What holds of every run of feeds, however its threads ran. Each function is a theorem: calling it makes its clause
 //! known, and it does nothing.
-ghost use Rattle.rt_run.specs.SameTable.{EndsInUnion, AnswersAlone, EndInOneTable, ShowsUnion, ShowOneTable};
+ghost use Rattle.rt_run.specs.SameTable.{LeavesUnion, AnswersAlone, HaveOneUnion, EndsInUnion, EndInOneTable, ShowsUnion, ShowOneTable};
 
 use rt_feed::laws::one_reading;
 use rt_rib::laws::{feeds_stand_alone, one_table_of_set, table_by_entry};
 use rt_shared::laws::visits;
 
-/// Where no command was refused for want of memory, a run ends in the table of the union, over all its texts, of the
-/// sets that the commands of each leave by themselves.
-pub fn ends_in_union()
-    ensures { EndsInUnion }
+/// Where no command was refused for want of memory, the journal of a run leaves the table of the union, over all its texts,
+/// of the sets that the commands of each leave by themselves.
+pub fn leaves_union()
+    ensures { LeavesUnion }
 {
     feeds_stand_alone();
     table_by_entry();
@@ -25,12 +25,26 @@ pub fn answers_alone()
     visits();
 }
 
+/// The same texts have one union for each limit.
+pub fn one_union()
+    ensures { HaveOneUnion }
+{
+    one_table_of_set();
+}
+
+/// So where no command was refused for want of memory, a run writes its reports and the table of the union.
+pub fn ends_in_union()
+    ensures { EndsInUnion }
+{
+    leaves_union();
+}
+
 /// So two runs of the same texts and limit end in one table, whatever their batches and however their threads ran.
 pub fn end_in_one_table()
     ensures { EndInOneTable }
 {
     ends_in_union();
-    one_table_of_set();
+    one_union();
 }
 
 /// Where no command was refused for want of memory, `lookup_texts` and `table_texts` tell of the union: so what they write is
@@ -38,10 +52,7 @@ pub fn end_in_one_table()
 pub fn shows_union()
     ensures { ShowsUnion }
 {
-    feeds_stand_alone();
-    table_by_entry();
-    visits();
-    one_reading();
+    leaves_union();
 }
 
 /// So two runs of the same texts and limit write the same bytes where the same is asked, whatever their batches and however
@@ -50,5 +61,5 @@ pub fn show_one_table()
     ensures { ShowOneTable }
 {
     shows_union();
-    one_table_of_set();
+    one_union();
 }

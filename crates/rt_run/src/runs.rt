@@ -4,7 +4,7 @@ ghost use Rattle.rt_rib.specs.declared.limits.TheConstants.{MOST_FEEDS};
 ghost use Rattle.rt_rib.specs.Book.{IsLimit};
 ghost use Rattle.std.specs.List.{list_any};
 ghost use Rattle.rt_feed.specs.Reports.{has_refusal, has_fault};
-ghost use Rattle.rt_run.specs.RunText.{LeavesRunText};
+ghost use Rattle.rt_run.specs.RunText.{IsRunText, Leaves};
 ghost use Rattle.rt_run.specs.inside.RunResults.{RunOverBook, RunBeforeSettle, reports_status};
 ghost use Rattle.rt_shared.specs.Table.{ArePassesOf};
 
@@ -42,7 +42,7 @@ pub fn run_texts<R: Threads + Wait + Sync, W: Write>(
     requires limited { IsLimit limit }
     requires few { length texts.now ≤ MOST_FEEDS }
     requires batched { 1 ≤ batch }
-    ensures text { LeavesRunText (map (λ text. text.items) texts.now) limit batch (W.contents w.old) (W.contents w.new) result }
+    ensures text { Leaves (IsRunText (map (λ text. text.items) texts.now) limit batch) (W.contents w.old) (W.contents w.new) result }
     ensures no_text { (result ≡ Err (AppFault.Run RunFault.NoText)) ↔ (texts.now ≡ []) }
 {
     let ran = match run_all(rt, alloc, texts, limit, batch) {
@@ -205,7 +205,7 @@ fn put_behind(passes: &mut Vec<FeedPass>, mut more: Vec<FeedPass>)
 fn write_ran<W: Write>(alloc: Global, ran: &Ran, w: &mut W) -> Result<u8, AppFault>
     requires few { length ran.now.reports.items ≤ MOST_FEEDS }
     ensures text { (texts : List (List ℕ)) (limit batch : ℕ) → RunOverBook texts limit batch ran.now.reports.items ran.now.book
-        → LeavesRunText texts limit batch (W.contents w.old) (W.contents w.new) result }
+        → Leaves (IsRunText texts limit batch) (W.contents w.old) (W.contents w.new) result }
     ensures ran { result ≢ Err (AppFault.Run RunFault.NoText) }
 {
     let Ok(routes) = ran.book.routes(alloc) else {

@@ -3,7 +3,8 @@ ghost use Rattle.std.specs.Prelude.{◌≡◌, ◌≢◌, ◌↔◌, ℕ, List, 
 ghost use Rattle.rt_rib.specs.declared.limits.TheConstants.{MOST_FEEDS};
 ghost use Rattle.rt_rib.specs.Book.{IsLimit, table_of};
 ghost use Rattle.rt_run.specs.inside.RunResults.{RunOverBook};
-ghost use Rattle.rt_run.specs.TableText.{answers_text, routes_text, LeavesShown};
+ghost use Rattle.rt_run.specs.RunText.{Leaves};
+ghost use Rattle.rt_run.specs.TableText.{answers_text, routes_text, IsShown};
 ghost use Rattle.rt_rib.specs.LookUp.{best_routes};
 ghost use Rattle.rt_run.specs.inside.Outputs.{shown_text, Writes};
 
@@ -37,7 +38,7 @@ pub fn lookup_texts<R: Threads + Wait + Sync, W: Write>(
     requires limited { IsLimit limit }
     requires few { length texts.now ≤ MOST_FEEDS }
     requires batched { 1 ≤ batch }
-    ensures text { LeavesShown (map (λ text. text.items) texts.now) limit batch (answers_text addresses.now) (W.contents w.old) (W.contents w.new) result }
+    ensures text { Leaves (IsShown (map (λ text. text.items) texts.now) limit batch (answers_text addresses.now)) (W.contents w.old) (W.contents w.new) result }
     ensures no_text { (result ≡ Err (AppFault.Run RunFault.NoText)) ↔ (texts.now ≡ []) }
 {
     show_texts(rt, alloc, texts, limit, batch, Shown::Answers(addresses), w)
@@ -58,7 +59,7 @@ pub fn table_texts<R: Threads + Wait + Sync, W: Write>(
     requires limited { IsLimit limit }
     requires few { length texts.now ≤ MOST_FEEDS }
     requires batched { 1 ≤ batch }
-    ensures text { LeavesShown (map (λ text. text.items) texts.now) limit batch (routes_text only_best) (W.contents w.old) (W.contents w.new) result }
+    ensures text { Leaves (IsShown (map (λ text. text.items) texts.now) limit batch (routes_text only_best)) (W.contents w.old) (W.contents w.new) result }
     ensures no_text { (result ≡ Err (AppFault.Run RunFault.NoText)) ↔ (texts.now ≡ []) }
 {
     show_texts(rt, alloc, texts, limit, batch, Shown::Routes(only_best), w)
@@ -86,7 +87,7 @@ fn show_texts<R: Threads + Wait + Sync, W: Write>(
     requires limited { IsLimit limit }
     requires few { length texts.now ≤ MOST_FEEDS }
     requires batched { 1 ≤ batch }
-    ensures text { LeavesShown (map (λ text. text.items) texts.now) limit batch (shown_text shown.entry) (W.contents w.old) (W.contents w.new) result }
+    ensures text { Leaves (IsShown (map (λ text. text.items) texts.now) limit batch (shown_text shown.entry)) (W.contents w.old) (W.contents w.new) result }
     ensures no_text { (result ≡ Err (AppFault.Run RunFault.NoText)) ↔ (texts.now ≡ []) }
 {
     let ran = match run_all(rt, alloc, texts, limit, batch) {
@@ -107,7 +108,7 @@ fn show_ran<W: Write>(
     w: &mut W,
 ) -> Result<Taken, AppFault>
     ensures text { (texts : List (List ℕ)) (limit batch : ℕ) → RunOverBook texts limit batch ran.now.reports.items ran.now.book
-        → LeavesShown texts limit batch (shown_text shown.entry) (W.contents w.old) (W.contents w.new) result }
+        → Leaves (IsShown texts limit batch (shown_text shown.entry)) (W.contents w.old) (W.contents w.new) result }
     ensures ran { result ≢ Err (AppFault.Run RunFault.NoText) }
 {
     let Ok(taken) = taken_of(alloc, ran.reports.as_slice()) else {

@@ -3,9 +3,9 @@ ghost use Rattle.std.specs.Prelude.{◌≡◌, find, map, IfOk};
 ghost use Rattle.std.specs.List.{list_any};
 ghost use Rattle.rt_feed.specs.declared.report.Line.{Line};
 ghost use Rattle.rt_feed.specs.Reports.{is_fault};
-ghost use Rattle.rt_run.specs.TableText.{was_full, was_existing, was_missing, tally_of, has_refused, has_left_out, tallies_status, IsTaken};
+ghost use Rattle.rt_run.specs.inside.Tallies.{was_full, was_existing, was_missing, fault_of, report_tally, has_refused, has_left_out, tallies_status, IsTaken};
 
-use rt_feed::{Answer, Line, Report};
+use rt_feed::{Answer, Line, LineFault, Report};
 use rt_rib::Reply;
 use std::alloc::{AllocError, Global};
 
@@ -21,7 +21,7 @@ pub struct Tally {
     /// How many lines were faulty.
     pub faulty: usize,
     /// The first of them: its number, from 1, and its fault.
-    pub first_faulty: Option<Line>,
+    pub first_faulty: Option<(usize, LineFault)>,
     /// How many `add`s were over the limit.
     pub full: usize,
     /// How many `add`s found their prefix there already.
@@ -68,14 +68,14 @@ pub(crate) fn taken_of(alloc: Global, reports: &[Report]) -> Result<Taken, Alloc
 }
 
 fn tallies_of(alloc: Global, reports: &[Report]) -> Result<Vec<Tally>, AllocError>
-    ensures { IfOk result (λ tallies. tallies.items ≡ map tally_of reports.now) }
+    ensures { IfOk result (λ tallies. tallies.items ≡ map report_tally reports.now) }
 {
     reports.iter().map(|report| tally_of(report)).collect(alloc)
 }
 
 /// What of a text was not taken, by its report.
 fn tally_of(report: &Report) -> Tally
-    ensures { result ≡ tally_of report.now }
+    ensures { result ≡ report_tally report.now }
 {
     let lines = report.lines();
     let mut tally = Tally {
@@ -96,10 +96,31 @@ fn tally_of(report: &Report) -> Tally
     tally
 }
 
-fn first_faulty(lines: &[Line]) -> Option<Line>
+/// The number of the first faulty line, and its fault.
+fn first_faulty(lines: &[Line]) -> Option<(usize, LineFault)>
+    ensures { result ≡ fault_of (find (λ (line : Line). is_fault line.answer) lines.now) }
+{
+    fault_of(faulty_line(lines))
+}
+
+/// The first faulty line.
+fn faulty_line(lines: &[Line]) -> Option<Line>
     ensures { result ≡ find (λ (line : Line). is_fault line.answer) lines.now }
 {
     lines.iter().copied().find(|line| line.answer.is_fault())
+}
+
+/// The number of the line and its fault, if it is one that has a fault.
+fn fault_of(line: Option<Line>) -> Option<(usize, LineFault)>
+    ensures { result ≡ fault_of line }
+{
+    match line {
+        Some(line) => match line.answer {
+            Answer::Fault(fault) => Some((line.number, fault)),
+            Answer::Did(_) | Answer::Refused => None,
+        },
+        None => None,
+    }
 }
 
 /// Whether an `add` was over the limit.

@@ -1,6 +1,6 @@
 //! What of a file was not taken, for standard error: one line a kind. A fault of standard error itself is dropped.
 
-use rt_feed::{Answer, LineFault};
+use rt_feed::LineFault;
 use rt_run::Tally;
 use std::io::Write;
 
@@ -29,16 +29,9 @@ impl FaultyLines {
 
     /// Those of a feed's text.
     fn of(tally: &Tally) -> FaultyLines {
-        let first = match tally.first_faulty {
-            Some(line) => match line.answer {
-                Answer::Fault(fault) => Some((line.number, fault)),
-                Answer::Did(_) | Answer::Refused => None,
-            },
-            None => None,
-        };
         FaultyLines {
             count: tally.faulty,
-            first,
+            first: tally.first_faulty,
         }
     }
 }

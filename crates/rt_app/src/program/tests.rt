@@ -1,7 +1,7 @@
 //! Each fault has its status and its text. The other ways to stop are rows of the calls.
 use crate::program::Stop;
 use crate::program::telling::tell_tally;
-use rt_feed::{Answer, Line, LineFault, RunFault};
+use rt_feed::{LineFault, RunFault};
 use rt_run::{AppFault, Tally};
 use ya_core::ReplayFault;
 
@@ -39,13 +39,9 @@ fn each_fault_has_its_status_and_text(rt: HostRuntime) {
 /// Fails where something else is told of what was not taken.
 #[test]
 fn what_was_not_taken_is_told(rt: HostRuntime) {
-    let first = Line {
-        number: 3,
-        answer: Answer::Fault(LineFault::Preference),
-    };
     let some = Tally {
         faulty: 2,
-        first_faulty: Some(first),
+        first_faulty: Some((3, LineFault::Preference)),
         full: 7,
         existing: 4,
         missing: 5,

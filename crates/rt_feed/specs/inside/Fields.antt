@@ -1,16 +1,19 @@
 -- How the parser goes from field to field, and what it has read of them.
-use Rattle.std.specs.Prelude.{◌≡◌, ℕ, ◌^◌, ◌<◌, List, [], codes, Option, None, Some, Ok, Err}
+use Rattle.std.specs.Prelude.{◌≡◌, ℕ, ◌^◌, ◌<◌, List, [], ◌∷◌, codes, Option, None, Some, Ok, Err}
 use Rattle.std.specs.declared.result.Result.{Result}
 use Rattle.std.specs.Borrow.{Bor}
 use Rattle.rt_cidr.specs.declared.prefixes.Prefix.{Prefix}
+use Rattle.rt_cidr.specs.declared.prefixes.TextFault.{TextFault}
+use Rattle.rt_cidr.specs.declared.prefixes.TextFault.TheVariants.{Text, Length, Bits}
 use Rattle.rt_rib.specs.declared.routes.Hop.{Hop}
 use Rattle.rt_rib.specs.declared.commands.Cmd.{Cmd}
 use Rattle.rt_feed.specs.declared.parse.LineFault.{LineFault}
+use Rattle.rt_feed.specs.declared.parse.LineFault.TheVariants as fault
 use Rattle.rt_feed.specs.declared.versions.Version.{Version}
 use Rattle.rt_feed.specs.declared.parse.Name.{Name}
 use Rattle.rt_feed.specs.declared.parse.Name.TheVariants as name
 use Rattle.rt_feed.specs.CommandText.{words, route_words, HasHop, HasCommand}
-use Rattle.rt_feed.specs.Grammar.{Kind, fields, IsOfKind, IsFaultOf, IsFaultOfFields}
+use Rattle.rt_feed.specs.Grammar.{Kind, prefix, preference, hop, fields, IsOfKind, IsFaultOf, IsFaultAfter, IsFaultOfFields}
 
 -- the fields of what follows a space, if there is one
 abbrev pub fields_of_rest : Option (Bor (List ℕ)) → List (List ℕ)
@@ -41,3 +44,17 @@ pub record IsFaulty (kind : Kind) (field : List ℕ) (answer : LineFault) : Type
 abbrev pub AnswersFields : Version → List (List ℕ) → Result Cmd LineFault → Type 0
 AnswersFields version line (Ok cmd) = HasCommand version cmd × (line ≡ words cmd)
 AnswersFields version line (Err answer) = IsFaultOfFields version line answer
+
+-- what follows `add` and `replace`
+abbrev pub route_kinds : Version → List Kind
+route_kinds version = prefix ∷ preference ∷ hop version ∷ []
+
+-- the fault of the fields after a command's name, which are to be these
+abbrev pub IsFaultAmong : List Kind → List (List ℕ) → LineFault → Type 0
+IsFaultAmong kinds rest answer = IsFaultAfter (Some kinds) rest answer
+
+-- the line's fault for a text that is no prefix
+abbrev pub prefix_fault : TextFault → LineFault
+prefix_fault Text = fault.Text
+prefix_fault Length = fault.PrefixLength
+prefix_fault Bits = fault.PrefixBits

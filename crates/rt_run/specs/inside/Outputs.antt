@@ -1,12 +1,13 @@
 -- What is written, as the text of one value.
-use Rattle.std.specs.Prelude.{◌≡◌, ℕ, ◌<◌, ◌≤◌, ◌^◌, List, ◌++◌, length, Option, Result, Ok, Err}
+use Rattle.std.specs.Prelude.{◌≡◌, ℕ, ◌+◌, ◌<◌, ◌≤◌, ◌^◌, List, [], ◌∷◌, ◌++◌, length, Option, Result, Ok, Err}
 use Rattle.std.specs.Io.KnownBytes.{Appends}
 use Rattle.rt_cidr.specs.Output.{AppendsBeginning}
 use Rattle.rt_rib.specs.declared.limits.TheConstants.{MOST_FEEDS}
 use Rattle.rt_rib.specs.declared.routes.Route.{Route}
 use Rattle.rt_rib.specs.Book.{table_of}
 use Rattle.rt_feed.specs.declared.faults.RunFault.TheVariants as fault
-use Rattle.rt_feed.specs.Printed.{rows_text, table_text}
+use Rattle.rt_feed.specs.declared.report.Line.{Line}
+use Rattle.rt_feed.specs.Printed.{report_text, rows_text, table_text}
 use Rattle.rt_run.specs.declared.faults.AppFault.{AppFault}
 use Rattle.rt_run.specs.declared.faults.AppFault.TheVariants.{Run, Replay, Write}
 use Rattle.rt_run.specs.declared.output.Output.{Output}
@@ -14,8 +15,12 @@ use Rattle.rt_run.specs.declared.output.Output.TheVariants as output
 use Rattle.rt_run.specs.declared.shown.Shown.{Shown}
 use Rattle.rt_run.specs.declared.shown.Shown.TheVariants as shown
 use Rattle.ya_replay.specs.ReplayText.{replay_text_of}
-use Rattle.rt_run.specs.RunText.{reports_text}
 use Rattle.rt_run.specs.TableText.{answers_text, routes_text}
+
+-- the reports of all feeds, one after another, the first of them this feed's
+abbrev pub reports_text : ℕ → List (List Line) → List ℕ
+reports_text feed [] = []
+reports_text feed (report ∷ reports) = report_text feed report ++ reports_text (feed + 1) reports
 
 -- the text of the reports and the table, of the answers, of the routes, or of a replay
 abbrev pub output_text : Output → List ℕ

@@ -3,7 +3,6 @@ use Rattle.rt_feed.proofs.laws.one_answer.Goals as goal
 
 pub returns : goal.returns
 returns c = line_once record {
-  prefix_once = c.one_answer.ensures.prefix;
   prefix_written = c.written.ensures.prefix;
   prefix_again = c.read_again.ensures.prefix;
   address_written = c.written.ensures.address;
