@@ -1,5 +1,5 @@
 -- What a run leaves in its writer, from what was written of it.
-use Rattle.std.proofs.Common.{◌≡◌, ℕ, List, Option, Ok, Err, refl, sym, ap, ◌∙◌}
+use Rattle.std.proofs.Common.{◌≡◌, ℕ, List, Option, Err, refl, sym, ap, ◌∙◌}
 use Rattle.rt_rib.specs.declared.routes.Route.{Route}
 use Rattle.rt_rib.specs.Book.{BookContents, table_of}
 use Rattle.rt_feed.specs.declared.report.Line.{Line}

@@ -1,5 +1,5 @@
 -- Why the table of a run, and the replies on a feed's own routes, are what each feed's commands give by themselves.
-use Rattle.std.proofs.Common.{◌≡◌, ◌≢◌, ℕ, zero, suc, ◌+◌, ◌-◌, ◌<◌, ◌≤◌, ◌⊎◌, inl, inr, true, false, Option, Some, None, Ok, Err, List, [], ◌∷◌, ◌++◌, Bool, All, length, map, take, drop, refl, sym, ap, subst, ◌∙◌, arith, codes, append_assoc, append-nil, zero-add, eqb-true}
+use Rattle.std.proofs.Common.{◌≡◌, ◌≢◌, ℕ, zero, suc, ◌+◌, ◌-◌, ◌<◌, ◌≤◌, ◌⊎◌, inl, inr, true, false, Option, Some, None, Ok, Err, List, [], ◌∷◌, ◌++◌, Bool, All, length, map, take, drop, refl, sym, ap, subst, ◌∙◌, arith, codes, eqb-true}
 use Rattle.std.specs.Prelude.{fold, if◌then◌else◌, ◌||◌}
 use Rattle.std.specs.declared.result.Result.{Result}
 use Rattle.std.specs.List.{slice_get, list_any, flat_map, filter, Contains}
@@ -25,11 +25,11 @@ use Rattle.rt_feed.specs.Laws.{TextHasOneReading}
 use Rattle.rt_feed.specs.LineOutcomes.{LineOutcome, skipped, faulty, asked, reading, Becomes, asked_of}
 use Rattle.rt_feed.specs.Visits.{Visit, visit_of, entries}
 use Rattle.rt_feed.specs.Printed.{table_text}
-use Rattle.rt_run.specs.RunText.{Explains, ExplainsFrom, feeds_text, was_told, some_refused, was_faulty, status_of, IsHistory}
+use Rattle.rt_run.specs.RunText.{Explains, ExplainsFrom, feeds_text, was_told, some_refused, was_faulty, status_of}
 use Rattle.rt_run.proofs.Pieces.{entries-visit, entries-chunks}
 use Rattle.rt_run.specs.TableText.{was_left_out}
 use Rattle.rt_run.proofs.Telling.{agree-refused}
-use Rattle.rt_run.specs.SameTable.{table_alone, LeavesAlone, IsUnion, IsAnsweredAlone, LeavesUnion, AnswersAlone, HaveOneUnion, EndsInUnion, EndInOneTable, ShowsUnion, ShowOneTable}
+use Rattle.rt_run.specs.SameTable.{table_alone, IsAnsweredAlone, LeavesUnion, AnswersAlone, HaveOneUnion, EndsInUnion, EndInOneTable, ShowsUnion, ShowOneTable}
 
 -- what a line asks shows in what it says
 abbrev asked_in : Result (Option Cmd) LineFault → List Cmd

@@ -1,4 +1,3 @@
-use Rattle.std.proofs.Common.{refl}
 use Rattle.ya_replay.proofs.Promised.{replay_text-some}
 use Rattle.rt_run.proofs.Buffered.{run_text-some, answers-none, answers-some, rows-none, rows-some}
 use Rattle.rt_run.proofs.output.Output.is_empty.Goals as goal
