@@ -6,7 +6,7 @@ use Rattle.rt_feed.specs.Visits.{Visit, entries}
 use Rattle.walkthrough.specs.Gate.{HasVisits}
 
 -- the commands of a journal with their replies
-told : List Entry → Visit
+abbrev told : List Entry → Visit
 told journal = map (λ e. (e.cmd, e.reply)) journal
 
 -- as entries of feed 1 they are the journal, if it has no others
