@@ -67,7 +67,10 @@ def keep(name, rounds, rows):
     if "--store" not in sys.argv:
         return
     FOLDER.mkdir(exist_ok=True)
-    head = {"machine": machine(), "made": datetime.date.today().isoformat(), "rounds": rounds, "stolen": stolen()}
+    head = {"machine": machine(), "made": datetime.date.today().isoformat(), "rounds": rounds}
+    # of counts it doesn't matter
+    if began is not None:
+        head["stolen"] = stolen()
     lines = ",\n    ".join(json.dumps(row) for row in rows)
     text = json.dumps(head)[:-1] + f', "rows": [\n    {lines}\n]}}\n'
     json.loads(text)
