@@ -197,7 +197,7 @@ def twice(yarib):
 
 
 class Tree:
-    """All places of a tree of so many levels. Each takes one atomic step at a time, by the rows of docs/FORMATS.md."""
+    """All places of a tree of so many levels. Each takes one atomic step at a time, by the rows of docs/LOCK.md."""
 
     def __init__(self, levels):
         self.levels, self.words, self.inside = levels, {}, None
