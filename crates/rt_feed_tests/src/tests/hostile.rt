@@ -3,14 +3,14 @@
 use plain::{Offer, Said, reading};
 use rt_feed::{LineFault, Version, next_line, parse_line};
 use rt_rib::{Cmd, Hop};
-use std::alloc::AllocError;
+use std::alloc::{AllocError, Global};
 use std::process::Abort;
 use std::test::Fail;
 
 mod plain;
 
 /// Lines that are commands in version 2.
-const COMMANDS: [&[u8]; 12] = [
+static COMMANDS: [&[u8]; 12] = [
     b"add 10.0.0.0/8 100 192.0.2.1",
     b"add 0.0.0.0/0 0 0.0.0.0",
     b"add 255.255.255.255/32 4294967295 255.255.255.255",
@@ -25,7 +25,7 @@ const COMMANDS: [&[u8]; 12] = [
     b"purge",
 ];
 
-const NAMES: [&[u8]; 12] = [
+static NAMES: [&[u8]; 12] = [
     b"add",
     b"replace",
     b"withdraw",
@@ -41,7 +41,7 @@ const NAMES: [&[u8]; 12] = [
 ];
 
 /// Fields that are near to what they are to be, or far.
-const FIELDS: [&[u8]; 48] = [
+static FIELDS: [&[u8]; 48] = [
     b"10.0.0.0/8",
     b"10.0.0.1/8",
     b"10.0.0.0/32",
@@ -92,7 +92,7 @@ const FIELDS: [&[u8]; 48] = [
     b"\0\xff",
 ];
 
-const ENDS: [&[u8]; 8] = [b"", b"", b"", b"", b" ", b"\r", b"\0", b"\x80"];
+static ENDS: [&[u8]; 8] = [b"", b"", b"", b"", b" ", b"\r", b"\0", b"\x80"];
 
 /// What the crate read, in plain numbers.
 fn read(answer: Result<Option<Cmd>, LineFault>) -> Said {
@@ -168,6 +168,30 @@ fn join(line: &mut Vec<u8>, pieces: &[&[u8]]) -> Result<(), AllocError> {
     Ok(())
 }
 
+/// Compares the line of these pieces.
+fn compare_joined<R: Abort>(rt: &R, alloc: Global, pieces: &[&[u8]]) -> Result<(), AllocError> {
+    let mut line = Vec::new(alloc);
+    join(&mut line, pieces)?;
+    compare(rt, line.as_slice());
+    Ok(())
+}
+
+/// Compares both parts of a command, and both with a byte more between them.
+fn compare_more<R: Abort>(
+    rt: &R,
+    alloc: Global,
+    before: &[u8],
+    after: &[u8],
+) -> Result<(), AllocError> {
+    compare(rt, before);
+    compare(rt, after);
+    let again = &after[..after.len().min(1)];
+    for inserted in [b" ".as_slice(), b"0", b"1", b".", b"/", b"\r", again] {
+        compare_joined(rt, alloc, &[before, inserted, after])?;
+    }
+    Ok(())
+}
+
 /// Makes the line the command with this byte at that place.
 fn change(line: &mut Vec<u8>, command: &[u8], at: usize, byte: u8) -> Result<(), AllocError> {
     line.clear();
@@ -185,7 +209,7 @@ fn change(line: &mut Vec<u8>, command: &[u8], at: usize, byte: u8) -> Result<(),
 #[test]
 fn every_byte_at_every_place(rt: HostRuntime) -> Result<(), Fail> {
     let mut line = Vec::new(rt.alloc());
-    for command in COMMANDS {
+    for command in COMMANDS.iter().copied() {
         for at in 0..command.len() {
             for byte in 0..=u8::MAX {
                 change(&mut line, command, at, byte)?;
@@ -201,50 +225,51 @@ fn every_byte_at_every_place(rt: HostRuntime) -> Result<(), Fail> {
 /// Fails where from 2^32 on a preference wraps to 0: `.. 14294967295 ..` is a preference, instead of fault 6.
 #[test]
 fn a_byte_more_or_less_at_every_place(rt: HostRuntime) -> Result<(), Fail> {
-    let mut line = Vec::new(rt.alloc());
-    for command in COMMANDS {
+    for command in COMMANDS.iter().copied() {
         compare(&rt, command);
         for at in 0..command.len() {
             let (before, after) = (&command[..at], &command[at..]);
-            let more: [&[u8]; 7] = [b" ", b"0", b"1", b".", b"/", b"\r", &command[at..=at]];
-            compare(&rt, before);
-            compare(&rt, after);
-            for inserted in more {
-                line.clear();
-                join(&mut line, &[before, inserted, after])?;
-                compare(&rt, line.as_slice());
-            }
-            line.clear();
-            join(&mut line, &[before, &after[1..]])?;
-            compare(&rt, line.as_slice());
+            compare_more(&rt, rt.alloc(), before, after)?;
+            compare_joined(&rt, rt.alloc(), &[before, &after[1..]])?;
         }
     }
     Ok(())
 }
 
+/// Beginnings of lines that more bytes are put behind.
+static FRONTS: [&[u8]; 8] = [
+    b"#",
+    b"",
+    b"dump ",
+    b"add ",
+    b"lookup ",
+    b"withdraw 10.0.0.0/",
+    b"add 10.0.0.0/8 ",
+    b"add 10.0.0.0/8 1 ",
+];
+
 /// Fails where 129 bytes are read: `#` and 128 bytes `1` say nothing, instead of fault 8.
 #[test]
 fn lines_about_128_bytes(rt: HostRuntime) -> Result<(), Fail> {
-    let fronts: [&[u8]; 8] = [
-        b"#",
-        b"",
-        b"dump ",
-        b"add ",
-        b"lookup ",
-        b"withdraw 10.0.0.0/",
-        b"add 10.0.0.0/8 ",
-        b"add 10.0.0.0/8 1 ",
-    ];
-    let mut line = Vec::new(rt.alloc());
-    for front in fronts {
+    for front in FRONTS.iter() {
         for filling in [b'1', b'0', b' ', b'x', b'\0'] {
-            line.clear();
-            join(&mut line, &[front])?;
-            for _ in 0..131 {
-                compare(&rt, line.as_slice());
-                line.push(filling)?;
-            }
+            compare_filled(&rt, rt.alloc(), front, filling)?;
         }
+    }
+    Ok(())
+}
+
+/// Compares the line with none to 130 of this byte behind it.
+fn compare_filled<R: Abort>(
+    rt: &R,
+    alloc: Global,
+    front: &[u8],
+    filling: u8,
+) -> Result<(), AllocError> {
+    let mut line = Vec::from_slice(alloc, front)?;
+    for _ in 0..131 {
+        compare(rt, line.as_slice());
+        line.push(filling)?;
     }
     Ok(())
 }
@@ -281,29 +306,41 @@ fn hostile_line(state: &mut u64, line: &mut Vec<u8>) -> Result<(), AllocError> {
 #[test]
 fn forty_thousand_lines_of_hostile_feeds(rt: HostRuntime) -> Result<(), Fail> {
     for seed in 1..=40 {
-        let mut text = Vec::new(rt.alloc());
-        let mut state = seed;
-        for number in 0..1000 {
-            if number > 0 {
-                text.push(b'\n')?;
-            }
-            hostile_line(&mut state, &mut text)?;
-        }
-        let mut rest = text.as_slice();
-        let mut line = Vec::new(rt.alloc());
-        state = seed;
-        for number in 0..1000 {
-            line.clear();
-            hostile_line(&mut state, &mut line)?;
-            if rest.is_empty() && line.is_empty() {
-                break;
-            }
-            let (found, next) = next_line(rest).ok_or("a line is missing")?;
-            assert_eq!(rt; found, line.as_slice(), "line {number} of seed {seed}");
-            compare(&rt, found);
-            rest = next;
-        }
-        assert!(rt; rest.is_empty());
+        let text = hostile_text(rt.alloc(), seed)?;
+        compare_text(&rt, rt.alloc(), text.as_slice(), seed)?;
     }
+    Ok(())
+}
+
+/// 1,000 hostile lines of this seed.
+fn hostile_text(alloc: Global, seed: u64) -> Result<Vec<u8>, AllocError> {
+    let mut text = Vec::new(alloc);
+    let mut state = seed;
+    for number in 0..1000 {
+        if number > 0 {
+            text.push(b'\n')?;
+        }
+        hostile_line(&mut state, &mut text)?;
+    }
+    Ok(text)
+}
+
+/// Compares each line of the text of this seed.
+fn compare_text<R: Abort>(rt: &R, alloc: Global, text: &[u8], seed: u64) -> Result<(), Fail> {
+    let mut rest = text;
+    let mut line = Vec::new(alloc);
+    let mut state = seed;
+    for number in 0..1000 {
+        line.clear();
+        hostile_line(&mut state, &mut line)?;
+        if rest.is_empty() && line.is_empty() {
+            break;
+        }
+        let (found, next) = next_line(rest).ok_or("a line is missing")?;
+        assert_eq!(rt; found, line.as_slice(), "line {number} of seed {seed}");
+        compare(rt, found);
+        rest = next;
+    }
+    assert!(rt; rest.is_empty());
     Ok(())
 }

@@ -14,19 +14,21 @@ fn assert_lines(rt: &impl Abort, text: &[u8], lines: &[&[u8]]) {
     assert_eq!(rt; next_line(rest), None, "after {text:?}");
 }
 
+/// Texts and their lines.
+static TEXTS: [(&[u8], &[&[u8]]); 7] = [
+    (b"", &[]),
+    (b"\n", &[b""]),
+    (b"dump", &[b"dump"]),
+    (b"dump\n", &[b"dump"]),
+    (b"dump\n\n", &[b"dump", b""]),
+    (b"# note\ndump\r\n", &[b"# note", b"dump\r"]),
+    (b"\n\nadd", &[b"", b"", b"add"]),
+];
+
 /// Fails where a last line without LF is dropped: it ends where it wants a line.
 #[test]
 fn cuts_texts_into_lines(rt: HostRuntime) {
-    let texts: [(&[u8], &[&[u8]]); 7] = [
-        (b"", &[]),
-        (b"\n", &[b""]),
-        (b"dump", &[b"dump"]),
-        (b"dump\n", &[b"dump"]),
-        (b"dump\n\n", &[b"dump", b""]),
-        (b"# note\ndump\r\n", &[b"# note", b"dump\r"]),
-        (b"\n\nadd", &[b"", b"", b"add"]),
-    ];
-    for (text, lines) in texts {
+    for (text, lines) in TEXTS.iter() {
         assert_lines(&rt, text, lines);
     }
 }

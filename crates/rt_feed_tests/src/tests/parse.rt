@@ -21,50 +21,54 @@ fn assert_answers(rt: &impl Abort, line: &[u8], answer: Result<Option<Cmd>, Line
     assert_answer(rt, line, Version::Two, answer);
 }
 
+/// Lines and their fault in either version.
+static FAULTY: [(&[u8], LineFault); 27] = [
+    (b"frob", LineFault::Command),
+    (b" dump", LineFault::Command),
+    (b"ADD 10.0.0.0/8 1 192.0.2.1", LineFault::Command),
+    (&[b'x'; 128], LineFault::Command),
+    (b"dump x", LineFault::FieldCount),
+    (b"dump ", LineFault::FieldCount),
+    (b"add", LineFault::FieldCount),
+    (b"add 10.0.0.0/8 1", LineFault::FieldCount),
+    (b"add 10.0.0.0/8 1 192.0.2.1 ", LineFault::FieldCount),
+    (b"add  10.0.0.0/8 1 192.0.2.1", LineFault::FieldCount),
+    (b"withdraw", LineFault::FieldCount),
+    (b"withdraw 10.0.0.0/8 ", LineFault::FieldCount),
+    (b"add 010.0.0.0/8 1 192.0.2.1", LineFault::Text),
+    (b"add 10.0.0/8 1 192.0.2.1", LineFault::Text),
+    (b"add 10.0.0.0/08 1 192.0.2.1", LineFault::Text),
+    (b"lookup 1.2.3.4.5", LineFault::Text),
+    (b"lookup 1.2.3.4\r", LineFault::Text),
+    (b"lookup 10.0.0.0/8", LineFault::Text),
+    (b"add 10.0.0.0/33 1 192.0.2.1", LineFault::PrefixLength),
+    (b"add 10.0.0.1/33 x y", LineFault::PrefixLength),
+    (b"add 10.0.0.1/8 1 192.0.2.1", LineFault::PrefixBits),
+    (b"replace 10.0.0.1/8 x y", LineFault::PrefixBits),
+    (
+        b"add 10.0.0.0/8 4294967296 192.0.2.1",
+        LineFault::Preference,
+    ),
+    (b"add 10.0.0.0/8 01 256.0.0.1", LineFault::Preference),
+    (b"add 10.0.0.0/8 4294967295 256.0.0.1", LineFault::Hop),
+    (&[b'x'; 129], LineFault::LineLength),
+    (&[b'#'; 129], LineFault::LineLength),
+];
+
 /// Fails where a space at the end is let through: `add 10.0.0.0/8 1 192.0.2.1 ` is a command, instead of `FieldCount`.
 #[test]
 fn tells_the_first_fault(rt: HostRuntime) {
-    let faulty: [(&[u8], LineFault); 27] = [
-        (b"frob", LineFault::Command),
-        (b" dump", LineFault::Command),
-        (b"ADD 10.0.0.0/8 1 192.0.2.1", LineFault::Command),
-        (&[b'x'; 128], LineFault::Command),
-        (b"dump x", LineFault::FieldCount),
-        (b"dump ", LineFault::FieldCount),
-        (b"add", LineFault::FieldCount),
-        (b"add 10.0.0.0/8 1", LineFault::FieldCount),
-        (b"add 10.0.0.0/8 1 192.0.2.1 ", LineFault::FieldCount),
-        (b"add  10.0.0.0/8 1 192.0.2.1", LineFault::FieldCount),
-        (b"withdraw", LineFault::FieldCount),
-        (b"withdraw 10.0.0.0/8 ", LineFault::FieldCount),
-        (b"add 010.0.0.0/8 1 192.0.2.1", LineFault::Text),
-        (b"add 10.0.0/8 1 192.0.2.1", LineFault::Text),
-        (b"add 10.0.0.0/08 1 192.0.2.1", LineFault::Text),
-        (b"lookup 1.2.3.4.5", LineFault::Text),
-        (b"lookup 1.2.3.4\r", LineFault::Text),
-        (b"lookup 10.0.0.0/8", LineFault::Text),
-        (b"add 10.0.0.0/33 1 192.0.2.1", LineFault::PrefixLength),
-        (b"add 10.0.0.1/33 x y", LineFault::PrefixLength),
-        (b"add 10.0.0.1/8 1 192.0.2.1", LineFault::PrefixBits),
-        (b"replace 10.0.0.1/8 x y", LineFault::PrefixBits),
-        (
-            b"add 10.0.0.0/8 4294967296 192.0.2.1",
-            LineFault::Preference,
-        ),
-        (b"add 10.0.0.0/8 01 256.0.0.1", LineFault::Preference),
-        (b"add 10.0.0.0/8 4294967295 256.0.0.1", LineFault::Hop),
-        (&[b'x'; 129], LineFault::LineLength),
-        (&[b'#'; 129], LineFault::LineLength),
-    ];
-    for (line, fault) in faulty {
-        assert_answers(&rt, line, Err(fault));
+    for (line, fault) in FAULTY.iter() {
+        assert_answers(&rt, line, Err(*fault));
     }
 }
 
+/// Lines that say nothing.
+static SKIPPED: [&[u8]; 4] = [b"", b"#", b"# note", &[b'#'; 128]];
+
 #[test]
 fn skips_empty_lines_and_comments(rt: HostRuntime) {
-    let skipped: [&[u8]; 4] = [b"", b"#", b"# note", &[b'#'; 128]];
-    for line in skipped {
+    for line in SKIPPED.iter() {
         assert_answers(&rt, line, Ok(None));
     }
 }
@@ -142,81 +146,85 @@ fn discard_and_purge_came_with_version_two(rt: HostRuntime) -> Result<(), Fail> 
     Ok(())
 }
 
+/// Lines and their faults in version 1 and in version 2.
+static FAULTY_IN_EACH: [(&[u8], LineFault, LineFault); 8] = [
+    (
+        b"purge 10.0.0.0/8",
+        LineFault::Command,
+        LineFault::FieldCount,
+    ),
+    (b"purge ", LineFault::Command, LineFault::FieldCount),
+    (b"version 2", LineFault::Command, LineFault::Command),
+    (b"lookup discard", LineFault::Text, LineFault::Text),
+    (b"withdraw discard", LineFault::Text, LineFault::Text),
+    (b"add 10.0.0.0/8 5 Discard", LineFault::Hop, LineFault::Hop),
+    (b"add 10.0.0.0/8 5 discards", LineFault::Hop, LineFault::Hop),
+    (
+        b"add 10.0.0.0/8 x discard",
+        LineFault::Preference,
+        LineFault::Preference,
+    ),
+];
+
 #[test]
 fn no_version_has_more(rt: HostRuntime) {
-    let faulty: [(&[u8], LineFault, LineFault); 8] = [
-        (
-            b"purge 10.0.0.0/8",
-            LineFault::Command,
-            LineFault::FieldCount,
-        ),
-        (b"purge ", LineFault::Command, LineFault::FieldCount),
-        (b"version 2", LineFault::Command, LineFault::Command),
-        (b"lookup discard", LineFault::Text, LineFault::Text),
-        (b"withdraw discard", LineFault::Text, LineFault::Text),
-        (b"add 10.0.0.0/8 5 Discard", LineFault::Hop, LineFault::Hop),
-        (b"add 10.0.0.0/8 5 discards", LineFault::Hop, LineFault::Hop),
-        (
-            b"add 10.0.0.0/8 x discard",
-            LineFault::Preference,
-            LineFault::Preference,
-        ),
-    ];
-    for (line, one, two) in faulty {
-        assert_answer(&rt, line, Version::One, Err(one));
-        assert_answer(&rt, line, Version::Two, Err(two));
+    for (line, one, two) in FAULTY_IN_EACH.iter() {
+        assert_answer(&rt, line, Version::One, Err(*one));
+        assert_answer(&rt, line, Version::Two, Err(*two));
     }
 }
+
+/// Each fault, its text and its name.
+static FAULTS: [(LineFault, &str, &str); 8] = [
+    (
+        LineFault::Command,
+        "E1: the first field is no command",
+        "Command",
+    ),
+    (
+        LineFault::FieldCount,
+        "E2: the command takes another number of fields",
+        "FieldCount",
+    ),
+    (
+        LineFault::Text,
+        "E3: the field is no prefix or address",
+        "Text",
+    ),
+    (
+        LineFault::PrefixLength,
+        "E4: the prefix's length is over 32",
+        "PrefixLength",
+    ),
+    (
+        LineFault::PrefixBits,
+        "E5: a bit past the prefix's length is set",
+        "PrefixBits",
+    ),
+    (
+        LineFault::Preference,
+        "E6: the preference is no decimal from 0 to 4294967295",
+        "Preference",
+    ),
+    (
+        LineFault::Hop,
+        "E7: the next hop is neither an address nor, in version 2, `discard`",
+        "Hop",
+    ),
+    (
+        LineFault::LineLength,
+        "E8: the line has over 128 bytes",
+        "LineLength",
+    ),
+];
 
 /// Fails where `Display` or `Debug` shows another text for a `LineFault`.
 /// Fails where E8 tells of 127 bytes: both texts.
 #[test]
 fn faults_have_their_texts(rt: HostRuntime) -> Result<(), Fail> {
-    let faults = [
-        (
-            LineFault::Command,
-            "E1: the first field is no command",
-            "Command",
-        ),
-        (
-            LineFault::FieldCount,
-            "E2: the command takes another number of fields",
-            "FieldCount",
-        ),
-        (
-            LineFault::Text,
-            "E3: the field is no prefix or address",
-            "Text",
-        ),
-        (
-            LineFault::PrefixLength,
-            "E4: the prefix's length is over 32",
-            "PrefixLength",
-        ),
-        (
-            LineFault::PrefixBits,
-            "E5: a bit past the prefix's length is set",
-            "PrefixBits",
-        ),
-        (
-            LineFault::Preference,
-            "E6: the preference is no decimal from 0 to 4294967295",
-            "Preference",
-        ),
-        (
-            LineFault::Hop,
-            "E7: the next hop is neither an address nor, in version 2, `discard`",
-            "Hop",
-        ),
-        (
-            LineFault::LineLength,
-            "E8: the line has over 128 bytes",
-            "LineLength",
-        ),
-    ];
-    for (fault, shown, name) in faults {
-        assert_eq!(rt; format!(in rt.alloc(); "{fault}")?.as_str(), shown);
-        assert_eq!(rt; format!(in rt.alloc(); "{fault:?}")?.as_str(), name);
+    for (fault, shown, name) in FAULTS.iter() {
+        assert_eq!(rt; format!(in rt.alloc(); "{fault}")?.as_str(), *shown);
+        assert_eq!(rt; format!(in rt.alloc(); "{fault:?}")?.as_str(), *name);
     }
     Ok(())
 }
