@@ -55,11 +55,18 @@ struct Ask<'a> {
     answer: &'a str,
 }
 
-/// What each feed still has to ask, and the table.
+/// How many commands each feed still has to ask, and the table.
 #[derive(Drop)]
-struct State<'b, 'a> {
-    unasked: Vec<&'b [Ask<'a>]>,
+struct State<'a> {
+    unasked: Vec<usize>,
     table: Vec<Row<'a>>,
+}
+
+/// How many routes each feed may have, and how many commands it asks at once.
+#[derive(Clone, Copy)]
+struct Rules {
+    limit: usize,
+    batch: usize,
 }
 
 /// The most states that a search may have.
@@ -77,15 +84,27 @@ pub fn explains(
     let mut rest = output;
     let mut feeds = Vec::new(alloc);
     for (i, text) in texts.iter().enumerate() {
-        let mut asks = Vec::new(alloc);
-        let Some(more) = read_report(alloc, i.wrapping_add(1), text.as_str(), rest, &mut asks)?
+        let Some(more) = read_feed(alloc, i.wrapping_add(1), text.as_str(), rest, &mut feeds)?
         else {
             return Ok(false);
         };
-        feeds.push(asks)?;
         rest = more;
     }
-    search(alloc, feeds.as_slice(), limit, batch, rest)
+    search(alloc, feeds.as_slice(), Rules { limit, batch }, rest)
+}
+
+/// The output after the feed's report, where it begins with one. Puts the feed's commands behind those of the others.
+fn read_feed<'a>(
+    alloc: Global,
+    feed: usize,
+    text: &'a str,
+    output: &'a str,
+    feeds: &mut Vec<Vec<Ask<'a>>>,
+) -> Result<Option<&'a str>, AllocError> {
+    let mut asks = Vec::new(alloc);
+    let rest = read_report(alloc, feed, text, output, &mut asks)?;
+    feeds.push(asks)?;
+    Ok(rest)
 }
 
 /// The output after the feed's report, where it begins with one. Puts the feed's commands with their answers into `asks`.
@@ -166,51 +185,70 @@ fn read_line(line: &str, two: bool) -> Option<Said<'_>> {
 
 fn read_offer(fields: &str) -> Option<Offer<'_>> {
     let (prefix, rest) = fields.split_once(' ')?;
-    let (pref, hop) = rest.split_once(' ')?;
-    let (base, len) = prefix.split_once('/')?;
+    let (pref, hop) = read_way(rest)?;
+    let (base, len) = read_prefix(prefix)?;
     Some(Offer {
         prefix,
-        base: address(base)?,
-        len: len.parse::<u32>().ok()?,
-        pref: pref.parse::<u32>().ok()?,
+        base,
+        len,
+        pref,
         hop,
     })
 }
 
+/// A preference and a next hop.
+fn read_way(text: &str) -> Option<(u32, &str)> {
+    let (pref, hop) = text.split_once(' ')?;
+    Some((pref.parse::<u32>().ok()?, hop))
+}
+
+/// A prefix in numbers: its base and its length.
+fn read_prefix(prefix: &str) -> Option<(u32, u32)> {
+    let (base, len) = prefix.split_once('/')?;
+    Some((address(base)?, len.parse::<u32>().ok()?))
+}
+
 fn address(text: &str) -> Option<u32> {
     let mut octets = text.split('.');
-    let first = octets.next()?.parse::<u8>().ok()?;
-    let second = octets.next()?.parse::<u8>().ok()?;
-    let third = octets.next()?.parse::<u8>().ok()?;
-    let fourth = octets.next()?.parse::<u8>().ok()?;
+    let first = octet(octets.next())?;
+    let second = octet(octets.next())?;
+    let third = octet(octets.next())?;
+    let fourth = octet(octets.next())?;
     Some(u32::from_be_bytes([first, second, third, fourth]))
+}
+
+fn octet(text: Option<&str>) -> Option<u8> {
+    text?.parse::<u8>().ok()
 }
 
 /// Whether some way leads to the end of all feeds, and this is the text of the table that it leaves.
 fn search(
     alloc: Global,
     feeds: &[Vec<Ask<'_>>],
-    limit: usize,
-    batch: usize,
+    rules: Rules,
     printed: &str,
 ) -> Result<bool, AllocError> {
-    let states = states_of(feeds);
+    let counts = counts_of(alloc, feeds)?;
+    let states = states_of(counts.as_slice());
     let mut seen = vec![in alloc; false; states]?;
     let mut open = Vec::new(alloc);
-    open.push(start(alloc, feeds)?)?;
+    open.push(State {
+        unasked: counts.clone()?,
+        table: Vec::new(alloc),
+    })?;
     for _ in 0..states {
         let Some(state) = open.pop() else {
             return Ok(false);
         };
-        if state.unasked.iter().all(|asks| asks.is_empty()) {
+        if state.unasked.iter().all(|unasked| *unasked == 0) {
             return is_printed(alloc, &state.table, printed);
         }
         open_next(
             alloc,
             feeds,
+            counts.as_slice(),
             &state,
-            limit,
-            batch,
+            rules,
             seen.as_mut_slice(),
             &mut open,
         )?;
@@ -218,44 +256,41 @@ fn search(
     Ok(false)
 }
 
-/// How many states the feeds may come to, as far as the search goes.
-fn states_of(feeds: &[Vec<Ask<'_>>]) -> usize {
-    let mut states = 1usize;
+/// How many commands each feed has.
+fn counts_of(alloc: Global, feeds: &[Vec<Ask<'_>>]) -> Result<Vec<usize>, AllocError> {
+    let mut counts = Vec::new(alloc);
     for asks in feeds {
+        counts.push(asks.len())?;
+    }
+    Ok(counts)
+}
+
+/// How many states feeds of so many commands may come to, as far as the search goes.
+fn states_of(counts: &[usize]) -> usize {
+    let mut states = 1usize;
+    for count in counts {
         states = states
-            .saturating_mul(asks.len().saturating_add(1))
+            .saturating_mul(count.saturating_add(1))
             .min(MOST_STATES);
     }
     states
 }
 
-/// The state in which nothing was asked.
-fn start<'b, 'a>(alloc: Global, feeds: &'b [Vec<Ask<'a>>]) -> Result<State<'b, 'a>, AllocError> {
-    let mut unasked = Vec::new(alloc);
-    for asks in feeds {
-        unasked.push(asks.as_slice())?;
-    }
-    Ok(State {
-        unasked,
-        table: Vec::new(alloc),
-    })
-}
-
 /// Opens the states after the next visit of each feed, but for those that were seen.
-fn open_next<'b, 'a>(
+fn open_next<'a>(
     alloc: Global,
     feeds: &[Vec<Ask<'a>>],
-    state: &State<'b, 'a>,
-    limit: usize,
-    batch: usize,
+    counts: &[usize],
+    state: &State<'a>,
+    rules: Rules,
     seen: &mut [bool],
-    open: &mut Vec<State<'b, 'a>>,
+    open: &mut Vec<State<'a>>,
 ) -> Result<(), AllocError> {
-    for (i, asks) in state.unasked.iter().enumerate() {
-        let Some(next) = after_visit(alloc, state, i, asks, limit, batch)? else {
+    for (i, asks) in feeds.iter().enumerate() {
+        let Some(next) = after_visit(alloc, state, i, asks.as_slice(), rules)? else {
             continue;
         };
-        if is_new(seen, number_of(next.unasked.as_slice(), feeds)) {
+        if is_new(seen, number_of(next.unasked.as_slice(), counts)) {
             open.push(next)?;
         }
     }
@@ -270,40 +305,57 @@ fn is_new(seen: &mut [bool], number: usize) -> bool {
     }
 }
 
-/// The number of a state among all that the feeds may come to.
-fn number_of(unasked: &[&[Ask<'_>]], feeds: &[Vec<Ask<'_>>]) -> usize {
+/// The number of a state among all that feeds of so many commands may come to.
+fn number_of(unasked: &[usize], counts: &[usize]) -> usize {
     let mut number = 0usize;
-    for (asks, all) in unasked.iter().zip(feeds) {
+    for (left, count) in unasked.iter().zip(counts) {
         number = number
-            .wrapping_mul(all.len().wrapping_add(1))
-            .wrapping_add(asks.len());
+            .wrapping_mul(count.wrapping_add(1))
+            .wrapping_add(*left);
     }
     number
 }
 
-/// The state after the next visit of the feed at this index, which still has these commands, if it has one and the
-/// answers are those that were printed.
-fn after_visit<'b, 'a>(
+/// The state after the next visit of the feed at this index, which has these commands, if it has one and the answers are
+/// those that were printed.
+fn after_visit<'a>(
     alloc: Global,
-    state: &State<'b, 'a>,
+    state: &State<'a>,
     index: usize,
-    asks: &'b [Ask<'a>],
-    limit: usize,
-    batch: usize,
-) -> Result<Option<State<'b, 'a>>, AllocError> {
-    if asks.is_empty() {
+    asks: &[Ask<'a>],
+    rules: Rules,
+) -> Result<Option<State<'a>>, AllocError> {
+    let visit = next_visit(asks, state.unasked.as_slice(), index, rules.batch);
+    if visit.is_empty() {
         return Ok(None);
     }
-    let (visit, rest) = asks.split_at(batch.min(asks.len()));
     let mut table = state.table.clone()?;
-    if !are_answered(alloc, &mut table, limit, index.wrapping_add(1), visit)? {
+    if !are_answered(alloc, &mut table, rules.limit, index.wrapping_add(1), visit)? {
         return Ok(None);
     }
     let mut unasked = state.unasked.clone()?;
-    if let Some(asks) = unasked.get_mut(index) {
-        *asks = rest;
-    }
+    take_off(unasked.as_mut_slice(), index, visit.len());
     Ok(Some(State { unasked, table }))
+}
+
+/// The commands of the next visit of the feed at this index, out of all that it has.
+fn next_visit<'b, 'a>(
+    asks: &'b [Ask<'a>],
+    unasked: &[usize],
+    index: usize,
+    batch: usize,
+) -> &'b [Ask<'a>] {
+    let left = unasked.get(index).copied().unwrap_or(0);
+    let (_, rest) = asks.split_at(asks.len().saturating_sub(left));
+    let (visit, _) = rest.split_at(batch.min(rest.len()));
+    visit
+}
+
+/// Takes so many off the number at this index.
+fn take_off(unasked: &mut [usize], index: usize, asked: usize) {
+    if let Some(left) = unasked.get_mut(index) {
+        *left = left.saturating_sub(asked);
+    }
 }
 
 /// Whether the feed's commands are answered from the table as was printed, one after another. Changes the table as they

@@ -10,7 +10,7 @@ use std::time::{Clock, Instant};
 use std::{str, thread};
 
 /// Few prefixes, so that feeds meet, and addresses that they cover.
-const PREFIXES: [&str; 5] = [
+static PREFIXES: [&str; 5] = [
     "0.0.0.0/0",
     "10.0.0.0/8",
     "10.1.0.0/16",
@@ -18,9 +18,9 @@ const PREFIXES: [&str; 5] = [
     "10.1.2.3/32",
 ];
 
-const ADDRESSES: [&str; 4] = ["10.1.2.3", "10.1.2.4", "10.9.9.9", "192.0.2.1"];
+static ADDRESSES: [&str; 4] = ["10.1.2.3", "10.1.2.4", "10.9.9.9", "192.0.2.1"];
 
-const HOPS: [&str; 2] = ["192.0.2.1", "192.0.2.2"];
+static HOPS: [&str; 2] = ["192.0.2.1", "192.0.2.2"];
 
 /// The next state of the generator, and a number that it gives.
 fn draw(state: &mut u64) -> usize {
@@ -336,7 +336,7 @@ fn no_order_explains_a_lost_withdrawal(rt: HostRuntime) -> Result<(), Fail> {
 }
 
 /// The replies that speak of their feed's own routes alone.
-const OWN: [&str; 6] = [
+static OWN: [&str; 6] = [
     "added",
     "exists",
     "full",

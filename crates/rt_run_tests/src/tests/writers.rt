@@ -121,7 +121,7 @@ fn stops_everywhere<R: Threads + Wait + Sync + Abort>(
 
 /// How many bytes a call takes, and what the fault is. Whoever tries again after `Interrupted`, as std's `write_all` does,
 /// is seen by it.
-const WAYS: [(usize, ErrorKind); 5] = [
+static WAYS: [(usize, ErrorKind); 5] = [
     (1, ErrorKind::Interrupted),
     (1_000, ErrorKind::BrokenPipe),
     (5_000, ErrorKind::Other),
@@ -135,14 +135,14 @@ const WAYS: [(usize, ErrorKind); 5] = [
 fn a_fault_within_a_small_output_leaves_a_beginning(rt: HostRuntime) -> Result<(), Fail> {
     let alloc = rt.alloc();
     let (texts, output) = looked_up(alloc, 1)?;
-    for (at_once, kind) in WAYS {
+    for (at_once, kind) in WAYS.iter() {
         stops_everywhere(
             &rt,
             alloc,
             texts.as_slice(),
             output.as_slice(),
-            at_once,
-            kind,
+            *at_once,
+            *kind,
         );
     }
     Ok(())
@@ -156,14 +156,14 @@ fn a_fault_in_any_buffer_leaves_a_beginning(rt: HostRuntime) -> Result<(), Fail>
     let alloc = rt.alloc();
     let (texts, output) = looked_up(alloc, 4_000)?;
     assert!(rt; output.len() > 3 * OUTPUT_BYTES);
-    for (at_once, kind) in WAYS {
+    for (at_once, kind) in WAYS.iter() {
         stops_everywhere(
             &rt,
             alloc,
             texts.as_slice(),
             output.as_slice(),
-            at_once,
-            kind,
+            *at_once,
+            *kind,
         );
     }
     Ok(())
