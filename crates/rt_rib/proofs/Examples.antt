@@ -32,9 +32,12 @@ use Rattle.std.specs.Prelude.{◌↔◌, ◌⊎◌, ◌≤◌, ◌<◌, length}
 use Rattle.std.specs.List.{Contains}
 use Rattle.rt_cidr.specs.Prefix.{covers}
 
--- prefixes of the examples: all addresses, 10.0.0.0/8, 10.0.0.0/16, 10.1.0.0/16, and the last address by itself
+-- prefixes of the examples: all addresses, 128.0.0.0/1, 10.0.0.0/8, 10.0.0.0/16, 10.1.0.0/16, and the last address by itself
 abbrev everything : Prefix
 everything = record { base = 0; len = 0; is_prefix = record { short = omega arith; fits = omega arith; clear = refl } }
+
+abbrev upper_half : Prefix
+upper_half = record { base = 2147483648; len = 1; is_prefix = record { short = omega arith; fits = omega arith; clear = refl } }
 
 abbrev pub ten_8 : Prefix
 ten_8 = record { base = 167772160; len = 8; is_prefix = record { short = omega arith; fits = omega arith; clear = refl } }
@@ -157,8 +160,8 @@ nothing_is_better_than_itself : is_better (route ten_8 1 5) (route ten_8 1 5) �
 nothing_is_better_than_itself = refl
 
 -- precedes
-by_base_first : precedes (route everything 64 9) (route ten_8 1 0) ≡ true
-by_base_first = refl
+by_base_before_length : precedes (route ten_8 64 9) (route upper_half 1 0) ≡ true
+by_base_before_length = refl
 
 by_length_before_preference :
     precedes (route ten_8 2 100) (record { prefix = ten_0_16; feed = 1; pref = 0; hop = Discard }) ≡ true
