@@ -631,3 +631,15 @@ no_other_status h = let status : 2 ≡ 0 = h.0 in omega (arith, status)
 
 nothing_where_it_was_refused_as_a_replay : LeavesReplay 1 (2 ∷ []) (Some []) (Some []) (Err (Replay replay.Place))
 nothing_where_it_was_refused_as_a_replay = refl
+
+and_no_other_bytes : ¬ LeavesReplay 1 (2 ∷ []) (Some []) (Some (codes "x")) (Err (Replay replay.Place))
+and_no_other_bytes same = cc
+
+never_as_a_run_is : ¬ LeavesReplay 1 [] (Some []) (Some []) (Err (Run run.NoText))
+never_as_a_run_is h = h
+
+a_beginning_where_its_text_could_not_be_written : LeavesReplay 1 [] (Some (codes "x")) (Some (codes "xinside")) (Err Write)
+a_beginning_where_its_text_could_not_be_written = (codes "inside none\n", nothing_picked, record { count = 6; within = omega arith; appended = refl })
+
+no_byte_lost_where_its_text_could_not_be_written : ¬ LeavesReplay 1 [] (Some (codes "x")) (Some []) (Err Write)
+no_byte_lost_where_its_text_could_not_be_written (its_text, is, begins) = let lost : [] ≡ 120 ∷ take begins.count its_text = begins.appended in cc
