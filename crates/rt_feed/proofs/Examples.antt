@@ -480,8 +480,10 @@ done_or_refused : map answer_of (outcome.Did Added ∷ outcome.Refused ∷ []) �
 done_or_refused = refl
 
 -- line_answer
-a_fault_is_told_and_a_comment_is_not : map line_answer (skipped ∷ faulty fault.Hop ∷ []) ≡ None ∷ Some (answer.Fault fault.Hop) ∷ []
-a_fault_is_told_and_a_comment_is_not = refl
+a_comment_alone_has_none :
+    map line_answer (skipped ∷ faulty fault.Hop ∷ asked Dump (outcome.Did (Dumped 0)) ∷ asked Dump outcome.Refused ∷ [])
+    ≡ None ∷ Some (answer.Fault fault.Hop) ∷ Some (answer.Did (Dumped 0)) ∷ Some answer.Refused ∷ []
+a_comment_alone_has_none = refl
 
 -- numbered
 with_its_number : numbered 7 (Some answer.Refused) ≡ record { number = 7; answer = answer.Refused } ∷ []
@@ -852,9 +854,9 @@ a_dump_is_read_as_a_dump :
 a_dump_is_read_as_a_dump law = law One Dump
 
 -- OnlyItsTextIsRead
-no_other_line_is_read_as_a_dump :
-    OnlyItsTextIsRead → (line : List ℕ) → AnswersLine One line (Ok (Some Dump)) → HasCommand One Dump × (line ≡ command_text Dump)
-no_other_line_is_read_as_a_dump law line = law One line Dump
+no_other_line_is_read_as_a_purge :
+    OnlyItsTextIsRead → (line : List ℕ) → AnswersLine Two line (Ok (Some Purge)) → HasCommand Two Purge × (line ≡ command_text Purge)
+no_other_line_is_read_as_a_purge law line = law Two line Purge
 
 -- OlderTextsStay
 all_lines_by_version_1 :
