@@ -10,7 +10,7 @@ use std::process::Abort;
 use std::test::Fail;
 
 /// Addresses that share few and many leading bits.
-const ADDRESSES: [u32; 6] = [
+static ADDRESSES: [u32; 6] = [
     0x0a00_0000,
     0x0a00_01ff,
     0x0aff_ffff,
@@ -20,10 +20,10 @@ const ADDRESSES: [u32; 6] = [
 ];
 
 /// Lengths with the default route and both ends of a byte among them.
-const LENGTHS: [u8; 8] = [0, 1, 8, 9, 16, 24, 31, 32];
+static LENGTHS: [u8; 8] = [0, 1, 8, 9, 16, 24, 31, 32];
 
 /// The feeds that ask.
-const FEEDS: [u32; 4] = [1, 2, 3, 64];
+static FEEDS: [u32; 4] = [1, 2, 3, 64];
 
 /// Numbers by a linear congruence, the same in each run.
 #[derive(Drop)]
