@@ -381,7 +381,7 @@ what_explains_a_text :
     (batch feed : ℕ) (journal : List Entry) (text : List ℕ) (lines : List LineOutcome) → (h : Explains batch feed journal text lines)
     → Becomes text lines [] × (length (asked_of lines) ≤ h.count * batch)
     × Uncut feed (map (entries_of feed) (first_chunks batch h.count (asked_of lines))) journal
-what_explains_a_text batch feed journal text lines h = (h.becomes, h.hold, h.uncut)
+what_explains_a_text batch feed journal its_text its_lines h = (h.becomes, h.hold, h.uncut)
 
 -- ExplainsFrom
 each_by_its_feed : ExplainsFrom 1 1 tutorial (north ∷ south ∷ east ∷ []) (north_read ∷ (skipped ∷ south_read) ∷ (skipped ∷ east_read) ∷ [])
