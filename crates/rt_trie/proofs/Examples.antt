@@ -21,8 +21,11 @@ use Rattle.rt_trie.specs.Links.{root, IsFilled, IsChildLink, AreHalves, IsNeeded
 use Rattle.rt_trie.specs.Nodes.{PartAt, IsNodeAt, CountsNodes}
 use Rattle.rt_trie.specs.Sifted.{with_pair, IsJudged, IsSifted}
 use Rattle.rt_trie.specs.TrieContents.{TrieContents}
-use Rattle.std.specs.Borrow.{Bor}
-use Rattle.rt_trie.specs.TrieLends.{contents_with}
+use Rattle.std.specs.Borrow.{Bor, MutBor, RattleType, Lends, LendsIf}
+use Rattle.std.specs.declared.alloc.Allocator.{Ghosts}
+use denote.Follow.{follows_by}
+use Rattle.rt_trie.specs.contracts.tries.Trie.{the_row}
+use Rattle.rt_trie.specs.TrieLends.{contents_with, lends_value}
 use Rattle.rt_trie.specs.inside.Links.{own_pair, pairs, count}
 use Rattle.rt_trie.specs.inside.Tree.{tree_of}
 use Rattle.rt_trie.specs.inside.Trie.{contents_of}
@@ -284,6 +287,20 @@ its_pairs_its_nodes_and_their_tree = (refl, refl, refl)
 -- contents_with
 the_pairs_alone_change : contents_with the_two ten_1_16 9 ≡ record { pairs = (ten_1_16, 9) ∷ (ten_128_9, 7) ∷ []; nodes = 3; tree = below_ten_8 }
 the_pairs_alone_change = refl
+
+-- lends_value
+the_value_written_last_stands_there :
+    (V A : RattleType) (alloc : Ghosts A.Denot) (t : MutBor (TrieContents V.Denot)) (r : MutBor V.Denot)
+    → lends_value V A alloc t ten_8 (Some r)
+    ≡ Lends (the_row V A alloc) V t r (λ w. record { pairs = put t.now.pairs ten_8 w; nodes = t.now.nodes; tree = t.now.tree })
+unfolding follows_by
+the_value_written_last_stands_there V A alloc t r = refl
+
+without_a_reference_the_trie_stays :
+    (V A : RattleType) (alloc : Ghosts A.Denot) (t : MutBor (TrieContents V.Denot))
+    → lends_value V A alloc t ten_8 None ≡ LendsIf (the_row V A alloc) V t None (λ w. t.now) t.now
+unfolding follows_by
+without_a_reference_the_trie_stays V A alloc t = refl
 
 -- with_pair
 with_it_or_without : (with_pair true ten_8 5 two ≡ (ten_8, 5) ∷ two) × (with_pair false ten_8 5 two ≡ two)
