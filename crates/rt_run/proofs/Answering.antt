@@ -19,12 +19,15 @@ module _ (table : List Route) (all rest piece behind : List Addr) (text : List �
   pub answers_grow : (text ++ answers_text piece table) ++ answers_text behind table ≡ answers_text all table
   answers_grow =
       append_assoc text (answers_text piece table) (answers_text behind table)
-      ∙ (ap (λ t. text ++ t) (sym (ap (λ addresses. answers_text addresses table) cut ∙ flat_map-append (λ addr. found_text addr (look_up addr table)) piece behind)) ∙ whole)
+      ∙ (ap (λ t. text ++ t)
+      (sym (ap (λ addresses. answers_text addresses table) cut ∙ flat_map-append (λ addr. found_text addr (look_up addr table)) piece behind)) ∙ whole)
 
   -- and a fault within them leaves a beginning of all answers
-  pub answers_begin : (a b c : Option (List ℕ)) → Appends a b text → AppendsBeginning b c (answers_text piece table) → AppendsBeginning a c (answers_text all table)
+  pub answers_begin : (a b c : Option (List ℕ)) → Appends a b text
+      → AppendsBeginning b c (answers_text piece table) → AppendsBeginning a c (answers_text all table)
   answers_begin a b c written begun =
-      rw (← answers_grow) (begins_longer a c (text ++ answers_text piece table) (answers_text behind table) (begins_after a b c text (answers_text piece table) written begun))
+      rw (← answers_grow) (begins_longer a c (text ++ answers_text piece table)
+      (answers_text behind table) (begins_after a b c text (answers_text piece table) written begun))
 
 module _ (table : List Route) (piece : List Addr) (answers : List (Option Route)) (k : ℕ) (none : Addr) (found : Option Route) (here : k < length piece)
     (is : found ≡ get_or answers k found) (answered : answers ≡ map (λ addr. look_up addr table) piece) where

@@ -11,13 +11,15 @@ use Rattle.rt_rib.specs.LookUp.{look_up}
 use Rattle.rt_feed.specs.Printed.{table_text, rows_text, count_text, row_text, found_text}
 use Rattle.rt_run.specs.TableText.{answers_text}
 
-module _ (name name' : ℕ) (a began below b c d : Option (List ℕ)) (held held' text : List ℕ) (is_began : began ≡ a) (is_below : below ≡ a) (none : held ≡ []) where
+module _ (name name' : ℕ) (a began below b c d : Option (List ℕ))
+    (held held' text : List ℕ) (is_began : began ≡ a) (is_below : below ≡ a) (none : held ≡ []) where
   -- the fault came before all was put into the buffer
   pub stops_within : AppendsBeginning (buffered name began below held) (buffered name' b c held') text → (name ≡ name' → d ≡ c) → AppendsBeginning a d text
   stops_within begun same = stops name name' a b c d held' text same (rw (is_began, is_below, none) at begun)
 
   -- or when the rest was written
-  pub stops_at_the_end : (middle : Option (List ℕ)) → Appends (buffered name began below held) middle text → Keeps middle (buffered name' b c held') → 0 < length held' → 0 < length text
+  pub stops_at_the_end : (middle : Option (List ℕ)) → Appends (buffered name began below held) middle text
+      → Keeps middle (buffered name' b c held') → 0 < length held' → 0 < length text
       → (name ≡ name' → d ≡ c) → AppendsBeginning a d text
   stops_at_the_end middle put kept some given same =
       stops_held name name' a b c d held' text same

@@ -1,9 +1,9 @@
+pub mod Lists
 pub mod Buffered
 pub mod Answering
 pub mod Telling
 pub mod Pieces
 pub mod Outputs
-pub mod Pushing
 pub mod SeveralFeeds
 pub mod SameTables
 pub mod Replayed

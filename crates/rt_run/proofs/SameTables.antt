@@ -1,5 +1,7 @@
 -- Why the table of a run, and the replies on a feed's own routes, are what each feed's commands give by themselves.
-use Rattle.std.proofs.Common.{◌≡◌, ◌≢◌, ℕ, zero, suc, ◌+◌, ◌-◌, ◌<◌, ◌≤◌, ◌⊎◌, inl, inr, true, false, Option, Some, None, Ok, Err, List, [], ◌∷◌, ◌++◌, Bool, All, length, map, take, drop, refl, sym, ap, subst, ◌∙◌, arith, codes, eqb-true}
+use Rattle.std.proofs.Common.{◌≡◌, ◌≢◌, ℕ, zero, suc, ◌+◌, ◌-◌, ◌<◌, ◌≤◌, ◌⊎◌, inl, inr, true, false}
+use Rattle.std.proofs.Common.{Option, Some, None, Ok, Err, List, [], ◌∷◌, ◌++◌, Bool, All, length}
+use Rattle.std.proofs.Common.{map, take, drop, refl, sym, ap, subst, ◌∙◌, arith, codes, eqb-true}
 use Rattle.std.specs.Prelude.{fold, if◌then◌else◌, ◌||◌}
 use Rattle.std.specs.declared.result.Result.{Result}
 use Rattle.std.specs.List.{slice_get, list_any, flat_map, filter, Contains}
@@ -59,13 +61,16 @@ alone-commands_from : (limit feed : ℕ) (table : List Route) (all : List (Cmd �
 alone-commands_from limit feed table [] = refl
 alone-commands_from limit feed table (one ∷ all) = alone-commands_from limit feed (table_after limit table feed one.0) all
 
-alone-commands : (limit feed : ℕ) (all others : List (Cmd × Outcome)) → commands all ≡ commands others → table_alone limit feed all ≡ table_alone limit feed others
+alone-commands : (limit feed : ℕ) (all others : List (Cmd × Outcome))
+    → commands all ≡ commands others → table_alone limit feed all ≡ table_alone limit feed others
 unfolding table_alone
 alone-commands limit feed all others same =
-    alone-commands_from limit feed [] all ∙ (ap (λ cmds. fold (λ table cmd. table_after limit table feed cmd) [] cmds) same ∙ sym (alone-commands_from limit feed [] others))
+    alone-commands_from limit feed [] all
+    ∙ (ap (λ cmds. fold (λ table cmd. table_after limit table feed cmd) [] cmds) same ∙ sym (alone-commands_from limit feed [] others))
 
 -- so the journal's entries of a feed are those of its answered commands
-entries_explained : EntriesOfVisits → (batch feed : ℕ) (journal : List Entry) (text : List ℕ) (lines : List LineOutcome) → Explains batch feed journal text lines
+entries_explained : EntriesOfVisits → (batch feed : ℕ) (journal : List Entry) (text : List ℕ) (lines : List LineOutcome)
+    → Explains batch feed journal text lines
     → feed_entries feed journal ≡ entries feed (visit_of (asked_of lines))
 entries_explained law batch feed journal text lines explains =
     law feed _ journal explains.uncut ∙ (entries-chunks feed batch explains.count (asked_of lines) explains.hold ∙ entries-visit feed (asked_of lines))
@@ -76,7 +81,8 @@ did p = (p.0, outcome.Did p.1)
 
 -- what a feed's entries leave is what their commands leave
 table-entries_from : (limit feed : ℕ) (table : List Route) (visit : Visit)
-    → fold (λ table e. table_after limit table e.feed e.cmd) table (entries feed visit) ≡ fold (λ table one. table_after limit table feed one.0) table (map did visit)
+    → fold (λ table e. table_after limit table e.feed e.cmd) table (entries feed visit)
+    ≡ fold (λ table one. table_after limit table feed one.0) table (map did visit)
 table-entries_from limit feed table [] = refl
 table-entries_from limit feed table (p ∷ visit) = table-entries_from limit feed (table_after limit table feed p.0) visit
 
@@ -118,7 +124,8 @@ record IsAmong (visit : Visit) (earlier : List (Cmd × Outcome)) (cmd : Cmd) (is
   had : is ≡ outcome.Did reply
   before : earlier ≡ map did front
 
-among : (visit : Visit) (earlier later : List (Cmd × Outcome)) (cmd : Cmd) (is : Outcome) → map did visit ≡ earlier ++ (cmd, is) ∷ later → IsAmong visit earlier cmd is
+among : (visit : Visit) (earlier later : List (Cmd × Outcome)) (cmd : Cmd) (is : Outcome)
+    → map did visit ≡ earlier ++ (cmd, is) ∷ later → IsAmong visit earlier cmd is
 among [] [] later cmd is e = absurd (cc)
 among [] (one ∷ earlier) later cmd is e = absurd (cc)
 among (p ∷ visit) [] later cmd is e =
@@ -155,7 +162,8 @@ record StandsIn (journal : List Entry) (feed : ℕ) (front : List Entry) (e : En
 stands_own : (x : Entry) (journal : List Entry) (feed : ℕ) → ((es : List Entry) → feed_entries feed (x ∷ es) ≡ x ∷ feed_entries feed es)
     → ((front back : List Entry) (e : Entry) → feed_entries feed journal ≡ front ++ e ∷ back → StandsIn journal feed front e)
     → (front back : List Entry) (e : Entry) → x ∷ feed_entries feed journal ≡ front ++ e ∷ back → StandsIn (x ∷ journal) feed front e
-stands_own x journal feed keeps later [] back e is = record { earlier = []; later = journal; split = (let same : x ≡ e = cc in ap (λ f. f ∷ journal) same); before = refl }
+stands_own x journal feed keeps later [] back e is =
+    record { earlier = []; later = journal; split = (let same : x ≡ e = cc in ap (λ f. f ∷ journal) same); before = refl }
 stands_own x journal feed keeps later (y ∷ front) back e is =
     let tail : feed_entries feed journal ≡ front ++ e ∷ back = cc in
     let same : x ≡ y = cc in
@@ -167,7 +175,8 @@ stands_own x journal feed keeps later (y ∷ front) back e is =
       before = keeps rest.earlier ∙ (ap (λ es. x ∷ es) rest.before ∙ ap (λ f. f ∷ front) same);
     }
 
-stands_in : (journal : List Entry) (feed : ℕ) (front back : List Entry) (e : Entry) → feed_entries feed journal ≡ front ++ e ∷ back → StandsIn journal feed front e
+stands_in : (journal : List Entry) (feed : ℕ) (front back : List Entry) (e : Entry)
+    → feed_entries feed journal ≡ front ++ e ∷ back → StandsIn journal feed front e
 stands_in [] feed [] back e is = absurd (cc)
 stands_in [] feed (x ∷ front) back e is = absurd (cc)
 stands_in (x ∷ journal) feed front back e is = elim (cases_Bool (x.feed == feed)) [
@@ -186,23 +195,27 @@ stands_in (x ∷ journal) feed front back e is = elim (cases_Bool (x.feed == fee
 ]
 
 -- a reply on a feed's own routes is what its earlier commands give by themselves
-answered_alone : FeedsStandAlone → EntriesOfVisits → (limit batch feed : ℕ) (journal : List Entry) (text : List ℕ) (lines : List LineOutcome) → IsLawfulJournal limit journal
+answered_alone : FeedsStandAlone → EntriesOfVisits → (limit batch feed : ℕ) (journal : List Entry) (text : List ℕ) (lines : List LineOutcome)
+    → IsLawfulJournal limit journal
     → Explains batch feed journal text lines → list_any was_refused lines ≡ false → IsAnsweredAlone limit feed (asked_of lines)
 answered_alone alone law limit batch feed journal text lines lawful explains none earlier later cmd is split own =
     let visit = visit_of (asked_of lines) in
     let one = among visit earlier later cmd is (sym (all_did lines none) ∙ split) in
     let e : Entry = record { feed = feed; cmd = cmd; reply = one.reply } in
     let parts : feed_entries feed journal ≡ entries feed one.front ++ e ∷ entries feed one.back =
-    entries_explained law batch feed journal text lines explains ∙ (ap (entries feed) one.split ∙ map-append (λ p. record { feed = feed; cmd = p.0; reply = p.1 }) one.front ((cmd, one.reply) ∷ one.back)) in
+    entries_explained law batch feed journal text lines explains
+    ∙ (ap (entries feed) one.split ∙ map-append (λ p. record { feed = feed; cmd = p.0; reply = p.1 }) one.front ((cmd, one.reply) ∷ one.back)) in
     let here = stands_in journal feed (entries feed one.front) (entries feed one.back) e parts in
     let same_table : table_of_journal limit (feed_entries feed here.earlier) ≡ table_alone limit feed earlier =
     ap (table_of_journal limit) here.before ∙ (table-entries limit feed one.front ∙ ap (table_alone limit feed) (sym one.before)) in
     one.had ∙ ap outcome.Did
-    (lawful.answered here.earlier e here.later here.split ∙ ((alone limit feed here.earlier cmd).1 own ∙ ap (λ table. reply_of limit table feed cmd) same_table))
+    (lawful.answered here.earlier e here.later here.split
+    ∙ ((alone limit feed here.earlier cmd).1 own ∙ ap (λ table. reply_of limit table feed cmd) same_table))
 
 -- what a feed has in the table is what its commands leave by themselves
 routes_alone : FeedsStandAlone → EntriesOfVisits → (limit batch feed : ℕ) (journal : List Entry) (text : List ℕ) (lines : List LineOutcome) (cmd : Cmd)
-    → Explains batch feed journal text lines → list_any was_refused lines ≡ false → feed_routes feed (table_of_journal limit journal) ≡ table_alone limit feed (asked_of lines)
+    → Explains batch feed journal text lines → list_any was_refused lines ≡ false
+    → feed_routes feed (table_of_journal limit journal) ≡ table_alone limit feed (asked_of lines)
 routes_alone alone law limit batch feed journal text lines cmd explains none =
     (alone limit feed journal cmd).0 ∙ (ap (table_of_journal limit) (entries_explained law batch feed journal text lines explains)
     ∙ (table-entries limit feed (visit_of (asked_of lines)) ∙ ap (table_alone limit feed) (sym (all_did lines none))))
@@ -213,20 +226,27 @@ record IsOfFeed (batch feed k : ℕ) (journal : List Entry) (outcomes : List (Li
   stands : slice_get outcomes k ≡ Some lines
   explains : Explains batch feed journal text lines
 
-of_text : (batch first k feed : ℕ) (journal : List Entry) (texts : List (List ℕ)) (outcomes : List (List LineOutcome)) (text : List ℕ) → feed ≡ first + k → ExplainsFrom batch first journal texts outcomes
+of_text : (batch first k feed : ℕ) (journal : List Entry) (texts : List (List ℕ)) (outcomes : List (List LineOutcome)) (text : List ℕ)
+    → feed ≡ first + k → ExplainsFrom batch first journal texts outcomes
     → slice_get texts k ≡ Some text → IsOfFeed batch feed k journal outcomes text
 of_text batch first k feed journal [] outcomes text number all is = absurd (cc)
 of_text batch first k feed journal (head ∷ texts) [] text number all is = absurd all
 of_text batch first zero feed journal (head ∷ texts) (lines ∷ outcomes) text number all is =
     let same : head ≡ text = cc in
     let this : first ≡ feed = omega arith in
-    record { lines = lines; stands = refl; explains = subst (λ n. Explains batch n journal text lines) this (subst (λ t. Explains batch first journal t lines) same all.0) }
+    record {
+      lines = lines;
+      stands = refl;
+      explains = subst (λ n. Explains batch n journal text lines) this
+          (subst (λ t. Explains batch first journal t lines) same all.0);
+    }
 of_text batch first (suc k) feed journal (head ∷ texts) (lines ∷ outcomes) text number all is =
     let rest = of_text batch (first + 1) k feed journal texts outcomes text (omega arith) all.1 is in
     record { lines = rest.lines; stands = rest.stands; explains = rest.explains }
 
 -- there are as many texts as lists of lines
-as_many : (batch feed : ℕ) (journal : List Entry) (texts : List (List ℕ)) (outcomes : List (List LineOutcome)) → ExplainsFrom batch feed journal texts outcomes → length texts ≡ length outcomes
+as_many : (batch feed : ℕ) (journal : List Entry) (texts : List (List ℕ)) (outcomes : List (List LineOutcome))
+    → ExplainsFrom batch feed journal texts outcomes → length texts ≡ length outcomes
 as_many batch feed journal [] [] all = refl
 as_many batch feed journal [] (lines ∷ outcomes) all = absurd all
 as_many batch feed journal (text ∷ texts) [] all = absurd all
@@ -239,7 +259,8 @@ at_place (x ∷ xs) zero within = (x, refl)
 at_place (x ∷ xs) (suc k) within = at_place xs k (omega (arith, within))
 
 -- where no command was refused at all, none of one feed's was
-none_of_one : (outcomes : List (List LineOutcome)) (k : ℕ) (lines : List LineOutcome) → some_refused outcomes ≡ false → slice_get outcomes k ≡ Some lines → list_any was_refused lines ≡ false
+none_of_one : (outcomes : List (List LineOutcome)) (k : ℕ) (lines : List LineOutcome)
+    → some_refused outcomes ≡ false → slice_get outcomes k ≡ Some lines → list_any was_refused lines ≡ false
 none_of_one [] k lines none is = absurd (cc)
 none_of_one (first ∷ outcomes) zero lines none is =
     let same : first ≡ lines = cc in
@@ -253,7 +274,8 @@ not_5 true other status e not = absurd (not e)
 not_5 false other status e not = refl
 
 -- so the status of a run tells that none was
-by_status : (is_so : LineOutcome → Bool) (outcomes : List (List LineOutcome)) (status : ℕ) → status ≡ status_of is_so outcomes → status ≢ 5 → some_refused outcomes ≡ false
+by_status : (is_so : LineOutcome → Bool) (outcomes : List (List LineOutcome)) (status : ℕ)
+    → status ≡ status_of is_so outcomes → status ≢ 5 → some_refused outcomes ≡ false
 by_status is_so outcomes status = not_5 (some_refused outcomes) (if list_any (list_any is_so) outcomes then 2 else 0) status
 
 -- a feed that has an entry has a text
@@ -292,7 +314,8 @@ from_own feed r table c =
 pub leaves_union : FeedsStandAlone → TableByEntry → EntriesOfVisits → TextHasOneReading → LeavesUnion
 leaves_union alone by_entry law once texts limit batch journal outcomes history none =
     let table = table_of_journal limit journal in
-    let of_feed = λ (k : ℕ) (text : List ℕ) (is : slice_get texts k ≡ Some text). of_text batch 1 k (k + 1) journal texts outcomes text (omega arith) history.explained is in
+    let of_feed = λ (k : ℕ) (text : List ℕ) (is : slice_get texts k ≡ Some text). of_text batch 1 k
+    (k + 1) journal texts outcomes text (omega arith) history.explained is in
     let routes = λ (k : ℕ) (text : List ℕ) (here : IsOfFeed batch (k + 1) k journal outcomes text).
     routes_alone alone law limit batch (k + 1) journal text here.lines Dump here.explains (none_of_one outcomes k here.lines none here.stands) in
     record {
@@ -302,7 +325,8 @@ leaves_union alone by_entry law once texts limit batch journal outcomes history 
             let own : Contains (feed_routes r.feed table) r = among_own r table c in
             elim (has_text journal (length texts) r.feed history.no_other (feed_entries r.feed journal) refl) [
               | inl empty ↦
-                  absurd (nothing r (subst (λ l. Contains l r) ((alone limit r.feed journal Dump).0 ∙ (ap (table_of_journal limit) empty ∙ by_entry.empty limit)) own))
+                  absurd (nothing r
+                  (subst (λ l. Contains l r) ((alone limit r.feed journal Dump).0 ∙ (ap (table_of_journal limit) empty ∙ by_entry.empty limit)) own))
               | inr within ↦
                   let k = r.feed - 1 in
                   let number : r.feed ≡ k + 1 = omega arith in
@@ -323,7 +347,8 @@ leaves_union alone by_entry law once texts limit batch journal outcomes history 
             let text = some.1.0 in
             let here = of_feed k text some.1.2 in
             let same = one_asking once text some.1.1 here.lines some.1.3 here.explains.becomes in
-            let own = subst (λ l. Contains l r) (alone-commands limit (k + 1) (asked_of some.1.1) (asked_of here.lines) same ∙ sym (routes k text here)) some.1.4 in
+            let own = subst (λ l. Contains l r)
+            (alone-commands limit (k + 1) (asked_of some.1.1) (asked_of here.lines) same ∙ sym (routes k text here)) some.1.4 in
             from_own (k + 1) r table own),
       );
     }

@@ -1,7 +1,10 @@
 -- Several feeds over one table: their reports and the journal that the table settles to explain one another.
-use Rattle.std.proofs.Common.{◌≡◌, ◌≢◌, ℕ, zero, suc, ◌+◌, ◌-◌, ◌<◌, ◌≤◌, ◌⊎◌, inl, inr, Option, Some, None, List, [], ◌∷◌, ◌++◌, All, length, map, take, drop, get_or, refl, sym, ap, subst, ◌∙◌, arith, append-nil, length-append, length-drop}
+use Rattle.std.proofs.Common.{◌≡◌, ◌≢◌, ℕ, zero, suc, ◌+◌, ◌-◌, ◌<◌, ◌≤◌, ◌⊎◌, inl, inr, Option, Some}
+use Rattle.std.proofs.Common.{None, List, [], ◌∷◌, ◌++◌, All, length, map, take, drop, get_or, refl}
+use Rattle.std.proofs.Common.{sym, ap, subst, ◌∙◌, arith, length-append, length-drop}
 use Rattle.std.specs.Prelude.{MatchOption}
-use Rattle.std.proofs.lemmas.List.{get_or-map, get_or-drop, get_or-append_right, get_or_append_left, length-map, length-take-le, get_or-take, get_or_default, drop_all, take_all}
+use Rattle.std.proofs.lemmas.List.{get_or-map, get_or-drop, get_or-append_right, get_or_append_left, length-map}
+use Rattle.std.proofs.lemmas.List.{length-take-le, get_or-take, get_or_default}
 use Rattle.std.proofs.lemmas.List.Elements.{All-nil}
 use Rattle.std.proofs.lemmas.Option.{slice_get-get_or, slice_get_within, same_Some}
 use Rattle.rt_rib.specs.declared.commands.Entry.{Entry}
@@ -19,6 +22,7 @@ use Rattle.rt_shared.proofs.Promised.{uncut_since}
 use Rattle.std.specs.Simd.{first_chunks}
 use Rattle.rt_run.specs.RunText.{Explains, ExplainsFrom, entries_of, IsRunText}
 use Rattle.rt_run.specs.inside.Outputs.{reports_text}
+use Rattle.rt_run.proofs.Lists.{map-both}
 use Rattle.rt_run.proofs.Pieces.{entries-visits, chunks-cut, cut-holds}
 use Rattle.rt_run.proofs.Telling.{feeds-text, reports_status-lines}
 use Rattle.rt_run.specs.inside.RunResults.{RunOverBook, reports_status}
@@ -36,20 +40,19 @@ record IsExplained (batch feed : ℕ) (journal : List Entry) (text : List ℕ) (
   explains : Explains batch feed journal text lines
   reported : report ≡ report_lines 1 lines
 
-map-both : {A B C : Type 0} (g : B → C) (f : A → B) (xs : List A) → map g (map f xs) ≡ map (λ x. g (f x)) xs
-map-both g f [] = refl
-map-both g f (x ∷ xs) = ap (λ ys. g (f x) ∷ ys) (map-both g f xs)
-
 -- what a feed ran through the gate of a fresh pass is explained by the settled journal
-explained : (batch feed : ℕ) (journal : List Entry) (text : List ℕ) (old new : HeldPass) (report : List Line) → RunsFeed holds batch text old new report → old.seen ≡ [] → new.feed ≡ feed
+explained : (batch feed : ℕ) (journal : List Entry) (text : List ℕ) (old new : HeldPass) (report : List Line)
+    → RunsFeed holds batch text old new report → old.seen ≡ [] → new.feed ≡ feed
     → Since feed new.seen journal → IsExplained batch feed journal text report
 explained batch feed journal text old new report runs fresh same since =
     let pieces = runs.asks.pieces in
     let none : holds old [] = subst (λ (seen : List Entry). Uncut old.feed [] seen) (sym fresh) (All-nil _) in
     let held : Uncut new.feed (map (entries new.feed) (map visit_of pieces)) new.seen = runs.asks.gained [] none in
-    let mine : Uncut feed (map (entries feed) (map visit_of pieces)) new.seen = subst (λ (n : ℕ). Uncut n (map (entries n) (map visit_of pieces)) new.seen) same held in
+    let mine : Uncut feed (map (entries feed) (map visit_of pieces)) new.seen =
+    subst (λ (n : ℕ). Uncut n (map (entries n) (map visit_of pieces)) new.seen) same held in
     let same_visits : map (entries feed) (map visit_of pieces) ≡ map (entries_of feed) (first_chunks batch (length pieces) (asked_of runs.outcomes)) =
-    map-both (entries feed) visit_of pieces ∙ (entries-visits feed pieces ∙ ap (map (entries_of feed)) (sym (chunks-cut batch (asked_of runs.outcomes) pieces runs.asks.cut))) in
+    map-both (entries feed) visit_of pieces
+    ∙ (entries-visits feed pieces ∙ ap (map (entries_of feed)) (sym (chunks-cut batch (asked_of runs.outcomes) pieces runs.asks.cut))) in
     record {
       lines = runs.outcomes;
       explains = record {
@@ -67,7 +70,8 @@ record AreExplained (batch feed : ℕ) (journal : List Entry) (texts : List (Lis
   explained : ExplainsFrom batch feed journal texts outcomes
   reported : reports ≡ map (report_lines 1) outcomes
 
-all_explained : {V : Type 0} (items : V → List ℕ) (batch feed : ℕ) (journal : List Entry) (texts : List V) (reports : List (List Line)) → length reports ≡ length texts
+all_explained : {V : Type 0} (items : V → List ℕ) (batch feed : ℕ) (journal : List Entry) (texts : List V) (reports : List (List Line))
+    → length reports ≡ length texts
     → ((i m : ℕ) (t : V) (r : List Line) → i < length texts → m ≡ feed + i → IsExplained batch m journal (items (get_or texts i t)) (get_or reports i r))
     → AreExplained batch feed journal (map items texts) reports
 all_explained items batch feed journal [] [] same each = record { outcomes = []; explained = tt; reported = refl }
@@ -75,7 +79,8 @@ all_explained items batch feed journal [] (report ∷ reports) same each = absur
 all_explained items batch feed journal (text ∷ texts) [] same each = absurd (omega (arith, same))
 all_explained items batch feed journal (text ∷ texts) (report ∷ reports) same each =
     let head = each 0 feed text report (omega arith) (omega arith) in
-    let rest = all_explained items batch (feed + 1) journal texts reports (omega (arith, same)) (λ i m t r here is. each (suc i) m t r (omega (arith, here)) (omega (arith, is))) in
+    let rest = all_explained items batch (feed + 1) journal texts reports
+    (omega (arith, same)) (λ i m t r here is. each (suc i) m t r (omega (arith, here)) (omega (arith, is))) in
     record {
       outcomes = head.lines ∷ rest.outcomes;
       explained = (head.explains, rest.explained);
@@ -119,7 +124,8 @@ some_text (text ∷ texts) i here = text
 module _ {V : Type 0} (items : V → List ℕ) (texts : List V) (table : SharedId) (batch : ℕ) (passes : List HeldPass) (dealt : ArePassesOf table passes)
     (fresh : All (λ (p : HeldPass). p.seen ≡ []) passes) (few : length texts ≤ length passes) (feeds feeds' : List (Feed HeldPass))
     (opened : feeds ≡ map (λ p. record { gate = p; report = None }) (take (length texts) passes)) (as_many : length feeds' ≡ length feeds)
-    (ran : (i : ℕ) (t : V) (d : Feed HeldPass) → i < length texts → RunsOne name holds batch (items (get_or texts i t)) (get_or feeds i d).gate (get_or feeds' i d).gate (get_or feeds' i d).report) where
+    (ran : (i : ℕ) (t : V) (d : Feed HeldPass) → i < length texts
+    → RunsOne name holds batch (items (get_or texts i t)) (get_or feeds i d).gate (get_or feeds' i d).gate (get_or feeds' i d).report) where
   -- a pass and a feed that stand in no list
   no_pass : HeldPass
   no_pass = record { table = table; feed = 0; seen = [] }
@@ -131,7 +137,8 @@ module _ {V : Type 0} (items : V → List ℕ) (texts : List V) (table : SharedI
   open_feed p = record { gate = p; report = None }
 
   n_feeds : length feeds' ≡ length texts
-  n_feeds = as_many ∙ (ap length opened ∙ (length-map (take (length texts) passes) (λ p. record { gate = p; report = None }) ∙ length-take-le (length texts) passes few))
+  n_feeds = as_many
+      ∙ (ap length opened ∙ (length-map (take (length texts) passes) (λ p. record { gate = p; report = None }) ∙ length-take-le (length texts) passes few))
 
   -- the gate of a feed before the run is its pass
   gate_before : (i : ℕ) → i < length texts → (get_or feeds i no_feed).gate ≡ get_or passes i no_pass
@@ -139,7 +146,8 @@ module _ {V : Type 0} (items : V → List ℕ) (texts : List V) (table : SharedI
   gate_before i here =
       let within : i < length (take (length texts) passes) = as_below i _ _ (length-take-le (length texts) passes few) here in
       ap (λ (fs : List (Feed HeldPass)). (get_or fs i no_feed).gate) opened
-      ∙ (ap (λ (f : Feed HeldPass). f.gate) (get_or-map open_feed (take (length texts) passes) i no_pass no_feed within) ∙ get_or-take (length texts) passes i no_pass here)
+      ∙ (ap (λ (f : Feed HeldPass). f.gate) (get_or-map open_feed (take (length texts) passes) i no_pass no_feed within)
+      ∙ get_or-take (length texts) passes i no_pass here)
 
   -- the passes as they come back: those of the gates, and those that were idle
   back : List HeldPass
@@ -213,7 +221,8 @@ module _ {V : Type 0} (items : V → List ℕ) (texts : List V) (table : SharedI
               let next : i + 1 ≡ feed = before_next feed of.0 in
               let within : i < length passes = as_below i _ _ dealt.count (before_below feed table.feeds of.0 of.1) in
               let since = since_back i within in
-              let unseen : (get_or back i no_pass).seen ≡ [] = ap (λ (p : HeldPass). p.seen) (idle_back i (before_past (length texts) feed past)) ∙ fresh i no_pass within in
+              let unseen : (get_or back i no_pass).seen ≡ [] =
+              ap (λ (p : HeldPass). p.seen) (idle_back i (before_past (length texts) feed past)) ∙ fresh i no_pass within in
               let all : journal ≡ since.others = since.grown ∙ ap (λ (seen : List Entry). seen ++ since.others) unseen in
               let other : feed ≢ i + 1 =
               subst (λ (l : List Entry). (get_or l k d).feed ≢ i + 1) (sym all) (since.by_others k d (subst (λ (l : List Entry). k < length l) all here)) in
@@ -230,7 +239,8 @@ module _ {V : Type 0} (items : V → List ℕ) (texts : List V) (table : SharedI
           sym (get_or-map (λ (f : Feed HeldPass). f.report) feeds' i no_feed None (as_below i _ _ n_feeds here))
           ∙ (ap (λ (rs : List (Option (List Line))). get_or rs i None) (sym reported) ∙ get_or-map Some reports i r None (as_below i _ _ n_reports here))
 
-      explained_at : (i m : ℕ) (t' : V) (r : List Line) → i < length texts → m ≡ 1 + i → IsExplained batch m journal (items (get_or texts i t')) (get_or reports i r)
+      explained_at : (i m : ℕ) (t' : V) (r : List Line) → i < length texts
+          → m ≡ 1 + i → IsExplained batch m journal (items (get_or texts i t')) (get_or reports i r)
       explained_at i m t' r here is =
           let within : i < length passes = below_more i _ _ here few in
           let run = ran i t' no_feed here in
@@ -238,16 +248,19 @@ module _ {V : Type 0} (items : V → List ℕ) (texts : List V) (table : SharedI
           let new = (get_or feeds' i no_feed).gate in
           let report = get_or reports i r in
           let runs : RunsFeed holds batch (items (get_or texts i t')) old new report =
-          subst (λ (o : Option (List Line)). MatchOption o (StopsWithin holds batch (items (get_or texts i t')) old new) (λ lines. RunsFeed holds batch (items (get_or texts i t')) old new lines)) (report_at i r here) run.runs in
+          subst (λ (o : Option (List Line)). MatchOption o (StopsWithin holds batch (items (get_or texts i t')) old new)
+          (λ lines. RunsFeed holds batch (items (get_or texts i t')) old new lines)) (report_at i r here) run.runs in
           let unseen : old.seen ≡ [] = ap (λ (p : HeldPass). p.seen) (gate_before i here) ∙ fresh i no_pass within in
           let next : m ≡ i + 1 = is ∙ one_more i in
           let mine : new.feed ≡ m = ap (λ (p : HeldPass). p.feed) (sym (ran_back i here)) ∙ (feed_back i within ∙ sym next) in
           let since : Since m new.seen journal =
-          subst (λ (p : HeldPass). Since m p.seen journal) (ran_back i here) (subst (λ (f : ℕ). Since f (get_or back i no_pass).seen journal) (sym next) (since_back i within)) in
+          subst (λ (p : HeldPass). Since m p.seen journal) (ran_back i here)
+          (subst (λ (f : ℕ). Since f (get_or back i no_pass).seen journal) (sym next) (since_back i within)) in
           explained batch m journal (items (get_or texts i t')) old new report runs unseen mine since
 
       -- so the texts were run to their ends
-      pub run_over_book : (book : BookContents) → book.journal ≡ journal → book.limit ≡ table.limit → RunOverBook (map items texts) table.limit batch reports book
+      pub run_over_book : (book : BookContents) → book.journal ≡ journal
+          → book.limit ≡ table.limit → RunOverBook (map items texts) table.limit batch reports book
       run_over_book book journaled limited =
           let all = all_explained items batch 1 journal texts reports n_reports explained_at in
           record {
@@ -263,7 +276,8 @@ module _ {V : Type 0} (items : V → List ℕ) (texts : List V) (table : SharedI
           }
 
 -- what is written of them is a run's text
-pub run_text : (texts : List (List ℕ)) (limit batch : ℕ) (reports : List (List Line)) (book : BookContents) (bytes : List ℕ) → RunOverBook texts limit batch reports book
+pub run_text : (texts : List (List ℕ)) (limit batch : ℕ) (reports : List (List Line)) (book : BookContents) (bytes : List ℕ)
+    → RunOverBook texts limit batch reports book
     → bytes ≡ reports_text 1 reports ++ table_text (table_of book) → IsRunText texts limit batch bytes (reports_status reports)
 run_text texts limit batch reports book bytes ran printed = record {
   journal = book.journal;
@@ -272,8 +286,3 @@ run_text texts limit batch reports book bytes ran printed = record {
   printed = rw (printed, ran.reported, ran.limited, feeds-text 1 ran.outcomes) refl;
   is_status = rw ran.reported (reports_status-lines ran.outcomes);
 }
-
--- a vector that was written through a slice of all its elements holds what was written
-pub all_written : {X : Type 0} (len : ℕ) (new items : List X) → len ≡ length items → length new ≡ length items → take len (new ++ drop (length new) items) ≡ new
-all_written len new items full same =
-    rw (drop_all (length new) items (omega (arith, same)), append-nil) (take_all len new (omega (arith, full, same)))

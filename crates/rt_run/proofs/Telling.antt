@@ -1,11 +1,10 @@
 -- What the reports tell of lines: their text, how many lines were told so, and the status.
-use Rattle.std.proofs.Common.{◌≡◌, ℕ, ◌+◌, true, false, Bool, List, [], ◌∷◌, ◌++◌, map, find, codes, refl, sym, ap, ◌∙◌, arith, zero-add}
+use Rattle.std.proofs.Common.{◌≡◌, ℕ, ◌+◌, false, Bool, List, [], ◌∷◌, ◌++◌, map, find, codes, refl, sym, ap, ◌∙◌, zero-add}
 use Rattle.std.specs.Prelude.{bytes_eq, nat_lt, count_by, cond, ◌||◌}
 use Rattle.std.specs.List.{list_any}
 use Rattle.std.specs.Option.{option_map_or}
-use Rattle.std.proofs.lemmas.Bool.Decides.{nat_tests}
 use Rattle.std.proofs.lemmas.List.Sums.{sum_by-cons}
-use Rattle.rt_rib.specs.declared.commands.Reply.TheVariants.{Full, Exists, Missing}
+use Rattle.rt_rib.specs.declared.commands.Reply.TheVariants.{Full}
 use Rattle.rt_shared.specs.declared.outcome.Outcome.TheVariants as outcome
 use Rattle.rt_feed.specs.declared.parse.LineFault.TheVariants as fault
 use Rattle.rt_feed.specs.declared.report.Line.{Line}
@@ -19,6 +18,7 @@ use Rattle.rt_run.specs.TableText.{first_fault, tally_of, was_left_out}
 use Rattle.rt_run.specs.inside.Outputs.{reports_text}
 use Rattle.rt_run.specs.inside.RunResults.{reports_status}
 use Rattle.rt_run.specs.inside.Tallies.{was_full, was_existing, was_missing, fault_of, report_tally, has_refused, has_left_out, tallies_status}
+use Rattle.rt_run.proofs.Lists.{counts_some, some_of_either}
 
 -- the text of a report
 lines-text : (feed number : ℕ) (lines : List LineOutcome) → report_text feed (report_lines number lines) ≡ lines_text feed number lines
@@ -26,47 +26,28 @@ unfolding line_text answer_text
 lines-text feed number [] = refl
 lines-text feed number (skipped ∷ lines) = lines-text feed (number + 1) lines
 lines-text feed number (faulty fault ∷ lines) = ap (λ rest. told_text feed number (faulty fault) ++ rest) (lines-text feed (number + 1) lines)
-lines-text feed number (asked cmd outcome.Refused ∷ lines) = ap (λ rest. told_text feed number (asked cmd outcome.Refused) ++ rest) (lines-text feed (number + 1) lines)
-lines-text feed number (asked cmd (outcome.Did reply) ∷ lines) = ap (λ rest. told_text feed number (asked cmd (outcome.Did reply)) ++ rest) (lines-text feed (number + 1) lines)
+lines-text feed number (asked cmd outcome.Refused ∷ lines) =
+    ap (λ rest. told_text feed number (asked cmd outcome.Refused) ++ rest) (lines-text feed (number + 1) lines)
+lines-text feed number (asked cmd (outcome.Did reply) ∷ lines) =
+    ap (λ rest. told_text feed number (asked cmd (outcome.Did reply)) ++ rest) (lines-text feed (number + 1) lines)
 
 -- and of all reports
 pub feeds-text : (feed : ℕ) (outcomes : List (List LineOutcome)) → reports_text feed (map (report_lines 1) outcomes) ≡ feeds_text feed outcomes
 feeds-text feed [] = refl
 feeds-text feed (lines ∷ outcomes) =
-    ap (λ text. text ++ reports_text (feed + 1) (map (report_lines 1) outcomes)) (lines-text feed 1 lines) ∙ ap (λ rest. lines_text feed 1 lines ++ rest) (feeds-text (feed + 1) outcomes)
+    ap (λ text. text ++ reports_text (feed + 1) (map (report_lines 1) outcomes)) (lines-text feed 1 lines)
+    ∙ ap (λ rest. lines_text feed 1 lines ++ rest) (feeds-text (feed + 1) outcomes)
 
 -- an answer passes each test where its text is this
-full-text : (answer : Answer) → was_full answer ≡ bytes_eq (codes "full") (answer_text answer)
+answers-text : (answer : Answer)
+    → (was_full answer ≡ bytes_eq (codes "full") (answer_text answer)) × (was_existing answer ≡ bytes_eq (codes "exists") (answer_text answer))
+    × (was_missing answer ≡ bytes_eq (codes "missing") (answer_text answer)) × (is_refusal answer ≡ bytes_eq (codes "refused") (answer_text answer))
 unfolding answer_text reply_text fault_text
-full-text (answer.Did Full) = refl
-full-text (answer.Did reply) = refl
-full-text answer.Refused = refl
-full-text (answer.Fault fault.Hop) = refl
-full-text (answer.Fault fault) = refl
-
-existing-text : (answer : Answer) → was_existing answer ≡ bytes_eq (codes "exists") (answer_text answer)
-unfolding answer_text reply_text fault_text
-existing-text (answer.Did Exists) = refl
-existing-text (answer.Did reply) = refl
-existing-text answer.Refused = refl
-existing-text (answer.Fault fault.Hop) = refl
-existing-text (answer.Fault fault) = refl
-
-missing-text : (answer : Answer) → was_missing answer ≡ bytes_eq (codes "missing") (answer_text answer)
-unfolding answer_text reply_text fault_text
-missing-text (answer.Did Missing) = refl
-missing-text (answer.Did reply) = refl
-missing-text answer.Refused = refl
-missing-text (answer.Fault fault.Hop) = refl
-missing-text (answer.Fault fault) = refl
-
-refused-text : (answer : Answer) → is_refusal answer ≡ bytes_eq (codes "refused") (answer_text answer)
-unfolding answer_text reply_text fault_text
-refused-text (answer.Did Full) = refl
-refused-text (answer.Did reply) = refl
-refused-text answer.Refused = refl
-refused-text (answer.Fault fault.Hop) = refl
-refused-text (answer.Fault fault) = refl
+answers-text (answer.Did Full) = (refl, refl, refl, refl)
+answers-text (answer.Did reply) = (refl, refl, refl, refl)
+answers-text answer.Refused = (refl, refl, refl, refl)
+answers-text (answer.Fault fault.Hop) = (refl, refl, refl, refl)
+answers-text (answer.Fault fault) = (refl, refl, refl, refl)
 
 -- a test of answers and one of what lines became say the same
 abbrev Agree : (Answer → Bool) → (LineOutcome → Bool) → Type 0
@@ -86,7 +67,7 @@ agree-fault (asked cmd outcome.Refused) = refl
 agree-fault (asked cmd (outcome.Did reply)) = refl
 
 pub agree-refused : Agree is_refusal (was_told (codes "refused"))
-agree-refused = agree-text (codes "refused") is_refusal refused-text
+agree-refused = agree-text (codes "refused") is_refusal (λ answer. (answers-text answer).3)
 
 -- so as many lines of the report pass the one as lines the other
 module _ (test : Answer → Bool) (is : LineOutcome → Bool) (agree : Agree test is) where
@@ -106,27 +87,18 @@ module _ (test : Answer → Bool) (is : LineOutcome → Bool) (agree : Agree tes
   count-lines number (faulty fault ∷ lines) =
       one_more (answer.Fault fault) number (report_lines (number + 1) lines) (faulty fault) lines (agree (faulty fault)) (count-lines (number + 1) lines)
   count-lines number (asked cmd outcome.Refused ∷ lines) =
-      one_more answer.Refused number (report_lines (number + 1) lines) (asked cmd outcome.Refused) lines (agree (asked cmd outcome.Refused)) (count-lines (number + 1) lines)
+      one_more answer.Refused number (report_lines (number + 1) lines)
+      (asked cmd outcome.Refused) lines (agree (asked cmd outcome.Refused)) (count-lines (number + 1) lines)
   count-lines number (asked cmd (outcome.Did reply) ∷ lines) =
-      one_more (answer.Did reply) number (report_lines (number + 1) lines) (asked cmd (outcome.Did reply)) lines (agree (asked cmd (outcome.Did reply))) (count-lines (number + 1) lines)
-
--- a count is above 0 where something passes the test
-one_is_some : (n : ℕ) → nat_lt 0 (1 + n) ≡ true
-one_is_some n = grind (arith, nat_tests)
-
-counts_more : (is rest : Bool) (n : ℕ) → nat_lt 0 n ≡ rest → nat_lt 0 (cond is 1 0 + n) ≡ (is || rest)
-counts_more true rest n counted = one_is_some n
-counts_more false rest n counted = ap (λ m. nat_lt 0 m) (zero-add n) ∙ counted
-
-counts_some : {X : Type 0} (test : X → Bool) (xs : List X) → nat_lt 0 (count_by test xs) ≡ list_any test xs
-counts_some test [] = refl
-counts_some test (x ∷ xs) = ap (λ m. nat_lt 0 m) (sum_by-cons (λ y. cond (test y) 1 0) x xs) ∙ counts_more (test x) (list_any test xs) (count_by test xs) (counts_some test xs)
+      one_more (answer.Did reply) number (report_lines (number + 1) lines)
+      (asked cmd (outcome.Did reply)) lines (agree (asked cmd (outcome.Did reply))) (count-lines (number + 1) lines)
 
 -- and some line of the report passes the one where some line passes the other
 some-lines : (test : Answer → Bool) (is : LineOutcome → Bool) → Agree test is → (number : ℕ) (lines : List LineOutcome)
     → list_any (λ (line : Line). test line.answer) (report_lines number lines) ≡ list_any is lines
 some-lines test is agree number lines =
-    sym (counts_some (λ (line : Line). test line.answer) (report_lines number lines)) ∙ (ap (λ n. nat_lt 0 n) (count-lines test is agree number lines) ∙ counts_some is lines)
+    sym (counts_some (λ (line : Line). test line.answer) (report_lines number lines))
+    ∙ (ap (λ n. nat_lt 0 n) (count-lines test is agree number lines) ∙ counts_some is lines)
 
 -- so the status of the reports is that of what the lines became
 some_refusal : (outcomes : List (List LineOutcome)) → list_any has_refusal (map (report_lines 1) outcomes) ≡ some_refused outcomes
@@ -141,7 +113,8 @@ pub reports_status-lines : (outcomes : List (List LineOutcome)) → reports_stat
 reports_status-lines outcomes = rw (some_refusal outcomes, some_fault outcomes) refl
 
 -- the first faulty line
-first-lines : (number : ℕ) (lines : List LineOutcome) → fault_of (find (λ (line : Line). is_fault line.answer) (report_lines number lines)) ≡ first_fault number lines
+first-lines : (number : ℕ) (lines : List LineOutcome)
+    → fault_of (find (λ (line : Line). is_fault line.answer) (report_lines number lines)) ≡ first_fault number lines
 first-lines number [] = refl
 first-lines number (skipped ∷ lines) = first-lines (number + 1) lines
 first-lines number (faulty fault ∷ lines) = refl
@@ -154,28 +127,17 @@ tally-lines lines =
     rw (
       count-lines is_fault was_faulty agree-fault 1 lines,
       first-lines 1 lines,
-      count-lines was_full (was_told (codes "full")) (agree-text (codes "full") was_full full-text) 1 lines,
-      count-lines was_existing (was_told (codes "exists")) (agree-text (codes "exists") was_existing existing-text) 1 lines,
-      count-lines was_missing (was_told (codes "missing")) (agree-text (codes "missing") was_missing missing-text) 1 lines,
+      count-lines was_full (was_told (codes "full")) (agree-text (codes "full") was_full (λ answer. (answers-text answer).0)) 1 lines,
+      count-lines was_existing (was_told (codes "exists")) (agree-text (codes "exists") was_existing (λ answer. (answers-text answer).1)) 1 lines,
+      count-lines was_missing (was_told (codes "missing")) (agree-text (codes "missing") was_missing (λ answer. (answers-text answer).2)) 1 lines,
       count-lines is_refusal (was_told (codes "refused")) agree-refused 1 lines,
     ) refl
 
 pub tallies-lines : (outcomes : List (List LineOutcome)) → map report_tally (map (report_lines 1) outcomes) ≡ map tally_of outcomes
 tallies-lines [] = refl
 tallies-lines (lines ∷ outcomes) =
-    ap (λ tally. tally ∷ map report_tally (map (report_lines 1) outcomes)) (tally-lines lines) ∙ ap (λ tallies. tally_of lines ∷ tallies) (tallies-lines outcomes)
-
--- what either test finds
-either_way : (a b c d : Bool) → ((a || c) || (b || d)) ≡ ((a || b) || (c || d))
-either_way true b c d = refl
-either_way false true true d = refl
-either_way false true false d = refl
-either_way false false c d = refl
-
-some_of_either : {X : Type 0} (one two : X → Bool) (xs : List X) → (list_any one xs || list_any two xs) ≡ list_any (λ x. one x || two x) xs
-some_of_either one two [] = refl
-some_of_either one two (x ∷ xs) =
-    either_way (one x) (two x) (list_any one xs) (list_any two xs) ∙ ap (λ rest. (one x || two x) || rest) (some_of_either one two xs)
+    ap (λ tally. tally ∷ map report_tally (map (report_lines 1) outcomes)) (tally-lines lines)
+    ∙ ap (λ tallies. tally_of lines ∷ tallies) (tallies-lines outcomes)
 
 -- so the status of the tallies is that of what the lines became
 tallies_refused : (outcomes : List (List LineOutcome)) → list_any has_refused (map tally_of outcomes) ≡ some_refused outcomes

@@ -10,7 +10,7 @@ ghost use Rattle.rt_shared.specs.Table.{ArePassesOf};
 
 use crate::faults::AppFault;
 use crate::output::{Output, write_output};
-use crate::tallies::REFUSED;
+use crate::tallies::status_where;
 use rt_feed::{Feed, Report, RunFault, TableGate, run_feeds};
 use rt_rib::{Book, MOST_FEEDS, Refused};
 use rt_shared::{FeedPass, SharedRib};
@@ -22,9 +22,6 @@ use std::thread::Threads;
 
 /// The most texts that a run takes: as many as the highest lock has places.
 pub const MOST_TEXTS: usize = MOST_FEEDS;
-
-/// The status where some line was faulty.
-const FAULTY: u8 = 2;
 
 /// Runs each text as a feed on a thread of its own, the k-th as feed k with at most `limit` routes, each asking up to
 /// `batch` commands at once of one table, and writes to `w` each feed's report in order and then the table. Gives the
@@ -222,13 +219,7 @@ fn write_ran<W: Write>(alloc: Global, ran: &Ran, w: &mut W) -> Result<u8, AppFau
 fn status_of(reports: &[Report]) -> u8
     ensures { result ≡ reports_status reports.now }
 {
-    if some_refusal(reports) {
-        REFUSED
-    } else if some_fault(reports) {
-        FAULTY
-    } else {
-        0
-    }
+    status_where(some_refusal(reports), some_fault(reports))
 }
 
 /// Whether a report tells of a refused command.

@@ -3,14 +3,14 @@ ghost use Rattle.std.specs.Prelude.{◌≡◌, find, map, IfOk};
 ghost use Rattle.std.specs.List.{list_any};
 ghost use Rattle.rt_feed.specs.declared.report.Line.{Line};
 ghost use Rattle.rt_feed.specs.Reports.{is_fault};
-ghost use Rattle.rt_run.specs.inside.Tallies.{was_full, was_existing, was_missing, fault_of, report_tally, has_refused, has_left_out, tallies_status, IsTaken};
+ghost use Rattle.rt_run.specs.inside.Tallies.{was_full, was_existing, was_missing, fault_of, report_tally, has_refused, has_left_out, status_where, tallies_status, IsTaken};
 
 use rt_feed::{Answer, Line, LineFault, Report};
 use rt_rib::Reply;
 use std::alloc::{AllocError, Global};
 
 /// The status where some command was refused for want of memory.
-pub(crate) const REFUSED: u8 = 5;
+const REFUSED: u8 = 5;
 
 /// The status where something of a text was not taken: a faulty line, or an `add` over the limit where no report tells it.
 pub const NOT_TAKEN: u8 = 2;
@@ -157,9 +157,16 @@ fn was_missing(answer: Answer) -> bool
 fn status_of(tallies: &[Tally]) -> u8
     ensures { result ≡ tallies_status tallies.now }
 {
-    if any_refused(tallies) {
+    status_where(any_refused(tallies), any_left_out(tallies))
+}
+
+/// The status, by whether some command was refused for want of memory, and whether something else was not taken.
+pub(crate) fn status_where(refused: bool, left_out: bool) -> u8
+    ensures { result ≡ status_where refused left_out }
+{
+    if refused {
         REFUSED
-    } else if any_left_out(tallies) {
+    } else if left_out {
         NOT_TAKEN
     } else {
         0

@@ -1,5 +1,5 @@
 -- What a run of feeds has done before its text is written.
-use Rattle.std.specs.Prelude.{◌≡◌, ℕ, if◌then◌else◌, List, length, map}
+use Rattle.std.specs.Prelude.{◌≡◌, ℕ, List, length, map}
 use Rattle.std.specs.List.{list_any}
 use Rattle.rt_rib.specs.Book.{BookContents}
 use Rattle.rt_shared.specs.Table.{SharedId, HeldPass, ArePassesOf, Settles}
@@ -7,6 +7,7 @@ use Rattle.rt_feed.specs.declared.report.Line.{Line}
 use Rattle.rt_feed.specs.Reports.{has_refusal, has_fault}
 use Rattle.rt_feed.specs.LineOutcomes.{LineOutcome, report_lines}
 use Rattle.rt_run.specs.RunText.{IsHistory}
+use Rattle.rt_run.specs.inside.Tallies.{status_where}
 
 -- the texts were run to their ends, and these are the reports and the book
 pub record RunOverBook (texts : List (List ℕ)) (limit batch : ℕ) (reports : List (List Line)) (book : BookContents) : Type 0 where
@@ -21,6 +22,6 @@ pub record RunBeforeSettle (texts : List (List ℕ)) (batch : ℕ) (table : Shar
   pub back : ArePassesOf table passes
   pub settled : (book : BookContents) → book.limit ≡ table.limit → Settles table passes book.journal → RunOverBook texts table.limit batch reports book
 
--- the status of these reports: 5 where one tells of a refused command, else 2 where one tells of a fault, else 0
+-- the status of these reports, of which a faulty line is what was not taken
 abbrev pub reports_status : List (List Line) → ℕ
-reports_status reports = if list_any has_refusal reports then 5 else if list_any has_fault reports then 2 else 0
+reports_status reports = status_where (list_any has_refusal reports) (list_any has_fault reports)

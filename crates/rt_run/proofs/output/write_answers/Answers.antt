@@ -9,17 +9,22 @@ use Rattle.rt_run.proofs.output.write_answers.Goals as goal
 pub returns-in_err-write_piece-clause-err : goal.returns-in_err-write_piece-clause-err
 returns-in_err-write_piece-clause-err g c =
     let fault = err_from_is_err_and c.from_residual.result c.from_residual.ensures.1 in
-    let cut : c.loop-rest.rest.now ≡ c.split_at.result.0.now ++ c.split_at.result.1.now = rw (c.split_at.ensures.front, c.split_at.ensures.back) (sym (take-append-drop c.min.result c.loop-rest.rest.now)) in
+    let cut : c.loop-rest.rest.now ≡ c.split_at.result.0.now ++ c.split_at.result.1.now =
+    rw (c.split_at.ensures.front, c.split_at.ensures.back) (sym (take-append-drop c.min.result c.loop-rest.rest.now)) in
     rw fault.1
-    (answers_begin (table_of c.args.book.now) c.args.addresses.now c.loop-rest.rest.now c.split_at.result.0.now c.split_at.result.1.now c.loop-rest.invariant.text c.loop-rest.invariant.whole
+    (answers_begin (table_of c.args.book.now) c.args.addresses.now
+    c.loop-rest.rest.now c.split_at.result.0.now c.split_at.result.1.now c.loop-rest.invariant.text c.loop-rest.invariant.whole
     cut _ _ _ c.loop-rest.invariant.written c.in_err-write_piece.ensures.err)
 
 pub loop-rest-preserved : goal.loop-rest-preserved
 loop-rest-preserved g c =
     let table = table_of c.args.book.now in
-    let cut : c.loop-rest.rest.now ≡ c.split_at.result.0.now ++ c.split_at.result.1.now = rw (c.split_at.ensures.front, c.split_at.ensures.back) (sym (take-append-drop c.min.result c.loop-rest.rest.now)) in
+    let cut : c.loop-rest.rest.now ≡ c.split_at.result.0.now ++ c.split_at.result.1.now =
+    rw (c.split_at.ensures.front, c.split_at.ensures.back) (sym (take-append-drop c.min.result c.loop-rest.rest.now)) in
     record {
       text = c.loop-rest.invariant.text ++ answers_text c.split_at.result.0.now table;
-      written = appends_after _ _ _ c.loop-rest.invariant.text (answers_text c.split_at.result.0.now table) c.loop-rest.invariant.written c.in_ok-write_piece.ensures.ok;
-      whole = answers_grow table c.args.addresses.now c.loop-rest.rest.now c.split_at.result.0.now c.split_at.result.1.now c.loop-rest.invariant.text c.loop-rest.invariant.whole cut;
+      written = appends_after _ _ _ c.loop-rest.invariant.text
+          (answers_text c.split_at.result.0.now table) c.loop-rest.invariant.written c.in_ok-write_piece.ensures.ok;
+      whole = answers_grow table c.args.addresses.now c.loop-rest.rest.now
+          c.split_at.result.0.now c.split_at.result.1.now c.loop-rest.invariant.text c.loop-rest.invariant.whole cut;
     }

@@ -7,5 +7,6 @@ pub returns-in_err-write_found-clause-err : goal.returns-in_err-write_found-clau
 returns-in_err-write_found-clause-err g c =
     let fault = err_from_is_err_and c.from_residual.result c.from_residual.ensures.1 in
     rw fault.1
-    (answers_stop (table_of c.args.book.now) c.args.piece.now c.look_up.new.answers c.loop-index.index (record { 0 = 0 }) c.index-found-index.result c.loop-index-test.true c.index-found-index.is c.look_up.ensures
+    (answers_stop (table_of c.args.book.now) c.args.piece.now c.look_up.new.answers c.loop-index.index
+    (record { 0 = 0 }) c.index-found-index.result c.loop-index-test.true c.index-found-index.is c.look_up.ensures
     _ _ _ c.loop-index.invariant c.in_err-write_found.ensures.err)

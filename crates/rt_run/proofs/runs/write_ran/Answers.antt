@@ -20,8 +20,10 @@ pub returns-clause-text : goal.returns-clause-text
 returns-clause-text g c texts limit batch ran =
     let routes = (c.in-Ok.ensures {u = tt}).routes in
     let bytes : List ℕ = reports_text 1 c.args.ran.now.reports.items ++ table_text (table_of c.args.ran.now.book) in
-    let same : reports_text 1 c.as_slice-reports.result.now ++ table_text c.as_slice.result.now ≡ bytes = rw (c.as_slice-reports.ensures.value, c.as_slice.ensures.value, routes) refl in
+    let same : reports_text 1 c.as_slice-reports.result.now ++ table_text c.as_slice.result.now ≡ bytes =
+    rw (c.as_slice-reports.ensures.value, c.as_slice.ensures.value, routes) refl in
     let wrote : Writes bytes (g.W.Write.contents c.args.w.now) (g.W.Write.contents c.write_output.new.w) (Err c.in-Err.fault) =
-    subst (λ (text : List ℕ). Writes text (g.W.Write.contents c.args.w.now) (g.W.Write.contents c.write_output.new.w) (Err c.in-Err.fault)) same (c.in-Err.ensures {u = tt}) in
+    subst (λ (text : List ℕ). Writes text (g.W.Write.contents c.args.w.now) (g.W.Write.contents c.write_output.new.w) (Err c.in-Err.fault)) same
+    (c.in-Err.ensures {u = tt}) in
     let is = run_text texts limit batch c.args.ran.now.reports.items c.args.ran.now.book bytes ran refl in
     leaves_fault (IsRunText texts limit batch) _ _ bytes (reports_status c.args.ran.now.reports.items) c.in-Err.fault is wrote
