@@ -1,6 +1,8 @@
 -- Examples by which definitions are tested, each under a line with the definition's name. Both sides are computed.
-use Rattle.std.proofs.Common.{◌≡◌, ◌≢◌, ℕ, zero, suc, ◌≤◌, None, Some, List, [], ◌∷◌, ◌++◌, refl, sym, ap, subst, arith}
+use Rattle.std.proofs.Common.{◌≡◌, ◌≢◌, ℕ, zero, suc, ◌+◌, ◌<◌, ◌≤◌, None, Some, List, [], ◌∷◌, ◌++◌, refl, sym, ap, subst, arith}
 use Rattle.std.specs.Prelude as std
+use Rattle.std.specs.Prelude.{All, length, slice_get, slice_index_or}
+use Rattle.std.specs.List.{flat_map}
 use mathlib.Core.Option.{Option, none, some, some-injective, some-ne-none}
 use Rattle.std.proofs.lemmas.List.Elements.{All-nil, All-cons}
 use Rattle.ya_core.specs.declared.process.Process.{Process}
@@ -9,6 +11,7 @@ use Rattle.ya_core.specs.ArbitrationTree.{node_of, side_of}
 use Rattle.ya_core.specs.Steps.{opening}
 use Rattle.ya_core.specs.Worlds.{World, Event, Steps, Appends, opening_world}
 use Rattle.ya_core.proofs.Promised.{follow, runs}
+use Rattle.ya_lock.specs.Lock.{LockId}
 use Rattle.ya_lock.specs.declared.view.View.TheVariants.{Seated}
 use Rattle.ya_lock.specs.LockState.{IsOf, HasProcess}
 use Rattle.rt_rib.specs.declared.routes.Hop.TheVariants.{Discard}
@@ -16,15 +19,20 @@ use Rattle.rt_rib.specs.declared.routes.Route.{Route}
 use Rattle.rt_rib.specs.declared.commands.Cmd.TheVariants.{Add, Lookup, Dump, Purge}
 use Rattle.rt_rib.specs.declared.commands.Reply.TheVariants.{Added, Full, Found, Dumped, Purged}
 use Rattle.rt_rib.specs.declared.commands.Entry.{Entry}
+use Rattle.rt_rib.specs.declared.commands.Cmd.{Cmd}
+use Rattle.rt_rib.specs.Laws.{feed_entries}
 use Rattle.rt_rib.specs.LookUp.{look_up}
 use Rattle.rt_rib.specs.Sequential.{reply_of, table_after}
 use Rattle.rt_rib.specs.Book.{HoldsTable}
 use Rattle.rt_rib.specs.Journal.{table_of_journal, IsLawfulJournal}
 use Rattle.rt_rib.proofs.Promised.{ten_8, at_10_1_2_3, route_via, entry, empty_book, holds_no_route, IsLawfulJournal-nil, IsLawfulJournal-push}
 use Rattle.rt_shared.specs.declared.lent.Lent.{Lent}
+use Rattle.rt_shared.specs.declared.outcome.Outcome.{Outcome}
 use Rattle.rt_shared.specs.declared.outcome.Outcome.TheVariants.{Did, Refused}
-use Rattle.rt_shared.specs.LentChanges.{feed_of, HasSameBounds, GrowsByOthers}
-use Rattle.rt_shared.specs.Visits.{AllBy, NoneBy, Since, answered, Uncut}
+use Rattle.rt_shared.specs.LentChanges.{feed_of, HasSameBounds, GrowsByOthers, GrowsByFeed}
+use Rattle.rt_shared.specs.Visits.{AllBy, NoneBy, Since, answered, MakesVisit, MakesVisitWith, Uncut}
+use Rattle.rt_shared.specs.Table.{SharedId, HeldPass, ArePassesOf, Settles}
+use Rattle.rt_shared.specs.Laws.{SinceAgain, AnsweredInPieces, UncutAtFirst, UncutSince, UncutByVisit, EntriesOfVisits, EntriesSince, PassesKept}
 use Rattle.rt_shared.specs.Headline.{Act, entry_of, journal_of, IsSequential, IsRunTo, NoTwoInside, HasAllMade, FindsBest}
 use Rattle.rt_shared.specs.Moments.{Moment, HasPass, BookInSlot, IsAtRest, MeetsHeadline}
 
@@ -84,6 +92,79 @@ in_two_visits = (
 
 one_between : ¬ Uncut 1 ((dump 1 ∷ purge 1 ∷ []) ∷ []) (dump 1 ∷ dump 2 ∷ purge 1 ∷ [])
 one_between h = no_piece h.0 h.1 h.2 h.3
+
+-- SharedId
+its_lock_its_limit_and_its_feeds : (lock : LockId) → (t : SharedId) × (t.lock ≡ lock) × (t.limit ≡ 5) × (t.feeds ≡ 2)
+its_lock_its_limit_and_its_feeds lock = (record { lock = lock; limit = 5; feeds = 2 }, refl, refl, refl)
+
+-- HeldPass
+its_table_its_feed_and_what_it_saw : (table : SharedId) → (p : HeldPass) × (p.table ≡ table) × (p.feed ≡ 2) × (p.seen ≡ dump 1 ∷ [])
+its_table_its_feed_and_what_it_saw table = (record { table = table; feed = 2; seen = dump 1 ∷ [] }, refl, refl, refl)
+
+-- ArePassesOf
+one_for_each_feed_in_order :
+    (table : SharedId) (passes : List HeldPass) (are : ArePassesOf table passes)
+    → (length passes ≡ table.feeds) × All (λ p. p.table ≡ table) passes × ((i : ℕ) (p : HeldPass) → slice_get passes i ≡ Some p → p.feed ≡ i + 1)
+one_for_each_feed_in_order table passes are = (are.count, are.tables, are.feeds)
+
+-- Settles
+a_settled_journal_has_what_each_pass_saw :
+    (table : SharedId) (passes : List HeldPass) (journal : List Entry) (settled : Settles table passes journal)
+    → IsLawfulJournal table.limit journal × All (λ e. (1 ≤ e.feed) × (e.feed ≤ table.feeds)) journal × All (λ p. Since p.feed p.seen journal) passes
+a_settled_journal_has_what_each_pass_saw table passes journal settled = (settled.lawful, settled.of_feeds, settled.since)
+
+-- MakesVisit
+a_visit_adds_what_was_answered :
+    (seen now : List Entry) (cmds : List Cmd) (outcomes : List Outcome) (visit : MakesVisit 5 1 seen cmds outcomes now)
+    → Since 1 seen visit.found × (length outcomes ≡ length cmds) × (now ≡ visit.found ++ answered 1 cmds outcomes) × IsLawfulJournal 5 now
+a_visit_adds_what_was_answered seen now cmds outcomes visit = (visit.since, visit.each, visit.added, visit.lawful)
+
+-- MakesVisitWith
+its_outcomes_are_appended :
+    (seen now : List Entry) (cmds : List Cmd) (before after : List Outcome) (visit : MakesVisitWith 5 1 seen cmds before after now)
+    → (after ≡ before ++ visit.outcomes) × MakesVisit 5 1 seen cmds visit.outcomes now
+its_outcomes_are_appended seen now cmds before after visit = (visit.appended, visit.visit)
+
+-- SinceAgain
+others_came_and_others_came : SinceAgain → (b : List Entry) → Since 1 [] b → Since 1 b (dump 2 ∷ []) → Since 1 [] (dump 2 ∷ [])
+others_came_and_others_came law b = law 1 [] b (dump 2 ∷ [])
+
+-- AnsweredInPieces
+one_command_and_then_two :
+    AnsweredInPieces → (os ps : List Outcome) → length os ≡ 1
+    → (answered 1 (Dump ∷ Purge ∷ Dump ∷ []) (os ++ ps) ≡ answered 1 (Dump ∷ []) os ++ answered 1 (Purge ∷ Dump ∷ []) ps) × AllBy 1 (answered 1 (Dump ∷ []) os)
+one_command_and_then_two law os ps = law 1 (Dump ∷ []) (Purge ∷ Dump ∷ []) os ps
+
+-- UncutAtFirst
+feed_2_has_made_no_visit : UncutAtFirst → Uncut 2 [] []
+feed_2_has_made_no_visit law = law 2
+
+-- UncutSince
+its_visits_stay_where_others_come :
+    UncutSince → (visits : List (List Entry)) (a : List Entry) → Uncut 1 visits a → Since 1 a (dump 2 ∷ []) → Uncut 1 visits (dump 2 ∷ [])
+its_visits_stay_where_others_come law visits a = law 1 visits a (dump 2 ∷ [])
+
+-- UncutByVisit
+one_more_visit_of_a_dump :
+    UncutByVisit → (visits : List (List Entry)) (seen now : List Entry) → Uncut 1 visits seen
+    → MakesVisit 5 1 seen (Dump ∷ []) (Did (Dumped 0) ∷ []) now → Uncut 1 (visits ++ (dump 1 ∷ []) ∷ []) now
+one_more_visit_of_a_dump law visits seen now = law 5 1 visits seen now (Dump ∷ []) (Did (Dumped 0) ∷ [])
+
+-- EntriesOfVisits
+its_entries_are_those_of_two_visits :
+    EntriesOfVisits → (a b journal : List Entry) → Uncut 1 (a ∷ b ∷ []) journal → feed_entries 1 journal ≡ flat_map (λ visit. visit) (a ∷ b ∷ [])
+its_entries_are_those_of_two_visits law a b = law 1 (a ∷ b ∷ [])
+
+-- EntriesSince
+nothing_of_its_own_has_come : EntriesSince → (a : List Entry) → Since 1 a (dump 2 ∷ []) → feed_entries 1 (dump 2 ∷ []) ≡ feed_entries 1 a
+nothing_of_its_own_has_come law a = law 1 a (dump 2 ∷ [])
+
+-- PassesKept
+passes_of_the_same_table_and_feeds :
+    PassesKept → (table : SharedId) (old new : List HeldPass) → ArePassesOf table old → length new ≡ length old
+    → ((i : ℕ) (d : HeldPass) → i < length old → ((slice_index_or new i d).table ≡ (slice_index_or old i d).table) × ((slice_index_or new i d).feed ≡ (slice_index_or old i d).feed))
+    → ArePassesOf table new
+passes_of_the_same_table_and_feeds law = law
 
 -- feed_of
 the_first_place_is_feed_1s : feed_of 0 ≡ 1
@@ -246,6 +327,28 @@ not_while_the_second_was h = not_its_own 2 h.since
 
 not_to_another_limit : (place : ℕ) (a b : Lent) → b.book.limit ≢ a.book.limit → ¬ GrowsByOthers place a b
 not_to_another_limit place a b other h = other h.same.limit
+
+-- GrowsByFeed
+by_the_second_place : GrowsByFeed 1 new dumped
+by_the_second_place = record {
+  same = the_journal_alone_has_changed;
+  own = dump 2 ∷ [];
+  added = refl;
+  by_feed = All-cons (λ e. e.feed ≡ 2) (dump 2) [] refl (All-nil (λ e. e.feed ≡ 2));
+}
+
+its_own_entries_at_the_end : (a b : Lent) (grows : GrowsByFeed 1 a b) → HasSameBounds a b × (b.book.journal ≡ a.book.journal ++ grows.own) × AllBy 2 grows.own
+its_own_entries_at_the_end a b grows = (grows.same, grows.added, grows.by_feed)
+
+-- MakesVisit
+a_dump_by_itself : MakesVisit 1 2 [] (Dump ∷ []) (Did (Dumped 0) ∷ []) (dump 2 ∷ [])
+a_dump_by_itself = record {
+  found = [];
+  since = record { others = []; grown = refl; by_others = All-nil (λ e. e.feed ≢ 2) };
+  each = refl;
+  added = refl;
+  lawful = lawful_dump;
+}
 
 -- both passes are away, and the second place's feed was answered since the first was last inside
 abbrev moment : List (Option (std.Option Lent)) → Moment
