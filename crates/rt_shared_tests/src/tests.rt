@@ -44,13 +44,26 @@ fn is_explained(alloc: Global, limit: u32, book: &Book<Global>) -> Result<bool, 
     requires { IsLimit limit }
 {
     let mut alone = Book::new(alloc, limit);
-    for entry in book.journal() {
-        if !feed_ok(entry.feed) || alone.apply(entry.feed, entry.cmd)? != entry.reply {
+    Ok(answers_so(&mut alone, book.journal())? && have_equal_routes(alloc, &alone, book)?)
+}
+
+/// Whether the book answers the entries' commands in this order with these replies.
+fn answers_so(book: &mut Book<Global>, entries: &[Entry]) -> Result<bool, Refused> {
+    for entry in entries {
+        if !feed_ok(entry.feed) || book.apply(entry.feed, entry.cmd)? != entry.reply {
             return Ok(false);
         }
     }
-    let routes = alone.routes(alloc)?;
-    Ok(routes.as_slice() == book.routes(alloc)?.as_slice())
+    Ok(true)
+}
+
+fn have_equal_routes(
+    alloc: Global,
+    one: &Book<Global>,
+    other: &Book<Global>,
+) -> Result<bool, Refused> {
+    let routes = one.routes(alloc)?;
+    Ok(routes.as_slice() == other.routes(alloc)?.as_slice())
 }
 
 /// A table of two feeds and their passes.
@@ -169,15 +182,24 @@ fn assert_added(rt: &impl Abort, book: &Book<Global>, feed: u32) {
     assert_eq!(rt; j, 500);
 }
 
+/// The book has the 500 routes of each feed, and one table alone explains its journal.
+fn assert_thousand(rt: &impl Abort, alloc: Global, book: &Book<Global>) {
+    assert_eq!(rt; book.journal().len(), 1_000);
+    assert_added(rt, book, 1);
+    assert_added(rt, book, 2);
+    assert_eq!(rt; count_of_routes(alloc, book), Ok(1_000));
+    assert_eq!(rt; is_explained(alloc, 500, book), Ok(true));
+}
+
+fn count_of_routes(alloc: Global, book: &Book<Global>) -> Result<usize, Refused> {
+    Ok(book.routes(alloc)?.len())
+}
+
 #[test]
 fn two_threads_add_a_thousand_routes(rt: HostRuntime) -> Result<(), Fail> {
     let (book, added) = by_two(&rt, rt.alloc())?;
     assert_eq!(rt; added, 1_000);
-    assert_eq!(rt; book.journal().len(), 1_000);
-    assert_added(&rt, &book, 1);
-    assert_added(&rt, &book, 2);
-    assert_eq!(rt; book.routes(rt.alloc())?.len(), 1_000);
-    assert!(rt; is_explained(rt.alloc(), 500, &book)?);
+    assert_thousand(&rt, rt.alloc(), &book);
     Ok(())
 }
 
@@ -447,6 +469,12 @@ fn add_routes<R: Wait + Abort, const L: u32>(
     Ok(())
 }
 
+/// The book's routes are those that were listed.
+fn assert_listed(rt: &impl Abort, alloc: Global, book: &Book<Global>, listed: &[Route]) {
+    let routes = book.routes(alloc).expect(rt, "memory");
+    assert_eq!(rt; routes.as_slice(), listed);
+}
+
 /// Fails where `routes` refuses beyond 65,536 routes, or to a feed without an entry: `Refused`.
 #[test]
 fn more_than_65_536_routes_are_shared(rt: HostRuntime) -> Result<(), Fail> {
@@ -456,23 +484,28 @@ fn more_than_65_536_routes_are_shared(rt: HostRuntime) -> Result<(), Fail> {
     let listed = table.routes(&rt, rt.alloc(), &mut second)?;
     assert_eq!(rt; listed.len(), ROUTES as usize);
     let book = settle_both(&rt, rt.alloc(), table, first, second)?;
-    assert_eq!(rt; book.routes(rt.alloc())?, listed);
+    assert_listed(&rt, rt.alloc(), &book, &listed);
     Ok(())
+}
+
+/// How many feeds a new table of L levels has.
+fn feeds_of<const L: u32>(alloc: Global, limit: u32) -> Result<usize, Refused>
+    requires levels { (1 ≤ L) × (L ≤ 6) }
+    requires limited { IsLimit limit }
+{
+    let (_table, passes) = SharedRib::<L>::new(alloc, limit)?;
+    Ok(passes.len())
 }
 
 /// Fails where `SharedRib::new` refuses a limit over 65,536, or at some number of levels, that of 16 feeds say:
 /// `Refused`.
 #[test]
-fn tables_of_each_size_are_made(rt: HostRuntime) -> Result<(), Fail> {
+fn tables_of_each_size_are_made(rt: HostRuntime) {
     let alloc = rt.alloc();
-    let feeds = [
-        SharedRib::<1>::new(alloc, 1)?.1.len(),
-        SharedRib::<2>::new(alloc, 65_536)?.1.len(),
-        SharedRib::<3>::new(alloc, 65_537)?.1.len(),
-        SharedRib::<4>::new(alloc, 100_000)?.1.len(),
-        SharedRib::<5>::new(alloc, 999_999)?.1.len(),
-        SharedRib::<6>::new(alloc, 1_000_000)?.1.len(),
-    ];
-    assert_eq!(rt; feeds, [2, 4, 8, 16, 32, 64]);
-    Ok(())
+    assert_eq!(rt; feeds_of::<1>(alloc, 1), Ok(2));
+    assert_eq!(rt; feeds_of::<2>(alloc, 65_536), Ok(4));
+    assert_eq!(rt; feeds_of::<3>(alloc, 65_537), Ok(8));
+    assert_eq!(rt; feeds_of::<4>(alloc, 100_000), Ok(16));
+    assert_eq!(rt; feeds_of::<5>(alloc, 999_999), Ok(32));
+    assert_eq!(rt; feeds_of::<6>(alloc, 1_000_000), Ok(64));
 }
