@@ -1,8 +1,8 @@
 -- What holds of the elements of a list, and of each two of them.
 use Rattle.std.proofs.Common.{◌≡◌, ℕ, zero, suc, ◌<◌, Bool, true, false, cond, not, List, [], ◌∷◌, ◌++◌, length, get_or, refl, ap, ◌∙◌, arith}
-use Rattle.std.proofs.lemmas.Bool.{or_parts, or_from, or_left, or_right, and_from, cond-true, cond-false}
-use Rattle.std.proofs.lemmas.List.Elements.{All-cons, All-head, All-tail, All-append, All-filter}
-use Rattle.std.proofs.lemmas.List.Kept.{AllPairs-cons}
+use Rattle.std.proofs.lemmas.Bool.{or_parts, or_from, or_left, or_right, and_from, not-true, cond-true, cond-false}
+use Rattle.std.proofs.lemmas.List.Elements.{All-cons, All-head, All-tail, All-append, All-filter, All-weaker, filter_passes}
+use Rattle.std.proofs.lemmas.List.Kept.{AllPairs-cons, AllPairs-filter}
 use Rattle.std.specs.List.{All, AllPairs, filter, list_any, list_all}
 
 -- what follows from two facts of each element
@@ -73,3 +73,38 @@ AllPairs-split {X} R flip p (x ∷ xs) h =
 pub list_all-from : {X : Type 0} (p : X → Bool) (xs : List X) → All (λ x. p x ≡ true) xs → list_all p xs ≡ true
 list_all-from p [] h = refl
 list_all-from p (x ∷ xs) h = and_from (p x) (list_all p xs) (All-head (λ z. p z ≡ true) x xs h) (list_all-from p xs (All-tail (λ z. p z ≡ true) x xs h))
+
+-- an element is put into a list behind those that go before it, where it goes before each of the others
+module _ {X : Type 0} (before : X → X → Bool) (onward : (x y z : X) → before x y ≡ true → before y z ≡ true → before x z ≡ true) where
+  -- the first goes before the second
+  abbrev Goes : X → X → Type 0
+  Goes x y = before x y ≡ true
+
+  module _ (r : X) (xs : List X) (other : All (λ s. before s r ≡ false → before r s ≡ true) xs) where
+    -- what goes before it
+    abbrev early : List X
+    early = filter (λ s. before s r) xs
+
+    -- and what does not
+    abbrev late : List X
+    late = filter (λ s. not (before s r)) xs
+
+    -- it goes before what does not go before it
+    behind : All (Goes r) late
+    behind =
+        All-join (λ s. not (before s r) ≡ true) (λ s. before s r ≡ false → before r s ≡ true) (Goes r)
+        (λ s after goes. goes (not-true (before s r) after)) late
+        (filter_passes (λ s. not (before s r)) xs) (All-filter (λ s. not (before s r)) (λ s. before s r ≡ false → before r s ≡ true) xs other)
+
+    -- what goes before it goes before all that is behind
+    across : All (λ s. All (Goes s) (r ∷ late)) early
+    across =
+        All-weaker (λ s. Goes s r) (λ s. All (Goes s) (r ∷ late))
+        (λ s e. All-cons (Goes s) r late e (All-weaker (Goes r) (Goes s) (λ u. onward s r u e) late behind))
+        early (filter_passes (λ s. before s r) xs)
+
+    -- so the order is kept
+    pub AllPairs-put : AllPairs Goes xs → AllPairs Goes (early ++ r ∷ late)
+    AllPairs-put h =
+        AllPairs-append Goes early (r ∷ late) (AllPairs-filter Goes (λ s. before s r) xs h)
+        (AllPairs-cons Goes r late behind (AllPairs-filter Goes (λ s. not (before s r)) xs h)) across

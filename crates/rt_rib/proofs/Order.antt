@@ -1,6 +1,6 @@
 -- Dump order is strict and total, up to feed and prefix.
 use Rattle.std.proofs.Common.{◌≡◌, ℕ, ◌<◌, Bool, true, false, eqb, ltb, ◌&&◌, ◌⊎◌, inl, inr, sym, arith}
-use Rattle.std.proofs.lemmas.Bool.{ltb-true, ltb-false, eqb-true, eqb-false, lt-ltb, le-ltb, eq-eqb, or_cases, or_parts, or_left, or_right, or_from, and_parts, and_cases, and_from, and_right, both_ways, cases_order, false_from_ne_true}
+use Rattle.std.proofs.lemmas.Bool.{ltb-true, ltb-false, eqb-true, eqb-false, lt-ltb, le-ltb, eq-eqb, or_cases, or_parts, or_left, or_right, or_from, and_parts, and_cases, and_from, and_right, both_ways, cases_order}
 use Rattle.rt_cidr.specs.declared.prefixes.Prefix.{Prefix}
 use Rattle.rt_cidr.specs.Prefix.{same_prefix}
 use Rattle.rt_rib.specs.declared.routes.Route.{Route}
@@ -109,8 +109,3 @@ precedes-itself r =
     let len = or_from (ltb r.prefix.len r.prefix.len) (eqb r.prefix.len r.prefix.len && is_better r r) (le-ltb r.prefix.len r.prefix.len (omega arith)) (and_right (eqb r.prefix.len r.prefix.len) (is_better r r) (is_better-itself r)) in
     or_from (ltb r.prefix.base r.prefix.base) (eqb r.prefix.base r.prefix.base && below_then r.prefix.len r.prefix.len (is_better r r)) (le-ltb r.prefix.base r.prefix.base (omega arith))
     (and_right (eqb r.prefix.base r.prefix.base) (below_then r.prefix.len r.prefix.len (is_better r r)) len)
-
--- where r precedes s, s does not precede r
-pub precedes-flip : (r s : Route) → precedes r s ≡ true → precedes s r ≡ false
-precedes-flip r s e =
-    false_from_ne_true (precedes s r) (λ back. both_ways (precedes r r) (precedes-itself r) (precedes-trans r s r e back))

@@ -1,14 +1,14 @@
 -- Lists of routes as the sets of what they contain.
-use Rattle.std.proofs.Common.{◌≡◌, ℕ, zero, suc, ◌<◌, Bool, true, false, cond, not, ◌⊎◌, inl, inr, List, [], ◌∷◌, length, get_or, refl, ap, ◌∙◌, sym, subst, arith}
+use Rattle.std.proofs.Common.{◌≡◌, ℕ, zero, suc, ◌<◌, Bool, true, false, cond, not, ◌⊎◌, inl, inr, List, [], ◌∷◌, ◌++◌, length, get_or, refl, ap, ◌∙◌, sym, subst, arith}
 use Rattle.std.proofs.lemmas.Bool.{cases_Bool, cond-true, cond-false, both_ways, not-true, not_from_false}
 use Rattle.std.proofs.lemmas.List.Elements.{All-contains, Contains-append_left, Contains-append_right, Contains-append_cases}
+use Rattle.std.specs.Prelude.{◌↔◌}
 use Rattle.std.specs.List.{AllPairs, Contains, filter}
 use Rattle.rt_rib.specs.declared.routes.Route.{Route}
 use Rattle.rt_rib.specs.Table.{precedes, is_of}
 use Rattle.rt_rib.specs.Laws.{PutInAdds, TakeOutLeavesOthers, OneTableOfSet}
 use Rattle.rt_rib.proofs.Lists.{AllPairs-head, AllPairs-tail}
-use Rattle.rt_rib.proofs.Order.{precedes-itself, precedes-flip}
-use Rattle.rt_rib.proofs.Tables.{Ordered}
+use Rattle.rt_rib.proofs.Order.{precedes-itself, precedes-trans}
 
 module _ {X : Type 0} where
   -- a list contains its first element
@@ -59,26 +59,64 @@ module _ {X : Type 0} where
             (Contains-tail y xs x rest.0, rest.1)
       ]
 
+  -- an element put between those that pass a test and the others
+  pub Contains-put : (p : X → Bool) (xs : List X) (r x : X) → Contains (filter p xs ++ r ∷ filter (λ s. not (p s)) xs) x ↔ (Contains xs x ⊎ (r ≡ x))
+  Contains-put p xs r x =
+      let q : X → Bool = λ s. not (p s) in (
+        (λ c. elim (Contains-append_cases (filter p xs) (r ∷ filter q xs) x c) [
+          | inl front ↦ inl (filter-from p xs x front).0
+          | inr back ↦ elim (Contains-cases r (filter q xs) x back) [ inl same ↦ inr same | inr later ↦ inl (filter-from q xs x later).0 ]
+        ]),
+        (λ c. elim c [
+          | inl old ↦
+              elim (cases_Bool (p x)) [
+                | inl first ↦ Contains-append_left (filter p xs) (r ∷ filter q xs) x (filter-keeps p xs x old first)
+                | inr after ↦ Contains-append_right (filter p xs) (r ∷ filter q xs) x (Contains-tail r (filter q xs) x (filter-keeps q xs x old (not_from_false (p x) after)))
+              ]
+          | inr same ↦ Contains-append_right (filter p xs) (r ∷ filter q xs) x (subst (λ z. Contains (z ∷ filter q xs) x) (sym same) (Contains-head x (filter q xs)))
+        ]),
+      )
+
+  module _ (before : X → X → Bool) (never : (x : X) → before x x ≡ false) (onward : (x y z : X) → before x y ≡ true → before y z ≡ true → before x z ≡ true) where
+    -- the first goes before the second
+    abbrev Goes : X → X → Type 0
+    Goes x y = before x y ≡ true
+
+    -- the first of a list in order goes before whatever else it contains
+    goes-rest : (x : X) (xs : List X) (y : X) → AllPairs Goes (x ∷ xs) → Contains xs y → before x y ≡ true
+    goes-rest x xs y h c = All-contains (Goes x) xs y (AllPairs-head Goes x xs h) c
+
+    -- two lists in order that contain the same elements
+    pub ordered_once : (xs ys : List X) → AllPairs Goes xs → AllPairs Goes ys → ((x : X) → Contains xs x → Contains ys x) → ((x : X) → Contains ys x → Contains xs x) → xs ≡ ys
+    ordered_once [] [] h k to from = refl
+    ordered_once [] (y ∷ ys) h k to from = absurd (Contains-none y (from y (Contains-head y ys)))
+    ordered_once (x ∷ xs) [] h k to from = absurd (Contains-none x (to x (Contains-head x xs)))
+    ordered_once (x ∷ xs) (y ∷ ys) h k to from =
+        let same : y ≡ x =
+        elim (Contains-cases y ys x (to x (Contains-head x xs))) [
+          | inl here ↦ here
+          | inr later ↦
+              elim (Contains-cases x xs y (from y (Contains-head y ys))) [
+                | inl also ↦ sym also
+                | inr behind ↦ absurd (both_ways (before x x) (never x) (onward x y x (goes-rest x xs y h behind) (goes-rest y ys x k later)))
+              ]
+        ] in
+        let k' : AllPairs Goes (x ∷ ys) = subst (λ z. AllPairs Goes (z ∷ ys)) same k in
+        let rest =
+        ordered_once xs ys (AllPairs-tail Goes x xs h) (AllPairs-tail Goes x ys k')
+        (λ z c. elim (Contains-cases y ys z (to z (Contains-tail x xs z c))) [
+          | inl head ↦ absurd (both_ways (before x x) (never x) (subst (λ w. before x w ≡ true) (sym head ∙ same) (goes-rest x xs z h c)))
+          | inr later ↦ later
+        ])
+        (λ z c. elim (Contains-cases x xs z (from z (Contains-tail y ys z c))) [
+          | inl head ↦ absurd (both_ways (before x x) (never x) (subst (λ w. before x w ≡ true) (sym head) (goes-rest x ys z k' c)))
+          | inr later ↦ later
+        ]) in
+        ap (λ z. x ∷ z) rest ∙ ap (λ z. z ∷ ys) (sym same)
+
 -- the set with one route more
 pub put_in_adds : PutInAdds
-put_in_adds r x table =
-    let early = λ (s : Route). precedes s r in
-    let late = λ (s : Route). not (precedes s r) in (
-      (λ c. elim (Contains-append_cases (filter early table) (r ∷ filter late table) x c) [
-        | inl front ↦ inl (filter-from early table x front).0
-        | inr back ↦ elim (Contains-cases r (filter late table) x back) [ inl same ↦ inr same | inr later ↦ inl (filter-from late table x later).0 ]
-      ]),
-      (λ c. elim c [
-        | inl old ↦
-            elim (cases_Bool (precedes x r)) [
-              | inl first ↦ Contains-append_left (filter early table) (r ∷ filter late table) x (filter-keeps early table x old first)
-              | inr after ↦
-                  Contains-append_right (filter early table) (r ∷ filter late table) x
-                  (Contains-tail r (filter late table) x (filter-keeps late table x old (not_from_false (precedes x r) after)))
-            ]
-        | inr same ↦ Contains-append_right (filter early table) (r ∷ filter late table) x (subst (λ z. Contains (z ∷ filter late table) x) (sym same) (Contains-head x (filter late table)))
-      ]),
-    )
+put_in_adds r x table = Contains-put (λ s. precedes s r) table r x
 
 -- the set without a feed's route to a prefix
 pub take_out_leaves_others : TakeOutLeavesOthers
@@ -88,38 +126,7 @@ take_out_leaves_others feed prefix x table =
       (λ c. filter-keeps other table x c.0 (not_from_false (is_of feed prefix x) c.1)),
     )
 
--- the first of a table precedes whatever else it contains
-precedes-rest : (x : Route) (t : List Route) (y : Route) → AllPairs Ordered (x ∷ t) → Contains t y → precedes x y ≡ true
-precedes-rest x t y h c = All-contains (Ordered x) t y (AllPairs-head Ordered x t h) c
-
--- two lists in dump order that contain the same routes
-ordered_once : (t u : List Route) → AllPairs Ordered t → AllPairs Ordered u → ((x : Route) → Contains t x → Contains u x) → ((x : Route) → Contains u x → Contains t x) → t ≡ u
-ordered_once [] [] h k to from = refl
-ordered_once [] (y ∷ u) h k to from = absurd (Contains-none y (from y (Contains-head y u)))
-ordered_once (x ∷ t) [] h k to from = absurd (Contains-none x (to x (Contains-head x t)))
-ordered_once (x ∷ t) (y ∷ u) h k to from =
-    let same : y ≡ x =
-    elim (Contains-cases y u x (to x (Contains-head x t))) [
-      | inl here ↦ here
-      | inr later ↦
-          elim (Contains-cases x t y (from y (Contains-head y u))) [
-            | inl also ↦ sym also
-            | inr behind ↦ absurd (both_ways (precedes x y) (precedes-flip y x (precedes-rest y u x k later)) (precedes-rest x t y h behind))
-          ]
-    ] in
-    let k' : AllPairs Ordered (x ∷ u) = subst (λ z. AllPairs Ordered (z ∷ u)) same k in
-    let rest =
-    ordered_once t u (AllPairs-tail Ordered x t h) (AllPairs-tail Ordered x u k')
-    (λ z c. elim (Contains-cases y u z (to z (Contains-tail x t z c))) [
-      | inl head ↦ absurd (both_ways (precedes x x) (precedes-itself x) (subst (λ w. precedes x w ≡ true) (sym head ∙ same) (precedes-rest x t z h c)))
-      | inr later ↦ later
-    ])
-    (λ z c. elim (Contains-cases x t z (from z (Contains-tail y u z c))) [
-      | inl head ↦ absurd (both_ways (precedes x x) (precedes-itself x) (subst (λ w. precedes x w ≡ true) (sym head) (precedes-rest x u z k' c)))
-      | inr later ↦ later
-    ]) in
-    ap (λ z. x ∷ z) rest ∙ ap (λ z. z ∷ u) (sym same)
-
 -- so a set has one table
 pub one_table_of_set : OneTableOfSet
-one_table_of_set t u h k same = ordered_once t u h.ordered k.ordered (λ x. (same x).0) (λ x. (same x).1)
+one_table_of_set t u h k same =
+    ordered_once precedes precedes-itself precedes-trans t u h.ordered k.ordered (λ x. (same x).0) (λ x. (same x).1)

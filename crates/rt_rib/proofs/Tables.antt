@@ -7,7 +7,7 @@ use Rattle.std.specs.List.{All, AllPairs, filter}
 use Rattle.rt_cidr.specs.declared.prefixes.Prefix.{Prefix}
 use Rattle.rt_rib.specs.declared.routes.Route.{Route}
 use Rattle.rt_rib.specs.Table.{precedes, is_of, has, put_in, take_out, purge, IsTable}
-use Rattle.rt_rib.proofs.Lists.{AllPairs-append, AllPairs-split, All-join, list_any-none, list_any-from_none}
+use Rattle.rt_rib.proofs.Lists.{AllPairs-append, AllPairs-split, AllPairs-put, All-join, list_any-none, list_any-from_none}
 use Rattle.rt_rib.proofs.Order.{precedes-trans, precedes-other, is_of-parts, is_of-from}
 
 -- the first stands before the second
@@ -38,25 +38,11 @@ module _ (r : Route) (t : List Route) (fresh : has r.feed r.prefix t ≡ false) 
   abbrev before_it : List Route
   before_it = filter (λ s. precedes s r) t
 
-  -- it precedes what does not precede it
-  behind : All (Ordered r) after_it
-  behind =
-      All-join (λ s. not (precedes s r) ≡ true) (λ s. is_of r.feed r.prefix s ≡ false) (Ordered r)
-      (λ s late other. precedes-other r s (not-true (precedes s r) late) other) after_it
-      (filter_passes (λ s. not (precedes s r)) t) (All-filter (λ s. not (precedes s r)) (λ s. is_of r.feed r.prefix s ≡ false) t others)
-
-  -- what precedes it precedes all that is behind
-  across : All (λ s. All (Ordered s) (r ∷ after_it)) before_it
-  across =
-      All-weaker (λ s. Ordered s r) (λ s. All (Ordered s) (r ∷ after_it))
-      (λ s e. All-cons (Ordered s) r after_it e (All-weaker (Ordered r) (Ordered s) (λ u. precedes-trans s r u e) after_it behind))
-      before_it (filter_passes (λ s. precedes s r) t)
-
-  -- so the order is kept
+  -- it precedes what does not precede it, so the order is kept
   ordered_put_in : AllPairs Ordered t → AllPairs Ordered (put_in r t)
-  ordered_put_in h =
-      AllPairs-append Ordered before_it (r ∷ after_it) (AllPairs-filter Ordered (λ s. precedes s r) t h)
-      (AllPairs-cons Ordered r after_it behind (AllPairs-filter Ordered (λ s. not (precedes s r)) t h)) across
+  ordered_put_in =
+      AllPairs-put precedes precedes-trans r t
+      (All-weaker (λ s. is_of r.feed r.prefix s ≡ false) (λ s. precedes s r ≡ false → precedes r s ≡ true) (λ s other late. precedes-other r s late other) t others)
 
   -- none of those before is of the feed and prefix of one behind
   apart_across : AllPairs Apart t → All (λ s. All (Apart s) (r ∷ after_it)) before_it
