@@ -7,8 +7,8 @@ use Rattle.std.specs.List.{AllPairs, Contains, find, list_all}
 use Rattle.rt_cidr.specs.declared.address.Addr.{Addr}
 use Rattle.rt_cidr.specs.Prefix.{covers}
 use Rattle.rt_rib.specs.declared.routes.Route.{Route}
-use Rattle.rt_rib.specs.Table.{below_then, is_better, is_of, IsTable}
-use Rattle.rt_rib.specs.LookUp.{matching, longest_of, best, look_up}
+use Rattle.rt_rib.specs.Table.{is_better, is_of, IsTable}
+use Rattle.rt_rib.specs.LookUp.{matching, longest_of, best, look_up, beats}
 use Rattle.rt_rib.specs.Laws.{IsBestMatch, LookUpFindsBest}
 use Rattle.rt_rib.proofs.Lists.{AllPairs-head, AllPairs-tail, filter-none, list_all-from}
 use Rattle.rt_rib.proofs.Order.{below_then-true, below_then-false, below_then-less, below_then-same, below_then-trans, is_better-trans, is_better-itself, is_of-from}
@@ -83,10 +83,6 @@ even r s a b =
       ]
     ]
 
--- whether r's prefix is longer than s's, or as long and r the better one
-abbrev beats : Route → Route → Bool
-beats r s = below_then s.prefix.len r.prefix.len (is_better r s)
-
 -- what beats one that a second doesn't beat beats the second
 beats-over : (r s u : Route) → beats r u ≡ true → beats s u ≡ false → beats r s ≡ true
 beats-over r s u x y =
@@ -123,14 +119,14 @@ beats-over r s u x y =
           ]
 
 -- no route beats itself
-beats-itself : (r : Route) → beats r r ≡ false
+pub beats-itself : (r : Route) → beats r r ≡ false
 beats-itself r = false_from_ne_true (beats r r) (λ e. elim (below_then-true r.prefix.len r.prefix.len (is_better r r) e) [
   | inl less ↦ omega arith
   | inr same ↦ both_ways (is_better r r) (is_better-itself r) same.1
 ])
 
 -- what beats one that beats a third beats that
-beats-trans : (r s u : Route) → beats r s ≡ true → beats s u ≡ true → beats r u ≡ true
+pub beats-trans : (r s u : Route) → beats r s ≡ true → beats s u ≡ true → beats r u ≡ true
 beats-trans r s u x y =
     below_then-trans u.prefix.len s.prefix.len r.prefix.len (is_better s u) (is_better r s) (is_better r u) (λ p q. is_better-trans r s u q p) y x
 

@@ -12,10 +12,12 @@ pub mod Sets
 pub mod JournalLaws
 pub mod Feeds
 pub mod Best
+pub mod Ranking
 pub mod OfferLists
 pub mod MapRoutes
 pub mod Purges
 pub mod MapChanges
 pub mod MapLookUps
+pub mod MapMatches
 pub mod BestRoutes
 pub mod Examples

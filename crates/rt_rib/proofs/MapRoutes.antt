@@ -39,7 +39,7 @@ module _ {X Y : Type 0} (f : X → Y) where
   ]
 
   -- what holds of each two images
-  AllPairs-map : (R : Y → Y → Type 0) (xs : List X) → AllPairs (λ a b. R (f a) (f b)) xs → AllPairs R (map f xs)
+  pub AllPairs-map : (R : Y → Y → Type 0) (xs : List X) → AllPairs (λ a b. R (f a) (f b)) xs → AllPairs R (map f xs)
   AllPairs-map R [] h = λ i j d l m. absurd (omega arith)
   AllPairs-map R (x ∷ xs) h =
       AllPairs-cons R (f x) (map f xs) (All-map (R (f x)) f xs (AllPairs-head (λ a b. R (f a) (f b)) x xs h))
@@ -135,7 +135,7 @@ apart-by_prefix r s e =
     ])
 
 -- each pair's prefix is before those of the routes behind it
-before-routes : (p : Prefix) (rest : Map) (s : Route) → IsBeforeAll p rest → Contains (routes_of rest) s → before p s.prefix ≡ true
+pub before-routes : (p : Prefix) (rest : Map) (s : Route) → IsBeforeAll p rest → Contains (routes_of rest) s → before p s.prefix ≡ true
 before-routes p rest s h c = let x = offer_in rest s c in before-each p rest s.prefix x.0 h x.1
 
 -- the offers of one prefix as routes to it

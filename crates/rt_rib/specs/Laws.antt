@@ -1,6 +1,6 @@
 -- What holds of every set of routes and of every journal.
-use Rattle.std.specs.Prelude.{◌≡◌, ℕ, ◌≤◌, Bool, true, false, Some, None, ◌==◌, ◌⊎◌, ◌↔◌, List, [], ◌∷◌, ◌++◌, map, filter}
-use Rattle.std.specs.List.{Contains}
+use Rattle.std.specs.Prelude.{◌≡◌, ℕ, ◌≤◌, Bool, true, false, Some, None, ◌==◌, ◌⊎◌, ◌↔◌, List, [], ◌∷◌, ◌++◌, map, filter, slice_get}
+use Rattle.std.specs.List.{AllPairs, Contains}
 use Rattle.rt_cidr.specs.declared.address.Addr.{Addr}
 use Rattle.rt_cidr.specs.Prefix.{covers}
 use Rattle.rt_cidr.specs.declared.prefixes.Prefix.{Prefix}
@@ -9,7 +9,7 @@ use Rattle.rt_rib.specs.declared.commands.Cmd.{Cmd}
 use Rattle.rt_rib.specs.declared.commands.Entry.{Entry}
 use Rattle.rt_rib.specs.Table.{is_better, is_of, put_in, take_out, IsTable}
 use Rattle.rt_rib.specs.declared.commands.Cmd.TheVariants.{Add, Replace, Withdraw, Lookup, Dump, Purge}
-use Rattle.rt_rib.specs.LookUp.{look_up}
+use Rattle.rt_rib.specs.LookUp.{look_up, beats, look_up_all}
 use Rattle.rt_rib.specs.Sequential.{reply_of, table_after}
 use Rattle.rt_rib.specs.Journal.{table_of_journal, IsAnswered, IsLawfulJournal}
 
@@ -38,6 +38,19 @@ abbrev pub LookUpFindsBest : Type 0
 LookUpFindsBest =
     (addr : Addr) (table : List Route) → IsTable table → ((r : Route) → (look_up addr table ≡ Some r) ↔ IsBestMatch addr table r)
     × ((look_up addr table ≡ None) ↔ ((s : Route) → Contains table s → covers s.prefix addr ≡ false))
+
+-- the list contains just the routes of the set whose prefix covers the address, and each beats those behind it, so none stands
+-- there twice
+pub record AreMatches (addr : Addr) (table matches : List Route) : Type 0 where
+  pub exactly : (r : Route) → Contains matches r ↔ (Contains table r × (covers r.prefix addr ≡ true))
+  pub ordered : AllPairs (λ r s. beats r s ≡ true) matches
+
+-- what a look-up of all finds are the matches and no other list, and the first of them is what a look-up finds
+abbrev pub LookUpAllFindsMatches : Type 0
+LookUpAllFindsMatches =
+    (addr : Addr) (table : List Route) → IsTable table
+    → ((matches : List Route) → (look_up_all addr table ≡ matches) ↔ AreMatches addr table matches)
+    × (slice_get (look_up_all addr table) 0 ≡ look_up addr table)
 
 -- what a journal leaves is a table: the empty one where it has no entry, and after one entry more what that entry's command
 -- leaves

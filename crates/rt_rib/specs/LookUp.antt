@@ -1,10 +1,11 @@
--- The look-up as three filters of a set (RFC 1812, section 5.2.4.3): Basic Match, Longest Match, and the vendor's policy.
-use Rattle.std.specs.Prelude.{◌&&◌, not, nat_le, List, Option, filter, find}
+-- The look-up as three filters of a set (RFC 1812, section 5.2.4.3): Basic Match, Longest Match, and the vendor's policy;
+-- and all that match, in the order in which these leave routes behind.
+use Rattle.std.specs.Prelude.{Bool, ◌&&◌, not, nat_le, List, [], ◌∷◌, ◌++◌, Option, filter, find}
 use Rattle.std.specs.List.{list_all}
 use Rattle.rt_cidr.specs.declared.address.Addr.{Addr}
 use Rattle.rt_cidr.specs.Prefix.{covers, same_prefix}
 use Rattle.rt_rib.specs.declared.routes.Route.{Route}
-use Rattle.rt_rib.specs.Table.{is_better}
+use Rattle.rt_rib.specs.Table.{below_then, is_better}
 
 -- the routes whose prefix covers the address
 abbrev pub matching : Addr → List Route → List Route
@@ -21,6 +22,19 @@ best routes = find (λ r. list_all (λ s. not (is_better s r)) routes) routes
 -- the best of the longest of those that match
 unfoldable pub look_up : Addr → List Route → Option Route
 look_up addr routes = best (longest_of (matching addr routes))
+
+-- whether r goes before s where both match: its prefix is longer, or as long and r is better
+abbrev pub beats : Route → Route → Bool
+beats r s = below_then s.prefix.len r.prefix.len (is_better r s)
+
+-- the routes, the best first: each behind those of the others that beat it, and before the rest of them
+abbrev pub ranking : List Route → List Route
+ranking [] = []
+ranking (r ∷ others) = filter (λ s. beats s r) (ranking others) ++ r ∷ filter (λ s. not (beats s r)) (ranking others)
+
+-- all that match, the best first
+unfoldable pub look_up_all : Addr → List Route → List Route
+look_up_all addr routes = ranking (matching addr routes)
 
 -- those routes of the list than which no other of the same prefix is better
 abbrev pub best_routes : List Route → List Route

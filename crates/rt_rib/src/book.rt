@@ -1,6 +1,7 @@
 //! The book: a table with the journal of all that it answered, and nothing but what keeps the two in step.
-ghost use Rattle.std.specs.Prelude.{◌≡◌, ◌<◌, [], length, map, IfOk, OnOk, OnErr};
+ghost use Rattle.std.specs.Prelude.{◌≡◌, ◌<◌, ◌≤◌, [], length, map, IfOk, OnOk, OnErr};
 ghost use Rattle.std.specs.List.{All};
+ghost use Rattle.rt_cidr.specs.declared.address.Addr.{Addr};
 ghost use Rattle.rt_rib.specs.Book.{IsLimit, IsFeed};
 
 use crate::commands::{Cmd, Entry, Reply};
@@ -46,7 +47,7 @@ impl<A: Allocator + Copy> Model for Book<A> {
 impl<A: Allocator + Copy> Book<A> {
     ghost use Rattle.rt_rib.specs.Journal.{IsLawfulJournal};
     ghost use Rattle.rt_rib.specs.Table.{IsTable};
-    ghost use Rattle.rt_rib.specs.LookUp.{look_up};
+    ghost use Rattle.rt_rib.specs.LookUp.{look_up, look_up_all};
     ghost use Rattle.rt_rib.specs.Book.{table_of, Applies, Refuses, Reserves, HoldsTable};
 
     /// An empty book in which each feed may have so many routes. It takes no memory, so its journal has no room yet.
@@ -118,6 +119,24 @@ impl<A: Allocator + Copy> Book<A> {
         ensures { answers.new ≡ map (λ addr. look_up addr (table_of self.now)) addresses.now }
     {
         self.table.look_up(addresses, answers);
+    }
+
+    /// The answer to a look-up of the address, and a last address up to which each one from this on has the same answer, so
+    /// that who asks about a range asks no more often than answers may change. It takes no memory and changes nothing.
+    pub fn look_up_until(&self, addr: Addr) -> (Option<Route>, Addr)
+        ensures onward { addr.0 ≤ result.1.0 }
+        ensures same { (b : Addr) → addr.0 ≤ b.0 → b.0 ≤ result.1.0 → look_up b (table_of self.now) ≡ result.0 }
+    {
+        self.table.look_up_until(addr)
+    }
+
+    /// Every route whose prefix covers the address, in memory of the allocator: by greatest length, then least preference,
+    /// then least feed, so the first is the answer to a look-up. It takes no other memory and changes nothing in the book.
+    /// M1: `Refused` where that memory was refused.
+    pub fn look_up_all(&self, alloc: A, addr: Addr) -> Result<Vec<Route, A>, Refused>
+        ensures { IfOk result (λ routes. routes.items ≡ look_up_all addr (table_of self.now)) }
+    {
+        self.table.look_up_all(alloc, addr)
     }
 
     /// The routes in dump order, by base, then length, then preference, then feed, in memory of the allocator. M1:

@@ -1,6 +1,6 @@
 //! What holds of every set of routes and of every journal. Each function is a theorem: calling it makes its clause
 //! known, and it does nothing.
-ghost use Rattle.rt_rib.specs.Laws.{PutInAdds, TakeOutLeavesOthers, OneTableOfSet, LookUpFindsBest, TableByEntry, LawfulByEntry, LawfulIsDetermined, FeedsStandAlone};
+ghost use Rattle.rt_rib.specs.Laws.{PutInAdds, TakeOutLeavesOthers, OneTableOfSet, LookUpFindsBest, LookUpAllFindsMatches, TableByEntry, LawfulByEntry, LawfulIsDetermined, FeedsStandAlone};
 
 /// A table that a route is put into contains that route and what it contained.
 pub fn put_in_adds()
@@ -21,6 +21,12 @@ pub fn one_table_of_set()
 /// it, and no other route to that prefix is better. It finds none exactly where no prefix covers the address.
 pub fn look_up_finds_best()
     ensures { LookUpFindsBest }
+{}
+
+/// A look-up of all finds just the routes whose prefix covers the address, each before those that it beats, so it leaves
+/// none out and names none twice. The first of them is what a look-up finds.
+pub fn look_up_all_finds_matches()
+    ensures { LookUpAllFindsMatches }
 {}
 
 /// What a journal leaves is a table: the empty one before the first entry, and after each entry what its command leaves.

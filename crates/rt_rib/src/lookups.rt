@@ -1,14 +1,15 @@
-//! Look-ups in the map: of one address, or of many whose ways down are taken together.
-ghost use Rattle.std.specs.Prelude.{◌≡◌, ℕ, ◌+◌, ◌<◌, ◌≤◌, length, map};
+//! Look-ups in the map: of one address, of many whose ways down are taken together, or of all that covers an address.
+ghost use Rattle.std.specs.Prelude.{◌≡◌, ℕ, ◌+◌, ◌<◌, ◌≤◌, ◌++◌, length, map, reverse, IfOk, OnOk};
 ghost use Rattle.rt_cidr.specs.declared.address.Addr.{Addr};
 ghost use Rattle.rt_trie.specs.Map.{pair_copied, address_at, IsLongest};
-ghost use Rattle.rt_rib.specs.LookUp.{look_up};
-ghost use Rattle.rt_rib.specs.Maps.{Map, routes_of, IsMap};
+ghost use Rattle.rt_rib.specs.LookUp.{look_up, look_up_all};
+ghost use Rattle.rt_rib.specs.Maps.{Map, route_by, routes_of, IsMap};
 ghost use Rattle.rt_rib.specs.inside.Maps.{route_at};
 
 use crate::ahead::AHEAD;
 use crate::map::{Map, map_laws, route_by};
-use crate::offers::Offers;
+use crate::offers::{Offer, Offers};
+use crate::refused::Refused;
 use crate::routes::Route;
 use rt_cidr::{Addr, Prefix};
 use std::alloc::Allocator;
@@ -31,6 +32,50 @@ pub(crate) fn best_of<A: Allocator + Copy>(map: &Map<A>, addr: Addr) -> Option<R
     ensures { result ≡ look_up addr (routes_of map.now.pairs) }
 {
     best_at(map.longest(addr))
+}
+
+/// `best_of` of the address, and a last address up to which each has the same.
+pub(crate) fn best_until<A: Allocator + Copy>(map: &Map<A>, addr: Addr) -> (Option<Route>, Addr)
+    requires { IsMap map.now.pairs }
+    ensures onward { addr.0 ≤ result.1.0 }
+    ensures same { (b : Addr) → addr.0 ≤ b.0 → b.0 ≤ result.1.0 → look_up b (routes_of map.now.pairs) ≡ result.0 }
+{
+    (best_of(map, addr), addr)
+}
+
+/// The routes of all prefixes that cover the address, the best first.
+pub(crate) fn all_of<A: Allocator + Copy>(
+    map: &Map<A>,
+    alloc: A,
+    addr: Addr,
+) -> Result<Vec<Route, A>, Refused>
+    requires { IsMap map.now.pairs }
+    ensures { IfOk result (λ routes. routes.items ≡ look_up_all addr (routes_of map.now.pairs)) }
+{
+    map_laws::<A>();
+    let mut routes = Vec::new(alloc);
+    for (prefix, offers) in map.walk() {
+        if prefix.covers(addr) {
+            append_backward(&mut routes, prefix, offers.as_slice())?;
+        }
+    }
+    // On the way down the shortest prefix comes first, and it is to be the last.
+    routes.reverse();
+    Ok(routes)
+}
+
+/// Appends the routes that the offers make of a prefix, the worst first.
+fn append_backward<A: Allocator + Copy>(
+    routes: &mut Vec<Route, A>,
+    prefix: Prefix,
+    offers: &[Offer],
+) -> Result<(), Refused>
+    ensures { OnOk result (reverse routes.new.items ≡ map (route_by prefix) offers.now ++ reverse routes.old.items) }
+{
+    for k in (0..offers.len()).rev() {
+        routes.push(route_by(prefix, &offers[k]))?;
+    }
+    Ok(())
 }
 
 /// `best_of` of each address: the answers take the place of what stood in the list.

@@ -1,10 +1,11 @@
 //! The sequential table: its routes as offers in a map, how many each feed has, and the answers to commands.
-ghost use Rattle.std.specs.Prelude.{◌≡◌, ◌^◌, ◌<◌, [], length, map, sum, IfOk, OnErr};
+ghost use Rattle.std.specs.Prelude.{◌≡◌, ◌^◌, ◌<◌, ◌≤◌, [], length, map, sum, IfOk, OnErr};
+ghost use Rattle.rt_cidr.specs.declared.address.Addr.{Addr};
 ghost use Rattle.rt_rib.specs.declared.commands.Cmd.TheVariants.{Add, Replace, Withdraw, Purge};
 ghost use Rattle.rt_rib.specs.declared.commands.Reply.TheVariants.{Added};
 ghost use Rattle.rt_rib.specs.Sequential.{reply_of};
 ghost use Rattle.rt_rib.specs.Table.{IsTable};
-ghost use Rattle.rt_rib.specs.LookUp.{look_up};
+ghost use Rattle.rt_rib.specs.LookUp.{look_up, look_up_all};
 ghost use Rattle.rt_rib.specs.Book.{IsLimit, IsFeed, HoldsRoutes};
 ghost use Rattle.rt_rib.specs.inside.TableState.{table_state, Serves};
 
@@ -90,6 +91,21 @@ impl<A: Allocator + Copy> Table<A> {
         ensures { answers.new ≡ map (λ addr. look_up addr self.now.routes) addresses.now }
     {
         lookups::best_of_each(&self.map, addresses, answers);
+    }
+
+    /// The best route of the longest prefix that covers the address, and a last address up to which each has the same.
+    pub(crate) fn look_up_until(&self, addr: Addr) -> (Option<Route>, Addr)
+        ensures onward { addr.0 ≤ result.1.0 }
+        ensures same { (b : Addr) → addr.0 ≤ b.0 → b.0 ≤ result.1.0 → look_up b self.now.routes ≡ result.0 }
+    {
+        lookups::best_until(&self.map, addr)
+    }
+
+    /// The routes of all prefixes that cover the address, the best first.
+    pub(crate) fn look_up_all(&self, alloc: A, addr: Addr) -> Result<Vec<Route, A>, Refused>
+        ensures { IfOk result (λ routes. routes.items ≡ look_up_all addr self.now.routes) }
+    {
+        lookups::all_of(&self.map, alloc, addr)
     }
 
     /// Reads what the first few of the commands will go down to.

@@ -1,5 +1,5 @@
 -- The offers at a prefix, and the laws of a map that proofs use.
-use Rattle.std.specs.Prelude.{ℕ, List, [], Option, Some, None, slice_index_or}
+use Rattle.std.specs.Prelude.{ℕ, List, [], ◌∷◌, ◌++◌, Option, Some, None, map, slice_index_or}
 use Rattle.std.specs.List.{Contains}
 use Rattle.rt_cidr.specs.declared.prefixes.Prefix.{Prefix}
 use Rattle.rt_cidr.specs.Laws.{SamePrefix}
@@ -7,7 +7,7 @@ use Rattle.rt_trie.specs.Map.{get}
 use Rattle.rt_trie.specs.Laws.{PutIsSeen, EraseIsSeen, PutKeepsOrder, EraseKeepsOrder, PairsAreFound, MapHasOneList}
 use Rattle.rt_rib.specs.declared.routes.Route.{Route}
 use Rattle.rt_rib.specs.declared.offers.Offer.{Offer}
-use Rattle.rt_rib.specs.Maps.{Map}
+use Rattle.rt_rib.specs.Maps.{Map, route_by}
 
 -- what a route offers for its prefix
 abbrev pub offer_of : Route → Offer
@@ -25,6 +25,11 @@ offers_at m p = offers_in (get m p)
 -- the route at an index of the answers to look-ups, if there is one
 abbrev pub route_at : List (Option Route) → ℕ → Option Route
 route_at answers k = slice_index_or answers k None
+
+-- the routes of the map, those of its last prefix first, and each prefix's as they stand
+abbrev pub routes_backward : Map → List Route
+routes_backward [] = []
+routes_backward ((p, offers) ∷ rest) = routes_backward rest ++ map (route_by p) offers
 
 -- the map holds the route: what stands at its prefix contains what it offers
 abbrev pub HasRoute : Map → Route → Type 0
