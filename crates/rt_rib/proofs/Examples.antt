@@ -1,6 +1,6 @@
 -- Examples by which definitions are tested, each under a line with the definition's name. Both sides are computed, and
 -- what a relation or a law says is spelled out for some values.
-use Rattle.std.proofs.Common.{◌≡◌, ℕ, ◌+◌, Bool, true, false, if◌then◌else◌, Some, None, List, [], ◌∷◌, ◌++◌, refl, sym, subst, arith}
+use Rattle.std.proofs.Common.{◌≡◌, ℕ, ◌+◌, Bool, true, false, if◌then◌else◌, Some, None, inl, inr, List, [], ◌∷◌, ◌++◌, refl, ap, sym, subst, arith}
 use Rattle.std.proofs.lemmas.List.Elements.{All-nil, All-cons}
 use Rattle.std.proofs.lemmas.List.Kept.{AllPairs-cons}
 use Rattle.rt_cidr.specs.declared.address.Addr.{Addr}
@@ -19,17 +19,19 @@ use Rattle.rt_rib.specs.declared.offers.Offer.{Offer}
 use Rattle.rt_rib.specs.Offers.{outranks, is_from, IsRanked, IsOffers}
 use Rattle.rt_rib.specs.Maps.{Map, route_by, routes_of, IsMap}
 use Rattle.rt_rib.specs.Table.{below_then, is_of, has, count_of, is_better, precedes, put_in, take_out, purge, IsTable}
-use Rattle.rt_rib.specs.LookUp.{matching, longest_of, best, look_up, best_routes}
+use Rattle.rt_rib.specs.LookUp.{matching, longest_of, best, look_up, beats, ranking, look_up_all, best_routes}
 use Rattle.rt_rib.specs.Sequential.{reply_of, table_after}
 use Rattle.rt_rib.specs.Journal.{table_of_journal, IsAnswered, IsLawfulJournal}
 use Rattle.rt_rib.specs.Book.{IsLimit, BookContents, OfferTrie, table_of, HoldsRoutes, HoldsTable, IsFeed, Applies, Refuses, Reserves}
-use Rattle.rt_rib.specs.Laws.{IsBestMatch, is_own, feed_entries, PutInAdds, TakeOutLeavesOthers, OneTableOfSet, LookUpFindsBest, TableByEntry, LawfulByEntry, LawfulIsDetermined, asked, feed_routes, FeedsStandAlone}
+use Rattle.rt_rib.specs.Laws.{IsBestMatch, is_own, feed_entries, PutInAdds, TakeOutLeavesOthers, OneTableOfSet, LookUpFindsBest, AreMatches, LookUpAllFindsMatches, TableByEntry, LawfulByEntry, LawfulIsDetermined, asked, feed_routes, FeedsStandAlone}
 use Rattle.rt_rib.proofs.Tables.{IsTable-nil, IsTable-put_in}
+use Rattle.rt_rib.proofs.Sets.{Contains-cases, Contains-none}
 use Rattle.rt_rib.proofs.Best.{look_up_finds_best}
+use Rattle.rt_rib.proofs.Ranking.{look_up_all_finds_matches}
 use Rattle.rt_rib.proofs.OfferLists.{IsRanked-one}
 use Rattle.rt_rib.proofs.Journals.{IsTable-of_journal, IsLawfulJournal-nil, IsLawfulJournal-push}
-use Rattle.std.specs.Prelude.{◌↔◌, ◌⊎◌, ◌≤◌, ◌<◌, length}
-use Rattle.std.specs.List.{Contains}
+use Rattle.std.specs.Prelude.{◌↔◌, ◌⊎◌, ◌≤◌, ◌<◌, length, slice_get}
+use Rattle.std.specs.List.{AllPairs, Contains}
 use Rattle.rt_cidr.specs.Prefix.{covers}
 
 -- prefixes of the examples: all addresses, 128.0.0.0/1, 10.0.0.0/8, 10.0.0.0/16, 10.1.0.0/16, and the last address by itself
@@ -261,6 +263,53 @@ look_up_of_the_last_address = refl
 look_up_finds_nothing_where_nothing_covers : look_up at_198_51_100_7 (route ten_8 1 5 ∷ route last_32 1 9 ∷ []) ≡ None
 unfolding look_up
 look_up_finds_nothing_where_nothing_covers = refl
+
+-- beats
+a_longer_prefix_beats : beats (route ten_8 2 30) (route everything 1 0) ≡ true
+a_longer_prefix_beats = refl
+
+a_shorter_prefix_does_not_beat : beats (route everything 1 0) (route ten_8 2 30) ≡ false
+a_shorter_prefix_does_not_beat = refl
+
+of_one_length_the_better_beats : beats (route ten_8 2 30) (route ten_8 1 50) ≡ true
+of_one_length_the_better_beats = refl
+
+nothing_beats_itself : beats (route ten_8 1 5) (route ten_8 1 5) ≡ false
+nothing_beats_itself = refl
+
+-- ranking
+ranking_of_what_stands_in_any_order :
+    ranking (route ten_8 1 50 ∷ route ten_1_16 1 100 ∷ route ten_8 2 30 ∷ route everything 1 0 ∷ [])
+    ≡ route ten_1_16 1 100 ∷ route ten_8 2 30 ∷ route ten_8 1 50 ∷ route everything 1 0 ∷ []
+ranking_of_what_stands_in_any_order = refl
+
+ranking_of_a_tie_begins_with_the_least_feed : ranking (route ten_8 64 30 ∷ route ten_8 2 30 ∷ []) ≡ route ten_8 2 30 ∷ route ten_8 64 30 ∷ []
+ranking_of_a_tie_begins_with_the_least_feed = refl
+
+ranking_of_none_is_none : ranking [] ≡ []
+ranking_of_none_is_none = refl
+
+-- look_up_all
+look_up_all_ends_with_the_default : look_up_all at_10_1_2_3 nested ≡ route ten_1_16 1 100 ∷ route ten_8 1 100 ∷ route everything 1 200 ∷ []
+unfolding look_up_all
+look_up_all_ends_with_the_default = refl
+
+look_up_all_leaves_out_what_does_not_cover : look_up_all at_10_2_3_4 nested ≡ route ten_8 1 100 ∷ route everything 1 200 ∷ []
+unfolding look_up_all
+look_up_all_leaves_out_what_does_not_cover = refl
+
+look_up_all_goes_by_preference_before_feed :
+    look_up_all at_10_2_3_4 (route ten_8 2 30 ∷ route ten_8 64 30 ∷ route ten_8 1 50 ∷ []) ≡ route ten_8 2 30 ∷ route ten_8 64 30 ∷ route ten_8 1 50 ∷ []
+unfolding look_up_all
+look_up_all_goes_by_preference_before_feed = refl
+
+look_up_all_of_the_last_address : look_up_all at_last (route everything 1 5 ∷ route last_32 1 9 ∷ []) ≡ route last_32 1 9 ∷ route everything 1 5 ∷ []
+unfolding look_up_all
+look_up_all_of_the_last_address = refl
+
+look_up_all_finds_nothing_where_nothing_covers : look_up_all at_198_51_100_7 (route ten_8 1 5 ∷ route last_32 1 9 ∷ []) ≡ []
+unfolding look_up_all
+look_up_all_finds_nothing_where_nothing_covers = refl
 
 -- best_routes
 best_routes_leaves_one_of_each_prefix :
@@ -682,6 +731,37 @@ what_is_found_is_the_best_match :
     → ((r : Route) → (look_up at_last table ≡ Some r) ↔ IsBestMatch at_last table r)
     × ((look_up at_last table ≡ None) ↔ ((s : Route) → Contains table s → covers s.prefix at_last ≡ false))
 what_is_found_is_the_best_match law = law at_last
+
+-- AreMatches
+what_covers_in_order_are_the_matches : AreMatches at_10_2_3_4 (route ten_8 2 30 ∷ []) (route ten_8 2 30 ∷ [])
+unfolding look_up_all
+what_covers_in_order_are_the_matches =
+    let both = (look_up_all_finds_matches at_10_2_3_4 (put_in (route ten_8 2 30) []) (IsTable-put_in (route ten_8 2 30) [] refl IsTable-nil)).0 (route ten_8 2 30 ∷ []) in both.0 refl
+
+matches_leave_nothing_out : ¬ AreMatches at_10_2_3_4 nested (route ten_8 1 100 ∷ [])
+matches_leave_nothing_out h = elim (Contains-cases (route ten_8 1 100) [] (route everything 1 200) ((h.exactly (route everything 1 200)).1 ((0, omega arith, refl), refl))) [
+  | inl same ↦ let beaten = ap (λ r. beats r (route everything 1 200)) same in cc
+  | inr none ↦ Contains-none (route everything 1 200) none
+]
+
+matches_cover_the_address : ¬ AreMatches at_198_51_100_7 (route ten_8 1 5 ∷ []) (route ten_8 1 5 ∷ [])
+matches_cover_the_address h = let covered = ((h.exactly (route ten_8 1 5)).0 (0, omega arith, refl)).1 in cc
+
+matches_begin_with_the_longest : ¬ AreMatches at_10_2_3_4 nested (route everything 1 200 ∷ route ten_8 1 100 ∷ [])
+matches_begin_with_the_longest h = let order = h.ordered 0 1 (route ten_8 1 100) (omega arith) (omega arith) in cc
+
+what_matches_are :
+    (table matches : List Route) → AreMatches at_10_1_2_3 table matches
+    → ((r : Route) → Contains matches r ↔ (Contains table r × (covers r.prefix at_10_1_2_3 ≡ true)))
+    × AllPairs (λ r s. beats r s ≡ true) matches
+what_matches_are table matches h = (h.exactly, h.ordered)
+
+-- LookUpAllFindsMatches
+all_that_is_found_are_the_matches :
+    LookUpAllFindsMatches → (table : List Route) → IsTable table
+    → ((matches : List Route) → (look_up_all at_last table ≡ matches) ↔ AreMatches at_last table matches)
+    × (slice_get (look_up_all at_last table) 0 ≡ look_up at_last table)
+all_that_is_found_are_the_matches law = law at_last
 
 -- TableByEntry
 by_one_entry_more :
