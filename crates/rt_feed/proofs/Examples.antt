@@ -31,7 +31,7 @@ use Rattle.rt_feed.specs.Versions.{TellsTwo, IsBody, IsVersion}
 use Rattle.rt_feed.specs.LineOutcomes.{LineOutcome, skipped, faulty, asked, reading, heading, LinesBecome, Becomes, line_answer, answer_of, numbered, report_lines, asked_by, asked_of}
 use Rattle.rt_feed.specs.Reports.{is_refusal, is_fault, NumbersRise, has_refusal, has_fault}
 use Rattle.rt_feed.specs.Visits.{visit_of, reply_to, entries, concatenated, piece_of, IsCut, Visit, Gains, AnswersBatch}
-use Rattle.rt_feed.specs.Printed.{hop_text, route_text, reply_text, fault_text, answer_text, line_text, report_text, row_text, count_text, rows_text, table_text, found_text}
+use Rattle.rt_feed.specs.Printed.{hop_text, route_text, reply_text, fault_text, answer_text, line_text, report_text, row_text, count_text, rows_text, table_text, found_text, reason_text, also_text, all_found_text}
 use Rattle.std.specs.Prelude.{◌↔◌, ◌⊎◌, ◌<◌, ◌≤◌, ◌-◌, ◌^◌, ◌%◌, Option, IsSome, MatchOption, AllPairs, decimal, zip}
 use Rattle.rt_cidr.specs.declared.prefixes.Prefix.{Prefix}
 use Rattle.rt_rib.specs.declared.routes.Hop.{Hop}
@@ -836,6 +836,38 @@ a_route_was_found = rw (written_10_0_0_0_8, written_1, written_100, written_192_
 no_route_was_found : found_text at_192_0_2_1 None ≡ codes "192.0.2.1 no route\n"
 unfolding found_text reply_text
 no_route_was_found = rw written_192_0_2_1 refl
+
+-- reason_text
+each_step_has_its_reason :
+    (reason_text (route_via ten_1_16 1 10 Discard) (route_via ten_8 1 10 Discard) ≡ codes "shorter")
+    × (reason_text (route_via ten_8 1 10 Discard) (route_via ten_8 1 30 Discard) ≡ codes "preference")
+    × (reason_text (route_via ten_8 1 10 Discard) (route_via ten_8 2 10 Discard) ≡ codes "feed")
+unfolding reason_text
+each_step_has_its_reason = (refl, refl, refl)
+
+the_first_step_that_differs :
+    (reason_text (route_via ten_1_16 2 30 Discard) (route_via ten_8 1 10 Discard) ≡ codes "shorter")
+    × (reason_text (route_via ten_8 2 10 Discard) (route_via ten_8 1 30 Discard) ≡ codes "preference")
+unfolding reason_text
+the_first_step_that_differs = (refl, refl)
+
+-- also_text
+a_route_left_behind :
+    also_text at_10_1_2_3 (route_via ten_1_16 1 10 (via_192_0_2 1)) (route_via ten_8 2 30 (via_192_0_2 2))
+    ≡ codes "10.1.2.3 also 10.0.0.0/8 feed 2 pref 30 via 192.0.2.2 shorter\n"
+unfolding also_text reason_text route_text
+a_route_left_behind = rw (written_10_1_2_3, written_10_0_0_0_8, written_192_0_2_2, written_2, written_30) refl
+
+-- all_found_text
+nothing_covers_it : all_found_text at_192_0_2_1 [] ≡ codes "192.0.2.1 no route\n"
+unfolding found_text reply_text
+nothing_covers_it = rw written_192_0_2_1 refl
+
+three_cover_it :
+    all_found_text at_10_1_2_3 (route_via ten_1_16 1 10 (via_192_0_2 1) ∷ route_via ten_8 2 30 (via_192_0_2 2) ∷ route_via ten_8 1 50 Discard ∷ [])
+    ≡ codes "10.1.2.3 route 10.1.0.0/16 feed 1 pref 10 via 192.0.2.1\n10.1.2.3 also 10.0.0.0/8 feed 2 pref 30 via 192.0.2.2 shorter\n10.1.2.3 also 10.0.0.0/8 feed 1 pref 50 via discard shorter\n"
+unfolding found_text also_text reason_text reply_text route_text
+three_cover_it = rw (written_10_1_2_3, written_10_1_0_0_16, written_10_0_0_0_8, written_192_0_2_1, written_192_0_2_2, written_1, written_2, written_10, written_30, written_50) refl
 
 -- LineHasOneAnswer
 one_answer_of_version_2 :

@@ -4,6 +4,7 @@ use Rattle.std.proofs.Math.Seq.{split_at, take-suc}
 use Rattle.std.specs.List.{flat_map}
 use Rattle.std.specs.Option.{option_map_or}
 use Rattle.std.proofs.lemmas.Grind.{flat_map-append}
+use Rattle.std.proofs.lemmas.Bool.Decides.{nat_tests}
 use Rattle.std.specs.Io.KnownBytes.{Appends}
 use Rattle.rt_cidr.specs.declared.address.Addr.{Addr}
 use Rattle.rt_cidr.specs.Output.{AppendsBeginning}
@@ -19,7 +20,7 @@ use Rattle.rt_feed.specs.declared.parse.LineFault.TheVariants as fault
 use Rattle.rt_feed.specs.declared.report.Line.{Line}
 use Rattle.rt_feed.specs.declared.report.Answer.{Answer}
 use Rattle.rt_feed.specs.declared.report.Answer.TheVariants.{Did, Refused, Fault}
-use Rattle.rt_feed.specs.Printed.{hop_text, route_text, reply_text, fault_text, answer_text, line_text, row_text, count_text, found_text}
+use Rattle.rt_feed.specs.Printed.{hop_text, route_text, reply_text, fault_text, answer_text, line_text, row_text, count_text, found_text, reason_text, also_text}
 
 pub hop_fits : (hop : Hop) → length (hop_text hop) ≤ 15
 hop_fits (Via address) = length-address_text address.0
@@ -85,6 +86,18 @@ unfolding found_text
 found_fits addr found =
     let address = length-address_text addr.0 in
     let answer = reply_fits (option_map_or Found found NoRoute) in
+    simp length-append (omega arith)
+
+reason_fits : (first r : Route) → length (reason_text first r) ≤ 10
+unfolding reason_text
+reason_fits first r = grind (arith, nat_tests)
+
+pub also_fits : (addr : Addr) (first r : Route) → length (also_text addr first r) ≤ 400
+unfolding also_text
+also_fits addr first r =
+    let address = length-address_text addr.0 in
+    let route = route_fits r in
+    let reason = reason_fits first r in
     simp length-append (omega arith)
 
 -- a fault within one of several texts after a first one leaves a beginning of them all

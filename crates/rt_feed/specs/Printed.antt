@@ -1,5 +1,5 @@
 -- The texts that are written: routes, answers, the lines of a report, the table, what look-ups found.
-use Rattle.std.specs.Prelude.{ℕ, List, ◌++◌, length, codes, decimal, Option}
+use Rattle.std.specs.Prelude.{ℕ, nat_lt, if◌then◌else◌, List, [], ◌∷◌, ◌++◌, length, codes, decimal, Option, Some, None}
 use Rattle.std.specs.List.{flat_map}
 use Rattle.std.specs.Option.{option_map_or}
 use Rattle.rt_cidr.specs.declared.address.Addr.{Addr}
@@ -85,3 +85,19 @@ table_text routes = count_text (length routes) ++ rows_text routes
 unfoldable pub found_text : Addr → Option Route → List ℕ
 found_text addr found =
     address_text addr.0 ++ (codes " " ++ (reply_text (option_map_or Found found NoRoute) ++ codes "\n"))
+
+-- why the route was left behind the first one: its prefix is shorter, else its preference is greater, else its feed is
+unfoldable pub reason_text : Route → Route → List ℕ
+reason_text first r =
+    if nat_lt r.prefix.len first.prefix.len then codes "shorter"
+    else if nat_lt first.pref r.pref then codes "preference" else codes "feed"
+
+-- the address that was looked up, `also`, and a route that covers it behind the first one, with the reason
+unfoldable pub also_text : Addr → Route → Route → List ℕ
+also_text addr first r =
+    address_text addr.0 ++ (codes " also " ++ (route_text r ++ (codes " " ++ (reason_text first r ++ codes "\n"))))
+
+-- all routes that were found, the best first: it as by a look-up, and then the others in order
+abbrev pub all_found_text : Addr → List Route → List ℕ
+all_found_text addr [] = found_text addr None
+all_found_text addr (first ∷ others) = found_text addr (Some first) ++ flat_map (also_text addr first) others

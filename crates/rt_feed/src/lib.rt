@@ -42,7 +42,7 @@ pub use feeds::{Feed, run_feeds};
 pub use gates::Gate;
 pub use lines::next_line;
 pub use parse::{LINE_BYTES, LineFault, parse_line};
-pub use print::{write_found, write_report, write_rows, write_table};
+pub use print::{write_all_found, write_found, write_report, write_rows, write_table};
 pub use report::{Answer, Line, Report};
 pub use rt_shared::Outcome;
 pub use running::run_feed;

@@ -1,9 +1,10 @@
 //! Reports, the table and what look-ups found, as text. Each line is built in a short text, and goes to the writer at once.
 ghost use Rattle.std.specs.Prelude.{◌≡◌, ◌++◌, [], IsOk, OnOk, OnErr};
+ghost use Rattle.std.specs.List.{flat_map};
 ghost use Rattle.std.specs.Io.KnownBytes.{Appends};
 ghost use Rattle.rt_cidr.specs.Output.{AppendsBeginning};
 ghost use Rattle.rt_cidr.specs.ShortText.{FitsInShortText};
-ghost use Rattle.rt_feed.specs.Printed.{hop_text, route_text, reply_text, fault_text, answer_text, line_text, report_text, row_text, rows_text, count_text, table_text, found_text};
+ghost use Rattle.rt_feed.specs.Printed.{hop_text, route_text, reply_text, fault_text, answer_text, line_text, report_text, row_text, rows_text, count_text, table_text, found_text, reason_text, also_text, all_found_text};
 
 use crate::parse::LineFault;
 use crate::report::{Answer, Line, Report};
@@ -99,6 +100,57 @@ pub fn write_found<W: Write>(w: &mut W, addr: Addr, found: Option<Route>) -> Res
     put(w, text.as_bytes())
 }
 
+/// Writes all routes that cover the address, which come best first: for the first one the line that `write_found` writes, and
+/// for each further one `ADDR also PREFIX feed F pref P via HOP REASON` and LF, where the reason tells at which step it was
+/// left behind the first (RFC 1812, section 5.2.4.3): `shorter`, of a shorter prefix; of those as long `preference`, of a
+/// greater one; and of those equal in both `feed`. Of no route it writes `ADDR no route` and LF. A fault is the writer's, as
+/// `put` hands it on; what was written is then a beginning of that text. Takes no memory, and calls the writer as
+/// `write_report` does.
+pub fn write_all_found<W: Write>(w: &mut W, addr: Addr, found: &[Route]) -> Result<(), io::Error>
+    ensures ok { OnOk result (Appends (W.contents w.old) (W.contents w.new) (all_found_text addr found.now)) }
+    ensures err { OnErr result (AppendsBeginning (W.contents w.old) (W.contents w.new) (all_found_text addr found.now)) }
+{
+    let Some((first, others)) = found.split_first() else {
+        return write_found(w, addr, None);
+    };
+    write_found(w, addr, Some(*first))?;
+    write_others(w, addr, first, others)
+}
+
+/// Writes the routes that were left behind the first one, each on a line with the reason.
+fn write_others<W: Write>(
+    w: &mut W,
+    addr: Addr,
+    first: &Route,
+    others: &[Route],
+) -> Result<(), io::Error>
+    ensures ok { OnOk result (Appends (W.contents w.old) (W.contents w.new) (flat_map (also_text addr first.now) others.now)) }
+    ensures err { OnErr result (AppendsBeginning (W.contents w.old) (W.contents w.new) (flat_map (also_text addr first.now) others.now)) }
+{
+    let mut text = ShortText::new();
+    for route in others {
+        put_other(w, &mut text, addr, first, route)?;
+    }
+    Ok(())
+}
+
+/// Writes one route that was left behind the first one. `text` is where it is rendered.
+#[tactic(auto, using(crate::proofs::Printing::also_fits))]
+fn put_other<W: Write>(
+    w: &mut W,
+    text: &mut ShortText,
+    addr: Addr,
+    first: &Route,
+    route: &Route,
+) -> Result<(), io::Error>
+    ensures ok { OnOk result (Appends (W.contents w.old) (W.contents w.new) (also_text addr first.now route.now)) }
+    ensures err { OnErr result (AppendsBeginning (W.contents w.old) (W.contents w.new) (also_text addr first.now route.now)) }
+{
+    text.clear();
+    prepend_also(text, addr, first, route);
+    put(w, text.as_bytes())
+}
+
 // Each function below puts its text in front.
 
 /// One line of a report, with its LF.
@@ -149,6 +201,20 @@ fn prepend_found(text: &mut ShortText, addr: Addr, found: Option<Route>)
     }
     text.prepend(b" ");
     addr.prepend_to(text);
+}
+
+/// A route that was left behind the first one, and why, with its LF.
+#[tactic(auto, using(rt_cidr::proofs::Promised::prepending), unfolding(crate::specs::Printed::also_text))]
+fn prepend_also(text: &mut ShortText, address: Addr, first: &Route, route: &Route)
+    requires room { FitsInShortText (also_text address first.now route.now) text.old }
+    ensures { text.new ≡ also_text address first.now route.now ++ text.old }
+{
+    text.prepend(b"\n");
+    text.prepend(reason_word(first, route));
+    text.prepend(b" ");
+    prepend_route(text, route);
+    text.prepend(b" also ");
+    address.prepend_to(text);
 }
 
 /// What a line was answered.
@@ -215,6 +281,20 @@ fn prepend_hop(text: &mut ShortText, hop: Hop)
     match hop {
         Hop::Via(address) => address.prepend_to(text),
         Hop::Discard => text.prepend(b"discard"),
+    }
+}
+
+/// At which step the route was left behind the first one.
+#[tactic(auto, unfolding(crate::specs::Printed::reason_text))]
+fn reason_word(first: &Route, route: &Route) -> &'static [u8]
+    ensures { result.now ≡ reason_text first.now route.now }
+{
+    if route.prefix.len() < first.prefix.len() {
+        b"shorter"
+    } else if route.pref > first.pref {
+        b"preference"
+    } else {
+        b"feed"
     }
 }
 

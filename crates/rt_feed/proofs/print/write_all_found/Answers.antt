@@ -1,0 +1,13 @@
+use Rattle.std.proofs.Common.{◌≡◌, ◌∷◌, rules}
+use Rattle.std.specs.List.{flat_map}
+use Rattle.std.proofs.lemmas.Result.{on_err_weaker}
+use Rattle.rt_cidr.proofs.Promised.{begins_after}
+use Rattle.rt_feed.specs.Printed.{also_text}
+use Rattle.rt_feed.proofs.print.write_all_found.Goals as goal
+
+pub returns-clause-err : goal.returns-clause-err
+returns-clause-err g c =
+    let cut : c.args.found.now ≡ c.in-Some.first.now ∷ c.in-Some.others.now = search rules in
+    let others = flat_map (also_text c.args.addr c.in-Some.first.now) c.in-Some.others.now in
+    rw cut
+    (on_err_weaker c.write_others.result (begins_after _ _ _ _ others c.in_ok-write_found.ensures.ok) c.write_others.ensures.err)
