@@ -14,7 +14,6 @@ use rt_run::{AppFault, MOST_TEXTS, replay_text, run_texts};
 pub use screen::Line;
 use screen::Screen;
 pub(crate) use screen::Stage;
-use showing::{show_answers, show_routes};
 use std::alloc::Global;
 use std::fs;
 use std::io::Write;
@@ -50,106 +49,103 @@ where
     O: Write,
     E: Write,
 {
-    let mut screen = Screen::new(rt, line, err);
-    let status = match carry_out(rt, alloc, words, out, &mut screen) {
+    let mut program = Program::new(rt, alloc, line, out, err);
+    let status = match program.carry_out(words) {
         Ok(status) => status,
-        Err(stop) => stop.end(&mut screen),
+        Err(stop) => stop.end(&mut program.screen),
     };
-    screen.end();
+    program.screen.end();
     status
 }
 
-fn carry_out<'a, R, O, E>(
-    rt: &R,
+/// What the program works with: the system, its memory, and both outputs.
+#[derive(Drop)]
+struct Program<'a, R, O, E> {
+    rt: &'a R,
     alloc: Global,
-    words: &'a [String],
-    out: &mut O,
-    screen: &mut Screen<'_, R, E>,
-) -> Result<u8, Stop<'a>>
+    out: &'a mut O,
+    screen: Screen<'a, R, E>,
+}
+
+impl<'a, R, O, E> Program<'a, R, O, E>
 where
     R: Files + Threads + Wait + Sync + AllocGlobal,
     O: Write,
     E: Write,
 {
-    match command_line::read(alloc, words) {
-        Ok(Request::Run(asked)) => run_files(rt, alloc, &asked, out, screen),
-        Ok(Request::Lookup(asked)) => show_answers(rt, alloc, &asked, out, screen),
-        Ok(Request::Table(asked)) => show_routes(rt, alloc, &asked, out, screen),
-        Ok(Request::Replay(asked)) => show_replay(alloc, &asked, out),
-        Err(Refusal::Shown(text)) => shown(text.as_bytes(), out),
-        Err(Refusal::Misused(text)) => Err(Stop::Misused(text)),
-        Err(Refusal::Memory) => Err(NO_MEMORY),
+    fn new(
+        rt: &'a R,
+        alloc: Global,
+        line: &'a Line,
+        out: &'a mut O,
+        err: &'a mut E,
+    ) -> Program<'a, R, O, E> {
+        let screen = Screen::new(rt, line, err);
+        Program {
+            rt,
+            alloc,
+            out,
+            screen,
+        }
     }
-}
 
-fn run_files<'a, R, O, E>(
-    rt: &R,
-    alloc: Global,
-    asked: &RunRequest<'a>,
-    out: &mut O,
-    screen: &mut Screen<'_, R, E>,
-) -> Result<u8, Stop<'a>>
-where
-    R: Files + Threads + Wait + Sync + AllocGlobal,
-    O: Write,
-    E: Write,
-{
-    let texts = read_feeds(rt, alloc, asked, screen)?;
-    let batch = asked.batch as usize;
-    let mut out = screen.beside(texts.len(), out);
-    Ok(run_texts(rt, alloc, texts.as_slice(), asked.limit, batch, &mut out)?)
-}
-
-fn show_replay<'a, O: Write>(
-    alloc: Global,
-    asked: &ReplayRequest,
-    out: &mut O,
-) -> Result<u8, Stop<'a>> {
-    Ok(replay_text(alloc, asked.levels, asked.picks.as_slice(), out)?)
-}
-
-fn shown<'a, O: Write>(text: &[u8], out: &mut O) -> Result<u8, Stop<'a>> {
-    match put(out, text) {
-        Ok(()) => Ok(0),
-        Err(_) => Err(Stop::Fault(AppFault::Write)),
+    fn carry_out<'w>(&mut self, words: &'w [String]) -> Result<u8, Stop<'w>> {
+        match command_line::read(self.alloc, words) {
+            Ok(Request::Run(asked)) => self.run_files(&asked),
+            Ok(Request::Lookup(asked)) => self.show_answers(&asked),
+            Ok(Request::Table(asked)) => self.show_routes(&asked),
+            Ok(Request::Replay(asked)) => self.show_replay(&asked),
+            Err(Refusal::Shown(text)) => self.show_text(text.as_bytes()),
+            Err(Refusal::Misused(text)) => Err(Stop::Misused(text)),
+            Err(Refusal::Memory) => Err(NO_MEMORY),
+        }
     }
-}
 
-/// The texts of the feed files, of which none is read where there are more than a run takes.
-fn read_feeds<'a, R: Files + Wait + AllocGlobal, E: Write>(
-    rt: &R,
-    alloc: Global,
-    asked: &RunRequest<'a>,
-    screen: &mut Screen<'_, R, E>,
-) -> Result<Vec<Vec<u8>>, Stop<'a>>
-    ensures { IfOk result (λ texts. vec_len texts ≤ MOST_FEEDS) }
-{
-    if asked.files.len() > MOST_TEXTS {
-        return Err(Stop::TooMany);
+    fn run_files<'w>(&mut self, asked: &RunRequest<'w>) -> Result<u8, Stop<'w>> {
+        let texts = self.read_feeds(asked)?;
+        let (texts, batch) = (texts.as_slice(), asked.batch as usize);
+        let mut out = self.screen.beside(texts.len(), self.out);
+        Ok(run_texts(self.rt, self.alloc, texts, asked.limit, batch, &mut out)?)
     }
-    read_files(rt, alloc, asked.files.as_slice(), screen)
-}
 
-fn read_files<'a, R: Files + Wait + AllocGlobal, E: Write>(
-    rt: &R,
-    alloc: Global,
-    names: &[&'a str],
-    screen: &mut Screen<'_, R, E>,
-) -> Result<Vec<Vec<u8>>, Stop<'a>>
-    ensures { IfOk result (λ texts. vec_len texts ≡ length names.entry.now) }
-{
-    let mut texts = Vec::new(alloc);
-    for name in names {
-        screen.set(Stage::Reading(texts.len(), names.len()));
-        texts.push(read_file(rt, name)?)?;
+    fn show_replay<'w>(&mut self, asked: &ReplayRequest) -> Result<u8, Stop<'w>> {
+        let picks = asked.picks.as_slice();
+        Ok(replay_text(self.alloc, asked.levels, picks, self.out)?)
     }
-    Ok(texts)
-}
 
-fn read_file<'a, R: Files + AllocGlobal>(rt: &R, name: &'a str) -> Result<Vec<u8>, Stop<'a>> {
-    match fs::read(rt, name) {
-        Ok(text) => Ok(text),
-        Err(fault) => Err(Stop::of_file(name, &fault)),
+    fn show_text<'w>(&mut self, text: &[u8]) -> Result<u8, Stop<'w>> {
+        match put(self.out, text) {
+            Ok(()) => Ok(0),
+            Err(_) => Err(Stop::Fault(AppFault::Write)),
+        }
+    }
+
+    /// The texts of the feed files, of which none is read where there are more than a run takes.
+    fn read_feeds<'w>(&mut self, asked: &RunRequest<'w>) -> Result<Vec<Vec<u8>>, Stop<'w>>
+        ensures { IfOk result (λ texts. vec_len texts ≤ MOST_FEEDS) }
+    {
+        if asked.files.len() > MOST_TEXTS {
+            return Err(Stop::TooMany);
+        }
+        self.read_files(asked.files.as_slice())
+    }
+
+    fn read_files<'w>(&mut self, names: &[&'w str]) -> Result<Vec<Vec<u8>>, Stop<'w>>
+        ensures { IfOk result (λ texts. vec_len texts ≡ length names.entry.now) }
+    {
+        let mut texts = Vec::new(self.alloc);
+        for name in names {
+            self.screen.set(Stage::Reading(texts.len(), names.len()));
+            texts.push(self.read_file(name)?)?;
+        }
+        Ok(texts)
+    }
+
+    fn read_file<'w>(&self, name: &'w str) -> Result<Vec<u8>, Stop<'w>> {
+        match fs::read(self.rt, name) {
+            Ok(text) => Ok(text),
+            Err(fault) => Err(Stop::of_file(name, &fault)),
+        }
     }
 }
 

@@ -1,8 +1,7 @@
 //! `lookup` and `table`: what the table says that feed files leave, and what of the files was not taken.
 
-use super::screen::Screen;
 use super::telling::{FaultyLines, tell_faulty, tell_tally};
-use super::{Stop, read_feeds, read_file};
+use super::{Program, Stop};
 use command_line::{LookupRequest, TableRequest};
 use rt_cidr::Addr;
 use rt_feed::{next_line, parse_address_line};
@@ -20,76 +19,56 @@ struct Addresses {
     faulty: FaultyLines,
 }
 
-/// Answers for each address that the command line names, and then for each of their file.
-pub(super) fn show_answers<'a, R, O, E>(
-    rt: &R,
-    alloc: Global,
-    request: &LookupRequest<'a>,
-    out: &mut O,
-    screen: &mut Screen<'_, R, E>,
-) -> Result<u8, Stop<'a>>
+impl<R, O, E> Program<'_, R, O, E>
 where
     R: Files + Threads + Wait + Sync + AllocGlobal,
     O: Write,
     E: Write,
 {
-    let run = &request.run;
-    let mut addresses = named_addresses(alloc, request)?;
-    let texts = read_feeds(rt, alloc, run, screen)?;
-    if let Some(name) = request.more {
-        let text = read_file(rt, name)?;
-        add_addresses(text.as_slice(), &mut addresses)?;
+    /// Answers for each address that the command line names, and then for each of their file.
+    pub(super) fn show_answers<'w>(&mut self, request: &LookupRequest<'w>) -> Result<u8, Stop<'w>> {
+        let run = &request.run;
+        let mut addresses = named_addresses(self.alloc, request)?;
+        let texts = self.read_feeds(run)?;
+        if let Some(name) = request.more {
+            let text = self.read_file(name)?;
+            add_addresses(text.as_slice(), &mut addresses)?;
+        }
+        let taken = lookup_texts(
+            self.rt,
+            self.alloc,
+            texts.as_slice(),
+            run.limit,
+            run.batch as usize,
+            addresses.asked.as_slice(),
+            &mut self.screen.beside(texts.len(), self.out),
+        )?;
+        if let Some(name) = request.more {
+            tell_faulty(&mut self.screen, name, addresses.faulty);
+        }
+        let status = tell_taken(&mut self.screen, run.files.as_slice(), &taken);
+        Ok(if status == 0 && addresses.faulty.count > 0 {
+            NOT_TAKEN
+        } else {
+            status
+        })
     }
-    let batch = run.batch as usize;
-    let mut out = screen.beside(texts.len(), out);
-    let taken = lookup_texts(
-        rt,
-        alloc,
-        texts.as_slice(),
-        run.limit,
-        batch,
-        addresses.asked.as_slice(),
-        &mut out,
-    )?;
-    if let Some(name) = request.more {
-        tell_faulty(screen, name, addresses.faulty);
-    }
-    let status = tell_taken(screen, run.files.as_slice(), &taken);
-    Ok(if status == 0 && addresses.faulty.count > 0 {
-        NOT_TAKEN
-    } else {
-        status
-    })
-}
 
-/// Lists the routes, or only the best of each prefix.
-pub(super) fn show_routes<'a, R, O, E>(
-    rt: &R,
-    alloc: Global,
-    request: &TableRequest<'a>,
-    out: &mut O,
-    screen: &mut Screen<'_, R, E>,
-) -> Result<u8, Stop<'a>>
-where
-    R: Files + Threads + Wait + Sync + AllocGlobal,
-    O: Write,
-    E: Write,
-{
-    let run = &request.run;
-    let texts = read_feeds(rt, alloc, run, screen)?;
-    let batch = run.batch as usize;
-    let best = request.only_best;
-    let mut out = screen.beside(texts.len(), out);
-    let taken = table_texts(
-        rt,
-        alloc,
-        texts.as_slice(),
-        run.limit,
-        batch,
-        best,
-        &mut out,
-    )?;
-    Ok(tell_taken(screen, run.files.as_slice(), &taken))
+    /// Lists the routes, or only the best of each prefix.
+    pub(super) fn show_routes<'w>(&mut self, request: &TableRequest<'w>) -> Result<u8, Stop<'w>> {
+        let run = &request.run;
+        let texts = self.read_feeds(run)?;
+        let taken = table_texts(
+            self.rt,
+            self.alloc,
+            texts.as_slice(),
+            run.limit,
+            run.batch as usize,
+            request.only_best,
+            &mut self.screen.beside(texts.len(), self.out),
+        )?;
+        Ok(tell_taken(&mut self.screen, run.files.as_slice(), &taken))
+    }
 }
 
 /// Tells of each file what was not taken, and gives the status.
