@@ -1,6 +1,8 @@
--- The answers of look-ups, written piece by piece: those of the addresses so far, and then those of the rest.
-use Rattle.std.proofs.Common.{◌≡◌, ℕ, ◌<◌, List, ◌++◌, Option, length, map, take, get_or, append_assoc, refl, sym, ap, subst, ◌∙◌}
+-- The answers of look-ups, written piece by piece: those of the addresses so far, and then those of the rest; and all that is
+-- found for each address, gathered one by one.
+use Rattle.std.proofs.Common.{◌≡◌, ℕ, ◌+◌, ◌<◌, List, [], ◌∷◌, ◌++◌, Option, length, map, take, get_or, append_assoc, add-one, refl, sym, ap, subst, ◌∙◌}
 use Rattle.std.specs.List.{flat_map}
+use Rattle.std.proofs.Math.Seq.{take-suc}
 use Rattle.std.proofs.lemmas.List.{get_or-map, get_or_default}
 use Rattle.std.proofs.lemmas.Grind.{flat_map-append}
 use Rattle.std.specs.Io.KnownBytes.{Appends}
@@ -8,9 +10,11 @@ use Rattle.rt_cidr.specs.declared.address.Addr.{Addr}
 use Rattle.rt_cidr.specs.Output.{AppendsBeginning}
 use Rattle.rt_cidr.proofs.Promised.{begins_after, begins_longer}
 use Rattle.rt_rib.specs.declared.routes.Route.{Route}
-use Rattle.rt_rib.specs.LookUp.{look_up}
-use Rattle.rt_feed.specs.Printed.{found_text}
-use Rattle.rt_run.specs.TableText.{answers_text}
+use Rattle.rt_rib.specs.LookUp.{look_up, look_up_all}
+use Rattle.rt_feed.specs.Printed.{found_text, all_found_text}
+use Rattle.rt_run.specs.declared.output.Matches.{Matches}
+use Rattle.rt_run.specs.TableText.{answers_text, all_answers_text}
+use Rattle.rt_run.specs.inside.Outputs.{matches_text}
 use Rattle.ya_replay.proofs.Promised.{begins_all}
 
 module _ (table : List Route) (all rest piece behind : List Addr) (text : List ℕ)
@@ -43,3 +47,18 @@ module _ (table : List Route) (piece : List Addr) (answers : List (Option Route)
       let addr = get_or piece k none in
       begins_all (λ n. one) (λ n. flat_map one) (λ n. refl) (λ n x xs. refl) piece k addr here (get_or_default piece k none addr here) a b c written
       (subst (λ (f : Option Route). AppendsBeginning b c (found_text addr f)) found_at begun)
+
+-- all that was found for one address more
+pub matches_more :
+    (table : List Route) (addresses : List Addr) (k : ℕ) (none : Addr) (all all' : List Matches) (one : Matches) → k < length addresses
+    → all' ≡ all ++ one ∷ [] → one.addr ≡ get_or addresses k none → one.routes.items ≡ look_up_all (get_or addresses k none) table
+    → matches_text all ≡ all_answers_text (take k addresses) table → matches_text all' ≡ all_answers_text (take (k + 1) addresses) table
+matches_more table addresses k none all all' one here pushed of_it found so_far =
+    let text : Matches → List ℕ = λ m. all_found_text m.addr m.routes.items in
+    let answer : Addr → List ℕ = λ a. all_found_text a (look_up_all a table) in
+    let addr = get_or addresses k none in
+    let same : text one ≡ answer addr = ap (λ a. all_found_text a one.routes.items) of_it ∙ ap (all_found_text addr) found in
+    let next : take (k + 1) addresses ≡ take k addresses ++ addr ∷ [] = ap (λ n. take n addresses) (add-one k) ∙ take-suc addresses k none here in
+    ap matches_text pushed ∙ (flat_map-append text all (one ∷ [])
+    ∙ (ap (λ t. t ++ (text one ++ [])) so_far ∙ (ap (λ t. all_answers_text (take k addresses) table ++ (t ++ [])) same
+    ∙ (sym (flat_map-append answer (take k addresses) (addr ∷ [])) ∙ ap (λ xs. all_answers_text xs table) (sym next)))))

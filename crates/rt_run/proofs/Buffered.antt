@@ -1,5 +1,5 @@
 -- A text that goes to a writer through a new buffer: what stands in the writer after each fault.
-use Rattle.std.proofs.Common.{◌≡◌, ◌==◌, ℕ, ◌<◌, true, false, List, [], ◌∷◌, ◌++◌, length, Option, refl, arith, length-append, eqb-true}
+use Rattle.std.proofs.Common.{◌≡◌, ◌==◌, ℕ, ◌<◌, true, false, List, [], ◌∷◌, ◌++◌, length, Option, Some, None, refl, arith, length-append, eqb-true}
 use Rattle.std.specs.List.{flat_map}
 use Rattle.std.specs.Io.KnownBytes.{Appends, Keeps}
 use Rattle.std.proofs.KnownBytes.{Appends-kept}
@@ -8,8 +8,10 @@ use Rattle.rt_cidr.proofs.Promised.{stops, stops_held}
 use Rattle.rt_cidr.specs.declared.address.Addr.{Addr}
 use Rattle.rt_rib.specs.declared.routes.Route.{Route}
 use Rattle.rt_rib.specs.LookUp.{look_up}
-use Rattle.rt_feed.specs.Printed.{table_text, rows_text, count_text, row_text, found_text}
+use Rattle.rt_feed.specs.Printed.{table_text, rows_text, count_text, row_text, found_text, all_found_text}
+use Rattle.rt_run.specs.declared.output.Matches.{Matches}
 use Rattle.rt_run.specs.TableText.{answers_text}
+use Rattle.rt_run.specs.inside.Outputs.{matches_text}
 
 module _ (name name' : ℕ) (a began below b c d : Option (List ℕ))
     (held held' text : List ℕ) (is_began : began ≡ a) (is_below : below ≡ a) (none : held ≡ []) where
@@ -48,6 +50,10 @@ found-some : (addr : Addr) (found : Option Route) → 0 < length (found_text add
 unfolding found_text
 found-some addr found = simp length-append (omega arith)
 
+all_found-some : (addr : Addr) (found : List Route) → 0 < length (all_found_text addr found)
+all_found-some addr [] = found-some addr None
+all_found-some addr (first ∷ others) = let line = found-some addr (Some first) in simp length-append (omega arith)
+
 pub rows-none : (routes : List Route) → (length routes == 0) ≡ true → rows_text routes ≡ []
 rows-none = texts-none row_text row-some
 
@@ -59,3 +65,9 @@ answers-none addresses table = texts-none (λ addr. found_text addr (look_up add
 
 pub answers-some : (addresses : List Addr) (table : List Route) → (length addresses == 0) ≡ false → 0 < length (answers_text addresses table)
 answers-some addresses table = texts-some (λ addr. found_text addr (look_up addr table)) (λ addr. found-some addr (look_up addr table)) addresses
+
+pub matches-none : (all : List Matches) → (length all == 0) ≡ true → matches_text all ≡ []
+matches-none = texts-none (λ one. all_found_text one.addr one.routes.items) (λ one. all_found-some one.addr one.routes.items)
+
+pub matches-some : (all : List Matches) → (length all == 0) ≡ false → 0 < length (matches_text all)
+matches-some = texts-some (λ one. all_found_text one.addr one.routes.items) (λ one. all_found-some one.addr one.routes.items)

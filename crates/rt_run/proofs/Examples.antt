@@ -15,7 +15,7 @@ use Rattle.rt_rib.specs.declared.commands.Reply.TheVariants.{Added, Exists, Full
 use Rattle.rt_rib.specs.declared.commands.Entry.{Entry}
 use Rattle.rt_rib.specs.Sequential.{reply_of, table_after}
 use Rattle.rt_rib.specs.Journal.{table_of_journal, IsAnswered, IsLawfulJournal}
-use Rattle.rt_rib.specs.LookUp.{look_up}
+use Rattle.rt_rib.specs.LookUp.{look_up, look_up_all}
 use Rattle.rt_rib.proofs.Promised.{entry, at_10_1_2_3, at_10_9_0_1, ten_8, ten_1_16, ten_9_16, via_192_0_2, route_via, tutorial, the_journal_of_the_tutorial, the_table_of_the_tutorial}
 use Rattle.rt_shared.specs.Visits.{Uncut}
 use Rattle.rt_shared.specs.declared.outcome.Outcome.{Outcome}
@@ -26,7 +26,7 @@ use Rattle.rt_feed.specs.Versions.{TellsTwo}
 use Rattle.rt_feed.specs.Lines.{CutsLine}
 use Rattle.std.specs.Simd.{first_chunks}
 use Rattle.rt_feed.specs.LineOutcomes.{skipped, faulty, asked, LineOutcome, Becomes, asked_of}
-use Rattle.rt_feed.specs.Printed.{reply_text, fault_text, route_text, row_text, count_text, table_text, found_text}
+use Rattle.rt_feed.specs.Printed.{reply_text, fault_text, route_text, row_text, count_text, table_text, found_text, also_text, reason_text}
 use Rattle.rt_feed.specs.declared.faults.RunFault.TheVariants as run
 use Rattle.rt_feed.proofs.Promised.{north, north_read, south, south_read, east, east_read, what_north_becomes, what_south_becomes, what_east_becomes}
 use Rattle.rt_run.specs.declared.faults.AppFault.TheVariants.{Run, Replay, Write}
@@ -34,7 +34,7 @@ use Rattle.rt_run.specs.RunText.{entries_of, Explains, ExplainsFrom, told_of, to
 use Rattle.ya_replay.specs.ReplayText.{inside_text}
 use Rattle.rt_run.specs.Replayed.{IsReplayText, LeavesReplay}
 use Rattle.rt_run.specs.declared.tallies.Taken.{Taken}
-use Rattle.rt_run.specs.TableText.{answers_text, routes_text, first_fault, tally_of, was_left_out, IsShown}
+use Rattle.rt_run.specs.TableText.{answers_text, all_answers_text, routes_text, first_fault, tally_of, was_left_out, IsShown}
 use Rattle.rt_run.specs.SameTable.{table_alone, LeavesAlone, IsUnion, IsAnsweredAlone, LeavesUnion, AnswersAlone, HaveOneUnion, EndsInUnion, EndInOneTable, ShowsUnion, ShowOneTable}
 
 -- entries_of
@@ -183,6 +183,13 @@ one_is_covered_and_one_is_not :
     ≡ codes "10.1.2.3 route 10.1.0.0/16 feed 1 pref 10 via discard\n10.9.0.1 no route\n"
 unfolding look_up found_text reply_text route_text
 one_is_covered_and_one_is_not = rw (written_10_1_2_3, written_10_9_0_1, written_10_1_0_0_16, written_1, written_10) refl
+
+-- all_answers_text
+all_that_cover_each :
+    all_answers_text (at_10_1_2_3 ∷ at_10_9_0_1 ∷ []) (two_to_ten_8 ++ route_via ten_1_16 1 10 Discard ∷ [])
+    ≡ codes "10.1.2.3 route 10.1.0.0/16 feed 1 pref 10 via discard\n10.1.2.3 also 10.0.0.0/8 feed 2 pref 30 via discard shorter\n10.1.2.3 also 10.0.0.0/8 feed 1 pref 50 via discard shorter\n10.9.0.1 route 10.0.0.0/8 feed 2 pref 30 via discard\n10.9.0.1 also 10.0.0.0/8 feed 1 pref 50 via discard preference\n"
+unfolding look_up_all found_text also_text reason_text reply_text route_text
+all_that_cover_each = rw (written_10_1_2_3, written_10_9_0_1, written_10_1_0_0_16, written_10_0_0_0_8, written_1, written_2, written_10, written_30, written_50) refl
 
 -- first_fault
 the_second_line_has_the_first : first_fault 3 (asked Dump Refused ∷ faulty fault.Hop ∷ faulty fault.Text ∷ []) ≡ Some (4, fault.Hop)

@@ -4,11 +4,11 @@ use Rattle.std.specs.List.{flat_map}
 use Rattle.rt_cidr.specs.declared.address.Addr.{Addr}
 use Rattle.rt_rib.specs.declared.routes.Route.{Route}
 use Rattle.rt_rib.specs.declared.commands.Entry.{Entry}
-use Rattle.rt_rib.specs.LookUp.{look_up, best_routes}
+use Rattle.rt_rib.specs.LookUp.{look_up, look_up_all, best_routes}
 use Rattle.rt_rib.specs.Journal.{table_of_journal}
 use Rattle.rt_feed.specs.declared.parse.LineFault.{LineFault}
 use Rattle.rt_feed.specs.LineOutcomes.{LineOutcome, faulty}
-use Rattle.rt_feed.specs.Printed.{rows_text, found_text}
+use Rattle.rt_feed.specs.Printed.{rows_text, found_text, all_found_text}
 use Rattle.rt_run.specs.declared.tallies.Tally.{Tally}
 use Rattle.rt_run.specs.declared.tallies.Taken.{Taken}
 use Rattle.rt_run.specs.RunText.{IsHistory, was_faulty, was_told, status_of}
@@ -16,6 +16,10 @@ use Rattle.rt_run.specs.RunText.{IsHistory, was_faulty, was_told, status_of}
 -- for each address, in order, what a look-up of it finds in the table
 abbrev pub answers_text : List Addr → List Route → List ℕ
 answers_text addresses table = flat_map (λ addr. found_text addr (look_up addr table)) addresses
+
+-- for each address, in order, all routes of the table that cover it, the best first
+abbrev pub all_answers_text : List Addr → List Route → List ℕ
+all_answers_text addresses table = flat_map (λ addr. all_found_text addr (look_up_all addr table)) addresses
 
 -- the routes of the table in order, or only the best of each prefix
 abbrev pub routes_text : Bool → List Route → List ℕ

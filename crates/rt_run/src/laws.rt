@@ -47,8 +47,8 @@ pub fn end_in_one_table()
     one_union();
 }
 
-/// Where no command was refused for want of memory, `lookup_texts` and `table_texts` tell of the union: so what they write is
-/// a function of the texts, the limit and what is asked alone.
+/// Where no command was refused for want of memory, `lookup_texts`, `lookup_all_texts` and `table_texts` tell of the union: so
+/// what they write is a function of the texts, the limit and what is asked alone.
 pub fn shows_union()
     ensures { ShowsUnion }
 {

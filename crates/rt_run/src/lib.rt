@@ -2,8 +2,8 @@
 //!
 //! [`run_texts`] is a run over values: the texts of 1 to 64 feeds, each on a thread of its own, over one table behind the
 //! lock, and a writer. Its clause `text` is the theorem from bytes to bytes: what was written is a run's text.
-//! [`lookup_texts`] and [`table_texts`] run texts in the same way and tell of the finished table alone: what look-ups of
-//! addresses find in it, or its routes; and they give how much of each text was taken.
+//! [`lookup_texts`], [`lookup_all_texts`] and [`table_texts`] run texts in the same way and tell of the finished table alone:
+//! what look-ups of addresses find in it, all that covers them, or its routes; and they give how much of each text was taken.
 //! [`replay_text`] does the same for a schedule of the lock: one line for each atomic step of the one run that it names.
 //! `laws` says what holds of every run, however its threads ran.
 //!
@@ -27,5 +27,5 @@ mod tallies;
 pub use faults::AppFault;
 pub use replays::replay_text;
 pub use runs::{MOST_TEXTS, run_texts};
-pub use shown::{lookup_texts, table_texts};
+pub use shown::{lookup_all_texts, lookup_texts, table_texts};
 pub use tallies::{NOT_TAKEN, Taken, Tally};

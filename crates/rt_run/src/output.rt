@@ -6,11 +6,13 @@ ghost use Rattle.rt_rib.specs.declared.limits.TheConstants.{MOST_FEEDS};
 ghost use Rattle.rt_rib.specs.Book.{table_of};
 ghost use Rattle.rt_feed.specs.Printed.{table_text};
 ghost use Rattle.rt_run.specs.TableText.{answers_text};
-ghost use Rattle.rt_run.specs.inside.Outputs.{IsOutput, reports_text, output_text, Writes};
+ghost use Rattle.rt_run.specs.inside.Outputs.{IsOutput, reports_text, matches_text, output_text, Writes};
 
 use crate::faults::AppFault;
 use rt_cidr::{Addr, OutputBuffer, OutputRoom};
-use rt_feed::{Report, RunFault, write_found, write_report, write_rows, write_table};
+use rt_feed::{
+    Report, RunFault, write_all_found, write_found, write_report, write_rows, write_table,
+};
 use rt_rib::{Book, Route};
 use std::alloc::Global;
 use std::io::{self, Write};
@@ -20,6 +22,13 @@ use ya_replay::write_replay;
 /// So many addresses are looked up together.
 const PIECE: usize = 256;
 
+/// An address, and all routes that cover it, the best first.
+#[derive(Drop)]
+pub(crate) struct Matches {
+    pub(crate) addr: Addr,
+    pub(crate) routes: Vec<Route>,
+}
+
 /// What is to be written.
 #[derive(Clone, Copy)]
 pub(crate) enum Output<'a> {
@@ -27,6 +36,8 @@ pub(crate) enum Output<'a> {
     Run(&'a [Report], &'a [Route]),
     /// What a look-up of each address finds in the book.
     Answers(&'a Book<Global>, &'a [Addr]),
+    /// All routes that cover each address.
+    Matches(&'a [Matches]),
     /// The routes alone.
     Routes(&'a [Route]),
     /// The steps of a replay, and who is inside after them.
@@ -42,6 +53,7 @@ impl Output<'_> {
         match self {
             Output::Run(..) => false,
             Output::Answers(_, addresses) => addresses.is_empty(),
+            Output::Matches(all) => all.is_empty(),
             Output::Routes(routes) => routes.is_empty(),
             Output::Replay(..) => false,
         }
@@ -100,6 +112,7 @@ fn write_parts<W: Write>(w: &mut W, output: Output<'_>) -> Result<(), io::Error>
     match output {
         Output::Run(reports, routes) => write_run(w, reports, routes),
         Output::Answers(book, addresses) => write_answers(w, book, addresses),
+        Output::Matches(all) => write_matches(w, all),
         Output::Routes(routes) => write_rows(w, routes),
         Output::Replay(steps, inside) => write_replay(w, steps, inside),
     }
@@ -156,6 +169,17 @@ fn write_piece<W: Write>(w: &mut W, book: &Book<Global>, piece: &[Addr]) -> Resu
     book.look_up(piece, found);
     for (index, address) in piece.iter().enumerate() {
         write_found(w, *address, found[index])?;
+    }
+    Ok(())
+}
+
+/// Writes for each address all routes that cover it.
+fn write_matches<W: Write>(w: &mut W, all: &[Matches]) -> Result<(), io::Error>
+    ensures ok { OnOk result (Appends (W.contents w.old) (W.contents w.new) (matches_text all.now)) }
+    ensures err { OnErr result (AppendsBeginning (W.contents w.old) (W.contents w.new) (matches_text all.now)) }
+{
+    for one in all {
+        write_all_found(w, one.addr, one.routes.as_slice())?;
     }
     Ok(())
 }

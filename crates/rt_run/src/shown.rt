@@ -4,12 +4,12 @@ ghost use Rattle.rt_rib.specs.declared.limits.TheConstants.{MOST_FEEDS};
 ghost use Rattle.rt_rib.specs.Book.{IsLimit, table_of};
 ghost use Rattle.rt_run.specs.inside.RunResults.{RunOverBook};
 ghost use Rattle.rt_run.specs.RunText.{Leaves};
-ghost use Rattle.rt_run.specs.TableText.{answers_text, routes_text, IsShown};
+ghost use Rattle.rt_run.specs.TableText.{answers_text, all_answers_text, routes_text, IsShown};
 ghost use Rattle.rt_rib.specs.LookUp.{best_routes};
-ghost use Rattle.rt_run.specs.inside.Outputs.{shown_text, Writes};
+ghost use Rattle.rt_run.specs.inside.Outputs.{matches_text, shown_text, Writes};
 
 use crate::faults::AppFault;
-use crate::output::{Output, write_output};
+use crate::output::{Matches, Output, write_output};
 use crate::runs::{Ran, run_all};
 use crate::tallies::{Taken, taken_of};
 use rt_cidr::Addr;
@@ -44,6 +44,37 @@ pub fn lookup_texts<R: Threads + Wait + Sync, W: Write>(
     show_texts(rt, alloc, texts, limit, batch, Shown::Answers(addresses), w)
 }
 
+/// Runs the texts as `run_texts` does, and when all have ended writes to `w`, for each address in order, every route that
+/// covers it, the best first: a line as of `lookup_texts`, and for each further route `ADDR also PREFIX feed F pref P via HOP
+/// REASON`, where the reason tells at which step it was left behind the first: `shorter`, `preference` or `feed`. What it
+/// gives, and its faults, are as for `lookup_texts`; F3 is also want of memory for all these routes, which are held before
+/// any is written.
+pub fn lookup_all_texts<R: Threads + Wait + Sync, W: Write>(
+    rt: &R,
+    alloc: Global,
+    texts: &[Vec<u8>],
+    limit: u32,
+    batch: usize,
+    addresses: &[Addr],
+    w: &mut W,
+) -> Result<Taken, AppFault>
+    requires limited { IsLimit limit }
+    requires few { length texts.now ≤ MOST_FEEDS }
+    requires batched { 1 ≤ batch }
+    ensures text { Leaves (IsShown (map (λ text. text.items) texts.now) limit batch (all_answers_text addresses.now)) (W.contents w.old) (W.contents w.new) result }
+    ensures no_text { (result ≡ Err (AppFault.Run RunFault.NoText)) ↔ (texts.now ≡ []) }
+{
+    show_texts(
+        rt,
+        alloc,
+        texts,
+        limit,
+        batch,
+        Shown::AllAnswers(addresses),
+        w,
+    )
+}
+
 /// Runs the texts as `run_texts` does, and when all have ended writes to `w` the table's routes in order, without its first
 /// line, or with `only_best` of each prefix the route that a look-up would give. What it gives, and its faults, are as for
 /// `lookup_texts`.
@@ -70,6 +101,8 @@ pub fn table_texts<R: Threads + Wait + Sync, W: Write>(
 enum Shown<'a> {
     /// What a look-up of each address finds.
     Answers(&'a [Addr]),
+    /// All routes that cover each address.
+    AllAnswers(&'a [Addr]),
     /// Its routes, or only the best of each prefix.
     Routes(bool),
 }
@@ -131,6 +164,12 @@ fn write_shown<W: Write>(
 {
     match shown {
         Shown::Answers(addresses) => write_output(alloc, Output::Answers(book, addresses), w),
+        Shown::AllAnswers(addresses) => {
+            let Ok(all) = matches_of(alloc, book, addresses) else {
+                return Err(AppFault::Run(RunFault::Memory));
+            };
+            write_output(alloc, Output::Matches(all.as_slice()), w)
+        }
         Shown::Routes(only_best) => {
             let Ok(routes) = routes_of(alloc, book, only_best) else {
                 return Err(AppFault::Run(RunFault::Memory));
@@ -138,6 +177,25 @@ fn write_shown<W: Write>(
             write_output(alloc, Output::Routes(routes.as_slice()), w)
         }
     }
+}
+
+/// For each address, in order, all routes of the book that cover it.
+fn matches_of(
+    alloc: Global,
+    book: &Book<Global>,
+    addresses: &[Addr],
+) -> Result<Vec<Matches>, Refused>
+    ensures { IfOk result (λ all. matches_text all.items ≡ all_answers_text addresses.now (table_of book.now)) }
+{
+    let mut all = Vec::with_capacity(alloc, addresses.len())?;
+    for addr in addresses {
+        let routes = book.look_up_all(alloc, *addr)?;
+        all.push_reserved(Matches {
+            addr: *addr,
+            routes,
+        });
+    }
+    Ok(all)
 }
 
 /// The routes of the book, or only the best of each prefix.

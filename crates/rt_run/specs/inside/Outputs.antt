@@ -1,5 +1,6 @@
 -- What is written, as the text of one value.
 use Rattle.std.specs.Prelude.{◌≡◌, ℕ, ◌+◌, ◌<◌, ◌≤◌, ◌^◌, List, [], ◌∷◌, ◌++◌, length, Option, Result, Ok, Err}
+use Rattle.std.specs.List.{flat_map}
 use Rattle.std.specs.Io.KnownBytes.{Appends}
 use Rattle.rt_cidr.specs.Output.{AppendsBeginning}
 use Rattle.rt_rib.specs.declared.limits.TheConstants.{MOST_FEEDS}
@@ -7,25 +8,31 @@ use Rattle.rt_rib.specs.declared.routes.Route.{Route}
 use Rattle.rt_rib.specs.Book.{table_of}
 use Rattle.rt_feed.specs.declared.faults.RunFault.TheVariants as fault
 use Rattle.rt_feed.specs.declared.report.Line.{Line}
-use Rattle.rt_feed.specs.Printed.{report_text, rows_text, table_text}
+use Rattle.rt_feed.specs.Printed.{report_text, rows_text, table_text, all_found_text}
 use Rattle.rt_run.specs.declared.faults.AppFault.{AppFault}
 use Rattle.rt_run.specs.declared.faults.AppFault.TheVariants.{Run, Replay, Write}
+use Rattle.rt_run.specs.declared.output.Matches.{Matches}
 use Rattle.rt_run.specs.declared.output.Output.{Output}
 use Rattle.rt_run.specs.declared.output.Output.TheVariants as output
 use Rattle.rt_run.specs.declared.shown.Shown.{Shown}
 use Rattle.rt_run.specs.declared.shown.Shown.TheVariants as shown
 use Rattle.ya_replay.specs.ReplayText.{replay_text_of}
-use Rattle.rt_run.specs.TableText.{answers_text, routes_text}
+use Rattle.rt_run.specs.TableText.{answers_text, all_answers_text, routes_text}
 
 -- the reports of all feeds, one after another, the first of them this feed's
 abbrev pub reports_text : ℕ → List (List Line) → List ℕ
 reports_text feed [] = []
 reports_text feed (report ∷ reports) = report_text feed report ++ reports_text (feed + 1) reports
 
--- the text of the reports and the table, of the answers, of the routes, or of a replay
+-- for each address, in order, all that was found for it
+abbrev pub matches_text : List Matches → List ℕ
+matches_text all = flat_map (λ one. all_found_text one.addr one.routes.items) all
+
+-- the text of the reports and the table, of the answers, of all that was found, of the routes, or of a replay
 abbrev pub output_text : Output → List ℕ
 output_text (output.Run reports routes) = reports_text 1 reports.now ++ table_text routes.now
 output_text (output.Answers book addresses) = answers_text addresses.now (table_of book.now)
+output_text (output.Matches all) = matches_text all.now
 output_text (output.Routes routes) = rows_text routes.now
 output_text (output.Replay steps inside) = replay_text_of steps.now inside
 
@@ -33,6 +40,7 @@ output_text (output.Replay steps inside) = replay_text_of steps.now inside
 abbrev pub IsOutput : Output → Type 0
 IsOutput (output.Run reports routes) = length reports.now ≤ MOST_FEEDS
 IsOutput (output.Answers book addresses) = Unit {0}
+IsOutput (output.Matches all) = Unit {0}
 IsOutput (output.Routes routes) = Unit {0}
 IsOutput (output.Replay steps inside) = length steps.now < 2 ^ 63
 
@@ -46,4 +54,5 @@ Writes text old new (Err Write) = AppendsBeginning old new text
 -- the text of what is asked of a table
 abbrev pub shown_text : Shown → List Route → List ℕ
 shown_text (shown.Answers addresses) table = answers_text addresses.now table
+shown_text (shown.AllAnswers addresses) table = all_answers_text addresses.now table
 shown_text (shown.Routes only_best) table = routes_text only_best table

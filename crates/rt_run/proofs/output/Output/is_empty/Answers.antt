@@ -1,5 +1,5 @@
 use Rattle.ya_replay.proofs.Promised.{replay_text-some}
-use Rattle.rt_run.proofs.Buffered.{run_text-some, answers-none, answers-some, rows-none, rows-some}
+use Rattle.rt_run.proofs.Buffered.{run_text-some, answers-none, answers-some, matches-none, matches-some, rows-none, rows-some}
 use Rattle.rt_run.proofs.output.Output.is_empty.Goals as goal
 
 pub returns-in-Run : goal.returns-in-Run
@@ -9,6 +9,11 @@ pub returns-in-Answers : goal.returns-in-Answers
 returns-in-Answers c =
     rw (c.in-Answers.is, c.is_empty.ensures)
     (record { none = answers-none c.in-Answers.addresses.now _; some = answers-some c.in-Answers.addresses.now _ })
+
+pub returns-in-Matches : goal.returns-in-Matches
+returns-in-Matches c =
+    rw (c.in-Matches.is, c.is_empty-in-Matches.ensures)
+    (record { none = matches-none c.in-Matches.all.now; some = matches-some c.in-Matches.all.now })
 
 pub returns-in-Routes : goal.returns-in-Routes
 returns-in-Routes c =
