@@ -119,6 +119,19 @@ range_of_covers q a h = elim (covers_tells q a) [ inl r ↦ (r.1, r.2) | inr r �
 pub outside_of_covers : (q : Prefix) (a : Addr) → covers q a ≡ false → (a.0 < q.base) ⊎ (past q ≤ a.0)
 outside_of_covers q a h = elim (covers_tells q a) [ inl r ↦ cc | inr r ↦ r.1 ]
 
+-- and the other way round
+pub covered_of_range : (q : Prefix) (a : Addr) → q.base ≤ a.0 → a.0 < past q → covers q a ≡ true
+covered_of_range q a h k = elim (covers_tells q a) [
+  | inl r ↦ r.0
+  | inr r ↦ elim r.1 [ inl lt ↦ absurd (omega arith) | inr ge ↦ absurd (omega arith) ]
+]
+
+pub uncovered_of_range : (q : Prefix) (a : Addr) → (a.0 < q.base) ⊎ (past q ≤ a.0) → covers q a ≡ false
+uncovered_of_range q a o = elim (covers_tells q a) [
+  | inr r ↦ r.0
+  | inl r ↦ elim o [ inl lt ↦ absurd (omega (arith, r.1)) | inr ge ↦ absurd (omega (arith, r.2)) ]
+]
+
 -- `contains` by ranges
 pub contains_tells : (p q : Prefix) → ((contains p q ≡ true) × (p.len ≤ q.len) × (p.base ≤ q.base) × (q.base < past p))
     ⊎ ((contains p q ≡ false) × ((q.len < p.len) ⊎ ((q.base < p.base) ⊎ (past p ≤ q.base))))
@@ -185,7 +198,7 @@ half_whole len h =
     ap (λ n. n * 2 ^ len) f ∙ sym (pow-add 2 (32 - (len + 1)) len) ∙ ap (λ n. 2 ^ n) e
 
 -- a prefix ends among the addresses
-past_fits : (q : Prefix) → past q ≤ 4294967296
+pub past_fits : (q : Prefix) → past q ≤ 4294967296
 past_fits q =
     let s = q.is_prefix.short in
     let f = q.is_prefix.fits in

@@ -3,7 +3,7 @@
 use Rattle.std.proofs.Common.{◌≡◌, ℕ, true, false, Some, None, [], ◌∷◌, refl, arith}
 use Rattle.rt_cidr.specs.declared.prefixes.Prefix.{Prefix}
 use Rattle.rt_trie.specs.Map.{Pairs, before, IsBeforeAll, IsOrdered, get, same_prefix, IsStored, put, erase, first}
-use Rattle.rt_trie.specs.Map.{next_after, IsLongest, address_at, answer_at, pair_copied, AreLongest}
+use Rattle.rt_trie.specs.Map.{next_after, IsLongest, covering, address_at, answer_at, pair_copied, AreLongest}
 use Rattle.rt_trie.specs.Tree.{Tree, Vacant, Node, top, size, stored}
 use Rattle.rt_trie.specs.Laws.{IsChildByBit, PutIsSeen, EraseIsSeen, PutKeepsOrder, EraseKeepsOrder, PairsAreFound}
 use Rattle.rt_trie.specs.Laws.{MapHasOneList, FirstIsLeast, NoneIsFirst, AfterIsNext, NoneIsAfter, ChildByNextBit}
@@ -220,6 +220,13 @@ what_the_longest_is m a h = h
 
 none_where_none_covers : (m : Pairs ℕ) (a : Addr) → IsLongest m a None → All (λ y. covers y.0 a ≡ false) m
 none_where_none_covers m a h = h
+
+-- covering
+each_that_covers_it_the_shortest_first : covering ((ten_8, 4) ∷ two) (record { 0 = 167837697 }) ≡ (ten_8, 4) ∷ (ten_1_16, 5) ∷ []
+each_that_covers_it_the_shortest_first = refl
+
+none_that_does_not_cover_it : (covering two (record { 0 = 167772160 }) ≡ []) × (covering {V = ℕ} [] (record { 0 = 0 }) ≡ [])
+none_that_does_not_cover_it = (refl, refl)
 
 -- address_at
 the_second_of_two : address_at (record { 0 = 7 } ∷ record { 0 = 9 } ∷ []) 1 ≡ record { 0 = 9 }

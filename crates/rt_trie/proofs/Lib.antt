@@ -2,6 +2,7 @@ pub mod Promised
 pub mod Crossing
 pub mod BlockLemmas
 pub mod CountLemmas
+pub mod CoveringLemmas
 pub mod DescentLemmas
 pub mod Examples
 pub mod InsertLemmas
@@ -15,6 +16,7 @@ pub mod NodeLemmas
 pub mod OrderLemmas
 pub mod PairLemmas
 pub mod PartLemmas
+pub mod PieceLemmas
 pub mod RemoveLemmas
 pub mod SiftLemmas
 pub mod StoredLemmas

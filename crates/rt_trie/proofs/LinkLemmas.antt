@@ -25,9 +25,9 @@ use Rattle.rt_trie.specs.inside.Links.{own_pair, pairs, count, IsNode, IsForkOf,
 use Rattle.rt_trie.specs.Links.{root, AreHalves, IsFilled, IsNeeded, IsLawfulBelow, IsLawfulTrie}
 use Rattle.rt_trie.proofs.OrderLemmas.{same_rank, same_tells, rank_of_before, rank_of_not_before}
 use Rattle.rt_cidr.proofs.Promised.{size_pos}
-use Rattle.rt_trie.proofs.NodeLemmas.{AreSides, get-lower, get-upper, get-here, get-past, IsOrdered-node, cover-lower}
-use Rattle.rt_trie.proofs.NodeLemmas.{cover-upper, cover-none, after-lower, after-upper, after-all, after-past}
-use Rattle.rt_trie.proofs.PairLemmas.{AllKeys, AllKeys-append, AllKeys-map, or_assoc, first-append, last_cover-none, last_cover-append}
+use Rattle.rt_trie.proofs.NodeLemmas.{AreSides, get-lower, get-upper, get-here, get-past, IsOrdered-node, upper_clear}
+use Rattle.rt_trie.proofs.NodeLemmas.{cover-left, cover-upper, cover-none, after-lower, after-upper, after-all, after-past}
+use Rattle.rt_trie.proofs.PairLemmas.{AllKeys, AllKeys-append, AllKeys-map, or_assoc, first-append, last_cover-none}
 use Rattle.rt_trie.proofs.LongestLemmas.{longest_is}
 use Rattle.rt_trie.proofs.BlockLemmas.{middle_of_key}
 
@@ -196,11 +196,6 @@ module _ {V A : Type 0} where
         ap (λ m. get m p) n.pairs_are ∙ get-past q v (pairs left) (pairs right) sides_of p h k
 
     -- the longest match is looked for on one side, with the node's own pair to fall back on
-    pub node_cover-lower : (a : Addr)
-        → a.0 < middle q → last_cover (pairs link) a ≡ or_else (last_cover (pairs left) a) (last_cover (own_pair q v) a)
-    node_cover-lower a h =
-        ap (λ m. last_cover m a) n.pairs_are ∙ cover-lower q v (pairs left) (pairs right) sides_of a h
-
     pub node_cover-upper : (a : Addr)
         → middle q ≤ a.0 → last_cover (pairs link) a ≡ or_else (last_cover (pairs right) a) (last_cover (own_pair q v) a)
     node_cover-upper a h =
@@ -210,33 +205,32 @@ module _ {V A : Type 0} where
     node_cover-none a h =
         ap (λ m. last_cover m a) n.pairs_are ∙ cover-none q v (pairs left) (pairs right) sides_of a h
 
-    -- a prefix that covers one address has nothing below it
-    none_below : (a : Addr)
-        → q.len ≡ 32 → last_cover (pairs link) a ≡ or_else (last_cover (pairs left) a) (last_cover (own_pair q v) a)
-    none_below a h =
-        let s = sides_of in
-        let l : last_cover (pairs left) a ≡ None = last_cover-none (pairs left) a
-        (AllKeys-map (IsInBlock q.base (middle q) (q.len + 1)) (λ x. covers x a ≡ false) (pairs left)
-        (λ x w. let t = x.is_prefix.short in absurd (omega (arith, w.long))) s.lower) in
-        let r : last_cover (pairs right) a ≡ None = last_cover-none (pairs right) a
-        (AllKeys-map (IsInBlock (middle q) (past q) (q.len + 1)) (λ x. covers x a ≡ false) (pairs right)
-        (λ x w. let t = x.is_prefix.short in absurd (omega (arith, w.long))) s.upper) in
-        ap (λ m. last_cover m a) n.pairs_are ∙ last_cover-append (own_pair q v) (pairs left ++ pairs right) a
-        ∙ ap (λ o. or_else o (last_cover (own_pair q v) a)) (last_cover-append (pairs left) (pairs right) a ∙ cc (l, r))
+    -- nothing on the right covers an address that is not in the upper half; a prefix that covers one address has nothing there
+    right_clear : (a : Addr) → (q.len < 32 → (middle q ≤ a.0 → ⊥)) → AllKeys (λ x. covers x a ≡ false) (pairs right)
+    right_clear a h =
+        let s = q.is_prefix.short in
+        elim (cases_lt q.len 32) [
+          | inl lt ↦ upper_clear q v (pairs left) (pairs right) sides_of a
+              (elim (cases_lt a.0 (middle q)) [ inl low ↦ low | inr high ↦ absurd (h lt high) ])
+          | inr ge ↦ AllKeys-map (IsInBlock (middle q) (past q) (q.len + 1)) (λ x. covers x a ≡ false) (pairs right)
+              (λ x w. let t = x.is_prefix.short in absurd (omega (arith, w.long))) sides_of.upper
+        ]
 
-    -- a look-up goes on in the half where the address lies, with the node's own pair to fall back on
+    -- a look-up goes on on the left, where nothing on the right covers the address, with the node's own pair to fall back on
+    pub step_left : (a : Addr)
+        (best found : Option (Prefix × V)) → last_cover (pairs right) a ≡ None → or_else (last_cover (own_pair q v) a) best ≡ found
+        → or_else (last_cover (pairs left) a) found ≡ or_else (last_cover (pairs link) a) best
+    step_left a best found none e =
+        let here : last_cover (pairs link) a ≡ or_else (last_cover (pairs left) a) (last_cover (own_pair q v) a) =
+        ap (λ m. last_cover m a) n.pairs_are ∙ cover-left q v (pairs left) (pairs right) sides_of a none in
+        ap (λ x. or_else (last_cover (pairs left) a) x) (sym e)
+        ∙ sym (ap (λ x. or_else x best) here ∙ or_assoc (last_cover (pairs left) a) (last_cover (own_pair q v) a) best)
+
+    -- it goes on in the half where the address lies
     pub step_lower : (a : Addr)
         (best found : Option (Prefix × V)) → (q.len < 32 → (middle q ≤ a.0 → ⊥)) → or_else (last_cover (own_pair q v) a) best ≡ found
         → or_else (last_cover (pairs left) a) found ≡ or_else (last_cover (pairs link) a) best
-    step_lower a best found h e =
-        let s = q.is_prefix.short in
-        let here : last_cover (pairs link) a ≡ or_else (last_cover (pairs left) a) (last_cover (own_pair q v) a) =
-        elim (cases_lt q.len 32) [
-          | inl lt ↦ node_cover-lower a (elim (cases_lt a.0 (middle q)) [ inl low ↦ low | inr high ↦ absurd (h lt high) ])
-          | inr ge ↦ none_below a (omega arith)
-        ] in
-        ap (λ x. or_else (last_cover (pairs left) a) x) (sym e)
-        ∙ sym (ap (λ x. or_else x best) here ∙ or_assoc (last_cover (pairs left) a) (last_cover (own_pair q v) a) best)
+    step_lower a best found h e = step_left a best found (last_cover-none (pairs right) a (right_clear a h)) e
 
     pub step_upper : (a : Addr)
         (best found : Option (Prefix × V)) → middle q ≤ a.0 → or_else (last_cover (own_pair q v) a) best ≡ found

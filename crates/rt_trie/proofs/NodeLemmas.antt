@@ -122,40 +122,50 @@ covers-outside lo hi len x a o w = elim (covers_tells x a) [
 ]
 
 module _ {V : Type 0} (q : Prefix) (v : Option V) (xs ys : Pairs V) (sides : AreSides q xs ys) (a : Addr) where
-  -- the longest match is in the half where the address lies, or the node's own pair
-  pub cover-lower : a.0 < middle q → last_cover (own_pair q v ++ (xs ++ ys)) a ≡ or_else (last_cover xs a) (last_cover (own_pair q v) a)
-  cover-lower h =
-      let none : last_cover ys a ≡ None =
-      last_cover-none ys a (AllKeys-map (IsInBlock (middle q) (past q) (q.len + 1)) (λ x. covers x a ≡ false) ys
-      (λ x w. covers-outside (middle q) (past q) (q.len + 1) x a (inl h) w) sides.upper) in
-      last_cover-append (own_pair q v) (xs ++ ys) a
-      ∙ ap (λ o. or_else o (last_cover (own_pair q v) a)) (last_cover-append xs ys a ∙ ap (λ o. or_else o (last_cover xs a)) none)
+  -- nothing in the one half covers an address in the other, and nothing below a prefix one that the prefix does not
+  pub upper_clear : a.0 < middle q → AllKeys (λ x. covers x a ≡ false) ys
+  upper_clear h =
+      AllKeys-map (IsInBlock (middle q) (past q) (q.len + 1)) (λ x. covers x a ≡ false) ys
+      (λ x w. covers-outside (middle q) (past q) (q.len + 1) x a (inl h) w) sides.upper
 
-  pub cover-upper : middle q ≤ a.0 → last_cover (own_pair q v ++ (xs ++ ys)) a ≡ or_else (last_cover ys a) (last_cover (own_pair q v) a)
-  cover-upper h =
-      let none : last_cover xs a ≡ None =
-      last_cover-none xs a (AllKeys-map (IsInBlock q.base (middle q) (q.len + 1)) (λ x. covers x a ≡ false) xs
-      (λ x w. covers-outside q.base (middle q) (q.len + 1) x a (inr h) w) sides.lower) in
-      last_cover-append (own_pair q v) (xs ++ ys) a
-      ∙ ap (λ o. or_else o (last_cover (own_pair q v) a))
-      (last_cover-append xs ys a ∙ ap (λ o. or_else (last_cover ys a) o) none ∙ or_none (last_cover ys a))
+  pub lower_clear : middle q ≤ a.0 → AllKeys (λ x. covers x a ≡ false) xs
+  lower_clear h =
+      AllKeys-map (IsInBlock q.base (middle q) (q.len + 1)) (λ x. covers x a ≡ false) xs
+      (λ x w. covers-outside q.base (middle q) (q.len + 1) x a (inr h) w) sides.lower
 
-  -- nothing below a prefix covers an address that the prefix does not
-  pub cover-none : covers q a ≡ false → last_cover (own_pair q v ++ (xs ++ ys)) a ≡ None
-  cover-none h =
+  pub rest_clear : covers q a ≡ false → AllKeys (λ x. covers x a ≡ false) (xs ++ ys)
+  rest_clear h =
       let o = outside_of_covers q a h in
-      let rest : AllKeys (λ x. covers x a ≡ false) (xs ++ ys) =
       AllKeys-append (λ x. covers x a ≡ false) xs ys
       (AllKeys-map (IsInBlock q.base (middle q) (q.len + 1)) (λ x. covers x a ≡ false) xs
       (λ x w. covers-outside q.base (past q) (q.len + 1) x a o
       (record { long = w.long; from = w.from; to = omega (arith, w.to) })) sides.lower)
       (AllKeys-map (IsInBlock (middle q) (past q) (q.len + 1)) (λ x. covers x a ≡ false) ys
       (λ x w. covers-outside q.base (past q) (q.len + 1) x a o
-      (record { long = w.long; from = omega (arith, w.from); to = w.to })) sides.upper) in
-      elim v as (λ w. last_cover (own_pair q w ++ (xs ++ ys)) a ≡ None) [
-        | None ↦ last_cover-none (xs ++ ys) a rest
-        | Some w ↦ rw (last_cover-none (xs ++ ys) a rest, h) refl
-      ]
+      (record { long = w.long; from = omega (arith, w.from); to = w.to })) sides.upper)
+
+  -- where nothing in the upper half covers the address, the longest match is in the lower one, or the node's own pair
+  pub cover-left : last_cover ys a ≡ None → last_cover (own_pair q v ++ (xs ++ ys)) a ≡ or_else (last_cover xs a) (last_cover (own_pair q v) a)
+  cover-left none =
+      last_cover-append (own_pair q v) (xs ++ ys) a
+      ∙ ap (λ o. or_else o (last_cover (own_pair q v) a)) (last_cover-append xs ys a ∙ ap (λ o. or_else o (last_cover xs a)) none)
+
+  -- it is in the half where the address lies, or the node's own pair
+  pub cover-lower : a.0 < middle q → last_cover (own_pair q v ++ (xs ++ ys)) a ≡ or_else (last_cover xs a) (last_cover (own_pair q v) a)
+  cover-lower h = cover-left (last_cover-none ys a (upper_clear h))
+
+  pub cover-upper : middle q ≤ a.0 → last_cover (own_pair q v ++ (xs ++ ys)) a ≡ or_else (last_cover ys a) (last_cover (own_pair q v) a)
+  cover-upper h =
+      let none : last_cover xs a ≡ None = last_cover-none xs a (lower_clear h) in
+      last_cover-append (own_pair q v) (xs ++ ys) a
+      ∙ ap (λ o. or_else o (last_cover (own_pair q v) a))
+      (last_cover-append xs ys a ∙ ap (λ o. or_else (last_cover ys a) o) none ∙ or_none (last_cover ys a))
+
+  -- there is none at an address that the node does not cover
+  pub cover-none : covers q a ≡ false → last_cover (own_pair q v ++ (xs ++ ys)) a ≡ None
+  cover-none h =
+      let none = last_cover-none (xs ++ ys) a (rest_clear h) in
+      elim v as (λ w. last_cover (own_pair q w ++ (xs ++ ys)) a ≡ None) [ None ↦ none | Some w ↦ rw (none, h) refl ]
 
 -- what a node adds to the best pair so far, at an address that it covers
 pub best_stored : {V : Type 0} (q : Prefix) (v : Option V) (w : V) (a : Addr) (best : Option (Prefix × V)) → v ≡ Some w → covers q a ≡ true

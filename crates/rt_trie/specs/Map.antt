@@ -1,5 +1,5 @@
 -- A finite map from prefixes, as the list of its pairs in the order of base and then length.
-use Rattle.std.specs.Prelude.{◌≡◌, ℕ, ◌<◌, length, slice_index_or, Bool, false, ◌==◌, ◌&&◌, ◌||◌, ◌≤◌, nat_lt, List, [], ◌∷◌, Option, Some, None, if◌then◌else◌, IsTrue, IsSome, All, Contains}
+use Rattle.std.specs.Prelude.{◌≡◌, ℕ, ◌<◌, length, slice_index_or, filter, Bool, false, ◌==◌, ◌&&◌, ◌||◌, ◌≤◌, nat_lt, List, [], ◌∷◌, Option, Some, None, if◌then◌else◌, IsTrue, IsSome, All, Contains}
 use Rattle.std.specs.Borrow.{Bor}
 use Rattle.rt_cidr.specs.declared.address.Addr.{Addr}
 use Rattle.rt_cidr.specs.declared.prefixes.Prefix.{Prefix}
@@ -65,6 +65,11 @@ abbrev pub IsLongest : {V : Type 0} → Pairs V → Addr → Option (Prefix × V
 IsLongest m a None = All (λ y. covers y.0 a ≡ false) m
 IsLongest m a (Some x) =
     Contains m x × IsTrue (covers x.0 a) × All (λ y. IsTrue (covers y.0 a) → y.0.len ≤ x.0.len) m
+
+-- the pairs whose prefix covers the address (RFC 1812, section 5.2.4.3, Basic Match), in the order of the list: the shortest
+-- comes first
+abbrev pub covering : {V : Type 0} → Pairs V → Addr → Pairs V
+covering m a = filter (λ x. covers x.0 a) m
 
 -- the address at an index
 abbrev pub address_at : List Addr → ℕ → Addr

@@ -19,16 +19,19 @@
 //! and that what an insertion made is given back where it is refused a later box.
 #![tactic(auto)]
 
+mod covering;
 mod descent;
 mod insertion;
 pub mod laws;
 mod nodes;
+mod pieces;
 mod removal;
 mod search;
 mod sifting;
 mod tries;
 mod walks;
 
+pub use covering::Covering;
 pub use sifting::Sieve;
 pub use tries::Trie;
 pub use walks::Walk;

@@ -2,18 +2,20 @@
 
 ghost use Rattle.std.specs.Prelude.{◌≡◌, ◌↔◌, IsTrue, ◌+◌, ◌-◌, ◌*◌, ◌≤◌, [], length, IsSome, IsOk, IfOk, IfErr, OnOk};
 ghost use Rattle.std.specs.Borrow.{sem};
+ghost use Rattle.rt_cidr.specs.declared.address.Addr.{Addr};
 ghost use Rattle.std.specs.Option.{option_copied, option_copied_mut};
-ghost use Rattle.rt_trie.specs.Map.{get, put, erase, first, next_after, pair_copied, IsOrdered, IsLongest, AreLongest};
+ghost use Rattle.rt_trie.specs.Map.{get, put, erase, first, next_after, covering, pair_copied, IsOrdered, IsLongest, AreLongest};
 ghost use Rattle.rt_trie.specs.Nodes.{CountsNodes};
 ghost use Rattle.rt_trie.specs.Lawful.{IsLawful};
 ghost use Rattle.rt_trie.specs.Sifted.{IsSifted};
 
+use crate::covering::Covering;
 use crate::descent::{Descent, WayDown};
 use crate::insertion::NewValue;
 use crate::nodes::Link;
 use crate::sifting::{self, Sieve};
 use crate::walks::Walk;
-use crate::{insertion, removal, search};
+use crate::{insertion, pieces, removal, search};
 use rt_cidr::{Addr, Prefix};
 use std::alloc::Allocator;
 use std::marker::Model;
@@ -170,6 +172,24 @@ impl<V: Drop, A: Allocator + Copy> Trie<V, A> {
         ensures { AreLongest self.now.pairs addresses.now answers.new }
     {
         search::longest_many(&self.root, addresses, answers);
+    }
+
+    /// `longest` of the address, and how far it goes: up to this last address each from the given one on has the very same.
+    /// Past it a prefix begins or has ended, if it isn't 255.255.255.255: who goes on there goes over all addresses, in at
+    /// most 2n + 1 calls where the map has n nodes. It takes no memory.
+    pub fn longest_until(&self, a: Addr) -> (Option<(Prefix, &V)>, Addr)
+        ensures onward { a.0 ≤ result.1.0 }
+        ensures same { (b : Addr) → a.0 ≤ b.0 → b.0 ≤ result.1.0 → IsLongest self.now.pairs b (pair_copied result.0) }
+    {
+        pieces::longest_until(&self.root, a)
+    }
+
+    /// The pairs whose prefix covers the address (RFC 1812, section 5.2.4.3, Basic Match), the shortest first: the last of
+    /// them is `longest`. It takes no memory, and goes down once.
+    pub fn covering(&self, a: Addr) -> Covering<'_, V, A>
+        ensures { result ≡ covering self.now.pairs a }
+    {
+        Covering::new(&self.root, a)
     }
 
     /// All pairs, each once, by base and then by length. It takes no memory.

@@ -1,12 +1,13 @@
 -- What a look-up has still to find. In a list in order the last pair that covers an address is the longest that does.
-use Rattle.std.specs.Prelude.{[], ◌∷◌, Option, Some, None, if◌then◌else◌}
+use Rattle.std.specs.Prelude.{[], ◌∷◌, Option, Some, None, IfSome, if◌then◌else◌}
 use Rattle.std.specs.Borrow.{Bor}
 use Rattle.rt_cidr.specs.declared.prefixes.Prefix.{Prefix}
 use Rattle.rt_cidr.specs.declared.address.Addr.{Addr}
 use Rattle.rt_cidr.specs.Prefix.{covers}
 use Rattle.rt_trie.specs.declared.nodes.Link.{Link}
-use Rattle.rt_trie.specs.Map.{Pairs}
+use Rattle.rt_trie.specs.Map.{Pairs, covering}
 use Rattle.rt_trie.specs.inside.Links.{pairs}
+use Rattle.rt_trie.specs.Links.{IsLawfulBelow}
 
 -- the first of two answers
 abbrev pub or_else : {X : Type 0} → Option X → Option X → Option X
@@ -22,3 +23,12 @@ last_cover ((q, v) ∷ rest) a = or_else (last_cover rest a) (if covers q a then
 abbrev pub sought : {V A : Type 0} → Option (Bor (Link V A)) → Addr → Option (Prefix × V) → Option (Prefix × V)
 sought None a best = best
 sought (Some link) a best = or_else (last_cover (pairs link.now) a) best
+
+-- the pairs that cover the address below the link where the walk over them goes on
+abbrev pub covering_below : {V A : Type 0} → Option (Bor (Link V A)) → Addr → Pairs V
+covering_below None a = []
+covering_below (Some link) a = covering (pairs link.now) a
+
+-- the link where it goes on is lawful
+abbrev pub IsLawfulOn : {V A : Type 0} → Option (Bor (Link V A)) → Type 0
+IsLawfulOn next = IfSome next (λ link. IsLawfulBelow link.now)

@@ -1,0 +1,34 @@
+-- How far an answer goes: up to where a prefix begins or ends.
+use Rattle.std.proofs.Common.{◌≡◌, ℕ, ◌+◌, ◌-◌, ◌<◌, ◌≤◌, false, [], ◌∷◌, Option, Some, None, inl, refl, arith}
+use Rattle.std.specs.Prelude.{IfSome}
+use Rattle.rt_cidr.specs.declared.prefixes.Prefix.{Prefix}
+use Rattle.rt_cidr.specs.declared.address.Addr.{Addr}
+use Rattle.rt_cidr.specs.Prefix.{covers}
+use Rattle.rt_trie.specs.declared.nodes.Link.{Link}
+use Rattle.rt_trie.specs.Blocks.{IsInBlock}
+use Rattle.rt_trie.specs.inside.LookUps.{or_else, last_cover}
+use Rattle.rt_trie.specs.inside.Links.{pairs}
+use Rattle.rt_trie.specs.Links.{root, IsLawfulBelow}
+use Rattle.rt_trie.proofs.BlockLemmas.{past_fits}
+use Rattle.rt_trie.proofs.NodeLemmas.{covers-outside}
+use Rattle.rt_trie.proofs.PairLemmas.{AllKeys-map, last_cover-none}
+use Rattle.rt_trie.proofs.LinkLemmas.{if_some_map, pairs_within}
+
+-- a pair that doesn't cover the address leaves the best so far
+pub best_other : {V : Type 0} (q : Prefix) (v : V) (a : Addr) (best : Option (Prefix × V)) → covers q a ≡ false
+    → or_else (last_cover ((q, v) ∷ []) a) best ≡ best
+best_other q v a best h = rw h refl
+
+-- what comes before the base that a link keeps comes before its node
+pub before_key : {V A : Type 0} (link : Link V A) (q : Prefix) (base x a : ℕ) → root link ≡ Some q → base ≡ q.base
+    → IfSome (root link) (λ y. a < y.base) → x ≤ base - 1 → IfSome (root link) (λ y. x < y.base)
+before_key link q base x a e k after h = let s = rw e at after in rw e (omega arith)
+
+-- nothing below a link covers an address before those of its node
+pub none_before : {V A : Type 0} (link : Link V A) (a : Addr) → IsLawfulBelow link → IfSome (root link) (λ q. a.0 < q.base)
+    → last_cover (pairs link) a ≡ None
+none_before link a h k =
+    let on = if_some_map (root link) (λ q. a.0 < q.base) (IsInBlock (a.0 + 1) 4294967296 0)
+    (λ q lt. record { long = omega arith; from = omega (arith, lt); to = past_fits q }) k in
+    last_cover-none (pairs link) a (AllKeys-map (IsInBlock (a.0 + 1) 4294967296 0) (λ q. covers q a ≡ false) (pairs link)
+    (λ q w. covers-outside (a.0 + 1) 4294967296 0 q a (inl (omega arith)) w) (pairs_within link (a.0 + 1) 4294967296 0 h on))

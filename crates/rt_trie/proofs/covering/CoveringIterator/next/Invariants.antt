@@ -1,0 +1,14 @@
+use Rattle.std.proofs.Common.{◌≡◌}
+use Rattle.rt_trie.specs.inside.LookUps.{covering_below, IsLawfulOn}
+use Rattle.rt_trie.proofs.CoveringLemmas.{nodes_below}
+use Rattle.rt_trie.proofs.covering.CoveringIterator.next.Given as goal
+
+-- the link is lawful, and what covers the address below it is what is still to come
+abbrev pub invariant-loop-self : goal.invariant-loop-self
+invariant-loop-self g l = record {
+  lawful : IsLawfulOn l.self-inside.below;
+  same : covering_below l.self-inside.below l.self-inside.address ≡ l.fn.self;
+}
+
+abbrev pub decreases-loop-self : goal.decreases-loop-self
+decreases-loop-self g l = nodes_below l.self-inside.below

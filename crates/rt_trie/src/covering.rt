@@ -1,0 +1,92 @@
+//! Going over the pairs whose prefix covers an address.
+
+ghost use Rattle.std.specs.Prelude.{◌≡◌, ◌<◌, ◌≤◌};
+ghost use Rattle.rt_trie.specs.Blocks.{middle};
+
+use crate::nodes::{Link, NodeView, middle};
+use rt_cidr::{Addr, Prefix};
+use std::alloc::Allocator;
+use std::marker::Model;
+
+/// An iterator over the pairs of a trie whose prefix covers an address, the shortest first. It takes no memory, and goes down
+/// once.
+#[derive(Drop)]
+pub struct Covering<'a, V, A: Allocator> {
+    // The link below which the pairs are that are still to come.
+    below: Option<&'a Link<V, A>>,
+    address: Addr,
+}
+
+impl<'a, V, A: Allocator> Model for Covering<'a, V, A> {
+    ghost use Rattle.rt_trie.specs.Map.{Pairs};
+
+    ghost Value = { Pairs V };
+
+    ghost use Rattle.rt_trie.specs.inside.LookUps.{covering_below, IsLawfulOn};
+
+    ghost view = { λ c. covering_below c.below c.address };
+
+    ghost invariant = { λ c. IsLawfulOn c.below };
+}
+
+impl<'a, V, A: Allocator> Covering<'a, V, A> {
+    ghost use Rattle.rt_trie.specs.Map.{covering};
+    ghost use Rattle.rt_trie.specs.inside.Links.{pairs};
+    ghost use Rattle.rt_trie.specs.Links.{IsLawfulTrie};
+
+    pub(crate) fn new(root: &'a Link<V, A>, address: Addr) -> Covering<'a, V, A>
+        requires { IsLawfulTrie root.now }
+        ensures { result ≡ covering (pairs root.now) address }
+    {
+        Covering {
+            below: Some(root),
+            address,
+        }
+    }
+}
+
+impl<'a, V, A: Allocator> Iterator for Covering<'a, V, A> {
+    ghost use Rattle.std.specs.Iterator.{YieldsFirstBy, item_count};
+
+    type Item = (Prefix, &'a V);
+
+    ghost next_gives = { YieldsFirstBy (λ x. (x.0, x.1.now)) (λ s. s) };
+
+    ghost remaining = { item_count (λ s. s) };
+
+    fn next(&mut self) -> Option<(Prefix, &'a V)> {
+        while let Some(link) = self.below {
+            match link.view() {
+                NodeView::Branch(prefix, value, left, right) if prefix.covers(self.address) => {
+                    self.below = Some(half(&prefix, self.address, left, right));
+                    if let Some(value) = value {
+                        return Some((prefix, value));
+                    }
+                }
+                NodeView::Single(prefix, value) if prefix.covers(self.address) => {
+                    self.below = None;
+                    return Some((prefix, value));
+                }
+                _ => self.below = None,
+            }
+        }
+        None
+    }
+}
+
+/// Of what lies on the two sides of the prefix's node, that on the side of the address.
+fn half<'a, V, A: Allocator>(
+    prefix: &Prefix,
+    address: Addr,
+    left: &'a Link<V, A>,
+    right: &'a Link<V, A>,
+) -> &'a Link<V, A>
+    ensures lower { address.0 < middle prefix.now → result.now ≡ left.now }
+    ensures upper { middle prefix.now ≤ address.0 → result.now ≡ right.now }
+{
+    if u64::from(address.0) < middle(prefix.len(), prefix.base()) {
+        left
+    } else {
+        right
+    }
+}
