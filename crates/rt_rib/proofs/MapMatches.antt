@@ -6,7 +6,7 @@ use Rattle.std.proofs.lemmas.List.Elements.{All-map, Contains-append_left, Conta
 use Rattle.rt_cidr.specs.declared.address.Addr.{Addr}
 use Rattle.rt_cidr.specs.declared.prefixes.Prefix.{Prefix}
 use Rattle.rt_cidr.specs.Prefix.{covers}
-use Rattle.rt_trie.specs.Map.{before, IsBeforeAll, IsOrdered}
+use Rattle.rt_trie.specs.Map.{covering, before, IsBeforeAll, IsOrdered}
 use Rattle.rt_trie.proofs.Promised.{later_is_longer}
 use Rattle.rt_rib.specs.declared.routes.Route.{Route}
 use Rattle.rt_rib.specs.declared.offers.Offer.{Offer}
@@ -51,7 +51,7 @@ ordered-filter t ((p, offers) ∷ rest) h =
     elim (t (p, offers)) as (λ b. IsOrdered (cond b ((p, offers) ∷ filter t rest) (filter t rest))) [ true ↦ (before-filter t p rest h.0, tail) | false ↦ tail ]
 
 -- whether the prefix of a pair covers the address
-abbrev pub pair_covers : Addr → Prefix × List Offer → Bool
+abbrev pair_covers : Addr → Prefix × List Offer → Bool
 pair_covers addr x = covers x.0 addr
 
 module _ (addr : Addr) where
@@ -86,30 +86,26 @@ module _ (addr : Addr) where
       All-map (Beats s) (route_by p) offers (λ k d l. below_then-less p.len s.prefix.len _ less)))
 
   module _ (laws : MapLaws) (m : Map) (h : IsMap m) where
-    -- the pairs that cover the address
-    abbrev covering : Map
-    covering = filter (pair_covers addr) m
-
-    -- their routes are those that match
-    matches_exactly : (r : Route) → Contains (routes_backward covering) r ↔ (Contains (routes_of m) r × (covers r.prefix addr ≡ true))
+    -- the routes of the pairs that cover the address are those that match
+    matches_exactly : (r : Route) → Contains (routes_backward (covering m addr)) r ↔ (Contains (routes_of m) r × (covers r.prefix addr ≡ true))
     matches_exactly r = (
       (λ c.
-          let x = offer_in covering r ((backward-contains covering r).0 c) in
+          let x = offer_in (covering m addr) r ((backward-contains (covering m addr) r).0 c) in
           let there = filter-from (pair_covers addr) m (r.prefix, x.0) x.1 in
           (offer_out m r.prefix x.0 (offer_of r) there.0 x.2, there.1)),
       (λ c.
           let x = offer_in m r c.0 in
           let there = filter-keeps (pair_covers addr) m (r.prefix, x.0) x.1 c.1 in
-          (backward-contains covering r).1 (offer_out covering r.prefix x.0 (offer_of r) there x.2)),
+          (backward-contains (covering m addr) r).1 (offer_out (covering m addr) r.prefix x.0 (offer_of r) there x.2)),
     )
 
-    -- so backward they are what a look-up of all finds
-    pub look_up_all-backward : look_up_all addr (routes_of m) ≡ routes_backward covering
+    -- backward they are what a look-up of all finds
+    pub look_up_all-backward : look_up_all addr (routes_of m) ≡ routes_backward (covering m addr)
     look_up_all-backward =
-        ((look_up_all_finds_matches addr (routes_of m) (IsTable-map laws m h)).0 (routes_backward covering)).1 (record {
+        ((look_up_all_finds_matches addr (routes_of m) (IsTable-map laws m h)).0 (routes_backward (covering m addr))).1 (record {
           exactly = matches_exactly;
           ordered =
-              ordered_backward covering (ordered-filter (pair_covers addr) m h.ordered) (λ p offers c.
+              ordered_backward (covering m addr) (ordered-filter (pair_covers addr) m h.ordered) (λ p offers c.
               let there = filter-from (pair_covers addr) m (p, offers) c in
               (h.each p offers ((laws.found m p offers h.ordered).0 there.0), there.1));
         })

@@ -20,7 +20,11 @@
 //! makes beforehand, and a `Purge` goes over the map once, up to the last route of its feed (`src/purge.rt`). Who has several commands at hand lets the trie wait for the memory
 //! of all of them at once by [`Book::read_ahead`] (`src/ahead.rt`).
 //!
-//! Only tested, since no clause says it: that a command succeeds where there is memory, and whose memory a list takes.
+//! A book is also asked beside its journal: [`Book::look_up`] answers many addresses at once, [`Book::look_up_all`] gives every
+//! route whose prefix covers an address, the best first, and [`Book::look_up_until`] tells how far an answer goes.
+//!
+//! Only tested, since no clause says it: that a command succeeds where there is memory, whose memory a list takes, and that
+//! an answer is said to go as far as it does.
 #![tactic(auto)]
 
 mod ahead;

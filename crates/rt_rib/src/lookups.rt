@@ -34,13 +34,14 @@ pub(crate) fn best_of<A: Allocator + Copy>(map: &Map<A>, addr: Addr) -> Option<R
     best_at(map.longest(addr))
 }
 
-/// `best_of` of the address, and a last address up to which each has the same.
+/// `best_of` of the address, and a last address: each one up to it has the same.
 pub(crate) fn best_until<A: Allocator + Copy>(map: &Map<A>, addr: Addr) -> (Option<Route>, Addr)
     requires { IsMap map.now.pairs }
     ensures onward { addr.0 ≤ result.1.0 }
     ensures same { (b : Addr) → addr.0 ≤ b.0 → b.0 ≤ result.1.0 → look_up b (routes_of map.now.pairs) ≡ result.0 }
 {
-    (best_of(map, addr), addr)
+    let (longest, last) = map.longest_until(addr);
+    (best_at(longest), last)
 }
 
 /// The routes of all prefixes that cover the address, the best first.
@@ -54,12 +55,10 @@ pub(crate) fn all_of<A: Allocator + Copy>(
 {
     map_laws::<A>();
     let mut routes = Vec::new(alloc);
-    for (prefix, offers) in map.walk() {
-        if prefix.covers(addr) {
-            append_backward(&mut routes, prefix, offers.as_slice())?;
-        }
+    for (prefix, offers) in map.covering(addr) {
+        append_backward(&mut routes, prefix, offers.as_slice())?;
     }
-    // On the way down the shortest prefix comes first, and it is to be the last.
+    // The way down comes to the shortest prefix first, which is to be the last.
     routes.reverse();
     Ok(routes)
 }

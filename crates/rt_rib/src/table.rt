@@ -93,7 +93,7 @@ impl<A: Allocator + Copy> Table<A> {
         lookups::best_of_each(&self.map, addresses, answers);
     }
 
-    /// The best route of the longest prefix that covers the address, and a last address up to which each has the same.
+    /// The best route of the longest prefix that covers the address, and a last address: each one up to it has the same.
     pub(crate) fn look_up_until(&self, addr: Addr) -> (Option<Route>, Addr)
         ensures onward { addr.0 ≤ result.1.0 }
         ensures same { (b : Addr) → addr.0 ≤ b.0 → b.0 ≤ result.1.0 → look_up b self.now.routes ≡ result.0 }
