@@ -1,8 +1,9 @@
-//! Look-ups of many addresses at once, and the best routes of a table.
+//! Look-ups of many addresses at once, of all that covers one, and the best routes of a table.
+use super::plain::Plain;
 use super::{add, addr, prefix, route};
-use rt_cidr::Addr;
+use rt_cidr::{Addr, Prefix};
 use rt_rib::*;
-use std::alloc::Allocator;
+use std::alloc::{Allocator, Global};
 use std::process::Abort;
 use std::test::Fail;
 
@@ -48,6 +49,83 @@ fn many_addresses_are_answered_as_each_by_itself(rt: HostRuntime) -> Result<(), 
             );
         }
     }
+    Ok(())
+}
+
+/// The prefix of that length that covers 10.1.2.3.
+fn around(rt: &impl Abort, len: u8) -> Prefix {
+    let past = 32u8.saturating_sub(len);
+    let base = (addr(10, 1, 2, 3).0 as u64 >> past) << past;
+    prefix(rt, Addr(base as u32), len)
+}
+
+/// The book and the list have a route of the feed to the prefix more.
+fn add_to_both(
+    alloc: Global,
+    book: &mut Book<Global>,
+    plain: &mut Plain,
+    feed: u8,
+    prefix: Prefix,
+) -> Result<(), Fail> {
+    if feed_ok(feed as u32) {
+        let cmd = add(prefix, feed as u32 * 5 % 7, feed);
+        let _ = book.apply(feed as u32, cmd)?;
+        let _ = plain.apply(alloc, feed as u32, cmd)?;
+    }
+    Ok(())
+}
+
+/// Compares all that covers the address in the book and in the list, and the first of it with the answer to a look-up.
+fn compare_matches(
+    rt: &impl Abort,
+    alloc: Global,
+    book: &mut Book<Global>,
+    plain: &Plain,
+    addr: Addr,
+) -> Result<usize, Fail> {
+    let matches = book.look_up_all(alloc, addr)?;
+    assert_eq!(rt;
+        matches.as_slice(),
+        plain.look_up_all(alloc, addr)?.as_slice()
+    );
+    assert_eq!(rt; matches.first().copied(), answer(rt, book, addr));
+    Ok(matches.len())
+}
+
+/// The default route and every longer prefix of 10.1.2.3, with four offers each, and one of them with an offer of every feed.
+/// Fails where `Book::look_up_all` always returns `Refused`.
+#[test]
+fn all_that_covers_an_address_comes_best_first(rt: HostRuntime) -> Result<(), Fail> {
+    let mut book = Book::new(rt.alloc(), 100);
+    let mut plain = Plain::new(rt.alloc(), 100);
+    for len in 0..=32u8 {
+        let prefix = around(&rt, len);
+        for feed in 1..=64u8 {
+            if len == 16 || feed % 16 == len % 16 {
+                add_to_both(rt.alloc(), &mut book, &mut plain, feed, prefix)?;
+            }
+        }
+    }
+    for (addr, count) in [
+        (addr(10, 1, 2, 3), 192),
+        (addr(10, 1, 2, 2), 188),
+        (addr(10, 1, 128, 0), 128),
+        (addr(255, 255, 255, 255), 4),
+    ] {
+        let matches = compare_matches(&rt, rt.alloc(), &mut book, &plain, addr)?;
+        assert_eq!(rt; matches, count);
+    }
+    Ok(())
+}
+
+#[test]
+fn nothing_covers_an_address_of_an_empty_book(rt: HostRuntime) -> Result<(), Fail> {
+    let book = Book::new(rt.alloc(), 100);
+    assert!(rt; book.look_up_all(rt.alloc(), addr(10, 1, 2, 3))?.is_empty());
+    assert_eq!(rt;
+        book.look_up_until(Addr(0)),
+        (None, addr(255, 255, 255, 255))
+    );
     Ok(())
 }
 

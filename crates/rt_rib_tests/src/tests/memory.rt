@@ -62,7 +62,7 @@ fn asked_for_routes(memory: &Counted<Global>, other: &Counted<Global>) -> u64 {
     memory.asked().wrapping_sub(other.asked())
 }
 
-/// Fails where `Book::new`, a look-up, one of many, `read_ahead`, a replacement, a withdrawal or a purge asks for
+/// Fails where `Book::new`, a look-up, one of many, one until where, `read_ahead`, a replacement, a withdrawal or a purge asks for
 /// memory beside the entry's, even if it gives it back at once.
 /// Fails where a withdrawal asks for a block: 2,559 requests, instead of 511.
 #[test]
@@ -80,6 +80,7 @@ fn nothing_but_the_journal_and_an_add_asks_for_memory(rt: HostRuntime) -> Result
         let (pref, hop) = (k, via(1));
         book.read_ahead(&[Cmd::Lookup { addr }]);
         book.look_up(&[addr; 20], &mut [None; 20]);
+        let _ = book.look_up_until(addr);
         book.holds();
         for cmd in [
             Cmd::Lookup { addr },
@@ -101,6 +102,31 @@ fn nothing_but_the_journal_and_an_add_asks_for_memory(rt: HostRuntime) -> Result
     assert_eq!(rt; book.journal().len(), idle.journal().len());
     assert_eq!(rt; book.nodes(), 0);
     assert_eq!(rt; asked_for_routes(&memory, &other), routes);
+    Ok(())
+}
+
+/// Fails where `Book::look_up_all` asks for memory of the book's allocator, or for more of its own than a list of its
+/// routes does that grows one by one.
+#[test]
+fn a_look_up_of_all_asks_for_its_list_alone(rt: HostRuntime) -> Result<(), Fail> {
+    let memory = Counted::new(rt.alloc());
+    let other = Counted::new(rt.alloc());
+    let own = Counted::new(rt.alloc());
+    let plain = Counted::new(rt.alloc());
+    let mut book = Book::new(&memory, 100);
+    let mut idle = Book::new(&other, 100);
+    fill(&rt, &mut book, &mut idle)?;
+    let asked = memory.asked();
+    for k in 0..PREFIXES {
+        let matches = book.look_up_all(&own, Addr(nth(&rt, k).base()))?;
+        let mut list = Vec::new(&plain);
+        for route in &matches {
+            list.push(*route)?;
+        }
+        assert_eq!(rt; matches.len() as u64, u64::from(k) + 1);
+        assert!(rt; own.asked() <= plain.asked());
+    }
+    assert_eq!(rt; memory.asked(), asked);
     Ok(())
 }
 

@@ -111,13 +111,26 @@ impl Plain {
         self.routes.retain(|route| !is_of(route, feed, prefix));
     }
 
-    fn look_up(&self, alloc: Global, addr: Addr) -> Result<Option<Route>, AllocError> {
+    /// The routes whose prefix covers the address, in no order.
+    fn matching(&self, alloc: Global, addr: Addr) -> Result<Vec<Route>, AllocError> {
         let mut matching: Vec<Route> = Vec::new(alloc);
         for route in &self.routes {
             if route.prefix.covers(addr) {
                 matching.push(*route)?;
             }
         }
+        Ok(matching)
+    }
+
+    /// All of them, the best first.
+    pub(super) fn look_up_all(&self, alloc: Global, addr: Addr) -> Result<Vec<Route>, AllocError> {
+        let mut matching = self.matching(alloc, addr)?;
+        matching.sort_by_key(|route| (!route.prefix.len(), route.pref, route.feed))?;
+        Ok(matching)
+    }
+
+    pub(super) fn look_up(&self, alloc: Global, addr: Addr) -> Result<Option<Route>, AllocError> {
+        let matching = self.matching(alloc, addr)?;
         let mut longest: Vec<Route> = Vec::new(alloc);
         for route in &matching {
             if matching

@@ -131,7 +131,7 @@ fn ask_both(
     Ok(reply)
 }
 
-/// Compares the routes of the book with those of the list.
+/// Compares the routes of the book with those of the list, and all that cover each of the addresses.
 fn compare_routes(
     rt: &impl Abort,
     alloc: Global,
@@ -139,7 +139,35 @@ fn compare_routes(
     plain: &Plain,
 ) -> Result<(), Fail> {
     assert_eq!(rt; book.routes(alloc)?.as_slice(), plain.sorted()?.as_slice());
+    for addr in ADDRESSES.iter() {
+        let matches = plain.look_up_all(alloc, Addr(*addr))?;
+        assert_eq!(rt;
+            book.look_up_all(alloc, Addr(*addr))?.as_slice(),
+            matches.as_slice()
+        );
+    }
     Ok(())
+}
+
+/// Goes over all addresses, each time on from the last one up to which the book says that the answer holds. It is the list's
+/// at both ends, and there are no more of them than there are borders of nodes.
+fn go_over_all_addresses(
+    rt: &impl Abort,
+    alloc: Global,
+    book: &Book<Global>,
+    plain: &Plain,
+) -> Result<(), Fail> {
+    let mut addr = Addr(0);
+    for _ in 0..=2 * book.nodes().min(1_000) {
+        let (found, last) = book.look_up_until(addr);
+        assert_eq!(rt; found, plain.look_up(alloc, addr)?);
+        assert_eq!(rt; found, plain.look_up(alloc, last)?);
+        match last.0.checked_add(1) {
+            Some(next) => addr = Addr(next),
+            None => return Ok(()),
+        }
+    }
+    Err(Fail::from("more answers than borders"))
 }
 
 /// Six hundred commands, with the routes compared after each eighth. Answers which kinds of replies came.
@@ -211,6 +239,7 @@ fn sixty_adds(
     Ok(())
 }
 
+/// Fails where `Book::look_up_until` answers the address itself as the last one.
 #[test]
 fn purges_among_many_prefixes(rt: HostRuntime) -> Result<(), Fail> {
     let mut dice = Dice(11);
@@ -219,8 +248,10 @@ fn purges_among_many_prefixes(rt: HostRuntime) -> Result<(), Fail> {
     for _ in 0..40u32 {
         sixty_adds(&rt, rt.alloc(), &mut dice, &mut book, &mut plain)?;
         let feed = FEEDS[dice.roll(4)];
+        go_over_all_addresses(&rt, rt.alloc(), &book, &plain)?;
         ask_both(&rt, rt.alloc(), &mut book, &mut plain, feed, Cmd::Purge)?;
         compare_routes(&rt, rt.alloc(), &book, &plain)?;
+        go_over_all_addresses(&rt, rt.alloc(), &book, &plain)?;
     }
     Ok(())
 }
