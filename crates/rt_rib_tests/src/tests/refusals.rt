@@ -2,7 +2,7 @@
 use super::plain::Plain;
 use super::{add, addr, ask, assert_routes, prefix, route, via};
 use linked_list_allocator::LocalHeap;
-use rt_cidr::Prefix;
+use rt_cidr::{Addr, Prefix};
 use rt_rib::*;
 use std::alloc::{AllocError, Global};
 use std::process::Abort;
@@ -215,6 +215,62 @@ fn reserved_room_lasts_where_all_memory_is_taken(rt: HostRuntime) -> Result<(), 
     }
     assert_eq!(rt; book.journal().len(), 10);
     Ok(())
+}
+
+/// Looks up all that covers the address, in memory of a region that has none left, and gives back a block of it after each
+/// refusal, until it is all routes of the book. Each refusal changes nothing. Answers how often it was refused.
+fn look_up_all_until_answered<'h>(
+    rt: &impl Abort,
+    book: &Book<&'h LocalHeap>,
+    blocks: &mut Vec<Box<u8, &'h LocalHeap>>,
+    (heap, spare): (&'h LocalHeap, &'h LocalHeap),
+    addr: Addr,
+) -> Result<usize, Fail> {
+    let routes = book.routes(heap)?;
+    for refused in 0..1_000usize {
+        match book.look_up_all(spare, addr) {
+            Ok(matches) => {
+                assert_eq!(rt; matches.as_slice(), routes.as_slice());
+                return Ok(refused);
+            }
+            Err(Refused) => assert_routes(rt, heap, book, routes.as_slice())?,
+        }
+        drop(blocks.pop());
+    }
+    Err(Fail::from("never answered"))
+}
+
+/// A book of forty offers for one prefix, asked for all of them where its region is ample and the list's has none left.
+fn starve_a_look_up_of_all<'h>(
+    rt: &impl Abort,
+    alloc: Global,
+    (heap, spare): (&'h LocalHeap, &'h LocalHeap),
+) -> Result<(), Fail> {
+    let wide = prefix(rt, addr(10, 0, 0, 0), 8);
+    let mut book = Book::new(heap, LIMIT);
+    for feed in 1..=40u8 {
+        ask(
+            rt,
+            &mut book,
+            (feed as u32, add(wide, 9, feed), Reply::Added),
+        )?;
+    }
+    let mut blocks = Vec::new(alloc);
+    take_the_rest(spare, &mut blocks)?;
+    let inner = addr(10, 1, 2, 3);
+    let refused = look_up_all_until_answered(rt, &book, &mut blocks, (heap, spare), inner)?;
+    // Each growth of the list was refused; the last one takes a quarter of the region and more.
+    assert!(rt; refused > 4);
+    assert_eq!(rt; book.journal().len(), 40);
+    Ok(())
+}
+
+/// Fails where a look-up of all answers with what it has found so far where a growth of its list is refused.
+#[test]
+fn a_look_up_of_all_is_refused_or_whole(rt: HostRuntime) -> Result<(), Fail> {
+    let heap = LocalHeap::new(rt.alloc(), 16_384)?;
+    let spare = LocalHeap::new(rt.alloc(), 4_096)?;
+    starve_a_look_up_of_all(&rt, rt.alloc(), (&heap, &spare))
 }
 
 #[test]
