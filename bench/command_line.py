@@ -370,6 +370,17 @@ def best_of(routes, address):
     return min(covering, key=lambda r: (-r[1], r[2], r[3]), default=None)
 
 
+def all_of(routes, address):
+    """The lines of all routes that cover the address: the best, and the others in order, with what each was left behind by."""
+    place = lambda r: (-r[1], r[2], r[3])
+    covering = sorted((r for r in routes if (address ^ r[0]) >> 32 - r[1] == 0), key=place)
+    if not covering:
+        return [f"{dotted(address)} no route\n"]
+    first, *others = covering
+    reason = lambda r: "shorter" if r[1] < first[1] else "preference" if r[2] > first[2] else "feed"
+    return [f"{dotted(address)} route {shown(first)}"] + [f"{dotted(address)} also {shown(r)[:-1]} {reason(r)}\n" for r in others]
+
+
 def dotted(number):
     return ".".join(str(number >> shift & 255) for shift in (24, 16, 8, 0))
 
@@ -399,10 +410,12 @@ def finished_tables(yarib):
     addresses = [choice.choice((10 << 24, 172 << 24, 192 << 24)) + choice.randrange(1 << 16) for _ in range(2_000)]
     pathlib.Path("asked.txt").write_text("# asked\n\n" + "".join(dotted(address) + "\n" for address in addresses))
     answers = "".join(f"{dotted(address)} " + (f"route {shown(found)}" if (found := best_of(routes, address)) else "no route\n") for address in addresses)
+    every = "".join(line for address in addresses for line in all_of(routes, address))
     in_order = sorted(routes, key=lambda r: (r[0], r[1], r[2], r[3]))
     best = [r for place, r in enumerate(in_order) if place == 0 or in_order[place - 1][:2] != r[:2]]
     for words in ([], ["--batch", "1"], ["--batch", "1024"], ["--limit", "1000000"]):
         expect(f"2,000 addresses {words}", run([yarib, "lookup", *words, "--addresses", "asked.txt", *names]), (0, answers, ""))
+        expect(f"all that covers 2,000 addresses {words}", run([yarib, "lookup", *words, "--all", "--addresses", "asked.txt", *names]), (0, every, ""))
         expect(f"the routes {words}", run([yarib, "table", *words, *names]), (0, "".join(map(shown, in_order)), ""))
         expect(f"the best routes {words}", run([yarib, "table", *words, "--best", *names]), (0, "".join(map(shown, best)), ""))
     for count in (1, 255, 256, 257, 513):
@@ -456,6 +469,8 @@ def not_taken(yarib):
     expect("- is a file of addresses", run([yarib, "lookup", "--addresses", "-", "row.feed"]), (0, answer, ""))
     os.remove("-")
     misused("--addresses twice", run([yarib, "lookup", "--addresses", "asked.txt", "--addresses", "asked.txt", "row.feed"]), "--addresses")
+    misused("--all of a table", run([yarib, "table", "--all", "row.feed"]), "--all")
+    misused("--all twice", run([yarib, "lookup", "--all", "--all", "--address", "10.0.0.1", "row.feed"]), "--all")
     misused("--best of a look-up", run([yarib, "lookup", "--best", "--address", "10.0.0.1", "row.feed"]), "--best")
     misused("--address of a table", run([yarib, "table", "--address", "10.0.0.1", "row.feed"]), "--address")
     misused("--best of a run", run([yarib, "run", "--best", "row.feed"]), "--best")

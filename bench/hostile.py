@@ -90,6 +90,7 @@ def little_memory(yarib, folder):
         ("one long file", ["run", "--batch", "100", *text_files(folder, "long", long)], long, 65_536, 0.005),
         ("64 files", ["run", *text_files(folder, "own", many)], many, 65_536, 0.02),
         ("a look-up in 64 files", ["lookup", "--address", "9.2.3.4", *text_files(folder, "own", many)], None, 65_536, 0.1),
+        ("all that covers, in 64 files", ["lookup", "--all", "--address", "9.2.3.4", *text_files(folder, "own", many)], None, 65_536, 0.1),
         ("the table of 64 files", ["table", *text_files(folder, "own", many)], None, 65_536, 0.1),
         ("a replay", ["replay", "--levels", "6", *["5", "63"] * 100], None, 4_096, 0),
         ("the help", ["run", "--help"], None, 4_096, 0),
@@ -117,7 +118,7 @@ def refused_commands(yarib, folder):
     paths = text_files(folder, "refused", [AGAIN, ROW])
     asked = folder / "faulty.txt"
     asked.write_text("10.0.0.1\nfrob\n")
-    for words in (["lookup", "--addresses", asked], ["lookup", "--address", "10.0.0.1"], ["table"]):
+    for words in (["lookup", "--addresses", asked], ["lookup", "--address", "10.0.0.1"], ["lookup", "--all", "--addresses", asked], ["table"]):
         name, kinds = f"{words[:2]} in two files", set()
         try:
             refuse_each([yarib, *words, *paths], check_shown, refuse, False, kinds)
@@ -154,6 +155,10 @@ def files(yarib, folder):
         expect(f"the table of {count} files", run([yarib, "table", *[row] * count]), (0, listed, ""))
         found = run([yarib, "lookup", "--addresses", "/dev/stdin", *[row] * count], input=b"10.0.0.1\n")
         expect(f"addresses from a pipe and {count} files", found, (0, "10.0.0.1 route " + listed.splitlines(True)[0], ""))
+        first, *others = listed.splitlines()
+        every = f"10.0.0.1 route {first}\n" + "".join(f"10.0.0.1 also {line} feed\n" for line in others)
+        found = run([yarib, "lookup", "--all", "--address", "10.0.0.1", *[row] * count])
+        expect(f"all that covers, in {count} files", found, (0, every, ""))
     expect("a pipe as /dev/stdin", run([yarib, "run", "/dev/stdin"], input=ROW.encode()), (0, ROW_OUT, ""))
     with open(row) as text:
         expect("a file as /dev/stdin", run([yarib, "run", "/dev/stdin"], stdin=text), (0, ROW_OUT, ""))
@@ -191,7 +196,8 @@ def outputs(yarib, folder):
     cannot = (6, "", "yarib: cannot write\n")
     asked = folder / "asked.txt"
     asked.write_text("10.0.0.1\n" * 5_000)
-    for words in (["run", row], ["run", large], ["lookup", "--addresses", asked, row], ["table", row], ["replay", "--levels", "1", "0"], ["run", "--help"], ["--version"]):
+    for words in (["run", row], ["run", large], ["lookup", "--addresses", asked, row],
+                  ["lookup", "--all", "--addresses", asked, row], ["table", row], ["replay", "--levels", "1", "0"], ["run", "--help"], ["--version"]):
         name = " ".join(str(word) for word in words if not isinstance(word, pathlib.Path))
         with open("/dev/full", "w") as full:
             expect(f"{name}: a full output", run([yarib, *words], stdout=full), cannot)

@@ -107,6 +107,15 @@ class Table:
         of_longest = [key for key in covering if int(key[0].split("/")[1]) == longest]
         return "route " + self.shown(min(of_longest, key=lambda key: (int(self.routes[key][0]), key[1])))
 
+    def all(self, addr):
+        """The lines of all that covers the address, the best first, with the step at which each was left behind it."""
+        place = lambda key: (-int(key[0].split("/")[1]), int(self.routes[key][0]), key[1])
+        covering = sorted((key for key in self.routes if covers(key[0], addr)), key=place)
+        if not covering:
+            return [f"{addr} no route\n"]
+        reason = lambda key: next(word for word, a, b in zip(("shorter", "preference", "feed"), place(key), place(covering[0])) if a != b)
+        return [f"{addr} route {self.shown(covering[0])}\n"] + [f"{addr} also {self.shown(key)} {reason(key)}\n" for key in covering[1:]]
+
     def shown(self, key):
         pref, hop = self.routes[key]
         return f"{key[0]} feed {key[1]} pref {pref} via {hop}"
@@ -381,6 +390,12 @@ def answers_text(texts, addresses, limit=65_536):
     return "".join(f"{addr} {table.best(addr)}\n" for addr in addresses)
 
 
+def all_answers_text(texts, addresses, limit=65_536):
+    """The same of `lookup --all`."""
+    _, table = ran(texts, set(), limit)
+    return "".join(line for addr in addresses for line in table.all(addr))
+
+
 def check_shown(ending, ample, kinds):
     """A look-up or list of the table: all is as it was, or nothing is printed and nothing told, or commands were refused."""
     if (ending.status, ending.out, ending.err) == (5, "", "yarib: fault F3\n"):
@@ -449,6 +464,7 @@ def cases(folder, yarib, libraries):
     for name, texts in (("one file", row), ("three files", three), ("64 files", many)):
         paths = files(folder, name.replace(" ", ""), texts)
         yield f"a look-up in {name}", [yarib, "lookup", "--addresses", folder / "asked.txt", *paths], check_shown
+        yield f"all that covers, of {name}", [yarib, "lookup", "--all", "--addresses", folder / "asked.txt", *paths], check_shown
         yield f"the table of {name}", [yarib, "table", "--best", *paths], check_shown
     yield "a replay", [yarib, "replay", "--levels", "1", "0", "0", "0", "0"], check_same
     yield "a replay of 6 levels", [yarib, "replay", "--levels", "6"] + ["5", "63"] * 30, check_same

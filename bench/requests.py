@@ -70,11 +70,14 @@ def counted_text(yarib, count, text, batch, *words):
 
 
 def shown(yarib, count):
-    """Twice as many answers and rows cost no request for each, nor does any while they are written."""
+    """Twice as many answers and rows cost no request for each, but one each of all that covers, nor any while they are written."""
     adds = "".join(f"add {address(0x0A00_0000 + (at << 8))}/24 1 192.0.2.1\n" for at in range(10_000))
     pathlib.Path("text.feed").write_text(adds)
     few, many = (counted_shown(yarib, count, ["lookup", "--addresses", "asked.txt"], lines) for lines in (20_000, 40_000))
     expect(f"answers: {many - few} requests more", many - few <= DOUBLING, True)
+    few, many = (counted_shown(yarib, count, ["lookup", "--all", "--addresses", "asked.txt"], lines) for lines in (20_000, 40_000))
+    # The routes that cover an address lie in a list of their own.
+    expect(f"all that covers: {many - few} requests more", 0 <= many - few - 20_000 <= DOUBLING, True)
     listed = counted_shown(yarib, count, ["table"], 1)
     run_of = counted([yarib, "run", "--batch", "256", "text.feed"], count)[0]
     expect(f"a table: {listed - run_of} requests more than a run", listed - run_of <= DOUBLING, True)

@@ -14,7 +14,7 @@ import sys
 import tempfile
 
 from hostile import built, expect, failures, run
-from refused_growth import address, answers_text, ran, run_text, told_text
+from refused_growth import address, all_answers_text, answers_text, ran, run_text, told_text
 
 MOST = 1_000_000
 
@@ -143,6 +143,8 @@ def shown(yarib, texts, names):
     words = [word for addr in asked for word in ("--address", addr)]
     told, status = told_text(texts, names, 3), 2
     compare(f"a look-up in {len(names)} files", run([yarib, "lookup", "--limit", "3", *words, *names]), status, answers_text(texts, asked, 3), told)
+    ended = run([yarib, "lookup", "--all", "--limit", "3", *words, *names])
+    compare(f"all that covers, in {len(names)} files", ended, status, all_answers_text(texts, asked, 3), told)
     listed = ran(texts, set(), 3)[1].listed()
     out = "".join(line + "\n" for line in listed)
     compare(f"the table of {len(names)} files", run([yarib, "table", "--limit", "3", *names]), status, out, told)
@@ -169,6 +171,9 @@ def many_offers(yarib):
     pathlib.Path("asked.txt").write_text("".join(f"{base}\n" for base in bases))
     answers = "".join(f"{base} route {base}/24 feed 3 pref 6 via 192.0.2.3\n" for base in bases)
     compare("100,000 addresses", run([yarib, "lookup", "--addresses", "asked.txt", *words]), 0, answers)
+    also = lambda base: "".join(f"{base} also {base}/24 feed {feed} pref {9 - feed} via 192.0.2.{feed} preference\n" for feed in (2, 1))
+    answers = "".join(f"{base} route {base}/24 feed 3 pref 6 via 192.0.2.3\n" + also(base) for base in bases)
+    compare("all that covers 100,000 addresses", run([yarib, "lookup", "--all", "--addresses", "asked.txt", *words]), 0, answers)
     at_limit(yarib)
 
 

@@ -11,7 +11,7 @@ _yarib() {
   esac
   case ${COMP_WORDS[1]} in
     run) options="--limit --batch --help" ;;
-    lookup) options="--address --addresses --limit --batch --help" ;;
+    lookup) options="--all --address --addresses --limit --batch --help" ;;
     table) options="--best --limit --batch --help" ;;
     replay) options="--levels --help" ;;
     help) options="run lookup table replay" ;;

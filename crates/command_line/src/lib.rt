@@ -69,6 +69,8 @@ pub struct LookupRequest<'a> {
     pub addresses: Vec<&'a str>,
     /// The name of the file that has further addresses.
     pub more: Option<&'a str>,
+    /// Whether each is answered with every route that covers it.
+    pub all: bool,
 }
 
 /// Which routes to list, after which feed files.
@@ -166,6 +168,7 @@ fn lookup_command<'a>(alloc: Global) -> Result<Command<'a>, AllocError> {
     Command::new(alloc, "lookup")
         .about("Run feed files, and answer for each address from the table that they leave")
         .after_help(LOOKUP_NOTES)
+        .arg(all(alloc))?
         .arg(limit(alloc))?
         .arg(batch(alloc, UNSEEN_BATCH))?
         .arg(address(alloc))?
@@ -181,6 +184,13 @@ fn table_command<'a>(alloc: Global) -> Result<Command<'a>, AllocError> {
         .arg(limit(alloc))?
         .arg(batch(alloc, UNSEEN_BATCH))?
         .arg(files(alloc))
+}
+
+fn all<'a>(alloc: Global) -> Arg<'a> {
+    Arg::new(alloc, "all")
+        .long("all")
+        .action(ArgAction::SetTrue)
+        .help("Print every route that covers an address, the best first")
 }
 
 fn address<'a>(alloc: Global) -> Arg<'a> {
@@ -265,6 +275,7 @@ fn lookup_request<'a>(alloc: Global, asked: &ArgMatches<'a>) -> Result<LookupReq
         run: run_request(alloc, asked)?,
         addresses: texts_of(alloc, asked, "address")?,
         more: asked.get_str("addresses"),
+        all: asked.get_flag("all"),
     })
 }
 

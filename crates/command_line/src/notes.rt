@@ -87,11 +87,20 @@ begins with # are skipped.
                                             it, the route of the least P
   ADDR no route                             no prefix covers it
 
+With --all each other route that covers the address has a line too, the next
+best first, and why it was left behind: shorter (its prefix), else preference
+(a greater P), else feed (a greater F).
+  ADDR also PREFIX feed F pref P via HOP REASON
+
 ",
-    "Example, where one.feed says `add 10.0.0.0/8 100 192.0.2.1`:
+    "Example, where one.feed says `add 10.0.0.0/8 100 192.0.2.1`, and two.feed
+`add 10.0.0.0/8 50 192.0.2.2`:
   $ yarib lookup --address 10.1.2.3 --address 11.0.0.1 one.feed
   10.1.2.3 route 10.0.0.0/8 feed 1 pref 100 via 192.0.2.1
   11.0.0.1 no route
+  $ yarib lookup --all --address 10.1.2.3 one.feed two.feed
+  10.1.2.3 route 10.0.0.0/8 feed 2 pref 50 via 192.0.2.2
+  10.1.2.3 also 10.0.0.0/8 feed 1 pref 100 via 192.0.2.1 preference
 "
 );
 

@@ -1,11 +1,14 @@
 //! `lookup` and `table`: what the table says that feed files leave, and what of the files was not taken.
 
+ghost use Rattle.std.specs.Prelude.{◌≤◌, length};
+ghost use Rattle.rt_rib.specs.declared.limits.TheConstants.{MOST_FEEDS};
+
 use super::telling::{FaultyLines, tell_faulty, tell_tally};
 use super::{Program, Stop};
 use command_line::{LookupRequest, TableRequest};
 use rt_cidr::Addr;
 use rt_feed::{next_line, parse_address_line};
-use rt_run::{NOT_TAKEN, Taken, lookup_texts, table_texts};
+use rt_run::{AppFault, NOT_TAKEN, Taken, lookup_all_texts, lookup_texts, table_texts};
 use std::alloc::{AllocError, Global};
 use std::io::Write;
 use std::rt::Files;
@@ -34,15 +37,7 @@ where
             let text = self.read_file(name)?;
             add_addresses(text.as_slice(), &mut addresses)?;
         }
-        let taken = lookup_texts(
-            self.rt,
-            self.alloc,
-            texts.as_slice(),
-            run.limit,
-            run.batch as usize,
-            addresses.asked.as_slice(),
-            &mut self.screen.beside(texts.len(), self.out),
-        )?;
+        let taken = self.answer(request, texts.as_slice(), addresses.asked.as_slice())?;
         if let Some(name) = request.more {
             tell_faulty(&mut self.screen, name, addresses.faulty);
         }
@@ -52,6 +47,25 @@ where
         } else {
             status
         })
+    }
+
+    /// Writes the answers of the table that the texts leave: for each address all routes that cover it, or only the best.
+    fn answer(
+        &mut self,
+        request: &LookupRequest<'_>,
+        texts: &[Vec<u8>],
+        addresses: &[Addr],
+    ) -> Result<Taken, AppFault>
+        requires { length texts.now ≤ MOST_FEEDS }
+    {
+        let (rt, alloc) = (self.rt, self.alloc);
+        let (limit, batch) = (request.run.limit, request.run.batch as usize);
+        let mut out = self.screen.beside(texts.len(), self.out);
+        if request.all {
+            lookup_all_texts(rt, alloc, texts, limit, batch, addresses, &mut out)
+        } else {
+            lookup_texts(rt, alloc, texts, limit, batch, addresses, &mut out)
+        }
     }
 
     /// Lists the routes, or only the best of each prefix.

@@ -111,14 +111,14 @@ fn compare<R: Files + Threads + Wait + Sync + AllocGlobal + Abort>(rt: &R) -> Re
     Ok(())
 }
 
-/// Fails where `lookup_texts` or `table_texts` always returns F3 or `Write`, a faulty line of a text of addresses is
-/// answered, or the addresses come in another order than the command line's and then the file's.
+/// Fails where `lookup_texts`, `lookup_all_texts` or `table_texts` always returns F3 or `Write`, a faulty line of a text of
+/// addresses is answered, or the addresses come in another order than the command line's and then the file's.
 #[test]
 fn what_the_table_says(rt: HostRuntime) -> Result<(), Fail> {
     compare(&rt)
 }
 
-static ROWS: [Shown; 22] = [
+static ROWS: [Shown; 25] = [
     Shown {
         words: &[
             "yarib",
@@ -151,6 +151,72 @@ static ROWS: [Shown; 22] = [
         out: "10.200.0.1 route 10.0.0.0/8 feed 2 pref 30 via 192.0.2.2
 ",
         err: "",
+    },
+    // All that covers each, with the step at which it was left behind the first.
+    Shown {
+        words: &[
+            "yarib",
+            "lookup",
+            "--all",
+            "--addresses",
+            "packets.txt",
+            "north.feed",
+            "south.feed",
+            "east.feed",
+        ],
+        status: 0,
+        out: "10.1.2.3 route 10.1.0.0/16 feed 1 pref 10 via 192.0.2.1
+10.1.2.3 also 10.0.0.0/8 feed 2 pref 30 via 192.0.2.2 shorter
+10.1.2.3 also 10.0.0.0/8 feed 1 pref 50 via 192.0.2.1 shorter
+10.200.0.1 route 10.0.0.0/8 feed 2 pref 30 via 192.0.2.2
+10.200.0.1 also 10.0.0.0/8 feed 1 pref 50 via 192.0.2.1 preference
+10.9.0.1 route 10.9.0.0/16 feed 3 pref 10 via discard
+10.9.0.1 also 10.0.0.0/8 feed 2 pref 30 via 192.0.2.2 shorter
+10.9.0.1 also 10.0.0.0/8 feed 1 pref 50 via 192.0.2.1 shorter
+11.0.0.1 no route
+",
+        err: "",
+    },
+    Shown {
+        words: &[
+            "yarib",
+            "lookup",
+            "--all",
+            "--address",
+            "255.255.255.255",
+            "--address",
+            "10.0.0.1",
+            "zero.feed",
+            "equal.feed",
+            "equal.feed",
+        ],
+        status: 0,
+        out: "255.255.255.255 route 255.255.255.255/32 feed 1 pref 4294967295 via 192.0.2.6
+255.255.255.255 also 0.0.0.0/0 feed 1 pref 0 via 192.0.2.6 shorter
+10.0.0.1 route 10.0.0.0/8 feed 2 pref 30 via 192.0.2.5
+10.0.0.1 also 10.0.0.0/8 feed 3 pref 30 via 192.0.2.5 feed
+10.0.0.1 also 0.0.0.0/0 feed 1 pref 0 via 192.0.2.6 shorter
+",
+        err: "",
+    },
+    Shown {
+        words: &[
+            "yarib",
+            "lookup",
+            "--all",
+            "--addresses",
+            "odd.txt",
+            "again.feed",
+            "none.feed",
+        ],
+        status: 2,
+        out: "10.0.0.1 route 10.0.0.0/8 feed 1 pref 30 via 192.0.2.8
+10.0.0.3 route 10.0.0.0/8 feed 1 pref 30 via 192.0.2.8
+",
+        err: "yarib: odd.txt: faulty lines: 2, the first 2: E3: the field is no prefix or address
+yarib: again.feed: adds of a prefix already there: 1
+yarib: again.feed: replaces and withdraws of a prefix not there: 2
+",
     },
     Shown {
         words: &["yarib", "table", "north.feed", "south.feed", "east.feed"],

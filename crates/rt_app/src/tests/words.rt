@@ -163,7 +163,7 @@ fn shows(alloc: Global, help: &[u8], printed: &[u8]) -> Result<bool, Fail> {
 }
 
 /// The command of each example of the help, the line that is typed, and its words.
-static EXAMPLES: [(&str, &str, &[&str]); 6] = [
+static EXAMPLES: [(&str, &str, &[&str]); 7] = [
     (
         "lookup",
         "$ yarib lookup --address 10.1.2.3 --address 11.0.0.1 one.feed\n",
@@ -175,6 +175,19 @@ static EXAMPLES: [(&str, &str, &[&str]); 6] = [
             "--address",
             "11.0.0.1",
             "one.feed",
+        ],
+    ),
+    (
+        "lookup",
+        "$ yarib lookup --all --address 10.1.2.3 one.feed two.feed\n",
+        &[
+            "yarib",
+            "lookup",
+            "--all",
+            "--address",
+            "10.1.2.3",
+            "one.feed",
+            "two.feed",
         ],
     ),
     (
@@ -272,8 +285,16 @@ fn nothing_is_told_where_the_output_is_closed(rt: HostRuntime) -> Result<(), Fai
     Ok(())
 }
 
-static NOT_ALL_TAKEN: [&[&str]; 2] = [
+static NOT_ALL_TAKEN: [&[&str]; 3] = [
     &["yarib", "lookup", "--addresses", "odd.txt", "odd.feed"],
+    &[
+        "yarib",
+        "lookup",
+        "--all",
+        "--addresses",
+        "odd.txt",
+        "odd.feed",
+    ],
     &["yarib", "table", "odd.feed"],
 ];
 
