@@ -1,52 +1,10 @@
 //! Texts read and written, and writers that take a byte a call, fail or hold too little.
 use rt_cidr::*;
-use std::alloc::{AllocError, Global};
+use std::alloc::Global;
 use std::io::{self, ErrorKind, Write};
 use std::process::Abort;
 use std::test::Fail;
-
-/// Takes one byte a call. Once it holds `room` bytes it answers one fault, or else takes nothing, and then goes on.
-#[derive(Drop)]
-struct Narrow {
-    taken: Vec<u8>,
-    room: usize,
-    fault: Option<io::Error>,
-    is_over: bool,
-}
-
-impl Narrow {
-    fn new(alloc: Global, room: usize, fault: Option<io::Error>) -> Narrow {
-        Narrow {
-            taken: Vec::new(alloc),
-            room,
-            fault,
-            is_over: false,
-        }
-    }
-}
-
-impl Write for Narrow {
-    fn write(&mut self, buf: &[u8]) -> io::Result<usize> {
-        if !self.is_over && self.taken.len() == self.room {
-            self.is_over = true;
-            return match self.fault {
-                Some(fault) => Err(fault),
-                None => Ok(0),
-            };
-        }
-        match buf {
-            [first, ..] => {
-                self.taken.push(*first)?;
-                Ok(1)
-            }
-            [] => Ok(0),
-        }
-    }
-
-    fn flush(&mut self) -> io::Result<()> {
-        Ok(())
-    }
-}
+use test_support::{StumblingWriter, each_fault, misshown};
 
 fn parse_prefix(rt: &impl Abort, text: &str) -> Prefix {
     Prefix::parse(text.as_bytes()).expect(rt, text)
@@ -180,10 +138,7 @@ static FAULTS: [(TextFault, &str, &str); 3] = [
 /// Fails where `Display` or `Debug` shows another text for a `TextFault`.
 #[test]
 fn faults_have_their_texts(rt: HostRuntime) -> Result<(), Fail> {
-    for (fault, shown, name) in FAULTS.iter() {
-        assert_eq!(rt; format!(in rt.alloc(); "{fault}")?.as_str(), *shown);
-        assert_eq!(rt; format!(in rt.alloc(); "{fault:?}")?.as_str(), *name);
-    }
+    assert_eq!(rt; misshown(rt.alloc(), &FAULTS)?, None);
     Ok(())
 }
 
@@ -273,7 +228,7 @@ fn contains_prefixes(rt: HostRuntime) {
 /// Fails where `put` returns `WriteZero` at once.
 #[test]
 fn puts_all_one_byte_a_call(rt: HostRuntime) -> Result<(), Fail> {
-    let mut writer = Narrow::new(rt.alloc(), usize::MAX, None);
+    let mut writer = StumblingWriter::new(rt.alloc(), 1, usize::MAX, None);
     put(&mut writer, b"10.0.0.0/8 via 192.0.2.1")?;
     put(&mut writer, b"")?;
     Prefix::new(0, 0)?.write_to(&mut writer)?;
@@ -303,26 +258,6 @@ fn assert_fault(
     Ok(())
 }
 
-/// Each of the system's numbers, its kind without the number, the kinds without one, and a fault that a writer puts in words.
-fn each_fault(alloc: Global) -> Result<Vec<io::Error>, AllocError> {
-    let mut faults = Vec::new(alloc);
-    for code in 1..134i32 {
-        let fault = io::Error::from_raw_os_error(code);
-        faults.push(fault)?;
-        faults.push(io::Error::from(fault.kind()))?;
-    }
-    for kind in [
-        ErrorKind::InvalidData,
-        ErrorKind::WriteZero,
-        ErrorKind::UnexpectedEof,
-        ErrorKind::Other,
-    ] {
-        faults.push(io::Error::from(kind))?;
-    }
-    faults.push(io::Error::other("the writer's own words"))?;
-    Ok(faults)
-}
-
 /// A fault is handed on at once, whatever it is, and nothing is tried again.
 /// Fails where `put` answers another fault than the writer's.
 /// Fails where `put` tells another kind in place of `TimedOut`: both faults.
@@ -330,7 +265,7 @@ fn each_fault(alloc: Global) -> Result<Vec<io::Error>, AllocError> {
 fn hands_on_the_writers_fault(rt: HostRuntime) -> Result<(), Fail> {
     for fault in &each_fault(rt.alloc())? {
         for room in [0, 3] {
-            let mut writer = Narrow::new(rt.alloc(), room, Some(*fault));
+            let mut writer = StumblingWriter::new(rt.alloc(), 1, room, Some(*fault));
             let written = put(&mut writer, b"10.0.0.0/8");
             assert_fault(&rt, rt.alloc(), written, *fault)?;
             assert_eq!(rt; writer.taken.len(), room);
@@ -340,8 +275,8 @@ fn hands_on_the_writers_fault(rt: HostRuntime) -> Result<(), Fail> {
 }
 
 /// A writer that fails at its fourth byte.
-fn failing(alloc: Global, fault: io::Error) -> Narrow {
-    Narrow::new(alloc, 3, Some(fault))
+fn failing(alloc: Global, fault: io::Error) -> StumblingWriter {
+    StumblingWriter::new(alloc, 1, 3, Some(fault))
 }
 
 fn write_values(rt: &impl Abort, alloc: Global, fault: io::Error) -> Result<(), Fail> {
@@ -390,12 +325,12 @@ fn hands_on_the_fault_of_what_it_writes(rt: HostRuntime) -> Result<(), Fail> {
 
 /// Fails at its first call and then at each second one, and else takes two bytes.
 #[derive(Drop)]
-struct Faltering {
+struct FalteringWriter {
     taken: Vec<u8>,
     calls: u32,
 }
 
-impl Write for Faltering {
+impl Write for FalteringWriter {
     fn write(&mut self, buf: &[u8]) -> io::Result<usize> {
         self.calls = self.calls.saturating_add(1);
         if self.calls % 2 == 1 {
@@ -415,7 +350,7 @@ impl Write for Faltering {
 /// Fails where an `OutputBuffer` tries again by itself after a fault, as std's does after `Interrupted`.
 #[test]
 fn holds_what_a_fault_leaves(rt: HostRuntime) -> Result<(), Fail> {
-    let mut writer = Faltering {
+    let mut writer = FalteringWriter {
         taken: Vec::new(rt.alloc()),
         calls: 0,
     };
@@ -443,7 +378,7 @@ fn holds_what_a_fault_leaves(rt: HostRuntime) -> Result<(), Fail> {
 /// Fails where an `OutputBuffer` writes when it is dropped, as std's `BufWriter` does.
 #[test]
 fn writes_when_it_is_told_to(rt: HostRuntime) -> Result<(), Fail> {
-    let mut writer = Unflushed::new(rt.alloc());
+    let mut writer = UnflushedWriter::new(rt.alloc());
     let mut buffer = OutputBuffer::new(&mut writer, OutputRoom::new(rt.alloc())?);
     buffer.flush()?;
     assert_eq!(rt; buffer.write(b"")?, 0);
@@ -456,7 +391,7 @@ fn writes_when_it_is_told_to(rt: HostRuntime) -> Result<(), Fail> {
 #[test]
 fn a_write_of_nothing_is_write_zero(rt: HostRuntime) -> Result<(), Fail> {
     let prefix = Prefix::new(0, 0)?;
-    let mut writer = Narrow::new(rt.alloc(), 3, None);
+    let mut writer = StumblingWriter::new(rt.alloc(), 1, 3, None);
     let written = prefix.write_to(&mut writer);
     assert_fault(
         &rt,
@@ -470,15 +405,15 @@ fn a_write_of_nothing_is_write_zero(rt: HostRuntime) -> Result<(), Fail> {
 
 /// Takes all that it is given, counts the writes and the flushes, and fails where it is flushed.
 #[derive(Drop)]
-struct Unflushed {
+struct UnflushedWriter {
     taken: Vec<u8>,
     calls: usize,
     flushes: usize,
 }
 
-impl Unflushed {
-    fn new(alloc: Global) -> Unflushed {
-        Unflushed {
+impl UnflushedWriter {
+    fn new(alloc: Global) -> UnflushedWriter {
+        UnflushedWriter {
             taken: Vec::new(alloc),
             calls: 0,
             flushes: 0,
@@ -486,7 +421,7 @@ impl Unflushed {
     }
 }
 
-impl Write for Unflushed {
+impl Write for UnflushedWriter {
     fn write(&mut self, buf: &[u8]) -> io::Result<usize> {
         self.taken.extend_from_slice(buf)?;
         self.calls = self.calls.saturating_add(1);
@@ -503,7 +438,7 @@ impl Write for Unflushed {
 /// instead of none.
 #[test]
 fn never_flushes_the_writer(rt: HostRuntime) -> Result<(), Fail> {
-    let mut writer = Unflushed::new(rt.alloc());
+    let mut writer = UnflushedWriter::new(rt.alloc());
     put(&mut writer, b"10.0.0.0/8")?;
     let mut buffer = OutputBuffer::new(&mut writer, OutputRoom::new(rt.alloc())?);
     put(&mut buffer, b" via 192.0.2.1")?;
@@ -533,7 +468,7 @@ fn write_long(
     calls: usize,
 ) -> Result<(), Fail> {
     let long = Vec::from_elem(alloc, b'x', size)?;
-    let mut writer = Unflushed::new(alloc);
+    let mut writer = UnflushedWriter::new(alloc);
     let mut buffer = OutputBuffer::new(&mut writer, OutputRoom::new(alloc)?);
     put(&mut buffer, held)?;
     assert_eq!(rt; buffer.write(&long)?, size);
@@ -561,7 +496,7 @@ fn takes_texts_about_as_long_as_itself(rt: HostRuntime) -> Result<(), Fail> {
 
 /// The number's lowest byte, ten times.
 fn piece(number: u32) -> [u8; 10] {
-    [number.to_le_bytes()[0]; 10]
+    [(number % 256) as u8; 10]
 }
 
 /// Puts 20,000 pieces into the writer, and behind one another into the list.
@@ -575,14 +510,14 @@ fn put_pieces(rt: &impl Abort, w: &mut impl Write, wanted: &mut Vec<u8>) {
 /// Fails where an `OutputBuffer` passes on each piece by itself, or holds more than its 64 KB.
 #[test]
 fn gathers_pieces_into_few_large_writes(rt: HostRuntime) -> Result<(), Fail> {
-    let mut writer = Unflushed::new(rt.alloc());
+    let mut writer = UnflushedWriter::new(rt.alloc());
     let mut wanted = Vec::new(rt.alloc());
     let mut buffer = OutputBuffer::new(&mut writer, OutputRoom::new(rt.alloc())?);
     put_pieces(&rt, &mut buffer, &mut wanted);
     let _ = buffer.into_writer();
     assert_eq!(rt; writer.calls, 3);
 
-    let mut writer = Unflushed::new(rt.alloc());
+    let mut writer = UnflushedWriter::new(rt.alloc());
     let mut wanted = Vec::new(rt.alloc());
     let mut buffer = OutputBuffer::new(&mut writer, OutputRoom::new(rt.alloc())?);
     put_pieces(&rt, &mut buffer, &mut wanted);
