@@ -1,5 +1,6 @@
 -- The entries of a feed's commands, piece by piece.
-use Rattle.std.proofs.Common.{◌≡◌, ℕ, List, [], ◌∷◌, ◌++◌, length, refl, sym, ap, ◌∙◌, append_assoc, length-append, arith, append-nil, IfOk, OnErr, Result, Ok, Err}
+use Rattle.std.proofs.Common.{◌≡◌, ℕ, List, [], ◌∷◌, ◌++◌, length, refl, sym, ap, ◌∙◌, append_assoc, length-append, arith, append-nil, IfOk, OnErr}
+use Rattle.std.proofs.Common.{Result, Ok, Err}
 use Rattle.std.proofs.lemmas.List.Elements.{All-nil, All-cons}
 use Rattle.rt_rib.specs.declared.commands.Cmd.{Cmd}
 use Rattle.rt_rib.specs.declared.commands.Entry.{Entry}
@@ -13,7 +14,8 @@ use Rattle.rt_shared.specs.declared.lent.Lent.{Lent}
 use Rattle.rt_shared.specs.LentChanges.{feed_of, GrowsByFeed}
 
 -- the entries of two pieces are those of the first, and then those of the second
-pub answered_append : (feed : ℕ) (xs ys : List Cmd) (os ps : List Outcome) → length os ≡ length xs → answered feed (xs ++ ys) (os ++ ps) ≡ answered feed xs os ++ answered feed ys ps
+pub answered_append : (feed : ℕ) (xs ys : List Cmd) (os ps : List Outcome) → length os ≡ length xs
+    → answered feed (xs ++ ys) (os ++ ps) ≡ answered feed xs os ++ answered feed ys ps
 answered_append feed [] ys [] ps same = refl
 answered_append feed [] ys (o ∷ os) ps same = absurd (omega arith)
 answered_append feed (x ∷ xs) ys [] ps same = absurd (omega arith)
@@ -22,14 +24,16 @@ answered_append feed (x ∷ xs) ys (Did reply ∷ os) ps same =
 answered_append feed (x ∷ xs) ys (Refused ∷ os) ps same = answered_append feed xs ys os ps (omega arith)
 
 -- one command more
-pub served_more : (feed : ℕ) (cmds : List Cmd) (cmd : Cmd) (found : List Entry) (before : List Outcome) (now next : List Entry) (after : List Outcome) (o : Outcome)
+pub served_more : (feed : ℕ) (cmds : List Cmd) (cmd : Cmd) (found : List Entry) (before : List Outcome) (now next : List Entry)
+    (after : List Outcome) (o : Outcome)
     → AreServed feed cmds found before now after → next ≡ now ++ answered feed (cmd ∷ []) (o ∷ [])
     → AreServed feed (cmds ++ cmd ∷ []) found before next (after ++ o ∷ [])
 served_more feed cmds cmd found before now next after o a e = record {
   outcomes = a.outcomes ++ o ∷ [];
   appended = ap (λ (l : List Outcome). l ++ o ∷ []) a.appended ∙ append_assoc before a.outcomes (o ∷ []);
   each = omega (arith, a.each, length-append a.outcomes (o ∷ []), length-append cmds (cmd ∷ []));
-  added = e ∙ (ap (λ (l : List Entry). l ++ answered feed (cmd ∷ []) (o ∷ [])) a.added ∙ (append_assoc found (answered feed cmds a.outcomes) (answered feed (cmd ∷ []) (o ∷ []))
+  added = e ∙ (ap (λ (l : List Entry). l ++ answered feed (cmd ∷ []) (o ∷ [])) a.added
+      ∙ (append_assoc found (answered feed cmds a.outcomes) (answered feed (cmd ∷ []) (o ∷ []))
       ∙ ap (λ (l : List Entry). found ++ l) (sym (answered_append feed cmds (cmd ∷ []) a.outcomes (o ∷ []) a.each))));
 }
 

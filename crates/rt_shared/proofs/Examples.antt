@@ -221,8 +221,12 @@ one_too_many = Steps 0 ∷ Steps 0 ∷ Steps 0 ∷ Steps 0 ∷ Appends 0 (Add te
 -- IsRunTo
 a_run_in_which_an_add_is_over_the_limit : IsRunTo 0 1 (follow 1 one_too_many opening_world)
 unfolding node_of side_of table_of_journal table_after reply_of
-a_run_in_which_an_add_is_over_the_limit =
-    (omega arith, one_too_many, runs 1 (IsSequential 0) one_too_many opening_world (omega arith, (omega arith, (omega arith, (omega arith, ((refl, refl), tt))))))
+a_run_in_which_an_add_is_over_the_limit = (
+  omega arith,
+  one_too_many,
+  runs 1 (IsSequential 0) one_too_many opening_world
+      (omega arith, (omega arith, (omega arith, (omega arith, ((refl, refl), tt))))),
+)
 
 a_run_of_two_levels : IsRunTo 1 2 (follow 2 (Steps 3 ∷ []) opening_world)
 a_run_of_two_levels = (omega arith, Steps 3 ∷ [], runs 2 (IsSequential 1) (Steps 3 ∷ []) opening_world (omega arith, tt))
@@ -254,10 +258,12 @@ not_where_all_are h = let same = h 0 1 refl refl in omega (arith, same)
 nothing_at_the_start : HasAllMade opening_world
 nothing_at_the_start place = refl
 
-no_entry_that_nobody_made : ¬ HasAllMade (record { state = opening; content = (0, (Dump, Dumped 0)) ∷ []; copies = λ place. []; doing = λ place. []; made = λ place. [] })
+no_entry_that_nobody_made :
+    ¬ HasAllMade (record { state = opening; content = (0, (Dump, Dumped 0)) ∷ []; copies = λ place. []; doing = λ place. []; made = λ place. [] })
 no_entry_that_nobody_made h = let entries = h 0 in cc
 
-nothing_made_that_is_lost : ¬ HasAllMade (record { state = opening; content = []; copies = λ place. []; doing = λ place. []; made = λ place. (Dump, Dumped 0) ∷ [] })
+nothing_made_that_is_lost :
+    ¬ HasAllMade (record { state = opening; content = []; copies = λ place. []; doing = λ place. []; made = λ place. (Dump, Dumped 0) ∷ [] })
 nothing_made_that_is_lost h = let entries = h 0 in cc
 
 -- FindsBest
@@ -300,10 +306,25 @@ lawful_dump = IsLawfulJournal-push 1 [] (dump 2) (IsLawfulJournal-nil 1) refl
 
 -- the lent book at the start, and after a dump by feed 2
 abbrev new : Lent
-new = record { book = empty_book []; feeds = 2; lawful = IsLawfulJournal-nil 1; holds = holds_no_route [] no_route_at_the_start; of_feeds = All-nil (λ (e : Entry). (1 ≤ e.feed) × (e.feed ≤ 2)); few = omega arith }
+new = record {
+  book = empty_book [];
+  feeds = 2;
+  lawful = IsLawfulJournal-nil 1;
+  holds = holds_no_route [] no_route_at_the_start;
+  of_feeds = All-nil (λ (e : Entry). (1 ≤ e.feed) × (e.feed ≤ 2));
+  few = omega arith;
+}
 
 abbrev dumped : Lent
-dumped = record { book = empty_book (dump 2 ∷ []); feeds = 2; lawful = lawful_dump; holds = holds_no_route (dump 2 ∷ []) no_route_by_a_dump; of_feeds = All-cons (λ (e : Entry). (1 ≤ e.feed) × (e.feed ≤ 2)) (dump 2) [] (omega arith, omega arith) (All-nil (λ (e : Entry). (1 ≤ e.feed) × (e.feed ≤ 2))); few = omega arith }
+dumped = record {
+  book = empty_book (dump 2 ∷ []);
+  feeds = 2;
+  lawful = lawful_dump;
+  holds = holds_no_route (dump 2 ∷ []) no_route_by_a_dump;
+  of_feeds = All-cons (λ (e : Entry). (1 ≤ e.feed) × (e.feed ≤ 2)) (dump 2) [] (omega arith, omega arith)
+      (All-nil (λ (e : Entry). (1 ≤ e.feed) × (e.feed ≤ 2)));
+  few = omega arith;
+}
 
 -- HasSameBounds
 the_journal_alone_has_changed : HasSameBounds new dumped
@@ -381,8 +402,11 @@ seen_by homes zero place process seen has =
     let is = subst (λ view. IsOf view place process seen) (some-injective has.0 (Seated 0 Idle new 0) (sym has.1)) has.2 in
     (is.1, subst (λ (lent : Lent). Since (feed_of place) lent.book.journal (dump 2 ∷ [])) is.2 (subst (λ p. Since (feed_of p) [] (dump 2 ∷ [])) is.0 by_feed_2))
 seen_by homes (suc zero) place process seen has =
-    let is = subst (λ view. IsOf view place process seen) (some-injective has.0 (Seated 1 Idle dumped 3) (sym has.1)) has.2 in
-    (is.1, subst (λ (lent : Lent). Since (feed_of place) lent.book.journal (dump 2 ∷ [])) is.2 (record { others = []; grown = refl; by_others = All-nil (λ e. e.feed ≢ feed_of place) }))
+    let is = subst (λ view. IsOf view place process seen) (some-injective has.0 (Seated 1 Idle dumped 3) (sym has.1)) has.2 in (
+      is.1,
+      subst (λ (lent : Lent). Since (feed_of place) lent.book.journal (dump 2 ∷ [])) is.2
+          (record { others = []; grown = refl; by_others = All-nil (λ e. e.feed ≢ feed_of place) }),
+    )
 seen_by homes (suc (suc seat)) place process seen has = absurd (some-ne-none has.0 (sym has.1))
 
 -- IsAtRest

@@ -34,7 +34,8 @@ UncutByVisit =
 
 -- the entries of the feed are those of its visits, one visit after another
 abbrev pub EntriesOfVisits : Type 0
-EntriesOfVisits = (feed : ℕ) (visits : List (List Entry)) (journal : List Entry) → Uncut feed visits journal → feed_entries feed journal ≡ flat_map (λ visit. visit) visits
+EntriesOfVisits = (feed : ℕ) (visits : List (List Entry)) (journal : List Entry) → Uncut feed visits journal
+    → feed_entries feed journal ≡ flat_map (λ visit. visit) visits
 
 -- what a feed has seen has all its entries
 abbrev pub EntriesSince : Type 0

@@ -24,20 +24,21 @@ returns-then-is_empty-clause-ok g c =
         found = c.args.pass.now.seen;
         since = since_same c.args.pass.now.feed c.args.pass.now.seen;
         each = sym empty;
-        added = sym (append-nil c.args.pass.now.seen) ∙ ap (λ (l : List Entry). c.args.pass.now.seen ++ l) (sym (nothing_answered c.args.pass.now.feed c.args.cmds.now));
+        added = sym (append-nil c.args.pass.now.seen)
+            ∙ ap (λ (l : List Entry). c.args.pass.now.seen ++ l) (sym (nothing_answered c.args.pass.now.feed c.args.cmds.now));
         lawful = subst (λ (n : ℕ). IsLawfulJournal n c.args.pass.now.seen) (ap (λ t. t.limit) c.requires) lawful;
       };
     }
 
 pub leave-requires : goal.leave-requires
 leave-requires g c =
-    let s = c.serve_all.ensures in
+    let s = c.serve_all.ensures in let guard = c.enter-guard.ensures.guard in
     let is : c.pass.inside.pass ≡ Some c.in-Some.idle = cc in
     let there : HoldsLockPass c.pass.inside.feed (Some c.in-Some.idle) = subst (HoldsLockPass c.pass.inside.feed) is c.pass.invariant in
-    let feed : c.pass.inside.feed ≡ feed_of c.enter-guard.result.place = there.0 ∙ ap feed_of (sym (ap (λ (x : OpenGuard Lent). x.place) c.enter-guard.ensures.guard)) in
-    let value : c.get_mut.result.now ≡ c.enter-guard.result.found = c.get_mut.ensures.value ∙ ap (λ (x : OpenGuard Lent). x.value) c.enter-guard.ensures.guard in
+    let feed : c.pass.inside.feed ≡ feed_of c.enter-guard.result.place = there.0 ∙ ap feed_of (sym (ap (λ (x : OpenGuard Lent). x.place) guard)) in
+    let value : c.get_mut.result.now ≡ c.enter-guard.result.found = c.get_mut.ensures.value ∙ ap (λ (x : OpenGuard Lent). x.value) guard in
     let lock : c.enter-guard.result.lock ≡ c.self.inside.lock =
-    ap (λ (x : OpenGuard Lent). x.lock) c.enter-guard.ensures.guard ∙ lock_of c.pass.inside.feed c.pass.inside.pass c.in-Some.idle c.args.pass.now c.args.self.now _ is c.pass.view_is c.requires c.self.view_is in (
+    ap (λ (x : OpenGuard Lent). x.lock) guard ∙ lock_of c.pass.inside.feed c.pass.inside.pass c.in-Some.idle c.args.pass.now c.args.self.now _ is c.pass.view_is c.requires c.self.view_is in (
       spaced,
       (
         lock,
@@ -45,7 +46,8 @@ leave-requires g c =
           same = record { limit = s.same.limit ∙ ap (λ (l : Lent). l.book.limit) value; feeds = s.same.feeds ∙ ap (λ (l : Lent). l.feeds) value };
           own = answered c.pass.inside.feed c.args.cmds.now s.served.outcomes;
           added = s.served.added ∙ ap (λ (l : Lent). l.book.journal ++ answered c.pass.inside.feed c.args.cmds.now s.served.outcomes) value;
-          by_feed = subst (λ (n : ℕ). AllBy n (answered c.pass.inside.feed c.args.cmds.now s.served.outcomes)) feed (all_answered c.pass.inside.feed c.args.cmds.now s.served.outcomes);
+          by_feed = subst (λ (n : ℕ). AllBy n (answered c.pass.inside.feed c.args.cmds.now s.served.outcomes)) feed
+              (all_answered c.pass.inside.feed c.args.cmds.now s.served.outcomes);
         },
       ),
     )

@@ -37,7 +37,8 @@ loop-pass-preserved g c =
       long = omega (arith, i.long, c.in-Some.ensures.steps.1, ap length next);
       rest = All-tail HasFeed c.in-Some.pass rest (subst (All HasFeed) next i.rest);
       made = ap (λ (l : List HeldPass). l ++ map of_feed rest) (p.items ∙ ap (λ (x : HeldPass). c.loop-pass.feed_passes.items ++ x ∷ []) c.of.ensures)
-          ∙ (append_assoc c.loop-pass.feed_passes.items (of_feed c.in-Some.pass ∷ []) (map of_feed rest) ∙ (ap (λ (l : List (IdlePass Lent)). c.loop-pass.feed_passes.items ++ map of_feed l) (sym next) ∙ i.made));
+          ∙ (append_assoc c.loop-pass.feed_passes.items (of_feed c.in-Some.pass ∷ []) (map of_feed rest)
+          ∙ (ap (λ (l : List (IdlePass Lent)). c.loop-pass.feed_passes.items ++ map of_feed l) (sym next) ∙ i.made));
       room = omega (arith, p.len, p.capacity, i.room, ap length next);
     }
 
@@ -46,11 +47,14 @@ returns-clause-passes g c =
     let i = c.loop-pass.invariant in let e = c.in-Ok.ensures in let it = c.into_iter-pass-iterator.ensures.into_iter_gives in
     let few : 2 ^ g.row.L ≡ c.new.result.feeds = sym (c.new.ensures.feeds ∙ c.feeds-feeds.ensures.value) in
     let few' = c.new.ensures.feeds ∙ c.feeds-feeds.ensures.value in
-    let empty : into_iter_items c.loop-pass.pass-iterator ≡ [] = nil_from_length (into_iter_items c.loop-pass.pass-iterator) (sym i.long ∙ c.in-None.ensures.steps.0) in
+    let empty : into_iter_items c.loop-pass.pass-iterator ≡ [] =
+    nil_from_length (into_iter_items c.loop-pass.pass-iterator) (sym i.long ∙ c.in-None.ensures.steps.0) in
     let made : c.loop-pass.feed_passes.items ≡ map of_feed c.in-Ok.passes.items =
-    sym (append-nil c.loop-pass.feed_passes.items) ∙ (ap (λ (l : List (IdlePass Lent)). c.loop-pass.feed_passes.items ++ map of_feed l) (sym empty) ∙ (i.made ∙ ap (map of_feed) it.0)) in
+    sym (append-nil c.loop-pass.feed_passes.items)
+    ∙ (ap (λ (l : List (IdlePass Lent)). c.loop-pass.feed_passes.items ++ map of_feed l) (sym empty) ∙ (i.made ∙ ap (map of_feed) it.0)) in
     let lent : SharedId = record { lock = c.in-Ok.lock; limit = c.new.result.book.limit; feeds = c.new.result.feeds } in
-    let table : lent ≡ record { lock = c.in-Ok.lock; limit = c.args.limit; feeds = 2 ^ g.row.L } = λ i. record { lock = c.in-Ok.lock; limit = c.new.ensures.limit i; feeds = few' i } in
+    let table : lent ≡ record { lock = c.in-Ok.lock; limit = c.args.limit; feeds = 2 ^ g.row.L } =
+    λ i. record { lock = c.in-Ok.lock; limit = c.new.ensures.limit i; feeds = few' i } in
     subst (λ (t : SharedId). ArePassesOf t c.loop-pass.feed_passes.items) table (subst (ArePassesOf lent) (sym made)
     (are_dealt c.in-Ok.lock g.row.L c.new.result c.in-Ok.passes.items e.passes few))
 
@@ -58,8 +62,10 @@ pub returns-clause-seen : goal.returns-clause-seen
 returns-clause-seen g c =
     let i = c.loop-pass.invariant in let e = c.in-Ok.ensures in let it = c.into_iter-pass-iterator.ensures.into_iter_gives in
     let few : 2 ^ g.row.L ≡ c.new.result.feeds = sym (c.new.ensures.feeds ∙ c.feeds-feeds.ensures.value) in
-    let empty : into_iter_items c.loop-pass.pass-iterator ≡ [] = nil_from_length (into_iter_items c.loop-pass.pass-iterator) (sym i.long ∙ c.in-None.ensures.steps.0) in
+    let empty : into_iter_items c.loop-pass.pass-iterator ≡ [] =
+    nil_from_length (into_iter_items c.loop-pass.pass-iterator) (sym i.long ∙ c.in-None.ensures.steps.0) in
     let made : c.loop-pass.feed_passes.items ≡ map of_feed c.in-Ok.passes.items =
-    sym (append-nil c.loop-pass.feed_passes.items) ∙ (ap (λ (l : List (IdlePass Lent)). c.loop-pass.feed_passes.items ++ map of_feed l) (sym empty) ∙ (i.made ∙ ap (map of_feed) it.0)) in
+    sym (append-nil c.loop-pass.feed_passes.items)
+    ∙ (ap (λ (l : List (IdlePass Lent)). c.loop-pass.feed_passes.items ++ map of_feed l) (sym empty) ∙ (i.made ∙ ap (map of_feed) it.0)) in
     subst (All (λ (p : HeldPass). p.seen ≡ [])) (sym made)
     (have_seen c.in-Ok.lock g.row.L c.new.result c.in-Ok.passes.items e.passes few c.new.ensures.journal)
