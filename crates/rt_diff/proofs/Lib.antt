@@ -5,3 +5,5 @@ pub mod Deciding
 pub mod Equality
 pub mod Existence
 pub mod Uniqueness
+pub mod Whole
+pub mod Examples

@@ -1,4 +1,5 @@
 //! Ranges of addresses that two tables answer otherwise.
+ghost use Rattle.std.specs.Prelude.{◌+◌};
 ghost use Rattle.rt_rib.specs.Book.{table_of};
 ghost use Rattle.rt_diff.specs.Differences.{IsFirstDifference};
 
@@ -40,4 +41,18 @@ pub fn first_difference<A: Allocator + Copy>(
         old: pieces.old.answer,
         new: pieces.new.answer,
     })
+}
+
+/// The first range behind the address that the two tables answer otherwise, as `first_difference` gives it from the next
+/// address on, or `None` too where this is the last of all.
+pub fn difference_behind<A: Allocator + Copy>(
+    old: &Book<A>,
+    new: &Book<A>,
+    by: By,
+    last: Addr,
+) -> Option<Difference>
+    ensures { IsFirstDifference by (table_of old.now) (table_of new.now) (record { 0 = last.0 + 1 }) result }
+{
+    let from = last.0.checked_add(1)?;
+    first_difference(old, new, by, Addr(from))
 }

@@ -1,18 +1,16 @@
 //! Where two routing tables answer addresses otherwise: the ranges of addresses, each with its two answers.
 //!
 //! ```
-//! let mut from = Addr(0);
-//! while let Some(difference) = first_difference(&old, &new, By::Hop, from) {
+//! let mut next = first_difference(&old, &new, By::Hop, Addr(0));
+//! while let Some(difference) = next {
 //!     // each address from difference.first to difference.last goes another way
-//!     let Some(next) = difference.last.0.checked_add(1) else { break };
-//!     from = Addr(next);
+//!     next = difference_behind(&old, &new, By::Hop, difference.last);
 //! }
 //! ```
 //!
 //! Contracts see of a book the routes that its journal leaves, and an answer is what a look-up finds there
-//! (`specs/Answers.antt`). What is called from 0 on, and then from behind each range, gives the one list of ranges
-//! in which the tables differ (`specs/Differences.antt`, [`laws`]). No call takes memory, and each takes time as the tables
-//! have borders in the range that it goes over, and no step for each address.
+//! (`specs/Answers.antt`). These ranges are the one list in which the tables differ (`specs/Differences.antt`, [`laws`]). No call
+//! takes memory, and each takes time as the tables have borders in what it goes over, and no step for each address.
 #![tactic(auto)]
 
 mod answers;
@@ -21,4 +19,4 @@ pub mod laws;
 mod pieces;
 
 pub use answers::{Answer, By};
-pub use differences::{Difference, first_difference};
+pub use differences::{Difference, difference_behind, first_difference};
