@@ -6,6 +6,7 @@ pub mod Filling
 pub mod RunSteps
 pub mod UncutVisits
 pub mod Printing
+pub mod DifferenceLines
 pub mod Pairs
 pub mod OneAnswer
 pub mod OneAddress

@@ -1,5 +1,6 @@
 pub mod Addresses
 pub mod CommandText
+pub mod DifferenceText
 pub mod Feeds
 pub mod Grammar
 pub mod Laws

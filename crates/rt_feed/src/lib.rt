@@ -23,6 +23,7 @@
 #![tactic(auto)]
 
 mod addresses;
+mod differences;
 mod faults;
 mod feed_run;
 mod feeds;
@@ -37,6 +38,7 @@ mod table_gate;
 mod versions;
 
 pub use addresses::parse_address_line;
+pub use differences::write_difference;
 pub use faults::RunFault;
 pub use feeds::{Feed, run_feeds};
 pub use gates::Gate;

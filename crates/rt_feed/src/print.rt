@@ -260,7 +260,7 @@ fn prepend_reply(text: &mut ShortText, reply: &Reply)
 
 /// `PREFIX feed F pref P via HOP`.
 #[tactic(auto, using(rt_cidr::proofs::Promised::prepending), unfolding(crate::specs::Printed::route_text))]
-fn prepend_route(text: &mut ShortText, route: &Route)
+pub(crate) fn prepend_route(text: &mut ShortText, route: &Route)
     requires room { FitsInShortText (route_text route.now) text.old }
     ensures { text.new ≡ route_text route.now ++ text.old }
 {

@@ -1,0 +1,60 @@
+//! What two tables answer otherwise, as text: one line for each range of addresses.
+ghost use Rattle.std.specs.Prelude.{◌≡◌, ◌++◌, OnOk, OnErr};
+ghost use Rattle.std.specs.Io.KnownBytes.{Appends};
+ghost use Rattle.rt_cidr.specs.Output.{AppendsBeginning};
+ghost use Rattle.rt_cidr.specs.ShortText.{FitsInShortText};
+ghost use Rattle.rt_feed.specs.DifferenceText.{answered_text, difference_text};
+
+use crate::print::prepend_route;
+use rt_cidr::{ShortText, put};
+use rt_diff::{Answer, Difference};
+use rt_rib::Hop;
+use std::io::{self, Write};
+
+/// Writes the range and its two answers, `FIRST-LAST OLD -> NEW` and LF, an answer being `no route`, `via ADDR`, `discard`, or
+/// the whole route. A fault is the writer's, as `put` hands it on; what was written is then a beginning of that line. Takes no
+/// memory, and calls the writer as `write_report` does.
+#[tactic(auto, using(crate::proofs::DifferenceLines::difference_fits))]
+pub fn write_difference<W: Write>(w: &mut W, difference: &Difference) -> Result<(), io::Error>
+    ensures ok { OnOk result (Appends (W.contents w.old) (W.contents w.new) (difference_text difference.now)) }
+    ensures err { OnErr result (AppendsBeginning (W.contents w.old) (W.contents w.new) (difference_text difference.now)) }
+{
+    let mut text = ShortText::new();
+    prepend_difference(&mut text, difference);
+    put(w, text.as_bytes())
+}
+
+// Each function below puts its text in front.
+
+/// A range and its two answers, with the LF.
+#[tactic(auto, using(rt_cidr::proofs::Promised::prepending), unfolding(crate::specs::DifferenceText::difference_text))]
+fn prepend_difference(text: &mut ShortText, difference: &Difference)
+    requires room { FitsInShortText (difference_text difference.now) text.old }
+    ensures { text.new ≡ difference_text difference.now ++ text.old }
+{
+    text.prepend(b"\n");
+    prepend_answered(text, &difference.new);
+    text.prepend(b" -> ");
+    prepend_answered(text, &difference.old);
+    text.prepend(b" ");
+    difference.last.prepend_to(text);
+    text.prepend(b"-");
+    difference.first.prepend_to(text);
+}
+
+/// What an address is answered.
+#[tactic(auto, using(rt_cidr::proofs::Promised::prepending), unfolding(crate::specs::DifferenceText::answered_text))]
+fn prepend_answered(text: &mut ShortText, answer: &Answer)
+    requires room { FitsInShortText (answered_text answer.now) text.old }
+    ensures { text.new ≡ answered_text answer.now ++ text.old }
+{
+    match answer {
+        Answer::NoRoute => text.prepend(b"no route"),
+        Answer::Hop(Hop::Via(address)) => {
+            address.prepend_to(text);
+            text.prepend(b"via ");
+        }
+        Answer::Hop(Hop::Discard) => text.prepend(b"discard"),
+        Answer::Route(route) => prepend_route(text, route),
+    }
+}
