@@ -150,10 +150,7 @@ module _ {V : Type 0} (q : Prefix) (v : Option V) (xs ys : Pairs V) (sides : Are
       last_cover-append (own_pair q v) (xs ++ ys) a
       ∙ ap (λ o. or_else o (last_cover (own_pair q v) a)) (last_cover-append xs ys a ∙ ap (λ o. or_else o (last_cover xs a)) none)
 
-  -- it is in the half where the address lies, or the node's own pair
-  pub cover-lower : a.0 < middle q → last_cover (own_pair q v ++ (xs ++ ys)) a ≡ or_else (last_cover xs a) (last_cover (own_pair q v) a)
-  cover-lower h = cover-left (last_cover-none ys a (upper_clear h))
-
+  -- it is in the upper half, or the node's own pair, where the address lies there
   pub cover-upper : middle q ≤ a.0 → last_cover (own_pair q v ++ (xs ++ ys)) a ≡ or_else (last_cover ys a) (last_cover (own_pair q v) a)
   cover-upper h =
       let none : last_cover xs a ≡ None = last_cover-none xs a (lower_clear h) in

@@ -16,7 +16,8 @@
 //! to be safe; an insertion that is refused memory leaves list and nodes as they were.
 //!
 //! Only tested, since no clause says it: that an insertion succeeds where there is memory, that no other call needs any,
-//! and that what an insertion made is given back where it is refused a later box.
+//! that what an insertion made is given back where it is refused a later box, and in how few calls `longest_until` goes
+//! over all addresses.
 #![tactic(auto)]
 
 mod covering;

@@ -5,6 +5,7 @@ mod memory;
 mod random;
 mod refusals;
 mod sieves;
+mod universe;
 
 use linked_list_allocator::LocalHeap;
 use rt_cidr::{Addr, Prefix};

@@ -47,6 +47,10 @@ fn call_at(rt: &impl Abort, memory: &Counted<Global>, trie: &mut CountedTrie<'_>
     assert_eq!(rt; memory.asked(), asked, "longest {text}");
     look_up_two(trie, p);
     assert_eq!(rt; memory.asked(), asked, "longest_many {text}");
+    assert!(rt; trie.longest_until(Addr(p.base())).0.is_some());
+    assert_eq!(rt; memory.asked(), asked, "longest_until {text}");
+    assert!(rt; trie.covering(Addr(p.base())).count() > 0);
+    assert_eq!(rt; memory.asked(), asked, "covering {text}");
     let _ = trie.after(p);
     assert_eq!(rt; memory.asked(), asked, "after {text}");
 }
@@ -62,8 +66,8 @@ fn call_at_whole(rt: &impl Abort, memory: &Counted<Global>, trie: &CountedTrie<'
     assert_eq!(rt; memory.asked(), asked, "first");
 }
 
-/// Fails where `Trie::new`, `get`, `longest`, `longest_many`, `remove` or an `insert` of a stored prefix asks for
-/// memory, even if it gives it back at once.
+/// Fails where `Trie::new`, `get`, `longest`, `longest_many`, `longest_until`, `covering`, `remove` or an `insert` of a
+/// stored prefix asks for memory, even if it gives it back at once.
 #[test]
 fn nothing_but_a_new_prefix_asks_for_memory(rt: HostRuntime) {
     let memory = Counted::new(rt.alloc());

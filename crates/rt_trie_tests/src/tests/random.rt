@@ -10,17 +10,23 @@ use std::process::Abort;
 
 /// A map as a plain list of pairs in order.
 #[derive(Drop)]
-struct PlainList {
-    pairs: Vec<(Prefix, u32)>,
+pub(crate) struct PlainList {
+    pub pairs: Vec<(Prefix, u32)>,
 }
 
 impl PlainList {
+    pub fn new(alloc: Global) -> PlainList {
+        PlainList {
+            pairs: Vec::new(alloc),
+        }
+    }
+
     /// The index of a prefix, or that at which it would go.
     fn index_of(&self, p: Prefix) -> Result<usize, usize> {
         self.pairs.binary_search_by_key(&p, |x| x.0)
     }
 
-    fn insert(&mut self, rt: &impl Abort, p: Prefix, value: u32) -> Option<u32> {
+    pub fn insert(&mut self, rt: &impl Abort, p: Prefix, value: u32) -> Option<u32> {
         match self.index_of(p) {
             Ok(k) => {
                 let pair = self.pairs.get_mut(k).expect(rt, "a pair");
@@ -52,7 +58,7 @@ impl PlainList {
         self.pairs = kept;
     }
 
-    fn longest(&self, a: Addr) -> Option<(Prefix, u32)> {
+    pub fn longest(&self, a: Addr) -> Option<(Prefix, u32)> {
         let mut best: Option<(Prefix, u32)> = None;
         for pair in &self.pairs {
             if pair.0.covers(a) && best.is_none_or(|b| b.0.len() <= pair.0.len()) {
@@ -64,7 +70,7 @@ impl PlainList {
 }
 
 /// The next number of a linear congruence.
-fn next_number(seed: u64) -> u64 {
+pub(crate) fn next_number(seed: u64) -> u64 {
     seed.wrapping_mul(6_364_136_223_846_793_005)
         .wrapping_add(1_442_695_040_888_963_407)
 }
@@ -87,9 +93,7 @@ fn change_both<A: Allocator + Copy>(
 #[test]
 fn random_changes_beside_a_sorted_list(rt: HostRuntime) {
     let mut trie = Trie::new(rt.alloc());
-    let mut list = PlainList {
-        pairs: Vec::new(rt.alloc()),
-    };
+    let mut list = PlainList::new(rt.alloc());
     let mut seed = 1u64;
     for step in 0..20_000u32 {
         seed = next_number(seed);
@@ -150,9 +154,7 @@ fn sieve_both<A: Allocator + Copy>(
 #[test]
 fn sieves_beside_a_sorted_list(rt: HostRuntime) {
     let mut trie = Trie::new(rt.alloc());
-    let mut list = PlainList {
-        pairs: Vec::new(rt.alloc()),
-    };
+    let mut list = PlainList::new(rt.alloc());
     let mut seed = 5u64;
     for step in 0..6_000u32 {
         seed = next_number(seed);

@@ -2,16 +2,21 @@ use Rattle.std.proofs.Common.{◌≡◌, ◌≤◌, refl, sym, ap, ◌∙◌, ar
 use Rattle.std.specs.Option.{option_copied}
 use Rattle.rt_cidr.specs.declared.address.Addr.{Addr}
 use Rattle.rt_trie.specs.inside.LookUps.{or_else, last_cover}
-use Rattle.rt_trie.specs.inside.Links.{own_pair}
+use Rattle.rt_trie.specs.inside.Links.{own_pair, pairs}
 use Rattle.rt_trie.specs.Blocks.{IsKeyOf}
 use Rattle.rt_trie.specs.Map.{pair_copied}
 use Rattle.rt_trie.proofs.BlockLemmas.{middle_of_key}
 use Rattle.rt_trie.proofs.NodeLemmas.{best_stored, best_unstored}
+use Rattle.rt_trie.proofs.PairLemmas.{or_none}
 use Rattle.rt_trie.proofs.LinkLemmas.{longest_of, step_left, step_upper, step_none}
 use Rattle.rt_trie.proofs.PieceLemmas.{best_other}
 use Rattle.rt_trie.proofs.pieces.longest_until.Given.{Over}
 use Rattle.rt_trie.proofs.pieces.longest_until.Goals.{After-middle, then-covers, else-covers, in-Some, in_default}
 use Rattle.rt_trie.proofs.pieces.longest_until.Goals as goal
+
+pub loop-best-init : goal.loop-best-init
+loop-best-init g c =
+    record { lawful = c.requires.0; onward = omega arith; found = λ b from to. sym (or_none (last_cover (pairs c.args.root.now) b)) }
 
 pub returns-in-Vacant-clause-same : goal.returns-in-Vacant-clause-same
 returns-in-Vacant-clause-same g c = λ b from to.

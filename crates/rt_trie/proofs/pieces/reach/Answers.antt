@@ -6,6 +6,12 @@ use Rattle.rt_trie.proofs.pieces.reach.Goals as goal
 pub overflow_cast-result : goal.overflow_cast-result
 overflow_cast-result c = omega (arith, past_fits c.args.prefix.now, c.past.ensures)
 
+pub returns-then-address-base-clause-alike : goal.returns-then-address-base-clause-alike
+returns-then-address-base-clause-alike c = λ b from to.
+    let q = c.args.prefix.now in
+    uncovered_of_range q b (inl (omega (arith, c.base.ensures, c.base-then-address-base.ensures)))
+    ∙ sym (uncovered_of_range q c.args.address (inl (omega (arith, c.base.ensures))))
+
 pub returns-then-covers-clause-alike : goal.returns-then-covers-clause-alike
 returns-then-covers-clause-alike c = λ b from to.
     let q = c.args.prefix.now in
