@@ -3,6 +3,7 @@ use Rattle.ya_core.specs.ArbitrationTree.{HasShape}
 use Rattle.ya_replay.specs.ReplayText.{replay_text_of}
 use Rattle.ya_replay.proofs.Promised.{replay_text-some}
 use Rattle.rt_run.proofs.Replayed.{is_replay_text}
+use Rattle.std.proofs.Common.{rules}
 use Rattle.rt_run.proofs.replays.replay_text.Goals as goal
 
 pub returns-in-Ok-write_buffered-clause-text : goal.returns-in-Ok-write_buffered-clause-text
@@ -30,3 +31,9 @@ returns-clause-text g c =
 
 pub write_buffered-requires-clause-some : goal.write_buffered-requires-clause-some
 write_buffered-requires-clause-some g c = replay_text-some _ _
+
+pub returns-in-Err-clause-levels : goal.returns-in-Err-clause-levels
+returns-in-Err-clause-levels g c = search rules
+
+pub returns-in-Err-clause-place : goal.returns-in-Err-clause-place
+returns-in-Err-clause-place g c = search rules
