@@ -1,5 +1,6 @@
 pub mod Book
 pub mod Cover
+pub mod Diff
 pub mod Gate
 pub mod Replay
 pub mod Shared

@@ -4,6 +4,7 @@
 
 mod book;
 mod cover;
+mod diff;
 mod gate;
 mod lock;
 mod replay;
@@ -13,7 +14,7 @@ mod trie;
 use anyhow::Result;
 use rt_cidr::{Addr, Prefix};
 use rt_feed::{write_report, write_table};
-use rt_rib::{Cmd, Hop, Reply};
+use rt_rib::{Book, Cmd, Hop, Reply};
 use std::alloc::Global;
 use std::io::{self, Write};
 use std::sync::Wait;
@@ -48,6 +49,12 @@ fn tell_alone<W: Write>(alloc: Global, out: &mut W) -> Result<()> {
         route.prefix.write_to(out)?;
         writeln!(out, " is found, a route of feed {feed}")?;
     }
+
+    let mut changed = Book::new(alloc, 10);
+    let before = Book::new(alloc, 10);
+    changed.apply(1, announce)?;
+    let alike = diff::go_alike(&before, &changed);
+    writeln!(out, "the route announced changes nothing: {alike}")?;
 
     let alone = replay::somebody_inside(alloc, 1, &[0, 0, 0, 0])?;
     let between = replay::somebody_inside(alloc, 1, &[0, 1, 0, 1])?;
