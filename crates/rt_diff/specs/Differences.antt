@@ -39,7 +39,7 @@ abbrev pub IsFirstDifference : By → List Route → List Route → Addr → Opt
 IsFirstDifference by old new from None = (addr : Addr) → from.0 ≤ addr.0 → addr.0 < 2 ^ 32 → IsAlike by old new addr
 IsFirstDifference by old new from (Some d) = IsNextDifference by old new from d
 
--- whether two ranges have the same two answers
+-- the ranges have the same two answers
 abbrev pub HaveSameAnswers : Difference → Difference → Type 0
 HaveSameAnswers c d = (c.old ≡ d.old) × (c.new ≡ d.new)
 

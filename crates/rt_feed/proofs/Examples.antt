@@ -18,6 +18,9 @@ use Rattle.rt_rib.specs.declared.commands.Cmd.{Cmd}
 use Rattle.rt_rib.specs.declared.commands.Cmd.TheVariants.{Add, Replace, Withdraw, Lookup, Dump, Purge}
 use Rattle.rt_rib.specs.declared.commands.Reply.TheVariants.{Added, Exists, Full, Replaced, Withdrawn, Missing, Found, NoRoute, Dumped, Purged}
 use Rattle.rt_shared.specs.declared.outcome.Outcome.TheVariants as outcome
+use Rattle.rt_diff.specs.declared.answers.Answer.TheVariants as answered
+use Rattle.rt_diff.specs.declared.differences.Difference.{Difference}
+use Rattle.rt_feed.specs.DifferenceText.{way_text, answered_text, difference_text, differences_text}
 use Rattle.rt_feed.specs.declared.parse.LineFault.{LineFault}
 use Rattle.rt_feed.specs.declared.parse.LineFault.TheVariants as fault
 use Rattle.rt_feed.specs.declared.report.Answer.TheVariants as answer
@@ -974,3 +977,33 @@ its_report_or_a_beginning :
     → (name new ≡ name old) × MatchOption report (StopsWithin holds 2 text old new) (λ lines. RunsFeed holds 2 text old new lines)
     × (text ≡ [] → IsSome report)
 its_report_or_a_beginning name holds text old new report h = (h.named, h.runs, h.nothing)
+
+-- way_text
+the_way_to_a_router : way_text (Via at_192_0_2_1) ≡ codes "via 192.0.2.1"
+the_way_to_a_router = rw written_192_0_2_1 refl
+
+discard_as_way : way_text Discard ≡ codes "discard"
+discard_as_way = refl
+
+-- answered_text
+an_answer_of_each_kind :
+    (answered_text answered.NoRoute ≡ codes "no route") × (answered_text (answered.Hop Discard) ≡ codes "discard")
+    × (answered_text (answered.Route route_10) ≡ codes "10.0.0.0/8 feed 1 pref 100 via 192.0.2.1")
+unfolding answered_text route_text
+an_answer_of_each_kind = (refl, refl, rw (written_10_0_0_0_8, written_1, written_100, written_192_0_2_1) refl)
+
+-- the addresses from 10.1.2.3 to 10.9.0.1, which had a way and now have none
+abbrev range_without_way : Difference
+range_without_way = record { first = at_10_1_2_3; last = at_10_9_0_1; old = answered.Hop (Via at_192_0_2_1); new = answered.NoRoute }
+
+-- difference_text
+a_range_and_both_answers : difference_text range_without_way ≡ codes "10.1.2.3-10.9.0.1 via 192.0.2.1 -> no route\n"
+unfolding difference_text answered_text
+a_range_and_both_answers = rw (written_10_1_2_3, written_10_9_0_1, written_192_0_2_1) refl
+
+-- differences_text
+one_line_for_each_range :
+    differences_text (range_without_way ∷ range_without_way ∷ [])
+    ≡ codes "10.1.2.3-10.9.0.1 via 192.0.2.1 -> no route\n10.1.2.3-10.9.0.1 via 192.0.2.1 -> no route\n"
+unfolding difference_text answered_text
+one_line_for_each_range = rw (written_10_1_2_3, written_10_9_0_1, written_192_0_2_1) refl
