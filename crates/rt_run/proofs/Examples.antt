@@ -29,6 +29,14 @@ use Rattle.rt_feed.specs.LineOutcomes.{skipped, faulty, asked, LineOutcome, Beco
 use Rattle.rt_feed.specs.Printed.{reply_text, fault_text, route_text, row_text, count_text, table_text, found_text, also_text, reason_text}
 use Rattle.rt_feed.specs.declared.faults.RunFault.TheVariants as run
 use Rattle.rt_feed.proofs.Promised.{north, north_read, south, south_read, east, east_read, what_north_becomes, what_south_becomes, what_east_becomes}
+use Rattle.std.specs.Prelude.{max}
+use Rattle.rt_diff.specs.declared.answers.By.TheVariants as by
+use Rattle.rt_diff.specs.declared.differences.Difference.{Difference}
+use Rattle.rt_diff.specs.Differences.{AreDifferences}
+use Rattle.rt_feed.specs.DifferenceText.{differences_text}
+use Rattle.rt_run.specs.declared.differences.Compared.{Compared}
+use Rattle.rt_run.specs.DiffText.{LeavesTable, differ_status, IsDiffText}
+use Rattle.rt_run.specs.SameDiff.{TellsUnions, DiffsUnions, DiffOnce}
 use Rattle.rt_run.specs.declared.faults.AppFault.TheVariants.{Run, Replay, Write}
 use Rattle.rt_run.specs.RunText.{entries_of, Explains, ExplainsFrom, told_of, told_text, lines_text, feeds_text, was_faulty, was_told, some_refused, status_of, IsHistory, IsRunText, Leaves}
 use Rattle.ya_replay.specs.ReplayText.{inside_text}
@@ -650,3 +658,41 @@ a_beginning_where_its_text_could_not_be_written = (codes "inside none\n", nothin
 
 no_byte_lost_where_its_text_could_not_be_written : ¬ LeavesReplay 1 [] (Some (codes "x")) (Some []) (Err Write)
 no_byte_lost_where_its_text_could_not_be_written (its_text, is, begins) = let lost : [] ≡ 120 ∷ take begins.count its_text = begins.appended in cc
+
+-- differ_status
+some_range_or_none : (d : Difference) → (differ_status [] ≡ 0) × (differ_status (d ∷ []) ≡ 1) × (differ_status (d ∷ d ∷ []) ≡ 1)
+some_range_or_none d = (refl, refl, refl)
+
+-- LeavesTable
+what_a_run_leaves :
+    (table : List Route) (taken : Taken) (h : LeavesTable (text ∷ []) 7 1 table taken)
+    → IsHistory (text ∷ []) 7 1 h.journal h.outcomes × (table ≡ table_of_journal 7 h.journal)
+    × (taken.tallies.items ≡ map tally_of h.outcomes) × (taken.status ≡ status_of was_left_out h.outcomes)
+what_a_run_leaves table taken h = (h.history, h.left, h.tallied, h.is_status)
+
+-- IsDiffText
+what_two_runs_differ_in :
+    (bytes : List ℕ) (given : Compared) (h : IsDiffText by.Route (text ∷ []) [] 7 1 bytes given)
+    → LeavesTable (text ∷ []) 7 1 h.old given.old × LeavesTable [] 7 1 h.new given.new × AreDifferences by.Route h.old h.new h.list
+    × (bytes ≡ differences_text h.list) × (given.status ≡ max (differ_status h.list) (max given.old.status given.new.status))
+what_two_runs_differ_in bytes given h = (h.old_left, h.new_left, h.differences, h.printed, h.is_status)
+
+-- TellsUnions
+what_two_unions_differ_in :
+    (bytes : List ℕ) (h : TellsUnions by.Hop (text ∷ []) [] 7 bytes)
+    → IsUnion (text ∷ []) 7 h.old × IsUnion [] 7 h.new × AreDifferences by.Hop h.old h.new h.list × (bytes ≡ differences_text h.list)
+what_two_unions_differ_in bytes h = (h.old_union, h.new_union, h.differences, h.printed)
+
+-- DiffsUnions
+a_comparison_tells_of_unions :
+    DiffsUnions → (old_texts new_texts : List (List ℕ)) (bytes : List ℕ) (given : Compared)
+    → IsDiffText by.Hop old_texts new_texts 7 512 bytes given → given.old.status ≢ 5 → given.new.status ≢ 5 → TellsUnions by.Hop old_texts new_texts 7 bytes
+a_comparison_tells_of_unions law old_texts new_texts bytes given = law by.Hop old_texts new_texts 7 512 bytes given
+
+-- DiffOnce
+batches_of_1_and_of_512_differ_in_the_same :
+    DiffOnce → (old_texts new_texts : List (List ℕ)) (bytes bytes' : List ℕ) (given given' : Compared)
+    → IsDiffText by.Hop old_texts new_texts 7 1 bytes given → IsDiffText by.Hop old_texts new_texts 7 512 bytes' given'
+    → given.old.status ≢ 5 → given.new.status ≢ 5 → given'.old.status ≢ 5 → given'.new.status ≢ 5 → bytes ≡ bytes'
+batches_of_1_and_of_512_differ_in_the_same law old_texts new_texts bytes bytes' given given' =
+    law by.Hop old_texts new_texts 7 1 512 bytes bytes' given given'

@@ -4,7 +4,9 @@ pub mod Answering
 pub mod Telling
 pub mod Pieces
 pub mod Outputs
+pub mod Comparing
 pub mod SeveralFeeds
 pub mod SameTables
+pub mod SameDiffs
 pub mod Replayed
 pub mod Examples

@@ -274,7 +274,7 @@ not_5 true other status e not = absurd (not e)
 not_5 false other status e not = refl
 
 -- so the status of a run tells that none was
-by_status : (is_so : LineOutcome → Bool) (outcomes : List (List LineOutcome)) (status : ℕ)
+pub by_status : (is_so : LineOutcome → Bool) (outcomes : List (List LineOutcome)) (status : ℕ)
     → status ≡ status_of is_so outcomes → status ≢ 5 → some_refused outcomes ≡ false
 by_status is_so outcomes status = not_5 (some_refused outcomes) (if list_any (list_any is_so) outcomes then 2 else 0) status
 

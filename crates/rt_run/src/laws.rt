@@ -1,7 +1,9 @@
 //! What holds of every run of feeds, however its threads ran. Each function is a theorem: calling it makes its clause
 //! known, and it does nothing.
+ghost use Rattle.rt_run.specs.SameDiff.{DiffsUnions, DiffOnce};
 ghost use Rattle.rt_run.specs.SameTable.{LeavesUnion, AnswersAlone, HaveOneUnion, EndsInUnion, EndInOneTable, ShowsUnion, ShowOneTable};
 
+use rt_diff::laws::one_list;
 use rt_feed::laws::one_reading;
 use rt_rib::laws::{feeds_stand_alone, one_table_of_set, table_by_entry};
 use rt_shared::laws::visits;
@@ -62,4 +64,22 @@ pub fn show_one_table()
 {
     shows_union();
     one_union();
+}
+
+/// Where no command was refused for want of memory, `diff_texts` tells which addresses the union of the old texts and that of
+/// the new ones answer otherwise.
+pub fn diffs_unions()
+    ensures { DiffsUnions }
+{
+    leaves_union();
+}
+
+/// So two comparisons of the same texts and limit write the same bytes there, whatever their batches and however their threads
+/// ran.
+pub fn diff_once()
+    ensures { DiffOnce }
+{
+    diffs_unions();
+    one_union();
+    one_list();
 }

@@ -4,6 +4,7 @@
 //! lock, and a writer. Its clause `text` is the theorem from bytes to bytes: what was written is a run's text.
 //! [`lookup_texts`], [`lookup_all_texts`] and [`table_texts`] run texts in the same way and tell of the finished table alone:
 //! what look-ups of addresses find in it, all that covers them, or its routes; and they give how much of each text was taken.
+//! [`diff_texts`] runs two sets of texts and tells which addresses their finished tables answer otherwise.
 //! [`replay_text`] does the same for a schedule of the lock: one line for each atomic step of the one run that it names.
 //! `laws` says what holds of every run, however its threads ran.
 //!
@@ -16,6 +17,7 @@
 //! a beginning of the text was written; after any other refusal nothing was.
 #![tactic(auto)]
 
+mod differences;
 mod faults;
 pub mod laws;
 mod output;
@@ -24,6 +26,7 @@ mod runs;
 mod shown;
 mod tallies;
 
+pub use differences::{Compared, diff_texts};
 pub use faults::AppFault;
 pub use replays::replay_text;
 pub use runs::{MOST_TEXTS, run_texts};

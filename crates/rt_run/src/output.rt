@@ -1,4 +1,4 @@
-//! What is written: a run's reports and table, what its finished table says, or a replay. All goes through one buffer.
+//! What is written: a run's reports and table, what its finished table says, what two tables answer otherwise, or a replay. All goes through one buffer.
 ghost use Rattle.std.specs.Prelude.{◌≡◌, ◌++◌, [], ◌<◌, ◌≤◌, true, false, length, OnOk, OnErr};
 ghost use Rattle.std.specs.Io.KnownBytes.{Appends};
 ghost use Rattle.rt_cidr.specs.Output.{AppendsBeginning};
@@ -8,8 +8,10 @@ ghost use Rattle.rt_feed.specs.Printed.{table_text};
 ghost use Rattle.rt_run.specs.TableText.{answers_text};
 ghost use Rattle.rt_run.specs.inside.Outputs.{IsOutput, reports_text, matches_text, output_text, Writes};
 
+use crate::differences::write_differences;
 use crate::faults::AppFault;
 use rt_cidr::{Addr, OutputBuffer, OutputRoom};
+use rt_diff::{By, Difference};
 use rt_feed::{
     Report, RunFault, write_all_found, write_found, write_report, write_rows, write_table,
 };
@@ -38,6 +40,8 @@ pub(crate) enum Output<'a> {
     Answers(&'a Book<Global>, &'a [Addr]),
     /// All routes that cover each address.
     Matches(&'a [Matches]),
+    /// What the two books' tables answer otherwise, of which this is the first.
+    Differences(&'a Book<Global>, &'a Book<Global>, By, Option<Difference>),
     /// The routes alone.
     Routes(&'a [Route]),
     /// The steps of a replay, and who is inside after them.
@@ -47,6 +51,7 @@ pub(crate) enum Output<'a> {
 impl Output<'_> {
     /// Whether there is nothing to write.
     fn is_empty(&self) -> bool
+        requires { IsOutput self.now }
         ensures none { result ≡ true → output_text self.now ≡ [] }
         ensures some { result ≡ false → 0 < length (output_text self.now) }
     {
@@ -54,6 +59,7 @@ impl Output<'_> {
             Output::Run(..) => false,
             Output::Answers(_, addresses) => addresses.is_empty(),
             Output::Matches(all) => all.is_empty(),
+            Output::Differences(_, _, _, first) => first.is_none(),
             Output::Routes(routes) => routes.is_empty(),
             Output::Replay(..) => false,
         }
@@ -113,6 +119,7 @@ fn write_parts<W: Write>(w: &mut W, output: Output<'_>) -> Result<(), io::Error>
         Output::Run(reports, routes) => write_run(w, reports, routes),
         Output::Answers(book, addresses) => write_answers(w, book, addresses),
         Output::Matches(all) => write_matches(w, all),
+        Output::Differences(old, new, by, first) => write_differences(w, old, new, by, first),
         Output::Routes(routes) => write_rows(w, routes),
         Output::Replay(steps, inside) => write_replay(w, steps, inside),
     }

@@ -17,6 +17,7 @@ use Rattle.rt_run.specs.declared.output.Output.TheVariants as output
 use Rattle.rt_run.specs.declared.shown.Shown.{Shown}
 use Rattle.rt_run.specs.declared.shown.Shown.TheVariants as shown
 use Rattle.ya_replay.specs.ReplayText.{replay_text_of}
+use Rattle.rt_run.specs.inside.Comparisons.{IsFirstOf, lines_of}
 use Rattle.rt_run.specs.TableText.{answers_text, all_answers_text, routes_text}
 
 -- the reports of all feeds, one after another, the first of them this feed's
@@ -28,19 +29,21 @@ reports_text feed (report ∷ reports) = report_text feed report ++ reports_text
 abbrev pub matches_text : List Matches → List ℕ
 matches_text all = flat_map (λ one. all_found_text one.addr one.routes.items) all
 
--- the text of the reports and the table, of the answers, of all that was found, of the routes, or of a replay
+-- the text of the reports and the table, of the answers, of all that was found, of the differences, of the routes, or of a replay
 abbrev pub output_text : Output → List ℕ
 output_text (output.Run reports routes) = reports_text 1 reports.now ++ table_text routes.now
 output_text (output.Answers book addresses) = answers_text addresses.now (table_of book.now)
 output_text (output.Matches all) = matches_text all.now
+output_text (output.Differences old new by first) = lines_of by (table_of old.now) (table_of new.now)
 output_text (output.Routes routes) = rows_text routes.now
 output_text (output.Replay steps inside) = replay_text_of steps.now inside
 
--- of reports there are at most as many as feeds, and of steps so many that each has a number
+-- of reports there are at most as many as feeds, the difference is the first, and of steps there are so many that each has a number
 abbrev pub IsOutput : Output → Type 0
 IsOutput (output.Run reports routes) = length reports.now ≤ MOST_FEEDS
 IsOutput (output.Answers book addresses) = Unit {0}
 IsOutput (output.Matches all) = Unit {0}
+IsOutput (output.Differences old new by first) = IsFirstOf by (table_of old.now) (table_of new.now) first
 IsOutput (output.Routes routes) = Unit {0}
 IsOutput (output.Replay steps inside) = length steps.now < 2 ^ 63
 

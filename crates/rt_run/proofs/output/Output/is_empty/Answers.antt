@@ -1,5 +1,6 @@
 use Rattle.ya_replay.proofs.Promised.{replay_text-some}
 use Rattle.rt_run.proofs.Buffered.{run_text-some, answers-none, answers-some, matches-none, matches-some, rows-none, rows-some}
+use Rattle.rt_run.proofs.Comparing.{empty_by_first}
 use Rattle.rt_run.proofs.output.Output.is_empty.Goals as goal
 
 pub returns-in-Run : goal.returns-in-Run
@@ -14,6 +15,11 @@ pub returns-in-Matches : goal.returns-in-Matches
 returns-in-Matches c =
     rw (c.in-Matches.is, c.is_empty-in-Matches.ensures)
     (record { none = matches-none c.in-Matches.all.now; some = matches-some c.in-Matches.all.now })
+
+pub returns-in-Differences : goal.returns-in-Differences
+returns-in-Differences c =
+    let both = empty_by_first _ _ _ c.in-Differences.first _ c.is_none.ensures (rw c.in-Differences.is at c.requires) in
+    rw c.in-Differences.is (record { none = both.0; some = both.1 })
 
 pub returns-in-Routes : goal.returns-in-Routes
 returns-in-Routes c =

@@ -1,0 +1,43 @@
+use Rattle.std.proofs.Common.{[], ◌++◌, subst}
+use Rattle.std.proofs.lemmas.Result.{err_from_is_err_and}
+use Rattle.std.specs.Io.KnownBytes.{Appends}
+use Rattle.std.proofs.KnownBytes.{Appends-nil}
+use Rattle.rt_cidr.proofs.Promised.{appends_after}
+use Rattle.rt_rib.specs.Book.{table_of}
+use Rattle.rt_feed.specs.DifferenceText.{difference_text}
+use Rattle.rt_run.proofs.Comparing.{none_so_far, none_left, one_more, all_so_far, stops_there}
+use Rattle.rt_run.proofs.differences.write_differences.Goals as goal
+
+pub loop-next-init : goal.loop-next-init
+loop-next-init g c = record {
+  text = [];
+  written = Appends-nil _;
+  far = none_so_far c.args.by (table_of c.args.old.now) (table_of c.args.new.now) c.args.first c.requires;
+}
+
+pub returns-in_err-write_difference-clause-err : goal.returns-in_err-write_difference-clause-err
+returns-in_err-write_difference-clause-err g c =
+    let fault = err_from_is_err_and c.from_residual.result c.from_residual.ensures.1 in
+    let far = c.loop-next.invariant.far in
+    rw fault.1
+    (stops_there c.args.by (table_of c.args.old.now) (table_of c.args.new.now) _ _ _ c.loop-next.invariant.text c.in-Some.difference
+    (rw c.in-Some.is at far) c.loop-next.invariant.written c.in_err-write_difference.ensures.err)
+
+pub loop-next-preserved : goal.loop-next-preserved
+loop-next-preserved g c =
+    let far = c.loop-next.invariant.far in
+    record {
+      text = c.loop-next.invariant.text ++ difference_text c.in-Some.difference;
+      written = appends_after _ _ _ c.loop-next.invariant.text (difference_text c.in-Some.difference)
+          c.loop-next.invariant.written c.in_ok-write_difference.ensures.ok;
+      far = one_more c.args.by (table_of c.args.old.now) (table_of c.args.new.now) c.loop-next.invariant.text c.in-Some.difference
+          c.difference_behind-next.result (rw c.in-Some.is at far) c.difference_behind-next.ensures;
+    }
+
+pub returns-clause-ok : goal.returns-clause-ok
+returns-clause-ok g c =
+    let far = c.loop-next.invariant.far in
+    let none = none_left c.loop-next.next c.in_default.not-Some in
+    subst (Appends (g.W.Write.contents c.args.w.now) (g.W.Write.contents c.loop-next.w))
+    (all_so_far c.args.by (table_of c.args.old.now) (table_of c.args.new.now) c.loop-next.invariant.text (rw none at far))
+    c.loop-next.invariant.written

@@ -1,0 +1,145 @@
+//! What two runs leave, compared: the addresses that their finished tables answer otherwise.
+ghost use Rattle.std.specs.Prelude.{◌≡◌, ◌≢◌, ◌↔◌, ◌⊎◌, ℕ, List, ◌≤◌, [], map, length, max, OnOk, OnErr, Option};
+ghost use Rattle.std.specs.Io.KnownBytes.{Appends};
+ghost use Rattle.rt_cidr.specs.Output.{AppendsBeginning};
+ghost use Rattle.rt_rib.specs.declared.limits.TheConstants.{MOST_FEEDS};
+ghost use Rattle.rt_rib.specs.Book.{IsLimit, table_of};
+ghost use Rattle.rt_diff.specs.Differences.{IsFirstDifference};
+ghost use Rattle.rt_feed.specs.DifferenceText.{differences_text};
+ghost use Rattle.rt_run.specs.RunText.{Leaves};
+ghost use Rattle.rt_run.specs.DiffText.{IsDiffText};
+ghost use Rattle.rt_run.specs.inside.RunResults.{RunOverBook};
+ghost use Rattle.rt_run.specs.inside.Comparisons.{IsFirstOf, lines_of, compared_status};
+
+use crate::faults::AppFault;
+use crate::output::{Output, write_output};
+use crate::runs::{Ran, run_all};
+use crate::tallies::{Taken, taken_of};
+use rt_cidr::Addr;
+use rt_diff::{By, Difference, difference_behind, first_difference};
+use rt_feed::{RunFault, write_difference};
+use rt_rib::Book;
+use std::alloc::Global;
+use std::io::{self, Write};
+use std::mem::ManuallyDrop;
+use std::sync::Wait;
+use std::thread::Threads;
+
+/// The status where some address is answered otherwise.
+const DIFFER: u8 = 1;
+
+/// What a comparison of two runs gives.
+#[derive(Debug, Drop)]
+pub struct Compared {
+    /// The exit status, the greatest of these: 1 where some address is answered otherwise, and those of both runs.
+    pub status: u8,
+    /// How much of the old texts was taken.
+    pub old: Taken,
+    /// How much of the new ones was.
+    pub new: Taken,
+}
+
+/// Runs the old texts and then the new ones as `run_texts` does, each over a table of its own, and when all have ended writes
+/// to `w` each range of addresses that the two tables answer otherwise, in rising order: `FIRST-LAST OLD -> NEW`. Nothing else
+/// is written, so where nothing is, every address is answered alike. Gives how much of the texts was taken, where all was
+/// written. Its faults are those of `run_texts`: F1 where there is no old text or no new one, and F3 also where there is no
+/// memory for what was taken.
+pub fn diff_texts<R: Threads + Wait + Sync, W: Write>(
+    rt: &R,
+    alloc: Global,
+    old_texts: &[Vec<u8>],
+    new_texts: &[Vec<u8>],
+    limit: u32,
+    batch: usize,
+    by: By,
+    w: &mut W,
+) -> Result<Compared, AppFault>
+    requires limited { IsLimit limit }
+    requires few_old { length old_texts.now ≤ MOST_FEEDS }
+    requires few_new { length new_texts.now ≤ MOST_FEEDS }
+    requires batched { 1 ≤ batch }
+    ensures text { Leaves (IsDiffText by (map (λ text. text.items) old_texts.now) (map (λ text. text.items) new_texts.now) limit batch)
+        (W.contents w.old) (W.contents w.new) result }
+    ensures no_text { (result ≡ Err (AppFault.Run RunFault.NoText)) ↔ ((old_texts.now ≡ []) ⊎ (new_texts.now ≡ [])) }
+{
+    if new_texts.is_empty() {
+        return Err(AppFault::Run(RunFault::NoText));
+    }
+    let old = match run_all(rt, alloc, old_texts, limit, batch) {
+        Ok(ran) => ran,
+        Err(refusal) => return Err(AppFault::Run(refusal)),
+    };
+    let new = match run_all(rt, alloc, new_texts, limit, batch) {
+        Ok(ran) => ran,
+        Err(refusal) => return Err(AppFault::Run(refusal)),
+    };
+    let compared = compare_ran(alloc, &old, &new, by, w);
+    // As for a run: the system takes the tables' pages back at once.
+    let _ = ManuallyDrop::new(old.book);
+    let _ = ManuallyDrop::new(new.book);
+    compared
+}
+
+/// Writes what two runs' tables answer otherwise, and tells how much of the texts was taken.
+fn compare_ran<W: Write>(
+    alloc: Global,
+    old: &Ran,
+    new: &Ran,
+    by: By,
+    w: &mut W,
+) -> Result<Compared, AppFault>
+    ensures text { (old_texts new_texts : List (List ℕ)) (limit batch : ℕ)
+        → RunOverBook old_texts limit batch old.now.reports.items old.now.book
+        → RunOverBook new_texts limit batch new.now.reports.items new.now.book
+        → Leaves (IsDiffText by old_texts new_texts limit batch) (W.contents w.old) (W.contents w.new) result }
+    ensures ran { result ≢ Err (AppFault.Run RunFault.NoText) }
+{
+    let Ok(of_old) = taken_of(alloc, old.reports.as_slice()) else {
+        return Err(AppFault::Run(RunFault::Memory));
+    };
+    let Ok(of_new) = taken_of(alloc, new.reports.as_slice()) else {
+        return Err(AppFault::Run(RunFault::Memory));
+    };
+    let first = first_difference(&old.book, &new.book, by, Addr(0));
+    let status = status_of(&of_old, &of_new, first);
+    match write_output(
+        alloc,
+        Output::Differences(&old.book, &new.book, by, first),
+        w,
+    ) {
+        Ok(()) => Ok(Compared {
+            status,
+            old: of_old,
+            new: of_new,
+        }),
+        Err(fault) => Err(fault),
+    }
+}
+
+/// The status of two runs of which this was taken, and of what their tables answer otherwise first.
+fn status_of(old: &Taken, new: &Taken, first: Option<Difference>) -> u8
+    ensures { result ≡ compared_status old.now.status new.now.status first }
+{
+    let differ = if first.is_some() { DIFFER } else { 0 };
+    differ.max(old.status.max(new.status))
+}
+
+/// Writes the ranges that two books' tables answer otherwise, of which this is the first.
+pub(crate) fn write_differences<W: Write>(
+    w: &mut W,
+    old: &Book<Global>,
+    new: &Book<Global>,
+    by: By,
+    first: Option<Difference>,
+) -> Result<(), io::Error>
+    requires { IsFirstOf by (table_of old.now) (table_of new.now) first }
+    ensures ok { OnOk result (Appends (W.contents w.old) (W.contents w.new) (lines_of by (table_of old.now) (table_of new.now))) }
+    ensures err { OnErr result (AppendsBeginning (W.contents w.old) (W.contents w.new) (lines_of by (table_of old.now) (table_of new.now))) }
+{
+    let mut next = first;
+    while let Some(difference) = next {
+        write_difference(w, &difference)?;
+        next = difference_behind(old, new, by, difference.last);
+    }
+    Ok(())
+}
