@@ -318,7 +318,7 @@ def pages(yarib):
     page = lambda name: (TOP / "bench" / "help" / f"{name}.txt").read_text()
     for words in (["--help"], ["-h"], ["help"]):
         expect(f"{words}", run([yarib, *words]), (0, page("yarib"), ""))
-    for name in ("run", "lookup", "table", "replay"):
+    for name in ("run", "lookup", "table", "diff", "replay"):
         for words in ([name, "--help"], [name, "-h"], ["help", name], [name, "--help", "row.feed"]):
             expect(f"{words}", run([yarib, *words]), (0, page(name), ""))
     for words in (["--version"], ["-V"]):
@@ -476,6 +476,58 @@ def not_taken(yarib):
     misused("--best of a run", run([yarib, "run", "--best", "row.feed"]), "--best")
 
 
+# What two tables answer otherwise
+
+
+def ranges(old, new, said):
+    """The lines for two lists of routes: their borders in order, and what is said of the best route of each address there."""
+    borders = sorted({0, *(border for routes in (old, new) for base, length, *_ in routes for border in (base, base + (1 << 32 - length)))} - {1 << 32})
+    found = []
+    for border in borders:
+        answers = [said(best_of(routes, border)) for routes in (old, new)]
+        if not found or found[-1][1] != answers:
+            found.append((border, answers))
+    ends = [first - 1 for first, _ in found[1:]] + [(1 << 32) - 1]
+    return "".join(f"{dotted(first)}-{dotted(last)} {answers[0]} -> {answers[1]}\n" for (first, answers), last in zip(found, ends) if answers[0] != answers[1])
+
+
+# Fails where a border at the last address of a prefix is forgotten, ranges are split or merged wrongly, or routes are compared where hops were asked: `by hop 0`.
+def compared_tables(yarib):
+    """Ranges of random feeds, beside all borders asked one by one; what is misused, and what is told of both sides."""
+    choice = random.Random(40)
+    by_hop = lambda route: f"via {route[4]}" if route else "no route"
+    by_route = lambda route: shown(route)[:-1] if route else "no route"
+    for number in range(20):
+        sides = []
+        for side in ("old", "new"):
+            routes, names = [], []
+            for feed in (1, 2):
+                had, name = set(), f"{side}{feed}.feed"
+                for _ in range(number):
+                    length = choice.choice((0, 1, 8, 9, 24, 31, 32))
+                    base = choice.choice((0, 10 << 24, 255 << 24)) + choice.choice((0, 1, 255, 256, (1 << 24) - 1)) >> 32 - length << 32 - length if length else 0
+                    if (base, length) not in had:
+                        had.add((base, length))
+                        routes.append((base, length, choice.randrange(2), feed, f"192.0.2.{choice.randrange(3)}"))
+                pathlib.Path(name).write_text("".join(f"add {dotted(r[0])}/{r[1]} {r[2]} {r[4]}\n" for r in routes if r[3] == feed))
+                names.append(name)
+            sides.append((routes, names))
+        (old, old_names), (new, new_names) = sides
+        for what, said in (("hop", by_hop), ("route", by_route)):
+            wanted = ranges(old, new, said)
+            expect(f"by {what} {number}", run([yarib, "diff", "--by", what, *old_names, "--", *new_names]), (1 if wanted else 0, wanted, ""))
+        expect(f"with itself {number}", run([yarib, "diff", "--by", "route", *old_names, "--", *old_names]), (0, "", ""))
+    pathlib.Path("odd.feed").write_text("frob\n" + ROW)
+    told = "yarib: odd.feed: faulty lines: 1, the first 1: E1: the first field is no command\n"
+    expect("what was not taken of both", run([yarib, "diff", "odd.feed", "--", "row.feed", "odd.feed"]), (2, "", told * 2))
+    expect("more than 64 new files", run([yarib, "diff", "row.feed", "--", *["row.feed"] * 65]), (3, "", "yarib: more than 64 files\n"))
+    expect("an old file that is missing", run([yarib, "diff", "missing", "--", "row.feed"]), (4, "", "yarib: cannot read missing\n"))
+    misused("no new file", run([yarib, "diff", "row.feed"]), "<NEW>")
+    misused("no file behind --", run([yarib, "diff", "row.feed", "--"]), "<NEW>")
+    misused("no old file", run([yarib, "diff", "--", "row.feed"]), "<OLD>")
+    misused("what can't be compared", run([yarib, "diff", "--by", "feed", "row.feed", "--", "row.feed"]), "'feed'")
+
+
 # Fails where nothing is told from the third file on, of a file that is named twice, or of it the second time: `a third
 # file and one that is named again`.
 # Fails where only the last part of a name is told: `all kinds of one file`.
@@ -611,7 +663,7 @@ def main():
         os.chdir(folder)
         for name, text in (("row", ROW), ("empty", ""), ("faulty", "frob\n")):
             pathlib.Path(f"{name}.feed").write_text(text)
-        for rows in (file_order, many_files, unreadable, names, texts, limits, batches, twice, replays, finished_tables, not_taken, pages, help_is_true, closed_outputs, progress):
+        for rows in (file_order, many_files, unreadable, names, texts, limits, batches, twice, replays, finished_tables, compared_tables, not_taken, pages, help_is_true, closed_outputs, progress):
             rows(yarib)
             print(f"{rows.__name__.replace('_', ' ')}: done", flush=True)
         os.chdir("/")

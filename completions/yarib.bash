@@ -3,21 +3,26 @@ _yarib() {
   local word=${COMP_WORDS[COMP_CWORD]} before=${COMP_WORDS[COMP_CWORD - 1]} options
   COMPREPLY=()
   if [ "$COMP_CWORD" -eq 1 ]; then
-    mapfile -t COMPREPLY < <(compgen -W "run lookup table replay help --help --version" -- "$word")
+    mapfile -t COMPREPLY < <(compgen -W "run lookup table diff replay help --help --version" -- "$word")
     return
   fi
   case ${COMP_WORDS[1]}:$before in
-    run:--limit | run:--batch | lookup:--limit | lookup:--batch | lookup:--address | table:--limit | table:--batch | replay:--levels) return ;;
+    run:--limit | run:--batch | lookup:--limit | lookup:--batch | lookup:--address | table:--limit | table:--batch | diff:--limit | diff:--batch | replay:--levels) return ;;
   esac
+  if [ "${COMP_WORDS[1]}:$before" = diff:--by ]; then
+    mapfile -t COMPREPLY < <(compgen -W "hop route" -- "$word")
+    return
+  fi
   case ${COMP_WORDS[1]} in
     run) options="--limit --batch --help" ;;
     lookup) options="--all --address --addresses --limit --batch --help" ;;
     table) options="--best --limit --batch --help" ;;
+    diff) options="--by --limit --batch --help" ;;
     replay) options="--levels --help" ;;
-    help) options="run lookup table replay" ;;
+    help) options="run lookup table diff replay" ;;
     *) return ;;
   esac
-  if [[ ${COMP_WORDS[1]} = @(run|lookup|table) && $word != -* ]]; then
+  if [[ ${COMP_WORDS[1]} = @(run|lookup|table|diff) && $word != -* ]]; then
     compopt -o filenames
     mapfile -t COMPREPLY < <(compgen -f -- "$word")
   else

@@ -18,7 +18,7 @@ ghost use Rattle.std.specs.Prelude.{◌≤◌};
 use clap::builder::ValueParser;
 use clap::error::ErrorKind;
 use clap::{Arg, ArgAction, ArgMatches, Command, Error};
-use notes::{LOOKUP_NOTES, REPLAY_NOTES, RUN_NOTES, TABLE_NOTES};
+use notes::{DIFF_NOTES, LOOKUP_NOTES, REPLAY_NOTES, RUN_NOTES, TABLE_NOTES};
 use std::alloc::{AllocError, AllocFailed, Global};
 
 /// The most routes that one feed may have. `notes` says it too.
@@ -30,8 +30,17 @@ const DEFAULT_LIMIT: &str = "65536";
 /// How many commands of a feed `run` asks at once, where the command line does not say.
 const DEFAULT_BATCH: &str = "1";
 
-/// How many `lookup` and `table` ask at once, where it does not say: no order shows in what they write.
+/// How many `lookup`, `table` and `diff` ask at once, where it does not say: no order shows in what they write.
 const UNSEEN_BATCH: &str = "256";
+
+/// What `diff` compares where it does not say: where packets go.
+const HOP: &str = "hop";
+
+/// What it compares else: whole routes.
+const ROUTE: &str = "route";
+
+/// What it may compare.
+const COMPARED: &[&str] = &[HOP, ROUTE];
 
 /// What the words of a command line ask for.
 #[derive(Debug, Drop)]
@@ -42,6 +51,8 @@ pub enum Request<'a> {
     Lookup(LookupRequest<'a>),
     /// To list the routes of the table that feed files leave.
     Table(TableRequest<'a>),
+    /// To tell which addresses the tables of two sets of feed files answer otherwise.
+    Diff(DiffRequest<'a>),
     /// To show the steps of one schedule of the lock.
     Replay(ReplayRequest),
 }
@@ -80,6 +91,17 @@ pub struct TableRequest<'a> {
     pub run: RunRequest<'a>,
     /// Whether only the best route of each prefix is listed.
     pub only_best: bool,
+}
+
+/// Which tables to compare.
+#[derive(Debug, Drop)]
+pub struct DiffRequest<'a> {
+    /// The old feed files, and the limit and the batch of both runs.
+    pub run: RunRequest<'a>,
+    /// The names of the new feed files.
+    pub new_files: Vec<&'a str>,
+    /// Whether whole routes are compared, and not where packets go.
+    pub whole_routes: bool,
 }
 
 /// Which schedule to show.
@@ -127,6 +149,7 @@ fn request_of<'a>(alloc: Global, matches: &ArgMatches<'a>) -> Result<Request<'a>
         Some(("replay", asked)) => Ok(Request::Replay(replay_request(alloc, asked)?)),
         Some(("lookup", asked)) => Ok(Request::Lookup(lookup_request(alloc, asked)?)),
         Some(("table", asked)) => Ok(Request::Table(table_request(alloc, asked)?)),
+        Some(("diff", asked)) => Ok(Request::Diff(diff_request(alloc, asked)?)),
         Some((_, asked)) => Ok(Request::Run(run_request(alloc, asked)?)),
         None => Err(Refusal::Memory),
     }
@@ -152,6 +175,7 @@ fn program<'a>(alloc: Global) -> Result<Command<'a>, AllocError> {
         .subcommand(run_command(alloc)?)?
         .subcommand(lookup_command(alloc)?)?
         .subcommand(table_command(alloc)?)?
+        .subcommand(diff_command(alloc)?)?
         .subcommand(replay_command(alloc)?)
 }
 
@@ -186,6 +210,19 @@ fn table_command<'a>(alloc: Global) -> Result<Command<'a>, AllocError> {
         .arg(files(alloc))
 }
 
+fn diff_command<'a>(alloc: Global) -> Result<Command<'a>, AllocError> {
+    Command::new(alloc, "diff")
+        .about(
+            "Run two sets of feed files, and print which addresses their tables answer otherwise",
+        )
+        .after_help(DIFF_NOTES)
+        .arg(by(alloc))?
+        .arg(limit(alloc))?
+        .arg(batch(alloc, UNSEEN_BATCH))?
+        .arg(old_files(alloc))?
+        .arg(new_files(alloc))
+}
+
 fn all<'a>(alloc: Global) -> Arg<'a> {
     Arg::new(alloc, "all")
         .long("all")
@@ -215,6 +252,15 @@ fn best<'a>(alloc: Global) -> Arg<'a> {
         .help("Print only the best route of each prefix")
 }
 
+fn by<'a>(alloc: Global) -> Arg<'a> {
+    Arg::new(alloc, "by")
+        .long("by")
+        .value_name("WHAT")
+        .value_parser(ValueParser::Names(COMPARED))
+        .default_value(HOP)
+        .help("What is compared: where packets go, or whole routes")
+}
+
 fn limit<'a>(alloc: Global) -> Arg<'a> {
     let help = "How many routes a feed may have, 1 to 1000000";
     number(alloc, "limit", "K", 1, u64::from(MOST_ROUTES), help).default_value(DEFAULT_LIMIT)
@@ -231,6 +277,23 @@ fn files<'a>(alloc: Global) -> Arg<'a> {
         .required(true)
         .num_args(1..)
         .help("Feed files, 1 to 64: one command a line; /dev/stdin may be one")
+}
+
+fn old_files<'a>(alloc: Global) -> Arg<'a> {
+    Arg::new(alloc, "files")
+        .value_name("OLD")
+        .required(true)
+        .num_args(1..)
+        .help("The old feed files, 1 to 64")
+}
+
+fn new_files<'a>(alloc: Global) -> Arg<'a> {
+    Arg::new(alloc, "new")
+        .value_name("NEW")
+        .required(true)
+        .last(true)
+        .num_args(1..)
+        .help("The new feed files, 1 to 64")
 }
 
 fn replay_command<'a>(alloc: Global) -> Result<Command<'a>, AllocError> {
@@ -283,6 +346,14 @@ fn table_request<'a>(alloc: Global, asked: &ArgMatches<'a>) -> Result<TableReque
     Ok(TableRequest {
         run: run_request(alloc, asked)?,
         only_best: asked.get_flag("best"),
+    })
+}
+
+fn diff_request<'a>(alloc: Global, asked: &ArgMatches<'a>) -> Result<DiffRequest<'a>, Refusal> {
+    Ok(DiffRequest {
+        run: run_request(alloc, asked)?,
+        new_files: texts_of(alloc, asked, "new")?,
+        whole_routes: asked.get_str("by") == Some(ROUTE),
     })
 }
 

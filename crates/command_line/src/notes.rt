@@ -11,9 +11,10 @@ macro_rules! feed_notes {
     };
 }
 
-/// Notes of `lookup` and `table`: a text, what both say of what was not taken and of the exit status, and an example.
+/// Notes of `lookup`, `table` and `diff`: a text, what all say of what was not taken and of the exit status, with the line or
+/// lines of status 0 to 3, and an example.
 macro_rules! taken_notes {
-    ($before:literal, $example:literal) => {
+    ($before:literal, $first_statuses:literal, $example:literal) => {
         feed_notes!(
             $before,
             "\
@@ -25,8 +26,9 @@ Standard error tells of each file what was not taken, one line a kind:
   yarib: FILE: commands refused for want of memory: N
 
 Exit status, the greatest that applies:
-  0 done   2 faulty line, or add over the limit   3 command line
-  4 unreadable file   5 memory refused   6 output not written
+",
+            $first_statuses,
+            "  4 unreadable file   5 memory refused   6 output not written
 
 ";
             "`run --help` has the commands of feed files and the faults.\n\n",
@@ -93,6 +95,7 @@ best first, and why it was left behind: shorter (its prefix), else preference
   ADDR also PREFIX feed F pref P via HOP REASON
 
 ",
+    "  0 done   2 faulty line, or add over the limit   3 command line\n",
     "Example, where one.feed says `add 10.0.0.0/8 100 192.0.2.1`, and two.feed
 `add 10.0.0.0/8 50 192.0.2.2`:
   $ yarib lookup --address 10.1.2.3 --address 11.0.0.1 one.feed
@@ -113,6 +116,7 @@ look-up would give:
   PREFIX feed F pref P via HOP
 
 ",
+    "  0 done   2 faulty line, or add over the limit   3 command line\n",
     "Example, where one.feed says `add 10.0.0.0/8 100 192.0.2.1`, and two.feed
 `add 10.0.0.0/8 50 192.0.2.2`:
   $ yarib table one.feed two.feed
@@ -120,6 +124,25 @@ look-up would give:
   10.0.0.0/8 feed 1 pref 100 via 192.0.2.1
   $ yarib table --best one.feed two.feed
   10.0.0.0/8 feed 2 pref 50 via 192.0.2.2
+"
+);
+
+/// What `diff --help` says of the ranges, the answers, what is told of the files, and the exit status.
+pub(crate) const DIFF_NOTES: &str = taken_notes!(
+    "\
+Each range of addresses that are answered otherwise has one line, when all feeds
+have ended, in rising order; where nothing is printed, every address is answered
+alike. An answer is that of a look-up: `via HOP`, `discard` or `no route`, and
+with --by route `PREFIX feed F pref P via HOP` or `no route`.
+  FIRST-LAST OLDANSWER -> NEWANSWER
+
+",
+    "  0 every address is answered alike   1 some address is not
+  2 faulty line, or add over the limit   3 command line\n",
+    "Example, where one.feed says `add 10.0.0.0/8 100 192.0.2.1`, and new.feed
+`add 10.0.0.0/8 100 192.0.2.1` and `add 10.1.0.0/16 100 192.0.2.2`:
+  $ yarib diff one.feed -- new.feed
+  10.1.0.0-10.1.255.255 via 192.0.2.1 -> via 192.0.2.2
 "
 );
 

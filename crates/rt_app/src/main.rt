@@ -12,8 +12,8 @@ use program::Stop;
 pub use program::{Line, run_words, run_words_beside};
 pub use rt_feed::RunFault;
 pub use rt_run::{
-    AppFault, MOST_TEXTS, Taken, Tally, laws, lookup_all_texts, lookup_texts, replay_text,
-    run_texts, table_texts,
+    AppFault, Compared, MOST_TEXTS, Taken, Tally, diff_texts, laws, lookup_all_texts, lookup_texts,
+    replay_text, run_texts, table_texts,
 };
 use std::alloc::Global;
 use std::io::{self, IsTerminal, Write};

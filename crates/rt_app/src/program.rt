@@ -1,5 +1,6 @@
 //! The program over its words: reads the files and runs them.
 
+mod comparing;
 mod screen;
 mod showing;
 mod stops;
@@ -94,6 +95,7 @@ where
             Ok(Request::Run(asked)) => self.run_files(&asked),
             Ok(Request::Lookup(asked)) => self.show_answers(&asked),
             Ok(Request::Table(asked)) => self.show_routes(&asked),
+            Ok(Request::Diff(asked)) => self.compare(&asked),
             Ok(Request::Replay(asked)) => self.show_replay(&asked),
             Err(Refusal::Shown(text)) => self.show_text(text.as_bytes()),
             Err(Refusal::Misused(text)) => Err(Stop::Misused(text)),
@@ -102,7 +104,7 @@ where
     }
 
     fn run_files<'w>(&mut self, asked: &RunRequest<'w>) -> Result<u8, Stop<'w>> {
-        let texts = self.read_feeds(asked)?;
+        let texts = self.read_feeds(asked.files.as_slice())?;
         let (texts, batch) = (texts.as_slice(), asked.batch as usize);
         let mut out = self.screen.beside(texts.len(), self.out);
         Ok(run_texts(self.rt, self.alloc, texts, asked.limit, batch, &mut out)?)
@@ -121,13 +123,13 @@ where
     }
 
     /// The texts of the feed files, of which none is read where there are more than a run takes.
-    fn read_feeds<'w>(&mut self, asked: &RunRequest<'w>) -> Result<Vec<Vec<u8>>, Stop<'w>>
+    fn read_feeds<'w>(&mut self, names: &[&'w str]) -> Result<Vec<Vec<u8>>, Stop<'w>>
         ensures { IfOk result (λ texts. vec_len texts ≤ MOST_FEEDS) }
     {
-        if asked.files.len() > MOST_TEXTS {
+        if names.len() > MOST_TEXTS {
             return Err(Stop::TooMany);
         }
-        self.read_files(asked.files.as_slice())
+        self.read_files(names)
     }
 
     fn read_files<'w>(&mut self, names: &[&'w str]) -> Result<Vec<Vec<u8>>, Stop<'w>>

@@ -1,5 +1,6 @@
 //! The program over its words.
 
+mod compared;
 mod progress;
 mod shown;
 mod words;

@@ -32,7 +32,7 @@ where
     pub(super) fn show_answers<'w>(&mut self, request: &LookupRequest<'w>) -> Result<u8, Stop<'w>> {
         let run = &request.run;
         let mut addresses = named_addresses(self.alloc, request)?;
-        let texts = self.read_feeds(run)?;
+        let texts = self.read_feeds(run.files.as_slice())?;
         if let Some(name) = request.more {
             let text = self.read_file(name)?;
             add_addresses(text.as_slice(), &mut addresses)?;
@@ -71,7 +71,7 @@ where
     /// Lists the routes, or only the best of each prefix.
     pub(super) fn show_routes<'w>(&mut self, request: &TableRequest<'w>) -> Result<u8, Stop<'w>> {
         let run = &request.run;
-        let texts = self.read_feeds(run)?;
+        let texts = self.read_feeds(run.files.as_slice())?;
         let taken = table_texts(
             self.rt,
             self.alloc,
@@ -86,7 +86,7 @@ where
 }
 
 /// Tells of each file what was not taken, and gives the status.
-fn tell_taken<E: Write>(err: &mut E, names: &[&str], taken: &Taken) -> u8 {
+pub(super) fn tell_taken<E: Write>(err: &mut E, names: &[&str], taken: &Taken) -> u8 {
     for (name, tally) in names.iter().zip(taken.tallies.iter()) {
         tell_tally(err, name, tally);
     }

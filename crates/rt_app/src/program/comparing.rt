@@ -1,0 +1,46 @@
+//! `diff`: which addresses the tables of two sets of feed files answer otherwise, and what of the files was not taken.
+
+use super::showing::tell_taken;
+use super::{Program, Stop};
+use command_line::DiffRequest;
+use rt_diff::By;
+use rt_run::{Compared, diff_texts};
+use std::io::Write;
+use std::rt::Files;
+use std::sync::Wait;
+use std::thread::Threads;
+
+impl<R, O, E> Program<'_, R, O, E>
+where
+    R: Files + Threads + Wait + Sync + AllocGlobal,
+    O: Write,
+    E: Write,
+{
+    /// Tells which addresses the tables of the old files and of the new ones answer otherwise.
+    pub(super) fn compare<'w>(&mut self, request: &DiffRequest<'w>) -> Result<u8, Stop<'w>> {
+        let (old_names, new_names) = (request.run.files.as_slice(), request.new_files.as_slice());
+        let old_texts = self.read_feeds(old_names)?;
+        let new_texts = self.read_feeds(new_names)?;
+        let (old_texts, new_texts) = (old_texts.as_slice(), new_texts.as_slice());
+        let by = if request.whole_routes {
+            By::Route
+        } else {
+            By::Hop
+        };
+        let Compared { status, old, new } = diff_texts(
+            self.rt,
+            self.alloc,
+            old_texts,
+            new_texts,
+            request.run.limit,
+            request.run.batch as usize,
+            by,
+            &mut self
+                .screen
+                .beside(old_texts.len() + new_texts.len(), self.out),
+        )?;
+        tell_taken(&mut self.screen, old_names, &old);
+        tell_taken(&mut self.screen, new_names, &new);
+        Ok(status)
+    }
+}

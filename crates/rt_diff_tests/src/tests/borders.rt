@@ -1,0 +1,78 @@
+//! Ranges at the borders of prefixes, at the first address of all and at the last one.
+use super::{add, addr, via};
+use rt_cidr::Addr;
+use rt_diff::*;
+use rt_rib::{Book, Hop};
+use std::alloc::Global;
+use std::process::Abort;
+use std::test::Fail;
+
+/// Compares the ranges, in order, with those of the two books.
+fn assert_ranges(rt: &impl Abort, old: &Book<Global>, new: &Book<Global>, ranges: &[Difference]) {
+    let mut next = first_difference(old, new, By::Hop, Addr(0));
+    for range in ranges {
+        assert_eq!(rt; next, Some(*range));
+        next = difference_behind(old, new, By::Hop, range.last);
+    }
+    assert_eq!(rt; next, None);
+}
+
+fn range(first: Addr, last: Addr, old: Answer, new: Answer) -> Difference {
+    Difference {
+        first,
+        last,
+        old,
+        new,
+    }
+}
+
+#[test]
+fn a_longer_prefix_and_a_new_one(rt: HostRuntime) -> Result<(), Fail> {
+    let (mut old, mut new) = (Book::new(rt.alloc(), 9), Book::new(rt.alloc(), 9));
+    add(&rt, &mut old, addr(10, 0, 0, 0), 8, via(1))?;
+    add(&rt, &mut new, addr(10, 0, 0, 0), 8, via(1))?;
+    add(&rt, &mut new, addr(10, 1, 0, 0), 16, via(2))?;
+    add(&rt, &mut new, addr(10, 2, 0, 0), 16, via(1))?;
+    add(&rt, &mut new, addr(11, 0, 0, 0), 8, Hop::Discard)?;
+    let longer = range(
+        addr(10, 1, 0, 0),
+        addr(10, 1, 255, 255),
+        Answer::Hop(via(1)),
+        Answer::Hop(via(2)),
+    );
+    let discarded = range(
+        addr(11, 0, 0, 0),
+        addr(11, 255, 255, 255),
+        Answer::NoRoute,
+        Answer::Hop(Hop::Discard),
+    );
+    assert_ranges(&rt, &old, &new, &[longer, discarded]);
+    assert_ranges(&rt, &new, &new, &[]);
+    Ok(())
+}
+
+/// A shorter prefix shows through on both sides of a longer one that stays, up to the first address and the last.
+#[test]
+fn the_first_address_and_the_last(rt: HostRuntime) -> Result<(), Fail> {
+    let (mut old, mut new) = (Book::new(rt.alloc(), 9), Book::new(rt.alloc(), 9));
+    add(&rt, &mut old, addr(64, 0, 0, 0), 2, via(1))?;
+    add(&rt, &mut new, addr(64, 0, 0, 0), 2, via(1))?;
+    add(&rt, &mut new, addr(0, 0, 0, 0), 0, via(2))?;
+    add(&rt, &mut new, addr(255, 255, 255, 255), 32, via(3))?;
+    let last = Addr(u32::MAX);
+    let lower = range(
+        Addr(0),
+        addr(63, 255, 255, 255),
+        Answer::NoRoute,
+        Answer::Hop(via(2)),
+    );
+    let upper = range(
+        addr(128, 0, 0, 0),
+        Addr(u32::MAX - 1),
+        Answer::NoRoute,
+        Answer::Hop(via(2)),
+    );
+    let alone = range(last, last, Answer::NoRoute, Answer::Hop(via(3)));
+    assert_ranges(&rt, &old, &new, &[lower, upper, alone]);
+    Ok(())
+}

@@ -1,0 +1,121 @@
+//! Random tables in one /24, against the answers of all of its addresses, asked one by one.
+ghost use Rattle.std.specs.Prelude.{◌<◌};
+
+use super::via;
+use rt_cidr::{Addr, Prefix};
+use rt_diff::*;
+use rt_rib::{Book, Cmd, Reply, Route};
+use std::alloc::Global;
+use std::process::Abort;
+use std::test::Fail;
+
+/// The first address of the /24.
+const BASE: u32 = 0x0a00_0000;
+
+/// Numbers by a linear congruence, the same in each run.
+#[derive(Drop)]
+struct Dice(u64);
+
+impl Dice {
+    /// A number below `sides`.
+    fn roll(&mut self, sides: usize) -> usize
+        requires { 0 < sides }
+        ensures { result < sides }
+    {
+        self.0 = self
+            .0
+            .wrapping_mul(6_364_136_223_846_793_005)
+            .wrapping_add(1_442_695_040_888_963_407);
+        (self.0 >> 33) as usize % sides
+    }
+
+    /// Puts so many routes to prefixes of 24 to 32 bits in, by one of three next hops.
+    fn fill(&mut self, book: &mut Book<Global>, count: usize) -> Result<(), Fail> {
+        for _ in 0..count {
+            let past = self.roll(9);
+            let host = BASE + self.roll(256) as u32;
+            let base = ((host as u64 >> past) << past) as u32;
+            let prefix = Prefix::new(base, 32 - past as u8)?;
+            let hop = via(self.roll(3) as u8);
+            let _ = book.apply(
+                1,
+                Cmd::Add {
+                    prefix,
+                    pref: 5,
+                    hop,
+                },
+            )?;
+        }
+        Ok(())
+    }
+}
+
+/// What the book answers to a look-up by itself.
+fn answer(rt: &impl Abort, book: &mut Book<Global>, by: By, addr: Addr) -> Answer {
+    let route: Route = match book.apply(64, Cmd::Lookup { addr }) {
+        Ok(Reply::Found(route)) => route,
+        Ok(Reply::NoRoute) => return Answer::NoRoute,
+        other => panic!(rt; "{other:?}"),
+    };
+    match by {
+        By::Hop => Answer::Hop(route.hop),
+        By::Route => Answer::Route(route),
+    }
+}
+
+/// The range itself, or the one behind it where it ends before the address.
+fn reached(
+    old: &Book<Global>,
+    new: &Book<Global>,
+    by: By,
+    range: Option<Difference>,
+    addr: Addr,
+) -> Option<Difference> {
+    match range {
+        Some(range) if range.last < addr => difference_behind(old, new, by, range.last),
+        _ => range,
+    }
+}
+
+/// The answers of the range, if the address lies in it.
+fn answers_in(range: Option<Difference>, addr: Addr) -> Option<(Answer, Answer)> {
+    match range {
+        Some(range) if range.first <= addr && addr <= range.last => Some((range.old, range.new)),
+        _ => None,
+    }
+}
+
+/// Each address lies in a range exactly where its answers differ, the range has them, and begins where others end.
+fn compare(rt: &impl Abort, old: &mut Book<Global>, new: &mut Book<Global>, by: By) {
+    let mut range = first_difference(old, new, by, Addr(0));
+    let mut before = None;
+    for host in 0..256u32 {
+        let addr = Addr(BASE + host);
+        range = reached(old, new, by, range, addr);
+        let answers = (answer(rt, old, by, addr), answer(rt, new, by, addr));
+        let expected = if answers.0 == answers.1 {
+            None
+        } else {
+            Some(answers)
+        };
+        assert_eq!(rt; answers_in(range, addr), expected, "{addr:?}");
+        let begins = range.is_some_and(|range| range.first == addr);
+        assert!(rt; !begins || before != Some(answers), "{addr:?}");
+        before = Some(answers);
+    }
+    assert_eq!(rt; reached(old, new, by, range, Addr(BASE + 256)), None);
+}
+
+#[test]
+fn each_address_of_a_small_universe(rt: HostRuntime) -> Result<(), Fail> {
+    for round in 0..40usize {
+        let (mut old, mut new) = (Book::new(rt.alloc(), 99), Book::new(rt.alloc(), 99));
+        Dice(round as u64).fill(&mut old, round)?;
+        Dice(round as u64).fill(&mut new, round)?;
+        Dice(1000).fill(&mut old, round % 3)?;
+        Dice(2000).fill(&mut new, round % 4)?;
+        compare(&rt, &mut old, &mut new, By::Hop);
+        compare(&rt, &mut new, &mut old, By::Route);
+    }
+    Ok(())
+}
