@@ -1,0 +1,135 @@
+#!/usr/bin/env python3
+"""Compares what `yarib diff` prints with a plain model, line by line, and times it beside the loading of its files.
+
+Usage: bench/diff.py [YARIB [PREFIXES [CHANGES]]]. Builds ./yarib first unless a built program is named; 500,000 prefixes and 1,000
+changes if left out. Linux, python3.
+
+The old table has that many prefixes, of lengths as in a full table of the Internet; the new one is without some of them, has others
+beside, or has them by another hop, so many changes in all. The model goes over the borders of both tables in order, and knows at each
+which prefixes are open. Told is the time of `diff` beside that of two runs that look one address up, the old files' and the new
+ones': what a comparison takes beyond them, as a part of what they take, on the clock and of the processor; the least of five.
+"""
+import pathlib
+import random
+import resource
+import subprocess
+import sys
+import tempfile
+import time
+
+from hostile import built, expect, failures
+
+# How many of a hundred prefixes are of this length.
+LENGTHS = [24] * 60 + [23] * 9 + [22] * 11 + [21] * 4 + [20] * 5 + [19] * 3 + [18] * 2 + [17] + [16] * 3 + [14, 12]
+ROUNDS = 5
+
+
+def drawn(count):
+    """So many prefixes, each with a hop: `{(base, length): hop}`."""
+    draw = random.Random(7)
+    table = {}
+    while len(table) < count:
+        length = draw.choice(LENGTHS)
+        table[draw.randrange(1 << 24, 224 << 24) >> 32 - length << 32 - length, length] = draw.randrange(1, 9)
+    return table
+
+
+def changed(table, changes):
+    """The table after so many changes: some prefixes gone, some new, some by another hop."""
+    draw = random.Random(8)
+    after = dict(table)
+    for number, prefix in enumerate(draw.sample(sorted(table), changes)):
+        base, length = prefix
+        if number % 3 == 0:
+            del after[prefix]
+        elif number % 3 == 1:
+            after[base, length + 3] = draw.randrange(1, 9)
+        else:
+            after[prefix] = 9
+    return after
+
+
+def address(number):
+    return ".".join(str(number >> shift & 255) for shift in (24, 16, 8, 0))
+
+
+def write(path, table):
+    path.write_text("".join(f"add {address(base)}/{length} 100 192.0.2.{hop}\n" for (base, length), hop in table.items()))
+
+
+def pieces(table):
+    """From which address on the table gives which hop: `[(first, hop)]`, in order, with no hop where no prefix covers."""
+    found, opened = [(0, None)], []
+
+    def close(until):
+        """Ends the prefixes that end before the address; behind each the one around it goes on."""
+        while opened and opened[-1][0] <= until:
+            end, _ = opened.pop()
+            found.append((end, opened[-1][1] if opened else None))
+
+    for (base, length), hop in sorted(table.items()):
+        close(base)
+        opened.append((base + (1 << 32 - length), hop))
+        found.append((base, hop))
+    close(1 << 32)
+    return [(first, hop) for place, (first, hop) in enumerate(found) if place + 1 == len(found) or found[place + 1][0] > first]
+
+
+def said(hop):
+    return "no route" if hop is None else f"via 192.0.2.{hop}"
+
+
+def ranges(old, new):
+    """The lines that are to be printed."""
+    borders = sorted([(first, 0, hop) for first, hop in pieces(old)] + [(first, 1, hop) for first, hop in pieces(new)], key=lambda border: border[:2])
+    answers, begun, lines, first = [None, None], (None, None), [], 0
+    for place, (here, which, hop) in enumerate(borders):
+        answers[which] = hop
+        if place + 1 < len(borders) and borders[place + 1][0] == here or tuple(answers) == begun:
+            continue
+        if begun[0] != begun[1]:
+            lines.append(f"{address(first)}-{address(here - 1)} {said(begun[0])} -> {said(begun[1])}\n")
+        first, begun = here, tuple(answers)
+    if begun[0] != begun[1]:
+        lines.append(f"{address(first)}-255.255.255.255 {said(begun[0])} -> {said(begun[1])}\n")
+    return "".join(lines)
+
+
+def timed(words):
+    """The seconds of a call on the clock and of the processor, and what it ended with."""
+    before, start = resource.getrusage(resource.RUSAGE_CHILDREN), time.monotonic()
+    ended = subprocess.run(words, capture_output=True, text=True)
+    clock, after = time.monotonic() - start, resource.getrusage(resource.RUSAGE_CHILDREN)
+    return clock, after.ru_utime + after.ru_stime - before.ru_utime - before.ru_stime, (ended.returncode, ended.stdout, ended.stderr)
+
+
+def main():
+    yarib = built(sys.argv[1:2])
+    prefixes, changes = (int(word) for word in (sys.argv[2:] + ["500000", "1000"][len(sys.argv[2:]):]))
+    with tempfile.TemporaryDirectory() as folder:
+        old, new = pathlib.Path(folder, "old.feed"), pathlib.Path(folder, "new.feed")
+        table = drawn(prefixes)
+        after = changed(table, changes)
+        write(old, table)
+        write(new, after)
+        wanted = ranges(table, after)
+        limit = ["--limit", "1000000"]
+        least = {}
+        for _ in range(ROUNDS):
+            calls = {name: timed([yarib, "lookup", *limit, "--address", "0.0.0.0", name]) for name in (old, new)}
+            calls["diff"] = timed([yarib, "diff", *limit, old, "--", new])
+            expect("the ranges", calls["diff"][2], (1 if wanted else 0, wanted, ""))
+            for name, (clock, processor, _) in calls.items():
+                best = least.setdefault(name, [clock, processor])
+                least[name] = [min(best[0], clock), min(best[1], processor)]
+        expect("a table and itself", timed([yarib, "diff", *limit, new, "--", new])[2], (0, "", ""))
+        for place, measure in enumerate(("clock", "processor")):
+            loading = least[old][place] + least[new][place]
+            beyond = least["diff"][place] - loading
+            print(f"{measure:9} loading {loading:.3f} s, comparing {beyond:.3f} s: {beyond / loading:.2f}")
+        print(f"{len(wanted.splitlines())} ranges")
+    sys.exit(f"{len(failures)} wrong" if failures else 0)
+
+
+if __name__ == "__main__":
+    main()
