@@ -204,6 +204,40 @@ fn prints_what_was_found(rt: HostRuntime) -> Result<(), Fail> {
     Ok(())
 }
 
+/// Fails where `write_all_found` gives up at once.
+#[test]
+fn prints_all_that_was_found(rt: HostRuntime) -> Result<(), Fail> {
+    let ten = route(b"10.0.0.0/8", 5, b"192.0.2.1")?;
+    let all = [
+        route(b"10.1.0.0/16", 70, b"192.0.2.4")?,
+        ten,
+        Route { feed: 2, ..ten },
+        Route {
+            pref: u32::MAX,
+            hop: Hop::Discard,
+            ..ten
+        },
+        route(b"0.0.0.0/0", 0, b"192.0.2.3")?,
+    ];
+    let text = b"10.1.2.3 route 10.1.0.0/16 feed 1 pref 70 via 192.0.2.4
+10.1.2.3 also 10.0.0.0/8 feed 1 pref 5 via 192.0.2.1 shorter
+10.1.2.3 also 10.0.0.0/8 feed 2 pref 5 via 192.0.2.1 shorter
+10.1.2.3 also 10.0.0.0/8 feed 1 pref 4294967295 via discard shorter
+10.1.2.3 also 0.0.0.0/0 feed 1 pref 0 via 192.0.2.3 shorter
+10.255.255.255 route 10.0.0.0/8 feed 1 pref 5 via 192.0.2.1
+10.255.255.255 also 10.0.0.0/8 feed 2 pref 5 via 192.0.2.1 feed
+10.255.255.255 also 10.0.0.0/8 feed 1 pref 4294967295 via discard preference
+10.255.255.255 also 0.0.0.0/0 feed 1 pref 0 via 192.0.2.3 shorter
+11.0.0.0 no route
+";
+    let mut out = Vec::new(rt.alloc());
+    write_all_found(&mut out, Addr(167838211), &all)?;
+    write_all_found(&mut out, Addr(184549375), &all[1..])?;
+    write_all_found(&mut out, Addr(184549376), &[])?;
+    assert_eq!(rt; out.as_slice(), text.as_slice());
+    Ok(())
+}
+
 /// Fails where `write_rows` gives up at once.
 #[test]
 fn prints_rows_alone(rt: HostRuntime) -> Result<(), Fail> {

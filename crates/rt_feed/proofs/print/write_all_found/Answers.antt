@@ -11,3 +11,6 @@ returns-clause-err g c =
     let others = flat_map (also_text c.args.addr c.in-Some.first.now) c.in-Some.others.now in
     rw cut
     (on_err_weaker c.write_others.result (begins_after _ _ _ _ others c.in_ok-write_found.ensures.ok) c.write_others.ensures.err)
+
+pub returns-in_default-clause-ok : goal.returns-in_default-clause-ok
+returns-in_default-clause-ok g c = search rules
