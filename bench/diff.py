@@ -2,12 +2,14 @@
 """Compares what `yarib diff` prints with a plain model, line by line, and times it beside the loading of its files.
 
 Usage: bench/diff.py [YARIB [PREFIXES [CHANGES]]]. Builds ./yarib first unless a built program is named; 500,000 prefixes and 1,000
-changes if left out. Linux, python3.
+changes if left out. Linux, python3, rustc.
 
 The old table has that many prefixes, of lengths as in a full table of the Internet; the new one is without some of them, has others
 beside, or has them by another hop, so many changes in all. The model goes over the borders of both tables in order, and knows at each
 which prefixes are open. Told is the time of `diff` beside that of two runs that look one address up, the old files' and the new
 ones': what a comparison takes beyond them, as a part of what they take, on the clock and of the processor; the least of five.
+In turn with these runs a program in plain Rust does the same (bench/diff_peer.rs), and where the system's python3 has py-radix
+(Debian's python3-radix) that is loaded with both tables and asked at each border.
 """
 import pathlib
 import random
@@ -95,6 +97,52 @@ def ranges(old, new):
     return "".join(lines)
 
 
+ROOT = pathlib.Path(__file__).resolve().parent
+
+# Asks py-radix at each border of both tables; prints the seconds of loading and of asking, and how many answers differ.
+RADIX = """
+import sys, time
+import radix
+
+def loaded(name):
+    tree, borders = radix.Radix(), {0}
+    for line in open(name):
+        _, prefix, _, hop = line.split()
+        node = tree.add(prefix)
+        node.data["hop"] = hop
+        base = int.from_bytes(node.packed, "big")
+        borders |= {base, base + (1 << 32 - node.prefixlen)}
+    return tree, borders
+
+def hop(tree, address):
+    node = tree.search_best(".".join(map(str, address.to_bytes(4, "big"))))
+    return node and node.data["hop"]
+
+start = time.monotonic()
+(old, ours), (new, theirs) = loaded(sys.argv[1]), loaded(sys.argv[2])
+asked = time.monotonic()
+differ = sum(hop(old, border) != hop(new, border) for border in ours | theirs if border < 1 << 32)
+print(asked - start, time.monotonic() - asked, differ)
+"""
+
+
+def plain_program(folder):
+    """The path of the program in plain Rust, which is built in the folder."""
+    plain = pathlib.Path(folder, "plain")
+    subprocess.run(["rustc", "--edition", "2024", "-C", "opt-level=3", "-o", plain, ROOT / "diff_peer.rs"], check=True)
+    return plain
+
+
+def tell_radix(old, new):
+    """Tells what py-radix takes, where it is there."""
+    asked = subprocess.run(["/usr/bin/python3", "-c", RADIX, old, new], capture_output=True, text=True)
+    if asked.returncode != 0:
+        print("py-radix: not there")
+        return
+    loading, asking, differ = asked.stdout.split()
+    print(f"py-radix  loading {float(loading):.3f} s, asking at each border {float(asking):.3f} s: {differ} answers differ")
+
+
 def timed(words):
     """The seconds of a call on the clock and of the processor, and what it ended with."""
     before, start = resource.getrusage(resource.RUSAGE_CHILDREN), time.monotonic()
@@ -114,11 +162,14 @@ def main():
         write(new, after)
         wanted = ranges(table, after)
         limit = ["--limit", "1000000"]
-        least = {}
+        least, plain, of_plain = {}, plain_program(folder), []
         for _ in range(ROUNDS):
             calls = {name: timed([yarib, "lookup", *limit, "--address", "0.0.0.0", name]) for name in (old, new)}
             calls["diff"] = timed([yarib, "diff", *limit, old, "--", new])
             expect("the ranges", calls["diff"][2], (1 if wanted else 0, wanted, ""))
+            _, _, (status, out, err) = timed([plain, old, new])
+            expect("the plain program's ranges", (status, out), (0, wanted))
+            of_plain.append([int(word) / 1e9 for word in err.split()])
             for name, (clock, processor, _) in calls.items():
                 best = least.setdefault(name, [clock, processor])
                 least[name] = [min(best[0], clock), min(best[1], processor)]
@@ -127,6 +178,9 @@ def main():
             loading = least[old][place] + least[new][place]
             beyond = least["diff"][place] - loading
             print(f"{measure:9} loading {loading:.3f} s, comparing {beyond:.3f} s: {beyond / loading:.2f}")
+        loading, beyond = min(pair[0] for pair in of_plain), min(pair[1] for pair in of_plain)
+        print(f"plain     loading {loading:.3f} s, comparing {beyond:.3f} s: {beyond / loading:.2f}")
+        tell_radix(old, new)
         print(f"{len(wanted.splitlines())} ranges")
     sys.exit(f"{len(failures)} wrong" if failures else 0)
 

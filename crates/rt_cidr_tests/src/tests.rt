@@ -1,10 +1,15 @@
 //! Texts read and written, and writers that take a byte a call, fail or hold too little.
 use rt_cidr::*;
 use std::alloc::Global;
+use std::fmt::Debug;
 use std::io::{self, ErrorKind, Write};
 use std::process::Abort;
-use std::test::Fail;
 use test_support::{StumblingWriter, each_fault, misshown};
+
+/// Compares two values, of which a failure tells what they are.
+fn assert_same<T: PartialEq + Debug + Copy>(rt: &impl Abort, what: &str, found: T, wanted: T) {
+    assert_eq!(rt; found, wanted, "{what}");
+}
 
 fn parse_prefix(rt: &impl Abort, text: &str) -> Prefix {
     Prefix::parse(text.as_bytes()).expect(rt, text)
@@ -16,15 +21,17 @@ fn parse_address(rt: &impl Abort, text: &str) -> Addr {
 
 fn assert_prefix(rt: &impl Abort, text: &str, base: u32, len: u8) {
     let prefix = parse_prefix(rt, text);
-    assert_eq!(rt; prefix.base(), base);
-    assert_eq!(rt; prefix.len(), len);
-    assert_eq!(rt; Prefix::new(base, len), Ok(prefix));
+    assert_same(rt, text, prefix.base(), base);
+    assert_same(rt, text, prefix.len(), len);
+    assert_same(rt, text, Prefix::new(base, len), Ok(prefix));
 }
 
-fn assert_prefix_text(rt: &impl Abort, alloc: Global, prefix: Prefix, text: &str) {
+fn assert_prefix_text(rt: &impl Abort, alloc: Global, text: &str) {
     let mut written = Vec::new(alloc);
-    prefix.write_to(&mut written).expect(rt, text);
-    assert_eq!(rt; written.as_slice(), text.as_bytes());
+    parse_prefix(rt, text)
+        .write_to(&mut written)
+        .expect(rt, text);
+    assert_same(rt, text, written.as_slice(), text.as_bytes());
 }
 
 /// Prefixes' texts, bases and lengths.
@@ -38,12 +45,11 @@ static PREFIXES: [(&str, u32, u8); 5] = [
 
 /// Fails where `Prefix::write_to` returns a fault at once.
 #[test]
-fn reads_prefixes_and_writes_them_again(rt: HostRuntime) -> Result<(), Fail> {
+fn reads_prefixes_and_writes_them_again(rt: HostRuntime) {
     for (text, base, len) in PREFIXES.iter() {
         assert_prefix(&rt, text, *base, *len);
-        assert_prefix_text(&rt, rt.alloc(), Prefix::new(*base, *len)?, text);
+        assert_prefix_text(&rt, rt.alloc(), text);
     }
-    Ok(())
 }
 
 /// Texts that are no prefix, each with its fault.
@@ -76,17 +82,17 @@ static NO_PREFIXES: [(&str, TextFault); 23] = [
 #[test]
 fn refuses_prefixes(rt: HostRuntime) {
     for (text, fault) in NO_PREFIXES.iter() {
-        assert_eq!(rt; Prefix::parse(text.as_bytes()), Err(*fault), "{text}");
+        assert_same(&rt, text, Prefix::parse(text.as_bytes()), Err(*fault));
     }
-    assert_eq!(rt; Prefix::new(1, 33), Err(TextFault::Length));
-    assert_eq!(rt; Prefix::new(1, 31), Err(TextFault::Bits));
+    assert_same(&rt, "33", Prefix::new(1, 33), Err(TextFault::Length));
+    assert_same(&rt, "31", Prefix::new(1, 31), Err(TextFault::Bits));
 }
 
 fn assert_address(rt: &impl Abort, alloc: Global, text: &str, address: Addr) {
-    assert_eq!(rt; Addr::parse(text.as_bytes()), Ok(address));
+    assert_same(rt, text, Addr::parse(text.as_bytes()), Ok(address));
     let mut written = Vec::new(alloc);
     address.write_to(&mut written).expect(rt, text);
-    assert_eq!(rt; written.as_slice(), text.as_bytes());
+    assert_same(rt, text, written.as_slice(), text.as_bytes());
 }
 
 /// Addresses' texts and numbers.
@@ -120,11 +126,8 @@ static NO_ADDRESSES: [&str; 8] = [
 #[test]
 fn refuses_addresses(rt: HostRuntime) {
     for text in NO_ADDRESSES.iter() {
-        assert_eq!(rt;
-            Addr::parse(text.as_bytes()),
-            Err(TextFault::Text),
-            "{text}"
-        );
+        let read = Addr::parse(text.as_bytes());
+        assert_same(&rt, text, read, Err(TextFault::Text));
     }
 }
 
@@ -137,9 +140,8 @@ static FAULTS: [(TextFault, &str, &str); 3] = [
 
 /// Fails where `Display` or `Debug` shows another text for a `TextFault`.
 #[test]
-fn faults_have_their_texts(rt: HostRuntime) -> Result<(), Fail> {
-    assert_eq!(rt; misshown(rt.alloc(), &FAULTS)?, None);
-    Ok(())
+fn faults_have_their_texts(rt: HostRuntime) {
+    assert_same(&rt, "misshown", misshown(rt.alloc(), &FAULTS), Ok(None));
 }
 
 /// Texts, and the number of each that is one.
@@ -160,28 +162,26 @@ static DECIMALS: [(&str, Option<u32>); 11] = [
 #[test]
 fn reads_and_writes_decimals(rt: HostRuntime) {
     for (text, number) in DECIMALS.iter() {
-        assert_eq!(rt; decimal_u32(text.as_bytes()), *number, "{text}");
+        assert_same(&rt, text, decimal_u32(text.as_bytes()), *number);
     }
 }
 
 #[tactic(auto, using(rt_cidr::proofs::ShortTexts::prepending, rt_cidr::proofs::ShortTexts::lengths))]
 #[test]
-fn builds_a_short_text_from_its_back(rt: HostRuntime) -> Result<(), Fail> {
+fn builds_a_short_text_from_its_back(rt: HostRuntime) {
+    let prefix = parse_prefix(&rt, "192.0.2.128/25");
     let mut text = ShortText::new();
-    assert_eq!(rt; text.as_bytes(), b"".as_slice());
+    assert_same(&rt, "new", text.as_bytes(), b"");
     text.prepend_decimal(u64::MAX);
     text.prepend(b" to ");
-    Prefix::parse(b"192.0.2.128/25")?.prepend_to(&mut text);
+    prefix.prepend_to(&mut text);
     text.prepend(b"");
-    assert_eq!(rt;
-        text.as_bytes(),
-        b"192.0.2.128/25 to 18446744073709551615".as_slice()
-    );
+    let wanted = b"192.0.2.128/25 to 18446744073709551615";
+    assert_same(&rt, "prepended", text.as_bytes(), wanted);
     text.clear();
-    assert_eq!(rt; text.as_bytes(), b"".as_slice());
+    assert_same(&rt, "cleared", text.as_bytes(), b"");
     text.prepend(&[b'x'; SHORT_TEXT_BYTES]);
-    assert_eq!(rt; text.as_bytes().len(), SHORT_TEXT_BYTES);
-    Ok(())
+    assert_same(&rt, "filled", text.as_bytes().len(), SHORT_TEXT_BYTES);
 }
 
 /// Addresses, and whether 192.0.2.128/25 covers them.
@@ -196,11 +196,8 @@ static COVERED: [(&str, bool); 4] = [
 fn covers_addresses(rt: HostRuntime) {
     let block = parse_prefix(&rt, "192.0.2.128/25");
     for (address, is_covered) in COVERED.iter() {
-        assert_eq!(rt;
-            block.covers(parse_address(&rt, address)),
-            *is_covered,
-            "{address}"
-        );
+        let covers = block.covers(parse_address(&rt, address));
+        assert_same(&rt, address, covers, *is_covered);
     }
 }
 
@@ -217,61 +214,70 @@ static CONTAINED: [(&str, bool); 5] = [
 fn contains_prefixes(rt: HostRuntime) {
     let block = parse_prefix(&rt, "192.0.2.128/25");
     for (other, is_contained) in CONTAINED.iter() {
-        assert_eq!(rt;
-            block.contains(&parse_prefix(&rt, other)),
-            *is_contained,
-            "{other}"
-        );
+        let contains = block.contains(&parse_prefix(&rt, other));
+        assert_same(&rt, other, contains, *is_contained);
     }
+}
+
+/// Puts bytes into a writer that takes them.
+fn put_whole(rt: &impl Abort, w: &mut impl Write, bytes: &[u8]) {
+    put(w, bytes).expect(rt, "no fault");
 }
 
 /// Fails where `put` returns `WriteZero` at once.
 #[test]
-fn puts_all_one_byte_a_call(rt: HostRuntime) -> Result<(), Fail> {
+fn puts_all_one_byte_a_call(rt: HostRuntime) {
+    let prefix = parse_prefix(&rt, "0.0.0.0/0");
     let mut writer = StumblingWriter::new(rt.alloc(), 1, usize::MAX, None);
-    put(&mut writer, b"10.0.0.0/8 via 192.0.2.1")?;
-    put(&mut writer, b"")?;
-    Prefix::new(0, 0)?.write_to(&mut writer)?;
-    Addr(1).write_to(&mut writer)?;
-    assert_eq!(rt;
-        writer.taken.as_slice(),
-        b"10.0.0.0/8 via 192.0.2.10.0.0.0/00.0.0.1".as_slice()
-    );
-    Ok(())
+    put_whole(&rt, &mut writer, b"10.0.0.0/8 via 192.0.2.1");
+    put_whole(&rt, &mut writer, b"");
+    prefix.write_to(&mut writer).expect(&rt, "no fault");
+    Addr(1).write_to(&mut writer).expect(&rt, "no fault");
+    let wanted = b"10.0.0.0/8 via 192.0.2.10.0.0.0/00.0.0.1";
+    assert_same(&rt, "taken", writer.taken.as_slice(), wanted);
 }
 
 /// That it was answered this very fault: its kind, the system's number or what its maker said.
-fn assert_fault(
-    rt: &impl Abort,
-    alloc: Global,
-    written: io::Result<()>,
-    fault: io::Error,
-) -> Result<(), Fail> {
-    let wanted = format!(in alloc; "{fault:?}")?;
+fn assert_fault(rt: &impl Abort, alloc: Global, written: io::Result<()>, fault: io::Error) {
+    let wanted = shown(rt, alloc, &fault);
     match written {
         Ok(()) => panic!(rt; "no fault, in place of {wanted}"),
-        Err(told) => {
-            let told = format!(in alloc; "{told:?}")?;
-            assert_eq!(rt; told.as_str(), wanted.as_str());
-        }
+        Err(told) => assert_same(
+            rt,
+            "fault",
+            shown(rt, alloc, &told).as_str(),
+            wanted.as_str(),
+        ),
     }
-    Ok(())
+}
+
+/// What `Debug` shows of a fault.
+fn shown(rt: &impl Abort, alloc: Global, fault: &io::Error) -> String {
+    format!(in alloc; "{fault:?}").expect(rt, "memory")
+}
+
+/// Each fault that a writer may have.
+fn faults(rt: &impl Abort, alloc: Global) -> Vec<io::Error> {
+    each_fault(alloc).expect(rt, "memory")
+}
+
+/// Puts a text into a writer that has so much room.
+fn put_into(rt: &impl Abort, alloc: Global, room: usize, fault: io::Error) {
+    let mut writer = StumblingWriter::new(alloc, 1, room, Some(fault));
+    let written = put(&mut writer, b"10.0.0.0/8");
+    assert_fault(rt, alloc, written, fault);
+    assert_same(rt, "taken", writer.taken.len(), room);
 }
 
 /// A fault is handed on at once, whatever it is, and nothing is tried again.
 /// Fails where `put` answers another fault than the writer's.
 /// Fails where `put` tells another kind in place of `TimedOut`: both faults.
 #[test]
-fn hands_on_the_writers_fault(rt: HostRuntime) -> Result<(), Fail> {
-    for fault in &each_fault(rt.alloc())? {
-        for room in [0, 3] {
-            let mut writer = StumblingWriter::new(rt.alloc(), 1, room, Some(*fault));
-            let written = put(&mut writer, b"10.0.0.0/8");
-            assert_fault(&rt, rt.alloc(), written, *fault)?;
-            assert_eq!(rt; writer.taken.len(), room);
-        }
+fn hands_on_the_writers_fault(rt: HostRuntime) {
+    for fault in &faults(&rt, rt.alloc()) {
+        put_into(&rt, rt.alloc(), 0, *fault);
+        put_into(&rt, rt.alloc(), 3, *fault);
     }
-    Ok(())
 }
 
 /// A writer that fails at its fourth byte.
@@ -279,48 +285,52 @@ fn failing(alloc: Global, fault: io::Error) -> StumblingWriter {
     StumblingWriter::new(alloc, 1, 3, Some(fault))
 }
 
-fn write_values(rt: &impl Abort, alloc: Global, fault: io::Error) -> Result<(), Fail> {
-    let written = Addr(1).write_to(&mut failing(alloc, fault));
-    assert_fault(rt, alloc, written, fault)?;
-    let written = Prefix::new(0, 0)?.write_to(&mut failing(alloc, fault));
-    assert_fault(rt, alloc, written, fault)
+/// Room for a buffer.
+fn room(rt: &impl Abort, alloc: Global) -> OutputRoom {
+    OutputRoom::new(alloc).expect(rt, "memory")
 }
 
-fn flush_held(rt: &impl Abort, alloc: Global, fault: io::Error) -> Result<(), Fail> {
+fn write_values(rt: &impl Abort, alloc: Global, fault: io::Error) {
+    let written = Addr(1).write_to(&mut failing(alloc, fault));
+    assert_fault(rt, alloc, written, fault);
+    let prefix = parse_prefix(rt, "0.0.0.0/0");
+    let written = prefix.write_to(&mut failing(alloc, fault));
+    assert_fault(rt, alloc, written, fault);
+}
+
+fn flush_held(rt: &impl Abort, alloc: Global, fault: io::Error) {
     let mut writer = failing(alloc, fault);
-    let mut buffer = OutputBuffer::new(&mut writer, OutputRoom::new(alloc)?);
-    put(&mut buffer, b"held").expect(rt, "room");
+    let mut buffer = OutputBuffer::new(&mut writer, room(rt, alloc));
+    put_whole(rt, &mut buffer, b"held");
     let flushed = buffer.flush();
-    assert_fault(rt, alloc, flushed, fault)
+    assert_fault(rt, alloc, flushed, fault);
 }
 
 /// Where a text has no room, the fault is that of writing what was held, or that of writing the text.
-fn overfill(
-    rt: &impl Abort,
-    alloc: Global,
-    held: &[u8],
-    long: &[u8],
-    fault: io::Error,
-) -> Result<(), Fail> {
+fn overfill(rt: &impl Abort, alloc: Global, held: &[u8], long: &[u8], fault: io::Error) {
     let mut writer = failing(alloc, fault);
-    let mut buffer = OutputBuffer::new(&mut writer, OutputRoom::new(alloc)?);
-    put(&mut buffer, held).expect(rt, "room");
+    let mut buffer = OutputBuffer::new(&mut writer, room(rt, alloc));
+    put_whole(rt, &mut buffer, held);
     let written = put(&mut buffer, long);
-    assert_fault(rt, alloc, written, fault)
+    assert_fault(rt, alloc, written, fault);
+}
+
+/// A text of so many bytes.
+fn long_text(rt: &impl Abort, alloc: Global, size: usize) -> Vec<u8> {
+    Vec::from_elem(alloc, b'x', size).expect(rt, "memory")
 }
 
 /// Fails where `write` or `flush` of an `OutputBuffer`, or a `write_to`, answers another fault than the writer's.
 /// Fails where `flush` loses the number of the fault: both faults.
 #[test]
-fn hands_on_the_fault_of_what_it_writes(rt: HostRuntime) -> Result<(), Fail> {
-    let long = Vec::from_elem(rt.alloc(), b'x', OUTPUT_BYTES + 10)?;
-    for fault in &each_fault(rt.alloc())? {
-        write_values(&rt, rt.alloc(), *fault)?;
-        flush_held(&rt, rt.alloc(), *fault)?;
-        overfill(&rt, rt.alloc(), b"held", &long, *fault)?;
-        overfill(&rt, rt.alloc(), b"", &long, *fault)?;
+fn hands_on_the_fault_of_what_it_writes(rt: HostRuntime) {
+    let long = long_text(&rt, rt.alloc(), OUTPUT_BYTES + 10);
+    for fault in &faults(&rt, rt.alloc()) {
+        write_values(&rt, rt.alloc(), *fault);
+        flush_held(&rt, rt.alloc(), *fault);
+        overfill(&rt, rt.alloc(), b"held", &long, *fault);
+        overfill(&rt, rt.alloc(), b"", &long, *fault);
     }
-    Ok(())
 }
 
 /// Fails at its first call and then at each second one, and else takes two bytes.
@@ -349,58 +359,53 @@ impl Write for FalteringWriter {
 /// What a fault leaves is held, so that a buffer which is flushed again and again writes each byte once.
 /// Fails where an `OutputBuffer` tries again by itself after a fault, as std's does after `Interrupted`.
 #[test]
-fn holds_what_a_fault_leaves(rt: HostRuntime) -> Result<(), Fail> {
+fn holds_what_a_fault_leaves(rt: HostRuntime) {
     let mut writer = FalteringWriter {
         taken: Vec::new(rt.alloc()),
         calls: 0,
     };
-    let mut buffer = OutputBuffer::new(&mut writer, OutputRoom::new(rt.alloc())?);
-    put(&mut buffer, b"10.0.0.0/8")?;
+    let mut buffer = OutputBuffer::new(&mut writer, room(&rt, rt.alloc()));
+    put_whole(&rt, &mut buffer, b"10.0.0.0/8");
+    let fault = io::Error::from(ErrorKind::Interrupted);
     for _ in 0u32..5 {
         let flushed = buffer.flush();
-        assert_fault(
-            &rt,
-            rt.alloc(),
-            flushed,
-            io::Error::from(ErrorKind::Interrupted),
-        )?;
+        assert_fault(&rt, rt.alloc(), flushed, fault);
     }
     // The last two bytes go out by the call after the fifth fault.
     let last = buffer.flush();
     drop(buffer);
-    assert_eq!(rt; writer.taken.as_slice(), b"10.0.0.0/8".as_slice());
+    assert_same(&rt, "taken", writer.taken.as_slice(), b"10.0.0.0/8");
     assert!(rt; last.is_ok());
-    assert_eq!(rt; writer.calls, 10);
-    Ok(())
+    assert_same(&rt, "calls", writer.calls, 10);
 }
 
 /// A buffer that is dropped writes nothing, and one that is flushed while it holds nothing doesn't either.
 /// Fails where an `OutputBuffer` writes when it is dropped, as std's `BufWriter` does.
 #[test]
-fn writes_when_it_is_told_to(rt: HostRuntime) -> Result<(), Fail> {
+fn writes_when_it_is_told_to(rt: HostRuntime) {
     let mut writer = UnflushedWriter::new(rt.alloc());
-    let mut buffer = OutputBuffer::new(&mut writer, OutputRoom::new(rt.alloc())?);
-    buffer.flush()?;
-    assert_eq!(rt; buffer.write(b"")?, 0);
-    assert_eq!(rt; buffer.write(b"10.0.0.0/8")?, 10);
+    let mut buffer = OutputBuffer::new(&mut writer, room(&rt, rt.alloc()));
+    buffer.flush().expect(&rt, "no fault");
+    write_whole(&rt, &mut buffer, b"");
+    write_whole(&rt, &mut buffer, b"10.0.0.0/8");
     drop(buffer);
-    assert_eq!(rt; writer.calls, 0);
-    Ok(())
+    assert_same(&rt, "calls", writer.calls, 0);
+}
+
+/// Writes bytes that are taken at once.
+fn write_whole(rt: &impl Abort, w: &mut impl Write, bytes: &[u8]) {
+    let written = w.write(bytes).expect(rt, "no fault");
+    assert_same(rt, "written", written, bytes.len());
 }
 
 #[test]
-fn a_write_of_nothing_is_write_zero(rt: HostRuntime) -> Result<(), Fail> {
-    let prefix = Prefix::new(0, 0)?;
+fn a_write_of_nothing_is_write_zero(rt: HostRuntime) {
+    let prefix = parse_prefix(&rt, "0.0.0.0/0");
     let mut writer = StumblingWriter::new(rt.alloc(), 1, 3, None);
     let written = prefix.write_to(&mut writer);
-    assert_fault(
-        &rt,
-        rt.alloc(),
-        written,
-        io::Error::from(ErrorKind::WriteZero),
-    )?;
-    assert_eq!(rt; writer.taken.as_slice(), b"0.0".as_slice());
-    Ok(())
+    let fault = io::Error::from(ErrorKind::WriteZero);
+    assert_fault(&rt, rt.alloc(), written, fault);
+    assert_same(&rt, "taken", writer.taken.as_slice(), b"0.0");
 }
 
 /// Takes all that it is given, counts the writes and the flushes, and fails where it is flushed.
@@ -437,61 +442,53 @@ impl Write for UnflushedWriter {
 /// Fails where `put`, or `send` of an `OutputBuffer`, flushes the writer below and ignores its fault: one flush,
 /// instead of none.
 #[test]
-fn never_flushes_the_writer(rt: HostRuntime) -> Result<(), Fail> {
+fn never_flushes_the_writer(rt: HostRuntime) {
     let mut writer = UnflushedWriter::new(rt.alloc());
-    put(&mut writer, b"10.0.0.0/8")?;
-    let mut buffer = OutputBuffer::new(&mut writer, OutputRoom::new(rt.alloc())?);
-    put(&mut buffer, b" via 192.0.2.1")?;
-    buffer.flush()?;
+    put_whole(&rt, &mut writer, b"10.0.0.0/8");
+    let mut buffer = OutputBuffer::new(&mut writer, room(&rt, rt.alloc()));
+    put_whole(&rt, &mut buffer, b" via 192.0.2.1");
+    buffer.flush().expect(&rt, "no fault");
     drop(buffer);
-    assert_eq!(rt;
-        writer.taken.as_slice(),
-        b"10.0.0.0/8 via 192.0.2.1".as_slice()
-    );
-    assert_eq!(rt; writer.flushes, 0);
-    Ok(())
+    let wanted = b"10.0.0.0/8 via 192.0.2.1";
+    assert_same(&rt, "taken", writer.taken.as_slice(), wanted);
+    assert_same(&rt, "flushes", writer.flushes, 0);
 }
 
 /// That the text is these two, one behind the other.
 fn assert_joined(rt: &impl Abort, text: &[u8], first: &[u8], second: &[u8]) {
     assert!(rt; text.starts_with(first) && text.ends_with(second));
-    assert_eq!(rt; text.len(), first.len().wrapping_add(second.len()));
+    let joined = first.len().wrapping_add(second.len());
+    assert_same(rt, "bytes", text.len(), joined);
 }
 
 /// Writes a text of this size behind what is held. It goes out whole, and what was held by itself where the text has no room
 /// behind it.
-fn write_long(
-    rt: &impl Abort,
-    alloc: Global,
-    held: &[u8],
-    size: usize,
-    calls: usize,
-) -> Result<(), Fail> {
-    let long = Vec::from_elem(alloc, b'x', size)?;
+fn write_long(rt: &impl Abort, alloc: Global, held: &[u8], size: usize, calls: usize) {
+    let long = long_text(rt, alloc, size);
     let mut writer = UnflushedWriter::new(alloc);
-    let mut buffer = OutputBuffer::new(&mut writer, OutputRoom::new(alloc)?);
-    put(&mut buffer, held)?;
-    assert_eq!(rt; buffer.write(&long)?, size);
-    buffer.flush()?;
+    let mut buffer = OutputBuffer::new(&mut writer, room(rt, alloc));
+    put_whole(rt, &mut buffer, held);
+    write_whole(rt, &mut buffer, &long);
+    buffer.flush().expect(rt, "no fault");
     drop(buffer);
     assert_joined(rt, &writer.taken, held, &long);
-    assert_eq!(rt; (writer.calls, writer.flushes), (calls, 0));
-    Ok(())
+    assert_same(rt, "calls", writer.calls, calls);
+    assert_same(rt, "flushes", writer.flushes, 0);
 }
 
 /// Fails where `write` gives up at a text that just fills the buffer, of 65,536 bytes: the fault.
 /// Fails where an `OutputRoom` takes 16 times as much memory: 1,048,576, instead of 65,536.
 /// Fails where the writer below is flushed: one flush, instead of none.
 #[test]
-fn takes_texts_about_as_long_as_itself(rt: HostRuntime) -> Result<(), Fail> {
-    assert_eq!(rt; OUTPUT_BYTES, 65_536);
-    assert_eq!(rt; OutputRoom::new(rt.alloc())?.capacity(), OUTPUT_BYTES);
+fn takes_texts_about_as_long_as_itself(rt: HostRuntime) {
+    assert_same(&rt, "bytes", OUTPUT_BYTES, 65_536);
+    assert_same(&rt, "room", room(&rt, rt.alloc()).capacity(), OUTPUT_BYTES);
     for size in [OUTPUT_BYTES - 1, OUTPUT_BYTES, OUTPUT_BYTES + 1] {
-        write_long(&rt, rt.alloc(), b"", size, 1)?;
-        write_long(&rt, rt.alloc(), b"held", size, 2)?;
+        write_long(&rt, rt.alloc(), b"", size, 1);
+        write_long(&rt, rt.alloc(), b"held", size, 2);
     }
-    write_long(&rt, rt.alloc(), b"held", OUTPUT_BYTES - 4, 1)?;
-    write_long(&rt, rt.alloc(), b"held", OUTPUT_BYTES - 3, 2)
+    write_long(&rt, rt.alloc(), b"held", OUTPUT_BYTES - 4, 1);
+    write_long(&rt, rt.alloc(), b"held", OUTPUT_BYTES - 3, 2);
 }
 
 /// The number's lowest byte, ten times.
@@ -509,27 +506,30 @@ fn put_pieces(rt: &impl Abort, w: &mut impl Write, wanted: &mut Vec<u8>) {
 
 /// Fails where an `OutputBuffer` passes on each piece by itself, or holds more than its 64 KB.
 #[test]
-fn gathers_pieces_into_few_large_writes(rt: HostRuntime) -> Result<(), Fail> {
+fn gathers_pieces_into_few_large_writes(rt: HostRuntime) {
     let mut writer = UnflushedWriter::new(rt.alloc());
     let mut wanted = Vec::new(rt.alloc());
-    let mut buffer = OutputBuffer::new(&mut writer, OutputRoom::new(rt.alloc())?);
+    let mut buffer = OutputBuffer::new(&mut writer, room(&rt, rt.alloc()));
     put_pieces(&rt, &mut buffer, &mut wanted);
     let _ = buffer.into_writer();
-    assert_eq!(rt; writer.calls, 3);
+    assert_same(&rt, "calls", writer.calls, 3);
+}
 
+/// A text that is longer than the buffer goes out at once, behind what was held.
+#[test]
+fn gathers_what_is_held_before_a_long_text(rt: HostRuntime) {
     let mut writer = UnflushedWriter::new(rt.alloc());
     let mut wanted = Vec::new(rt.alloc());
-    let mut buffer = OutputBuffer::new(&mut writer, OutputRoom::new(rt.alloc())?);
+    let mut buffer = OutputBuffer::new(&mut writer, room(&rt, rt.alloc()));
     put_pieces(&rt, &mut buffer, &mut wanted);
-    buffer.flush()?;
-    // A text that is longer than the buffer goes out at once, behind what was held.
-    put(&mut buffer, b"held")?;
-    put(&mut buffer, wanted.as_slice())?;
+    buffer.flush().expect(&rt, "no fault");
+    put_whole(&rt, &mut buffer, b"held");
+    put_whole(&rt, &mut buffer, wanted.as_slice());
     drop(buffer);
-    assert_eq!(rt; (writer.calls, writer.flushes), (6, 0));
-    let mut all = Vec::from_slice(rt.alloc(), wanted.as_slice())?;
-    all.extend_from_slice(b"held")?;
-    all.extend_from_slice(wanted.as_slice())?;
-    assert_eq!(rt; writer.taken.as_slice(), all.as_slice());
-    Ok(())
+    assert_same(&rt, "calls", writer.calls, 6);
+    assert_same(&rt, "flushes", writer.flushes, 0);
+    let mut all = wanted.clone().expect(&rt, "memory");
+    put_whole(&rt, &mut all, b"held");
+    put_whole(&rt, &mut all, wanted.as_slice());
+    assert_same(&rt, "taken", writer.taken.as_slice(), all.as_slice());
 }

@@ -16,7 +16,8 @@ use Rattle.rt_diff.specs.declared.answers.Answer.{Answer}
 use Rattle.rt_diff.specs.declared.answers.Answer.TheVariants as answer
 use Rattle.rt_diff.specs.declared.differences.Difference.{Difference}
 use Rattle.rt_diff.specs.Answers.{answer_by, answer_of}
-use Rattle.rt_diff.specs.Differences.{HasAnswers, IsAlike, IsWithin, IsDifference, IsNextDifference, IsFirstDifference, HaveSameAnswers, AreDifferences}
+use Rattle.rt_diff.specs.Differences.{HasAnswers, IsAlike, IsWithin, IsDifference, IsNextDifference, IsFirstDifference, Compared}
+use Rattle.rt_diff.specs.Differences.{HaveSameAnswers, AreDifferences}
 use Rattle.rt_diff.specs.Laws.{HaveDifferences, HaveOneList}
 use Rattle.rt_diff.proofs.Rest.{at}
 use Rattle.rt_diff.proofs.Lists.{AllPairs-none}
@@ -108,6 +109,14 @@ none_where_all_are_alike old new h = h
 that_range_where_it_is_the_first :
     (old new : List Route) → IsNextDifference by.Hop old new (at 5) (range 10 20) → IsFirstDifference by.Hop old new (at 5) (Some (range 10 20))
 that_range_where_it_is_the_first old new h = h
+
+-- a route and an empty table, compared by next hops
+abbrev one_and_none : Compared
+one_and_none = record { by = by.Hop; old_table = by_1 ∷ []; new_table = [] }
+
+-- Compared
+by_what_and_both_tables : (one_and_none.by ≡ by.Hop) × (one_and_none.old_table ≡ by_1 ∷ []) × (one_and_none.new_table ≡ [])
+by_what_and_both_tables = (refl, refl, refl)
 
 -- AreDifferences
 a_table_and_itself_have_none : (table : List Route) → AreDifferences by.Route table table []

@@ -1,5 +1,5 @@
 -- The ranges of addresses that two tables answer otherwise. An address is a number below 2^32.
-use Rattle.std.specs.Prelude.{◌≡◌, ◌≢◌, ℕ, ◌+◌, ◌^◌, ◌<◌, ◌≤◌, List, All, Any, Option, None, Some}
+use Rattle.std.specs.Prelude.{◌≡◌, ◌≢◌, ◌+◌, ◌^◌, ◌<◌, ◌≤◌, List, All, Any, Option, None, Some}
 use Rattle.std.specs.List.{AllPairs}
 use Rattle.rt_cidr.specs.declared.address.Addr.{Addr}
 use Rattle.rt_rib.specs.declared.routes.Route.{Route}
@@ -38,6 +38,12 @@ pub record IsNextDifference (by : By) (old new : List Route) (from : Addr) (d : 
 abbrev pub IsFirstDifference : By → List Route → List Route → Addr → Option Difference → Type 0
 IsFirstDifference by old new from None = (addr : Addr) → from.0 ≤ addr.0 → addr.0 < 2 ^ 32 → IsAlike by old new addr
 IsFirstDifference by old new from (Some d) = IsNextDifference by old new from d
+
+-- what contracts see of a comparison: by what its answers are told apart, and the routes of both tables
+pub record Compared : Type 0 where
+  pub by : By
+  pub old_table : List Route
+  pub new_table : List Route
 
 -- the ranges have the same two answers
 abbrev pub HaveSameAnswers : Difference → Difference → Type 0

@@ -1,13 +1,14 @@
 //! Ranges of addresses that two tables answer otherwise.
-ghost use Rattle.std.specs.Prelude.{◌+◌};
+ghost use Rattle.std.specs.Prelude.{◌≡◌, ◌+◌};
 ghost use Rattle.rt_rib.specs.Book.{table_of};
 ghost use Rattle.rt_diff.specs.Differences.{IsFirstDifference};
 
 use crate::answers::{Answer, By};
 use crate::pieces::{first_unlike, last_of};
 use rt_cidr::Addr;
-use rt_rib::Book;
+use rt_rib::{Answers, Book};
 use std::alloc::Allocator;
+use std::marker::Model;
 
 /// A range of addresses that two tables answer otherwise.
 #[derive(Clone, Copy, PartialEq, Eq, Debug)]
@@ -22,9 +23,65 @@ pub struct Difference {
     pub new: Answer,
 }
 
-/// The first range from the address on that the two tables answer otherwise, as long as its two answers last, or `None`
-/// where they answer every address from this one on alike. It takes no memory, and time as the tables have borders from the
-/// address to the range's end.
+/// Two tables that are compared. It keeps the way down of the last look-up in each of them, so going over them in rising
+/// order takes less time than by the functions below, each of which begins anew. Contracts see by what the answers are told
+/// apart, and the routes of both.
+#[derive(Drop)]
+pub struct Comparison<'a, A: Allocator + Copy> {
+    by: By,
+    old_table: Answers<'a, A>,
+    new_table: Answers<'a, A>,
+}
+
+impl<'a, A: Allocator + Copy> Model for Comparison<'a, A> {
+    ghost use Rattle.rt_diff.specs.Differences.{Compared};
+
+    ghost Value = { Compared };
+
+    ghost view = { λ c. record { by = c.by; old_table = c.old_table; new_table = c.new_table } };
+}
+
+impl<'a, A: Allocator + Copy> Comparison<'a, A> {
+    /// It takes no memory.
+    pub fn new(old: &'a Book<A>, new: &'a Book<A>, by: By) -> Comparison<'a, A>
+        ensures { result ≡ record { by = by; old_table = table_of old.now; new_table = table_of new.now } }
+    {
+        Comparison {
+            by,
+            old_table: old.answers(),
+            new_table: new.answers(),
+        }
+    }
+
+    /// The first range from the address on that the two tables answer otherwise, as long as its two answers last, or `None`
+    /// where they answer every address from this one on alike. It takes no memory, and time as the tables have borders from
+    /// the address to the range's end.
+    pub fn first_difference(&mut self, from: Addr) -> Option<Difference>
+        ensures kept { self.new ≡ self.old }
+        ensures first { IsFirstDifference self.old.by self.old.old_table self.old.new_table from result }
+    {
+        let pieces = first_unlike(&mut self.old_table, &mut self.new_table, self.by, from)?;
+        let last = last_of(&mut self.old_table, &mut self.new_table, self.by, &pieces);
+        Some(Difference {
+            first: pieces.from,
+            last,
+            old: pieces.old.answer,
+            new: pieces.new.answer,
+        })
+    }
+
+    /// The first range behind the address that the two tables answer otherwise, as `first_difference` gives it from the next
+    /// address on, or `None` too where this is the last of all.
+    pub fn difference_behind(&mut self, last: Addr) -> Option<Difference>
+        ensures kept { self.new ≡ self.old }
+        ensures first { IsFirstDifference self.old.by self.old.old_table self.old.new_table (record { 0 = last.0 + 1 }) result }
+    {
+        let from = last.0.checked_add(1)?;
+        self.first_difference(Addr(from))
+    }
+}
+
+/// `Comparison::first_difference` of the two tables.
 pub fn first_difference<A: Allocator + Copy>(
     old: &Book<A>,
     new: &Book<A>,
@@ -33,18 +90,10 @@ pub fn first_difference<A: Allocator + Copy>(
 ) -> Option<Difference>
     ensures { IsFirstDifference by (table_of old.now) (table_of new.now) from result }
 {
-    let pieces = first_unlike(old, new, by, from)?;
-    let last = last_of(old, new, by, &pieces);
-    Some(Difference {
-        first: pieces.from,
-        last,
-        old: pieces.old.answer,
-        new: pieces.new.answer,
-    })
+    Comparison::new(old, new, by).first_difference(from)
 }
 
-/// The first range behind the address that the two tables answer otherwise, as `first_difference` gives it from the next
-/// address on, or `None` too where this is the last of all.
+/// `Comparison::difference_behind` of the two tables.
 pub fn difference_behind<A: Allocator + Copy>(
     old: &Book<A>,
     new: &Book<A>,
@@ -53,6 +102,5 @@ pub fn difference_behind<A: Allocator + Copy>(
 ) -> Option<Difference>
     ensures { IsFirstDifference by (table_of old.now) (table_of new.now) (record { 0 = last.0 + 1 }) result }
 {
-    let from = last.0.checked_add(1)?;
-    first_difference(old, new, by, Addr(from))
+    Comparison::new(old, new, by).difference_behind(last)
 }

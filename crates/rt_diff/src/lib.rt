@@ -1,10 +1,11 @@
 //! Where two routing tables answer addresses otherwise: the ranges of addresses, each with its two answers.
 //!
 //! ```
-//! let mut next = first_difference(&old, &new, By::Hop, Addr(0));
+//! let mut tables = Comparison::new(&old, &new, By::Hop);
+//! let mut next = tables.first_difference(Addr(0));
 //! while let Some(difference) = next {
 //!     // each address from difference.first to difference.last goes another way
-//!     next = difference_behind(&old, &new, By::Hop, difference.last);
+//!     next = tables.difference_behind(difference.last);
 //! }
 //! ```
 //!
@@ -19,4 +20,4 @@ pub mod laws;
 mod pieces;
 
 pub use answers::{Answer, By};
-pub use differences::{Difference, difference_behind, first_difference};
+pub use differences::{Comparison, Difference, difference_behind, first_difference};

@@ -1,11 +1,10 @@
 //! How both tables are gone over: piece by piece, each an answer and the last address that is known to have it.
 ghost use Rattle.std.specs.Prelude.{◌≡◌, ◌≤◌, ◌↔◌, IsTrue};
-ghost use Rattle.rt_rib.specs.Book.{table_of};
 ghost use Rattle.rt_diff.specs.inside.Pieces.{IsPieceFrom, IsPieceAt, ArePieces, reach, AreBehind, FindsUnlike, IsEnd};
 
 use crate::answers::{Answer, By, answer_by, is_same};
 use rt_cidr::Addr;
-use rt_rib::Book;
+use rt_rib::Answers;
 use std::alloc::Allocator;
 
 /// What one table answers from some address on, up to a last one.
@@ -47,10 +46,11 @@ impl Pieces {
 }
 
 /// The piece of the table that begins at the address.
-fn piece_at<A: Allocator + Copy>(book: &Book<A>, by: By, addr: Addr) -> Piece
-    ensures { IsPieceAt by (table_of book.now) addr result }
+fn piece_at<A: Allocator + Copy>(table: &mut Answers<'_, A>, by: By, addr: Addr) -> Piece
+    ensures kept { table.new ≡ table.old }
+    ensures piece { IsPieceAt by table.old addr result }
 {
-    let (found, last) = book.look_up_until(addr);
+    let (found, last) = table.until(addr);
     Piece {
         answer: answer_by(by, found),
         last,
@@ -58,20 +58,33 @@ fn piece_at<A: Allocator + Copy>(book: &Book<A>, by: By, addr: Addr) -> Piece
 }
 
 /// The table's piece at the address: this one, if it reaches so far.
-fn piece_on<A: Allocator + Copy>(book: &Book<A>, by: By, piece: Piece, addr: Addr) -> Piece
-    requires { IsPieceFrom by (table_of book.now) addr piece }
-    ensures { IsPieceAt by (table_of book.now) addr result }
+fn piece_on<A: Allocator + Copy>(
+    table: &mut Answers<'_, A>,
+    by: By,
+    piece: Piece,
+    addr: Addr,
+) -> Piece
+    requires { IsPieceFrom by table.old addr piece }
+    ensures kept { table.new ≡ table.old }
+    ensures piece { IsPieceAt by table.old addr result }
 {
     if addr.0 <= piece.last.0 {
         return piece;
     }
-    piece_at(book, by, addr)
+    piece_at(table, by, addr)
 }
 
 /// The pieces of both tables at the address.
-fn pieces_at<A: Allocator + Copy>(old: &Book<A>, new: &Book<A>, by: By, from: Addr) -> Pieces
+fn pieces_at<A: Allocator + Copy>(
+    old: &mut Answers<'_, A>,
+    new: &mut Answers<'_, A>,
+    by: By,
+    from: Addr,
+) -> Pieces
+    ensures old { old.new ≡ old.old }
+    ensures new { new.new ≡ new.old }
     ensures from { result.from ≡ from }
-    ensures pieces { ArePieces by (table_of old.now) (table_of new.now) result }
+    ensures pieces { ArePieces by old.old new.old result }
 {
     Pieces {
         from,
@@ -82,13 +95,15 @@ fn pieces_at<A: Allocator + Copy>(old: &Book<A>, new: &Book<A>, by: By, from: Ad
 
 /// The pieces behind the address that both reach. A table is asked anew only where its piece has ended.
 fn pieces_behind<A: Allocator + Copy>(
-    old: &Book<A>,
-    new: &Book<A>,
+    old: &mut Answers<'_, A>,
+    new: &mut Answers<'_, A>,
     by: By,
     pieces: &Pieces,
 ) -> Option<Pieces>
-    requires { ArePieces by (table_of old.now) (table_of new.now) pieces.now }
-    ensures { AreBehind by (table_of old.now) (table_of new.now) pieces.now result }
+    requires { ArePieces by old.old new.old pieces.now }
+    ensures old { old.new ≡ old.old }
+    ensures new { new.new ≡ new.old }
+    ensures behind { AreBehind by old.old new.old pieces.now result }
 {
     let from = Addr(pieces.reach().0.checked_add(1)?);
     Some(Pieces {
@@ -100,12 +115,14 @@ fn pieces_behind<A: Allocator + Copy>(
 
 /// The first pieces from the address on whose answers differ.
 pub(crate) fn first_unlike<A: Allocator + Copy>(
-    old: &Book<A>,
-    new: &Book<A>,
+    old: &mut Answers<'_, A>,
+    new: &mut Answers<'_, A>,
     by: By,
     from: Addr,
 ) -> Option<Pieces>
-    ensures { FindsUnlike by (table_of old.now) (table_of new.now) from result }
+    ensures old { old.new ≡ old.old }
+    ensures new { new.new ≡ new.old }
+    ensures unlike { FindsUnlike by old.old new.old from result }
 {
     let mut pieces = pieces_at(old, new, by, from);
     while pieces.is_alike() {
@@ -116,13 +133,15 @@ pub(crate) fn first_unlike<A: Allocator + Copy>(
 
 /// The last address up to which both tables answer as these pieces do.
 pub(crate) fn last_of<A: Allocator + Copy>(
-    old: &Book<A>,
-    new: &Book<A>,
+    old: &mut Answers<'_, A>,
+    new: &mut Answers<'_, A>,
     by: By,
     first: &Pieces,
 ) -> Addr
-    requires { ArePieces by (table_of old.now) (table_of new.now) first.now }
-    ensures { IsEnd by (table_of old.now) (table_of new.now) first.now result }
+    requires { ArePieces by old.old new.old first.now }
+    ensures old { old.new ≡ old.old }
+    ensures new { new.new ≡ new.old }
+    ensures end { IsEnd by old.old new.old first.now result }
 {
     let mut pieces = *first;
     loop {

@@ -3,7 +3,7 @@ mod model;
 
 use rt_cidr::{Addr, Prefix};
 use rt_diff::*;
-use rt_rib::{Book, Cmd, Hop, Refused, Route};
+use rt_rib::{Book, Cmd, Hop, Route};
 use std::alloc::Global;
 use std::process::Abort;
 
@@ -18,21 +18,9 @@ fn via(octet: u8) -> Hop {
 }
 
 /// Puts a route of feed 1 in.
-fn add(
-    rt: &impl Abort,
-    book: &mut Book<Global>,
-    base: Addr,
-    len: u8,
-    hop: Hop,
-) -> Result<(), Refused> {
+fn add(rt: &impl Abort, book: &mut Book<Global>, base: Addr, len: u8, hop: Hop) {
     let prefix = Prefix::new(base.0, len).expect(rt, "no prefix");
-    let _ = book.apply(
-        1,
-        Cmd::Add {
-            prefix,
-            pref: 5,
-            hop,
-        },
-    )?;
-    Ok(())
+    let pref = 5;
+    let cmd = Cmd::Add { prefix, pref, hop };
+    let _ = book.apply(1, cmd).expect(rt, "memory");
 }

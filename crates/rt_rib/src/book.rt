@@ -4,6 +4,7 @@ ghost use Rattle.std.specs.List.{All};
 ghost use Rattle.rt_cidr.specs.declared.address.Addr.{Addr};
 ghost use Rattle.rt_rib.specs.Book.{IsLimit, IsFeed};
 
+use crate::answers::Answers;
 use crate::commands::{Cmd, Entry, Reply};
 use crate::refused::Refused;
 use crate::routes::Route;
@@ -129,6 +130,14 @@ impl<A: Allocator + Copy> Book<A> {
         ensures same { (b : Addr) → addr.0 ≤ b.0 → b.0 ≤ result.1.0 → look_up b (table_of self.now) ≡ result.0 }
     {
         self.table.look_up_until(addr)
+    }
+
+    /// `look_up_until` of one address after another: of rising ones each goes on from the way down of the last, in place of
+    /// from the trie's root. It takes no memory and changes nothing.
+    pub fn answers(&self) -> Answers<'_, A>
+        ensures { result ≡ table_of self.now }
+    {
+        self.table.answers()
     }
 
     /// Every route whose prefix covers the address, in memory of the allocator: by greatest length, then least preference,

@@ -21,13 +21,15 @@
 //! of all of them at once by [`Book::read_ahead`] (`src/ahead.rt`).
 //!
 //! A book is also asked beside its journal: [`Book::look_up`] answers many addresses at once, [`Book::look_up_all`] gives every
-//! route whose prefix covers an address, the best first, and [`Book::look_up_until`] tells how far an answer goes.
+//! route whose prefix covers an address, the best first, and [`Book::look_up_until`] tells how far an answer goes. By
+//! [`Book::answers`] one such look-up after another goes on from the way down of the last.
 //!
 //! Only tested, since no clause says it: that a command succeeds where there is memory, whose memory a list takes, and that
 //! an answer is said to go as far as it does.
 #![tactic(auto)]
 
 mod ahead;
+mod answers;
 mod book;
 mod commands;
 pub mod laws;
@@ -41,6 +43,7 @@ mod routes;
 mod table;
 
 pub use ahead::AHEAD;
+pub use answers::Answers;
 pub use book::Book;
 pub use commands::{Cmd, Entry, Reply};
 pub use limits::{MOST_FEEDS, MOST_ROUTES, feed_ok, limit_ok};

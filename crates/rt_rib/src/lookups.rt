@@ -15,7 +15,7 @@ use rt_cidr::{Addr, Prefix};
 use std::alloc::Allocator;
 
 /// The best route to the prefix that is the longest match of an address, if there is one.
-fn best_at<A: Allocator + Copy>(longest: Option<(Prefix, &Offers<A>)>) -> Option<Route>
+pub(crate) fn best_at<A: Allocator + Copy>(longest: Option<(Prefix, &Offers<A>)>) -> Option<Route>
     ensures { (m : Map) (addr : Addr) → IsMap m → IsLongest m addr (pair_copied longest.entry)
         → result ≡ look_up addr (routes_of m) }
 {

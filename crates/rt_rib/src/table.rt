@@ -9,6 +9,7 @@ ghost use Rattle.rt_rib.specs.LookUp.{look_up, look_up_all};
 ghost use Rattle.rt_rib.specs.Book.{IsLimit, IsFeed, HoldsRoutes};
 ghost use Rattle.rt_rib.specs.inside.TableState.{table_state, Serves};
 
+use crate::answers::Answers;
 use crate::commands::{Cmd, Reply};
 use crate::limits::MOST_FEEDS;
 use crate::map::{self, Map};
@@ -99,6 +100,13 @@ impl<A: Allocator + Copy> Table<A> {
         ensures same { (b : Addr) → addr.0 ≤ b.0 → b.0 ≤ result.1.0 → look_up b self.now.routes ≡ result.0 }
     {
         lookups::best_until(&self.map, addr)
+    }
+
+    /// What it answers to one address after another.
+    pub(crate) fn answers(&self) -> Answers<'_, A>
+        ensures { result ≡ self.now.routes }
+    {
+        Answers::new(&self.map)
     }
 
     /// The routes of all prefixes that cover the address, the best first.

@@ -9,9 +9,10 @@ use linked_list_allocator::LocalHeap;
 use rt_cidr::{Addr, Prefix};
 use rt_rib::*;
 use rt_trie::Trie;
-use std::alloc::Allocator;
+use std::alloc::{Allocator, Global};
+use std::fmt::Debug;
 use std::process::Abort;
-use std::test::Fail;
+use test_support::misshown;
 
 /// The address of four octets.
 fn addr(a: u8, b: u8, c: u8, d: u8) -> Addr {
@@ -49,44 +50,63 @@ fn route(prefix: Prefix, feed: u8, pref: u32) -> Route {
 /// A command of a feed, and what it is to be answered.
 type Row = (u32, Cmd, Reply);
 
-/// Asks the book one row and compares the reply, and the entry that the journal has gained.
-fn ask<A: Allocator + Copy>(
+/// Compares two values, of which a failure tells what they are.
+fn assert_same<T: PartialEq + Debug + Copy>(rt: &impl Abort, what: &str, found: T, wanted: T) {
+    assert_eq!(rt; found, wanted, "{what}");
+}
+
+/// What the book answers where memory is ample.
+fn answered<A: Allocator + Copy>(
     rt: &impl Abort,
     book: &mut Book<A>,
-    (feed, cmd, reply): Row,
-) -> Result<(), Refused> {
+    feed: u32,
+    cmd: Cmd,
+) -> Reply {
     assert!(rt; feed_ok(feed));
+    book.apply(feed, cmd).expect(rt, "memory")
+}
+
+/// Asks the book one row and compares the reply, and the entry that the journal has gained.
+fn ask<A: Allocator + Copy>(rt: &impl Abort, book: &mut Book<A>, (feed, cmd, reply): Row) {
     let entries = book.journal().len();
-    assert_eq!(rt; book.apply(feed, cmd)?, reply, "{cmd:?} of feed {feed}");
-    assert_eq!(rt; book.journal().len(), entries.wrapping_add(1));
     assert_eq!(rt;
-        book.journal().last().copied(),
-        Some(Entry { feed, cmd, reply })
+        answered(rt, book, feed, cmd),
+        reply,
+        "{cmd:?} of feed {feed}"
     );
-    Ok(())
+    assert_same(rt, "entries", book.journal().len(), entries.wrapping_add(1));
+    let last = book.journal().last().copied();
+    assert_same(rt, "the last entry", last, Some(Entry { feed, cmd, reply }));
 }
 
 /// Asks the book row by row.
-fn ask_all<A: Allocator + Copy>(
+fn ask_all<A: Allocator + Copy>(rt: &impl Abort, book: &mut Book<A>, rows: &[Row]) {
+    for row in rows {
+        ask(rt, book, *row);
+    }
+}
+
+/// Asks the book row by row, and compares how many nodes it has then.
+fn ask_and_count<A: Allocator + Copy>(
     rt: &impl Abort,
     book: &mut Book<A>,
-    rows: &[Row],
-) -> Result<(), Refused> {
-    for row in rows {
-        ask(rt, book, *row)?;
+    rows: &[(u32, Cmd, Reply, usize)],
+) {
+    for (feed, cmd, reply, nodes) in rows {
+        ask(rt, book, (*feed, *cmd, *reply));
+        assert_eq!(rt; book.nodes(), *nodes, "{cmd:?} of feed {feed}");
     }
-    Ok(())
 }
 
 /// Compares the book's routes.
-fn assert_routes<A: Allocator + Copy>(
-    rt: &impl Abort,
-    alloc: A,
-    book: &Book<A>,
-    routes: &[Route],
-) -> Result<(), Refused> {
-    assert_eq!(rt; book.routes(alloc)?.as_slice(), routes);
-    Ok(())
+fn assert_routes<A: Allocator + Copy>(rt: &impl Abort, alloc: A, book: &Book<A>, routes: &[Route]) {
+    let listed = book.routes(alloc).expect(rt, "memory");
+    assert_same(rt, "routes", listed.as_slice(), routes);
+}
+
+/// A region of so many bytes.
+fn region(rt: &impl Abort, alloc: Global, size: usize) -> LocalHeap {
+    LocalHeap::new(alloc, size).expect(rt, "memory")
 }
 
 /// What takes only values that may be moved to another thread, as a lock that lends a book does.
@@ -99,7 +119,7 @@ fn a_book_may_go_to_another_thread(rt: HostRuntime) {
 
 /// Fails where `Book::apply` or `Book::routes` always returns `Refused`.
 #[test]
-fn worked_run(rt: HostRuntime) -> Result<(), Fail> {
+fn worked_run(rt: HostRuntime) {
     let wide = prefix(&rt, addr(10, 0, 0, 0), 8);
     let narrow = prefix(&rt, addr(10, 0, 0, 0), 16);
     let other = prefix(&rt, addr(11, 0, 0, 0), 8);
@@ -125,14 +145,13 @@ fn worked_run(rt: HostRuntime) -> Result<(), Fail> {
         (64, Cmd::Dump, Reply::Dumped(3)),
     ];
     let mut book = Book::new(rt.alloc(), 2);
-    ask_all(&rt, &mut book, &rows)?;
+    ask_all(&rt, &mut book, &rows);
     let expected = [route(wide, 2, 4), route(wide, 1, 5), route(narrow, 1, 9)];
-    assert_routes(&rt, rt.alloc(), &book, &expected)?;
-    Ok(())
+    assert_routes(&rt, rt.alloc(), &book, &expected);
 }
 
 #[test]
-fn nodes_come_and_go_with_their_prefixes(rt: HostRuntime) -> Result<(), Fail> {
+fn nodes_come_and_go_with_their_prefixes(rt: HostRuntime) {
     let wide = prefix(&rt, addr(10, 0, 0, 0), 8);
     let one = prefix(&rt, addr(10, 1, 0, 0), 16);
     let two = prefix(&rt, addr(10, 2, 0, 0), 16);
@@ -156,15 +175,11 @@ fn nodes_come_and_go_with_their_prefixes(rt: HostRuntime) -> Result<(), Fail> {
     ];
     let mut book = Book::new(rt.alloc(), 10);
     assert_eq!(rt; book.nodes(), 0);
-    for (feed, cmd, reply, nodes) in rows {
-        ask(&rt, &mut book, (feed, cmd, reply))?;
-        assert_eq!(rt; book.nodes(), nodes);
-    }
-    Ok(())
+    ask_and_count(&rt, &mut book, &rows);
 }
 
 #[test]
-fn a_purge_takes_the_feeds_own_routes_alone(rt: HostRuntime) -> Result<(), Fail> {
+fn a_purge_takes_the_feeds_own_routes_alone(rt: HostRuntime) {
     let wide = prefix(&rt, addr(10, 0, 0, 0), 8);
     let narrow = prefix(&rt, addr(10, 1, 0, 0), 16);
     let other = prefix(&rt, addr(192, 0, 2, 0), 24);
@@ -182,16 +197,15 @@ fn a_purge_takes_the_feeds_own_routes_alone(rt: HostRuntime) -> Result<(), Fail>
         (4, Cmd::Purge, Reply::Purged(0)),
     ];
     let mut book = Book::new(rt.alloc(), 2);
-    ask_all(&rt, &mut book, &rows)?;
+    ask_all(&rt, &mut book, &rows);
     let expected = [route(wide, 2, 2), route(narrow, 3, 1), route(other, 2, 1)];
-    assert_routes(&rt, rt.alloc(), &book, &expected)?;
+    assert_routes(&rt, rt.alloc(), &book, &expected);
     // The root parts 10.0.0.0/8 from 192.0.2.0/24, and 10.1.0.0/16 lies below the former.
     assert_eq!(rt; book.nodes(), 4);
-    Ok(())
 }
 
 #[test]
-fn a_purged_feed_starts_anew(rt: HostRuntime) -> Result<(), Fail> {
+fn a_purged_feed_starts_anew(rt: HostRuntime) {
     let wide = prefix(&rt, addr(10, 0, 0, 0), 8);
     let narrow = prefix(&rt, addr(10, 1, 0, 0), 16);
     let other = prefix(&rt, addr(192, 0, 2, 0), 24);
@@ -224,28 +238,23 @@ fn a_purged_feed_starts_anew(rt: HostRuntime) -> Result<(), Fail> {
         (1, look_up, Reply::NoRoute, 0),
     ];
     let mut book = Book::new(rt.alloc(), 2);
-    for (feed, cmd, reply, nodes) in rows {
-        ask(&rt, &mut book, (feed, cmd, reply))?;
-        assert_eq!(rt; book.nodes(), nodes);
-    }
-    Ok(())
+    ask_and_count(&rt, &mut book, &rows);
 }
 
 /// The first route of a prefix takes the memory of a node with a value of 24 bytes, and no more.
 #[test]
-fn one_offer_lies_in_its_node(rt: HostRuntime) -> Result<(), Fail> {
-    let heap = LocalHeap::new(rt.alloc(), 65_536)?;
-    let other = LocalHeap::new(rt.alloc(), 65_536)?;
-    let node = LocalHeap::new(rt.alloc(), 65_536)?;
+fn one_offer_lies_in_its_node(rt: HostRuntime) {
+    let heap = region(&rt, rt.alloc(), 65_536);
+    let other = region(&rt, rt.alloc(), 65_536);
+    let node = region(&rt, rt.alloc(), 65_536);
     let wide = prefix(&rt, addr(10, 0, 0, 0), 8);
     let mut book = Book::new(&heap, 10);
     let mut idle = Book::new(&other, 10);
-    ask(&rt, &mut book, (1, add(wide, 10, 1), Reply::Added))?;
-    ask(&rt, &mut idle, (1, Cmd::Dump, Reply::Dumped(0)))?;
+    ask(&rt, &mut book, (1, add(wide, 10, 1), Reply::Added));
+    ask(&rt, &mut idle, (1, Cmd::Dump, Reply::Dumped(0)));
     let mut trie: Trie<[u64; 3], &LocalHeap> = Trie::new(&node);
     assert!(&rt; trie.insert(wide, [0; 3]).is_ok());
     assert_eq!(&rt; heap.used(), other.used().wrapping_add(node.used()));
-    Ok(())
 }
 
 #[test]
@@ -258,13 +267,9 @@ fn limits_and_feeds(rt: HostRuntime) {
     }
 }
 
-/// Fails where `Display` or `Debug` shows another text for `Refused`.
-/// Fails where `Display` shows `no memory`: both texts.
+/// Fails where `Display` or `Debug` shows another text for `Refused`, as `no memory`.
 #[test]
-fn the_fault_has_its_text(rt: HostRuntime) -> Result<(), Fail> {
-    let fault = Refused;
-    let shown = format!(in rt.alloc(); "{fault}")?;
-    assert_eq!(rt; shown.as_str(), "memory was refused");
-    assert_eq!(rt; format!(in rt.alloc(); "{fault:?}")?.as_str(), "Refused");
-    Ok(())
+fn the_fault_has_its_text(rt: HostRuntime) {
+    let fault = [(Refused, "memory was refused", "Refused")];
+    assert_eq!(rt; misshown(rt.alloc(), &fault), Ok(None));
 }

@@ -17,6 +17,7 @@ pub mod OrderLemmas
 pub mod PairLemmas
 pub mod PartLemmas
 pub mod PieceLemmas
+pub mod PlaceLemmas
 pub mod RemoveLemmas
 pub mod SiftLemmas
 pub mod StoredLemmas

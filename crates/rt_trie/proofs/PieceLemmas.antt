@@ -14,11 +14,6 @@ use Rattle.rt_trie.proofs.NodeLemmas.{covers-outside}
 use Rattle.rt_trie.proofs.PairLemmas.{AllKeys-map, last_cover-none}
 use Rattle.rt_trie.proofs.LinkLemmas.{if_some_map, pairs_within}
 
--- a pair that doesn't cover the address leaves the best so far
-pub best_other : {V : Type 0} (q : Prefix) (v : V) (a : Addr) (best : Option (Prefix × V)) → covers q a ≡ false
-    → or_else (last_cover ((q, v) ∷ []) a) best ≡ best
-best_other q v a best h = rw h refl
-
 -- what comes before the base that a link keeps comes before its node
 pub before_key : {V A : Type 0} (link : Link V A) (q : Prefix) (base x a : ℕ) → root link ≡ Some q → base ≡ q.base
     → IfSome (root link) (λ y. a < y.base) → x ≤ base - 1 → IfSome (root link) (λ y. x < y.base)

@@ -1,5 +1,6 @@
 -- What no public clause speaks of: the words of private contracts, of invariants and of proofs.
 pub mod References
+pub mod Places
 pub mod Blocks
 pub mod Changes
 pub mod Descent

@@ -1,18 +1,52 @@
 //! The look-up that also tells how far its answer goes. So all addresses, whose answers change only at the borders of
 //! prefixes, are gone through piece by piece.
 
-ghost use Rattle.std.specs.Prelude.{◌≡◌, ◌<◌, ◌≤◌, None, IfSome};
+ghost use Rattle.std.specs.Prelude.{◌≡◌, ◌-◌, ◌^◌, ◌<◌, ◌≤◌, None, IfSome};
 ghost use Rattle.rt_cidr.specs.Prefix.{covers};
 ghost use Rattle.rt_cidr.specs.declared.address.Addr.{Addr};
 ghost use Rattle.rt_trie.specs.Blocks.{past};
 ghost use Rattle.rt_trie.specs.Map.{pair_copied, IsLongest};
 ghost use Rattle.rt_trie.specs.inside.Links.{pairs};
 ghost use Rattle.rt_trie.specs.inside.LookUps.{last_cover};
+ghost use Rattle.rt_trie.specs.inside.Places.{IsPlace, IsNextPlace};
 ghost use Rattle.rt_trie.specs.Links.{root, IsLawfulBelow, IsLawfulTrie};
 
 use crate::nodes::{Link, NodeView, middle};
 use rt_cidr::{Addr, Prefix};
-use std::alloc::Allocator;
+use std::alloc::{AllocError, Allocator};
+
+/// Where a look-up stands on its way down, and what it knows there of each address from its own to a last one.
+pub(crate) struct Place<'a, V, A: Allocator> {
+    /// The link below which the longest prefix may still be, if it goes on.
+    pub below: Option<&'a Link<V, A>>,
+    /// The pair of the longest prefix above.
+    pub best: Option<(Prefix, &'a V)>,
+    /// The last address of which this holds.
+    pub last: u32,
+}
+
+impl<'a, V, A: Allocator> Copy for Place<'a, V, A> {}
+
+impl<'a, V, A: Allocator> Clone for Place<'a, V, A> {
+    fn clone(&self) -> Result<Place<'a, V, A>, AllocError> {
+        Ok(*self)
+    }
+}
+
+impl<'a, V, A: Allocator> Place<'a, V, A> {
+    /// Where each look-up begins.
+    pub fn top(root: &'a Link<V, A>) -> Place<'a, V, A>
+        requires { IsLawfulTrie root.now }
+        ensures place { (from : Addr) → IsPlace (pairs root.now) from result }
+        ensures last { result.last ≡ 2 ^ 32 - 1 }
+    {
+        Place {
+            below: Some(root),
+            best: None,
+            last: u32::MAX,
+        }
+    }
+}
 
 /// The pair of the longest prefix that covers the address, and a last address: each one up to it has the same. It is the
 /// last before a prefix, the last of a prefix, or the last of all.
@@ -24,31 +58,63 @@ pub(crate) fn longest_until<V, A: Allocator>(
     ensures onward { address.0 ≤ result.1.0 }
     ensures same { (b : Addr) → address.0 ≤ b.0 → b.0 ≤ result.1.0 → IsLongest (pairs root.now) b (pair_copied result.0) }
 {
-    let mut best = None;
-    let mut until = u32::MAX;
-    let mut link = root;
-    loop {
-        match link.view() {
-            NodeView::Vacant => return (best, Addr(until)),
-            NodeView::Single(prefix, value) => {
-                if prefix.covers(address) {
-                    best = Some((prefix, value));
-                }
-                return (best, Addr(until.min(reach(&prefix, address))));
+    let mut place = Place::top(root);
+    while let Some(link) = place.below {
+        place = step(link, &place, address);
+    }
+    (place.best, Addr(place.last))
+}
+
+/// One step of a look-up down from a place, at its link.
+#[inline(always)]
+pub(crate) fn step<'a, V, A: Allocator>(
+    link: &'a Link<V, A>,
+    place: &Place<'a, V, A>,
+    address: Addr,
+) -> Place<'a, V, A>
+    requires lawful { IsLawfulBelow link.now }
+    requires reached { address.0 ≤ place.now.last }
+    ensures { IsNextPlace link.now place.now address result }
+{
+    match link.view() {
+        NodeView::Vacant => Place {
+            below: None,
+            best: place.best,
+            last: place.last,
+        },
+        NodeView::Single(prefix, value) => Place {
+            below: None,
+            best: if prefix.covers(address) {
+                Some((prefix, value))
+            } else {
+                place.best
+            },
+            last: place.last.min(reach(&prefix, address)),
+        },
+        NodeView::Branch(prefix, value, left, right) => {
+            let last = place.last.min(reach(&prefix, address));
+            if !prefix.covers(address) {
+                return Place {
+                    below: None,
+                    best: place.best,
+                    last,
+                };
             }
-            NodeView::Branch(prefix, value, left, right) => {
-                until = until.min(reach(&prefix, address));
-                if !prefix.covers(address) {
-                    return (best, Addr(until));
+            let best = match value {
+                Some(value) => Some((prefix, value)),
+                None => place.best,
+            };
+            if u64::from(address.0) < middle(prefix.len(), prefix.base()) {
+                Place {
+                    below: Some(left),
+                    best,
+                    last: last.min(last_before(right, address)),
                 }
-                if let Some(value) = value {
-                    best = Some((prefix, value));
-                }
-                if u64::from(address.0) < middle(prefix.len(), prefix.base()) {
-                    until = until.min(last_before(right, address));
-                    link = left;
-                } else {
-                    link = right;
+            } else {
+                Place {
+                    below: Some(right),
+                    best,
+                    last,
                 }
             }
         }

@@ -9,6 +9,7 @@ ghost use Rattle.rt_trie.specs.Nodes.{CountsNodes};
 ghost use Rattle.rt_trie.specs.Lawful.{IsLawful};
 ghost use Rattle.rt_trie.specs.Sifted.{IsSifted};
 
+use crate::answers::Answers;
 use crate::covering::Covering;
 use crate::descent::{Descent, WayDown};
 use crate::insertion::NewValue;
@@ -182,6 +183,14 @@ impl<V: Drop, A: Allocator + Copy> Trie<V, A> {
         ensures same { (b : Addr) → a.0 ≤ b.0 → b.0 ≤ result.1.0 → IsLongest self.now.pairs b (pair_copied result.0) }
     {
         pieces::longest_until(&self.root, a)
+    }
+
+    /// `longest_until` of one address after another: of rising ones each goes on from the way down of the last, in place of
+    /// from the root. It takes no memory.
+    pub fn answers(&self) -> Answers<'_, V, A>
+        ensures { result ≡ self.now.pairs }
+    {
+        Answers::new(&self.root)
     }
 
     /// The pairs whose prefix covers the address (RFC 1812, section 5.2.4.3, Basic Match), the shortest first: the last of

@@ -1,6 +1,7 @@
-//! What the clauses leave open: worked examples, and below, in modules of their own, refusals of memory and long runs beside
-//! a plain list.
+//! What the clauses leave open: worked examples, and below, in modules of their own, refusals of memory and long runs
+//! beside a plain list.
 
+mod answers;
 mod memory;
 mod random;
 mod refusals;
@@ -11,8 +12,9 @@ use linked_list_allocator::LocalHeap;
 use rt_cidr::{Addr, Prefix};
 use rt_trie::{Trie, Walk};
 use std::alloc::{Allocator, Global};
+use std::fmt::Debug;
 use std::process::Abort;
-use std::test::Fail;
+use test_support::take_the_rest;
 
 /// Prefixes of which some contain others.
 static STORED: [&str; 6] = [
@@ -23,6 +25,16 @@ static STORED: [&str; 6] = [
     "10.2.0.0/16",
     "192.0.2.0/24",
 ];
+
+/// Compares two values, of which a failure tells what they are.
+fn assert_same<T: PartialEq + Debug + Copy>(rt: &impl Abort, what: &str, found: T, wanted: T) {
+    assert_eq!(rt; found, wanted, "{what}");
+}
+
+/// A region of so many bytes.
+fn region(rt: &impl Abort, alloc: Global, size: usize) -> LocalHeap {
+    LocalHeap::new(alloc, size).expect(rt, "memory")
+}
 
 fn prefix(rt: &impl Abort, text: &str) -> Prefix {
     Prefix::parse(text.as_bytes()).expect(rt, "a prefix")
@@ -46,7 +58,7 @@ fn numbered(rt: &impl Abort, alloc: Global, texts: &[&str]) -> Vec<(Prefix, u32)
 
 /// Puts in a value where none is.
 fn put_new<A: Allocator + Copy>(rt: &impl Abort, trie: &mut Trie<u32, A>, p: Prefix, value: u32) {
-    assert_eq!(rt; trie.insert(p, value), Ok(None));
+    assert_same(rt, "put in", trie.insert(p, value), Ok(None));
 }
 
 fn put_all<A: Allocator + Copy>(rt: &impl Abort, trie: &mut Trie<u32, A>, pairs: &[(Prefix, u32)]) {
@@ -73,7 +85,8 @@ fn assert_counts<A: Allocator + Copy>(
     len: usize,
     nodes: usize,
 ) {
-    assert_eq!(rt; (trie.len(), trie.nodes()), (len, nodes));
+    assert_same(rt, "prefixes", trie.len(), len);
+    assert_same(rt, "nodes", trie.nodes(), nodes);
 }
 
 fn assert_after<A: Allocator + Copy>(
@@ -82,12 +95,12 @@ fn assert_after<A: Allocator + Copy>(
     p: Prefix,
     next: Option<Prefix>,
 ) {
-    assert_eq!(rt; trie.after(p), next);
+    assert_same(rt, "after", trie.after(p), next);
 }
 
 /// Of 1.0.0.0/8 to 64.0.0.0/8, the first, and what comes after a prefix that is stored or not.
 fn assert_next<A: Allocator + Copy>(rt: &impl Abort, trie: &Trie<u32, A>) {
-    assert_eq!(rt; trie.first(), Some(eighth(rt, 1)));
+    assert_same(rt, "first", trie.first(), Some(eighth(rt, 1)));
     assert_after(rt, trie, eighth(rt, 1), Some(eighth(rt, 2)));
     assert_after(rt, trie, prefix(rt, "1.0.0.0/9"), Some(eighth(rt, 2)));
     assert_after(rt, trie, prefix(rt, "0.0.0.0/0"), Some(eighth(rt, 1)));
@@ -100,7 +113,7 @@ fn assert_value<A: Allocator + Copy>(
     p: Prefix,
     value: Option<u32>,
 ) {
-    assert_eq!(rt; trie.get(p).copied(), value);
+    assert_same(rt, "get", trie.get(p).copied(), value);
 }
 
 fn take_out<A: Allocator + Copy>(
@@ -109,7 +122,7 @@ fn take_out<A: Allocator + Copy>(
     p: Prefix,
     value: Option<u32>,
 ) {
-    assert_eq!(rt; trie.remove(p), value);
+    assert_same(rt, "remove", trie.remove(p), value);
 }
 
 /// Puts in 1.0.0.0/8 to 64.0.0.0/8, with what `first` and `after` say of them, and takes them out again.
@@ -143,19 +156,18 @@ fn more_than_100_000_prefixes(rt: HostRuntime) {
     }
     let last = prefix(&rt, "255.255.255.255/32");
     put_new(&rt, &mut trie, last, 0);
-    assert_eq!(&rt; trie.len(), 100_101);
+    assert_same(&rt, "prefixes", trie.len(), 100_101);
     let mut small: Trie<u32, Global> = Trie::new(rt.alloc());
     put_new(&rt, &mut small, last, 0);
     assert_value(&rt, &small, last, Some(0));
 }
 
 #[test]
-fn sixty_four_prefixes_a_hundred_times_in_one_region(rt: HostRuntime) -> Result<(), Fail> {
-    let heap = LocalHeap::new(rt.alloc(), 65_536)?;
+fn sixty_four_prefixes_a_hundred_times_in_one_region(rt: HostRuntime) {
+    let heap = region(&rt, rt.alloc(), 65_536);
     for _ in 0..100 {
         fill_and_empty(&rt, &heap);
     }
-    Ok(())
 }
 
 fn longest<A: Allocator + Copy>(trie: &Trie<u32, A>, a: Addr) -> Option<(Prefix, u32)> {
@@ -169,7 +181,7 @@ fn assert_longest<A: Allocator + Copy>(
     address: u32,
     pair: Option<(Prefix, u32)>,
 ) {
-    assert_eq!(rt; longest(trie, Addr(address)), pair);
+    assert_same(rt, "longest", longest(trie, Addr(address)), pair);
 }
 
 fn next_pair<A: Allocator + Copy>(walk: &mut Walk<'_, u32, A>) -> Option<(Prefix, u32)> {
@@ -183,12 +195,12 @@ fn assert_pairs<A: Allocator + Copy>(
     trie: &Trie<u32, A>,
     pairs: &[(Prefix, u32)],
 ) {
-    assert_eq!(rt; trie.len(), pairs.len());
+    assert_same(rt, "prefixes", trie.len(), pairs.len());
     let mut walk = trie.walk();
     for pair in pairs {
-        assert_eq!(rt; next_pair(&mut walk), Some(*pair));
+        assert_same(rt, "a pair", next_pair(&mut walk), Some(*pair));
     }
-    assert_eq!(rt; next_pair(&mut walk), None);
+    assert_same(rt, "behind the last", next_pair(&mut walk), None);
 }
 
 /// Each pair is the longest match of its base, where no prefix is inside another.
@@ -202,24 +214,19 @@ fn assert_found<A: Allocator + Copy>(
     }
 }
 
-/// A block of the region's least size, if it still has one.
-fn least_block(heap: &LocalHeap) -> Option<Box<u8, &LocalHeap>> {
-    Box::new(heap, 0u8).ok()
+/// All memory that the region still has, in blocks of its least size.
+fn all_the_rest<'h>(rt: &impl Abort, alloc: Global, heap: &'h LocalHeap) -> Blocks<'h> {
+    let mut blocks = Vec::new(alloc);
+    take_all(rt, heap, &mut blocks);
+    blocks
 }
 
-/// Takes all memory that the region still has, in such blocks.
-fn take_the_rest<'h>(
-    rt: &impl Abort,
-    heap: &'h LocalHeap,
-    blocks: &mut Vec<Box<u8, &'h LocalHeap>>,
-) {
-    for _ in 0..1_000u32 {
-        let Some(block) = least_block(heap) else {
-            return;
-        };
-        blocks.push(block).expect(rt, "memory");
-    }
-    panic!(rt; "the region is too large");
+/// The blocks that a region is filled with.
+type Blocks<'h> = Vec<Box<u8, &'h LocalHeap>>;
+
+/// Takes all memory that the region still has.
+fn take_all<'h>(rt: &impl Abort, heap: &'h LocalHeap, blocks: &mut Blocks<'h>) {
+    take_the_rest(heap, blocks).expect(rt, "a small region");
 }
 
 fn put_over<A: Allocator + Copy>(
@@ -229,7 +236,7 @@ fn put_over<A: Allocator + Copy>(
     value: u32,
     old: u32,
 ) {
-    assert_eq!(rt; trie.insert(p, value), Ok(Some(old)));
+    assert_same(rt, "put over", trie.insert(p, value), Ok(Some(old)));
 }
 
 fn write_at<A: Allocator + Copy>(rt: &impl Abort, trie: &mut Trie<u32, A>, p: Prefix, value: u32) {
@@ -276,7 +283,7 @@ fn a_value_is_written_in_place(rt: HostRuntime) {
     }
     put_over(&rt, &mut trie, eighth(&rt, 5), 51, 50);
     assert_value(&rt, &trie, eighth(&rt, 5), Some(51));
-    assert_eq!(rt; trie.len(), 64);
+    assert_same(&rt, "prefixes", trie.len(), 64);
 }
 
 /// The prefix of so many bits, at most 32, that covers the address.

@@ -3,8 +3,8 @@
 use std::alloc::{AllocError, Global};
 use std::io::{self, ErrorKind, Write};
 
-/// Takes at most so many bytes a call and so many in all, then stumbles at one call, and from then on takes the rest: whoever
-/// goes on after a fault is seen by what stands there. A flush counts as a call, and is a fault.
+/// Takes at most so many bytes a call and so many in all, then stumbles at one call, and from then on takes the rest:
+/// whoever goes on after a fault is seen by what stands there. A flush counts as a call, and is a fault.
 #[derive(Drop)]
 pub struct StumblingWriter {
     /// What it has taken.
@@ -17,8 +17,8 @@ pub struct StumblingWriter {
 }
 
 impl StumblingWriter {
-    /// Takes at most `at_once` bytes a call. Once it has `room` bytes it answers this fault, or where there is none that it took
-    /// nothing.
+    /// Takes at most `at_once` bytes a call. Once it has `room` bytes it answers this fault, or where there is none
+    /// that it took nothing.
     pub fn new(
         alloc: Global,
         at_once: usize,
@@ -57,7 +57,8 @@ impl Write for StumblingWriter {
     }
 }
 
-/// Each of the system's numbers, its kind without the number, the kinds without one, and a fault that a writer puts in words.
+/// Each of the system's numbers, its kind without the number, the kinds without one, and a fault that a writer puts in
+/// words.
 pub fn each_fault(alloc: Global) -> Result<Vec<io::Error>, AllocError> {
     let mut faults = Vec::new(alloc);
     for code in 1..134i32 {

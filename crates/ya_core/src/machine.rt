@@ -18,7 +18,7 @@ use std::marker::Model;
 use thiserror::Error;
 
 /// Memory was refused.
-#[derive(Debug, Drop, Error)]
+#[derive(Debug, Error, Drop)]
 #[error("out of memory")]
 pub struct NoMemory;
 

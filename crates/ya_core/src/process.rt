@@ -8,7 +8,7 @@ ghost use Rattle.ya_core.specs.Soundness.{IsProper};
 use crate::word::{Access, Word};
 
 /// Where a process stands on its way in at a level. The rival's place is known from the load of its claim on.
-#[derive(Clone, Copy, Debug, PartialEq, Eq)]
+#[derive(Clone, Copy, PartialEq, Eq, Debug)]
 pub enum EntryPoint {
     /// It is to claim its side of the node.
     E1,
@@ -33,7 +33,7 @@ pub enum EntryPoint {
 }
 
 /// Where a process stands on its way out at a level.
-#[derive(Clone, Copy, Debug, PartialEq, Eq)]
+#[derive(Clone, Copy, PartialEq, Eq, Debug)]
 pub enum ExitPoint {
     /// It is to give up its claim.
     X1,
@@ -44,7 +44,7 @@ pub enum ExitPoint {
 }
 
 /// A process of the lock, one for each place. Levels are counted from 1, the leaves, to the root.
-#[derive(Clone, Copy, Debug, PartialEq, Eq)]
+#[derive(Clone, Copy, PartialEq, Eq, Debug)]
 pub enum Process {
     /// It takes no part. Its next step is the first of an entry, at level 1.
     Idle,

@@ -12,7 +12,7 @@ use std::alloc::Global;
 use thiserror::Error;
 
 /// Why a schedule was not replayed.
-#[derive(Clone, Copy, Debug, PartialEq, Eq, Error)]
+#[derive(Clone, Copy, PartialEq, Eq, Debug, Error)]
 pub enum ReplayFault {
     /// P1: some pick is no place of the tree.
     #[error("fault P1")]

@@ -2,7 +2,7 @@
 use crate::word::Word;
 
 /// What a step brought about.
-#[derive(Clone, Copy, Debug, PartialEq, Eq)]
+#[derive(Clone, Copy, PartialEq, Eq, Debug)]
 pub enum Mark {
     /// Neither of the two.
     Plain,
@@ -13,7 +13,7 @@ pub enum Mark {
 }
 
 /// One atomic step of one place, as the machine tells it.
-#[derive(Clone, Copy, Debug, PartialEq, Eq)]
+#[derive(Clone, Copy, PartialEq, Eq, Debug)]
 pub struct Step {
     /// The place that took the step.
     pub place: usize,

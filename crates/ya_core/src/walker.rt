@@ -12,7 +12,7 @@ use crate::word::{Access, Word};
 use std::marker::Model;
 
 /// What a walker asks for.
-#[derive(Clone, Copy, Debug, PartialEq, Eq)]
+#[derive(Clone, Copy, PartialEq, Eq, Debug)]
 pub enum Op {
     /// A load of the word with this number, whose value `saw` is told.
     Load(usize),

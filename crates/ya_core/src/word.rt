@@ -1,6 +1,6 @@
 //! The shared words by name, and the accesses of them.
 /// A shared word of the arbitration tree. Each is a whole number, 0 at the start.
-#[derive(Clone, Copy, Debug, PartialEq, Eq)]
+#[derive(Clone, Copy, PartialEq, Eq, Debug)]
 pub enum Word {
     /// `C(level, node, side)`: the identifier of the process that competes on that side of the node, or nil.
     C(u32, usize, usize),
@@ -11,7 +11,7 @@ pub enum Word {
 }
 
 /// One load or one store of a shared word: an atomic step.
-#[derive(Clone, Copy, Debug, PartialEq, Eq)]
+#[derive(Clone, Copy, PartialEq, Eq, Debug)]
 pub enum Access {
     /// A load of the word.
     Load(Word),

@@ -17,7 +17,7 @@ mod waits;
 mod wakes;
 
 /// A number that any place may change in any way.
-#[derive(Debug, Drop, PartialEq)]
+#[derive(PartialEq, Debug, Drop)]
 struct Number(u64);
 
 impl Kept for Number {

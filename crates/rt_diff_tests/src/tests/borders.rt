@@ -5,7 +5,6 @@ use rt_diff::*;
 use rt_rib::{Book, Hop};
 use std::alloc::Global;
 use std::process::Abort;
-use std::test::Fail;
 
 /// Compares the ranges, in order, with those of the two books.
 fn assert_ranges(rt: &impl Abort, old: &Book<Global>, new: &Book<Global>, ranges: &[Difference]) {
@@ -27,13 +26,13 @@ fn range(first: Addr, last: Addr, old: Answer, new: Answer) -> Difference {
 }
 
 #[test]
-fn a_longer_prefix_and_a_new_one(rt: HostRuntime) -> Result<(), Fail> {
+fn a_longer_prefix_and_a_new_one(rt: HostRuntime) {
     let (mut old, mut new) = (Book::new(rt.alloc(), 9), Book::new(rt.alloc(), 9));
-    add(&rt, &mut old, addr(10, 0, 0, 0), 8, via(1))?;
-    add(&rt, &mut new, addr(10, 0, 0, 0), 8, via(1))?;
-    add(&rt, &mut new, addr(10, 1, 0, 0), 16, via(2))?;
-    add(&rt, &mut new, addr(10, 2, 0, 0), 16, via(1))?;
-    add(&rt, &mut new, addr(11, 0, 0, 0), 8, Hop::Discard)?;
+    add(&rt, &mut old, addr(10, 0, 0, 0), 8, via(1));
+    add(&rt, &mut new, addr(10, 0, 0, 0), 8, via(1));
+    add(&rt, &mut new, addr(10, 1, 0, 0), 16, via(2));
+    add(&rt, &mut new, addr(10, 2, 0, 0), 16, via(1));
+    add(&rt, &mut new, addr(11, 0, 0, 0), 8, Hop::Discard);
     let longer = range(
         addr(10, 1, 0, 0),
         addr(10, 1, 255, 255),
@@ -48,17 +47,16 @@ fn a_longer_prefix_and_a_new_one(rt: HostRuntime) -> Result<(), Fail> {
     );
     assert_ranges(&rt, &old, &new, &[longer, discarded]);
     assert_ranges(&rt, &new, &new, &[]);
-    Ok(())
 }
 
 /// A shorter prefix shows through on both sides of a longer one that stays, up to the first address and the last.
 #[test]
-fn the_first_address_and_the_last(rt: HostRuntime) -> Result<(), Fail> {
+fn the_first_address_and_the_last(rt: HostRuntime) {
     let (mut old, mut new) = (Book::new(rt.alloc(), 9), Book::new(rt.alloc(), 9));
-    add(&rt, &mut old, addr(64, 0, 0, 0), 2, via(1))?;
-    add(&rt, &mut new, addr(64, 0, 0, 0), 2, via(1))?;
-    add(&rt, &mut new, addr(0, 0, 0, 0), 0, via(2))?;
-    add(&rt, &mut new, addr(255, 255, 255, 255), 32, via(3))?;
+    add(&rt, &mut old, addr(64, 0, 0, 0), 2, via(1));
+    add(&rt, &mut new, addr(64, 0, 0, 0), 2, via(1));
+    add(&rt, &mut new, addr(0, 0, 0, 0), 0, via(2));
+    add(&rt, &mut new, addr(255, 255, 255, 255), 32, via(3));
     let last = Addr(u32::MAX);
     let lower = range(
         Addr(0),
@@ -74,5 +72,4 @@ fn the_first_address_and_the_last(rt: HostRuntime) -> Result<(), Fail> {
     );
     let alone = range(last, last, Answer::NoRoute, Answer::Hop(via(3)));
     assert_ranges(&rt, &old, &new, &[lower, upper, alone]);
-    Ok(())
 }

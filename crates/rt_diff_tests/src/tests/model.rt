@@ -1,53 +1,33 @@
 //! Random tables in one /24, against the answers of all of its addresses, asked one by one.
-ghost use Rattle.std.specs.Prelude.{◌<◌};
-
-use super::via;
-use rt_cidr::{Addr, Prefix};
+use super::{add, via};
+use rt_cidr::Addr;
 use rt_diff::*;
 use rt_rib::{Book, Cmd, Reply, Route};
 use std::alloc::Global;
 use std::process::Abort;
-use std::test::Fail;
+use test_support::Dice;
 
 /// The first address of the /24.
 const BASE: u32 = 0x0a00_0000;
 
-/// Numbers by a linear congruence, the same in each run.
-#[derive(Drop)]
-struct Dice(u64);
-
-impl Dice {
-    /// A number below `sides`.
-    fn roll(&mut self, sides: usize) -> usize
-        requires { 0 < sides }
-        ensures { result < sides }
-    {
-        self.0 = self
-            .0
-            .wrapping_mul(6_364_136_223_846_793_005)
-            .wrapping_add(1_442_695_040_888_963_407);
-        (self.0 >> 33) as usize % sides
+/// Puts so many routes to prefixes of 24 to 32 bits in, by one of three next hops.
+fn fill(rt: &impl Abort, book: &mut Book<Global>, seed: u64, count: usize) {
+    let mut dice = Dice(seed);
+    for _ in 0..count {
+        let past = dice.roll(9);
+        let host = BASE + dice.roll(256) as u32;
+        let base = ((host as u64 >> past) << past) as u32;
+        let hop = via(dice.roll(3) as u8);
+        add(rt, book, Addr(base), 32 - past as u8, hop);
     }
+}
 
-    /// Puts so many routes to prefixes of 24 to 32 bits in, by one of three next hops.
-    fn fill(&mut self, book: &mut Book<Global>, count: usize) -> Result<(), Fail> {
-        for _ in 0..count {
-            let past = self.roll(9);
-            let host = BASE + self.roll(256) as u32;
-            let base = ((host as u64 >> past) << past) as u32;
-            let prefix = Prefix::new(base, 32 - past as u8)?;
-            let hop = via(self.roll(3) as u8);
-            let _ = book.apply(
-                1,
-                Cmd::Add {
-                    prefix,
-                    pref: 5,
-                    hop,
-                },
-            )?;
-        }
-        Ok(())
-    }
+/// A book of routes by lot that both books of the round have, and of others that it has alone.
+fn book_of(rt: &impl Abort, alloc: Global, round: usize, seed: u64, count: usize) -> Book<Global> {
+    let mut book = Book::new(alloc, 99);
+    fill(rt, &mut book, round as u64, round);
+    fill(rt, &mut book, seed, count);
+    book
 }
 
 /// What the book answers to a look-up by itself.
@@ -93,11 +73,7 @@ fn compare(rt: &impl Abort, old: &mut Book<Global>, new: &mut Book<Global>, by: 
         let addr = Addr(BASE + host);
         range = reached(old, new, by, range, addr);
         let answers = (answer(rt, old, by, addr), answer(rt, new, by, addr));
-        let expected = if answers.0 == answers.1 {
-            None
-        } else {
-            Some(answers)
-        };
+        let expected = (answers.0 != answers.1).then_some(answers);
         assert_eq!(rt; answers_in(range, addr), expected, "{addr:?}");
         let begins = range.is_some_and(|range| range.first == addr);
         assert!(rt; !begins || before != Some(answers), "{addr:?}");
@@ -107,15 +83,11 @@ fn compare(rt: &impl Abort, old: &mut Book<Global>, new: &mut Book<Global>, by: 
 }
 
 #[test]
-fn each_address_of_a_small_universe(rt: HostRuntime) -> Result<(), Fail> {
+fn each_address_of_a_small_universe(rt: HostRuntime) {
     for round in 0..40usize {
-        let (mut old, mut new) = (Book::new(rt.alloc(), 99), Book::new(rt.alloc(), 99));
-        Dice(round as u64).fill(&mut old, round)?;
-        Dice(round as u64).fill(&mut new, round)?;
-        Dice(1000).fill(&mut old, round % 3)?;
-        Dice(2000).fill(&mut new, round % 4)?;
+        let mut old = book_of(&rt, rt.alloc(), round, 1000, round % 3);
+        let mut new = book_of(&rt, rt.alloc(), round, 2000, round % 4);
         compare(&rt, &mut old, &mut new, By::Hop);
         compare(&rt, &mut new, &mut old, By::Route);
     }
-    Ok(())
 }

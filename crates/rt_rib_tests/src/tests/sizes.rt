@@ -1,9 +1,9 @@
 //! A book at its greatest sizes and values: where memory is ample, each command is answered.
-use super::{add, addr, ask, prefix, route, via};
+use super::{add, addr, answered, ask, assert_same, prefix, route, via};
 use rt_cidr::Addr;
 use rt_rib::*;
+use std::alloc::Global;
 use std::process::Abort;
-use std::test::Fail;
 
 /// The greatest number that a feed may have.
 const LAST_FEED: u32 = 64;
@@ -11,11 +11,12 @@ const LAST_FEED: u32 = 64;
 /// How many routes the large table has: more than 65,536.
 const ROUTES: u32 = 66_000;
 
-/// How many entries the long journal has: more than a million, and no fewer than the room that it has after its last growth but
-/// one, so that it has grown beyond a million.
+/// How many entries the long journal has: more than a million, and no fewer than the room that it has after its last
+/// growth but one, so that it has grown beyond a million.
 const ENTRIES: u32 = 1_050_000;
 
-/// How many entries the large table's journal has before the purge: as many as it has room for, which is a power of two.
+/// How many entries the large table's journal has before the purge: as many as it has room for, which is a power of
+/// two.
 const FULL: usize = 131_072;
 
 /// The last address and feed, and the greatest preference.
@@ -28,7 +29,8 @@ fn greatest(rt: &impl Abort) -> Route {
     }
 }
 
-/// Each command of the last feed with the greatest values, what it is answered in an empty table, and what one after the other.
+/// Each command of the last feed with the greatest values, what it is answered in an empty table, and what one after
+/// the other.
 fn rows(route: Route) -> [(Cmd, Reply, Reply); 6] {
     let Route {
         prefix,
@@ -54,65 +56,74 @@ fn rows(route: Route) -> [(Cmd, Reply, Reply); 6] {
 /// Fails where `Book::apply` refuses the greatest address, preference or feed, in an `add` or where the journal has to
 /// grow.
 #[test]
-fn the_greatest_values_are_answered(rt: HostRuntime) -> Result<(), Fail> {
+fn the_greatest_values_are_answered(rt: HostRuntime) {
     let mut book = Book::new(rt.alloc(), 1_000_000);
     for (cmd, alone, reply) in rows(greatest(&rt)) {
-        ask(&rt, &mut book, (LAST_FEED, cmd, reply))?;
+        ask(&rt, &mut book, (LAST_FEED, cmd, reply));
         // Each by itself, where the journal has no room yet.
-        ask(&rt, &mut Book::new(rt.alloc(), 1), (LAST_FEED, cmd, alone))?;
+        ask(&rt, &mut Book::new(rt.alloc(), 1), (LAST_FEED, cmd, alone));
     }
-    Ok(())
 }
 
 /// Fails where an `add` of a prefix that has 4, 8 or 63 offers is refused.
 #[test]
-fn every_feed_offers_one_prefix(rt: HostRuntime) -> Result<(), Fail> {
+fn every_feed_offers_one_prefix(rt: HostRuntime) {
     let mut book = Book::new(rt.alloc(), 1);
     let wide = prefix(&rt, addr(10, 0, 0, 0), 8);
     for feed in 1..=64u8 {
         ask(
             &rt,
             &mut book,
-            (feed as u32, add(wide, 5, feed), Reply::Added),
-        )?;
+            (u32::from(feed), add(wide, 5, feed), Reply::Added),
+        );
     }
     let best = Reply::Found(route(wide, 1, 5));
     let addr = addr(10, 1, 2, 3);
-    ask(&rt, &mut book, (LAST_FEED, Cmd::Lookup { addr }, best))?;
-    assert_eq!(rt; book.routes(rt.alloc())?.len(), 64);
-    Ok(())
+    ask(&rt, &mut book, (LAST_FEED, Cmd::Lookup { addr }, best));
+    assert_same(&rt, "routes", count_of_routes(&rt, rt.alloc(), &book), 64);
+}
+
+/// How many routes the book lists.
+fn count_of_routes(rt: &impl Abort, alloc: Global, book: &Book<Global>) -> usize {
+    book.routes(alloc).expect(rt, "memory").len()
+}
+
+/// The last feed adds many routes, and dumps until the journal has no room left.
+fn fill(rt: &impl Abort, book: &mut Book<Global>) {
+    for k in 0..ROUTES {
+        let narrow = prefix(rt, Addr(k.wrapping_mul(256)), 24);
+        let reply = answered(rt, book, LAST_FEED, add(narrow, 1, 1));
+        assert_eq!(rt; reply, Reply::Added, "{k}");
+    }
+    for _ in book.journal().len()..FULL {
+        answered(rt, book, LAST_FEED, Cmd::Dump);
+    }
 }
 
 /// Fails where `Book::routes` refuses beyond 65,536 routes.
 /// Fails where a purge of more than 1,024 routes is refused where the journal has to grow.
 #[test]
-fn more_than_65_536_routes_are_listed_and_purged(rt: HostRuntime) -> Result<(), Fail> {
+fn more_than_65_536_routes_are_listed_and_purged(rt: HostRuntime) {
     let mut book = Book::new(rt.alloc(), 1_000_000);
-    for k in 0..ROUTES {
-        let narrow = prefix(&rt, Addr(k.wrapping_mul(256)), 24);
-        assert_eq!(rt; book.apply(LAST_FEED, add(narrow, 1, 1)), Ok(Reply::Added));
-    }
-    assert_eq!(rt; book.routes(rt.alloc())?.len(), ROUTES as usize);
-    for _ in book.journal().len()..FULL {
-        let _ = book.apply(LAST_FEED, Cmd::Dump)?;
-    }
-    assert_eq!(rt;
-        book.apply(LAST_FEED, Cmd::Purge),
-        Ok(Reply::Purged(ROUTES))
+    fill(&rt, &mut book);
+    let routes = count_of_routes(&rt, rt.alloc(), &book);
+    assert_same(&rt, "routes", routes, ROUTES as usize);
+    ask(
+        &rt,
+        &mut book,
+        (LAST_FEED, Cmd::Purge, Reply::Purged(ROUTES)),
     );
-    Ok(())
 }
 
 /// Fails where `Book::apply` refuses beyond 200,000 or 1,000,000 entries.
 #[test]
-fn more_than_a_million_entries_are_kept(rt: HostRuntime) -> Result<(), Fail> {
+fn more_than_a_million_entries_are_kept(rt: HostRuntime) {
     let mut book = Book::new(rt.alloc(), 1);
     for _ in 0..ENTRIES {
-        let _ = book.apply(1, Cmd::Dump)?;
+        answered(&rt, &mut book, 1, Cmd::Dump);
     }
     for (cmd, _, reply) in rows(greatest(&rt)) {
-        ask(&rt, &mut book, (LAST_FEED, cmd, reply))?;
+        ask(&rt, &mut book, (LAST_FEED, cmd, reply));
     }
-    assert_eq!(rt; book.journal().len(), 1_050_006);
-    Ok(())
+    assert_same(&rt, "entries", book.journal().len(), 1_050_006);
 }

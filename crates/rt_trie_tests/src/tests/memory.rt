@@ -1,15 +1,16 @@
-//! How often each call of a trie asks for memory, which for all but a new prefix is never, in a small trie and a large one, and
-//! how much is in use once prefixes have gone.
+//! How often each call of a trie asks for memory, which for all but a new prefix is never, in a small trie and a large
+//! one, and how much is in use once prefixes have gone.
 
 use super::sieves::OfLength;
-use super::{STORED, numbered_prefix, prefix, put_new};
+use super::{
+    STORED, assert_same, assert_value, numbered_prefix, prefix, put_new, put_over, region, take_out,
+};
 use counted_memory::Counted;
 use linked_list_allocator::LocalHeap;
 use rt_cidr::{Addr, Prefix};
 use rt_trie::Trie;
 use std::alloc::{Allocator, Global};
 use std::process::Abort;
-use std::test::Fail;
 
 static ABSENT: [&str; 4] = [
     "0.0.0.0/1",
@@ -21,7 +22,7 @@ static ABSENT: [&str; 4] = [
 /// Puts in each prefix that is not stored, with the value 1.
 fn fill<A: Allocator + Copy>(rt: &impl Abort, trie: &mut Trie<u32, A>) {
     for text in STORED.iter() {
-        assert_eq!(rt; trie.insert(prefix(rt, text), 1), Ok(None));
+        put_new(rt, trie, prefix(rt, text), 1);
     }
 }
 
@@ -44,35 +45,69 @@ fn go_over_covering<A: Allocator + Copy>(rt: &impl Abort, trie: &Trie<u32, A>, a
 /// A trie whose requests for memory are counted.
 type CountedTrie<'m> = Trie<u32, &'m Counted<Global>>;
 
+/// So many requests were made, and none by this call.
+fn assert_asked(rt: &impl Abort, memory: &Counted<Global>, asked: u64, call: &str, text: &str) {
+    assert_eq!(rt; memory.asked(), asked, "{call} {text}");
+}
+
+/// Each look-up of an address of the prefix.
+fn look_up_at(rt: &impl Abort, memory: &Counted<Global>, trie: &CountedTrie<'_>, text: &str) {
+    let asked = memory.asked();
+    let p = prefix(rt, text);
+    let a = Addr(p.base());
+    assert!(rt; trie.longest(a).is_some());
+    assert_asked(rt, memory, asked, "longest", text);
+    look_up_two(trie, p);
+    assert_asked(rt, memory, asked, "longest_many", text);
+    assert!(rt; trie.longest_until(a).0.is_some());
+    assert_asked(rt, memory, asked, "longest_until", text);
+    go_over_covering(rt, trie, a);
+    assert_asked(rt, memory, asked, "covering", text);
+}
+
 /// Each call at a prefix that changes no more than a value.
 fn call_at(rt: &impl Abort, memory: &Counted<Global>, trie: &mut CountedTrie<'_>, text: &str) {
+    look_up_at(rt, memory, trie, text);
     let asked = memory.asked();
     let p = prefix(rt, text);
     let is_stored = trie.get(p).is_some();
-    assert_eq!(rt; memory.asked(), asked, "get {text}");
-    assert_eq!(rt; trie.get_mut(p).is_some(), is_stored);
-    assert_eq!(rt; memory.asked(), asked, "get_mut {text}");
-    assert!(rt; trie.longest(Addr(p.base())).is_some());
-    assert_eq!(rt; memory.asked(), asked, "longest {text}");
-    look_up_two(trie, p);
-    assert_eq!(rt; memory.asked(), asked, "longest_many {text}");
-    assert!(rt; trie.longest_until(Addr(p.base())).0.is_some());
-    assert_eq!(rt; memory.asked(), asked, "longest_until {text}");
-    go_over_covering(rt, trie, Addr(p.base()));
-    assert_eq!(rt; memory.asked(), asked, "covering {text}");
+    assert_asked(rt, memory, asked, "get", text);
+    assert_same(rt, "get_mut", trie.get_mut(p).is_some(), is_stored);
+    assert_asked(rt, memory, asked, "get_mut", text);
     let _ = trie.after(p);
-    assert_eq!(rt; memory.asked(), asked, "after {text}");
+    assert_asked(rt, memory, asked, "after", text);
 }
 
 /// The calls that are of the whole trie, or change nothing.
 fn call_at_whole(rt: &impl Abort, memory: &Counted<Global>, trie: &CountedTrie<'_>) {
     let asked = memory.asked();
-    assert_eq!(rt; (trie.len(), trie.nodes()), (6, 7));
-    assert_eq!(rt; memory.asked(), asked, "len and nodes");
-    assert_eq!(rt; trie.walk().count(), 6);
-    assert_eq!(rt; memory.asked(), asked, "walk");
+    assert_same(rt, "prefixes", trie.len(), 6);
+    assert_same(rt, "nodes", trie.nodes(), 7);
+    assert_asked(rt, memory, asked, "len and nodes", "of all");
+    assert_same(rt, "walk", trie.walk().count(), 6);
+    assert_asked(rt, memory, asked, "walk", "of all");
     assert!(rt; trie.first().is_some());
-    assert_eq!(rt; memory.asked(), asked, "first");
+    assert_asked(rt, memory, asked, "first", "of all");
+}
+
+/// Each call at a prefix that is stored, and a new value there.
+fn call_at_stored(rt: &impl Abort, memory: &Counted<Global>, trie: &mut CountedTrie<'_>) {
+    for text in STORED.iter() {
+        call_at(rt, memory, trie, text);
+        let asked = memory.asked();
+        put_over(rt, trie, prefix(rt, text), 2, 1);
+        assert_asked(rt, memory, asked, "insert again", text);
+    }
+}
+
+/// Each call at a prefix that isn't stored, and a removal there.
+fn call_at_absent(rt: &impl Abort, memory: &Counted<Global>, trie: &mut CountedTrie<'_>) {
+    for text in ABSENT.iter() {
+        call_at(rt, memory, trie, text);
+        let asked = memory.asked();
+        take_out(rt, trie, prefix(rt, text), None);
+        assert_asked(rt, memory, asked, "remove", text);
+    }
 }
 
 /// Fails where `Trie::new`, `get`, `longest`, `longest_many`, `longest_until`, `covering`, `remove` or an `insert` of a
@@ -81,27 +116,16 @@ fn call_at_whole(rt: &impl Abort, memory: &Counted<Global>, trie: &CountedTrie<'
 fn nothing_but_a_new_prefix_asks_for_memory(rt: HostRuntime) {
     let memory = Counted::new(rt.alloc());
     let mut trie: CountedTrie<'_> = Trie::new(&memory);
-    assert_eq!(&rt; memory.asked(), 0, "new");
+    assert_same(&rt, "new", memory.asked(), 0);
     fill(&rt, &mut trie);
     // A node for each of the six, and one for 10.0.0.0/14, at which 10.1.0.0/16 and 10.2.0.0/16 part.
-    assert_eq!(&rt; memory.asked(), 7, "insert");
-    for text in STORED.iter() {
-        call_at(&rt, &memory, &mut trie, text);
-        let asked = memory.asked();
-        assert_eq!(&rt; trie.insert(prefix(&rt, text), 2), Ok(Some(1)));
-        assert_eq!(&rt; memory.asked(), asked, "insert {text} again");
-    }
-    for text in ABSENT.iter() {
-        call_at(&rt, &memory, &mut trie, text);
-        let asked = memory.asked();
-        assert_eq!(&rt; trie.remove(prefix(&rt, text)), None);
-        assert_eq!(&rt; memory.asked(), asked, "remove {text}");
-    }
+    assert_same(&rt, "insert", memory.asked(), 7);
+    call_at_stored(&rt, &memory, &mut trie);
+    call_at_absent(&rt, &memory, &mut trie);
     call_at_whole(&rt, &memory, &trie);
-    let asked = memory.asked();
     for text in STORED.iter() {
-        assert_eq!(&rt; trie.remove(prefix(&rt, text)), Some(2));
-        assert_eq!(&rt; memory.asked(), asked, "remove {text}");
+        take_out(&rt, &mut trie, prefix(&rt, text), Some(2));
+        assert_asked(&rt, &memory, 7, "remove", text);
     }
 }
 
@@ -149,79 +173,86 @@ fn fill_many(rt: &impl Abort, memory: &Counted<Global>, trie: &mut CountedTrie<'
     for k in 0..MANY {
         put_new(rt, trie, numbered_prefix(rt, k), k);
     }
-    assert_eq!(rt; memory.asked(), 2 * u64::from(MANY) - 1, "insert");
+    assert_same(rt, "insert", memory.asked(), 2 * u64::from(MANY) - 1);
 }
 
 /// Each prefix of the large trie looked up by itself, and put in once more.
 fn call_at_each(rt: &impl Abort, trie: &mut CountedTrie<'_>) {
     for k in 0..MANY {
         let p = numbered_prefix(rt, k);
-        assert_eq!(rt; trie.get(p).copied(), Some(k));
+        assert_value(rt, trie, p, Some(k));
         assert!(rt; trie.get_mut(p).is_some());
         assert!(rt; trie.longest(Addr(p.base())).is_some());
-        assert_eq!(rt; trie.insert(p, k), Ok(Some(k)));
-        assert_eq!(rt; trie.after(p).is_some(), k < MANY - 1);
+        put_over(rt, trie, p, k, k);
+        assert!(rt; trie.after(p).is_some() == (k < MANY - 1));
     }
 }
 
 /// The large trie's addresses, looked up together.
-fn look_up_each(rt: &impl Abort, alloc: Global, trie: &CountedTrie<'_>) -> Result<(), Fail> {
+fn look_up_each(rt: &impl Abort, alloc: Global, trie: &CountedTrie<'_>) {
     let mut addresses = Vec::new(alloc);
     for k in 0..MANY {
-        addresses.push(Addr(numbered_prefix(rt, k).base()))?;
+        let address = Addr(numbered_prefix(rt, k).base());
+        addresses.push(address).expect(rt, "memory");
     }
-    let mut answers = vec![in alloc; None; addresses.len()]?;
+    let mut answers = vec![in alloc; None; addresses.len()].expect(rt, "memory");
     trie.longest_many(&addresses, &mut answers);
     assert!(rt; answers.iter().all(|answer| answer.is_some()));
-    Ok(())
 }
 
 /// A walk over the large trie.
 fn walk_many(rt: &impl Abort, trie: &CountedTrie<'_>) {
-    assert_eq!(rt; trie.len(), MANY as usize);
-    assert_eq!(rt; trie.walk().count(), MANY as usize);
+    assert_same(rt, "prefixes", trie.len(), MANY as usize);
+    assert_same(rt, "pairs", trie.walk().count(), MANY as usize);
+}
+
+/// Takes half of the prefixes out.
+fn take_half(rt: &impl Abort, trie: &mut CountedTrie<'_>) {
+    for k in 0..MANY / 2 {
+        take_out(rt, trie, numbered_prefix(rt, k), Some(k));
+    }
+}
+
+/// Keeps the prefixes of this length, of which there are so many.
+fn keep(rt: &impl Abort, trie: &mut CountedTrie<'_>, len: u8, left: usize) {
+    trie.retain(&mut OfLength { len });
+    assert_same(rt, "prefixes", trie.len(), left);
 }
 
 /// Fails where `retain` asks for a block beyond 100 prefixes, `longest_many` beyond 64 addresses, a walk or `remove`
 /// beyond 1,000 prefixes, `longest` beyond 65,000: the call, and a number of requests that isn't 131,999.
 #[test]
-fn a_large_trie_asks_for_its_nodes_alone(rt: HostRuntime) -> Result<(), Fail> {
+fn a_large_trie_asks_for_its_nodes_alone(rt: HostRuntime) {
     let memory = Counted::new(rt.alloc());
     let mut trie: CountedTrie<'_> = Trie::new(&memory);
     fill_many(&rt, &memory, &mut trie);
     let asked = memory.asked();
     call_at_each(&rt, &mut trie);
-    assert_eq!(&rt; memory.asked(), asked, "a call at a stored prefix");
-    look_up_each(&rt, rt.alloc(), &trie)?;
-    assert_eq!(&rt; memory.asked(), asked, "longest_many");
+    assert_same(&rt, "a call at a stored prefix", memory.asked(), asked);
+    look_up_each(&rt, rt.alloc(), &trie);
+    assert_same(&rt, "longest_many", memory.asked(), asked);
     walk_many(&rt, &trie);
-    assert_eq!(&rt; memory.asked(), asked, "walk");
-    for k in 0..MANY / 2 {
-        assert_eq!(&rt; trie.remove(numbered_prefix(&rt, k)), Some(k));
-    }
-    assert_eq!(&rt; memory.asked(), asked, "remove");
-    trie.retain(&mut OfLength { len: 24 });
-    assert_eq!(&rt; trie.len(), (MANY / 2) as usize);
-    trie.retain(&mut OfLength { len: 8 });
-    assert_eq!(&rt; trie.len(), 0);
-    assert_eq!(&rt; memory.asked(), asked, "retain");
-    Ok(())
+    assert_same(&rt, "walk", memory.asked(), asked);
+    take_half(&rt, &mut trie);
+    assert_same(&rt, "remove", memory.asked(), asked);
+    keep(&rt, &mut trie, 24, (MANY / 2) as usize);
+    keep(&rt, &mut trie, 8, 0);
+    assert_same(&rt, "retain", memory.asked(), asked);
 }
 
 /// Fails where `remove` keeps the memory of a node.
 #[test]
-fn what_goes_is_given_back(rt: HostRuntime) -> Result<(), Fail> {
-    let heap = LocalHeap::new(rt.alloc(), 65_536)?;
+fn what_goes_is_given_back(rt: HostRuntime) {
+    let heap = region(&rt, rt.alloc(), 65_536);
     let mut trie: Trie<u32, &LocalHeap> = Trie::new(&heap);
     fill(&rt, &mut trie);
     for text in STORED.iter() {
         let used = heap.used();
-        assert_eq!(&rt; trie.remove(prefix(&rt, text)), Some(1));
-        assert!(&rt; heap.used() <= used, "remove {text}");
+        take_out(&rt, &mut trie, prefix(&rt, text), Some(1));
+        assert!(rt; heap.used() <= used, "remove {text}");
     }
-    assert_eq!(&rt; heap.used(), 0, "an emptied trie");
+    assert_same(&rt, "an emptied trie", heap.used(), 0);
     fill(&rt, &mut trie);
     drop(trie);
-    assert_eq!(&rt; heap.used(), 0, "a dropped trie");
-    Ok(())
+    assert_same(&rt, "a dropped trie", heap.used(), 0);
 }

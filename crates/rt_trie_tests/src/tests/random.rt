@@ -2,11 +2,12 @@
 
 ghost use Rattle.std.specs.Prelude.{nat_eq};
 
-use super::{assert_pairs, covering, longest};
+use super::{assert_pairs, assert_same, covering, longest};
 use rt_cidr::{Addr, Prefix};
 use rt_trie::{Sieve, Trie};
 use std::alloc::{Allocator, Global};
 use std::process::Abort;
+use test_support::next_number;
 
 /// A map as a plain list of pairs in order.
 #[derive(Drop)]
@@ -69,12 +70,6 @@ impl PlainList {
     }
 }
 
-/// The next number of a linear congruence.
-pub(crate) fn next_number(seed: u64) -> u64 {
-    seed.wrapping_mul(6_364_136_223_846_793_005)
-        .wrapping_add(1_442_695_040_888_963_407)
-}
-
 /// Makes one change to both: an insertion or a removal.
 fn change_both<A: Allocator + Copy>(
     rt: &impl Abort,
@@ -84,10 +79,37 @@ fn change_both<A: Allocator + Copy>(
     value: Option<u32>,
 ) {
     match value {
-        Some(value) => assert_eq!(rt; trie.insert(p, value), Ok(list.insert(rt, p, value))),
-        None => assert_eq!(rt; trie.remove(p), list.remove(rt, p)),
+        Some(value) => insert_both(rt, trie, list, p, value),
+        None => assert_same(rt, "remove", trie.remove(p), list.remove(rt, p)),
     }
-    assert_eq!(rt; trie.len(), list.pairs.len());
+    assert_same(rt, "prefixes", trie.len(), list.pairs.len());
+}
+
+/// Puts a value into both.
+pub(crate) fn insert_both<A: Allocator + Copy>(
+    rt: &impl Abort,
+    trie: &mut Trie<u32, A>,
+    list: &mut PlainList,
+    p: Prefix,
+    value: u32,
+) {
+    assert_same(
+        rt,
+        "insert",
+        trie.insert(p, value),
+        Ok(list.insert(rt, p, value)),
+    );
+}
+
+/// A prefix by lot, with few bits at both ends, so that such prefixes meet, nest and part often.
+fn any_prefix(rt: &impl Abort, seed: u64) -> Prefix {
+    covering(rt, (seed >> 16 & 0xe1c0_0307) as u32, (seed >> 33) as u32)
+}
+
+/// Compares all pairs, and the longest match of an address.
+fn compare<A: Allocator + Copy>(rt: &impl Abort, trie: &Trie<u32, A>, list: &PlainList, a: Addr) {
+    assert_pairs(rt, trie, &list.pairs);
+    assert_same(rt, "longest", longest(trie, a), list.longest(a));
 }
 
 #[test]
@@ -97,15 +119,15 @@ fn random_changes_beside_a_sorted_list(rt: HostRuntime) {
     let mut seed = 1u64;
     for step in 0..20_000u32 {
         seed = next_number(seed);
-        let bits = (seed >> 33) as u32;
-        // Few bits at both ends, so that prefixes meet, nest and part often.
-        let p = covering(&rt, (seed >> 16 & 0xe1c0_0307) as u32, bits);
-        let value = if bits & 0x100 == 0 { Some(step) } else { None };
+        let p = any_prefix(&rt, seed);
+        let value = if seed >> 33 & 0x100 == 0 {
+            Some(step)
+        } else {
+            None
+        };
         change_both(&rt, &mut trie, &mut list, p, value);
         if step % 500 == 0 {
-            assert_pairs(&rt, &trie, &list.pairs);
-            let a = Addr(p.base());
-            assert_eq!(&rt; longest(&trie, a), list.longest(a));
+            compare(&rt, &trie, &list, Addr(p.base()));
         }
     }
 }
@@ -147,7 +169,8 @@ fn sieve_both<A: Allocator + Copy>(
     let mut other = Lots { seed, remaining };
     trie.retain(&mut one);
     list.retain(rt, alloc, &mut other);
-    assert_eq!(rt; (one.seed, one.remaining), (other.seed, other.remaining));
+    assert_same(rt, "seed", one.seed, other.seed);
+    assert_same(rt, "remaining", one.remaining, other.remaining);
     assert_pairs(rt, trie, &list.pairs);
 }
 
@@ -158,12 +181,11 @@ fn sieves_beside_a_sorted_list(rt: HostRuntime) {
     let mut seed = 5u64;
     for step in 0..6_000u32 {
         seed = next_number(seed);
-        let bits = (seed >> 33) as u32;
-        let p = covering(&rt, (seed >> 16 & 0xe1c0_0307) as u32, bits);
-        change_both(&rt, &mut trie, &mut list, p, Some(step));
+        insert_both(&rt, &mut trie, &mut list, any_prefix(&rt, seed), step);
         if step % 60 == 59 {
             // Some stop before the end, and some see all.
-            sieve_both(&rt, rt.alloc(), &mut trie, &mut list, seed, bits & 0x7f);
+            let remaining = (seed >> 33 & 0x7f) as u32;
+            sieve_both(&rt, rt.alloc(), &mut trie, &mut list, seed, remaining);
         }
     }
     sieve_both(&rt, rt.alloc(), &mut trie, &mut list, seed, 0);

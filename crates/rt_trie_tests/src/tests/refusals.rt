@@ -1,18 +1,18 @@
 //! Insertions that succeed, and those that are refused memory, which change nothing to be seen.
 
 use super::{
-    STORED, assert_after, assert_counts, assert_found, assert_longest, assert_pairs, assert_value,
-    eighth, numbered, prefix, put_all, put_over, take_out, take_the_rest, write_at,
+    Blocks, STORED, all_the_rest, assert_after, assert_counts, assert_found, assert_longest,
+    assert_pairs, assert_same, assert_value, eighth, numbered, prefix, put_all, put_over, region,
+    take_all, take_out, write_at,
 };
 use linked_list_allocator::LocalHeap;
 use rt_cidr::Prefix;
 use rt_trie::Trie;
 use std::alloc::{Allocator, Global};
 use std::process::Abort;
-use std::test::Fail;
 
-/// Asks to put in a new pair, and adds it to the list where it is put in. Where memory is refused the value comes back and
-/// no node is made.
+/// Asks to put in a new pair, and adds it to the list where it is put in. Where memory is refused the value comes back
+/// and no node is made.
 fn ask<A: Allocator + Copy>(
     rt: &impl Abort,
     trie: &mut Trie<u32, A>,
@@ -22,17 +22,17 @@ fn ask<A: Allocator + Copy>(
     let nodes = trie.nodes();
     let answer = trie.insert(pair.0, pair.1);
     if answer.is_ok() {
-        assert_eq!(rt; answer, Ok(None));
+        assert_same(rt, "put in", answer, Ok(None));
         stored.push(pair).expect(rt, "memory");
     } else {
-        assert_eq!(rt; answer, Err(pair.1));
-        assert_eq!(rt; trie.nodes(), nodes);
+        assert_same(rt, "refused", answer, Err(pair.1));
+        assert_same(rt, "nodes", trie.nodes(), nodes);
     }
 }
 
 #[test]
-fn a_region_of_512_bytes_refuses_and_keeps(rt: HostRuntime) -> Result<(), Fail> {
-    let heap = LocalHeap::new(rt.alloc(), 512)?;
+fn a_region_of_512_bytes_refuses_and_keeps(rt: HostRuntime) {
+    let heap = region(&rt, rt.alloc(), 512);
     let mut trie: Trie<u32, &LocalHeap> = Trie::new(&heap);
     let mut stored = Vec::new(rt.alloc());
     for k in 1..65u32 {
@@ -41,7 +41,6 @@ fn a_region_of_512_bytes_refuses_and_keeps(rt: HostRuntime) -> Result<(), Fail> 
         assert_found(&rt, &trie, &stored);
     }
     assert!(rt; 1 < stored.len() && stored.len() < 64);
-    Ok(())
 }
 
 /// What stays where memory is refused: the pairs, the nodes, and nothing at the new prefix.
@@ -69,12 +68,12 @@ fn is_put_in<'h>(
     let left = heap.free();
     let answer = trie.insert(p, 7);
     if answer.is_ok() {
-        assert_eq!(rt; answer, Ok(None));
+        assert_same(rt, "put in", answer, Ok(None));
         return true;
     }
-    assert_eq!(rt; answer, Err(7));
+    assert_same(rt, "refused", answer, Err(7));
     assert_kept(rt, trie, nodes, pairs, p);
-    assert_eq!(rt; heap.free(), left);
+    assert_same(rt, "free bytes", heap.free(), left);
     false
 }
 
@@ -82,7 +81,7 @@ fn is_put_in<'h>(
 fn refusals<'h>(
     rt: &impl Abort,
     heap: &'h LocalHeap,
-    blocks: &mut Vec<Box<u8, &'h LocalHeap>>,
+    blocks: &mut Blocks<'h>,
     trie: &mut Trie<u32, &'h LocalHeap>,
     pairs: &[(Prefix, u32)],
     p: Prefix,
@@ -96,8 +95,8 @@ fn refusals<'h>(
     panic!(rt; "never put in");
 }
 
-/// Puts in the pairs, then the new one, in a region that is full, then with one block, and so on until it is put in.
-/// So each box that the insertion asks for is refused, the first at the start and the last just before the end; each time
+/// Puts in the pairs, then the new one, in a region that is full, then with one block, and so on until it is put in. So
+/// each box that the insertion asks for is refused, the first at the start and the last just before the end; each time
 /// the trie is as it was, and the region too.
 fn refuse_each_box(
     rt: &impl Abort,
@@ -108,11 +107,10 @@ fn refuse_each_box(
 ) {
     let mut trie: Trie<u32, &LocalHeap> = Trie::new(heap);
     put_all(rt, &mut trie, pairs);
-    let mut blocks = Vec::new(alloc);
-    take_the_rest(rt, heap, &mut blocks);
+    let mut blocks = all_the_rest(rt, alloc, heap);
     assert!(rt; refusals(rt, heap, &mut blocks, &mut trie, pairs, p) > 0);
     assert_value(rt, &trie, p, Some(7));
-    assert_eq!(rt; trie.len(), pairs.len().wrapping_add(1));
+    assert_same(rt, "prefixes", trie.len(), pairs.len().wrapping_add(1));
 }
 
 const WIDE: &str = "10.0.0.0/8";
@@ -157,21 +155,20 @@ static INSERTIONS: [(&[&str], &str); 19] = [
 /// Fails where `insert` keeps a box that it was given when the next is refused, a fork's when the leaf's is: the region
 /// is not as it was.
 #[test]
-fn each_box_of_each_insertion_refused_in_turn(rt: HostRuntime) -> Result<(), Fail> {
-    let heap = LocalHeap::new(rt.alloc(), 2_048)?;
+fn each_box_of_each_insertion_refused_in_turn(rt: HostRuntime) {
+    let heap = region(&rt, rt.alloc(), 2_048);
     for (stored, new) in INSERTIONS.iter() {
         let pairs = numbered(&rt, rt.alloc(), stored);
         refuse_each_box(&rt, rt.alloc(), &heap, &pairs, prefix(&rt, new));
-        assert_eq!(&rt; heap.used(), 0);
+        assert_same(&rt, "bytes", heap.used(), 0);
     }
-    Ok(())
 }
 
 /// Each removal in a region that is full: a leaf below a fork, a full node with one branch, one with two.
 fn take_each<'h>(
     rt: &impl Abort,
     heap: &'h LocalHeap,
-    blocks: &mut Vec<Box<u8, &'h LocalHeap>>,
+    blocks: &mut Blocks<'h>,
     trie: &mut Trie<u32, &'h LocalHeap>,
     pairs: &[(Prefix, u32)],
 ) {
@@ -179,7 +176,7 @@ fn take_each<'h>(
         assert_value(rt, trie, *p, Some(*value));
         take_out(rt, trie, *p, Some(*value));
         take_out(rt, trie, *p, None);
-        take_the_rest(rt, heap, blocks);
+        take_all(rt, heap, blocks);
     }
 }
 
@@ -192,25 +189,23 @@ fn assert_answers<A: Allocator + Copy>(
     let narrow = prefix(rt, "10.1.2.0/24");
     assert_counts(rt, trie, 6, 7);
     assert_pairs(rt, trie, pairs);
-    assert_eq!(rt; trie.first(), Some(prefix(rt, "0.0.0.0/0")));
+    assert_same(rt, "first", trie.first(), Some(prefix(rt, "0.0.0.0/0")));
     assert_after(rt, trie, narrow, Some(prefix(rt, "10.2.0.0/16")));
     assert_longest(rt, trie, 0x0a01_0203, Some((narrow, 4)));
 }
 
 /// Fails where a call other than `insert` needs memory of its own.
 #[test]
-fn nothing_but_an_insertion_asks_for_memory(rt: HostRuntime) -> Result<(), Fail> {
-    let heap = LocalHeap::new(rt.alloc(), 2_048)?;
+fn nothing_but_an_insertion_asks_for_memory(rt: HostRuntime) {
+    let heap = region(&rt, rt.alloc(), 2_048);
     let mut trie: Trie<u32, &LocalHeap> = Trie::new(&heap);
     let pairs = numbered(&rt, rt.alloc(), &STORED);
     put_all(&rt, &mut trie, &pairs);
-    let mut blocks = Vec::new(rt.alloc());
-    take_the_rest(&rt, &heap, &mut blocks);
+    let mut blocks = all_the_rest(&rt, rt.alloc(), &heap);
     assert_answers(&rt, &trie, &pairs);
     put_over(&rt, &mut trie, prefix(&rt, "10.0.0.0/8"), 20, 2);
     write_at(&rt, &mut trie, prefix(&rt, "10.0.0.0/8"), 2);
     take_each(&rt, &heap, &mut blocks, &mut trie, &pairs);
     assert_counts(&rt, &trie, 0, 0);
     assert_pairs(&rt, &trie, &[]);
-    Ok(())
 }

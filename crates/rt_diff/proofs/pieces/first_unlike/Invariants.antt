@@ -1,14 +1,15 @@
-use Rattle.std.proofs.Common.{ℕ, ◌-◌, ◌^◌, ◌≤◌}
-use Rattle.rt_rib.specs.Book.{table_of}
+use Rattle.std.proofs.Common.{◌≡◌, ◌-◌, ◌^◌, ◌≤◌}
 use Rattle.rt_diff.specs.inside.Pieces.{ArePieces, AreAlike}
 use Rattle.rt_diff.proofs.pieces.first_unlike.Given as goal
 
 -- every address before these pieces is alike
 abbrev pub invariant-loop-by : goal.invariant-loop-by
 invariant-loop-by g l = record {
+  same_old_table : l.old ≡ l.fn.old;
+  same_new_table : l.new ≡ l.fn.new;
   onward : l.fn.from.0 ≤ l.pieces.from.0;
-  before : AreAlike l.by (table_of l.old) (table_of l.new) l.fn.from l.pieces.from.0;
-  there : ArePieces l.by (table_of l.old) (table_of l.new) l.pieces;
+  before : AreAlike l.by l.fn.old l.fn.new l.fn.from l.pieces.from.0;
+  there : ArePieces l.by l.fn.old l.fn.new l.pieces;
 }
 
 abbrev pub decreases-loop-by : goal.decreases-loop-by

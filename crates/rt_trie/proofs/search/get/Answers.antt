@@ -1,4 +1,4 @@
-use Rattle.std.proofs.Common.{refl, sym, ◌∙◌, arith}
+use Rattle.std.proofs.Common.{refl, sym, ◌∙◌, arith, rules}
 use Rattle.rt_trie.proofs.LinkLemmas.{of_fork, of_full, short_fork, short_full, key_of_fork, key_of_full, GoesOn}
 use Rattle.rt_trie.proofs.LinkLemmas.{goes_on, node_get-here, node_get-past, node_get-unstored}
 use Rattle.rt_trie.proofs.search.get.Given.{Over}
@@ -75,3 +75,6 @@ middle-requires g c = short_fork c.in-Fork.fork c.loop-link.link.now c.in-Fork.i
 
 pub middle-requires-in-Full : goal.middle-requires-in-Full
 middle-requires-in-Full g c = short_full c.in-Full.full c.loop-link.link.now c.in-Full.is c.loop-link.invariant.lawful
+
+pub returns-then-is_key_of : goal.returns-then-is_key_of
+returns-then-is_key_of g c = search rules

@@ -1,4 +1,4 @@
-use Rattle.std.proofs.Common.{◌≡◌, ◌+◌, ◌++◌, None, length, sym, ap, ◌∙◌, arith, length-append}
+use Rattle.std.proofs.Common.{◌≡◌, ◌+◌, ◌++◌, None, length, sym, ap, ◌∙◌, arith, length-append, rules}
 use Rattle.rt_trie.specs.inside.Links.{pairs, own_pair}
 use Rattle.rt_trie.proofs.SiftLemmas.{IsHalfSifted, sifted_none, sifted_done, link_same, leaf_goes, leaf_stays, half_fork, half_full, sifted_of, node_length}
 use Rattle.rt_trie.proofs.LinkLemmas.{of_fork, of_full, view_fork}
@@ -103,3 +103,6 @@ returns-clause-len g t c =
           ))
     ] in
     omega (arith, whole, ap length c.splice.ensures.spliced.pairs_are)
+
+pub returns-then-not-keeps-clause-nodes : goal.returns-then-not-keeps-clause-nodes
+returns-then-not-keeps-clause-nodes g t c = search rules

@@ -1,5 +1,6 @@
 use Rattle.rt_rib.specs.inside.TableState.{table_state}
 use Rattle.rt_rib.proofs.TableChanges.{IsJournalOf-push, holds_table}
+use Rattle.std.proofs.Common.{rules}
 use Rattle.rt_rib.proofs.book.Book.apply.Goals as goal
 
 pub invariant_of-self-2 : goal.invariant_of-self-2
@@ -9,3 +10,6 @@ invariant_of-self-2 g c =
 
 pub returns-clause-holds : goal.returns-clause-holds
 returns-clause-holds g c = holds_table c.apply.new.self c.push_reserved.new.self.items c.holds-2.ensures (invariant_of-self-2 g c)
+
+pub returns-in_err-try_reserve-clause-err : goal.returns-in_err-try_reserve-clause-err
+returns-in_err-try_reserve-clause-err g c = search rules

@@ -1,4 +1,4 @@
-use Rattle.std.proofs.Common.{◌≡◌, length, refl, sym, arith}
+use Rattle.std.proofs.Common.{◌≡◌, length, refl, sym, arith, rules}
 use Rattle.rt_rib.proofs.OfferLists.{only_one}
 use Rattle.rt_rib.proofs.offers.OneOrMany.take_out.Goals as goal
 
@@ -18,3 +18,6 @@ returns-else-len-eq1-clause-taken g c =
     let others = rw c.deref_mut.ensures.value at (c.if-not-take_among.ensures.others refl) in
     let fewer = rw c.deref_mut.ensures.value at (c.if-not-take_among.ensures.fewer refl) in
     rw c.in-Many.is (others, sym (rw c.deref_mut.ensures.value at c.if-not-take_among.ensures.had), omega (arith, fewer, c.take_among.new.offers.ok.0, c.in-Many.offers.value.ok.0))
+
+pub returns-then-offer-feed-clause-taken : goal.returns-then-offer-feed-clause-taken
+returns-then-offer-feed-clause-taken g c = search rules

@@ -51,3 +51,6 @@ leave-requires g c =
         },
       ),
     )
+
+pub returns-clause-ok : goal.returns-clause-ok
+returns-clause-ok g c = search rules

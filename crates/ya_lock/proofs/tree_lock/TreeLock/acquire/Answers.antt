@@ -1,4 +1,4 @@
-use Rattle.std.proofs.Common.{lit<, refl, ◌∙◌}
+use Rattle.std.proofs.Common.{lit<, refl, ◌∙◌, rules}
 use Rattle.ya_lock.proofs.EntryAccesses.{competes}
 use Rattle.ya_lock.proofs.tree_lock.TreeLock.acquire.Goals as goal
 
@@ -25,3 +25,6 @@ compete-progress-requires g c =
         ),
       ),
     )
+
+pub loop-progress-preserved : goal.loop-progress-preserved
+loop-progress-preserved g c = search rules

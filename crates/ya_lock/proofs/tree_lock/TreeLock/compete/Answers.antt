@@ -1,4 +1,4 @@
-use Rattle.std.proofs.Common.{lit<, sym, ap, ◌∙◌}
+use Rattle.std.proofs.Common.{lit<, sym, ap, ◌∙◌, rules}
 use Rattle.ya_core.specs.declared.process.Process.TheVariants.{Entering}
 use Rattle.ya_core.specs.declared.process.EntryPoint.TheVariants.{E7}
 use Rattle.ya_lock.proofs.EntryAccesses.{known, woken_in_tree}
@@ -22,3 +22,6 @@ ring-requires g c =
         ),
       ),
     )
+
+pub entry_step-requires : goal.entry_step-requires
+entry_step-requires g c = search rules

@@ -1,0 +1,8 @@
+use Rattle.std.proofs.Common.{rules}
+use Rattle.rt_rib.proofs.book.Book.reserve.Goals as goal
+
+pub returns-in_err-try_reserve-clause-err : goal.returns-in_err-try_reserve-clause-err
+returns-in_err-try_reserve-clause-err g c = search rules
+
+pub returns-clause-ok : goal.returns-clause-ok
+returns-clause-ok g c = search rules

@@ -1,0 +1,135 @@
+//! Look-ups one after another, of rising addresses: each goes on from the way down of the last.
+
+ghost use Rattle.std.specs.Prelude.{◌≡◌, ◌≤◌, ◌⊎◌, IfSome, All, Contains, slice_set};
+ghost use Rattle.rt_cidr.specs.declared.address.Addr.{Addr};
+ghost use Rattle.rt_trie.specs.Map.{pair_copied};
+
+use crate::nodes::Link;
+use crate::pieces::{Place, step};
+use rt_cidr::{Addr, Prefix};
+use std::alloc::Allocator;
+use std::marker::Model;
+
+/// So many places are kept: a way down through a node of each length has one at its top, and one below each node.
+const PLACES: usize = 34;
+
+/// What a map answers to one address after another. It keeps the way down of the last answer, and takes no memory.
+#[derive(Drop)]
+pub struct Answers<'a, V, A: Allocator> {
+    root: &'a Link<V, A>,
+    /// The address that was last asked about.
+    from: Addr,
+    way: Way<'a, V, A>,
+}
+
+impl<'a, V, A: Allocator> Model for Answers<'a, V, A> {
+    ghost use Rattle.rt_trie.specs.Map.{Pairs};
+    ghost use Rattle.rt_trie.specs.inside.Links.{pairs};
+    ghost use Rattle.rt_trie.specs.inside.Places.{AreAnswers};
+
+    ghost Value = { Pairs V };
+
+    ghost view = { λ w. pairs w.root.now };
+
+    ghost invariant = { λ w. AreAnswers w.root.now w.from w.way };
+}
+
+impl<'a, V, A: Allocator> Answers<'a, V, A> {
+    ghost use Rattle.rt_trie.specs.Map.{IsLongest};
+    ghost use Rattle.rt_trie.specs.inside.Links.{pairs};
+    ghost use Rattle.rt_trie.specs.Links.{IsLawfulTrie};
+
+    pub(crate) fn new(root: &'a Link<V, A>) -> Answers<'a, V, A>
+        requires { IsLawfulTrie root.now }
+        ensures { result ≡ pairs root.now }
+    {
+        Answers {
+            root,
+            from: Addr(0),
+            way: Way::new(root),
+        }
+    }
+
+    /// The longest match of the address, and how far it goes, as `Trie::longest_until` gives them. Of an address that is no
+    /// lesser than the one before, the way down goes on from where theirs part; of a lesser one it begins anew.
+    pub fn until(&mut self, a: Addr) -> (Option<(Prefix, &'a V)>, Addr)
+        ensures kept { self.new ≡ self.old }
+        ensures onward { a.0 ≤ result.1.0 }
+        ensures same { (b : Addr) → a.0 ≤ b.0 → b.0 ≤ result.1.0 → IsLongest self.old b (pair_copied result.0) }
+    {
+        if a.0 < self.from.0 {
+            self.way = Way::new(self.root);
+        }
+        self.from = a;
+        let mut place = match self.way.back_to(a) {
+            Some(place) => place,
+            None => Place::top(self.root),
+        };
+        while let Some(link) = place.below {
+            place = step(link, &place, a);
+            self.way.keep(place);
+        }
+        (place.best, Addr(place.last))
+    }
+}
+
+/// The places of a way down, from the top on.
+#[derive(Drop)]
+struct Way<'a, V, A: Allocator> {
+    places: [Place<'a, V, A>; PLACES],
+    /// How many of them are kept.
+    len: usize,
+}
+
+impl<'a, V, A: Allocator> Way<'a, V, A> {
+    ghost use Rattle.rt_trie.specs.Links.{IsLawfulTrie};
+    ghost use Rattle.rt_trie.specs.declared.answers.TheConstants.{PLACES};
+    ghost use Rattle.rt_trie.specs.inside.Links.{pairs};
+    ghost use Rattle.rt_trie.specs.inside.Places.{IsPlace};
+
+    /// A way down that is at its top.
+    fn new(root: &'a Link<V, A>) -> Way<'a, V, A>
+        requires { IsLawfulTrie root.now }
+        ensures few { result.len ≤ PLACES }
+        ensures places { (from : Addr) → All (IsPlace (pairs root.now) from) result.places }
+    {
+        let top = Place::top(root);
+        Way {
+            places: [top; PLACES],
+            len: 1,
+        }
+    }
+
+    /// Gives up the last places until one reaches the address, and gives that one, if there is any.
+    fn back_to(&mut self, address: Addr) -> Option<Place<'a, V, A>>
+        requires few { self.old.len ≤ PLACES }
+        ensures few { self.new.len ≤ PLACES }
+        ensures places { self.new.places ≡ self.old.places }
+        ensures reached { IfSome result (λ place. address.0 ≤ place.last) }
+        ensures one { IfSome result (λ place. Contains self.old.places place) }
+    {
+        while self.len > 0 {
+            let places = &self.places[..];
+            let place = places[self.len - 1];
+            if address.0 <= place.last {
+                return Some(place);
+            }
+            self.len -= 1;
+        }
+        None
+    }
+
+    /// Keeps a place below the last one, if there is room.
+    fn keep(&mut self, place: Place<'a, V, A>)
+        requires few { self.old.len ≤ PLACES }
+        ensures few { self.new.len ≤ PLACES }
+        ensures places { (self.new.places ≡ self.old.places) ⊎ (self.new.places ≡ slice_set self.old.places self.old.len place.entry) }
+    {
+        let at = self.len;
+        if at < PLACES {
+            let places = &mut self.places[..];
+            places[at] = place;
+            self.len = at + 1;
+        }
+    }
+}
