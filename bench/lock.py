@@ -1,7 +1,7 @@
 #!/usr/bin/env python3
 """Times passages of the lock, of the same algorithm in C and of std's mutex, in turn.
 
-Usage: bench/lock.py [--store] [ROUNDS [PASSAGES]]. Needs rt, gcc and pthreads. Each case runs the program crates/lock_bench, bench/lock.c
+Usage: bench/lock.py [--store] [ROUNDS [PASSAGES]]. Needs rt, gcc and pthreads. Each case runs the program crates/benches, bench/lock.c
 and the mutex one after another, ROUNDS times (9 if left out), each with so many passages (200,000 if left out). For each case
 the least time of a passage is printed, in nanoseconds, and its ratio to C: time on the clock, and time of the processors (user
 and system). --store keeps the figures in bench/figures/.
@@ -16,25 +16,25 @@ import tempfile
 import figures
 
 ROOT = pathlib.Path(__file__).resolve().parent.parent
-CRATE = ROOT / "crates" / "lock_bench"
+CRATE = ROOT / "crates" / "benches"
 ALONE = [(levels, 1) for levels in range(1, 7)]
 TOGETHER = [(1, 2), *((levels, threads) for levels in range(2, 7) for threads in (2, 4)), (6, 16), (6, 64)]
 
 
 def build(folder):
-    """The paths of both programs; the one in C is built in the folder."""
-    built = subprocess.run(["rt", "run", "--", "3000"], cwd=CRATE, capture_output=True, text=True)
-    tree = CRATE / "out" / "lock_bench"
+    """The words that call both programs; the one in C is built in the folder."""
+    built = subprocess.run(["rt", "run", "--", "lock", "3000"], cwd=CRATE, capture_output=True, text=True)
+    tree = CRATE / "out" / "benches"
     if built.returncode != 0 or not tree.exists():
         sys.exit("bench/lock.py: the program was not built\n" + built.stdout[-2000:] + built.stderr[-2000:])
     plain = folder / "plain"
     subprocess.run(["gcc", "-O2", "-pthread", "-o", plain, ROOT / "bench" / "lock.c"], check=True)
-    return tree, plain
+    return [tree, "lock"], [plain]
 
 
 def timed(program, passages, levels, threads):
     """Nanoseconds a passage on the clock, and of the processors."""
-    run = subprocess.Popen([program, str(passages), str(levels), str(threads)], stderr=subprocess.PIPE, text=True)
+    run = subprocess.Popen([*program, str(passages), str(levels), str(threads)], stderr=subprocess.PIPE, text=True)
     row = run.stderr.read().split()
     _, status, used = os.wait4(run.pid, 0)
     if status != 0 or len(row) != 4:

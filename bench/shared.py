@@ -1,7 +1,7 @@
 #!/usr/bin/env python3
 """Times commands of the shared table of 64 feeds beside those of a book under std's mutex, in turn.
 
-Usage: bench/shared.py [--store] [ROUNDS [COMMANDS]]. Needs rt. Each case runs the program crates/shared_bench for the table and for the
+Usage: bench/shared.py [--store] [ROUNDS [COMMANDS]]. Needs rt. Each case runs the program crates/benches for the table and for the
 mutex one after the other, ROUNDS times (9 if left out), each with so many commands in all (200,000 if left out). For each case
 the nanoseconds of a command are printed, on the clock and of the processors (user and system), and their ratios to the mutex:
 the least of one thread, whom other work can only slow down, and the middle one of several, of which single rounds differ much.
@@ -16,15 +16,15 @@ import sys
 import figures
 
 ROOT = pathlib.Path(__file__).resolve().parent.parent
-CRATE = ROOT / "crates" / "shared_bench"
+CRATE = ROOT / "crates" / "benches"
 CASES = [(threads, batch) for threads in (1, 4, 16, 64) for batch in (1, 16, 256)]
 ON_TWO = [(threads, batch) for threads in (2, 64) for batch in (1, 256)]
 
 
 def build():
     """The path of the program."""
-    built = subprocess.run(["rt", "run"], cwd=CRATE, capture_output=True, text=True)
-    program = CRATE / "out" / "shared_bench"
+    built = subprocess.run(["rt", "run", "--", "shared", "20000"], cwd=CRATE, capture_output=True, text=True)
+    program = CRATE / "out" / "benches"
     if built.returncode != 0 or not program.exists():
         sys.exit("bench/shared.py: the program was not built\n" + built.stdout[-2000:] + built.stderr[-2000:])
     return program
@@ -32,7 +32,7 @@ def build():
 
 def timed(program, commands, is_table, threads, batch, processors):
     """Nanoseconds a command on the clock, and of the processors."""
-    words = [program] + [str(number) for number in (commands, is_table, threads, batch)]
+    words = [program, "shared"] + [str(number) for number in (commands, is_table, threads, batch)]
     run = subprocess.Popen(words, stderr=subprocess.PIPE, text=True, preexec_fn=lambda: os.sched_setaffinity(0, processors))
     row = run.stderr.read().split()
     _, status, used = os.wait4(run.pid, 0)

@@ -1,7 +1,7 @@
 #!/usr/bin/env python3
 """Times the trie beside one in plain Rust, over the same prefixes, in one run.
 
-Usage: bench/trie.py [--store] [ROUNDS [PREFIXES..]]. Needs rt and rustc. The program crates/trie_bench and bench/trie_peer.rs run in
+Usage: bench/trie.py [--store] [ROUNDS [PREFIXES..]]. Needs rt and rustc. The program crates/benches and bench/trie_peer.rs run in
 turn, ROUNDS times (5 if left out) over each number of prefixes (3,000, 30,000 and 500,000 if left out; a small number is
 run more often). The table has a row for each call, with the least of the times in nanoseconds and the ratio: on the clock,
 and of the processor, for the user and the system. `together` is a look-up where 64 are asked for at once, beside the plain
@@ -16,24 +16,24 @@ import tempfile
 import figures
 
 ROOT = pathlib.Path(__file__).resolve().parent.parent
-CRATE = ROOT / "crates" / "trie_bench"
+CRATE = ROOT / "crates" / "benches"
 
 
 def build(folder):
-    """The paths of both programs; the one in plain Rust is built in the folder."""
-    built = subprocess.run(["rt", "run"], cwd=CRATE, capture_output=True, text=True)
-    proved = CRATE / "out" / "trie_bench"
+    """The words that call both programs; the one in plain Rust is built in the folder."""
+    built = subprocess.run(["rt", "run", "--", "trie", "2000"], cwd=CRATE, capture_output=True, text=True)
+    proved = CRATE / "out" / "benches"
     if built.returncode != 0 or not proved.exists():
         sys.exit("bench/trie.py: the program was not built\n" + built.stdout[-2000:] + built.stderr[-2000:])
     plain = folder / "plain"
     source = ROOT / "bench" / "trie_peer.rs"
     subprocess.run(["rustc", "--edition", "2024", "-C", "opt-level=3", "-o", plain, source], check=True)
-    return proved, plain
+    return [proved, "trie"], [plain]
 
 
 def timed(program, prefixes):
     """The figures that a program prints, by name."""
-    run = subprocess.run([program, str(prefixes)], capture_output=True, text=True)
+    run = subprocess.run([*program, str(prefixes)], capture_output=True, text=True)
     if run.returncode != 0:
         sys.exit(f"bench/trie.py: {program} ended with status {run.returncode}")
     words = run.stderr.split()

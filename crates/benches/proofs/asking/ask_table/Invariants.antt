@@ -1,5 +1,5 @@
 use Rattle.std.proofs.Common.{◌≡◌}
-use Rattle.shared_bench.proofs.asking.ask_table.Given as goal
+use Rattle.benches.proofs.asking.ask_table.Given as goal
 
 abbrev pub invariant-loop-number : goal.invariant-loop-number
 invariant-loop-number g l = l.pass.table ≡ l.table

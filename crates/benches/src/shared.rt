@@ -1,14 +1,11 @@
 //! Times commands of the shared table beside those of a book under std's mutex. Each feed puts in a route, and then replaces it
-//! and looks it up, in turn. The arguments, all numbers: how many commands are made in all; 1 for the shared table, of 64 feeds,
-//! or 0 for the mutex; the threads, 1 to 64; and the commands of a batch. With fewer than four it runs every case. Times go to
-//! standard error.
-#![tactic(auto)]
+//! and looks it up, in turn. The numbers: how many commands are made in all; 1 for the shared table, of 64 feeds, or 0 for the
+//! mutex; the threads, 1 to 64; and the commands of a batch. With fewer than four it runs every case.
 
 ghost use Rattle.std.specs.Prelude.{◌≡◌, All, IfSome};
 
-mod asking;
-
-use asking::{Load, ask_book, ask_table};
+use crate::Numbers;
+use crate::asking::{Load, ask_book, ask_table};
 use rt_rib::Book;
 use rt_shared::{FeedPass, SharedRib};
 use std::alloc::Global;
@@ -16,7 +13,7 @@ use std::rt::Clock;
 use std::sync::{Mutex, Wait};
 use std::thread::Threads;
 use std::time::{Duration, Instant};
-use std::{env, io, thread};
+use std::{io, thread};
 
 /// How many commands are made in each case where no argument says so.
 const FEW: u64 = 20_000;
@@ -116,35 +113,31 @@ fn report<R: Threads + Wait + Clock + Eprint + Sync>(
     }
 }
 
-/// The commands in all, and the case that is asked for, if one is.
-fn wanted(rt: &HostRuntime) -> io::Result<(u64, Option<Case>)> {
-    let mut numbers = [FEW, 0, 0, 0];
-    for (at, word) in env::args(rt)?.skip(1).take(4).enumerate() {
-        if let Ok(number) = word.as_str().parse::<u64>() {
-            if let Some(place) = numbers.get_mut(at) {
-                *place = number;
-            }
-        }
-    }
+/// The case that the numbers ask for, if they do.
+fn asked(numbers: Numbers) -> Option<Case> {
     let [commands, kind, threads, batch] = numbers;
-    let case = match (u32::try_from(threads), u32::try_from(batch)) {
-        (Ok(threads), Ok(batch)) if 0 < threads && threads <= 64 && 0 < batch => Some(Case {
-            is_table: kind == 1,
-            threads,
-            commands,
-            batch,
-        }),
-        _ => None,
-    };
-    Ok((commands, case))
+    let (threads, batch) = (u32::try_from(threads).ok()?, u32::try_from(batch).ok()?);
+    if threads == 0 || threads > 64 || batch == 0 {
+        return None;
+    }
+    Some(Case {
+        is_table: kind == 1,
+        threads,
+        commands,
+        batch,
+    })
 }
 
-fn main(rt: HostRuntime) -> io::Result<()> {
-    let alloc: Global = rt.alloc();
-    let (commands, asked) = wanted(&rt)?;
-    if let Some(case) = asked {
-        return report(&rt, alloc, case);
+/// Runs the case that is asked for, or every case.
+pub(crate) fn time_table<R: Threads + Wait + Clock + Eprint + Sync>(
+    rt: &R,
+    alloc: Global,
+    numbers: Numbers,
+) -> io::Result<()> {
+    if let Some(case) = asked(numbers) {
+        return report(rt, alloc, case);
     }
+    let commands = if numbers[0] == 0 { FEW } else { numbers[0] };
     for threads in [1u32, 4, 16, 64] {
         for batch in [1u32, 16, 256] {
             for is_table in [false, true] {
@@ -154,7 +147,7 @@ fn main(rt: HostRuntime) -> io::Result<()> {
                     commands,
                     batch,
                 };
-                report(&rt, alloc, case)?;
+                report(rt, alloc, case)?;
             }
         }
     }

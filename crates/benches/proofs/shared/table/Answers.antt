@@ -1,8 +1,8 @@
 use denote.Param.Send.{sendable}
 use Rattle.std.proofs.Crossing.{sync}
 use Rattle.rt_shared.proofs.Promised.{pass_send, rib_sync}
-use Rattle.shared_bench.proofs.asking.Load.TheSendSync as load
-use Rattle.shared_bench.proofs.table.Goals as goal
+use Rattle.benches.proofs.asking.Load.TheSendSync as load
+use Rattle.benches.proofs.shared.table.Goals as goal
 
 pub map_vec-passes-requires-send-J : goal.map_vec-passes-requires-send-J
 map_vec-passes-requires-send-J g c κs within = search (pass_send, sendable) depth 60

@@ -1,16 +1,16 @@
-//! Times passages of the lock beside those of std's mutex. What is done inside is one increment. Its arguments, all numbers:
-//! how many passages are made in each case; the levels, or 0 for the mutex; and the threads, at most as many as places. With
-//! fewer than three it runs every case. Times go to standard error.
-#![tactic(auto)]
+//! Times passages of the lock beside those of std's mutex. What is done inside is one increment. The numbers: how many passages
+//! are made in each case; the levels, or 0 for the mutex; and the threads, at most as many as places. With fewer than three
+//! it runs every case.
 
 ghost use Rattle.std.specs.Prelude.{◌≡◌, ℕ, ◌+◌, ◌-◌, ◌*◌, ◌/◌, ◌<◌, ◌≤◌, All, vec_len, IfSome};
 
+use crate::Numbers;
 use std::alloc::Global;
 use std::rt::Clock;
 use std::sync::{Mutex, Wait};
 use std::thread::Threads;
 use std::time::{Duration, Instant};
-use std::{env, io, thread};
+use std::{io, thread};
 use ya_lock::{Kept, Pass, TreeLock};
 
 /// How many passages one thread makes alone where no argument says so.
@@ -169,42 +169,23 @@ fn report<R: Threads + Wait + Clock + Eprint + Sync>(
     }
 }
 
-/// What the arguments ask for.
-struct Asked {
-    passages: u64,
-    /// The levels and the threads of the one case that is asked for.
-    case: Option<(u64, u32)>,
-}
-
-fn wanted(rt: &HostRuntime) -> io::Result<Asked> {
-    let mut numbers = [FEW, 0, 0];
-    for (at, word) in env::args(rt)?.skip(1).take(3).enumerate() {
-        if let Ok(number) = word.as_str().parse::<u64>() {
-            if let Some(place) = numbers.get_mut(at) {
-                *place = number;
-            }
-        }
-    }
-    let [passages, levels, threads] = numbers;
-    let case = match u32::try_from(threads) {
-        Ok(threads) if threads > 0 => Some((levels, threads)),
-        _ => None,
-    };
-    Ok(Asked { passages, case })
-}
-
-fn main(rt: HostRuntime) -> io::Result<()> {
-    let alloc: Global = rt.alloc();
-    let Asked { passages, case } = wanted(&rt)?;
-    if let Some((levels, threads)) = case {
-        return report(&rt, alloc, levels, threads, passages);
+/// Runs the case that is asked for, or every case.
+pub(crate) fn time_lock<R: Threads + Wait + Clock + Eprint + Sync>(
+    rt: &R,
+    alloc: Global,
+    numbers: Numbers,
+) -> io::Result<()> {
+    let [passages, levels, threads, _] = numbers;
+    let passages = if passages == 0 { FEW } else { passages };
+    if let Ok(threads @ 1..) = u32::try_from(threads) {
+        return report(rt, alloc, levels, threads, passages);
     }
     for levels in 0..7 {
-        report(&rt, alloc, levels, 1, passages)?;
+        report(rt, alloc, levels, 1, passages)?;
     }
     for threads in [2u32, 4, 16, 64] {
-        report(&rt, alloc, 0, threads, passages)?;
-        report(&rt, alloc, 6, threads, passages)?;
+        report(rt, alloc, 0, threads, passages)?;
+        report(rt, alloc, 6, threads, passages)?;
     }
     Ok(())
 }

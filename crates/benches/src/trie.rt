@@ -1,17 +1,16 @@
 //! Times an insertion, a longest match, a walk that takes out one of a thousand, and a removal over many prefixes, of
-//! lengths as a real table has them. Its one argument is how many prefixes it draws; the times go to standard error, in
-//! nanoseconds for each call, and of the walk for each prefix: on the clock, and as `_cpu` of the processor, for the user
-//! and the system.
-#![tactic(auto)]
+//! lengths as a real table has them. The one number is how many prefixes it draws; the times are in nanoseconds for each call,
+//! and of the walk for each prefix: on the clock, and as `_cpu` of the processor, for the user and the system.
 
 ghost use Rattle.std.specs.Prelude.{false};
 
+use crate::Numbers;
 use rt_cidr::{Addr, Prefix};
 use rt_trie::{Sieve, Trie};
 use std::alloc::Global;
+use std::io;
 use std::rt::Clock;
 use std::time::{CpuClock, Duration, Instant};
-use std::{env, io};
 
 /// How many prefixes are drawn where no argument says so.
 const FEW: u32 = 2_000;
@@ -67,7 +66,7 @@ struct Stopwatch {
 }
 
 /// Nanoseconds for each call.
-#[derive(Drop, Clone, Copy)]
+#[derive(Clone, Copy, Drop)]
 struct Times {
     clock: u64,
     cpu: u64,
@@ -95,15 +94,6 @@ fn nanos(time: Duration) -> u64 {
     time.as_secs()
         .wrapping_mul(1_000_000_000)
         .wrapping_add(u64::from(time.subsec_nanos()))
-}
-
-fn count(rt: &HostRuntime) -> io::Result<u32> {
-    for word in env::args(rt)?.skip(1) {
-        if let Ok(n) = word.as_str().parse::<u32>() {
-            return Ok(n);
-        }
-    }
-    Ok(FEW)
 }
 
 /// A value for each prefix.
@@ -203,7 +193,16 @@ fn remove_all<R: Clock + CpuClock>(rt: &R, trie: &mut Values, n: u32) -> io::Res
     watch.per_call(rt, n)
 }
 
-fn run(rt: &HostRuntime, alloc: Global, n: u32) -> io::Result<()> {
+/// Times each call over as many prefixes as are asked for.
+pub(crate) fn time_trie<R: Clock + CpuClock + Eprint>(
+    rt: &R,
+    alloc: Global,
+    numbers: Numbers,
+) -> io::Result<()> {
+    let n = match u32::try_from(numbers[0]) {
+        Ok(n @ 1..) => n,
+        _ => FEW,
+    };
     let mut trie: Values = Trie::new(alloc);
     let insert = insert_all(rt, &mut trie, n)?;
     let (len, nodes) = (trie.len(), trie.nodes());
@@ -222,9 +221,4 @@ fn run(rt: &HostRuntime, alloc: Global, n: u32) -> io::Result<()> {
         insert.cpu, longest.cpu, together.cpu, retain.cpu, remove.cpu
     )?;
     eprintln!(rt; "prefixes {len} nodes {nodes} found {found} same {same} kept {kept} left {left}")
-}
-
-fn main(rt: HostRuntime) -> io::Result<()> {
-    let n = count(&rt)?;
-    run(&rt, rt.alloc(), n)
 }
