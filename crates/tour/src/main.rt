@@ -1,15 +1,5 @@
-//! One caller for each library of the repository, short enough to be copied, with a contract that says what it gives.
-//! Each file uses one crate and what that stands on; `main` prints what each caller gives.
+//! Prints what each caller of `walkthrough` gives.
 #![tactic(auto)]
-
-mod book;
-mod cover;
-mod diff;
-mod gate;
-mod lock;
-mod replay;
-mod shared;
-mod trie;
 
 use anyhow::Result;
 use rt_cidr::{Addr, Prefix};
@@ -19,6 +9,7 @@ use std::alloc::Global;
 use std::io::{self, Write};
 use std::sync::Wait;
 use std::thread::Threads;
+use walkthrough::{book, cover, diff, gate, lock, replay, shared, trie};
 
 /// A command that puts in a route.
 fn add(prefix: &[u8], pref: u32, hop: &[u8]) -> Result<Cmd> {
@@ -29,11 +20,18 @@ fn add(prefix: &[u8], pref: u32, hop: &[u8]) -> Result<Cmd> {
     })
 }
 
-/// Without threads: a prefix, a trie, a book and a schedule of the lock.
-fn tell_alone<W: Write>(alloc: Global, out: &mut W) -> Result<()> {
+/// The command that the tables here begin with.
+fn announce() -> Result<Cmd> {
+    add(b"10.0.0.0/8", 100, b"192.0.2.1")
+}
+
+fn tell_cover<W: Write>(out: &mut W) -> Result<()> {
     let covered = cover::covers_address(b"10.0.0.0/8", b"10.1.2.3")?;
     writeln!(out, "10.0.0.0/8 covers 10.1.2.3: {covered}")?;
+    Ok(())
+}
 
+fn tell_port<W: Write>(alloc: Global, out: &mut W) -> Result<()> {
     let wide = (Prefix::parse(b"10.0.0.0/8")?, 1);
     let narrow = (Prefix::parse(b"10.1.0.0/16")?, 2);
     let addr = Addr::parse(b"10.1.2.3")?;
@@ -41,21 +39,31 @@ fn tell_alone<W: Write>(alloc: Global, out: &mut W) -> Result<()> {
         prefix.write_to(out)?;
         writeln!(out, " is the longest, its port {port}")?;
     }
+    Ok(())
+}
 
-    let announce = add(b"10.0.0.0/8", 100, b"192.0.2.1")?;
-    let replies = book::two_feeds(alloc, announce, Cmd::Lookup { addr })?;
+fn tell_feeds<W: Write>(alloc: Global, out: &mut W) -> Result<()> {
+    let addr = Addr::parse(b"10.1.2.3")?;
+    let replies = book::two_feeds(alloc, announce()?, Cmd::Lookup { addr })?;
     if let (Reply::Added, Reply::Found(route)) = replies {
         let feed = route.feed;
         route.prefix.write_to(out)?;
         writeln!(out, " is found, a route of feed {feed}")?;
     }
+    Ok(())
+}
 
-    let mut changed = Book::new(alloc, 10);
+fn tell_difference<W: Write>(alloc: Global, out: &mut W) -> Result<()> {
+    let announce = announce()?;
     let before = Book::new(alloc, 10);
+    let mut changed = Book::new(alloc, 10);
     changed.apply(1, announce)?;
     let alike = diff::go_alike(&before, &changed);
     writeln!(out, "the route announced changes nothing: {alike}")?;
+    Ok(())
+}
 
+fn tell_schedules<W: Write>(alloc: Global, out: &mut W) -> Result<()> {
     let alone = replay::somebody_inside(alloc, 1, &[0, 0, 0, 0])?;
     let between = replay::somebody_inside(alloc, 1, &[0, 1, 0, 1])?;
     writeln!(
@@ -65,8 +73,7 @@ fn tell_alone<W: Write>(alloc: Global, out: &mut W) -> Result<()> {
     Ok(())
 }
 
-/// With a lock: a value lent to two threads, a shared table and a gate.
-fn tell_together<R: Threads + Wait + Sync, W: Write>(
+fn tell_counts<R: Threads + Wait + Sync, W: Write>(
     rt: &R,
     alloc: Global,
     out: &mut W,
@@ -74,12 +81,18 @@ fn tell_together<R: Threads + Wait + Sync, W: Write>(
     let tally = lock::count_both(rt, alloc, 1_000)?;
     let (first, second) = (tally.first, tally.second);
     writeln!(out, "place 0 counted {first}, place 1 {second}")?;
+    Ok(())
+}
 
+fn tell_shared<R: Wait, W: Write>(rt: &R, alloc: Global, out: &mut W) -> Result<()> {
     let first = [add(b"10.0.0.0/8", 20, b"192.0.2.1")?, Cmd::Dump];
     let second = [add(b"10.0.0.0/8", 10, b"192.0.2.2")?];
     let routes = shared::routes_of_both(rt, alloc, &first, &second)?;
     write_table(out, &routes)?;
+    Ok(())
+}
 
+fn tell_gate<R: Wait, W: Write>(rt: &R, alloc: Global, out: &mut W) -> Result<()> {
     let text = b"add 10.0.0.0/8 100 192.0.2.1\nlookup 10.1.2.3\n";
     let (report, book) = gate::run_alone(rt, alloc, text)?;
     write_report(out, 1, &report)?;
@@ -89,8 +102,15 @@ fn tell_together<R: Threads + Wait + Sync, W: Write>(
 }
 
 fn main(rt: HostRuntime) -> Result<()> {
+    let alloc = rt.alloc();
     let stdout = rt.stdout();
     let mut out = io::writer(&stdout);
-    tell_alone(rt.alloc(), &mut out)?;
-    tell_together(&rt, rt.alloc(), &mut out)
+    tell_cover(&mut out)?;
+    tell_port(alloc, &mut out)?;
+    tell_feeds(alloc, &mut out)?;
+    tell_difference(alloc, &mut out)?;
+    tell_schedules(alloc, &mut out)?;
+    tell_counts(&rt, alloc, &mut out)?;
+    tell_shared(&rt, alloc, &mut out)?;
+    tell_gate(&rt, alloc, &mut out)
 }
