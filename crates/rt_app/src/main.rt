@@ -1,15 +1,16 @@
 //! The program `yarib`: feed files in, one reply a command and the sorted table out.
 //!
 //! [`run_words`] is the program over its words. It has the command line read by `command_line`, reads the files, calls
-//! `rt_run` for what is asked, and turns each outcome into an exit status and a text on standard error. All of this is only
-//! tested; what is written of runs and replays is proved in `rt_run`. Where standard error is a terminal, `main` also starts
-//! a thread that says there how far a run has come ([`Line`]).
+//! `rt_run` for what is asked, and turns each outcome into an exit status and a text on standard error. Of these the
+//! prover knows those of a fault; all else here is only tested. What is written of runs and replays is proved in
+//! `rt_run`. Where standard error is a terminal, `main` also starts a thread that says there how far a run has come
+//! ([`Line`]).
 #![tactic(auto)]
 
 mod program;
 
 use program::Stop;
-pub use program::{Line, run_words, run_words_beside};
+pub use program::{run_words, run_words_beside};
 pub use rt_feed::RunFault;
 pub use rt_run::{
     AppFault, Compared, MOST_TEXTS, Taken, Tally, diff_texts, laws, lookup_all_texts, lookup_texts,
@@ -22,6 +23,7 @@ use std::rt::Files;
 use std::sync::Wait;
 use std::thread::Threads;
 use std::{env, thread};
+pub use terminal_line::Line;
 
 fn main(rt: HostRuntime) -> ExitCode {
     let alloc = rt.alloc();
@@ -40,8 +42,8 @@ fn main(rt: HostRuntime) -> ExitCode {
     ExitCode::from(status)
 }
 
-/// Carries out the words, while a thread says on the terminal how far a run has come. Where no thread can be made, nothing is
-/// said.
+/// Carries out the words, while a thread says on the terminal how far a run has come. Where no thread can be made,
+/// nothing is said.
 fn run_on_terminal<R, T, O, E>(
     rt: &R,
     words: &[String],
@@ -65,6 +67,3 @@ where
 fn read_words(rt: &HostRuntime, alloc: Global) -> io::Result<Vec<String>> {
     Ok(env::args(rt)?.collect(alloc)?)
 }
-
-#[cfg(test)]
-mod tests;

@@ -1,7 +1,6 @@
 //! The program over its words: reads the files and runs them.
 
 mod comparing;
-mod screen;
 mod showing;
 mod stops;
 mod telling;
@@ -12,9 +11,6 @@ ghost use Rattle.rt_rib.specs.declared.limits.TheConstants.{MOST_FEEDS};
 use command_line::{Refusal, ReplayRequest, Request, RunRequest};
 use rt_cidr::put;
 use rt_run::{AppFault, MOST_TEXTS, replay_text, run_texts};
-pub use screen::Line;
-use screen::Screen;
-pub(crate) use screen::Stage;
 use std::alloc::Global;
 use std::fs;
 use std::io::Write;
@@ -23,6 +19,7 @@ use std::sync::Wait;
 use std::thread::Threads;
 use stops::NO_MEMORY;
 pub(crate) use stops::Stop;
+use terminal_line::{Line, Screen, Stage};
 
 /// The program over its words, its name first: does what they ask, writes results to `out` and the text of a fault
 /// to `err`, and gives the exit status. A fault of `err` itself is dropped.
@@ -68,12 +65,7 @@ struct Program<'a, R, O, E> {
     screen: Screen<'a, R, E>,
 }
 
-impl<'a, R, O, E> Program<'a, R, O, E>
-where
-    R: Files + Threads + Wait + Sync + AllocGlobal,
-    O: Write,
-    E: Write,
-{
+impl<'a, R, O, E> Program<'a, R, O, E> {
     fn new(
         rt: &'a R,
         alloc: Global,
@@ -89,15 +81,22 @@ where
             screen,
         }
     }
+}
 
+impl<R, O, E> Program<'_, R, O, E>
+where
+    R: Files + Threads + Wait + Sync + AllocGlobal,
+    O: Write,
+    E: Write,
+{
     fn carry_out<'w>(&mut self, words: &'w [String]) -> Result<u8, Stop<'w>> {
         match command_line::read(self.alloc, words) {
             Ok(Request::Run(asked)) => self.run_files(&asked),
             Ok(Request::Lookup(asked)) => self.show_answers(&asked),
             Ok(Request::Table(asked)) => self.show_routes(&asked),
             Ok(Request::Diff(asked)) => self.compare(&asked),
-            Ok(Request::Replay(asked)) => self.show_replay(&asked),
-            Err(Refusal::Shown(text)) => self.show_text(text.as_bytes()),
+            Ok(Request::Replay(asked)) => show_replay(self.alloc, &asked, self.out),
+            Err(Refusal::Shown(text)) => show_text(text.as_bytes(), self.out),
             Err(Refusal::Misused(text)) => Err(Stop::Misused(text)),
             Err(Refusal::Memory) => Err(NO_MEMORY),
         }
@@ -109,19 +108,9 @@ where
         let mut out = self.screen.beside(texts.len(), self.out);
         Ok(run_texts(self.rt, self.alloc, texts, asked.limit, batch, &mut out)?)
     }
+}
 
-    fn show_replay<'w>(&mut self, asked: &ReplayRequest) -> Result<u8, Stop<'w>> {
-        let picks = asked.picks.as_slice();
-        Ok(replay_text(self.alloc, asked.levels, picks, self.out)?)
-    }
-
-    fn show_text<'w>(&mut self, text: &[u8]) -> Result<u8, Stop<'w>> {
-        match put(self.out, text) {
-            Ok(()) => Ok(0),
-            Err(_) => Err(Stop::Fault(AppFault::Write)),
-        }
-    }
-
+impl<R: Files + Wait + AllocGlobal, O, E: Write> Program<'_, R, O, E> {
     /// The texts of the feed files, of which none is read where there are more than a run takes.
     fn read_feeds<'w>(&mut self, names: &[&'w str]) -> Result<Vec<Vec<u8>>, Stop<'w>>
         ensures { IfOk result (λ texts. vec_len texts ≤ MOST_FEEDS) }
@@ -151,5 +140,17 @@ where
     }
 }
 
-#[cfg(test)]
-mod tests;
+fn show_replay<'w, O: Write>(
+    alloc: Global,
+    asked: &ReplayRequest,
+    out: &mut O,
+) -> Result<u8, Stop<'w>> {
+    Ok(replay_text(alloc, asked.levels, asked.picks.as_slice(), out)?)
+}
+
+fn show_text<'w, O: Write>(text: &[u8], out: &mut O) -> Result<u8, Stop<'w>> {
+    match put(out, text) {
+        Ok(()) => Ok(0),
+        Err(_) => Err(Stop::Fault(AppFault::Write)),
+    }
+}

@@ -16,7 +16,7 @@ use crate::output::{Output, write_output};
 use crate::runs::{Ran, run_all};
 use crate::tallies::{Taken, taken_of};
 use rt_cidr::Addr;
-use rt_diff::{By, Difference, difference_behind, first_difference};
+use rt_diff::{By, Comparison, Difference, first_difference};
 use rt_feed::{RunFault, write_difference};
 use rt_rib::Book;
 use std::alloc::Global;
@@ -136,10 +136,11 @@ pub(crate) fn write_differences<W: Write>(
     ensures ok { OnOk result (Appends (W.contents w.old) (W.contents w.new) (lines_of by (table_of old.now) (table_of new.now))) }
     ensures err { OnErr result (AppendsBeginning (W.contents w.old) (W.contents w.new) (lines_of by (table_of old.now) (table_of new.now))) }
 {
+    let mut tables = Comparison::new(old, new, by);
     let mut next = first;
     while let Some(difference) = next {
         write_difference(w, &difference)?;
-        next = difference_behind(old, new, by, difference.last);
+        next = tables.difference_behind(difference.last);
     }
     Ok(())
 }

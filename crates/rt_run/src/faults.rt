@@ -5,7 +5,7 @@ use thiserror::Error;
 use ya_core::ReplayFault;
 
 /// Why the program's work was not done.
-#[derive(Clone, Copy, Debug, PartialEq, Eq, Error)]
+#[derive(Clone, Copy, PartialEq, Eq, Debug, Error)]
 pub enum AppFault {
     /// The run was refused, and nothing was written.
     #[error("{0}")]

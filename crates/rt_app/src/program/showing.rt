@@ -49,6 +49,24 @@ where
         })
     }
 
+    /// Lists the routes, or only the best of each prefix.
+    pub(super) fn show_routes<'w>(&mut self, request: &TableRequest<'w>) -> Result<u8, Stop<'w>> {
+        let run = &request.run;
+        let texts = self.read_feeds(run.files.as_slice())?;
+        let taken = table_texts(
+            self.rt,
+            self.alloc,
+            texts.as_slice(),
+            run.limit,
+            run.batch as usize,
+            request.only_best,
+            &mut self.screen.beside(texts.len(), self.out),
+        )?;
+        Ok(tell_taken(&mut self.screen, run.files.as_slice(), &taken))
+    }
+}
+
+impl<R: Threads + Wait + Sync, O: Write, E: Write> Program<'_, R, O, E> {
     /// Writes the answers of the table that the texts leave: for each address all routes that cover it, or only the best.
     fn answer(
         &mut self,
@@ -66,22 +84,6 @@ where
         } else {
             lookup_texts(rt, alloc, texts, limit, batch, addresses, &mut out)
         }
-    }
-
-    /// Lists the routes, or only the best of each prefix.
-    pub(super) fn show_routes<'w>(&mut self, request: &TableRequest<'w>) -> Result<u8, Stop<'w>> {
-        let run = &request.run;
-        let texts = self.read_feeds(run.files.as_slice())?;
-        let taken = table_texts(
-            self.rt,
-            self.alloc,
-            texts.as_slice(),
-            run.limit,
-            run.batch as usize,
-            request.only_best,
-            &mut self.screen.beside(texts.len(), self.out),
-        )?;
-        Ok(tell_taken(&mut self.screen, run.files.as_slice(), &taken))
     }
 }
 

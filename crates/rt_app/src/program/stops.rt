@@ -1,6 +1,9 @@
 //! Why the program ends without having done what was asked: each reason with its exit status and its text. The statuses of
 //! a program that has done it are given by `rt_run`.
 
+ghost use Rattle.std.specs.Prelude.{◌≡◌};
+ghost use Rattle.rt_app.specs.inside.Stops.{fault_ending};
+
 use rt_cidr::put;
 use rt_feed::RunFault;
 use rt_run::AppFault;
@@ -84,21 +87,17 @@ impl<'a> Stop<'a> {
     }
 
     /// The exit status.
-    pub(crate) fn status(&self) -> u8 {
+    fn status(&self) -> u8 {
         match self {
             Stop::NotUtf8 | Stop::Misused(_) | Stop::TooMany => MISUSED,
             Stop::NothingAsked | Stop::NoAddress(_) => MISUSED,
             Stop::Unreadable(_) => UNREADABLE,
-            Stop::Fault(AppFault::Run(RunFault::NoText | RunFault::FeedCount)) => MISUSED,
-            Stop::Fault(AppFault::Run(RunFault::Memory)) => REFUSED,
-            Stop::Fault(AppFault::Replay(ReplayFault::Place | ReplayFault::Levels)) => MISUSED,
-            Stop::Fault(AppFault::Replay(ReplayFault::Memory)) => REFUSED,
-            Stop::Fault(AppFault::Write) => UNWRITTEN,
+            Stop::Fault(fault) => fault_ending(*fault).0,
         }
     }
 
     /// Writes the text for standard error.
-    pub(crate) fn tell<E: Write>(&self, err: &mut E) -> Result<(), io::Error> {
+    fn tell<E: Write>(&self, err: &mut E) -> Result<(), io::Error> {
         match self {
             Stop::NotUtf8 => put(err, b"yarib: arguments are not UTF-8\n"),
             Stop::Misused(text) => put(err, text.as_bytes()),
@@ -106,7 +105,7 @@ impl<'a> Stop<'a> {
             Stop::NothingAsked => put(err, NOTHING_ASKED),
             Stop::NoAddress(word) => tell_of(err, b"no address: ", word),
             Stop::Unreadable(name) => tell_of(err, b"cannot read ", name),
-            Stop::Fault(fault) => put(err, fault_text(*fault)),
+            Stop::Fault(fault) => put(err, fault_ending(*fault).1),
         }
     }
 }
@@ -121,14 +120,18 @@ fn tell_of<E: Write>(err: &mut E, what: &[u8], word: &str) -> Result<(), io::Err
     put(err, b"\n")
 }
 
-fn fault_text(fault: AppFault) -> &'static [u8] {
+/// The exit status of a fault, and its text.
+fn fault_ending(fault: AppFault) -> (u8, &'static [u8])
+    ensures status { result.0 ≡ (fault_ending fault).0 }
+    ensures text { result.1.now ≡ (fault_ending fault).1 }
+{
     match fault {
-        AppFault::Run(RunFault::NoText) => b"yarib: fault F1\n",
-        AppFault::Run(RunFault::FeedCount) => b"yarib: fault F2\n",
-        AppFault::Run(RunFault::Memory) => b"yarib: fault F3\n",
-        AppFault::Replay(ReplayFault::Place) => b"yarib: fault P1\n",
-        AppFault::Replay(ReplayFault::Levels) => b"yarib: fault P2\n",
-        AppFault::Replay(ReplayFault::Memory) => b"yarib: fault P3\n",
-        AppFault::Write => b"yarib: cannot write\n",
+        AppFault::Run(RunFault::NoText) => (MISUSED, b"yarib: fault F1\n"),
+        AppFault::Run(RunFault::FeedCount) => (MISUSED, b"yarib: fault F2\n"),
+        AppFault::Run(RunFault::Memory) => (REFUSED, b"yarib: fault F3\n"),
+        AppFault::Replay(ReplayFault::Place) => (MISUSED, b"yarib: fault P1\n"),
+        AppFault::Replay(ReplayFault::Levels) => (MISUSED, b"yarib: fault P2\n"),
+        AppFault::Replay(ReplayFault::Memory) => (REFUSED, b"yarib: fault P3\n"),
+        AppFault::Write => (UNWRITTEN, b"yarib: cannot write\n"),
     }
 }

@@ -1,15 +1,23 @@
-use Rattle.std.proofs.Common.{[], ◌++◌, subst}
+use Rattle.std.proofs.Common.{[], ◌++◌, ◌+◌, ◌^◌, ◌<◌, ◌≤◌, ◌∙◌, List, Option, None, Some, subst, arith}
 use Rattle.std.proofs.lemmas.Result.{err_from_is_err_and}
 use Rattle.std.specs.Io.KnownBytes.{Appends}
 use Rattle.std.proofs.KnownBytes.{Appends-nil}
 use Rattle.rt_cidr.proofs.Promised.{appends_after}
 use Rattle.rt_rib.specs.Book.{table_of}
 use Rattle.rt_feed.specs.DifferenceText.{difference_text}
+use Rattle.rt_rib.specs.declared.routes.Route.{Route}
+use Rattle.rt_diff.specs.declared.answers.By.{By}
+use Rattle.rt_diff.specs.declared.differences.Difference.{Difference}
+use Rattle.rt_diff.specs.Differences.{IsFirstDifference}
+use Rattle.rt_run.specs.inside.Comparisons.{addresses_from}
+use Rattle.rt_run.proofs.differences.write_differences.Given.{Over}
+use Rattle.rt_run.proofs.differences.write_differences.Goals.{After-difference_behind-next}
 use Rattle.rt_run.proofs.Comparing.{none_so_far, none_left, one_more, all_so_far, stops_there}
 use Rattle.rt_run.proofs.differences.write_differences.Goals as goal
 
 pub loop-next-init : goal.loop-next-init
 loop-next-init g c = record {
+  tables = c.new-tables.ensures;
   text = [];
   written = Appends-nil _;
   far = none_so_far c.args.by (table_of c.args.old.now) (table_of c.args.new.now) c.args.first c.requires;
@@ -23,16 +31,39 @@ returns-in_err-write_difference-clause-err g c =
     (stops_there c.args.by (table_of c.args.old.now) (table_of c.args.new.now) _ _ _ c.loop-next.invariant.text c.in-Some.difference
     (rw c.in-Some.is at far) c.loop-next.invariant.written c.in_err-write_difference.ensures.err)
 
+-- what comes behind a range that was written, by the two tables
+first_behind : (g : Over) (c : After-difference_behind-next g)
+    → IsFirstDifference c.args.by (table_of c.args.old.now) (table_of c.args.new.now) (record { 0 = c.in-Some.difference.last.0 + 1 })
+    c.difference_behind-next.result
+first_behind g c =
+    subst (λ t. IsFirstDifference t.by t.old_table t.new_table (record { 0 = c.in-Some.difference.last.0 + 1 }) c.difference_behind-next.result)
+    c.loop-next.invariant.tables c.difference_behind-next.ensures.first
+
 pub loop-next-preserved : goal.loop-next-preserved
 loop-next-preserved g c =
     let far = c.loop-next.invariant.far in
+    let behind = first_behind g c in
     record {
+      tables = c.difference_behind-next.ensures.kept ∙ c.loop-next.invariant.tables;
       text = c.loop-next.invariant.text ++ difference_text c.in-Some.difference;
       written = appends_after _ _ _ c.loop-next.invariant.text (difference_text c.in-Some.difference)
           c.loop-next.invariant.written c.in_ok-write_difference.ensures.ok;
       far = one_more c.args.by (table_of c.args.old.now) (table_of c.args.new.now) c.loop-next.invariant.text c.in-Some.difference
-          c.difference_behind-next.result (rw c.in-Some.is at far) c.difference_behind-next.ensures;
+          c.difference_behind-next.result (rw c.in-Some.is at far) behind;
     }
+
+-- fewer addresses are left behind a range
+fewer : (by : By) (old new : List Route) (d : Difference) (next : Option Difference) → d.first.0 ≤ d.last.0 → d.last.0 < 2 ^ 32
+    → IsFirstDifference by old new (record { 0 = d.last.0 + 1 }) next → addresses_from next < addresses_from (Some d)
+fewer by old new d None some fits first = omega arith
+fewer by old new d (Some e) some fits first = omega (arith, first.onward)
+
+pub loop-next-smaller : goal.loop-next-smaller
+loop-next-smaller g c =
+    let far = rw c.in-Some.is at c.loop-next.invariant.far in
+    let d = far.first.difference in
+    rw c.in-Some.is (fewer c.args.by (table_of c.args.old.now) (table_of c.args.new.now) c.in-Some.difference c.difference_behind-next.result
+    d.some d.fits (first_behind g c))
 
 pub returns-clause-ok : goal.returns-clause-ok
 returns-clause-ok g c =

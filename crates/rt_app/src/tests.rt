@@ -1,6 +1,0 @@
-//! The program over its words.
-
-mod compared;
-mod progress;
-mod shown;
-mod words;

@@ -1,0 +1,16 @@
+//! One line on a terminal that says how far a run has come. A thread of its own writes it each second
+//! ([`Line::keep`]), so that nothing is said of a run that takes less; it is erased, and not written again, before any
+//! other text comes to that terminal ([`Screen`]). All of this is only tested.
+//!
+//! ```
+//! let mut screen = Screen::new(rt, &line, &mut err);
+//! screen.set(Stage::Reading(0, 2));
+//! let mut out = screen.beside(2, &mut out);
+//! ```
+#![tactic(auto)]
+
+mod line;
+mod screen;
+
+pub use line::{Line, Stage};
+pub use screen::{Beside, Screen};

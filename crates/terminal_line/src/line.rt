@@ -1,0 +1,124 @@
+//! The line, and what it says.
+
+use itoa::Buffer;
+use rt_cidr::put;
+use std::io::{self, Write};
+use std::sync::{Mutex, Wait};
+use std::thread::Parker;
+use std::time::Duration;
+
+/// Erases the line: each of its texts is shorter.
+const BLANK: &[u8] = b"\r                                \r";
+
+/// How far a run has come.
+#[derive(Clone, Copy)]
+pub enum Stage {
+    /// So many files were read, of so many.
+    Reading(usize, usize),
+    /// So many feeds are run.
+    Running(usize),
+    /// The output is written.
+    Writing,
+}
+
+impl Stage {
+    fn tell<E: Write>(self, err: &mut E) -> Result<(), io::Error> {
+        match self {
+            Stage::Reading(read, files) => {
+                put_count(err, b"yarib: files read: ", read)?;
+                put_count(err, b" of ", files)
+            }
+            Stage::Running(feeds) => put_count(err, b"yarib: feeds running: ", feeds),
+            Stage::Writing => put(err, b"yarib: writing"),
+        }
+    }
+}
+
+fn put_count<E: Write>(err: &mut E, what: &[u8], count: usize) -> Result<(), io::Error> {
+    put(err, what)?;
+    put(err, Buffer::new().format(count).as_bytes())
+}
+
+/// What the line is to say, if anything, and whether it is there. A fault of the terminal is dropped.
+#[derive(Drop)]
+struct LineState {
+    stage: Option<Stage>,
+    is_shown: bool,
+    is_over: bool,
+}
+
+impl LineState {
+    fn set(&mut self, stage: Stage) {
+        self.stage = Some(stage);
+    }
+
+    /// Writes the line over what it said before; false where it is over.
+    fn write<E: Write>(&mut self, err: &mut E) -> bool {
+        if self.is_over {
+            return false;
+        }
+        self.erase(err);
+        if let Some(stage) = self.stage {
+            let _ = stage.tell(err);
+            self.is_shown = true;
+        }
+        true
+    }
+
+    /// Erases the line, which isn't written again.
+    fn end<E: Write>(&mut self, err: &mut E) {
+        self.erase(err);
+        self.is_over = true;
+    }
+
+    fn erase<E: Write>(&mut self, err: &mut E) {
+        if self.is_shown {
+            let _ = put(err, BLANK);
+            self.is_shown = false;
+        }
+    }
+}
+
+/// The line, which the run changes and another thread writes.
+#[derive(Drop)]
+pub struct Line {
+    /// Whether standard output goes to a terminal, too.
+    pub(crate) beside_output: bool,
+    now: Mutex<LineState>,
+    over: Parker,
+}
+
+impl Line {
+    /// A line that says nothing yet; whether standard output goes to a terminal, too.
+    pub fn new(beside_output: bool) -> Line {
+        Line {
+            beside_output,
+            now: Mutex::new(LineState {
+                stage: None,
+                is_shown: false,
+                is_over: false,
+            }),
+            over: Parker::new(),
+        }
+    }
+
+    /// Writes the line each second, until it is over.
+    pub fn keep<R: Wait, T: Print>(&self, rt: &R, terminal: &T) {
+        for _ in rt.forever() {
+            self.over.park_timeout(rt, Duration::from_secs(1));
+            if !self.now.lock(rt).write(&mut io::writer(terminal)) {
+                return;
+            }
+        }
+    }
+
+    pub(crate) fn set<R: Wait>(&self, rt: &R, stage: Stage) {
+        self.now.lock(rt).set(stage);
+    }
+
+    /// Erases the line, which isn't written again.
+    pub(crate) fn end<R: Wait, E: Write>(&self, rt: &R, err: &mut E) {
+        self.now.lock(rt).end(err);
+        self.over.unpark();
+    }
+}

@@ -1,0 +1,89 @@
+//! Both outputs of a run beside the line.
+
+use crate::line::{Line, Stage};
+use std::io::{self, Write};
+use std::sync::Wait;
+
+/// Standard error, and the line that may be on it.
+#[derive(Drop)]
+pub struct Screen<'a, R, E> {
+    rt: &'a R,
+    line: &'a Line,
+    err: &'a mut E,
+}
+
+impl<'a, R, E> Screen<'a, R, E> {
+    /// Standard error, with a line that another thread may write there.
+    pub fn new(rt: &'a R, line: &'a Line, err: &'a mut E) -> Screen<'a, R, E> {
+        Screen { rt, line, err }
+    }
+}
+
+impl<'a, R: Wait, E: Write> Screen<'a, R, E> {
+    /// From now on the line says this.
+    pub fn set(&mut self, stage: Stage) {
+        self.line.set(self.rt, stage);
+    }
+
+    /// Erases the line for good.
+    pub fn end(&mut self) {
+        self.line.end(self.rt, self.err);
+    }
+
+    /// So many feeds are to be run, and then written to `out`.
+    pub fn beside<'s, O: Write>(
+        &'s mut self,
+        feeds: usize,
+        out: &'s mut O,
+    ) -> Beside<'a, 's, R, O, E> {
+        self.set(Stage::Running(feeds));
+        Beside {
+            out,
+            screen: self,
+            has_begun: false,
+        }
+    }
+}
+
+impl<R: Wait, E: Write> Write for Screen<'_, R, E> {
+    fn write(&mut self, bytes: &[u8]) -> io::Result<usize> {
+        self.end();
+        self.err.write(bytes)
+    }
+
+    fn flush(&mut self) -> io::Result<()> {
+        self.err.flush()
+    }
+}
+
+/// Standard output beside the line. Its first bytes end the line where both go to a terminal, or else are told there.
+#[derive(Drop)]
+pub struct Beside<'a, 's, R, O, E> {
+    out: &'s mut O,
+    screen: &'s mut Screen<'a, R, E>,
+    has_begun: bool,
+}
+
+impl<R: Wait, O: Write, E: Write> Beside<'_, '_, R, O, E> {
+    fn begin(&mut self) {
+        if self.screen.line.beside_output {
+            self.screen.end();
+        } else {
+            self.screen.set(Stage::Writing);
+        }
+        self.has_begun = true;
+    }
+}
+
+impl<R: Wait, O: Write, E: Write> Write for Beside<'_, '_, R, O, E> {
+    fn write(&mut self, bytes: &[u8]) -> io::Result<usize> {
+        if !self.has_begun {
+            self.begin();
+        }
+        self.out.write(bytes)
+    }
+
+    fn flush(&mut self) -> io::Result<()> {
+        self.out.flush()
+    }
+}
