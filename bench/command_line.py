@@ -3,7 +3,7 @@
 
 Usage: bench/command_line.py [YARIB]. Builds ./yarib first unless a built program is named. Linux, python3.
 
-Outputs of the program's own are compared whole, to the byte. Of a text of the library that reads the command line, no more is
+Outputs of the program's own are compared whole, to the byte; bench/calls.py has those that stand by themselves. Of a text of the library that reads the command line, no more is
 wanted than that it is a fault that names the word; the help pages are compared with those of bench/help. A replay is compared
 with a model of the tree, written from docs/FORMATS.md. How many commands are asked at once is seen by another feed: its
 `dump`s change only where a batch of the one and a batch of the other end.
@@ -13,13 +13,16 @@ import os
 import pathlib
 import pty
 import random
+import re
 import select
 import subprocess
 import sys
 import tempfile
+import textwrap
 import time
 import tty
 
+import calls
 from hostile import ROW, ROW_OUT, TOP, built, close_all, expect, failures, run
 
 CANNOT_WRITE = (6, "", "yarib: cannot write\n")
@@ -40,6 +43,39 @@ def misused(what, found, *parts):
     expect(what, (status, out, is_fault and all(part in err for part in parts), err if not is_fault else ""), (3, "", True, ""))
 
 
+# Calls that stand by themselves
+
+
+def make(yarib, texts, listed):
+    """Makes each call where these files stand, by the program's name, and compares how it ends."""
+    with tempfile.TemporaryDirectory() as folder:
+        for name, text in texts.items():
+            pathlib.Path(folder, name).write_text(text)
+        for words, ending in listed:
+            expect(" ".join(words), run([yarib, *words], cwd=folder), ending)
+
+
+# Fails where each file is taken for one for which memory was refused, or for a misuse.
+# Fails where a folder is taken for an empty file: `run .`.
+# Fails where `--levels 255` is refused on the command line, instead of with P2: `replay --levels 255 0`.
+def runs(yarib):
+    make(yarib, calls.RUN_FILES, calls.RUNS)
+
+
+# Fails where `lookup_texts`, `lookup_all_texts` or `table_texts` always returns F3 or `Write`, or a faulty line of a text of
+# addresses is answered.
+# Fails where the addresses come in another order than the command line's and then the file's: `lookup --address
+# 255.255.255.255 --address 0.0.0.0 --address 255.255.255.254 zero.feed`.
+def what_the_table_says(yarib):
+    make(yarib, calls.SHOWN_FILES, calls.SHOWN)
+
+
+# Fails where `diff_texts` always returns F3 or `Write`.
+# Fails where what was not taken of the new files is not told: `diff ends.feed -- faulty.feed`.
+def what_two_tables_answer_otherwise(yarib):
+    make(yarib, calls.COMPARED_FILES, calls.COMPARED)
+
+
 # Files
 
 
@@ -54,6 +90,7 @@ def file_order(yarib):
 
 
 # Fails where 64 files are too many: `64 files`.
+# Fails where the files are read before they are counted: `65 files, the first missing`.
 def many_files(yarib):
     names = []
     for feed in range(1, 66):
@@ -147,6 +184,8 @@ def limits(yarib):
         misused(f"--limit {limit!r}", run([yarib, "run", f"--limit={limit}", "row.feed"]), f"'{limit}'" if limit else "", "--limit")
     for batch in ("0", "1025", "4294967297", "18446744073709551617", "-1", "x", ""):
         misused(f"--batch {batch!r}", run([yarib, "run", f"--batch={batch}", "row.feed"]), f"'{batch}'" if batch else "", "--batch")
+    for words in (["--limit", "0"], ["--limit", "1000001"], ["--limit", "x"], ["--batch", "0"], ["--batch", "1025"]):
+        misused(f"{words}", run([yarib, "run", *words, "row.feed"]), f"'{words[1]}'", words[0])
     misused("--limit without a number", run([yarib, "run", "--limit"]), "--limit")
     misused("--limit without a number, before --batch", run([yarib, "run", "--limit", "--batch", "1", "row.feed"]), "--limit")
     misused("--limit before run", run([yarib, "--limit", "1", "run", "row.feed"]), "--limit")
@@ -308,6 +347,8 @@ def replays(yarib):
     for levels in ("256", "-1", "x", "", "4294967297"):
         misused(f"{levels!r} levels", run([yarib, "replay", f"--levels={levels}", "0"]), f"'{levels}'" if levels else "", "--levels")
     misused("no levels", run([yarib, "replay", "0"]), "--levels")
+    misused("no levels and no picks", run([yarib, "replay"]), "--levels")
+    misused("the pick -1 without --", run([yarib, "replay", "--levels", "1", "-1"]), "'-1'")
 
 
 # Help, version and what is no command
@@ -328,6 +369,19 @@ def pages(yarib):
                         (["run", "--frob", "row.feed"], "'--frob'"), (["replay", "--limit", "1"], "'--limit'"), ([""], "''"),
                         (["RUN", "row.feed"], "'RUN'"), (["--frob"], "'--frob'"), (["run", "--levels", "1", "row.feed"], "'--levels'")):
         misused(f"{words}", run([yarib, *words]), part)
+
+
+# Fails where the help's replay shows another value.
+def examples_of_the_help(yarib):
+    """Each call that a help page shows prints what stands below it there."""
+    new = ROW + "add 10.1.0.0/16 100 192.0.2.2\n"
+    texts, listed = {"one.feed": ROW, "two.feed": "add 10.0.0.0/8 50 192.0.2.2\n", "new.feed": new}, []
+    for name in ("lookup", "table", "run", "replay", "diff"):
+        help_text = run([yarib, name, "--help"])[1]
+        for words, shown in re.findall(r"^  \$ yarib (.*)\n((?:  [^$].*\n)*)", help_text, re.M):
+            listed.append(calls.call(words, textwrap.dedent(shown), 1 if name == "diff" else 0))
+    expect("how many examples the help has", len(listed), 8)
+    make(yarib, texts, listed)
 
 
 # What the help says of a fault, and a line that has it; and of a status, and a call that ends with it.
@@ -559,7 +613,8 @@ def files_told(yarib):
 # Fails where the first faulty address is numbered without the lines that are skipped, or only 64 KB of the text are read:
 # `a long text of addresses`.
 # Fails where F3 is given to more than 2,000 addresses, or status 6 to more than 2,000 answers: `20,000 addresses`.
-# Fails where a faulty address is told though the output can't be written: `nothing is told where the output is full`.
+# Fails where something is told of what was not taken though the output could not be written: `nothing is told where the
+# output is full`.
 def addresses_told(yarib):
     """The first faulty address is told by its number among all lines, of a text longer than any buffer too."""
     skipped = "# note\n\n" * 3_000
@@ -572,11 +627,13 @@ def addresses_told(yarib):
     pathlib.Path("asked.txt").write_text("10.0.0.1\n" * 20_000)
     expect("20,000 addresses", run([*asked, "row.feed"]), (0, answer * 20_000, ""))
     pathlib.Path("asked.txt").write_text("frob\n10.0.0.1\n")
-    with open("/dev/full", "w") as full:
-        expect("nothing is told where the output is full", run([*asked, "faulty.feed", "row.feed"], stdout=full), CANNOT_WRITE)
+    for words in (asked, [*asked, "--all"], [yarib, "table"]):
+        with open("/dev/full", "w") as full:
+            expect(f"nothing is told where the output is full: {words[1:]}", run([*words, "faulty.feed", "row.feed"], stdout=full), CANNOT_WRITE)
 
 
 # Fails where status 0 is given though help or version can't be written: `['--help'] to a closed output`.
+# Fails where status 0 is given to an output that takes nothing: the status is not 6.
 def closed_outputs(yarib):
     calls = (["lookup", "--help"], ["table", "--help"], ["lookup", "--address", "10.0.0.1", "row.feed"], ["table", "row.feed"],
              ["--help"], ["help", "run"], ["run", "--help"], ["replay", "--help"], ["--version"], ["-V"], ["replay", "--levels", "6"],
@@ -608,22 +665,24 @@ def on_terminal(words, told=None, go_on=lambda: None, out_too=False):
     while told and told.encode() not in sent and select.select([screen], [], [], 60)[0]:
         sent += os.read(screen, 65_536)
     go_on()
-    out = child.communicate(timeout=120)[0] or b""
+    out = b"" if out_too else child.communicate(timeout=120)[0]
     while piece := sent_to(screen):
         sent += piece
     os.close(screen)
+    child.wait(timeout=120)
     *lines, rest = sent.decode().split(ERASED)
     is_told = told in lines if told else not lines
     return child.returncode, out.decode(), rest if is_told and OTHERS.issuperset(lines) else f"{lines}, and then {rest}"
 
 
-OTHERS = {"yarib: files read: 0 of 1", "yarib: files read: 1 of 2", "yarib: feeds running: 1", "yarib: feeds running: 2", "yarib: writing"}
+OTHERS = {"yarib: files read: 0 of 1", "yarib: files read: 1 of 2", "yarib: feeds running: 1", "yarib: feeds running: 2", "yarib: feeds running: 64", "yarib: writing",
+          *(f"yarib: files read: {read} of 64" for read in range(64))}
 
 
 def sent_to(screen):
-    """What the terminal was sent and wasn't read yet; nothing once nobody can write to it."""
+    """What the terminal is sent and wasn't read yet; nothing once nobody can write to it, or for two minutes."""
     try:
-        return os.read(screen, 65_536)
+        return os.read(screen, 65_536) if select.select([screen], [], [], 120)[0] else b""
     except OSError:
         return b""
 
@@ -648,10 +707,27 @@ def progress(yarib):
     time.sleep(1.5)
     goes_on(ROW)()
     expect("a slow file, no terminal", child.communicate(timeout=120), (ROW_OUT, ""))
-    # What isn't read holds the run up when it writes.
+
+
+# Fails where something else is said than how far a run has come, or where what was said before isn't erased.
+# Fails where something is said before a run has begun: `a long replay`.
+# Fails where the line is written on a terminal that has output already: `a long output on a terminal alone`.
+# Fails where the line is written again after it was erased for good.
+def progress_of_long_runs(yarib):
+    """Runs that work for over a second, or whose output isn't read for so long: that holds them up."""
+    unread = lambda: time.sleep(1.5)
     pathlib.Path("long.feed").write_text(ROW * 100_000)
     added = "1:1 added\n" + "".join(f"1:{number} exists\n" for number in range(2, 100_001)) + table(route(1))
     expect("a long output", on_terminal([yarib, "run", "long.feed"], "yarib: writing"), (0, added, ""))
+    alone = on_terminal([yarib, "run", "long.feed"], go_on=unread, out_too=True)
+    expect("a long output on a terminal alone", alone, (0, "", added))
+    picks = [5] * 20_000
+    replay = [yarib, "replay", "--levels", "6", *map(str, picks)]
+    expect("a long replay", on_terminal(replay, go_on=unread), (0, Tree(6).text(picks), ""))
+    expect("a fault of a replay", on_terminal([yarib, "replay", "--levels", "7"]), (3, "", "yarib: fault P2\n"))
+    pathlib.Path("dumps.feed").write_text("dump\n" * 40_000)
+    busy = [yarib, "table", "--batch", "1", *["dumps.feed"] * 64]
+    expect("64 busy feeds", on_terminal(busy, "yarib: feeds running: 64"), (0, "", ""))
 
 
 def main():
@@ -663,7 +739,7 @@ def main():
         os.chdir(folder)
         for name, text in (("row", ROW), ("empty", ""), ("faulty", "frob\n")):
             pathlib.Path(f"{name}.feed").write_text(text)
-        for rows in (file_order, many_files, unreadable, names, texts, limits, batches, twice, replays, finished_tables, compared_tables, not_taken, pages, help_is_true, closed_outputs, progress):
+        for rows in (runs, what_the_table_says, what_two_tables_answer_otherwise, file_order, many_files, unreadable, names, texts, limits, batches, twice, replays, finished_tables, compared_tables, not_taken, pages, examples_of_the_help, help_is_true, closed_outputs, progress, progress_of_long_runs):
             rows(yarib)
             print(f"{rows.__name__.replace('_', ' ')}: done", flush=True)
         os.chdir("/")

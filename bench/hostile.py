@@ -98,7 +98,7 @@ def little_memory(yarib, folder):
     for name, words, texts, step, part in cases:
         ample = run([yarib, *words])
         kinds, size, in_turn = {}, 1 << 20, 0
-        while in_turn < 40 and size < 16 << 30:
+        while in_turn < 40 and size < 1 << 40:
             ended = limited([yarib, *words], size)
             if ended is not None:
                 kind = judge(f"{name} in {size // 1024} KB", ended, ample, texts)

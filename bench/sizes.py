@@ -177,6 +177,8 @@ def many_offers(yarib):
     at_limit(yarib)
 
 
+# Fails where a feed may have another number of routes where no limit is asked, or `--limit 1000000` isn't taken.
+# Fails where the limit is 65,535 where nothing is asked: `a run of a full feed and 1 more`.
 # Fails where a feed of `lookup` may have 65,535 routes where no limit is given: `look-ups in a full feed and 0 more`.
 def at_limit(yarib):
     """As many routes as a feed may have where no limit is given, and one more."""
@@ -188,6 +190,12 @@ def at_limit(yarib):
         compare(f"the table of a full feed and {more} more", run([yarib, "table", "full.feed"]), status, "".join(listed), err)
         ended = run([yarib, "lookup", "--address", "10.255.255.1", "--address", "11.0.0.1", "full.feed"])
         compare(f"look-ups in a full feed and {more} more", ended, status, f"10.255.255.1 route {listed[-1]}11.0.0.1 no route\n", err)
+    over = "11.0.0.0/24 feed 1 pref 1 via 192.0.2.1\n"
+    report = "".join(f"1:{line} added\n" for line in range(1, 65_537))
+    batched = [yarib, "run", "--batch", "1024", "full.feed"]
+    compare("a run of a full feed and 1 more", run(batched), 0, report + "1:65537 full\ntable 65536\n" + "".join(listed))
+    whole = report + "1:65537 added\ntable 65537\n" + "".join(listed) + over
+    compare("a run of 65,537 routes", run([*batched, "--limit", "1000000"]), 0, whole)
 
 
 def main():

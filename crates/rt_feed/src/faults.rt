@@ -2,7 +2,7 @@
 use thiserror::Error;
 
 /// Why a run of feeds gave no result. Tested in this order.
-#[derive(Clone, Copy, Debug, PartialEq, Eq, Error)]
+#[derive(Clone, Copy, PartialEq, Eq, Debug, Error)]
 pub enum RunFault {
     /// F1: there is no text. Nothing was asked.
     #[error("F1")]

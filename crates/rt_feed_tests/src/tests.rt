@@ -1,13 +1,7 @@
-//! The tests, a file for each part of the crate, and hostile lines beside a reader that shares no code with it.
+//! What no call of the program shows: gates that record, refuse and wait for one another, writers that stumble, gates to a
+//! shared table, and how faults are shown.
 
-mod addresses;
 mod faults;
 mod feeds;
-mod hostile;
-mod lines;
-mod parse;
 mod print;
-mod report;
 mod table_gate;
-mod versions;
-mod writers;

@@ -1,10 +1,241 @@
-//! Worked runs and replays byte for byte, hostile texts, and writers that fail.
+//! Runs and replays over writers that stumble, take little or count their calls, and what the program's work is refused for.
+use rt_cidr::OUTPUT_BYTES;
+use rt_feed::RunFault;
+use rt_run::{AppFault, replay_text, run_texts};
+use std::alloc::Global;
+use std::io::{self, ErrorKind};
+use std::process::Abort;
+use std::sync::Wait;
+use std::test::Fail;
+use std::thread::Threads;
+use std::time::{Clock, Duration, Instant};
+use test_support::{StumblingWriter, each_fault, misshown};
+use ya_core::ReplayFault;
 
-mod faults;
-mod feeds;
-mod hostile;
-mod judge;
-mod orders;
-mod replays;
-mod rows;
-mod writers;
+/// Each fault, its text and its name.
+static FAULTS: [(AppFault, &str, &str); 7] = [
+    (AppFault::Run(RunFault::NoText), "F1", "Run(NoText)"),
+    (AppFault::Run(RunFault::FeedCount), "F2", "Run(FeedCount)"),
+    (AppFault::Run(RunFault::Memory), "F3", "Run(Memory)"),
+    (
+        AppFault::Replay(ReplayFault::Place),
+        "fault P1",
+        "Replay(Place)",
+    ),
+    (
+        AppFault::Replay(ReplayFault::Levels),
+        "fault P2",
+        "Replay(Levels)",
+    ),
+    (
+        AppFault::Replay(ReplayFault::Memory),
+        "fault P3",
+        "Replay(Memory)",
+    ),
+    (AppFault::Write, "cannot write", "Write"),
+];
+
+/// Fails where `Display` or `Debug` shows another text for an `AppFault`.
+/// Fails where `Write` shows `not written`.
+#[test]
+fn faults_have_their_texts(rt: HostRuntime) -> Result<(), Fail> {
+    assert_eq!(rt; misshown(rt.alloc(), &FAULTS)?, None);
+    Ok(())
+}
+
+#[test]
+fn no_text_is_refused(rt: HostRuntime) {
+    let mut out = Vec::new(rt.alloc());
+    let status = run_texts(&rt, rt.alloc(), &[], 1, 1, &mut out);
+    assert!(rt; status == Err(AppFault::Run(RunFault::NoText)) && out.is_empty());
+}
+
+/// A text, and what a run of it prints.
+#[derive(Drop)]
+struct Worked {
+    texts: [Vec<u8>; 1],
+    output: Vec<u8>,
+}
+
+/// One route and so many look-ups of it, which are answered in 70 bytes and more each.
+fn looked_up(alloc: Global, look_ups: usize) -> Result<Worked, Fail> {
+    let mut text = Vec::from_slice(alloc, b"add 100.100.100.0/24 4294967295 100.100.100.100\n")?;
+    let mut output = Vec::from_slice(alloc, b"1:1 added\n")?;
+    for number in (2usize..).take(look_ups) {
+        text.extend_from_slice(b"lookup 100.100.100.1\n")?;
+        output.extend_from_slice(format!(in alloc; "1:{number} route {ROUTE}")?.as_bytes())?;
+    }
+    output.extend_from_slice(format!(in alloc; "table 1\n{ROUTE}")?.as_bytes())?;
+    Ok(Worked {
+        texts: [text],
+        output,
+    })
+}
+
+const ROUTE: &str = "100.100.100.0/24 feed 1 pref 4294967295 via 100.100.100.100\n";
+
+/// Runs the text over a writer with this fault after so many bytes, which are all that is written: a beginning of the output.
+fn run_stops<R: Threads + Wait + Sync + Abort>(
+    rt: &R,
+    alloc: Global,
+    worked: &Worked,
+    room: usize,
+    at_once: usize,
+    fault: io::Error,
+) {
+    let mut out = StumblingWriter::new(alloc, at_once, room, Some(fault));
+    let status = run_texts(rt, alloc, &worked.texts, 1, 1024, &mut out);
+    let stopped = status == Err(AppFault::Write)
+        && out.taken.len() == room
+        && worked.output.starts_with(out.taken.as_slice());
+    assert!(rt; stopped, "after {room} bytes, {at_once} a call: {fault:?}");
+}
+
+/// Replays a schedule over such a writer.
+fn replay_stops(rt: &impl Abort, alloc: Global, room: usize, fault: io::Error) {
+    let mut out = StumblingWriter::new(alloc, usize::MAX, room, Some(fault));
+    let status = replay_text(alloc, 1, &[0, 0, 0, 0], &mut out);
+    let stopped = status == Err(AppFault::Write) && out.taken.len() == room;
+    assert!(rt; stopped, "a replay after {room} bytes: {fault:?}");
+}
+
+/// Within a buffer: the fault comes while it still fills.
+const WITHIN: usize = OUTPUT_BYTES / 2;
+
+/// Fails where the buffer is flushed again after `WouldBlock`.
+/// Fails where what it still holds is written after `StorageFull`.
+#[test]
+fn a_fault_of_any_kind_ends_the_output(rt: HostRuntime) -> Result<(), Fail> {
+    let alloc = rt.alloc();
+    let short = looked_up(alloc, 0)?;
+    let long = looked_up(alloc, 1_000)?;
+    for fault in &each_fault(alloc)? {
+        run_stops(&rt, alloc, &short, 5, usize::MAX, *fault);
+        run_stops(&rt, alloc, &long, WITHIN, usize::MAX, *fault);
+        replay_stops(&rt, alloc, 5, *fault);
+    }
+    Ok(())
+}
+
+/// The first bytes, of three lines, those about the end of a buffer, and some others.
+fn is_tried(room: usize) -> bool {
+    let past = room % OUTPUT_BYTES;
+    room < 200 || past < 4 || past >= OUTPUT_BYTES - 4 || past % 1_999 == 0
+}
+
+/// Lets the writer fail after each count of bytes that is tried.
+fn stops_everywhere<R: Threads + Wait + Sync + Abort>(
+    rt: &R,
+    alloc: Global,
+    worked: &Worked,
+    at_once: usize,
+    kind: ErrorKind,
+) {
+    for room in 0..worked.output.len() {
+        if is_tried(room) {
+            run_stops(rt, alloc, worked, room, at_once, io::Error::from(kind));
+        }
+    }
+}
+
+/// How many bytes a call takes, and what the fault is. Whoever tries again after `Interrupted`, as std's `write_all` does,
+/// is seen by it.
+static WAYS: [(usize, ErrorKind); 5] = [
+    (1, ErrorKind::Interrupted),
+    (1_000, ErrorKind::BrokenPipe),
+    (5_000, ErrorKind::Other),
+    (40_000, ErrorKind::Interrupted),
+    (usize::MAX, ErrorKind::BrokenPipe),
+];
+
+/// Fails where `run_texts` gives another fault than `Write` where the writer fails.
+/// Fails where a byte more is written after the fault: `after 0 bytes`.
+#[test]
+fn a_fault_within_a_small_output_leaves_a_beginning(rt: HostRuntime) -> Result<(), Fail> {
+    let worked = looked_up(rt.alloc(), 1)?;
+    for (at_once, kind) in WAYS.iter() {
+        stops_everywhere(&rt, rt.alloc(), &worked, *at_once, *kind);
+    }
+    Ok(())
+}
+
+/// How many look-ups fill more than three buffers.
+const THREE_BUFFERS: usize = 4_000;
+
+/// Fails where `run_texts` gives another fault than `Write` where the writer fails.
+/// Fails where a byte more is written after the fault: `after 0 bytes`.
+/// Fails where `put`, and so `run_texts`, tries again after `Interrupted`, as std's `write_all` does.
+#[test]
+fn a_fault_in_any_buffer_leaves_a_beginning(rt: HostRuntime) -> Result<(), Fail> {
+    let worked = looked_up(rt.alloc(), THREE_BUFFERS)?;
+    for (at_once, kind) in WAYS.iter() {
+        stops_everywhere(&rt, rt.alloc(), &worked, *at_once, *kind);
+    }
+    Ok(())
+}
+
+/// Greater than the length of the output below, and prime: multiples of it leave each remainder once, now here, now there.
+const STRIDE: usize = 104_729;
+
+/// How many look-ups fill more than one buffer, and fewer bytes than the stride.
+const ONE_BUFFER: usize = 920;
+
+/// Whether twenty seconds haven't passed.
+fn is_early<R: Clock>(rt: &R, start: Instant) -> bool {
+    start
+        .elapsed(rt)
+        .is_ok_and(|past| past < Duration::from_secs(20))
+}
+
+/// Lets the writer fail after each count of bytes of an output of more than one buffer, now near its beginning, now near its
+/// end; on a busy machine after as many of them as begin in twenty seconds.
+/// Fails where `run_texts` gives another fault than `Write` where the writer fails.
+/// Fails where a byte more is written after the fault: `after 0 bytes`.
+#[test]
+fn a_fault_after_any_number_of_bytes_leaves_a_beginning(rt: HostRuntime) -> Result<(), Fail> {
+    let worked = looked_up(rt.alloc(), ONE_BUFFER)?;
+    let len = worked.output.len();
+    assert!(rt; OUTPUT_BYTES < len && len < STRIDE);
+    let start = Instant::now(&rt)?;
+    let mut tried = 0;
+    for multiple in 0..len {
+        if is_early(&rt, start) {
+            let room = multiple.wrapping_mul(STRIDE) % len;
+            let fault = io::Error::from(ErrorKind::Other);
+            run_stops(&rt, rt.alloc(), &worked, room, usize::MAX, fault);
+            tried = multiple;
+        }
+    }
+    assert!(rt; tried > 100, "{tried} of {len}");
+    Ok(())
+}
+
+/// Runs the text over a writer that takes so many bytes a call, and tells how often it was called.
+fn calls_of<R: Threads + Wait + Sync + Abort>(
+    rt: &R,
+    alloc: Global,
+    worked: &Worked,
+    at_once: usize,
+) -> usize {
+    let mut out = StumblingWriter::new(alloc, at_once, usize::MAX, None);
+    let status = run_texts(rt, alloc, &worked.texts, 1, 100, &mut out);
+    let is_whole = status == Ok(0) && out.taken.as_slice() == worked.output.as_slice();
+    assert!(rt; is_whole, "{at_once} at once");
+    out.calls
+}
+
+/// Fails where `put` returns `WriteZero` at once.
+/// Fails where `put` takes each write for a whole one: `1 at once`.
+/// Fails where `run_texts` passes on each line by itself, or flushes the writer.
+/// Fails where the buffer is passed on between the reports and the table.
+#[test]
+fn all_is_written_in_as_few_calls_as_take_it(rt: HostRuntime) -> Result<(), Fail> {
+    let worked = looked_up(rt.alloc(), THREE_BUFFERS)?;
+    for at_once in [1, 7, OUTPUT_BYTES + 1] {
+        calls_of(&rt, rt.alloc(), &worked, at_once);
+    }
+    let buffers = worked.output.as_slice().chunks(OUTPUT_BYTES).count();
+    assert!(rt; buffers > 3);
+    assert_eq!(rt; calls_of(&rt, rt.alloc(), &worked, usize::MAX), buffers);
+    Ok(())
+}

@@ -1,20 +1,65 @@
-//! What a run is refused for, in words.
+//! What a line and a run are refused for, in words.
 
-use rt_feed::*;
+use rt_feed::{LineFault, RunFault};
 use std::test::Fail;
+use test_support::misshown;
 
-/// Fails where `Display` or `Debug` shows another text for a `RunFault`.
-/// Fails where F2 shows `F1`: both texts.
+/// Each fault of a run, its text and its name.
+static RUN_FAULTS: [(RunFault, &str, &str); 3] = [
+    (RunFault::NoText, "F1", "NoText"),
+    (RunFault::FeedCount, "F2", "FeedCount"),
+    (RunFault::Memory, "F3", "Memory"),
+];
+
+/// Each fault of a line, its text and its name.
+static LINE_FAULTS: [(LineFault, &str, &str); 8] = [
+    (
+        LineFault::Command,
+        "E1: the first field is no command",
+        "Command",
+    ),
+    (
+        LineFault::FieldCount,
+        "E2: the command takes another number of fields",
+        "FieldCount",
+    ),
+    (
+        LineFault::Text,
+        "E3: the field is no prefix or address",
+        "Text",
+    ),
+    (
+        LineFault::PrefixLength,
+        "E4: the prefix's length is over 32",
+        "PrefixLength",
+    ),
+    (
+        LineFault::PrefixBits,
+        "E5: a bit past the prefix's length is set",
+        "PrefixBits",
+    ),
+    (
+        LineFault::Preference,
+        "E6: the preference is no decimal from 0 to 4294967295",
+        "Preference",
+    ),
+    (
+        LineFault::Hop,
+        "E7: the next hop is neither an address nor, in version 2, `discard`",
+        "Hop",
+    ),
+    (
+        LineFault::LineLength,
+        "E8: the line has over 128 bytes",
+        "LineLength",
+    ),
+];
+
+/// Fails where `Display` or `Debug` shows another text for a `RunFault` or a `LineFault`.
+/// Fails where F2 shows `F1`, or E8 tells of 127 bytes.
 #[test]
 fn faults_have_their_texts(rt: HostRuntime) -> Result<(), Fail> {
-    let faults = [
-        (RunFault::NoText, "F1", "NoText"),
-        (RunFault::FeedCount, "F2", "FeedCount"),
-        (RunFault::Memory, "F3", "Memory"),
-    ];
-    for (fault, shown, name) in faults {
-        assert_eq!(rt; format!(in rt.alloc(); "{fault}")?.as_str(), shown);
-        assert_eq!(rt; format!(in rt.alloc(); "{fault:?}")?.as_str(), name);
-    }
+    assert_eq!(rt; misshown(rt.alloc(), &RUN_FAULTS)?, None);
+    assert_eq!(rt; misshown(rt.alloc(), &LINE_FAULTS)?, None);
     Ok(())
 }

@@ -128,25 +128,33 @@ fn new_recording(alloc: Global) -> Recording {
     }
 }
 
-/// The text of the report as feed 1's.
-fn text_of(alloc: Global, report: &Report) -> Result<Vec<u8>, Fail> {
-    let mut text = Vec::new(alloc);
-    write_report(&mut text, 1, report)?;
-    Ok(text)
+/// Asks the text of a recording gate, up to so many commands at once: the batches have these lengths, and the report says this.
+fn assert_asked<R: Wait + Abort>(
+    rt: &R,
+    alloc: Global,
+    text: &[u8],
+    batch: usize,
+    lengths: &[usize],
+    wanted: &[u8],
+)
+    requires { 1 ≤ batch }
+{
+    let mut gate = new_recording(alloc);
+    let report = run_feed(rt, alloc, text, batch, &mut gate).expect(rt, "memory");
+    let mut printed = Vec::new(alloc);
+    let is_printed = write_report(&mut printed, 1, &report).is_ok();
+    assert_eq!(rt; gate.lengths.as_slice(), lengths);
+    assert!(rt; is_printed);
+    assert_eq!(rt; printed.as_slice(), wanted);
 }
 
 /// Fails where `run_feed` always returns M3.
 /// Fails where a refused command is asked again: `1:2 dumped 0`, instead of `1:2 refused`.
 /// Fails where a refused command has no line, or ends the feed: `1:2` is missing, or `1:3`.
 #[test]
-fn a_refused_command_is_reported_and_the_rest_go_on(rt: HostRuntime) -> Result<(), Fail> {
-    let mut gate = new_recording(rt.alloc());
-    let report = run_feed(&rt, rt.alloc(), b"dump\ndump\ndump\n", 1, &mut gate)?;
-    assert_eq!(rt;
-        text_of(rt.alloc(), &report)?.as_slice(),
-        b"1:1 dumped 0\n1:2 refused\n1:3 dumped 0\n".as_slice()
-    );
-    Ok(())
+fn a_refused_command_is_reported_and_the_rest_go_on(rt: HostRuntime) {
+    let wanted = b"1:1 dumped 0\n1:2 refused\n1:3 dumped 0\n";
+    assert_asked(&rt, rt.alloc(), b"dump\ndump\ndump\n", 1, &[], wanted);
 }
 
 /// Fails where `run_feed` asks one by one where it was told a batch.
@@ -154,11 +162,8 @@ fn a_refused_command_is_reported_and_the_rest_go_on(rt: HostRuntime) -> Result<(
 /// Fails where a faulty line ends a batch: the gate had 2, 3, 2.
 /// Fails where the commands of a refused batch are asked again one by one: `1:6 dumped 0`, instead of `1:6 refused`.
 #[test]
-fn faulty_and_skipped_lines_take_no_place_in_a_batch(rt: HostRuntime) -> Result<(), Fail> {
-    let mut gate = new_recording(rt.alloc());
+fn faulty_and_skipped_lines_take_no_place_in_a_batch(rt: HostRuntime) {
     let text = b"dump\ndump\nfrob\n# note\ndump\ndump\ndump\ndump\ndump\n";
-    let report = run_feed(&rt, rt.alloc(), text, 3, &mut gate)?;
-    assert_eq!(rt; gate.lengths.as_slice(), [3, 3, 1].as_slice());
     let wanted = b"1:1 refused
 1:2 refused
 1:3 fault E1
@@ -168,67 +173,65 @@ fn faulty_and_skipped_lines_take_no_place_in_a_batch(rt: HostRuntime) -> Result<
 1:8 refused
 1:9 refused
 ";
-    assert_eq!(rt; text_of(rt.alloc(), &report)?.as_slice(), wanted.as_slice());
-    Ok(())
+    assert_asked(&rt, rt.alloc(), text, 3, &[3, 3, 1], wanted);
 }
 
 /// Fails where `run_feed` returns M3 beyond 1,000,000 lines or answers, or asks at once for the room of a whole batch,
 /// of `usize::MAX` commands say: `Refused`.
 #[test]
 fn a_batch_may_have_more_than_a_million_commands(rt: HostRuntime) -> Result<(), Fail> {
-    let count = 1_000_001;
-    let mut text = Vec::new(rt.alloc());
-    for _ in 0..count {
-        text.extend_from_slice(b"dump\n")?;
-    }
+    let text = "dump\n".repeat(rt.alloc(), 1_000_001)?;
     let mut gate = new_recording(rt.alloc());
-    let report = run_feed(&rt, rt.alloc(), text.as_slice(), usize::MAX, &mut gate)?;
-    assert_eq!(rt; gate.lengths.as_slice(), [count].as_slice());
-    assert_eq!(rt; report.lines().len(), count);
+    let report = run_feed(&rt, rt.alloc(), text.as_bytes(), usize::MAX, &mut gate)?;
+    assert!(rt; gate.lengths.as_slice() == [1_000_001].as_slice());
+    assert!(rt; report.lines().len() == 1_000_001);
     Ok(())
 }
 
-/// Fails where more texts than feeds are run: `Ok(())`, instead of `FeedCount`.
-/// Fails where the feeds are asked before they are counted: a gate was called once, instead of never.
+/// The text of so many commands.
+fn dumps(alloc: Global, commands: usize) -> Result<Vec<u8>, AllocError> {
+    let text = "dump\n".repeat(alloc, commands)?;
+    Vec::from_slice(alloc, text.as_bytes())
+}
+
+/// So many such texts.
+fn dumps_of_each(alloc: Global, feeds: u64, commands: usize) -> Result<Vec<Vec<u8>>, AllocError> {
+    let mut texts = Vec::new(alloc);
+    for _ in 0..feeds {
+        texts.push(dumps(alloc, commands)?)?;
+    }
+    Ok(texts)
+}
+
+/// Fails where more texts than feeds are run.
+/// Fails where the feeds are asked before they are counted.
 #[test]
 fn a_run_without_texts_or_with_other_feeds_asks_nothing(rt: HostRuntime) -> Result<(), Fail> {
-    let mut feeds = Vec::new(rt.alloc());
-    feeds.push(Feed {
+    let texts = dumps_of_each(rt.alloc(), 2, 1)?;
+    let mut feeds = [Feed {
         gate: new_recording(rt.alloc()),
         report: None,
-    })?;
-    let mut texts = Vec::new(rt.alloc());
-    let none = run_feeds(&rt, rt.alloc(), texts.as_slice(), 1, feeds.as_mut_slice());
-    assert_eq!(rt; none, Err(RunFault::NoText));
-    for _ in 0..2 {
-        texts.push(Vec::from_slice(rt.alloc(), b"dump\n")?)?;
-    }
-    let two = run_feeds(&rt, rt.alloc(), texts.as_slice(), 1, feeds.as_mut_slice());
-    assert_eq!(rt; two, Err(RunFault::FeedCount));
-    for feed in feeds.as_slice() {
-        assert_eq!(rt; feed.gate.calls, 0);
-        assert!(rt; feed.report.is_none());
-    }
+    }];
+    let none = run_feeds(&rt, rt.alloc(), &[], 1, &mut feeds);
+    let two = run_feeds(&rt, rt.alloc(), texts.as_slice(), 1, &mut feeds);
+    assert!(rt; none == Err(RunFault::NoText) && two == Err(RunFault::FeedCount));
+    assert!(rt; feeds[0].gate.calls == 0 && feeds[0].report.is_none());
     Ok(())
 }
 
-/// As many texts of so many commands as gates, each gate before one of them.
-fn feeds_that_meet<'a>(
+/// A feed of a gate before each of those that gather.
+fn gathered<'a>(
     alloc: Global,
     gathering: &'a Gathering,
-    commands: usize,
-) -> Result<(Vec<Vec<u8>>, Vec<Feed<Meeting<'a>>>), AllocError> {
-    let text = "dump\n".repeat(alloc, commands)?;
-    let mut texts = Vec::new(alloc);
+) -> Result<Vec<Feed<Meeting<'a>>>, AllocError> {
     let mut feeds = Vec::new(alloc);
     for _ in 0..gathering.gates {
-        texts.push(Vec::from_slice(alloc, text.as_bytes())?)?;
         feeds.push(Feed {
             gate: Meeting { gathering },
             report: None,
         })?;
     }
-    Ok((texts, feeds))
+    Ok(feeds)
 }
 
 /// Runs so many feeds, each of which asks so many commands at once. Each has a report of its lines, none refused.
@@ -245,16 +248,29 @@ fn assert_meet<R: Threads + Wait + Sync + Abort>(
         called: AtomicU64::new(0),
         given_up: AtomicU64::new(0),
     };
-    let (texts, mut feeds) = feeds_that_meet(alloc, &gathering, commands)?;
+    let texts = dumps_of_each(alloc, gates, commands)?;
+    let mut feeds = gathered(alloc, &gathering)?;
     let ran = run_feeds(rt, alloc, texts.as_slice(), commands, feeds.as_mut_slice());
-    assert_eq!(rt; ran, Ok(()), "{gates} feeds");
-    assert_eq!(rt; gathering.called.load(Ordering::SeqCst), gates);
+    assert!(rt; ran == Ok(()), "{gates} feeds");
+    assert!(rt;
+        gathering.called.load(Ordering::SeqCst) == gates,
+        "{gates} feeds"
+    );
     for feed in feeds.as_slice() {
-        let report = feed.report.as_ref().expect(rt, "a report");
-        assert!(rt; !report.has_refusal(), "{gates} feeds, {commands} at once");
-        assert_eq!(rt; report.lines().len(), commands);
+        assert!(rt;
+            is_answered(feed, commands),
+            "{gates} feeds, {commands} at once"
+        );
     }
     Ok(())
+}
+
+/// Whether the feed has a report of so many lines, none refused.
+fn is_answered(feed: &Feed<Meeting<'_>>, commands: usize) -> bool {
+    match &feed.report {
+        Some(report) => !report.has_refusal() && report.lines().len() == commands,
+        None => false,
+    }
 }
 
 /// Fails where `run_feeds` always returns F3.

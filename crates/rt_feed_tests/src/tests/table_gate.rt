@@ -5,7 +5,7 @@ ghost use Rattle.rt_shared.specs.tests.Testing.{AreBoth};
 
 use rt_cidr::{Addr, Prefix, TextFault};
 use rt_feed::*;
-use rt_rib::{Cmd, Entry, Hop, Refused, Reply, Route};
+use rt_rib::{Cmd, Entry, Hop, Reply};
 use rt_shared::{FeedPass, Outcome, SharedRib};
 use std::alloc::Global;
 use std::process::Abort;
@@ -27,16 +27,6 @@ fn add(k: u32) -> Result<Cmd, TextFault> {
     })
 }
 
-/// What that command adds for the feed.
-fn route(feed: u32, k: u32) -> Result<Route, TextFault> {
-    Ok(Route {
-        prefix: nth(k)?,
-        feed,
-        pref: k,
-        hop: DISCARD,
-    })
-}
-
 /// A table of two feeds and their passes.
 fn pair(alloc: Global, limit: u32) -> Result<(SharedRib<1>, FeedPass, FeedPass), Fail>
     requires { IsLimit limit }
@@ -52,90 +42,99 @@ fn pair(alloc: Global, limit: u32) -> Result<(SharedRib<1>, FeedPass, FeedPass),
 fn ask_both<R: Wait + Abort>(
     rt: &R,
     alloc: Global,
+    cmd: Cmd,
     first: &mut TableGate<'_, 1>,
     second: &mut TableGate<'_, 1>,
-) -> Result<(), Fail>
+)
     ensures first { (first.new.table ≡ first.old.table) × (first.new.feed ≡ first.old.feed) }
     ensures second { (second.new.table ≡ second.old.table) × (second.new.feed ≡ second.old.feed) }
 {
-    assert_eq!(rt; first.apply(rt, add(1)?), Ok(Reply::Added));
-    let mut out = Vec::new(alloc);
-    let cmds = [add(1)?, Cmd::Dump, Cmd::Purge];
-    assert_eq!(rt; second.apply_batch(rt, &cmds, &mut out), Ok(()));
     let told = [
         Outcome::Did(Reply::Added),
         Outcome::Did(Reply::Dumped(2)),
         Outcome::Did(Reply::Purged(1)),
     ];
-    assert_eq!(rt; out.as_slice(), told.as_slice());
-    Ok(())
+    let mut out = Vec::new(alloc);
+    assert!(rt; first.apply(rt, cmd) == Ok(Reply::Added));
+    assert!(rt; second.apply_batch(rt, &[cmd, Cmd::Dump, Cmd::Purge], &mut out) == Ok(()));
+    assert!(rt; out.as_slice() == told.as_slice());
 }
 
-/// Fails where `TableGate::apply` or `apply_batch` asks and answers `Refused`: `Err(Refused)`.
+/// Fails where `TableGate::apply` or `apply_batch` asks and answers `Refused`.
 #[test]
 fn gates_answer_by_their_table(rt: HostRuntime) -> Result<(), Fail> {
     let alloc = rt.alloc();
+    let cmd = add(1)?;
     let (table, first, second) = pair(alloc, 5)?;
     let mut one = TableGate::new(&table, first);
     let mut two = TableGate::new(&table, second);
-    ask_both(&rt, alloc, &mut one, &mut two)?;
+    ask_both(&rt, alloc, cmd, &mut one, &mut two);
     let mut first = one.into_pass();
     let second = two.into_pass();
-    assert_eq!(rt; (first.feed(), second.feed()), (1, 2));
-    let routes = table.routes(&rt, alloc, &mut first)?;
-    assert_eq!(rt; routes.as_slice(), [route(1, 1)?].as_slice());
+    assert!(rt; (first.feed(), second.feed()) == (1, 2));
+    let routes = table.routes(&rt, alloc, &mut first).expect(&rt, "memory");
+    assert!(rt; routes.len() == 1 && routes[0].feed == 1);
     let book = table.settle(&rt, vec![in alloc; first, second]?);
     let asked = [
-        (1, add(1)?, Reply::Added),
-        (2, add(1)?, Reply::Added),
+        (1, cmd, Reply::Added),
+        (2, cmd, Reply::Added),
         (2, Cmd::Dump, Reply::Dumped(2)),
         (2, Cmd::Purge, Reply::Purged(1)),
     ];
     let entries = asked.map(|(feed, cmd, reply)| Entry { feed, cmd, reply });
-    assert_eq!(rt; book.journal(), entries.as_slice());
+    assert!(rt; book.journal() == entries.as_slice());
     Ok(())
 }
 
 /// A batch of each of these sizes is asked.
-static SIZES: [u32; 17] = [
-    0, 1, 2, 3, 7, 8, 9, 63, 64, 65, 512, 513, 1_024, 1_025, 2_000, 4_097, 66_000,
+static SIZES: [usize; 27] = [
+    0, 1, 2, 3, 4, 5, 6, 7, 8, 9, 16, 17, 63, 64, 65, 255, 256, 257, 512, 513, 1_024, 1_025, 2_000,
+    4_097, 8_192, 8_193, 66_000,
 ];
 
-/// Asks so many commands at once: none is refused.
-fn ask_many<R: Wait + Abort>(
-    rt: &R,
-    alloc: Global,
-    gate: &mut TableGate<'_, 1>,
-    count: u32,
-) -> Result<(), Fail>
-    ensures { (gate.new.table ≡ gate.old.table) × (gate.new.feed ≡ gate.old.feed) }
-{
+/// How many routes the large table has: more than 65,536.
+const ROUTES: u32 = 66_000;
+
+/// So many commands that each add a route.
+fn adds(alloc: Global, count: u32) -> Result<Vec<Cmd>, Fail> {
     let mut cmds = Vec::new(alloc);
-    let mut out = Vec::new(alloc);
     for k in 0..count {
         cmds.push(add(k)?)?;
     }
-    assert_eq!(rt;
-        gate.apply_batch(rt, &cmds, &mut out),
-        Ok(()),
-        "{count} at once"
-    );
-    let refused = out.iter().position(|outcome| *outcome == Outcome::Refused);
-    assert_eq!(rt; refused, None, "of {count} commands");
-    Ok(())
+    Ok(cmds)
+}
+
+/// Asks so many commands at once: none is refused.
+fn ask_many<R: Wait + Abort>(rt: &R, alloc: Global, gate: &mut TableGate<'_, 1>, cmds: &[Cmd])
+    ensures { (gate.new.table ≡ gate.old.table) × (gate.new.feed ≡ gate.old.feed) }
+{
+    let count = cmds.len();
+    let mut out = Vec::new(alloc);
+    let asked = gate.apply_batch(rt, cmds, &mut out);
+    assert!(rt; asked == Ok(()), "{count} at once");
+    assert!(rt; !out.contains(&Outcome::Refused), "of {count} commands");
 }
 
 /// Fails where `TableGate::apply_batch` refuses a batch of 8, or of more than 1,024: `8 at once`, `1025 at once`.
+/// Fails where `SharedRib::apply_batch` refuses a batch of 8 or of more than 512 commands, the 8th of a batch, or those beyond
+/// its 1,024th, or `apply` beyond 1,024 entries.
+/// Fails where `routes` refuses beyond 65,536 routes, or to a feed without an entry.
 #[test]
 fn gates_take_batches_of_each_size(rt: HostRuntime) -> Result<(), Fail> {
     let alloc = rt.alloc();
+    let cmds = adds(alloc, ROUTES)?;
     let (table, first, second) = pair(alloc, 1_000_000)?;
     let mut gate = TableGate::new(&table, first);
     for count in SIZES {
-        ask_many(&rt, alloc, &mut gate, count)?;
+        ask_many(&rt, alloc, &mut gate, &cmds[..count.min(cmds.len())]);
     }
+    assert!(rt; gate.apply(&rt, Cmd::Dump) == Ok(Reply::Dumped(ROUTES)));
     // A feed that has asked nothing finds what the other one left.
     let mut idle = TableGate::new(&table, second).into_pass();
-    assert_eq!(rt; table.routes(&rt, alloc, &mut idle)?.len(), 66_000);
+    let routes = table.routes(&rt, alloc, &mut idle).expect(&rt, "memory");
+    assert!(rt; routes.len() == cmds.len());
+    let passes = vec![in alloc; gate.into_pass(), idle]?;
+    let book = table.settle(&rt, passes);
+    assert!(rt; book.routes(alloc)?.as_slice() == routes.as_slice());
     Ok(())
 }

@@ -1,0 +1,129 @@
+"""A judge of runs: whether some order of the feeds' visits explains what a run of their texts wrote.
+
+It reads each text line by line, and beside each command it puts the answer that the output has for that line. Where the output
+has another line, or lacks one, nothing explains it. Each feed's commands are then cut into visits of `batch`, of which the last
+may be shorter. A state of the search says how many commands each feed still has to ask, and which routes stand in the table. From
+a state it goes on with the next visit of each feed: it answers the visit's commands from the table, one after another and with
+nothing between them, and gives that way up at the first answer that differs from the printed one. The output is explained if some
+way leads to the end of all feeds, and what it printed behind the reports is then the table that stands there.
+
+No state is looked at twice. A command changes the routes of its own feed alone, so all the ways that leave each feed the same
+commands have left the same table.
+
+The judge is for texts of good lines and of lines whose fault is E1, and for runs with ample memory: it takes no refusal for an
+answer.
+"""
+import functools
+
+TAKES = {"add": 3, "replace": 3, "withdraw": 1, "lookup": 1, "dump": 0}
+
+
+def read(text):
+    """The commands of a text, each with its line's number; None in place of one where the line's fault is E1."""
+    takes, commands = TAKES, []
+    if text.startswith("version 2\n"):
+        text, takes = text.removeprefix("version 2"), TAKES | {"purge": 0}
+    for number, line in enumerate(text.split("\n"), 1):
+        if line[:1] not in ("", "#"):
+            name, *fields = line.split(" ")
+            commands.append((number, (name, *fields) if takes.get(name) == len(fields) else None))
+    return commands
+
+
+def explains(feeds, limit, batch, output):
+    """Whether some order of the visits of these feeds, of whose texts the commands were read, explains the output. Each feed
+    may have `limit` routes and asks `batch` commands at once."""
+    lines, answered = iter(output.split("\n")), []
+    for feed, commands in enumerate(feeds, 1):
+        asked = []
+        for number, command in commands:
+            heading, line = f"{feed}:{number} ", next(lines, "")
+            if not line.startswith(heading) or command is None and line != heading + "fault E1":
+                return False
+            if command is not None:
+                asked.append((command, line.removeprefix(heading)))
+        answered.append(asked)
+    return search(answered, limit, batch, "\n".join(lines))
+
+
+def search(feeds, limit, batch, printed):
+    """Whether some way leads to the end of all feeds, and this is the text of the table that it leaves."""
+    start = tuple(map(len, feeds))
+    seen, unvisited = {start}, [(start, {})]
+    while unvisited:
+        unasked, table = unvisited.pop()
+        if not any(unasked):
+            return table_text(table) == printed
+        for at, left in enumerate(unasked):
+            first = len(feeds[at]) - left
+            visit = feeds[at][first : first + batch]
+            after = unasked[:at] + (left - len(visit),) + unasked[at + 1 :]
+            if after not in seen and (changed := after_visit(table, at + 1, visit, limit)) is not None:
+                seen.add(after)
+                unvisited.append((after, changed))
+    return False
+
+
+def after_visit(table, feed, visit, limit):
+    """The table after the feed's commands, if they are answered as was printed."""
+    table = dict(table)
+    return table if all(answer(table, limit, feed, *command) == printed for command, printed in visit) else None
+
+
+def answer(table, limit, feed, name, *fields):
+    """The answer to the feed's command, which changes the table as it says."""
+    own = [place for place in table if place[0] == feed]
+    place = (feed, fields[0]) if fields else None
+    if name == "lookup":
+        found = best(table, address(fields[0]))
+        return f"route {found}" if found else "no route"
+    if name == "dump":
+        return f"dumped {len(table)}"
+    if name == "purge":
+        for place in own:
+            del table[place]
+        return f"purged {len(own)}"
+    if name == "add" and place in table:
+        return "exists"
+    if name == "add" and len(own) >= limit:
+        return "full"
+    if name != "add" and place not in table:
+        return "missing"
+    if name == "withdraw":
+        del table[place]
+        return "withdrawn"
+    table[place] = (int(fields[1]), fields[2])
+    return "added" if name == "add" else "replaced"
+
+
+def best(table, sought):
+    """The route for the address: it covers the address, of those the longest, of those the least preference, of those the least
+    feed."""
+    found = [
+        (-length, pref, feed, row(feed, prefix, pref, hop))
+        for (feed, prefix), (pref, hop) in table.items()
+        for base, length in [block(prefix)]
+        if sought >> 32 - length == base >> 32 - length
+    ]
+    return min(found)[3] if found else None
+
+
+def row(feed, prefix, pref, hop):
+    return f"{prefix} feed {feed} pref {pref} via {hop}"
+
+
+def table_text(table):
+    rows = sorted((*block(prefix), pref, feed, row(feed, prefix, pref, hop)) for (feed, prefix), (pref, hop) in table.items())
+    return f"table {len(rows)}\n" + "".join(text + "\n" for *_, text in rows)
+
+
+@functools.cache
+def block(prefix):
+    """Base and length of a prefix."""
+    base, length = prefix.split("/")
+    return address(base), int(length)
+
+
+@functools.cache
+def address(text):
+    return int.from_bytes(map(int, text.split(".")), "big")

@@ -1,0 +1,8 @@
+use Rattle.std.proofs.Common.{◌≡◌}
+use Rattle.rt_feed_tests.proofs.tests.table_gate.gates_take_batches_of_each_size.Given as goal
+
+abbrev pub invariant-loop-count : goal.invariant-loop-count
+invariant-loop-count g l = record {
+  table : l.gate.table ≡ l.initial.gate.table;
+  feed : l.gate.feed ≡ l.initial.gate.feed;
+}
