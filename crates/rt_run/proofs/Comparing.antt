@@ -1,9 +1,7 @@
 -- What is written where two tables are compared: the lines of the differences so far, and then those of the rest.
-use Rattle.std.proofs.Common.{◌≡◌, Bool, true, false, not, is_some, ℕ, ◌+◌, ◌^◌, ◌<◌, ◌≤◌, max, List, [], ◌∷◌, ◌++◌, Option, Some, None, length, append_assoc, append-nil, length-append, refl, sym, ap, subst, ◌∙◌, arith}
-use Rattle.std.specs.List.{flat_map}
+use Rattle.std.proofs.Common.{◌≡◌, Bool, true, false, not, is_some, ℕ, ◌+◌, ◌<◌, max, List, [], ◌∷◌, ◌++◌, Option, Some, None, length, append_assoc, append-nil, length-append, refl, sym, ap, subst, ◌∙◌, arith}
 use Rattle.std.proofs.lemmas.Grind.{flat_map-append}
 use Rattle.std.specs.Io.KnownBytes.{Appends}
-use Rattle.rt_cidr.specs.declared.address.Addr.{Addr}
 use Rattle.rt_cidr.specs.Output.{AppendsBeginning}
 use Rattle.rt_cidr.proofs.Promised.{begins_after, begins_longer}
 use Rattle.rt_rib.specs.declared.routes.Route.{Route}
@@ -11,17 +9,15 @@ use Rattle.rt_rib.specs.Book.{BookContents, table_of}
 use Rattle.rt_diff.specs.declared.answers.By.{By}
 use Rattle.rt_diff.specs.declared.differences.Difference.{Difference}
 use Rattle.rt_diff.specs.Differences.{IsFirstDifference, AreDifferences}
-use Rattle.rt_diff.specs.inside.Rest.{AreRest}
 use Rattle.rt_diff.proofs.Promised.{at, rest_none, rest_next, rest_there, whole, differences_of, differences_are, is_differences_of}
 use Rattle.rt_feed.specs.declared.report.Line.{Line}
 use Rattle.rt_feed.specs.DifferenceText.{difference_text, differences_text}
-use Rattle.rt_run.specs.declared.tallies.Taken.{Taken}
 use Rattle.rt_run.specs.declared.differences.Compared.{Compared}
-use Rattle.rt_run.specs.DiffText.{LeavesTable, differ_status, IsDiffText}
+use Rattle.rt_run.specs.DiffText.{differ_status, IsDiffText}
 use Rattle.rt_run.specs.inside.Comparisons.{IsFirstOf, lines_of, compared_status, IsSoFar}
 use Rattle.rt_run.specs.inside.RunResults.{RunOverBook}
-use Rattle.rt_run.specs.inside.Tallies.{IsTaken, tallies_status}
-use Rattle.rt_run.proofs.Telling.{tallies-lines, tallies_status-lines}
+use Rattle.rt_run.specs.inside.Tallies.{IsTaken}
+use Rattle.rt_run.proofs.Outputs.{left_table}
 
 -- what is no difference is none
 pub none_left : (next : Option Difference) → ((d : Difference) → next ≡ Some d → ⊥) → next ≡ None
@@ -112,30 +108,19 @@ module _ (by : By) (old new : List Route) where
       let all = is_differences_of by old new (d ∷ rest) (whole by old new (d ∷ rest) (rest_next by old new (at 0) d rest is are)) in
       ap (λ list. max (differ_status list) (max m n)) all
 
--- a run leaves the table of its book
-left_table : (texts : List (List ℕ)) (limit batch : ℕ) (reports : List (List Line)) (book : BookContents) (taken : Taken)
-    → RunOverBook texts limit batch reports book → IsTaken reports taken → LeavesTable texts limit batch (table_of book) taken
-left_table texts limit batch reports book taken ran told = record {
-  journal = book.journal;
-  outcomes = ran.outcomes;
-  history = ran.history;
-  left = rw ran.limited refl;
-  tallied = told.tallied ∙ rw ran.reported (tallies-lines ran.outcomes);
-  is_status = told.is_status ∙ (ap tallies_status told.tallied ∙ rw ran.reported (tallies_status-lines ran.outcomes));
-}
-
 -- what was written of two runs tells of both tables
 pub is_diff : (by : By) (old_texts new_texts : List (List ℕ)) (limit batch : ℕ) (old_reports new_reports : List (List Line)) (old new : BookContents)
     (given : Compared) (first : Option Difference)
-    → RunOverBook old_texts limit batch old_reports old → RunOverBook new_texts limit batch new_reports new
+    → RunOverBook (record { texts = old_texts; limit = limit; batch = batch }) old_reports old
+    → RunOverBook (record { texts = new_texts; limit = limit; batch = batch }) new_reports new
     → IsTaken old_reports given.old → IsTaken new_reports given.new → IsFirstOf by (table_of old) (table_of new) first
     → given.status ≡ compared_status given.old.status given.new.status first
     → IsDiffText by old_texts new_texts limit batch (lines_of by (table_of old) (table_of new)) given
 is_diff by old_texts new_texts limit batch old_reports new_reports old new given first old_ran new_ran of_old of_new is status = record {
   old = table_of old;
   new = table_of new;
-  old_left = left_table old_texts limit batch old_reports old given.old old_ran of_old;
-  new_left = left_table new_texts limit batch new_reports new given.new new_ran of_new;
+  old_left = left_table (record { texts = old_texts; limit = limit; batch = batch }) old_reports old given.old old_ran of_old;
+  new_left = left_table (record { texts = new_texts; limit = limit; batch = batch }) new_reports new given.new new_ran of_new;
   list = differences_of by (table_of old) (table_of new);
   differences = differences_are by (table_of old) (table_of new);
   printed = refl;

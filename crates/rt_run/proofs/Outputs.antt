@@ -8,7 +8,9 @@ use Rattle.rt_run.specs.declared.faults.AppFault.{AppFault}
 use Rattle.rt_run.specs.declared.faults.AppFault.TheVariants.{Run, Replay, Write}
 use Rattle.rt_run.specs.declared.tallies.Taken.{Taken}
 use Rattle.rt_run.specs.RunText.{Leaves}
+use Rattle.rt_run.specs.inside.AskedRun.{AskedRun}
 use Rattle.rt_run.specs.inside.RunResults.{RunOverBook}
+use Rattle.rt_run.specs.DiffText.{LeavesTable}
 use Rattle.rt_run.specs.TableText.{IsShown}
 use Rattle.rt_run.specs.inside.Tallies.{IsTaken, tallies_status}
 use Rattle.rt_run.proofs.Telling.{tallies-lines, tallies_status-lines}
@@ -21,14 +23,28 @@ leaves_fault IsSuch old new bytes given (Run why) is wrote = (λ same. let other
 leaves_fault IsSuch old new bytes given (Replay why) is wrote = absurd wrote
 leaves_fault IsSuch old new bytes given Write is wrote = (bytes, given, is, wrote)
 
--- what was written of a run's table tells of it
-pub is_shown : (texts : List (List ℕ)) (limit batch : ℕ) (text_of : List Route → List ℕ) (reports : List (List Line)) (book : BookContents) (taken : Taken)
-    → RunOverBook texts limit batch reports book → IsTaken reports taken → IsShown texts limit batch text_of (text_of (table_of book)) taken
-is_shown texts limit batch text_of reports book taken ran told = record {
+-- a run leaves the table of its book
+pub left_table : (asked : AskedRun) (reports : List (List Line)) (book : BookContents) (taken : Taken)
+    → RunOverBook asked reports book → IsTaken reports taken → LeavesTable asked.texts asked.limit asked.batch (table_of book) taken
+left_table asked reports book taken ran told = record {
   journal = book.journal;
   outcomes = ran.outcomes;
   history = ran.history;
-  shown = rw ran.limited refl;
+  left = rw ran.limited refl;
   tallied = told.tallied ∙ rw ran.reported (tallies-lines ran.outcomes);
   is_status = told.is_status ∙ (ap tallies_status told.tallied ∙ rw ran.reported (tallies_status-lines ran.outcomes));
 }
+
+-- what was written of a run's table tells of it
+pub is_shown : (asked : AskedRun) (text_of : List Route → List ℕ) (reports : List (List Line)) (book : BookContents) (taken : Taken)
+    → RunOverBook asked reports book → IsTaken reports taken → IsShown asked.texts asked.limit asked.batch text_of (text_of (table_of book)) taken
+is_shown asked text_of reports book taken ran told =
+    let left = left_table asked reports book taken ran told in
+    record {
+      journal = left.journal;
+      outcomes = left.outcomes;
+      history = left.history;
+      shown = ap text_of left.left;
+      tallied = left.tallied;
+      is_status = left.is_status;
+    }

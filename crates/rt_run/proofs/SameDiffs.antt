@@ -1,7 +1,6 @@
 -- That what is written of two compared runs is the same however the visits of their feeds fell.
 use Rattle.std.proofs.Common.{◌≡◌, ◌≢◌, ℕ, List, ap, sym, subst, ◌∙◌}
 use Rattle.rt_rib.specs.declared.routes.Route.{Route}
-use Rattle.rt_diff.specs.declared.differences.Difference.{Difference}
 use Rattle.rt_diff.specs.Differences.{AreDifferences}
 use Rattle.rt_diff.specs.Laws.{HaveOneList}
 use Rattle.rt_feed.specs.DifferenceText.{differences_text}

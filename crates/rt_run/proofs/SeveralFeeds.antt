@@ -25,6 +25,7 @@ use Rattle.rt_run.specs.inside.Outputs.{reports_text}
 use Rattle.rt_run.proofs.Lists.{map-both}
 use Rattle.rt_run.proofs.Pieces.{entries-visits, chunks-cut, cut-holds}
 use Rattle.rt_run.proofs.Telling.{feeds-text, reports_status-lines}
+use Rattle.rt_run.specs.inside.AskedRun.{AskedRun}
 use Rattle.rt_run.specs.inside.RunResults.{RunOverBook, reports_status}
 
 -- what a gate to the table holds, and its name
@@ -260,7 +261,7 @@ module _ {V : Type 0} (items : V → List ℕ) (texts : List V) (table : SharedI
 
       -- so the texts were run to their ends
       pub run_over_book : (book : BookContents) → book.journal ≡ journal
-          → book.limit ≡ table.limit → RunOverBook (map items texts) table.limit batch reports book
+          → book.limit ≡ table.limit → RunOverBook (record { texts = map items texts; limit = table.limit; batch = batch }) reports book
       run_over_book book journaled limited =
           let all = all_explained items batch 1 journal texts reports n_reports explained_at in
           record {
@@ -276,10 +277,9 @@ module _ {V : Type 0} (items : V → List ℕ) (texts : List V) (table : SharedI
           }
 
 -- what is written of them is a run's text
-pub run_text : (texts : List (List ℕ)) (limit batch : ℕ) (reports : List (List Line)) (book : BookContents) (bytes : List ℕ)
-    → RunOverBook texts limit batch reports book
-    → bytes ≡ reports_text 1 reports ++ table_text (table_of book) → IsRunText texts limit batch bytes (reports_status reports)
-run_text texts limit batch reports book bytes ran printed = record {
+pub run_text : (asked : AskedRun) (reports : List (List Line)) (book : BookContents) (bytes : List ℕ) → RunOverBook asked reports book
+    → bytes ≡ reports_text 1 reports ++ table_text (table_of book) → IsRunText asked.texts asked.limit asked.batch bytes (reports_status reports)
+run_text asked reports book bytes ran printed = record {
   journal = book.journal;
   outcomes = ran.outcomes;
   history = ran.history;

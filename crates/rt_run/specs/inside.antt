@@ -1,4 +1,5 @@
 -- What no public clause speaks of: the words of private contracts, of invariants and of proofs.
+pub mod AskedRun
 pub mod Outputs
 pub mod Comparisons
 pub mod RunResults

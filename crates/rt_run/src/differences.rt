@@ -12,6 +12,7 @@ ghost use Rattle.rt_run.specs.inside.RunResults.{RunOverBook};
 ghost use Rattle.rt_run.specs.inside.Comparisons.{IsFirstOf, lines_of, compared_status};
 
 use crate::faults::AppFault;
+use crate::feed_texts::FeedTexts;
 use crate::output::{Output, write_output};
 use crate::runs::{Ran, run_all};
 use crate::tallies::{Taken, taken_of};
@@ -21,7 +22,6 @@ use rt_feed::{RunFault, write_difference};
 use rt_rib::Book;
 use std::alloc::Global;
 use std::io::{self, Write};
-use std::mem::ManuallyDrop;
 use std::sync::Wait;
 use std::thread::Threads;
 
@@ -65,18 +65,13 @@ pub fn diff_texts<R: Threads + Wait + Sync, W: Write>(
     if new_texts.is_empty() {
         return Err(AppFault::Run(RunFault::NoText));
     }
-    let old = match run_all(rt, alloc, old_texts, limit, batch) {
-        Ok(ran) => ran,
-        Err(refusal) => return Err(AppFault::Run(refusal)),
-    };
-    let new = match run_all(rt, alloc, new_texts, limit, batch) {
-        Ok(ran) => ran,
-        Err(refusal) => return Err(AppFault::Run(refusal)),
-    };
+    let asked_old = FeedTexts::new(old_texts, limit, batch);
+    let asked_new = FeedTexts::new(new_texts, limit, batch);
+    let old = run_all(rt, alloc, &asked_old)?;
+    let new = run_all(rt, alloc, &asked_new)?;
     let compared = compare_ran(alloc, &old, &new, by, w);
-    // As for a run: the system takes the tables' pages back at once.
-    let _ = ManuallyDrop::new(old.book);
-    let _ = ManuallyDrop::new(new.book);
+    old.leave_table();
+    new.leave_table();
     compared
 }
 
@@ -89,31 +84,25 @@ fn compare_ran<W: Write>(
     w: &mut W,
 ) -> Result<Compared, AppFault>
     ensures text { (old_texts new_texts : List (List ℕ)) (limit batch : ℕ)
-        → RunOverBook old_texts limit batch old.now.reports.items old.now.book
-        → RunOverBook new_texts limit batch new.now.reports.items new.now.book
+        → RunOverBook (record { texts = old_texts; limit = limit; batch = batch }) old.now.reports.items old.now.book
+        → RunOverBook (record { texts = new_texts; limit = limit; batch = batch }) new.now.reports.items new.now.book
         → Leaves (IsDiffText by old_texts new_texts limit batch) (W.contents w.old) (W.contents w.new) result }
     ensures ran { result ≢ Err (AppFault.Run RunFault.NoText) }
 {
-    let Ok(of_old) = taken_of(alloc, old.reports.as_slice()) else {
-        return Err(AppFault::Run(RunFault::Memory));
-    };
-    let Ok(of_new) = taken_of(alloc, new.reports.as_slice()) else {
-        return Err(AppFault::Run(RunFault::Memory));
-    };
+    let of_old = taken_of(alloc, old.reports.as_slice())?;
+    let of_new = taken_of(alloc, new.reports.as_slice())?;
     let first = first_difference(&old.book, &new.book, by, Addr(0));
     let status = status_of(&of_old, &of_new, first);
-    match write_output(
+    write_output(
         alloc,
         Output::Differences(&old.book, &new.book, by, first),
         w,
-    ) {
-        Ok(()) => Ok(Compared {
-            status,
-            old: of_old,
-            new: of_new,
-        }),
-        Err(fault) => Err(fault),
-    }
+    )?;
+    Ok(Compared {
+        status,
+        old: of_old,
+        new: of_new,
+    })
 }
 
 /// The status of two runs of which this was taken, and of what their tables answer otherwise first.

@@ -19,6 +19,7 @@
 
 mod differences;
 mod faults;
+mod feed_texts;
 pub mod laws;
 mod output;
 mod replays;

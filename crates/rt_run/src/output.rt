@@ -75,9 +75,7 @@ pub(crate) fn write_output<W: Write>(
     requires { IsOutput output }
     ensures { Writes (output_text output.entry) (W.contents w.old) (W.contents w.new) result }
 {
-    let Ok(room) = OutputRoom::new(alloc) else {
-        return Err(AppFault::Run(RunFault::Memory));
-    };
+    let room = OutputRoom::new(alloc)?;
     if output.is_empty() {
         return Ok(());
     }

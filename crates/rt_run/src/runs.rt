@@ -1,14 +1,16 @@
 //! A run: feed texts in, their reports and the table out.
-ghost use Rattle.std.specs.Prelude.{◌≡◌, ◌≢◌, ◌↔◌, ◌⊎◌, ℕ, List, ◌+◌, ◌*◌, ◌^◌, ◌<◌, ◌≤◌, ◌++◌, [], map, length, vec_len, vec_capacity, All, Some, None, IfOk, IsSome};
+ghost use Rattle.std.specs.Prelude.{◌≡◌, ◌≢◌, ◌↔◌, ◌⊎◌, ◌+◌, ◌*◌, ◌^◌, ◌<◌, ◌≤◌, ◌++◌, [], map, length, vec_len, vec_capacity, All, Some, None, IfOk, IsSome};
 ghost use Rattle.rt_rib.specs.declared.limits.TheConstants.{MOST_FEEDS};
 ghost use Rattle.rt_rib.specs.Book.{IsLimit};
 ghost use Rattle.std.specs.List.{list_any};
 ghost use Rattle.rt_feed.specs.Reports.{has_refusal, has_fault};
 ghost use Rattle.rt_run.specs.RunText.{IsRunText, Leaves};
+ghost use Rattle.rt_run.specs.inside.AskedRun.{AskedRun};
 ghost use Rattle.rt_run.specs.inside.RunResults.{RunOverBook, RunBeforeSettle, reports_status};
 ghost use Rattle.rt_shared.specs.Table.{ArePassesOf};
 
 use crate::faults::AppFault;
+use crate::feed_texts::FeedTexts;
 use crate::output::{Output, write_output};
 use crate::tallies::status_where;
 use rt_feed::{Feed, Report, RunFault, TableGate, run_feeds};
@@ -16,7 +18,7 @@ use rt_rib::{Book, MOST_FEEDS, Refused};
 use rt_shared::{FeedPass, SharedRib};
 use std::alloc::{AllocError, Global};
 use std::io::Write;
-use std::mem::ManuallyDrop;
+use std::mem;
 use std::sync::Wait;
 use std::thread::Threads;
 
@@ -42,13 +44,10 @@ pub fn run_texts<R: Threads + Wait + Sync, W: Write>(
     ensures text { Leaves (IsRunText (map (λ text. text.items) texts.now) limit batch) (W.contents w.old) (W.contents w.new) result }
     ensures no_text { (result ≡ Err (AppFault.Run RunFault.NoText)) ↔ (texts.now ≡ []) }
 {
-    let ran = match run_all(rt, alloc, texts, limit, batch) {
-        Ok(ran) => ran,
-        Err(refusal) => return Err(AppFault::Run(refusal)),
-    };
+    let asked = FeedTexts::new(texts, limit, batch);
+    let ran = run_all(rt, alloc, &asked)?;
     let written = write_ran(alloc, &ran, w);
-    // To free the table node by node would take a tenth of a run, and the system takes its pages back at once.
-    let _ = ManuallyDrop::new(ran.book);
+    ran.leave_table();
     written
 }
 
@@ -59,29 +58,32 @@ pub(crate) struct Ran {
     pub(crate) book: Book<Global>,
 }
 
+impl Ran {
+    /// Leaves the table where it is: to free it node by node would take a tenth of a run, and the system takes its pages
+    /// back at once.
+    pub(crate) fn leave_table(self) {
+        mem::forget(self.book);
+    }
+}
+
 /// Runs the texts over one table. No text at all is F1, and want of memory outside of a command F3.
 pub(crate) fn run_all<R: Threads + Wait + Sync>(
     rt: &R,
     alloc: Global,
-    texts: &[Vec<u8>],
-    limit: u32,
-    batch: usize,
+    asked: &FeedTexts<'_>,
 ) -> Result<Ran, RunFault>
-    requires limited { IsLimit limit }
-    requires few { length texts.now ≤ MOST_FEEDS }
-    requires batched { 1 ≤ batch }
-    ensures ran { IfOk result (λ ran. RunOverBook (map (λ text. text.items) texts.now) limit batch ran.reports.items ran.book) }
+    ensures ran { IfOk result (λ ran. RunOverBook asked.now ran.reports.items ran.book) }
     ensures refused { result ≢ Err RunFault.FeedCount }
-    ensures no_text { (result ≡ Err RunFault.NoText) ↔ (texts.now ≡ []) }
+    ensures no_text { (result ≡ Err RunFault.NoText) ↔ (asked.now.texts ≡ []) }
 {
-    let ran = match texts.len() {
+    let ran = match asked.count() {
         0 => return Err(RunFault::NoText),
-        1..=2 => run_in_tree::<_, 1>(rt, alloc, texts, limit, batch),
-        3..=4 => run_in_tree::<_, 2>(rt, alloc, texts, limit, batch),
-        5..=8 => run_in_tree::<_, 3>(rt, alloc, texts, limit, batch),
-        9..=16 => run_in_tree::<_, 4>(rt, alloc, texts, limit, batch),
-        17..=32 => run_in_tree::<_, 5>(rt, alloc, texts, limit, batch),
-        _ => run_in_tree::<_, 6>(rt, alloc, texts, limit, batch),
+        1..=2 => run_in_tree::<_, 1>(rt, alloc, asked),
+        3..=4 => run_in_tree::<_, 2>(rt, alloc, asked),
+        5..=8 => run_in_tree::<_, 3>(rt, alloc, asked),
+        9..=16 => run_in_tree::<_, 4>(rt, alloc, asked),
+        17..=32 => run_in_tree::<_, 5>(rt, alloc, asked),
+        _ => run_in_tree::<_, 6>(rt, alloc, asked),
     };
     match ran {
         Ok(ran) => Ok(ran),
@@ -93,19 +95,22 @@ pub(crate) fn run_all<R: Threads + Wait + Sync>(
 fn run_in_tree<R: Threads + Wait + Sync, const L: u32>(
     rt: &R,
     alloc: Global,
-    texts: &[Vec<u8>],
-    limit: u32,
-    batch: usize,
+    asked: &FeedTexts<'_>,
 ) -> Result<Ran, Refused>
     requires levels { (1 ≤ L) × (L ≤ 6) }
-    requires placed { length texts.now ≤ 2 ^ L }
-    requires fewest { (L ≡ 1) ⊎ (2 ^ L < 2 * length texts.now) }
-    requires limited { IsLimit limit }
-    requires batched { 1 ≤ batch }
-    ensures { IfOk result (λ ran. RunOverBook (map (λ text. text.items) texts.now) limit batch ran.reports.items ran.book) }
+    requires placed { length asked.now.texts ≤ 2 ^ L }
+    requires fewest { (L ≡ 1) ⊎ (2 ^ L < 2 * length asked.now.texts) }
+    ensures { IfOk result (λ ran. RunOverBook asked.now ran.reports.items ran.book) }
 {
-    let (table, passes) = SharedRib::<L>::new(alloc, limit)?;
-    let Ended { passes, reports } = run_passes(rt, alloc, &table, passes, texts, batch)?;
+    let (table, passes) = SharedRib::<L>::new(alloc, asked.limit)?;
+    let Ended { passes, reports } = run_passes(
+        rt,
+        alloc,
+        &table,
+        passes,
+        asked.texts,
+        asked.batch,
+    )?;
     let book = table.settle(rt, passes);
     Ok(Ran { reports, book })
 }
@@ -201,18 +206,14 @@ fn put_behind(passes: &mut Vec<FeedPass>, mut more: Vec<FeedPass>)
 /// Writes what a run has done, and gives its status.
 fn write_ran<W: Write>(alloc: Global, ran: &Ran, w: &mut W) -> Result<u8, AppFault>
     requires few { length ran.now.reports.items ≤ MOST_FEEDS }
-    ensures text { (texts : List (List ℕ)) (limit batch : ℕ) → RunOverBook texts limit batch ran.now.reports.items ran.now.book
-        → Leaves (IsRunText texts limit batch) (W.contents w.old) (W.contents w.new) result }
+    ensures text { (asked : AskedRun) → RunOverBook asked ran.now.reports.items ran.now.book
+        → Leaves (IsRunText asked.texts asked.limit asked.batch) (W.contents w.old) (W.contents w.new) result }
     ensures ran { result ≢ Err (AppFault.Run RunFault.NoText) }
 {
-    let Ok(routes) = ran.book.routes(alloc) else {
-        return Err(AppFault::Run(RunFault::Memory));
-    };
+    let routes = ran.book.routes(alloc)?;
     let reports = ran.reports.as_slice();
-    match write_output(alloc, Output::Run(reports, routes.as_slice()), w) {
-        Ok(()) => Ok(status_of(reports)),
-        Err(fault) => Err(fault),
-    }
+    write_output(alloc, Output::Run(reports, routes.as_slice()), w)?;
+    Ok(status_of(reports))
 }
 
 /// The status of reports whose text was written.

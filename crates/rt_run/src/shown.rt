@@ -1,7 +1,8 @@
 //! What the finished table says: the answers of look-ups, or its routes, once all feeds have ended.
-ghost use Rattle.std.specs.Prelude.{◌≡◌, ◌≢◌, ◌↔◌, ℕ, List, ◌≤◌, [], map, length, if◌then◌else◌, IfOk};
+ghost use Rattle.std.specs.Prelude.{◌≡◌, ◌≢◌, ◌↔◌, ◌≤◌, [], map, length, if◌then◌else◌, IfOk};
 ghost use Rattle.rt_rib.specs.declared.limits.TheConstants.{MOST_FEEDS};
 ghost use Rattle.rt_rib.specs.Book.{IsLimit, table_of};
+ghost use Rattle.rt_run.specs.inside.AskedRun.{AskedRun};
 ghost use Rattle.rt_run.specs.inside.RunResults.{RunOverBook};
 ghost use Rattle.rt_run.specs.RunText.{Leaves};
 ghost use Rattle.rt_run.specs.TableText.{answers_text, all_answers_text, routes_text, IsShown};
@@ -9,6 +10,7 @@ ghost use Rattle.rt_rib.specs.LookUp.{best_routes};
 ghost use Rattle.rt_run.specs.inside.Outputs.{matches_text, shown_text, Writes};
 
 use crate::faults::AppFault;
+use crate::feed_texts::FeedTexts;
 use crate::output::{Matches, Output, write_output};
 use crate::runs::{Ran, run_all};
 use crate::tallies::{Taken, taken_of};
@@ -17,7 +19,6 @@ use rt_feed::RunFault;
 use rt_rib::{Book, Refused, Route, keep_best};
 use std::alloc::Global;
 use std::io::Write;
-use std::mem::ManuallyDrop;
 use std::sync::Wait;
 use std::thread::Threads;
 
@@ -41,7 +42,8 @@ pub fn lookup_texts<R: Threads + Wait + Sync, W: Write>(
     ensures text { Leaves (IsShown (map (λ text. text.items) texts.now) limit batch (answers_text addresses.now)) (W.contents w.old) (W.contents w.new) result }
     ensures no_text { (result ≡ Err (AppFault.Run RunFault.NoText)) ↔ (texts.now ≡ []) }
 {
-    show_texts(rt, alloc, texts, limit, batch, Shown::Answers(addresses), w)
+    let asked = FeedTexts::new(texts, limit, batch);
+    show_texts(rt, alloc, &asked, Shown::Answers(addresses), w)
 }
 
 /// Runs the texts as `run_texts` does, and when all have ended writes to `w`, for each address in order, every route that
@@ -64,15 +66,8 @@ pub fn lookup_all_texts<R: Threads + Wait + Sync, W: Write>(
     ensures text { Leaves (IsShown (map (λ text. text.items) texts.now) limit batch (all_answers_text addresses.now)) (W.contents w.old) (W.contents w.new) result }
     ensures no_text { (result ≡ Err (AppFault.Run RunFault.NoText)) ↔ (texts.now ≡ []) }
 {
-    show_texts(
-        rt,
-        alloc,
-        texts,
-        limit,
-        batch,
-        Shown::AllAnswers(addresses),
-        w,
-    )
+    let asked = FeedTexts::new(texts, limit, batch);
+    show_texts(rt, alloc, &asked, Shown::AllAnswers(addresses), w)
 }
 
 /// Runs the texts as `run_texts` does, and when all have ended writes to `w` the table's routes in order, without its first
@@ -93,7 +88,8 @@ pub fn table_texts<R: Threads + Wait + Sync, W: Write>(
     ensures text { Leaves (IsShown (map (λ text. text.items) texts.now) limit batch (routes_text only_best)) (W.contents w.old) (W.contents w.new) result }
     ensures no_text { (result ≡ Err (AppFault.Run RunFault.NoText)) ↔ (texts.now ≡ []) }
 {
-    show_texts(rt, alloc, texts, limit, batch, Shown::Routes(only_best), w)
+    let asked = FeedTexts::new(texts, limit, batch);
+    show_texts(rt, alloc, &asked, Shown::Routes(only_best), w)
 }
 
 /// What is asked of the finished table.
@@ -111,25 +107,16 @@ enum Shown<'a> {
 fn show_texts<R: Threads + Wait + Sync, W: Write>(
     rt: &R,
     alloc: Global,
-    texts: &[Vec<u8>],
-    limit: u32,
-    batch: usize,
+    asked: &FeedTexts<'_>,
     shown: Shown<'_>,
     w: &mut W,
 ) -> Result<Taken, AppFault>
-    requires limited { IsLimit limit }
-    requires few { length texts.now ≤ MOST_FEEDS }
-    requires batched { 1 ≤ batch }
-    ensures text { Leaves (IsShown (map (λ text. text.items) texts.now) limit batch (shown_text shown.entry)) (W.contents w.old) (W.contents w.new) result }
-    ensures no_text { (result ≡ Err (AppFault.Run RunFault.NoText)) ↔ (texts.now ≡ []) }
+    ensures text { Leaves (IsShown asked.now.texts asked.now.limit asked.now.batch (shown_text shown.entry)) (W.contents w.old) (W.contents w.new) result }
+    ensures no_text { (result ≡ Err (AppFault.Run RunFault.NoText)) ↔ (asked.now.texts ≡ []) }
 {
-    let ran = match run_all(rt, alloc, texts, limit, batch) {
-        Ok(ran) => ran,
-        Err(refusal) => return Err(AppFault::Run(refusal)),
-    };
+    let ran = run_all(rt, alloc, asked)?;
     let written = show_ran(alloc, &ran, shown, w);
-    // As for a run: the system takes the table's pages back at once.
-    let _ = ManuallyDrop::new(ran.book);
+    ran.leave_table();
     written
 }
 
@@ -140,17 +127,13 @@ fn show_ran<W: Write>(
     shown: Shown<'_>,
     w: &mut W,
 ) -> Result<Taken, AppFault>
-    ensures text { (texts : List (List ℕ)) (limit batch : ℕ) → RunOverBook texts limit batch ran.now.reports.items ran.now.book
-        → Leaves (IsShown texts limit batch (shown_text shown.entry)) (W.contents w.old) (W.contents w.new) result }
+    ensures text { (asked : AskedRun) → RunOverBook asked ran.now.reports.items ran.now.book
+        → Leaves (IsShown asked.texts asked.limit asked.batch (shown_text shown.entry)) (W.contents w.old) (W.contents w.new) result }
     ensures ran { result ≢ Err (AppFault.Run RunFault.NoText) }
 {
-    let Ok(taken) = taken_of(alloc, ran.reports.as_slice()) else {
-        return Err(AppFault::Run(RunFault::Memory));
-    };
-    match write_shown(alloc, &ran.book, shown, w) {
-        Ok(()) => Ok(taken),
-        Err(fault) => Err(fault),
-    }
+    let taken = taken_of(alloc, ran.reports.as_slice())?;
+    write_shown(alloc, &ran.book, shown, w)?;
+    Ok(taken)
 }
 
 /// Writes what is asked of the book's table.
@@ -165,15 +148,11 @@ fn write_shown<W: Write>(
     match shown {
         Shown::Answers(addresses) => write_output(alloc, Output::Answers(book, addresses), w),
         Shown::AllAnswers(addresses) => {
-            let Ok(all) = matches_of(alloc, book, addresses) else {
-                return Err(AppFault::Run(RunFault::Memory));
-            };
+            let all = matches_of(alloc, book, addresses)?;
             write_output(alloc, Output::Matches(all.as_slice()), w)
         }
         Shown::Routes(only_best) => {
-            let Ok(routes) = routes_of(alloc, book, only_best) else {
-                return Err(AppFault::Run(RunFault::Memory));
-            };
+            let routes = routes_of(alloc, book, only_best)?;
             write_output(alloc, Output::Routes(routes.as_slice()), w)
         }
     }

@@ -7,20 +7,21 @@ use Rattle.rt_feed.specs.declared.report.Line.{Line}
 use Rattle.rt_feed.specs.Reports.{has_refusal, has_fault}
 use Rattle.rt_feed.specs.LineOutcomes.{LineOutcome, report_lines}
 use Rattle.rt_run.specs.RunText.{IsHistory}
+use Rattle.rt_run.specs.inside.AskedRun.{AskedRun}
 use Rattle.rt_run.specs.inside.Tallies.{status_where}
 
 -- the texts were run to their ends, and these are the reports and the book
-pub record RunOverBook (texts : List (List ℕ)) (limit batch : ℕ) (reports : List (List Line)) (book : BookContents) : Type 0 where
-  pub limited : book.limit ≡ limit
+pub record RunOverBook (asked : AskedRun) (reports : List (List Line)) (book : BookContents) : Type 0 where
+  pub limited : book.limit ≡ asked.limit
   pub outcomes : List (List LineOutcome)
-  pub history : IsHistory texts limit batch book.journal outcomes
+  pub history : IsHistory asked.texts asked.limit asked.batch book.journal outcomes
   pub reported : reports ≡ map (report_lines 1) outcomes
-  pub counted : length reports ≡ length texts
+  pub counted : length reports ≡ length asked.texts
 
 -- the texts were run by passes of the table, which are all back, and these are the reports: whatever the table settles to, the texts were run to their ends with it
 pub record RunBeforeSettle (texts : List (List ℕ)) (batch : ℕ) (table : SharedId) (passes : List HeldPass) (reports : List (List Line)) : Type 0 where
   pub back : ArePassesOf table passes
-  pub settled : (book : BookContents) → book.limit ≡ table.limit → Settles table passes book.journal → RunOverBook texts table.limit batch reports book
+  pub settled : (book : BookContents) → book.limit ≡ table.limit → Settles table passes book.journal → RunOverBook (record { texts = texts; limit = table.limit; batch = batch }) reports book
 
 -- the status of these reports, of which a faulty line is what was not taken
 abbrev pub reports_status : List (List Line) → ℕ

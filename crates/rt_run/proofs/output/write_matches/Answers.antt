@@ -1,5 +1,4 @@
 use Rattle.std.proofs.Common.{ℕ, List, refl}
-use Rattle.std.specs.List.{flat_map}
 use Rattle.std.proofs.lemmas.Result.{err_from_is_err_and}
 use Rattle.rt_feed.specs.Printed.{all_found_text}
 use Rattle.rt_run.specs.declared.output.Matches.{Matches}
