@@ -1,5 +1,6 @@
 -- What is written where two tables are compared: the lines of the differences so far, and then those of the rest.
-use Rattle.std.proofs.Common.{◌≡◌, Bool, true, false, not, is_some, ℕ, ◌+◌, ◌<◌, max, List, [], ◌∷◌, ◌++◌, Option, Some, None, length, append_assoc, append-nil, length-append, refl, sym, ap, subst, ◌∙◌, arith}
+use Rattle.std.proofs.Common.{◌≡◌, Bool, true, false, not, is_some, ℕ, ◌+◌, ◌<◌, max}
+use Rattle.std.proofs.Common.{List, [], ◌∷◌, ◌++◌, Option, Some, None, length, append_assoc, append-nil, length-append, refl, sym, ap, subst, ◌∙◌, arith}
 use Rattle.std.proofs.lemmas.Grind.{flat_map-append}
 use Rattle.std.specs.Io.KnownBytes.{Appends}
 use Rattle.rt_cidr.specs.Output.{AppendsBeginning}
@@ -30,8 +31,8 @@ module _ (by : By) (old new : List Route) where
   none_so_far first is = record { done = []; printed = refl; from = at 0; first = is; whole = λ rest are. whole by old new rest are }
 
   -- a line more
-  pub one_more : (text : List ℕ) (d : Difference) (next : Option Difference) → IsSoFar by old new (Some d) text → IsFirstDifference by old new (at (d.last.0 + 1)) next
-      → IsSoFar by old new next (text ++ difference_text d)
+  pub one_more : (text : List ℕ) (d : Difference) (next : Option Difference) → IsSoFar by old new (Some d) text
+      → IsFirstDifference by old new (at (d.last.0 + 1)) next → IsSoFar by old new next (text ++ difference_text d)
   one_more text d next far is = record {
     done = far.done ++ d ∷ [];
     printed =
@@ -65,7 +66,8 @@ module _ (by : By) (old new : List Route) where
         differences_text rest,
         ap differences_text is
             ∙ (flat_map-append difference_text far.done (d ∷ rest)
-            ∙ (ap (λ t. t ++ (difference_text d ++ differences_text rest)) (sym far.printed) ∙ sym (append_assoc text (difference_text d) (differences_text rest)))),
+            ∙ (ap (λ t. t ++ (difference_text d ++ differences_text rest)) (sym far.printed)
+            ∙ sym (append_assoc text (difference_text d) (differences_text rest)))),
       )
 
   -- so a fault within it leaves a beginning of all lines

@@ -1,10 +1,13 @@
 -- Examples by which definitions are tested, each under a line with the definition's name. Both sides are computed, but for
 -- the texts that are written for numbers, which have one spelling each.
-use Rattle.std.proofs.Common.{◌≡◌, ◌≢◌, ℕ, ◌+◌, ◌≤◌, ◌==◌, ◌&&◌, nat_le, ◌*◌, zero, suc, Bool, true, false, if◌then◌else◌, Some, None, Ok, Err, List, [], ◌∷◌, ◌++◌, length, map, filter, take, drop, inl, inr, codes, refl, sym, ap, ◌∙◌, subst, arith}
+use Rattle.std.proofs.Common.{◌≡◌, ◌≢◌, ℕ, ◌+◌, ◌≤◌, ◌==◌, ◌&&◌, nat_le, ◌*◌, zero, suc, Bool, true, false, if◌then◌else◌, Some, None, Ok, Err}
+use Rattle.std.proofs.Common.{List, [], ◌∷◌, ◌++◌, length, map, filter, take, drop, inl, inr, codes, refl, sym, ap, ◌∙◌, subst, arith}
 use Rattle.std.specs.List.{All, list_any, list_all, slice_get, Contains}
 use Rattle.std.proofs.lemmas.Bool.{and_parts, eqb-true, eqb-false, leb-true}
 use Rattle.std.proofs.lemmas.List.Elements.{All-nil, All-cons}
-use Rattle.rt_cidr.proofs.Promised.{written_0, written_1, written_2, written_3, written_4, written_5, written_6, written_10, written_30, written_50, written_10_0_0_0_8, written_10_1_0_0_16, written_10_9_0_0_16, written_192_0_2_1, written_192_0_2_2, written_10_1_2_3, written_10_9_0_1}
+use Rattle.rt_cidr.proofs.Promised.{written_0, written_1, written_2, written_3, written_4, written_5, written_6, written_10, written_30, written_50}
+use Rattle.rt_cidr.proofs.Promised.{written_10_0_0_0_8, written_10_1_0_0_16, written_10_9_0_0_16}
+use Rattle.rt_cidr.proofs.Promised.{written_192_0_2_1, written_192_0_2_2, written_10_1_2_3, written_10_9_0_1}
 use Rattle.ya_core.specs.declared.schedule.ReplayFault.TheVariants as replay
 use Rattle.ya_core.specs.Steps.{opening}
 use Rattle.rt_rib.specs.declared.routes.Hop.TheVariants.{Discard}
@@ -16,7 +19,8 @@ use Rattle.rt_rib.specs.declared.commands.Entry.{Entry}
 use Rattle.rt_rib.specs.Sequential.{reply_of, table_after}
 use Rattle.rt_rib.specs.Journal.{table_of_journal, IsAnswered, IsLawfulJournal}
 use Rattle.rt_rib.specs.LookUp.{look_up, look_up_all}
-use Rattle.rt_rib.proofs.Promised.{entry, at_10_1_2_3, at_10_9_0_1, ten_8, ten_1_16, ten_9_16, via_192_0_2, route_via, tutorial, the_journal_of_the_tutorial, the_table_of_the_tutorial}
+use Rattle.rt_rib.proofs.Promised.{entry, at_10_1_2_3, at_10_9_0_1, ten_8, ten_1_16, ten_9_16, via_192_0_2, route_via}
+use Rattle.rt_rib.proofs.Promised.{tutorial, the_journal_of_the_tutorial, the_table_of_the_tutorial}
 use Rattle.rt_shared.specs.Visits.{Uncut}
 use Rattle.rt_shared.specs.declared.outcome.Outcome.{Outcome}
 use Rattle.rt_shared.specs.declared.outcome.Outcome.TheVariants.{Did, Refused}
@@ -38,12 +42,14 @@ use Rattle.rt_run.specs.declared.differences.Compared.{Compared}
 use Rattle.rt_run.specs.DiffText.{LeavesTable, differ_status, IsDiffText}
 use Rattle.rt_run.specs.SameDiff.{TellsUnions, DiffsUnions, DiffOnce}
 use Rattle.rt_run.specs.declared.faults.AppFault.TheVariants.{Run, Replay, Write}
-use Rattle.rt_run.specs.RunText.{entries_of, Explains, ExplainsFrom, told_of, told_text, lines_text, feeds_text, was_faulty, was_told, some_refused, status_of, IsHistory, IsRunText, Leaves}
+use Rattle.rt_run.specs.RunText.{entries_of, Explains, ExplainsFrom, told_of, told_text, lines_text, feeds_text}
+use Rattle.rt_run.specs.RunText.{was_faulty, was_told, some_refused, status_of, IsHistory, IsRunText, Leaves}
 use Rattle.ya_replay.specs.ReplayText.{inside_text}
 use Rattle.rt_run.specs.Replayed.{IsReplayText, LeavesReplay}
 use Rattle.rt_run.specs.declared.tallies.Taken.{Taken}
 use Rattle.rt_run.specs.TableText.{answers_text, all_answers_text, routes_text, first_fault, tally_of, was_left_out, IsShown}
-use Rattle.rt_run.specs.SameTable.{table_alone, LeavesAlone, IsUnion, IsAnsweredAlone, LeavesUnion, AnswersAlone, HaveOneUnion, EndsInUnion, EndInOneTable, ShowsUnion, ShowOneTable}
+use Rattle.rt_run.specs.SameTable.{table_alone, LeavesAlone, IsUnion, IsAnsweredAlone}
+use Rattle.rt_run.specs.SameTable.{LeavesUnion, AnswersAlone, HaveOneUnion, EndsInUnion, EndInOneTable, ShowsUnion, ShowOneTable}
 
 -- entries_of
 what_was_refused_has_no_entry :
@@ -74,7 +80,8 @@ a_route_of_north = (north, north_read, refl, what_north_becomes, (0, omega arith
 
 what_it_leaves :
     (texts : List (List ℕ)) (limit k : ℕ) (r : Route) → LeavesAlone texts limit k r
-    → (text : List ℕ) × (lines : List LineOutcome) × (slice_get texts k ≡ Some text) × Becomes text lines [] × Contains (table_alone limit (k + 1) (asked_of lines)) r
+    → (text : List ℕ) × (lines : List LineOutcome) × (slice_get texts k ≡ Some text) × Becomes text lines []
+    × Contains (table_alone limit (k + 1) (asked_of lines)) r
 what_it_leaves texts limit k r h = h
 
 no_text_leaves_none : (k : ℕ) (r : Route) → ¬ LeavesAlone [] 65536 k r
@@ -195,9 +202,12 @@ one_is_covered_and_one_is_not = rw (written_10_1_2_3, written_10_9_0_1, written_
 -- all_answers_text
 all_that_cover_each :
     all_answers_text (at_10_1_2_3 ∷ at_10_9_0_1 ∷ []) (two_to_ten_8 ++ route_via ten_1_16 1 10 Discard ∷ [])
-    ≡ codes "10.1.2.3 route 10.1.0.0/16 feed 1 pref 10 via discard\n10.1.2.3 also 10.0.0.0/8 feed 2 pref 30 via discard shorter\n10.1.2.3 also 10.0.0.0/8 feed 1 pref 50 via discard shorter\n10.9.0.1 route 10.0.0.0/8 feed 2 pref 30 via discard\n10.9.0.1 also 10.0.0.0/8 feed 1 pref 50 via discard preference\n"
+    ≡ codes "10.1.2.3 route 10.1.0.0/16 feed 1 pref 10 via discard\n10.1.2.3 also 10.0.0.0/8 feed 2 pref 30 via discard shorter\n"
+    ++ codes "10.1.2.3 also 10.0.0.0/8 feed 1 pref 50 via discard shorter\n10.9.0.1 route 10.0.0.0/8 feed 2 pref 30 via discard\n"
+    ++ codes "10.9.0.1 also 10.0.0.0/8 feed 1 pref 50 via discard preference\n"
 unfolding look_up_all found_text also_text reason_text reply_text route_text
-all_that_cover_each = rw (written_10_1_2_3, written_10_9_0_1, written_10_1_0_0_16, written_10_0_0_0_8, written_1, written_2, written_10, written_30, written_50) refl
+all_that_cover_each =
+    rw (written_10_1_2_3, written_10_9_0_1, written_10_1_0_0_16, written_10_0_0_0_8, written_1, written_2, written_10, written_30, written_50) refl
 
 -- first_fault
 the_second_line_has_the_first : first_fault 3 (asked Dump Refused ∷ faulty fault.Hop ∷ faulty fault.Text ∷ []) ≡ Some (4, fault.Hop)
@@ -269,7 +279,10 @@ NoLF byte = byte ≢ 10
 -- its first line ends at the LF, and does not tell version 2
 cut_after_dump : CutsLine text (codes "dump") []
 cut_after_dump = record {
-  unbroken = All-cons NoLF 100 (codes "ump") (λ e. omega (arith, e)) (All-cons NoLF 117 (codes "mp") (λ e. omega (arith, e)) (All-cons NoLF 109 (codes "p") (λ e. omega (arith, e)) (All-cons NoLF 112 [] (λ e. omega (arith, e)) (All-nil NoLF))));
+  unbroken =
+      All-cons NoLF 100 (codes "ump") (λ e. omega (arith, e))
+      (All-cons NoLF 117 (codes "mp") (λ e. omega (arith, e))
+      (All-cons NoLF 109 (codes "p") (λ e. omega (arith, e)) (All-cons NoLF 112 [] (λ e. omega (arith, e)) (All-nil NoLF))));
   ended = inl refl;
 }
 
@@ -279,46 +292,13 @@ of_version_1 rest h = elim h.ended [
   | inr whole ↦ cc
 ]
 
--- IsHistory
-the_history_of_a_dump : IsHistory (text ∷ []) 1 1 (dumped ∷ []) (lines ∷ [])
-the_history_of_a_dump = record {
-  lawful = lawful;
-  explained = (
-    record {
-      becomes = record {
-        version = One;
-        lines = text;
-        read = lines;
-        body = (of_version_1, refl);
-        become = (codes "dump", [], cut_after_dump, (tt, refl), refl);
-        joined = refl;
-      };
-      count = 1;
-      hold = omega arith;
-      uncut = ([], [], refl, All-nil (λ (e : Entry). e.feed ≢ 1), All-cons (λ (e : Entry). e.feed ≡ 1) dumped [] refl (All-nil (λ (e : Entry). e.feed ≡ 1)), All-nil (λ (e : Entry). e.feed ≢ 1));
-    },
-    tt,
-  );
-  no_other = All-cons (λ (e : Entry). (1 ≤ e.feed) × (e.feed ≤ 1)) dumped [] (omega arith, omega arith) (All-nil (λ (e : Entry). (1 ≤ e.feed) × (e.feed ≤ 1)));
-}
-
--- IsRunText
-the_run_of_a_dump : IsRunText (text ∷ []) 1 1 (codes "1:1 dumped 0\ntable 0\n") 0
-unfolding table_of_journal table_after reply_of reply_text count_text
-the_run_of_a_dump = record {
-  journal = dumped ∷ [];
-  outcomes = lines ∷ [];
-  history = the_history_of_a_dump;
-  printed = rw (written_1, written_0) refl;
-  is_status = refl;
-}
-
 -- entries of a feed, each a visit of its own, lie uncut among those of the others
 abbrev alone : List Entry → List (List Entry)
 alone [] = []
 alone (e ∷ entries) = (e ∷ []) ∷ alone entries
 
-behind_another : (feed : ℕ) (e : Entry) (visits : List (List Entry)) (journal : List Entry) → e.feed ≢ feed → Uncut feed visits journal → Uncut feed visits (e ∷ journal)
+behind_another : (feed : ℕ) (e : Entry) (visits : List (List Entry)) (journal : List Entry) → e.feed ≢ feed
+    → Uncut feed visits journal → Uncut feed visits (e ∷ journal)
 behind_another feed e [] journal other none = All-cons (λ e. e.feed ≢ feed) e journal other none
 behind_another feed e (visit ∷ visits) journal other (before, rest, same, none, own, uncut) =
     (e ∷ before, rest, ap (λ entries. e ∷ entries) same, All-cons (λ e. e.feed ≢ feed) e before other none, own, uncut)
@@ -339,30 +319,69 @@ each_alone feed (e ∷ journal) = by (e.feed == feed) refl (each_alone feed jour
     )
     by false is uncut = behind_another feed e (alone (filter (λ e. e.feed == feed) journal)) journal (eqb-false e.feed feed is) uncut
 
+-- entries of these feeds, by their numbers
+by_range : (last : ℕ) (entries : List Entry) → list_all (λ e. nat_le 1 e.feed && nat_le e.feed last) entries ≡ true
+    → All (λ (e : Entry). (1 ≤ e.feed) × (e.feed ≤ last)) entries
+by_range last [] all = All-nil (λ (e : Entry). (1 ≤ e.feed) × (e.feed ≤ last))
+by_range last (e ∷ entries) all =
+    let parts = and_parts (nat_le 1 e.feed && nat_le e.feed last) (list_all (λ e. nat_le 1 e.feed && nat_le e.feed last) entries) all in
+    let both = and_parts (nat_le 1 e.feed) (nat_le e.feed last) parts.0 in
+    All-cons (λ (e : Entry). (1 ≤ e.feed) × (e.feed ≤ last)) e entries (leb-true 1 e.feed both.0, leb-true e.feed last both.1) (by_range last entries parts.1)
+
+-- IsHistory
+the_history_of_a_dump : IsHistory (text ∷ []) 1 1 (dumped ∷ []) (lines ∷ [])
+the_history_of_a_dump = record {
+  lawful = lawful;
+  explained = (
+    record {
+      becomes = record {
+        version = One;
+        lines = text;
+        read = lines;
+        body = (of_version_1, refl);
+        become = (codes "dump", [], cut_after_dump, (tt, refl), refl);
+        joined = refl;
+      };
+      count = 1;
+      hold = omega arith;
+      uncut = each_alone 1 (dumped ∷ []);
+    },
+    tt,
+  );
+  no_other = by_range 1 (dumped ∷ []) refl;
+}
+
+-- IsRunText
+the_run_of_a_dump : IsRunText (text ∷ []) 1 1 (codes "1:1 dumped 0\ntable 0\n") 0
+unfolding table_of_journal table_after reply_of reply_text count_text
+the_run_of_a_dump = record {
+  journal = dumped ∷ [];
+  outcomes = lines ∷ [];
+  history = the_history_of_a_dump;
+  printed = rw (written_1, written_0) refl;
+  is_status = refl;
+}
+
+-- the lines of a text are explained, one command at a time, where their entries are the feed's in the tutorial
+one_by_one : (feed : ℕ) (text : List ℕ) (lines : List LineOutcome) → Becomes text lines []
+    → map (entries_of feed) (first_chunks 1 (length (asked_of lines)) (asked_of lines)) ≡ alone (filter (λ e. e.feed == feed) tutorial)
+    → Explains 1 feed tutorial text lines
+one_by_one feed text lines becomes same = record {
+  becomes = becomes;
+  count = length (asked_of lines);
+  hold = omega arith;
+  uncut = subst (λ visits. Uncut feed visits tutorial) (sym same) (each_alone feed tutorial);
+}
+
 -- Explains
 the_lines_of_north : Explains 1 1 tutorial north north_read
-the_lines_of_north = record {
-  becomes = what_north_becomes;
-  count = length (asked_of north_read);
-  hold = omega arith;
-  uncut = each_alone 1 tutorial;
-}
+the_lines_of_north = one_by_one 1 north north_read what_north_becomes refl
 
 the_lines_of_south : Explains 1 2 tutorial south (skipped ∷ south_read)
-the_lines_of_south = record {
-  becomes = what_south_becomes;
-  count = length (asked_of south_read);
-  hold = omega arith;
-  uncut = each_alone 2 tutorial;
-}
+the_lines_of_south = one_by_one 2 south (skipped ∷ south_read) what_south_becomes refl
 
 the_lines_of_east : Explains 1 3 tutorial east (skipped ∷ east_read)
-the_lines_of_east = record {
-  becomes = what_east_becomes;
-  count = length (asked_of east_read);
-  hold = omega arith;
-  uncut = each_alone 3 tutorial;
-}
+the_lines_of_east = one_by_one 3 east (skipped ∷ east_read) what_east_becomes refl
 
 the_same_lines_in_pieces_of_two : Explains 2 1 tutorial north north_read
 the_same_lines_in_pieces_of_two = record {
@@ -408,21 +427,14 @@ no_lines_of_no_text h = h
 no_text_left_out : ¬ ExplainsFrom 1 1 tutorial (north ∷ []) []
 no_text_left_out h = h
 
--- entries of these feeds, by their numbers
-by_range : (last : ℕ) (entries : List Entry) → list_all (λ e. nat_le 1 e.feed && nat_le e.feed last) entries ≡ true → All (λ (e : Entry). (1 ≤ e.feed) × (e.feed ≤ last)) entries
-by_range last [] all = All-nil (λ (e : Entry). (1 ≤ e.feed) × (e.feed ≤ last))
-by_range last (e ∷ entries) all =
-    let parts = and_parts (nat_le 1 e.feed && nat_le e.feed last) (list_all (λ e. nat_le 1 e.feed && nat_le e.feed last) entries) all in
-    let both = and_parts (nat_le 1 e.feed) (nat_le e.feed last) parts.0 in
-    All-cons (λ (e : Entry). (1 ≤ e.feed) × (e.feed ≤ last)) e entries (leb-true 1 e.feed both.0, leb-true e.feed last both.1) (by_range last entries parts.1)
-
 -- what the tutorial shows of its run
 abbrev the_tutorials_page : List ℕ
 the_tutorials_page =
     codes "1:2 added\n1:3 added\n1:4 route 10.1.0.0/16 feed 1 pref 10 via 192.0.2.1\n"
     ++ codes "2:3 added\n2:4 added\n2:5 purged 2\n2:6 added\n"
     ++ codes "3:3 added\n3:4 added\n3:5 withdrawn\n3:6 route 10.9.0.0/16 feed 3 pref 10 via discard\n"
-    ++ codes "table 4\n10.0.0.0/8 feed 2 pref 30 via 192.0.2.2\n10.0.0.0/8 feed 1 pref 50 via 192.0.2.1\n10.1.0.0/16 feed 1 pref 10 via 192.0.2.1\n10.9.0.0/16 feed 3 pref 10 via discard\n"
+    ++ codes "table 4\n10.0.0.0/8 feed 2 pref 30 via 192.0.2.2\n10.0.0.0/8 feed 1 pref 50 via 192.0.2.1\n"
+    ++ codes "10.1.0.0/16 feed 1 pref 10 via 192.0.2.1\n10.9.0.0/16 feed 3 pref 10 via discard\n"
 
 -- IsHistory
 the_history_of_the_tutorial : IsHistory (north ∷ south ∷ east ∷ []) 65536 1 tutorial (north_read ∷ (skipped ∷ south_read) ∷ (skipped ∷ east_read) ∷ [])
@@ -439,7 +451,23 @@ the_run_of_the_tutorial = record {
   journal = tutorial;
   outcomes = north_read ∷ (skipped ∷ south_read) ∷ (skipped ∷ east_read) ∷ [];
   history = the_history_of_the_tutorial;
-  printed = rw (the_table_of_the_tutorial, written_10_0_0_0_8, written_10_1_0_0_16, written_10_9_0_0_16, written_192_0_2_1, written_192_0_2_2, written_1, written_2, written_3, written_4, written_5, written_6, written_10, written_30, written_50) refl;
+  printed = rw (
+    the_table_of_the_tutorial,
+    written_10_0_0_0_8,
+    written_10_1_0_0_16,
+    written_10_9_0_0_16,
+    written_192_0_2_1,
+    written_192_0_2_2,
+    written_1,
+    written_2,
+    written_3,
+    written_4,
+    written_5,
+    written_6,
+    written_10,
+    written_30,
+    written_50,
+  ) refl;
   is_status = refl;
 }
 
@@ -504,7 +532,9 @@ nothing_lost_where_it_could_not_be_written : ¬ Leaves (IsRunText (text ∷ []) 
 nothing_lost_where_it_could_not_be_written (bytes, status, is, begins) = let lost : [] ≡ 120 ∷ take begins.count bytes = begins.appended in cc
 
 never_without_a_text : ¬ Leaves (IsRunText (text ∷ []) 1 1) (Some []) (Some []) (Ok 0)
-never_without_a_text (bytes, is, same) = let none : [] ≡ bytes = same in nothing_printed_is_no_run (text ∷ []) 1 1 0 (subst (λ b. IsRunText (text ∷ []) 1 1 b 0) (sym none) is)
+never_without_a_text (bytes, is, same) =
+    let none : [] ≡ bytes = same in
+    nothing_printed_is_no_run (text ∷ []) 1 1 0 (subst (λ b. IsRunText (text ∷ []) 1 1 b 0) (sym none) is)
 
 -- what each text of the tutorial became
 abbrev the_tutorials_outcomes : List (List LineOutcome)
@@ -582,7 +612,8 @@ nor_as_a_replay h = h
 
 a_beginning_of_it_where_it_could_not_be_written :
     (texts : List (List ℕ)) (limit batch : ℕ) (text_of : List Route → List ℕ) (taken : Taken)
-    → IsShown texts limit batch text_of (codes "table 0\n") taken → Leaves (IsShown texts limit batch text_of) (Some (codes "x")) (Some (codes "xtab")) (Err Write)
+    → IsShown texts limit batch text_of (codes "table 0\n") taken
+    → Leaves (IsShown texts limit batch text_of) (Some (codes "x")) (Some (codes "xtab")) (Err Write)
 a_beginning_of_it_where_it_could_not_be_written texts limit batch text_of taken is =
     (codes "table 0\n", taken, is, record { count = 3; within = omega arith; appended = refl })
 

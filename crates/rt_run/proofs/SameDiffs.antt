@@ -36,6 +36,7 @@ diff_once diffs one one_list by old_texts new_texts limit batch batch' bytes byt
     let old : there.old ≡ here.old = one old_texts limit there.old here.old there.old_union here.old_union in
     let new : there.new ≡ here.new = one new_texts limit there.new here.new there.new_union here.new_union in
     let also : AreDifferences by here.old here.new there.list =
-    subst (λ (t : List Route). AreDifferences by here.old t there.list) new (subst (λ (t : List Route). AreDifferences by t there.new there.list) old there.differences) in
+    subst (λ (t : List Route). AreDifferences by here.old t there.list) new
+    (subst (λ (t : List Route). AreDifferences by t there.new there.list) old there.differences) in
     let same : here.list ≡ there.list = one_list by here.old here.new here.list there.list here.differences also in
     here.printed ∙ (ap differences_text same ∙ sym there.printed)

@@ -277,12 +277,12 @@ module _ {V : Type 0} (items : V → List ℕ) (texts : List V) (table : SharedI
           }
 
 -- what is written of them is a run's text
-pub run_text : (asked : AskedRun) (reports : List (List Line)) (book : BookContents) (bytes : List ℕ) → RunOverBook asked reports book
-    → bytes ≡ reports_text 1 reports ++ table_text (table_of book) → IsRunText asked.texts asked.limit asked.batch bytes (reports_status reports)
-run_text asked reports book bytes ran printed = record {
+pub run_text : (asked : AskedRun) (reports : List (List Line)) (book : BookContents) → RunOverBook asked reports book
+    → IsRunText asked.texts asked.limit asked.batch (reports_text 1 reports ++ table_text (table_of book)) (reports_status reports)
+run_text asked reports book ran = record {
   journal = book.journal;
   outcomes = ran.outcomes;
   history = ran.history;
-  printed = rw (printed, ran.reported, ran.limited, feeds-text 1 ran.outcomes) refl;
+  printed = rw (ran.reported, ran.limited, feeds-text 1 ran.outcomes) refl;
   is_status = rw ran.reported (reports_status-lines ran.outcomes);
 }

@@ -19,7 +19,8 @@ pub record IsReplayText (levels : ℕ) (picks text : List ℕ) : Type 0 where
   pub told : TellsInside last inside
   pub printed : text ≡ replay_text_of steps inside
 
--- what a replay leaves in its writer: the text of the one run that the picks name; nothing where it was refused; a beginning of that text where it could not be written
+-- what a replay leaves in its writer: the text of the one run that the picks name; nothing where it was refused; a
+-- beginning of that text where it could not be written
 abbrev pub LeavesReplay : ℕ → List ℕ → Option (List ℕ) → Option (List ℕ) → Result ℕ AppFault → Type 0
 LeavesReplay levels picks old new (Ok status) =
     (status ≡ 0) × (text : List ℕ) × IsReplayText levels picks text × Appends old new text

@@ -15,7 +15,7 @@ use crate::faults::AppFault;
 use crate::feed_texts::FeedTexts;
 use crate::output::{Output, write_output};
 use crate::runs::{Ran, run_all};
-use crate::tallies::{Taken, taken_of};
+use crate::tallies::Taken;
 use rt_cidr::Addr;
 use rt_diff::{By, Comparison, Difference, first_difference};
 use rt_feed::{RunFault, write_difference};
@@ -89,8 +89,8 @@ fn compare_ran<W: Write>(
         → Leaves (IsDiffText by old_texts new_texts limit batch) (W.contents w.old) (W.contents w.new) result }
     ensures ran { result ≢ Err (AppFault.Run RunFault.NoText) }
 {
-    let of_old = taken_of(alloc, old.reports.as_slice())?;
-    let of_new = taken_of(alloc, new.reports.as_slice())?;
+    let of_old = old.taken(alloc)?;
+    let of_new = new.taken(alloc)?;
     let first = first_difference(&old.book, &new.book, by, Addr(0));
     let status = status_of(&of_old, &of_new, first);
     write_output(

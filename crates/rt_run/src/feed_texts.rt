@@ -5,8 +5,8 @@ ghost use Rattle.rt_rib.specs.Book.{IsLimit};
 
 use std::marker::Model;
 
-/// The texts of a run's feeds, the k-th as feed k's, how many routes each feed may have, and how many of its commands it
-/// asks at once.
+/// The texts of a run's feeds, the k-th as feed k's, how many routes each feed may have, and how many of its commands
+/// it asks at once.
 #[derive(Drop)]
 pub(crate) struct FeedTexts<'a> {
     pub(crate) texts: &'a [Vec<u8>],

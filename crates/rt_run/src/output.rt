@@ -1,4 +1,5 @@
-//! What is written: a run's reports and table, what its finished table says, what two tables answer otherwise, or a replay. All goes through one buffer.
+//! What is written: a run's reports and table, what its finished table says, what two tables answer otherwise, or a
+//! replay. All goes through one buffer.
 ghost use Rattle.std.specs.Prelude.{◌≡◌, ◌++◌, [], ◌<◌, ◌≤◌, true, false, length, OnOk, OnErr};
 ghost use Rattle.std.specs.Io.KnownBytes.{Appends};
 ghost use Rattle.rt_cidr.specs.Output.{AppendsBeginning};

@@ -7,12 +7,13 @@ ghost use Rattle.rt_feed.specs.Reports.{has_refusal, has_fault};
 ghost use Rattle.rt_run.specs.RunText.{IsRunText, Leaves};
 ghost use Rattle.rt_run.specs.inside.AskedRun.{AskedRun};
 ghost use Rattle.rt_run.specs.inside.RunResults.{RunOverBook, RunBeforeSettle, reports_status};
+ghost use Rattle.rt_run.specs.inside.Tallies.{IsTaken};
 ghost use Rattle.rt_shared.specs.Table.{ArePassesOf};
 
 use crate::faults::AppFault;
 use crate::feed_texts::FeedTexts;
 use crate::output::{Output, write_output};
-use crate::tallies::status_where;
+use crate::tallies::{Taken, status_where, taken_of};
 use rt_feed::{Feed, Report, RunFault, TableGate, run_feeds};
 use rt_rib::{Book, MOST_FEEDS, Refused};
 use rt_shared::{FeedPass, SharedRib};
@@ -59,8 +60,15 @@ pub(crate) struct Ran {
 }
 
 impl Ran {
-    /// Leaves the table where it is: to free it node by node would take a tenth of a run, and the system takes its pages
-    /// back at once.
+    /// How much of the texts was taken.
+    pub(crate) fn taken(&self, alloc: Global) -> Result<Taken, AllocError>
+        ensures { IfOk result (λ taken. IsTaken self.now.reports.items taken) }
+    {
+        taken_of(alloc, self.reports.as_slice())
+    }
+
+    /// Leaves the table where it is: to free it node by node would take a tenth of a run, and the system takes its
+    /// pages back at once.
     pub(crate) fn leave_table(self) {
         mem::forget(self.book);
     }

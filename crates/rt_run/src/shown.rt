@@ -13,7 +13,7 @@ use crate::faults::AppFault;
 use crate::feed_texts::FeedTexts;
 use crate::output::{Matches, Output, write_output};
 use crate::runs::{Ran, run_all};
-use crate::tallies::{Taken, taken_of};
+use crate::tallies::Taken;
 use rt_cidr::Addr;
 use rt_feed::RunFault;
 use rt_rib::{Book, Refused, Route, keep_best};
@@ -131,7 +131,7 @@ fn show_ran<W: Write>(
         → Leaves (IsShown asked.texts asked.limit asked.batch (shown_text shown.entry)) (W.contents w.old) (W.contents w.new) result }
     ensures ran { result ≢ Err (AppFault.Run RunFault.NoText) }
 {
-    let taken = taken_of(alloc, ran.reports.as_slice())?;
+    let taken = ran.taken(alloc)?;
     write_shown(alloc, &ran.book, shown, w)?;
     Ok(taken)
 }

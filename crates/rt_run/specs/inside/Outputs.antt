@@ -38,7 +38,8 @@ output_text (output.Differences old new by first) = lines_of by (table_of old.no
 output_text (output.Routes routes) = rows_text routes.now
 output_text (output.Replay steps inside) = replay_text_of steps.now inside
 
--- of reports there are at most as many as feeds, the difference is the first, and of steps there are so many that each has a number
+-- of reports there are at most as many as feeds, the difference is the first, and of steps there are so many that each
+-- has a number
 abbrev pub IsOutput : Output → Type 0
 IsOutput (output.Run reports routes) = length reports.now ≤ MOST_FEEDS
 IsOutput (output.Answers book addresses) = Unit {0}

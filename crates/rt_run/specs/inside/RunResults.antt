@@ -18,7 +18,8 @@ pub record RunOverBook (asked : AskedRun) (reports : List (List Line)) (book : B
   pub reported : reports ≡ map (report_lines 1) outcomes
   pub counted : length reports ≡ length asked.texts
 
--- the texts were run by passes of the table, which are all back, and these are the reports: whatever the table settles to, the texts were run to their ends with it
+-- the texts were run by passes of the table, which are all back, and these are the reports: whatever the
+-- table settles to, the texts were run to their ends with it
 pub record RunBeforeSettle (texts : List (List ℕ)) (batch : ℕ) (table : SharedId) (passes : List HeldPass) (reports : List (List Line)) : Type 0 where
   pub back : ArePassesOf table passes
   pub settled : (book : BookContents) → book.limit ≡ table.limit → Settles table passes book.journal → RunOverBook (record { texts = texts; limit = table.limit; batch = batch }) reports book

@@ -1,6 +1,5 @@
 use Rattle.std.proofs.lemmas.Result.{err_from_is_err_and}
 use Rattle.rt_rib.specs.Book.{table_of}
-use Rattle.rt_run.specs.inside.Tallies.{IsTaken}
 use Rattle.rt_run.specs.inside.Comparisons.{lines_of}
 use Rattle.rt_run.specs.declared.differences.Compared.{Compared}
 use Rattle.rt_run.specs.DiffText.{IsDiffText}
@@ -12,12 +11,10 @@ pub returns-clause-text : goal.returns-clause-text
 returns-clause-text g c old_texts new_texts limit batch old_ran new_ran =
     let old = c.args.old.now in
     let new = c.args.new.now in
-    let of_old : IsTaken old.reports.items c.in_ok-of_old.of_old = rw (← c.as_slice.ensures.value) (c.in_ok-of_old.ensures {u = tt}) in
-    let of_new : IsTaken new.reports.items c.in_ok-of_new.of_new = rw (← c.as_slice-2.ensures.value) (c.in_ok-of_new.ensures {u = tt}) in
     let given : Compared = record { status = c.status_of-status.result; old = c.in_ok-of_old.of_old; new = c.in_ok-of_new.of_new } in (
       lines_of c.args.by (table_of old.book) (table_of new.book),
       is_diff c.args.by old_texts new_texts limit batch old.reports.items new.reports.items old.book new.book given c.first_difference-first.result
-          old_ran new_ran of_old of_new c.first_difference-first.ensures c.status_of-status.ensures,
+          old_ran new_ran (c.in_ok-of_old.ensures {u = tt}) (c.in_ok-of_new.ensures {u = tt}) c.first_difference-first.ensures c.status_of-status.ensures,
       c.in_ok-write_output.ensures {u = tt},
     )
 
@@ -25,12 +22,9 @@ pub returns-in_err-write_output-clause-text : goal.returns-in_err-write_output-c
 returns-in_err-write_output-clause-text g c old_texts new_texts limit batch old_ran new_ran =
     let old = c.args.old.now in
     let new = c.args.new.now in
-    let of_old : IsTaken old.reports.items c.in_ok-of_old.of_old = rw (← c.as_slice.ensures.value) (c.in_ok-of_old.ensures {u = tt}) in
-    let of_new : IsTaken new.reports.items c.in_ok-of_new.of_new = rw (← c.as_slice-2.ensures.value) (c.in_ok-of_new.ensures {u = tt}) in
     let given : Compared = record { status = c.status_of-status.result; old = c.in_ok-of_old.of_old; new = c.in_ok-of_new.of_new } in
     let is = is_diff c.args.by old_texts new_texts limit batch old.reports.items new.reports.items old.book new.book given c.first_difference-first.result
-    old_ran new_ran of_old of_new c.first_difference-first.ensures c.status_of-status.ensures in
+    old_ran new_ran (c.in_ok-of_old.ensures {u = tt}) (c.in_ok-of_new.ensures {u = tt}) c.first_difference-first.ensures c.status_of-status.ensures in
     let fault = err_from_is_err_and c.from_residual-in_err-write_output.result c.from_residual-in_err-write_output.ensures.1 in
     rw (fault.1, fault.2)
-    (leaves_fault (IsDiffText c.args.by old_texts new_texts limit batch) _ _
-    (lines_of c.args.by (table_of old.book) (table_of new.book)) given c.in_err-write_output.field-0.0 is (c.in_err-write_output.ensures {u = tt}))
+    (leaves_fault (IsDiffText c.args.by old_texts new_texts limit batch) _ _ _ given _ is (c.in_err-write_output.ensures {u = tt}))
