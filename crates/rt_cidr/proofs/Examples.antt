@@ -1,13 +1,13 @@
--- Examples by which definitions are tested, each under a line with the definition's name. Both sides are computed, but for
--- the texts that are written for numbers, which have one spelling each. What a relation or a law says is spelled out for
--- some values.
-use Rattle.std.proofs.Common.{map, length, slice_index, ◌/◌, ◌%◌, ◌≡◌, ℕ, ◌+◌, ◌*◌, ◌^◌, ◌<◌, Bool, true, false, List}
+-- Examples by which definitions are tested, each under a line with the definition's name. Both sides are computed, and
+-- what a relation or a law says is spelled out for some values.
+use Rattle.std.proofs.Common.{map, length, slice_index, ◌/◌, ◌%◌, ◌≡◌, ℕ, ◌+◌, ◌*◌, ◌<◌, Bool, true, false, List}
 use Rattle.std.proofs.Common.{[], ◌∷◌, ◌++◌, ◌||◌, Some, Ok, Err, codes, decimal, take, eqb, refl, ap, subst, ◌∙◌}
 use Rattle.std.proofs.Common.{arith}
 use Rattle.std.proofs.lemmas.Bool.{eq-eqb, or_right}
 use Rattle.std.proofs.lemmas.List.Folds.{list_any-append}
 use Rattle.std.specs.List.{list_any}
 use Rattle.std.specs.Str.Parse.{IsNumeral, digits_value}
+use Rattle.std.specs.Fmt.{digits}
 use Rattle.rt_cidr.specs.declared.address.Addr.{Addr}
 use Rattle.rt_cidr.specs.declared.prefixes.Prefix.{Prefix}
 use Rattle.rt_cidr.specs.declared.prefixes.TextFault.TheVariants.{Text, Length, Bits}
@@ -16,8 +16,8 @@ use Rattle.rt_cidr.specs.Output.{AppendsBeginning, buffered}
 use Rattle.rt_cidr.specs.Prefix.{covers, contains, same_prefix}
 use Rattle.rt_cidr.specs.Text.{dot, slash, zero_digit, IsDecimal, IsOctetText, IsAddressText, IsPrefixText, address_text, prefix_text}
 use Rattle.rt_cidr.specs.Reading.{ReadsPrefix, ReadsDecimal, ReadsAddress, AnswersPair}
-use Rattle.rt_cidr.proofs.Texts.{decimal_is_decimal, decimal_one_text, address_text_is_address, address_one_text}
-use Rattle.rt_cidr.proofs.Texts.{address_one_number, prefix_text_is_pair, pair_one_text, pair_one_value}
+use Rattle.rt_cidr.proofs.Fronts.{four_octets}
+use Rattle.rt_cidr.proofs.Texts.{decimal_is_decimal, address_one_number, prefix_text_is_pair, pair_one_value}
 use Rattle.std.specs.Prelude.{◌↔◌, ◌≤◌, IsTrue, Option, None, Result}
 use Rattle.rt_cidr.specs.declared.prefixes.TextFault.{TextFault}
 use Rattle.rt_cidr.specs.declared.short_text.TheConstants.{SHORT_TEXT_BYTES}
@@ -28,20 +28,20 @@ use Rattle.rt_cidr.specs.Laws.{ReadsAddressAgain, ReadsPrefixAgain, SamePrefix, 
 use Rattle.rt_cidr.specs.Laws.{ContainsWhatItCovers, CoveringAreNested, CoveringAreSame}
 
 -- 0.0.0.0/0, 10.0.0.0/8, 255.255.255.255/32
-abbrev everything : Prefix
+abbrev pub everything : Prefix
 everything = record { base = 0; len = 0; is_prefix = record { short = omega arith; fits = omega arith; clear = refl } }
 
 abbrev pub ten_8 : Prefix
 ten_8 = record { base = 167772160; len = 8; is_prefix = record { short = omega arith; fits = omega arith; clear = refl } }
 
-abbrev last_32 : Prefix
+abbrev pub last_32 : Prefix
 last_32 = record { base = 4294967295; len = 32; is_prefix = record { short = omega arith; fits = omega arith; clear = refl } }
 
 -- 0.0.0.0/8 and 10.0.0.0/16
 abbrev zero_8 : Prefix
 zero_8 = record { base = 0; len = 8; is_prefix = record { short = omega arith; fits = omega arith; clear = refl } }
 
-abbrev ten_0_16 : Prefix
+abbrev pub ten_0_16 : Prefix
 ten_0_16 = record { base = 167772160; len = 16; is_prefix = record { short = omega arith; fits = omega arith; clear = refl } }
 
 -- the address of this number
@@ -78,17 +78,11 @@ no_base_of_33_bits : ¬ IsPrefix 4294967296 0
 no_base_of_33_bits h = omega (arith, h.fits)
 
 -- covers
-the_first_of_its_addresses : covers ten_8 (at 167772160) ≡ true
-the_first_of_its_addresses = refl
+the_first_and_the_last_of_its_addresses : map (λ n. covers ten_8 (at n)) (167772160 ∷ 184549375 ∷ []) ≡ true ∷ true ∷ []
+the_first_and_the_last_of_its_addresses = refl
 
-the_last_of_its_addresses : covers ten_8 (at 184549375) ≡ true
-the_last_of_its_addresses = refl
-
-the_address_before : covers ten_8 (at 167772159) ≡ false
-the_address_before = refl
-
-the_address_behind : covers ten_8 (at 184549376) ≡ false
-the_address_behind = refl
+the_addresses_before_and_behind : map (λ n. covers ten_8 (at n)) (167772159 ∷ 184549376 ∷ []) ≡ false ∷ false ∷ []
+the_addresses_before_and_behind = refl
 
 length_0_covers_every_address : covers everything (at 4294967295) ≡ true
 length_0_covers_every_address = refl
@@ -97,33 +91,23 @@ length_32_covers_one : covers last_32 (at 4294967294) ≡ false
 length_32_covers_one = refl
 
 -- same_prefix
-of_one_base_or_of_one_length_alone : (same_prefix ten_8 ten_0_16 ≡ false) × (same_prefix ten_8 zero_8 ≡ false)
-of_one_base_or_of_one_length_alone = (refl, refl)
-
-the_same : same_prefix ten_8 ten_8 ≡ true
-the_same = refl
+the_same_but_none_of_one_base_or_of_one_length_alone :
+    map (same_prefix ten_8) (ten_8 ∷ ten_0_16 ∷ zero_8 ∷ []) ≡ true ∷ false ∷ false ∷ []
+the_same_but_none_of_one_base_or_of_one_length_alone = refl
 
 of_another_base : same_prefix everything ten_8 ≡ false
 of_another_base = refl
 
 -- contains
-a_longer_one_at_its_base : contains ten_8 ten_0_16 ≡ true
-a_longer_one_at_its_base = refl
+itself_and_a_longer_one_at_its_base_but_none_beside_it :
+    map (contains ten_8) (ten_8 ∷ ten_0_16 ∷ last_32 ∷ []) ≡ true ∷ true ∷ false ∷ []
+itself_and_a_longer_one_at_its_base_but_none_beside_it = refl
 
-no_shorter_one_at_its_base : contains zero_8 everything ≡ false
-no_shorter_one_at_its_base = refl
-
-itself : contains ten_8 ten_8 ≡ true
-itself = refl
+no_shorter_one : map (λ p. contains p everything) (ten_8 ∷ zero_8 ∷ []) ≡ false ∷ false ∷ []
+no_shorter_one = refl
 
 a_longer_one_in_it : contains everything last_32 ≡ true
 a_longer_one_in_it = refl
-
-no_shorter_one : contains ten_8 everything ≡ false
-no_shorter_one = refl
-
-none_beside_it : contains ten_8 last_32 ≡ false
-none_beside_it = refl
 
 -- zero_digit
 the_byte_of_a_zero : codes "0" ≡ zero_digit ∷ []
@@ -138,55 +122,21 @@ the_byte_of_a_slash : codes "/" ≡ slash ∷ []
 the_byte_of_a_slash = refl
 
 -- IsDecimal
-pub decimal_0 : IsDecimal (codes "0") 0
+decimal_0 : IsDecimal (codes "0") 0
 decimal_0 = record { digits = (omega arith, (omega arith, tt)); value = refl; no_leading_zero = λ _. refl }
 
-pub decimal_1 : IsDecimal (codes "1") 1
-decimal_1 = record { digits = (omega arith, (omega arith, tt)); value = refl; no_leading_zero = λ _. refl }
-
-pub decimal_2 : IsDecimal (codes "2") 2
-decimal_2 = record { digits = (omega arith, (omega arith, tt)); value = refl; no_leading_zero = λ _. refl }
-
-pub decimal_3 : IsDecimal (codes "3") 3
-decimal_3 = record { digits = (omega arith, (omega arith, tt)); value = refl; no_leading_zero = λ _. refl }
-
-pub decimal_8 : IsDecimal (codes "8") 8
+decimal_8 : IsDecimal (codes "8") 8
 decimal_8 = record { digits = (omega arith, (omega arith, tt)); value = refl; no_leading_zero = λ _. refl }
 
-pub decimal_10 : IsDecimal (codes "10") 10
+decimal_10 : IsDecimal (codes "10") 10
 decimal_10 = record { digits = (omega arith, (omega arith, (omega arith, tt))); value = refl; no_leading_zero = λ zero. cc }
 
-pub decimal_33 : IsDecimal (codes "33") 33
-decimal_33 = record { digits = (omega arith, (omega arith, (omega arith, tt))); value = refl; no_leading_zero = λ zero. cc }
-
-pub decimal_100 : IsDecimal (codes "100") 100
-decimal_100 = record { digits = (omega arith, (omega arith, (omega arith, (omega arith, tt)))); value = refl; no_leading_zero = λ zero. cc }
-
-pub decimal_192 : IsDecimal (codes "192") 192
-decimal_192 = record { digits = (omega arith, (omega arith, (omega arith, (omega arith, tt)))); value = refl; no_leading_zero = λ zero. cc }
-
-pub decimal_255 : IsDecimal (codes "255") 255
+decimal_255 : IsDecimal (codes "255") 255
 decimal_255 = record { digits = (omega arith, (omega arith, (omega arith, (omega arith, tt)))); value = refl; no_leading_zero = λ zero. cc }
 
 pub decimal_4294967296 : IsDecimal (codes "4294967296") 4294967296
-decimal_4294967296 =
-    record {
-      digits = (
-        omega arith,
-        (
-          omega arith,
-          (
-            omega arith,
-            (
-              omega arith,
-              (omega arith, (omega arith, (omega arith, (omega arith, (omega arith, (omega arith, (omega arith, tt))))))),
-            ),
-          ),
-        ),
-      );
-      value = refl;
-      no_leading_zero = λ zero. cc;
-    }
+unfolding digits
+decimal_4294967296 = decimal_is_decimal 4294967296 (omega arith)
 
 no_leading_zero : ¬ IsDecimal (codes "08") 8
 no_leading_zero h = let one = h.no_leading_zero refl in cc
@@ -215,51 +165,14 @@ a_decimal_below_256 text octet h = (h.spelled, h.fits)
 octet_0 : IsOctetText (codes "0") 0
 octet_0 = record { spelled = decimal_0; fits = omega arith }
 
-octet_1 : IsOctetText (codes "1") 1
-octet_1 = record { spelled = decimal_1; fits = omega arith }
-
-octet_2 : IsOctetText (codes "2") 2
-octet_2 = record { spelled = decimal_2; fits = omega arith }
-
-octet_3 : IsOctetText (codes "3") 3
-octet_3 = record { spelled = decimal_3; fits = omega arith }
-
 octet_10 : IsOctetText (codes "10") 10
 octet_10 = record { spelled = decimal_10; fits = omega arith }
 
-octet_192 : IsOctetText (codes "192") 192
-octet_192 = record { spelled = decimal_192; fits = omega arith }
-
-four_octets : {a b c d : List ℕ} {x y z w : ℕ} → IsOctetText a x → IsOctetText b y → IsOctetText c z → IsOctetText d w
-    → IsAddressText (a ++ dot ∷ (b ++ dot ∷ (c ++ dot ∷ d))) (x * 2 ^ 24 + y * 2 ^ 16 + z * 2 ^ 8 + w)
-four_octets {a} {b} {c} {d} {x} {y} {z} {w} first second third fourth = record {
-  first_text = a;
-  first = x;
-  is_first = first;
-  second_text = b;
-  second = y;
-  is_second = second;
-  third_text = c;
-  third = z;
-  is_third = third;
-  fourth_text = d;
-  fourth = w;
-  is_fourth = fourth;
-  joined = refl;
-  value = refl;
-}
-
 -- IsAddressText
-pub address_10_0_0_0 : IsAddressText (codes "10.0.0.0") 167772160
+address_10_0_0_0 : IsAddressText (codes "10.0.0.0") 167772160
 address_10_0_0_0 = four_octets octet_10 octet_0 octet_0 octet_0
 
-pub address_10_0_0_1 : IsAddressText (codes "10.0.0.1") 167772161
-address_10_0_0_1 = four_octets octet_10 octet_0 octet_0 octet_1
-
-pub address_192_0_2_1 : IsAddressText (codes "192.0.2.1") 3221225985
-address_192_0_2_1 = four_octets octet_192 octet_0 octet_2 octet_1
-
-pub the_last_address : IsAddressText (codes "255.255.255.255") 4294967295
+the_last_address : IsAddressText (codes "255.255.255.255") 4294967295
 the_last_address = four_octets the_greatest_octet the_greatest_octet the_greatest_octet the_greatest_octet
 
 the_first_octet_is_the_most_significant : ¬ IsAddressText (codes "10.0.0.0") 10
@@ -273,27 +186,25 @@ its_octets :
 its_octets text address h = (h.is_first, h.is_second, h.is_third, h.is_fourth, h.joined, h.value)
 
 -- IsPrefixText
-pub pair_10_0_0_0_8 : IsPrefixText (codes "10.0.0.0/8") 167772160 8
+pair_10_0_0_0_8 : IsPrefixText (codes "10.0.0.0/8") 167772160 8
 pair_10_0_0_0_8 = record { address_part = codes "10.0.0.0"; len_part = codes "8"; is_address = address_10_0_0_0; is_len = decimal_8; joined = refl }
 
 pub pair_10_0_0_1_8 : IsPrefixText (codes "10.0.0.1/8") 167772161 8
-pair_10_0_0_1_8 = record { address_part = codes "10.0.0.1"; len_part = codes "8"; is_address = address_10_0_0_1; is_len = decimal_8; joined = refl }
+unfolding digits address_text prefix_text
+pair_10_0_0_1_8 = prefix_text_is_pair 167772161 8 (omega arith) (omega arith)
 
 pub pair_10_0_0_1_33 : IsPrefixText (codes "10.0.0.1/33") 167772161 33
-pair_10_0_0_1_33 = record { address_part = codes "10.0.0.1"; len_part = codes "33"; is_address = address_10_0_0_1; is_len = decimal_33; joined = refl }
+unfolding digits address_text prefix_text
+pair_10_0_0_1_33 = prefix_text_is_pair 167772161 33 (omega arith) (omega arith)
 
 its_address_and_its_length :
     (text : List ℕ) (h : IsPrefixText text 7 8) → IsAddressText h.address_part 7 × IsDecimal h.len_part 8 × (text ≡ h.address_part ++ 47 ∷ h.len_part)
 its_address_and_its_length text h = (h.is_address, h.is_len, h.joined)
 
 -- address_text
-pub written_192_0_2_1 : address_text 3221225985 ≡ codes "192.0.2.1"
-written_192_0_2_1 = address_one_text (address_text 3221225985) (codes "192.0.2.1") 3221225985
-    (address_text_is_address 3221225985 (omega arith)) address_192_0_2_1
-
-written_last : address_text 4294967295 ≡ codes "255.255.255.255"
-written_last = address_one_text (address_text 4294967295) (codes "255.255.255.255") 4294967295
-    (address_text_is_address 4294967295 (omega arith)) the_last_address
+two_addresses_as_they_are_written : map address_text (3221225985 ∷ 4294967295 ∷ []) ≡ codes "192.0.2.1" ∷ codes "255.255.255.255" ∷ []
+unfolding digits address_text
+two_addresses_as_they_are_written = refl
 
 its_four_octets :
     (address : ℕ)
@@ -303,23 +214,13 @@ unfolding address_text
 its_four_octets address = refl
 
 -- prefix_text
-pub written_10_0_0_0_8 : prefix_text 167772160 8 ≡ codes "10.0.0.0/8"
-written_10_0_0_0_8 = pair_one_text (prefix_text 167772160 8) (codes "10.0.0.0/8") 167772160 8
-    (prefix_text_is_pair 167772160 8 (omega arith) (omega arith)) pair_10_0_0_0_8
+a_prefix_as_it_is_written : prefix_text 167772160 8 ≡ codes "10.0.0.0/8"
+unfolding digits address_text prefix_text
+a_prefix_as_it_is_written = refl
 
 the_address_a_slash_and_the_length : prefix_text 7 8 ≡ address_text 7 ++ 47 ∷ decimal 8
 unfolding prefix_text
 the_address_a_slash_and_the_length = refl
-
--- what is written for these numbers
-pub written_0 : decimal 0 ≡ codes "0"
-written_0 = decimal_one_text (decimal 0) (codes "0") 0 (decimal_is_decimal 0 (omega arith)) decimal_0
-
-pub written_1 : decimal 1 ≡ codes "1"
-written_1 = decimal_one_text (decimal 1) (codes "1") 1 (decimal_is_decimal 1 (omega arith)) decimal_1
-
-pub written_100 : decimal 100 ≡ codes "100"
-written_100 = decimal_one_text (decimal 100) (codes "100") 100 (decimal_is_decimal 100 (omega arith)) decimal_100
 
 -- whether a byte stands in a text
 abbrev pub has_byte : ℕ → List ℕ → Bool
@@ -388,144 +289,6 @@ its_length_is_above_32 text h = h
 its_length_is_not_but_a_bit_is_past_it :
     (text : List ℕ) → ReadsPrefix text (Err Bits) → (address len : ℕ) × IsPrefixText text address len × (len ≤ 32) × ¬ IsPrefix address len
 its_length_is_not_but_a_bit_is_past_it text h = h
-
--- texts of the tutorial's feeds, and what is written for their numbers, addresses and prefixes
-decimal_4 : IsDecimal (codes "4") 4
-decimal_4 = record { digits = (omega arith, (omega arith, tt)); value = refl; no_leading_zero = λ _. refl }
-
-decimal_5 : IsDecimal (codes "5") 5
-decimal_5 = record { digits = (omega arith, (omega arith, tt)); value = refl; no_leading_zero = λ _. refl }
-
-decimal_6 : IsDecimal (codes "6") 6
-decimal_6 = record { digits = (omega arith, (omega arith, tt)); value = refl; no_leading_zero = λ _. refl }
-
-decimal_9 : IsDecimal (codes "9") 9
-decimal_9 = record { digits = (omega arith, (omega arith, tt)); value = refl; no_leading_zero = λ _. refl }
-
-decimal_16 : IsDecimal (codes "16") 16
-decimal_16 = record { digits = (omega arith, (omega arith, (omega arith, tt))); value = refl; no_leading_zero = λ zero. cc }
-
-decimal_20 : IsDecimal (codes "20") 20
-decimal_20 = record { digits = (omega arith, (omega arith, (omega arith, tt))); value = refl; no_leading_zero = λ zero. cc }
-
-decimal_30 : IsDecimal (codes "30") 30
-decimal_30 = record { digits = (omega arith, (omega arith, (omega arith, tt))); value = refl; no_leading_zero = λ zero. cc }
-
-decimal_50 : IsDecimal (codes "50") 50
-decimal_50 = record { digits = (omega arith, (omega arith, (omega arith, tt))); value = refl; no_leading_zero = λ zero. cc }
-
-octet_9 : IsOctetText (codes "9") 9
-octet_9 = record { spelled = decimal_9; fits = omega arith }
-
-address_10_1_0_0 : IsAddressText (codes "10.1.0.0") 167837696
-address_10_1_0_0 = four_octets octet_10 octet_1 octet_0 octet_0
-
-address_10_2_0_0 : IsAddressText (codes "10.2.0.0") 167903232
-address_10_2_0_0 = four_octets octet_10 octet_2 octet_0 octet_0
-
-address_10_3_0_0 : IsAddressText (codes "10.3.0.0") 167968768
-address_10_3_0_0 = four_octets octet_10 octet_3 octet_0 octet_0
-
-address_10_9_0_0 : IsAddressText (codes "10.9.0.0") 168361984
-address_10_9_0_0 = four_octets octet_10 octet_9 octet_0 octet_0
-
-address_192_0_2_2 : IsAddressText (codes "192.0.2.2") 3221225986
-address_192_0_2_2 = four_octets octet_192 octet_0 octet_2 octet_2
-
-address_192_0_2_3 : IsAddressText (codes "192.0.2.3") 3221225987
-address_192_0_2_3 = four_octets octet_192 octet_0 octet_2 octet_3
-
-address_10_1_2_3 : IsAddressText (codes "10.1.2.3") 167838211
-address_10_1_2_3 = four_octets octet_10 octet_1 octet_2 octet_3
-
-address_10_9_0_1 : IsAddressText (codes "10.9.0.1") 168361985
-address_10_9_0_1 = four_octets octet_10 octet_9 octet_0 octet_1
-
-written_as_address : (text : List ℕ) (address : ℕ) → address < 2 ^ 32 → IsAddressText text address → address_text address ≡ text
-written_as_address text address fits is = address_one_text (address_text address) text address (address_text_is_address address fits) is
-
-pub written_192_0_2_2 : address_text 3221225986 ≡ codes "192.0.2.2"
-written_192_0_2_2 = written_as_address (codes "192.0.2.2") 3221225986 (omega arith) address_192_0_2_2
-
-pub written_192_0_2_3 : address_text 3221225987 ≡ codes "192.0.2.3"
-written_192_0_2_3 = written_as_address (codes "192.0.2.3") 3221225987 (omega arith) address_192_0_2_3
-
-pub written_10_1_2_3 : address_text 167838211 ≡ codes "10.1.2.3"
-written_10_1_2_3 = written_as_address (codes "10.1.2.3") 167838211 (omega arith) address_10_1_2_3
-
-pub written_10_9_0_1 : address_text 168361985 ≡ codes "10.9.0.1"
-written_10_9_0_1 = written_as_address (codes "10.9.0.1") 168361985 (omega arith) address_10_9_0_1
-
-pub written_10_1_0_0_16 : prefix_text 167837696 16 ≡ codes "10.1.0.0/16"
-written_10_1_0_0_16 = pair_one_text (prefix_text 167837696 16) (codes "10.1.0.0/16") 167837696 16
-    (prefix_text_is_pair 167837696 16 (omega arith) (omega arith))
-    (record {
-      address_part = codes "10.1.0.0";
-      len_part = codes "16";
-      is_address = address_10_1_0_0;
-      is_len = decimal_16;
-      joined = refl;
-    })
-
-pub written_10_2_0_0_16 : prefix_text 167903232 16 ≡ codes "10.2.0.0/16"
-written_10_2_0_0_16 = pair_one_text (prefix_text 167903232 16) (codes "10.2.0.0/16") 167903232 16
-    (prefix_text_is_pair 167903232 16 (omega arith) (omega arith))
-    (record {
-      address_part = codes "10.2.0.0";
-      len_part = codes "16";
-      is_address = address_10_2_0_0;
-      is_len = decimal_16;
-      joined = refl;
-    })
-
-pub written_10_3_0_0_16 : prefix_text 167968768 16 ≡ codes "10.3.0.0/16"
-written_10_3_0_0_16 = pair_one_text (prefix_text 167968768 16) (codes "10.3.0.0/16") 167968768 16
-    (prefix_text_is_pair 167968768 16 (omega arith) (omega arith))
-    (record {
-      address_part = codes "10.3.0.0";
-      len_part = codes "16";
-      is_address = address_10_3_0_0;
-      is_len = decimal_16;
-      joined = refl;
-    })
-
-pub written_10_9_0_0_16 : prefix_text 168361984 16 ≡ codes "10.9.0.0/16"
-written_10_9_0_0_16 = pair_one_text (prefix_text 168361984 16) (codes "10.9.0.0/16") 168361984 16
-    (prefix_text_is_pair 168361984 16 (omega arith) (omega arith))
-    (record {
-      address_part = codes "10.9.0.0";
-      len_part = codes "16";
-      is_address = address_10_9_0_0;
-      is_len = decimal_16;
-      joined = refl;
-    })
-
-pub written_2 : decimal 2 ≡ codes "2"
-written_2 = decimal_one_text (decimal 2) (codes "2") 2 (decimal_is_decimal 2 (omega arith)) decimal_2
-
-pub written_3 : decimal 3 ≡ codes "3"
-written_3 = decimal_one_text (decimal 3) (codes "3") 3 (decimal_is_decimal 3 (omega arith)) decimal_3
-
-pub written_4 : decimal 4 ≡ codes "4"
-written_4 = decimal_one_text (decimal 4) (codes "4") 4 (decimal_is_decimal 4 (omega arith)) decimal_4
-
-pub written_5 : decimal 5 ≡ codes "5"
-written_5 = decimal_one_text (decimal 5) (codes "5") 5 (decimal_is_decimal 5 (omega arith)) decimal_5
-
-pub written_6 : decimal 6 ≡ codes "6"
-written_6 = decimal_one_text (decimal 6) (codes "6") 6 (decimal_is_decimal 6 (omega arith)) decimal_6
-
-pub written_10 : decimal 10 ≡ codes "10"
-written_10 = decimal_one_text (decimal 10) (codes "10") 10 (decimal_is_decimal 10 (omega arith)) decimal_10
-
-pub written_20 : decimal 20 ≡ codes "20"
-written_20 = decimal_one_text (decimal 20) (codes "20") 20 (decimal_is_decimal 20 (omega arith)) decimal_20
-
-pub written_30 : decimal 30 ≡ codes "30"
-written_30 = decimal_one_text (decimal 30) (codes "30") 30 (decimal_is_decimal 30 (omega arith)) decimal_30
-
-pub written_50 : decimal 50 ≡ codes "50"
-written_50 = decimal_one_text (decimal 50) (codes "50") 50 (decimal_is_decimal 50 (omega arith)) decimal_50
 
 -- ReadsDecimal
 the_number_of_a_text : (text : List ℕ) → ReadsDecimal text (Some 7) → IsDecimal text 7 × (7 < 4294967296)

@@ -195,6 +195,26 @@ pub joined_read_once : (IsHigh IsLow : List ℕ → ℕ → Type 0) (mark scale 
     IsReadOnce IsHigh → IsReadOnce IsLow → IsReadOnce (IsJoined IsHigh IsLow mark scale)
 joined_read_once IsHigh IsLow mark scale ends high low text = joined_once_here IsHigh IsLow mark scale ends text high low
 
+-- four octets joined by dots are an address
+pub four_octets : {a b c d : List ℕ} {x y z w : ℕ} → IsOctetText a x → IsOctetText b y → IsOctetText c z → IsOctetText d w
+    → IsAddressText (a ++ dot ∷ (b ++ dot ∷ (c ++ dot ∷ d))) (x * 2 ^ 24 + y * 2 ^ 16 + z * 2 ^ 8 + w)
+four_octets {a} {b} {c} {d} {x} {y} {z} {w} first second third fourth = record {
+  first_text = a;
+  first = x;
+  is_first = first;
+  second_text = b;
+  second = y;
+  is_second = second;
+  third_text = c;
+  third = z;
+  is_third = third;
+  fourth_text = d;
+  fourth = w;
+  is_fourth = fourth;
+  joined = refl;
+  value = refl;
+}
+
 -- an address is two halves joined by a dot
 pub address_is_halves : (text : List ℕ) (address : ℕ) → IsAddressText text address →
     IsJoined IsHalfText IsHalfText dot (2 ^ 16) text address
@@ -214,22 +234,10 @@ pub halves_are_address : (text : List ℕ) (address : ℕ) →
 halves_are_address text address h =
     let high = h.is_high in
     let low = h.is_low in
-    record {
-      first_text = high.high_text;
-      second_text = high.low_text;
-      third_text = low.high_text;
-      fourth_text = low.low_text;
-      first = high.high;
-      second = high.low;
-      third = low.high;
-      fourth = low.low;
-      is_first = high.is_high;
-      is_second = high.is_low;
-      is_third = low.is_high;
-      is_fourth = low.is_low;
-      joined = h.joined ∙ rw (high.joined, low.joined) (append_assoc high.high_text (dot ∷ high.low_text) (dot ∷ (low.high_text ++ dot ∷ low.low_text)));
-      value = omega (arith, h.value, high.value, low.value);
-    }
+    let same_text : text ≡ high.high_text ++ dot ∷ (high.low_text ++ dot ∷ (low.high_text ++ dot ∷ low.low_text)) =
+    rw (h.joined, high.joined, low.joined) (append_assoc high.high_text (dot ∷ high.low_text) (dot ∷ (low.high_text ++ dot ∷ low.low_text))) in
+    let same_number : address ≡ high.high * 2 ^ 24 + high.low * 2 ^ 16 + low.high * 2 ^ 8 + low.low = omega (arith, h.value, high.value, low.value) in
+    rw (same_text, same_number) (four_octets high.is_high high.is_low low.is_high low.is_low)
 
 -- an address at the front of a text is two halves joined by a dot there
 pub address_front_is_halves : (text : List ℕ) (n : ℕ) (rest : List ℕ) → StartsBy IsAddressText text n rest →

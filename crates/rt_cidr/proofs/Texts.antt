@@ -1,5 +1,5 @@
 -- Each text is of one number, address or pair, each of these has one text, and what is written is that text.
-use Rattle.std.proofs.Common.{◌≡◌, ◌≢◌, ℕ, ◌+◌, ◌*◌, ◌/◌, ◌%◌, ◌^◌, ◌<◌, ◌≤◌, inl, inr, List, [], ◌∷◌, length, decimal, refl, sym, ap, ◌∙◌, drop, lit≤, arith}
+use Rattle.std.proofs.Common.{◌≡◌, ◌≢◌, ℕ, ◌+◌, ◌*◌, ◌/◌, ◌%◌, ◌^◌, ◌<◌, ◌≤◌, inl, inr, List, [], ◌∷◌, length, decimal, refl, sym, ap, ◌∙◌, drop, lit≤, subst, arith}
 use Rattle.std.proofs.Math.Nat.{pow-suc, pow-le-pow_right, mul-le-mul_right}
 use Rattle.std.proofs.lemmas.Bool.{cases_lt}
 use Rattle.std.proofs.lemmas.Fmt.{decimal_is_IsNumeral, first_decimal, decimal_digit}
@@ -10,7 +10,7 @@ use Rattle.std.specs.Str.Parse.{AllDigits, digits_value_after}
 use Rattle.rt_cidr.specs.Text.{slash, IsDecimal, IsOctetText, IsAddressText, IsPrefixText, address_text, prefix_text}
 use Rattle.rt_cidr.specs.inside.Front.{StartsBy}
 use Rattle.rt_cidr.proofs.Digits.{digit_value-digit}
-use Rattle.rt_cidr.proofs.Fronts.{address_read_once, front_of_whole}
+use Rattle.rt_cidr.proofs.Fronts.{address_read_once, four_octets, front_of_whole}
 
 -- two digits of one value are one digit
 same_digit : (c d : ℕ) → digit_value c < 10 → digit_value d < 10 → digit_value c ≡ digit_value d → c ≡ d
@@ -112,22 +112,11 @@ decimal_is_decimal n fits =
 
 pub address_text_is_address : (address : ℕ) → address < 2 ^ 32 → IsAddressText (address_text address) address
 unfolding address_text
-address_text_is_address address fits = record {
-  first_text = decimal (address / 2 ^ 24 % 256);
-  second_text = decimal (address / 2 ^ 16 % 256);
-  third_text = decimal (address / 2 ^ 8 % 256);
-  fourth_text = decimal (address % 256);
-  first = address / 2 ^ 24 % 256;
-  second = address / 2 ^ 16 % 256;
-  third = address / 2 ^ 8 % 256;
-  fourth = address % 256;
-  is_first = octet (address / 2 ^ 24 % 256) (omega arith);
-  is_second = octet (address / 2 ^ 16 % 256) (omega arith);
-  is_third = octet (address / 2 ^ 8 % 256) (omega arith);
-  is_fourth = octet (address % 256) (omega arith);
-  joined = refl;
-  value = omega arith;
-}
+address_text_is_address address fits =
+    let same : address / 2 ^ 24 % 256 * 2 ^ 24 + address / 2 ^ 16 % 256 * 2 ^ 16 + address / 2 ^ 8 % 256 * 2 ^ 8 + address % 256 ≡ address = omega arith in
+    subst (IsAddressText (address_text address)) same
+    (four_octets (octet (address / 2 ^ 24 % 256) (omega arith)) (octet (address / 2 ^ 16 % 256) (omega arith))
+    (octet (address / 2 ^ 8 % 256) (omega arith)) (octet (address % 256) (omega arith)))
   where
     octet : (n : ℕ) → n < 256 → IsOctetText (decimal n) n
     octet n small = record { spelled = decimal_is_decimal n (omega arith); fits = small }

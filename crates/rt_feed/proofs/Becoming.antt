@@ -1,5 +1,6 @@
 -- Lines of a text one after another: what they became, the report's lines for them and the commands among them.
-use Rattle.std.proofs.Common.{◌≡◌, ℕ, ◌+◌, ◌<◌, ◌≤◌, inl, inr, List, [], ◌∷◌, ◌++◌, ◌≢◌, suc, add-zero, length, map, All, Option, Some, None, Ok, sym, ◌∙◌, ap, refl, subst, arith, append_assoc, length-append}
+use Rattle.std.proofs.Common.{◌≡◌, ℕ, ◌+◌, ◌<◌, ◌≤◌, inl, inr, List, [], ◌∷◌, ◌++◌, ◌≢◌, suc, add-zero, length, map, All, Option, Some, None, Ok, sym, ◌∙◌}
+use Rattle.std.proofs.Common.{ap, refl, subst, arith, append_assoc, length-append}
 use Rattle.std.proofs.lemmas.List.{append-nil}
 use Rattle.std.proofs.lemmas.List.Elements.{All-nil, All-cons, All-append, All-weaker}
 use Rattle.rt_feed.specs.declared.report.Line.{Line}
@@ -9,17 +10,20 @@ use Rattle.rt_feed.specs.declared.versions.Version.TheVariants.{One, Two}
 use Rattle.rt_feed.specs.Versions.{IsBody}
 use Rattle.rt_feed.specs.Grammar.{AnswersLine}
 use Rattle.rt_feed.specs.Lines.{CutsLine}
-use Rattle.rt_feed.specs.LineOutcomes.{LineOutcome, skipped, faulty, asked, LinesBecome, Becomes, heading, reading, line_answer, numbered, report_lines, asked_by, asked_of}
+use Rattle.rt_feed.specs.LineOutcomes.{LineOutcome, skipped, faulty, asked, LinesBecome, Becomes, heading, reading, line_answer, numbered, report_lines}
+use Rattle.rt_feed.specs.LineOutcomes.{asked_by, asked_of}
 
 -- more lines after some
-pub become-append : (version : Version) (lines middle rest : List ℕ) (outcomes more : List LineOutcome) → LinesBecome version lines outcomes middle → LinesBecome version middle more rest
+pub become-append : (version : Version) (lines middle rest : List ℕ) (outcomes more : List LineOutcome) → LinesBecome version lines outcomes middle
+    → LinesBecome version middle more rest
     → LinesBecome version lines (outcomes ++ more) rest
 become-append version lines middle rest [] more first second = rw first second
 become-append version lines middle rest (outcome ∷ outcomes) more (line, next, cut, reads, first) second =
     (line, next, cut, reads, become-append version next middle rest outcomes more first second)
 
 -- one line more of a text
-pub becomes-push : (text line middle rest : List ℕ) (outcomes : List LineOutcome) (outcome : LineOutcome) → (is : Becomes text outcomes middle) → CutsLine middle line rest
+pub becomes-push : (text line middle rest : List ℕ) (outcomes : List LineOutcome) (outcome : LineOutcome) → (is : Becomes text outcomes middle)
+    → CutsLine middle line rest
     → AnswersLine is.version line (reading outcome) → (other : Becomes text (outcomes ++ outcome ∷ []) rest) × (other.version ≡ is.version)
 becomes-push text line middle rest outcomes outcome is cut reads = (
   record {
@@ -34,12 +38,14 @@ becomes-push text line middle rest outcomes outcome is cut reads = (
 )
 
 -- the same outcomes in other words
-pub becomes-at : (text rest : List ℕ) (outcomes others : List LineOutcome) → others ≡ outcomes → (is : Becomes text outcomes rest) → (other : Becomes text others rest) × (other.version ≡ is.version)
+pub becomes-at : (text rest : List ℕ) (outcomes others : List LineOutcome) → others ≡ outcomes → (is : Becomes text outcomes rest)
+    → (other : Becomes text others rest) × (other.version ≡ is.version)
 becomes-at text rest outcomes others same is =
     (record { version = is.version; lines = is.lines; read = is.read; body = is.body; become = is.become; joined = same ∙ is.joined }, refl)
 
 -- what lines became may be any outcomes that say the same
-become-alike : (version : Version) (lines rest : List ℕ) (outcomes others : List LineOutcome) → map reading outcomes ≡ map reading others → LinesBecome version lines outcomes rest
+become-alike : (version : Version) (lines rest : List ℕ) (outcomes others : List LineOutcome) → map reading outcomes ≡ map reading others
+    → LinesBecome version lines outcomes rest
     → LinesBecome version lines others rest
 become-alike version lines rest [] [] same is = is
 become-alike version lines rest [] (other ∷ others) same is = absurd (cc)
@@ -90,11 +96,13 @@ become-first version lines rest (outcome ∷ outcomes) more (line, next, cut, re
     let first = become-first version next rest outcomes more is in (first.0, (line, next, cut, reads, first.1), first.2)
 
 -- what follows the heading
-behind_heading : (version : Version) (earlier more read : List LineOutcome) → (heading version ++ earlier) ++ more ≡ heading version ++ read → read ≡ earlier ++ more
+behind_heading : (version : Version) (earlier more read : List LineOutcome) → (heading version ++ earlier) ++ more ≡ heading version ++ read
+    → read ≡ earlier ++ more
 behind_heading One earlier more read is = sym is
 behind_heading Two earlier more read is = cc
 
-pub becomes-first : (text rest : List ℕ) (outcomes earlier more : List LineOutcome) → (is : Becomes text (outcomes ++ more) rest) → outcomes ≡ heading is.version ++ earlier
+pub becomes-first : (text rest : List ℕ) (outcomes earlier more : List LineOutcome) → (is : Becomes text (outcomes ++ more) rest)
+    → outcomes ≡ heading is.version ++ earlier
     → (middle : List ℕ) × (begun : Becomes text outcomes middle) × (begun.version ≡ is.version) × LinesBecome begun.version middle more rest
 becomes-first text rest outcomes earlier more is begins =
     let parts : is.read ≡ earlier ++ more = behind_heading is.version earlier more is.read (ap (λ os. os ++ more) (sym begins) ∙ is.joined) in
@@ -113,22 +121,26 @@ length-cut text line rest cut = elim cut.ended [
 ]
 
 -- so the lines are no more than the bytes that they took
-length-lines : (version : Version) (lines rest : List ℕ) (outcomes : List LineOutcome) → LinesBecome version lines outcomes rest → length outcomes + length rest ≤ length lines
+length-lines : (version : Version) (lines rest : List ℕ) (outcomes : List LineOutcome) → LinesBecome version lines outcomes rest
+    → length outcomes + length rest ≤ length lines
 length-lines version lines rest [] is = omega (arith, ap length is)
 length-lines version lines rest (outcome ∷ outcomes) (line, next, cut, reads, is) =
     omega (arith, length-cut lines line next cut, length-lines version next rest outcomes is)
 
 -- and so it is of a text
-length-body : (text lines rest : List ℕ) (version : Version) (outcomes read : List LineOutcome) → IsBody text version lines → LinesBecome version lines read rest
+length-body : (text lines rest : List ℕ) (version : Version) (outcomes read : List LineOutcome) → IsBody text version lines
+    → LinesBecome version lines read rest
     → outcomes ≡ heading version ++ read → length outcomes + length rest ≤ length text
 length-body text lines rest One outcomes read body become joined = omega (arith, ap length joined, ap length body.1, length-lines One lines rest read become)
-length-body text lines rest Two outcomes read body become joined = omega (arith, ap length joined, length-cut text _ lines body, length-lines Two lines rest read become)
+length-body text lines rest Two outcomes read body become joined =
+    omega (arith, ap length joined, length-cut text _ lines body, length-lines Two lines rest read become)
 
 pub length-outcomes : (text rest : List ℕ) (outcomes : List LineOutcome) → Becomes text outcomes rest → length outcomes + length rest ≤ length text
 length-outcomes text rest outcomes is = length-body text is.lines rest is.version outcomes is.read is.body is.become is.joined
 
 -- the report's lines of more lines after some
-pub report_lines-append : (number : ℕ) (outcomes more : List LineOutcome) → report_lines number (outcomes ++ more) ≡ report_lines number outcomes ++ report_lines (number + length outcomes) more
+pub report_lines-append : (number : ℕ) (outcomes more : List LineOutcome)
+    → report_lines number (outcomes ++ more) ≡ report_lines number outcomes ++ report_lines (number + length outcomes) more
 report_lines-append number [] more = rw add-zero refl
 report_lines-append number (outcome ∷ outcomes) more =
     let next : number + 1 + length outcomes ≡ number + suc (length outcomes) = omega arith in
@@ -137,23 +149,30 @@ report_lines-append number (outcome ∷ outcomes) more =
     sym (append_assoc (numbered number (line_answer outcome)) (report_lines (number + 1) outcomes) (report_lines (number + suc (length outcomes)) more)))
 
 -- the report's line for one line more
-pub report_lines-push : (number : ℕ) (outcomes : List LineOutcome) (outcome : LineOutcome) → report_lines number (outcomes ++ outcome ∷ []) ≡ report_lines number outcomes ++ numbered (number + length outcomes) (line_answer outcome)
-report_lines-push number outcomes outcome = report_lines-append number outcomes (outcome ∷ []) ∙ ap (λ lines. report_lines number outcomes ++ lines) (append-nil _)
+pub report_lines-push : (number : ℕ) (outcomes : List LineOutcome) (outcome : LineOutcome)
+    → report_lines number (outcomes ++ outcome ∷ []) ≡ report_lines number outcomes ++ numbered (number + length outcomes) (line_answer outcome)
+report_lines-push number outcomes outcome = report_lines-append number outcomes (outcome ∷ [])
+    ∙ ap (λ lines. report_lines number outcomes ++ lines) (append-nil _)
 
 numbered-below : (number above : ℕ) (answer : Option Answer) → number < above → All (λ (line : Line). line.number < above) (numbered number answer)
 numbered-below number above None less = All-nil (λ (line : Line). line.number < above)
-numbered-below number above (Some answer) less = let P : Line → Type 0 = λ line. line.number < above in All-cons P (record { number = number; answer = answer }) [] less (All-nil P)
+numbered-below number above (Some answer) less = let P : Line → Type 0 = λ line. line.number < above in
+    All-cons P (record { number = number; answer = answer }) [] less (All-nil P)
 
 -- the numbers of the lines so far are below the next one
-pub report_lines-below : (number : ℕ) (outcomes : List LineOutcome) → All (λ (line : Line). line.number < number + length outcomes) (report_lines number outcomes)
+pub report_lines-below : (number : ℕ) (outcomes : List LineOutcome)
+    → All (λ (line : Line). line.number < number + length outcomes) (report_lines number outcomes)
 report_lines-below number [] = All-nil _
 report_lines-below number (outcome ∷ outcomes) =
     let P : Line → Type 0 = λ line. line.number < number + suc (length outcomes) in
     let next : number + 1 + length outcomes ≡ number + suc (length outcomes) = omega arith in
-    All-append P (numbered number (line_answer outcome)) (report_lines (number + 1) outcomes) (numbered-below number (number + suc (length outcomes)) (line_answer outcome) (omega arith))
-    (All-weaker (λ (line : Line). line.number < number + 1 + length outcomes) P (λ line less. omega (arith, less, next)) _ (report_lines-below (number + 1) outcomes))
+    All-append P (numbered number (line_answer outcome)) (report_lines (number + 1) outcomes)
+    (numbered-below number (number + suc (length outcomes)) (line_answer outcome) (omega arith))
+    (All-weaker (λ (line : Line). line.number < number + 1 + length outcomes) P (λ line less. omega (arith, less, next)) _
+    (report_lines-below (number + 1) outcomes))
 
 -- the commands of more lines after some
 pub asked_of-append : (outcomes more : List LineOutcome) → asked_of (outcomes ++ more) ≡ asked_of outcomes ++ asked_of more
 asked_of-append [] more = refl
-asked_of-append (outcome ∷ outcomes) more = ap (λ asked. asked_by outcome ++ asked) (asked_of-append outcomes more) ∙ sym (append_assoc (asked_by outcome) (asked_of outcomes) (asked_of more))
+asked_of-append (outcome ∷ outcomes) more = ap (λ asked. asked_by outcome ++ asked) (asked_of-append outcomes more)
+    ∙ sym (append_assoc (asked_by outcome) (asked_of outcomes) (asked_of more))

@@ -1,5 +1,6 @@
 -- Cutting a list of bytes at the first one of some value.
-use Rattle.std.proofs.Common.{◌≡◌, ◌≢◌, ℕ, ◌+◌, ◌<◌, List, ◌∷◌, length, take, drop, slice_index_or, All, Option, Some, None, Bor, arith, eqb, refl, add-one, length-take, false}
+use Rattle.std.proofs.Common.{◌≡◌, ◌≢◌, ℕ, ◌+◌, ◌<◌, List, ◌∷◌, length, take, drop, slice_index_or, All, Option, Some, None, Bor, arith, eqb, refl}
+use Rattle.std.proofs.Common.{add-one, length-take, false}
 use Rattle.std.proofs.lemmas.List.{get_or-take}
 use Rattle.std.proofs.lemmas.Bool.{ne_eqb}
 use Rattle.std.proofs.lemmas.List.Elements.{All-weaker, All-from_get_or}

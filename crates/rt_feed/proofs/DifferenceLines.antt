@@ -1,5 +1,5 @@
 -- How long the line of a range and its two answers is at most.
-use Rattle.std.proofs.Common.{ℕ, ◌+◌, ◌≤◌, ◌<◌, ◌^◌, length, decimal, lit≤, arith, length-append}
+use Rattle.std.proofs.Common.{◌≤◌, length, decimal, lit≤, arith, length-append}
 use Rattle.std.proofs.lemmas.Fmt.{length-decimal-le}
 use Rattle.rt_cidr.specs.declared.prefixes.Prefix.{Prefix}
 use Rattle.rt_cidr.specs.Text.{prefix_text}

@@ -1,5 +1,6 @@
 -- Lines of a report that are given outcomes, one after another.
-use Rattle.std.proofs.Common.{◌≡◌, ℕ, zero, suc, ◌+◌, ◌<◌, inl, inr, true, false, List, [], ◌∷◌, ◌++◌, length, take, drop, get_or, set, refl, sym, ap, ◌∙◌, arith, append_assoc, add-one, drop-cons}
+use Rattle.std.proofs.Common.{◌≡◌, ℕ, zero, suc, ◌+◌, ◌<◌, inl, inr, true, false, List, [], ◌∷◌, ◌++◌, length, take, drop, get_or, set, refl, sym, ap, ◌∙◌}
+use Rattle.std.proofs.Common.{arith, append_assoc, add-one, drop-cons}
 use Rattle.std.proofs.Math.Seq.{take-suc}
 use Rattle.std.proofs.lemmas.List.{take-append-drop, drop-set-lt}
 use Rattle.std.proofs.lemmas.Grind.{take-set_at}
@@ -16,7 +17,8 @@ filled-none [] = refl
 filled-none (line ∷ lines) = refl
 
 -- a fault is passed over
-pub filled-fault : (line : Line) (lines : List Line) (outcomes : List Outcome) → is_fault line.answer ≡ true → filled (line ∷ lines) outcomes ≡ line ∷ filled lines outcomes
+pub filled-fault : (line : Line) (lines : List Line) (outcomes : List Outcome) → is_fault line.answer ≡ true
+    → filled (line ∷ lines) outcomes ≡ line ∷ filled lines outcomes
 filled-fault line lines [] is = ap (λ ls. line ∷ ls) (sym (filled-none lines))
 filled-fault line lines (outcome ∷ outcomes) is = rw is refl
 
@@ -48,7 +50,8 @@ module _ (lines : List Line) (index : ℕ) (d : Line) (here : index < length lin
   fills_line lines' outcome outcomes is changed =
       let line = get_or lines index d in
       let given = record line { answer = answer_of outcome } in
-      let first : take (index + 1) lines' ≡ take index lines ++ given ∷ [] = ap (take (index + 1)) changed ∙ take-set_at lines index (index + 1) given refl here in
+      let first : take (index + 1) lines' ≡ take index lines ++ given ∷ [] = ap (take (index + 1)) changed
+      ∙ take-set_at lines index (index + 1) given refl here in
       let rest : drop (index + 1) lines' ≡ drop (index + 1) lines =
       ap (drop (index + 1)) changed ∙ drop-set-lt (index + 1) lines index given (omega arith) in
       let whole : drop index lines ≡ line ∷ drop (index + 1) lines = drop-cons lines index d here ∙ ap (λ n. line ∷ drop n lines) (sym (add-one index)) in
@@ -81,7 +84,8 @@ length-filled (line ∷ lines) (outcome ∷ outcomes) = elim (cases_Bool (is_fau
 refilled : ℕ → List Line → List Outcome → List Line
 refilled first lines outcomes = take first lines ++ filled (drop first lines) outcomes
 
-number-refilled : (first : ℕ) (lines : List Line) (outcomes : List Outcome) (i : ℕ) (d : Line) → (get_or (refilled first lines outcomes) i d).number ≡ (get_or lines i d).number
+number-refilled : (first : ℕ) (lines : List Line) (outcomes : List Outcome) (i : ℕ) (d : Line)
+    → (get_or (refilled first lines outcomes) i d).number ≡ (get_or lines i d).number
 unfolding refilled
 number-refilled zero lines outcomes i d = number-filled lines outcomes i d
 number-refilled (suc first) [] outcomes i d = refl
@@ -94,7 +98,14 @@ length-refilled (suc first) [] outcomes = refl
 length-refilled (suc first) (line ∷ lines) outcomes = ap suc (length-refilled first lines outcomes)
 
 -- so they rise as before
-pub numbers_rise-refilled : (first : ℕ) (lines lines' : List Line) (outcomes : List Outcome) → NumbersRise lines → lines' ≡ take first lines ++ filled (drop first lines) outcomes → NumbersRise lines'
+pub numbers_rise-refilled : (first : ℕ) (lines lines' : List Line) (outcomes : List Outcome) → NumbersRise lines
+    → lines' ≡ take first lines ++ filled (drop first lines) outcomes → NumbersRise lines'
 unfolding refilled
 numbers_rise-refilled first lines lines' outcomes rising is = rw is (λ i j d less here.
-    omega (arith, rising i j d less (let same = length-refilled first lines outcomes in omega (arith, here, same)), number-refilled first lines outcomes i d, number-refilled first lines outcomes j d))
+    omega (
+      arith,
+      rising i j d less (let same = length-refilled first lines outcomes in omega (arith, here, same)),
+      number-refilled first lines outcomes
+          i d,
+      number-refilled first lines outcomes j d,
+    ))

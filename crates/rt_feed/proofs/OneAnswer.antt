@@ -15,7 +15,8 @@ use Rattle.rt_feed.specs.declared.versions.Version.{Version}
 use Rattle.rt_feed.specs.declared.versions.Version.TheVariants.{Two}
 use Rattle.rt_feed.specs.CommandText.{words, route_words, HasHop, HasCommand}
 use Rattle.rt_feed.specs.Printed.{hop_text}
-use Rattle.rt_feed.specs.Grammar.{Kind, prefix, preference, hop, address, IsFaultOf, IsFirstFault, IsFaultAfter, IsFaultOfFields, kinds_after, fields, AnswersLine}
+use Rattle.rt_feed.specs.Grammar.{Kind, prefix, preference, hop, address, IsFaultOf, IsFirstFault, IsFaultAfter, IsFaultOfFields, kinds_after, fields}
+use Rattle.rt_feed.specs.Grammar.{AnswersLine}
 use Rattle.rt_feed.specs.inside.Fields.{route_kinds, IsFaultAmong}
 use Rattle.rt_feed.specs.Laws.{LineHasOneAnswer}
 use Rattle.rt_feed.proofs.Pairs.{one_prefix_fault}
@@ -27,6 +28,14 @@ pub record Texts : Type 0 where
   pub prefix_again : ReadsPrefixAgain
   pub address_written : WritesAddress
   pub address_again : ReadsAddressAgain
+
+pub texts : WritesPrefix → ReadsPrefixAgain → WritesAddress → ReadsAddressAgain → Texts
+texts prefix_written prefix_again address_written address_again = record {
+  prefix_written = prefix_written;
+  prefix_again = prefix_again;
+  address_written = address_written;
+  address_again = address_again;
+}
 
 -- two prefixes of one text are equal, and so are two addresses
 one_prefix : Texts → (p q : Prefix) → prefix_text p.base p.len ≡ prefix_text q.base q.len → p ≡ q
@@ -79,19 +88,22 @@ one_first texts (kind ∷ kinds) (field ∷ rest) one two (inl is) (inr other) =
 one_first texts (kind ∷ kinds) (field ∷ rest) one two (inr is) (inl other) = absurd (other.0 is.0)
 one_first texts (kind ∷ kinds) (field ∷ rest) one two (inr is) (inr other) = one_first texts kinds rest one two is.1 other.1
 
-one_after : Texts → (kinds : Option (List Kind)) (rest : List (List ℕ)) (one two : LineFault) → IsFaultAfter kinds rest one → IsFaultAfter kinds rest two → one ≡ two
+one_after : Texts → (kinds : Option (List Kind)) (rest : List (List ℕ)) (one two : LineFault) → IsFaultAfter kinds rest one → IsFaultAfter kinds rest two
+    → one ≡ two
 one_after texts None rest one two is other = is ∙ sym other
 one_after texts (Some kinds) rest one two (inl is) (inl other) = is.1 ∙ sym other.1
 one_after texts (Some kinds) rest one two (inl is) (inr other) = absurd (is.0 other.0)
 one_after texts (Some kinds) rest one two (inr is) (inl other) = absurd (other.0 is.0)
 one_after texts (Some kinds) rest one two (inr is) (inr other) = one_first texts kinds rest one two is.1 other.1
 
-one_of_fields : Texts → (version : Version) (line : List (List ℕ)) (one two : LineFault) → IsFaultOfFields version line one → IsFaultOfFields version line two → one ≡ two
+one_of_fields : Texts → (version : Version) (line : List (List ℕ)) (one two : LineFault) → IsFaultOfFields version line one → IsFaultOfFields version line two
+    → one ≡ two
 one_of_fields texts version [] one two is other = absurd is
 one_of_fields texts version (name ∷ rest) one two is other = one_after texts (kinds_after version name) rest one two is other
 
 -- a route's words have no fault
-sound-route : (version : Version) (p : Prefix) (pref : ℕ) (next : Hop) → pref < 2 ^ 32 → HasHop version next → (answer : LineFault) → ¬ IsFaultAmong (route_kinds version) (route_words p pref next) answer
+sound-route : (version : Version) (p : Prefix) (pref : ℕ) (next : Hop) → pref < 2 ^ 32 → HasHop version next → (answer : LineFault)
+    → ¬ IsFaultAmong (route_kinds version) (route_words p pref next) answer
 sound-route version p pref next fits has answer (inl (not, is)) = not refl
 sound-route version p pref next fits has answer (inr (same, inl (none, is))) = none (p, refl)
 sound-route version p pref next fits has answer (inr (same, inr (some, inl (none, is)))) = none (pref, fits, refl)
@@ -120,7 +132,8 @@ sound-words version Purge fits answer fault = sound-purge answer (rw fits at fau
 never_skipped : (version : Version) (line : List ℕ) (cmd : Cmd) → AnswersLine version line (Ok (Some cmd)) → ¬ AnswersLine version line (Ok None)
 never_skipped version line cmd is skipped = let clash = sym (not_skipped-command_text cmd) ∙ (rw is.1 at skipped.1) in cc
 
-never_faulty : (version : Version) (line : List ℕ) (cmd : Cmd) (answer : LineFault) → AnswersLine version line (Ok (Some cmd)) → ¬ AnswersLine version line (Err answer)
+never_faulty : (version : Version) (line : List ℕ) (cmd : Cmd) (answer : LineFault) → AnswersLine version line (Ok (Some cmd))
+    → ¬ AnswersLine version line (Err answer)
 never_faulty version line cmd answer is (inl (long, told)) = omega (arith, long, ap length is.1, length-command_text version cmd is.0)
 never_faulty version line cmd answer is (inr (short, not, fault)) =
     let parts : fields line ≡ words cmd = ap fields is.1 ∙ fields-command_text version cmd is.0 in

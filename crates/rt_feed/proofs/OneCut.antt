@@ -19,7 +19,8 @@ unmarked_ends mark (x ∷ xs) (y ∷ ys) more none is =
     let tail : xs ≡ ys ++ mark ∷ more = cc in unmarked_ends mark xs ys more (All-tail (λ byte. byte ≢ mark) x xs none) tail
 
 -- what stands before the first mark, and what follows it, is one pair
-first_mark : (mark : ℕ) (xs ys rest others : List ℕ) → All (λ byte. byte ≢ mark) xs → All (λ byte. byte ≢ mark) ys → xs ++ mark ∷ rest ≡ ys ++ mark ∷ others → (xs ≡ ys) × (rest ≡ others)
+first_mark : (mark : ℕ) (xs ys rest others : List ℕ) → All (λ byte. byte ≢ mark) xs → All (λ byte. byte ≢ mark) ys → xs ++ mark ∷ rest ≡ ys ++ mark ∷ others
+    → (xs ≡ ys) × (rest ≡ others)
 first_mark mark [] [] rest others none nor is = (refl, cc)
 first_mark mark [] (y ∷ ys) rest others none nor is = let head : y ≡ mark = cc in absurd (All-head (λ byte. byte ≢ mark) y ys nor head)
 first_mark mark (x ∷ xs) [] rest others none nor is = let head : x ≡ mark = cc in absurd (All-head (λ byte. byte ≢ mark) x xs none head)
@@ -42,11 +43,13 @@ one_cut text line rest other other_rest cut again = elim cut.ended [
 ]
 
 -- lines that are read by one version say the same
-reads_alike : LineHasOneAnswer → (version : Version) (lines : List ℕ) (outcomes others : List LineOutcome) → LinesBecome version lines outcomes [] → LinesBecome version lines others []
+reads_alike : LineHasOneAnswer → (version : Version) (lines : List ℕ) (outcomes others : List LineOutcome) → LinesBecome version lines outcomes []
+    → LinesBecome version lines others []
     → map reading outcomes ≡ map reading others
 reads_alike once version lines [] [] is other = refl
 reads_alike once version lines [] (outcome ∷ others) is (line, next, cut, reads, become) = absurd (omega (arith, length-cut lines line next cut, ap length is))
-reads_alike once version lines (outcome ∷ outcomes) [] (line, next, cut, reads, become) is = absurd (omega (arith, length-cut lines line next cut, ap length is))
+reads_alike once version lines (outcome ∷ outcomes) [] (line, next, cut, reads, become) is =
+    absurd (omega (arith, length-cut lines line next cut, ap length is))
 reads_alike once version lines (outcome ∷ outcomes) (other ∷ others) (line, next, cut, reads, become) (line', next', cut', reads', become') =
     let same = one_cut lines line next line' next' cut cut' in
     let head = once version line' (reading outcome) (reading other) (rw same.0 at reads) reads' in
@@ -60,7 +63,8 @@ one_body text lines others Two One is other = absurd (other.0 lines is)
 one_body text lines others Two Two is other = (refl, (one_cut text _ lines _ others is other).1)
 
 -- whatever became of a whole text's commands, its lines say the same
-pub one_reading : LineHasOneAnswer → (text : List ℕ) (outcomes others : List LineOutcome) → Becomes text outcomes [] → Becomes text others [] → map reading outcomes ≡ map reading others
+pub one_reading : LineHasOneAnswer → (text : List ℕ) (outcomes others : List LineOutcome) → Becomes text outcomes [] → Becomes text others []
+    → map reading outcomes ≡ map reading others
 one_reading once text outcomes others is other =
     let same = one_body text is.lines other.lines is.version other.version is.body other.body in
     let become : LinesBecome other.version other.lines is.read [] = rw (same.0, same.1) at is.become in

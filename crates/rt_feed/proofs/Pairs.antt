@@ -25,14 +25,16 @@ pair-read text address len (digits, fits, spelled, same) = record {
 read-pair : HasOneText IsAddressText → AddressFits → (text : List ℕ) (address len : ℕ) → IsPrefixText text address len → IsPairText text address len
 read-pair one fits text address len is =
     let small = fits is.address_part address is.is_address in
-    let same : is.address_part ≡ address_text address = one is.address_part (address_text address) address is.is_address (address_text_is_address address small) in
+    let same : is.address_part ≡ address_text address =
+    one is.address_part (address_text address) address is.is_address (address_text_is_address address small) in
     (is.len_part, small, is.is_len, is.joined ∙ ap (λ part. part ++ slash ∷ is.len_part) same)
 
 -- what is read as no prefix is none
 no_prefix : ReadsPrefixAgain → (field : List ℕ) (reason : TextFault) → ReadsPrefix field (Err reason) → ¬ IsOfKind prefix field
 no_prefix again field reason read (p, same) = let equal = again p (Err reason) (subst (λ text. ReadsPrefix text (Err reason)) same read) in cc
 
-told : HasOneText IsAddressText → AddressFits → (field : List ℕ) (reason : TextFault) → ReadsPrefix field (Err reason) → IsFaultOf prefix field (prefix_fault reason)
+told : HasOneText IsAddressText → AddressFits → (field : List ℕ) (reason : TextFault) → ReadsPrefix field (Err reason)
+    → IsFaultOf prefix field (prefix_fault reason)
 told one fits field Text read = λ address len is. read address len (pair-read field address len is)
 told one fits field Length (address, len, is, long) = (address, len, read-pair one fits field address len is, long)
 told one fits field Bits (address, len, is, short, not) = (address, len, read-pair one fits field address len is, short, not)
@@ -53,9 +55,11 @@ one_prefix_fault field fault.Text fault.PrefixLength is (a, m, pair, long) = abs
 one_prefix_fault field fault.Text fault.PrefixBits is (a, m, pair, short, not) = absurd (is a m pair)
 one_prefix_fault field fault.PrefixLength fault.Text (a, m, pair, long) other = absurd (other a m pair)
 one_prefix_fault field fault.PrefixLength fault.PrefixLength is other = refl
-one_prefix_fault field fault.PrefixLength fault.PrefixBits (a, m, pair, long) (b, n, other, short, not) = absurd (omega (arith, one_pair field a b m n pair other, long, short))
+one_prefix_fault field fault.PrefixLength fault.PrefixBits (a, m, pair, long) (b, n, other, short, not) =
+    absurd (omega (arith, one_pair field a b m n pair other, long, short))
 one_prefix_fault field fault.PrefixBits fault.Text (a, m, pair, short, not) other = absurd (other a m pair)
-one_prefix_fault field fault.PrefixBits fault.PrefixLength (a, m, pair, short, not) (b, n, other, long) = absurd (omega (arith, one_pair field a b m n pair other, long, short))
+one_prefix_fault field fault.PrefixBits fault.PrefixLength (a, m, pair, short, not) (b, n, other, long) =
+    absurd (omega (arith, one_pair field a b m n pair other, long, short))
 one_prefix_fault field fault.PrefixBits fault.PrefixBits is other = refl
 one_prefix_fault field fault.Command two is other = absurd is
 one_prefix_fault field fault.FieldCount two is other = absurd is

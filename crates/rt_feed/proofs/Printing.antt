@@ -1,5 +1,6 @@
 -- How long a printed line is at most, and what is in a writer after several texts.
-use Rattle.std.proofs.Common.{◌≡◌, ℕ, suc, ◌+◌, ◌<◌, ◌≤◌, List, ◌∷◌, ◌++◌, length, take, drop, get_or, codes, [], Option, arith, length-append, append_assoc, sym, ap, ◌∙◌, append-nil, add-one}
+use Rattle.std.proofs.Common.{◌≡◌, ℕ, suc, ◌+◌, ◌<◌, ◌≤◌, List, ◌∷◌, ◌++◌, length, take, drop, get_or, codes, [], Option, arith, length-append}
+use Rattle.std.proofs.Common.{append_assoc, sym, ap, ◌∙◌, append-nil, add-one}
 use Rattle.std.proofs.Math.Seq.{split_at, take-suc}
 use Rattle.std.specs.List.{flat_map}
 use Rattle.std.specs.Option.{option_map_or}
@@ -20,7 +21,8 @@ use Rattle.rt_feed.specs.declared.parse.LineFault.TheVariants as fault
 use Rattle.rt_feed.specs.declared.report.Line.{Line}
 use Rattle.rt_feed.specs.declared.report.Answer.{Answer}
 use Rattle.rt_feed.specs.declared.report.Answer.TheVariants.{Did, Refused, Fault}
-use Rattle.rt_feed.specs.Printed.{hop_text, route_text, reply_text, fault_text, answer_text, line_text, row_text, count_text, found_text, reason_text, also_text}
+use Rattle.rt_feed.specs.Printed.{hop_text, route_text, reply_text, fault_text, answer_text, line_text, row_text, count_text, found_text, reason_text}
+use Rattle.rt_feed.specs.Printed.{also_text}
 
 pub hop_fits : (hop : Hop) → length (hop_text hop) ≤ 15
 hop_fits (Via address) = length-address_text address.0

@@ -1,5 +1,6 @@
 -- A feed's text through a gate, one line and one batch further.
-use Rattle.std.proofs.Common.{◌≡◌, ◌≢◌, inl, inr, ℕ, suc, ◌+◌, ◌<◌, false, List, [], ◌∷◌, ◌++◌, All, length, get_or, map, take, drop, zip, refl, sym, ap, subst, ◌∙◌, arith, append_assoc, append-nil, length-append}
+use Rattle.std.proofs.Common.{◌≡◌, Ok, Some, ◌≢◌, inl, inr, ℕ, suc, ◌+◌, ◌<◌, false, List, [], ◌∷◌, ◌++◌, All, length, get_or, map, take, drop, zip, refl}
+use Rattle.std.proofs.Common.{sym, ap, subst, ◌∙◌, arith, append_assoc, append-nil, length-append}
 use Rattle.std.proofs.Math.Seq.{take-append_seam, drop-append_seam}
 use Rattle.std.proofs.lemmas.List.{map-append}
 use Rattle.std.proofs.lemmas.List.Elements.{All-nil, All-cons, All-append}
@@ -15,18 +16,20 @@ use Rattle.rt_feed.specs.declared.versions.Version.TheVariants.{One, Two}
 use Rattle.rt_feed.specs.Versions.{IsBody}
 use Rattle.rt_feed.specs.Grammar.{AnswersLine}
 use Rattle.rt_feed.specs.Lines.{CutsLine}
-use Rattle.rt_feed.specs.LineOutcomes.{LineOutcome, skipped, faulty, asked, reading, Becomes, heading, answer_of, line_answer, numbered, report_lines, asked_by, asked_of}
+use Rattle.rt_feed.specs.LineOutcomes.{LineOutcome, skipped, faulty, asked, reading, Becomes, heading, answer_of, line_answer, numbered, report_lines}
+use Rattle.rt_feed.specs.LineOutcomes.{asked_by, asked_of}
 use Rattle.rt_feed.specs.Visits.{Visit, Gains, concatenated, piece_of, visit_of, AnswersBatch}
 use Rattle.rt_feed.specs.inside.Filling.{filled}
 use Rattle.rt_feed.specs.FeedRuns.{RunsFeed, StopsWithin, IsTold}
-use Rattle.rt_feed.specs.inside.FeedRuns.{AnswersWaiting, HasRead}
+use Rattle.rt_feed.specs.inside.FeedRuns.{AnswersWaiting, Gathers, HasRead}
 use Rattle.rt_feed.proofs.Becoming.{becomes-push, becomes-at, becomes-alike, becomes-first, report_lines-append, report_lines-push, asked_of-append}
 use Rattle.rt_feed.proofs.Filling.{filled-none, filled-fault, filled-given}
 
 -- pieces one after another
 concatenated-append : {X : Type 0} (pieces more : List (List X)) → concatenated (pieces ++ more) ≡ concatenated pieces ++ concatenated more
 concatenated-append [] more = refl
-concatenated-append (piece ∷ pieces) more = ap (λ xs. piece ++ xs) (concatenated-append pieces more) ∙ sym (append_assoc piece (concatenated pieces) (concatenated more))
+concatenated-append (piece ∷ pieces) more = ap (λ xs. piece ++ xs) (concatenated-append pieces more)
+    ∙ sym (append_assoc piece (concatenated pieces) (concatenated more))
 
 -- a piece by itself is joined to itself
 concatenated-piece : {X : Type 0} (piece : List X) → concatenated (piece_of piece) ≡ piece
@@ -38,7 +41,8 @@ pub gains_none : {G : Type 0} (holds : G → List Visit → Type 0) (g : G) → 
 gains_none holds g visits held = rw (append-nil visits) held
 
 -- one visit after another
-gains_both : {G : Type 0} (holds : G → List Visit → Type 0) (a b c : G) (first second : List Visit) → Gains holds a b first → Gains holds b c second → Gains holds a c (first ++ second)
+gains_both : {G : Type 0} (holds : G → List Visit → Type 0) (a b c : G) (first second : List Visit) → Gains holds a b first → Gains holds b c second
+    → Gains holds a c (first ++ second)
 gains_both holds a b c first second one two visits held = rw (← append_assoc) (two (visits ++ first) (one visits held))
 
 -- lines whose commands, in order, have these outcomes
@@ -72,19 +76,22 @@ no_fault (Did reply) = refl
 no_fault Refused = refl
 
 -- the report's lines for them are those that were given the outcomes
-report_lines-given : (number : ℕ) (lines : List LineOutcome) (outcomes : List Outcome) → report_lines number (given lines outcomes) ≡ filled (report_lines number lines) outcomes
+report_lines-given : (number : ℕ) (lines : List LineOutcome) (outcomes : List Outcome)
+    → report_lines number (given lines outcomes) ≡ filled (report_lines number lines) outcomes
 unfolding given
 report_lines-given number [] outcomes = refl
 report_lines-given number (skipped ∷ lines) outcomes = report_lines-given (number + 1) lines outcomes
 report_lines-given number (faulty fault ∷ lines) outcomes =
-    ap (λ ls. numbered number (line_answer (faulty fault)) ++ ls) (report_lines-given (number + 1) lines outcomes) ∙ sym (filled-fault _ (report_lines (number + 1) lines) outcomes refl)
+    ap (λ ls. numbered number (line_answer (faulty fault)) ++ ls) (report_lines-given (number + 1) lines outcomes)
+    ∙ sym (filled-fault _ (report_lines (number + 1) lines) outcomes refl)
 report_lines-given number (asked cmd old ∷ lines) [] = sym (filled-none (report_lines number (asked cmd old ∷ lines)))
 report_lines-given number (asked cmd old ∷ lines) (outcome ∷ outcomes) =
     ap (λ ls. numbered number (line_answer (asked cmd outcome)) ++ ls) (report_lines-given (number + 1) lines outcomes)
     ∙ sym (filled-given (record { number = number; answer = answer_of old }) (report_lines (number + 1) lines) outcome outcomes (no_fault old))
 
 -- their outcomes are the ones given
-asked_of-given : (lines : List LineOutcome) (cmds : List Cmd) (outcomes : List Outcome) → asked_of lines ≡ map (λ cmd. (cmd, Refused)) cmds → length outcomes ≡ length cmds
+asked_of-given : (lines : List LineOutcome) (cmds : List Cmd) (outcomes : List Outcome) → asked_of lines ≡ map (λ cmd. (cmd, Refused)) cmds
+    → length outcomes ≡ length cmds
     → asked_of (given lines outcomes) ≡ zip cmds outcomes
 unfolding given
 asked_of-given [] [] [] is each = refl
@@ -101,7 +108,8 @@ asked_of-given (asked cmd old ∷ lines) (c ∷ cmds) (outcome ∷ outcomes) is 
     ap (λ xs. (cmd, outcome) ∷ xs) (asked_of-given lines cmds outcomes tail (omega (arith, each))) ∙ ap (λ x. (x, outcome) ∷ zip cmds outcomes) head
 
 -- where all are refused they stay as they wait
-given-refused : (lines : List LineOutcome) (cmds : List Cmd) → asked_of lines ≡ map (λ cmd. (cmd, Refused)) cmds → given lines (map (λ cmd. Refused) cmds) ≡ lines
+given-refused : (lines : List LineOutcome) (cmds : List Cmd) → asked_of lines ≡ map (λ cmd. (cmd, Refused)) cmds
+    → given lines (map (λ cmd. Refused) cmds) ≡ lines
 unfolding given
 given-refused [] cmds is = refl
 given-refused (skipped ∷ lines) cmds is = ap (λ ls. skipped ∷ ls) (given-refused lines cmds is)
@@ -114,7 +122,8 @@ given-refused (asked cmd old ∷ lines) (c ∷ cmds) is =
     ap (λ ls. asked cmd Refused ∷ ls) (given-refused lines cmds tail) ∙ ap (λ o. asked cmd o ∷ lines) (sym was)
 
 -- a visit of some commands is a piece of them
-pub piece_asked : {G : Type 0} (holds : G → List Visit → Type 0) (old new : G) (cmds : List Cmd) (outcomes : List Outcome) → length outcomes ≡ length cmds → cmds ≢ []
+pub piece_asked : {G : Type 0} (holds : G → List Visit → Type 0) (old new : G) (cmds : List Cmd) (outcomes : List Outcome) → length outcomes ≡ length cmds
+    → cmds ≢ []
     → Gains holds old new (visit_of (zip cmds outcomes) ∷ []) → Gains holds old new (map visit_of (piece_of (zip cmds outcomes)))
 piece_asked holds old new [] outcomes each some gained = absurd (some refl)
 piece_asked holds old new (cmd ∷ cmds) [] each some gained = absurd (omega (arith, each))
@@ -137,13 +146,16 @@ refuses_waiting holds old new cmds first report some gained =
     record {
       outcomes = outcomes;
       each = length-refusals cmds;
-      gained = piece_asked holds old new cmds outcomes (length-refusals cmds) some (subst (λ visit. Gains holds old new (visit ∷ [])) (sym (none_answered cmds)) gained);
+      gained = piece_asked holds old new cmds outcomes (length-refusals cmds) some
+          (subst (λ visit. Gains holds old new (visit ∷ [])) (sym (none_answered cmds)) gained);
       reported = inr (refl, refl);
     }
 
 -- they were answered in one visit, and the report has what became of them
-pub answers_waiting : {G : Type 0} (holds : G → List Visit → Type 0) (old new : G) (cmds : List Cmd) (first : ℕ) (report report' : List Line) (out : List Outcome) → cmds ≢ []
-    → AnswersBatch holds old new cmds [] out → report' ≡ take first report ++ filled (drop first report) out → AnswersWaiting holds old new cmds first report report'
+pub answers_waiting : {G : Type 0} (holds : G → List Visit → Type 0) (old new : G) (cmds : List Cmd) (first : ℕ) (report report' : List Line)
+    (out : List Outcome) → cmds ≢ []
+    → AnswersBatch holds old new cmds [] out → report' ≡ take first report ++ filled (drop first report) out
+    → AnswersWaiting holds old new cmds first report report'
 answers_waiting holds old new cmds first report report' out some batch is = record {
   outcomes = batch.outcomes;
   each = batch.each;
@@ -158,7 +170,8 @@ alone (first ∷ []) cmd one is = ap (λ c. c ∷ []) is
 alone (first ∷ second ∷ cmds) cmd one is = absurd (omega (arith, one))
 
 -- nothing waits
-pub none_waits : {G : Type 0} (holds : G → List Visit → Type 0) (gate : G) (first : ℕ) (report : List Line) → AnswersWaiting holds gate gate [] first report report
+pub none_waits : {G : Type 0} (holds : G → List Visit → Type 0) (gate : G) (first : ℕ) (report : List Line)
+    → AnswersWaiting holds gate gate [] first report report
 none_waits holds gate first report = record { outcomes = []; each = refl; gained = gains_none holds gate; reported = inr (refl, refl) }
 
 -- the heading has no answer and asks nothing
@@ -171,7 +184,8 @@ none_asked One = refl
 none_asked Two = refl
 
 -- before the first line
-pub nothing_read : {G : Type 0} (holds : G → List Visit → Type 0) (batch : ℕ) (text : List ℕ) (gate : G) (run : FeedRun) → run.report ≡ [] → run.first ≡ 0 → run.gathered.items ≡ []
+pub nothing_read : {G : Type 0} (holds : G → List Visit → Type 0) (batch : ℕ) (text : List ℕ) (gate : G) (run : FeedRun) → run.report ≡ [] → run.first ≡ 0
+    → run.gathered.items ≡ []
     → (lines : List ℕ) → IsBody text run.version lines → HasRead holds batch text lines (length (heading run.version)) gate gate run
 nothing_read holds batch text gate run report first gathered lines body = record {
   settled = heading run.version;
@@ -190,7 +204,8 @@ nothing_read holds batch text gate run report first gathered lines body = record
 }
 
 -- one line more, whose command waits if it is one
-pub line_read : {G : Type 0} (holds : G → List Visit → Type 0) (batch : ℕ) (text rest line next : List ℕ) (earlier number : ℕ) (start gate : G) (run run' : FeedRun) (outcome : LineOutcome) (more : List Cmd)
+pub line_read : {G : Type 0} (holds : G → List Visit → Type 0) (batch : ℕ) (text rest line next : List ℕ) (earlier number : ℕ) (start gate : G)
+    (run run' : FeedRun) (outcome : LineOutcome) (more : List Cmd)
     → HasRead holds batch text rest earlier start gate run → number ≡ earlier + 1 → CutsLine rest line next → AnswersLine run.version line (reading outcome)
     → asked_by outcome ≡ map (λ cmd. (cmd, Refused)) more → run'.report ≡ run.report ++ numbered number (line_answer outcome) → run'.first ≡ run.first
     → run'.gathered.items ≡ run.gathered.items ++ more → run'.version ≡ run.version → HasRead holds batch text next number start gate run'
@@ -199,7 +214,8 @@ line_read holds batch text rest line next earlier number start gate run run' out
     let waiting = so_far.waiting in
     let all : settled ++ (waiting ++ outcome ∷ []) ≡ (settled ++ waiting) ++ outcome ∷ [] = sym (append_assoc settled waiting (outcome ∷ [])) in
     let count : number ≡ 1 + length (settled ++ waiting) = omega (arith, one_more, so_far.counted) in
-    let pushed = becomes-push text line rest next (settled ++ waiting) outcome so_far.becomes cut (subst (λ v. AnswersLine v line (reading outcome)) (sym so_far.versioned) reads) in
+    let pushed = becomes-push text line rest next (settled ++ waiting) outcome so_far.becomes cut
+    (subst (λ v. AnswersLine v line (reading outcome)) (sym so_far.versioned) reads) in
     let becomes = becomes-at text next ((settled ++ waiting) ++ outcome ∷ []) (settled ++ (waiting ++ outcome ∷ [])) all pushed.0 in
     record {
       settled = settled;
@@ -217,8 +233,17 @@ line_read holds batch text rest line next earlier number start gate run run' out
       };
     }
 
+-- one line more, whose command waits now
+pub command_read : {G : Type 0} (holds : G → List Visit → Type 0) (batch : ℕ) (text rest line next : List ℕ) (earlier number : ℕ) (start gate : G)
+    (run run' : FeedRun) (cmd : Cmd) → HasRead holds batch text rest earlier start gate run → number ≡ earlier + 1 → CutsLine rest line next
+    → AnswersLine run.version line (Ok (Some cmd)) → Gathers number cmd run run' → HasRead holds batch text next number start gate run'
+command_read holds batch text rest line next earlier number start gate run run' cmd so_far one_more cut reads gathers =
+    line_read holds batch text rest line next earlier number start gate run run' (asked cmd Refused) (cmd ∷ []) so_far one_more cut reads refl
+    gathers.reported gathers.first gathers.gathered gathers.version
+
 -- what the lines became, once those that waited have been asked
-record Settled {G : Type 0} (holds : G → List Visit → Type 0) (version : Version) (text rest : List ℕ) (number : ℕ) (start new : G) (pieces : List (List (Cmd × Outcome))) (asked : List (Cmd × Outcome)) (report : List Line) : Type 0 where
+record Settled {G : Type 0} (holds : G → List Visit → Type 0) (version : Version) (text rest : List ℕ) (number : ℕ) (start new : G)
+    (pieces : List (List (Cmd × Outcome))) (asked : List (Cmd × Outcome)) (report : List Line) : Type 0 where
   outcomes : List LineOutcome
   becomes : Becomes text outcomes rest
   versioned : becomes.version ≡ version
@@ -238,7 +263,8 @@ settles holds batch text rest number start gate new run report read answers =
     let cmds = run.gathered.items in
     let outcomes = answers.outcomes in
     let said : map reading (settled ++ waiting) ≡ map reading (settled ++ given waiting outcomes) =
-    map-append reading settled waiting ∙ (ap (λ rs. map reading settled ++ rs) (sym (reading-given waiting outcomes)) ∙ sym (map-append reading settled (given waiting outcomes))) in
+    map-append reading settled waiting
+    ∙ (ap (λ rs. map reading settled ++ rs) (sym (reading-given waiting outcomes)) ∙ sym (map-append reading settled (given waiting outcomes))) in
     let before = report_lines 1 settled in
     let after = report_lines (1 + length settled) waiting in
     let parts : run.report ≡ before ++ after = read.held.reported ∙ report_lines-append 1 settled waiting in
@@ -256,7 +282,8 @@ settles holds batch text rest number start gate new run report read answers =
       counted = rw (length-append, length-given, ← length-append) read.counted;
       reported = elim answers.reported [
         | inl is ↦ rw (is, kept, behind, whole) refl
-        | inr same ↦ rw (same.0, read.held.reported) (ap (λ ls. report_lines 1 (settled ++ ls)) (sym (ap (given waiting) same.1 ∙ given-refused waiting cmds read.held.gathered)))
+        | inr same ↦ rw (same.0, read.held.reported)
+            (ap (λ ls. report_lines 1 (settled ++ ls)) (sym (ap (given waiting) same.1 ∙ given-refused waiting cmds read.held.gathered)))
       ];
       is_joined = rw (asked_of-append, read.asked.is_joined, asked_of-given waiting cmds outcomes read.held.gathered answers.each) refl;
       gained = rw map-append (gains_both holds start gate new _ _ read.asked.gained answers.gained);
@@ -286,7 +313,8 @@ pairs cmds outcomes each = omega (arith, length-zip cmds outcomes, each)
 
 -- a batch was asked: none of the lines read waits
 pub batch_asked : {G : Type 0} (holds : G → List Visit → Type 0) (batch : ℕ) (text rest : List ℕ) (number : ℕ) (start gate new : G) (run run' : FeedRun)
-    → HasRead holds batch text rest number start gate run → length run.gathered.items ≡ batch → AnswersWaiting holds gate new run.gathered.items run.first run.report run'.report
+    → HasRead holds batch text rest number start gate run → length run.gathered.items ≡ batch
+    → AnswersWaiting holds gate new run.gathered.items run.first run.report run'.report
     → run'.gathered.items ≡ [] → run'.first ≡ length run'.report → run'.version ≡ run.version → HasRead holds batch text rest number start new run'
 batch_asked holds batch text rest number start gate new run run' read whole answers emptied first version =
     let asked = zip run.gathered.items answers.outcomes in
@@ -302,7 +330,8 @@ batch_asked holds batch text rest number start gate new run run' read whole answ
       counted = rw append-nil done.counted;
       asked = record {
         pieces = read.asked.pieces ++ piece_of asked;
-        full = All-append (λ piece. length piece ≡ batch) read.asked.pieces (piece_of asked) read.asked.full (full_piece batch asked (pairs run.gathered.items answers.outcomes answers.each ∙ whole));
+        full = All-append (λ piece. length piece ≡ batch) read.asked.pieces (piece_of asked) read.asked.full
+            (full_piece batch asked (pairs run.gathered.items answers.outcomes answers.each ∙ whole));
         is_joined = done.is_joined ∙ piece_more read.asked.pieces asked;
         gained = done.gained;
       };
@@ -310,8 +339,10 @@ batch_asked holds batch text rest number start gate new run run' read whole answ
     }
 
 -- the text was read to its end, and the last commands were asked
-pub all_asked : {G : Type 0} (holds : G → List Visit → Type 0) (batch : ℕ) (text : List ℕ) (number : ℕ) (start gate new : G) (run : FeedRun) (report : List Line)
-    → HasRead holds batch text [] number start gate run → length run.gathered.items < batch → AnswersWaiting holds gate new run.gathered.items run.first run.report report
+pub all_asked : {G : Type 0} (holds : G → List Visit → Type 0) (batch : ℕ) (text : List ℕ) (number : ℕ) (start gate new : G) (run : FeedRun)
+    (report : List Line)
+    → HasRead holds batch text [] number start gate run → length run.gathered.items < batch
+    → AnswersWaiting holds gate new run.gathered.items run.first run.report report
     → RunsFeed holds batch text start new report
 all_asked holds batch text number start gate new run report read few answers =
     let asked = zip run.gathered.items answers.outcomes in
@@ -339,7 +370,8 @@ pub stopped : {G : Type 0} (holds : G → List Visit → Type 0) (batch : ℕ) (
     → HasRead holds batch text rest number start gate run → length run.gathered.items < batch → CutsLine rest line next → IsTold run.version line
     → StopsWithin holds batch text start gate
 stopped holds batch text rest line next number start gate run read few cut told =
-    let first = becomes-first text rest read.settled read.earlier read.waiting read.becomes (read.headed ∙ ap (λ v. heading v ++ read.earlier) (sym read.versioned)) in
+    let first = becomes-first text rest read.settled read.earlier read.waiting read.becomes
+    (read.headed ∙ ap (λ v. heading v ++ read.earlier) (sym read.versioned)) in
     record {
       outcomes = read.settled;
       unasked = first.0;

@@ -19,11 +19,13 @@ entries_answered : (feed : ℕ) (cmds : List Cmd) (outcomes : List Outcome) → 
 entries_answered feed [] [] = refl
 entries_answered feed [] (outcome ∷ outcomes) = refl
 entries_answered feed (cmd ∷ cmds) [] = refl
-entries_answered feed (cmd ∷ cmds) (Did reply ∷ outcomes) = ap (λ es. record { feed = feed; cmd = cmd; reply = reply } ∷ es) (entries_answered feed cmds outcomes)
+entries_answered feed (cmd ∷ cmds) (Did reply ∷ outcomes) =
+    ap (λ es. record { feed = feed; cmd = cmd; reply = reply } ∷ es) (entries_answered feed cmds outcomes)
 entries_answered feed (cmd ∷ cmds) (Refused ∷ outcomes) = entries_answered feed cmds outcomes
 
 -- so a visit to the shared table lies uncut behind the others
-uncut_entries : (limit feed : ℕ) (seen now : List Entry) (cmds : List Cmd) (outcomes : List Outcome) (visits : List Visit) → shared.MakesVisit limit feed seen cmds outcomes now
+uncut_entries : (limit feed : ℕ) (seen now : List Entry) (cmds : List Cmd) (outcomes : List Outcome) (visits : List Visit)
+    → shared.MakesVisit limit feed seen cmds outcomes now
     → Uncut feed (map (entries feed) visits) seen → Uncut feed (map (entries feed) (visits ++ visit_of (zip cmds outcomes) ∷ [])) now
 uncut_entries limit feed seen now cmds outcomes visits visit uncut =
     rw (map-append, ← entries_answered feed cmds outcomes) (uncut_by_visit limit feed (map (entries feed) visits) seen now cmds outcomes uncut visit)
@@ -31,9 +33,11 @@ uncut_entries limit feed seen now cmds outcomes visits visit uncut =
 -- a visit of the pass of a gate
 pub gate_visit : (limit : ℕ) (inside old new : HeldPass) (cmds : List Cmd) (outcomes : List Outcome) → inside ≡ old → new.feed ≡ inside.feed
     → shared.MakesVisit limit inside.feed inside.seen cmds outcomes new.seen
-    → (visits : List Visit) → Uncut old.feed (map (entries old.feed) visits) old.seen → Uncut new.feed (map (entries new.feed) (visits ++ visit_of (zip cmds outcomes) ∷ [])) new.seen
+    → (visits : List Visit) → Uncut old.feed (map (entries old.feed) visits) old.seen
+    → Uncut new.feed (map (entries new.feed) (visits ++ visit_of (zip cmds outcomes) ∷ [])) new.seen
 gate_visit limit inside old new cmds outcomes is feed visit visits held =
-    rw feed (uncut_entries limit inside.feed inside.seen new.seen cmds outcomes visits visit (subst (λ (p : HeldPass). Uncut p.feed (map (entries p.feed) visits) p.seen) (sym is) held))
+    rw feed (uncut_entries limit inside.feed inside.seen new.seen cmds outcomes visits visit
+    (subst (λ (p : HeldPass). Uncut p.feed (map (entries p.feed) visits) p.seen) (sym is) held))
 
 -- an empty visit changes nothing
 pub gate_empty : (inside old new : HeldPass) → inside ≡ old → new ≡ inside

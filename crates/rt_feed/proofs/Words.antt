@@ -1,5 +1,6 @@
 -- The words of a command and the fields of its line.
-use Rattle.std.proofs.Common.{◌≡◌, ◌≢◌, ℕ, ◌+◌, ◌^◌, ◌<◌, ◌≤◌, ◌/◌, ◌%◌, List, [], ◌∷◌, ◌++◌, All, None, true, false, not, eqb, decimal, codes, length, length-append, sym, ap, ◌∙◌, slice_index_or, append_assoc, refl, arith}
+use Rattle.std.proofs.Common.{◌≡◌, ◌≢◌, ℕ, ◌+◌, ◌^◌, ◌<◌, ◌≤◌, ◌/◌, ◌%◌, List, [], ◌∷◌, ◌++◌, All, None, true, false, not, eqb, decimal, codes, length}
+use Rattle.std.proofs.Common.{length-append, sym, ap, ◌∙◌, slice_index_or, append_assoc, refl, arith}
 use Rattle.std.specs.List.{join_with_byte, list_all}
 use Rattle.std.proofs.lemmas.List.Splits.{join_with_byte-slice_split, slice_split_at, slice_split_none}
 use Rattle.std.proofs.lemmas.List.Elements.{All-nil, All-cons, All-append}
@@ -107,7 +108,8 @@ no_space-words version Purge fits = (no_space-literal (codes "purge") refl, tt)
 -- the fields of a command's text are its words
 pub fields-command_text : (version : Version) (cmd : Cmd) → HasCommand version cmd → fields (command_text cmd) ≡ words cmd
 fields-command_text version (Add p pref hop) fits = fields-joined (codes "add") (route_words p pref hop) (no_space-words version (Add p pref hop) fits)
-fields-command_text version (Replace p pref hop) fits = fields-joined (codes "replace") (route_words p pref hop) (no_space-words version (Replace p pref hop) fits)
+fields-command_text version (Replace p pref hop) fits =
+    fields-joined (codes "replace") (route_words p pref hop) (no_space-words version (Replace p pref hop) fits)
 fields-command_text version (Withdraw p) fits = fields-joined (codes "withdraw") (prefix_text p.base p.len ∷ []) (no_space-words version (Withdraw p) fits)
 fields-command_text version (Lookup addr) fits = fields-joined (codes "lookup") (address_text addr.0 ∷ []) (no_space-words version (Lookup addr) fits)
 fields-command_text version Dump fits = fields-joined (codes "dump") [] (no_space-words version Dump fits)

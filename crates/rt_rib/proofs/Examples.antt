@@ -5,6 +5,7 @@ use Rattle.std.proofs.lemmas.List.Elements.{All-nil, All-cons}
 use Rattle.std.proofs.lemmas.List.Kept.{AllPairs-cons}
 use Rattle.rt_cidr.specs.declared.address.Addr.{Addr}
 use Rattle.rt_cidr.specs.declared.prefixes.Prefix.{Prefix}
+use Rattle.rt_cidr.proofs.Promised.{everything, ten_8, ten_0_16, last_32}
 use Rattle.rt_rib.specs.declared.routes.Hop.{Hop}
 use Rattle.rt_rib.specs.declared.routes.Hop.TheVariants.{Via, Discard}
 use Rattle.rt_rib.specs.declared.routes.Route.{Route}
@@ -30,28 +31,16 @@ use Rattle.rt_rib.proofs.Best.{look_up_finds_best}
 use Rattle.rt_rib.proofs.Ranking.{look_up_all_finds_matches}
 use Rattle.rt_rib.proofs.OfferLists.{IsRanked-one}
 use Rattle.rt_rib.proofs.Journals.{IsTable-of_journal, IsLawfulJournal-nil, IsLawfulJournal-push}
-use Rattle.std.specs.Prelude.{◌↔◌, ◌⊎◌, ◌≤◌, ◌<◌, length, slice_get}
+use Rattle.std.specs.Prelude.{◌↔◌, ◌⊎◌, ◌≤◌, ◌<◌, length, map, slice_get}
 use Rattle.std.specs.List.{AllPairs, Contains}
 use Rattle.rt_cidr.specs.Prefix.{covers}
 
--- prefixes of the examples: all addresses, 128.0.0.0/1, 10.0.0.0/8, 10.0.0.0/16, 10.1.0.0/16, and the last address by itself
-abbrev everything : Prefix
-everything = record { base = 0; len = 0; is_prefix = record { short = omega arith; fits = omega arith; clear = refl } }
-
+-- prefixes of the examples, beside those of rt_cidr: 128.0.0.0/1 and 10.1.0.0/16
 abbrev upper_half : Prefix
 upper_half = record { base = 2147483648; len = 1; is_prefix = record { short = omega arith; fits = omega arith; clear = refl } }
 
-abbrev pub ten_8 : Prefix
-ten_8 = record { base = 167772160; len = 8; is_prefix = record { short = omega arith; fits = omega arith; clear = refl } }
-
-abbrev ten_0_16 : Prefix
-ten_0_16 = record { base = 167772160; len = 16; is_prefix = record { short = omega arith; fits = omega arith; clear = refl } }
-
 abbrev pub ten_1_16 : Prefix
 ten_1_16 = record { base = 167837696; len = 16; is_prefix = record { short = omega arith; fits = omega arith; clear = refl } }
-
-abbrev last_32 : Prefix
-last_32 = record { base = 4294967295; len = 32; is_prefix = record { short = omega arith; fits = omega arith; clear = refl } }
 
 -- addresses: 10.1.2.3, 10.2.3.4, 198.51.100.7, and the last one
 abbrev pub at_10_1_2_3 : Addr
@@ -90,11 +79,11 @@ ten_2_16 = record { base = 167903232; len = 16; is_prefix = record { short = ome
 abbrev pub ten_3_16 : Prefix
 ten_3_16 = record { base = 167968768; len = 16; is_prefix = record { short = omega arith; fits = omega arith; clear = refl } }
 
-abbrev pub ten_9_16 : Prefix
-ten_9_16 = record { base = 168361984; len = 16; is_prefix = record { short = omega arith; fits = omega arith; clear = refl } }
-
 abbrev pub at_10_9_0_1 : Addr
 at_10_9_0_1 = record { 0 = 168361985 }
+
+abbrev pub ten_9_16 : Prefix
+ten_9_16 = record { base = 168361984; len = 16; is_prefix = record { short = omega arith; fits = omega arith; clear = refl } }
 
 abbrev pub via_192_0_2 : ℕ → Hop
 via_192_0_2 last = Via (record { 0 = 3221225984 + last })
@@ -152,14 +141,12 @@ above_whatever_the_rest = refl
 lesser_preference_is_better : is_better (route ten_8 64 4) (route ten_8 1 5) ≡ true
 lesser_preference_is_better = refl
 
-greater_preference_is_not : is_better (route ten_8 1 5) (route ten_8 64 4) ≡ false
-greater_preference_is_not = refl
-
 of_equal_preference_the_lesser_feed_is : is_better (route ten_8 1 5) (route ten_8 64 5) ≡ true
 of_equal_preference_the_lesser_feed_is = refl
 
-nothing_is_better_than_itself : is_better (route ten_8 1 5) (route ten_8 1 5) ≡ false
-nothing_is_better_than_itself = refl
+neither_the_greater_preference_nor_the_route_itself :
+    (is_better (route ten_8 1 5) (route ten_8 64 4) ≡ false) × (is_better (route ten_8 1 5) (route ten_8 1 5) ≡ false)
+neither_the_greater_preference_nor_the_route_itself = (refl, refl)
 
 -- precedes
 by_base_before_length : precedes (route ten_8 64 9) (route upper_half 1 0) ≡ true
@@ -172,14 +159,10 @@ by_length_before_preference = refl
 by_preference_before_feed : precedes (route ten_8 2 30) (route ten_8 1 50) ≡ true
 by_preference_before_feed = refl
 
-by_feed_last : precedes (route ten_8 2 30) (route ten_8 1 30) ≡ false
-by_feed_last = refl
-
-not_by_length_after_base : precedes (route ten_1_16 1 0) (route ten_8 2 9) ≡ false
-not_by_length_after_base = refl
-
-not_the_longer_of_one_base : precedes (route ten_0_16 1 0) (route ten_8 2 9) ≡ false
-not_the_longer_of_one_base = refl
+not_the_greater_feed_nor_the_greater_base_nor_the_longer :
+    (precedes (route ten_8 2 30) (route ten_8 1 30) ≡ false) × (precedes (route ten_1_16 1 0) (route ten_8 2 9) ≡ false)
+    × (precedes (route ten_0_16 1 0) (route ten_8 2 9) ≡ false)
+not_the_greater_feed_nor_the_greater_base_nor_the_longer = (refl, refl, refl)
 
 -- put_in
 put_in_stands_in_dump_order :
@@ -265,17 +248,13 @@ unfolding look_up
 look_up_finds_nothing_where_nothing_covers = refl
 
 -- beats
-a_longer_prefix_beats : beats (route ten_8 2 30) (route everything 1 0) ≡ true
-a_longer_prefix_beats = refl
+a_longer_prefix_beats_and_the_better_of_one_length :
+    (beats (route ten_8 2 30) (route everything 1 0) ≡ true) × (beats (route ten_8 2 30) (route ten_8 1 50) ≡ true)
+a_longer_prefix_beats_and_the_better_of_one_length = (refl, refl)
 
-a_shorter_prefix_does_not_beat : beats (route everything 1 0) (route ten_8 2 30) ≡ false
-a_shorter_prefix_does_not_beat = refl
-
-of_one_length_the_better_beats : beats (route ten_8 2 30) (route ten_8 1 50) ≡ true
-of_one_length_the_better_beats = refl
-
-nothing_beats_itself : beats (route ten_8 1 5) (route ten_8 1 5) ≡ false
-nothing_beats_itself = refl
+neither_a_shorter_one_beats_nor_the_route_itself :
+    (beats (route everything 1 0) (route ten_8 2 30) ≡ false) × (beats (route ten_8 1 5) (route ten_8 1 5) ≡ false)
+neither_a_shorter_one_beats_nor_the_route_itself = (refl, refl)
 
 -- ranking
 ranking_of_what_stands_in_any_order :
@@ -323,17 +302,14 @@ best_routes_tells_prefixes_of_one_base_apart : best_routes (route ten_8 1 5 ∷ 
 best_routes_tells_prefixes_of_one_base_apart = refl
 
 -- reply_of
-add_where_there_is_room : reply_of 2 (route ten_8 1 5 ∷ []) 1 (Add ten_1_16 5 Discard) ≡ Added
+add_goes_by_the_room_that_there_is :
+    map (λ limit. reply_of limit (route ten_8 1 5 ∷ []) 1 (Add ten_1_16 5 Discard)) (2 ∷ 1 ∷ []) ≡ Added ∷ Full ∷ []
 unfolding reply_of
-add_where_there_is_room = refl
+add_goes_by_the_room_that_there_is = refl
 
 add_exists_before_full : reply_of 1 (route ten_8 1 5 ∷ []) 1 (Add ten_8 9 Discard) ≡ Exists
 unfolding reply_of
 add_exists_before_full = refl
-
-add_full : reply_of 1 (route ten_8 1 5 ∷ []) 1 (Add ten_1_16 5 Discard) ≡ Full
-unfolding reply_of
-add_full = refl
 
 the_limit_is_of_one_feed : reply_of 1 (route ten_8 1 5 ∷ []) 2 (Add ten_8 5 Discard) ≡ Added
 unfolding reply_of
@@ -521,17 +497,11 @@ entries_of_one_feed :
 entries_of_one_feed = refl
 
 -- IsLimit
-limit_of_one : IsLimit 1
-limit_of_one = (omega arith, omega arith)
+from_one_up_to_the_greatest : IsLimit 1 × IsLimit 1000000
+from_one_up_to_the_greatest = ((omega arith, omega arith), (omega arith, omega arith))
 
-greatest_limit : IsLimit 1000000
-greatest_limit = (omega arith, omega arith)
-
-no_limit_of_none : ¬ IsLimit 0
-no_limit_of_none h = omega (arith, h.0)
-
-no_limit_above_the_greatest : ¬ IsLimit 1000001
-no_limit_above_the_greatest h = omega (arith, h.1)
+neither_none_nor_one_above_the_greatest : (¬ IsLimit 0) × (¬ IsLimit 1000001)
+neither_none_nor_one_above_the_greatest = (λ h. omega (arith, h.0), λ h. omega (arith, h.1))
 
 -- what a feed offers, and a map of two prefixes
 abbrev offer : ℕ → ℕ → Offer

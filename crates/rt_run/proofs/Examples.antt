@@ -5,9 +5,8 @@ use Rattle.std.proofs.Common.{List, [], ◌∷◌, ◌++◌, length, map, filter
 use Rattle.std.specs.List.{All, list_any, list_all, slice_get, Contains}
 use Rattle.std.proofs.lemmas.Bool.{and_parts, eqb-true, eqb-false, leb-true}
 use Rattle.std.proofs.lemmas.List.Elements.{All-nil, All-cons}
-use Rattle.rt_cidr.proofs.Promised.{written_0, written_1, written_2, written_3, written_4, written_5, written_6, written_10, written_30, written_50}
-use Rattle.rt_cidr.proofs.Promised.{written_10_0_0_0_8, written_10_1_0_0_16, written_10_9_0_0_16}
-use Rattle.rt_cidr.proofs.Promised.{written_192_0_2_1, written_192_0_2_2, written_10_1_2_3, written_10_9_0_1}
+use Rattle.std.specs.Fmt.{digits}
+use Rattle.rt_cidr.specs.Text.{address_text, prefix_text}
 use Rattle.ya_core.specs.declared.schedule.ReplayFault.TheVariants as replay
 use Rattle.ya_core.specs.Steps.{opening}
 use Rattle.rt_rib.specs.declared.routes.Hop.TheVariants.{Discard}
@@ -132,19 +131,21 @@ what_is_told_of_each = refl
 
 -- told_text
 a_line_of_feed_2 : told_text 2 3 (asked Dump Refused) ≡ codes "2:3 refused\n"
-a_line_of_feed_2 = rw (written_2, written_3) refl
+unfolding digits
+a_line_of_feed_2 = refl
 
 nothing_is_told_of_a_comment : told_text 2 3 skipped ≡ []
 nothing_is_told_of_a_comment = refl
 
 -- lines_text
 a_comment_has_its_number : lines_text 1 1 (skipped ∷ asked Dump Refused ∷ asked Dump Refused ∷ []) ≡ codes "1:2 refused\n1:3 refused\n"
-a_comment_has_its_number = rw (written_1, written_2, written_3) refl
+unfolding digits
+a_comment_has_its_number = refl
 
 -- feeds_text
 the_second_is_of_feed_2 : feeds_text 1 ((asked Dump Refused ∷ []) ∷ (skipped ∷ asked Dump (Did (Dumped 0)) ∷ []) ∷ []) ≡ codes "1:1 refused\n2:2 dumped 0\n"
-unfolding reply_text
-the_second_is_of_feed_2 = rw (written_1, written_2, written_0) refl
+unfolding digits reply_text
+the_second_is_of_feed_2 = refl
 
 -- was_faulty
 a_fault_alone : map was_faulty (skipped ∷ faulty fault.Hop ∷ asked Dump Refused ∷ asked Dump (Did (Dumped 0)) ∷ []) ≡ false ∷ true ∷ false ∷ false ∷ []
@@ -185,19 +186,19 @@ two_to_ten_8 = route_via ten_8 2 30 Discard ∷ route_via ten_8 1 50 Discard ∷
 
 -- routes_text
 all_of_them : routes_text false two_to_ten_8 ≡ codes "10.0.0.0/8 feed 2 pref 30 via discard\n10.0.0.0/8 feed 1 pref 50 via discard\n"
-unfolding row_text route_text
-all_of_them = rw (written_10_0_0_0_8, written_1, written_2, written_30, written_50) refl
+unfolding digits address_text prefix_text row_text route_text
+all_of_them = refl
 
 only_the_best : routes_text true two_to_ten_8 ≡ codes "10.0.0.0/8 feed 2 pref 30 via discard\n"
-unfolding row_text route_text
-only_the_best = rw (written_10_0_0_0_8, written_2, written_30) refl
+unfolding digits address_text prefix_text row_text route_text
+only_the_best = refl
 
 -- answers_text
 one_is_covered_and_one_is_not :
     answers_text (at_10_1_2_3 ∷ at_10_9_0_1 ∷ []) (route_via ten_1_16 1 10 Discard ∷ [])
     ≡ codes "10.1.2.3 route 10.1.0.0/16 feed 1 pref 10 via discard\n10.9.0.1 no route\n"
-unfolding look_up found_text reply_text route_text
-one_is_covered_and_one_is_not = rw (written_10_1_2_3, written_10_9_0_1, written_10_1_0_0_16, written_1, written_10) refl
+unfolding digits address_text prefix_text look_up found_text reply_text route_text
+one_is_covered_and_one_is_not = refl
 
 -- all_answers_text
 all_that_cover_each :
@@ -205,9 +206,8 @@ all_that_cover_each :
     ≡ codes "10.1.2.3 route 10.1.0.0/16 feed 1 pref 10 via discard\n10.1.2.3 also 10.0.0.0/8 feed 2 pref 30 via discard shorter\n"
     ++ codes "10.1.2.3 also 10.0.0.0/8 feed 1 pref 50 via discard shorter\n10.9.0.1 route 10.0.0.0/8 feed 2 pref 30 via discard\n"
     ++ codes "10.9.0.1 also 10.0.0.0/8 feed 1 pref 50 via discard preference\n"
-unfolding look_up_all found_text also_text reason_text reply_text route_text
-all_that_cover_each =
-    rw (written_10_1_2_3, written_10_9_0_1, written_10_1_0_0_16, written_10_0_0_0_8, written_1, written_2, written_10, written_30, written_50) refl
+unfolding digits address_text prefix_text look_up_all found_text also_text reason_text reply_text route_text
+all_that_cover_each = refl
 
 -- first_fault
 the_second_line_has_the_first : first_fault 3 (asked Dump Refused ∷ faulty fault.Hop ∷ faulty fault.Text ∷ []) ≡ Some (4, fault.Hop)
@@ -353,12 +353,12 @@ the_history_of_a_dump = record {
 
 -- IsRunText
 the_run_of_a_dump : IsRunText (text ∷ []) 1 1 (codes "1:1 dumped 0\ntable 0\n") 0
-unfolding table_of_journal table_after reply_of reply_text count_text
+unfolding digits table_of_journal table_after reply_of reply_text count_text
 the_run_of_a_dump = record {
   journal = dumped ∷ [];
   outcomes = lines ∷ [];
   history = the_history_of_a_dump;
-  printed = rw (written_1, written_0) refl;
+  printed = refl;
   is_status = refl;
 }
 
@@ -446,28 +446,12 @@ the_history_of_the_tutorial = record {
 
 -- IsRunText
 the_run_of_the_tutorial : IsRunText (north ∷ south ∷ east ∷ []) 65536 1 the_tutorials_page 0
-unfolding reply_text count_text row_text route_text
+unfolding digits address_text prefix_text reply_text count_text row_text route_text
 the_run_of_the_tutorial = record {
   journal = tutorial;
   outcomes = north_read ∷ (skipped ∷ south_read) ∷ (skipped ∷ east_read) ∷ [];
   history = the_history_of_the_tutorial;
-  printed = rw (
-    the_table_of_the_tutorial,
-    written_10_0_0_0_8,
-    written_10_1_0_0_16,
-    written_10_9_0_0_16,
-    written_192_0_2_1,
-    written_192_0_2_2,
-    written_1,
-    written_2,
-    written_3,
-    written_4,
-    written_5,
-    written_6,
-    written_10,
-    written_30,
-    written_50,
-  ) refl;
+  printed = rw the_table_of_the_tutorial refl;
   is_status = refl;
 }
 

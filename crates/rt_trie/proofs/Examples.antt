@@ -2,6 +2,7 @@
 -- what a relation or a law says is spelled out for some values.
 use Rattle.std.proofs.Common.{◌≡◌, ℕ, true, false, Some, None, [], ◌∷◌, refl, arith}
 use Rattle.rt_cidr.specs.declared.prefixes.Prefix.{Prefix}
+use Rattle.rt_cidr.proofs.Promised.{ten_8, ten_0_16}
 use Rattle.rt_trie.specs.Map.{Pairs, before, IsBeforeAll, IsOrdered, get, same_prefix, IsStored, put, erase, first}
 use Rattle.rt_trie.specs.Map.{next_after, IsLongest, covering, address_at, answer_at, pair_copied, AreLongest}
 use Rattle.rt_trie.specs.Tree.{Tree, Vacant, Node, top, size, stored}
@@ -12,7 +13,6 @@ use Rattle.rt_trie.specs.Lawful.{IsLawfulAt, IsLawfulTree, IsLawful}
 use Rattle.std.specs.Prelude.{◌↔◌, ◌⊎◌, ◌+◌, ◌<◌, ◌≤◌, ◌++◌, ◌/◌, ◌%◌, Bool, List, Option, IsTrue, IsSome, IfSome}
 use Rattle.std.specs.Prelude.{IfNone, All, Contains, Box, is_some, length, map, slice_index_or, if◌then◌else◌}
 use Rattle.rt_cidr.specs.declared.address.Addr.{Addr}
-use Rattle.rt_cidr.specs.Cidr.{size_of}
 use Rattle.rt_cidr.specs.Prefix.{covers, contains}
 use Rattle.rt_trie.specs.declared.nodes.Link.{Link, Empty, Leaf, Fork', Full'}
 use Rattle.rt_trie.specs.declared.nodes.LeafNode.{LeafNode}
@@ -31,13 +31,7 @@ use Rattle.rt_trie.specs.inside.Tree.{tree_of}
 use Rattle.rt_trie.specs.inside.Trie.{contents_of}
 use Rattle.rt_trie.specs.declared.tries.Trie.TheInside.{Inside}
 
--- 10.0.0.0/8 and 10.0.0.0/16, 10.1.0.0/16 and 10.128.0.0/9
-abbrev ten_8 : Prefix
-ten_8 = record { base = 167772160; len = 8; is_prefix = record { short = omega arith; fits = omega arith; clear = refl } }
-
-abbrev ten_0_16 : Prefix
-ten_0_16 = record { base = 167772160; len = 16; is_prefix = record { short = omega arith; fits = omega arith; clear = refl } }
-
+-- 10.1.0.0/16 and 10.128.0.0/9
 abbrev ten_1_16 : Prefix
 ten_1_16 = record { base = 167837696; len = 16; is_prefix = record { short = omega arith; fits = omega arith; clear = refl } }
 

@@ -1,12 +1,12 @@
 -- How far an answer goes: up to where a prefix begins or ends.
-use Rattle.std.proofs.Common.{◌≡◌, ℕ, ◌+◌, ◌-◌, ◌<◌, ◌≤◌, false, [], ◌∷◌, Option, Some, None, inl, refl, arith}
+use Rattle.std.proofs.Common.{◌≡◌, ℕ, ◌+◌, ◌-◌, ◌<◌, ◌≤◌, false, Some, None, inl, arith}
 use Rattle.std.specs.Prelude.{IfSome}
 use Rattle.rt_cidr.specs.declared.prefixes.Prefix.{Prefix}
 use Rattle.rt_cidr.specs.declared.address.Addr.{Addr}
 use Rattle.rt_cidr.specs.Prefix.{covers}
 use Rattle.rt_trie.specs.declared.nodes.Link.{Link}
 use Rattle.rt_trie.specs.Blocks.{IsInBlock}
-use Rattle.rt_trie.specs.inside.LookUps.{or_else, last_cover}
+use Rattle.rt_trie.specs.inside.LookUps.{last_cover}
 use Rattle.rt_trie.specs.inside.Links.{pairs}
 use Rattle.rt_trie.specs.Links.{root, IsLawfulBelow}
 use Rattle.rt_trie.proofs.BlockLemmas.{past_fits}

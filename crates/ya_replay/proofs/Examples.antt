@@ -1,7 +1,6 @@
--- Examples by which definitions are tested, each under a line with the definition's name. Both sides are computed, but for
--- the texts that are written for numbers, which have one spelling each.
+-- Examples by which definitions are tested, each under a line with the definition's name. Both sides are computed.
 use Rattle.std.proofs.Common.{◌≡◌, ℕ, true, false, Some, None, List, [], ◌∷◌, ◌++◌, map, codes, refl}
-use Rattle.rt_cidr.proofs.Promised.{written_0, written_1, written_2, written_3, written_4}
+use Rattle.std.specs.Fmt.{digits}
 use Rattle.ya_core.specs.declared.word.Word.TheVariants.{C, T, P}
 use Rattle.ya_core.specs.declared.step.Mark.TheVariants.{Plain, Inside, Out}
 use Rattle.ya_core.specs.declared.step.Step.{Step}
@@ -10,13 +9,13 @@ use Rattle.ya_replay.specs.inside.ReplayText.{wins_root, inside_after}
 
 -- level_text
 a_letter_a_level_and_a_place : level_text (codes "P") 1 0 ≡ codes "P1.0"
-unfolding level_text
-a_letter_a_level_and_a_place = rw (written_1, written_0) refl
+unfolding digits level_text
+a_letter_a_level_and_a_place = refl
 
 -- word_text
 a_claim_has_a_side : word_text (C 1 0 1) ≡ codes "C1.0.1"
-unfolding word_text level_text
-a_claim_has_a_side = rw (written_1, written_0) refl
+unfolding digits word_text level_text
+a_claim_has_a_side = refl
 
 -- mark_text
 inside_and_out : map mark_text (Plain ∷ Inside ∷ Out ∷ []) ≡ codes "\n" ∷ codes " inside\n" ∷ codes " out\n" ∷ []
@@ -45,13 +44,13 @@ four_lines = codes "1 p0 C1.0.0 := 1\n2 p0 T1.0 := 1\n3 p0 P1.0 := 0\n4 p0 C1.0.
 
 -- step_text
 a_load_that_wins_the_root : step_text 4 (record { place = 0; word = C 1 0 1; store = false; value = 0; mark = Inside }) ≡ codes "4 p0 C1.0.1 = 0 inside\n"
-unfolding step_text word_text level_text sign_text mark_text
-a_load_that_wins_the_root = rw (written_0, written_1, written_4) refl
+unfolding digits step_text word_text level_text sign_text mark_text
+a_load_that_wins_the_root = refl
 
 -- steps_text
 lines_are_numbered_from_1 : steps_text 1 four_steps ≡ four_lines
-unfolding step_text word_text level_text sign_text mark_text
-lines_are_numbered_from_1 = rw (written_0, written_1, written_2, written_3, written_4) refl
+unfolding digits step_text word_text level_text sign_text mark_text
+lines_are_numbered_from_1 = refl
 
 -- wins_root
 who_wins_the_root_does : map wins_root (Plain ∷ Inside ∷ Out ∷ []) ≡ false ∷ true ∷ false ∷ []
@@ -73,10 +72,10 @@ unfolding inside_text
 nobody_is = refl
 
 place_1_is : inside_text (Some 1) ≡ codes "inside p1\n"
-unfolding inside_text
-place_1_is = rw written_1 refl
+unfolding digits inside_text
+place_1_is = refl
 
 -- replay_text_of
 lines_and_who_is_inside : replay_text_of four_steps (Some 0) ≡ four_lines ++ codes "inside p0\n"
-unfolding inside_text step_text word_text level_text sign_text mark_text
-lines_and_who_is_inside = rw (written_0, written_1, written_2, written_3, written_4) refl
+unfolding digits inside_text step_text word_text level_text sign_text mark_text
+lines_and_who_is_inside = refl

@@ -5,7 +5,8 @@ use Rattle.rt_feed.specs.declared.report.Answer.{Answer}
 use Rattle.rt_feed.specs.Reports.{is_fault}
 use Rattle.rt_feed.specs.inside.Filling.{filled}
 use Rattle.rt_feed.proofs.Filling.{fills_none, fills_fault, fills_line}
-use Rattle.rt_feed.proofs.report.fill_lines.Goals.{then-next-outcomes+then-not-is_fault, else-next-outcomes, else-next-outcomes-via-then-next-outcomes+else-not-is_fault, else-next-outcomes-via-else-next-outcomes}
+use Rattle.rt_feed.proofs.report.fill_lines.Goals.{then-next-outcomes+then-not-is_fault, else-next-outcomes}
+use Rattle.rt_feed.proofs.report.fill_lines.Goals.{else-next-outcomes-via-then-next-outcomes+else-not-is_fault, else-next-outcomes-via-else-next-outcomes}
 use Rattle.rt_feed.proofs.report.fill_lines.Goals as goal
 
 pub loop-index-preserved : goal.loop-index-preserved
@@ -21,7 +22,8 @@ loop-index-preserved c =
           ap (λ (l : Line). is_fault l.answer) (get_or_default lines index d w.index-lines-index.result here) ∙ sym (w.if-not-is_fault.ensures {u = tt}) in
           let outcome = w.index-outcomes-next.result in
           let more : drop c.loop-index.next outcomes ≡ outcome ∷ drop (c.loop-index.next + 1) outcomes =
-          drop-cons outcomes c.loop-index.next outcome w.if-next-outcomes.true ∙ (ap (λ o. o ∷ drop (suc c.loop-index.next) outcomes) (sym w.index-outcomes-next.is)
+          drop-cons outcomes c.loop-index.next outcome w.if-next-outcomes.true
+          ∙ (ap (λ o. o ∷ drop (suc c.loop-index.next) outcomes) (sym w.index-outcomes-next.is)
           ∙ ap (λ n. outcome ∷ drop n outcomes) (sym (add-one c.loop-index.next))) in
           record {
             within = rw w.next-is (omega (arith, w.if-next-outcomes.true));
@@ -36,14 +38,17 @@ loop-index-preserved c =
             record {
               within = rw w.next-is c.loop-index.invariant.within;
               so_far = rw (w.lines-is, w.next-is)
-                  (fills_fault lines index w'.index-lines-index.result here (drop c.loop-index.next outcomes) (sym (w'.if-not-is_fault.ensures {u = tt})) ∙ c.loop-index.invariant.so_far);
+                  (fills_fault lines index w'.index-lines-index.result here (drop c.loop-index.next outcomes) (sym (w'.if-not-is_fault.ensures {u = tt}))
+                  ∙ c.loop-index.invariant.so_far);
             }
         | else-next-outcomes-via-else-next-outcomes w' ↦
             let none : drop c.loop-index.next outcomes ≡ [] = drop_all c.loop-index.next outcomes w'.if-next-outcomes.false in
             record {
               within = rw w.next-is c.loop-index.invariant.within;
               so_far = rw (w.lines-is, w.next-is, none)
-                  (fills_none lines (index + 1) ∙ (sym (fills_none lines index) ∙ (ap (λ os. take index lines ++ filled (drop index lines) os) (sym none) ∙ c.loop-index.invariant.so_far)));
+                  (fills_none lines (index + 1)
+                  ∙ (sym (fills_none lines index)
+                  ∙ (ap (λ os. take index lines ++ filled (drop index lines) os) (sym none) ∙ c.loop-index.invariant.so_far)));
             }
       ]
     ]

@@ -6,5 +6,6 @@ use Rattle.rt_feed.proofs.report.fill_lines.Given as goal
 abbrev pub invariant-loop-index : goal.invariant-loop-index
 invariant-loop-index l = record {
   within : l.next ≤ length l.outcomes;
-  so_far : take l.index l.lines ++ filled (drop l.index l.lines) (drop l.next l.outcomes) ≡ take l.first l.initial.lines ++ filled (drop l.first l.initial.lines) l.outcomes;
+  so_far : take l.index l.lines ++ filled (drop l.index l.lines) (drop l.next l.outcomes)
+      ≡ take l.first l.initial.lines ++ filled (drop l.first l.initial.lines) l.outcomes;
 }

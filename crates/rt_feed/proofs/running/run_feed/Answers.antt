@@ -17,8 +17,10 @@ loop-line-init g c =
     record {
       named = refl;
       read = (
-        subst (λ (n : ℕ). HasRead g.G.Gate.holds c.args.batch c.args.text.now c.text_body-version.result.1.now n c.args.gate.now c.args.gate.now run) (sym count)
-            (nothing_read g.G.Gate.holds c.args.batch c.args.text.now c.args.gate.now run c.new-run.ensures.report c.new-run.ensures.first c.new-run.ensures.gathered c.text_body-version.result.1.now body),
+        subst (λ (n : ℕ). HasRead g.G.Gate.holds c.args.batch c.args.text.now c.text_body-version.result.1.now n c.args.gate.now c.args.gate.now run)
+            (sym count)
+            (nothing_read g.G.Gate.holds c.args.batch c.args.text.now c.args.gate.now run c.new-run.ensures.report c.new-run.ensures.first
+            c.new-run.ensures.gathered c.text_body-version.result.1.now body),
         omega (arith, c.requires, ap length c.new-run.ensures.gathered),
       );
     }
@@ -33,8 +35,15 @@ overflow_add-number g c =
 
 pub read-requires : goal.read-requires
 read-requires g c =
-    let read = c.loop-line.invariant.read.0 in
-    (c.type_bounds.send-G, λ k d here. omega (arith, read.counted, (subst (All (λ (line : Line). line.number < 1 + length (read.settled ++ read.waiting))) (sym read.held.reported) (report_lines-below 1 _)) k d here))
+    let read = c.loop-line.invariant.read.0 in (
+      c.type_bounds.send-G,
+      λ k d here.
+          omega (
+            arith,
+            read.counted,
+            (subst (All (λ (line : Line). line.number < 1 + length (read.settled ++ read.waiting))) (sym read.held.reported) (report_lines-below 1 _)) k d here,
+          ),
+    )
 
 pub returns-in_err-read-clause-err : goal.returns-in_err-read-clause-err
 returns-in_err-read-clause-err g c =
@@ -42,7 +51,8 @@ returns-in_err-read-clause-err g c =
     let read = c.loop-line.invariant.read in
     let stops = (c.in_err-read.ensures {u = tt}).err in
     rw (fault.1, stops.0)
-    (stopped g.G.Gate.holds c.args.batch c.args.text.now c.loop-line.rest.now c.in-Some.line.now c.in-Some.next.now c.loop-line.number c.args.gate.now c.loop-line.gate c.loop-line.run
+    (stopped g.G.Gate.holds c.args.batch c.args.text.now c.loop-line.rest.now c.in-Some.line.now c.in-Some.next.now c.loop-line.number c.args.gate.now
+    c.loop-line.gate c.loop-line.run
     read.0 read.1 (c.in-Some.ensures {u = tt}) stops.1)
 
 pub returns-in_err-read-clause-nothing : goal.returns-in_err-read-clause-nothing
@@ -55,11 +65,13 @@ pub returns-clause-ok : goal.returns-clause-ok
 returns-clause-ok g c =
     let read = c.loop-line.invariant.read in
     let none = c.in_default.ensures {u = tt} in
-    all_asked g.G.Gate.holds c.args.batch c.args.text.now c.loop-line.number c.args.gate.now c.loop-line.gate c.ask.new.gate c.loop-line.run c.ask.new.self.report
+    all_asked g.G.Gate.holds c.args.batch c.args.text.now c.loop-line.number c.args.gate.now c.loop-line.gate c.ask.new.gate c.loop-line.run
+    c.ask.new.self.report
     (rw none at read.0) read.1 c.ask.ensures.waiting
 
 pub loop-line-preserved : goal.loop-line-preserved
 loop-line-preserved g c = record {
   named = (c.in_ok-read.ensures {u = tt}).name ∙ c.loop-line.invariant.named;
-  read = (c.in_ok-read.ensures {u = tt}).ok c.args.text.now c.loop-line.rest.now c.in-Some.next.now c.loop-line.number c.args.gate.now refl c.loop-line.invariant.read (c.in-Some.ensures {u = tt});
+  read = (c.in_ok-read.ensures {u = tt}).ok c.args.text.now c.loop-line.rest.now c.in-Some.next.now c.loop-line.number c.args.gate.now refl
+      c.loop-line.invariant.read (c.in-Some.ensures {u = tt});
 }

@@ -14,6 +14,7 @@ returns-clause-waiting g c = elim c.if-batch-eq1.branch [
   | else-batch-eq1+then-not-is_empty w ↦
       rw (w.self-is, w.gate-is, ← c.as_slice-cmds.ensures.value) w.ask_batch.ensures.waiting
   | else-batch-eq1+else-not-is_empty w ↦
-      let none = sym c.as_slice-cmds.ensures.value ∙ nil_from_length c.as_slice-cmds.result.now ((Decides-eqb _ _).0 (sym (w.if-not-is_empty.ensures {u = tt}))) in
+      let none = sym c.as_slice-cmds.ensures.value
+      ∙ nil_from_length c.as_slice-cmds.result.now ((Decides-eqb _ _).0 (sym (w.if-not-is_empty.ensures {u = tt}))) in
       rw (w.self-is, w.gate-is, none) (none_waits g.G.Gate.holds c.args.gate.now c.args.self.now.first c.args.self.now.report)
 ]

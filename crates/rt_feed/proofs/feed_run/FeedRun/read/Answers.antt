@@ -2,44 +2,42 @@ use Rattle.std.proofs.lemmas.Result.{err_from_is_err_and}
 use Rattle.std.proofs.Common.{◌≡◌, [], ◌∷◌, length, refl, sym, ap, ◌∙◌, append-nil, length-append, arith}
 use Rattle.rt_shared.specs.declared.outcome.Outcome.TheVariants.{Refused}
 use Rattle.rt_feed.specs.LineOutcomes.{skipped, faulty, asked}
-use Rattle.rt_feed.proofs.RunSteps.{line_read, batch_asked}
+use Rattle.rt_feed.proofs.RunSteps.{line_read, command_read, batch_asked}
 use Rattle.rt_feed.proofs.feed_run.FeedRun.read.Goals as goal
 
 pub returns-in_ok-push-in-Err-clause-ok : goal.returns-in_ok-push-in-Err-clause-ok
 returns-in_ok-push-in-Err-clause-ok g c text rest next earlier start one_more (so_far, few) cut = (
-  line_read g.G.Gate.holds c.args.batch text rest c.args.line.now next earlier c.args.number start c.args.gate.now c.args.self.now _ (faulty c.in-Err.fault) [] so_far one_more cut
+  line_read g.G.Gate.holds c.args.batch text rest c.args.line.now next earlier c.args.number start c.args.gate.now c.args.self.now _
+      (faulty c.in-Err.fault) [] so_far one_more cut
       (c.in-Err.ensures {u = tt}) refl (c.in_ok-push-in-Err.ensures {u = tt}).ok refl (sym (append-nil _)) refl,
   few,
 )
 
 pub returns-in-None-clause-ok : goal.returns-in-None-clause-ok
 returns-in-None-clause-ok g c text rest next earlier start one_more (so_far, few) cut = (
-  line_read g.G.Gate.holds c.args.batch text rest c.args.line.now next earlier c.args.number start c.args.gate.now c.args.self.now c.args.self.now skipped [] so_far one_more cut
+  line_read g.G.Gate.holds c.args.batch text rest c.args.line.now next earlier c.args.number start c.args.gate.now c.args.self.now c.args.self.now
+      skipped [] so_far one_more cut
       (rw c.in-None.is at (c.in-Ok.ensures {u = tt})) refl (sym (append-nil _)) refl (sym (append-nil _)) refl,
   few,
 )
 
 pub returns-then-len-batch-clause-ok : goal.returns-then-len-batch-clause-ok
 returns-then-len-batch-clause-ok g c text rest next earlier start one_more (so_far, few) cut =
-    let gathers = c.in_ok-gather-in-Some.ensures {u = tt} in
-    let cmd = c.in-Some.cmd in
-    let run = c.gather.new.self in
-    let before = line_read g.G.Gate.holds c.args.batch text rest c.args.line.now next earlier c.args.number start c.args.gate.now c.args.self.now run (asked cmd Refused) (cmd ∷ []) so_far one_more cut
-    (rw c.in-Some.is at (c.in-Ok.ensures {u = tt})) refl gathers.reported gathers.first gathers.gathered gathers.version in
-    let whole : length run.gathered.items ≡ c.args.batch = sym run.gathered.ok.0 ∙ (sym c.len.ensures ∙ c.if-len-batch.true) in (
-      batch_asked g.G.Gate.holds c.args.batch text next c.args.number start c.args.gate.now c.ask.new.gate run c.ask.new.self before whole c.ask.ensures.waiting c.ask.ensures.emptied c.ask.ensures.none_waits c.ask.ensures.version,
+    let before = command_read g.G.Gate.holds c.args.batch text rest c.args.line.now next earlier c.args.number start c.args.gate.now c.args.self.now
+    c.gather.new.self c.in-Some.cmd so_far one_more cut (rw c.in-Some.is at (c.in-Ok.ensures {u = tt})) (c.in_ok-gather-in-Some.ensures {u = tt}) in
+    let whole : length c.gather.new.self.gathered.items ≡ c.args.batch = sym c.gather.new.self.gathered.ok.0 ∙ (sym c.len.ensures ∙ c.if-len-batch.true) in (
+      batch_asked g.G.Gate.holds c.args.batch text next c.args.number start c.args.gate.now c.ask.new.gate c.gather.new.self c.ask.new.self before whole
+          c.ask.ensures.waiting c.ask.ensures.emptied c.ask.ensures.none_waits c.ask.ensures.version,
       omega (arith, few, ap length c.ask.ensures.emptied),
     )
 
 pub returns-else-len-batch-clause-ok : goal.returns-else-len-batch-clause-ok
 returns-else-len-batch-clause-ok g c text rest next earlier start one_more (so_far, few) cut =
     let gathers = c.in_ok-gather-in-Some.ensures {u = tt} in
-    let cmd = c.in-Some.cmd in
-    let run = c.gather.new.self in
-    let before = line_read g.G.Gate.holds c.args.batch text rest c.args.line.now next earlier c.args.number start c.args.gate.now c.args.self.now run (asked cmd Refused) (cmd ∷ []) so_far one_more cut
-    (rw c.in-Some.is at (c.in-Ok.ensures {u = tt})) refl gathers.reported gathers.first gathers.gathered gathers.version in
-    let count : c.len.result ≡ length run.gathered.items = c.len.ensures ∙ run.gathered.ok.0 in
-    (before, omega (arith, few, count, c.if-len-batch.false, ap length gathers.gathered, length-append c.args.self.now.gathered.items (cmd ∷ [])))
+    let before = command_read g.G.Gate.holds c.args.batch text rest c.args.line.now next earlier c.args.number start c.args.gate.now c.args.self.now
+    c.gather.new.self c.in-Some.cmd so_far one_more cut (rw c.in-Some.is at (c.in-Ok.ensures {u = tt})) gathers in
+    let count : c.len.result ≡ length c.gather.new.self.gathered.items = c.len.ensures ∙ c.gather.new.self.gathered.ok.0 in
+    (before, omega (arith, few, count, c.if-len-batch.false, ap length gathers.gathered, length-append c.args.self.now.gathered.items (c.in-Some.cmd ∷ [])))
 
 pub returns-in_err-push-in-Err-clause-err : goal.returns-in_err-push-in-Err-clause-err
 returns-in_err-push-in-Err-clause-err g c =

@@ -9,8 +9,11 @@ invariant_of-self c =
     let items = c.self.inside.lines.items in
     let now = c.fill_lines.new.lines in
     let value : c.deref_mut.result.now ≡ items = c.deref_mut.ensures.value in
-    let kept : length now ≡ length items = ap length c.fill_lines.ensures ∙ (length-refilled c.args.first c.deref_mut.result.now c.args.outcomes.now ∙ ap length value) in
+    let kept : length now ≡ length items = ap length c.fill_lines.ensures
+    ∙ (length-refilled c.args.first c.deref_mut.result.now c.args.outcomes.now ∙ ap length value) in
     let none : drop (length now) items ≡ [] = drop_all (length now) items (omega (arith, kept)) in
     let all : take c.self.inside.lines.len (now ++ drop (length now) items) ≡ now =
     rw (none, append-nil, c.self.inside.lines.ok.0, ← kept) (take_all (length now) now (omega arith)) in
-    subst NumbersRise (sym all) (numbers_rise-refilled c.args.first c.deref_mut.result.now now c.args.outcomes.now (subst NumbersRise (sym value) c.self.invariant) c.fill_lines.ensures)
+    subst NumbersRise (sym all)
+    (numbers_rise-refilled c.args.first c.deref_mut.result.now now c.args.outcomes.now
+    (subst NumbersRise (sym value) c.self.invariant) c.fill_lines.ensures)

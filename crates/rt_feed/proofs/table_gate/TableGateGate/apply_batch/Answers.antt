@@ -7,9 +7,11 @@ returns-clause-ok g c =
       outcomes = served.outcomes;
       each = served.visit.each;
       appended = served.appended;
-      gained = gate_visit _ c.self.inside.pass c.args.self.now c.apply_batch.new.pass c.args.cmds.now served.outcomes c.self.view_is c.apply_batch.ensures.feed served.visit;
+      gained = gate_visit _ c.self.inside.pass c.args.self.now c.apply_batch.new.pass c.args.cmds.now served.outcomes c.self.view_is
+          c.apply_batch.ensures.feed served.visit;
     }) c.apply_batch.result c.apply_batch.ensures.ok
 
 pub returns-clause-err : goal.returns-clause-err
 returns-clause-err g c =
-    on_err (λ refused. (refused.1, gate_empty c.self.inside.pass c.args.self.now c.apply_batch.new.pass c.self.view_is refused.0)) c.apply_batch.result c.apply_batch.ensures.err
+    on_err (λ refused. (refused.1, gate_empty c.self.inside.pass c.args.self.now c.apply_batch.new.pass c.self.view_is refused.0)) c.apply_batch.result
+    c.apply_batch.ensures.err

@@ -4,15 +4,11 @@ use Rattle.rt_rib.proofs.TableChanges.{kept_counted, kept_serves, replaced_count
 use Rattle.rt_rib.proofs.CommandCases.{unreplaced, replaced}
 use Rattle.rt_rib.proofs.table.Table.replace.Goals as goal
 
-pub replace-requires : goal.replace-requires
-replace-requires g c = c.self.invariant.map
-
 pub invariant_of-self : goal.invariant_of-self
 invariant_of-self g c = kept_counted c.self.inside.limit c.self.inside.counts c.self.inside.map.pairs c.replace.new.map.pairs c.self.invariant (c.if-not-replace.ensures.kept refl)
 
 pub returns-then-not-replace : goal.returns-then-not-replace
-returns-then-not-replace g c =
-    rw (← c.self.view_is)
+returns-then-not-replace g c = rw (← c.self.view_is)
     (kept_serves c.self.inside.limit c.self.inside.map.pairs c.replace.new.map.pairs _ _ _ (c.if-not-replace.ensures.kept refl)
     (unreplaced c.self.inside.limit (routes_of c.self.inside.map.pairs) c.args.route (sym c.if-not-replace.ensures.had)))
 

@@ -4,15 +4,11 @@ use Rattle.rt_rib.proofs.TableChanges.{kept_counted, kept_serves, withdrawn_coun
 use Rattle.rt_rib.proofs.CommandCases.{unwithdrawn, withdrawn}
 use Rattle.rt_rib.proofs.table.Table.withdraw.Goals as goal
 
-pub take_out-requires : goal.take_out-requires
-take_out-requires g c = c.self.invariant.map
-
 pub invariant_of-self : goal.invariant_of-self
 invariant_of-self g c = kept_counted c.self.inside.limit c.self.inside.counts c.self.inside.map.pairs c.take_out.new.map.pairs c.self.invariant (c.if-not-take_out.ensures.kept refl)
 
 pub returns-then-not-take_out : goal.returns-then-not-take_out
-returns-then-not-take_out g c =
-    rw (← c.self.view_is)
+returns-then-not-take_out g c = rw (← c.self.view_is)
     (kept_serves c.self.inside.limit c.self.inside.map.pairs c.take_out.new.map.pairs _ _ _ (c.if-not-take_out.ensures.kept refl)
     (unwithdrawn c.self.inside.limit (routes_of c.self.inside.map.pairs) c.args.feed c.args.prefix (sym c.if-not-take_out.ensures.had)))
 
