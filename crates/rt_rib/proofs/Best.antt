@@ -1,6 +1,7 @@
 -- What a look-up finds, in terms of what the set contains.
 use Rattle.std.proofs.Common.{◌≡◌, ◌≤◌, Bool, true, false, not, ltb, leb, inl, inr, List, [], ◌∷◌, get_or, Some, None, ap, ◌∙◌, sym, subst, arith}
-use Rattle.std.proofs.lemmas.Bool.{cases_Bool, cond-true, cond-false, both_ways, false_from_ne_true, and_parts, and_from, not-true, not_from_false, leb-true, le-leb, ltb-true, ltb-false, lt-ltb}
+use Rattle.std.proofs.lemmas.Bool.{cases_Bool, cond-true, cond-false, both_ways, false_from_ne_true, and_parts, and_from, not-true, not_from_false}
+use Rattle.std.proofs.lemmas.Bool.{leb-true, le-leb, ltb-true, ltb-false, lt-ltb}
 use Rattle.std.specs.Prelude.{◌&&◌}
 use Rattle.std.proofs.lemmas.List.Elements.{All-contains, Contains-get_or}
 use Rattle.std.specs.List.{AllPairs, Contains, find, list_all}
@@ -11,7 +12,8 @@ use Rattle.rt_rib.specs.Table.{is_better, is_of, IsTable}
 use Rattle.rt_rib.specs.LookUp.{matching, longest_of, best, look_up, beats}
 use Rattle.rt_rib.specs.Laws.{IsBestMatch, LookUpFindsBest}
 use Rattle.rt_rib.proofs.Lists.{AllPairs-head, AllPairs-tail, filter-none, list_all-from}
-use Rattle.rt_rib.proofs.Order.{below_then-true, below_then-false, below_then-less, below_then-same, below_then-trans, is_better-trans, is_better-itself, is_of-from}
+use Rattle.rt_rib.proofs.Order.{below_then-true, below_then-false, below_then-less, below_then-same, below_then-trans, is_better-trans, is_better-itself}
+use Rattle.rt_rib.proofs.Order.{is_of-from}
 use Rattle.rt_rib.proofs.Tables.{Apart, Apart-flip}
 use Rattle.rt_rib.proofs.Sets.{Contains-head, Contains-tail, Contains-cases, Contains-none, filter-keeps, filter-from}
 use Rattle.rt_rib.proofs.Covering.{base_at, covers-base}
@@ -176,7 +178,8 @@ find_top addr first (x ∷ rest) c = elim (cases_Bool (covers x.prefix addr && b
           | inr later ↦ elim (Contains-cases x rest s later) [
             | inl same ↦ false_from_ne_true (beats s h.top) (λ over.
                 let covered : covers x.prefix addr ≡ true = ap (λ z. covers z.prefix addr) same ∙ e in
-                let more : beats x first ≡ true = ap (λ z. beats z first) same ∙ beats-over s first h.top over (h.unbeaten first (Contains-head first rest) c) in
+                let more : beats x first ≡ true = ap (λ z. beats z first) same
+                ∙ beats-over s first h.top over (h.unbeaten first (Contains-head first rest) c) in
                 both_ways (covers x.prefix addr && beats x first) loses (and_from (covers x.prefix addr) (beats x first) covered more))
             | inr behind ↦ h.unbeaten s (Contains-tail first rest s behind) e
           ]
@@ -198,14 +201,20 @@ module _ (addr : Addr) (t : List Route) (table : IsTable t) where
   is_best s = list_all (λ u. not (is_better u s)) (longest_of (matching addr t))
 
   -- one of the longest covers the address, and is as long as any that does
-  known : (s : Route) → Contains (longest_of (matching addr t)) s → Contains t s × (covering s ≡ true) × ((u : Route) → Contains t u → covering u ≡ true → u.prefix.len ≤ s.prefix.len)
+  known : (s : Route) → Contains (longest_of (matching addr t)) s
+      → Contains t s × (covering s ≡ true) × ((u : Route) → Contains t u → covering u ≡ true → u.prefix.len ≤ s.prefix.len)
   known s c =
       let long = filter-from is_long (matching addr t) s c in
-      let match = filter-from covering t s long.0 in
-      (match.0, match.1, λ u d e. leb-true u.prefix.len s.prefix.len (list_all-contained (λ v. leb v.prefix.len s.prefix.len) (matching addr t) u long.1 (filter-keeps covering t u d e)))
+      let match = filter-from covering t s long.0 in (
+        match.0,
+        match.1,
+        λ u d e. leb-true u.prefix.len s.prefix.len
+            (list_all-contained (λ v. leb v.prefix.len s.prefix.len) (matching addr t) u long.1 (filter-keeps covering t u d e)),
+      )
 
   -- and the other way round
-  is_longest : (s : Route) → Contains t s → covering s ≡ true → ((u : Route) → Contains t u → covering u ≡ true → u.prefix.len ≤ s.prefix.len) → Contains (longest_of (matching addr t)) s
+  is_longest : (s : Route) → Contains t s → covering s ≡ true → ((u : Route) → Contains t u → covering u ≡ true → u.prefix.len ≤ s.prefix.len)
+      → Contains (longest_of (matching addr t)) s
   is_longest s c e most =
       filter-keeps is_long (matching addr t) s (filter-keeps covering t s c e)
       (list_all-from_contained (λ u. leb u.prefix.len s.prefix.len) (matching addr t) (λ u d.

@@ -1,7 +1,8 @@
 -- In a table the first route to each prefix is the best one to it.
 use Rattle.std.proofs.Common.{◌≡◌, ◌<◌, ◌≤◌, true, false, not, eqb, ◌⊎◌, inl, inr, List, [], ◌∷◌, refl, ap, ◌∙◌, sym, subst, arith}
 use Rattle.std.specs.Prelude.{Bool, ◌&&◌}
-use Rattle.std.proofs.lemmas.Bool.{cases_Bool, cond-true, cond-false, both_ways, false_from_ne_true, and_parts, and_from, not-true, not_from_false, eqb-true, eq-eqb}
+use Rattle.std.proofs.lemmas.Bool.{cases_Bool, cond-true, cond-false, both_ways, false_from_ne_true, and_parts, and_from, not-true, not_from_false}
+use Rattle.std.proofs.lemmas.Bool.{eqb-true, eq-eqb}
 use Rattle.std.proofs.lemmas.List.Elements.{All-head, All-tail, All-contains}
 use Rattle.std.proofs.lemmas.List.Filters.{All-dedup}
 use Rattle.std.proofs.lemmas.List.Kept.{AllPairs-cons, AllPairs-filter, Contains-from_dedup}
@@ -29,7 +30,8 @@ module _ {X : Type 0} (R : X → X → Type 0) where
     | inl same ↦ subst (AllPairs R) (sym (cond-true (E x k) (dedup E (k ∷ xs)) (k ∷ dedup E (x ∷ xs)) same)) (AllPairs-dedup E k xs (AllPairs-skip k x xs h))
     | inr other ↦
         subst (AllPairs R) (sym (cond-false (E x k) (dedup E (k ∷ xs)) (k ∷ dedup E (x ∷ xs)) other))
-        (AllPairs-cons R k (dedup E (x ∷ xs)) (All-dedup E (R k) (x ∷ xs) (AllPairs-head R k (x ∷ xs) h)) (AllPairs-dedup E x xs (AllPairs-tail R k (x ∷ xs) h)))
+        (AllPairs-cons R k (dedup E (x ∷ xs)) (All-dedup E (R k) (x ∷ xs) (AllPairs-head R k (x ∷ xs) h))
+        (AllPairs-dedup E x xs (AllPairs-tail R k (x ∷ xs) h)))
   ]
 
 -- whether two routes are to one prefix
@@ -44,7 +46,8 @@ one-parts r s e =
 
 -- routes of one base and length are to one prefix
 one-from : (r s : Route) → r.prefix.base ≡ s.prefix.base → r.prefix.len ≡ s.prefix.len → to_one r s ≡ true
-one-from r s b l = and_from (eqb r.prefix.base s.prefix.base) (eqb r.prefix.len s.prefix.len) (eq-eqb r.prefix.base s.prefix.base b) (eq-eqb r.prefix.len s.prefix.len l)
+one-from r s b l = and_from (eqb r.prefix.base s.prefix.base) (eqb r.prefix.len s.prefix.len) (eq-eqb r.prefix.base s.prefix.base b)
+    (eq-eqb r.prefix.len s.prefix.len l)
 
 -- and so are those of which each is to the prefix of a third
 one-over : (r s t : Route) → to_one s r ≡ true → to_one s t ≡ true → to_one r t ≡ true
@@ -68,7 +71,11 @@ IsUpTo p q = (p.base < q.base) ⊎ ((p.base ≡ q.base) × (p.len ≤ q.len))
 up_to : (r s : Route) → precedes r s ≡ true → IsUpTo r.prefix s.prefix
 up_to r s e = elim (below_then-true r.prefix.base s.prefix.base (below_then r.prefix.len s.prefix.len (is_better r s)) e) [
   | inl less ↦ inl less
-  | inr same ↦ inr (same.0, elim (below_then-true r.prefix.len s.prefix.len (is_better r s) same.1) [ inl shorter ↦ omega arith | inr also ↦ let l = also.0 in omega arith ])
+  | inr same ↦ inr (
+    same.0,
+    elim (below_then-true r.prefix.len s.prefix.len (is_better r s) same.1)
+        [ inl shorter ↦ omega arith | inr also ↦ let l = also.0 in omega arith ],
+  )
 ]
 
 -- what stands between two routes to one prefix is to it too
@@ -86,7 +93,8 @@ one-between k x r low high one =
     ]
 
 -- no route to its prefix is better than one that is left
-kept-best : (k : Route) (xs : List Route) → AllPairs Ordered (k ∷ xs) → (r s : Route) → Contains (dedup to_one (k ∷ xs)) r → Contains (k ∷ xs) s → to_one s r ≡ true → is_better s r ≡ false
+kept-best : (k : Route) (xs : List Route) → AllPairs Ordered (k ∷ xs) → (r s : Route) → Contains (dedup to_one (k ∷ xs)) r → Contains (k ∷ xs) s
+    → to_one s r ≡ true → is_better s r ≡ false
 kept-best k [] h r s c d e = elim (Contains-cases k [] r c) [
   | inr none ↦ absurd (Contains-none r none)
   | inl here ↦ elim (Contains-cases k [] s d) [
@@ -137,13 +145,15 @@ kept-best k (x ∷ xs) h r s c d e =
     ]
 
 -- a route is left where no route to its prefix is better
-best-kept : (k : Route) (xs : List Route) → AllPairs Ordered (k ∷ xs) → (r : Route) → Contains (k ∷ xs) r → ((s : Route) → Contains (k ∷ xs) s → to_one s r ≡ true → is_better s r ≡ false) → Contains (dedup to_one (k ∷ xs)) r
+best-kept : (k : Route) (xs : List Route) → AllPairs Ordered (k ∷ xs) → (r : Route) → Contains (k ∷ xs) r
+    → ((s : Route) → Contains (k ∷ xs) s → to_one s r ≡ true → is_better s r ≡ false) → Contains (dedup to_one (k ∷ xs)) r
 best-kept k [] h r c best = c
 best-kept k (x ∷ xs) h r c best =
     let next = All-head (Ordered k) x xs (AllPairs-head Ordered k (x ∷ xs) h) in
     elim (cases_Bool (to_one x k)) [
       | inl same ↦
-          let rest : Contains (k ∷ xs) r → Contains (dedup to_one (k ∷ xs)) r = λ d. best-kept k xs (AllPairs-skip Ordered k x xs h) r d (λ s i e. best s (elim (Contains-cases k xs s i) [
+          let rest : Contains (k ∷ xs) r → Contains (dedup to_one (k ∷ xs)) r =
+          λ d. best-kept k xs (AllPairs-skip Ordered k x xs h) r d (λ s i e. best s (elim (Contains-cases k xs s i) [
             | inl here ↦ subst (Contains (k ∷ x ∷ xs)) here (Contains-head k (x ∷ xs))
             | inr behind ↦ Contains-tail k (x ∷ xs) s (Contains-tail x xs s behind)
           ]) e) in
@@ -161,7 +171,8 @@ best-kept k (x ∷ xs) h r c best =
           subst (λ l. Contains l r) (sym (cond-false (to_one x k) (dedup to_one (k ∷ xs)) (k ∷ dedup to_one (x ∷ xs)) other))
           (elim (Contains-cases k (x ∷ xs) r c) [
             | inl here ↦ subst (Contains (k ∷ dedup to_one (x ∷ xs))) here (Contains-head k (dedup to_one (x ∷ xs)))
-            | inr later ↦ Contains-tail k (dedup to_one (x ∷ xs)) r (best-kept x xs (AllPairs-tail Ordered k (x ∷ xs) h) r later (λ s d. best s (Contains-tail k (x ∷ xs) s d)))
+            | inr later ↦ Contains-tail k (dedup to_one (x ∷ xs)) r
+                (best-kept x xs (AllPairs-tail Ordered k (x ∷ xs) h) r later (λ s d. best s (Contains-tail k (x ∷ xs) s d)))
           ])
     ]
 
@@ -177,7 +188,8 @@ dedup-best (k ∷ xs) h =
     let is_best = λ (r : Route). list_all (λ (s : Route). not (surpasses s r)) t in
     let unbeaten : (r : Route) → is_best r ≡ true → (s : Route) → Contains t s → to_one s r ≡ true → is_better s r ≡ false =
     λ r e s d one. false_from_ne_true (is_better s r) (λ yes.
-    both_ways (surpasses s r) (not-true (surpasses s r) (list_all-contained (λ (s : Route). not (surpasses s r)) t s e d)) (and_from (to_one s r) (is_better s r) one yes)) in
+    both_ways (surpasses s r) (not-true (surpasses s r) (list_all-contained (λ (s : Route). not (surpasses s r)) t s e d))
+    (and_from (to_one s r) (is_better s r) one yes)) in
     one_table_of_set (dedup to_one t) (best_routes t)
     (record { ordered = AllPairs-dedup Ordered to_one k xs h.ordered; single = AllPairs-dedup Apart to_one k xs h.single })
     (record { ordered = AllPairs-filter Ordered is_best t h.ordered; single = AllPairs-filter Apart is_best t h.single })

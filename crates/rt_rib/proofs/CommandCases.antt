@@ -27,7 +27,8 @@ module _ (limit : ℕ) (t : List Route) (r : Route) where
   full fresh many = let at = le-leb limit (count_of r.feed t) many in record { replied = rw (fresh, at); changed = rw (fresh, at) }
 
   -- any other add
-  pub added : has r.feed r.prefix t ≡ false → count_of r.feed t < limit → (u : List Route) → u ≡ put_in r t → Serves (state limit t) (state limit u) r.feed (Add r.prefix r.pref r.hop) Added
+  pub added : has r.feed r.prefix t ≡ false → count_of r.feed t < limit → (u : List Route) → u ≡ put_in r t
+      → Serves (state limit t) (state limit u) r.feed (Add r.prefix r.pref r.hop) Added
   unfolding reply_of table_after
   added fresh room u is = let at = lt-leb limit (count_of r.feed t) room in record { replied = rw (fresh, at); changed = rw (is, fresh, at) }
 
@@ -37,7 +38,8 @@ module _ (limit : ℕ) (t : List Route) (r : Route) where
   unreplaced fresh = record { replied = rw fresh; changed = rw fresh }
 
   -- a replacement of a route
-  pub replaced : has r.feed r.prefix t ≡ true → (u : List Route) → u ≡ put_in r (take_out r.feed r.prefix t) → Serves (state limit t) (state limit u) r.feed (Replace r.prefix r.pref r.hop) Replaced
+  pub replaced : has r.feed r.prefix t ≡ true → (u : List Route) → u ≡ put_in r (take_out r.feed r.prefix t)
+      → Serves (state limit t) (state limit u) r.feed (Replace r.prefix r.pref r.hop) Replaced
   unfolding reply_of table_after
   replaced there u is = record { replied = rw there; changed = rw (is, there) }
 
@@ -48,7 +50,8 @@ module _ (limit : ℕ) (t : List Route) (feed : ℕ) where
   unwithdrawn p fresh = record { replied = rw fresh; changed = rw fresh }
 
   -- a withdrawal of a route
-  pub withdrawn : (p : Prefix) → has feed p t ≡ true → (u : List Route) → u ≡ take_out feed p t → Serves (state limit t) (state limit u) feed (Withdraw p) Withdrawn
+  pub withdrawn : (p : Prefix) → has feed p t ≡ true → (u : List Route) → u ≡ take_out feed p t
+      → Serves (state limit t) (state limit u) feed (Withdraw p) Withdrawn
   unfolding reply_of table_after
   withdrawn p there u is = record { replied = rw there; changed = rw (is, there) }
 

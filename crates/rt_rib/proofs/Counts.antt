@@ -1,5 +1,6 @@
 -- The counts of a table's routes, as routes come and go.
-use Rattle.std.proofs.Common.{◌≡◌, ℕ, ◌+◌, ◌-◌, ◌*◌, ◌<◌, ◌≤◌, Bool, true, false, not, cond, eqb, List, [], ◌∷◌, length, length-append, get_or, replicate, refl, sym, subst, ap, ◌∙◌, get_or-set_same, get_or-set_other, inl, inr, arith}
+use Rattle.std.proofs.Common.{◌≡◌, ℕ, ◌+◌, ◌-◌, ◌*◌, ◌<◌, ◌≤◌, Bool, true, false, not, cond, eqb, List, [], ◌∷◌, length, length-append, get_or, replicate}
+use Rattle.std.proofs.Common.{refl, sym, subst, ap, ◌∙◌, get_or-set_same, get_or-set_other, inl, inr, arith}
 use Rattle.std.proofs.Math.ListN.{set, length-set}
 use Rattle.std.proofs.lemmas.Bool.{cases_eq, eq-eqb, ne_eqb, cases_Bool, both_ways, false_from_ne_true, not_from_false, eqb-true, cond-true, cond-false}
 use Rattle.std.proofs.lemmas.List.Sums.{sum_by-cons, sum_by-set, sum_by-le, sum_by-append, length-filter}
@@ -27,10 +28,12 @@ pub record HasMore (feed : ℕ) (t u : List Route) : Type 0 where
   pub all : length u ≡ length t + 1
 
 -- by the route that makes the difference
-HasMore-from : (feed : ℕ) (r : Route) (t u : List Route) → r.feed ≡ feed → ((other : ℕ) → count_of other u ≡ count_of other t + cond (eqb r.feed other) 1 0) → length u ≡ length t + 1 → HasMore feed t u
+HasMore-from : (feed : ℕ) (r : Route) (t u : List Route) → r.feed ≡ feed → ((other : ℕ) → count_of other u ≡ count_of other t + cond (eqb r.feed other) 1 0)
+    → length u ≡ length t + 1 → HasMore feed t u
 HasMore-from feed r t u same each longer = record {
   own = let more = each feed in let one : cond (eqb r.feed feed) 1 0 ≡ ◌+◌ 1 0 = cond-true (eqb r.feed feed) 1 0 (eq-eqb r.feed feed same) in omega arith;
-  others = λ other differs. let more = each other in let none : cond (eqb r.feed other) 1 0 ≡ ◌+◌ 0 0 = cond-false (eqb r.feed other) 1 0 (ne_eqb r.feed other (λ e. differs (omega arith))) in omega arith;
+  others = λ other differs. let more = each other in let none : cond (eqb r.feed other) 1 0 ≡ ◌+◌ 0 0 =
+      cond-false (eqb r.feed other) 1 0 (ne_eqb r.feed other (λ e. differs (omega arith))) in omega arith;
   all = longer;
 }
 
@@ -132,7 +135,8 @@ HasMore-both feed t u v m n other = elim (cases_eq other feed) [
 ]
 
 -- the count of a feed is kept at its number less one
-pub AreCounts-own : (limit : ℕ) (counts : List ℕ) (t : List Route) (feed : ℕ) → AreCounts limit counts t → IsFeed feed → get_or counts (feed - 1) 0 ≡ count_of feed t
+pub AreCounts-own : (limit : ℕ) (counts : List ℕ) (t : List Route) (feed : ℕ) → AreCounts limit counts t → IsFeed feed
+    → get_or counts (feed - 1) 0 ≡ count_of feed t
 AreCounts-own limit counts t feed h is =
     let low = is.0 in
     let high = is.1 in
@@ -141,7 +145,8 @@ AreCounts-own limit counts t feed h is =
 
 module _ (limit : ℕ) (counts : List ℕ) (t u : List Route) (own : ℕ) (inside : own < MOST_FEEDS) (many : length counts ≡ MOST_FEEDS) where
   -- the feed's count raised by one, where it has one route more
-  pub AreCounts-more : AreCounts limit counts t → HasMore (own + 1) t u → get_or counts own 0 < limit → AreCounts limit (set counts own (get_or counts own 0 + 1)) u
+  pub AreCounts-more : AreCounts limit counts t → HasMore (own + 1) t u → get_or counts own 0 < limit
+      → AreCounts limit (set counts own (get_or counts own 0 + 1)) u
   AreCounts-more h more room = record {
     many = length-set counts own (get_or counts own 0 + 1) ∙ many;
     each = λ i l. elim (cases_eq i own) [
@@ -228,7 +233,8 @@ module _ (limit : ℕ) (counts : List ℕ) (t u : List Route) (own : ℕ) (insid
       }
 
 -- as many routes of each feed
-pub AreCounts-same : (limit : ℕ) (counts : List ℕ) (t u : List Route) → AreCounts limit counts t → ((feed : ℕ) → count_of feed u ≡ count_of feed t) → length u ≡ length t → AreCounts limit counts u
+pub AreCounts-same : (limit : ℕ) (counts : List ℕ) (t u : List Route) → AreCounts limit counts t → ((feed : ℕ) → count_of feed u ≡ count_of feed t)
+    → length u ≡ length t → AreCounts limit counts u
 AreCounts-same limit counts t u h each all = record {
   many = h.many;
   each = λ i l. h.each i l ∙ sym (each (i + 1));

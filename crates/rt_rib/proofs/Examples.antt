@@ -24,7 +24,8 @@ use Rattle.rt_rib.specs.LookUp.{matching, longest_of, best, look_up, beats, rank
 use Rattle.rt_rib.specs.Sequential.{reply_of, table_after}
 use Rattle.rt_rib.specs.Journal.{table_of_journal, IsAnswered, IsLawfulJournal}
 use Rattle.rt_rib.specs.Book.{IsLimit, BookContents, OfferTrie, table_of, HoldsRoutes, HoldsTable, IsFeed, Applies, Refuses, Reserves}
-use Rattle.rt_rib.specs.Laws.{IsBestMatch, is_own, feed_entries, PutInAdds, TakeOutLeavesOthers, OneTableOfSet, LookUpFindsBest, AreMatches, LookUpAllFindsMatches, TableByEntry, LawfulByEntry, LawfulIsDetermined, asked, feed_routes, FeedsStandAlone}
+use Rattle.rt_rib.specs.Laws.{IsBestMatch, is_own, feed_entries, PutInAdds, TakeOutLeavesOthers, OneTableOfSet, LookUpFindsBest, AreMatches}
+use Rattle.rt_rib.specs.Laws.{LookUpAllFindsMatches, TableByEntry, LawfulByEntry, LawfulIsDetermined, asked, feed_routes, FeedsStandAlone}
 use Rattle.rt_rib.proofs.Tables.{IsTable-nil, IsTable-put_in}
 use Rattle.rt_rib.proofs.Sets.{Contains-cases, Contains-none}
 use Rattle.rt_rib.proofs.Best.{look_up_finds_best}
@@ -292,7 +293,8 @@ look_up_all_finds_nothing_where_nothing_covers = refl
 
 -- best_routes
 best_routes_leaves_one_of_each_prefix :
-    best_routes (route everything 1 200 ∷ route ten_8 2 30 ∷ route ten_8 1 50 ∷ route ten_1_16 1 100 ∷ []) ≡ route everything 1 200 ∷ route ten_8 2 30 ∷ route ten_1_16 1 100 ∷ []
+    best_routes (route everything 1 200 ∷ route ten_8 2 30 ∷ route ten_8 1 50 ∷ route ten_1_16 1 100 ∷ [])
+    ≡ route everything 1 200 ∷ route ten_8 2 30 ∷ route ten_1_16 1 100 ∷ []
 best_routes_leaves_one_of_each_prefix = refl
 
 best_routes_of_a_tie_is_the_least_feed : best_routes (route ten_8 2 30 ∷ route ten_8 64 30 ∷ []) ≡ route ten_8 2 30 ∷ []
@@ -455,7 +457,8 @@ each_entry_is_answered earlier later e h = h.answered earlier e later refl
 -- IsBestMatch
 the_longest_is_the_best_match : IsBestMatch at_10_2_3_4 (route ten_8 2 30 ∷ []) (route ten_8 2 30)
 unfolding look_up
-the_longest_is_the_best_match = let both = (look_up_finds_best at_10_2_3_4 (put_in (route ten_8 2 30) []) (IsTable-put_in (route ten_8 2 30) [] refl IsTable-nil)).0 (route ten_8 2 30) in both.0 refl
+the_longest_is_the_best_match = let both =
+    (look_up_finds_best at_10_2_3_4 (put_in (route ten_8 2 30) []) (IsTable-put_in (route ten_8 2 30) [] refl IsTable-nil)).0 (route ten_8 2 30) in both.0 refl
 
 a_shorter_is_no_best_match : ¬ IsBestMatch at_10_1_2_3 nested (route ten_8 1 100)
 a_shorter_is_no_best_match h = omega (arith, h.longest (route ten_1_16 1 100) (2, omega arith, refl) refl)
@@ -530,8 +533,11 @@ from_no_other = refl
 -- IsRanked
 two_ranked : IsRanked (offer 2 30 ∷ offer 1 50 ∷ [])
 two_ranked = record {
-  ordered = AllPairs-cons (λ a b. outranks a b ≡ true) (offer 2 30) (offer 1 50 ∷ []) (All-cons (λ b. outranks (offer 2 30) b ≡ true) (offer 1 50) [] refl (All-nil (λ b. outranks (offer 2 30) b ≡ true))) (IsRanked-one (offer 1 50)).ordered;
-  single = AllPairs-cons (λ a b. is_from b.feed a ≡ false) (offer 2 30) (offer 1 50 ∷ []) (All-cons (λ b. is_from b.feed (offer 2 30) ≡ false) (offer 1 50) [] refl (All-nil (λ b. is_from b.feed (offer 2 30) ≡ false))) (IsRanked-one (offer 1 50)).single;
+  ordered = AllPairs-cons (λ a b. outranks a b ≡ true) (offer 2 30) (offer 1 50 ∷ [])
+      (All-cons (λ b. outranks (offer 2 30) b ≡ true) (offer 1 50) [] refl (All-nil (λ b. outranks (offer 2 30) b ≡ true))) (IsRanked-one (offer 1 50)).ordered;
+  single = AllPairs-cons (λ a b. is_from b.feed a ≡ false) (offer 2 30) (offer 1 50 ∷ [])
+      (All-cons (λ b. is_from b.feed (offer 2 30) ≡ false) (offer 1 50) [] refl (All-nil (λ b. is_from b.feed (offer 2 30) ≡ false)))
+      (IsRanked-one (offer 1 50)).single;
 }
 
 the_best_comes_first : ¬ IsRanked (offer 1 50 ∷ offer 2 30 ∷ [])
@@ -626,7 +632,8 @@ a_route_was_lost h = let exactly = h.exactly in cc
 a_node_too_many_was_counted : ¬ HoldsTable (book_with (record { pairs = two_prefixes; nodes = 3; tree = two_nodes }))
 a_node_too_many_was_counted h = let count = h.lawful.count in cc
 
-a_node_without_its_value : ¬ HoldsTable (book_with (record { pairs = two_prefixes; nodes = 2; tree = Node ten_8 false (Node ten_1_16 true Vacant Vacant) Vacant }))
+a_node_without_its_value : ¬ HoldsTable
+    (book_with (record { pairs = two_prefixes; nodes = 2; tree = Node ten_8 false (Node ten_1_16 true Vacant Vacant) Vacant }))
 a_node_without_its_value h = let stored = h.lawful.stored in cc
 
 -- a trie of one prefix with one offer
@@ -706,13 +713,15 @@ what_is_found_is_the_best_match law = law at_last
 what_covers_in_order_are_the_matches : AreMatches at_10_2_3_4 (route ten_8 2 30 ∷ []) (route ten_8 2 30 ∷ [])
 unfolding look_up_all
 what_covers_in_order_are_the_matches =
-    let both = (look_up_all_finds_matches at_10_2_3_4 (put_in (route ten_8 2 30) []) (IsTable-put_in (route ten_8 2 30) [] refl IsTable-nil)).0 (route ten_8 2 30 ∷ []) in both.0 refl
+    let both = (look_up_all_finds_matches at_10_2_3_4 (put_in (route ten_8 2 30) []) (IsTable-put_in (route ten_8 2 30) [] refl IsTable-nil)).0
+    (route ten_8 2 30 ∷ []) in both.0 refl
 
 matches_leave_nothing_out : ¬ AreMatches at_10_2_3_4 nested (route ten_8 1 100 ∷ [])
-matches_leave_nothing_out h = elim (Contains-cases (route ten_8 1 100) [] (route everything 1 200) ((h.exactly (route everything 1 200)).1 ((0, omega arith, refl), refl))) [
-  | inl same ↦ let beaten = ap (λ r. beats r (route everything 1 200)) same in cc
-  | inr none ↦ Contains-none (route everything 1 200) none
-]
+matches_leave_nothing_out h =
+    elim (Contains-cases (route ten_8 1 100) [] (route everything 1 200) ((h.exactly (route everything 1 200)).1 ((0, omega arith, refl), refl))) [
+      | inl same ↦ let beaten = ap (λ r. beats r (route everything 1 200)) same in cc
+      | inr none ↦ Contains-none (route everything 1 200) none
+    ]
 
 matches_cover_the_address : ¬ AreMatches at_198_51_100_7 (route ten_8 1 5 ∷ []) (route ten_8 1 5 ∷ [])
 matches_cover_the_address h = let covered = ((h.exactly (route ten_8 1 5)).0 (0, omega arith, refl)).1 in cc

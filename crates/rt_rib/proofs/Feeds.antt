@@ -1,7 +1,8 @@
 -- Each feed's routes stand by themselves.
 use Rattle.std.proofs.Common.{◌≡◌, ℕ, ◌+◌, Bool, true, false, cond, not, ◌||◌, eqb, leb, inl, inr, List, [], ◌∷◌, refl, ap, ◌∙◌, sym, subst, arith}
 use Rattle.std.specs.Prelude.{if◌then◌else◌, fold}
-use Rattle.std.proofs.lemmas.Bool.{cases_Bool, cond_both, cond-true, cond-false, both_ways, eqb-true, eq-eqb, eqb-false, ne_eqb, not-true, not_from_false, false_from_ne_true, false≢true}
+use Rattle.std.proofs.lemmas.Bool.{cases_Bool, cond_both, cond-true, cond-false, both_ways, eqb-true, eq-eqb, eqb-false, ne_eqb, not-true, not_from_false}
+use Rattle.std.proofs.lemmas.Bool.{false_from_ne_true, false≢true}
 use Rattle.std.proofs.lemmas.List.Elements.{All-weaker, filter_passes}
 use Rattle.std.proofs.lemmas.List.Kept.{AllPairs-filter}
 use Rattle.std.proofs.lemmas.List.Sums.{sum_by-cons}
@@ -41,7 +42,8 @@ count-kept {X} p (x ∷ xs) =
     let one : X → ℕ = λ z. cond (p z) 1 0 in
     elim (cases_Bool (p x)) [
       | inl passes ↦
-          ap (count_by p) (cond-true (p x) (x ∷ filter p xs) (filter p xs) passes) ∙ sum_by-cons one x (filter p xs) ∙ ap (λ n. one x + n) rest ∙ sym (sum_by-cons one x xs)
+          ap (count_by p) (cond-true (p x) (x ∷ filter p xs) (filter p xs) passes) ∙ sum_by-cons one x (filter p xs) ∙ ap (λ n. one x + n) rest
+          ∙ sym (sum_by-cons one x xs)
       | inr fails ↦
           let none : one x ≡ 0 = cond-false (p x) 1 0 fails in
           ap (count_by p) (cond-false (p x) (x ∷ filter p xs) (filter p xs) fails) ∙ rest ∙ (let whole = sum_by-cons one x xs in omega arith)
@@ -87,7 +89,8 @@ module _ (t : List Route) (h : IsTable t) where
   own-put_in r fresh =
       let mine = λ (s : Route). eqb s.feed r.feed in
       let fresh' = has-own r.feed r.prefix t ∙ fresh in
-      one_table_of_set (feed_routes r.feed (put_in r t)) (put_in r (feed_routes r.feed t)) (IsTable-own r.feed (put_in r t) (IsTable-put_in r t fresh h)) (IsTable-put_in r (feed_routes r.feed t) fresh' (IsTable-own r.feed t h))
+      one_table_of_set (feed_routes r.feed (put_in r t)) (put_in r (feed_routes r.feed t)) (IsTable-own r.feed (put_in r t) (IsTable-put_in r t fresh h))
+      (IsTable-put_in r (feed_routes r.feed t) fresh' (IsTable-own r.feed t h))
       (λ x. (
         (λ c.
             let both = filter-from mine (put_in r t) x c in
@@ -105,12 +108,14 @@ module _ (t : List Route) (h : IsTable t) where
   own-take_out_other : (feed mover : ℕ) (p : Prefix) → (mover ≡ feed → ⊥) → feed_routes feed (take_out mover p t) ≡ feed_routes feed t
   own-take_out_other feed mover p other =
       let mine = λ (s : Route). eqb s.feed feed in
-      one_table_of_set (feed_routes feed (take_out mover p t)) (feed_routes feed t) (IsTable-own feed (take_out mover p t) (IsTable-take_out mover p t h)) (IsTable-own feed t h)
+      one_table_of_set (feed_routes feed (take_out mover p t)) (feed_routes feed t) (IsTable-own feed (take_out mover p t) (IsTable-take_out mover p t h))
+      (IsTable-own feed t h)
       (λ x. (
         (λ c. let both = filter-from mine (take_out mover p t) x c in filter-keeps mine t x ((take_out_leaves_others mover p x t).0 both.0).0 both.1),
         (λ c.
             let both = filter-from mine t x c in
-            let apart : is_of mover p x ≡ false = false_from_ne_true (is_of mover p x) (λ e. other (sym (is_of-parts mover p x e).0 ∙ eqb-true x.feed feed both.1)) in
+            let apart : is_of mover p x ≡ false =
+            false_from_ne_true (is_of mover p x) (λ e. other (sym (is_of-parts mover p x e).0 ∙ eqb-true x.feed feed both.1)) in
             filter-keeps mine (take_out mover p t) x ((take_out_leaves_others mover p x t).1 (both.0, apart)) both.1),
       ))
 
@@ -118,7 +123,8 @@ module _ (t : List Route) (h : IsTable t) where
   own-take_out : (feed : ℕ) (p : Prefix) → feed_routes feed (take_out feed p t) ≡ take_out feed p (feed_routes feed t)
   own-take_out feed p =
       let mine = λ (s : Route). eqb s.feed feed in
-      one_table_of_set (feed_routes feed (take_out feed p t)) (take_out feed p (feed_routes feed t)) (IsTable-own feed (take_out feed p t) (IsTable-take_out feed p t h)) (IsTable-take_out feed p (feed_routes feed t) (IsTable-own feed t h))
+      one_table_of_set (feed_routes feed (take_out feed p t)) (take_out feed p (feed_routes feed t))
+      (IsTable-own feed (take_out feed p t) (IsTable-take_out feed p t h)) (IsTable-take_out feed p (feed_routes feed t) (IsTable-own feed t h))
       (λ x. (
         (λ c.
             let both = filter-from mine (take_out feed p t) x c in
@@ -167,12 +173,14 @@ purge-own feed t =
     (λ r e. ap not e) (feed_routes feed t) (filter_passes (λ (r : Route). eqb r.feed feed) t))
 
 -- another feed's command leaves the feed's routes
-after_other : (limit : ℕ) (t : List Route) (feed mover : ℕ) (cmd : Cmd) → IsTable t → (mover ≡ feed → ⊥) → feed_routes feed (table_after limit t mover cmd) ≡ feed_routes feed t
+after_other : (limit : ℕ) (t : List Route) (feed mover : ℕ) (cmd : Cmd) → IsTable t → (mover ≡ feed → ⊥)
+    → feed_routes feed (table_after limit t mover cmd) ≡ feed_routes feed t
 unfolding table_after
 after_other limit t feed mover (Add p pref hop) h other =
     let r : Route = record { prefix = p; feed = mover; pref = pref; hop = hop } in
     cond_both (has mover p t) t (if leb limit (count_of mover t) then t else put_in r t) (λ u. feed_routes feed u ≡ feed_routes feed t) (λ there. refl)
-    (λ fresh. cond_both (leb limit (count_of mover t)) t (put_in r t) (λ u. feed_routes feed u ≡ feed_routes feed t) (λ full. refl) (λ room. own-put_in_other t h feed r fresh other))
+    (λ fresh. cond_both (leb limit (count_of mover t)) t (put_in r t) (λ u. feed_routes feed u ≡ feed_routes feed t) (λ full. refl)
+    (λ room. own-put_in_other t h feed r fresh other))
 after_other limit t feed mover (Replace p pref hop) h other =
     let r : Route = record { prefix = p; feed = mover; pref = pref; hop = hop } in
     cond_both (has mover p t) (put_in r (take_out mover p t)) t (λ u. feed_routes feed u ≡ feed_routes feed t)
@@ -180,13 +188,15 @@ after_other limit t feed mover (Replace p pref hop) h other =
     own-put_in_other (take_out mover p t) (IsTable-take_out mover p t h) feed r (has-take_out mover p t) other
     ∙ own-take_out_other t h feed mover p other) (λ fresh. refl)
 after_other limit t feed mover (Withdraw p) h other =
-    cond_both (has mover p t) (take_out mover p t) t (λ u. feed_routes feed u ≡ feed_routes feed t) (λ there. own-take_out_other t h feed mover p other) (λ fresh. refl)
+    cond_both (has mover p t) (take_out mover p t) t (λ u. feed_routes feed u ≡ feed_routes feed t) (λ there. own-take_out_other t h feed mover p other)
+    (λ fresh. refl)
 after_other limit t feed mover (Lookup addr) h other = refl
 after_other limit t feed mover Dump h other = refl
 after_other limit t feed mover Purge h other = own-purge_other feed mover t other
 
 -- the feed's own command does to its routes what it does to all
-after_own : (limit : ℕ) (t : List Route) (feed : ℕ) (cmd : Cmd) → IsTable t → feed_routes feed (table_after limit t feed cmd) ≡ table_after limit (feed_routes feed t) feed cmd
+after_own : (limit : ℕ) (t : List Route) (feed : ℕ) (cmd : Cmd) → IsTable t
+    → feed_routes feed (table_after limit t feed cmd) ≡ table_after limit (feed_routes feed t) feed cmd
 unfolding table_after
 after_own limit t feed (Add p pref hop) h =
     let r : Route = record { prefix = p; feed = feed; pref = pref; hop = hop } in
@@ -222,7 +232,8 @@ reply_own limit t feed Dump e = absurd (false≢true e)
 reply_own limit t feed Purge e = rw (count_of-own feed t) refl
 
 -- so it is over a whole journal, from any table on
-own_fold : (limit feed : ℕ) (t : List Route) (journal : List Entry) → IsTable t → feed_routes feed (fold (step limit) t journal) ≡ fold (step limit) (feed_routes feed t) (feed_entries feed journal)
+own_fold : (limit feed : ℕ) (t : List Route) (journal : List Entry) → IsTable t
+    → feed_routes feed (fold (step limit) t journal) ≡ fold (step limit) (feed_routes feed t) (feed_entries feed journal)
 own_fold limit feed t [] h = refl
 own_fold limit feed t (e ∷ journal) h =
     let rest = own_fold limit feed (step limit t e) journal (IsTable-after limit t e.feed e.cmd h) in
@@ -230,15 +241,18 @@ own_fold limit feed t (e ∷ journal) h =
     elim (cases_Bool (eqb e.feed feed)) [
       | inl same ↦
           let mine : feed_routes feed (step limit t e) ≡ step limit (feed_routes feed t) e =
-          subst (λ g. feed_routes g (table_after limit t e.feed e.cmd) ≡ table_after limit (feed_routes g t) e.feed e.cmd) (eqb-true e.feed feed same) (after_own limit t e.feed e.cmd h) in
-          rest ∙ ap (λ u. fold (step limit) u others) mine ∙ ap (fold (step limit) (feed_routes feed t)) (sym (cond-true (eqb e.feed feed) (e ∷ others) others same))
+          subst (λ g. feed_routes g (table_after limit t e.feed e.cmd) ≡ table_after limit (feed_routes g t) e.feed e.cmd) (eqb-true e.feed feed same)
+          (after_own limit t e.feed e.cmd h) in
+          rest ∙ ap (λ u. fold (step limit) u others) mine
+          ∙ ap (fold (step limit) (feed_routes feed t)) (sym (cond-true (eqb e.feed feed) (e ∷ others) others same))
       | inr other ↦
           rest ∙ ap (λ u. fold (step limit) u others) (after_other limit t feed e.feed e.cmd h (eqb-false e.feed feed other))
           ∙ ap (fold (step limit) (feed_routes feed t)) (sym (cond-false (eqb e.feed feed) (e ∷ others) others other))
     ]
 
 -- and from the empty one
-own_of_journal : (limit feed : ℕ) (journal : List Entry) → feed_routes feed (table_of_journal limit journal) ≡ table_of_journal limit (feed_entries feed journal)
+own_of_journal : (limit feed : ℕ) (journal : List Entry)
+    → feed_routes feed (table_of_journal limit journal) ≡ table_of_journal limit (feed_entries feed journal)
 unfolding table_of_journal
 own_of_journal limit feed journal = own_fold limit feed [] journal IsTable-nil
 

@@ -41,10 +41,12 @@ IsTable-fold limit t (e ∷ journal) h = IsTable-fold limit (step limit t e) jou
 -- the routes that a journal leaves are a table
 pub IsTable-of_journal : (limit : ℕ) (journal : List Entry) → IsTable (table_of_journal limit journal)
 unfolding table_of_journal
-IsTable-of_journal limit journal = IsTable-fold limit [] journal (record { ordered = λ i j d l m. absurd (omega arith); single = λ i j d l m. absurd (omega arith) })
+IsTable-of_journal limit journal =
+    IsTable-fold limit [] journal (record { ordered = λ i j d l m. absurd (omega arith); single = λ i j d l m. absurd (omega arith) })
 
 -- one entry more leaves what its command leaves
-pub table_of_journal-push : (limit : ℕ) (journal : List Entry) (e : Entry) → table_of_journal limit (journal ++ e ∷ []) ≡ table_after limit (table_of_journal limit journal) e.feed e.cmd
+pub table_of_journal-push : (limit : ℕ) (journal : List Entry) (e : Entry)
+    → table_of_journal limit (journal ++ e ∷ []) ≡ table_after limit (table_of_journal limit journal) e.feed e.cmd
 unfolding table_of_journal
 table_of_journal-push limit journal e = fold_push (step limit) [] journal e
 
@@ -72,7 +74,8 @@ push_parts (a ∷ xs) (y ∷ ys) e x zs h =
     ]
 
 -- a lawful journal goes on with an entry that is so answered
-pub IsLawfulJournal-push : (limit : ℕ) (journal : List Entry) (e : Entry) → IsLawfulJournal limit journal → IsAnswered limit journal e → IsLawfulJournal limit (journal ++ e ∷ [])
+pub IsLawfulJournal-push : (limit : ℕ) (journal : List Entry) (e : Entry) → IsLawfulJournal limit journal → IsAnswered limit journal e
+    → IsLawfulJournal limit (journal ++ e ∷ [])
 IsLawfulJournal-push limit journal e lawful last = record {
   answered = λ earlier x later h.
       elim (push_parts journal earlier e x later h) [

@@ -56,7 +56,8 @@ filter-none p (x ∷ xs) h =
     cond-false (p x) (x ∷ filter p xs) (filter p xs) (All-head (λ z. p z ≡ false) x xs h) ∙ filter-none p xs (All-tail (λ z. p z ≡ false) x xs h)
 
 -- what passes a test goes with what fails it, where each two elements go with each other both ways
-pub AllPairs-split : {X : Type 0} (R : X → X → Type 0) → ((x y : X) → R x y → R y x) → (p : X → Bool) (xs : List X) → AllPairs R xs → All (λ x. All (R x) (filter (λ z. not (p z)) xs)) (filter p xs)
+pub AllPairs-split : {X : Type 0} (R : X → X → Type 0) → ((x y : X) → R x y → R y x) → (p : X → Bool) (xs : List X) → AllPairs R xs
+    → All (λ x. All (R x) (filter (λ z. not (p z)) xs)) (filter p xs)
 AllPairs-split R flip p [] h = λ k d l. absurd (omega arith)
 AllPairs-split {X} R flip p (x ∷ xs) h =
     let q : X → Bool = λ z. not (p z) in

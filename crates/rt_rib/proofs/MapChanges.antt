@@ -101,7 +101,8 @@ module _ (laws : MapLaws) (m n : Map) (p : Prefix) (offers : List Offer) (at : I
 
   -- a route to this prefix is a feed's just where its offer is
   pub mine : (feed : ℕ) (x : Route) → p ≡ x.prefix → is_from feed (offer_of x) ≡ false → is_of feed p x ≡ false
-  mine feed x here differs = false_from_ne_true (is_of feed p x) (λ yes. both_ways (is_from feed (offer_of x)) differs (eq-eqb x.feed feed (is_of-parts feed p x yes).0))
+  mine feed x here differs =
+      false_from_ne_true (is_of feed p x) (λ yes. both_ways (is_from feed (offer_of x)) differs (eq-eqb x.feed feed (is_of-parts feed p x yes).0))
 
   -- and the other way round
   pub not_mine : (feed : ℕ) (x : Route) → p ≡ x.prefix → is_of feed p x ≡ false → is_from feed (offer_of x) ≡ false
@@ -148,7 +149,8 @@ module _ (laws : MapLaws) (m n : Map) (p : Prefix) (offers : List Offer) (at : I
   ]
 
   -- a feed's offer in the place of its other one is its route in the place of the other
-  pub swapped : (o : Offer) → HasSwapped (offers_at m p) offers o true → (x : Route) → HasRoute n x ↔ ((HasRoute m x × (is_of o.feed p x ≡ false)) ⊎ (route_by p o ≡ x))
+  pub swapped : (o : Offer) → HasSwapped (offers_at m p) offers o true → (x : Route)
+      → HasRoute n x ↔ ((HasRoute m x × (is_of o.feed p x ≡ false)) ⊎ (route_by p o ≡ x))
   swapped o swap x = elim (one_or_other laws.same p x.prefix) [
     | inl here ↦ (
       (λ c. elim ((swap (offer_of x)).0 (subst (λ l. Contains l (offer_of x)) (at_it x.prefix here) c)) [
@@ -254,19 +256,23 @@ module _ (laws : MapLaws) (m : Map) (h : IsMap m) (p : Prefix) (old new : List O
   unchanged same = ap (put m p) same ∙ put_same laws m h p old there
 
   -- one offer more
-  pub more : IsOffers new → (o : Offer) → has o.feed p (routes_of m) ≡ false → HasGained old new o → routes_of (put m p new) ≡ put_in (route_by p o) (routes_of m)
+  pub more : IsOffers new → (o : Offer) → has o.feed p (routes_of m) ≡ false → HasGained old new o
+      → routes_of (put m p new) ≡ put_in (route_by p o) (routes_of m)
   more lawful o fresh gain =
-      routes_added laws m (put m p new) h (IsMap-put laws m h p new lawful) p new (put_with laws m h p new) o fresh (subst (λ l. HasGained l new o) (sym at_is) gain)
+      routes_added laws m (put m p new) h (IsMap-put laws m h p new lawful) p new (put_with laws m h p new) o fresh
+      (subst (λ l. HasGained l new o) (sym at_is) gain)
 
   -- a feed's offer less
   pub less : IsOffers new → (feed : ℕ) → HasLost old new feed → routes_of (put m p new) ≡ take_out feed p (routes_of m)
   less lawful feed loss =
-      routes_taken laws m (put m p new) h (IsMap-put laws m h p new lawful) p new (put_with laws m h p new) feed (subst (λ l. HasLost l new feed) (sym at_is) loss)
+      routes_taken laws m (put m p new) h (IsMap-put laws m h p new lawful) p new (put_with laws m h p new) feed
+      (subst (λ l. HasLost l new feed) (sym at_is) loss)
 
   -- another offer of the feed
   pub other : IsOffers new → (o : Offer) → HasSwapped old new o true → routes_of (put m p new) ≡ put_in (route_by p o) (take_out o.feed p (routes_of m))
   other lawful o swap =
-      routes_swapped laws m (put m p new) h (IsMap-put laws m h p new lawful) p new (put_with laws m h p new) o (subst (λ l. HasSwapped l new o true) (sym at_is) swap)
+      routes_swapped laws m (put m p new) h (IsMap-put laws m h p new lawful) p new (put_with laws m h p new) o
+      (subst (λ l. HasSwapped l new o true) (sym at_is) swap)
 
   -- the only offer goes with its prefix
   pub last_gone : new ≡ old → (feed : ℕ) (o : Offer) → old ≡ o ∷ [] → is_from feed o ≡ true → routes_of (erase (put m p new) p) ≡ take_out feed p (routes_of m)

@@ -33,20 +33,23 @@ first_best p o rest x h c = elim (Contains-cases o rest x c) [
 ]
 
 module _ (laws : MapLaws) (m : Map) (h : IsMap m) (addr : Addr) where
-  module _ (p : Prefix) (o : Offer) (rest : List Offer) (there : Contains m (p, o ∷ rest)) (covered : covers p addr ≡ true) (most : All (λ (y : Prefix × List Offer). IsTrue (covers y.0 addr) → y.0.len ≤ p.len) m) where
+  module _ (p : Prefix) (o : Offer) (rest : List Offer) (there : Contains m (p, o ∷ rest)) (covered : covers p addr ≡ true)
+      (most : All (λ (y : Prefix × List Offer). IsTrue (covers y.0 addr) → y.0.len ≤ p.len) m) where
     -- the first offer at the longest prefix is the best match
     best_match : IsBestMatch addr (routes_of m) (route_by p o)
     best_match = record {
       contained = offer_out m p (o ∷ rest) o there (Contains-head o rest);
       covering = covered;
-      longest = λ s c e. let x = offer_in m s c in All-contains (λ (y : Prefix × List Offer). IsTrue (covers y.0 addr) → y.0.len ≤ p.len) m (s.prefix, x.0) most x.1 e;
+      longest = λ s c e. let x = offer_in m s c in
+          All-contains (λ (y : Prefix × List Offer). IsTrue (covers y.0 addr) → y.0.len ≤ p.len) m (s.prefix, x.0) most x.1 e;
       best = λ s c e len.
           let x = offer_in m s c in
           let base = covers-base s.prefix addr e ∙ ap (base_at addr) len ∙ sym (covers-base p addr covered) in
           let one = laws.same s.prefix p base len in
           let at = sym ((laws.found m s.prefix x.0 h.ordered).0 x.1) ∙ ap (get m) one ∙ (laws.found m p (o ∷ rest) h.ordered).0 there in
           let same : x.0 ≡ o ∷ rest = cc in
-          first_best p o rest (offer_of s) (h.each p (o ∷ rest) ((laws.found m p (o ∷ rest) h.ordered).0 there)).ranked (subst (λ l. Contains l (offer_of s)) same x.2);
+          first_best p o rest (offer_of s) (h.each p (o ∷ rest) ((laws.found m p (o ∷ rest) h.ordered).0 there)).ranked
+          (subst (λ l. Contains l (offer_of s)) same x.2);
     }
 
     -- so it is what a look-up finds
@@ -54,7 +57,9 @@ module _ (laws : MapLaws) (m : Map) (h : IsMap m) (addr : Addr) where
     look_up-some = ((look_up_finds_best addr (routes_of m) (IsTable-map laws m h)).0 (route_by p o)).1 best_match
 
   -- the same, as the code reads the first offer
-  pub look_up-first : (p : Prefix) (offers slice : List Offer) (d : Offer) → slice ≡ offers → 0 < length slice → Contains m (p, offers) × IsTrue (covers p addr) × All (λ (y : Prefix × List Offer). IsTrue (covers y.0 addr) → y.0.len ≤ p.len) m → look_up addr (routes_of m) ≡ Some (route_by p (get_or slice 0 d))
+  pub look_up-first : (p : Prefix) (offers slice : List Offer) (d : Offer) → slice ≡ offers → 0 < length slice
+      → Contains m (p, offers) × IsTrue (covers p addr) × All (λ (y : Prefix × List Offer). IsTrue (covers y.0 addr) → y.0.len ≤ p.len) m
+      → look_up addr (routes_of m) ≡ Some (route_by p (get_or slice 0 d))
   look_up-first p offers [] d same some longest = absurd (omega arith)
   look_up-first p offers (o ∷ rest) d same some longest = look_up-some p o rest (subst (λ l. Contains m (p, l)) (sym same) longest.0) longest.1 longest.2
 

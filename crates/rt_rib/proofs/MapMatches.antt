@@ -71,7 +71,8 @@ module _ (addr : Addr) where
       ]
 
   -- so its routes beat those of the earlier one
-  ordered_backward : (m : Map) → IsOrdered m → ((p : Prefix) (offers : List Offer) → Contains m (p, offers) → IsOffers offers × (covers p addr ≡ true)) → AllPairs Beats (routes_backward m)
+  ordered_backward : (m : Map) → IsOrdered m → ((p : Prefix) (offers : List Offer) → Contains m (p, offers) → IsOffers offers × (covers p addr ≡ true))
+      → AllPairs Beats (routes_backward m)
   ordered_backward [] order each = λ i j d l k. absurd (omega arith)
   ordered_backward ((p, offers) ∷ rest) order each =
       let here = each p offers (Contains-head (p, offers) rest) in

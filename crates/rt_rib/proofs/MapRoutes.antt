@@ -1,5 +1,6 @@
 -- The routes that a map from prefixes to offers stands for: what they contain, and that they are a table.
-use Rattle.std.proofs.Common.{◌≡◌, ℕ, Bool, true, false, eqb, ltb, ◌⊎◌, ◌↔◌, inl, inr, List, [], ◌∷◌, ◌++◌, get_or, Option, Some, None, refl, ap, ◌∙◌, sym, subst, arith, map}
+use Rattle.std.proofs.Common.{◌≡◌, ℕ, Bool, true, false, eqb, ltb, ◌⊎◌, ◌↔◌, inl, inr, List, [], ◌∷◌, ◌++◌, get_or, Option, Some, None, refl, ap, ◌∙◌, sym}
+use Rattle.std.proofs.Common.{subst, arith, map}
 use Rattle.std.specs.Prelude.{IsTrue}
 use Rattle.std.specs.List.{All, AllPairs, Contains, list_any}
 use Rattle.std.proofs.lemmas.Bool.{cases_Bool, both_ways, false_from_ne_true, and_parts, and_from, eqb-true, eq-eqb, ltb-true}
@@ -166,11 +167,13 @@ IsTable-routes ((p, offers) ∷ rest) order each =
       ordered =
           AllPairs-append Ordered (map (route_by p) offers) (routes_of rest) (ordered_at p offers ranked) tail.ordered
           (All-map (λ r. All (Ordered r) (routes_of rest)) (route_by p) offers (λ k d l.
-          All-from_contained (Ordered (route_by p (get_or offers k d))) (routes_of rest) (λ s c. precedes-by_prefix (route_by p (get_or offers k d)) s (early s c))));
+          All-from_contained (Ordered (route_by p (get_or offers k d))) (routes_of rest)
+          (λ s c. precedes-by_prefix (route_by p (get_or offers k d)) s (early s c))));
       single =
           AllPairs-append Apart (map (route_by p) offers) (routes_of rest) (single_at p offers ranked) tail.single
           (All-map (λ r. All (Apart r) (routes_of rest)) (route_by p) offers (λ k d l.
-          All-from_contained (Apart (route_by p (get_or offers k d))) (routes_of rest) (λ s c. apart-by_prefix (route_by p (get_or offers k d)) s (early s c))));
+          All-from_contained (Apart (route_by p (get_or offers k d))) (routes_of rest)
+          (λ s c. apart-by_prefix (route_by p (get_or offers k d)) s (early s c))));
     }
 
 module _ (laws : MapLaws) (m : Map) (h : IsMap m) where
@@ -198,7 +201,8 @@ module _ (laws : MapLaws) (m : Map) (h : IsMap m) where
         let parts = is_of-parts feed p r mine in
         let one = laws.same r.prefix p parts.1 parts.2 in
         let there = subst (λ q. Contains (offers_at m q) (offer_of r)) one (there_in laws m r h.ordered c) in
-        both_ways (list_any (is_from feed) (offers_at m p)) none (any-from_contained (is_from feed) (offers_at m p) (offer_of r) there (eq-eqb r.feed feed parts.0))))) ∙ sym none
+        both_ways (list_any (is_from feed) (offers_at m p)) none
+        (any-from_contained (is_from feed) (offers_at m p) (offer_of r) there (eq-eqb r.feed feed parts.0))))) ∙ sym none
   ]
 
 -- nothing is a map

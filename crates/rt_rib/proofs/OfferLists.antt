@@ -1,6 +1,8 @@
 -- How a list of offers in order changes as one is put in or taken out.
-use Rattle.std.proofs.Common.{◌≡◌, ℕ, zero, suc, ◌+◌, ◌<◌, ◌≤◌, Bool, true, false, not, ltb, ◌⊎◌, ◌↔◌, inl, inr, List, [], ◌∷◌, length, get_or, Some, None, refl, ap, ◌∙◌, sym, subst, arith}
-use Rattle.std.proofs.lemmas.Bool.{both_ways, cond-true, cond-false, not-true, not_from_true, not_from_false, false_from_ne_true, lt-ltb, eqb-true, eq-eqb, cases_lt}
+use Rattle.std.proofs.Common.{◌≡◌, ℕ, zero, suc, ◌+◌, ◌<◌, ◌≤◌, Bool, true, false, not, ltb, ◌⊎◌, ◌↔◌, inl, inr, List, [], ◌∷◌, length, get_or, Some, None}
+use Rattle.std.proofs.Common.{refl, ap, ◌∙◌, sym, subst, arith}
+use Rattle.std.proofs.lemmas.Bool.{both_ways, cond-true, cond-false, not-true, not_from_true, not_from_false, false_from_ne_true, lt-ltb, eqb-true, eq-eqb}
+use Rattle.std.proofs.lemmas.Bool.{cases_lt}
 use Rattle.std.proofs.lemmas.List.Elements.{All-cons, All-head, All-tail, All-nil, All-weaker, AllWithin-more, filter_passes}
 use Rattle.std.proofs.lemmas.List.{get_or_default}
 use Rattle.std.proofs.lemmas.List.Kept.{AllPairs-cons}
@@ -50,20 +52,23 @@ module _ {X : Type 0} where
   All-insert P (x ∷ xs) (suc i) y l p h = All-cons P x (insert xs i y) (All-head P x xs h) (All-insert P xs i y (omega arith) p (All-tail P x xs h))
 
   -- an element put in between those that go before it and those that go behind it
-  pub AllPairs-insert : (R : X → X → Type 0) (xs : List X) (i : ℕ) (y : X) → i ≤ length xs → AllPairs R xs → AllWithin (λ x. R x y) xs 0 i → AllWithin (R y) xs i (length xs) → AllPairs R (insert xs i y)
+  pub AllPairs-insert : (R : X → X → Type 0) (xs : List X) (i : ℕ) (y : X) → i ≤ length xs → AllPairs R xs → AllWithin (λ x. R x y) xs 0 i
+      → AllWithin (R y) xs i (length xs) → AllPairs R (insert xs i y)
   AllPairs-insert R [] zero y l h before behind = AllPairs-cons R y [] (All-nil (R y)) h
   AllPairs-insert R [] (suc i) y l h before behind = absurd (omega arith)
   AllPairs-insert R (x ∷ xs) zero y l h before behind = AllPairs-cons R y (x ∷ xs) (λ k d m. behind k d (omega arith) m) h
   AllPairs-insert R (x ∷ xs) (suc i) y l h before behind =
       AllPairs-cons R x (insert xs i y)
       (All-insert (R x) xs i y (omega arith) (before 0 x (omega arith) (omega arith)) (AllPairs-head R x xs h))
-      (AllPairs-insert R xs i y (omega arith) (AllPairs-tail R x xs h) (λ k d m n. before (suc k) d (omega arith) (omega arith)) (λ k d m n. behind (suc k) d (omega arith) (omega arith)))
+      (AllPairs-insert R xs i y (omega arith) (AllPairs-tail R x xs h) (λ k d m n. before (suc k) d (omega arith) (omega arith))
+      (λ k d m n. behind (suc k) d (omega arith) (omega arith)))
 
   -- no index is found where none passes
   pub position-none : (p : X → Bool) (xs : List X) → position p xs ≡ None → list_any p xs ≡ false
   position-none p xs e = elim (cases_lt (position_or_len p xs) (length xs)) [
     | inl less ↦
-        let found : position p xs ≡ Some (position_or_len p xs) = cond-true (ltb (position_or_len p xs) (length xs)) (Some (position_or_len p xs)) None (lt-ltb (position_or_len p xs) (length xs) less) in
+        let found : position p xs ≡ Some (position_or_len p xs) =
+        cond-true (ltb (position_or_len p xs) (length xs)) (Some (position_or_len p xs)) None (lt-ltb (position_or_len p xs) (length xs) less) in
         cc
     | inr more ↦ list_any-from_none p xs (λ k d l. fails_before_first p xs k d (omega arith))
   ]
@@ -98,7 +103,8 @@ is_from-flip : (a b : Offer) → is_from b.feed a ≡ false → is_from a.feed b
 is_from-flip a b e = false_from_ne_true (is_from a.feed b) (λ same. both_ways (is_from b.feed a) e (eq-eqb a.feed b.feed (sym (eqb-true b.feed a.feed same))))
 
 -- an offer of a feed that had none, put in where it belongs
-pub IsRanked-insert : (offers : List Offer) (index : ℕ) (offer : Offer) → IsRanked offers → All (λ o. is_from offer.feed o ≡ false) offers → IsInsertionIndex offer offers index → IsRanked (insert offers index offer)
+pub IsRanked-insert : (offers : List Offer) (index : ℕ) (offer : Offer) → IsRanked offers → All (λ o. is_from offer.feed o ≡ false) offers
+    → IsInsertionIndex offer offers index → IsRanked (insert offers index offer)
 IsRanked-insert offers index offer h fresh at = record {
   ordered =
       AllPairs-insert (λ a b. outranks a b ≡ true) offers index offer at.within h.ordered at.before
@@ -121,13 +127,15 @@ pub IsRanked-one : (offer : Offer) → IsRanked (offer ∷ [])
 IsRanked-one offer = record { ordered = λ i j d l m. absurd (omega arith); single = λ i j d l m. absurd (omega arith) }
 
 -- one offer more outranks it
-pub outranks-more : (offers : List Offer) (offer d : Offer) (index : ℕ) → index < length offers → AllWithin (λ o. outranks o offer ≡ true) offers 0 index → outranks (get_or offers index d) offer ≡ true → AllWithin (λ o. outranks o offer ≡ true) offers 0 (index + 1)
+pub outranks-more : (offers : List Offer) (offer d : Offer) (index : ℕ) → index < length offers → AllWithin (λ o. outranks o offer ≡ true) offers 0 index
+    → outranks (get_or offers index d) offer ≡ true → AllWithin (λ o. outranks o offer ≡ true) offers 0 (index + 1)
 outranks-more offers offer d index within before here =
     AllWithin-more (λ o. outranks o offer ≡ true) offers 0 index before
     (λ e. subst (λ z. outranks z offer ≡ true) (get_or_default offers index d e within) here)
 
 -- where an offer stands that does not outrank it, none behind that does
-pub outranks-behind : (offers : List Offer) (offer d : Offer) (index : ℕ) → IsRanked offers → index < length offers → outranks (get_or offers index d) offer ≡ false → AllWithin (λ o. outranks o offer ≡ false) offers index (length offers)
+pub outranks-behind : (offers : List Offer) (offer d : Offer) (index : ℕ) → IsRanked offers → index < length offers
+    → outranks (get_or offers index d) offer ≡ false → AllWithin (λ o. outranks o offer ≡ false) offers index (length offers)
 outranks-behind offers offer d index h within fails = λ k e l m.
     let there = subst (λ z. outranks z offer ≡ false) (get_or_default offers index d e within) fails in
     false_from_ne_true (outranks (get_or offers k e) offer) (λ holds.
@@ -141,7 +149,8 @@ outranks-behind offers offer d index h within fails = λ k e l m.
     ])
 
 -- the offers but for a feed's are those without the one at its index
-pub without-is : (feed : ℕ) (offers : List Offer) (index : ℕ) (d : Offer) → AllPairs (λ a b. is_from b.feed a ≡ false) offers → index < length offers → is_from feed (get_or offers index d) ≡ true → filter (λ o. not (is_from feed o)) offers ≡ remove offers index
+pub without-is : (feed : ℕ) (offers : List Offer) (index : ℕ) (d : Offer) → AllPairs (λ a b. is_from b.feed a ≡ false) offers → index < length offers
+    → is_from feed (get_or offers index d) ≡ true → filter (λ o. not (is_from feed o)) offers ≡ remove offers index
 without-is feed [] index d single within is = absurd (omega arith)
 without-is feed (x ∷ offers) zero d single within is =
     let mine = eqb-true x.feed feed is in
@@ -151,20 +160,24 @@ without-is feed (x ∷ offers) zero d single within is =
     let also = eqb-true o.feed feed same in
     both_ways (is_from o.feed x) apart (eq-eqb x.feed o.feed (mine ∙ sym also)))))
     offers (AllPairs-head (λ a b. is_from b.feed a ≡ false) x offers single) in
-    cond-false (not (is_from feed x)) (x ∷ filter (λ o. not (is_from feed o)) offers) (filter (λ o. not (is_from feed o)) offers) (not_from_true (is_from feed x) is) ∙ filter-all (λ o. not (is_from feed o)) offers others
+    cond-false (not (is_from feed x)) (x ∷ filter (λ o. not (is_from feed o)) offers) (filter (λ o. not (is_from feed o)) offers)
+    (not_from_true (is_from feed x) is) ∙ filter-all (λ o. not (is_from feed o)) offers others
 without-is feed (x ∷ offers) (suc i) d single within is =
     let mine = eqb-true (get_or offers i d).feed feed is in
     let apart : is_from (get_or offers i d).feed x ≡ false = AllPairs-head (λ a b. is_from b.feed a ≡ false) x offers single i d (omega arith) in
     let other : is_from feed x ≡ false =
     false_from_ne_true (is_from feed x) (λ same.
     both_ways (is_from (get_or offers i d).feed x) apart (eq-eqb x.feed (get_or offers i d).feed (eqb-true x.feed feed same ∙ sym mine))) in
-    cond-true (not (is_from feed x)) (x ∷ filter (λ o. not (is_from feed o)) offers) (filter (λ o. not (is_from feed o)) offers) (not_from_false (is_from feed x) other)
+    cond-true (not (is_from feed x)) (x ∷ filter (λ o. not (is_from feed o)) offers) (filter (λ o. not (is_from feed o)) offers)
+    (not_from_false (is_from feed x) other)
     ∙ ap (λ z. x ∷ z) (without-is feed offers i d (AllPairs-tail (λ a b. is_from b.feed a ≡ false) x offers single) (omega arith) is)
 
 -- without the one at the index of the feed's, the offers are the others
-pub remove_is_without : (feed : ℕ) (offers : List Offer) → IsRanked offers → (index : ℕ) → position (is_from feed) offers ≡ Some index → remove offers index ≡ without feed offers
+pub remove_is_without : (feed : ℕ) (offers : List Offer) → IsRanked offers → (index : ℕ) → position (is_from feed) offers ≡ Some index
+    → remove offers index ≡ without feed offers
 remove_is_without feed [] h index found = cc
-remove_is_without feed (x ∷ offers) h index found = let at = position-Some (is_from feed) (x ∷ offers) index x found in sym (without-is feed (x ∷ offers) index x h.single at.0 at.1)
+remove_is_without feed (x ∷ offers) h index found = let at = position-Some (is_from feed) (x ∷ offers) index x found in
+    sym (without-is feed (x ∷ offers) index x h.single at.0 at.1)
 
 -- what is left contains the others
 pub lost : (feed : ℕ) (old new : List Offer) → new ≡ without feed old → HasLost old new feed

@@ -1,6 +1,7 @@
 -- Dump order is strict and total, up to feed and prefix.
 use Rattle.std.proofs.Common.{◌≡◌, ℕ, ◌<◌, Bool, true, false, eqb, ltb, ◌&&◌, ◌⊎◌, inl, inr, sym, arith}
-use Rattle.std.proofs.lemmas.Bool.{ltb-true, ltb-false, eqb-true, eqb-false, lt-ltb, le-ltb, eq-eqb, or_cases, or_parts, or_left, or_right, or_from, and_parts, and_cases, and_from, and_right, both_ways, cases_order}
+use Rattle.std.proofs.lemmas.Bool.{ltb-true, ltb-false, eqb-true, eqb-false, lt-ltb, le-ltb, eq-eqb, or_cases, or_parts, or_left, or_right, or_from}
+use Rattle.std.proofs.lemmas.Bool.{and_parts, and_cases, and_from, and_right, both_ways, cases_order}
 use Rattle.rt_cidr.specs.declared.prefixes.Prefix.{Prefix}
 use Rattle.rt_cidr.specs.Prefix.{same_prefix}
 use Rattle.rt_rib.specs.declared.routes.Route.{Route}
@@ -36,10 +37,12 @@ pub below_then-same : (a b : ℕ) (rest : Bool) → a ≡ b → rest ≡ true �
 below_then-same a b rest h r = or_right (ltb a b) (eqb a b && rest) (and_from (eqb a b) rest (eq-eqb a b h) r)
 
 -- three in order, where the rests are
-pub below_then-trans : (a b c : ℕ) (p q r : Bool) → (p ≡ true → q ≡ true → r ≡ true) → below_then a b p ≡ true → below_then b c q ≡ true → below_then a c r ≡ true
+pub below_then-trans : (a b c : ℕ) (p q r : Bool) → (p ≡ true → q ≡ true → r ≡ true) → below_then a b p ≡ true → below_then b c q ≡ true
+    → below_then a c r ≡ true
 below_then-trans a b c p q r rest x y =
     elim (below_then-true a b p x) [
-      | inl less ↦ elim (below_then-true b c q y) [ inl more ↦ below_then-less a c r (omega arith) | inr same ↦ let s = same.0 in below_then-less a c r (omega arith) ]
+      | inl less ↦ elim (below_then-true b c q y)
+          [ inl more ↦ below_then-less a c r (omega arith) | inr same ↦ let s = same.0 in below_then-less a c r (omega arith) ]
       | inr e ↦ elim (below_then-true b c q y) [
         | inl more ↦ let s = e.0 in below_then-less a c r (omega arith)
         | inr same ↦ let s = e.0 in let t = same.0 in below_then-same a c r (omega arith) (rest e.1 same.1)
@@ -67,7 +70,8 @@ is_better-trans r s t = by_preference-trans r.pref s.pref t.pref r.feed s.feed t
 pub precedes-trans : (r s t : Route) → precedes r s ≡ true → precedes s t ≡ true → precedes r t ≡ true
 precedes-trans r s t =
     below_then-trans r.prefix.base s.prefix.base t.prefix.base
-    (below_then r.prefix.len s.prefix.len (is_better r s)) (below_then s.prefix.len t.prefix.len (is_better s t)) (below_then r.prefix.len t.prefix.len (is_better r t))
+    (below_then r.prefix.len s.prefix.len (is_better r s)) (below_then s.prefix.len t.prefix.len (is_better s t))
+    (below_then r.prefix.len t.prefix.len (is_better r t))
     (below_then-trans r.prefix.len s.prefix.len t.prefix.len (is_better r s) (is_better s t) (is_better r t) (is_better-trans r s t))
 
 -- feed, base and length of a feed's route to a prefix
@@ -95,17 +99,21 @@ precedes-other r s e other =
             | inl less ↦ below_then-less r.prefix.len s.prefix.len (is_better r s) less
             | inr len ↦
                 below_then-same r.prefix.len s.prefix.len (is_better r s) (sym len.0)
-                (by_preference-other r.pref s.pref r.feed s.feed len.1 (λ f. both_ways (is_of r.feed r.prefix s) other (is_of-from r.feed r.prefix s f base.0 len.0)))
+                (by_preference-other r.pref s.pref r.feed s.feed len.1
+                (λ f. both_ways (is_of r.feed r.prefix s) other (is_of-from r.feed r.prefix s f base.0 len.0)))
           ])
     ]
 
 -- no route is better than itself
 pub is_better-itself : (r : Route) → is_better r r ≡ false
-is_better-itself r = or_from (ltb r.pref r.pref) (eqb r.pref r.pref && ltb r.feed r.feed) (le-ltb r.pref r.pref (omega arith)) (and_right (eqb r.pref r.pref) (ltb r.feed r.feed) (le-ltb r.feed r.feed (omega arith)))
+is_better-itself r = or_from (ltb r.pref r.pref) (eqb r.pref r.pref && ltb r.feed r.feed) (le-ltb r.pref r.pref (omega arith))
+    (and_right (eqb r.pref r.pref) (ltb r.feed r.feed) (le-ltb r.feed r.feed (omega arith)))
 
 -- no route precedes itself
 pub precedes-itself : (r : Route) → precedes r r ≡ false
 precedes-itself r =
-    let len = or_from (ltb r.prefix.len r.prefix.len) (eqb r.prefix.len r.prefix.len && is_better r r) (le-ltb r.prefix.len r.prefix.len (omega arith)) (and_right (eqb r.prefix.len r.prefix.len) (is_better r r) (is_better-itself r)) in
-    or_from (ltb r.prefix.base r.prefix.base) (eqb r.prefix.base r.prefix.base && below_then r.prefix.len r.prefix.len (is_better r r)) (le-ltb r.prefix.base r.prefix.base (omega arith))
+    let len = or_from (ltb r.prefix.len r.prefix.len) (eqb r.prefix.len r.prefix.len && is_better r r) (le-ltb r.prefix.len r.prefix.len (omega arith))
+    (and_right (eqb r.prefix.len r.prefix.len) (is_better r r) (is_better-itself r)) in
+    or_from (ltb r.prefix.base r.prefix.base) (eqb r.prefix.base r.prefix.base && below_then r.prefix.len r.prefix.len (is_better r r))
+    (le-ltb r.prefix.base r.prefix.base (omega arith))
     (and_right (eqb r.prefix.base r.prefix.base) (below_then r.prefix.len r.prefix.len (is_better r r)) len)

@@ -1,5 +1,6 @@
 -- A feed's routes taken out of the map in one walk.
-use Rattle.std.proofs.Common.{◌≡◌, ℕ, zero, suc, ◌+◌, ◌-◌, Bool, true, false, not, cond, eqb, List, [], ◌∷◌, ◌++◌, length, get_or, refl, ap, ◌∙◌, sym, subst, inl, inr, arith, map}
+use Rattle.std.proofs.Common.{◌≡◌, ℕ, zero, suc, ◌+◌, ◌-◌, Bool, true, false, not, cond, eqb, List, [], ◌∷◌, ◌++◌, length, get_or, refl, ap, ◌∙◌, sym}
+use Rattle.std.proofs.Common.{subst, inl, inr, arith, map}
 use Rattle.std.specs.List.{Contains, count_by}
 use Rattle.std.proofs.lemmas.Bool.{cases_Bool, cond-true, cond-false, not_from_false, eqb-true}
 use Rattle.std.proofs.lemmas.List.Elements.{Contains-get_or, filter-append}
@@ -76,7 +77,8 @@ abbrev pub Purges : Purging → Prefix → List Offer → Purging → List Offer
 Purges s p old t new stays = IsPurged s t old new stays
 
 -- a purge that knows how many routes its feed has takes all of them out
-pub purged_routes : (s t : Purging) (m n : Map) → IsSifted is_over Purges s t m n → s.remaining ≡ count_of s.feed (routes_of m) → routes_of n ≡ purge s.feed (routes_of m)
+pub purged_routes : (s t : Purging) (m n : Map) → IsSifted is_over Purges s t m n → s.remaining ≡ count_of s.feed (routes_of m)
+    → routes_of n ≡ purge s.feed (routes_of m)
 purged_routes s t [] n h e = rw h.1 refl
 purged_routes s t ((p, offers) ∷ rest) n h e =
     let all = routes_of ((p, offers) ∷ rest) in
@@ -87,7 +89,14 @@ purged_routes s t ((p, offers) ∷ rest) n h e =
       | inr i ↦
           let is = i.3.judged in
           let counted : i.1.remaining ≡ count_of s.feed (routes_of rest) =
-          omega (arith, is.fewer, e, sum_by-append (λ (r : Route). cond (eqb r.feed s.feed) 1 0) (map (route_by p) offers) (routes_of rest), count-routes s.feed p offers) in
+          omega (
+            arith,
+            is.fewer,
+            e,
+            sum_by-append (λ (r : Route). cond (eqb r.feed s.feed) 1 0) (map (route_by p) offers)
+                (routes_of rest),
+            count-routes s.feed p offers,
+          ) in
           let after : routes_of i.2 ≡ purge s.feed (routes_of rest) = rw is.same_feed at (purged_routes i.1 t rest i.2 i.4 (rw is.same_feed counted)) in
           ap routes_of i.3.new_is
           ∙ kept_routes i.3.stays p (without s.feed offers) i.3.made i.2 is.others
@@ -103,7 +112,8 @@ purged_offers s t [] n h each q offers c = absurd (Contains-none (q, offers) (su
 purged_offers s t ((p, old) ∷ rest) n h each q offers c = elim h [
   | inl i ↦ each q offers (subst (λ l. Contains l (q, offers)) i.2 c)
   | inr i ↦
-      let tail : (x : Prefix) (others : List Offer) → Contains rest (x, others) → IsOffers others = λ x others d. each x others (Contains-tail (p, old) rest (x, others) d) in
+      let tail : (x : Prefix) (others : List Offer) → Contains rest (x, others)
+      → IsOffers others = λ x others d. each x others (Contains-tail (p, old) rest (x, others) d) in
       kept_offers i.3.stays p (without s.feed old) i.3.made i.2 i.3.judged.others (purged_offers i.1 t rest i.2 i.4 tail) q offers
       (subst (λ l. Contains l (q, offers)) i.3.new_is c)
 ]
@@ -111,7 +121,8 @@ purged_offers s t ((p, old) ∷ rest) n h each q offers c = elim h [
 pub purged_map : MapLaws → (s t : Purging) (m n : Map) → IsSifted is_over Purges s t m n → IsMap m → IsOrdered n → IsMap n
 purged_map laws s t m n h is order = record {
   ordered = order;
-  each = λ p offers e. purged_offers s t m n h (λ q others c. is.each q others ((laws.found m q others is.ordered).0 c)) p offers ((laws.found n p offers order).1 e);
+  each = λ p offers e. purged_offers s t m n h (λ q others c. is.each q others ((laws.found m q others is.ordered).0 c)) p offers
+      ((laws.found n p offers order).1 e);
 }
 
 -- the feed has no offer for the prefix
@@ -131,7 +142,8 @@ one_less zero e = cc
 one_less (suc n) e = omega arith
 
 -- it has one of several
-pub offers_gone : (s t : Purging) (old new : List Offer) → t.feed ≡ s.feed → t.remaining + 1 ≡ s.remaining → TakesOut old new s.feed Gone → IsOffers new → IsPurged s t old new true
+pub offers_gone : (s t : Purging) (old new : List Offer) → t.feed ≡ s.feed → t.remaining + 1 ≡ s.remaining → TakesOut old new s.feed Gone → IsOffers new
+    → IsPurged s t old new true
 offers_gone s t old new same fewer h lawful = record {
   same_feed = same;
   fewer = omega (arith, fewer, count-both (is_from s.feed) old, ap length h.0, h.2);
@@ -139,7 +151,8 @@ offers_gone s t old new same fewer h lawful = record {
 }
 
 -- it has the only one
-pub offers_last : (s t : Purging) (old new : List Offer) → t.feed ≡ s.feed → t.remaining + 1 ≡ s.remaining → TakesOut old new s.feed Last → IsPurged s t old new false
+pub offers_last : (s t : Purging) (old new : List Offer) → t.feed ≡ s.feed → t.remaining + 1 ≡ s.remaining → TakesOut old new s.feed Last
+    → IsPurged s t old new false
 offers_last s t old new same fewer h =
     let o = h.1.0 in
     let none : without s.feed (o ∷ []) ≡ [] = rw h.1.2 refl in

@@ -12,7 +12,8 @@ use Rattle.rt_rib.specs.Table.{is_better, is_of, IsTable}
 use Rattle.rt_rib.specs.LookUp.{matching, look_up, beats, ranking, look_up_all}
 use Rattle.rt_rib.specs.Laws.{IsBestMatch, AreMatches, LookUpAllFindsMatches}
 use Rattle.rt_rib.proofs.Lists.{AllPairs-head, AllPairs-tail, AllPairs-put}
-use Rattle.rt_rib.proofs.Order.{below_then-true, below_then-false, below_then-less, below_then-same, by_preference-other, is_better-trans, is_better-itself, is_of-from}
+use Rattle.rt_rib.proofs.Order.{below_then-true, below_then-false, below_then-less, below_then-same, by_preference-other, is_better-trans}
+use Rattle.rt_rib.proofs.Order.{is_better-itself, is_of-from}
 use Rattle.rt_rib.proofs.Tables.{Apart, Apart-flip}
 use Rattle.rt_rib.proofs.Sets.{Contains-head, Contains-tail, Contains-cases, Contains-none, Contains-put, filter-keeps, filter-from, ordered_once}
 use Rattle.rt_rib.proofs.Covering.{base_at, covers-base}
@@ -38,7 +39,8 @@ ranking-contains (r ∷ others) x =
 
 module _ (addr : Addr) where
   -- of two that match and are not of one feed and prefix, one beats the other
-  beats-other : (r s : Route) → covers r.prefix addr ≡ true → covers s.prefix addr ≡ true → is_of r.feed r.prefix s ≡ false → beats s r ≡ false → beats r s ≡ true
+  beats-other : (r s : Route) → covers r.prefix addr ≡ true → covers s.prefix addr ≡ true → is_of r.feed r.prefix s ≡ false → beats s r ≡ false
+      → beats r s ≡ true
   beats-other r s c d other e =
       elim (below_then-false r.prefix.len s.prefix.len (is_better s r) e) [
         | inl less ↦ below_then-less s.prefix.len r.prefix.len (is_better r s) less
@@ -50,7 +52,8 @@ module _ (addr : Addr) where
       ]
 
   -- so a ranking of those that match is in order
-  ranking-ordered : (routes : List Route) → ((r : Route) → Contains routes r → covers r.prefix addr ≡ true) → AllPairs Apart routes → AllPairs Beats (ranking routes)
+  ranking-ordered : (routes : List Route) → ((r : Route) → Contains routes r → covers r.prefix addr ≡ true) → AllPairs Apart routes
+      → AllPairs Beats (ranking routes)
   ranking-ordered [] match apart = λ i j d l m. absurd (omega arith)
   ranking-ordered (r ∷ others) match apart =
       AllPairs-put beats beats-trans r (ranking others)
@@ -82,7 +85,8 @@ module _ (addr : Addr) where
       (λ x c. (k.exactly x).1 ((h.exactly x).0 c)) (λ x c. (h.exactly x).1 ((k.exactly x).0 c))
 
   -- what covers the address is the first match, or beaten by it
-  first_or_beaten : (t : List Route) (r : Route) (rest : List Route) → AreMatches addr t (r ∷ rest) → (s : Route) → Contains t s → covers s.prefix addr ≡ true → (r ≡ s) ⊎ Beats r s
+  first_or_beaten : (t : List Route) (r : Route) (rest : List Route) → AreMatches addr t (r ∷ rest) → (s : Route) → Contains t s → covers s.prefix addr ≡ true
+      → (r ≡ s) ⊎ Beats r s
   first_or_beaten t r rest h s c e =
       elim (Contains-cases r rest s ((h.exactly s).1 (c, e))) [
         | inl same ↦ inl same

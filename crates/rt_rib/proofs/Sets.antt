@@ -1,5 +1,6 @@
 -- Lists of routes as the sets of what they contain.
-use Rattle.std.proofs.Common.{◌≡◌, ℕ, zero, suc, ◌<◌, Bool, true, false, cond, not, ◌⊎◌, inl, inr, List, [], ◌∷◌, ◌++◌, length, get_or, refl, ap, ◌∙◌, sym, subst, arith}
+use Rattle.std.proofs.Common.{◌≡◌, ℕ, zero, suc, ◌<◌, Bool, true, false, cond, not, ◌⊎◌, inl, inr, List, [], ◌∷◌, ◌++◌, length, get_or, refl, ap, ◌∙◌, sym}
+use Rattle.std.proofs.Common.{subst, arith}
 use Rattle.std.proofs.lemmas.Bool.{cases_Bool, cond-true, cond-false, both_ways, not-true, not_from_false}
 use Rattle.std.proofs.lemmas.List.Elements.{All-contains, Contains-append_left, Contains-append_right, Contains-append_cases}
 use Rattle.std.specs.Prelude.{◌↔◌}
@@ -38,7 +39,8 @@ module _ {X : Type 0} where
       elim (Contains-cases y xs x c) [
         | inl same ↦
             let passes : p y ≡ true = ap p same ∙ e in
-            subst (λ l. Contains l x) (sym (cond-true (p y) (y ∷ filter p xs) (filter p xs) passes)) (subst (λ z. Contains (z ∷ filter p xs) x) (sym same) (Contains-head x (filter p xs)))
+            subst (λ l. Contains l x) (sym (cond-true (p y) (y ∷ filter p xs) (filter p xs) passes))
+            (subst (λ z. Contains (z ∷ filter p xs) x) (sym same) (Contains-head x (filter p xs)))
         | inr later ↦
             let rest = filter-keeps p xs x later e in
             elim (p y) as (λ b. Contains (cond b (y ∷ filter p xs) (filter p xs)) x) [ true ↦ Contains-tail y (filter p xs) x rest | false ↦ rest ]
@@ -71,13 +73,16 @@ module _ {X : Type 0} where
           | inl old ↦
               elim (cases_Bool (p x)) [
                 | inl first ↦ Contains-append_left (filter p xs) (r ∷ filter q xs) x (filter-keeps p xs x old first)
-                | inr after ↦ Contains-append_right (filter p xs) (r ∷ filter q xs) x (Contains-tail r (filter q xs) x (filter-keeps q xs x old (not_from_false (p x) after)))
+                | inr after ↦ Contains-append_right (filter p xs) (r ∷ filter q xs) x
+                    (Contains-tail r (filter q xs) x (filter-keeps q xs x old (not_from_false (p x) after)))
               ]
-          | inr same ↦ Contains-append_right (filter p xs) (r ∷ filter q xs) x (subst (λ z. Contains (z ∷ filter q xs) x) (sym same) (Contains-head x (filter q xs)))
+          | inr same ↦ Contains-append_right (filter p xs) (r ∷ filter q xs) x
+              (subst (λ z. Contains (z ∷ filter q xs) x) (sym same) (Contains-head x (filter q xs)))
         ]),
       )
 
-  module _ (before : X → X → Bool) (never : (x : X) → before x x ≡ false) (onward : (x y z : X) → before x y ≡ true → before y z ≡ true → before x z ≡ true) where
+  module _ (before : X → X → Bool) (never : (x : X) → before x x ≡ false)
+      (onward : (x y z : X) → before x y ≡ true → before y z ≡ true → before x z ≡ true) where
     -- the first goes before the second
     abbrev Goes : X → X → Type 0
     Goes x y = before x y ≡ true
@@ -87,7 +92,8 @@ module _ {X : Type 0} where
     goes-rest x xs y h c = All-contains (Goes x) xs y (AllPairs-head Goes x xs h) c
 
     -- two lists in order that contain the same elements
-    pub ordered_once : (xs ys : List X) → AllPairs Goes xs → AllPairs Goes ys → ((x : X) → Contains xs x → Contains ys x) → ((x : X) → Contains ys x → Contains xs x) → xs ≡ ys
+    pub ordered_once : (xs ys : List X) → AllPairs Goes xs → AllPairs Goes ys → ((x : X) → Contains xs x → Contains ys x)
+        → ((x : X) → Contains ys x → Contains xs x) → xs ≡ ys
     ordered_once [] [] h k to from = refl
     ordered_once [] (y ∷ ys) h k to from = absurd (Contains-none y (from y (Contains-head y ys)))
     ordered_once (x ∷ xs) [] h k to from = absurd (Contains-none x (to x (Contains-head x xs)))

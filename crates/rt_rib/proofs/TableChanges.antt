@@ -18,7 +18,8 @@ use Rattle.rt_rib.specs.Sequential.{reply_of, table_after}
 use Rattle.rt_rib.specs.Journal.{table_of_journal}
 use Rattle.rt_rib.proofs.Journals.{IsLawfulJournal-push, table_of_journal-push}
 use Rattle.rt_rib.proofs.Tables.{IsTable-put_in, IsTable-take_out, IsTable-purge, has-take_out}
-use Rattle.rt_rib.proofs.Counts.{HasMore, HasMore-put_in, HasMore-take_out, HasMore-both, AreCounts-more, AreCounts-less, AreCounts-purged, AreCounts-same, AreCounts-own}
+use Rattle.rt_rib.proofs.Counts.{HasMore, HasMore-put_in, HasMore-take_out, HasMore-both, AreCounts-more, AreCounts-less, AreCounts-purged, AreCounts-same}
+use Rattle.rt_rib.proofs.Counts.{AreCounts-own}
 use Rattle.rt_rib.proofs.CommandCases.{state, added, purged}
 
 -- which count is the feed's
@@ -26,7 +27,8 @@ own_index : (feed : ℕ) → IsFeed feed → (feed - 1 < MOST_FEEDS) × (feed �
 own_index feed is = let low = is.0 in let high = is.1 in (omega arith, omega arith)
 
 module _ (limit : ℕ) (counts : List ℕ) (m : Map) (h : IsCounted limit counts m) (many : length counts ≡ MOST_FEEDS) where
-  module _ (r : Route) (feed : IsFeed r.feed) (fresh : has r.feed r.prefix (routes_of m) ≡ false) (room : get_or counts (r.feed - 1) 0 < limit) (n : Map) (map : IsMap n) (is : routes_of n ≡ put_in r (routes_of m)) where
+  module _ (r : Route) (feed : IsFeed r.feed) (fresh : has r.feed r.prefix (routes_of m) ≡ false) (room : get_or counts (r.feed - 1) 0 < limit) (n : Map)
+      (map : IsMap n) (is : routes_of n ≡ put_in r (routes_of m)) where
     -- with the route it is a table, and the raised count is right
     pub added_counted : IsCounted limit (set counts (r.feed - 1) (get_or counts (r.feed - 1) 0 + 1)) n
     added_counted =
@@ -53,13 +55,15 @@ module _ (limit : ℕ) (counts : List ℕ) (m : Map) (h : IsCounted limit counts
       let own = AreCounts-own limit counts (routes_of m) r.feed h.counted feed in
       sym ((added limit (routes_of m) r fresh (omega arith) (put_in r (routes_of m)) refl).replied)
 
-  module _ (feed : ℕ) (is_feed : IsFeed feed) (p : Prefix) (there : has feed p (routes_of m) ≡ true) (n : Map) (map : IsMap n) (is : routes_of n ≡ take_out feed p (routes_of m)) where
+  module _ (feed : ℕ) (is_feed : IsFeed feed) (p : Prefix) (there : has feed p (routes_of m) ≡ true) (n : Map) (map : IsMap n)
+      (is : routes_of n ≡ take_out feed p (routes_of m)) where
     -- without the feed's route it is a table, and the lowered count is right
     pub withdrawn_counted : IsCounted limit (set counts (feed - 1) (get_or counts (feed - 1) 0 - 1)) n
     withdrawn_counted =
         let own = own_index feed is_feed in
         let fewer : HasMore (feed - 1 + 1) (routes_of n) (routes_of m) =
-        subst (λ f. HasMore f (routes_of n) (routes_of m)) own.1 (subst (λ v. HasMore feed v (routes_of m)) (sym is) (HasMore-take_out feed p (routes_of m) h.table there)) in
+        subst (λ f. HasMore f (routes_of n) (routes_of m)) own.1
+        (subst (λ v. HasMore feed v (routes_of m)) (sym is) (HasMore-take_out feed p (routes_of m) h.table there)) in
         record {
           limited = h.limited;
           map = map;
@@ -74,7 +78,8 @@ module _ (limit : ℕ) (counts : List ℕ) (m : Map) (h : IsCounted limit counts
         let more = (HasMore-take_out feed p (routes_of m) h.table there).own in
         omega arith
 
-  module _ (r : Route) (there : has r.feed r.prefix (routes_of m) ≡ true) (n : Map) (map : IsMap n) (is : routes_of n ≡ put_in r (take_out r.feed r.prefix (routes_of m))) where
+  module _ (r : Route) (there : has r.feed r.prefix (routes_of m) ≡ true) (n : Map) (map : IsMap n)
+      (is : routes_of n ≡ put_in r (take_out r.feed r.prefix (routes_of m))) where
     -- with the route in the place of the other it is a table, and the counts are still right
     pub replaced_counted : IsCounted limit counts n
     replaced_counted =
@@ -84,8 +89,10 @@ module _ (limit : ℕ) (counts : List ℕ) (m : Map) (h : IsCounted limit counts
         record {
           limited = h.limited;
           map = map;
-          table = subst IsTable (sym is) (IsTable-put_in r rest (has-take_out r.feed r.prefix (routes_of m)) (IsTable-take_out r.feed r.prefix (routes_of m) h.table));
-          counted = AreCounts-same limit counts (routes_of m) (routes_of n) h.counted (HasMore-both r.feed rest (routes_of m) (routes_of n) less more) (more.all ∙ sym less.all);
+          table = subst IsTable (sym is)
+              (IsTable-put_in r rest (has-take_out r.feed r.prefix (routes_of m)) (IsTable-take_out r.feed r.prefix (routes_of m) h.table));
+          counted = AreCounts-same limit counts (routes_of m) (routes_of n) h.counted (HasMore-both r.feed rest (routes_of m) (routes_of n) less more)
+              (more.all ∙ sym less.all);
         }
 
   module _ (feed : ℕ) (is_feed : IsFeed feed) (n : Map) (map : IsMap n) (is : routes_of n ≡ purge feed (routes_of m)) where
@@ -102,21 +109,26 @@ module _ (limit : ℕ) (counts : List ℕ) (m : Map) (h : IsCounted limit counts
 
     -- and that is what the sequential table does
     pub purged_serves : Serves (state limit (routes_of m)) (state limit (routes_of n)) feed Purge (Purged (get_or counts (feed - 1) 0))
-    purged_serves = purged limit (routes_of m) feed (get_or counts (feed - 1) 0) (AreCounts-own limit counts (routes_of m) feed h.counted is_feed) (routes_of n) is
+    purged_serves = purged limit (routes_of m) feed (get_or counts (feed - 1) 0) (AreCounts-own limit counts (routes_of m) feed h.counted is_feed)
+        (routes_of n) is
 
 -- a map that is as it was
 pub kept_counted : (limit : ℕ) (counts : List ℕ) (m n : Map) → IsCounted limit counts m → n ≡ m → IsCounted limit counts n
 kept_counted limit counts m n h same = subst (IsCounted limit counts) (sym same) h
 
 -- and a command that such a map served
-pub kept_serves : (limit : ℕ) (m n : Map) (feed : ℕ) (cmd : Cmd) (reply : Reply) → n ≡ m → Serves (state limit (routes_of m)) (state limit (routes_of m)) feed cmd reply → Serves (state limit (routes_of m)) (state limit (routes_of n)) feed cmd reply
+pub kept_serves : (limit : ℕ) (m n : Map) (feed : ℕ) (cmd : Cmd) (reply : Reply) → n ≡ m
+    → Serves (state limit (routes_of m)) (state limit (routes_of m)) feed cmd reply
+    → Serves (state limit (routes_of m)) (state limit (routes_of n)) feed cmd reply
 kept_serves limit m n feed cmd reply same h = subst (λ x. Serves (state limit (routes_of m)) (state limit (routes_of x)) feed cmd reply) (sym same) h
 
 -- a journal goes on with the entry of what the table serves
-pub IsJournalOf-push : (old new : TableState) (journal more : List Entry) (feed : ℕ) (cmd : Cmd) (reply : Reply) → IsFeed feed → IsJournalOf old journal → Serves old new feed cmd reply → more ≡ journal ++ record { feed = feed; cmd = cmd; reply = reply } ∷ [] → IsJournalOf new more
+pub IsJournalOf-push : (old new : TableState) (journal more : List Entry) (feed : ℕ) (cmd : Cmd) (reply : Reply) → IsFeed feed → IsJournalOf old journal
+    → Serves old new feed cmd reply → more ≡ journal ++ record { feed = feed; cmd = cmd; reply = reply } ∷ [] → IsJournalOf new more
 IsJournalOf-push old new journal more feed cmd reply is_feed h serves is =
     let e : Entry = record { feed = feed; cmd = cmd; reply = reply } in
-    let answered : reply ≡ reply_of old.limit (table_of_journal old.limit journal) feed cmd = serves.replied ∙ ap (λ t. reply_of old.limit t feed cmd) h.routes in
+    let answered : reply ≡ reply_of old.limit (table_of_journal old.limit journal) feed cmd =
+    serves.replied ∙ ap (λ t. reply_of old.limit t feed cmd) h.routes in
     let next : IsJournalOf (record { limit = old.limit; routes = table_after old.limit old.routes feed cmd }) (journal ++ e ∷ []) = record {
       feeds = All-push (λ x. IsFeed x.feed) journal e h.feeds is_feed;
       lawful = IsLawfulJournal-push old.limit journal e h.lawful answered;
@@ -125,5 +137,6 @@ IsJournalOf-push old new journal more feed cmd reply is_feed h serves is =
     rw (serves.changed, is) next
 
 -- a trie that holds the table's routes holds those that the journal leaves
-pub holds_table : (t : StoredTable) (journal : List Entry) → HoldsRoutes t.trie t.routes → IsJournalOf (table_state t) journal → HoldsRoutes t.trie (table_of_journal t.limit journal)
+pub holds_table : (t : StoredTable) (journal : List Entry) → HoldsRoutes t.trie t.routes → IsJournalOf (table_state t) journal
+    → HoldsRoutes t.trie (table_of_journal t.limit journal)
 holds_table t journal holds h = subst (HoldsRoutes t.trie) h.routes holds

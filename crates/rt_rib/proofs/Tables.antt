@@ -42,7 +42,8 @@ module _ (r : Route) (t : List Route) (fresh : has r.feed r.prefix t ≡ false) 
   ordered_put_in : AllPairs Ordered t → AllPairs Ordered (put_in r t)
   ordered_put_in =
       AllPairs-put precedes precedes-trans r t
-      (All-weaker (λ s. is_of r.feed r.prefix s ≡ false) (λ s. precedes s r ≡ false → precedes r s ≡ true) (λ s other late. precedes-other r s late other) t others)
+      (All-weaker (λ s. is_of r.feed r.prefix s ≡ false) (λ s. precedes s r ≡ false → precedes r s ≡ true)
+      (λ s other late. precedes-other r s late other) t others)
 
   -- none of those before is of the feed and prefix of one behind
   apart_across : AllPairs Apart t → All (λ s. All (Apart s) (r ∷ after_it)) before_it

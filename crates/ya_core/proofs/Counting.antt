@@ -15,7 +15,8 @@ use Rattle.ya_core.specs.Steps.{access_of, entry_access, exit_access, next_of, e
 use Rattle.ya_core.specs.Soundness.{IsProper}
 use Rattle.ya_core.proofs.Properness.{either, proper_next, within_access}
 use Rattle.ya_core.proofs.DueAccess.{due_is}
-use Rattle.ya_core.specs.WalkerModel.{MayFind, WalkLeadsTo, AccessIsWithin, Walk, IsWalk, walk, walk_after, MovesOn, budget, due, CountIsKept, due_of, MayBeTold, budget_of, points_of, cost_of, cost_of_word, is_waiting, entry_points, exit_points, entry_cost}
+use Rattle.ya_core.specs.WalkerModel.{MayFind, WalkLeadsTo, AccessIsWithin, Walk, IsWalk, walk, walk_after, MovesOn, budget, due, CountIsKept, due_of}
+use Rattle.ya_core.specs.WalkerModel.{MayBeTold, budget_of, points_of, cost_of, cost_of_word, is_waiting, entry_points, exit_points, entry_cost}
 use Rattle.ya_core.specs.inside.WalkerModel.{DueIsWithin}
 
 -- what is still ahead of a process that won a level, and what remote accesses can still cost it

@@ -1,6 +1,7 @@
 -- Examples by which definitions are tested, each under a line with the definition's name. Both sides are computed, and
 -- what a relation or a law says is spelled out for some values.
-use Rattle.std.proofs.Common.{◌≡◌, ◌≢◌, ℕ, zero, suc, ◌+◌, ◌^◌, ◌<◌, ◌≤◌, Bool, true, false, if◌then◌else◌, List, [], ◌∷◌, ◌++◌, ◌==◌, ◌&&◌, Some, None, inl, inr, map, refl, ap, sym, subst, ◌∙◌, arith}
+use Rattle.std.proofs.Common.{◌≡◌, ◌≢◌, ℕ, zero, suc, ◌+◌, ◌^◌, ◌<◌, ◌≤◌, Bool, true, false, if◌then◌else◌, List, [], ◌∷◌, ◌++◌, ◌==◌, ◌&&◌, Some, None}
+use Rattle.std.proofs.Common.{inl, inr, map, refl, ap, sym, subst, ◌∙◌, arith}
 use Rattle.std.specs.Prelude.{Option}
 use Rattle.std.proofs.lemmas.Bool.{false_from_ne_true, eq-eqb, eqb-true, ne_eqb, and_from, and_parts}
 use Rattle.ya_core.specs.declared.word.Word.{Word}
@@ -13,12 +14,18 @@ use Rattle.ya_core.specs.declared.process.Process.{Process}
 use Rattle.ya_core.specs.declared.process.Process.TheVariants.{Idle, Entering, Inside, Leaving}
 use Rattle.ya_core.specs.ArbitrationTree.{node_of, side_of, nodes_below, number_of, count_of_words, HasShape, Rivals, AreRivals, IsWord}
 use Rattle.ya_core.specs.FlatRow.{is_word, words_of, row_state}
-use Rattle.ya_core.specs.Steps.{State, StepsTo, LeadTo, Accesses, opening, entry_access, exit_access, access_of, won, after_exit, entry_next, exit_next, next_of, value_of}
-use Rattle.ya_core.specs.WalkerModel.{walk, due_of, due, CanStand, cost_of_word, cost_of, walk_after, MayFind, MayBeTold, WalkLeadsTo, BeginsEntry, BeginsExit, Walk, FitsAccess, FitsDue, IsStore, op_of_access, op_at_rest, op_of_due, op_of, entry_ahead, entry_points, entry_cost, exit_points, budget_of, budget, points_of, points_ahead, is_waiting, MovesOn, allowance, CountIsKept, IsWalk, OpIsWithin, AccessIsWithin}
-use Rattle.ya_core.specs.Progress.{SomeoneGoesOn, CanLeadTo, SomeoneGoesOnIn, Announces, Wins, Neither, is_entering, is_to_announce, deed_of, announces, LevelStep, LevelSees, HasNotWon, is_rival, is_win, times_overtaken}
+use Rattle.ya_core.specs.Steps.{State, StepsTo, LeadTo, Accesses, opening, entry_access, exit_access, access_of, won, after_exit, entry_next, exit_next}
+use Rattle.ya_core.specs.Steps.{next_of, value_of}
+use Rattle.ya_core.specs.WalkerModel.{walk, due_of, due, CanStand, cost_of_word, cost_of, walk_after, MayFind, MayBeTold, WalkLeadsTo, BeginsEntry}
+use Rattle.ya_core.specs.WalkerModel.{BeginsExit, Walk, FitsAccess, FitsDue, IsStore, op_of_access, op_at_rest, op_of_due, op_of, entry_ahead}
+use Rattle.ya_core.specs.WalkerModel.{entry_points, entry_cost, exit_points, budget_of, budget, points_of, points_ahead, is_waiting, MovesOn, allowance}
+use Rattle.ya_core.specs.WalkerModel.{CountIsKept, IsWalk, OpIsWithin, AccessIsWithin}
+use Rattle.ya_core.specs.Progress.{SomeoneGoesOn, CanLeadTo, SomeoneGoesOnIn, Announces, Wins, Neither, is_entering, is_to_announce, deed_of, announces}
+use Rattle.ya_core.specs.Progress.{LevelStep, LevelSees, HasNotWon, is_rival, is_win, times_overtaken}
 use Rattle.ya_core.specs.Fairness.{PickLeadsTo, IsRunOfSchedule, IsFair, PicksEachAgain, Eventually, is_on_way_in, is_on_way_out}
 use Rattle.ya_core.specs.PassageCounts.{cost_of_pick, remote_accesses}
-use Rattle.ya_core.specs.Worlds.{Marked, World, Event, Steps, Appends, WorldSteps, WorldAppends, IsInside, IsReached, Runs, Happens, any_entry, is_inside, opening_world, entries_of, TellsInside, places_of, FollowsFrom, EachMayFollow}
+use Rattle.ya_core.specs.Worlds.{Marked, World, Event, Steps, Appends, WorldSteps, WorldAppends, IsInside, IsReached, Runs, Happens, any_entry, is_inside}
+use Rattle.ya_core.specs.Worlds.{opening_world, entries_of, TellsInside, places_of, FollowsFrom, EachMayFollow}
 use Rattle.ya_core.specs.RealTime.{KeepsRealTimeOrder}
 use Rattle.ya_core.proofs.Content.{entries_of-marked_other}
 use Rattle.std.specs.Prelude.{IsTrue, ◌⊎◌, ◌||◌, ◌↔◌, ◌-◌, length}
@@ -27,7 +34,10 @@ use Rattle.ya_core.specs.declared.process.ExitPoint.{ExitPoint}
 use Rattle.ya_core.specs.declared.walker.Op.TheVariants as op
 use Rattle.ya_core.specs.declared.step.Mark.TheVariants as mark
 use Rattle.ya_core.specs.declared.step.Step.{Step}
-use Rattle.ya_core.specs.Soundness.{Phase, Away, Named, Announced, Waiting, Holding, Releasing, LettingIn, entry_phase, exit_phase, phase_at, phase_of, claims, has_announced, waits, holds, is_releasing, awaits_wake, saw_itself_last, was_woken, awaits_release, is_to_wake, wakes_next, is_to_let_in, IsSoundLevel, SomeRival, IsOwed, IsSoundAt, IsOwedAt, EntryIsProper, ExitIsProper, IsOnItsWay, IsProper, IsSoundState}
+use Rattle.ya_core.specs.Soundness.{Phase, Away, Named, Announced, Waiting, Holding, Releasing, LettingIn, entry_phase, exit_phase, phase_at, phase_of}
+use Rattle.ya_core.specs.Soundness.{claims, has_announced, waits, holds, is_releasing, awaits_wake, saw_itself_last, was_woken, awaits_release, is_to_wake}
+use Rattle.ya_core.specs.Soundness.{wakes_next, is_to_let_in, IsSoundLevel, SomeRival, IsOwed, IsSoundAt, IsOwedAt, EntryIsProper, ExitIsProper}
+use Rattle.ya_core.specs.Soundness.{IsOnItsWay, IsProper, IsSoundState}
 use Rattle.ya_core.specs.Machines.{Rows, processes_of, state_of, word_of, is_store, mark_of, step_by, step_of, ReplaysTo, Replays}
 
 -- node_of
@@ -906,7 +916,8 @@ a_step_or_nothing old new = (λ h. h, λ h. h)
 the_run_of_place_0 : IsRunOfSchedule 1 (λ time. Some 0) opening alone
 the_run_of_place_0 = record {
   start = refl;
-  picks = λ time. subst (λ next. StepsTo 1 0 (alone time) (alone next)) (let next : suc time ≡ time + 1 = omega arith in next) (steps_to 1 0 (alone time) (omega arith));
+  picks = λ time. subst (λ next. StepsTo 1 0 (alone time) (alone next)) (let next : suc time ≡ time + 1 = omega arith in next)
+      (steps_to 1 0 (alone time) (omega arith));
 }
 
 each_step_counts : ¬ IsRunOfSchedule 1 (λ time. Some 0) opening (λ time. opening)
@@ -990,7 +1001,8 @@ place_0_has_passed (suc time) = place_0_has_passed time
 the_run_of_a_program_that_ends : IsRunOfSchedule 1 one_passage opening passing
 the_run_of_a_program_that_ends = record {
   start = refl;
-  picks = λ time. subst (λ next. PickLeadsTo 1 (one_passage time) (passing time) (passing next)) (let next : suc time ≡ time + 1 = omega arith in next) (goes_by_pick (is_passing time) (passing time));
+  picks = λ time. subst (λ next. PickLeadsTo 1 (one_passage time) (passing time) (passing next)) (let next : suc time ≡ time + 1 = omega arith in next)
+      (goes_by_pick (is_passing time) (passing time));
 }
 
 -- IsFair
@@ -1250,7 +1262,25 @@ both_make_an_entry : (world : World ℕ) × IsReached 1 any_entry one_after_the_
 unfolding node_of side_of
 both_make_an_entry = (
   follow 1 one_after_the_other opening_world,
-  runs 1 any_entry one_after_the_other opening_world (omega arith, (omega arith, (omega arith, (omega arith, ((refl, tt), (omega arith, (omega arith, (omega arith, (omega arith, (omega arith, (omega arith, ((refl, tt), (omega arith, (omega arith, tt)))))))))))))),
+  runs 1 any_entry one_after_the_other opening_world (
+    omega arith,
+    (
+      omega arith,
+      (
+        omega arith,
+        (
+          omega arith,
+          (
+            (refl, tt),
+            (
+              omega arith,
+              (omega arith, (omega arith, (omega arith, (omega arith, (omega arith, ((refl, tt), (omega arith, (omega arith, tt)))))))),
+            ),
+          ),
+        ),
+      ),
+    ),
+  ),
   refl,
 )
 
@@ -1258,7 +1288,49 @@ both_make_an_entry_where_they_compete : (world : World ℕ) × IsReached 1 any_e
 unfolding node_of side_of
 both_make_an_entry_where_they_compete = (
   follow 1 both_compete opening_world,
-  runs 1 any_entry both_compete opening_world (omega arith, (omega arith, (omega arith, (omega arith, (omega arith, (omega arith, (omega arith, (omega arith, (omega arith, ((refl, tt), (omega arith, (omega arith, (omega arith, (omega arith, (omega arith, (omega arith, (omega arith, (omega arith, (omega arith, (omega arith, ((refl, tt), (omega arith, (omega arith, tt))))))))))))))))))))))),
+  runs 1 any_entry both_compete opening_world (
+    omega arith,
+    (
+      omega arith,
+      (
+        omega arith,
+        (
+          omega arith,
+          (
+            omega arith,
+            (
+              omega arith,
+              (
+                omega arith,
+                (
+                  omega arith,
+                  (
+                    omega arith,
+                    (
+                      (refl, tt),
+                      (
+                        omega arith,
+                        (
+                          omega arith,
+                          (
+                            omega arith,
+                            (
+                              omega arith,
+                              (omega arith, (omega arith, (omega arith, (omega arith, (omega arith, (omega arith, ((refl, tt), (omega arith, (omega arith, tt))))))))),
+                            ),
+                          ),
+                        ),
+                      ),
+                    ),
+                  ),
+                ),
+              ),
+            ),
+          ),
+        ),
+      ),
+    ),
+  ),
   refl,
 )
 

@@ -8,7 +8,8 @@ use Rattle.rt_rib.proofs.MapMatches.{look_up_all-backward}
 use Rattle.rt_rib.proofs.lookups.all_of.Goals as goal
 
 -- one prefix more
-gone_down : (done more all : List Route) (ahead rest : Map) (p : Prefix) (offers same : List Offer) → routes_backward ahead ++ done ≡ all → ahead ≡ (p, offers) ∷ rest → same ≡ offers → more ≡ map (route_by p) same ++ done → routes_backward rest ++ more ≡ all
+gone_down : (done more all : List Route) (ahead rest : Map) (p : Prefix) (offers same : List Offer) → routes_backward ahead ++ done ≡ all
+    → ahead ≡ (p, offers) ∷ rest → same ≡ offers → more ≡ map (route_by p) same ++ done → routes_backward rest ++ more ≡ all
 gone_down done more all ahead rest p offers same before first is appended =
     ap (λ l. routes_backward rest ++ l) appended ∙ ap (λ o. routes_backward rest ++ (map (route_by p) o ++ done)) is
     ∙ sym (append_assoc (routes_backward rest) (map (route_by p) offers) done) ∙ ap (λ m. routes_backward m ++ done) (sym first) ∙ before
@@ -18,7 +19,8 @@ loop-prefix-init g c = search rules
 
 pub loop-prefix-preserved : goal.loop-prefix-preserved
 loop-prefix-preserved g c =
-    gone_down (reverse c.loop-prefix.routes.items) (reverse c.append_backward.new.routes.items) _ c.loop-prefix.prefix-iterator c.next.new.self c.in-Some.prefix c.in-Some.offers.now c.as_slice.result.now
+    gone_down (reverse c.loop-prefix.routes.items) (reverse c.append_backward.new.routes.items) _ c.loop-prefix.prefix-iterator c.next.new.self
+    c.in-Some.prefix c.in-Some.offers.now c.as_slice.result.now
     c.loop-prefix.invariant c.in-Some.ensures.steps c.as_slice.ensures.offers c.in_ok-append_backward.ensures
 
 pub returns : goal.returns

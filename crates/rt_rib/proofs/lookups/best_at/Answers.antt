@@ -9,4 +9,5 @@ returns-in-None g c = λ m addr h longest. sym (look_up-none c.map_laws.ensures 
 pub returns-in-Some : goal.returns-in-Some
 returns-in-Some g c = λ m addr h longest.
     ap Some c.route_by.ensures
-    ∙ sym (look_up-first c.map_laws.ensures m h addr c.in-Some.prefix c.in-Some.offers.now c.as_slice.result.now _ c.as_slice.ensures.offers c.as_slice.ensures.lawful.some (subst (λ o. IsLongest m addr (pair_copied o)) c.in-Some.is longest))
+    ∙ sym (look_up-first c.map_laws.ensures m h addr c.in-Some.prefix c.in-Some.offers.now c.as_slice.result.now _ c.as_slice.ensures.offers
+    c.as_slice.ensures.lawful.some (subst (λ o. IsLongest m addr (pair_copied o)) c.in-Some.is longest))

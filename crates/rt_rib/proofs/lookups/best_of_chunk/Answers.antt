@@ -1,4 +1,5 @@
-use Rattle.std.proofs.Common.{◌≡◌, ℕ, ◌+◌, ◌-◌, ◌<◌, ◌≤◌, List, ◌++◌, length, take, drop, set, get_or, Option, None, inl, inr, sym, subst, ◌∙◌, arith, length-set, get_or-set_same, get_or-set_other}
+use Rattle.std.proofs.Common.{◌≡◌, ℕ, ◌+◌, ◌-◌, ◌<◌, ◌≤◌, List, ◌++◌, length, take, drop, set, get_or, Option, None, inl, inr, sym, subst, ◌∙◌, arith}
+use Rattle.std.proofs.Common.{length-set, get_or-set_same, get_or-set_other}
 use Rattle.std.specs.Borrow.{Bor}
 use Rattle.std.proofs.lemmas.Bool.{cases_lt}
 use Rattle.std.proofs.lemmas.List.{get_or-take, get_or-drop, get_or_append_left, get_or_default, length-drop, length-take-le}
@@ -11,11 +12,15 @@ use Rattle.rt_rib.specs.inside.Maps.{route_at}
 use Rattle.rt_rib.proofs.lookups.best_of_chunk.Goals as goal
 
 -- what is read of the answers to a part of the addresses
-longest_at : {V : Type 0} (m : Pairs V) (addresses : List Addr) (start size k : ℕ) (answers rest : List (Option (Prefix × Bor V))) (d : Option (Prefix × Bor V)) → start + size ≤ length addresses → k < size → length answers ≡ size → AreLongest m (take (start + size - start) (drop start addresses)) answers → IsLongest m (address_at addresses (start + k)) (pair_copied (get_or (answers ++ rest) k d))
+longest_at : {V : Type 0} (m : Pairs V) (addresses : List Addr) (start size k : ℕ) (answers rest : List (Option (Prefix × Bor V)))
+    (d : Option (Prefix × Bor V)) → start + size ≤ length addresses → k < size → length answers ≡ size
+    → AreLongest m (take (start + size - start) (drop start addresses)) answers
+    → IsLongest m (address_at addresses (start + k)) (pair_copied (get_or (answers ++ rest) k d))
 longest_at m addresses start size k answers rest d within l long are =
     let same : start + size - start ≡ size = omega arith in
     let some = length-take-le (start + size - start) (drop start addresses) (omega (arith, length-drop start addresses)) ∙ same in
-    let address = get_or-take (start + size - start) (drop start addresses) k (record { 0 = 0 }) (omega (arith, same)) ∙ get_or-drop start addresses k (record { 0 = 0 }) in
+    let address = get_or-take (start + size - start) (drop start addresses) k (record { 0 = 0 }) (omega (arith, same))
+    ∙ get_or-drop start addresses k (record { 0 = 0 }) in
     let answer = get_or_append_left answers rest d k (omega (arith, long)) ∙ get_or_default answers k d None (omega (arith, long)) in
     subst (λ o. IsLongest m (address_at addresses (start + k)) (pair_copied o)) (sym answer)
     (subst (λ a. IsLongest m a (answer_at answers k)) address (are k (omega (arith, some))))
@@ -29,7 +34,8 @@ loop-k-preserved g c =
     let addresses = c.args.addresses.now in
     let answers = c.loop-k.answers in
     let answer = c.best_at.result in
-    let longest = longest_at m addresses start c.args.size k c.longest_many.new.answers _ c.index-longest-k.result c.requires.within c.loop-k-test.true (c.longest_many.auto.answers ∙ length-take-le c.args.size _ c.requires.chunk) c.longest_many.ensures in
+    let longest = longest_at m addresses start c.args.size k c.longest_many.new.answers _ c.index-longest-k.result c.requires.within c.loop-k-test.true
+    (c.longest_many.auto.answers ∙ length-take-le c.args.size _ c.requires.chunk) c.longest_many.ensures in
     let here = c.best_at.ensures m (address_at addresses (start + k)) c.requires.map longest in
     record {
       each = λ j h. elim (cases_lt j k) [

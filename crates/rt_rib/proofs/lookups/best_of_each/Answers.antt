@@ -19,7 +19,8 @@ loop-start-preserved g c =
         | inl lt ↦ c.best_of_chunk.ensures.rest k lt ∙ i.each k lt
         | inr ge ↦
             let e : start + (k - start) ≡ k = omega arith in
-            subst (λ n. route_at answers n ≡ look_up (address_at addresses n) (routes_of c.args.trie.now.pairs)) e (c.best_of_chunk.ensures.each (k - start) (omega arith))
+            subst (λ n. route_at answers n ≡ look_up (address_at addresses n) (routes_of c.args.trie.now.pairs)) e
+            (c.best_of_chunk.ensures.each (k - start) (omega arith))
       ];
       within = omega arith;
       long = c.best_of_chunk.auto.answers ∙ i.long;

@@ -6,8 +6,11 @@ use Rattle.rt_rib.proofs.MapRoutes.{has-is}
 use Rattle.rt_rib.proofs.map.has.Goals as goal
 
 pub returns-in-None : goal.returns-in-None
-returns-in-None g c = sym (has-is c.map_laws.ensures c.args.map.now.pairs c.requires c.args.feed c.args.prefix ∙ ap (λ o. list_any (is_from c.args.feed) (offers_in o)) (sym c.in-None.ensures))
+returns-in-None g c =
+    sym (has-is c.map_laws.ensures c.args.map.now.pairs c.requires c.args.feed c.args.prefix
+    ∙ ap (λ o. list_any (is_from c.args.feed) (offers_in o)) (sym c.in-None.ensures))
 
 pub returns-in-Some : goal.returns-in-Some
 returns-in-Some g c =
-    c.has.ensures ∙ sym (has-is c.map_laws.ensures c.args.map.now.pairs c.requires c.args.feed c.args.prefix ∙ ap (λ o. list_any (is_from c.args.feed) (offers_in o)) (sym c.in-Some.ensures))
+    c.has.ensures ∙ sym (has-is c.map_laws.ensures c.args.map.now.pairs c.requires c.args.feed c.args.prefix
+    ∙ ap (λ o. list_any (is_from c.args.feed) (offers_in o)) (sym c.in-Some.ensures))

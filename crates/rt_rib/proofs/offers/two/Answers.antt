@@ -16,5 +16,6 @@ returns-clause-ranked g c =
     let items : c.in_ok-new.field-0.value.items ≡ c.if-comes_before.offers = ap (λ v. v.items) c.in_ok-new.ensures.ok ∙ c.in_ok-offers.ensures.items in
     elim c.if-comes_before.branch [
       | then-comes_before w ↦ rw (items, w.offers-is) (IsRanked-behind c.args.one c.args.other c.requires (sym c.comes_before.ensures ∙ w.if-comes_before.true))
-      | else-comes_before w ↦ rw (items, w.offers-is) (IsRanked-before c.args.one c.args.other c.requires (sym c.comes_before.ensures ∙ w.if-comes_before.false))
+      | else-comes_before w ↦ rw (items, w.offers-is)
+          (IsRanked-before c.args.one c.args.other c.requires (sym c.comes_before.ensures ∙ w.if-comes_before.false))
     ]

@@ -7,4 +7,5 @@ returns-clause-gone g c =
 
 pub returns-clause-map : goal.returns-clause-map
 returns-clause-map g c =
-    purged_map c.map_laws.ensures _ c.retain.new.sieve c.args.map.now.pairs c.retain.new.self.pairs c.retain.ensures.sifted c.requires.map c.retain.ensures.ordered
+    purged_map c.map_laws.ensures _ c.retain.new.sieve c.args.map.now.pairs c.retain.new.self.pairs c.retain.ensures.sifted c.requires.map
+    c.retain.ensures.ordered

@@ -5,7 +5,8 @@ use Rattle.rt_rib.proofs.book.Book.apply.Goals as goal
 
 pub invariant_of-self-2 : goal.invariant_of-self-2
 invariant_of-self-2 g c =
-    IsJournalOf-push (table_state c.self.inside.table) (table_state c.apply.new.self) c.self.inside.journal.items c.push_reserved.new.self.items c.args.feed c.args.cmd c.in_ok-reply.reply
+    IsJournalOf-push (table_state c.self.inside.table) (table_state c.apply.new.self) c.self.inside.journal.items c.push_reserved.new.self.items
+    c.args.feed c.args.cmd c.in_ok-reply.reply
     c.requires c.self.invariant c.in_ok-reply.ensures.ok (rw c.in_ok-try_reserve.ensures.items at c.push_reserved.ensures.items)
 
 pub returns-clause-holds : goal.returns-clause-holds

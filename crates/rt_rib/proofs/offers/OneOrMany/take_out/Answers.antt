@@ -17,7 +17,11 @@ pub returns-else-len-eq1-clause-taken : goal.returns-else-len-eq1-clause-taken
 returns-else-len-eq1-clause-taken g c =
     let others = rw c.deref_mut.ensures.value at (c.if-not-take_among.ensures.others refl) in
     let fewer = rw c.deref_mut.ensures.value at (c.if-not-take_among.ensures.fewer refl) in
-    rw c.in-Many.is (others, sym (rw c.deref_mut.ensures.value at c.if-not-take_among.ensures.had), omega (arith, fewer, c.take_among.new.offers.ok.0, c.in-Many.offers.value.ok.0))
+    rw c.in-Many.is (
+      others,
+      sym (rw c.deref_mut.ensures.value at c.if-not-take_among.ensures.had),
+      omega (arith, fewer, c.take_among.new.offers.ok.0, c.in-Many.offers.value.ok.0),
+    )
 
 pub returns-then-offer-feed-clause-taken : goal.returns-then-offer-feed-clause-taken
 returns-then-offer-feed-clause-taken g c = search rules

@@ -17,14 +17,18 @@ returns-then-has-clause-ok g c =
 
 pub returns-then-self-own-clause-ok : goal.returns-then-self-own-clause-ok
 returns-then-self-own-clause-ok g c =
-    let own = AreCounts-own c.self.inside.limit c.self.inside.counts (routes_of c.self.inside.map.pairs) c.args.route.feed c.self.invariant.counted c.requires in
-    rw (← c.self.view_is) (full c.self.inside.limit (routes_of c.self.inside.map.pairs) c.args.route (sym c.has.ensures ∙ c.if-has.false) (rw own at c.if-self-own.true))
+    let own = AreCounts-own c.self.inside.limit c.self.inside.counts (routes_of c.self.inside.map.pairs) c.args.route.feed c.self.invariant.counted
+    c.requires in
+    rw (← c.self.view_is)
+    (full c.self.inside.limit (routes_of c.self.inside.map.pairs) c.args.route (sym c.has.ensures ∙ c.if-has.false) (rw own at c.if-self-own.true))
 
 pub put_in-requires : goal.put_in-requires
 put_in-requires g c = c.self.invariant.map
 
 pub invariant_of-self : goal.invariant_of-self
-invariant_of-self g c = kept_counted c.self.inside.limit c.self.inside.counts c.self.inside.map.pairs c.put_in.new.map.pairs c.self.invariant (ap (λ (m : OfferTrie). m.pairs) c.in_err-put_in.ensures.refused)
+invariant_of-self g c =
+    kept_counted c.self.inside.limit c.self.inside.counts c.self.inside.map.pairs c.put_in.new.map.pairs c.self.invariant
+    (ap (λ (m : OfferTrie). m.pairs) c.in_err-put_in.ensures.refused)
 
 pub returns-in_err-put_in-clause-err : goal.returns-in_err-put_in-clause-err
 returns-in_err-put_in-clause-err g c =
@@ -35,10 +39,14 @@ returns-in_err-put_in-clause-err g c =
 pub returns-in_err-put_in-clause-wanted : goal.returns-in_err-put_in-clause-wanted
 returns-in_err-put_in-clause-wanted g c =
     err_from c.from_residual.result
-    (rw (← c.self.view_is) (to_be_added c.self.inside.limit c.self.inside.counts c.self.inside.map.pairs c.self.invariant c.self.told c.args.route c.requires c.in_err-put_in.ensures.wanted c.if-self-own.false))
+    (rw (← c.self.view_is)
+    (to_be_added c.self.inside.limit c.self.inside.counts c.self.inside.map.pairs c.self.invariant c.self.told c.args.route c.requires
+    c.in_err-put_in.ensures.wanted c.if-self-own.false))
 
 pub invariant_of-self-then-branch : goal.invariant_of-self-then-branch
-invariant_of-self-then-branch g c = kept_counted c.self.inside.limit c.self.inside.counts c.self.inside.map.pairs c.put_in.new.map.pairs c.self.invariant (c.in_ok-put_in.ensures.kept c.if-branch.true)
+invariant_of-self-then-branch g c =
+    kept_counted c.self.inside.limit c.self.inside.counts c.self.inside.map.pairs c.put_in.new.map.pairs c.self.invariant
+    (c.in_ok-put_in.ensures.kept c.if-branch.true)
 
 pub returns-then-branch-clause-ok : goal.returns-then-branch-clause-ok
 returns-then-branch-clause-ok g c =
@@ -49,10 +57,12 @@ returns-then-branch-clause-ok g c =
 pub invariant_of-self-2 : goal.invariant_of-self-2
 invariant_of-self-2 g c =
     added_counted c.self.inside.limit c.self.inside.counts c.self.inside.map.pairs c.self.invariant c.self.told
-    c.args.route c.requires (sym c.in_ok-put_in.ensures.had ∙ c.if-branch.false) c.if-self-own.false c.put_in.new.map.pairs c.put_in.ensures.map (c.in_ok-put_in.ensures.more c.if-branch.false)
+    c.args.route c.requires (sym c.in_ok-put_in.ensures.had ∙ c.if-branch.false) c.if-self-own.false c.put_in.new.map.pairs c.put_in.ensures.map
+    (c.in_ok-put_in.ensures.more c.if-branch.false)
 
 pub returns-clause-ok : goal.returns-clause-ok
 returns-clause-ok g c =
     rw (← c.self.view_is)
     (added_serves c.self.inside.limit c.self.inside.counts c.self.inside.map.pairs c.self.invariant c.self.told
-    c.args.route c.requires (sym c.in_ok-put_in.ensures.had ∙ c.if-branch.false) c.if-self-own.false c.put_in.new.map.pairs c.put_in.ensures.map (c.in_ok-put_in.ensures.more c.if-branch.false))
+    c.args.route c.requires (sym c.in_ok-put_in.ensures.had ∙ c.if-branch.false) c.if-self-own.false c.put_in.new.map.pairs c.put_in.ensures.map
+    (c.in_ok-put_in.ensures.more c.if-branch.false))

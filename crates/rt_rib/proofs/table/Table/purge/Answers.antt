@@ -7,7 +7,8 @@ pub purge-requires-clause-map : goal.purge-requires-clause-map
 purge-requires-clause-map g c = c.self.invariant.map
 
 pub purge-requires-clause-count : goal.purge-requires-clause-count
-purge-requires-clause-count g c = AreCounts-own c.self.inside.limit c.self.inside.counts (routes_of c.self.inside.map.pairs) c.args.feed c.self.invariant.counted c.requires
+purge-requires-clause-count g c =
+    AreCounts-own c.self.inside.limit c.self.inside.counts (routes_of c.self.inside.map.pairs) c.args.feed c.self.invariant.counted c.requires
 
 pub invariant_of-self : goal.invariant_of-self
 invariant_of-self g c =

@@ -5,7 +5,8 @@ use Rattle.rt_rib.proofs.CommandCases.{unreplaced, replaced}
 use Rattle.rt_rib.proofs.table.Table.replace.Goals as goal
 
 pub invariant_of-self : goal.invariant_of-self
-invariant_of-self g c = kept_counted c.self.inside.limit c.self.inside.counts c.self.inside.map.pairs c.replace.new.map.pairs c.self.invariant (c.if-not-replace.ensures.kept refl)
+invariant_of-self g c =
+    kept_counted c.self.inside.limit c.self.inside.counts c.self.inside.map.pairs c.replace.new.map.pairs c.self.invariant (c.if-not-replace.ensures.kept refl)
 
 pub returns-then-not-replace : goal.returns-then-not-replace
 returns-then-not-replace g c = rw (← c.self.view_is)
@@ -20,4 +21,5 @@ invariant_of-self-2 g c =
 pub returns : goal.returns
 returns g c =
     rw (← c.self.view_is)
-    (replaced c.self.inside.limit (routes_of c.self.inside.map.pairs) c.args.route (sym c.if-not-replace.ensures.had) (routes_of c.replace.new.map.pairs) (c.if-not-replace.ensures.replaced refl))
+    (replaced c.self.inside.limit (routes_of c.self.inside.map.pairs) c.args.route (sym c.if-not-replace.ensures.had) (routes_of c.replace.new.map.pairs)
+    (c.if-not-replace.ensures.replaced refl))
