@@ -184,38 +184,25 @@ fn builds_a_short_text_from_its_back(rt: HostRuntime) {
     assert_same(&rt, "filled", text.as_bytes().len(), SHORT_TEXT_BYTES);
 }
 
-/// Addresses, and whether 192.0.2.128/25 covers them.
-static COVERED: [(&str, bool); 4] = [
-    ("192.0.2.127", false),
-    ("192.0.2.128", true),
-    ("192.0.2.255", true),
-    ("192.0.3.0", false),
+/// Addresses, prefixes that begin at them, and whether 192.0.2.128/25 covers and contains them.
+static WITHIN: [(&str, &str, bool); 7] = [
+    ("192.0.2.128", "192.0.2.128/25", true),
+    ("192.0.2.128", "192.0.2.128/26", true),
+    ("192.0.2.255", "192.0.2.255/32", true),
+    ("192.0.2.0", "192.0.2.0/24", false),
+    ("192.0.2.0", "192.0.2.0/25", false),
+    ("192.0.2.127", "192.0.2.127/32", false),
+    ("192.0.3.0", "192.0.3.0/32", false),
 ];
 
 #[test]
-fn covers_addresses(rt: HostRuntime) {
+fn covers_addresses_and_contains_prefixes(rt: HostRuntime) {
     let block = parse_prefix(&rt, "192.0.2.128/25");
-    for (address, is_covered) in COVERED.iter() {
+    for (address, other, is_within) in WITHIN.iter() {
         let covers = block.covers(parse_address(&rt, address));
-        assert_same(&rt, address, covers, *is_covered);
-    }
-}
-
-/// Prefixes, and whether 192.0.2.128/25 contains them.
-static CONTAINED: [(&str, bool); 5] = [
-    ("192.0.2.128/25", true),
-    ("192.0.2.128/26", true),
-    ("192.0.2.255/32", true),
-    ("192.0.2.0/24", false),
-    ("192.0.2.0/25", false),
-];
-
-#[test]
-fn contains_prefixes(rt: HostRuntime) {
-    let block = parse_prefix(&rt, "192.0.2.128/25");
-    for (other, is_contained) in CONTAINED.iter() {
+        assert_same(&rt, address, covers, *is_within);
         let contains = block.contains(&parse_prefix(&rt, other));
-        assert_same(&rt, other, contains, *is_contained);
+        assert_same(&rt, other, contains, *is_within);
     }
 }
 
@@ -496,21 +483,22 @@ fn piece(number: u32) -> [u8; 10] {
     [(number % 256) as u8; 10]
 }
 
-/// Puts 20,000 pieces into the writer, and behind one another into the list.
-fn put_pieces(rt: &impl Abort, w: &mut impl Write, wanted: &mut Vec<u8>) {
+/// Puts 20,000 pieces into the writer: what they are behind one another.
+fn put_pieces(rt: &impl Abort, alloc: Global, w: &mut impl Write) -> Vec<u8> {
+    let mut wanted = Vec::new(alloc);
     for i in 0u32..20_000 {
         put(w, &piece(i)).expect(rt, "no fault");
         wanted.extend_from_slice(&piece(i)).expect(rt, "memory");
     }
+    wanted
 }
 
 /// Fails where an `OutputBuffer` passes on each piece by itself, or holds more than its 64 KB.
 #[test]
 fn gathers_pieces_into_few_large_writes(rt: HostRuntime) {
     let mut writer = UnflushedWriter::new(rt.alloc());
-    let mut wanted = Vec::new(rt.alloc());
     let mut buffer = OutputBuffer::new(&mut writer, room(&rt, rt.alloc()));
-    put_pieces(&rt, &mut buffer, &mut wanted);
+    let _ = put_pieces(&rt, rt.alloc(), &mut buffer);
     let _ = buffer.into_writer();
     assert_same(&rt, "calls", writer.calls, 3);
 }
@@ -519,9 +507,8 @@ fn gathers_pieces_into_few_large_writes(rt: HostRuntime) {
 #[test]
 fn gathers_what_is_held_before_a_long_text(rt: HostRuntime) {
     let mut writer = UnflushedWriter::new(rt.alloc());
-    let mut wanted = Vec::new(rt.alloc());
     let mut buffer = OutputBuffer::new(&mut writer, room(&rt, rt.alloc()));
-    put_pieces(&rt, &mut buffer, &mut wanted);
+    let wanted = put_pieces(&rt, rt.alloc(), &mut buffer);
     buffer.flush().expect(&rt, "no fault");
     put_whole(&rt, &mut buffer, b"held");
     put_whole(&rt, &mut buffer, wanted.as_slice());

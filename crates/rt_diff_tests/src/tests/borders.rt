@@ -25,11 +25,23 @@ fn range(first: Addr, last: Addr, old: Answer, new: Answer) -> Difference {
     }
 }
 
+/// Two books, each with this route.
+fn alike(
+    rt: &impl Abort,
+    alloc: Global,
+    base: Addr,
+    len: u8,
+    hop: Hop,
+) -> (Book<Global>, Book<Global>) {
+    let (mut old, mut new) = (Book::new(alloc, 9), Book::new(alloc, 9));
+    add(rt, &mut old, base, len, hop);
+    add(rt, &mut new, base, len, hop);
+    (old, new)
+}
+
 #[test]
 fn a_longer_prefix_and_a_new_one(rt: HostRuntime) {
-    let (mut old, mut new) = (Book::new(rt.alloc(), 9), Book::new(rt.alloc(), 9));
-    add(&rt, &mut old, addr(10, 0, 0, 0), 8, via(1));
-    add(&rt, &mut new, addr(10, 0, 0, 0), 8, via(1));
+    let (old, mut new) = alike(&rt, rt.alloc(), addr(10, 0, 0, 0), 8, via(1));
     add(&rt, &mut new, addr(10, 1, 0, 0), 16, via(2));
     add(&rt, &mut new, addr(10, 2, 0, 0), 16, via(1));
     add(&rt, &mut new, addr(11, 0, 0, 0), 8, Hop::Discard);
@@ -52,9 +64,7 @@ fn a_longer_prefix_and_a_new_one(rt: HostRuntime) {
 /// A shorter prefix shows through on both sides of a longer one that stays, up to the first address and the last.
 #[test]
 fn the_first_address_and_the_last(rt: HostRuntime) {
-    let (mut old, mut new) = (Book::new(rt.alloc(), 9), Book::new(rt.alloc(), 9));
-    add(&rt, &mut old, addr(64, 0, 0, 0), 2, via(1));
-    add(&rt, &mut new, addr(64, 0, 0, 0), 2, via(1));
+    let (old, mut new) = alike(&rt, rt.alloc(), addr(64, 0, 0, 0), 2, via(1));
     add(&rt, &mut new, addr(0, 0, 0, 0), 0, via(2));
     add(&rt, &mut new, addr(255, 255, 255, 255), 32, via(3));
     let last = Addr(u32::MAX);
