@@ -65,26 +65,35 @@ const PRINTED_ANSWERS: &[u8] = b"64:1 added
 /// Fails where `write_report` gives up at once.
 #[test]
 fn prints_every_answer_without_a_route(rt: HostRuntime) -> Result<(), Fail> {
-    let answers = [
-        Answer::Did(Reply::Added),
-        Answer::Did(Reply::Withdrawn),
-        Answer::Did(Reply::Exists),
-        Answer::Did(Reply::Full),
-        Answer::Did(Reply::Replaced),
-        Answer::Did(Reply::Missing),
-        Answer::Did(Reply::NoRoute),
-        Answer::Did(Reply::Dumped(u32::MAX)),
-        Answer::Did(Reply::Purged(1_000_000)),
-        Answer::Refused,
-        Answer::Fault(LineFault::Command),
-        Answer::Fault(LineFault::FieldCount),
-        Answer::Fault(LineFault::Text),
-        Answer::Fault(LineFault::PrefixLength),
-        Answer::Fault(LineFault::PrefixBits),
-        Answer::Fault(LineFault::Preference),
-        Answer::Fault(LineFault::Hop),
-        Answer::Fault(LineFault::LineLength),
+    let replies = [
+        Reply::Added,
+        Reply::Withdrawn,
+        Reply::Exists,
+        Reply::Full,
+        Reply::Replaced,
+        Reply::Missing,
+        Reply::NoRoute,
+        Reply::Dumped(u32::MAX),
+        Reply::Purged(1_000_000),
     ];
+    let faults = [
+        LineFault::Command,
+        LineFault::FieldCount,
+        LineFault::Text,
+        LineFault::PrefixLength,
+        LineFault::PrefixBits,
+        LineFault::Preference,
+        LineFault::Hop,
+        LineFault::LineLength,
+    ];
+    let mut answers = Vec::new(rt.alloc());
+    for reply in replies {
+        answers.push(Answer::Did(reply))?;
+    }
+    answers.push(Answer::Refused)?;
+    for fault in faults {
+        answers.push(Answer::Fault(fault))?;
+    }
     let mut out = Vec::new(rt.alloc());
     write_report(&mut out, 64, &report_of(rt.alloc(), &answers)?)?;
     assert!(rt; out.as_slice() == PRINTED_ANSWERS);
