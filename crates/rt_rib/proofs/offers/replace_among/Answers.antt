@@ -1,4 +1,4 @@
-use Rattle.std.proofs.Common.{sym}
+use Rattle.std.proofs.Common.{sym, rules}
 use Rattle.rt_rib.specs.Offers.{is_from}
 use Rattle.rt_rib.proofs.OfferLists.{position-none, position-some, IsRanked-remove, none_of_feed, remove_is_without, lost, swapped}
 use Rattle.rt_rib.proofs.offers.replace_among.Goals as goal
@@ -31,3 +31,6 @@ returns-clause-swapped g c =
     let others = remove_is_without c.args.offer.feed c.args.offers.now.items c.requires c.in-Some.index (sym found) in
     let less = lost c.args.offer.feed c.args.offers.now.items c.remove.new.self.items (rw c.remove.ensures.items others) in
     swapped c.args.offers.now.items c.remove.new.self.items c.put_among.new.offers.items c.args.offer less c.in-Ok.ensures.ok
+
+pub returns-clause-ranked : goal.returns-clause-ranked
+returns-clause-ranked g c = search rules

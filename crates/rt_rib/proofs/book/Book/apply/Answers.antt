@@ -14,3 +14,12 @@ returns-clause-holds g c = holds_table c.apply.new.self c.push_reserved.new.self
 
 pub returns-in_err-try_reserve-clause-err : goal.returns-in_err-try_reserve-clause-err
 returns-in_err-try_reserve-clause-err g c = search rules
+
+pub returns-in_err-try_reserve-clause-holds : goal.returns-in_err-try_reserve-clause-holds
+returns-in_err-try_reserve-clause-holds g c = search rules
+
+pub returns-in_err-reply-clause-holds : goal.returns-in_err-reply-clause-holds
+returns-in_err-reply-clause-holds g c = search rules
+
+pub returns-clause-ok : goal.returns-clause-ok
+returns-clause-ok g c = search rules

@@ -25,3 +25,6 @@ returns-else-len-eq1-clause-taken g c =
 
 pub returns-then-offer-feed-clause-taken : goal.returns-then-offer-feed-clause-taken
 returns-then-offer-feed-clause-taken g c = search rules
+
+pub returns-then-len-eq1-clause-valid : goal.returns-then-len-eq1-clause-valid
+returns-then-len-eq1-clause-valid g c = search rules
