@@ -3,3 +3,9 @@ use Rattle.rt_feed.proofs.addresses.parse_address_line.Goals as goal
 
 pub returns : goal.returns
 returns c = search rules
+
+pub returns-in_err-addr : goal.returns-in_err-addr
+returns-in_err-addr c = search rules
+
+pub returns-in_err-says_nothing : goal.returns-in_err-says_nothing
+returns-in_err-says_nothing c = search rules

@@ -1,6 +1,7 @@
-use Rattle.std.proofs.Common.{sym, ◌∙◌, ap, length, refl, arith}
+use Rattle.std.proofs.Common.{subst, sym, ◌∙◌, ap, length, refl, arith}
 use Rattle.std.proofs.lemmas.Bool.Decides.{Decides-eqb}
 use Rattle.std.proofs.lemmas.Slice.Eq.{slice_eq-Decides}
+use Rattle.rt_feed.specs.Lines.{CutsLine}
 use Rattle.rt_feed.proofs.Becoming.{length-cut}
 use Rattle.rt_feed.proofs.OneCut.{one_cut}
 use Rattle.rt_feed.proofs.versions.text_body.Goals as goal
@@ -17,3 +18,7 @@ returns c = (
   ],
   refl,
 )
+
+pub returns-then-eq : goal.returns-then-eq
+returns-then-eq c =
+    subst (λ line. CutsLine c.args.text.now line c.in-Some.lines.now) ((slice_eq-Decides Decides-eqb _ _ _ c.eq.ensures).0 c.if-eq.true) (c.in-Some.ensures {u = tt})
