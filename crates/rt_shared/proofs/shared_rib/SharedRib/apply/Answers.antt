@@ -1,4 +1,4 @@
-use Rattle.std.proofs.Common.{◌≡◌, Some, ◌∙◌, sym, ap, subst}
+use Rattle.std.proofs.Common.{◌≡◌, Some, ◌∙◌, sym, ap, subst, rules}
 use Rattle.ya_lock.specs.Lock.{OpenGuard}
 use Rattle.rt_shared.specs.declared.lent.Lent.{Lent}
 use Rattle.rt_shared.specs.LentChanges.{feed_of, GrowsByFeed}
@@ -18,3 +18,6 @@ leave-requires g c =
     ap (λ (x : OpenGuard Lent). x.lock) guard ∙ lock_of c.pass.inside.feed c.pass.inside.pass c.in-Some.idle c.args.pass.now c.args.self.now _ is c.pass.view_is c.requires c.self.view_is in
     let adds = adds_applied c.enter-guard.result.place c.pass.inside.feed c.args.cmd c.get_mut.result.now c.apply-answer.new.self c.apply-answer.result feed e.feeds e.ok e.err in
     (spaced, (lock, subst (λ (l : Lent). GrowsByFeed c.enter-guard.result.place l c.apply-answer.new.self) value adds))
+
+pub returns-clause-ok : goal.returns-clause-ok
+returns-clause-ok g c = search rules
