@@ -10,14 +10,14 @@ use Rattle.std.specs.Option.{option_copied}
 use Rattle.std.specs.Box.{with_value}
 use Rattle.rt_cidr.specs.declared.address.Addr.{Addr}
 use Rattle.rt_cidr.specs.Prefix.{covers}
-use Rattle.rt_trie.specs.inside.LookUps.{or_else, last_cover}
+use Rattle.rt_trie.specs.inside.LookUps.{or_else, last_cover, no_longer, IsNoLonger}
 use Rattle.rt_trie.specs.declared.nodes.Link.{Link, Empty, Leaf, Fork', Full'}
 use Rattle.rt_trie.specs.declared.nodes.Link.TheVariants.{Fork, Full}
 use Rattle.rt_trie.specs.declared.nodes.LeafNode.{LeafNode}
 use Rattle.rt_trie.specs.declared.nodes.ForkNode.{ForkNode}
 use Rattle.rt_trie.specs.declared.nodes.FullNode.{FullNode}
 use Rattle.rt_trie.specs.Map.{Pairs, same_prefix, get, first, next_after, before, IsOrdered, IsLongest}
-use Rattle.rt_trie.specs.Blocks.{IsKeyOf, IsInBlock, IsChild, middle, middle_at, past}
+use Rattle.rt_trie.specs.Blocks.{IsKeyOf, IsInBlock, IsChild, middle, past}
 use Rattle.rt_trie.specs.inside.Blocks.{StandsAt}
 use Rattle.rt_trie.specs.declared.nodes.Position.{Position}
 use Rattle.rt_trie.specs.declared.nodes.Position.TheVariants.{Here, Left, Right, Above, Apart}
@@ -25,11 +25,12 @@ use Rattle.rt_trie.specs.inside.Links.{own_pair, pairs, count, IsNode, IsForkOf,
 use Rattle.rt_trie.specs.Links.{root, AreHalves, IsFilled, IsNeeded, IsLawfulBelow, IsLawfulTrie}
 use Rattle.rt_trie.proofs.OrderLemmas.{same_rank, same_tells, rank_of_before, rank_of_not_before}
 use Rattle.rt_cidr.proofs.Promised.{size_pos}
-use Rattle.rt_trie.proofs.NodeLemmas.{AreSides, get-lower, get-upper, get-here, get-past, IsOrdered-node, upper_clear}
-use Rattle.rt_trie.proofs.NodeLemmas.{cover-left, cover-upper, cover-none, after-lower, after-upper, after-all, after-past}
-use Rattle.rt_trie.proofs.PairLemmas.{AllKeys, AllKeys-append, AllKeys-map, or_assoc, first-append, last_cover-none}
+use Rattle.rt_trie.proofs.NodeLemmas.{AreSides, IsJoined, get-lower, get-upper, get-here, get-past, IsOrdered-node, joined_to}
+use Rattle.rt_trie.proofs.NodeLemmas.{step_lower, step_upper, step_none, no_longer_none}
+use Rattle.rt_trie.proofs.NodeLemmas.{after-lower, after-upper, after-all, after-past}
+use Rattle.rt_trie.proofs.PairLemmas.{AllKeys, AllKeys-append, AllKeys-map, first-append}
 use Rattle.rt_trie.proofs.LongestLemmas.{longest_is}
-use Rattle.rt_trie.proofs.BlockLemmas.{middle_of_key}
+use Rattle.rt_trie.proofs.BlockLemmas.{past_fits}
 
 -- the pairs lie within a block
 abbrev pub AllWithin : {V : Type 0} → ℕ → ℕ → ℕ → Pairs V → Type 0
@@ -60,6 +61,11 @@ module _ {V : Type 0} where
   node_within lo hi len q None xs ys h l r = halves_within lo hi len q xs ys h l r
   node_within lo hi len q (Some v) xs ys h l r = (h, halves_within lo hi len q xs ys h l r)
 
+-- what holds of what an option holds, where it holds something
+pub if_some_map : {X : Type 0} (o : Option X) (P Q : X → Type 0) → ((x : X) → P x → Q x) → IfSome o P → IfSome o Q
+if_some_map None P Q f h = h
+if_some_map (Some x) P Q f h = f x h
+
 -- the link holds nothing, or a node within a block
 abbrev pub IsOn : {V A : Type 0} → ℕ → ℕ → ℕ → Link V A → Type 0
 IsOn lo hi len link = IfSome (root link) (IsInBlock lo hi len)
@@ -83,12 +89,6 @@ own_key q = record { len_is = refl; base_is = refl }
 -- a key's length is no more than an address has bits
 pub key_short : {len base : ℕ} (q : Prefix) → IsKeyOf len base q → len ≤ 32
 key_short q k = let s = q.is_prefix.short in omega (arith, k.len_is)
-
--- a look-up of p in the link is one in the side on which p lies
-abbrev pub GoesOn : {V A : Type 0} → Link V A → Link V A → Link V A → Prefix → ℕ → Type 0
-GoesOn link left right p edge =
-    (p.base < edge → IsLawfulBelow left × (get (pairs link) p ≡ get (pairs left) p))
-    × (edge ≤ p.base → IsLawfulBelow right × (get (pairs link) p ≡ get (pairs right) p))
 
 module _ {V A : Type 0} where
   of_fork_at : (len base : ℕ) (b : Box (ForkNode V A) A) → IsLawfulBelow (Fork len base b)
@@ -179,14 +179,6 @@ module _ {V A : Type 0} where
     node_get-upper p h k =
         ap (λ m. get m p) n.pairs_are ∙ get-upper q v (pairs left) (pairs right) sides_of p h k
 
-    -- what a look-up finds on the side where it goes on, as the link's two numbers tell it
-    pub goes_on : {len base : ℕ} → IsKeyOf len base q
-        → (p : Prefix) (edge : ℕ) → len < p.len → edge ≡ middle_at len base → GoesOn link left right p edge
-    goes_on k p edge h e = (
-      λ lower. (n.left_lawful.0, node_get-lower p (omega (arith, k.len_is)) (omega (arith, e, middle_of_key k))),
-      λ upper. (n.right_lawful.0, node_get-upper p (omega (arith, k.len_is)) (omega (arith, e, middle_of_key k))),
-    )
-
     pub node_get-here : (p : Prefix) → p.len ≤ q.len → same_prefix q p ≡ true → get (pairs link) p ≡ v
     node_get-here p h k =
         ap (λ m. get m p) n.pairs_are ∙ get-here q v (pairs left) (pairs right) sides_of p h k
@@ -195,55 +187,13 @@ module _ {V A : Type 0} where
     node_get-past p h k =
         ap (λ m. get m p) n.pairs_are ∙ get-past q v (pairs left) (pairs right) sides_of p h k
 
-    -- the longest match is looked for on one side, with the node's own pair to fall back on
-    pub node_cover-upper : (a : Addr)
-        → middle q ≤ a.0 → last_cover (pairs link) a ≡ or_else (last_cover (pairs right) a) (last_cover (own_pair q v) a)
-    node_cover-upper a h =
-        ap (λ m. last_cover m a) n.pairs_are ∙ cover-upper q v (pairs left) (pairs right) sides_of a h
+    -- the link's pairs are joined from its node's own and those on its sides
+    pub joined : IsJoined (pairs link) q v (pairs left) (pairs right)
+    joined = record { pairs_are = n.pairs_are; sides = sides_of }
 
-    pub node_cover-none : (a : Addr) → covers q a ≡ false → last_cover (pairs link) a ≡ None
-    node_cover-none a h =
-        ap (λ m. last_cover m a) n.pairs_are ∙ cover-none q v (pairs left) (pairs right) sides_of a h
-
-    -- nothing on the right covers an address that is not in the upper half; a prefix that covers one address has nothing there
-    right_clear : (a : Addr) → (q.len < 32 → (middle q ≤ a.0 → ⊥)) → AllKeys (λ x. covers x a ≡ false) (pairs right)
-    right_clear a h =
-        let s = q.is_prefix.short in
-        elim (cases_lt q.len 32) [
-          | inl lt ↦ upper_clear q v (pairs left) (pairs right) sides_of a
-              (elim (cases_lt a.0 (middle q)) [ inl low ↦ low | inr high ↦ absurd (h lt high) ])
-          | inr ge ↦ AllKeys-map (IsInBlock (middle q) (past q) (q.len + 1)) (λ x. covers x a ≡ false) (pairs right)
-              (λ x w. let t = x.is_prefix.short in absurd (omega (arith, w.long))) sides_of.upper
-        ]
-
-    -- a look-up goes on on the left, where nothing on the right covers the address, with the node's own pair to fall back on
-    pub step_left : (a : Addr)
-        (best found : Option (Prefix × V)) → last_cover (pairs right) a ≡ None → or_else (last_cover (own_pair q v) a) best ≡ found
-        → or_else (last_cover (pairs left) a) found ≡ or_else (last_cover (pairs link) a) best
-    step_left a best found none e =
-        let here : last_cover (pairs link) a ≡ or_else (last_cover (pairs left) a) (last_cover (own_pair q v) a) =
-        ap (λ m. last_cover m a) n.pairs_are ∙ cover-left q v (pairs left) (pairs right) sides_of a none in
-        ap (λ x. or_else (last_cover (pairs left) a) x) (sym e)
-        ∙ sym (ap (λ x. or_else x best) here ∙ or_assoc (last_cover (pairs left) a) (last_cover (own_pair q v) a) best)
-
-    -- it goes on in the half where the address lies
-    pub step_lower : (a : Addr)
-        (best found : Option (Prefix × V)) → (q.len < 32 → (middle q ≤ a.0 → ⊥)) → or_else (last_cover (own_pair q v) a) best ≡ found
-        → or_else (last_cover (pairs left) a) found ≡ or_else (last_cover (pairs link) a) best
-    step_lower a best found h e = step_left a best found (last_cover-none (pairs right) a (right_clear a h)) e
-
-    pub step_upper : (a : Addr)
-        (best found : Option (Prefix × V)) → middle q ≤ a.0 → or_else (last_cover (own_pair q v) a) best ≡ found
-        → or_else (last_cover (pairs right) a) found ≡ or_else (last_cover (pairs link) a) best
-    step_upper a best found h e =
-        ap (λ x. or_else (last_cover (pairs right) a) x) (sym e)
-        ∙ sym (ap (λ x. or_else x best) (node_cover-upper a h)
-        ∙ or_assoc (last_cover (pairs right) a) (last_cover (own_pair q v) a) best)
-
-    -- where the node does not cover the address, the best so far is the answer
-    pub step_none : (a : Addr)
-        (best : Option (Prefix × V)) → covers q a ≡ false → best ≡ or_else (last_cover (pairs link) a) best
-    step_none a best h = sym (ap (λ x. or_else x best) (node_cover-none a h))
+    -- and so are those that are no longer than that, where the node is
+    kept_joined : (most : ℕ) → IsNoLonger most link → IsJoined (no_longer most (pairs link)) q v (no_longer most (pairs left)) (no_longer most (pairs right))
+    kept_joined most h = joined_to most (pairs link) q v (pairs left) (pairs right) joined (rw n.root_is at h)
 
   pub node_get-unstored : (link : Link V A) (q : Prefix) (left right : Link V A) (n : IsNode link q None left right) (p : Prefix)
       → p.len ≤ q.len → get (pairs link) p ≡ None
@@ -261,25 +211,40 @@ module _ {V A : Type 0} where
   pairs_ordered (Full' i j p left right q v) h =
       IsOrdered-node q v (pairs left) (pairs right) (sides_at q left right h.0 h.1 h.2) (pairs_ordered left h.1.0) (pairs_ordered right h.2.0)
 
-  -- a look-up goes on where `side` says, of an address so far into the node's
-  pub step_side : (link : Link V A) (q : Prefix) (v : Option V) (left right below : Bor (Link V A)) (n : IsNode link q v left.now right.now) (a : Addr)
-      (best found : Option (Prefix × V)) (offset : ℕ) → (q.len < 32 → (2147483648 ≤ offset) ↔ (middle q ≤ a.0))
-      → (q.len ≡ 32 → offset < 2147483648) → below ≡ cond (leb (suc offset) 2147483648) left right
-      → or_else (last_cover (own_pair q v) a) best ≡ found
-      → or_else (last_cover (pairs below.now) a) found ≡ or_else (last_cover (pairs link) a) best
-  step_side link q v left right below n a best found offset half none e f =
+  -- a look-up of what is no longer than that goes on where `side` says, of an address so far into the node's
+  pub step_side : (link : Link V A) (q : Prefix) (v : Option V) (left right below : Bor (Link V A)) (n : IsNode link q v left.now right.now)
+      (most : ℕ) → IsNoLonger most link → (a : Addr) (best found : Option (Prefix × V)) (offset : ℕ)
+      → (q.len < 32 → (2147483648 ≤ offset) ↔ (middle q ≤ a.0)) → (q.len ≡ 32 → offset < 2147483648)
+      → below ≡ cond (leb (suc offset) 2147483648) left right → or_else (last_cover (own_pair q v) a) best ≡ found
+      → or_else (last_cover (no_longer most (pairs below.now)) a) found ≡ or_else (last_cover (no_longer most (pairs link)) a) best
+  step_side link q v left right below n most short a best found offset half none e f =
       let s = q.is_prefix.short in
+      let j = kept_joined link q v left.now right.now n most short in
       elim (leb_tells (suc offset) 2147483648) [
         | inl lo ↦
             let b : below ≡ left = e ∙ ap (λ c. cond c left right) lo.0 in
-            rw b (step_lower link q v left.now right.now n a best found (λ short high. absurd (omega (arith, lo.1, (half short).1 high))) f)
+            rw b (step_lower _ q v _ _ j a best found (λ short high. absurd (omega (arith, lo.1, (half short).1 high))) f)
         | inr hi ↦
             let b : below ≡ right = e ∙ ap (λ c. cond c left right) hi.0 in
-            rw b (step_upper link q v left.now right.now n a best found (elim (cases_lt q.len 32) [
+            rw b (step_upper _ q v _ _ j a best found (elim (cases_lt q.len 32) [
               | inl short ↦ (half short).0 (omega (arith, hi.1))
               | inr ge ↦ absurd (omega (arith, hi.1, none (omega arith)))
             ]) f)
       ]
+
+  -- and ends here where the address is not the node's
+  pub step_ends : (link : Link V A) (q : Prefix) (v : Option V) (left right : Link V A) (n : IsNode link q v left right)
+      (most : ℕ) → IsNoLonger most link → (a : Addr) (best : Option (Prefix × V)) → covers q a ≡ false
+      → best ≡ or_else (last_cover (no_longer most (pairs link)) a) best
+  step_ends link q v left right n most short a best h = step_none _ q v _ _ (kept_joined link q v left right n most short) a best h
+
+  -- nothing at a longer node or below it is no longer
+  pub none_no_longer : (link : Link V A) (most : ℕ) → IsLawfulBelow link → IfSome (root link) (λ q. most < q.len) → no_longer most (pairs link) ≡ []
+  none_no_longer link most h on =
+      let block = IsInBlock 0 4294967296 (most + 1) in
+      no_longer_none most (pairs link) (AllKeys-map block (λ x. most < x.len) (pairs link) (λ x w. omega (arith, w.long))
+      (pairs_within link 0 4294967296 (most + 1) h
+      (if_some_map (root link) (λ q. most < q.len) block (λ q lt. record { long = omega arith; from = omega arith; to = past_fits q }) on)))
 
   -- at a link that is lawful, with fewer nodes
   picked_below : (link : Link V A) (q : Prefix) (v : Option V) (left right below : Bor (Link V A)) (n : IsNode link q v left.now right.now) (lower : Bool)
@@ -413,11 +378,6 @@ fork_absent (Fork' i j q left right prefix) p h f =
     } in
     node_get-unstored (Fork' i j q left right prefix) prefix left right n p (omega (arith, ap (λ (x : Prefix). x.len) f))
 fork_absent (Full' i j q left right prefix v) p h f = absurd f
-
--- what holds of what an option holds, where it holds something
-pub if_some_map : {X : Type 0} (o : Option X) (P Q : X → Type 0) → ((x : X) → P x → Q x) → IfSome o P → IfSome o Q
-if_some_map None P Q f h = h
-if_some_map (Some x) P Q f h = f x h
 
 pub if_some_is : {X : Type 0} (o : Option X) (P : X → Type 0) → ((x : X) → o ≡ Some x → P x) → IfSome o P
 if_some_is None P f = tt

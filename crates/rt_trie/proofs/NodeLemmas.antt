@@ -1,9 +1,13 @@
 -- What a node's list of pairs says, from the lists of its two sides: which part a prefix or an address concerns.
-use Rattle.std.proofs.Common.{◌≡◌, ◌≢◌, ℕ, ◌+◌, ◌<◌, ◌≤◌, ◌⊎◌, inl, inr, true, false, [], ◌∷◌, ◌++◌, Option, Some, None, refl, ap, ◌∙◌, arith}
+use Rattle.std.proofs.Common.{◌≡◌, ◌≢◌, ℕ, ◌+◌, ◌<◌, ◌≤◌, ◌⊎◌, inl, inr, true, false, [], ◌∷◌, ◌++◌, Option, Some, None, refl, sym, ap, ◌∙◌, leb, arith}
+use Rattle.std.specs.Prelude.{IfSome}
+use Rattle.std.proofs.lemmas.Bool.{cases_lt}
+use Rattle.std.proofs.lemmas.Bool.Decides.{leb_tells}
+use Rattle.std.proofs.lemmas.List.Elements.{filter-append}
 use Rattle.rt_cidr.specs.declared.prefixes.Prefix.{Prefix}
 use Rattle.rt_cidr.specs.declared.address.Addr.{Addr}
 use Rattle.rt_cidr.specs.Prefix.{covers}
-use Rattle.rt_trie.specs.inside.LookUps.{or_else, last_cover}
+use Rattle.rt_trie.specs.inside.LookUps.{or_else, last_cover, no_longer}
 use Rattle.rt_trie.specs.Map.{Pairs, same_prefix, get, first, next_after, IsBeforeAll, IsOrdered}
 use Rattle.rt_trie.specs.Blocks.{IsInBlock, middle, past}
 use Rattle.rt_trie.specs.inside.Links.{own_pair}
@@ -12,7 +16,7 @@ use Rattle.rt_cidr.proofs.Promised.{size_pos}
 use Rattle.rt_trie.proofs.BlockLemmas.{covers_tells, outside_of_covers}
 use Rattle.rt_trie.proofs.PairLemmas.{AllKeys, AllKeys-append, AllKeys-map, IsOther, IsLower, IsHigher, IsOther-lower}
 use Rattle.rt_trie.proofs.PairLemmas.{IsOther-higher, get-skip, get-none, get-front, after-append, after-skip}
-use Rattle.rt_trie.proofs.PairLemmas.{after-none, after-first, or_none, last_cover-none, last_cover-append}
+use Rattle.rt_trie.proofs.PairLemmas.{after-none, after-first, or_none, or_assoc, last_cover-none, last_cover-append}
 
 -- the pairs on the two sides lie in the two halves
 pub record AreSides {V : Type 0} (q : Prefix) (xs ys : Pairs V) : Type 0 where
@@ -163,6 +167,107 @@ module _ {V : Type 0} (q : Prefix) (v : Option V) (xs ys : Pairs V) (sides : Are
   cover-none h =
       let none = last_cover-none (xs ++ ys) a (rest_clear h) in
       elim v as (λ w. last_cover (own_pair q w ++ (xs ++ ys)) a ≡ None) [ None ↦ none | Some w ↦ rw (none, h) refl ]
+
+-- the list is that of a node's own pair and of two sides
+pub record IsJoined {V : Type 0} (m : Pairs V) (q : Prefix) (v : Option V) (xs ys : Pairs V) : Type 0 where
+  pub pairs_are : m ≡ own_pair q v ++ (xs ++ ys)
+  pub sides : AreSides q xs ys
+
+module _ {V : Type 0} (m : Pairs V) (q : Prefix) (v : Option V) (xs ys : Pairs V) (j : IsJoined m q v xs ys) (a : Addr) where
+  -- nothing on the right covers an address that is not in the upper half; a prefix that covers one address has nothing there
+  right_clear : (q.len < 32 → (middle q ≤ a.0 → ⊥)) → AllKeys (λ x. covers x a ≡ false) ys
+  right_clear h =
+      let s = q.is_prefix.short in
+      elim (cases_lt q.len 32) [
+        | inl lt ↦ upper_clear q v xs ys j.sides a (elim (cases_lt a.0 (middle q)) [ inl low ↦ low | inr high ↦ absurd (h lt high) ])
+        | inr ge ↦ AllKeys-map (IsInBlock (middle q) (past q) (q.len + 1)) (λ x. covers x a ≡ false) ys
+            (λ x w. let t = x.is_prefix.short in absurd (omega (arith, w.long))) j.sides.upper
+      ]
+
+  -- the longest match is looked for on one side, from the one answer on, where the parts of the list say so
+  goes_on : (zs : Pairs V) (best found : Option (Prefix × V))
+      → last_cover (own_pair q v ++ (xs ++ ys)) a ≡ or_else (last_cover zs a) (last_cover (own_pair q v) a)
+      → or_else (last_cover (own_pair q v) a) best ≡ found → or_else (last_cover zs a) found ≡ or_else (last_cover m a) best
+  goes_on zs best found here e =
+      ap (λ x. or_else (last_cover zs a) x) (sym e)
+      ∙ sym (ap (λ x. or_else x best) (ap (λ x. last_cover x a) j.pairs_are ∙ here)
+      ∙ or_assoc (last_cover zs a) (last_cover (own_pair q v) a) best)
+
+  -- a look-up goes on on the left, where nothing on the right covers the address, with the node's own pair to fall back on
+  pub step_left : (best found : Option (Prefix × V)) → last_cover ys a ≡ None → or_else (last_cover (own_pair q v) a) best ≡ found
+      → or_else (last_cover xs a) found ≡ or_else (last_cover m a) best
+  step_left best found none e = goes_on xs best found (cover-left q v xs ys j.sides a none) e
+
+  -- it goes on in the half where the address lies
+  pub step_lower : (best found : Option (Prefix × V)) → (q.len < 32 → (middle q ≤ a.0 → ⊥)) → or_else (last_cover (own_pair q v) a) best ≡ found
+      → or_else (last_cover xs a) found ≡ or_else (last_cover m a) best
+  step_lower best found h e = step_left best found (last_cover-none ys a (right_clear h)) e
+
+  pub step_upper : (best found : Option (Prefix × V)) → middle q ≤ a.0 → or_else (last_cover (own_pair q v) a) best ≡ found
+      → or_else (last_cover ys a) found ≡ or_else (last_cover m a) best
+  step_upper best found h e = goes_on ys best found (cover-upper q v xs ys j.sides a h) e
+
+  -- where the node does not cover the address, the best so far is the answer
+  pub step_none : (best : Option (Prefix × V)) → covers q a ≡ false → best ≡ or_else (last_cover m a) best
+  step_none best h = sym (ap (λ x. or_else x best) (ap (λ x. last_cover x a) j.pairs_are ∙ cover-none q v xs ys j.sides a h))
+
+module _ {V : Type 0} (most : ℕ) where
+  -- of what meets P, what is no longer than that meets it
+  AllKeys-no_longer : (P : Prefix → Type 0) (xs : Pairs V) → AllKeys P xs → AllKeys P (no_longer most xs)
+  AllKeys-no_longer P [] h = tt
+  AllKeys-no_longer P ((q, v) ∷ xs) h = elim (leb_tells q.len most) [
+    | inl s ↦ rw s.0 (h.0, AllKeys-no_longer P xs h.1)
+    | inr l ↦ rw l.0 (AllKeys-no_longer P xs h.1)
+  ]
+
+  -- all are no longer, or all are longer
+  pub no_longer_all : (xs : Pairs V) → AllKeys (λ x. x.len ≤ most) xs → no_longer most xs ≡ xs
+  no_longer_all [] h = refl
+  no_longer_all ((q, v) ∷ xs) h = elim (leb_tells q.len most) [
+    | inl s ↦ rw s.0 (ap (λ m. (q, v) ∷ m) (no_longer_all xs h.1))
+    | inr l ↦ absurd (omega (arith, h.0, l.1))
+  ]
+
+  pub no_longer_none : (xs : Pairs V) → AllKeys (λ x. most < x.len) xs → no_longer most xs ≡ []
+  no_longer_none [] h = refl
+  no_longer_none ((q, v) ∷ xs) h = elim (leb_tells q.len most) [
+    | inl s ↦ absurd (omega (arith, h.0, s.1))
+    | inr l ↦ rw l.0 (no_longer_none xs h.1)
+  ]
+
+  -- what is no longer than that is joined as all is, where the node is no longer
+  pub joined_to : (m : Pairs V) (q : Prefix) (v : Option V) (xs ys : Pairs V) → IsJoined m q v xs ys → q.len ≤ most
+      → IsJoined (no_longer most m) q v (no_longer most xs) (no_longer most ys)
+  joined_to m q v xs ys j h =
+      let own = no_longer_all (own_pair q v) (elim v as (λ o. AllKeys (λ x. x.len ≤ most) (own_pair q o)) [ None ↦ tt | Some w ↦ (h, tt) ]) in
+      record {
+        pairs_are =
+            ap (no_longer most) j.pairs_are ∙ filter-append (λ x. leb x.0.len most) (own_pair q v) (xs ++ ys)
+            ∙ ap (λ o. o ++ no_longer most (xs ++ ys)) own ∙ ap (λ o. own_pair q v ++ o) (filter-append (λ x. leb x.0.len most) xs ys);
+        sides = record {
+          lower = AllKeys-no_longer (IsInBlock q.base (middle q) (q.len + 1)) xs j.sides.lower;
+          upper = AllKeys-no_longer (IsInBlock (middle q) (past q) (q.len + 1)) ys j.sides.upper;
+        };
+      }
+
+-- none is longer than an address has bits
+all_short : {V : Type 0} (m : Pairs V) → AllKeys (λ x. x.len ≤ 32) m
+all_short [] = tt
+all_short ((q, v) ∷ m) = (q.is_prefix.short, all_short m)
+
+pub all_no_longer : {V : Type 0} (m : Pairs V) → no_longer 32 m ≡ m
+all_no_longer m = no_longer_all 32 m (all_short m)
+
+pub no_root_longer : (o : Option Prefix) → IfSome o (λ q. q.len ≤ 32)
+no_root_longer None = tt
+no_root_longer (Some q) = q.is_prefix.short
+
+-- what is found among those that are no longer than that is found among all
+pub found_of_all : {V : Type 0} (m n : Pairs V) (a : Addr) (x y : Option (Prefix × V))
+    → or_else (last_cover (no_longer 32 m) a) x ≡ or_else (last_cover (no_longer 32 n) a) y
+    → or_else (last_cover m a) x ≡ or_else (last_cover n a) y
+found_of_all m n a x y e =
+    ap (λ l. or_else (last_cover l a) x) (sym (all_no_longer m)) ∙ e ∙ ap (λ l. or_else (last_cover l a) y) (all_no_longer n)
 
 -- what a node adds to the best pair so far, at an address that it covers
 pub best_stored : {V : Type 0} (q : Prefix) (v : Option V) (w : V) (a : Addr) (best : Option (Prefix × V)) → v ≡ Some w → covers q a ≡ true

@@ -4,57 +4,22 @@ ghost use Rattle.std.specs.Prelude.{◌≡◌, ℕ, ◌+◌, ◌<◌, ◌≤◌,
 ghost use Rattle.std.specs.Option.{option_copied};
 ghost use Rattle.rt_trie.specs.Map.{get, first, next_after, pair_copied, IsLongest, AreLongest, address_at, answer_at};
 ghost use Rattle.rt_trie.specs.inside.Links.{pairs, count};
-ghost use Rattle.rt_trie.specs.Links.{IsLawfulBelow, IsLawfulTrie};
-ghost use Rattle.rt_trie.specs.inside.LookUps.{or_else, last_cover, sought};
+ghost use Rattle.rt_trie.specs.Links.{root, IsLawfulBelow, IsLawfulTrie};
+ghost use Rattle.rt_trie.specs.inside.LookUps.{or_else, last_cover, no_longer, pairs_below, IsNoLonger};
 ghost use Rattle.rt_trie.specs.declared.search.TheConstants.{LANES};
 
-use crate::nodes::{END, Link, NodeView, Position, is_key_of, middle, offset, position_of, side};
+use crate::nodes::{END, Link, NodeView, Position, offset, position_of, side};
 use rt_cidr::{Addr, Prefix};
 use std::alloc::Allocator;
 
-/// The value at a prefix.
+/// The value at a prefix: the longest match of its first address, of the prefixes that are no longer, if that is it.
 pub(crate) fn get<V, A: Allocator>(root: &Link<V, A>, p: Prefix) -> Option<&V>
     requires { IsLawfulTrie root.now }
     ensures { option_copied result ≡ get (pairs root.now) p }
 {
-    let mut link = root;
-    loop {
-        match link {
-            Link::Empty => return None,
-            Link::Leaf(len, base, leaf) => {
-                return if is_key_of(*len, *base, &p) {
-                    Some(&leaf.as_ref().value)
-                } else {
-                    None
-                };
-            }
-            Link::Fork(len, base, fork) => {
-                if *len >= p.len() {
-                    return None;
-                }
-                let fork = fork.as_ref();
-                link = if (p.base() as u64) < middle(*len, *base) {
-                    &fork.left
-                } else {
-                    &fork.right
-                };
-            }
-            Link::Full(len, base, full) => {
-                if *len >= p.len() {
-                    return if is_key_of(*len, *base, &p) {
-                        full.as_ref().value.as_ref()
-                    } else {
-                        None
-                    };
-                }
-                let full = full.as_ref();
-                link = if (p.base() as u64) < middle(*len, *base) {
-                    &full.left
-                } else {
-                    &full.right
-                };
-            }
-        }
+    match longest_to(root, Addr(p.base()), p.len()) {
+        Some((found, value)) if found == p => Some(value),
+        _ => None,
     }
 }
 
@@ -63,13 +28,40 @@ pub(crate) fn longest<V, A: Allocator>(root: &Link<V, A>, address: Addr) -> Opti
     requires { IsLawfulTrie root.now }
     ensures { IsLongest (pairs root.now) address (pair_copied result) }
 {
+    longest_to(root, address, 32)
+}
+
+/// The pair of the longest prefix that covers the address, of those that are no longer than that.
+#[inline(always)]
+fn longest_to<V, A: Allocator>(root: &Link<V, A>, address: Addr, most: u8) -> Option<(Prefix, &V)>
+    requires { IsLawfulTrie root.now }
+    ensures { last_cover (no_longer most (pairs root.now)) address ≡ pair_copied result }
+{
     let mut best = None;
     let mut link = root;
-    loop {
+    while is_no_longer(link, most) {
         match step(link, address, &mut best) {
             None => return best,
             Some(below) => link = below,
         }
+    }
+    best
+}
+
+/// Whether the link's node, if it holds one, is no longer than that. None is longer than an address, so where that is asked
+/// the link isn't read.
+#[inline(always)]
+fn is_no_longer<V, A: Allocator>(link: &Link<V, A>, most: u8) -> bool
+    requires { IsLawfulBelow link.now }
+    ensures within { IsTrue result → IsNoLonger most link.now }
+    ensures past { result ≡ false → IfSome (root link.now) (λ q. most < q.len) }
+{
+    if most >= 32 {
+        return true;
+    }
+    match link {
+        Link::Empty => true,
+        Link::Leaf(len, _, _) | Link::Fork(len, _, _) | Link::Full(len, _, _) => *len <= most,
     }
 }
 
@@ -84,8 +76,9 @@ pub(crate) fn step<'a, V, A: Allocator>(
     requires { IsLawfulBelow link.now }
     ensures lawful { IfSome result (λ next. IsLawfulBelow next.now) }
     ensures down { IfSome result (λ next. count next.now < count link.now) }
-    ensures sought { sought result address (pair_copied best.new)
-        ≡ or_else (last_cover (pairs link.now) address) (pair_copied best.old) }
+    ensures sought { (most : ℕ) → IsNoLonger most link.now
+        → or_else (last_cover (no_longer most (pairs_below result)) address) (pair_copied best.new)
+        ≡ or_else (last_cover (no_longer most (pairs link.now)) address) (pair_copied best.old) }
 {
     match link {
         Link::Empty => None,

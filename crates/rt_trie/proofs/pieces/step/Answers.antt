@@ -6,8 +6,8 @@ use Rattle.rt_trie.specs.inside.Links.{own_pair}
 use Rattle.rt_trie.specs.Blocks.{IsKeyOf}
 use Rattle.rt_trie.specs.Map.{pair_copied}
 use Rattle.rt_trie.proofs.BlockLemmas.{middle_of_key}
-use Rattle.rt_trie.proofs.NodeLemmas.{best_stored, best_unstored}
-use Rattle.rt_trie.proofs.LinkLemmas.{step_left, step_upper, step_none}
+use Rattle.rt_trie.proofs.NodeLemmas.{best_stored, best_unstored, step_left, step_upper, step_none}
+use Rattle.rt_trie.proofs.LinkLemmas.{joined}
 use Rattle.rt_trie.proofs.pieces.step.Given.{Over}
 use Rattle.rt_trie.proofs.pieces.step.Goals.{After-middle, in-Some, in-None}
 use Rattle.rt_trie.proofs.pieces.step.Goals as goal
@@ -24,7 +24,7 @@ returns-then-not-covers g c =
       within = omega (arith, least);
       same = λ b from to.
           let alike = c.reach-in-Branch.ensures.alike b from (omega (arith, least)) in
-          sym (step_none _ _ _ _ _ n b best (alike ∙ sym c.if-not-covers.ensures));
+          sym (step_none _ _ _ _ _ (joined _ _ _ _ _ n) b best (alike ∙ sym c.if-not-covers.ensures));
     }
 
 -- the node's own pair, or else the best before it, is the best from then on
@@ -51,7 +51,7 @@ returns-then-from-middle g c =
       onward = omega (arith, c.requires.reached, c.reach-in-Branch.ensures.onward, c.last_before.ensures.onward);
       within = omega (arith, least, c.min-last.ensures);
       same = λ b from to.
-          sym (step_left _ _ _ _ _ n b (pair_copied c.args.place.now.best) _ (c.last_before.ensures.none b (omega (arith, least)))
+          sym (step_left _ _ _ _ _ (joined _ _ _ _ _ n) b (pair_copied c.args.place.now.best) _ (c.last_before.ensures.none b (omega (arith, least)))
           (own_found g (goal.at.returns-then-from-middle g c).After-middle b from (omega (arith, least))));
     }
 
@@ -65,6 +65,6 @@ returns-else-from-middle g c =
       onward = omega (arith, c.requires.reached, c.reach-in-Branch.ensures.onward);
       within = omega (arith, c.min-last.ensures);
       same = λ b from to.
-          sym (step_upper _ _ _ _ _ n b (pair_copied c.args.place.now.best) _ (omega (arith, c.middle.ensures, middle_of_key k))
+          sym (step_upper _ _ _ _ _ (joined _ _ _ _ _ n) b (pair_copied c.args.place.now.best) _ (omega (arith, c.middle.ensures, middle_of_key k))
           (own_found g (goal.at.returns-else-from-middle g c).After-middle b from to));
     }

@@ -1,11 +1,13 @@
 use Rattle.std.proofs.Common.{sym, ap, ◌∙◌}
-use Rattle.rt_trie.specs.inside.LookUps.{sought}
 use Rattle.rt_trie.specs.Map.{pair_copied}
+use Rattle.rt_trie.specs.inside.LookUps.{last_cover}
+use Rattle.rt_trie.specs.inside.Links.{pairs}
+use Rattle.rt_trie.proofs.NodeLemmas.{all_no_longer}
 use Rattle.rt_trie.proofs.LinkLemmas.{longest_of}
 use Rattle.rt_trie.proofs.search.longest.Goals as goal
 
-pub returns-in-None : goal.returns-in-None
-returns-in-None g c =
-    let best = pair_copied c.step.new.best in
-    longest_of c.args.root.now c.args.address best c.requires.0
-    (c.loop-best.invariant.found ∙ sym c.step.ensures.sought ∙ ap (λ o. sought o c.args.address best) c.in-None.is)
+pub returns : goal.returns
+returns g c =
+    let link = c.args.root.now in
+    let all = ap (λ m. last_cover m c.args.address) (all_no_longer (pairs link)) in
+    longest_of link c.args.address (pair_copied c.longest_to.result) c.requires.0 (sym all ∙ c.longest_to.ensures)

@@ -1,11 +1,14 @@
-use Rattle.std.proofs.Common.{◌<◌, ◌+◌, None, refl, sym, subst, ap, ◌∙◌, inl, inr, arith, length-set, get_or, get_or-set_other}
+use Rattle.std.proofs.Common.{◌<◌, ◌+◌, Option, None, refl, sym, subst, ap, ◌∙◌, inl, inr, arith, length-set, get_or, get_or-set_other}
 use Rattle.std.specs.Prelude.{IfSome}
+use Rattle.std.specs.Borrow.{Bor}
+use Rattle.rt_trie.specs.declared.nodes.Link.{Link}
+use Rattle.rt_trie.specs.inside.LookUps.{or_else, last_cover, pairs_below}
 use Rattle.rt_trie.specs.declared.search.TheConstants.{LANES}
 use Rattle.rt_trie.specs.Map.{pair_copied, address_at}
-use Rattle.rt_trie.specs.inside.Links.{count}
-use Rattle.rt_trie.specs.Links.{IsLawfulBelow}
-use Rattle.rt_trie.specs.inside.LookUps.{sought}
+use Rattle.rt_trie.specs.inside.Links.{pairs, count}
+use Rattle.rt_trie.specs.Links.{root, IsLawfulBelow}
 use Rattle.rt_trie.proofs.LinkLemmas.{longest_of}
+use Rattle.rt_trie.proofs.NodeLemmas.{no_root_longer, found_of_all}
 use Rattle.rt_trie.proofs.LaneLemmas.{set_out, link_read, as_read, in_lanes, in_answers, gone_on, gone_less, ended_here}
 use Rattle.rt_trie.proofs.search.longest_in_lanes.Goals as goal
 use Rattle.rt_trie.proofs.search.longest_in_lanes.Goals.{in-Some, in-None}
@@ -52,15 +55,20 @@ loop-going-preserved g c =
     let us = c.args.addresses.now in
     let answers = c.loop-going.answers in
     let best = c.step.new.best in
-    let same = c.step.ensures.sought ∙ as_read lanes us answers start lane c.index-lanes-lane.result c.index-answers-start.result
+    let at = address_at us (start + lane) in
+    let from = (get_or lanes lane c.index-lanes-lane.result).now in
+    let before = pair_copied (get_or answers (start + lane) c.index-answers-start.result) in
+    let sought = c.step.ensures.sought 32 (no_root_longer (root from)) in
+    let same = found_of_all (pairs_below c.step.result) (pairs from) at (pair_copied best) before sought
+    ∙ as_read lanes us answers start lane c.index-lanes-lane.result c.index-answers-start.result
     (in_lanes _ _ _ _ _ _ _ c.loop-going.k _ _ i.way first refl) (in_answers _ _ _ _ _ _ _ c.loop-going.k _ _ i.way first refl) in
     record {
       way = elim c.match-step.branch [
         | in-Some w ↦ rw (w.lanes-is, w.order-is, w.going-is) (gone_on _ _ _ _ _ _ _ c.loop-going.k _ _ i.way first refl best w.in-Some.below
             (subst (λ o. IfSome o (λ n. IsLawfulBelow n.now)) w.in-Some.is c.step.ensures.lawful)
-            (sym (ap (λ o. sought o (address_at us (start + lane)) (pair_copied best)) w.in-Some.is) ∙ same))
+            (sym (ap (λ (o : Option (Bor (Link _ _))). or_else (last_cover (pairs_below o) at) (pair_copied best)) w.in-Some.is) ∙ same))
         | in-None w ↦ rw (w.lanes-is, w.order-is, w.going-is) (ended_here _ _ _ _ _ _ _ c.loop-going.k _ _ i.way first refl best _ (omega arith)
-            (sym (ap (λ o. sought o (address_at us (start + lane)) (pair_copied best)) w.in-None.is) ∙ same))
+            (sym (ap (λ (o : Option (Bor (Link _ _))). or_else (last_cover (pairs_below o) at) (pair_copied best)) w.in-None.is) ∙ same))
       ];
       turn = c.turn-k.ensures;
       rest = λ k h. ap pair_copied (get_or-set_other answers (start + lane) k best None (λ e. omega arith)) ∙ i.rest k h;

@@ -2,7 +2,7 @@ use Rattle.std.proofs.Common.{refl, sym, ap, ◌∙◌}
 use Rattle.rt_trie.specs.Map.{pair_copied}
 use Rattle.rt_trie.proofs.NodeLemmas.{best_stored, best_unstored}
 use Rattle.rt_trie.proofs.LinkLemmas.{none_unless, of_fork, of_full, short_fork, short_full, short_leaf, key_of_fork}
-use Rattle.rt_trie.proofs.LinkLemmas.{key_of_full, side_below, step_side, step_none}
+use Rattle.rt_trie.proofs.LinkLemmas.{key_of_full, side_below, step_side, step_ends}
 use Rattle.rt_trie.proofs.BlockLemmas.{not_covered}
 use Rattle.rt_trie.proofs.search.step.Goals as goal
 use Rattle.rt_trie.proofs.search.step.Goals.{in-Some, in_default}
@@ -12,14 +12,14 @@ returns-then-offset-ge-END-clause-sought g c =
     let q = c.in-Fork.fork.value.prefix in
     let n = of_fork c.in-Fork.fork c.in-Fork.fork.value c.args.link.now c.in-Fork.is refl c.requires in
     let k = key_of_fork c.in-Fork.fork c.in-Fork.fork.value c.args.link.now c.in-Fork.is refl c.requires in
-    step_none _ _ _ _ _ n c.args.address _ (not_covered q c.args.address _ (c.offset-offset.ensures.covered q k) c.if-offset-ge-END.true)
+    λ most short. step_ends _ _ _ _ _ n most short c.args.address _ (not_covered q c.args.address _ (c.offset-offset.ensures.covered q k) c.if-offset-ge-END.true)
 
 pub returns-then-offset-ge-END-2-clause-sought : goal.returns-then-offset-ge-END-2-clause-sought
 returns-then-offset-ge-END-2-clause-sought g c =
     let q = c.in-Full.full.value.prefix in
     let n = of_full c.in-Full.full c.in-Full.full.value c.args.link.now c.in-Full.is refl c.requires in
     let k = key_of_full c.in-Full.full c.in-Full.full.value c.args.link.now c.in-Full.is refl c.requires in
-    step_none _ _ _ _ _ n c.args.address _ (not_covered q c.args.address _ (c.offset-offset-in-Full.ensures.covered q k) c.if-offset-ge-END-2.true)
+    λ most short. step_ends _ _ _ _ _ n most short c.args.address _ (not_covered q c.args.address _ (c.offset-offset-in-Full.ensures.covered q k) c.if-offset-ge-END-2.true)
 
 pub returns-else-offset-ge-END-clause-sought : goal.returns-else-offset-ge-END-clause-sought
 returns-else-offset-ge-END-clause-sought g c =
@@ -28,7 +28,7 @@ returns-else-offset-ge-END-clause-sought g c =
     let k = key_of_fork c.in-Fork.fork m c.args.link.now c.in-Fork.is c.as_ref-fork.ensures c.requires in
     let o = c.offset-offset in
     let covered = (o.ensures.covered m.prefix k).1 c.if-offset-ge-END.false in
-    step_side _ _ _ _ _ _ n c.args.address _ _ o.result (o.ensures.half m.prefix k covered)
+    λ most short. step_side _ _ _ _ _ _ n most short c.args.address _ _ o.result (o.ensures.half m.prefix k covered)
     (λ e. o.ensures.none (k.len_is ∙ e) c.if-offset-ge-END.false) c.side.ensures refl
 
 pub returns-after-full-clause-sought : goal.returns-after-full-clause-sought
@@ -38,7 +38,7 @@ returns-after-full-clause-sought g c =
     let k = key_of_full c.in-Full.full m c.args.link.now c.in-Full.is c.as_ref-full.ensures c.requires in
     let o = c.offset-offset-in-Full in
     let covered = (o.ensures.covered m.prefix k).1 c.if-offset-ge-END-2.false in
-    step_side _ _ _ _ _ _ n c.args.address _ _ o.result (o.ensures.half m.prefix k covered)
+    λ most short. step_side _ _ _ _ _ _ n most short c.args.address _ _ o.result (o.ensures.half m.prefix k covered)
     (λ e. o.ensures.none (k.len_is ∙ e) c.if-offset-ge-END-2.false) c.side-in-Full.ensures
     (elim c.match-full.branch [
       | in-Some w ↦ best_stored _ _ _ c.args.address _ w.in-Some.is covered ∙ sym (ap pair_copied w.best-is)
