@@ -307,18 +307,20 @@ module _ {V A : Type 0} where
   pub refused : (link : Link V A) (n : ℕ) (p : Prefix) (given : Option V) → get (pairs link) p ≡ None → IsRefused link link n n p given given
   refused link n p given h = record { absent = h; back_is = refl; same = refl; counted = refl }
 
-  -- a leaf at q, as a node
+  -- a leaf, as a node
+  leaf_at : (len base : ℕ) (b : Box (LeafNode V) A) → IsNode (Leaf len base b) b.value.prefix (Some b.value.value) Empty Empty
+  leaf_at len base b = record {
+    pairs_are = refl;
+    root_is = refl;
+    count_is = refl;
+    halves = record { lower = tt; upper = tt };
+    left_lawful = (tt, tt);
+    right_lawful = (tt, tt);
+  }
+
   leaf_node : {len base : ℕ} (b : Box (LeafNode V) A) (old : Link V A) (q : Prefix) → old ≡ Leaf len base b → b.value.prefix ≡ q
       → IsNode old q (Some b.value.value) Empty Empty
-  leaf_node b old q e f = subst (λ y. IsNode old y (Some b.value.value) Empty Empty) f
-      (rw e (record {
-        pairs_are = refl;
-        root_is = refl;
-        count_is = refl;
-        halves = record { lower = tt; upper = tt };
-        left_lawful = (tt, tt);
-        right_lawful = (tt, tt);
-      }))
+  leaf_node {len} {base} b old q e f = subst (λ y. IsNode old y (Some b.value.value) Empty Empty) f (rw e (leaf_at len base b))
 
   -- the value of a leaf, and what is in the slot, change places
   pub insert_leaf : {len base : ℕ} (b : Box (LeafNode V) A) (m : LeafNode V) (old : Link V A) (n : ℕ) (p : Prefix)
@@ -328,15 +330,7 @@ module _ {V A : Type 0} where
   insert_leaf {len} {base} b m old n p given slot stored e g h i same had =
       let k = with_value b (record { prefix = m.prefix; value = stored }) in
       let x = leaf_node b old m.prefix e (sym (ap (λ (y : LeafNode V). y.prefix) g)) in
-      let y : IsNode (Leaf len base k) m.prefix (Some stored) Empty Empty =
-      record {
-        pairs_are = refl;
-        root_is = refl;
-        count_is = refl;
-        halves = record { lower = tt; upper = tt };
-        left_lawful = (tt, tt);
-        right_lawful = (tt, tt);
-      } in
+      let y = leaf_at len base k in
       let put : IsPut old (Leaf len base k) m.prefix stored =
       put_value old (Leaf len base k) m.prefix (Some b.value.value) stored Empty Empty x y (key_of_leaf b m old e g h.0, tt) in
       record {

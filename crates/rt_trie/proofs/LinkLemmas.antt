@@ -90,6 +90,24 @@ own_key q = record { len_is = refl; base_is = refl }
 pub key_short : {len base : ℕ} (q : Prefix) → IsKeyOf len base q → len ≤ 32
 key_short q k = let s = q.is_prefix.short in omega (arith, k.len_is)
 
+-- one view of a fork and a full node: the node, and what it is with other sides
+pub record IsView {V A : Type 0} (link : Link V A) (q : Prefix) (v : Option V) (left right : Link V A)
+    (with_sides : Link V A → Link V A → Link V A) : Type 0 where
+  pub node : IsNode link q v left right
+  pub same : with_sides left right ≡ link
+  pub again : (l r : Link V A) → AreHalves q l r → IsLawfulTrie l → IsLawfulTrie r → IsNode (with_sides l r) q v l r × IsLawfulBelow (with_sides l r)
+  pub counts : (l r : Link V A) → count (with_sides l r) ≡ count l + count r + 1
+  pub needed : (l r : Link V A) → (v ≡ None → IsFilled l × IsFilled r) → IsNeeded (with_sides l r)
+  pub filled : IsNeeded link → v ≡ None → IsFilled left × IsFilled right
+
+if_none : {X : Type 0} (w : Option X) (P : Type 0) → (w ≡ None → P) → IfNone w P
+if_none None P h = h refl
+if_none (Some v) P h = tt
+
+none_if : {X : Type 0} (w : Option X) (P : Type 0) → IfNone w P → w ≡ None → P
+none_if None P h e = h
+none_if (Some v) P h e = cc
+
 module _ {V A : Type 0} where
   of_fork_at : (len base : ℕ) (b : Box (ForkNode V A) A) → IsLawfulBelow (Fork len base b)
       → IsNode (Fork len base b) b.value.prefix None b.value.left b.value.right
@@ -99,26 +117,78 @@ module _ {V A : Type 0} where
       → IsNode (Full len base b) b.value.prefix b.value.value b.value.left b.value.right
   of_full_at len base b h = record { pairs_are = refl; root_is = refl; count_is = refl; halves = h.0; left_lawful = h.1; right_lawful = h.2 }
 
-  pub of_fork : {len base : ℕ} (b : Box (ForkNode V A) A) (n : ForkNode V A) (link : Link V A) → link ≡ Fork len base b → n ≡ b.value → IsLawfulBelow link
-      → IsNode link n.prefix None n.left n.right
-  of_fork {len} {base} b n link e f h = rw (f, e) (of_fork_at len base b (subst IsLawfulBelow e h))
+  view_fork_at : (len base : ℕ) (b : Box (ForkNode V A) A) → IsLawfulBelow (Fork len base b)
+      → IsView (Fork len base b) b.value.prefix None b.value.left b.value.right
+      (λ l r. Fork len base (with_value b (record { prefix = b.value.prefix; left = l; right = r })))
+  view_fork_at len base b h = record {
+    node = of_fork_at len base b h;
+    same = refl;
+    again = λ l r k i j. (record { pairs_are = refl; root_is = refl; count_is = refl; halves = k; left_lawful = i; right_lawful = j }, (k, i, j, h.3));
+    counts = λ l r. refl;
+    needed = λ l r k. k refl;
+    filled = λ k e. k;
+  }
 
-  pub of_full : {len base : ℕ} (b : Box (FullNode V A) A) (n : FullNode V A) (link : Link V A) → link ≡ Full len base b → n ≡ b.value → IsLawfulBelow link
-      → IsNode link n.prefix n.value n.left n.right
-  of_full {len} {base} b n link e f h = rw (f, e) (of_full_at len base b (subst IsLawfulBelow e h))
+  view_full_at : (len base : ℕ) (b : Box (FullNode V A) A) → IsLawfulBelow (Full len base b)
+      → IsView (Full len base b) b.value.prefix b.value.value b.value.left b.value.right
+      (λ l r. Full len base (with_value b (record { prefix = b.value.prefix; value = b.value.value; left = l; right = r })))
+  view_full_at len base b h = record {
+    node = of_full_at len base b h;
+    same = refl;
+    again = λ l r k i j. (record { pairs_are = refl; root_is = refl; count_is = refl; halves = k; left_lawful = i; right_lawful = j }, (k, i, j, h.3));
+    counts = λ l r. refl;
+    needed = λ l r. if_none b.value.value (IsFilled l × IsFilled r);
+    filled = none_if b.value.value (IsFilled b.value.left × IsFilled b.value.right);
+  }
 
-  -- the link keeps its node's key
-  pub key_of_leaf : {len base : ℕ} (b : Box (LeafNode V) A) (n : LeafNode V) (link : Link V A) → link ≡ Leaf len base b → n ≡ b.value → IsLawfulBelow link
-      → IsKeyOf len base n.prefix
-  key_of_leaf {len} {base} b n link e f h = let k : IsLawfulBelow (Leaf len base b) = subst IsLawfulBelow e h in rw f k
+  -- what is known of the link to a leaf, of its node: that node is what it keeps, by the link's key
+  module _ {len base : ℕ} (b : Box (LeafNode V) A) (n : LeafNode V) (link : Link V A) (e : link ≡ Leaf len base b) (f : n ≡ b.value) where
+    -- its pairs
+    pub of_leaf : pairs link ≡ own_pair n.prefix (Some n.value)
+    of_leaf = rw (e, f) refl
 
-  pub key_of_fork : {len base : ℕ} (b : Box (ForkNode V A) A) (n : ForkNode V A) (link : Link V A) → link ≡ Fork len base b → n ≡ b.value → IsLawfulBelow link
-      → IsKeyOf len base n.prefix
-  key_of_fork {len} {base} b n link e f h = let k : IsLawfulBelow (Fork len base b) = subst IsLawfulBelow e h in rw f k.3
+    -- the link keeps its node's key
+    pub key_of_leaf : IsLawfulBelow link → IsKeyOf len base n.prefix
+    key_of_leaf h = let k : IsLawfulBelow (Leaf len base b) = subst IsLawfulBelow e h in rw f k
 
-  pub key_of_full : {len base : ℕ} (b : Box (FullNode V A) A) (n : FullNode V A) (link : Link V A) → link ≡ Full len base b → n ≡ b.value → IsLawfulBelow link
-      → IsKeyOf len base n.prefix
-  key_of_full {len} {base} b n link e f h = let k : IsLawfulBelow (Full len base b) = subst IsLawfulBelow e h in rw f k.3
+  -- and so of the link to a fork
+  module _ {len base : ℕ} (b : Box (ForkNode V A) A) (n : ForkNode V A) (link : Link V A) (e : link ≡ Fork len base b) (f : n ≡ b.value) where
+    pub of_fork : IsLawfulBelow link → IsNode link n.prefix None n.left n.right
+    of_fork h = rw (f, e) (of_fork_at len base b (subst IsLawfulBelow e h))
+
+    pub key_of_fork : IsLawfulBelow link → IsKeyOf len base n.prefix
+    key_of_fork h = let k : IsLawfulBelow (Fork len base b) = subst IsLawfulBelow e h in rw f k.3
+
+    -- it has both sides
+    pub fork_filled : IsNeeded link → IsFilled n.left × IsFilled n.right
+    fork_filled h = let k : IsFilled b.value.left × IsFilled b.value.right = subst IsNeeded e h in rw f k
+
+    pub fork_prefix : (p : Prefix) → IsForkOf p link → n.prefix ≡ p
+    fork_prefix p h = let k : b.value.prefix ≡ p = subst (IsForkOf p) e h in rw f k
+
+    pub view_fork : IsLawfulBelow link
+        → IsView link n.prefix None n.left n.right (λ l r. Fork len base (with_value b (record { prefix = n.prefix; left = l; right = r })))
+    view_fork h = rw (f, e) (view_fork_at len base b (subst IsLawfulBelow e h))
+
+  -- and to a full node
+  module _ {len base : ℕ} (b : Box (FullNode V A) A) (n : FullNode V A) (link : Link V A) (e : link ≡ Full len base b) (f : n ≡ b.value) where
+    pub of_full : IsLawfulBelow link → IsNode link n.prefix n.value n.left n.right
+    of_full h = rw (f, e) (of_full_at len base b (subst IsLawfulBelow e h))
+
+    pub key_of_full : IsLawfulBelow link → IsKeyOf len base n.prefix
+    key_of_full h = let k : IsLawfulBelow (Full len base b) = subst IsLawfulBelow e h in rw f k.3
+
+    -- it has both sides, where it has no value
+    pub full_filled : IsNeeded link → n.value ≡ None → IsFilled n.left × IsFilled n.right
+    full_filled h v =
+        let k : IfNone b.value.value (IsFilled b.value.left × IsFilled b.value.right) = subst IsNeeded e h in
+        let j : IfNone n.value (IsFilled n.left × IsFilled n.right) = rw f k in
+        rw v at j
+
+    pub view_full : IsLawfulBelow link
+        → IsView link n.prefix n.value n.left n.right
+        (λ l r. Full len base (with_value b (record { prefix = n.prefix; value = n.value; left = l; right = r })))
+    view_full h = rw (f, e) (view_full_at len base b (subst IsLawfulBelow e h))
 
   -- the length that a link keeps is no more than an address has bits
   pub short_leaf : {len base : ℕ} (b : Box (LeafNode V) A) (link : Link V A) → link ≡ Leaf len base b → IsLawfulBelow link → len ≤ 32
@@ -131,26 +201,9 @@ module _ {V A : Type 0} where
   short_full b link e h = key_short b.value.prefix (key_of_full b b.value link e refl h)
 
   -- where a prefix stands, as seen from the link's two numbers, it stands as seen from the node
-  pub seen_from_leaf : {len base : ℕ} (b : Box (LeafNode V) A) (link : Link V A) (p : Prefix) (position : Position)
-      → link ≡ Leaf len base b → IsLawfulBelow link
-      → ((q : Prefix) → IsKeyOf len base q → StandsAt q p position) → IsSeenFrom (Leaf len base b) base p position
-  seen_from_leaf b link p position e h s =
-      let k = key_of_leaf b b.value link e refl h in
-      record { node = b.value.prefix; root_is = refl; base_is = k.base_is; stands = s b.value.prefix k }
-
-  pub seen_from_fork : {len base : ℕ} (b : Box (ForkNode V A) A) (link : Link V A) (p : Prefix) (position : Position)
-      → link ≡ Fork len base b → IsLawfulBelow link
-      → ((q : Prefix) → IsKeyOf len base q → StandsAt q p position) → IsSeenFrom (Fork len base b) base p position
-  seen_from_fork b link p position e h s =
-      let k = key_of_fork b b.value link e refl h in
-      record { node = b.value.prefix; root_is = refl; base_is = k.base_is; stands = s b.value.prefix k }
-
-  pub seen_from_full : {len base : ℕ} (b : Box (FullNode V A) A) (link : Link V A) (p : Prefix) (position : Position)
-      → link ≡ Full len base b → IsLawfulBelow link
-      → ((q : Prefix) → IsKeyOf len base q → StandsAt q p position) → IsSeenFrom (Full len base b) base p position
-  seen_from_full b link p position e h s =
-      let k = key_of_full b b.value link e refl h in
-      record { node = b.value.prefix; root_is = refl; base_is = k.base_is; stands = s b.value.prefix k }
+  pub seen_from : {len base : ℕ} (link : Link V A) (q p : Prefix) (position : Position) → root link ≡ Some q → IsKeyOf len base q
+      → ((x : Prefix) → IsKeyOf len base x → StandsAt x p position) → IsSeenFrom link base p position
+  seen_from link q p position e k s = record { node = q; root_is = e; base_is = k.base_is; stands = s q k }
 
   -- the pairs of two lawful sides lie in the halves
   pub sides_at : (q : Prefix) (left right : Link V A) → AreHalves q left right → IsLawfulTrie left → IsLawfulTrie right → AreSides q (pairs left) (pairs right)
@@ -261,25 +314,8 @@ module _ {V A : Type 0} where
       → IsLongest (pairs link) a o
   longest_of link a o h e = subst (λ x. IsLongest (pairs link) a x) e (longest_is (pairs link) a (pairs_ordered link h))
 
-  -- the pairs of a leaf
-  pub of_leaf : {len base : ℕ} (b : Box (LeafNode V) A) (n : LeafNode V) (link : Link V A) → link ≡ Leaf len base b → n ≡ b.value
-      → pairs link ≡ own_pair n.prefix (Some n.value)
-  of_leaf b n link e f = rw (e, f) refl
-
   pub of_empty : (link : Link V A) → link ≡ Empty → pairs link ≡ []
   of_empty link e = rw e refl
-
-  -- a node without a value has both sides
-  pub fork_filled : {len base : ℕ} (b : Box (ForkNode V A) A) (n : ForkNode V A) (link : Link V A) → link ≡ Fork len base b → n ≡ b.value → IsNeeded link
-      → IsFilled n.left × IsFilled n.right
-  fork_filled {len} {base} b n link e f h = let k : IsFilled b.value.left × IsFilled b.value.right = subst IsNeeded e h in rw f k
-
-  pub full_filled : {len base : ℕ} (b : Box (FullNode V A) A) (n : FullNode V A) (link : Link V A) → link ≡ Full len base b → n ≡ b.value → IsNeeded link
-      → n.value ≡ None → IsFilled n.left × IsFilled n.right
-  full_filled {len} {base} b n link e f h v =
-      let k : IfNone b.value.value (IsFilled b.value.left × IsFilled b.value.right) = subst IsNeeded e h in
-      let j : IfNone n.value (IsFilled n.left × IsFilled n.right) = rw f k in
-      rw v at j
 
   -- a lawful link that holds a node has a first pair
   pub filled_first : (link : Link V A) → IsLawfulTrie link → IsFilled link → (p : Prefix) × (first (pairs link) ≡ Some p)
@@ -357,12 +393,6 @@ module _ {V A : Type 0} where
           ]
         ])
 
-  -- the prefix of a fork, and of a leaf
-  pub fork_prefix : {len base : ℕ} (b : Box (ForkNode V A) A) (n : ForkNode V A) (link : Link V A) (p : Prefix)
-      → link ≡ Fork len base b → n ≡ b.value → IsForkOf p link
-      → n.prefix ≡ p
-  fork_prefix b n link p e f h = let k : b.value.prefix ≡ p = subst (IsForkOf p) e h in rw f k
-
 -- nothing is stored at a fork
 pub fork_absent : {V A : Type 0} (link : Link V A) (p : Prefix) → IsLawfulTrie link → IsForkOf p link → get (pairs link) p ≡ None
 fork_absent Empty p h f = refl
@@ -383,57 +413,7 @@ pub if_some_is : {X : Type 0} (o : Option X) (P : X → Type 0) → ((x : X) →
 if_some_is None P f = tt
 if_some_is (Some x) P f = f x refl
 
--- one view of a fork and a full node: the node, and what it is with other sides
-pub record IsView {V A : Type 0} (link : Link V A) (q : Prefix) (v : Option V) (left right : Link V A)
-    (with_sides : Link V A → Link V A → Link V A) : Type 0 where
-  pub node : IsNode link q v left right
-  pub same : with_sides left right ≡ link
-  pub again : (l r : Link V A) → AreHalves q l r → IsLawfulTrie l → IsLawfulTrie r → IsNode (with_sides l r) q v l r × IsLawfulBelow (with_sides l r)
-  pub counts : (l r : Link V A) → count (with_sides l r) ≡ count l + count r + 1
-  pub needed : (l r : Link V A) → (v ≡ None → IsFilled l × IsFilled r) → IsNeeded (with_sides l r)
-  pub filled : IsNeeded link → v ≡ None → IsFilled left × IsFilled right
-
-if_none : {X : Type 0} (w : Option X) (P : Type 0) → (w ≡ None → P) → IfNone w P
-if_none None P h = h refl
-if_none (Some v) P h = tt
-
-none_if : {X : Type 0} (w : Option X) (P : Type 0) → IfNone w P → w ≡ None → P
-none_if None P h e = h
-none_if (Some v) P h e = cc
-
 module _ {V A : Type 0} where
-  view_fork_at : (len base : ℕ) (b : Box (ForkNode V A) A) → IsLawfulBelow (Fork len base b)
-      → IsView (Fork len base b) b.value.prefix None b.value.left b.value.right
-      (λ l r. Fork len base (with_value b (record { prefix = b.value.prefix; left = l; right = r })))
-  view_fork_at len base b h = record {
-    node = of_fork_at len base b h;
-    same = refl;
-    again = λ l r k i j. (record { pairs_are = refl; root_is = refl; count_is = refl; halves = k; left_lawful = i; right_lawful = j }, (k, i, j, h.3));
-    counts = λ l r. refl;
-    needed = λ l r k. k refl;
-    filled = λ k e. k;
-  }
-
-  view_full_at : (len base : ℕ) (b : Box (FullNode V A) A) → IsLawfulBelow (Full len base b)
-      → IsView (Full len base b) b.value.prefix b.value.value b.value.left b.value.right
-      (λ l r. Full len base (with_value b (record { prefix = b.value.prefix; value = b.value.value; left = l; right = r })))
-  view_full_at len base b h = record {
-    node = of_full_at len base b h;
-    same = refl;
-    again = λ l r k i j. (record { pairs_are = refl; root_is = refl; count_is = refl; halves = k; left_lawful = i; right_lawful = j }, (k, i, j, h.3));
-    counts = λ l r. refl;
-    needed = λ l r. if_none b.value.value (IsFilled l × IsFilled r);
-    filled = none_if b.value.value (IsFilled b.value.left × IsFilled b.value.right);
-  }
-
-  pub view_fork : {len base : ℕ} (b : Box (ForkNode V A) A) (n : ForkNode V A) (link : Link V A) → link ≡ Fork len base b → n ≡ b.value → IsLawfulBelow link
-      → IsView link n.prefix None n.left n.right (λ l r. Fork len base (with_value b (record { prefix = n.prefix; left = l; right = r })))
-  view_fork {len} {base} b n link e f h = rw (f, e) (view_fork_at len base b (subst IsLawfulBelow e h))
-
-  pub view_full : {len base : ℕ} (b : Box (FullNode V A) A) (n : FullNode V A) (link : Link V A) → link ≡ Full len base b → n ≡ b.value → IsLawfulBelow link
-      → IsView link n.prefix n.value n.left n.right (λ l r. Full len base (with_value b (record { prefix = n.prefix; value = n.value; left = l; right = r })))
-  view_full {len} {base} b n link e f h = rw (f, e) (view_full_at len base b (subst IsLawfulBelow e h))
-
   module _ (link : Link V A) (q : Prefix) (v : Option V) (left right : Link V A) (n : IsNode link q v left right) where
     -- what stands at a prefix on one side of a node stands there in that side's link
     pub get_left : (p : Prefix) → IsChild q false p → get (pairs link) p ≡ get (pairs left) p

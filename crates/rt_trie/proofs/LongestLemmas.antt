@@ -100,8 +100,9 @@ module _ {V : Type 0} where
     | inl s ↦ rw s.0 (found_here q p v rest s.0 s.1 s.2 h.0)
     | inr o ↦
         let others = get_of_last rest p h.1 in
+        let a : Addr = record { 0 = p.base } in
         rw o.0 (elim (leb_tells q.len p.len) [
-          | inl short ↦ rw short.0 (others ∙ sym (other_value q p v (covers q (record { 0 = p.base })) (last_cover (no_longer p.len rest) (record { 0 = p.base })) o.0))
+          | inl short ↦ rw short.0 (others ∙ sym (other_value q p v (covers q a) (last_cover (no_longer p.len rest) a) o.0))
           | inr longer ↦ rw longer.0 others
         ])
   ]

@@ -20,6 +20,7 @@ use Rattle.rt_cidr.proofs.Promised.{size_pos}
 use Rattle.rt_trie.proofs.PairLemmas.{AllKeys-map, IsOther, IsHigher, IsOther-higher, erase-skip, erase-none, erase-front, erase-here}
 use Rattle.rt_trie.proofs.NodeLemmas.{upper_other, lower_other, own_other, sides_higher}
 use Rattle.rt_trie.proofs.LinkLemmas.{if_some_map, IsView, within_lower, within_upper, sides_of, of_fork, of_full, key_of_full, node_get-unstored}
+use Rattle.rt_trie.proofs.LinkLemmas.{get_left, get_right}
 
 -- a child of a child on a side is a child there
 child_lower : (parent : Prefix) (upper : Bool) (q x : Prefix) → IsChild parent upper q → IsChild q false x → IsChild parent upper x
@@ -108,18 +109,22 @@ module _ {V A : Type 0} where
     pub below : IsLawfulBelow mid
     pub root_is : root mid ≡ root old
 
-  -- p was taken out on one side of a node
-  pub halfway_left : (old : Link V A) (q : Prefix) (w : Option V) (l r k : Link V A) (make : Link V A → Link V A → Link V A) (p : Prefix)
-      → IsView old q w l r make → IsChild q false p → IsErased l k p → IsHalfway old (make k r) p
-  halfway_left old q w l r k make p x c i =
-      let u = x.again k r (record { lower = i.stays q false x.node.halves.lower; upper = x.node.halves.upper }) i.lawful x.node.right_lawful in
-      record { pairs_are = erase_left old (make k r) q w l r k p x.node u.0 c i; below = u.1; root_is = u.0.root_is ∙ sym x.node.root_is }
+  -- p was taken out on one side of a node, with what stood there
+  module _ (old : Link V A) (q : Prefix) (w : Option V) (l r k : Link V A) (make : Link V A → Link V A → Link V A) (p : Prefix) (gone : Option V)
+      (x : IsView old q w l r make) where
+    pub taken_left : IsChild q false p → IsErased l k p → gone ≡ get (pairs l) p → IsHalfway old (make k r) p × (gone ≡ get (pairs old) p)
+    taken_left c i e =
+        let u = x.again k r (record { lower = i.stays q false x.node.halves.lower; upper = x.node.halves.upper }) i.lawful x.node.right_lawful in (
+          record { pairs_are = erase_left old (make k r) q w l r k p x.node u.0 c i; below = u.1; root_is = u.0.root_is ∙ sym x.node.root_is },
+          e ∙ sym (get_left old q w l r x.node p c),
+        )
 
-  pub halfway_right : (old : Link V A) (q : Prefix) (w : Option V) (l r k : Link V A) (make : Link V A → Link V A → Link V A) (p : Prefix)
-      → IsView old q w l r make → IsChild q true p → IsErased r k p → IsHalfway old (make l k) p
-  halfway_right old q w l r k make p x c i =
-      let u = x.again l k (record { lower = x.node.halves.lower; upper = i.stays q true x.node.halves.upper }) x.node.left_lawful i.lawful in
-      record { pairs_are = erase_right old (make l k) q w l r k p x.node u.0 c i; below = u.1; root_is = u.0.root_is ∙ sym x.node.root_is }
+    pub taken_right : IsChild q true p → IsErased r k p → gone ≡ get (pairs r) p → IsHalfway old (make l k) p × (gone ≡ get (pairs old) p)
+    taken_right c i e =
+        let u = x.again l k (record { lower = x.node.halves.lower; upper = i.stays q true x.node.halves.upper }) x.node.left_lawful i.lawful in (
+          record { pairs_are = erase_right old (make l k) q w l r k p x.node u.0 c i; below = u.1; root_is = u.0.root_is ∙ sym x.node.root_is },
+          e ∙ sym (get_right old q w l r x.node p c),
+        )
 
   pub halfway_full_here : {len base : ℕ} (f : Box (FullNode V A) A) (m : FullNode V A) (old : Link V A) (p : Prefix) → old ≡ Full len base f → m ≡ f.value
       → IsLawfulTrie old → p ≡ m.prefix → (b : Box (FullNode V A) A) → b.value.prefix ≡ m.prefix

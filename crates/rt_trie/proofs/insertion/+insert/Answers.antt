@@ -4,8 +4,7 @@ use Rattle.rt_trie.specs.declared.nodes.Position.TheVariants.{Above, Apart}
 use Rattle.rt_trie.specs.inside.Blocks.{StandsAt}
 use Rattle.rt_trie.specs.inside.Changes.{Inserts}
 use Rattle.rt_trie.proofs.InsertLemmas.{insert_left, insert_right, insert_here, insert_leaf}
-use Rattle.rt_trie.proofs.LinkLemmas.{view_fork, view_full, key_of_leaf, key_of_fork, key_of_full, seen_from_leaf}
-use Rattle.rt_trie.proofs.LinkLemmas.{seen_from_fork, seen_from_full, short_fork, short_full, short_leaf}
+use Rattle.rt_trie.proofs.LinkLemmas.{view_fork, view_full, key_of_leaf, key_of_fork, key_of_full, seen_from, short_fork, short_full, short_leaf}
 use Rattle.rt_trie.proofs.insertion.+insert.Goals as goal
 
 pub returns-in-Left-position_of : goal.returns-in-Left-position_of
@@ -83,11 +82,13 @@ insert_below_leaf-requires-clause-below g t c =
 
 pub insert_above-requires-clause-seen : goal.insert_above-requires-clause-seen
 insert_above-requires-clause-seen g t c =
-    seen_from_leaf c.in-Leaf.leaf c.args.link.now c.args.p Above c.in-Leaf.is c.requires.lawful.0 c.in-Above.ensures
+    seen_from _ _ c.args.p Above refl (key_of_leaf c.in-Leaf.leaf c.in-Leaf.leaf.value c.args.link.now c.in-Leaf.is refl c.requires.lawful.0)
+    c.in-Above.ensures
 
 pub insert_beside-requires-clause-seen : goal.insert_beside-requires-clause-seen
 insert_beside-requires-clause-seen g t c =
-    seen_from_leaf c.in-Leaf.leaf c.args.link.now c.args.p Apart c.in-Leaf.is c.requires.lawful.0 c.in-Apart.ensures
+    seen_from _ _ c.args.p Apart refl (key_of_leaf c.in-Leaf.leaf c.in-Leaf.leaf.value c.args.link.now c.in-Leaf.is refl c.requires.lawful.0)
+    c.in-Apart.ensures
 
 pub insert_at_fork-requires-clause-fork : goal.insert_at_fork-requires-clause-fork
 insert_at_fork-requires-clause-fork g t c =
@@ -96,19 +97,23 @@ insert_at_fork-requires-clause-fork g t c =
 
 pub insert_above-requires-in-Above-position_of-clause-seen : goal.insert_above-requires-in-Above-position_of-clause-seen
 insert_above-requires-in-Above-position_of-clause-seen g t c =
-    seen_from_fork c.in-Fork.fork c.args.link.now c.args.p Above c.in-Fork.is c.requires.lawful.0 c.in-Above-position_of.ensures
+    seen_from _ _ c.args.p Above refl (key_of_fork c.in-Fork.fork c.in-Fork.fork.value c.args.link.now c.in-Fork.is refl c.requires.lawful.0)
+    c.in-Above-position_of.ensures
 
 pub insert_beside-requires-in-Apart-position_of-clause-seen : goal.insert_beside-requires-in-Apart-position_of-clause-seen
 insert_beside-requires-in-Apart-position_of-clause-seen g t c =
-    seen_from_fork c.in-Fork.fork c.args.link.now c.args.p Apart c.in-Fork.is c.requires.lawful.0 c.in-Apart-position_of.ensures
+    seen_from _ _ c.args.p Apart refl (key_of_fork c.in-Fork.fork c.in-Fork.fork.value c.args.link.now c.in-Fork.is refl c.requires.lawful.0)
+    c.in-Apart-position_of.ensures
 
 pub insert_above-requires-in-Above-position_of-2-clause-seen : goal.insert_above-requires-in-Above-position_of-2-clause-seen
 insert_above-requires-in-Above-position_of-2-clause-seen g t c =
-    seen_from_full c.in-Full.full c.args.link.now c.args.p Above c.in-Full.is c.requires.lawful.0 c.in-Above-position_of-2.ensures
+    seen_from _ _ c.args.p Above refl (key_of_full c.in-Full.full c.in-Full.full.value c.args.link.now c.in-Full.is refl c.requires.lawful.0)
+    c.in-Above-position_of-2.ensures
 
 pub insert_beside-requires-in-Apart-position_of-2-clause-seen : goal.insert_beside-requires-in-Apart-position_of-2-clause-seen
 insert_beside-requires-in-Apart-position_of-2-clause-seen g t c =
-    seen_from_full c.in-Full.full c.args.link.now c.args.p Apart c.in-Full.is c.requires.lawful.0 c.in-Apart-position_of-2.ensures
+    seen_from _ _ c.args.p Apart refl (key_of_full c.in-Full.full c.in-Full.full.value c.args.link.now c.in-Full.is refl c.requires.lawful.0)
+    c.in-Apart-position_of-2.ensures
 
 pub insert_below_leaf-requires-clause-leaf : goal.insert_below_leaf-requires-clause-leaf
 insert_below_leaf-requires-clause-leaf g t c = sym (ap (λ (x : LeafNode _). x.prefix) c.deref.ensures)

@@ -4,11 +4,12 @@ use Rattle.rt_trie.specs.declared.nodes.Link.{Link}
 use Rattle.rt_trie.specs.declared.nodes.Position.TheVariants.{Left, Right}
 use Rattle.rt_trie.specs.Map.{get}
 use Rattle.rt_trie.specs.inside.Links.{pairs, count}
-use Rattle.rt_trie.proofs.RemoveLemmas.{IsHalfway, halfway_left, halfway_right, halfway_full_here, erased_of, erased_same, erased_leaf, fork_none, full_none}
-use Rattle.rt_trie.proofs.LinkLemmas.{short_fork, short_full, key_of_fork, key_of_full, of_fork, of_full, view_fork, view_full, get_left, get_right, get_own}
+use Rattle.rt_trie.proofs.RemoveLemmas.{IsHalfway, taken_left, taken_right, halfway_full_here, erased_of, erased_same, erased_leaf, fork_none, full_none}
+use Rattle.rt_trie.proofs.LinkLemmas.{short_fork, short_full, key_of_fork, key_of_full, of_full, view_fork, view_full, get_own}
 use Rattle.rt_trie.proofs.removal.+remove.Given.{Over}
 use Rattle.rt_trie.proofs.removal.+remove.Goals as goal
-use Rattle.rt_trie.proofs.removal.+remove.Goals.{Joined-link, in-Fork+in-Left, in-Fork+in-Right, in-Full+in-Here-position_of, in-Full+in-Left-position_of, in-Full+in-Right-position_of}
+use Rattle.rt_trie.proofs.removal.+remove.Goals.{Joined-link, in-Fork+in-Left, in-Fork+in-Right}
+use Rattle.rt_trie.proofs.removal.+remove.Goals.{in-Full+in-Here-position_of, in-Full+in-Left-position_of, in-Full+in-Right-position_of}
 
 pub is_leaf_of-requires : goal.is_leaf_of-requires
 is_leaf_of-requires g t c = rw c.in-Leaf.is (c.in-Leaf.field-2.value.prefix, refl)
@@ -28,10 +29,8 @@ pub returns-in-Here : goal.returns-in-Here
 returns-in-Here g t c =
     let old = c.args.link.now in
     let p = c.args.p in
-    let not_left : c.position_of.result ≡ Left → ⊥ =
-    λ e. elim c.in-Here.is [ inl h ↦ cc | inr h ↦ elim h [ inl k ↦ cc | inr k ↦ cc ] ] in
-    let not_right : c.position_of.result ≡ Right → ⊥ =
-    λ e. elim c.in-Here.is [ inl h ↦ cc | inr h ↦ elim h [ inl k ↦ cc | inr k ↦ cc ] ] in
+    let not_left : c.position_of.result ≡ Left → ⊥ = λ e. elim c.in-Here.is [ inl h ↦ cc | inr h ↦ elim h [ inl k ↦ cc | inr k ↦ cc ] ] in
+    let not_right : c.position_of.result ≡ Right → ⊥ = λ e. elim c.in-Here.is [ inl h ↦ cc | inr h ↦ elim h [ inl k ↦ cc | inr k ↦ cc ] ] in
     let q = c.in-Fork.fork.value.prefix in
     let position = c.position_of.ensures q (key_of_fork c.in-Fork.fork c.in-Fork.fork.value old c.in-Fork.is refl c.requires.lawful.0) in
     let none = fork_none c.in-Fork.fork c.in-Fork.fork.value old p c.position_of.result c.in-Fork.is refl c.requires.lawful position not_left not_right in
@@ -64,53 +63,32 @@ halfway : (g : Over) (t : ℕ) (c : Joined-link g t) → IsHalfway c.args.link.n
 halfway g t c =
     let old = c.args.link.now in
     let p = c.args.p in
+    let h = c.requires.lawful.0 in
     elim c.match-link.branch [
       | in-Fork+in-Left w ↦
           let m = w.deref_mut.result.now in
-          let position = w.in-Left.ensures m.prefix (key_of_fork w.in-Fork.fork m old w.in-Fork.is w.deref_mut.ensures.value c.requires.lawful.0) in (
-            rw w.link-is (halfway_left old m.prefix _ m.left m.right w.remove.new.link _ p
-                (view_fork w.in-Fork.fork m old w.in-Fork.is w.deref_mut.ensures.value c.requires.lawful.0) position w.remove.ensures.erased),
-            w.gone-is ∙ w.remove.ensures.value
-                ∙ sym (get_left old m.prefix _ m.left m.right
-                (of_fork w.in-Fork.fork m old w.in-Fork.is w.deref_mut.ensures.value c.requires.lawful.0) p
-                position),
-          )
+          let same = w.deref_mut.ensures.value in
+          let position = w.in-Left.ensures m.prefix (key_of_fork w.in-Fork.fork m old w.in-Fork.is same h) in
+          rw (w.link-is, w.gone-is) (taken_left old m.prefix _ m.left m.right w.remove.new.link _ p w.remove.result
+          (view_fork w.in-Fork.fork m old w.in-Fork.is same h) position w.remove.ensures.erased w.remove.ensures.value)
       | in-Fork+in-Right w ↦
           let m = w.deref_mut-in-Right.result.now in
-          let position = w.in-Right.ensures m.prefix (key_of_fork w.in-Fork.fork m old w.in-Fork.is w.deref_mut-in-Right.ensures.value c.requires.lawful.0) in (
-            rw w.link-is (halfway_right old m.prefix _ m.left m.right w.remove-in-Right.new.link _ p
-                (view_fork w.in-Fork.fork m old w.in-Fork.is w.deref_mut-in-Right.ensures.value c.requires.lawful.0) position w.remove-in-Right.ensures.erased),
-            w.gone-is ∙ w.remove-in-Right.ensures.value
-                ∙ sym (get_right old m.prefix _ m.left m.right
-                (of_fork w.in-Fork.fork m old w.in-Fork.is w.deref_mut-in-Right.ensures.value c.requires.lawful.0) p
-                position),
-          )
+          let same = w.deref_mut-in-Right.ensures.value in
+          let position = w.in-Right.ensures m.prefix (key_of_fork w.in-Fork.fork m old w.in-Fork.is same h) in
+          rw (w.link-is, w.gone-is) (taken_right old m.prefix _ m.left m.right w.remove-in-Right.new.link _ p w.remove-in-Right.result
+          (view_fork w.in-Fork.fork m old w.in-Fork.is same h) position w.remove-in-Right.ensures.erased w.remove-in-Right.ensures.value)
       | in-Full+in-Left-position_of w ↦
           let m = w.deref_mut-in-Left-position_of.result.now in
-          let position = w.in-Left-position_of.ensures m.prefix
-          (key_of_full w.in-Full.full m old w.in-Full.is w.deref_mut-in-Left-position_of.ensures.value
-          c.requires.lawful.0) in (
-            rw w.link-is (halfway_left old m.prefix _ m.left m.right w.remove-in-Left-position_of.new.link _ p
-                (view_full w.in-Full.full m old w.in-Full.is w.deref_mut-in-Left-position_of.ensures.value
-                c.requires.lawful.0) position w.remove-in-Left-position_of.ensures.erased),
-            w.gone-is ∙ w.remove-in-Left-position_of.ensures.value
-                ∙ sym (get_left old m.prefix _ m.left m.right
-                (of_full w.in-Full.full m old w.in-Full.is w.deref_mut-in-Left-position_of.ensures.value
-                c.requires.lawful.0) p position),
-          )
+          let same = w.deref_mut-in-Left-position_of.ensures.value in
+          let position = w.in-Left-position_of.ensures m.prefix (key_of_full w.in-Full.full m old w.in-Full.is same h) in
+          rw (w.link-is, w.gone-is) (taken_left old m.prefix _ m.left m.right w.remove-in-Left-position_of.new.link _ p w.remove-in-Left-position_of.result
+          (view_full w.in-Full.full m old w.in-Full.is same h) position w.remove-in-Left-position_of.ensures.erased w.remove-in-Left-position_of.ensures.value)
       | in-Full+in-Right-position_of w ↦
           let m = w.deref_mut-in-Right-position_of.result.now in
-          let position = w.in-Right-position_of.ensures m.prefix
-          (key_of_full w.in-Full.full m old w.in-Full.is w.deref_mut-in-Right-position_of.ensures.value
-          c.requires.lawful.0) in (
-            rw w.link-is (halfway_right old m.prefix _ m.left m.right w.remove-in-Right-position_of.new.link _ p
-                (view_full w.in-Full.full m old w.in-Full.is w.deref_mut-in-Right-position_of.ensures.value
-                c.requires.lawful.0) position w.remove-in-Right-position_of.ensures.erased),
-            w.gone-is ∙ w.remove-in-Right-position_of.ensures.value
-                ∙ sym (get_right old m.prefix _ m.left m.right
-                (of_full w.in-Full.full m old w.in-Full.is w.deref_mut-in-Right-position_of.ensures.value
-                c.requires.lawful.0) p position),
-          )
+          let same = w.deref_mut-in-Right-position_of.ensures.value in
+          let position = w.in-Right-position_of.ensures m.prefix (key_of_full w.in-Full.full m old w.in-Full.is same h) in
+          rw (w.link-is, w.gone-is) (taken_right old m.prefix _ m.left m.right w.remove-in-Right-position_of.new.link _ p w.remove-in-Right-position_of.result
+          (view_full w.in-Full.full m old w.in-Full.is same h) position w.remove-in-Right-position_of.ensures.erased w.remove-in-Right-position_of.ensures.value)
       | in-Full+in-Here-position_of w ↦
           let m = w.deref_mut-in-Here-position_of.result.now in
           let position = w.in-Here-position_of.ensures m.prefix

@@ -12,14 +12,16 @@ returns-then-offset-ge-END-clause-sought g c =
     let q = c.in-Fork.fork.value.prefix in
     let n = of_fork c.in-Fork.fork c.in-Fork.fork.value c.args.link.now c.in-Fork.is refl c.requires in
     let k = key_of_fork c.in-Fork.fork c.in-Fork.fork.value c.args.link.now c.in-Fork.is refl c.requires in
-    λ most short. step_ends _ _ _ _ _ n most short c.args.address _ (not_covered q c.args.address _ (c.offset-offset.ensures.covered q k) c.if-offset-ge-END.true)
+    λ most short. step_ends _ _ _ _ _ n most short c.args.address _
+    (not_covered q c.args.address _ (c.offset-offset.ensures.covered q k) c.if-offset-ge-END.true)
 
 pub returns-then-offset-ge-END-2-clause-sought : goal.returns-then-offset-ge-END-2-clause-sought
 returns-then-offset-ge-END-2-clause-sought g c =
     let q = c.in-Full.full.value.prefix in
     let n = of_full c.in-Full.full c.in-Full.full.value c.args.link.now c.in-Full.is refl c.requires in
     let k = key_of_full c.in-Full.full c.in-Full.full.value c.args.link.now c.in-Full.is refl c.requires in
-    λ most short. step_ends _ _ _ _ _ n most short c.args.address _ (not_covered q c.args.address _ (c.offset-offset-in-Full.ensures.covered q k) c.if-offset-ge-END-2.true)
+    λ most short. step_ends _ _ _ _ _ n most short c.args.address _
+    (not_covered q c.args.address _ (c.offset-offset-in-Full.ensures.covered q k) c.if-offset-ge-END-2.true)
 
 pub returns-else-offset-ge-END-clause-sought : goal.returns-else-offset-ge-END-clause-sought
 returns-else-offset-ge-END-clause-sought g c =

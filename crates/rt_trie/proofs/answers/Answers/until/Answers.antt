@@ -56,7 +56,8 @@ pub loop-place-preserved : goal.loop-place-preserved
 loop-place-preserved g c =
     let i = c.loop-place.invariant in
     let m = pairs c.loop-place.self-inside.root.now in
-    let next = next_place c.args.self.now c.args.a c.in-Some-below.link c.loop-place.place c.step-place.result c.in-Some-below.is i.place c.step-place.ensures in
+    let next = next_place c.args.self.now c.args.a c.in-Some-below.link c.loop-place.place c.step-place.result
+    c.in-Some-below.is i.place c.step-place.ensures in
     record {
       answers = record {
         lawful = i.answers.lawful;
