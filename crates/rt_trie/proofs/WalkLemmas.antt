@@ -109,9 +109,13 @@ module _ {V A : Type 0} where
       walk_step xs ys m (m - 1 + 2) (m - 1) link left right q v a em en at (node (last_from xs m (m - 1) link a em at).0.0) r
       (subst (λ j. link_at ys j ≡ Some left) one l) below size
 
+  -- the last link is passed over: without it the stack has the same pairs
+  abbrev pub IsPassed : List (Bor (Link V A)) → ℕ → ℕ → Type 0
+  IsPassed xs m k = IsWalkStack xs k × (stack_pairs xs k ≡ stack_pairs xs m) × (weight_of xs k < weight_of xs m)
+
   -- a link without pairs is passed over
   empty_step : (xs : List (Bor (Link V A))) (m k : ℕ) (link : Link V A) → IsWalkStack xs m → m ≡ suc k → link_at xs k ≡ Some link → pairs link ≡ []
-      → IsWalkStack xs k × (stack_pairs xs k ≡ stack_pairs xs m) × (weight_of xs k < weight_of xs m)
+      → IsPassed xs m k
   empty_step xs m k link a em at e = (
     record { size = a.size; few = omega (arith, a.few); each = λ j h. a.each j (omega arith) },
     rw (em, at) (ap (λ t. t ++ stack_pairs xs k) (sym e)),
@@ -119,7 +123,7 @@ module _ {V A : Type 0} where
   )
 
   pub empty_at : (xs : List (Bor (Link V A))) (m : ℕ) (link : Link V A) → IsWalkStack xs m → 0 < m → link_at xs (m - 1) ≡ Some link → pairs link ≡ []
-      → IsWalkStack xs (m - 1) × (stack_pairs xs (m - 1) ≡ stack_pairs xs m) × (weight_of xs (m - 1) < weight_of xs m)
+      → IsPassed xs m (m - 1)
   empty_at xs m link a pos at e = empty_step xs m (m - 1) link a (omega arith) at e
 
   -- a leaf is given

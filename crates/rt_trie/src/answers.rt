@@ -2,7 +2,9 @@
 
 ghost use Rattle.std.specs.Prelude.{◌≡◌, ◌≤◌, ◌⊎◌, IfSome, All, Contains, slice_set};
 ghost use Rattle.rt_cidr.specs.declared.address.Addr.{Addr};
-ghost use Rattle.rt_trie.specs.Map.{pair_copied};
+ghost use Rattle.rt_trie.specs.Map.{pair_copied, IsLongest};
+ghost use Rattle.rt_trie.specs.Links.{IsLawfulTrie};
+ghost use Rattle.rt_trie.specs.inside.Links.{pairs};
 
 use crate::nodes::Link;
 use crate::pieces::{Place, step};
@@ -35,10 +37,6 @@ impl<'a, V, A: Allocator> Model for Answers<'a, V, A> {
 }
 
 impl<'a, V, A: Allocator> Answers<'a, V, A> {
-    ghost use Rattle.rt_trie.specs.Map.{IsLongest};
-    ghost use Rattle.rt_trie.specs.inside.Links.{pairs};
-    ghost use Rattle.rt_trie.specs.Links.{IsLawfulTrie};
-
     pub(crate) fn new(root: &'a Link<V, A>) -> Answers<'a, V, A>
         requires { IsLawfulTrie root.now }
         ensures { result ≡ pairs root.now }

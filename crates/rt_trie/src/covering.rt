@@ -2,6 +2,10 @@
 
 ghost use Rattle.std.specs.Prelude.{◌≡◌, ◌<◌, ◌≤◌};
 ghost use Rattle.rt_trie.specs.Blocks.{middle};
+ghost use Rattle.rt_trie.specs.Map.{Pairs, covering};
+ghost use Rattle.rt_trie.specs.Links.{IsLawfulTrie};
+ghost use Rattle.rt_trie.specs.inside.Links.{pairs};
+ghost use Rattle.rt_trie.specs.inside.LookUps.{covering_below, IsLawfulOn};
 
 use crate::nodes::{Link, NodeView, middle};
 use rt_cidr::{Addr, Prefix};
@@ -18,11 +22,7 @@ pub struct Covering<'a, V, A: Allocator> {
 }
 
 impl<'a, V, A: Allocator> Model for Covering<'a, V, A> {
-    ghost use Rattle.rt_trie.specs.Map.{Pairs};
-
     ghost Value = { Pairs V };
-
-    ghost use Rattle.rt_trie.specs.inside.LookUps.{covering_below, IsLawfulOn};
 
     ghost view = { λ c. covering_below c.below c.address };
 
@@ -30,10 +30,6 @@ impl<'a, V, A: Allocator> Model for Covering<'a, V, A> {
 }
 
 impl<'a, V, A: Allocator> Covering<'a, V, A> {
-    ghost use Rattle.rt_trie.specs.Map.{covering};
-    ghost use Rattle.rt_trie.specs.inside.Links.{pairs};
-    ghost use Rattle.rt_trie.specs.Links.{IsLawfulTrie};
-
     pub(crate) fn new(root: &'a Link<V, A>, address: Addr) -> Covering<'a, V, A>
         requires { IsLawfulTrie root.now }
         ensures { result ≡ covering (pairs root.now) address }

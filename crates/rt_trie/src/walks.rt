@@ -1,7 +1,11 @@
 //! Going over all pairs, in order.
 
 ghost use Rattle.std.specs.Prelude.{◌≡◌, ℕ, ◌+◌, ◌<◌, Some, length};
+ghost use Rattle.rt_trie.specs.Map.{Pairs};
+ghost use Rattle.rt_trie.specs.Links.{IsLawfulTrie};
+ghost use Rattle.rt_trie.specs.inside.Links.{pairs};
 ghost use Rattle.rt_trie.specs.inside.References.{link_at};
+ghost use Rattle.rt_trie.specs.inside.WalkStack.{stack_pairs, IsWalkStack};
 
 use crate::nodes::{Link, NodeView};
 use rt_cidr::Prefix;
@@ -18,11 +22,7 @@ pub struct Walk<'a, V, A: Allocator> {
 }
 
 impl<'a, V, A: Allocator> Model for Walk<'a, V, A> {
-    ghost use Rattle.rt_trie.specs.Map.{Pairs};
-
     ghost Value = { Pairs V };
-
-    ghost use Rattle.rt_trie.specs.inside.WalkStack.{stack_pairs, IsWalkStack};
 
     ghost view = { λ w. stack_pairs w.stack w.len };
 
@@ -30,9 +30,6 @@ impl<'a, V, A: Allocator> Model for Walk<'a, V, A> {
 }
 
 impl<'a, V, A: Allocator> Walk<'a, V, A> {
-    ghost use Rattle.rt_trie.specs.inside.Links.{pairs};
-    ghost use Rattle.rt_trie.specs.Links.{IsLawfulTrie};
-
     pub(crate) fn new(root: &'a Link<V, A>) -> Walk<'a, V, A>
         requires { IsLawfulTrie root.now }
         ensures { result ≡ pairs root.now }

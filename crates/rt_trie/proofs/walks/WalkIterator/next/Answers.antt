@@ -1,25 +1,23 @@
 use Rattle.std.proofs.Common.{◌≡◌, suc, ◌-◌, length, sym, ap, ◌∙◌, arith}
 use Rattle.std.specs.Option.{option_copied}
-use Rattle.rt_trie.proofs.WalkLemmas.{GivesWay, walk_at, empty_at, leaf_step}
+use Rattle.rt_trie.proofs.WalkLemmas.{GivesWay, IsPassed, walk_at, empty_at, leaf_step}
 use Rattle.rt_trie.proofs.walks.WalkIterator.next.Given.{Over}
-use Rattle.rt_trie.proofs.walks.WalkIterator.next.Goals.{After-put_sides}
+use Rattle.rt_trie.proofs.walks.WalkIterator.next.Goals.{In-Vacant, After-put_sides}
 use Rattle.rt_trie.proofs.walks.WalkIterator.next.Goals as goal
+
+-- a link that holds nothing is passed over
+empty_step : (g : Over) (c : In-Vacant g) → IsPassed c.loop-self.self-inside.stack c.loop-self.self-inside.len (c.loop-self.self-inside.len - 1)
+empty_step g c =
+    empty_at c.loop-self.self-inside.stack c.loop-self.self-inside.len c.link_at.result.now c.loop-self.invariant.stack
+    (omega (arith, c.loop-self-test.true)) c.link_at.ensures c.in-Vacant.ensures
 
 pub loop-self-preserved-in-Vacant : goal.loop-self-preserved-in-Vacant
 loop-self-preserved-in-Vacant g c =
-    let i = c.loop-self.invariant in
-    let test = c.loop-self-test.true in
-    let s = empty_at c.loop-self.self-inside.stack c.loop-self.self-inside.len c.link_at.result.now i.stack
-    (omega arith) c.link_at.ensures c.in-Vacant.ensures in
-    record { stack = s.0; same = s.1 ∙ i.same }
+    let s = empty_step g (goal.at.loop-self-preserved-in-Vacant g c).In-Vacant in
+    record { stack = s.0; same = s.1 ∙ c.loop-self.invariant.same }
 
 pub loop-self-smaller-in-Vacant : goal.loop-self-smaller-in-Vacant
-loop-self-smaller-in-Vacant g c =
-    let i = c.loop-self.invariant in
-    let test = c.loop-self-test.true in
-    let s = empty_at c.loop-self.self-inside.stack c.loop-self.self-inside.len c.link_at.result.now i.stack
-    (omega arith) c.link_at.ensures c.in-Vacant.ensures in
-    s.2
+loop-self-smaller-in-Vacant g c = (empty_step g (goal.at.loop-self-smaller-in-Vacant g c).In-Vacant).2
 
 -- a node on top of the stack gives way to its sides
 branch_step : (g : Over) (c : After-put_sides g)
