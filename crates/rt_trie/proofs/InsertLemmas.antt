@@ -9,6 +9,7 @@ use Rattle.rt_trie.specs.declared.nodes.Link.{Link, Empty, Leaf}
 use Rattle.rt_trie.specs.declared.nodes.Link.TheVariants.{Fork, Full}
 use Rattle.rt_trie.specs.declared.nodes.LeafNode.{LeafNode}
 use Rattle.rt_trie.specs.declared.nodes.ForkNode.{ForkNode}
+use Rattle.rt_trie.specs.declared.insertion.NewValue.{NewValue}
 use Rattle.rt_trie.specs.declared.nodes.FullNode.{FullNode}
 use Rattle.rt_trie.specs.Map.{get, put}
 use Rattle.rt_trie.specs.declared.nodes.Position.TheVariants.{Above, Apart}
@@ -248,30 +249,30 @@ some_same e = cc
 
 module _ {V A : Type 0} where
   -- p is put in below, in a side that k takes the place of
-  inserted_below : (old new side k : Link V A) (n m : ℕ) (p : Prefix) (given slot : Option V) (done : Bool) → ((v : V) → IsPut side k p v → IsPut old new p v)
+  inserted_below : (old new side k : Link V A) (p : Prefix) (given after : NewValue V A) (done : Bool) → ((v : V) → IsPut side k p v → IsPut old new p v)
       → get (pairs old) p ≡ get (pairs side) p → count new + count side ≡ count old + count k → (k ≡ side → new ≡ old)
-      → Inserts side k n m p given slot done → Inserts old new n m p given slot done
-  inserted_below old new side k n m p given slot true put same counted back i = record {
-    put = if_some_map given (IsPut side k p) (IsPut old new p) put i.put;
+      → Inserts side k p given after done → Inserts old new p given after done
+  inserted_below old new side k p given after true put same counted back i = record {
+    put = if_some_map given.value (IsPut side k p) (IsPut old new p) put i.put;
     had_is = i.had_is ∙ sym same;
     counted = omega (arith, i.counted, counted);
   }
-  inserted_below old new side k n m p given slot false put same counted back i =
+  inserted_below old new side k p given after false put same counted back i =
       record { absent = same ∙ i.absent; back_is = i.back_is; same = back i.same; counted = i.counted }
 
-  module _ (old : Link V A) (q : Prefix) (w : Option V) (l r k : Link V A) (make : Link V A → Link V A → Link V A) (n m : ℕ) (p : Prefix)
-      (given slot : Option V) (done : Bool) (x : IsView old q w l r make) (h : IsLawfulTrie old) where
-    pub insert_left : IsChild q false p → Inserts l k n m p given slot done → Inserts old (make k r) n m p given slot done
+  module _ (old : Link V A) (q : Prefix) (w : Option V) (l r k : Link V A) (make : Link V A → Link V A → Link V A) (p : Prefix)
+      (given after : NewValue V A) (done : Bool) (x : IsView old q w l r make) (h : IsLawfulTrie old) where
+    pub insert_left : IsChild q false p → Inserts l k p given after done → Inserts old (make k r) p given after done
     insert_left c =
-        inserted_below old (make k r) l k n m p given slot done
+        inserted_below old (make k r) l k p given after done
         (λ v j.
         let u = x.again k r (record { lower = j.stays q false x.node.halves.lower c; upper = x.node.halves.upper }) j.lawful x.node.right_lawful in
         put_left old (make k r) q w l r k p v x.node u.0 (u.1, x.needed k r (λ e. (j.filled, (x.filled h.1 e).1))) c j)
         (get_left old q w l r x.node p c) (omega (arith, x.node.count_is, x.counts k r)) (λ e. ap (λ y. make y r) e ∙ x.same)
 
-    pub insert_right : IsChild q true p → Inserts r k n m p given slot done → Inserts old (make l k) n m p given slot done
+    pub insert_right : IsChild q true p → Inserts r k p given after done → Inserts old (make l k) p given after done
     insert_right c =
-        inserted_below old (make l k) r k n m p given slot done
+        inserted_below old (make l k) r k p given after done
         (λ v j.
         let u = x.again l k (record { lower = x.node.halves.lower; upper = j.stays q true x.node.halves.upper c }) x.node.left_lawful j.lawful in
         put_right old (make l k) q w l r k p v x.node u.0 (u.1, x.needed l k (λ e. ((x.filled h.1 e).0, j.filled))) c j)

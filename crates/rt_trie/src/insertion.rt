@@ -11,7 +11,7 @@ ghost use Rattle.rt_trie.specs.Blocks.{middle, IsChild, PartsAt};
 ghost use Rattle.rt_trie.specs.inside.Blocks.{StandsAt};
 ghost use Rattle.rt_trie.specs.Links.{IsLawfulTrie};
 ghost use Rattle.rt_trie.specs.inside.Links.{IsLeafOf, IsForkOf, IsSeenFrom};
-ghost use Rattle.rt_trie.specs.inside.Changes.{Inserts};
+ghost use Rattle.rt_trie.specs.inside.Changes.{Inserts, IsGiven};
 
 use crate::nodes::{ForkNode, FullNode, LeafNode, Link, Position, middle, position_of};
 use rt_cidr::Prefix;
@@ -34,12 +34,11 @@ pub(crate) fn insert<V: Drop, A: Allocator + Copy>(
     given: &mut NewValue<V, A>,
 ) -> bool
     requires lawful { IsLawfulTrie link.old }
-    requires room { given.old.nodes + 2 < 2 ^ 64 }
-    requires given { IsSome given.old.value }
-    ensures { Inserts link.old link.new given.old.nodes given.new.nodes p given.old.value given.new.value result }
+    requires given { IsGiven given.old }
+    ensures { Inserts link.old link.new p given.old given.new result }
 {
     match link {
-        Link::Empty => insert_at_empty(link, p, given),
+        Link::Empty => given.insert_at_empty(link, p),
         Link::Leaf(len, base, leaf) => {
             let base = *base;
             let q = leaf.prefix;
@@ -48,19 +47,19 @@ pub(crate) fn insert<V: Drop, A: Allocator + Copy>(
                     exchange(&mut leaf.value, &mut given.value);
                     true
                 }
-                Position::Left | Position::Right => insert_below_leaf(link, p, given, q),
-                Position::Above => insert_above(link, p, given, base),
-                Position::Apart => insert_beside(link, p, given, base),
+                Position::Left | Position::Right => given.insert_below_leaf(link, p, q),
+                Position::Above => given.insert_above(link, p, base),
+                Position::Apart => given.insert_beside(link, p, base),
             }
         }
         Link::Fork(len, base, fork) => {
             let base = *base;
             match position_of(*len, base, &p) {
-                Position::Here => insert_at_fork(link, p, given),
+                Position::Here => given.insert_at_fork(link, p),
                 Position::Left => insert(&mut fork.left, p, given),
                 Position::Right => insert(&mut fork.right, p, given),
-                Position::Above => insert_above(link, p, given, base),
-                Position::Apart => insert_beside(link, p, given, base),
+                Position::Above => given.insert_above(link, p, base),
+                Position::Apart => given.insert_beside(link, p, base),
             }
         }
         Link::Full(len, base, full) => {
@@ -72,8 +71,8 @@ pub(crate) fn insert<V: Drop, A: Allocator + Copy>(
                 }
                 Position::Left => insert(&mut full.left, p, given),
                 Position::Right => insert(&mut full.right, p, given),
-                Position::Above => insert_above(link, p, given, base),
-                Position::Apart => insert_beside(link, p, given, base),
+                Position::Above => given.insert_above(link, p, base),
+                Position::Apart => given.insert_beside(link, p, base),
             }
         }
     }
@@ -92,24 +91,143 @@ fn exchange<V: Drop>(stored: &mut V, value: &mut Option<V>)
     *value = Some(mem::replace(stored, given));
 }
 
-/// A leaf where nothing was.
-#[inline(never)]
-fn insert_at_empty<V: Drop, A: Allocator + Copy>(
-    link: &mut Link<V, A>,
-    p: Prefix,
-    given: &mut NewValue<V, A>,
-) -> bool
-    requires empty { link.old ≡ Empty }
-    requires room { given.old.nodes + 2 < 2 ^ 64 }
-    requires given { IsSome given.old.value }
-    ensures { Inserts link.old link.new given.old.nodes given.new.nodes p given.old.value given.new.value result }
-{
-    let Some(leaf) = leaf_of(given.alloc, p, &mut given.value) else {
-        return false;
-    };
-    *link = Link::of_leaf(leaf);
-    given.nodes += 1;
-    true
+impl<V: Drop, A: Allocator + Copy> NewValue<V, A> {
+    /// A leaf where nothing was.
+    #[inline(never)]
+    fn insert_at_empty(&mut self, link: &mut Link<V, A>, p: Prefix) -> bool
+        requires empty { link.old ≡ Empty }
+        requires given { IsGiven self.old }
+        ensures { Inserts link.old link.new p self.old self.new result }
+    {
+        let Some(leaf) = leaf_of(self.alloc, p, &mut self.value) else {
+            return false;
+        };
+        *link = Link::of_leaf(leaf);
+        self.nodes += 1;
+        true
+    }
+
+    /// The leaf at q becomes a full node, and its box holds p below it.
+    #[inline(never)]
+    fn insert_below_leaf(&mut self, link: &mut Link<V, A>, p: Prefix, q: Prefix) -> bool
+        requires leaf { IsLeafOf q link.old }
+        requires below { IsChild q false p ⊎ IsChild q true p }
+        requires given { IsGiven self.old }
+        ensures { Inserts link.old link.new p self.old self.new result }
+    {
+        let Some(mut full) = new_full(self.alloc, q) else {
+            return false;
+        };
+        let Link::Leaf(_, _, mut leaf) = mem::replace(link, Link::Empty) else {
+            unreachable!()
+        };
+        let Some(value) = self.value.take() else {
+            unreachable!()
+        };
+        let LeafNode {
+            prefix: _,
+            value: above,
+        } = mem::replace(&mut *leaf, LeafNode { prefix: p, value });
+        let (left, right) = on_side(&q, p.base(), Link::of_leaf(leaf));
+        *full = FullNode {
+            prefix: q,
+            value: Some(above),
+            left,
+            right,
+        };
+        *link = Link::of_full(full);
+        self.nodes += 1;
+        true
+    }
+
+    /// The fork at p becomes a full node, as its prefix is stored now.
+    #[inline(never)]
+    fn insert_at_fork(&mut self, link: &mut Link<V, A>, p: Prefix) -> bool
+        requires lawful { IsLawfulTrie link.old }
+        requires fork { IsForkOf p link.old }
+        requires given { IsSome self.old.value }
+        ensures { Inserts link.old link.new p self.old self.new result }
+    {
+        let Some(mut full) = new_full(self.alloc, p) else {
+            return false;
+        };
+        let Link::Fork(_, _, fork) = mem::replace(link, Link::Empty) else {
+            unreachable!()
+        };
+        let ForkNode {
+            prefix: _,
+            left,
+            right,
+        } = Box::into_inner(fork);
+        *full = FullNode {
+            prefix: p,
+            value: self.value.take(),
+            left,
+            right,
+        };
+        *link = Link::of_full(full);
+        true
+    }
+
+    /// A full node for p, with what was here, whose base this is, on one of its sides.
+    #[inline(never)]
+    fn insert_above(&mut self, link: &mut Link<V, A>, p: Prefix, base: u32) -> bool
+        requires lawful { IsLawfulTrie link.old }
+        requires seen { IsSeenFrom link.old base p Above }
+        requires given { IsGiven self.old }
+        ensures { Inserts link.old link.new p self.old self.new result }
+    {
+        let Some(mut full) = new_full(self.alloc, p) else {
+            return false;
+        };
+        let (left, right) = on_side(&p, base, mem::replace(link, Link::Empty));
+        *full = FullNode {
+            prefix: p,
+            value: self.value.take(),
+            left,
+            right,
+        };
+        *link = Link::of_full(full);
+        self.nodes += 1;
+        true
+    }
+
+    /// A fork where p and what was here, whose base this is, go to two sides.
+    #[inline(never)]
+    fn insert_beside(&mut self, link: &mut Link<V, A>, p: Prefix, base: u32) -> bool
+        requires lawful { IsLawfulTrie link.old }
+        requires seen { IsSeenFrom link.old base p Apart }
+        requires given { IsGiven self.old }
+        ensures { Inserts link.old link.new p self.old self.new result }
+    {
+        let prefix = common_prefix(&p, base);
+        let node = ForkNode {
+            prefix,
+            left: Link::Empty,
+            right: Link::Empty,
+        };
+        let Some(mut fork) = Box::new(self.alloc, node).ok() else {
+            return false;
+        };
+        let Some(new) = leaf_of(self.alloc, p, &mut self.value) else {
+            return false;
+        };
+        let new = Link::of_leaf(new);
+        let other = mem::replace(link, Link::Empty);
+        let (left, right) = if p.base() < base {
+            (new, other)
+        } else {
+            (other, new)
+        };
+        *fork = ForkNode {
+            prefix,
+            left,
+            right,
+        };
+        *link = Link::of_fork(fork);
+        self.nodes += 2;
+        true
+    }
 }
 
 /// A leaf of p with the given value, which stays there where memory is refused.
@@ -174,150 +292,6 @@ fn on_side<V, A: Allocator>(
     } else {
         (Link::Empty, child)
     }
-}
-
-/// The leaf at q becomes a full node, and its box holds p below it.
-#[inline(never)]
-fn insert_below_leaf<V: Drop, A: Allocator + Copy>(
-    link: &mut Link<V, A>,
-    p: Prefix,
-    given: &mut NewValue<V, A>,
-    q: Prefix,
-) -> bool
-    requires leaf { IsLeafOf q link.old }
-    requires below { IsChild q false p ⊎ IsChild q true p }
-    requires room { given.old.nodes + 2 < 2 ^ 64 }
-    requires given { IsSome given.old.value }
-    ensures { Inserts link.old link.new given.old.nodes given.new.nodes p given.old.value given.new.value result }
-{
-    let Some(mut full) = new_full(given.alloc, q) else {
-        return false;
-    };
-    let Link::Leaf(_, _, mut leaf) = mem::replace(link, Link::Empty) else {
-        unreachable!()
-    };
-    let Some(value) = given.value.take() else {
-        unreachable!()
-    };
-    let LeafNode {
-        prefix: _,
-        value: above,
-    } = mem::replace(&mut *leaf, LeafNode { prefix: p, value });
-    let (left, right) = on_side(&q, p.base(), Link::of_leaf(leaf));
-    *full = FullNode {
-        prefix: q,
-        value: Some(above),
-        left,
-        right,
-    };
-    *link = Link::of_full(full);
-    given.nodes += 1;
-    true
-}
-
-/// The fork at p becomes a full node, as its prefix is stored now.
-#[inline(never)]
-fn insert_at_fork<V: Drop, A: Allocator + Copy>(
-    link: &mut Link<V, A>,
-    p: Prefix,
-    given: &mut NewValue<V, A>,
-) -> bool
-    requires lawful { IsLawfulTrie link.old }
-    requires fork { IsForkOf p link.old }
-    requires given { IsSome given.old.value }
-    ensures { Inserts link.old link.new given.old.nodes given.new.nodes p given.old.value given.new.value result }
-{
-    let Some(mut full) = new_full(given.alloc, p) else {
-        return false;
-    };
-    let Link::Fork(_, _, fork) = mem::replace(link, Link::Empty) else {
-        unreachable!()
-    };
-    let ForkNode {
-        prefix: _,
-        left,
-        right,
-    } = Box::into_inner(fork);
-    *full = FullNode {
-        prefix: p,
-        value: given.value.take(),
-        left,
-        right,
-    };
-    *link = Link::of_full(full);
-    true
-}
-
-/// A full node for p, with what was here, whose base this is, on one of its sides.
-#[inline(never)]
-fn insert_above<V: Drop, A: Allocator + Copy>(
-    link: &mut Link<V, A>,
-    p: Prefix,
-    given: &mut NewValue<V, A>,
-    base: u32,
-) -> bool
-    requires lawful { IsLawfulTrie link.old }
-    requires seen { IsSeenFrom link.old base p Above }
-    requires room { given.old.nodes + 2 < 2 ^ 64 }
-    requires given { IsSome given.old.value }
-    ensures { Inserts link.old link.new given.old.nodes given.new.nodes p given.old.value given.new.value result }
-{
-    let Some(mut full) = new_full(given.alloc, p) else {
-        return false;
-    };
-    let (left, right) = on_side(&p, base, mem::replace(link, Link::Empty));
-    *full = FullNode {
-        prefix: p,
-        value: given.value.take(),
-        left,
-        right,
-    };
-    *link = Link::of_full(full);
-    given.nodes += 1;
-    true
-}
-
-/// A fork where p and what was here, whose base this is, go to two sides.
-#[inline(never)]
-fn insert_beside<V: Drop, A: Allocator + Copy>(
-    link: &mut Link<V, A>,
-    p: Prefix,
-    given: &mut NewValue<V, A>,
-    base: u32,
-) -> bool
-    requires lawful { IsLawfulTrie link.old }
-    requires seen { IsSeenFrom link.old base p Apart }
-    requires room { given.old.nodes + 2 < 2 ^ 64 }
-    requires given { IsSome given.old.value }
-    ensures { Inserts link.old link.new given.old.nodes given.new.nodes p given.old.value given.new.value result }
-{
-    let prefix = common_prefix(&p, base);
-    let node = ForkNode {
-        prefix,
-        left: Link::Empty,
-        right: Link::Empty,
-    };
-    let Some(mut fork) = Box::new(given.alloc, node).ok() else {
-        return false;
-    };
-    let Some(new) = leaf_of(given.alloc, p, &mut given.value) else {
-        return false;
-    };
-    let new = Link::of_leaf(new);
-    let other = mem::replace(link, Link::Empty);
-    let (left, right) = if p.base() < base {
-        (new, other)
-    } else {
-        (other, new)
-    };
-    *fork = ForkNode {
-        prefix,
-        left,
-        right,
-    };
-    *link = Link::of_fork(fork);
-    given.nodes += 2;
-    true
 }
 
 /// The longest prefix that contains both p and one with this base, which share no address.

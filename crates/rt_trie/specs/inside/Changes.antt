@@ -1,7 +1,8 @@
 -- What an insertion and a removal make of a link.
-use Rattle.std.specs.Prelude.{◌≡◌, ℕ, ◌+◌, ◌++◌, ◌⊎◌, Bool, true, false, Option, None, IfSome}
+use Rattle.std.specs.Prelude.{◌≡◌, ℕ, ◌+◌, ◌^◌, ◌<◌, ◌++◌, ◌⊎◌, Bool, true, false, Option, None, IsSome, IfSome}
 use Rattle.rt_cidr.specs.declared.prefixes.Prefix.{Prefix}
 use Rattle.rt_trie.specs.declared.nodes.Link.{Link}
+use Rattle.rt_trie.specs.declared.insertion.NewValue.{NewValue}
 use Rattle.rt_trie.specs.Map.{get, put, erase}
 use Rattle.rt_trie.specs.Blocks.{IsChild}
 use Rattle.rt_trie.specs.inside.Links.{pairs, count, IsVacant}
@@ -31,10 +32,15 @@ pub record IsRefused {V A : Type 0} (old new : Link V A) (n m : ℕ) (p : Prefix
   pub same : new ≡ old
   pub counted : m ≡ n
 
--- what an insertion did that answers whether it was done
-abbrev pub Inserts : {V A : Type 0} → Link V A → Link V A → ℕ → ℕ → Prefix → Option V → Option V → Bool → Type 0
-Inserts old new n m p given slot true = IsInserted old new n m p given slot
-Inserts old new n m p given slot false = IsRefused old new n m p given slot
+-- a value is given, and two more nodes can be counted
+pub record IsGiven {V A : Type 0} (given : NewValue V A) : Type 0 where
+  pub room : given.nodes + 2 < 2 ^ 64
+  pub value : IsSome given.value
+
+-- what an insertion did that answers whether it was done, and what it made of what was given
+abbrev pub Inserts : {V A : Type 0} → Link V A → Link V A → Prefix → NewValue V A → NewValue V A → Bool → Type 0
+Inserts old new p given after true = IsInserted old new given.nodes after.nodes p given.value after.value
+Inserts old new p given after false = IsRefused old new given.nodes after.nodes p given.value after.value
 
 -- what stood at p was taken out: the link is lawful, and a child on each side where it was one
 pub record IsErased {V A : Type 0} (old new : Link V A) (p : Prefix) : Type 0 where

@@ -14,7 +14,7 @@ returns-in-Left-position_of g t c =
     let p = c.args.p in
     let key = key_of_fork c.in-Fork.fork m c.args.link.now c.in-Fork.is d.ensures.value c.requires.lawful.0 in
     let position = c.in-Left-position_of.ensures m.prefix key in
-    insert_left c.args.link.now m.prefix _ m.left m.right c.insert.new.link _ c.args.given.now.nodes _ p c.args.given.now.value _ c.insert.result
+    insert_left c.args.link.now m.prefix _ m.left m.right c.insert.new.link _ p c.args.given.now c.insert.new.given c.insert.result
     (view_fork c.in-Fork.fork m c.args.link.now c.in-Fork.is d.ensures.value c.requires.lawful.0) c.requires.lawful position c.insert.ensures
 
 pub returns-in-Right : goal.returns-in-Right
@@ -24,8 +24,8 @@ returns-in-Right g t c =
     let p = c.args.p in
     let key = key_of_fork c.in-Fork.fork m c.args.link.now c.in-Fork.is d.ensures.value c.requires.lawful.0 in
     let position = c.in-Right.ensures m.prefix key in
-    insert_right c.args.link.now m.prefix _ m.left m.right c.insert-in-Right.new.link _ c.args.given.now.nodes _ p
-    c.args.given.now.value _ c.insert-in-Right.result
+    insert_right c.args.link.now m.prefix _ m.left m.right c.insert-in-Right.new.link _ p
+    c.args.given.now c.insert-in-Right.new.given c.insert-in-Right.result
     (view_fork c.in-Fork.fork m c.args.link.now c.in-Fork.is d.ensures.value c.requires.lawful.0) c.requires.lawful position c.insert-in-Right.ensures
 
 pub returns-in-Left-position_of-2 : goal.returns-in-Left-position_of-2
@@ -36,7 +36,7 @@ returns-in-Left-position_of-2 g t c =
     let k = c.insert-in-Left-position_of-2 in
     let key = key_of_full c.in-Full.full m c.args.link.now c.in-Full.is d.ensures.value c.requires.lawful.0 in
     let position = c.in-Left-position_of-2.ensures m.prefix key in
-    insert_left c.args.link.now m.prefix _ m.left m.right k.new.link _ c.args.given.now.nodes _ p c.args.given.now.value _ k.result
+    insert_left c.args.link.now m.prefix _ m.left m.right k.new.link _ p c.args.given.now k.new.given k.result
     (view_full c.in-Full.full m c.args.link.now c.in-Full.is d.ensures.value c.requires.lawful.0) c.requires.lawful position k.ensures
 
 pub returns-in-Right-position_of : goal.returns-in-Right-position_of
@@ -47,14 +47,13 @@ returns-in-Right-position_of g t c =
     let k = c.insert-in-Right-position_of in
     let key = key_of_full c.in-Full.full m c.args.link.now c.in-Full.is d.ensures.value c.requires.lawful.0 in
     let position = c.in-Right-position_of.ensures m.prefix key in
-    insert_right c.args.link.now m.prefix _ m.left m.right k.new.link _ c.args.given.now.nodes _ p c.args.given.now.value _ k.result
+    insert_right c.args.link.now m.prefix _ m.left m.right k.new.link _ p c.args.given.now k.new.given k.result
     (view_full c.in-Full.full m c.args.link.now c.in-Full.is d.ensures.value c.requires.lawful.0) c.requires.lawful position k.ensures
 
 pub returns-in-Here-position_of : goal.returns-in-Here-position_of
 returns-in-Here-position_of g t c =
     let k = c.insert_at_fork in
-    subst (λ l. Inserts l k.new.link c.args.given.now.nodes k.new.given.nodes c.args.p c.args.given.now.value
-    k.new.given.value k.result) (sym c.in-Fork.is) k.ensures
+    subst (λ l. Inserts l k.new.link c.args.p c.args.given.now k.new.self k.result) (sym c.in-Fork.is) k.ensures
 
 pub returns-in-Here-position_of-2 : goal.returns-in-Here-position_of-2
 returns-in-Here-position_of-2 g t c =
@@ -130,41 +129,34 @@ position_of-requires-in-Full g t c = short_full c.in-Full.full c.args.link.now c
 pub returns-in-Left : goal.returns-in-Left
 returns-in-Left g t c =
     let k = c.insert_below_leaf in
-    subst (λ l. Inserts l k.new.link c.args.given.now.nodes k.new.given.nodes c.args.p c.args.given.now.value
-    k.new.given.value k.result) (sym c.in-Leaf.is) k.ensures
+    subst (λ l. Inserts l k.new.link c.args.p c.args.given.now k.new.self k.result) (sym c.in-Leaf.is) k.ensures
 
 pub returns-in-Above : goal.returns-in-Above
 returns-in-Above g t c =
     let k = c.insert_above in
-    subst (λ l. Inserts l k.new.link c.args.given.now.nodes k.new.given.nodes c.args.p c.args.given.now.value
-    k.new.given.value k.result) (sym c.in-Leaf.is) k.ensures
+    subst (λ l. Inserts l k.new.link c.args.p c.args.given.now k.new.self k.result) (sym c.in-Leaf.is) k.ensures
 
 pub returns-in-Apart : goal.returns-in-Apart
 returns-in-Apart g t c =
     let k = c.insert_beside in
-    subst (λ l. Inserts l k.new.link c.args.given.now.nodes k.new.given.nodes c.args.p c.args.given.now.value
-    k.new.given.value k.result) (sym c.in-Leaf.is) k.ensures
+    subst (λ l. Inserts l k.new.link c.args.p c.args.given.now k.new.self k.result) (sym c.in-Leaf.is) k.ensures
 
 pub returns-in-Above-position_of : goal.returns-in-Above-position_of
 returns-in-Above-position_of g t c =
     let k = c.insert_above-in-Above-position_of in
-    subst (λ l. Inserts l k.new.link c.args.given.now.nodes k.new.given.nodes c.args.p c.args.given.now.value
-    k.new.given.value k.result) (sym c.in-Fork.is) k.ensures
+    subst (λ l. Inserts l k.new.link c.args.p c.args.given.now k.new.self k.result) (sym c.in-Fork.is) k.ensures
 
 pub returns-in-Apart-position_of : goal.returns-in-Apart-position_of
 returns-in-Apart-position_of g t c =
     let k = c.insert_beside-in-Apart-position_of in
-    subst (λ l. Inserts l k.new.link c.args.given.now.nodes k.new.given.nodes c.args.p c.args.given.now.value
-    k.new.given.value k.result) (sym c.in-Fork.is) k.ensures
+    subst (λ l. Inserts l k.new.link c.args.p c.args.given.now k.new.self k.result) (sym c.in-Fork.is) k.ensures
 
 pub returns-in-Above-position_of-2 : goal.returns-in-Above-position_of-2
 returns-in-Above-position_of-2 g t c =
     let k = c.insert_above-in-Above-position_of-2 in
-    subst (λ l. Inserts l k.new.link c.args.given.now.nodes k.new.given.nodes c.args.p c.args.given.now.value
-    k.new.given.value k.result) (sym c.in-Full.is) k.ensures
+    subst (λ l. Inserts l k.new.link c.args.p c.args.given.now k.new.self k.result) (sym c.in-Full.is) k.ensures
 
 pub returns-in-Apart-position_of-2 : goal.returns-in-Apart-position_of-2
 returns-in-Apart-position_of-2 g t c =
     let k = c.insert_beside-in-Apart-position_of-2 in
-    subst (λ l. Inserts l k.new.link c.args.given.now.nodes k.new.given.nodes c.args.p c.args.given.now.value
-    k.new.given.value k.result) (sym c.in-Full.is) k.ensures
+    subst (λ l. Inserts l k.new.link c.args.p c.args.given.now k.new.self k.result) (sym c.in-Full.is) k.ensures

@@ -1,5 +1,5 @@
 use Rattle.std.proofs.Common.{rules}
-use Rattle.rt_trie.proofs.insertion.insert_at_empty.Goals as goal
+use Rattle.rt_trie.proofs.insertion.NewValue.insert_below_leaf.Goals as goal
 
 pub returns : goal.returns
 returns g c = search rules

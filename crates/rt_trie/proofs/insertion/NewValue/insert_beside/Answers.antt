@@ -2,16 +2,16 @@ use Rattle.std.proofs.Common.{inl, inr, refl, ap, ◌∙◌, arith}
 use Rattle.std.specs.Box.{with_value}
 use Rattle.rt_trie.specs.declared.nodes.Link.{Link}
 use Rattle.rt_trie.proofs.InsertLemmas.{beside_insert, get_apart, refused}
-use Rattle.rt_trie.proofs.insertion.insert_beside.Goals as goal
-use Rattle.rt_trie.proofs.insertion.insert_beside.Goals.{then-base, else-base}
+use Rattle.rt_trie.proofs.insertion.NewValue.insert_beside.Goals as goal
+use Rattle.rt_trie.proofs.insertion.NewValue.insert_beside.Goals.{then-base, else-base}
 
 pub returns : goal.returns
 returns g c =
     let r = c.requires in
     let leaf = c.in-Some-leaf_of in
     let fork = with_value c.in-Some.fork (record { prefix = c.common_prefix-prefix.result; left = c.if-base.left.0; right = c.if-base.left.1 }) in
-    rw c.of_fork.ensures (beside_insert c.args.link.now c.args.given.now.nodes _ r.seen.node c.args.p
-    c.common_prefix-prefix.result c.args.given.now.value c.leaf_of.new.value leaf.new
+    rw c.of_fork.ensures (beside_insert c.args.link.now c.args.self.now.nodes _ r.seen.node c.args.p
+    c.common_prefix-prefix.result c.args.self.now.value c.leaf_of.new.value leaf.new
     r.lawful r.seen.root_is r.seen.stands leaf.ensures.made.0 leaf.ensures.made.1 leaf.ensures.made.2 refl fork refl
     (elim c.if-base.branch [
       | then-base w ↦ inl (
@@ -28,7 +28,7 @@ returns g c =
 
 pub returns-in_default : goal.returns-in_default
 returns-in_default g c =
-    refused c.args.link.now c.args.given.now.nodes c.args.p c.args.given.now.value
+    refused c.args.link.now c.args.self.now.nodes c.args.p c.args.self.now.value
     (get_apart c.args.link.now c.requires.seen.node c.args.p c.requires.lawful c.requires.seen.root_is c.requires.seen.stands)
 
 pub returns-in_default-leaf_of : goal.returns-in_default-leaf_of
