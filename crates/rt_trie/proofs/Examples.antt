@@ -363,20 +363,14 @@ a_full_node_by_its_value_or_so :
 a_full_node_by_its_value_or_so len base o left right v h = h
 
 -- IsLawfulBelow
-nothing_is_lawful_and_a_leaf_with_its_key :
-    {V A : Type 0} (len base : ℕ) (b : Box (LeafNode V) A)
+what_is_lawful_of_each_kind_of_link :
+    {V A : Type 0} (len base : ℕ) (b : Box (LeafNode V) A) (p : _) (o : _) (left right : Link V A) (v : Option V)
     → IsLawfulBelow {V = V} {A = A} Empty × (IsLawfulBelow (Leaf len base b) → IsKeyOf len base b.value.prefix)
-nothing_is_lawful_and_a_leaf_with_its_key len base b = (tt, λ h. h)
-
-a_fork_with_its_halves_and_its_key :
-    {V A : Type 0} (len base : ℕ) (p : _) (left right : Link V A) → IsLawfulBelow (Fork' len base p left right ten_8)
-    → AreHalves ten_8 left right × (IsLawfulBelow left × IsNeeded left) × (IsLawfulBelow right × IsNeeded right) × IsKeyOf len base ten_8
-a_fork_with_its_halves_and_its_key len base p left right h = h
-
-and_so_a_full_node :
-    {V A : Type 0} (len base : ℕ) (o : _) (left right : Link V A) (v : Option V) → IsLawfulBelow (Full' len base o left right ten_8 v)
-    → AreHalves ten_8 left right × (IsLawfulBelow left × IsNeeded left) × (IsLawfulBelow right × IsNeeded right) × IsKeyOf len base ten_8
-and_so_a_full_node len base o left right v h = h
+    × (IsLawfulBelow (Fork' len base p left right ten_8)
+    → AreHalves ten_8 left right × (IsLawfulBelow left × IsNeeded left) × (IsLawfulBelow right × IsNeeded right) × IsKeyOf len base ten_8)
+    × (IsLawfulBelow (Full' len base o left right ten_8 v)
+    → AreHalves ten_8 left right × (IsLawfulBelow left × IsNeeded left) × (IsLawfulBelow right × IsNeeded right) × IsKeyOf len base ten_8)
+what_is_lawful_of_each_kind_of_link len base b p o left right v = (tt, λ h. h, λ h. h, λ h. h)
 
 -- IsLawfulTrie
 below_it_and_by_itself : {V A : Type 0} (link : Link V A) → IsLawfulTrie link → IsLawfulBelow link × IsNeeded link
