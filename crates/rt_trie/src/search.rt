@@ -1,4 +1,5 @@
-//! The look-ups, which go down from the root by a loop and take no memory.
+//! The look-ups, which go down from the root by a loop and take no memory. That of a prefix and that of an address are one
+//! descent; no `&mut` comes out of a loop, so the value for writing has its own (`descent`).
 
 ghost use Rattle.std.specs.Prelude.{◌≡◌, ℕ, ◌+◌, ◌<◌, ◌≤◌, false, Option, None, IfSome, IsTrue, length};
 ghost use Rattle.std.specs.Option.{option_copied};

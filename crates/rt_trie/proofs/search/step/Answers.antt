@@ -23,29 +23,39 @@ returns-then-offset-ge-END-2-clause-sought g c =
     λ most short. step_ends _ _ _ _ _ n most short c.args.address _
     (not_covered q c.args.address _ (c.offset-offset-in-Full.ensures.covered q k) c.if-offset-ge-END-2.true)
 
-pub returns-else-offset-ge-END-clause-sought : goal.returns-else-offset-ge-END-clause-sought
-returns-else-offset-ge-END-clause-sought g c =
+pub returns-else-offset-ge-END : goal.returns-else-offset-ge-END
+returns-else-offset-ge-END g c =
     let m = c.as_ref-fork.result.now in
     let n = of_fork c.in-Fork.fork m c.args.link.now c.in-Fork.is c.as_ref-fork.ensures c.requires in
     let k = key_of_fork c.in-Fork.fork m c.args.link.now c.in-Fork.is c.as_ref-fork.ensures c.requires in
     let o = c.offset-offset in
     let covered = (o.ensures.covered m.prefix k).1 c.if-offset-ge-END.false in
-    λ most short. step_side _ _ _ _ _ _ n most short c.args.address _ _ o.result (o.ensures.half m.prefix k covered)
-    (λ e. o.ensures.none (k.len_is ∙ e) c.if-offset-ge-END.false) c.side.ensures refl
+    let below = side_below _ _ _ _ _ _ n o.result c.side.ensures in
+    record {
+      lawful = below.0;
+      down = below.1;
+      sought = λ most short. step_side _ _ _ _ _ _ n most short c.args.address _ _ o.result (o.ensures.half m.prefix k covered)
+          (λ e. o.ensures.none (k.len_is ∙ e) c.if-offset-ge-END.false) c.side.ensures refl;
+    }
 
-pub returns-after-full-clause-sought : goal.returns-after-full-clause-sought
-returns-after-full-clause-sought g c =
+pub returns-after-full : goal.returns-after-full
+returns-after-full g c =
     let m = c.as_ref-full.result.now in
     let n = of_full c.in-Full.full m c.args.link.now c.in-Full.is c.as_ref-full.ensures c.requires in
     let k = key_of_full c.in-Full.full m c.args.link.now c.in-Full.is c.as_ref-full.ensures c.requires in
     let o = c.offset-offset-in-Full in
     let covered = (o.ensures.covered m.prefix k).1 c.if-offset-ge-END-2.false in
-    λ most short. step_side _ _ _ _ _ _ n most short c.args.address _ _ o.result (o.ensures.half m.prefix k covered)
-    (λ e. o.ensures.none (k.len_is ∙ e) c.if-offset-ge-END-2.false) c.side-in-Full.ensures
-    (elim c.match-full.branch [
-      | in-Some w ↦ best_stored _ _ _ c.args.address _ w.in-Some.is covered ∙ sym (ap pair_copied w.best-is)
-      | in_default w ↦ best_unstored _ _ c.args.address _ (none_unless m.value w.in_default.not-Some) ∙ sym (ap pair_copied w.best-is)
-    ])
+    let below = side_below _ _ _ _ _ _ n o.result c.side-in-Full.ensures in
+    record {
+      lawful = below.0;
+      down = below.1;
+      sought = λ most short. step_side _ _ _ _ _ _ n most short c.args.address _ _ o.result (o.ensures.half m.prefix k covered)
+          (λ e. o.ensures.none (k.len_is ∙ e) c.if-offset-ge-END-2.false) c.side-in-Full.ensures
+          (elim c.match-full.branch [
+            | in-Some w ↦ best_stored _ _ _ c.args.address _ w.in-Some.is covered ∙ sym (ap pair_copied w.best-is)
+            | in_default w ↦ best_unstored _ _ c.args.address _ (none_unless m.value w.in_default.not-Some) ∙ sym (ap pair_copied w.best-is)
+          ]);
+    }
 
 pub offset-requires : goal.offset-requires
 offset-requires g c = short_leaf c.in-Leaf.leaf c.args.link.now c.in-Leaf.is c.requires
@@ -55,23 +65,3 @@ offset-offset-requires g c = short_fork c.in-Fork.fork c.args.link.now c.in-Fork
 
 pub offset-offset-requires-in-Full : goal.offset-offset-requires-in-Full
 offset-offset-requires-in-Full g c = short_full c.in-Full.full c.args.link.now c.in-Full.is c.requires
-
-pub returns-else-offset-ge-END-clause-lawful : goal.returns-else-offset-ge-END-clause-lawful
-returns-else-offset-ge-END-clause-lawful g c =
-    (side_below _ _ _ _ _ _ (of_fork c.in-Fork.fork c.as_ref-fork.result.now c.args.link.now c.in-Fork.is
-    c.as_ref-fork.ensures c.requires) c.offset-offset.result c.side.ensures).0
-
-pub returns-else-offset-ge-END-clause-down : goal.returns-else-offset-ge-END-clause-down
-returns-else-offset-ge-END-clause-down g c =
-    (side_below _ _ _ _ _ _ (of_fork c.in-Fork.fork c.as_ref-fork.result.now c.args.link.now c.in-Fork.is
-    c.as_ref-fork.ensures c.requires) c.offset-offset.result c.side.ensures).1
-
-pub returns-after-full-clause-lawful : goal.returns-after-full-clause-lawful
-returns-after-full-clause-lawful g c =
-    (side_below _ _ _ _ _ _ (of_full c.in-Full.full c.as_ref-full.result.now c.args.link.now c.in-Full.is
-    c.as_ref-full.ensures c.requires) c.offset-offset-in-Full.result c.side-in-Full.ensures).0
-
-pub returns-after-full-clause-down : goal.returns-after-full-clause-down
-returns-after-full-clause-down g c =
-    (side_below _ _ _ _ _ _ (of_full c.in-Full.full c.as_ref-full.result.now c.args.link.now c.in-Full.is
-    c.as_ref-full.ensures c.requires) c.offset-offset-in-Full.result c.side-in-Full.ensures).1
