@@ -48,8 +48,8 @@ impl<'a, V, A: Allocator> Answers<'a, V, A> {
         }
     }
 
-    /// The longest match of the address, and how far it goes, as `Trie::longest_until` gives them. Of an address that is no
-    /// lesser than the one before, the way down goes on from where theirs part; of a lesser one it begins anew.
+    /// The longest match of the address, and how far it goes, as `Trie::longest_until` gives them. Of an address that
+    /// is no lesser than the one before, the way down goes on from where theirs part; of a lesser one it begins anew.
     pub fn until(&mut self, a: Addr) -> (Option<(Prefix, &'a V)>, Addr)
         ensures kept { self.new ≡ self.old }
         ensures onward { a.0 ≤ result.1.0 }

@@ -12,8 +12,8 @@ use rt_cidr::{Addr, Prefix};
 use std::alloc::Allocator;
 use std::marker::Model;
 
-/// An iterator over the pairs of a trie whose prefix covers an address, the shortest first. It takes no memory, and goes
-/// down once.
+/// An iterator over the pairs of a trie whose prefix covers an address, the shortest first. It takes no memory, and
+/// goes down once.
 #[derive(Drop)]
 pub struct Covering<'a, V, A: Allocator> {
     // The link below which the pairs are that are still to come.

@@ -1,8 +1,8 @@
 //! Putting a value into a trie. Every box is made before the first link is changed.
 //!
-//! The value comes in an option, in which what stood in its place goes back. So the way down carries a `bool` alone, each
-//! call of it is its function's last act, and what it may change at its end stands in functions of their own: it becomes a
-//! loop.
+//! The value comes in an option, in which what stood in its place goes back. So the way down carries a `bool` alone,
+//! each call of it is its function's last act, and what it may change at its end stands in functions of their own: it
+//! becomes a loop.
 
 ghost use Rattle.std.specs.Prelude.{◌≡◌, ◌≢◌, ◌+◌, ◌/◌, ◌<◌, ◌≤◌, ◌^◌, ◌⊎◌, false, true, None, Some, IsSome, IfSome, IfNone};
 ghost use Rattle.rt_trie.specs.declared.nodes.Link.TheVariants.{Empty};

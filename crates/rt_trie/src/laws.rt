@@ -1,4 +1,5 @@
-//! Laws of the map that the contracts speak of, and of a lawful trie. Each function does nothing: its contract is the law.
+//! Laws of the map that the contracts speak of, and of a lawful trie. Each function does nothing: its contract is the
+//! law.
 
 ghost use Rattle.rt_trie.specs.Laws.{ChildByNextBit, PutIsSeen, EraseIsSeen, PutKeepsOrder, EraseKeepsOrder, PairsAreFound, MapHasOneList, FirstIsLeast, NoneIsFirst, AfterIsNext, NoneIsAfter, LawfulByBits};
 
@@ -21,7 +22,8 @@ pub fn one_list<V>()
     same_prefix();
 }
 
-/// The first prefix is the least that is stored, and the one after p is the stored prefix after it with no other between.
+/// The first prefix is the least that is stored, and the one after p is the stored prefix after it with no other
+/// between.
 pub fn least<V>()
     ensures first { FirstIsLeast V }
     ensures none_first { NoneIsFirst V }
@@ -31,8 +33,8 @@ pub fn least<V>()
     same_prefix();
 }
 
-/// The trie that the type keeps, in terms of bits: each child is longer than its parent, contained in it, and on the side of
-/// the first bit after the parent's length, and a node without a value has two children.
+/// The trie that the type keeps, in terms of bits: each child is longer than its parent, contained in it, and on the
+/// side of the first bit after the parent's length, and a node without a value has two children.
 pub fn lawful<V, A: Allocator>()
     ensures child { ChildByNextBit }
     ensures trie { LawfulByBits V A }

@@ -8,16 +8,16 @@
 //! let (prefix, hop) = hops.longest(Addr::parse(b"10.1.2.3")?).ok_or("no route")?; // 10.1.0.0/16 and 2
 //! ```
 //!
-//! A contract sees a trie as three things: `pairs`, the list of its prefixes with their values in the order of base and then
-//! length, `nodes`, how many nodes keep them, and `tree`, these nodes with their prefixes. Its type keeps the trie lawful, and
-//! [`Trie::nodes`] says so of its tree: each child is longer than its parent, contained in it and on the side of the next bit,
-//! a node without a value has two children, and values stand at the stored prefixes alone.
-//! [`laws`] says what the words for the list mean. Each call is proved to do to the list what its clause says, to end, and
-//! to be safe; an insertion that is refused memory leaves list and nodes as they were.
+//! A contract sees a trie as three things: `pairs`, the list of its prefixes with their values in the order of base and
+//! then length, `nodes`, how many nodes keep them, and `tree`, these nodes with their prefixes. Its type keeps the trie
+//! lawful, and [`Trie::nodes`] says so of its tree: each child is longer than its parent, contained in it and on the
+//! side of the next bit, a node without a value has two children, and values stand at the stored prefixes alone.
+//! [`laws`] says what the words for the list mean. Each call is proved to do to the list what its clause says, to end,
+//! and to be safe; an insertion that is refused memory leaves list and nodes as they were.
 //!
-//! Only tested, since no clause says it: that an insertion succeeds where there is memory, that no other call needs any,
-//! that what an insertion made is given back where it is refused a later box, in how few calls `longest_until` goes over
-//! all addresses, and that [`Answers::until`] goes as far.
+//! Only tested, since no clause says it: that an insertion succeeds where there is memory, that no other call needs
+//! any, that what an insertion made is given back where it is refused a later box, in how few calls `longest_until`
+//! goes over all addresses, and that [`Answers::until`] goes as far.
 #![tactic(auto)]
 
 mod answers;

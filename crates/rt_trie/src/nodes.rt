@@ -39,8 +39,9 @@ pub(crate) struct FullNode<V, A: Allocator> {
     pub value: Option<V>,
 }
 
-/// What the trie, or a node on one of its sides, holds: nothing, or a node in a box of its kind's size, and beside the box
-/// the length and the base of the node's prefix, so that a look-up that ends at a node need not wait for its memory.
+/// What the trie, or a node on one of its sides, holds: nothing, or a node in a box of its kind's size, and beside the
+/// box the length and the base of the node's prefix, so that a look-up that ends at a node need not wait for its
+/// memory.
 #[cycle(links)]
 #[derive(Drop)]
 pub(crate) enum Link<V, A: Allocator> {
@@ -126,8 +127,8 @@ impl<V, A: Allocator> Link<V, A> {
     }
 }
 
-/// The first address of the upper half of those that the prefix of that length and base covers, or its base where it covers
-/// but one.
+/// The first address of the upper half of those that the prefix of that length and base covers, or its base where it
+/// covers but one.
 #[inline(always)]
 pub(crate) fn middle(len: u8, base: u32) -> u64
     requires { len ≤ 32 }
@@ -142,8 +143,8 @@ const HALF: u64 = 1 << 31;
 /// Where a prefix's addresses end, as `offset` counts them.
 pub(crate) const END: u64 = 1 << 32;
 
-/// How far into the addresses of the prefix of that length and base the address lies, where all of them together count as
-/// 2^32, however many they are. At an address before them it is no less, as at one past them.
+/// How far into the addresses of the prefix of that length and base the address lies, where all of them together count
+/// as 2^32, however many they are. At an address before them it is no less, as at one past them.
 #[inline(always)]
 pub(crate) fn offset(len: u8, base: u32, address: u32) -> u64
     requires { len ≤ 32 }

@@ -48,8 +48,8 @@ impl<'a, V, A: Allocator> Place<'a, V, A> {
     }
 }
 
-/// The pair of the longest prefix that covers the address, and a last address: each one up to it has the same. It is the
-/// last before a prefix, the last of a prefix, or the last of all.
+/// The pair of the longest prefix that covers the address, and a last address: each one up to it has the same. It is
+/// the last before a prefix, the last of a prefix, or the last of all.
 pub(crate) fn longest_until<V, A: Allocator>(
     root: &Link<V, A>,
     address: Addr,
@@ -142,7 +142,8 @@ fn past(prefix: &Prefix) -> u64
     u64::from(prefix.base()) + (1u64 << (32 - prefix.len()))
 }
 
-/// The last address before those of the link's node, which lie after the given one, or the last of all where there is none.
+/// The last address before those of the link's node, which lie after the given one, or the last of all where there is
+/// none.
 fn last_before<V, A: Allocator>(link: &Link<V, A>, address: Addr) -> u32
     requires lawful { IsLawfulBelow link.now }
     requires after { IfSome (root link.now) (λ q. address.0 < q.base) }

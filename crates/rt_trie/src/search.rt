@@ -1,5 +1,5 @@
-//! The look-ups, which go down from the root by a loop and take no memory. That of a prefix and that of an address are one
-//! descent; no `&mut` comes out of a loop, so the value for writing has its own (`descent`).
+//! The look-ups, which go down from the root by a loop and take no memory. That of a prefix and that of an address are
+//! one descent; no `&mut` comes out of a loop, so the value for writing has its own (`descent`).
 
 ghost use Rattle.std.specs.Prelude.{◌≡◌, ℕ, ◌+◌, ◌<◌, ◌≤◌, false, Option, None, IfSome, IsTrue, length};
 ghost use Rattle.std.specs.Option.{option_copied};
@@ -49,8 +49,8 @@ fn longest_to<V, A: Allocator>(root: &Link<V, A>, address: Addr, most: u8) -> Op
     best
 }
 
-/// Whether the link's node, if it holds one, is no longer than that. None is longer than an address, so where that is asked
-/// the link isn't read.
+/// Whether the link's node, if it holds one, is no longer than that. None is longer than an address, so where that is
+/// asked the link isn't read.
 #[inline(always)]
 fn is_no_longer<V, A: Allocator>(link: &Link<V, A>, most: u8) -> bool
     requires { IsLawfulBelow link.now }
@@ -66,8 +66,8 @@ fn is_no_longer<V, A: Allocator>(link: &Link<V, A>, most: u8) -> bool
     }
 }
 
-/// One step of a look-up, at a link: the link at which it goes on, if it goes on. What the node stores is the best so far
-/// from then on, and is written only where there is some.
+/// One step of a look-up, at a link: the link at which it goes on, if it goes on. What the node stores is the best so
+/// far from then on, and is written only where there is some.
 #[inline(always)]
 pub(crate) fn step<'a, V, A: Allocator>(
     link: &'a Link<V, A>,
@@ -133,8 +133,8 @@ pub(crate) fn longest_many<'a, V, A: Allocator>(
     }
 }
 
-/// The answers of so many addresses from a place on, one in each lane. The first lanes of the order go on, a step in each in
-/// turn; one that has ended gives its place there to the last of them.
+/// The answers of so many addresses from a place on, one in each lane. The first lanes of the order go on, a step in
+/// each in turn; one that has ended gives its place there to the last of them.
 fn longest_in_lanes<'a, V, A: Allocator>(
     root: &'a Link<V, A>,
     addresses: &[Addr],

@@ -17,7 +17,8 @@ pub trait Sieve<V> {
     /// Whether it wants to be shown no more.
     ghost done: { Self → Bool };
 
-    /// Shown the pair, the first sieve becomes the second one and the first value the second one; whether the pair stays.
+    /// Shown the pair, the first sieve becomes the second one and the first value the second one; whether the pair
+    /// stays.
     ghost judges: { Self → Prefix → V → Self → V → Bool → Type 0 };
 
     /// Whether it wants to be shown no more: what it was not shown stays as it is.

@@ -82,8 +82,8 @@ impl<V: Drop, A: Allocator + Copy> Trie<V, A> {
         self.len() == 0
     }
 
-    /// How many nodes the map takes: one for each prefix that is stored, and one for each other at which two that are stored
-    /// part. So none where nothing is stored, and at most 2m - 1 for m prefixes.
+    /// How many nodes the map takes: one for each prefix that is stored, and one for each other at which two that are
+    /// stored part. So none where nothing is stored, and at most 2m - 1 for m prefixes.
     pub fn nodes(&self) -> usize
         ensures nodes { result ≡ self.now.nodes }
         ensures counted { CountsNodes self.now.pairs result }
@@ -101,8 +101,8 @@ impl<V: Drop, A: Allocator + Copy> Trie<V, A> {
         search::get(&self.root, p)
     }
 
-    /// The value at the prefix for writing, if it is stored. What is written through it stands at the prefix from then on,
-    /// and the rest of the map stays.
+    /// The value at the prefix for writing, if it is stored. What is written through it stands at the prefix from then
+    /// on, and the rest of the map stays.
     pub fn get_mut(&mut self, p: Prefix) -> Option<&mut V>
         ensures* writes_back { sem 𝓛 (lends_value V.row A.row A.Allocator self.entry p result) }
         ensures value { option_copied_mut result ≡ get self.old.pairs p }
@@ -110,8 +110,9 @@ impl<V: Drop, A: Allocator + Copy> Trie<V, A> {
         WayDown::find(&mut self.root, p)
     }
 
-    /// Puts the value at the prefix, and gives the value that stood there. Where memory is refused it gives its own value
-    /// back as an `Err`, and the map and its nodes are as they were; at a prefix that is stored it takes no memory.
+    /// Puts the value at the prefix, and gives the value that stood there. Where memory is refused it gives its own
+    /// value back as an `Err`, and the map and its nodes are as they were; at a prefix that is stored it takes no
+    /// memory.
     pub fn insert(&mut self, p: Prefix, v: V) -> Result<Option<V>, V>
         ensures put { OnOk result (self.new.pairs ≡ put self.old.pairs p v) }
         ensures had { IfOk result (λ had. had ≡ get self.old.pairs p) }
@@ -148,8 +149,9 @@ impl<V: Drop, A: Allocator + Copy> Trie<V, A> {
         gone
     }
 
-    /// Shows the sieve the pairs, each once, by base and then by length, until it is done, and takes out those that it gives
-    /// up. The others stay, each with the value that the sieve made of it. It takes no memory, and goes to each node once.
+    /// Shows the sieve the pairs, each once, by base and then by length, until it is done, and takes out those that it
+    /// gives up. The others stay, each with the value that the sieve made of it. It takes no memory, and goes to each
+    /// node once.
     pub fn retain<S: Sieve<V>>(&mut self, sieve: &mut S)
         ensures sifted { IsSifted S.done S.judges sieve.old sieve.new self.old.pairs self.new.pairs }
         ensures ordered { IsOrdered self.new.pairs }
@@ -166,8 +168,8 @@ impl<V: Drop, A: Allocator + Copy> Trie<V, A> {
     }
 
     /// `longest` of each address: the answers take the place of what stood in the list, which is as long as that of the
-    /// addresses. Eight look-ups go on in turn, so that one waits for memory while the others do, which is faster where the
-    /// nodes don't all lie in cache. It takes no memory.
+    /// addresses. Eight look-ups go on in turn, so that one waits for memory while the others do, which is faster where
+    /// the nodes don't all lie in cache. It takes no memory.
     pub fn longest_many<'a>(&'a self, addresses: &[Addr], answers: &mut [Option<(Prefix, &'a V)>])
         requires { length answers.old ≡ length addresses.now }
         ensures { AreLongest self.now.pairs addresses.now answers.new }
@@ -175,9 +177,10 @@ impl<V: Drop, A: Allocator + Copy> Trie<V, A> {
         search::longest_many(&self.root, addresses, answers);
     }
 
-    /// `longest` of the address, and how far it goes: up to this last address each from the given one on has the very same.
-    /// It is 255.255.255.255, or the last before those that a node's prefix covers, or the last that one covers: so who goes
-    /// on past it goes over all addresses in at most 2n + 1 calls, where the map has n nodes. It takes no memory.
+    /// `longest` of the address, and how far it goes: up to this last address each from the given one on has the very
+    /// same. It is 255.255.255.255, or the last before those that a node's prefix covers, or the last that one covers:
+    /// so who goes on past it goes over all addresses in at most 2n + 1 calls, where the map has n nodes. It takes no
+    /// memory.
     pub fn longest_until(&self, a: Addr) -> (Option<(Prefix, &V)>, Addr)
         ensures onward { a.0 ≤ result.1.0 }
         ensures same { (b : Addr) → a.0 ≤ b.0 → b.0 ≤ result.1.0 → IsLongest self.now.pairs b (pair_copied result.0) }
@@ -185,16 +188,16 @@ impl<V: Drop, A: Allocator + Copy> Trie<V, A> {
         pieces::longest_until(&self.root, a)
     }
 
-    /// `longest_until` of one address after another: of rising ones each goes on from the way down of the last, in place of
-    /// from the root. It takes no memory.
+    /// `longest_until` of one address after another: of rising ones each goes on from the way down of the last, in
+    /// place of from the root. It takes no memory.
     pub fn answers(&self) -> Answers<'_, V, A>
         ensures { result ≡ self.now.pairs }
     {
         Answers::new(&self.root)
     }
 
-    /// The pairs whose prefix covers the address (RFC 1812, section 5.2.4.3, Basic Match), the shortest first: the last of
-    /// them is `longest`. It takes no memory, and goes down once.
+    /// The pairs whose prefix covers the address (RFC 1812, section 5.2.4.3, Basic Match), the shortest first: the last
+    /// of them is `longest`. It takes no memory, and goes down once.
     pub fn covering(&self, a: Addr) -> Covering<'_, V, A>
         ensures { result ≡ covering self.now.pairs a }
     {

@@ -12,8 +12,8 @@ use rt_cidr::Prefix;
 use std::alloc::Allocator;
 use std::marker::Model;
 
-/// An iterator over the pairs of a trie, by base and then by length. It takes no memory, and a whole walk goes to each node
-/// once.
+/// An iterator over the pairs of a trie, by base and then by length. It takes no memory, and a whole walk goes to each
+/// node once.
 #[derive(Drop)]
 pub struct Walk<'a, V, A: Allocator> {
     // The links whose pairs are still to come, the next one last. A node at index k has a length of at least k.

@@ -82,25 +82,24 @@ halfway g t c =
           let same = w.deref_mut-in-Left-position_of.ensures.value in
           let position = w.in-Left-position_of.ensures m.prefix (key_of_full w.in-Full.full m old w.in-Full.is same h) in
           rw (w.link-is, w.gone-is) (taken_left old m.prefix _ m.left m.right w.remove-in-Left-position_of.new.link _ p w.remove-in-Left-position_of.result
-          (view_full w.in-Full.full m old w.in-Full.is same h) position w.remove-in-Left-position_of.ensures.erased w.remove-in-Left-position_of.ensures.value)
+          (view_full w.in-Full.full m old w.in-Full.is same h) position
+          w.remove-in-Left-position_of.ensures.erased w.remove-in-Left-position_of.ensures.value)
       | in-Full+in-Right-position_of w ↦
           let m = w.deref_mut-in-Right-position_of.result.now in
           let same = w.deref_mut-in-Right-position_of.ensures.value in
           let position = w.in-Right-position_of.ensures m.prefix (key_of_full w.in-Full.full m old w.in-Full.is same h) in
           rw (w.link-is, w.gone-is) (taken_right old m.prefix _ m.left m.right w.remove-in-Right-position_of.new.link _ p w.remove-in-Right-position_of.result
-          (view_full w.in-Full.full m old w.in-Full.is same h) position w.remove-in-Right-position_of.ensures.erased w.remove-in-Right-position_of.ensures.value)
+          (view_full w.in-Full.full m old w.in-Full.is same h) position
+          w.remove-in-Right-position_of.ensures.erased w.remove-in-Right-position_of.ensures.value)
       | in-Full+in-Here-position_of w ↦
           let m = w.deref_mut-in-Here-position_of.result.now in
-          let position = w.in-Here-position_of.ensures m.prefix
-          (key_of_full w.in-Full.full m old w.in-Full.is w.deref_mut-in-Here-position_of.ensures.value
-          c.requires.lawful.0) in (
-            rw w.link-is (halfway_full_here w.in-Full.full m old p w.in-Full.is w.deref_mut-in-Here-position_of.ensures.value c.requires.lawful position
+          let same = w.deref_mut-in-Here-position_of.ensures.value in
+          let position = w.in-Here-position_of.ensures m.prefix (key_of_full w.in-Full.full m old w.in-Full.is same h) in (
+            rw w.link-is (halfway_full_here w.in-Full.full m old p w.in-Full.is same c.requires.lawful position
                 (with_value w.in-Full.full (record { prefix = m.prefix; value = w.take.new.self; left = m.left; right = m.right }))
                 refl w.take.ensures.after refl refl),
             w.gone-is ∙ w.take.ensures.value
-                ∙ sym (get_own old m.prefix _ m.left m.right
-                (of_full w.in-Full.full m old w.in-Full.is w.deref_mut-in-Here-position_of.ensures.value
-                c.requires.lawful.0) p position),
+                ∙ sym (get_own old m.prefix _ m.left m.right (of_full w.in-Full.full m old w.in-Full.is same h) p position),
           )
     ]
 
