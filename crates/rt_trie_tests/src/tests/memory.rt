@@ -63,6 +63,8 @@ fn look_up_at(rt: &impl Abort, memory: &Counted<Global>, trie: &CountedTrie<'_>,
     assert_asked(rt, memory, asked, "longest_until", text);
     go_over_covering(rt, trie, a);
     assert_asked(rt, memory, asked, "covering", text);
+    assert!(rt; trie.answers().until(a).0.is_some());
+    assert_asked(rt, memory, asked, "answers", text);
 }
 
 /// Each call at a prefix that changes no more than a value.
@@ -110,8 +112,24 @@ fn call_at_absent(rt: &impl Abort, memory: &Counted<Global>, trie: &mut CountedT
     }
 }
 
-/// Fails where `Trie::new`, `get`, `longest`, `longest_many`, `longest_until`, `covering`, `remove` or an `insert` of a
-/// stored prefix asks for memory, even if it gives it back at once.
+/// Fails where a look-up asks for memory on a way of more than 20 steps.
+#[test]
+fn the_longest_way_down_asks_for_no_memory(rt: HostRuntime) {
+    let memory = Counted::new(rt.alloc());
+    let mut trie: CountedTrie<'_> = Trie::new(&memory);
+    for len in 0..33u8 {
+        put_new(
+            &rt,
+            &mut trie,
+            Prefix::new(0, len).expect(&rt, "a prefix"),
+            1,
+        );
+    }
+    look_up_at(&rt, &memory, &trie, "0.0.0.0/32");
+}
+
+/// Fails where `Trie::new`, `get`, `longest`, `longest_many`, `longest_until`, `covering`, `answers`, `remove` or an
+/// `insert` of a stored prefix asks for memory, even if it gives it back at once.
 #[test]
 fn nothing_but_a_new_prefix_asks_for_memory(rt: HostRuntime) {
     let memory = Counted::new(rt.alloc());
