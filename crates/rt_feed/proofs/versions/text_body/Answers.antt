@@ -21,4 +21,5 @@ returns c = (
 
 pub returns-then-eq : goal.returns-then-eq
 returns-then-eq c =
-    subst (λ line. CutsLine c.args.text.now line c.in-Some.lines.now) ((slice_eq-Decides Decides-eqb _ _ _ c.eq.ensures).0 c.if-eq.true) (c.in-Some.ensures {u = tt})
+    subst (λ line. CutsLine c.args.text.now line c.in-Some.lines.now) ((slice_eq-Decides Decides-eqb _ _ _ c.eq.ensures).0 c.if-eq.true)
+    (c.in-Some.ensures {u = tt})
