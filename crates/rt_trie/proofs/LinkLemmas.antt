@@ -141,7 +141,7 @@ module _ {V A : Type 0} where
     filled = none_if b.value.value (IsFilled b.value.left × IsFilled b.value.right);
   }
 
-  -- what is known of the link to a leaf, of its node: that node is what it keeps, by the link's key
+  -- the link to a leaf
   module _ {len base : ℕ} (b : Box (LeafNode V) A) (n : LeafNode V) (link : Link V A) (e : link ≡ Leaf len base b) (f : n ≡ b.value) where
     -- its pairs
     pub of_leaf : pairs link ≡ own_pair n.prefix (Some n.value)
@@ -151,7 +151,7 @@ module _ {V A : Type 0} where
     pub key_of_leaf : IsLawfulBelow link → IsKeyOf len base n.prefix
     key_of_leaf h = let k : IsLawfulBelow (Leaf len base b) = subst IsLawfulBelow e h in rw f k
 
-  -- and so of the link to a fork
+  -- the link to a fork
   module _ {len base : ℕ} (b : Box (ForkNode V A) A) (n : ForkNode V A) (link : Link V A) (e : link ≡ Fork len base b) (f : n ≡ b.value) where
     pub of_fork : IsLawfulBelow link → IsNode link n.prefix None n.left n.right
     of_fork h = rw (f, e) (of_fork_at len base b (subst IsLawfulBelow e h))
@@ -170,7 +170,7 @@ module _ {V A : Type 0} where
         → IsView link n.prefix None n.left n.right (λ l r. Fork len base (with_value b (record { prefix = n.prefix; left = l; right = r })))
     view_fork h = rw (f, e) (view_fork_at len base b (subst IsLawfulBelow e h))
 
-  -- and to a full node
+  -- the link to a full node
   module _ {len base : ℕ} (b : Box (FullNode V A) A) (n : FullNode V A) (link : Link V A) (e : link ≡ Full len base b) (f : n ≡ b.value) where
     pub of_full : IsLawfulBelow link → IsNode link n.prefix n.value n.left n.right
     of_full h = rw (f, e) (of_full_at len base b (subst IsLawfulBelow e h))
