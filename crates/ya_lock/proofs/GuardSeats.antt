@@ -1,31 +1,68 @@
 -- What a guard's seat has, once the value was taken out of its slot.
-use Rattle.std.proofs.Common.{◌≡◌, ℕ, ◌*◌, ◌≤◌, false, [], ◌∷◌, Some, None, sym, ap, ◌∙◌, subst}
+use Rattle.std.proofs.Common.{◌≡◌, ℕ, ◌*◌, ◌≤◌, Bool, true, false, [], ◌∷◌, Some, None, sym, ap, ◌∙◌, subst}
 use Rattle.std.specs.Prelude as std
 use Rattle.atomic_table.specs.Table.{Me, rest}
-use Rattle.ya_core.specs.declared.process.Process.TheVariants.{Inside}
-use Rattle.ya_core.specs.WalkerModel.{walk}
+use Rattle.ya_core.specs.declared.process.Process.{Process}
+use Rattle.ya_core.specs.declared.process.Process.TheVariants.{Idle, Entering, Inside, Leaving}
+use Rattle.ya_core.specs.declared.word.Access.{Access}
+use Rattle.ya_core.specs.declared.word.Access.TheVariants.{Load, Store}
+use Rattle.ya_core.specs.Steps.{entry_access, exit_access}
+use Rattle.ya_core.specs.declared.walker.Op.{Op}
+use Rattle.ya_core.specs.declared.walker.Op.TheVariants as op
+use Rattle.ya_core.specs.WalkerModel.{Walk, walk, op_of, op_of_access}
 use Rattle.ya_lock.specs.declared.view.View.{View}
 use Rattle.ya_lock.specs.declared.view.View.TheVariants.{Seated}
 use Rattle.ya_lock.specs.Lock.{LockId}
-use Rattle.ya_lock.specs.inside.Lock.{HasTree, HasPlace, SeatInside, SeatOnEntry}
+use Rattle.ya_lock.specs.inside.Lock.{HasTree, HasPlace, SeatInside, SeatOf}
 use Rattle.ya_lock.proofs.TreeSize.{one_tree}
 use Rattle.ya_lock.proofs.NewSteps.{one_value}
 
+-- nothing is asked for, since the process is inside
+abbrev IsInsideOp : Op → Type 0
+IsInsideOp op.Inside = Unit {0}
+IsInsideOp _ = ⊥
+
+-- an access is asked for
+no_access : (levels : ℕ) (access : Access) → IsInsideOp (op_of_access levels access) → ⊥
+no_access levels (Load word) h = h
+no_access levels (Store word value) h = h
+
 module _ {V : Type 0} where
+  -- a walk that asks for nothing since it is inside was not told to go on
+  entered_at : (since done : ℕ → V → V → Type 0) (levels place : ℕ) (process : Process) (begun : Bool) (remote : ℕ) (seen : V)
+      (me : Me (std.Option V) (View V)) → IsInsideOp (op_of (walk levels place process begun remote))
+      → SeatOf since done seen (walk levels place process begun remote) me
+      → SeatOf since done seen (walk levels place Inside false remote) me
+  entered_at since done levels place Inside false remote seen me inside h = h
+  entered_at since done levels place Inside true remote seen me inside h = absurd inside
+  entered_at since done levels place Idle false remote seen me inside h = absurd inside
+  entered_at since done levels place Idle true remote seen me inside h = absurd inside
+  entered_at since done levels place (Entering level point) begun remote seen me inside h =
+      absurd (no_access levels (entry_access level place point) inside)
+  entered_at since done levels place (Leaving level point) begun remote seen me inside h =
+      absurd (no_access levels (exit_access level place point) inside)
+
+  -- so its seat has found a value
+  pub entered : (since done : ℕ → V → V → Type 0) (w : Walk) (seen : V) (me : Me (std.Option V) (View V))
+      → op_of w ≡ op.Inside → SeatOf since done seen w me
+      → SeatOf since done seen (walk w.levels w.place Inside false w.remote) me
+  entered since done w seen me inside h =
+      entered_at since done w.levels w.place w.process w.begun w.remote seen me (subst IsInsideOp (sym inside) tt) h
+
   -- there is a slot to take it from
-  pub has_slot : (since : ℕ → V → V → Type 0) (levels place : ℕ) (seen : V) (remote : ℕ) (me : Me (std.Option V) (View V))
-      → SeatOnEntry since seen (walk levels place Inside false remote) me → (x : std.Option V) × (me.1 ≡ (0, x) ∷ rest me.1)
-  has_slot since levels place seen remote me h =
-      let is = h.1.2 in (Some h.1.0, ap (λ (m : Me (std.Option V) (View V)). m.1) is ∙ (λ i. (0, Some h.1.0) ∷ rest (sym is i).1))
+  pub has_slot : (since done : ℕ → V → V → Type 0) (levels place : ℕ) (seen : V) (remote : ℕ) (me : Me (std.Option V) (View V))
+      → SeatOf since done seen (walk levels place Inside false remote) me → (x : std.Option V) × (me.1 ≡ (0, x) ∷ rest me.1)
+  has_slot since done levels place seen remote me h =
+      let is = h.2 in (Some h.0, ap (λ (m : Me (std.Option V) (View V)). m.1) is ∙ (λ i. (0, Some h.0) ∷ rest (sym is i).1))
 
   -- what was taken is what was found, and the slot is left empty
-  pub taken : (since : ℕ → V → V → Type 0) (levels place : ℕ) (seen value : V) (remote : ℕ) (x : std.Option V)
-      (me after : Me (std.Option V) (View V)) → SeatOnEntry since seen (walk levels place Inside false remote) me → me.1 ≡ (0, x) ∷ rest me.1
+  pub taken : (since done : ℕ → V → V → Type 0) (levels place : ℕ) (seen value : V) (remote : ℕ) (x : std.Option V)
+      (me after : Me (std.Option V) (View V)) → SeatOf since done seen (walk levels place Inside false remote) me → me.1 ≡ (0, x) ∷ rest me.1
       → x ≡ Some value
       → after ≡ (me.0, (0, None) ∷ rest me.1)
       → (after ≡ (Seated place Inside value remote, (0, None) ∷ [])) × since place seen value
-  taken since levels place seen value remote x me after entered slot is new =
-      let h = entered.1 in
+  taken since done levels place seen value remote x me after entered slot is new =
+      let h = entered in
       let own : me.1 ≡ (0, Some h.0) ∷ [] = ap (λ (m : Me (std.Option V) (View V)). m.1) h.2 in
       let same : h.0 ≡ value = one_value h.0 value (sym own ∙ (slot ∙ (λ i. (0, is i) ∷ rest (own i)))) in (
         new ∙ (λ i. ((h.2 i).0, (0, None) ∷ rest (own i))) ∙ (λ i. (Seated place Inside (same i) remote, (0, None) ∷ [])),
@@ -33,14 +70,14 @@ module _ {V : Type 0} where
       )
 
   -- so a guard has what its type asks for
-  pub guarded : (since : ℕ → V → V → Type 0) (levels place here remote : ℕ) (seen value recalled : V) (x : std.Option V)
+  pub guarded : (since done : ℕ → V → V → Type 0) (levels place here remote : ℕ) (seen value recalled : V) (x : std.Option V)
       (lock old own : LockId) (me after : Me (std.Option V) (View V))
       → lock ≡ old → old ≡ own → HasTree own levels → HasPlace old place → here ≡ place → remote ≤ 7 * levels
-      → SeatOnEntry since seen (walk levels here Inside false remote) me → me.1 ≡ (0, x) ∷ rest me.1 → x ≡ Some value
+      → SeatOf since done seen (walk levels here Inside false remote) me → me.1 ≡ (0, x) ∷ rest me.1 → x ≡ Some value
       → after ≡ (me.0, (0, None) ∷ rest me.1) → recalled ≡ value → SeatInside lock place recalled remote after
-  guarded since levels place here remote seen value recalled x lock old own me after e f tree is_place at most h slot is
+  guarded since done levels place here remote seen value recalled x lock old own me after e f tree is_place at most h slot is
       new recall =
-      let t = taken since levels here seen value remote x me after h slot is new in
+      let t = taken since done levels here seen value remote x me after h slot is new in
       record {
         process = t.0 ∙ (λ i. (Seated (at i) Inside (sym recall i) remote, (0, None) ∷ []));
         in_tree = subst (λ (l : LockId). HasPlace l place) (sym e) is_place;

@@ -11,5 +11,5 @@ pub mod TreeSize
 pub mod GuardSeats
 pub mod RuleMeaning
 pub mod EntryAccesses
-pub mod StoredFor
+pub mod PassageSteps
 pub mod Examples

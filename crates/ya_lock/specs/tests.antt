@@ -1,3 +1,2 @@
 -- What the contracts of tests alone speak of.
-pub mod Led
 pub mod Marks

@@ -1,17 +1,20 @@
 //! The lock, and all that a caller may do with it.
 ghost use Rattle.std.specs.Prelude.{◌≡◌, ◌+◌, ◌*◌, ◌≤◌, IfOk, IfErr};
+ghost use Rattle.ya_core.specs.WalkerModel.{op_of};
 ghost use Rattle.ya_lock.specs.Lock.{ArePassesInOrder, guard_of, pass_of};
+ghost use Rattle.ya_lock.specs.inside.Lock.{guard_at};
 
 use crate::ghost_value::GhostValue;
 use crate::guard::Guard;
 use crate::kept::Kept;
 use crate::pass::Pass;
+use crate::passage::Passage;
 use crate::rule::{LockTable, SLOT, SPACING};
 use crate::step_effects::{GiveValue, JoinPass, LearnSince, TakeSlot};
 use std::alloc::Global;
 use std::marker::Model;
 use std::sync::Wait;
-use ya_core::{NoMemory, Walker};
+use ya_core::{NoMemory, Op, Walker};
 
 /// A lock of 2 to the power of L places, which lends one value to one place at a time. L is 1 to 6. Contracts see which
 /// lock it is.
@@ -64,28 +67,9 @@ impl<V: Kept + Drop, const L: u32> TreeLock<V, L> {
         ensures fresh { V.since pass.place pass.seen result.found }
         ensures count { result.remote ≤ 7 * L }
     {
-        let Pass {
-            mut seat,
-            place,
-            remote: _,
-            seen,
-            crowded,
-        } = pass;
-        let shared = &self.table.shared;
-        let crowded = self.come_to_door(rt, place, crowded);
-        let remote = self.acquire(rt, &mut seat, place, &seen);
-        let Some(value) = shared.exchange(&mut seat, SLOT, None) else {
-            unreachable!()
-        };
-        let found = GhostValue::of(&value);
-        Guard {
-            seat,
-            place,
-            remote,
-            value,
-            found,
-            crowded,
-        }
+        let _ = &self.table;
+        let crowded = self.come_to_door(rt, pass.place, pass.crowded);
+        Self::take_value(Passage::begin(self, pass).acquire(rt), crowded)
     }
 
     /// Gives the value back as it is now, and lets the next one in. The place may have changed it as `done` says. It
@@ -111,13 +95,24 @@ impl<V: Kept + Drop, const L: u32> TreeLock<V, L> {
         };
         let mut walker = Walker::inside(Self::shape(), place, remote);
         walker.begin_exit();
-        let due = walker.op();
-        self.step(&mut seat, &mut walker, due);
-        let remote = self.release(&mut seat, walker, &seen);
+        let passage = Passage {
+            lock: self,
+            seat,
+            place,
+            walker,
+            seen,
+        };
+        let Passage {
+            seat,
+            place,
+            walker,
+            seen,
+            ..
+        } = passage.release();
         Pass {
             seat,
             place,
-            remote,
+            remote: walker.remote(),
             seen,
             crowded,
         }
@@ -170,5 +165,35 @@ impl<V: Kept + Drop, const L: u32> TreeLock<V, L> {
         let _empty = closed.take(SLOT);
         closed.free();
         value
+    }
+
+    /// The guard of a place that has come inside, with the value that it finds in the slot.
+    #[inline(always)]
+    pub(crate) fn take_value(passage: Passage<V, L>, crowded: u32) -> Guard<V>
+        requires { op_of passage.walk ≡ Op.Inside }
+        ensures guard { result ≡ guard_at passage.entry.of result.found result.remote }
+        ensures fresh { V.since passage.entry.of.place passage.entry.of.seen result.found }
+        ensures count { result.remote ≤ 7 * L }
+    {
+        let Passage {
+            lock,
+            mut seat,
+            place,
+            walker,
+            ..
+        } = passage;
+        let remote = walker.remote();
+        let Some(value) = lock.table.shared.exchange(&mut seat, SLOT, None) else {
+            unreachable!()
+        };
+        let found = GhostValue::of(&value);
+        Guard {
+            seat,
+            place,
+            remote,
+            value,
+            found,
+            crowded,
+        }
     }
 }

@@ -1,45 +1,45 @@
 -- Where an entry has come to.
-use Rattle.std.specs.Prelude.{◌≡◌, ℕ, ◌⊎◌, false}
+use Rattle.std.specs.Prelude.{◌≡◌, ℕ, ◌⊎◌, true, false}
 use Rattle.ya_core.specs.declared.process.Process.{Process}
 use Rattle.ya_core.specs.declared.process.Process.TheVariants.{Idle, Entering, Inside, Leaving}
 use Rattle.ya_core.specs.declared.process.EntryPoint.TheVariants.{E1, E7, E8, E9, E10}
-use Rattle.ya_core.specs.declared.process.ExitPoint.TheVariants.{X3}
+use Rattle.ya_core.specs.declared.process.ExitPoint.TheVariants.{X1, X3}
 use Rattle.ya_core.specs.Steps.{won, next_of}
-use Rattle.ya_core.specs.WalkerModel.{Walk, walk}
-use Rattle.ya_lock.specs.declared.view.View.{View}
-use Rattle.ya_lock.specs.declared.view.View.TheVariants.{Seated}
-use Rattle.ya_lock.specs.declared.passage.EntryProgress.{EntryProgress}
-use Rattle.ya_lock.specs.declared.passage.EntryProgress.TheVariants as progress
-
--- the walk of an entry that has come to the first access of a level, or inside
-abbrev pub progress_walk : ℕ → ℕ → EntryProgress → Walk
-progress_walk levels place (progress.Level level remote) = walk levels place (Entering level E1) false remote
-progress_walk levels place (progress.Inside remote) = walk levels place Inside false remote
+use Rattle.ya_core.specs.WalkerModel.{Walk}
 
 -- the process is about to make the first access of a level
-abbrev pub IsAtFoot : Process → Type 0
-IsAtFoot process = (process ≡ Idle) ⊎ ((level : ℕ) × (process ≡ Entering level E1))
+abbrev pub IsAtFoot : Walk → Type 0
+IsAtFoot w = ((w.process ≡ Idle) × (w.begun ≡ true)) ⊎ ((level : ℕ) × (w.process ≡ Entering level E1))
 
--- the process is within a level that it hasn't won yet
-abbrev pub IsBelow : Process → Type 0
-IsBelow (Entering level E1) = ⊥
-IsBelow Inside = ⊥
-IsBelow _ = Unit {0}
+-- the process has won a level: it is about to make the first access of the next, or inside
+abbrev pub HasWon : Process → Type 0
+HasWon (Entering level E1) = Unit {0}
+HasWon Inside = Unit {0}
+HasWon _ = ⊥
 
 -- the wait of a process is over: from e8 it has come to e9, and from e10 it has won the level
-abbrev pub HasPassed : ℕ → Process → Process → Type 0
-HasPassed levels (Entering level E8) after = after ≡ Entering level E9
-HasPassed levels (Entering level E10) after = after ≡ won levels level
+abbrev pub HasPassed : ℕ → Process → Walk → Type 0
+HasPassed levels (Entering level E8) after = (after.process ≡ Entering level E9) × (after.begun ≡ false)
+HasPassed levels (Entering level E10) after = (after.process ≡ won levels level) × (after.begun ≡ false)
 HasPassed levels _ after = ⊥
 
 -- one look at its spin word: it still waits, or its wait is over
-abbrev pub HasLooked : ℕ → Process → Process → Type 0
-HasLooked levels before after = (after ≡ before) ⊎ HasPassed levels before after
+abbrev pub HasLooked : ℕ → Process → Walk → Type 0
+HasLooked levels before after = (after.process ≡ before) ⊎ HasPassed levels before after
 
--- by its seat's view, the process stands where its store in the spin word of the rival leads: behind e7, or behind x3
-abbrev pub HasStoredFor : {V : Type 0} → ℕ → ℕ → View V → Type 0
-HasStoredFor levels rival (Seated place process seen count) =
+-- the process has released a level: it is about to make the first access of the one below, or idle
+abbrev pub IsReleased : Process → Type 0
+IsReleased Idle = Unit {0}
+IsReleased (Leaving level X1) = Unit {0}
+IsReleased _ = ⊥
+
+-- its walk comes from there
+abbrev pub HasReleased : Walk → Type 0
+HasReleased w = IsReleased w.process × (w.begun ≡ false)
+
+-- the walk stands where the store in the spin word of the rival leads: behind e7, or behind x3
+abbrev pub HasStoredFor : ℕ → ℕ → Walk → Type 0
+HasStoredFor levels rival w =
     (level found : ℕ)
-    × ((process ≡ next_of levels place (Entering level (E7 rival)) found)
-    ⊎ (process ≡ next_of levels place (Leaving level (X3 rival)) found))
-HasStoredFor levels rival _ = ⊥
+    × ((w.process ≡ next_of levels w.place (Entering level (E7 rival)) found)
+    ⊎ (w.process ≡ next_of levels w.place (Leaving level (X3 rival)) found))

@@ -4,16 +4,42 @@ use Rattle.std.specs.Prelude.{Some, None}
 use Rattle.std.specs.Prelude as std
 use Rattle.atomic_table.specs.Table.{Me}
 use Rattle.ya_core.specs.declared.process.Process.{Process}
-use Rattle.ya_core.specs.declared.process.Process.TheVariants.{Idle, Entering, Inside, Leaving}
+use Rattle.ya_core.specs.declared.process.Process.TheVariants.{Idle, Inside}
 use Rattle.ya_core.specs.WalkerModel.{Walk}
 use Rattle.ya_lock.specs.declared.view.View.{View}
 use Rattle.ya_lock.specs.declared.view.View.TheVariants.{Seated}
 use Rattle.ya_lock.specs.Rule.{row_length}
-use Rattle.ya_lock.specs.Lock.{LockId}
+use Rattle.ya_lock.specs.Lock.{LockId, IdlePass, OpenGuard}
 
 -- the table has the words of a tree of this many levels, the making word, and the bells
 abbrev pub HasTree : LockId → ℕ → Type 0
 HasTree lock levels = lock.words ≡ row_length levels
+
+-- what stays as it is on the way of a place: its lock, the place, and the value that it has seen, or leaves on its way out
+pub record WayOf (V : Type 0) : Type 0 where
+  pub lock : LockId
+  pub place : ℕ
+  pub seen : V
+
+-- a place on its way: what stays, and its walk
+pub record OnWay (V : Type 0) : Type 0 where
+  pub of : WayOf V
+  pub walk : Walk
+
+-- what stays of a pass
+abbrev pub way_of : {V : Type 0} → IdlePass V → WayOf V
+way_of pass = record { lock = pass.lock; place = pass.place; seen = pass.seen }
+
+-- the guard of a place that has come inside, where it found this value after so many remote accesses
+abbrev pub guard_at : {V : Type 0} → WayOf V → V → ℕ → OpenGuard V
+guard_at way found remote = record {
+  lock = way.lock;
+  place = way.place;
+  found = found;
+  value = found;
+  remote = remote;
+  view = Seated way.place Inside found remote;
+}
 
 -- the place is one of the tree's
 pub record HasPlace (lock : LockId) (place : ℕ) : Type 0 where
@@ -43,30 +69,26 @@ module _ {V : Type 0} where
     pub in_tree : HasPlace lock place
     pub count : (levels : ℕ) → HasTree lock levels → remote ≤ 7 * levels
 
-  -- the seat of a place on its way in, by where its process stands
-  abbrev EntrySeat : (ℕ → V → V → Type 0) → ℕ → V → Process → Bool → ℕ → Me (std.Option V) (View V) → Type 0
-  EntrySeat since place seen Idle begun remote me =
-      (begun ≡ true) × (remote ≡ 0) × ((last : ℕ) × (me ≡ (Seated place Idle seen last, [])))
-  EntrySeat since place seen (Entering level point) begun remote me =
-      me ≡ (Seated place (Entering level point) seen remote, [])
-  EntrySeat since place seen Inside begun remote me =
-      (begun ≡ false)
-      × ((found : V) × since place seen found × (me ≡ (Seated place Inside found remote, (0, Some found) ∷ [])))
-  EntrySeat since place seen (Leaving level point) begun remote me = ⊥
+  -- the seat of a place on its way, by where its process stands: told to enter, it has what its last passage left; inside
+  -- it has the slot, with the value found, which may have come of the one seen; told to leave, with the one that it leaves
+  abbrev SeatAt : (since done : ℕ → V → V → Type 0) → ℕ → V → Process → Bool → ℕ → Me (std.Option V) (View V) → Type 0
+  SeatAt since done place seen Idle true remote me =
+      (remote ≡ 0) × ((last : ℕ) × (me ≡ (Seated place Idle seen last, [])))
+  SeatAt since done place seen Inside true remote me =
+      (found : V) × done place found seen × (me ≡ (Seated place Inside found remote, (0, Some seen) ∷ []))
+  SeatAt since done place seen Inside false remote me =
+      (found : V) × since place seen found × (me ≡ (Seated place Inside found remote, (0, Some found) ∷ []))
+  SeatAt since done place seen process begun remote me = (begun ≡ false) × (me ≡ (Seated place process seen remote, []))
 
-  -- the seat of a walk on its way in: its process stands where the walk does, after as many remote accesses; inside it has
-  -- the slot with the value found, which may have come of the one seen
-  abbrev pub SeatOnEntry : (ℕ → V → V → Type 0) → V → Walk → Me (std.Option V) (View V) → Type 0
-  SeatOnEntry since seen w me = EntrySeat since w.place seen w.process w.begun w.remote me
+  -- the seat of a walk: its process stands where the walk does, after as many remote accesses
+  abbrev pub SeatOf : (since done : ℕ → V → V → Type 0) → V → Walk → Me (std.Option V) (View V) → Type 0
+  SeatOf since done seen w me = SeatAt since done w.place seen w.process w.begun w.remote me
 
-  -- the seat of a place on its way out, by where its process stands
-  abbrev ExitSeat : ℕ → V → Process → Bool → ℕ → Me (std.Option V) (View V) → Type 0
-  ExitSeat place seen Idle begun remote me = (begun ≡ false) × (me ≡ (Seated place Idle seen remote, []))
-  ExitSeat place seen (Entering level point) begun remote me = ⊥
-  ExitSeat place seen Inside begun remote me = ⊥
-  ExitSeat place seen (Leaving level point) begun remote me = me ≡ (Seated place (Leaving level point) seen remote, [])
-
-  -- the seat of a walk on its way out, until it is idle: its process stands where the walk does, after as many remote
-  -- accesses
-  abbrev pub SeatOnExit : V → Walk → Me (std.Option V) (View V) → Type 0
-  SeatOnExit seen w me = ExitSeat w.place seen w.process w.begun w.remote me
+  -- the seat is one of the lock's table, and stands where the walk does, which is that of the place in a tree of so many
+  -- levels
+  pub record IsOnWay (since done : ℕ → V → V → Type 0) (levels : ℕ) (lock table : LockId) (place : ℕ) (seen : V) (w : Walk)
+      (me : Me (std.Option V) (View V)) : Type 0 where
+    pub own : table ≡ lock
+    pub tree : w.levels ≡ levels
+    pub at : w.place ≡ place
+    pub seat : SeatOf since done seen w me

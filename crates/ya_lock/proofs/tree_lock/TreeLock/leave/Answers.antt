@@ -1,4 +1,4 @@
-use Rattle.std.proofs.Common.{sym, ap, ◌∙◌, rules}
+use Rattle.std.proofs.Common.{sym, ap, ◌∙◌}
 use Rattle.ya_lock.specs.Lock.{OpenGuard}
 use Rattle.ya_lock.proofs.TreeSize.{place_below}
 use Rattle.ya_lock.proofs.tree_lock.TreeLock.leave.Goals as goal
@@ -9,6 +9,3 @@ inside-walker-requires-clause-place g c =
     c.shape.result
     (ap (λ (q : OpenGuard g.row.V.Denot). q.lock) c.guard.view_is
     ∙ (c.requires.lock ∙ sym c.self.view_is)) c.self.invariant.words c.shape.ensures c.guard.invariant.in_tree
-
-pub step-requires : goal.step-requires
-step-requires g c = search rules

@@ -1,0 +1,16 @@
+use Rattle.std.proofs.Common.{◌≡◌, ℕ, ◌+◌, ◌≤◌}
+use Rattle.ya_core.specs.declared.process.Process.TheVariants.{Leaving}
+use Rattle.ya_core.specs.declared.process.ExitPoint.TheVariants.{X2}
+use Rattle.ya_core.specs.WalkerModel.{budget, points_ahead}
+use Rattle.ya_lock.proofs.passage.Passage.release.Given as goal
+
+abbrev pub invariant-loop-passage : goal.invariant-loop-passage
+invariant-loop-passage g l = record {
+  of : l.passage.of ≡ l.fn.self.of;
+  freed : (level : ℕ) × (l.passage.walk.process ≡ Leaving level X2);
+  least : l.fn.self.walk.remote ≤ l.passage.walk.remote;
+  most : l.passage.walk.remote + budget l.passage.walk ≤ l.fn.self.walk.remote + budget l.fn.self.walk;
+}
+
+abbrev pub decreases-loop-passage : goal.decreases-loop-passage
+decreases-loop-passage g l = points_ahead l.passage.walk
