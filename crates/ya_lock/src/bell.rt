@@ -40,16 +40,12 @@ impl<V: Kept + Drop, const L: u32> TreeLock<V, L> {
         shared.store::<SetBell>(seat, Self::bell(place), value);
     }
 
-    /// Wakes that rival. The 0 in its bell keeps it awake where it is about to sleep.
+    /// Wakes that rival.
     #[cold]
     #[inline(never)]
-    fn wake(&self, seat: &mut LockSeat<V>, rival: usize)
-        requires lock { seat.old.table_id ≡ self.now }
-        requires rival { rival < 2 ^ L }
-        ensures lock { seat.new.table_id ≡ seat.old.table_id }
-        ensures same { seat.new.me ≡ seat.old.me }
+    fn wake(&self, rival: usize)
+        requires { rival < 2 ^ L }
     {
-        self.set_bell(seat, rival, 0);
         self.table.shared.wake_one(Self::bell(rival));
     }
 }
@@ -79,30 +75,16 @@ impl<'a, V: Kept + Drop, const L: u32> Passage<'a, V, L> {
     /// Wakes a rival that sleeps. The process stands just behind its store in the rival's spin word: a bell that is
     /// looked at earlier may be set after the look, and then nobody rings it.
     #[inline(always)]
-    pub(crate) fn ring(self, rival: usize) -> Self
+    pub(crate) fn ring(&mut self, rival: usize)
         requires rival { rival < 2 ^ L }
-        requires stored { HasStoredFor L rival self.walk }
-        ensures { result ≡ self.entry }
+        requires stored { HasStoredFor L rival self.old.walk }
+        ensures { self.new ≡ self.old }
     {
         let lock = self.lock;
-        if lock.table.shared.peek(TreeLock::<V, L>::bell(rival)) != 1 {
-            return self;
-        }
-        // Moved out, so that the rest of the passage lies in registers.
-        let Passage {
-            lock,
-            mut seat,
-            place,
-            walker,
-            seen,
-        } = self;
-        lock.wake(&mut seat, rival);
-        Passage {
-            lock,
-            seat,
-            place,
-            walker,
-            seen,
+        if lock.table.shared.peek(TreeLock::<V, L>::bell(rival)) == 1 {
+            // The 0 in its bell keeps the rival awake where it is about to sleep.
+            lock.set_bell(&mut self.seat, rival, 0);
+            lock.wake(rival);
         }
     }
 }

@@ -126,7 +126,7 @@ impl<'a, V: Kept + Drop, const L: u32> Passage<'a, V, L> {
         passage.step();
         if let Process::Entering(_, EntryPoint::E7(rival)) = passage.walker.process() {
             passage.step();
-            passage = passage.ring(rival);
+            passage.ring(rival);
         }
         let mut passage = passage.spin(rt);
         passage.write_out(EntryPoint::E9);
@@ -195,42 +195,39 @@ impl<'a, V: Kept + Drop, const L: u32> Passage<'a, V, L> {
 
     /// Makes the accesses of an exit until its place is idle. As on the way in, those of a level are written out.
     #[inline(always)]
-    pub(crate) fn release(self) -> Self
-        requires { BeginsExit self.walk }
-        ensures of { result.of ≡ self.entry.of }
-        ensures idle { op_of result.walk ≡ Op.Idle }
-        ensures least { self.entry.walk.remote ≤ result.walk.remote }
-        ensures most { result.walk.remote ≤ self.entry.walk.remote + budget self.entry.walk }
+    pub(crate) fn release(&mut self)
+        requires { BeginsExit self.old.walk }
+        ensures of { self.new.of ≡ self.old.of }
+        ensures idle { op_of self.new.walk ≡ Op.Idle }
+        ensures least { self.old.walk.remote ≤ self.new.walk.remote }
+        ensures most { self.new.walk.remote ≤ self.old.walk.remote + budget self.old.walk }
     {
-        let mut passage = self;
-        passage.step();
+        self.step();
         loop {
-            passage = passage.let_in();
-            if let Process::Idle = passage.walker.process() {
-                return passage;
+            self.let_in();
+            if let Process::Idle = self.walker.process() {
+                return;
             }
-            passage.step();
+            self.step();
         }
     }
 
     /// Reads who came last at a level that was given free, and lets a rival in.
     #[inline(always)]
-    fn let_in(self) -> Self
-        requires { (level : ℕ) × (self.walk.process ≡ Leaving level X2) }
-        ensures of { result.of ≡ self.entry.of }
-        ensures released { HasReleased result.walk }
-        ensures onward { points_ahead result.walk < points_ahead self.entry.walk }
-        ensures least { self.entry.walk.remote ≤ result.walk.remote }
-        ensures budget { result.walk.remote + budget result.walk
-            ≤ self.entry.walk.remote + budget self.entry.walk }
+    fn let_in(&mut self)
+        requires { (level : ℕ) × (self.old.walk.process ≡ Leaving level X2) }
+        ensures of { self.new.of ≡ self.old.of }
+        ensures released { HasReleased self.new.walk }
+        ensures onward { points_ahead self.new.walk < points_ahead self.old.walk }
+        ensures least { self.old.walk.remote ≤ self.new.walk.remote }
+        ensures budget { self.new.walk.remote + budget self.new.walk
+            ≤ self.old.walk.remote + budget self.old.walk }
     {
-        let mut passage = self;
-        passage.step();
-        let Process::Leaving(_, ExitPoint::X3(rival)) = passage.walker.process() else {
-            return passage;
-        };
-        passage.step();
-        passage.ring(rival)
+        self.step();
+        if let Process::Leaving(_, ExitPoint::X3(rival)) = self.walker.process() {
+            self.step();
+            self.ring(rival);
+        }
     }
 
     /// Writes the walker at the point where it stands, so that this is known where the next access is compiled.

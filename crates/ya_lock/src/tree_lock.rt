@@ -95,20 +95,21 @@ impl<V: Kept + Drop, const L: u32> TreeLock<V, L> {
         };
         let mut walker = Walker::inside(Self::shape(), place, remote);
         walker.begin_exit();
-        let passage = Passage {
+        let mut passage = Passage {
             lock: self,
             seat,
             place,
             walker,
             seen,
         };
+        passage.release();
         let Passage {
             seat,
             place,
             walker,
             seen,
             ..
-        } = passage.release();
+        } = passage;
         Pass {
             seat,
             place,

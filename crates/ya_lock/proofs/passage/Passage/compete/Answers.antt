@@ -7,8 +7,8 @@ use Rattle.ya_lock.specs.inside.Lock.{OnWay}
 use Rattle.ya_lock.proofs.EntryAccesses.{woken_in_tree}
 use Rattle.ya_lock.proofs.passage.Passage.compete.Goals as goal
 
-pub ring-passage-requires : goal.ring-passage-requires
-ring-passage-requires g c =
+pub ring-requires : goal.ring-requires
+ring-requires g c =
     let e7 = c.in-Entering-default-E7 in let before = c.passage-2.inside.walker in let old = c.step-2.new.self.walk in
     let goes = c.step-in-Entering-default-E7.ensures.goes in
     let is = sym e7.ensures.value ∙ ap (λ point. Entering e7.field-0 point) e7.field-1-is in

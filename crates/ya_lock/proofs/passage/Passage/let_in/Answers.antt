@@ -9,13 +9,13 @@ use Rattle.ya_lock.proofs.passage.Passage.let_in.Goals as goal
 
 pub ring-requires : goal.ring-requires
 ring-requires g c =
-    let x3 = c.in-Leaving-default-X3 in let before = c.passage.inside.walker in let old = c.step.new.self.walk in
-    let goes = c.step-2.ensures.goes in
+    let x3 = c.in-Leaving-default-X3 in let before = c.self.inside.walker in let old = c.step.new.self.walk in
+    let goes = c.step-in-Leaving-default-X3.ensures.goes in
     let is = sym x3.ensures.value ∙ ap (λ point. Leaving x3.field-0 point) x3.field-1-is in
-    let was = sym (ap (λ (p : OnWay g.row.V.Denot). p.walk.process) c.passage.view_is) ∙ is in (
+    let was = sym (ap (λ (p : OnWay g.row.V.Denot). p.walk.process) c.self.view_is) ∙ is in (
       lit< tt,
       (
-        let_in_tree before g.row.L x3.field-0 x3.rival x3.ensures.proper c.passage.invariant.tree is,
+        let_in_tree before g.row.L x3.field-0 x3.rival x3.ensures.proper c.self.invariant.tree is,
         (
           x3.field-0,
           goes.0,
