@@ -296,14 +296,18 @@ fn no_wake_is_lost(rt: HostRuntime) -> Result<(), Fail> {
 
 /// Looks, for ten seconds at most, until the other place sleeps, and then announces itself and comes in. Whether the other
 /// slept, and then competed.
-fn come_late<R: Wait + Clock>(rt: &R, lock: &TreeLock<Marks, 1>, led: LedPlace<Marks, 1>) -> bool
+fn come_late<R: Wait + Clock>(
+    rt: &R,
+    lock: &TreeLock<Marks, 1>,
+    led: LedPlace<'_, Marks, 1>,
+) -> bool
     requires { led ≡ lock.now }
 {
     let slept = (0..10_000).any(|_| {
         thread::sleep(rt, Duration::from_millis(1));
         led::sleeps(lock, 1)
     });
-    let competed = led.advance(lock, 3).compete(rt, lock);
+    let competed = led.advance(3).compete(rt);
     slept && competed
 }
 
@@ -358,7 +362,7 @@ fn both_come_in<R: Threads + Wait + Clock + CpuClock + Sync>(
     let first = passes.pop().ok_or("a first pass")?;
     let shared = &lock;
     // It competes, so that the other waits for it, and hasn't announced itself.
-    let led = LedPlace::begin(shared, first).advance(shared, 1);
+    let led = LedPlace::begin(shared, first).advance(1);
     let (competed, time) = thread::join(
         rt,
         move || -> bool

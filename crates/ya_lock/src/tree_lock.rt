@@ -181,7 +181,7 @@ impl<V: Kept + Drop, const L: u32> TreeLock<V, L> {
             mut seat,
             place,
             walker,
-            ..
+            seen: _,
         } = passage;
         let remote = walker.remote();
         let Some(value) = lock.table.shared.exchange(&mut seat, SLOT, None) else {

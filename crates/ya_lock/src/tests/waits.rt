@@ -74,30 +74,28 @@ fn a_place_that_waits_at_the_root_leaves_the_processor_to_others(
 
 /// Leads both to the root, and there so far that the first is inside, and the last has been woken and waits to be let
 /// in: it announced itself after the first, which then woke it.
-fn meet<const L: u32>(
-    lock: &TreeLock<Marks, L>,
-    first: LedPlace<Marks, L>,
-    last: LedPlace<Marks, L>,
-) -> (LedPlace<Marks, L>, LedPlace<Marks, L>)
-    requires { (first ≡ lock.now) × (last ≡ lock.now) }
-    ensures { (result.0 ≡ lock.now) × (result.1 ≡ lock.now) }
+fn meet<'a, const L: u32>(
+    first: LedPlace<'a, Marks, L>,
+    last: LedPlace<'a, Marks, L>,
+) -> (LedPlace<'a, Marks, L>, LedPlace<'a, Marks, L>)
+    ensures { (result.0 ≡ first.entry) × (result.1 ≡ last.entry) }
 {
     // A level where nobody else is takes four accesses.
     let below = (L as usize).wrapping_sub(1).wrapping_mul(4);
-    let first = first.advance(lock, below);
-    let last = last.advance(lock, below);
+    let first = first.advance(below);
+    let last = last.advance(below);
     // It competes.
-    let last = last.advance(lock, 1);
+    let last = last.advance(1);
     // It announces itself, and finds the other, and then its own name.
-    let first = first.advance(lock, 5);
+    let first = first.advance(5);
     // It announces itself.
-    let last = last.advance(lock, 2);
+    let last = last.advance(2);
     // It wakes the other.
-    let first = first.advance(lock, 2);
+    let first = first.advance(2);
     // It wakes the first in turn, finds that it is woken, and finds its own name.
-    let last = last.advance(lock, 6);
+    let last = last.advance(6);
     // It finds that it is woken, and another name than its own.
-    let first = first.advance(lock, 2);
+    let first = first.advance(2);
     (first, last)
 }
 
@@ -105,11 +103,11 @@ fn meet<const L: u32>(
 fn stay_on<R: Clock, const L: u32>(
     rt: &R,
     lock: &TreeLock<Marks, L>,
-    led: LedPlace<Marks, L>,
+    led: LedPlace<'_, Marks, L>,
 ) -> Option<()>
     requires { led ≡ lock.now }
 {
-    let guard = led.guard(lock)?;
+    let guard = led.guard()?;
     thread::sleep(rt, Duration::from_millis(200));
     let _ = lock.leave(guard);
     Some(())
@@ -127,15 +125,13 @@ fn time_to_be_let_in<R: Threads + Wait + Clock + CpuClock + Sync, const L: u32>(
     let shared = &lock;
     let first = LedPlace::begin(shared, first);
     let last = LedPlace::begin(shared, last);
-    let (first, last) = meet(shared, first, last);
+    let (first, last) = meet(first, last);
     let (inside, time) = thread::join(
         rt,
         move || -> Option<()>
             requires { first ≡ shared.now }
         { stay_on(rt, shared, first) },
-        move || -> Option<Duration>
-            requires { last ≡ shared.now }
-        { last.time_to_be_let_in(rt, shared) },
+        move || -> Option<Duration> { last.time_to_be_let_in(rt) },
     );
     inside.ok_or("a place that is inside")?;
     Ok(time.ok_or("a place that waits to be let in")?)
