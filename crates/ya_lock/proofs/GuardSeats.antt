@@ -84,3 +84,13 @@ module _ {V : Type 0} where
         count = λ levels' tree'. subst (λ (l : ℕ). remote ≤ 7 * l)
             (sym (one_tree lock own levels' levels (e ∙ f) tree' tree)) most;
       }
+
+  -- where it is told to leave, with the value that it leaves back in its slot, its seat is ready for the way out
+  pub told_to_leave : (since done : ℕ → V → V → Type 0) (w : Walk) (levels place remote : ℕ) (found value seen : V)
+      (me after : Me (std.Option V) (View V)) → w ≡ walk levels place Inside true remote → done place found value
+      → seen ≡ value → me ≡ (Seated place Inside found remote, (0, None) ∷ [])
+      → after ≡ (me.0, (0, Some value) ∷ rest me.1) → SeatOf since done seen w after
+  told_to_leave since done w levels place remote found value seen me after is may same process new =
+      subst (λ (v : Walk). SeatOf since done seen v after) (sym is)
+      (subst (λ (x : V). SeatOf since done x (walk levels place Inside true remote) after) (sym same)
+      (found, may, new ∙ ap (λ (m : Me (std.Option V) (View V)). (m.0, (0, Some value) ∷ rest m.1)) process))

@@ -11,5 +11,6 @@ pub mod TreeSize
 pub mod GuardSeats
 pub mod RuleMeaning
 pub mod EntryAccesses
+pub mod EntrySteps
 pub mod PassageSteps
 pub mod Examples

@@ -105,3 +105,14 @@ invariant_of-self-in-Store g c =
       seat = stays g.V.Kept.since g.V.Kept.done s.walker c.done.new.self g.row.L c.in-Store.value s.seen.value s.seat.me
           c.store.new.seat.me (due_to _ c.args.self.now c.self.view_is c.requires) i.seat i.tree h.2 is;
     }
+
+pub invariant_of-self : goal.invariant_of-self
+invariant_of-self g c =
+    let s = c.self.inside in let i = c.self.invariant in let h = c.load-value.ensures in let is = c.saw.ensures.after in
+    record {
+      own = h.0 ∙ i.own;
+      tree = ap (λ (w : Walk). w.levels) is ∙ i.tree;
+      at = ap (λ (w : Walk). w.place) is ∙ i.at;
+      seat = stays g.V.Kept.since g.V.Kept.done s.walker c.saw.new.self g.row.L c.load-value.result s.seen.value s.seat.me
+          c.load-value.new.seat.me (due_to _ c.args.self.now c.self.view_is c.requires) i.seat i.tree h.2 is;
+    }

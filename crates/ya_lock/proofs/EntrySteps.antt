@@ -1,0 +1,161 @@
+-- Where an access is due, and where it leads.
+use Rattle.std.proofs.Common.{◌≡◌, ◌≢◌, refl, ℕ, ◌+◌, ◌<◌, ◌==◌, Bool, true, false, inl, inr, sym, ap, ◌∙◌, subst}
+use Rattle.std.specs.Prelude as std
+use Rattle.std.specs.Prelude.{if◌then◌else◌, nat_lt}
+use Rattle.std.proofs.lemmas.Bool.{false≢true}
+use Rattle.atomic_table.specs.Table.{Me}
+use Rattle.ya_core.specs.declared.word.Access.{Access}
+use Rattle.ya_core.specs.declared.word.Access.TheVariants.{Load, Store}
+use Rattle.ya_core.specs.declared.process.Process.{Process}
+use Rattle.ya_core.specs.declared.process.Process.TheVariants.{Idle, Entering, Inside, Leaving}
+use Rattle.ya_core.specs.declared.process.EntryPoint.{EntryPoint}
+use Rattle.ya_core.specs.declared.process.EntryPoint.TheVariants.{E1, E2, E5, E6, E8, E9, E10}
+use Rattle.ya_core.specs.declared.process.ExitPoint.{ExitPoint}
+use Rattle.ya_core.specs.declared.walker.Op.{Op}
+use Rattle.ya_core.specs.declared.walker.Op.TheVariants as op
+use Rattle.ya_core.specs.Steps.{entry_access, exit_access, entry_next, next_of, won}
+use Rattle.ya_core.specs.WalkerModel.{Walk, walk, walk_after, op_of, op_of_access, points_ahead, is_waiting, MovesOn}
+use Rattle.ya_lock.specs.declared.view.View.{View}
+use Rattle.ya_lock.specs.inside.EntryProgress.{HasWon, HasPassed, HasLooked, IsAtFoot}
+use Rattle.ya_lock.specs.inside.Lock.{SeatOf}
+
+-- something is asked for
+abbrev IsAccess : Op → Type 0
+IsAccess op.Idle = ⊥
+IsAccess op.Inside = ⊥
+IsAccess _ = Unit {0}
+
+is_access : (levels : ℕ) (access : Access) → IsAccess (op_of_access levels access)
+is_access levels (Load word) = tt
+is_access levels (Store word value) = tt
+
+-- an access is due to a process on its way in
+pub due_entering : (w : Walk) (level : ℕ) (point : EntryPoint) → w.process ≡ Entering level point
+    → (op_of w ≢ op.Idle) × (op_of w ≢ op.Inside)
+due_entering w level point at =
+    let P : Process → Type 0 = λ p. IsAccess (op_of (walk w.levels w.place p w.begun w.remote)) in
+    let h : IsAccess (op_of w) = subst P (sym at) (is_access w.levels (entry_access level w.place point)) in
+    (λ e. subst IsAccess e h, λ e. subst IsAccess e h)
+
+-- and to one on its way out
+pub due_leaving : (w : Walk) (level : ℕ) (point : ExitPoint) → w.process ≡ Leaving level point
+    → (op_of w ≢ op.Idle) × (op_of w ≢ op.Inside)
+due_leaving w level point at =
+    let P : Process → Type 0 = λ p. IsAccess (op_of (walk w.levels w.place p w.begun w.remote)) in
+    let h : IsAccess (op_of w) = subst P (sym at) (is_access w.levels (exit_access level w.place point)) in
+    (λ e. subst IsAccess e h, λ e. subst IsAccess e h)
+
+-- where the access of a process on its way in leads
+pub leads : (w new : Walk) (level found : ℕ) (point : EntryPoint) → w.process ≡ Entering level point → new ≡ walk_after w found
+    → new.process ≡ entry_next w.levels level w.place point found
+leads w new level found point at goes =
+    ap (λ (v : Walk). v.process) goes ∙ ap (λ (p : Process). next_of w.levels w.place p found) at
+
+-- a process that won a level has won it, whether it was the last one or not
+has_won_at : (more : Bool) (level : ℕ) → HasWon (if more then Entering (level + 1) E1 else Inside)
+has_won_at true level = tt
+has_won_at false level = tt
+
+pub has_won : (levels level : ℕ) → HasWon (won levels level)
+has_won levels level = has_won_at (nat_lt level levels) level
+
+-- one that did not win goes on where it may lose
+lost_at : (lost : Bool) (levels level : ℕ) (point : EntryPoint)
+    → (HasWon (if lost then Entering level point else won levels level) → ⊥)
+    → (if lost then Entering level point else won levels level) ≡ Entering level point
+lost_at true levels level point not_won = refl
+lost_at false levels level point not_won = absurd (not_won (has_won levels level))
+
+-- so from e5 it goes to e6
+pub lost_e5 : (w new : Walk) (level rival found : ℕ) → w.process ≡ Entering level (E5 rival) → new ≡ walk_after w found
+    → (HasWon new.process → ⊥) → new.process ≡ Entering level (E6 rival)
+lost_e5 w new level rival found at goes not_won =
+    let is = leads w new level found (E5 rival) at goes in
+    is ∙ lost_at (found == w.place + 1) w.levels level (E6 rival) (subst (λ (p : Process). HasWon p → ⊥) is not_won)
+
+-- a process that doesn't wait comes nearer
+pub comes_nearer : (old new : Walk) → is_waiting old.process ≡ false → MovesOn old new → points_ahead new < points_ahead old
+comes_nearer old new still (inl nearer) = nearer
+comes_nearer old new still (inr waits) = absurd (false≢true (sym still ∙ waits.0))
+
+-- at which level a process is on its way in
+abbrev level_of : Process → ℕ
+level_of (Entering level point) = level
+level_of _ = 0
+
+-- the walk of a process on its way in is the one of these parts, since it was not told to go on
+pub is_walk_of : {V : Type 0} (since done : ℕ → V → V → Type 0) (w : Walk) (seen : V) (me : Me (std.Option V) (View V))
+    (levels place level other remote : ℕ) (point old : EntryPoint) → w.levels ≡ levels → w.place ≡ place
+    → w.process ≡ Entering level old → w.process ≡ Entering other point → w.remote ≡ remote → SeatOf since done seen w me
+    → w ≡ walk levels place (Entering level point) false remote
+is_walk_of since done w seen me levels place level other remote point old tree here at due made seat =
+    let same : other ≡ level = ap level_of (sym due ∙ at) in
+    let is : w.process ≡ Entering level point = due ∙ ap (λ (l : ℕ). Entering l point) same in
+    let begun = (subst (λ (p : Process). SeatOf since done seen (walk w.levels w.place p w.begun w.remote) me) is seat).0 in
+    λ i. walk (tree i) (here i) (is i) (begun i) (made i)
+
+-- a look at the spin word at e8: the process waits on, or goes on to e9
+looked_at_e8 : (waits : Bool) (levels level : ℕ) (new : Walk)
+    → new.process ≡ (if waits then Entering level E8 else Entering level E9) → new.begun ≡ false
+    → HasLooked levels (Entering level E8) new
+looked_at_e8 true levels level new is begun = inl is
+looked_at_e8 false levels level new is begun = inr (is, begun)
+
+pub looked_e8 : (levels level found : ℕ) (w new : Walk) → w.process ≡ Entering level E8 → new ≡ walk_after w found
+    → HasLooked levels w.process new
+looked_e8 levels level found w new at goes =
+    subst (λ (p : Process). HasLooked levels p new) (sym at)
+    (looked_at_e8 (found == 0) levels level new (leads w new level found E8 at goes) (ap (λ (v : Walk). v.begun) goes))
+
+-- and at e10: it waits on, or has won
+looked_at_e10 : (passed : Bool) (levels level : ℕ) (new : Walk)
+    → new.process ≡ (if passed then won levels level else Entering level E10) → new.begun ≡ false
+    → HasLooked levels (Entering level E10) new
+looked_at_e10 true levels level new is begun = inr (is, begun)
+looked_at_e10 false levels level new is begun = inl is
+
+pub looked_e10 : (levels level found : ℕ) (w new : Walk) → w.levels ≡ levels → w.process ≡ Entering level E10
+    → new ≡ walk_after w found → HasLooked levels w.process new
+looked_e10 levels level found w new tree at goes =
+    subst (λ (p : Process). HasLooked levels p new) (sym at)
+    (subst (λ (l : ℕ). HasLooked l (Entering level E10) new) tree
+    (looked_at_e10 (found == 2) w.levels level new (leads w new level found E10 at goes) (ap (λ (v : Walk). v.begun) goes)))
+
+-- a wait that is over is over
+not_waiting : (more : Bool) (level : ℕ) → is_waiting (if more then Entering (level + 1) E1 else Inside) ≡ false
+not_waiting true level = refl
+not_waiting false level = refl
+
+passed_waits : (levels : ℕ) (before : Process) (after : Walk) → HasPassed levels before after
+    → is_waiting after.process ≡ false
+passed_waits levels (Entering level E8) after passed = ap is_waiting passed.0
+passed_waits levels (Entering level E10) after passed = ap is_waiting passed.0 ∙ not_waiting (nat_lt level levels) level
+passed_waits levels before after passed = absurd passed
+
+-- a process that waits after a look stands where it stood
+pub waits_on : (levels : ℕ) (before : Process) (after : Walk) → is_waiting after.process ≡ true
+    → HasLooked levels before after → after.process ≡ before
+waits_on levels before after waits (inl same) = same
+waits_on levels before after waits (inr passed) = absurd (false≢true (sym (passed_waits levels before after passed) ∙ waits))
+
+-- and where one that waited doesn't, the wait is over
+pub has_passed : (levels : ℕ) (before : Process) (after : Walk) → is_waiting before ≡ true → is_waiting after.process ≡ false
+    → HasLooked levels before after → HasPassed levels before after
+has_passed levels before after waited goes_on (inl same) =
+    absurd (false≢true (sym goes_on ∙ (ap is_waiting same ∙ waited)))
+has_passed levels before after waited goes_on (inr passed) = passed
+
+-- at the foot of a level an access is due, which leads to e2
+pub due_at_foot : (w : Walk) → IsAtFoot w → (op_of w ≢ op.Idle) × (op_of w ≢ op.Inside)
+due_at_foot w (inl idle) =
+    let P : Process → Bool → Type 0 = λ p b. IsAccess (op_of (walk w.levels w.place p b w.remote)) in
+    let access : P Idle true = is_access w.levels (entry_access 1 w.place E1) in
+    let h : IsAccess (op_of w) = subst (λ (b : Bool). P w.process b) (sym idle.1) (subst (λ (p : Process). P p true) (sym idle.0) access) in
+    (λ e. subst IsAccess e h, λ e. subst IsAccess e h)
+due_at_foot w (inr entering) = due_entering w entering.0 E1 entering.1
+
+pub from_foot : (w new : Walk) (found : ℕ) → IsAtFoot w → new ≡ walk_after w found
+    → (level : ℕ) × (new.process ≡ Entering level E2)
+from_foot w new found (inl idle) goes =
+    (1, ap (λ (v : Walk). v.process) goes ∙ ap (λ (p : Process). next_of w.levels w.place p found) idle.0)
+from_foot w new found (inr entering) goes = (entering.0, leads w new entering.0 found E1 entering.1 goes)

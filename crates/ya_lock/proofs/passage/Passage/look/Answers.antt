@@ -1,0 +1,60 @@
+use Rattle.std.proofs.Common.{ℕ, lit<, sym, ap, ◌∙◌, subst}
+use Rattle.ya_core.specs.declared.process.Process.{Process}
+use Rattle.ya_core.specs.declared.process.Process.TheVariants.{Entering}
+use Rattle.ya_core.specs.declared.process.EntryPoint.TheVariants.{E8, E10}
+use Rattle.ya_lock.specs.inside.EntryProgress.{HasLooked}
+use Rattle.ya_lock.specs.inside.Lock.{OnWay, WayOf}
+use Rattle.ya_lock.proofs.EntrySteps.{due_entering, looked_e8, looked_e10}
+use Rattle.ya_lock.proofs.passage.Passage.look.Goals as goal
+use Rattle.ya_lock.proofs.passage.Passage.look.Goals.{in-Entering-default-E8, in-Entering-default-E10}
+
+pub write_out-requires : goal.write_out-requires
+write_out-requires g c =
+    let e8 = c.in-Entering-default-E8 in (
+      lit< tt,
+      (
+        e8.field-0,
+        sym (ap (λ (p : OnWay g.row.V.Denot). p.walk.process) c.passage.view_is)
+            ∙ (sym e8.ensures.value ∙ ap (λ point. Entering e8.field-0 point) e8.field-1-is),
+      ),
+    )
+
+pub step-requires : goal.step-requires
+step-requires g c =
+    let process : OnWay g.row.V.Denot → Process = λ p. p.walk.process in
+    let old = c.match-process-2.passage.walk in (
+      lit< tt,
+      elim c.match-process-2.branch [
+        | in-Entering-default-E8 w ↦
+            let at = w.write_out.ensures.at in due_entering old at.0 E8 (ap process w.passage-is ∙ at.1)
+        | in-Entering-default-E10 w ↦
+            let at = w.write_out-in-Entering-default-E10.ensures.at in
+            due_entering old at.0 E10 (ap process w.passage-is ∙ at.1)
+      ],
+    )
+
+pub returns-clause-of : goal.returns-clause-of
+returns-clause-of g c =
+    let V : Type 0 = g.row.V.Denot in let of : OnWay V → WayOf V = λ p. p.of in
+    c.step.ensures.of ∙ elim c.match-process-2.branch [
+      | in-Entering-default-E8 w ↦ ap of (w.passage-is ∙ w.write_out.ensures.same)
+      | in-Entering-default-E10 w ↦ ap of (w.passage-is ∙ w.write_out-in-Entering-default-E10.ensures.same)
+    ]
+
+pub returns-clause-looked : goal.returns-clause-looked
+returns-clause-looked g c =
+    let V : Type 0 = g.row.V.Denot in let process : OnWay V → Process = λ p. p.walk.process in
+    let levels : OnWay V → ℕ = λ p. p.walk.levels in
+    let goes = c.step.ensures.goes in let old = c.match-process-2.passage.walk in let new = c.step.new.self.walk in
+    let Looked : OnWay V → Type 0 = λ p. HasLooked g.row.L p.walk.process new in
+    elim c.match-process-2.branch [
+      | in-Entering-default-E8 w ↦
+          let at = w.write_out.ensures.at in
+          subst Looked (w.passage-is ∙ w.write_out.ensures.same)
+          (looked_e8 g.row.L at.0 goes.0 old new (ap process w.passage-is ∙ at.1) goes.1)
+      | in-Entering-default-E10 w ↦
+          let at = w.write_out-in-Entering-default-E10.ensures.at in
+          let same = w.passage-is ∙ w.write_out-in-Entering-default-E10.ensures.same in
+          subst Looked same (looked_e10 g.row.L at.0 goes.0 old new
+          (ap levels (same ∙ sym c.passage.view_is) ∙ c.passage.invariant.tree) (ap process w.passage-is ∙ at.1) goes.1)
+    ]
