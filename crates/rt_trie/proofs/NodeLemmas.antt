@@ -269,6 +269,14 @@ pub found_of_all : {V : Type 0} (m n : Pairs V) (a : Addr) (x y : Option (Prefix
 found_of_all m n a x y e =
     ap (λ l. or_else (last_cover l a) x) (sym (all_no_longer m)) ∙ e ∙ ap (λ l. or_else (last_cover l a) y) (all_no_longer n)
 
+-- of one pair that is no longer, the best from then on is that pair where it covers the address
+pub step_single : {V : Type 0} (m : Pairs V) (q : Prefix) (w : V) (most : ℕ) (a : Addr) (best found : Option (Prefix × V)) → m ≡ (q, w) ∷ [] → q.len ≤ most
+    → ((covers q a ≡ true) × (found ≡ Some (q, w))) ⊎ ((covers q a ≡ false) × (found ≡ best)) → found ≡ or_else (last_cover (no_longer most m) a) best
+step_single m q w most a best found e h s =
+    sym (ap (λ l. or_else (last_cover (no_longer most l) a) best) e
+    ∙ ap (λ l. or_else (last_cover l a) best) (no_longer_all most ((q, w) ∷ []) (h, tt))
+    ∙ elim s [ inl i ↦ rw i.0 (sym i.1) | inr i ↦ rw i.0 (sym i.1) ])
+
 -- what a node adds to the best pair so far, at an address that it covers
 pub best_stored : {V : Type 0} (q : Prefix) (v : Option V) (w : V) (a : Addr) (best : Option (Prefix × V)) → v ≡ Some w → covers q a ≡ true
     → or_else (last_cover (own_pair q v) a) best ≡ Some (q, w)

@@ -55,14 +55,8 @@ impl<'a, V, A: Allocator> Answers<'a, V, A> {
         ensures onward { a.0 ≤ result.1.0 }
         ensures same { (b : Addr) → a.0 ≤ b.0 → b.0 ≤ result.1.0 → IsLongest self.old b (pair_copied result.0) }
     {
-        if a.0 < self.from.0 {
-            self.way = Way::new(self.root);
-        }
+        let mut place = self.way.place_for(self.root, self.from, a);
         self.from = a;
-        let mut place = match self.way.back_to(a) {
-            Some(place) => place,
-            None => Place::top(self.root),
-        };
         while let Some(link) = place.below {
             place = step(link, &place, a);
             self.way.keep(place);
@@ -83,7 +77,7 @@ impl<'a, V, A: Allocator> Way<'a, V, A> {
     ghost use Rattle.rt_trie.specs.Links.{IsLawfulTrie};
     ghost use Rattle.rt_trie.specs.declared.answers.TheConstants.{PLACES};
     ghost use Rattle.rt_trie.specs.inside.Links.{pairs};
-    ghost use Rattle.rt_trie.specs.inside.Places.{IsPlace};
+    ghost use Rattle.rt_trie.specs.inside.Places.{IsPlace, AreAnswers};
 
     /// A way down that is at its top.
     fn new(root: &'a Link<V, A>) -> Way<'a, V, A>
@@ -95,6 +89,23 @@ impl<'a, V, A: Allocator> Way<'a, V, A> {
         Way {
             places: [top; PLACES],
             len: 1,
+        }
+    }
+
+    /// The place from which a look-up of the address goes on, after one of `from`: the last that is kept and reaches it,
+    /// or the top. Of a lesser address the way down begins anew.
+    fn place_for(&mut self, root: &'a Link<V, A>, from: Addr, a: Addr) -> Place<'a, V, A>
+        requires { AreAnswers root.now from self.old }
+        ensures answers { AreAnswers root.now a self.new }
+        ensures place { IsPlace (pairs root.now) a result }
+        ensures reached { a.0 ≤ result.last }
+    {
+        if a.0 < from.0 {
+            *self = Way::new(root);
+        }
+        match self.back_to(a) {
+            Some(place) => place,
+            None => Place::top(root),
         }
     }
 

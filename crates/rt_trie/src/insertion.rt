@@ -5,6 +5,7 @@
 //! becomes a loop.
 
 ghost use Rattle.std.specs.Prelude.{◌≡◌, ◌≢◌, ◌+◌, ◌/◌, ◌<◌, ◌≤◌, ◌^◌, ◌⊎◌, false, true, None, Some, IsSome, IfSome, IfNone};
+ghost use Rattle.rt_cidr.specs.declared.prefixes.Prefix.{Prefix};
 ghost use Rattle.rt_trie.specs.declared.nodes.Link.TheVariants.{Empty};
 ghost use Rattle.rt_trie.specs.declared.nodes.Position.TheVariants.{Above, Apart};
 ghost use Rattle.rt_trie.specs.Blocks.{middle, IsChild, PartsAt};
@@ -39,19 +40,7 @@ pub(crate) fn insert<V: Drop, A: Allocator + Copy>(
 {
     match link {
         Link::Empty => given.insert_at_empty(link, p),
-        Link::Leaf(len, base, leaf) => {
-            let base = *base;
-            let q = leaf.prefix;
-            match position_of(*len, base, &p) {
-                Position::Here => {
-                    exchange(&mut leaf.value, &mut given.value);
-                    true
-                }
-                Position::Left | Position::Right => given.insert_below_leaf(link, p, q),
-                Position::Above => given.insert_above(link, p, base),
-                Position::Apart => given.insert_beside(link, p, base),
-            }
-        }
+        Link::Leaf(..) => given.insert_at_leaf(link, p),
         Link::Fork(len, base, fork) => {
             let base = *base;
             match position_of(*len, base, &p) {
@@ -105,6 +94,30 @@ impl<V: Drop, A: Allocator + Copy> NewValue<V, A> {
         *link = Link::of_leaf(leaf);
         self.nodes += 1;
         true
+    }
+
+    /// Where a leaf stands: in its place, below it, above it or beside it.
+    #[inline(never)]
+    fn insert_at_leaf(&mut self, link: &mut Link<V, A>, p: Prefix) -> bool
+        requires leaf { (q : Prefix) × IsLeafOf q link.old }
+        requires lawful { IsLawfulTrie link.old }
+        requires given { IsGiven self.old }
+        ensures { Inserts link.old link.new p self.old self.new result }
+    {
+        let Link::Leaf(len, base, leaf) = link else {
+            unreachable!()
+        };
+        let base = *base;
+        let q = leaf.prefix;
+        match position_of(*len, base, &p) {
+            Position::Here => {
+                exchange(&mut leaf.value, &mut self.value);
+                true
+            }
+            Position::Left | Position::Right => self.insert_below_leaf(link, p, q),
+            Position::Above => self.insert_above(link, p, base),
+            Position::Apart => self.insert_beside(link, p, base),
+        }
     }
 
     /// The leaf at q becomes a full node, and its box holds p below it.

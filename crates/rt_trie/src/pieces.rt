@@ -1,13 +1,14 @@
 //! The look-up that also tells how far its answer goes. So all addresses, whose answers change only at the borders of
 //! prefixes, are gone through piece by piece.
 
-ghost use Rattle.std.specs.Prelude.{◌≡◌, ◌-◌, ◌^◌, ◌<◌, ◌≤◌, None, IfSome};
+ghost use Rattle.std.specs.Prelude.{◌≡◌, ◌-◌, ◌^◌, ◌<◌, ◌≤◌, None, IfSome, IsTrue};
+ghost use Rattle.std.specs.Option.{option_copied};
 ghost use Rattle.rt_cidr.specs.Prefix.{covers};
 ghost use Rattle.rt_cidr.specs.declared.address.Addr.{Addr};
 ghost use Rattle.rt_trie.specs.Blocks.{past};
 ghost use Rattle.rt_trie.specs.Map.{pair_copied, IsLongest};
-ghost use Rattle.rt_trie.specs.inside.Links.{pairs};
-ghost use Rattle.rt_trie.specs.inside.LookUps.{last_cover};
+ghost use Rattle.rt_trie.specs.inside.Links.{own_pair, pairs, IsNode};
+ghost use Rattle.rt_trie.specs.inside.LookUps.{or_else, last_cover};
 ghost use Rattle.rt_trie.specs.inside.Places.{IsPlace, IsNextPlace};
 ghost use Rattle.rt_trie.specs.Links.{root, IsLawfulBelow, IsLawfulTrie};
 
@@ -92,32 +93,63 @@ pub(crate) fn step<'a, V, A: Allocator>(
             last: place.last.min(reach(&prefix, address)),
         },
         NodeView::Branch(prefix, value, left, right) => {
-            let last = place.last.min(reach(&prefix, address));
-            if !prefix.covers(address) {
-                return Place {
-                    below: None,
-                    best: place.best,
-                    last,
-                };
-            }
-            let best = match value {
-                Some(value) => Some((prefix, value)),
-                None => place.best,
-            };
-            if u64::from(address.0) < middle(prefix.len(), prefix.base()) {
-                Place {
-                    below: Some(left),
-                    best,
-                    last: last.min(last_before(right, address)),
-                }
-            } else {
-                Place {
-                    below: Some(right),
-                    best,
-                    last,
-                }
-            }
+            step_at_branch(prefix, value, left, right, place, address)
         }
+    }
+}
+
+/// One step of a look-up down from a place, at a node of that prefix and value with these two sides.
+#[inline(always)]
+fn step_at_branch<'a, V, A: Allocator>(
+    prefix: Prefix,
+    value: Option<&'a V>,
+    left: &'a Link<V, A>,
+    right: &'a Link<V, A>,
+    place: &Place<'a, V, A>,
+    address: Addr,
+) -> Place<'a, V, A>
+    requires node { (link : Link V A) × IsNode link prefix (option_copied value) left.now right.now }
+    requires reached { address.0 ≤ place.now.last }
+    ensures { (link : Link V A) → IsNode link prefix (option_copied value.entry) left.now right.now
+        → IsNextPlace link place.now address result }
+{
+    let last = place.last.min(reach(&prefix, address));
+    if !prefix.covers(address) {
+        return Place {
+            below: None,
+            best: place.best,
+            last,
+        };
+    }
+    let best = best_from(prefix, value, place.best);
+    if u64::from(address.0) < middle(prefix.len(), prefix.base()) {
+        Place {
+            below: Some(left),
+            best,
+            last: last.min(last_before(right, address)),
+        }
+    } else {
+        Place {
+            below: Some(right),
+            best,
+            last,
+        }
+    }
+}
+
+/// The best pair from a node on that covers the address: its own, or the one above where it has none.
+#[inline(always)]
+fn best_from<'a, V>(
+    prefix: Prefix,
+    value: Option<&'a V>,
+    above: Option<(Prefix, &'a V)>,
+) -> Option<(Prefix, &'a V)>
+    ensures { (b : Addr) → IsTrue (covers prefix b)
+        → or_else (last_cover (own_pair prefix (option_copied value.entry)) b) (pair_copied above.entry) ≡ pair_copied result }
+{
+    match value {
+        Some(value) => Some((prefix, value)),
+        None => above,
     }
 }
 

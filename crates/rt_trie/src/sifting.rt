@@ -2,7 +2,7 @@
 
 ghost use Rattle.std.specs.Prelude.{◌≡◌, Bool, ◌+◌, ◌≤◌, false, length};
 ghost use Rattle.rt_cidr.specs.declared.prefixes.Prefix.{Prefix};
-ghost use Rattle.rt_trie.specs.inside.Links.{own_pair, pairs, count};
+ghost use Rattle.rt_trie.specs.inside.Links.{own_pair, pairs, count, IsLeafOf};
 ghost use Rattle.rt_trie.specs.Links.{IsLawfulTrie};
 ghost use Rattle.rt_trie.specs.Sifted.{IsSifted};
 ghost use Rattle.rt_trie.specs.inside.Sifted.{IsSiftedLink};
@@ -50,12 +50,8 @@ pub(crate) fn retain<V: Drop, A: Allocator + Drop, S: Sieve<V>>(
     }
     match link {
         Link::Empty => return,
-        Link::Leaf(_, _, leaf) => {
-            if !sieve.keeps(leaf.prefix, &mut leaf.value) {
-                *link = Link::Empty;
-                *nodes -= 1;
-                *len -= 1;
-            }
+        Link::Leaf(..) => {
+            retain_leaf(link, nodes, len, sieve);
             return;
         }
         Link::Fork(_, _, fork) => {
@@ -71,6 +67,32 @@ pub(crate) fn retain<V: Drop, A: Allocator + Drop, S: Sieve<V>>(
         }
     }
     splice(link, nodes);
+}
+
+/// Shows the sieve a leaf's pair.
+fn retain_leaf<V: Drop, A: Allocator + Drop, S: Sieve<V>>(
+    link: &mut Link<V, A>,
+    nodes: &mut usize,
+    len: &mut usize,
+    sieve: &mut S,
+)
+    requires leaf { (q : Prefix) × IsLeafOf q link.old }
+    requires lawful { IsLawfulTrie link.old }
+    requires wanted { S.done sieve.old ≡ false }
+    requires nodes { 1 ≤ nodes.old }
+    requires len { 1 ≤ len.old }
+    ensures sifted { IsSiftedLink S.done S.judges sieve.old sieve.new link.old link.new }
+    ensures nodes { nodes.new + count link.old ≡ nodes.old + count link.new }
+    ensures len { len.new + length (pairs link.old) ≡ len.old + length (pairs link.new) }
+{
+    let Link::Leaf(_, _, leaf) = link else {
+        unreachable!()
+    };
+    if !sieve.keeps(leaf.prefix, &mut leaf.value) {
+        *link = Link::Empty;
+        *nodes -= 1;
+        *len -= 1;
+    }
 }
 
 /// Shows the sieve a node's own pair, if it has a value.

@@ -1,19 +1,17 @@
-use Rattle.std.proofs.Common.{refl, sym, subst, ap, inl, inr}
-use Rattle.rt_trie.specs.declared.nodes.LeafNode.{LeafNode}
+use Rattle.std.proofs.Common.{refl, sym, subst}
 use Rattle.rt_trie.specs.declared.nodes.Position.TheVariants.{Above, Apart}
-use Rattle.rt_trie.specs.inside.Blocks.{StandsAt}
 use Rattle.rt_trie.specs.inside.Changes.{Inserts}
-use Rattle.rt_trie.proofs.InsertLemmas.{insert_left, insert_right, insert_here, insert_leaf}
-use Rattle.rt_trie.proofs.LinkLemmas.{view_fork, view_full, key_of_leaf, key_of_fork, key_of_full, seen_from, short_fork, short_full, short_leaf}
+use Rattle.rt_trie.proofs.InsertLemmas.{insert_left, insert_right, insert_here}
+use Rattle.rt_trie.proofs.LinkLemmas.{view_fork, view_full, key_of_fork, key_of_full, seen_from, short_fork, short_full}
 use Rattle.rt_trie.proofs.insertion.+insert.Goals as goal
 
-pub returns-in-Left-position_of : goal.returns-in-Left-position_of
-returns-in-Left-position_of g t c =
-    let d = c.deref_mut-in-Left-position_of in
+pub returns-in-Left : goal.returns-in-Left
+returns-in-Left g t c =
+    let d = c.deref_mut in
     let m = d.result.now in
     let p = c.args.p in
     let key = key_of_fork c.in-Fork.fork m c.args.link.now c.in-Fork.is d.ensures.value c.requires.lawful.0 in
-    let position = c.in-Left-position_of.ensures m.prefix key in
+    let position = c.in-Left.ensures m.prefix key in
     insert_left c.args.link.now m.prefix _ m.left m.right c.insert.new.link _ p c.args.given.now c.insert.new.given c.insert.result
     (view_fork c.in-Fork.fork m c.args.link.now c.in-Fork.is d.ensures.value c.requires.lawful.0) c.requires.lawful position c.insert.ensures
 
@@ -28,14 +26,14 @@ returns-in-Right g t c =
     c.args.given.now c.insert-in-Right.new.given c.insert-in-Right.result
     (view_fork c.in-Fork.fork m c.args.link.now c.in-Fork.is d.ensures.value c.requires.lawful.0) c.requires.lawful position c.insert-in-Right.ensures
 
-pub returns-in-Left-position_of-2 : goal.returns-in-Left-position_of-2
-returns-in-Left-position_of-2 g t c =
-    let d = c.deref_mut-in-Left-position_of-2 in
+pub returns-in-Left-position_of : goal.returns-in-Left-position_of
+returns-in-Left-position_of g t c =
+    let d = c.deref_mut-in-Left-position_of in
     let m = d.result.now in
     let p = c.args.p in
-    let k = c.insert-in-Left-position_of-2 in
+    let k = c.insert-in-Left-position_of in
     let key = key_of_full c.in-Full.full m c.args.link.now c.in-Full.is d.ensures.value c.requires.lawful.0 in
-    let position = c.in-Left-position_of-2.ensures m.prefix key in
+    let position = c.in-Left-position_of.ensures m.prefix key in
     insert_left c.args.link.now m.prefix _ m.left m.right k.new.link _ p c.args.given.now k.new.given k.result
     (view_full c.in-Full.full m c.args.link.now c.in-Full.is d.ensures.value c.requires.lawful.0) c.requires.lawful position k.ensures
 
@@ -50,113 +48,70 @@ returns-in-Right-position_of g t c =
     insert_right c.args.link.now m.prefix _ m.left m.right k.new.link _ p c.args.given.now k.new.given k.result
     (view_full c.in-Full.full m c.args.link.now c.in-Full.is d.ensures.value c.requires.lawful.0) c.requires.lawful position k.ensures
 
-pub returns-in-Here-position_of : goal.returns-in-Here-position_of
-returns-in-Here-position_of g t c =
+pub returns-in-Here : goal.returns-in-Here
+returns-in-Here g t c =
     let k = c.insert_at_fork in
     subst (λ l. Inserts l k.new.link c.args.p c.args.given.now k.new.self k.result) (sym c.in-Fork.is) k.ensures
 
-pub returns-in-Here-position_of-2 : goal.returns-in-Here-position_of-2
-returns-in-Here-position_of-2 g t c =
-    let d = c.deref_mut-in-Here-position_of-2 in
+pub returns-in-Here-position_of : goal.returns-in-Here-position_of
+returns-in-Here-position_of g t c =
+    let d = c.deref_mut-in-Here-position_of in
     let m = d.result.now in
     let p = c.args.p in
-    let position = c.in-Here-position_of-2.ensures m.prefix (key_of_full c.in-Full.full m c.args.link.now c.in-Full.is d.ensures.value c.requires.lawful.0) in
+    let position = c.in-Here-position_of.ensures m.prefix (key_of_full c.in-Full.full m c.args.link.now c.in-Full.is d.ensures.value c.requires.lawful.0) in
     insert_here c.in-Full.full m c.args.link.now c.args.given.now.nodes p c.args.given.now.value c.swap.new.x c.swap.new.y c.in-Full.is d.ensures.value
     c.requires.lawful position c.swap.ensures.x_after c.swap.ensures.y_after
-
-pub returns-in-Here : goal.returns-in-Here
-returns-in-Here g t c =
-    let d = c.deref_mut in
-    let m = d.result.now in
-    let position = c.in-Here.ensures m.prefix (key_of_leaf c.in-Leaf.leaf m c.args.link.now c.in-Leaf.is d.ensures.value c.requires.lawful.0) in
-    insert_leaf c.in-Leaf.leaf m c.args.link.now c.args.given.now.nodes c.args.p c.args.given.now.value c.exchange.new.value c.exchange.new.stored
-    c.in-Leaf.is d.ensures.value c.requires.lawful position c.exchange.ensures.stored c.exchange.ensures.had
-
-pub insert_below_leaf-requires-clause-below : goal.insert_below_leaf-requires-clause-below
-insert_below_leaf-requires-clause-below g t c =
-    let m = c.deref.result.now in
-    let p = c.args.p in
-    let position = c.position_of.ensures m.prefix (key_of_leaf c.in-Leaf.leaf m c.args.link.now c.in-Leaf.is c.deref.ensures c.requires.lawful.0) in
-    elim c.in-Left.is [ inl e ↦ inl (subst (StandsAt m.prefix p) e position) | inr e ↦ inr (subst (StandsAt m.prefix p) e position) ]
-
-pub insert_above-requires-clause-seen : goal.insert_above-requires-clause-seen
-insert_above-requires-clause-seen g t c =
-    seen_from _ _ c.args.p Above refl (key_of_leaf c.in-Leaf.leaf c.in-Leaf.leaf.value c.args.link.now c.in-Leaf.is refl c.requires.lawful.0)
-    c.in-Above.ensures
-
-pub insert_beside-requires-clause-seen : goal.insert_beside-requires-clause-seen
-insert_beside-requires-clause-seen g t c =
-    seen_from _ _ c.args.p Apart refl (key_of_leaf c.in-Leaf.leaf c.in-Leaf.leaf.value c.args.link.now c.in-Leaf.is refl c.requires.lawful.0)
-    c.in-Apart.ensures
 
 pub insert_at_fork-requires-clause-fork : goal.insert_at_fork-requires-clause-fork
 insert_at_fork-requires-clause-fork g t c =
     let f = c.in-Fork.fork in
-    sym (c.in-Here-position_of.ensures f.value.prefix (key_of_fork f f.value c.args.link.now c.in-Fork.is refl c.requires.lawful.0))
+    sym (c.in-Here.ensures f.value.prefix (key_of_fork f f.value c.args.link.now c.in-Fork.is refl c.requires.lawful.0))
+
+pub insert_above-requires-clause-seen : goal.insert_above-requires-clause-seen
+insert_above-requires-clause-seen g t c =
+    seen_from _ _ c.args.p Above refl (key_of_fork c.in-Fork.fork c.in-Fork.fork.value c.args.link.now c.in-Fork.is refl c.requires.lawful.0)
+    c.in-Above.ensures
+
+pub insert_beside-requires-clause-seen : goal.insert_beside-requires-clause-seen
+insert_beside-requires-clause-seen g t c =
+    seen_from _ _ c.args.p Apart refl (key_of_fork c.in-Fork.fork c.in-Fork.fork.value c.args.link.now c.in-Fork.is refl c.requires.lawful.0)
+    c.in-Apart.ensures
 
 pub insert_above-requires-in-Above-position_of-clause-seen : goal.insert_above-requires-in-Above-position_of-clause-seen
 insert_above-requires-in-Above-position_of-clause-seen g t c =
-    seen_from _ _ c.args.p Above refl (key_of_fork c.in-Fork.fork c.in-Fork.fork.value c.args.link.now c.in-Fork.is refl c.requires.lawful.0)
+    seen_from _ _ c.args.p Above refl (key_of_full c.in-Full.full c.in-Full.full.value c.args.link.now c.in-Full.is refl c.requires.lawful.0)
     c.in-Above-position_of.ensures
 
 pub insert_beside-requires-in-Apart-position_of-clause-seen : goal.insert_beside-requires-in-Apart-position_of-clause-seen
 insert_beside-requires-in-Apart-position_of-clause-seen g t c =
-    seen_from _ _ c.args.p Apart refl (key_of_fork c.in-Fork.fork c.in-Fork.fork.value c.args.link.now c.in-Fork.is refl c.requires.lawful.0)
+    seen_from _ _ c.args.p Apart refl (key_of_full c.in-Full.full c.in-Full.full.value c.args.link.now c.in-Full.is refl c.requires.lawful.0)
     c.in-Apart-position_of.ensures
 
-pub insert_above-requires-in-Above-position_of-2-clause-seen : goal.insert_above-requires-in-Above-position_of-2-clause-seen
-insert_above-requires-in-Above-position_of-2-clause-seen g t c =
-    seen_from _ _ c.args.p Above refl (key_of_full c.in-Full.full c.in-Full.full.value c.args.link.now c.in-Full.is refl c.requires.lawful.0)
-    c.in-Above-position_of-2.ensures
-
-pub insert_beside-requires-in-Apart-position_of-2-clause-seen : goal.insert_beside-requires-in-Apart-position_of-2-clause-seen
-insert_beside-requires-in-Apart-position_of-2-clause-seen g t c =
-    seen_from _ _ c.args.p Apart refl (key_of_full c.in-Full.full c.in-Full.full.value c.args.link.now c.in-Full.is refl c.requires.lawful.0)
-    c.in-Apart-position_of-2.ensures
-
-pub insert_below_leaf-requires-clause-leaf : goal.insert_below_leaf-requires-clause-leaf
-insert_below_leaf-requires-clause-leaf g t c = sym (ap (λ (x : LeafNode _). x.prefix) c.deref.ensures)
-
 pub position_of-requires : goal.position_of-requires
-position_of-requires g t c = short_leaf c.in-Leaf.leaf c.args.link.now c.in-Leaf.is c.requires.lawful.0
-
-pub position_of-requires-in-Fork : goal.position_of-requires-in-Fork
-position_of-requires-in-Fork g t c = short_fork c.in-Fork.fork c.args.link.now c.in-Fork.is c.requires.lawful.0
+position_of-requires g t c = short_fork c.in-Fork.fork c.args.link.now c.in-Fork.is c.requires.lawful.0
 
 pub position_of-requires-in-Full : goal.position_of-requires-in-Full
 position_of-requires-in-Full g t c = short_full c.in-Full.full c.args.link.now c.in-Full.is c.requires.lawful.0
 
-pub returns-in-Left : goal.returns-in-Left
-returns-in-Left g t c =
-    let k = c.insert_below_leaf in
-    subst (λ l. Inserts l k.new.link c.args.p c.args.given.now k.new.self k.result) (sym c.in-Leaf.is) k.ensures
-
 pub returns-in-Above : goal.returns-in-Above
 returns-in-Above g t c =
     let k = c.insert_above in
-    subst (λ l. Inserts l k.new.link c.args.p c.args.given.now k.new.self k.result) (sym c.in-Leaf.is) k.ensures
+    subst (λ l. Inserts l k.new.link c.args.p c.args.given.now k.new.self k.result) (sym c.in-Fork.is) k.ensures
 
 pub returns-in-Apart : goal.returns-in-Apart
 returns-in-Apart g t c =
     let k = c.insert_beside in
-    subst (λ l. Inserts l k.new.link c.args.p c.args.given.now k.new.self k.result) (sym c.in-Leaf.is) k.ensures
+    subst (λ l. Inserts l k.new.link c.args.p c.args.given.now k.new.self k.result) (sym c.in-Fork.is) k.ensures
 
 pub returns-in-Above-position_of : goal.returns-in-Above-position_of
 returns-in-Above-position_of g t c =
     let k = c.insert_above-in-Above-position_of in
-    subst (λ l. Inserts l k.new.link c.args.p c.args.given.now k.new.self k.result) (sym c.in-Fork.is) k.ensures
+    subst (λ l. Inserts l k.new.link c.args.p c.args.given.now k.new.self k.result) (sym c.in-Full.is) k.ensures
 
 pub returns-in-Apart-position_of : goal.returns-in-Apart-position_of
 returns-in-Apart-position_of g t c =
     let k = c.insert_beside-in-Apart-position_of in
-    subst (λ l. Inserts l k.new.link c.args.p c.args.given.now k.new.self k.result) (sym c.in-Fork.is) k.ensures
-
-pub returns-in-Above-position_of-2 : goal.returns-in-Above-position_of-2
-returns-in-Above-position_of-2 g t c =
-    let k = c.insert_above-in-Above-position_of-2 in
     subst (λ l. Inserts l k.new.link c.args.p c.args.given.now k.new.self k.result) (sym c.in-Full.is) k.ensures
 
-pub returns-in-Apart-position_of-2 : goal.returns-in-Apart-position_of-2
-returns-in-Apart-position_of-2 g t c =
-    let k = c.insert_beside-in-Apart-position_of-2 in
-    subst (λ l. Inserts l k.new.link c.args.p c.args.given.now k.new.self k.result) (sym c.in-Full.is) k.ensures
+pub insert_at_leaf-requires-clause-leaf : goal.insert_at_leaf-requires-clause-leaf
+insert_at_leaf-requires-clause-leaf g t c = rw c.in-Leaf.is (c.in-Leaf.field-2.value.prefix, refl)

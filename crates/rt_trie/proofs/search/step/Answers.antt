@@ -1,11 +1,27 @@
-use Rattle.std.proofs.Common.{refl, sym, ap, ◌∙◌}
+use Rattle.std.proofs.Common.{Some, refl, sym, subst, ap, ◌∙◌, inl, inr}
+use Rattle.rt_trie.specs.declared.nodes.LeafNode.{LeafNode}
+use Rattle.rt_trie.specs.inside.LookUps.{IsNoLonger}
 use Rattle.rt_trie.specs.Map.{pair_copied}
-use Rattle.rt_trie.proofs.NodeLemmas.{best_stored, best_unstored}
-use Rattle.rt_trie.proofs.LinkLemmas.{none_unless, of_fork, of_full, short_fork, short_full, short_leaf, key_of_fork}
+use Rattle.rt_trie.proofs.NodeLemmas.{best_stored, best_unstored, step_single}
+use Rattle.rt_trie.proofs.LinkLemmas.{none_unless, of_leaf, of_fork, of_full, short_fork, short_full, short_leaf, key_of_leaf, key_of_fork}
 use Rattle.rt_trie.proofs.LinkLemmas.{key_of_full, side_below, step_side, step_ends}
 use Rattle.rt_trie.proofs.BlockLemmas.{not_covered}
 use Rattle.rt_trie.proofs.search.step.Goals as goal
-use Rattle.rt_trie.proofs.search.step.Goals.{in-Some, in_default}
+use Rattle.rt_trie.proofs.search.step.Goals.{in-Some, in_default, then-offset-lt-END, else-offset-lt-END}
+
+pub returns-after-offset-lt-END-clause-sought : goal.returns-after-offset-lt-END-clause-sought
+returns-after-offset-lt-END-clause-sought g c = λ most short.
+    let b = c.in-Leaf.leaf in
+    let q = b.value.prefix in
+    let k = key_of_leaf b b.value c.args.link.now c.in-Leaf.is refl c.requires in
+    step_single _ q b.value.value most c.args.address _ _ (of_leaf b b.value c.args.link.now c.in-Leaf.is refl) (subst (IsNoLonger most) c.in-Leaf.is short)
+    (elim c.if-offset-lt-END.branch [
+      | then-offset-lt-END w ↦ inl (
+        (c.offset.ensures.covered q k).1 w.if-offset-lt-END.true,
+        ap pair_copied w.best-is ∙ ap (λ (n : LeafNode _). Some (n.prefix, n.value)) w.as_ref-leaf.ensures,
+      )
+      | else-offset-lt-END w ↦ inr (not_covered q c.args.address _ (c.offset.ensures.covered q k) w.if-offset-lt-END.false, ap pair_copied w.best-is)
+    ])
 
 pub returns-then-offset-ge-END-clause-sought : goal.returns-then-offset-ge-END-clause-sought
 returns-then-offset-ge-END-clause-sought g c =

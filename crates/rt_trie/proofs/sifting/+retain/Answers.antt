@@ -1,9 +1,10 @@
-use Rattle.std.proofs.Common.{◌≡◌, ◌+◌, ◌++◌, None, length, sym, ap, ◌∙◌, arith, length-append, rules}
+use Rattle.std.proofs.Common.{◌≡◌, ℕ, ◌+◌, ◌++◌, None, length, refl, sym, ap, ◌∙◌, arith, length-append}
 use Rattle.rt_trie.specs.inside.Links.{pairs, own_pair}
-use Rattle.rt_trie.proofs.SiftLemmas.{IsHalfSifted, sifted_none, sifted_done, link_same, leaf_goes, leaf_stays, half_fork, half_full, sifted_of, node_length}
+use Rattle.rt_trie.proofs.SiftLemmas.{IsHalfSifted, sifted_none, sifted_done, link_same, half_fork, half_full, sifted_of, node_length}
 use Rattle.rt_trie.proofs.LinkLemmas.{of_fork, of_full, view_fork}
+use Rattle.rt_trie.proofs.sifting.+retain.Given.{Over}
 use Rattle.rt_trie.proofs.sifting.+retain.Goals as goal
-use Rattle.rt_trie.proofs.sifting.+retain.Goals.{in-Fork, in-Full}
+use Rattle.rt_trie.proofs.sifting.+retain.Goals.{Joined-link, in-Fork, in-Full}
 
 pub returns-then-is_done-clause-sifted : goal.returns-then-is_done-clause-sifted
 returns-then-is_done-clause-sifted g t c =
@@ -18,47 +19,15 @@ returns-in-Empty-clause-sifted g t c =
     let judges = g.S.Sieve.judges in
     link_same done judges c.args.sieve.now c.args.link.now c.requires.lawful (rw c.in-Empty.is (sifted_none done judges c.args.sieve.now))
 
-pub returns-then-not-keeps-clause-sifted : goal.returns-then-not-keeps-clause-sifted
-returns-then-not-keeps-clause-sifted g t c =
-    leaf_goes g.S.Sieve.done g.S.Sieve.judges c.args.sieve.now c.keeps.new.self c.in-Leaf.leaf c.args.link.now c.keeps.new.value c.in-Leaf.is
-    (sym c.is_done.ensures ∙ c.if-is_done.false)
-    (rw (c.deref.ensures, c.deref_mut.ensures.value, c.if-not-keeps.true) at c.keeps.ensures)
-
-pub returns-else-not-keeps-clause-sifted : goal.returns-else-not-keeps-clause-sifted
-returns-else-not-keeps-clause-sifted g t c =
-    leaf_stays g.S.Sieve.done g.S.Sieve.judges c.args.sieve.now c.keeps.new.self c.in-Leaf.leaf c.deref_mut.result.now
-    c.args.link.now c.keeps.new.value c.in-Leaf.is
-    c.deref_mut.ensures.value c.requires.lawful (sym c.is_done.ensures ∙ c.if-is_done.false)
-    (rw (c.deref.ensures, c.deref_mut.ensures.value, c.if-not-keeps.false) at c.keeps.ensures)
-
-pub splice-requires-clause-lawful : goal.splice-requires-clause-lawful
-splice-requires-clause-lawful g t c =
+-- the link before what isn't needed is taken away
+halfway : (g : Over) (t : ℕ) (c : Joined-link g t)
+    → IsHalfSifted g.S.Sieve.done g.S.Sieve.judges c.args.sieve.now c.match-link.sieve c.args.link.now c.match-link.link
+halfway g t c =
     let done = g.S.Sieve.done in
     let judges = g.S.Sieve.judges in
     let old = c.args.link.now in
     let s = c.args.sieve.now in
     elim c.match-link.branch [
-      | in-Fork w ↦
-          let m = w.as_mut-fork.result.now in
-          rw w.link-is (IsHalfSifted.below (half_fork done judges s w.retain.new.sieve w.retain-in-Fork.new.sieve old m.prefix m.left m.right
-          w.retain.new.link w.retain-in-Fork.new.link _
-          (view_fork w.in-Fork.fork m old w.in-Fork.is w.as_mut-fork.ensures.value c.requires.lawful.0)
-          w.retain.ensures.sifted w.retain-in-Fork.ensures.sifted))
-      | in-Full w ↦
-          let m = w.as_mut-full.result.now in
-          rw w.link-is (IsHalfSifted.below (half_full done judges s w.retain_own.new.sieve w.retain-in-Full.new.sieve
-          w.retain-in-Full-2.new.sieve w.in-Full.full m old
-          w.retain_own.new.value w.retain-in-Full.new.link w.retain-in-Full-2.new.link w.in-Full.is w.as_mut-full.ensures.value c.requires.lawful
-          w.retain_own.ensures.sifted w.retain-in-Full.ensures.sifted w.retain-in-Full-2.ensures.sifted))
-    ]
-
-pub returns-clause-sifted : goal.returns-clause-sifted
-returns-clause-sifted g t c =
-    let done = g.S.Sieve.done in
-    let judges = g.S.Sieve.judges in
-    let old = c.args.link.now in
-    let s = c.args.sieve.now in
-    let half : IsHalfSifted done judges s c.match-link.sieve old c.match-link.link = elim c.match-link.branch [
       | in-Fork w ↦
           let m = w.as_mut-fork.result.now in
           rw (w.link-is, w.sieve-is) (half_fork done judges s w.retain.new.sieve w.retain-in-Fork.new.sieve old m.prefix m.left m.right
@@ -70,8 +39,15 @@ returns-clause-sifted g t c =
           w.retain-in-Full-2.new.sieve w.in-Full.full m old
           w.retain_own.new.value w.retain-in-Full.new.link w.retain-in-Full-2.new.link w.in-Full.is w.as_mut-full.ensures.value c.requires.lawful
           w.retain_own.ensures.sifted w.retain-in-Full.ensures.sifted w.retain-in-Full-2.ensures.sifted)
-    ] in
-    sifted_of done judges s c.match-link.sieve old c.match-link.link c.splice.new.link half c.splice.ensures.spliced
+    ]
+
+pub splice-requires-clause-lawful : goal.splice-requires-clause-lawful
+splice-requires-clause-lawful g t c = (halfway g t (goal.at.splice-requires-clause-lawful g t c).Joined-link).below
+
+pub returns-clause-sifted : goal.returns-clause-sifted
+returns-clause-sifted g t c =
+    sifted_of g.S.Sieve.done g.S.Sieve.judges c.args.sieve.now c.match-link.sieve c.args.link.now c.match-link.link c.splice.new.link
+    (halfway g t (goal.at.returns-clause-sifted g t c).Joined-link) c.splice.ensures.spliced
 
 pub returns-clause-len : goal.returns-clause-len
 returns-clause-len g t c =
@@ -104,5 +80,5 @@ returns-clause-len g t c =
     ] in
     omega (arith, whole, ap length c.splice.ensures.spliced.pairs_are)
 
-pub returns-then-not-keeps-clause-nodes : goal.returns-then-not-keeps-clause-nodes
-returns-then-not-keeps-clause-nodes g t c = search rules
+pub retain_leaf-requires-clause-leaf : goal.retain_leaf-requires-clause-leaf
+retain_leaf-requires-clause-leaf g t c = rw c.in-Leaf.is (c.in-Leaf.field-2.value.prefix, refl)
