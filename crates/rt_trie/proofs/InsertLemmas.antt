@@ -323,6 +323,23 @@ module _ {V A : Type 0} where
       → IsNode old q (Some b.value.value) Empty Empty
   leaf_node {len} {base} b old q e f = subst (λ y. IsNode old y (Some b.value.value) Empty Empty) f (rw e (leaf_at len base b))
 
+  -- a leaf is put in where nothing was
+  put_leaf : (k : Box (LeafNode V) A) (p : Prefix) (v : V) → k.value.prefix ≡ p → k.value.value ≡ v → IsPut Empty (leaf_link k) p v
+  put_leaf k p v e f =
+      let leaf = made_leaf k p v e f in
+      record {
+        pairs_are = leaf.pairs_are;
+        lawful = leaf.lawful;
+        filled = filled_of (leaf_link k) p leaf.root_is;
+        stays = stays_new Empty (leaf_link k) p leaf.root_is;
+      }
+
+  pub empty_insert : (old : Link V A) (n m : ℕ) (p : Prefix) (given slot : Option V) (k : Box (LeafNode V) A) → old ≡ Empty → k.value.prefix ≡ p
+      → given ≡ Some k.value.value → slot ≡ None → m ≡ n + 1 → IsInserted old (leaf_link k) n m p given slot
+  empty_insert old n m p given slot k e f g none o =
+      rw e (inserted Empty (leaf_link k) n m p given slot (Some k.value.value) (sym g) none refl (omega (arith, o))
+      (λ v t. put_leaf k p v f (some_same t)))
+
   -- the value of a leaf, and what is in the slot, change places
   pub insert_leaf : {len base : ℕ} (b : Box (LeafNode V) A) (m : LeafNode V) (old : Link V A) (n : ℕ) (p : Prefix)
       (given slot : Option V) (stored : V) → old ≡ Leaf len base b
@@ -340,6 +357,34 @@ module _ {V A : Type 0} where
         had_is = had ∙ ap (λ (z : LeafNode V). Some z.value) g ∙ sym (get_own old m.prefix (Some b.value.value) Empty Empty x p i);
         counted = omega (arith, x.count_is);
       }
+
+  -- the leaf at q becomes a full node, with the leaf of p on the side where p lies
+  pub below_insert : {len base : ℕ} (b : Box (LeafNode V) A) (old : Link V A) (n m : ℕ) (q p : Prefix) (given slot : Option V) (v above : V)
+      → old ≡ Leaf len base b → b.value.prefix ≡ q → above ≡ b.value.value → IsChild q false p ⊎ IsChild q true p → Some v ≡ given → slot ≡ None
+      → m ≡ n + 1 → (k : Box (LeafNode V) A) → k.value.prefix ≡ p → k.value.value ≡ v → (sides : Link V A × Link V A)
+      → (p.base < middle q → sides ≡ (leaf_link k, Empty)) → (middle q ≤ p.base → sides ≡ (Empty, leaf_link k)) → (x : Box (FullNode V A) A)
+      → x.value.prefix ≡ q → x.value.value ≡ Some above → x.value.left ≡ sides.0 → x.value.right ≡ sides.1
+      → IsInserted old (full_link x) n m p given slot
+  below_insert b old n m q p given slot v above e f g child same none o k kp kv sides lo hi x i j l r =
+      let a : IsNode old q (Some above) Empty Empty = subst (λ y. IsNode old q (Some y) Empty Empty) (sym g) (leaf_node b old q e f) in
+      let leaf = made_leaf k p v kp kv in
+      let put = put_leaf k p v kp kv in
+      elim child [
+        | inl c ↦
+            let s = lo (omega (arith, c.to, size_pos p.len)) in
+            let u = made_full x q above (leaf_link k) Empty i j (l ∙ ap (λ (t : Link V A × Link V A). t.0) s) (r ∙ ap (λ (t : Link V A × Link V A). t.1) s)
+            (record { lower = child_link q false (leaf_link k) p leaf.root_is c; upper = tt }) leaf.lawful (tt, tt) in
+            inserted old (full_link x) n m p given slot (Some v) same none (get_left old q (Some above) Empty Empty a p c)
+            (omega (arith, o, a.count_is, u.0.count_is))
+            (λ z t. subst (IsPut old (full_link x) p) (some_same t) (put_left old (full_link x) q (Some above) Empty Empty (leaf_link k) p v a u.0 u.1 c put))
+        | inr c ↦
+            let s = hi c.from in
+            let u = made_full x q above Empty (leaf_link k) i j (l ∙ ap (λ (t : Link V A × Link V A). t.0) s) (r ∙ ap (λ (t : Link V A × Link V A). t.1) s)
+            (record { lower = tt; upper = child_link q true (leaf_link k) p leaf.root_is c }) (tt, tt) leaf.lawful in
+            inserted old (full_link x) n m p given slot (Some v) same none (get_right old q (Some above) Empty Empty a p c)
+            (omega (arith, o, a.count_is, u.0.count_is))
+            (λ z t. subst (IsPut old (full_link x) p) (some_same t) (put_right old (full_link x) q (Some above) Empty Empty (leaf_link k) p v a u.0 u.1 c put))
+      ]
 
   -- the fork at p becomes a full node
   pub at_fork_insert : {len base : ℕ} (b : Box (ForkNode V A) A) (x : ForkNode V A) (old : Link V A) (n : ℕ)

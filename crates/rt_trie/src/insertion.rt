@@ -11,7 +11,8 @@ ghost use Rattle.rt_trie.specs.declared.nodes.Position.TheVariants.{Above, Apart
 ghost use Rattle.rt_trie.specs.Blocks.{middle, IsChild, PartsAt};
 ghost use Rattle.rt_trie.specs.inside.Blocks.{StandsAt};
 ghost use Rattle.rt_trie.specs.Links.{IsLawfulTrie};
-ghost use Rattle.rt_trie.specs.inside.Links.{IsLeafOf, IsForkOf, IsSeenFrom};
+ghost use Rattle.std.specs.Box.{with_value};
+ghost use Rattle.rt_trie.specs.inside.Links.{full_link, IsLeafOf, IsForkOf, IsSeenFrom};
 ghost use Rattle.rt_trie.specs.inside.Changes.{Inserts, IsGiven};
 
 use crate::nodes::{ForkNode, FullNode, LeafNode, Link, Position, middle, position_of};
@@ -128,7 +129,7 @@ impl<V: Drop, A: Allocator + Copy> NewValue<V, A> {
         requires given { IsGiven self.old }
         ensures { Inserts link.old link.new p self.old self.new result }
     {
-        let Some(mut full) = new_full(self.alloc, q) else {
+        let Some(full) = new_full(self.alloc, q) else {
             return false;
         };
         let Link::Leaf(_, _, mut leaf) = mem::replace(link, Link::Empty) else {
@@ -142,13 +143,7 @@ impl<V: Drop, A: Allocator + Copy> NewValue<V, A> {
             value: above,
         } = mem::replace(&mut *leaf, LeafNode { prefix: p, value });
         let (left, right) = on_side(&q, p.base(), Link::of_leaf(leaf));
-        *full = FullNode {
-            prefix: q,
-            value: Some(above),
-            left,
-            right,
-        };
-        *link = Link::of_full(full);
+        fill(link, full, q, Some(above), left, right);
         self.nodes += 1;
         true
     }
@@ -161,7 +156,7 @@ impl<V: Drop, A: Allocator + Copy> NewValue<V, A> {
         requires given { IsSome self.old.value }
         ensures { Inserts link.old link.new p self.old self.new result }
     {
-        let Some(mut full) = new_full(self.alloc, p) else {
+        let Some(full) = new_full(self.alloc, p) else {
             return false;
         };
         let Link::Fork(_, _, fork) = mem::replace(link, Link::Empty) else {
@@ -172,13 +167,7 @@ impl<V: Drop, A: Allocator + Copy> NewValue<V, A> {
             left,
             right,
         } = Box::into_inner(fork);
-        *full = FullNode {
-            prefix: p,
-            value: self.value.take(),
-            left,
-            right,
-        };
-        *link = Link::of_full(full);
+        fill(link, full, p, self.value.take(), left, right);
         true
     }
 
@@ -190,17 +179,11 @@ impl<V: Drop, A: Allocator + Copy> NewValue<V, A> {
         requires given { IsGiven self.old }
         ensures { Inserts link.old link.new p self.old self.new result }
     {
-        let Some(mut full) = new_full(self.alloc, p) else {
+        let Some(full) = new_full(self.alloc, p) else {
             return false;
         };
         let (left, right) = on_side(&p, base, mem::replace(link, Link::Empty));
-        *full = FullNode {
-            prefix: p,
-            value: self.value.take(),
-            left,
-            right,
-        };
-        *link = Link::of_full(full);
+        fill(link, full, p, self.value.take(), left, right);
         self.nodes += 1;
         true
     }
@@ -289,6 +272,26 @@ fn new_full<V: Drop, A: Allocator + Copy>(
         right: Link::Empty,
     };
     Box::new(alloc, node).ok()
+}
+
+/// Makes a full node of that prefix, value and sides in the box, and puts the box into the link.
+fn fill<V: Drop, A: Allocator + Drop>(
+    link: &mut Link<V, A>,
+    mut full: Box<FullNode<V, A>, A>,
+    prefix: Prefix,
+    value: Option<V>,
+    left: Link<V, A>,
+    right: Link<V, A>,
+)
+    ensures { link.new ≡ full_link (with_value full (record { prefix = prefix; value = value; left = left; right = right })) }
+{
+    *full = FullNode {
+        prefix,
+        value,
+        left,
+        right,
+    };
+    *link = Link::of_full(full);
 }
 
 /// The child in the place of a left and a right one: on the side of the parent where its first address lies.

@@ -1,5 +1,5 @@
 use Rattle.std.proofs.Common.{◌≡◌, ℕ, ◌+◌, ◌++◌, None, length, refl, sym, ap, ◌∙◌, arith, length-append}
-use Rattle.rt_trie.specs.inside.Links.{pairs, own_pair}
+use Rattle.rt_trie.specs.inside.Links.{pairs, count, own_pair}
 use Rattle.rt_trie.proofs.SiftLemmas.{IsHalfSifted, sifted_none, sifted_done, link_same, half_fork, half_full, sifted_of, node_length}
 use Rattle.rt_trie.proofs.LinkLemmas.{of_fork, of_full, view_fork}
 use Rattle.rt_trie.proofs.sifting.+retain.Given.{Over}
@@ -82,3 +82,25 @@ returns-clause-len g t c =
 
 pub retain_leaf-requires-clause-leaf : goal.retain_leaf-requires-clause-leaf
 retain_leaf-requires-clause-leaf g t c = rw c.in-Leaf.is (c.in-Leaf.field-2.value.prefix, refl)
+
+-- how many nodes there are then
+nodes_halfway : (g : Over) (t : ℕ) (c : Joined-link g t)
+    → c.match-link.nodes + count c.args.link.now ≡ c.args.nodes.now + count c.match-link.link
+nodes_halfway g t c =
+    let old = c.args.link.now in
+    elim c.match-link.branch [
+      | in-Fork w ↦
+          let node = of_fork w.in-Fork.fork w.as_mut-fork.result.now old w.in-Fork.is w.as_mut-fork.ensures.value c.requires.lawful.0 in
+          rw (w.link-is, w.nodes-is) (omega (arith, node.count_is, w.retain.ensures.nodes, w.retain-in-Fork.ensures.nodes))
+      | in-Full w ↦
+          let node = of_full w.in-Full.full w.as_mut-full.result.now old w.in-Full.is w.as_mut-full.ensures.value c.requires.lawful.0 in
+          rw (w.link-is, w.nodes-is) (omega (arith, node.count_is, w.retain-in-Full.ensures.nodes, w.retain-in-Full-2.ensures.nodes))
+    ]
+
+pub splice-requires-clause-counted : goal.splice-requires-clause-counted
+splice-requires-clause-counted g t c =
+    omega (arith, nodes_halfway g t (goal.at.splice-requires-clause-counted g t c).Joined-link, c.requires.nodes)
+
+pub returns-clause-nodes : goal.returns-clause-nodes
+returns-clause-nodes g t c =
+    omega (arith, nodes_halfway g t (goal.at.returns-clause-nodes g t c).Joined-link, c.splice.ensures.counted)

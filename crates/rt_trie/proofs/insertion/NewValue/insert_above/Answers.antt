@@ -11,7 +11,7 @@ returns g c =
     let q = r.seen.node in
     let s = c.on_side-left.result in
     let e = c.replace.ensures.value in
-    rw c.of_full.ensures (above_insert c.args.link.now c.args.self.now.nodes _ q c.args.p c.args.self.now.value c.take.new.self c.take.result
+    rw c.fill.ensures (above_insert c.args.link.now c.args.self.now.nodes _ q c.args.p c.args.self.now.value c.take.new.self c.take.result
     r.lawful r.seen.root_is r.seen.stands c.take.ensures.value c.take.ensures.after refl s
     (λ (h : q.base < middle c.args.p). c.on_side-left.ensures.left (omega (arith, r.seen.base_is, h)) ∙ ap (λ (x : Link _ _). (x, Empty)) e)
     (λ (h : middle c.args.p ≤ q.base). c.on_side-left.ensures.right (omega (arith, r.seen.base_is, h)) ∙ ap (λ (x : Link _ _). (Empty, x)) e)

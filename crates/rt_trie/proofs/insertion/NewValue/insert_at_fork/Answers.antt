@@ -11,7 +11,7 @@ returns g c =
     let old = c.args.link.now in
     let p = c.args.p in
     let is = sym c.in-Fork.ensures.value in
-    rw c.of_full.ensures (at_fork_insert c.in-Fork.fork m old n p c.args.self.now.value c.take.new.self c.take.result
+    rw c.fill.ensures (at_fork_insert c.in-Fork.fork m old n p c.args.self.now.value c.take.new.self c.take.result
     is c.into_inner-left.ensures c.requires.lawful
     (fork_prefix c.in-Fork.fork m old is c.into_inner-left.ensures p c.requires.fork) c.take.ensures.value c.take.ensures.after
     (with_value c.in-Some.full (record { prefix = p; value = c.take.result; left = m.left; right = m.right })) refl refl refl refl)
