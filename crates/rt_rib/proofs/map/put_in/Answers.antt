@@ -24,6 +24,12 @@ returns-then-has-clause-map g c =
     IsMap-put c.map_laws.ensures c.args.map.now.pairs c.requires c.args.route.prefix c.in-Some.offers.now
     (c.requires.each c.args.route.prefix c.in-Some.offers.now (sym c.in-Some.ensures.value))
 
+pub returns-then-has-clause-refused : goal.returns-then-has-clause-refused
+returns-then-has-clause-refused g c = tt
+
+pub returns-then-has-clause-wanted : goal.returns-then-has-clause-wanted
+returns-then-has-clause-wanted g c = tt
+
 pub returns-in_err-put-clause-refused : goal.returns-in_err-put-clause-refused
 returns-in_err-put-clause-refused g c =
     err_from c.from_residual.result

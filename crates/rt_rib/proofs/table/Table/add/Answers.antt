@@ -22,6 +22,9 @@ returns-then-self-own-clause-ok g c =
     rw (← c.self.view_is)
     (full c.self.inside.limit (routes_of c.self.inside.map.pairs) c.args.route (sym c.has.ensures ∙ c.if-has.false) (rw own at c.if-self-own.true))
 
+pub returns-then-self-own-clause-wanted : goal.returns-then-self-own-clause-wanted
+returns-then-self-own-clause-wanted g c = tt
+
 pub put_in-requires : goal.put_in-requires
 put_in-requires g c = c.self.invariant.map
 

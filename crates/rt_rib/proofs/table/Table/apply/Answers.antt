@@ -1,6 +1,5 @@
 use Rattle.rt_rib.specs.Maps.{routes_of}
 use Rattle.rt_rib.proofs.CommandCases.{found, unfound, dumped}
-use Rattle.std.proofs.Common.{rules}
 use Rattle.rt_rib.proofs.table.Table.apply.Goals as goal
 use Rattle.rt_rib.proofs.table.Table.apply.Goals.{in-Some, in-None}
 
@@ -22,4 +21,4 @@ pub returns-in-Dump-clause-ok : goal.returns-in-Dump-clause-ok
 returns-in-Dump-clause-ok g c = rw (c.in-Dump.is, c.len.ensures) (dumped c.args.self.now.limit c.args.self.now.routes c.args.feed)
 
 pub returns-in-Withdraw-clause-wanted : goal.returns-in-Withdraw-clause-wanted
-returns-in-Withdraw-clause-wanted g c = search rules
+returns-in-Withdraw-clause-wanted g c = tt
