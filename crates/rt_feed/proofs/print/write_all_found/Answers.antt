@@ -1,7 +1,7 @@
 use Rattle.std.proofs.Common.{◌≡◌, ◌∷◌, rules}
 use Rattle.std.specs.List.{flat_map}
-use Rattle.std.proofs.lemmas.Result.{on_err_weaker}
-use Rattle.rt_cidr.proofs.Promised.{begins_after}
+use Rattle.std.proofs.lemmas.Result.{on_ok_weaker, on_err_weaker}
+use Rattle.rt_cidr.proofs.Promised.{appends_after, begins_after}
 use Rattle.rt_feed.specs.Printed.{also_text}
 use Rattle.rt_feed.proofs.print.write_all_found.Goals as goal
 
@@ -14,3 +14,10 @@ returns-clause-err g c =
 
 pub returns-in_default-clause-ok : goal.returns-in_default-clause-ok
 returns-in_default-clause-ok g c = search rules
+
+pub returns-clause-ok : goal.returns-clause-ok
+returns-clause-ok g c =
+    let cut : c.args.found.now ≡ c.in-Some.first.now ∷ c.in-Some.others.now = search rules in
+    let others = flat_map (also_text c.args.addr c.in-Some.first.now) c.in-Some.others.now in
+    rw cut
+    (on_ok_weaker c.write_others.result (appends_after _ _ _ _ others c.in_ok-write_found.ensures.ok) c.write_others.ensures.ok)

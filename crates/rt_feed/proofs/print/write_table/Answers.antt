@@ -1,6 +1,6 @@
 use Rattle.std.proofs.Common.{length, append-nil}
-use Rattle.std.proofs.lemmas.Result.{err_from_is_err_and, on_err_weaker}
-use Rattle.rt_cidr.proofs.Promised.{begins_after, begins_longer}
+use Rattle.std.proofs.lemmas.Result.{err_from_is_err_and, on_ok_weaker, on_err_weaker}
+use Rattle.rt_cidr.proofs.Promised.{appends_after, begins_after, begins_longer}
 use Rattle.rt_feed.specs.Printed.{count_text, rows_text}
 use Rattle.rt_feed.proofs.print.write_table.Goals as goal
 
@@ -14,3 +14,8 @@ pub returns-clause-err : goal.returns-clause-err
 returns-clause-err g c =
     let first = rw (c.as_bytes.ensures, c.prepend_count.ensures, c.new-text.ensures, append-nil) at c.in_ok-put.ensures.ok in
     on_err_weaker c.write_rows.result (begins_after _ _ _ (count_text (length c.args.routes.now)) (rows_text c.args.routes.now) first) c.write_rows.ensures.err
+
+pub returns-clause-ok : goal.returns-clause-ok
+returns-clause-ok g c =
+    let first = rw (c.as_bytes.ensures, c.prepend_count.ensures, c.new-text.ensures, append-nil) at c.in_ok-put.ensures.ok in
+    on_ok_weaker c.write_rows.result (appends_after _ _ _ (count_text (length c.args.routes.now)) (rows_text c.args.routes.now) first) c.write_rows.ensures.ok
