@@ -84,18 +84,30 @@ pub(crate) fn run_all<R: Threads + Wait + Sync>(
     ensures refused { result ≢ Err RunFault.FeedCount }
     ensures no_text { (result ≡ Err RunFault.NoText) ↔ (asked.now.texts ≡ []) }
 {
-    let ran = match asked.count() {
-        0 => return Err(RunFault::NoText),
-        1..=2 => run_in_tree::<_, 1>(rt, alloc, asked),
+    if asked.count() == 0 {
+        return Err(RunFault::NoText);
+    }
+    match run_in_lowest_tree(rt, alloc, asked) {
+        Ok(ran) => Ok(ran),
+        Err(Refused) => Err(RunFault::Memory),
+    }
+}
+
+/// Runs the texts over one table behind the lowest lock that has a place for each.
+fn run_in_lowest_tree<R: Threads + Wait + Sync>(
+    rt: &R,
+    alloc: Global,
+    asked: &FeedTexts<'_>,
+) -> Result<Ran, Refused>
+    ensures { IfOk result (λ ran. RunOverBook asked.now ran.reports.items ran.book) }
+{
+    match asked.count() {
+        0..=2 => run_in_tree::<_, 1>(rt, alloc, asked),
         3..=4 => run_in_tree::<_, 2>(rt, alloc, asked),
         5..=8 => run_in_tree::<_, 3>(rt, alloc, asked),
         9..=16 => run_in_tree::<_, 4>(rt, alloc, asked),
         17..=32 => run_in_tree::<_, 5>(rt, alloc, asked),
         _ => run_in_tree::<_, 6>(rt, alloc, asked),
-    };
-    match ran {
-        Ok(ran) => Ok(ran),
-        Err(Refused) => Err(RunFault::Memory),
     }
 }
 
