@@ -1,3 +1,4 @@
+use Rattle.std.proofs.Common.{rules}
 use Rattle.std.proofs.lemmas.Result.{err_from_is_err_and}
 use Rattle.rt_rib.specs.Book.{table_of}
 use Rattle.rt_run.specs.inside.Comparisons.{lines_of}
@@ -28,3 +29,6 @@ returns-in_err-write_output-clause-text g c old_texts new_texts limit batch old_
     let fault = err_from_is_err_and c.from_residual-in_err-write_output.result c.from_residual-in_err-write_output.ensures.1 in
     rw (fault.1, fault.2)
     (leaves_fault (IsDiffText c.args.by old_texts new_texts limit batch) _ _ _ given _ is (c.in_err-write_output.ensures {u = tt}))
+
+pub write_output-requires : goal.write_output-requires
+write_output-requires g c = search rules

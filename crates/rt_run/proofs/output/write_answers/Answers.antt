@@ -1,5 +1,6 @@
-use Rattle.std.proofs.Common.{◌≡◌, ◌++◌, sym, take-append-drop}
+use Rattle.std.proofs.Common.{◌≡◌, ◌++◌, sym, take-append-drop, arith}
 use Rattle.std.proofs.lemmas.Result.{err_from_is_err_and}
+use Rattle.std.proofs.lemmas.Grind.{common_steps}
 use Rattle.rt_cidr.proofs.Promised.{appends_after}
 use Rattle.rt_rib.specs.Book.{table_of}
 use Rattle.rt_run.specs.TableText.{answers_text}
@@ -28,3 +29,6 @@ loop-rest-preserved g c =
       whole = answers_grow table c.args.addresses.now c.loop-rest.rest.now
           c.split_at.result.0.now c.split_at.result.1.now c.loop-rest.invariant.text c.loop-rest.invariant.whole cut;
     }
+
+pub returns-clause-ok : goal.returns-clause-ok
+returns-clause-ok g c = grind (arith, common_steps)

@@ -18,3 +18,6 @@ returns-clause-err g c =
     (ap g.W.Write.contents made.began) (ap g.W.Write.contents made.over.1) (made.held ∙ c.requires.empty) _
     c.in_default.ensures.ok c.flush-flushed.ensures.bytes some c.requires.some
     (λ same. ap g.W.Write.contents {y = c.flush-flushed.new.self.writer.now} (search rules))) c.flush-flushed.ensures.err
+
+pub returns-clause-ok : goal.returns-clause-ok
+returns-clause-ok g c = search rules
