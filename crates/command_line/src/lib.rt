@@ -146,10 +146,10 @@ pub fn read<'a>(alloc: Global, words: &'a [String]) -> Result<Request<'a>, Refus
 
 fn request_of<'a>(alloc: Global, matches: &ArgMatches<'a>) -> Result<Request<'a>, Refusal> {
     match matches.subcommand() {
-        Some(("replay", asked)) => Ok(Request::Replay(replay_request(alloc, asked)?)),
-        Some(("lookup", asked)) => Ok(Request::Lookup(lookup_request(alloc, asked)?)),
-        Some(("table", asked)) => Ok(Request::Table(table_request(alloc, asked)?)),
-        Some(("diff", asked)) => Ok(Request::Diff(diff_request(alloc, asked)?)),
+        Some(("replay", asked)) => replay_request(alloc, asked),
+        Some(("lookup", asked)) => lookup_request(alloc, asked),
+        Some(("table", asked)) => table_request(alloc, asked),
+        Some(("diff", asked)) => diff_request(alloc, asked),
         Some((_, asked)) => Ok(Request::Run(run_request(alloc, asked)?)),
         None => Err(Refusal::Memory),
     }
@@ -333,28 +333,28 @@ fn number<'a>(
         .help(help)
 }
 
-fn lookup_request<'a>(alloc: Global, asked: &ArgMatches<'a>) -> Result<LookupRequest<'a>, Refusal> {
-    Ok(LookupRequest {
+fn lookup_request<'a>(alloc: Global, asked: &ArgMatches<'a>) -> Result<Request<'a>, Refusal> {
+    Ok(Request::Lookup(LookupRequest {
         run: run_request(alloc, asked)?,
         addresses: texts_of(alloc, asked, "address")?,
         more: asked.get_str("addresses"),
         all: asked.get_flag("all"),
-    })
+    }))
 }
 
-fn table_request<'a>(alloc: Global, asked: &ArgMatches<'a>) -> Result<TableRequest<'a>, Refusal> {
-    Ok(TableRequest {
+fn table_request<'a>(alloc: Global, asked: &ArgMatches<'a>) -> Result<Request<'a>, Refusal> {
+    Ok(Request::Table(TableRequest {
         run: run_request(alloc, asked)?,
         only_best: asked.get_flag("best"),
-    })
+    }))
 }
 
-fn diff_request<'a>(alloc: Global, asked: &ArgMatches<'a>) -> Result<DiffRequest<'a>, Refusal> {
-    Ok(DiffRequest {
+fn diff_request<'a>(alloc: Global, asked: &ArgMatches<'a>) -> Result<Request<'a>, Refusal> {
+    Ok(Request::Diff(DiffRequest {
         run: run_request(alloc, asked)?,
         new_files: texts_of(alloc, asked, "new")?,
         whole_routes: asked.get_str("by") == Some(ROUTE),
-    })
+    }))
 }
 
 /// The texts that were given for the argument, in order.
@@ -390,7 +390,7 @@ fn run_request<'a>(alloc: Global, asked: &ArgMatches<'a>) -> Result<RunRequest<'
     })
 }
 
-fn replay_request(alloc: Global, asked: &ArgMatches<'_>) -> Result<ReplayRequest, Refusal> {
+fn replay_request<'a>(alloc: Global, asked: &ArgMatches<'_>) -> Result<Request<'a>, Refusal> {
     let levels = asked.get_one::<u32>("levels").unwrap_or(0);
     let mut picks = Vec::new(alloc);
     if let Some(texts) = asked.get_strs("picks") {
@@ -399,5 +399,5 @@ fn replay_request(alloc: Global, asked: &ArgMatches<'_>) -> Result<ReplayRequest
             picks.push(text.parse().unwrap_or(u32::MAX))?;
         }
     }
-    Ok(ReplayRequest { levels, picks })
+    Ok(Request::Replay(ReplayRequest { levels, picks }))
 }
