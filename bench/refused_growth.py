@@ -2,10 +2,10 @@
 """Refuses each request for memory in turn, and compares what comes out with a plain model.
 
 Usage: bench/refused_growth.py [YARIB LIBRARIES]. Needs rt, gcc and glibc; takes some minutes once all is built. The two
-words name a built yarib and a built crates/refused_growth, which are else built first.
+words name a built yarib and a built crates/benches, which are else built first.
 
 Each case is run with its first request refused, then with its second, and so on until a run meets no refusal; and once more
-so that all requests after the refused one are refused as well. The cases are those of crates/refused_growth (the lock, the
+so that all requests after the refused one are refused as well. The cases are those of crates/benches/src/growth.rt (the lock, the
 shared table, feeds on gates) and runs and replays of the program. After each run the answers, the journal, the routes and
 what was printed are compared whole with a model that leaves out what was refused, and no run may end by a signal. At the end
 each kind of refusal must have been met.
@@ -36,11 +36,11 @@ def build(folder):
     if len(sys.argv) > 2:
         return pathlib.Path(sys.argv[1]).resolve(), pathlib.Path(sys.argv[2]).resolve(), refuse
     subprocess.run([TOP / "yarib", "--version"], check=True, stdout=subprocess.DEVNULL)
-    crate = TOP / "crates" / "refused_growth"
-    built = subprocess.run(["rt", "run"], cwd=crate, capture_output=True, text=True)
+    crate = TOP / "crates" / "benches"
+    built = subprocess.run(["rt", "run", "--", "growth"], cwd=crate, capture_output=True, text=True)
     if built.returncode != 0:
         sys.exit("bench/refused_growth.py: the crate was not built\n" + built.stdout[-2000:] + built.stderr[-2000:])
-    return TOP / "out" / "yarib", crate / "out" / "refused_growth", refuse
+    return TOP / "out" / "yarib", crate / "out" / "benches", refuse
 
 
 def run(words, refuse, at, rest):
@@ -452,10 +452,10 @@ def files(folder, name, texts):
 def cases(folder, yarib, libraries):
     """Each case: its name, its words, and what compares its endings."""
     row, three, many = [ROW], [own_text(feed) for feed in range(1, 4)], [own_text(feed) for feed in range(1, 65)]
-    yield "the lock", [libraries, "lock"], check_crate(check_lock)
-    yield "the shared table", [libraries, "table"], check_crate(check_table)
-    yield "a feed", [libraries, "feed"], check_crate(check_feeds)
-    yield "three feeds", [libraries, "feeds"], check_crate(check_feeds)
+    yield "the lock", [libraries, "growth", "lock"], check_crate(check_lock)
+    yield "the shared table", [libraries, "growth", "table"], check_crate(check_table)
+    yield "a feed", [libraries, "growth", "feed"], check_crate(check_feeds)
+    yield "three feeds", [libraries, "growth", "feeds"], check_crate(check_feeds)
     for name, texts in (("one file", row), ("three files", three), ("64 files", many)):
         paths = files(folder, name.replace(" ", ""), texts)
         for batch in ("1", "3"):

@@ -5,38 +5,17 @@
 ghost use Rattle.std.specs.Prelude.{◌≡◌, ℕ, ◌+◌, ◌-◌, ◌*◌, ◌/◌, ◌<◌, ◌≤◌, All, vec_len, IfSome};
 
 use crate::Numbers;
+use crate::count::Count;
 use std::alloc::Global;
 use std::rt::Clock;
 use std::sync::{Mutex, Wait};
 use std::thread::Threads;
 use std::time::{Duration, Instant};
 use std::{io, thread};
-use ya_lock::{Kept, Pass, TreeLock};
+use ya_lock::{Pass, TreeLock};
 
 /// How many passages one thread makes alone where no argument says so.
 const FEW: u64 = 3_000;
-
-/// How often it was entered.
-#[derive(Drop)]
-struct Count(u64);
-
-impl Kept for Count {
-    ghost since = { λ _ _ _. Unit {0} };
-
-    ghost done = { λ _ _ _. Unit {0} };
-
-    ghost since_same = { λ _ _. tt };
-
-    ghost done_same = { λ _ _. tt };
-
-    ghost since_done = { λ _ _ _ _ _ _ _ _. tt };
-}
-
-impl Count {
-    fn add(&mut self) {
-        self.0 = self.0.wrapping_add(1);
-    }
-}
 
 /// Enters and leaves so often.
 fn pass_often<R: Wait, const L: u32>(

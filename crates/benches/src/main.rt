@@ -1,34 +1,54 @@
-//! Times the lock, the shared table and the trie. The first argument names one of them, and up to four numbers behind it say what
-//! is timed (see each file); without a name all three are, a little of each. Times go to standard error.
+//! Times the lock, the shared table and the trie, and has requests for memory refused. The first argument names one of them,
+//! `lock`, `shared` or `trie`, and up to four numbers behind it say what is timed (see each file); or it is `growth`, with a
+//! case of [`growth`] behind it. Without a name all are made, of the times a little each. Times go to standard error.
 #![tactic(auto)]
 
 mod asking;
+mod count;
+mod growth;
 mod lock;
 mod shared;
 mod trie;
 
+use std::alloc::Global;
 use std::{env, io};
 
 /// The numbers that say what is timed; 0 where one isn't given.
 type Numbers = [u64; 4];
 
-fn main(rt: HostRuntime) -> io::Result<()> {
-    let alloc = rt.alloc();
+/// The numbers behind the name.
+fn numbers(rt: &HostRuntime) -> io::Result<Numbers> {
     let mut numbers: Numbers = [0; 4];
-    for (at, word) in env::args(&rt)?.skip(2).enumerate() {
+    for (at, word) in env::args(rt)?.skip(2).enumerate() {
         if let (Some(place), Ok(number)) = (numbers.get_mut(at), word.as_str().parse::<u64>()) {
             *place = number;
         }
     }
-    let name = env::args(&rt)?.nth(1);
-    match name.as_ref().map(|name| name.as_str()) {
-        Some("lock") => lock::time_lock(&rt, alloc, numbers),
-        Some("shared") => shared::time_table(&rt, alloc, numbers),
-        Some("trie") => trie::time_trie(&rt, alloc, numbers),
+    Ok(numbers)
+}
+
+/// The argument at this place, empty where there is none.
+fn word(rt: &HostRuntime, alloc: Global, place: usize) -> io::Result<String> {
+    for word in env::args(rt)?.skip(place) {
+        return Ok(word);
+    }
+    Ok(String::new(alloc))
+}
+
+fn main(rt: HostRuntime) -> io::Result<()> {
+    let alloc = rt.alloc();
+    let numbers = numbers(&rt)?;
+    let name = word(&rt, alloc, 1)?;
+    match name.as_str() {
+        "lock" => lock::time_lock(&rt, alloc, numbers),
+        "shared" => shared::time_table(&rt, alloc, numbers),
+        "trie" => trie::time_trie(&rt, alloc, numbers),
+        "growth" => growth::ask(&rt, alloc, word(&rt, alloc, 2)?.as_str()),
         _ => {
             lock::time_lock(&rt, alloc, numbers)?;
             shared::time_table(&rt, alloc, numbers)?;
-            trie::time_trie(&rt, alloc, numbers)
+            trie::time_trie(&rt, alloc, numbers)?;
+            growth::ask(&rt, alloc, "")
         }
     }
 }

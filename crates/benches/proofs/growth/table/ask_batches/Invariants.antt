@@ -1,6 +1,6 @@
 use Rattle.std.proofs.Common.{◌≡◌, length}
 use Rattle.rt_shared.specs.Table.{ArePassesOf}
-use Rattle.refused_growth.proofs.table.ask_batches.Given as goal
+use Rattle.benches.proofs.growth.table.ask_batches.Given as goal
 
 abbrev pub invariant-loop-at : goal.invariant-loop-at
 invariant-loop-at g l = record {

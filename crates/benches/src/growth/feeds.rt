@@ -1,7 +1,7 @@
 //! Texts through gates, alone and on threads.
 ghost use Rattle.std.specs.Prelude.{◌≤◌};
 
-use crate::gate::Remembering;
+use super::gate::Remembering;
 use rt_feed::{Feed, Report, run_feed, run_feeds};
 use std::alloc::{AllocError, Global};
 use std::io;
