@@ -1,5 +1,15 @@
-//! Prints what each caller of `walkthrough` gives.
+//! One caller for each library of the repository, short enough to be copied, with a contract that says what it gives.
+//! Each file uses one crate and what that stands on; the program prints what each caller gives.
 #![tactic(auto)]
+
+mod book;
+mod cover;
+mod diff;
+mod gate;
+mod lock;
+mod replay;
+mod shared;
+mod trie;
 
 use anyhow::Result;
 use rt_cidr::{Addr, Prefix};
@@ -9,7 +19,6 @@ use std::alloc::Global;
 use std::io::{self, Write};
 use std::sync::Wait;
 use std::thread::Threads;
-use walkthrough::{book, cover, diff, gate, lock, replay, shared, trie};
 
 /// A command that puts in a route.
 fn add(prefix: &[u8], pref: u32, hop: &[u8]) -> Result<Cmd> {
