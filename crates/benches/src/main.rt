@@ -1,6 +1,7 @@
-//! Times the lock, the shared table and the trie, and has requests for memory refused. The first argument names one of them,
-//! `lock`, `shared` or `trie`, and up to four numbers behind it say what is timed (see each file); or it is `growth`, with a
-//! case of [`growth`] behind it. Without a name all are made, of the times a little each. Times go to standard error.
+//! Times the lock, the shared table and the trie, and asks for memory that is refused. The first argument names one of
+//! them, `lock`, `shared` or `trie`, and up to four numbers behind it say what is timed (see each file); or it is
+//! `growth`, with a case of that file behind it. Without a name all are made, of the times a little each. Times go to
+//! standard error.
 #![tactic(auto)]
 
 mod asking;
