@@ -18,7 +18,7 @@ import run
 PARTS = [
     ("cutting at the ends of lines and at spaces", r"^rt_feed::lines|^memchr"),
     ("reading prefixes, numbers and addresses", r"^rt_feed::(parse|versions)|^rt_cidr::(address::read|prefix)"),
-    ("gathering and asking, reading ahead, the report", r"^rt_feed::(feed_run|running|report|gates|feeds|table_gate)|^std::thread"),
+    ("gathering and asking, reading ahead, the report", r"^rt_feed::(feed_run|running|report|gates|feeds)|^std::thread"),
     ("the table and the lock", r"^(rt_shared|rt_rib|rt_trie|ya_\w+|atomic_table)::"),
     ("rendering", r"^rt_feed::print|^rt_cidr::|^rt_run::|^rt_app::|^terminal_line::"),
     ("memory: granted, copied, filled", r"malloc|_alloc|free|realloc|^__?mem"),

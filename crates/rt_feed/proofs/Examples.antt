@@ -31,8 +31,7 @@ use Rattle.rt_feed.specs.Grammar.{prefix, preference, hop, address, hash, is_ski
 use Rattle.rt_feed.specs.Grammar.{IsFirstFault, IsFaultAfter, IsFaultOfFields, AnswersLine}
 use Rattle.rt_feed.proofs.Pairs.{pair-read}
 use Rattle.rt_feed.specs.Addresses.{AnswersAddressLine}
-use Rattle.rt_feed.specs.Lines.{lf, CutsLine}
-use Rattle.rt_feed.specs.Versions.{TellsTwo, IsBody, IsVersion}
+use Rattle.rt_feed.specs.Lines.{lf, CutsLine, TellsTwo, IsBody, IsVersion}
 use Rattle.rt_feed.specs.LineOutcomes.{LineOutcome, skipped, faulty, asked, reading, heading, LinesBecome, Becomes, line_answer, answer_of, numbered}
 use Rattle.rt_feed.specs.LineOutcomes.{report_lines, asked_by, asked_of}
 use Rattle.rt_feed.specs.Reports.{is_refusal, is_fault, NumbersRise, has_refusal, has_fault}
@@ -46,8 +45,7 @@ use Rattle.rt_shared.specs.declared.outcome.Outcome.{Outcome}
 use Rattle.rt_feed.specs.declared.report.Line.{Line}
 use Rattle.rt_feed.specs.declared.versions.Version.{Version}
 use Rattle.std.specs.declared.result.Result.{Result}
-use Rattle.rt_feed.specs.FeedRuns.{AsksLines, RunsFeed, IsTold, StopsWithin}
-use Rattle.rt_feed.specs.Feeds.{RunsOne}
+use Rattle.rt_feed.specs.FeedRuns.{AsksLines, RunsFeed, IsTold, StopsWithin, RunsOne}
 use Rattle.rt_feed.specs.Laws.{LineHasOneAnswer, AddressLineHasOneAnswer, CommandIsReadAgain, OnlyItsTextIsRead, OlderTextsStay, TextHasOneCut}
 use Rattle.rt_feed.specs.Laws.{TextHasOneReading}
 

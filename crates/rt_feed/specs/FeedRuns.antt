@@ -1,5 +1,5 @@
--- What running a feed's text through a gate does.
-use Rattle.std.specs.Prelude.{◌≡◌, ◌≢◌, ℕ, List, [], map, None}
+-- What running the texts of feeds through their gates does.
+use Rattle.std.specs.Prelude.{◌≡◌, ◌≢◌, ℕ, List, [], map, None, Option, IsSome, MatchOption}
 use Rattle.rt_rib.specs.declared.commands.Cmd.{Cmd}
 use Rattle.rt_shared.specs.declared.outcome.Outcome.{Outcome}
 use Rattle.rt_feed.specs.declared.report.Line.{Line}
@@ -38,3 +38,10 @@ pub record StopsWithin {G : Type 0} (holds : G → List Visit → Type 0) (batch
   pub next : List ℕ
   pub cut : CutsLine rest line next
   pub told : IsTold asks.becomes.version line
+
+-- the feed's text was run through its gate, which keeps its name: this is the report, or, where it has none, a beginning
+-- of the text was asked. An empty text has a report
+pub record RunsOne {G N : Type 0} (name : G → N) (holds : G → List Visit → Type 0) (batch : ℕ) (text : List ℕ) (old new : G) (report : Option (List Line)) : Type 0 where
+  pub named : name new ≡ name old
+  pub runs : MatchOption report (StopsWithin holds batch text old new) (λ lines. RunsFeed holds batch text old new lines)
+  pub nothing : text ≡ [] → IsSome report

@@ -1,7 +1,6 @@
 pub mod Addresses
 pub mod CommandText
 pub mod DifferenceText
-pub mod Feeds
 pub mod Grammar
 pub mod Laws
 pub mod LineOutcomes
@@ -9,6 +8,5 @@ pub mod Lines
 pub mod Printed
 pub mod Reports
 pub mod FeedRuns
-pub mod Versions
 pub mod Visits
 pub mod inside

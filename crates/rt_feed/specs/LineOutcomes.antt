@@ -12,8 +12,7 @@ use Rattle.rt_feed.specs.declared.report.Answer.TheVariants.{Did, Refused, Fault
 use Rattle.rt_feed.specs.declared.versions.Version.{Version}
 use Rattle.rt_feed.specs.declared.versions.Version.TheVariants.{One, Two}
 use Rattle.rt_feed.specs.Grammar.{AnswersLine}
-use Rattle.rt_feed.specs.Lines.{CutsLine}
-use Rattle.rt_feed.specs.Versions.{IsBody}
+use Rattle.rt_feed.specs.Lines.{CutsLine, IsBody}
 
 -- what one line became: nothing, a fault, or a command with what became of it
 pub data LineOutcome : Type 0 where

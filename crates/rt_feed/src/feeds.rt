@@ -1,6 +1,6 @@
 //! Several feeds, each through a gate of its own and on a thread of its own.
 ghost use Rattle.std.specs.Prelude.{◌≡◌, ◌≢◌, ◌↔◌, ◌⊎◌, ℕ, ◌<◌, ◌≤◌, [], length, All, Any, IsSome, IfErr, OnOk, slice_index_or};
-ghost use Rattle.rt_feed.specs.Feeds.{RunsOne};
+ghost use Rattle.rt_feed.specs.FeedRuns.{RunsOne};
 
 use crate::faults::RunFault;
 use crate::gates::Gate;

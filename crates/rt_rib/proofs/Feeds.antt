@@ -13,8 +13,7 @@ use Rattle.rt_rib.specs.declared.commands.Cmd.{Cmd}
 use Rattle.rt_rib.specs.declared.commands.Cmd.TheVariants.{Add, Replace, Withdraw, Lookup, Dump, Purge}
 use Rattle.rt_rib.specs.declared.commands.Entry.{Entry}
 use Rattle.rt_rib.specs.Table.{is_of, has, count_of, put_in, take_out, purge, IsTable}
-use Rattle.rt_rib.specs.Sequential.{reply_of, table_after}
-use Rattle.rt_rib.specs.Journal.{table_of_journal}
+use Rattle.rt_rib.specs.Sequential.{reply_of, table_after, table_of_journal}
 use Rattle.rt_rib.specs.Laws.{feed_routes, feed_entries, is_own, FeedsStandAlone}
 use Rattle.rt_rib.proofs.Lists.{filter-none}
 use Rattle.rt_rib.proofs.Order.{is_of-parts}

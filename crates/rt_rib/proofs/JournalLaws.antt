@@ -3,8 +3,7 @@ use Rattle.std.proofs.Common.{◌≡◌, ℕ, List, [], ◌∷◌, ◌++◌, ref
 use Rattle.rt_rib.specs.declared.commands.Cmd.{Cmd}
 use Rattle.rt_rib.specs.declared.commands.Reply.{Reply}
 use Rattle.rt_rib.specs.declared.commands.Entry.{Entry}
-use Rattle.rt_rib.specs.Sequential.{reply_of}
-use Rattle.rt_rib.specs.Journal.{table_of_journal, IsLawfulJournal}
+use Rattle.rt_rib.specs.Sequential.{reply_of, table_of_journal, IsLawfulJournal}
 use Rattle.rt_rib.specs.Laws.{asked, TableByEntry, LawfulByEntry, LawfulIsDetermined}
 use Rattle.rt_rib.proofs.Journals.{IsTable-of_journal, table_of_journal-nil, table_of_journal-push, IsLawfulJournal-nil, IsLawfulJournal-push}
 use Rattle.rt_rib.proofs.Journals.{IsLawfulJournal-front, IsLawfulJournal-last}

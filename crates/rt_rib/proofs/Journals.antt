@@ -9,8 +9,7 @@ use Rattle.rt_rib.specs.declared.commands.Cmd.{Cmd}
 use Rattle.rt_rib.specs.declared.commands.Cmd.TheVariants.{Add, Replace, Withdraw, Lookup, Dump, Purge}
 use Rattle.rt_rib.specs.declared.commands.Entry.{Entry}
 use Rattle.rt_rib.specs.Table.{IsTable, has, take_out, put_in, count_of}
-use Rattle.rt_rib.specs.Sequential.{table_after}
-use Rattle.rt_rib.specs.Journal.{table_of_journal, IsAnswered, IsLawfulJournal}
+use Rattle.rt_rib.specs.Sequential.{table_after, table_of_journal, IsAnswered, IsLawfulJournal}
 use Rattle.rt_rib.proofs.Tables.{IsTable-put_in, IsTable-take_out, IsTable-purge, has-take_out}
 
 -- each command leaves a table

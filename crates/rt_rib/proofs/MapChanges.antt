@@ -8,10 +8,9 @@ use Rattle.rt_cidr.specs.Prefix.{same_prefix}
 use Rattle.rt_trie.specs.Map.{get, put, erase}
 use Rattle.rt_rib.specs.declared.routes.Route.{Route}
 use Rattle.rt_rib.specs.declared.offers.Offer.{Offer}
-use Rattle.rt_rib.specs.Offers.{is_from, IsOffers}
+use Rattle.rt_rib.specs.Maps.{is_from, IsOffers, Map, route_by, routes_of, IsMap}
 use Rattle.rt_rib.specs.inside.Offers.{HasGained, HasSwapped}
 use Rattle.rt_rib.specs.Table.{is_of, has, put_in, take_out}
-use Rattle.rt_rib.specs.Maps.{Map, route_by, routes_of, IsMap}
 use Rattle.rt_rib.specs.inside.Maps.{offer_of, offers_in, offers_at, HasRoute, MapLaws}
 use Rattle.rt_rib.proofs.Lists.{list_any-at}
 use Rattle.rt_rib.proofs.OfferLists.{HasLost, IsRanked-one}

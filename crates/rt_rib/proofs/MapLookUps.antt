@@ -9,10 +9,9 @@ use Rattle.rt_cidr.specs.declared.prefixes.Prefix.{Prefix}
 use Rattle.rt_cidr.specs.Prefix.{covers}
 use Rattle.rt_trie.specs.Map.{get}
 use Rattle.rt_rib.specs.declared.offers.Offer.{Offer}
-use Rattle.rt_rib.specs.Offers.{outranks, IsRanked}
+use Rattle.rt_rib.specs.Maps.{outranks, IsRanked, Map, route_by, routes_of, IsMap}
 use Rattle.rt_rib.specs.LookUp.{look_up}
 use Rattle.rt_rib.specs.Laws.{IsBestMatch}
-use Rattle.rt_rib.specs.Maps.{Map, route_by, routes_of, IsMap}
 use Rattle.rt_rib.specs.inside.Maps.{offer_of, MapLaws}
 use Rattle.rt_rib.proofs.Lists.{AllPairs-head}
 use Rattle.rt_rib.proofs.Order.{is_better-itself}

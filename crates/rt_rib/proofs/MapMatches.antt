@@ -10,9 +10,8 @@ use Rattle.rt_trie.specs.Map.{covering, before, IsBeforeAll, IsOrdered}
 use Rattle.rt_trie.proofs.Promised.{later_is_longer}
 use Rattle.rt_rib.specs.declared.routes.Route.{Route}
 use Rattle.rt_rib.specs.declared.offers.Offer.{Offer}
-use Rattle.rt_rib.specs.Offers.{IsOffers}
+use Rattle.rt_rib.specs.Maps.{IsOffers, Map, route_by, routes_of, IsMap}
 use Rattle.rt_rib.specs.LookUp.{look_up_all}
-use Rattle.rt_rib.specs.Maps.{Map, route_by, routes_of, IsMap}
 use Rattle.rt_rib.specs.inside.Maps.{offer_of, routes_backward, MapLaws}
 use Rattle.rt_rib.proofs.Lists.{AllPairs-append}
 use Rattle.rt_rib.proofs.Order.{below_then-true, below_then-less, below_then-same}

@@ -11,7 +11,7 @@ use Rattle.std.proofs.lemmas.List.Sums.{fails_before_first}
 use Rattle.std.specs.List.{All, AllPairs, AllWithin, Contains, filter, insert, remove, list_any, position, position_or_len}
 use Rattle.std.specs.Prelude.{is_some, Option}
 use Rattle.rt_rib.specs.declared.offers.Offer.{Offer}
-use Rattle.rt_rib.specs.Offers.{outranks, is_from, IsRanked}
+use Rattle.rt_rib.specs.Maps.{outranks, is_from, IsRanked}
 use Rattle.rt_rib.specs.inside.Offers.{IsInsertionIndex, HasGained, HasSwapped, without}
 use Rattle.rt_rib.proofs.Lists.{AllPairs-head, AllPairs-tail, filter-all, list_any-from_none, list_any-at}
 use Rattle.rt_rib.proofs.Order.{by_preference-trans, by_preference-other}

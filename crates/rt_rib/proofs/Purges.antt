@@ -12,11 +12,10 @@ use Rattle.rt_rib.specs.declared.routes.Route.{Route}
 use Rattle.rt_rib.specs.declared.offers.Offer.{Offer}
 use Rattle.rt_rib.specs.declared.offers.Taken.TheVariants.{Missing, Last, Gone}
 use Rattle.rt_rib.specs.declared.purge.Purging.{Purging}
-use Rattle.rt_rib.specs.Offers.{is_from, IsOffers}
+use Rattle.rt_rib.specs.Maps.{is_from, IsOffers, Map, route_by, routes_of, IsMap}
 use Rattle.rt_rib.specs.inside.Offers.{without, TakesOut}
 use Rattle.rt_rib.specs.inside.Purges.{is_over, AreOthers, IsPurged}
 use Rattle.rt_rib.specs.Table.{count_of, purge}
-use Rattle.rt_rib.specs.Maps.{Map, route_by, routes_of, IsMap}
 use Rattle.rt_rib.specs.inside.Maps.{MapLaws}
 use Rattle.rt_rib.proofs.Counts.{count-both}
 use Rattle.rt_rib.proofs.Lists.{filter-all, list_any-none}

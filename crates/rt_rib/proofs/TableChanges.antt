@@ -14,8 +14,7 @@ use Rattle.rt_rib.specs.inside.TableState.{TableState, StoredTable, table_state,
 use Rattle.rt_rib.specs.declared.commands.Cmd.{Cmd}
 use Rattle.rt_rib.specs.declared.commands.Reply.{Reply}
 use Rattle.rt_rib.specs.declared.commands.Entry.{Entry}
-use Rattle.rt_rib.specs.Sequential.{reply_of, table_after}
-use Rattle.rt_rib.specs.Journal.{table_of_journal}
+use Rattle.rt_rib.specs.Sequential.{reply_of, table_after, table_of_journal}
 use Rattle.rt_rib.proofs.Journals.{IsLawfulJournal-push, table_of_journal-push}
 use Rattle.rt_rib.proofs.Tables.{IsTable-put_in, IsTable-take_out, IsTable-purge, has-take_out}
 use Rattle.rt_rib.proofs.Counts.{HasMore, HasMore-put_in, HasMore-take_out, HasMore-both, AreCounts-more, AreCounts-less, AreCounts-purged, AreCounts-same}

@@ -9,8 +9,7 @@ use Rattle.rt_rib.specs.declared.commands.Reply.{Reply}
 use Rattle.rt_rib.specs.declared.commands.Reply.TheVariants.{Added}
 use Rattle.rt_rib.specs.declared.commands.Entry.{Entry}
 use Rattle.rt_rib.specs.declared.limits.TheConstants.{MOST_FEEDS, MOST_ROUTES}
-use Rattle.rt_rib.specs.Sequential.{reply_of}
-use Rattle.rt_rib.specs.Journal.{table_of_journal}
+use Rattle.rt_rib.specs.Sequential.{reply_of, table_of_journal}
 use Rattle.rt_rib.specs.Table.{IsTable}
 use Rattle.rt_rib.specs.Maps.{routes_of, IsMap}
 

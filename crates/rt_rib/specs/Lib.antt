@@ -1,9 +1,7 @@
 pub mod Table
 pub mod LookUp
 pub mod Sequential
-pub mod Journal
 pub mod Book
 pub mod Maps
 pub mod Laws
-pub mod Offers
 pub mod inside

@@ -1,10 +1,29 @@
--- A map from prefixes to their offers, and the routes that it stands for.
-use Rattle.std.specs.Prelude.{◌≡◌, List, [], ◌∷◌, ◌++◌, Some, map}
+-- A map from prefixes to their offers, each prefix's in order, and the routes that it stands for.
+use Rattle.std.specs.Prelude.{◌≡◌, List, [], ◌∷◌, ◌++◌, Some, map, ℕ, ◌<◌, Bool, true, false, ◌==◌, nat_lt, length}
 use Rattle.rt_cidr.specs.declared.prefixes.Prefix.{Prefix}
 use Rattle.rt_trie.specs.Map.{Pairs, get, IsOrdered}
 use Rattle.rt_rib.specs.declared.routes.Route.{Route}
 use Rattle.rt_rib.specs.declared.offers.Offer.{Offer}
-use Rattle.rt_rib.specs.Offers.{IsOffers}
+use Rattle.std.specs.List.{AllPairs}
+use Rattle.rt_rib.specs.Table.{below_then}
+
+-- whether the first is preferred: it is of lesser preference, and where that is equal of lesser feed
+abbrev pub outranks : Offer → Offer → Bool
+outranks a b = below_then a.pref b.pref (nat_lt a.feed b.feed)
+
+-- whether the offer is this feed's
+abbrev pub is_from : ℕ → Offer → Bool
+is_from feed o = o.feed == feed
+
+-- each offer outranks those behind it, and no two are of one feed
+pub record IsRanked (offers : List Offer) : Type 0 where
+  pub ordered : AllPairs (λ a b. outranks a b ≡ true) offers
+  pub single : AllPairs (λ a b. is_from b.feed a ≡ false) offers
+
+-- what stands at a prefix of the map: at least one offer, and all in that order
+pub record IsOffers (offers : List Offer) : Type 0 where
+  pub some : 0 < length offers
+  pub ranked : IsRanked offers
 
 -- each prefix that has offers, with these
 abbrev pub Map : Type 0

@@ -1,5 +1,6 @@
--- The sequential table: what a command of a feed is answered, and which set it leaves.
-use Rattle.std.specs.Prelude.{ℕ, nat_le, if◌then◌else◌, List, length}
+-- The sequential table: what a command of a feed is answered, and which set it leaves; and the journal, which has every
+-- answered command, with its reply, in the order in which they were answered.
+use Rattle.std.specs.Prelude.{ℕ, nat_le, if◌then◌else◌, List, length, ◌≡◌, [], ◌∷◌, ◌++◌, fold}
 use Rattle.std.specs.Option.{option_map_or}
 use Rattle.rt_rib.specs.declared.routes.Route.{Route}
 use Rattle.rt_rib.specs.declared.commands.Cmd.{Cmd}
@@ -8,6 +9,7 @@ use Rattle.rt_rib.specs.declared.commands.Reply.{Reply}
 use Rattle.rt_rib.specs.declared.commands.Reply.TheVariants.{Added, Exists, Full, Replaced, Withdrawn, Missing, Found, NoRoute, Dumped, Purged}
 use Rattle.rt_rib.specs.Table.{has, count_of, put_in, take_out, purge}
 use Rattle.rt_rib.specs.LookUp.{look_up}
+use Rattle.rt_rib.specs.declared.commands.Entry.{Entry}
 
 -- what the command is answered, where a feed may have so many routes
 unfoldable pub reply_of : ℕ → List Route → ℕ → Cmd → Reply
@@ -31,3 +33,15 @@ table_after limit table feed (Withdraw prefix) = if has feed prefix table then t
 table_after limit table feed (Lookup addr) = table
 table_after limit table feed Dump = table
 table_after limit table feed Purge = purge feed table
+
+-- the set that the journal's commands leave, from the empty set on
+unfoldable pub table_of_journal : ℕ → List Entry → List Route
+table_of_journal limit journal = fold (λ table e. table_after limit table e.feed e.cmd) [] journal
+
+-- the entry's reply is the sequential table's in the set that these entries leave
+abbrev pub IsAnswered : ℕ → List Entry → Entry → Type 0
+IsAnswered limit earlier e = e.reply ≡ reply_of limit (table_of_journal limit earlier) e.feed e.cmd
+
+-- each entry is so answered after those that stand before it
+pub record IsLawfulJournal (limit : ℕ) (journal : List Entry) : Type 0 where
+  pub answered : (earlier : List Entry) (e : Entry) (later : List Entry) → journal ≡ earlier ++ e ∷ later → IsAnswered limit earlier e

@@ -46,7 +46,7 @@ impl<A: Allocator + Copy> Model for Book<A> {
 }
 
 impl<A: Allocator + Copy> Book<A> {
-    ghost use Rattle.rt_rib.specs.Journal.{IsLawfulJournal};
+    ghost use Rattle.rt_rib.specs.Sequential.{IsLawfulJournal};
     ghost use Rattle.rt_rib.specs.Table.{IsTable};
     ghost use Rattle.rt_rib.specs.LookUp.{look_up, look_up_all};
     ghost use Rattle.rt_rib.specs.Book.{table_of, Applies, Refuses, Reserves, HoldsTable};

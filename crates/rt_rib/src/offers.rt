@@ -1,7 +1,7 @@
 //! What the feeds offer for one prefix, the best offer first. One offer is the common case and takes no memory of its own.
 ghost use Rattle.std.specs.Prelude.{◌≡◌, ◌<◌, ◌+◌, false, [], ◌∷◌, length, IsTrue, IsOk, IfOk, OnOk, OnErr, position, vec_len, vec_capacity};
 ghost use Rattle.std.specs.List.{All, list_any};
-ghost use Rattle.rt_rib.specs.Offers.{outranks, is_from, IsRanked, IsOffers};
+ghost use Rattle.rt_rib.specs.Maps.{outranks, is_from, IsRanked, IsOffers};
 ghost use Rattle.rt_rib.specs.inside.Offers.{IsInsertionIndex, HasGained, HasSwapped, TakesOut, without};
 
 use crate::refused::Refused;

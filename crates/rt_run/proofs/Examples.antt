@@ -15,8 +15,7 @@ use Rattle.rt_rib.specs.declared.commands.Cmd.{Cmd}
 use Rattle.rt_rib.specs.declared.commands.Cmd.TheVariants.{Add, Withdraw, Dump, Purge}
 use Rattle.rt_rib.specs.declared.commands.Reply.TheVariants.{Added, Exists, Full, Withdrawn, Missing, Dumped}
 use Rattle.rt_rib.specs.declared.commands.Entry.{Entry}
-use Rattle.rt_rib.specs.Sequential.{reply_of, table_after}
-use Rattle.rt_rib.specs.Journal.{table_of_journal, IsAnswered, IsLawfulJournal}
+use Rattle.rt_rib.specs.Sequential.{reply_of, table_after, table_of_journal, IsAnswered, IsLawfulJournal}
 use Rattle.rt_rib.specs.LookUp.{look_up, look_up_all}
 use Rattle.rt_rib.proofs.Promised.{entry, at_10_1_2_3, at_10_9_0_1, ten_8, ten_1_16, ten_9_16, via_192_0_2, route_via}
 use Rattle.rt_rib.proofs.Promised.{tutorial, the_journal_of_the_tutorial, the_table_of_the_tutorial}
@@ -25,8 +24,7 @@ use Rattle.rt_shared.specs.declared.outcome.Outcome.{Outcome}
 use Rattle.rt_shared.specs.declared.outcome.Outcome.TheVariants.{Did, Refused}
 use Rattle.rt_feed.specs.declared.parse.LineFault.TheVariants as fault
 use Rattle.rt_feed.specs.declared.versions.Version.TheVariants.{One}
-use Rattle.rt_feed.specs.Versions.{TellsTwo}
-use Rattle.rt_feed.specs.Lines.{CutsLine}
+use Rattle.rt_feed.specs.Lines.{TellsTwo, CutsLine}
 use Rattle.std.specs.Simd.{first_chunks}
 use Rattle.rt_feed.specs.LineOutcomes.{skipped, faulty, asked, LineOutcome, Becomes, asked_of}
 use Rattle.rt_feed.specs.Printed.{reply_text, fault_text, route_text, row_text, count_text, table_text, found_text, also_text, reason_text}

@@ -16,8 +16,7 @@ use Rattle.rt_rib.specs.declared.commands.Cmd.{Cmd}
 use Rattle.rt_rib.specs.declared.commands.Cmd.TheVariants.{Dump}
 use Rattle.rt_rib.specs.declared.commands.Reply.{Reply}
 use Rattle.rt_rib.specs.declared.commands.Entry.{Entry}
-use Rattle.rt_rib.specs.Sequential.{reply_of, table_after}
-use Rattle.rt_rib.specs.Journal.{IsLawfulJournal, table_of_journal}
+use Rattle.rt_rib.specs.Sequential.{reply_of, table_after, IsLawfulJournal, table_of_journal}
 use Rattle.rt_rib.specs.Laws.{FeedsStandAlone, TableByEntry, OneTableOfSet, feed_entries, feed_routes}
 use Rattle.rt_shared.specs.declared.outcome.Outcome.{Outcome}
 use Rattle.rt_shared.specs.declared.outcome.Outcome.TheVariants as outcome

@@ -15,8 +15,7 @@ use Rattle.rt_feed.specs.declared.report.Line.{Line}
 use Rattle.rt_feed.specs.declared.feeds.Feed.{Feed}
 use Rattle.rt_feed.specs.LineOutcomes.{LineOutcome, report_lines, asked_of}
 use Rattle.rt_feed.specs.Visits.{Visit, visit_of, entries}
-use Rattle.rt_feed.specs.FeedRuns.{RunsFeed, StopsWithin}
-use Rattle.rt_feed.specs.Feeds.{RunsOne}
+use Rattle.rt_feed.specs.FeedRuns.{RunsFeed, StopsWithin, RunsOne}
 use Rattle.rt_feed.specs.Printed.{table_text}
 use Rattle.rt_shared.proofs.Promised.{uncut_since}
 use Rattle.std.specs.Simd.{first_chunks}

@@ -2,7 +2,7 @@
 use Rattle.std.specs.Prelude.{◌≡◌, ℕ, max, List, [], ◌∷◌, map}
 use Rattle.rt_rib.specs.declared.routes.Route.{Route}
 use Rattle.rt_rib.specs.declared.commands.Entry.{Entry}
-use Rattle.rt_rib.specs.Journal.{table_of_journal}
+use Rattle.rt_rib.specs.Sequential.{table_of_journal}
 use Rattle.rt_diff.specs.declared.answers.By.{By}
 use Rattle.rt_diff.specs.declared.differences.Difference.{Difference}
 use Rattle.rt_diff.specs.Differences.{AreDifferences}

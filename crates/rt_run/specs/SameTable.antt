@@ -5,9 +5,8 @@ use Rattle.std.specs.List.{slice_get, Contains}
 use Rattle.rt_rib.specs.declared.routes.Route.{Route}
 use Rattle.rt_rib.specs.declared.commands.Cmd.{Cmd}
 use Rattle.rt_rib.specs.declared.commands.Entry.{Entry}
-use Rattle.rt_rib.specs.Journal.{table_of_journal}
+use Rattle.rt_rib.specs.Sequential.{table_of_journal, reply_of, table_after}
 use Rattle.rt_rib.specs.Table.{IsTable}
-use Rattle.rt_rib.specs.Sequential.{reply_of, table_after}
 use Rattle.rt_rib.specs.Laws.{is_own}
 use Rattle.rt_shared.specs.declared.outcome.Outcome.{Outcome}
 use Rattle.rt_shared.specs.declared.outcome.Outcome.TheVariants.{Did}

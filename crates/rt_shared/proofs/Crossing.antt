@@ -7,7 +7,7 @@ use Rattle.ya_lock.proofs.pass.Pass.TheSendSync as pass
 use Rattle.ya_lock.proofs.tree_lock.TreeLock.TheSendSync as lock
 use Rattle.rt_rib.proofs.Promised.{book_send}
 use Rattle.rt_shared.specs.contracts.lent.Lent as Lent
-use Rattle.rt_shared.specs.contracts.feed_pass.FeedPass as FeedPass
+use Rattle.rt_shared.specs.contracts.shared_rib.FeedPass as FeedPass
 use Rattle.rt_shared.specs.contracts.shared_rib.SharedRib as SharedRib
 
 lent_send : IsSend Lent.the_row

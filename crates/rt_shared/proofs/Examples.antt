@@ -12,7 +12,7 @@ use Rattle.ya_core.specs.Steps.{opening}
 use Rattle.ya_core.specs.Worlds.{World, Event, Steps, Appends, opening_world}
 use Rattle.ya_core.proofs.Promised.{follow, runs}
 use Rattle.ya_lock.specs.Lock.{LockId}
-use Rattle.ya_lock.specs.declared.view.View.TheVariants.{Seated}
+use Rattle.ya_lock.specs.declared.rule.View.TheVariants.{Seated}
 use Rattle.ya_lock.specs.LockState.{IsOf, HasProcess}
 use Rattle.rt_rib.specs.declared.routes.Hop.TheVariants.{Discard}
 use Rattle.rt_rib.specs.declared.routes.Route.{Route}
@@ -22,9 +22,8 @@ use Rattle.rt_rib.specs.declared.commands.Entry.{Entry}
 use Rattle.rt_rib.specs.declared.commands.Cmd.{Cmd}
 use Rattle.rt_rib.specs.Laws.{feed_entries}
 use Rattle.rt_rib.specs.LookUp.{look_up}
-use Rattle.rt_rib.specs.Sequential.{reply_of, table_after}
+use Rattle.rt_rib.specs.Sequential.{reply_of, table_after, table_of_journal, IsLawfulJournal}
 use Rattle.rt_rib.specs.Book.{HoldsTable}
-use Rattle.rt_rib.specs.Journal.{table_of_journal, IsLawfulJournal}
 use Rattle.rt_rib.proofs.Promised.{ten_8, at_10_1_2_3, route_via, entry, empty_book, holds_no_route, IsLawfulJournal-nil, IsLawfulJournal-push}
 use Rattle.rt_shared.specs.declared.lent.Lent.{Lent}
 use Rattle.rt_shared.specs.declared.outcome.Outcome.{Outcome}

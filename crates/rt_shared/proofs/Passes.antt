@@ -7,7 +7,7 @@ use Rattle.rt_shared.specs.LentChanges.{feed_of, GrowsByOthers}
 use Rattle.rt_rib.specs.declared.commands.Entry.{Entry}
 use Rattle.rt_shared.specs.Visits.{Since}
 use Rattle.ya_lock.specs.Lock.{LockId, IdlePass, ArePassesInOrder, new_pass}
-use Rattle.rt_rib.specs.Journal.{IsLawfulJournal}
+use Rattle.rt_rib.specs.Sequential.{IsLawfulJournal}
 use Rattle.rt_shared.specs.declared.lent.Lent.{Lent}
 use Rattle.rt_shared.specs.Table.{SharedId, HeldPass, ArePassesOf}
 use Rattle.rt_shared.specs.inside.PassModel.{of_feed, held_pass, HoldsLockPass}

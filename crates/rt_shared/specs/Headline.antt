@@ -8,7 +8,7 @@ use Rattle.rt_rib.specs.declared.commands.Cmd.TheVariants.{Lookup}
 use Rattle.rt_rib.specs.declared.commands.Reply.{Reply}
 use Rattle.rt_rib.specs.declared.commands.Reply.TheVariants.{Found}
 use Rattle.rt_rib.specs.declared.commands.Entry.{Entry}
-use Rattle.rt_rib.specs.Journal.{table_of_journal, IsAnswered}
+use Rattle.rt_rib.specs.Sequential.{table_of_journal, IsAnswered}
 use Rattle.rt_rib.specs.Laws.{feed_entries, IsBestMatch}
 use Rattle.rt_shared.specs.LentChanges.{feed_of}
 

@@ -4,10 +4,10 @@ use Rattle.std.specs.Prelude as std
 use mathlib.Core.Option.{some}
 use Rattle.atomic_table.specs.Table.{State}
 use Rattle.ya_core.specs.declared.process.Process.{Process}
-use Rattle.ya_lock.specs.declared.view.View.{View}
+use Rattle.ya_lock.specs.declared.rule.View.{View}
 use Rattle.ya_lock.specs.LockState.{HasProcess, IsAway, NoneInside, OneInside}
 use Rattle.rt_rib.specs.Book.{HoldsTable}
-use Rattle.rt_rib.specs.Journal.{IsLawfulJournal}
+use Rattle.rt_rib.specs.Sequential.{IsLawfulJournal}
 use Rattle.rt_shared.specs.declared.lent.Lent.{Lent}
 use Rattle.rt_shared.specs.LentChanges.{feed_of}
 use Rattle.rt_shared.specs.Visits.{Since}

@@ -1,7 +1,7 @@
 -- What contracts see of a shared table and of a pass.
 use Rattle.std.specs.Prelude.{◌≡◌, ℕ, ◌+◌, ◌≤◌, List, slice_get, length, Some, All}
 use Rattle.rt_rib.specs.declared.commands.Entry.{Entry}
-use Rattle.rt_rib.specs.Journal.{IsLawfulJournal}
+use Rattle.rt_rib.specs.Sequential.{IsLawfulJournal}
 use Rattle.ya_lock.specs.Lock.{LockId}
 use Rattle.rt_shared.specs.Visits.{Since}
 

@@ -1,7 +1,7 @@
 //! What holds of every journal that feeds make behind the lock, and of their visits in it. Each function is a theorem:
 //! calling it makes its clauses known, and it does nothing.
 ghost use Rattle.std.specs.Prelude.{ℕ, ◌≤◌};
-ghost use Rattle.rt_rib.specs.Journal.{table_of_journal, IsLawfulJournal};
+ghost use Rattle.rt_rib.specs.Sequential.{table_of_journal, IsLawfulJournal};
 ghost use Rattle.rt_rib.specs.Table.{IsTable};
 ghost use Rattle.ya_core.specs.Worlds.{World};
 ghost use Rattle.rt_shared.specs.Headline.{Act, IsRunTo, journal_of, NoTwoInside, HasAllMade, FindsBest};

@@ -1,7 +1,7 @@
 //! What the lock lends to one feed at a time.
 ghost use Rattle.std.specs.Prelude.{◌≡◌, ◌≤◌, All};
 ghost use Rattle.rt_rib.specs.declared.limits.TheConstants.{MOST_FEEDS};
-ghost use Rattle.rt_rib.specs.Journal.{IsLawfulJournal};
+ghost use Rattle.rt_rib.specs.Sequential.{IsLawfulJournal};
 ghost use Rattle.rt_rib.specs.Book.{HoldsTable};
 ghost use Rattle.rt_rib.specs.inside.OneProof.{HoldsTable-prop};
 

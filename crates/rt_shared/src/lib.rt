@@ -10,7 +10,6 @@
 //! ```
 #![tactic(auto)]
 
-mod feed_pass;
 pub mod laws;
 mod lent;
 mod outcome;
@@ -18,8 +17,7 @@ mod sequential;
 mod serving;
 mod shared_rib;
 
-pub use feed_pass::FeedPass;
 pub use lent::Lent;
 pub use outcome::Outcome;
 pub use rt_rib::Refused;
-pub use shared_rib::SharedRib;
+pub use shared_rib::{FeedPass, SharedRib};

@@ -6,7 +6,7 @@ use Rattle.atomic_table.specs.Table.{State, Me, keeps, Allows}
 use Rattle.atomic_table.proofs.Lists.{set_again}
 use Rattle.ya_core.specs.declared.word.Word.{Word}
 use Rattle.ya_core.specs.Soundness.{IsSoundState}
-use Rattle.ya_lock.specs.declared.view.View.{View}
+use Rattle.ya_lock.specs.declared.rule.View.{View}
 use Rattle.ya_lock.specs.Rule.{making_index, GlobalView, Rule}
 use Rattle.ya_lock.proofs.Words.{words_behind}
 use Rattle.ya_lock.proofs.Frames.{refits}

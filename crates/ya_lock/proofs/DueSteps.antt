@@ -14,10 +14,10 @@ use Rattle.ya_core.specs.Machines.{word_of}
 use Rattle.ya_core.specs.WalkerModel.{AccessIsWithin}
 use Rattle.ya_core.specs.Worlds.{is_inside}
 use Rattle.ya_core.proofs.Promised.{within_access}
-use Rattle.ya_lock.specs.declared.view.View.{View}
-use Rattle.ya_lock.specs.declared.view.View.TheVariants.{Seated}
-use Rattle.ya_lock.specs.Rule.{index_of, making_index, words_in, Rule}
-use Rattle.ya_lock.specs.DueStep.{Slots, count_after, IsReady, TakesStep, EachMayStep}
+use Rattle.ya_lock.specs.declared.rule.View.{View}
+use Rattle.ya_lock.specs.declared.rule.View.TheVariants.{Seated}
+use Rattle.ya_lock.specs.Rule.{index_of, making_index, words_in, Rule, Slots, count_after}
+use Rattle.ya_lock.specs.DueStep.{IsReady, TakesStep, EachMayStep}
 use Rattle.ya_lock.specs.inside.StepEffects.{value_after}
 use Rattle.ya_lock.proofs.Words.{index_below}
 use Rattle.ya_lock.proofs.Frames.{set_at}

@@ -5,7 +5,7 @@ use Rattle.ya_core.specs.declared.process.Process.TheVariants.{Entering, Inside,
 use Rattle.ya_core.specs.declared.process.EntryPoint.TheVariants.{E1, E7}
 use Rattle.ya_core.specs.declared.process.ExitPoint.TheVariants.{X3}
 use Rattle.ya_core.specs.Steps.{access_of}
-use Rattle.ya_lock.specs.inside.EntryProgress.{HasWon}
+use Rattle.ya_lock.specs.inside.Lock.{HasWon}
 use Rattle.ya_core.specs.WalkerModel.{Walk, IsWalk, AccessIsWithin}
 use Rattle.ya_core.proofs.Promised.{within_access}
 

@@ -15,9 +15,8 @@ use Rattle.ya_core.specs.declared.walker.Op.{Op}
 use Rattle.ya_core.specs.declared.walker.Op.TheVariants as op
 use Rattle.ya_core.specs.Steps.{entry_access, exit_access, entry_next, next_of, won}
 use Rattle.ya_core.specs.WalkerModel.{Walk, walk, walk_after, op_of, op_of_access, points_ahead, is_waiting, MovesOn}
-use Rattle.ya_lock.specs.declared.view.View.{View}
-use Rattle.ya_lock.specs.inside.EntryProgress.{HasWon, HasPassed, HasLooked, IsAtFoot}
-use Rattle.ya_lock.specs.inside.Lock.{SeatOf}
+use Rattle.ya_lock.specs.declared.rule.View.{View}
+use Rattle.ya_lock.specs.inside.Lock.{HasWon, HasPassed, HasLooked, IsAtFoot, SeatOf}
 
 -- something is asked for
 abbrev IsAccess : Op → Type 0

@@ -18,14 +18,14 @@ use Rattle.ya_core.specs.Steps.{Accesses, access_of, next_of, value_of}
 use Rattle.ya_core.specs.WalkerModel.{cost_of}
 use Rattle.ya_core.specs.Soundness.{IsSoundState, claims, phase_of}
 use Rattle.ya_core.proofs.Promised.{opens}
-use Rattle.ya_lock.specs.declared.view.View.{View}
-use Rattle.ya_lock.specs.declared.view.View.TheVariants.{Unused, Making, Filling, HandingOut, Seated, Joining, Spent}
-use Rattle.ya_lock.specs.Rule.{index_of, making_index, words_in, place_of_view, least_at, least_count, GlobalView, IsBegun, ViewFits, Rule, row_length, KnowsValue, ValueInSlot, Obeys}
+use Rattle.ya_lock.specs.declared.rule.View.{View}
+use Rattle.ya_lock.specs.declared.rule.View.TheVariants.{Unused, Making, Filling, HandingOut, Seated, Joining, Spent}
+use Rattle.ya_lock.specs.Rule.{index_of, making_index, words_in, place_of_view, least_at, least_count, GlobalView, IsBegun, ViewFits, Rule, row_length, KnowsValue, ValueInSlot, Obeys, Slots, count_from, count_after}
 use Rattle.ya_lock.specs.LockState.{IsOf, IsFilling, IsMaking, HasProcess, IsAway, NoneInside, ShowsCore, GoesOn, SomeSeatGoesOn}
 use Rattle.ya_lock.specs.LockState.{OneSeatAPlace, OneInside, IsInSlot, IsFresh, IsMadeByOne, IsLockState}
 use Rattle.ya_lock.specs.Lock.{LockId, IdlePass, OpenGuard, new_pass, guard_of, pass_of}
 use Rattle.ya_lock.specs.GuardLends.{guard_with_value}
-use Rattle.ya_lock.specs.DueStep.{Slots, count_from, count_after, IsReady, process_after, TakesStep, EachMayStep}
+use Rattle.ya_lock.specs.DueStep.{IsReady, process_after, TakesStep, EachMayStep}
 use Rattle.ya_lock.proofs.DueSteps.{each_may_step}
 use Rattle.ya_lock.proofs.Words.{words_zero, words_behind}
 use Rattle.atomic_table.specs.Seated.{TableId}

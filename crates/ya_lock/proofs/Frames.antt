@@ -9,11 +9,10 @@ use native.Mathlib.Decide.{ℕ_discrete}
 use Rattle.atomic_table.proofs.Lists.{at_set, set_else, at_longer}
 use Rattle.ya_core.specs.declared.process.Process.{Process}
 use Rattle.ya_core.specs.Soundness.{IsSoundState}
-use Rattle.ya_lock.specs.declared.view.View.{View}
-use Rattle.ya_lock.specs.declared.view.View.TheVariants.{Unused, Making, Filling, HandingOut, Seated, Joining, Spent}
-use Rattle.ya_lock.specs.DueStep.{Slots}
+use Rattle.ya_lock.specs.declared.rule.View.{View}
+use Rattle.ya_lock.specs.declared.rule.View.TheVariants.{Unused, Making, Filling, HandingOut, Seated, Joining, Spent}
+use Rattle.ya_lock.specs.Rule.{Slots, making_index, words_in, place_of_view, GlobalView, KnowsValue, ValueInSlot, least_count, ViewFits, Obeys, Rule}
 use Rattle.ya_lock.proofs.Words.{word_kept}
-use Rattle.ya_lock.specs.Rule.{making_index, words_in, place_of_view, GlobalView, KnowsValue, ValueInSlot, least_count, ViewFits, Obeys, Rule}
 use Rattle.ya_core.specs.Worlds.{is_inside}
 
 -- what a seat has once its view was set

@@ -10,8 +10,8 @@ use Rattle.ya_core.specs.Steps.{entry_access, exit_access}
 use Rattle.ya_core.specs.declared.walker.Op.{Op}
 use Rattle.ya_core.specs.declared.walker.Op.TheVariants as op
 use Rattle.ya_core.specs.WalkerModel.{Walk, walk, op_of, op_of_access}
-use Rattle.ya_lock.specs.declared.view.View.{View}
-use Rattle.ya_lock.specs.declared.view.View.TheVariants.{Seated}
+use Rattle.ya_lock.specs.declared.rule.View.{View}
+use Rattle.ya_lock.specs.declared.rule.View.TheVariants.{Seated}
 use Rattle.ya_lock.specs.Lock.{LockId}
 use Rattle.ya_lock.specs.inside.Lock.{HasTree, HasPlace, SeatInside, SeatOf}
 use Rattle.ya_lock.proofs.TreeSize.{one_tree}

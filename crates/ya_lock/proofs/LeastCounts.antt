@@ -6,8 +6,7 @@ use Rattle.ya_core.specs.declared.process.ExitPoint.TheVariants.{X1, X2, X3}
 use Rattle.ya_core.specs.declared.process.Process.{Process}
 use Rattle.ya_core.specs.declared.process.Process.TheVariants.{Idle, Entering, Inside, Leaving}
 use Rattle.ya_core.specs.Steps.{next_of, won, after_exit}
-use Rattle.ya_lock.specs.Rule.{least_count}
-use Rattle.ya_lock.specs.DueStep.{count_after}
+use Rattle.ya_lock.specs.Rule.{least_count, count_after}
 
 -- a bound holds of what a test decides where it holds either way
 by_test : (levels m : ℕ) (b : Bool) (x y : Process) → (b ≡ true → least_count levels x ≤ m)

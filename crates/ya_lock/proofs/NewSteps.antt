@@ -14,12 +14,11 @@ use Rattle.atomic_table.proofs.Lists.{at_set, at_last}
 use Rattle.ya_core.specs.declared.word.Word.{Word}
 use Rattle.ya_core.specs.declared.process.Process.TheVariants.{Idle}
 use Rattle.ya_core.specs.Soundness.{IsSoundState}
-use Rattle.ya_lock.specs.declared.view.View.{View}
-use Rattle.ya_lock.specs.declared.view.View.TheVariants.{Unused, Making, Filling, HandingOut, Seated, Joining, Spent}
-use Rattle.ya_lock.specs.Rule.{making_index, row_length, GlobalView, ValueInSlot, ViewFits, Obeys, Rule}
+use Rattle.ya_lock.specs.declared.rule.View.{View}
+use Rattle.ya_lock.specs.declared.rule.View.TheVariants.{Unused, Making, Filling, HandingOut, Seated, Joining, Spent}
+use Rattle.ya_lock.specs.Rule.{making_index, row_length, GlobalView, ValueInSlot, ViewFits, Obeys, Rule, Slots}
 use Rattle.ya_core.specs.Worlds.{is_inside}
 use Rattle.ya_lock.specs.inside.StepEffects.{BeginsMaking, TakesSlot, GivesValue, HandsOutLast}
-use Rattle.ya_lock.specs.DueStep.{Slots}
 use Rattle.ya_core.proofs.Promised.{opens as opens_sound}
 use Rattle.ya_lock.proofs.Words.{words_zero, words_behind}
 use Rattle.ya_lock.proofs.Frames.{refits, looks, Sits, sits_still, sits_else, sits_longer, set_at}

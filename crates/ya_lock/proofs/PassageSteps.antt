@@ -8,9 +8,10 @@ use Rattle.ya_core.specs.declared.walker.Op.TheVariants as op
 use Rattle.ya_core.specs.Steps.{next_of}
 use Rattle.ya_core.specs.WalkerModel.{Walk, walk, walk_after, op_of}
 use Rattle.ya_core.specs.Worlds.{is_inside}
-use Rattle.ya_lock.specs.declared.view.View.{View}
-use Rattle.ya_lock.specs.declared.view.View.TheVariants.{Seated}
-use Rattle.ya_lock.specs.DueStep.{count_after, IsReady}
+use Rattle.ya_lock.specs.declared.rule.View.{View}
+use Rattle.ya_lock.specs.declared.rule.View.TheVariants.{Seated}
+use Rattle.ya_lock.specs.DueStep.{IsReady}
+use Rattle.ya_lock.specs.Rule.{count_after}
 use Rattle.ya_lock.specs.inside.StepEffects.{CarriesValue, ProcessSteps, HasMade}
 use Rattle.ya_lock.specs.inside.Lock.{SeatOf}
 use Rattle.ya_lock.proofs.NewSteps.{one_value}

@@ -18,12 +18,12 @@ use Rattle.ya_core.specs.Steps.{StepsTo, Accesses, access_of, next_of, value_of}
 use Rattle.ya_core.specs.Soundness.{IsSoundState}
 use Rattle.ya_core.specs.WalkerModel.{CanStand, MayBeTold, MayFind}
 use Rattle.ya_core.specs.Machines.{word_of}
-use Rattle.ya_lock.specs.declared.view.View.{View}
-use Rattle.ya_lock.specs.declared.view.View.TheVariants.{Seated}
-use Rattle.ya_lock.specs.Rule.{index_of, making_index, words_in, GlobalView, KnowsValue, ValueInSlot, ViewFits, Obeys, Rule}
+use Rattle.ya_lock.specs.declared.rule.View.{View}
+use Rattle.ya_lock.specs.declared.rule.View.TheVariants.{Seated}
+use Rattle.ya_lock.specs.Rule.{index_of, making_index, words_in, GlobalView, KnowsValue, ValueInSlot, ViewFits, Obeys, Rule, Slots, count_after}
 use Rattle.ya_core.specs.Worlds.{is_inside}
 use Rattle.ya_lock.specs.inside.StepEffects.{value_after, CarriesValue, ProcessSteps, HasMade}
-use Rattle.ya_lock.specs.DueStep.{Slots, IsReady, count_after}
+use Rattle.ya_lock.specs.DueStep.{IsReady}
 use Rattle.ya_core.proofs.Promised.{keeps as kept_by_step, finds, is_inside_is, excludes}
 use Rattle.ya_lock.proofs.Words.{index_below, word_in, word_set, word_set_other, word_kept}
 use Rattle.ya_lock.proofs.Frames.{moved, moved_here, moved_else, Same, Changed, gone_on, goes_on}

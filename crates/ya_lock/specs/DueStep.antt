@@ -5,27 +5,11 @@ use mathlib.Core.Option.{some}
 use lib.ListN.{get_elem?}
 use Rattle.atomic_table.specs.Table.{State}
 use Rattle.ya_core.specs.declared.process.Process.{Process}
-use Rattle.ya_core.specs.declared.process.Process.TheVariants.{Idle}
 use Rattle.ya_core.specs.Steps.{Accesses, access_of, next_of, value_of}
-use Rattle.ya_core.specs.WalkerModel.{cost_of}
 use Rattle.ya_core.specs.Worlds.{is_inside}
-use Rattle.ya_lock.specs.declared.view.View.{View}
-use Rattle.ya_lock.specs.declared.view.View.TheVariants.{Seated}
-use Rattle.ya_lock.specs.Rule.{words_in, Rule}
-
--- the slots that a seat has taken, each with its value
-abbrev pub Slots : Type 0 → Type 0
-Slots V = List (ℕ × std.Option V)
-
--- the remote accesses of a process since its last entry began: the next access of an idle one begins an entry
-abbrev pub count_from : Process → ℕ → ℕ
-count_from Idle last = 0
-count_from _ count = count
-
--- with the access that is due, which counts where it is remote
-abbrev pub count_after : ℕ → ℕ → Process → ℕ → ℕ
-count_after levels place process count =
-    count_from process count + cost_of place (access_of levels place process)
+use Rattle.ya_lock.specs.declared.rule.View.{View}
+use Rattle.ya_lock.specs.declared.rule.View.TheVariants.{Seated}
+use Rattle.ya_lock.specs.Rule.{Slots, count_after, words_in, Rule}
 
 module _ {V : Type 0} where
   -- a process that is to leave the inside has put a value in the slot which its place may leave of what it found; every

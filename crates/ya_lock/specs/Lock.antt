@@ -3,8 +3,8 @@ use Rattle.std.specs.Prelude.{◌≡◌, ℕ, ◌^◌, ◌<◌, List, length, sl
 use Rattle.std.specs.Prelude.{Some}
 use Rattle.atomic_table.specs.Seated.{TableId}
 use Rattle.ya_core.specs.declared.process.Process.TheVariants.{Idle, Inside}
-use Rattle.ya_lock.specs.declared.view.View.{View}
-use Rattle.ya_lock.specs.declared.view.View.TheVariants.{Seated}
+use Rattle.ya_lock.specs.declared.rule.View.{View}
+use Rattle.ya_lock.specs.declared.rule.View.TheVariants.{Seated}
 
 -- which lock it is: that of no other lock is the same
 abbrev pub LockId : Type 0

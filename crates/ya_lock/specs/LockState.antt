@@ -8,8 +8,8 @@ use Rattle.ya_core.specs.declared.process.Process.{Process}
 use Rattle.ya_core.specs.declared.process.Process.TheVariants.{Idle, Inside}
 use Rattle.ya_core.specs.Steps.{access_of, next_of, value_of}
 use Rattle.ya_core.specs.Soundness.{IsSoundState}
-use Rattle.ya_lock.specs.declared.view.View.{View}
-use Rattle.ya_lock.specs.declared.view.View.TheVariants.{Unused, Making, Filling, HandingOut, Seated, Joining}
+use Rattle.ya_lock.specs.declared.rule.View.{View}
+use Rattle.ya_lock.specs.declared.rule.View.TheVariants.{Unused, Making, Filling, HandingOut, Seated, Joining}
 use Rattle.ya_lock.specs.Rule.{words_in, making_index}
 
 module _ {V : Type 0} where

@@ -12,11 +12,13 @@ use Rattle.ya_core.specs.declared.process.Process.{Process}
 use Rattle.ya_core.specs.declared.process.Process.TheVariants.{Idle, Entering, Inside, Leaving}
 use Rattle.ya_core.specs.ArbitrationTree.{number_of, count_of_words}
 use Rattle.ya_core.specs.Soundness.{IsSoundState}
+use Rattle.ya_core.specs.Steps.{access_of}
+use Rattle.ya_core.specs.WalkerModel.{cost_of}
 use Rattle.ya_core.specs.FlatRow.{is_word}
 use Rattle.ya_core.specs.Worlds.{is_inside}
 use Rattle.ya_lock.specs.declared.rule.TheConstants.{SPACING}
-use Rattle.ya_lock.specs.declared.view.View.{View}
-use Rattle.ya_lock.specs.declared.view.View.TheVariants.{Unused, Making, Filling, HandingOut, Seated, Joining, Spent}
+use Rattle.ya_lock.specs.declared.rule.View.{View}
+use Rattle.ya_lock.specs.declared.rule.View.TheVariants.{Unused, Making, Filling, HandingOut, Seated, Joining, Spent}
 
 -- where a word of the tree lies: in the order of their numbers, a cache line apart
 unfoldable pub index_of : ℕ → Word → ℕ
@@ -54,6 +56,20 @@ least_count levels Idle = 0
 least_count levels (Entering level point) = 3 * (level - 1) + least_at point
 least_count levels Inside = 3 * levels
 least_count levels (Leaving level point) = 3 * levels
+
+-- the remote accesses of a process since its last entry began: the next access of an idle one begins an entry
+abbrev pub count_from : Process → ℕ → ℕ
+count_from Idle last = 0
+count_from _ count = count
+
+-- with the access that is due, which counts where it is remote
+abbrev pub count_after : ℕ → ℕ → Process → ℕ → ℕ
+count_after levels place process count =
+    count_from process count + cost_of place (access_of levels place process)
+
+-- the slots that a seat has taken, each with its value
+abbrev pub Slots : Type 0 → Type 0
+Slots V = List (ℕ × std.Option V)
 
 -- what all seats together show: the seat of each place, where one has its process; each place's process; the seat that
 -- makes the passes; and the lent value, once it was given

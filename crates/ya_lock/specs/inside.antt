@@ -1,5 +1,4 @@
 -- What no public clause speaks of: the words of private contracts, of invariants and of proofs.
-pub mod EntryProgress
 pub mod Lock
 pub mod StepEffects
 pub mod Rule

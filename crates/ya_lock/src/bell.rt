@@ -3,7 +3,7 @@
 ghost use Rattle.std.specs.Prelude.{◌≡◌, ◌^◌, ◌<◌, ◌≤◌, true};
 ghost use Rattle.ya_core.specs.WalkerModel.{is_waiting};
 ghost use Rattle.ya_lock.specs.inside.Rule.{bell_index};
-ghost use Rattle.ya_lock.specs.inside.EntryProgress.{HasLooked, HasStoredFor};
+ghost use Rattle.ya_lock.specs.inside.Lock.{HasLooked, HasStoredFor};
 
 use crate::kept::Kept;
 use crate::passage::{Passage, waits};

@@ -4,8 +4,7 @@ ghost use Rattle.ya_lock.specs.LockState.{IsLockState};
 ghost use Rattle.ya_lock.specs.DueStep.{EachMayStep};
 
 use crate::kept::Kept;
-use crate::rule::{LockTable, Ruled};
-use crate::view::View;
+use crate::rule::{LockTable, Ruled, View};
 
 /// Wherever the rule of a lock's table holds, and so at every moment between two atomic steps of its seats: the
 /// invariant of the core holds of the words and of the processes that the seats show, so whoever waits is owed a word;

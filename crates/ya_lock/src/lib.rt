@@ -43,7 +43,6 @@ mod step_effects;
 #[cfg(test)]
 mod tests;
 mod tree_lock;
-mod view;
 
 pub use guard::Guard;
 pub use kept::Kept;

@@ -1,6 +1,6 @@
 //! How a lock is made: its tree and its table first, and then the passes of its places from the seat that made it.
 ghost use Rattle.std.specs.Prelude.{◌≡◌, ℕ, ◌+◌, ◌^◌, ◌≤◌, [], vec_capacity, IfOk};
-ghost use Rattle.ya_lock.specs.declared.view.View.TheVariants.{Making, HandingOut};
+ghost use Rattle.ya_lock.specs.declared.rule.View.TheVariants.{Making, HandingOut};
 ghost use Rattle.ya_lock.specs.Rule.{making_index};
 ghost use Rattle.ya_lock.specs.inside.Lock.{IsLockTable};
 ghost use Rattle.ya_lock.specs.Lock.{ArePassesInOrder};

@@ -4,8 +4,7 @@ ghost use Rattle.ya_core.specs.declared.process.Process.TheVariants.{Entering, L
 ghost use Rattle.ya_core.specs.declared.process.EntryPoint.TheVariants.{E5};
 ghost use Rattle.ya_core.specs.declared.process.ExitPoint.TheVariants.{X2};
 ghost use Rattle.ya_core.specs.WalkerModel.{BeginsEntry, BeginsExit, op_of, walk, walk_after, MovesOn, budget, points_ahead, is_waiting};
-ghost use Rattle.ya_lock.specs.inside.Lock.{way_of};
-ghost use Rattle.ya_lock.specs.inside.EntryProgress.{HasWon, HasPassed, HasLooked, HasReleased};
+ghost use Rattle.ya_lock.specs.inside.Lock.{way_of, HasWon, HasPassed, HasLooked, HasReleased};
 
 use crate::bell::PATIENCE;
 use crate::ghost_value::GhostValue;

@@ -1,12 +1,12 @@
-//! The rule of the lock's table, and where its words and its slot lie.
+//! The rule of the lock's table, what its seats know, and where its words and its slot lie.
 ghost use Rattle.atomic_table.specs.Table.{State};
 ghost use Rattle.ya_lock.specs.Rule.{Rule};
-ghost use Rattle.ya_lock.specs.declared.view.View.TheVariants.{Unused};
+ghost use Rattle.ya_lock.specs.declared.rule.View.TheVariants.{Unused};
 
 use crate::kept::Kept;
-use crate::view::View;
 use atomic_table::{Seat, Table, TableRule};
 use std::alloc::{Allocator, Global};
+use ya_core::Process;
 
 /// The words of the tree lie a cache line apart, so that stores in others don't disturb a place that spins on its own
 /// word.
@@ -14,6 +14,26 @@ pub const SPACING: usize = 8;
 
 /// The lent value has the table's one slot.
 pub const SLOT: usize = 0;
+
+/// What a seat of the lock's table knows. No value of it is made.
+pub enum View<V> {
+    /// Nothing. A table begins with one such seat.
+    Unused,
+    /// It is to make the passes. The slot is at home and empty.
+    Making,
+    /// The same, and it has taken the empty slot.
+    Filling,
+    /// It gave the value home, and is to make the passes of the places from this one on. The value that it gave.
+    HandingOut(usize, V),
+    /// A process: its place, where it stands, the value that it has seen or, inside, that it found, and how many remote
+    /// accesses it has made since its last entry began.
+    Seated(usize, Process, V, u64),
+    /// A process inside which has joined an idle one: its place and the value that it found, then the place of the
+    /// other and the value that the other has seen, and how many remote accesses the one inside has made.
+    Joining(usize, V, usize, V, u64),
+    /// It was joined to another seat.
+    Spent,
+}
 
 /// The rule, at a number of levels: the core's invariant holds of the words and of the processes that the seats show,
 /// and the value is in its slot exactly where no process is inside.

@@ -1,10 +1,10 @@
 //! What each step of a seat tells its thread. These types are for the proofs alone.
 ghost use Rattle.std.specs.Prelude.{◌≡◌};
-ghost use Rattle.ya_lock.specs.declared.view.View.TheVariants.{Spent};
+ghost use Rattle.ya_lock.specs.declared.rule.View.TheVariants.{Spent};
 ghost use Rattle.ya_lock.specs.inside.StepEffects.{BeginsMaking, TakesSlot, GivesValue, HandsOutLast, handed_out, rest_to_hand_out, joined_view, ProcessSteps, LearnsSince};
 
 use crate::kept::Kept;
-use crate::view::View;
+use crate::rule::View;
 use atomic_table::{Join, Play, Split};
 
 /// The swap by which `new` begins to make the passes.

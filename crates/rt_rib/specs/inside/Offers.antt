@@ -4,7 +4,7 @@ use Rattle.std.specs.List.{AllWithin, Contains, list_any}
 use Rattle.rt_rib.specs.declared.offers.Offer.{Offer}
 use Rattle.rt_rib.specs.declared.offers.Taken.{Taken}
 use Rattle.rt_rib.specs.declared.offers.Taken.TheVariants.{Missing, Last, Gone}
-use Rattle.rt_rib.specs.Offers.{outranks, is_from}
+use Rattle.rt_rib.specs.Maps.{outranks, is_from}
 
 -- where the offer belongs: those before that index outrank it, and no others do
 pub record IsInsertionIndex (offer : Offer) (offers : List Offer) (index : ℕ) : Type 0 where

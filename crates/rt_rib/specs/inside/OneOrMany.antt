@@ -3,7 +3,7 @@ use Rattle.std.specs.Prelude.{◌≤◌, List, [], ◌∷◌, length}
 use Rattle.rt_rib.specs.declared.offers.Offer.{Offer}
 use Rattle.rt_rib.specs.declared.offers.OneOrMany.{OneOrMany}
 use Rattle.rt_rib.specs.declared.offers.OneOrMany.TheVariants.{One, Many}
-use Rattle.rt_rib.specs.Offers.{IsRanked}
+use Rattle.rt_rib.specs.Maps.{IsRanked}
 
 -- the offers of either form
 abbrev pub items : {A : Type 0} → OneOrMany A → List Offer

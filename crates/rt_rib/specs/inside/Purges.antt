@@ -2,7 +2,7 @@
 use Rattle.std.specs.Prelude.{◌≡◌, ◌+◌, Bool, true, false, nat_eq, List, [], count_by}
 use Rattle.rt_rib.specs.declared.offers.Offer.{Offer}
 use Rattle.rt_rib.specs.declared.purge.Purging.{Purging}
-use Rattle.rt_rib.specs.Offers.{is_from, IsOffers}
+use Rattle.rt_rib.specs.Maps.{is_from, IsOffers}
 use Rattle.rt_rib.specs.inside.Offers.{without}
 
 -- whether no route of the feed is still to come

@@ -8,8 +8,7 @@ use Rattle.rt_rib.specs.declared.commands.Entry.{Entry}
 use Rattle.rt_rib.specs.declared.limits.TheConstants.{MOST_FEEDS}
 use Rattle.rt_rib.specs.Table.{count_of, IsTable}
 use Rattle.rt_rib.specs.Maps.{Map, routes_of, IsMap}
-use Rattle.rt_rib.specs.Sequential.{reply_of, table_after}
-use Rattle.rt_rib.specs.Journal.{table_of_journal, IsLawfulJournal}
+use Rattle.rt_rib.specs.Sequential.{reply_of, table_after, table_of_journal, IsLawfulJournal}
 use Rattle.rt_rib.specs.Book.{IsLimit, IsFeed, OfferTrie}
 
 -- what a command reads and may change: how many routes a feed may have, and the routes

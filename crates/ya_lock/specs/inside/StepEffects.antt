@@ -8,10 +8,10 @@ use Rattle.ya_core.specs.declared.process.Process.{Process}
 use Rattle.ya_core.specs.declared.process.Process.TheVariants.{Idle, Inside}
 use Rattle.ya_core.specs.Steps.{access_of, next_of}
 use Rattle.ya_core.specs.WalkerModel.{MayBeTold}
-use Rattle.ya_lock.specs.declared.view.View.{View}
-use Rattle.ya_lock.specs.declared.view.View.TheVariants.{Making, Filling, HandingOut, Seated, Joining}
+use Rattle.ya_lock.specs.declared.rule.View.{View}
+use Rattle.ya_lock.specs.declared.rule.View.TheVariants.{Making, Filling, HandingOut, Seated, Joining}
 use Rattle.ya_core.specs.Worlds.{is_inside}
-use Rattle.ya_lock.specs.DueStep.{Slots, count_after}
+use Rattle.ya_lock.specs.Rule.{Slots, count_after}
 
 -- the number that an access leaves in its word, where it found this one
 abbrev pub value_after : Access → ℕ → ℕ

@@ -1,6 +1,6 @@
 use Rattle.std.proofs.Common.{sym, ap, ◌∙◌}
 use Rattle.std.specs.List.{list_any}
-use Rattle.rt_rib.specs.Offers.{is_from}
+use Rattle.rt_rib.specs.Maps.{is_from}
 use Rattle.rt_rib.specs.inside.Maps.{offers_in}
 use Rattle.rt_rib.proofs.MapRoutes.{has-is}
 use Rattle.rt_rib.proofs.map.has.Goals as goal

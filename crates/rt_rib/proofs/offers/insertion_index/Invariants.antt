@@ -1,6 +1,6 @@
 use Rattle.std.proofs.Common.{◌≡◌, ◌-◌, ◌≤◌, true, length}
 use Rattle.std.specs.List.{AllWithin}
-use Rattle.rt_rib.specs.Offers.{outranks}
+use Rattle.rt_rib.specs.Maps.{outranks}
 use Rattle.rt_rib.proofs.offers.insertion_index.Given as goal
 
 abbrev pub invariant-loop-index : goal.invariant-loop-index

@@ -1,5 +1,5 @@
 use Rattle.std.proofs.Common.{sym, rules}
-use Rattle.rt_rib.specs.Offers.{is_from}
+use Rattle.rt_rib.specs.Maps.{is_from}
 use Rattle.rt_rib.proofs.OfferLists.{position-none, position-some, IsRanked-remove, none_of_feed, remove_is_without, lost, swapped}
 use Rattle.rt_rib.proofs.offers.replace_among.Goals as goal
 

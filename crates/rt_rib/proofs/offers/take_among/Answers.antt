@@ -1,5 +1,5 @@
 use Rattle.std.proofs.Common.{sym}
-use Rattle.rt_rib.specs.Offers.{is_from}
+use Rattle.rt_rib.specs.Maps.{is_from}
 use Rattle.rt_rib.proofs.OfferLists.{position-none, position-some, IsRanked-remove, remove_is_without}
 use Rattle.rt_rib.proofs.offers.take_among.Goals as goal
 

@@ -6,7 +6,7 @@ use Rattle.std.specs.declared.alloc.Global.{Global}
 use Rattle.rt_shared.specs.Table.{HeldPass, Settles}
 use Rattle.rt_shared.proofs.Promised.{pass_send, rib_sync}
 use Rattle.rt_feed.specs.declared.feeds.Feed.{Feed}
-use Rattle.rt_feed.specs.Feeds.{RunsOne}
+use Rattle.rt_feed.specs.FeedRuns.{RunsOne}
 use Rattle.rt_run.proofs.Lists.{all_written}
 use Rattle.rt_run.proofs.SeveralFeeds.{name, holds, are_back, run_over_book}
 use Rattle.rt_run.proofs.runs.run_passes.Goals as goal

@@ -1,6 +1,6 @@
 use Rattle.std.proofs.Common.{ap, ◌∙◌}
 use Rattle.std.specs.Prelude.{is_some}
-use Rattle.rt_rib.specs.Offers.{is_from}
+use Rattle.rt_rib.specs.Maps.{is_from}
 use Rattle.rt_rib.proofs.OfferLists.{position-is_some}
 use Rattle.rt_rib.proofs.offers.Offers.has.Goals as goal
 

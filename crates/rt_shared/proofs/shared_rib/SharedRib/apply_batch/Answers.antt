@@ -1,6 +1,6 @@
 use Rattle.std.proofs.Common.{◌≡◌, Some, ◌∙◌, sym, ap, subst, append-nil, [], ◌++◌, rules, ℕ, List, length}
 use Rattle.rt_rib.specs.declared.commands.Entry.{Entry}
-use Rattle.rt_rib.specs.Journal.{IsLawfulJournal}
+use Rattle.rt_rib.specs.Sequential.{IsLawfulJournal}
 use Rattle.ya_lock.specs.Lock.{OpenGuard}
 use Rattle.rt_shared.specs.declared.lent.Lent.{Lent}
 use Rattle.rt_shared.specs.LentChanges.{feed_of}

@@ -2,7 +2,7 @@ use Rattle.std.proofs.Common.{◌≡◌, ℕ, ◌≤◌, List, [], ◌∷◌, �
 use Rattle.std.proofs.lemmas.List.Elements.{All-cons, All-nil}
 use Rattle.rt_rib.specs.declared.commands.Entry.{Entry}
 use Rattle.std.proofs.lemmas.List.{nil_from_length}
-use Rattle.rt_rib.specs.Journal.{IsLawfulJournal}
+use Rattle.rt_rib.specs.Sequential.{IsLawfulJournal}
 use Rattle.ya_lock.specs.Lock.{IdlePass, OpenGuard, guard_of}
 use Rattle.rt_shared.specs.LentChanges.{HasSameBounds}
 use Rattle.rt_shared.specs.inside.PassModel.{shared_id}

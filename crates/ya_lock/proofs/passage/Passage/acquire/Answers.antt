@@ -1,8 +1,7 @@
 use Rattle.std.proofs.Common.{◌≡◌, lit<, sym, ap, ◌∙◌, rules, subst}
 use Rattle.ya_core.specs.declared.process.Process.TheVariants.{Entering}
 use Rattle.ya_core.specs.declared.process.EntryPoint.TheVariants.{E2, E3, E4}
-use Rattle.ya_lock.specs.inside.EntryProgress.{HasWon}
-use Rattle.ya_lock.specs.inside.Lock.{OnWay}
+use Rattle.ya_lock.specs.inside.Lock.{HasWon, OnWay}
 use Rattle.ya_lock.proofs.EntryAccesses.{at_next}
 use Rattle.ya_lock.proofs.EntrySteps.{due_entering, due_at_foot, from_foot, leads}
 use Rattle.ya_lock.proofs.passage.Passage.acquire.Goals as goal

@@ -1,6 +1,6 @@
 use Rattle.std.proofs.Common.{◌≡◌}
 use Rattle.ya_core.specs.WalkerModel.{points_ahead}
-use Rattle.ya_lock.specs.inside.EntryProgress.{IsAtFoot}
+use Rattle.ya_lock.specs.inside.Lock.{IsAtFoot}
 use Rattle.ya_lock.proofs.passage.Passage.acquire.Given as goal
 
 abbrev pub invariant-loop-passage : goal.invariant-loop-passage

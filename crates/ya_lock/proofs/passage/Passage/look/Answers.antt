@@ -2,8 +2,7 @@ use Rattle.std.proofs.Common.{ℕ, lit<, sym, ap, ◌∙◌, subst}
 use Rattle.ya_core.specs.declared.process.Process.{Process}
 use Rattle.ya_core.specs.declared.process.Process.TheVariants.{Entering}
 use Rattle.ya_core.specs.declared.process.EntryPoint.TheVariants.{E8, E10}
-use Rattle.ya_lock.specs.inside.EntryProgress.{HasLooked}
-use Rattle.ya_lock.specs.inside.Lock.{OnWay, WayOf}
+use Rattle.ya_lock.specs.inside.Lock.{HasLooked, OnWay, WayOf}
 use Rattle.ya_lock.proofs.EntrySteps.{due_entering, looked_e8, looked_e10}
 use Rattle.ya_lock.proofs.passage.Passage.look.Goals as goal
 use Rattle.ya_lock.proofs.passage.Passage.look.Goals.{in-Entering-default-E8, in-Entering-default-E10}

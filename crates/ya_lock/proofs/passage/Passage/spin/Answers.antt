@@ -1,8 +1,7 @@
 use Rattle.std.proofs.Common.{◌≡◌, true, false, lit<, sym, ap, ◌∙◌, subst}
 use Rattle.ya_core.specs.declared.process.Process.{Process}
 use Rattle.ya_core.specs.WalkerModel.{is_waiting}
-use Rattle.ya_lock.specs.inside.EntryProgress.{HasLooked}
-use Rattle.ya_lock.specs.inside.Lock.{OnWay}
+use Rattle.ya_lock.specs.inside.Lock.{HasLooked, OnWay}
 use Rattle.ya_lock.proofs.EntrySteps.{waits_on, has_passed}
 use Rattle.ya_lock.proofs.passage.Passage.spin.Goals as goal
 use Rattle.ya_lock.proofs.passage.Passage.spin.Goals.{then-waits+then-patience-eq0, then-waits+else-patience-eq0, else-waits}

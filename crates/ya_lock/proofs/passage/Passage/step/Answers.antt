@@ -9,7 +9,7 @@ use Rattle.ya_core.specs.Steps.{access_of}
 use Rattle.ya_core.specs.Machines.{word_of}
 use Rattle.ya_core.specs.WalkerModel.{Walk, IsWalk, op_of, AccessIsWithin}
 use Rattle.ya_core.proofs.Promised.{within_access, load_due, store_due}
-use Rattle.ya_lock.specs.declared.view.View.{View}
+use Rattle.ya_lock.specs.declared.rule.View.{View}
 use Rattle.ya_lock.specs.Rule.{index_of, making_index, row_length, Rule}
 use Rattle.ya_lock.specs.Lock.{LockId}
 use Rattle.ya_lock.specs.inside.Lock.{IsLockTable, OnWay, SeatOf}

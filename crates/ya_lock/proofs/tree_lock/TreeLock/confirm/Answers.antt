@@ -1,8 +1,8 @@
 use Rattle.std.proofs.Common.{arith, ℕ, sym, ap, ◌∙◌, subst, Option}
 use Rattle.atomic_table.specs.Table.{Me, Joins}
 use Rattle.ya_core.specs.declared.process.Process.TheVariants.{Inside}
-use Rattle.ya_lock.specs.declared.view.View.{View}
-use Rattle.ya_lock.specs.declared.view.View.TheVariants.{Seated, Spent}
+use Rattle.ya_lock.specs.declared.rule.View.{View}
+use Rattle.ya_lock.specs.declared.rule.View.TheVariants.{Seated, Spent}
 use Rattle.ya_lock.specs.Rule.{Rule}
 use Rattle.ya_lock.specs.inside.StepEffects.{joined_view}
 use Rattle.ya_lock.specs.Lock.{OpenGuard, IdlePass}

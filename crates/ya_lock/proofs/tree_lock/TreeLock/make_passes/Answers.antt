@@ -5,8 +5,8 @@ use Rattle.atomic_table.specs.Table.{Me}
 use Rattle.std.proofs.lemmas.Nat.{pow_pos}
 use Rattle.ya_core.specs.declared.process.Process.TheVariants.{Idle}
 use Rattle.ya_lock.specs.Lock.{IdlePass}
-use Rattle.ya_lock.specs.declared.view.View.{View}
-use Rattle.ya_lock.specs.declared.view.View.TheVariants.{Seated}
+use Rattle.ya_lock.specs.declared.rule.View.{View}
+use Rattle.ya_lock.specs.declared.rule.View.TheVariants.{Seated}
 use Rattle.ya_lock.specs.Rule.{Rule}
 use Rattle.ya_lock.specs.inside.StepEffects.{handed_out, rest_to_hand_out, HandsOutLast}
 use Rattle.ya_lock.proofs.NewSteps.{splits, ends}

@@ -1,5 +1,5 @@
 use Rattle.std.proofs.Common.{◌≡◌, ℕ, ◌^◌, ◌<◌, ◌≤◌, [], slice_get, vec_len, vec_capacity, Some}
-use Rattle.ya_lock.specs.declared.view.View.TheVariants.{HandingOut}
+use Rattle.ya_lock.specs.declared.rule.View.TheVariants.{HandingOut}
 use Rattle.ya_lock.specs.Lock.{new_pass}
 use Rattle.ya_lock.proofs.tree_lock.TreeLock.make_passes.Given as goal
 

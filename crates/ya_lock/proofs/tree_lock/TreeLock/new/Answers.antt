@@ -1,8 +1,8 @@
 use Rattle.std.proofs.Common.{arith, ◌≡◌, ℕ, ◌*◌, ◌≤◌, [], ◌∷◌, sym, ap, ◌∙◌, subst, Some, None, Option}
 use Rattle.atomic_table.specs.Table.{Me, Allows, rest}
 use Rattle.ya_core.specs.ArbitrationTree.{count_of_words}
-use Rattle.ya_lock.specs.declared.view.View.{View}
-use Rattle.ya_lock.specs.declared.view.View.TheVariants.{Filling}
+use Rattle.ya_lock.specs.declared.rule.View.{View}
+use Rattle.ya_lock.specs.declared.rule.View.TheVariants.{Filling}
 use Rattle.ya_lock.specs.Rule.{making_index, Rule}
 use Rattle.ya_lock.specs.inside.StepEffects.{TakesSlot, GivesValue}
 use Rattle.ya_lock.proofs.Words.{making_small, making_is}

@@ -1,6 +1,6 @@
 use Rattle.std.proofs.Common.{arith, ◌≡◌, ℕ, ◌+◌, ◌*◌, ◌^◌, ◌≤◌, List, [], ◌∷◌, length, sym, ap, ◌∙◌, subst, None}
 use Rattle.atomic_table.specs.Table.{opening, Arrives}
-use Rattle.ya_lock.specs.declared.view.View.TheVariants.{Unused}
+use Rattle.ya_lock.specs.declared.rule.View.TheVariants.{Unused}
 use Rattle.ya_lock.specs.Rule.{making_index, Rule}
 use Rattle.ya_lock.specs.inside.StepEffects.{BeginsMaking}
 use Rattle.ya_lock.proofs.Words.{making_small}

@@ -2,8 +2,8 @@ use Rattle.std.proofs.Common.{◌≡◌, Option, ℕ, ◌*◌, ◌^◌, ◌<◌,
 use Rattle.atomic_table.specs.Table.{Me}
 use Rattle.ya_core.specs.WalkerModel.{op_of, walk}
 use Rattle.ya_core.specs.declared.process.Process.TheVariants.{Inside}
-use Rattle.ya_lock.specs.declared.view.View.{View}
-use Rattle.ya_lock.specs.declared.view.View.TheVariants.{Seated}
+use Rattle.ya_lock.specs.declared.rule.View.{View}
+use Rattle.ya_lock.specs.declared.rule.View.TheVariants.{Seated}
 use Rattle.ya_lock.specs.Lock.{LockId}
 use Rattle.ya_lock.specs.inside.Lock.{OnWay, SeatOf, guard_at}
 use Rattle.ya_lock.proofs.GuardSeats.{entered, has_slot, taken, guarded}

@@ -1,5 +1,5 @@
 use Rattle.std.proofs.Common.{rules}
-use Rattle.rt_shared.proofs.feed_pass.FeedPass.feed.Goals as goal
+use Rattle.rt_shared.proofs.shared_rib.FeedPass.feed.Goals as goal
 
 pub returns : goal.returns
 returns c = search rules

@@ -1,5 +1,5 @@
 use Rattle.std.proofs.Common.{rules}
-use Rattle.rt_shared.proofs.feed_pass.FeedPass.of.Goals as goal
+use Rattle.rt_shared.proofs.shared_rib.FeedPass.of.Goals as goal
 
 pub invariant_of-result : goal.invariant_of-result
 invariant_of-result c = search rules

@@ -1,7 +1,7 @@
 use Rattle.std.proofs.Common.{[], ◌∷◌}
 use Rattle.rt_shared.specs.declared.outcome.Outcome.TheVariants.{Did, Refused}
 use Rattle.rt_feed.proofs.UncutVisits.{gate_visit, if_ok, on_err}
-use Rattle.rt_feed.proofs.table_gate.TableGateGate.apply.Goals as goal
+use Rattle.rt_feed.proofs.gates.TableGateGate.apply.Goals as goal
 
 pub returns-clause-ok : goal.returns-clause-ok
 returns-clause-ok g c =

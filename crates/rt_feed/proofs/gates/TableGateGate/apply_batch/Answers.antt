@@ -1,5 +1,5 @@
 use Rattle.rt_feed.proofs.UncutVisits.{gate_visit, gate_empty, on_ok, on_err}
-use Rattle.rt_feed.proofs.table_gate.TableGateGate.apply_batch.Goals as goal
+use Rattle.rt_feed.proofs.gates.TableGateGate.apply_batch.Goals as goal
 
 pub returns-clause-ok : goal.returns-clause-ok
 returns-clause-ok g c =
