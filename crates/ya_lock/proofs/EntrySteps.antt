@@ -16,7 +16,7 @@ use Rattle.ya_core.specs.declared.walker.Op.TheVariants as op
 use Rattle.ya_core.specs.Steps.{entry_access, exit_access, entry_next, next_of, won}
 use Rattle.ya_core.specs.WalkerModel.{Walk, walk, walk_after, op_of, op_of_access, points_ahead, is_waiting, MovesOn}
 use Rattle.ya_lock.specs.declared.rule.View.{View}
-use Rattle.ya_lock.specs.inside.Lock.{HasWon, HasPassed, HasLooked, IsAtFoot, SeatOf}
+use Rattle.ya_lock.specs.inside.Lock.{HasWon, HasPassed, HasLooked, IsAtFoot, OnWay, SeatOf}
 
 -- something is asked for
 abbrev IsAccess : Op → Type 0
@@ -28,21 +28,33 @@ is_access : (levels : ℕ) (access : Access) → IsAccess (op_of_access levels a
 is_access levels (Load word) = tt
 is_access levels (Store word value) = tt
 
+-- where something is asked for, an access is due
+is_due : (w : Walk) → IsAccess (op_of w) → (op_of w ≢ op.Idle) × (op_of w ≢ op.Inside)
+is_due w h = (λ e. subst IsAccess e h, λ e. subst IsAccess e h)
+
+-- so it is where the process is one to which something is asked for
+due_where : (w : Walk) (process : Process) → w.process ≡ process
+    → IsAccess (op_of (walk w.levels w.place process w.begun w.remote)) → (op_of w ≢ op.Idle) × (op_of w ≢ op.Inside)
+due_where w process at asked =
+    is_due w (subst (λ (p : Process). IsAccess (op_of (walk w.levels w.place p w.begun w.remote))) (sym at) asked)
+
 -- an access is due to a process on its way in
 pub due_entering : (w : Walk) (level : ℕ) (point : EntryPoint) → w.process ≡ Entering level point
     → (op_of w ≢ op.Idle) × (op_of w ≢ op.Inside)
 due_entering w level point at =
-    let P : Process → Type 0 = λ p. IsAccess (op_of (walk w.levels w.place p w.begun w.remote)) in
-    let h : IsAccess (op_of w) = subst P (sym at) (is_access w.levels (entry_access level w.place point)) in
-    (λ e. subst IsAccess e h, λ e. subst IsAccess e h)
+    due_where w (Entering level point) at (is_access w.levels (entry_access level w.place point))
 
 -- and to one on its way out
 pub due_leaving : (w : Walk) (level : ℕ) (point : ExitPoint) → w.process ≡ Leaving level point
     → (op_of w ≢ op.Idle) × (op_of w ≢ op.Inside)
 due_leaving w level point at =
-    let P : Process → Type 0 = λ p. IsAccess (op_of (walk w.levels w.place p w.begun w.remote)) in
-    let h : IsAccess (op_of w) = subst P (sym at) (is_access w.levels (exit_access level w.place point)) in
-    (λ e. subst IsAccess e h, λ e. subst IsAccess e h)
+    due_where w (Leaving level point) at (is_access w.levels (exit_access level w.place point))
+
+-- a place stands where a match found the process of its walk
+pub found_at : {V : Type 0} {seen at : OnWay V} {A : Type 0} {point is : A} (process_at : A → Process) → seen ≡ at
+    → process_at point ≡ seen.walk.process → point ≡ is → at.walk.process ≡ process_at is
+found_at process_at view found same =
+    sym (ap (λ (p : OnWay _). p.walk.process) view) ∙ (sym found ∙ ap process_at same)
 
 -- where the access of a process on its way in leads
 pub leads : (w new : Walk) (level found : ℕ) (point : EntryPoint) → w.process ≡ Entering level point → new ≡ walk_after w found
@@ -149,8 +161,7 @@ pub due_at_foot : (w : Walk) → IsAtFoot w → (op_of w ≢ op.Idle) × (op_of 
 due_at_foot w (inl idle) =
     let P : Process → Bool → Type 0 = λ p b. IsAccess (op_of (walk w.levels w.place p b w.remote)) in
     let access : P Idle true = is_access w.levels (entry_access 1 w.place E1) in
-    let h : IsAccess (op_of w) = subst (λ (b : Bool). P w.process b) (sym idle.1) (subst (λ (p : Process). P p true) (sym idle.0) access) in
-    (λ e. subst IsAccess e h, λ e. subst IsAccess e h)
+    is_due w (subst (λ (b : Bool). P w.process b) (sym idle.1) (subst (λ (p : Process). P p true) (sym idle.0) access))
 due_at_foot w (inr entering) = due_entering w entering.0 E1 entering.1
 
 pub from_foot : (w new : Walk) (found : ℕ) → IsAtFoot w → new ≡ walk_after w found

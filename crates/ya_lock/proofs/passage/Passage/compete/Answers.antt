@@ -7,7 +7,7 @@ use Rattle.ya_core.specs.declared.process.EntryPoint.TheVariants.{E5, E6, E7, E9
 use Rattle.ya_core.specs.WalkerModel.{Walk, is_waiting, points_ahead}
 use Rattle.ya_lock.specs.inside.Lock.{OnWay}
 use Rattle.ya_lock.proofs.EntryAccesses.{woken_in_tree}
-use Rattle.ya_lock.proofs.EntrySteps.{due_entering, lost_e5, comes_nearer}
+use Rattle.ya_lock.proofs.EntrySteps.{due_entering, found_at, lost_e5, comes_nearer}
 use Rattle.ya_lock.proofs.passage.Passage.compete.Goals as goal
 
 pub ring-requires : goal.ring-requires
@@ -31,11 +31,7 @@ pub write_out-requires : goal.write_out-requires
 write_out-requires g c =
     let e5 = c.in-Entering-default-E5 in (
       lit< tt,
-      (
-        e5.field-0,
-        sym (ap (λ (p : OnWay g.row.V.Denot). p.walk.process) c.passage.view_is)
-            ∙ (sym e5.ensures.value ∙ ap (λ point. Entering e5.field-0 point) e5.field-1-is),
-      ),
+      (e5.field-0, found_at (λ point. Entering e5.field-0 point) c.passage.view_is e5.ensures.value e5.field-1-is),
     )
 
 pub step-requires : goal.step-requires
@@ -70,8 +66,7 @@ step-requires-in-Entering-default-E7 g c =
     let e7 = c.in-Entering-default-E7 in (
       lit< tt,
       due_entering c.step-2.new.self.walk e7.field-0 (E7 e7.rival)
-          (sym (ap (λ (p : OnWay g.row.V.Denot). p.walk.process) c.passage-2.view_is)
-          ∙ (sym e7.ensures.value ∙ ap (λ point. Entering e7.field-0 point) e7.field-1-is)),
+          (found_at (λ point. Entering e7.field-0 point) c.passage-2.view_is e7.ensures.value e7.field-1-is),
     )
 
 pub step-requires-3 : goal.step-requires-3

@@ -6,7 +6,7 @@ use Rattle.ya_core.specs.Steps.{next_of}
 use Rattle.ya_core.specs.WalkerModel.{Walk}
 use Rattle.ya_lock.specs.inside.Lock.{OnWay}
 use Rattle.ya_lock.proofs.EntryAccesses.{let_in_tree}
-use Rattle.ya_lock.proofs.EntrySteps.{due_leaving}
+use Rattle.ya_lock.proofs.EntrySteps.{due_leaving, found_at}
 use Rattle.ya_lock.proofs.passage.Passage.let_in.Goals as goal
 
 pub ring-requires : goal.ring-requires
@@ -34,6 +34,5 @@ step-requires-in-Leaving-default-X3 g c =
     let x3 = c.in-Leaving-default-X3 in (
       lit< tt,
       due_leaving c.step.new.self.walk x3.field-0 (X3 x3.rival)
-          (sym (ap (λ (p : OnWay g.row.V.Denot). p.walk.process) c.self.view_is)
-          ∙ (sym x3.ensures.value ∙ ap (λ point. Leaving x3.field-0 point) x3.field-1-is)),
+          (found_at (λ point. Leaving x3.field-0 point) c.self.view_is x3.ensures.value x3.field-1-is),
     )

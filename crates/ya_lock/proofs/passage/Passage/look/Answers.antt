@@ -3,7 +3,7 @@ use Rattle.ya_core.specs.declared.process.Process.{Process}
 use Rattle.ya_core.specs.declared.process.Process.TheVariants.{Entering}
 use Rattle.ya_core.specs.declared.process.EntryPoint.TheVariants.{E8, E10}
 use Rattle.ya_lock.specs.inside.Lock.{HasLooked, OnWay, WayOf}
-use Rattle.ya_lock.proofs.EntrySteps.{due_entering, looked_e8, looked_e10}
+use Rattle.ya_lock.proofs.EntrySteps.{due_entering, found_at, looked_e8, looked_e10}
 use Rattle.ya_lock.proofs.passage.Passage.look.Goals as goal
 use Rattle.ya_lock.proofs.passage.Passage.look.Goals.{in-Entering-default-E8, in-Entering-default-E10}
 
@@ -11,11 +11,7 @@ pub write_out-requires : goal.write_out-requires
 write_out-requires g c =
     let e8 = c.in-Entering-default-E8 in (
       lit< tt,
-      (
-        e8.field-0,
-        sym (ap (λ (p : OnWay g.row.V.Denot). p.walk.process) c.passage.view_is)
-            ∙ (sym e8.ensures.value ∙ ap (λ point. Entering e8.field-0 point) e8.field-1-is),
-      ),
+      (e8.field-0, found_at (λ point. Entering e8.field-0 point) c.passage.view_is e8.ensures.value e8.field-1-is),
     )
 
 pub step-requires : goal.step-requires
