@@ -127,25 +127,12 @@ impl<V: Kept + Drop, const L: u32> TreeLock<V, L> {
         ensures fresh { V.since pass.place pass.seen guard.found }
         ensures same { result ≡ guard }
     {
-        let Guard {
-            mut seat,
-            place,
-            remote,
-            value,
-            found,
-            crowded,
-        } = guard;
+        let mut guard = guard;
         let Pass { seat: idle, .. } = pass;
-        self.table.shared.join_seat::<JoinPass>(&mut seat, idle);
-        self.table.shared.load::<LearnSince>(&mut seat, 0);
-        Guard {
-            seat,
-            place,
-            remote,
-            value,
-            found,
-            crowded,
-        }
+        let shared = &self.table.shared;
+        shared.join_seat::<JoinPass>(&mut guard.seat, idle);
+        shared.load::<LearnSince>(&mut guard.seat, 0);
+        guard
     }
 
     /// Ends the lock, and gives the value as it is now. Its other passes are of no further use.
