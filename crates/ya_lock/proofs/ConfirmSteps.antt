@@ -5,14 +5,14 @@ use Rattle.std.specs.Prelude as std
 use mathlib.Core.Option.{none, some, some-injective, some-ne-none}
 use native.Mathlib.Decide.{ℕ_discrete}
 use lib.ListN.{get_elem?}
-use Rattle.atomic_table.specs.Table.{State, Me, keeps, Allows, Joins}
+use Rattle.atomic_table.specs.Table.{State, Me, Allows, Joins}
 use Rattle.atomic_table.proofs.Lists.{at_set}
 use Rattle.ya_core.specs.declared.process.Process.TheVariants.{Idle, Inside}
 use Rattle.ya_lock.specs.declared.rule.View.{View}
 use Rattle.ya_lock.specs.declared.rule.View.TheVariants.{Unused, Making, Filling, HandingOut, Seated, Joining, Spent}
 use Rattle.ya_lock.specs.Rule.{making_index, GlobalView, ViewFits, Rule}
 use Rattle.ya_lock.specs.inside.StepEffects.{LearnsSince}
-use Rattle.ya_lock.proofs.Frames.{refits, looks, sits_still, sits_else}
+use Rattle.ya_lock.proofs.Frames.{refits, sees, sits_still, sits_else}
 
 module _ {V : Type 0} (since : ℕ → V → V → Type 0) (levels : ℕ) where
   -- a state of the table
@@ -153,27 +153,23 @@ module _ {V : Type 0} (since : ℕ → V → V → Type 0) (levels : ℕ) where
       let x : GlobalView V = rule.0 in let o = rule.1 in let f =
       o.fits id (Joining place value other seen count) (at ∙ ap some is) in
       let w : View V = Seated place Inside value count in
-      let t : St = record { words = s.words; homes = s.homes; views = set s.views id w } in (
-        w,
-        keeps,
-        tt,
-        looks since levels s id i me.1 w keeps (
-          x,
-          record {
-            wide = o.wide;
-            unmade = o.unmade;
-            before = o.before;
-            seated = λ k seat e. sits_still since levels s.views id (Joining place value other seen count) w
-                (at ∙ ap some is) refl k seat (o.seated k seat e);
-            absent = o.absent;
-            sound = o.sound;
-            lies = o.lies;
-            fits = λ seat view there. ⊎_elim
-                (λ p. subst (λ (v : View V). ViewFits since levels t x seat v) p.1 (f.0, f.1 ∙ ap some (sym p.0), f.2, f.3, f.5))
-                (λ p. refits since levels s t x (λ b. b) seat view (λ _. refl) (o.fits seat view p.1))
-                (at_set s.views id seat w view there);
-          },
-        ),
-        subst (λ (v : View V). LearnsSince since v me.1 (w, me.1)) (sym is)
-            (subst (λ (now : V). since other seen now) (some-injective _ _ (sym f.4.1 ∙ f.3)) f.4.2, refl),
+      let t : St = record { words = s.words; homes = s.homes; views = set s.views id w } in
+      sees since levels s id i me.1 w (λ then'. LearnsSince since me.0 me.1 then') (
+        x,
+        record {
+          wide = o.wide;
+          unmade = o.unmade;
+          before = o.before;
+          seated = λ k seat e. sits_still since levels s.views id (Joining place value other seen count) w
+              (at ∙ ap some is) refl k seat (o.seated k seat e);
+          absent = o.absent;
+          sound = o.sound;
+          lies = o.lies;
+          fits = λ seat view there. ⊎_elim
+              (λ p. subst (λ (v : View V). ViewFits since levels t x seat v) p.1 (f.0, f.1 ∙ ap some (sym p.0), f.2, f.3, f.5))
+              (λ p. refits since levels s t x (λ b. b) seat view (λ _. refl) (o.fits seat view p.1))
+              (at_set s.views id seat w view there);
+        },
       )
+      (subst (λ (v : View V). LearnsSince since v me.1 (w, me.1)) (sym is)
+      (subst (λ (now : V). since other seen now) (some-injective _ _ (sym f.4.1 ∙ f.3)) f.4.2, refl))

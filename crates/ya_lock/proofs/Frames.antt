@@ -4,7 +4,7 @@ use Rattle.std.proofs.Common.{sym, refl, ap, ◌∙◌, subst, slice_index, ⊎_
 use Rattle.std.specs.Prelude as std
 use mathlib.Core.Option.{Option, none, some, some-injective, some-ne-none}
 use lib.ListN.{get_elem?}
-use Rattle.atomic_table.specs.Table.{State, Act, homes_after, stepped}
+use Rattle.atomic_table.specs.Table.{State, Me, Act, keeps, Valid, carried_after, homes_after, stepped}
 use native.Mathlib.Decide.{ℕ_discrete}
 use Rattle.atomic_table.proofs.Lists.{at_set, set_else, at_longer}
 use Rattle.ya_core.specs.declared.process.Process.{Process}
@@ -222,3 +222,10 @@ module _ {V : Type 0} (since : ℕ → V → V → Type 0) (levels : ℕ) where
   pub looks : (s : St) (id i : ℕ) (slots : Slots V) (w : View V) (a : Act (std.Option V)) → Looks s id slots w a s.words
       → Rule since levels (stepped s i (slice_index s.words i) id slots w a)
   looks s id i slots w a r = subst (Looks s id slots w a) (sym (word_kept s.words i)) r
+
+  -- so a load that leaves the slots where they are may give its seat a new view that keeps the rule
+  pub sees : (s : St) (id i : ℕ) (slots : Slots V) (w : View V) (Then : Me (std.Option V) (View V) → Type 0)
+      → Looks s id slots w keeps s.words → Then (w, slots)
+      → (v : View V) × (a : Act (std.Option V)) × Valid s.homes slots a
+      × Rule since levels (stepped s i (slice_index s.words i) id slots v a) × Then (v, carried_after slots a)
+  sees s id i slots w Then rule said = (w, keeps, tt, looks s id i slots w keeps rule, said)

@@ -21,7 +21,7 @@ use Rattle.ya_core.specs.Worlds.{is_inside}
 use Rattle.ya_lock.specs.inside.StepEffects.{BeginsMaking, TakesSlot, GivesValue, HandsOutLast}
 use Rattle.ya_core.proofs.Promised.{opens as opens_sound}
 use Rattle.ya_lock.proofs.Words.{words_zero, words_behind}
-use Rattle.ya_lock.proofs.Frames.{refits, looks, Sits, sits_still, sits_else, sits_longer, set_at}
+use Rattle.ya_lock.proofs.Frames.{refits, looks, sees, Sits, sits_still, sits_else, sits_longer, set_at}
 
 -- the view that came last, or one that was there
 pub at_end : {A : Type 0} (l : List A) (a b : A) (j : ℕ) → get_elem? (l ++ a ∷ []) j ≡ some b
@@ -414,27 +414,23 @@ module _ {V : Type 0} (since : ℕ → V → V → Type 0) (since_same : (place 
       let w : View V = Seated place Idle value 0 in
       let t : St = record { words = s.words; homes = s.homes; views = set s.views id w } in
       let here = f.3 place (omega arith) in
-      let y : GlobalView V = seated x place id in (
-        w,
-        keeps,
-        tt,
-        looks since levels s id i me.1 w keeps (
-          y,
-          record {
-            wide = o.wide;
-            unmade = o.unmade;
-            before = λ e. absurd (some-ne-none here.1.0 (sym here.1.1 ∙ e));
-            seated = λ k seat e. ended_sits s.views x id place value k seat (at ∙ ap some is) (o.seated k seat)
-                (ℕ_discrete k place) e;
-            absent = seated_absent x place id o.absent;
-            sound = o.sound;
-            lies = o.lies;
-            fits = λ seat view there. ⊎_elim
-                (λ p. subst (λ (v : View V). ViewFits since levels t y seat v) p.1
-                (f.0, seated_here x place id ∙ ap some (sym p.0), o.absent place here.0, here.1, nothing_yet))
-                (λ p. handed_fits s t x id place id f.1 here.0 refl refl seat view p.0 (o.fits seat view p.1))
-                (at_set s.views id seat w view there);
-          },
-        ),
-        subst (λ (v : View V). HandsOutLast v me.1 (w, me.1)) (sym is) refl,
+      let y : GlobalView V = seated x place id in
+      sees since levels s id i me.1 w (λ then'. HandsOutLast me.0 me.1 then') (
+        y,
+        record {
+          wide = o.wide;
+          unmade = o.unmade;
+          before = λ e. absurd (some-ne-none here.1.0 (sym here.1.1 ∙ e));
+          seated = λ k seat e. ended_sits s.views x id place value k seat (at ∙ ap some is) (o.seated k seat)
+              (ℕ_discrete k place) e;
+          absent = seated_absent x place id o.absent;
+          sound = o.sound;
+          lies = o.lies;
+          fits = λ seat view there. ⊎_elim
+              (λ p. subst (λ (v : View V). ViewFits since levels t y seat v) p.1
+              (f.0, seated_here x place id ∙ ap some (sym p.0), o.absent place here.0, here.1, nothing_yet))
+              (λ p. handed_fits s t x id place id f.1 here.0 refl refl seat view p.0 (o.fits seat view p.1))
+              (at_set s.views id seat w view there);
+        },
       )
+      (subst (λ (v : View V). HandsOutLast v me.1 (w, me.1)) (sym is) refl)
