@@ -512,90 +512,54 @@ seats (suc (suc place)) = none
 abbrev both_are_away : GlobalView ℕ
 both_are_away = record { seat_of = seats; processes = λ place. Idle; maker = none; content = some 7 }
 
-its_seat : (place seat : ℕ) → seats place ≡ some seat
-    → (view : View ℕ) × (get_elem? both_made.views seat ≡ some view) × (place_of_view view ≡ some place)
-its_seat zero seat is =
-    subst (λ (n : ℕ). (view : View ℕ) × (get_elem? both_made.views n ≡ some view) × (place_of_view view ≡ some 0)) (some-injective 0 seat is)
-    (Seated 0 Idle 7 0, refl, refl)
-its_seat (suc zero) seat is =
-    subst (λ (n : ℕ). (view : View ℕ) × (get_elem? both_made.views n ≡ some view) × (place_of_view view ≡ some 1)) (some-injective 1 seat is)
-    (Seated 1 Idle 5 0, refl, refl)
-its_seat (suc (suc place)) seat is = absurd (some-ne-none seat (sym is))
-
-has_begun : IsBegun raised 1 both_made both_are_away
-unfolding making_index count_of_words
-has_begun unmade = let clash : 1 ≡ 0 = unmade in omega (arith, clash)
-
-its_view_fits : (seat : ℕ) (view : View ℕ) → get_elem? both_made.views seat ≡ some view → ViewFits raised 1 both_made both_are_away seat view
-its_view_fits zero view at =
-    subst (ViewFits raised 1 both_made both_are_away 0) (some-injective (Seated 0 Idle 7 0) view at) (has_begun, refl, refl, (7, refl, omega arith), (let none : 0 ≤ 0 = omega arith in none))
-its_view_fits (suc zero) view at =
-    subst (ViewFits raised 1 both_made both_are_away 1) (some-injective (Seated 1 Idle 5 0) view at) (has_begun, refl, refl, (7, refl, omega arith), (let none : 0 ≤ 0 = omega arith in none))
-its_view_fits (suc (suc seat)) view at = absurd (some-ne-none view (sym at))
-
--- Rule
-once_both_passes_were_made : Rule raised 1 both_made
-unfolding making_index count_of_words
-once_both_passes_were_made = (
-  both_are_away,
-  record {
-    wide = refl;
-    unmade = λ empty. let clash : 1 ≡ 0 = empty in absurd (omega (arith, clash));
-    before = λ given. absurd (some-ne-none 7 given);
-    seated = its_seat;
-    absent = λ place away. refl;
-    sound =
-        subst (λ (words : Word → ℕ). IsSoundState 1 record { words = words; processes = λ place. Idle })
-        (sym (words_behind 1 (making_index 1) (replicate 64 0) 1 (omega arith) ∙ words_zero 1 64)) (opens 1);
-    lies = (λ away. refl, λ place is. cc);
-    fits = its_view_fits;
-  },
-)
-
--- both passes were made, and each has seen the value, whatever that is
-abbrev both_have_seen : {V : Type 0} → V → State (std.Option V) (View V)
-both_have_seen value = record {
+-- both passes were made, each has seen a value of its own, and a third is in the slot
+abbrev both_have_seen : {V : Type 0} → V → V → V → State (std.Option V) (View V)
+both_have_seen first second now = record {
   words = both_made.words;
-  homes = some (Some value) ∷ [];
-  views = Seated 0 Idle value 0 ∷ Seated 1 Idle value 0 ∷ [];
+  homes = some (Some now) ∷ [];
+  views = Seated 0 Idle first 0 ∷ Seated 1 Idle second 0 ∷ [];
 }
 
 abbrev both_away_with : {V : Type 0} → V → GlobalView V
-both_away_with value = record { seat_of = seats; processes = λ place. Idle; maker = none; content = some value }
+both_away_with now = record { seat_of = seats; processes = λ place. Idle; maker = none; content = some now }
 
-module _ {V : Type 0} (since : ℕ → V → V → Type 0) (value : V) (same : (place : ℕ) → since place value value) where
+module _ {V : Type 0} (since : ℕ → V → V → Type 0) (first second now : V) (from_first : since 0 first now)
+    (from_second : since 1 second now) where
+  abbrev state : State (std.Option V) (View V)
+  state = both_have_seen first second now
+
   seat_of_each : (place seat : ℕ) → seats place ≡ some seat
-      → (view : View V) × (get_elem? (both_have_seen value).views seat ≡ some view) × (place_of_view view ≡ some place)
+      → (view : View V) × (get_elem? state.views seat ≡ some view) × (place_of_view view ≡ some place)
   seat_of_each zero seat is =
-      subst (λ (n : ℕ). (view : View V) × (get_elem? (both_have_seen value).views n ≡ some view) × (place_of_view view ≡ some 0)) (some-injective 0 seat is)
-      (Seated 0 Idle value 0, refl, refl)
+      subst (λ (n : ℕ). (view : View V) × (get_elem? state.views n ≡ some view) × (place_of_view view ≡ some 0)) (some-injective 0 seat is)
+      (Seated 0 Idle first 0, refl, refl)
   seat_of_each (suc zero) seat is =
-      subst (λ (n : ℕ). (view : View V) × (get_elem? (both_have_seen value).views n ≡ some view) × (place_of_view view ≡ some 1)) (some-injective 1 seat is)
-      (Seated 1 Idle value 0, refl, refl)
+      subst (λ (n : ℕ). (view : View V) × (get_elem? state.views n ≡ some view) × (place_of_view view ≡ some 1)) (some-injective 1 seat is)
+      (Seated 1 Idle second 0, refl, refl)
   seat_of_each (suc (suc place)) seat is = absurd (some-ne-none seat (sym is))
 
-  making_has_begun : IsBegun since 1 (both_have_seen value) (both_away_with value)
+  making_has_begun : IsBegun since 1 state (both_away_with now)
   unfolding making_index count_of_words
   making_has_begun unmade = let clash : 1 ≡ 0 = unmade in omega (arith, clash)
 
-  view_of_each : (seat : ℕ) (view : View V) → get_elem? (both_have_seen value).views seat ≡ some view
-      → ViewFits since 1 (both_have_seen value) (both_away_with value) seat view
+  view_of_each : (seat : ℕ) (view : View V) → get_elem? state.views seat ≡ some view
+      → ViewFits since 1 state (both_away_with now) seat view
   view_of_each zero view at =
-      subst (ViewFits since 1 (both_have_seen value) (both_away_with value) 0) (some-injective (Seated 0 Idle value 0) view at)
-      (making_has_begun, refl, refl, (value, refl, same 0), (let none : 0 ≤ 0 = omega arith in none))
+      subst (ViewFits since 1 state (both_away_with now) 0) (some-injective (Seated 0 Idle first 0) view at)
+      (making_has_begun, refl, refl, (now, refl, from_first), (let none : 0 ≤ 0 = omega arith in none))
   view_of_each (suc zero) view at =
-      subst (ViewFits since 1 (both_have_seen value) (both_away_with value) 1) (some-injective (Seated 1 Idle value 0) view at)
-      (making_has_begun, refl, refl, (value, refl, same 1), (let none : 0 ≤ 0 = omega arith in none))
+      subst (ViewFits since 1 state (both_away_with now) 1) (some-injective (Seated 1 Idle second 0) view at)
+      (making_has_begun, refl, refl, (now, refl, from_second), (let none : 0 ≤ 0 = omega arith in none))
   view_of_each (suc (suc seat)) view at = absurd (some-ne-none view (sym at))
 
-  both_passes_seen : Rule since 1 (both_have_seen value)
+  both_passes_seen : Rule since 1 state
   unfolding making_index count_of_words
   both_passes_seen = (
-    both_away_with value,
+    both_away_with now,
     record {
       wide = refl;
       unmade = λ empty. let clash : 1 ≡ 0 = empty in absurd (omega (arith, clash));
-      before = λ given. absurd (some-ne-none value given);
+      before = λ given. absurd (some-ne-none now given);
       seated = seat_of_each;
       absent = λ place away. refl;
       sound =
@@ -607,8 +571,12 @@ module _ {V : Type 0} (since : ℕ → V → V → Type 0) (value : V) (same : (
   )
 
 -- Rule
-whatever_is_lent : {V : Type 0} (since : ℕ → V → V → Type 0) (value : V) → ((place : ℕ) → since place value value) → Rule since 1 (both_have_seen value)
-whatever_is_lent since value same = both_passes_seen since value same
+once_both_passes_were_made : Rule raised 1 both_made
+once_both_passes_were_made = both_passes_seen raised 7 5 7 (let kept : 7 ≤ 7 = omega arith in kept) (let risen : 5 ≤ 7 = omega arith in risen)
+
+whatever_is_lent : {V : Type 0} (since : ℕ → V → V → Type 0) (value : V) → ((place : ℕ) → since place value value)
+    → Rule since 1 (both_have_seen value value value)
+whatever_is_lent since value same = both_passes_seen since value value value (same 0) (same 1)
 
 not_in_a_row_without_bells : ¬ Rule raised 1 both_away
 unfolding making_index count_of_words
