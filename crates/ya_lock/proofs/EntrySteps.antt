@@ -56,6 +56,11 @@ pub found_at : {V : Type 0} {seen at : OnWay V} {A : Type 0} {point is : A} (pro
 found_at process_at view found same =
     sym (ap (λ (p : OnWay _). p.walk.process) view) ∙ (sym found ∙ ap process_at same)
 
+-- and so at which level, on its way in
+pub found_entering : {V : Type 0} {seen at : OnWay V} {point is : EntryPoint} (level : ℕ) → seen ≡ at
+    → Entering level point ≡ seen.walk.process → point ≡ is → (l : ℕ) × (at.walk.process ≡ Entering l is)
+found_entering level view found same = (level, found_at (λ p. Entering level p) view found same)
+
 -- where the access of a process on its way in leads
 pub leads : (w new : Walk) (level found : ℕ) (point : EntryPoint) → w.process ≡ Entering level point → new ≡ walk_after w found
     → new.process ≡ entry_next w.levels level w.place point found

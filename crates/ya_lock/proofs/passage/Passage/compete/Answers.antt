@@ -7,7 +7,7 @@ use Rattle.ya_core.specs.declared.process.EntryPoint.TheVariants.{E5, E6, E7, E9
 use Rattle.ya_core.specs.WalkerModel.{Walk, is_waiting, points_ahead}
 use Rattle.ya_lock.specs.inside.Lock.{OnWay}
 use Rattle.ya_lock.proofs.EntryAccesses.{woken_in_tree}
-use Rattle.ya_lock.proofs.EntrySteps.{due_entering, found_at, lost_e5, comes_nearer}
+use Rattle.ya_lock.proofs.EntrySteps.{due_entering, found_at, found_entering, lost_e5, comes_nearer}
 use Rattle.ya_lock.proofs.passage.Passage.compete.Goals as goal
 
 pub ring-requires : goal.ring-requires
@@ -29,10 +29,7 @@ ring-requires g c =
 
 pub write_out-requires : goal.write_out-requires
 write_out-requires g c =
-    let e5 = c.in-Entering-default-E5 in (
-      lit< tt,
-      (e5.field-0, found_at (λ point. Entering e5.field-0 point) c.passage.view_is e5.ensures.value e5.field-1-is),
-    )
+    let e5 = c.in-Entering-default-E5 in (lit< tt, found_entering e5.field-0 c.passage.view_is e5.ensures.value e5.field-1-is)
 
 pub step-requires : goal.step-requires
 step-requires g c =

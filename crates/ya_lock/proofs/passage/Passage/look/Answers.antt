@@ -3,16 +3,13 @@ use Rattle.ya_core.specs.declared.process.Process.{Process}
 use Rattle.ya_core.specs.declared.process.Process.TheVariants.{Entering}
 use Rattle.ya_core.specs.declared.process.EntryPoint.TheVariants.{E8, E10}
 use Rattle.ya_lock.specs.inside.Lock.{HasLooked, OnWay, WayOf}
-use Rattle.ya_lock.proofs.EntrySteps.{due_entering, found_at, looked_e8, looked_e10}
+use Rattle.ya_lock.proofs.EntrySteps.{due_entering, found_entering, looked_e8, looked_e10}
 use Rattle.ya_lock.proofs.passage.Passage.look.Goals as goal
 use Rattle.ya_lock.proofs.passage.Passage.look.Goals.{in-Entering-default-E8, in-Entering-default-E10}
 
 pub write_out-requires : goal.write_out-requires
 write_out-requires g c =
-    let e8 = c.in-Entering-default-E8 in (
-      lit< tt,
-      (e8.field-0, found_at (λ point. Entering e8.field-0 point) c.passage.view_is e8.ensures.value e8.field-1-is),
-    )
+    let e8 = c.in-Entering-default-E8 in (lit< tt, found_entering e8.field-0 c.passage.view_is e8.ensures.value e8.field-1-is)
 
 pub step-requires : goal.step-requires
 step-requires g c =
