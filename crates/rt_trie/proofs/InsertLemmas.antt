@@ -25,8 +25,8 @@ use Rattle.rt_trie.proofs.PairLemmas.{get-none, put-first, put-skip, put-front, 
 use Rattle.rt_trie.proofs.NodeLemmas.{sides_higher, upper_higher, lower_lower, own_lower}
 use Rattle.rt_trie.proofs.PartLemmas.{child_of_parts}
 use Rattle.rt_trie.proofs.LinkLemmas.{if_some_map, if_some_is, IsOn, IsView, pairs_within, sides_of, of_fork, of_full}
-use Rattle.rt_trie.proofs.LinkLemmas.{own_key, key_of_leaf, key_of_full, node_get-unstored, get_left, get_right}
-use Rattle.rt_trie.proofs.LinkLemmas.{get_own}
+use Rattle.rt_trie.proofs.LinkLemmas.{own_key, key_of_leaf, key_of_fork, key_of_full, view_fork, view_full}
+use Rattle.rt_trie.proofs.LinkLemmas.{node_get-unstored, get_left, get_right, get_own}
 
 -- what is within a prefix lies in one of its halves
 pub half_above : (q p : Prefix) → StandsAt q p Above → q.base < middle p → IsChild p false q
@@ -277,6 +277,32 @@ module _ {V A : Type 0} where
         let u = x.again l k (record { lower = x.node.halves.lower; upper = j.stays q true x.node.halves.upper c }) x.node.left_lawful j.lawful in
         put_right old (make l k) q w l r k p v x.node u.0 (u.1, x.needed l k (λ e. ((x.filled h.1 e).0, j.filled))) c j)
         (get_right old q w l r x.node p c) (omega (arith, x.node.count_is, x.counts l k)) (λ e. ap (λ y. make l y) e ∙ x.same)
+
+  -- p is put in on a side of a fork
+  module _ {len base : ℕ} {b : Box (ForkNode V A) A} {n : ForkNode V A} {old : Link V A} (e : old ≡ Fork len base b) (f : n ≡ b.value) (h : IsLawfulTrie old)
+      {p : Prefix} (given after : NewValue V A) (k : Link V A) (done : Bool) where
+    pub insert_left_of_fork : ((q : Prefix) → IsKeyOf len base q → IsChild q false p) → Inserts n.left k p given after done
+        → Inserts old (Fork len base (with_value b (record { prefix = n.prefix; left = k; right = n.right }))) p given after done
+    insert_left_of_fork position =
+        insert_left old n.prefix None n.left n.right k _ p given after done (view_fork b n old e f h.0) h (position n.prefix (key_of_fork b n old e f h.0))
+
+    pub insert_right_of_fork : ((q : Prefix) → IsKeyOf len base q → IsChild q true p) → Inserts n.right k p given after done
+        → Inserts old (Fork len base (with_value b (record { prefix = n.prefix; left = n.left; right = k }))) p given after done
+    insert_right_of_fork position =
+        insert_right old n.prefix None n.left n.right k _ p given after done (view_fork b n old e f h.0) h (position n.prefix (key_of_fork b n old e f h.0))
+
+  -- or of a full node
+  module _ {len base : ℕ} {b : Box (FullNode V A) A} {n : FullNode V A} {old : Link V A} (e : old ≡ Full len base b) (f : n ≡ b.value) (h : IsLawfulTrie old)
+      {p : Prefix} (given after : NewValue V A) (k : Link V A) (done : Bool) where
+    pub insert_left_of_full : ((q : Prefix) → IsKeyOf len base q → IsChild q false p) → Inserts n.left k p given after done
+        → Inserts old (Full len base (with_value b (record { prefix = n.prefix; value = n.value; left = k; right = n.right }))) p given after done
+    insert_left_of_full position =
+        insert_left old n.prefix n.value n.left n.right k _ p given after done (view_full b n old e f h.0) h (position n.prefix (key_of_full b n old e f h.0))
+
+    pub insert_right_of_full : ((q : Prefix) → IsKeyOf len base q → IsChild q true p) → Inserts n.right k p given after done
+        → Inserts old (Full len base (with_value b (record { prefix = n.prefix; value = n.value; left = n.left; right = k }))) p given after done
+    insert_right_of_full position =
+        insert_right old n.prefix n.value n.left n.right k _ p given after done (view_full b n old e f h.0) h (position n.prefix (key_of_full b n old e f h.0))
 
   -- the value of a full node, and what is in the slot, change places
   pub insert_here : {len base : ℕ} (f : Box (FullNode V A) A) (m : FullNode V A) (old : Link V A) (n : ℕ) (p : Prefix)

@@ -1,6 +1,7 @@
 -- What taking a pair out, and then a node that isn't needed, makes of a link.
 use Rattle.std.proofs.Common.{◌≡◌, ℕ, ◌⊎◌, ◌+◌, ◌<◌, Bool, true, false, [], ◌∷◌, ◌++◌, Option, Some, None, inl, inr, refl, sym, subst, ap, ◌∙◌, arith}
 use Rattle.std.specs.Prelude.{Box}
+use Rattle.std.specs.Box.{with_value}
 use Rattle.rt_cidr.specs.declared.prefixes.Prefix.{Prefix}
 use Rattle.rt_trie.specs.declared.nodes.Link.{Link, Empty, Leaf, Fork', Full'}
 use Rattle.rt_trie.specs.declared.nodes.Link.TheVariants.{Fork, Full}
@@ -10,7 +11,7 @@ use Rattle.rt_trie.specs.Map.{Pairs, same_prefix, get, erase}
 use Rattle.rt_trie.specs.declared.nodes.Position.{Position}
 use Rattle.rt_trie.specs.declared.nodes.Position.TheVariants.{Here, Left, Right, Above, Apart}
 use Rattle.rt_trie.proofs.InsertLemmas.{get_above, get_apart, made_full_below}
-use Rattle.rt_trie.specs.Blocks.{IsChild, middle, past}
+use Rattle.rt_trie.specs.Blocks.{IsKeyOf, IsChild, middle, past}
 use Rattle.rt_trie.specs.inside.Blocks.{StandsAt}
 use Rattle.rt_trie.specs.inside.Links.{own_pair, pairs, IsVacant, IsLone, IsLeafOf, IsNode}
 use Rattle.rt_trie.specs.Links.{root, IsLawfulBelow, IsLawfulTrie}
@@ -19,8 +20,8 @@ use Rattle.rt_trie.proofs.OrderLemmas.{same_tells, same_rank}
 use Rattle.rt_cidr.proofs.Promised.{size_pos}
 use Rattle.rt_trie.proofs.PairLemmas.{AllKeys-map, IsOther, IsHigher, IsOther-higher, erase-skip, erase-none, erase-front, erase-here}
 use Rattle.rt_trie.proofs.NodeLemmas.{upper_other, lower_other, own_other, sides_higher}
-use Rattle.rt_trie.proofs.LinkLemmas.{if_some_map, IsView, within_lower, within_upper, sides_of, of_fork, of_full, key_of_full, node_get-unstored}
-use Rattle.rt_trie.proofs.LinkLemmas.{get_left, get_right}
+use Rattle.rt_trie.proofs.LinkLemmas.{if_some_map, IsView, within_lower, within_upper, sides_of, of_fork, of_full, node_get-unstored}
+use Rattle.rt_trie.proofs.LinkLemmas.{key_of_fork, key_of_full, view_fork, view_full, get_left, get_right}
 
 -- a child of a child on a side is a child there
 child_lower : (parent : Prefix) (upper : Bool) (q x : Prefix) → IsChild parent upper q → IsChild q false x → IsChild parent upper x
@@ -125,6 +126,32 @@ module _ {V A : Type 0} where
           record { pairs_are = erase_right old (make l k) q w l r k p x.node u.0 c i; below = u.1; root_is = u.0.root_is ∙ sym x.node.root_is },
           e ∙ sym (get_right old q w l r x.node p c),
         )
+
+  -- the node is a fork
+  module _ {len base : ℕ} {b : Box (ForkNode V A) A} {n : ForkNode V A} {old k : Link V A} {p : Prefix} {gone : Option V}
+      (e : old ≡ Fork len base b) (f : n ≡ b.value) (h : IsLawfulBelow old) where
+    pub taken_left_of_fork : ((q : Prefix) → IsKeyOf len base q → IsChild q false p) → IsErased n.left k p → gone ≡ get (pairs n.left) p
+        → IsHalfway old (Fork len base (with_value b (record { prefix = n.prefix; left = k; right = n.right }))) p × (gone ≡ get (pairs old) p)
+    taken_left_of_fork position =
+        taken_left old n.prefix None n.left n.right k _ p gone (view_fork b n old e f h) (position n.prefix (key_of_fork b n old e f h))
+
+    pub taken_right_of_fork : ((q : Prefix) → IsKeyOf len base q → IsChild q true p) → IsErased n.right k p → gone ≡ get (pairs n.right) p
+        → IsHalfway old (Fork len base (with_value b (record { prefix = n.prefix; left = n.left; right = k }))) p × (gone ≡ get (pairs old) p)
+    taken_right_of_fork position =
+        taken_right old n.prefix None n.left n.right k _ p gone (view_fork b n old e f h) (position n.prefix (key_of_fork b n old e f h))
+
+  -- or a full node
+  module _ {len base : ℕ} {b : Box (FullNode V A) A} {n : FullNode V A} {old k : Link V A} {p : Prefix} {gone : Option V}
+      (e : old ≡ Full len base b) (f : n ≡ b.value) (h : IsLawfulBelow old) where
+    pub taken_left_of_full : ((q : Prefix) → IsKeyOf len base q → IsChild q false p) → IsErased n.left k p → gone ≡ get (pairs n.left) p
+        → IsHalfway old (Full len base (with_value b (record { prefix = n.prefix; value = n.value; left = k; right = n.right }))) p × (gone ≡ get (pairs old) p)
+    taken_left_of_full position =
+        taken_left old n.prefix n.value n.left n.right k _ p gone (view_full b n old e f h) (position n.prefix (key_of_full b n old e f h))
+
+    pub taken_right_of_full : ((q : Prefix) → IsKeyOf len base q → IsChild q true p) → IsErased n.right k p → gone ≡ get (pairs n.right) p
+        → IsHalfway old (Full len base (with_value b (record { prefix = n.prefix; value = n.value; left = n.left; right = k }))) p × (gone ≡ get (pairs old) p)
+    taken_right_of_full position =
+        taken_right old n.prefix n.value n.left n.right k _ p gone (view_full b n old e f h) (position n.prefix (key_of_full b n old e f h))
 
   pub halfway_full_here : {len base : ℕ} (f : Box (FullNode V A) A) (m : FullNode V A) (old : Link V A) (p : Prefix) → old ≡ Full len base f → m ≡ f.value
       → IsLawfulTrie old → p ≡ m.prefix → (b : Box (FullNode V A) A) → b.value.prefix ≡ m.prefix

@@ -1,52 +1,28 @@
 use Rattle.std.proofs.Common.{refl, sym, subst}
 use Rattle.rt_trie.specs.declared.nodes.Position.TheVariants.{Above, Apart}
 use Rattle.rt_trie.specs.inside.Changes.{Inserts}
-use Rattle.rt_trie.proofs.InsertLemmas.{insert_left, insert_right, insert_here}
-use Rattle.rt_trie.proofs.LinkLemmas.{view_fork, view_full, key_of_fork, key_of_full, seen_from, short_fork, short_full}
+use Rattle.rt_trie.proofs.InsertLemmas.{insert_left_of_fork, insert_right_of_fork, insert_left_of_full, insert_right_of_full, insert_here}
+use Rattle.rt_trie.proofs.LinkLemmas.{key_of_fork, key_of_full, seen_from, short_fork, short_full}
 use Rattle.rt_trie.proofs.insertion.+insert.Goals as goal
 
 pub returns-in-Left : goal.returns-in-Left
 returns-in-Left g t c =
-    let d = c.deref_mut in
-    let m = d.result.now in
-    let p = c.args.p in
-    let key = key_of_fork c.in-Fork.fork m c.args.link.now c.in-Fork.is d.ensures.value c.requires.lawful.0 in
-    let position = c.in-Left.ensures m.prefix key in
-    insert_left c.args.link.now m.prefix _ m.left m.right c.insert.new.link _ p c.args.given.now c.insert.new.given c.insert.result
-    (view_fork c.in-Fork.fork m c.args.link.now c.in-Fork.is d.ensures.value c.requires.lawful.0) c.requires.lawful position c.insert.ensures
+    insert_left_of_fork c.in-Fork.is c.deref_mut.ensures.value c.requires.lawful c.args.given.now c.insert.new.given _ _ c.in-Left.ensures c.insert.ensures
 
 pub returns-in-Right : goal.returns-in-Right
 returns-in-Right g t c =
-    let d = c.deref_mut-in-Right in
-    let m = d.result.now in
-    let p = c.args.p in
-    let key = key_of_fork c.in-Fork.fork m c.args.link.now c.in-Fork.is d.ensures.value c.requires.lawful.0 in
-    let position = c.in-Right.ensures m.prefix key in
-    insert_right c.args.link.now m.prefix _ m.left m.right c.insert-in-Right.new.link _ p
-    c.args.given.now c.insert-in-Right.new.given c.insert-in-Right.result
-    (view_fork c.in-Fork.fork m c.args.link.now c.in-Fork.is d.ensures.value c.requires.lawful.0) c.requires.lawful position c.insert-in-Right.ensures
+    insert_right_of_fork c.in-Fork.is c.deref_mut-in-Right.ensures.value c.requires.lawful
+    c.args.given.now c.insert-in-Right.new.given _ _ c.in-Right.ensures c.insert-in-Right.ensures
 
 pub returns-in-Left-position_of : goal.returns-in-Left-position_of
 returns-in-Left-position_of g t c =
-    let d = c.deref_mut-in-Left-position_of in
-    let m = d.result.now in
-    let p = c.args.p in
-    let k = c.insert-in-Left-position_of in
-    let key = key_of_full c.in-Full.full m c.args.link.now c.in-Full.is d.ensures.value c.requires.lawful.0 in
-    let position = c.in-Left-position_of.ensures m.prefix key in
-    insert_left c.args.link.now m.prefix _ m.left m.right k.new.link _ p c.args.given.now k.new.given k.result
-    (view_full c.in-Full.full m c.args.link.now c.in-Full.is d.ensures.value c.requires.lawful.0) c.requires.lawful position k.ensures
+    insert_left_of_full c.in-Full.is c.deref_mut-in-Left-position_of.ensures.value c.requires.lawful
+    c.args.given.now c.insert-in-Left-position_of.new.given _ _ c.in-Left-position_of.ensures c.insert-in-Left-position_of.ensures
 
 pub returns-in-Right-position_of : goal.returns-in-Right-position_of
 returns-in-Right-position_of g t c =
-    let d = c.deref_mut-in-Right-position_of in
-    let m = d.result.now in
-    let p = c.args.p in
-    let k = c.insert-in-Right-position_of in
-    let key = key_of_full c.in-Full.full m c.args.link.now c.in-Full.is d.ensures.value c.requires.lawful.0 in
-    let position = c.in-Right-position_of.ensures m.prefix key in
-    insert_right c.args.link.now m.prefix _ m.left m.right k.new.link _ p c.args.given.now k.new.given k.result
-    (view_full c.in-Full.full m c.args.link.now c.in-Full.is d.ensures.value c.requires.lawful.0) c.requires.lawful position k.ensures
+    insert_right_of_full c.in-Full.is c.deref_mut-in-Right-position_of.ensures.value c.requires.lawful
+    c.args.given.now c.insert-in-Right-position_of.new.given _ _ c.in-Right-position_of.ensures c.insert-in-Right-position_of.ensures
 
 pub returns-in-Here : goal.returns-in-Here
 returns-in-Here g t c =

@@ -4,8 +4,9 @@ use Rattle.rt_trie.specs.declared.nodes.Link.{Link}
 use Rattle.rt_trie.specs.declared.nodes.Position.TheVariants.{Left, Right}
 use Rattle.rt_trie.specs.Map.{get}
 use Rattle.rt_trie.specs.inside.Links.{pairs, count}
-use Rattle.rt_trie.proofs.RemoveLemmas.{IsHalfway, taken_left, taken_right, halfway_full_here, erased_of, erased_same, erased_leaf, fork_none, full_none}
-use Rattle.rt_trie.proofs.LinkLemmas.{short_fork, short_full, key_of_fork, key_of_full, of_full, view_fork, view_full, get_own}
+use Rattle.rt_trie.proofs.RemoveLemmas.{IsHalfway, taken_left_of_fork, taken_right_of_fork, taken_left_of_full, taken_right_of_full, halfway_full_here}
+use Rattle.rt_trie.proofs.RemoveLemmas.{erased_of, erased_same, erased_leaf, fork_none, full_none}
+use Rattle.rt_trie.proofs.LinkLemmas.{short_fork, short_full, key_of_fork, key_of_full, of_full, get_own}
 use Rattle.rt_trie.proofs.removal.+remove.Given.{Over}
 use Rattle.rt_trie.proofs.removal.+remove.Goals as goal
 use Rattle.rt_trie.proofs.removal.+remove.Goals.{Joined-link, in-Fork+in-Left, in-Fork+in-Right}
@@ -66,30 +67,16 @@ halfway g t c =
     let h = c.requires.lawful.0 in
     elim c.match-link.branch [
       | in-Fork+in-Left w ↦
-          let m = w.deref_mut.result.now in
-          let same = w.deref_mut.ensures.value in
-          let position = w.in-Left.ensures m.prefix (key_of_fork w.in-Fork.fork m old w.in-Fork.is same h) in
-          rw (w.link-is, w.gone-is) (taken_left old m.prefix _ m.left m.right w.remove.new.link _ p w.remove.result
-          (view_fork w.in-Fork.fork m old w.in-Fork.is same h) position w.remove.ensures.erased w.remove.ensures.value)
+          rw (w.link-is, w.gone-is) (taken_left_of_fork w.in-Fork.is w.deref_mut.ensures.value h w.in-Left.ensures
+          w.remove.ensures.erased w.remove.ensures.value)
       | in-Fork+in-Right w ↦
-          let m = w.deref_mut-in-Right.result.now in
-          let same = w.deref_mut-in-Right.ensures.value in
-          let position = w.in-Right.ensures m.prefix (key_of_fork w.in-Fork.fork m old w.in-Fork.is same h) in
-          rw (w.link-is, w.gone-is) (taken_right old m.prefix _ m.left m.right w.remove-in-Right.new.link _ p w.remove-in-Right.result
-          (view_fork w.in-Fork.fork m old w.in-Fork.is same h) position w.remove-in-Right.ensures.erased w.remove-in-Right.ensures.value)
+          rw (w.link-is, w.gone-is) (taken_right_of_fork w.in-Fork.is w.deref_mut-in-Right.ensures.value h w.in-Right.ensures
+          w.remove-in-Right.ensures.erased w.remove-in-Right.ensures.value)
       | in-Full+in-Left-position_of w ↦
-          let m = w.deref_mut-in-Left-position_of.result.now in
-          let same = w.deref_mut-in-Left-position_of.ensures.value in
-          let position = w.in-Left-position_of.ensures m.prefix (key_of_full w.in-Full.full m old w.in-Full.is same h) in
-          rw (w.link-is, w.gone-is) (taken_left old m.prefix _ m.left m.right w.remove-in-Left-position_of.new.link _ p w.remove-in-Left-position_of.result
-          (view_full w.in-Full.full m old w.in-Full.is same h) position
+          rw (w.link-is, w.gone-is) (taken_left_of_full w.in-Full.is w.deref_mut-in-Left-position_of.ensures.value h w.in-Left-position_of.ensures
           w.remove-in-Left-position_of.ensures.erased w.remove-in-Left-position_of.ensures.value)
       | in-Full+in-Right-position_of w ↦
-          let m = w.deref_mut-in-Right-position_of.result.now in
-          let same = w.deref_mut-in-Right-position_of.ensures.value in
-          let position = w.in-Right-position_of.ensures m.prefix (key_of_full w.in-Full.full m old w.in-Full.is same h) in
-          rw (w.link-is, w.gone-is) (taken_right old m.prefix _ m.left m.right w.remove-in-Right-position_of.new.link _ p w.remove-in-Right-position_of.result
-          (view_full w.in-Full.full m old w.in-Full.is same h) position
+          rw (w.link-is, w.gone-is) (taken_right_of_full w.in-Full.is w.deref_mut-in-Right-position_of.ensures.value h w.in-Right-position_of.ensures
           w.remove-in-Right-position_of.ensures.erased w.remove-in-Right-position_of.ensures.value)
       | in-Full+in-Here-position_of w ↦
           let m = w.deref_mut-in-Here-position_of.result.now in
