@@ -1,4 +1,4 @@
-use Rattle.std.proofs.Common.{sym, ap, ◌∙◌}
+use Rattle.std.proofs.Common.{ap}
 use Rattle.std.specs.Option.{option_copied}
 use Rattle.rt_trie.specs.Map.{pair_copied}
 use Rattle.rt_trie.proofs.NodeLemmas.{best_stored, best_unstored}

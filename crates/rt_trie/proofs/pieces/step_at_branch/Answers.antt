@@ -1,4 +1,4 @@
-use Rattle.std.proofs.Common.{◌≡◌, ◌≤◌, sym, ap, ◌∙◌, arith}
+use Rattle.std.proofs.Common.{◌≡◌, ◌≤◌, sym, ◌∙◌, arith}
 use Rattle.std.specs.Option.{option_copied}
 use Rattle.rt_cidr.specs.declared.address.Addr.{Addr}
 use Rattle.rt_trie.specs.inside.LookUps.{or_else, last_cover}
@@ -7,7 +7,7 @@ use Rattle.rt_trie.specs.Blocks.{IsKeyOf}
 use Rattle.rt_trie.specs.Map.{pair_copied}
 use Rattle.rt_trie.proofs.BlockLemmas.{middle_of_key}
 use Rattle.rt_trie.proofs.NodeLemmas.{step_left, step_upper, step_none}
-use Rattle.rt_trie.proofs.LinkLemmas.{if_some_map, joined}
+use Rattle.rt_trie.proofs.LinkLemmas.{joined}
 use Rattle.rt_trie.proofs.pieces.step_at_branch.Given.{Over}
 use Rattle.rt_trie.proofs.pieces.step_at_branch.Goals.{After-middle}
 use Rattle.rt_trie.proofs.pieces.step_at_branch.Goals as goal
