@@ -1,6 +1,5 @@
-use Rattle.std.proofs.Common.{refl, sym, subst}
+use Rattle.std.proofs.Common.{refl, sym}
 use Rattle.rt_trie.specs.declared.nodes.Position.TheVariants.{Above, Apart}
-use Rattle.rt_trie.specs.inside.Changes.{Inserts}
 use Rattle.rt_trie.proofs.InsertLemmas.{insert_left_of_fork, insert_right_of_fork, insert_left_of_full, insert_right_of_full, insert_here}
 use Rattle.rt_trie.proofs.LinkLemmas.{key_of_fork, key_of_full, seen_from, short_fork, short_full}
 use Rattle.rt_trie.proofs.insertion.+insert.Goals as goal
@@ -25,9 +24,7 @@ returns-in-Right-position_of g t c =
     c.args.given.now c.insert-in-Right-position_of.new.given _ _ c.in-Right-position_of.ensures c.insert-in-Right-position_of.ensures
 
 pub returns-in-Here : goal.returns-in-Here
-returns-in-Here g t c =
-    let k = c.insert_at_fork in
-    subst (λ l. Inserts l k.new.link c.args.p c.args.given.now k.new.self k.result) (sym c.in-Fork.is) k.ensures
+returns-in-Here g t c = rw c.in-Fork.is c.insert_at_fork.ensures
 
 pub returns-in-Here-position_of : goal.returns-in-Here-position_of
 returns-in-Here-position_of g t c =
@@ -70,24 +67,16 @@ pub position_of-requires-in-Full : goal.position_of-requires-in-Full
 position_of-requires-in-Full g t c = short_full c.in-Full.full c.args.link.now c.in-Full.is c.requires.lawful.0
 
 pub returns-in-Above : goal.returns-in-Above
-returns-in-Above g t c =
-    let k = c.insert_above in
-    subst (λ l. Inserts l k.new.link c.args.p c.args.given.now k.new.self k.result) (sym c.in-Fork.is) k.ensures
+returns-in-Above g t c = rw c.in-Fork.is c.insert_above.ensures
 
 pub returns-in-Apart : goal.returns-in-Apart
-returns-in-Apart g t c =
-    let k = c.insert_beside in
-    subst (λ l. Inserts l k.new.link c.args.p c.args.given.now k.new.self k.result) (sym c.in-Fork.is) k.ensures
+returns-in-Apart g t c = rw c.in-Fork.is c.insert_beside.ensures
 
 pub returns-in-Above-position_of : goal.returns-in-Above-position_of
-returns-in-Above-position_of g t c =
-    let k = c.insert_above-in-Above-position_of in
-    subst (λ l. Inserts l k.new.link c.args.p c.args.given.now k.new.self k.result) (sym c.in-Full.is) k.ensures
+returns-in-Above-position_of g t c = rw c.in-Full.is c.insert_above-in-Above-position_of.ensures
 
 pub returns-in-Apart-position_of : goal.returns-in-Apart-position_of
-returns-in-Apart-position_of g t c =
-    let k = c.insert_beside-in-Apart-position_of in
-    subst (λ l. Inserts l k.new.link c.args.p c.args.given.now k.new.self k.result) (sym c.in-Full.is) k.ensures
+returns-in-Apart-position_of g t c = rw c.in-Full.is c.insert_beside-in-Apart-position_of.ensures
 
 pub insert_at_leaf-requires-clause-leaf : goal.insert_at_leaf-requires-clause-leaf
 insert_at_leaf-requires-clause-leaf g t c = rw c.in-Leaf.is (c.in-Leaf.field-2.value.prefix, refl)
