@@ -241,7 +241,7 @@ module _ (laws : MapLaws) (m : Map) (h : IsMap m) (p : Prefix) where
       let gain : HasGained (offers_at m p) (o ∷ []) o = subst (λ l. HasGained l (o ∷ []) o) (ap offers_in there) (first_gained o) in
       routes_added laws m (put m p (o ∷ [])) h (IsMap-put laws m h p (o ∷ []) (IsOffers-one o)) p (o ∷ []) (put_with laws m h p (o ∷ [])) o fresh gain
 
-module _ (laws : MapLaws) (m : Map) (h : IsMap m) (p : Prefix) (old new : List Offer) (there : Some old ≡ get m p) where
+module _ (laws : MapLaws) {m : Map} (h : IsMap m) (p : Prefix) {old : List Offer} (there : Some old ≡ get m p) where
   -- the offers that stand at the prefix
   at_is : offers_at m p ≡ old
   at_is = ap offers_in (sym there)
@@ -250,39 +250,40 @@ module _ (laws : MapLaws) (m : Map) (h : IsMap m) (p : Prefix) (old new : List O
   pub is_had : (feed : ℕ) → has feed p (routes_of m) ≡ list_any (is_from feed) old
   is_had feed = has-is laws m h feed p ∙ ap (list_any (is_from feed)) at_is
 
-  -- the same offers leave the map as it is
-  pub unchanged : new ≡ old → put m p new ≡ m
-  unchanged same = ap (put m p) same ∙ put_same laws m h p old there
+  module _ {new : List Offer} where
+    -- the same offers leave the map as it is
+    pub unchanged : new ≡ old → put m p new ≡ m
+    unchanged same = ap (put m p) same ∙ put_same laws m h p old there
 
-  -- one offer more
-  pub more : IsOffers new → (o : Offer) → has o.feed p (routes_of m) ≡ false → HasGained old new o
-      → routes_of (put m p new) ≡ put_in (route_by p o) (routes_of m)
-  more lawful o fresh gain =
-      routes_added laws m (put m p new) h (IsMap-put laws m h p new lawful) p new (put_with laws m h p new) o fresh
-      (subst (λ l. HasGained l new o) (sym at_is) gain)
+    -- one offer more
+    pub more : IsOffers new → (o : Offer) → has o.feed p (routes_of m) ≡ false → HasGained old new o
+        → routes_of (put m p new) ≡ put_in (route_by p o) (routes_of m)
+    more lawful o fresh gain =
+        routes_added laws m (put m p new) h (IsMap-put laws m h p new lawful) p new (put_with laws m h p new) o fresh
+        (subst (λ l. HasGained l new o) (sym at_is) gain)
 
-  -- a feed's offer less
-  pub less : IsOffers new → (feed : ℕ) → HasLost old new feed → routes_of (put m p new) ≡ take_out feed p (routes_of m)
-  less lawful feed loss =
-      routes_taken laws m (put m p new) h (IsMap-put laws m h p new lawful) p new (put_with laws m h p new) feed
-      (subst (λ l. HasLost l new feed) (sym at_is) loss)
+    -- a feed's offer less
+    pub less : IsOffers new → (feed : ℕ) → HasLost old new feed → routes_of (put m p new) ≡ take_out feed p (routes_of m)
+    less lawful feed loss =
+        routes_taken laws m (put m p new) h (IsMap-put laws m h p new lawful) p new (put_with laws m h p new) feed
+        (subst (λ l. HasLost l new feed) (sym at_is) loss)
 
-  -- another offer of the feed
-  pub other : IsOffers new → (o : Offer) → HasSwapped old new o true → routes_of (put m p new) ≡ put_in (route_by p o) (take_out o.feed p (routes_of m))
-  other lawful o swap =
-      routes_swapped laws m (put m p new) h (IsMap-put laws m h p new lawful) p new (put_with laws m h p new) o
-      (subst (λ l. HasSwapped l new o true) (sym at_is) swap)
+    -- another offer of the feed
+    pub other : IsOffers new → (o : Offer) → HasSwapped old new o true → routes_of (put m p new) ≡ put_in (route_by p o) (take_out o.feed p (routes_of m))
+    other lawful o swap =
+        routes_swapped laws m (put m p new) h (IsMap-put laws m h p new lawful) p new (put_with laws m h p new) o
+        (subst (λ l. HasSwapped l new o true) (sym at_is) swap)
 
-  -- the only offer goes with its prefix
-  pub last_gone : new ≡ old → (feed : ℕ) (o : Offer) → old ≡ o ∷ [] → is_from feed o ≡ true → routes_of (erase (put m p new) p) ≡ take_out feed p (routes_of m)
-  last_gone same feed o only own =
-      ap (λ n. routes_of (erase n p)) (unchanged same)
-      ∙ routes_taken laws m (erase m p) h (IsMap-erase laws m h p) p [] (erase_with laws m h p) feed
-      (subst (λ l. HasLost l [] feed) (sym (at_is ∙ only)) (only_lost feed o own))
+    -- the only offer goes with its prefix
+    pub last_gone : new ≡ old → (feed : ℕ) (o : Offer) → old ≡ o ∷ [] → is_from feed o ≡ true → routes_of (erase (put m p new) p) ≡ take_out feed p (routes_of m)
+    last_gone same feed o only own =
+        ap (λ n. routes_of (erase n p)) (unchanged same)
+        ∙ routes_taken laws m (erase m p) h (IsMap-erase laws m h p) p [] (erase_with laws m h p) feed
+        (subst (λ l. HasLost l [] feed) (sym (at_is ∙ only)) (only_lost feed o own))
 
-  -- and the rest is a map
-  pub last_map : new ≡ old → IsMap (erase (put m p new) p)
-  last_map same = subst (λ n. IsMap (erase n p)) (sym (unchanged same)) (IsMap-erase laws m h p)
+    -- and the rest is a map
+    pub last_map : new ≡ old → IsMap (erase (put m p new) p)
+    last_map same = subst (λ n. IsMap (erase n p)) (sym (unchanged same)) (IsMap-erase laws m h p)
 
 -- the only offer is the feed's, so the feed has one
 pub one_is_from : (feed : ℕ) (offers : List Offer) (o : Offer) → offers ≡ o ∷ [] → is_from feed o ≡ true → list_any (is_from feed) offers ≡ true

@@ -10,13 +10,10 @@ put-requires g c = rw c.offer_of-offer.ensures (list_any-none (is_from c.args.ro
 
 pub returns-then-has-clause-had : goal.returns-then-has-clause-had
 returns-then-has-clause-had g c =
-    sym (is_had c.map_laws.ensures c.args.map.now.pairs c.requires c.args.route.prefix c.in-Some.offers.now c.in-Some.offers.now c.in-Some.ensures.value
-    c.args.route.feed ∙ sym c.has.ensures ∙ c.if-has.true)
+    sym (is_had c.map_laws.ensures c.requires c.args.route.prefix c.in-Some.ensures.value c.args.route.feed ∙ sym c.has.ensures ∙ c.if-has.true)
 
 pub returns-then-has-clause-kept : goal.returns-then-has-clause-kept
-returns-then-has-clause-kept g c =
-    λ yes. unchanged c.map_laws.ensures c.args.map.now.pairs c.requires c.args.route.prefix c.in-Some.offers.now c.in-Some.offers.now c.in-Some.ensures.value
-    refl
+returns-then-has-clause-kept g c = λ yes. unchanged c.map_laws.ensures c.requires c.args.route.prefix c.in-Some.ensures.value refl
 
 pub returns-then-has-clause-map : goal.returns-then-has-clause-map
 returns-then-has-clause-map g c =
@@ -33,30 +30,25 @@ pub returns-in_err-put-clause-refused : goal.returns-in_err-put-clause-refused
 returns-in_err-put-clause-refused g c =
     err_from c.from_residual.result
     (ap (λ (pairs : Map). record c.args.map.now { pairs = pairs })
-    (unchanged c.map_laws.ensures c.args.map.now.pairs c.requires c.args.route.prefix c.in-Some.offers.now c.put.new.self c.in-Some.ensures.value
-    c.in_err-put.ensures.refused))
+    (unchanged c.map_laws.ensures c.requires c.args.route.prefix c.in-Some.ensures.value c.in_err-put.ensures.refused))
 
 pub returns-in_err-put-clause-wanted : goal.returns-in_err-put-clause-wanted
 returns-in_err-put-clause-wanted g c =
     err_from c.from_residual.result
-    (is_had c.map_laws.ensures c.args.map.now.pairs c.requires c.args.route.prefix c.in-Some.offers.now c.put.new.self c.in-Some.ensures.value
-    c.args.route.feed ∙ sym c.has.ensures ∙ c.if-has.false)
+    (is_had c.map_laws.ensures c.requires c.args.route.prefix c.in-Some.ensures.value c.args.route.feed ∙ sym c.has.ensures ∙ c.if-has.false)
 
 pub returns-in_err-put-clause-map : goal.returns-in_err-put-clause-map
 returns-in_err-put-clause-map g c = IsMap-put c.map_laws.ensures c.args.map.now.pairs c.requires c.args.route.prefix c.put.new.self c.put.ensures.lawful
 
 pub returns-in-Some-clause-had : goal.returns-in-Some-clause-had
 returns-in-Some-clause-had g c =
-    sym (is_had c.map_laws.ensures c.args.map.now.pairs c.requires c.args.route.prefix c.in-Some.offers.now c.put.new.self c.in-Some.ensures.value
-    c.args.route.feed ∙ sym c.has.ensures ∙ c.if-has.false)
+    sym (is_had c.map_laws.ensures c.requires c.args.route.prefix c.in-Some.ensures.value c.args.route.feed ∙ sym c.has.ensures ∙ c.if-has.false)
 
 pub returns-in-Some-clause-more : goal.returns-in-Some-clause-more
 returns-in-Some-clause-more g c =
     λ fresh.
-    more c.map_laws.ensures c.args.map.now.pairs c.requires c.args.route.prefix c.in-Some.offers.now c.put.new.self c.in-Some.ensures.value
-    c.put.ensures.lawful (offer_of c.args.route)
-    (is_had c.map_laws.ensures c.args.map.now.pairs c.requires c.args.route.prefix c.in-Some.offers.now c.put.new.self c.in-Some.ensures.value
-    c.args.route.feed ∙ sym c.has.ensures ∙ c.if-has.false)
+    more c.map_laws.ensures c.requires c.args.route.prefix c.in-Some.ensures.value c.put.ensures.lawful (offer_of c.args.route)
+    (is_had c.map_laws.ensures c.requires c.args.route.prefix c.in-Some.ensures.value c.args.route.feed ∙ sym c.has.ensures ∙ c.if-has.false)
     (rw c.offer_of-offer.ensures at c.in_ok-put.ensures.ok)
 
 pub returns-in-Some-clause-map : goal.returns-in-Some-clause-map

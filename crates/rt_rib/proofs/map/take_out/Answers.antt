@@ -7,28 +7,22 @@ pub returns-in-None-clause-had : goal.returns-in-None-clause-had
 returns-in-None-clause-had g c = sym (none_had c.map_laws.ensures c.args.map.now.pairs c.requires c.args.prefix c.args.feed c.in-None.ensures.value)
 
 pub returns-in-Missing-clause-had : goal.returns-in-Missing-clause-had
-returns-in-Missing-clause-had g c =
-    sym (is_had c.map_laws.ensures c.args.map.now.pairs c.requires c.args.prefix c.in-Some.offers.now c.take_out-taken.new.self c.in-Some.ensures.value
-    c.args.feed ∙ c.in-Missing.ensures.taken.1)
+returns-in-Missing-clause-had g c = sym (is_had c.map_laws.ensures c.requires c.args.prefix c.in-Some.ensures.value c.args.feed ∙ c.in-Missing.ensures.taken.1)
 
 pub returns-in-Missing-clause-kept : goal.returns-in-Missing-clause-kept
-returns-in-Missing-clause-kept g c =
-    λ none. unchanged c.map_laws.ensures c.args.map.now.pairs c.requires c.args.prefix c.in-Some.offers.now c.take_out-taken.new.self c.in-Some.ensures.value
-    c.in-Missing.ensures.taken.0
+returns-in-Missing-clause-kept g c = λ none. unchanged c.map_laws.ensures c.requires c.args.prefix c.in-Some.ensures.value c.in-Missing.ensures.taken.0
 
 pub returns-in-Missing-clause-map : goal.returns-in-Missing-clause-map
 returns-in-Missing-clause-map g c =
     IsMap-put c.map_laws.ensures c.args.map.now.pairs c.requires c.args.prefix c.take_out-taken.new.self c.in-Missing.ensures.lawful
 
 pub returns-in-Gone-clause-had : goal.returns-in-Gone-clause-had
-returns-in-Gone-clause-had g c =
-    sym (is_had c.map_laws.ensures c.args.map.now.pairs c.requires c.args.prefix c.in-Some.offers.now c.take_out-taken.new.self c.in-Some.ensures.value
-    c.args.feed ∙ c.in-Gone.ensures.taken.1)
+returns-in-Gone-clause-had g c = sym (is_had c.map_laws.ensures c.requires c.args.prefix c.in-Some.ensures.value c.args.feed ∙ c.in-Gone.ensures.taken.1)
 
 pub returns-in-Gone-clause-gone : goal.returns-in-Gone-clause-gone
 returns-in-Gone-clause-gone g c =
-    λ some. less c.map_laws.ensures c.args.map.now.pairs c.requires c.args.prefix c.in-Some.offers.now c.take_out-taken.new.self c.in-Some.ensures.value
-    c.in-Gone.ensures.lawful c.args.feed
+    λ some.
+    less c.map_laws.ensures c.requires c.args.prefix c.in-Some.ensures.value c.in-Gone.ensures.lawful c.args.feed
     (lost c.args.feed c.in-Some.offers.now c.take_out-taken.new.self c.in-Gone.ensures.taken.0)
 
 pub returns-in-Gone-clause-map : goal.returns-in-Gone-clause-map
@@ -37,19 +31,16 @@ returns-in-Gone-clause-map g c = IsMap-put c.map_laws.ensures c.args.map.now.pai
 pub returns-in-Last-clause-had : goal.returns-in-Last-clause-had
 returns-in-Last-clause-had g c =
     let only = c.in-Last.ensures.taken.1 in
-    sym (is_had c.map_laws.ensures c.args.map.now.pairs c.requires c.args.prefix c.in-Some.offers.now c.take_out-taken.new.self c.in-Some.ensures.value
-    c.args.feed ∙ one_is_from c.args.feed c.in-Some.offers.now only.0 only.1 only.2)
+    sym (is_had c.map_laws.ensures c.requires c.args.prefix c.in-Some.ensures.value c.args.feed
+    ∙ one_is_from c.args.feed c.in-Some.offers.now only.0 only.1 only.2)
 
 pub returns-in-Last-clause-gone : goal.returns-in-Last-clause-gone
 returns-in-Last-clause-gone g c =
     let only = c.in-Last.ensures.taken.1 in
     λ some.
     rw c.remove.ensures.erased
-    (last_gone c.map_laws.ensures c.args.map.now.pairs c.requires c.args.prefix c.in-Some.offers.now c.take_out-taken.new.self c.in-Some.ensures.value
-    c.in-Last.ensures.taken.0 c.args.feed only.0 only.1 only.2)
+    (last_gone c.map_laws.ensures c.requires c.args.prefix c.in-Some.ensures.value c.in-Last.ensures.taken.0 c.args.feed only.0 only.1 only.2)
 
 pub returns-in-Last-clause-map : goal.returns-in-Last-clause-map
 returns-in-Last-clause-map g c =
-    rw c.remove.ensures.erased
-    (last_map c.map_laws.ensures c.args.map.now.pairs c.requires c.args.prefix c.in-Some.offers.now c.take_out-taken.new.self c.in-Some.ensures.value
-    c.in-Last.ensures.taken.0)
+    rw c.remove.ensures.erased (last_map c.map_laws.ensures c.requires c.args.prefix c.in-Some.ensures.value c.in-Last.ensures.taken.0)
