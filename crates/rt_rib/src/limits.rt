@@ -12,12 +12,12 @@ pub const MOST_ROUTES: u32 = 1_000_000;
 pub fn limit_ok(limit: u32) -> bool
     ensures { IsTrue result ↔ IsLimit limit }
 {
-    1 <= limit && limit <= MOST_ROUTES
+    (1..=MOST_ROUTES).contains(&limit)
 }
 
 /// Whether a feed may have this number: 1 to [`MOST_FEEDS`].
 pub fn feed_ok(feed: u32) -> bool
     ensures { IsTrue result ↔ IsFeed feed }
 {
-    1 <= feed && feed as usize <= MOST_FEEDS
+    (1..=MOST_FEEDS).contains(&(feed as usize))
 }
