@@ -67,6 +67,13 @@ fn put_all<A: Allocator + Copy>(rt: &impl Abort, trie: &mut Trie<u32, A>, pairs:
     }
 }
 
+/// The first prefixes with the values 1, 2 and so on.
+fn trie_of(rt: &impl Abort, alloc: Global, texts: &[&str]) -> Trie<u32, Global> {
+    let mut trie = Trie::new(alloc);
+    put_all(rt, &mut trie, &numbered(rt, alloc, texts));
+    trie
+}
+
 fn put_eighths<A: Allocator + Copy>(rt: &impl Abort, trie: &mut Trie<u32, A>) {
     for k in 1..65u32 {
         put_new(rt, trie, eighth(rt, k), k);
@@ -214,11 +221,18 @@ fn assert_found<A: Allocator + Copy>(
     }
 }
 
-/// All memory that the region still has, in blocks of its least size.
-fn all_the_rest<'h>(rt: &impl Abort, alloc: Global, heap: &'h LocalHeap) -> Blocks<'h> {
+/// The pairs in a region that is full with them and these blocks.
+fn hold_all<'h>(
+    rt: &impl Abort,
+    alloc: Global,
+    heap: &'h LocalHeap,
+    pairs: &[(Prefix, u32)],
+) -> (Trie<u32, &'h LocalHeap>, Blocks<'h>) {
+    let mut trie = Trie::new(heap);
+    put_all(rt, &mut trie, pairs);
     let mut blocks = Vec::new(alloc);
     take_all(rt, heap, &mut blocks);
-    blocks
+    (trie, blocks)
 }
 
 /// The blocks that a region is filled with.
@@ -245,13 +259,8 @@ fn write_at<A: Allocator + Copy>(rt: &impl Abort, trie: &mut Trie<u32, A>, p: Pr
 
 #[test]
 fn a_branch_without_a_value_goes_with_its_branches(rt: HostRuntime) {
-    let mut trie = Trie::new(rt.alloc());
-    let pairs = numbered(
-        &rt,
-        rt.alloc(),
-        &["10.0.0.0/8", "10.1.0.0/16", "10.2.0.0/16"],
-    );
-    put_all(&rt, &mut trie, &pairs);
+    let texts = ["10.0.0.0/8", "10.1.0.0/16", "10.2.0.0/16"];
+    let mut trie = trie_of(&rt, rt.alloc(), &texts);
     assert_counts(&rt, &trie, 3, 4);
     take_out(&rt, &mut trie, prefix(&rt, "10.1.0.0/16"), Some(2));
     assert_counts(&rt, &trie, 2, 2);

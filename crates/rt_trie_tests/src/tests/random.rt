@@ -112,10 +112,14 @@ fn compare<A: Allocator + Copy>(rt: &impl Abort, trie: &Trie<u32, A>, list: &Pla
     assert_same(rt, "longest", longest(trie, a), list.longest(a));
 }
 
+/// A trie and a list, both empty.
+fn both(alloc: Global) -> (Trie<u32, Global>, PlainList) {
+    (Trie::new(alloc), PlainList::new(alloc))
+}
+
 #[test]
 fn random_changes_beside_a_sorted_list(rt: HostRuntime) {
-    let mut trie = Trie::new(rt.alloc());
-    let mut list = PlainList::new(rt.alloc());
+    let (mut trie, mut list) = both(rt.alloc());
     let mut seed = 1u64;
     for step in 0..20_000u32 {
         seed = next_number(seed);
@@ -176,17 +180,17 @@ fn sieve_both<A: Allocator + Copy>(
 
 #[test]
 fn sieves_beside_a_sorted_list(rt: HostRuntime) {
-    let mut trie = Trie::new(rt.alloc());
-    let mut list = PlainList::new(rt.alloc());
+    let (mut trie, mut list) = both(rt.alloc());
     let mut seed = 5u64;
-    for step in 0..6_000u32 {
-        seed = next_number(seed);
-        insert_both(&rt, &mut trie, &mut list, any_prefix(&rt, seed), step);
-        if step % 60 == 59 {
-            // Some stop before the end, and some see all.
-            let remaining = (seed >> 33 & 0x7f) as u32;
-            sieve_both(&rt, rt.alloc(), &mut trie, &mut list, seed, remaining);
+    for round in 0..100u32 {
+        for step in 0..60u32 {
+            seed = next_number(seed);
+            let value = 60 * round + step;
+            insert_both(&rt, &mut trie, &mut list, any_prefix(&rt, seed), value);
         }
+        // Some stop before the end, and some see all.
+        let remaining = (seed >> 33 & 0x7f) as u32;
+        sieve_both(&rt, rt.alloc(), &mut trie, &mut list, seed, remaining);
     }
     sieve_both(&rt, rt.alloc(), &mut trie, &mut list, seed, 0);
 }

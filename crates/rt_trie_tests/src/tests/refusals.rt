@@ -1,9 +1,9 @@
 //! Insertions that succeed, and those that are refused memory, which change nothing to be seen.
 
 use super::{
-    Blocks, STORED, all_the_rest, assert_after, assert_counts, assert_found, assert_longest,
-    assert_pairs, assert_same, assert_value, eighth, numbered, prefix, put_all, put_over, region,
-    take_all, take_out, write_at,
+    Blocks, STORED, assert_after, assert_counts, assert_found, assert_longest, assert_pairs,
+    assert_same, assert_value, eighth, hold_all, numbered, prefix, put_over, region, take_all,
+    take_out, write_at,
 };
 use linked_list_allocator::LocalHeap;
 use rt_cidr::Prefix;
@@ -105,9 +105,7 @@ fn refuse_each_box(
     pairs: &[(Prefix, u32)],
     p: Prefix,
 ) {
-    let mut trie: Trie<u32, &LocalHeap> = Trie::new(heap);
-    put_all(rt, &mut trie, pairs);
-    let mut blocks = all_the_rest(rt, alloc, heap);
+    let (mut trie, mut blocks) = hold_all(rt, alloc, heap, pairs);
     assert!(rt; refusals(rt, heap, &mut blocks, &mut trie, pairs, p) > 0);
     assert_value(rt, &trie, p, Some(7));
     assert_same(rt, "prefixes", trie.len(), pairs.len().wrapping_add(1));
@@ -164,20 +162,11 @@ fn each_box_of_each_insertion_refused_in_turn(rt: HostRuntime) {
     }
 }
 
-/// Each removal in a region that is full: a leaf below a fork, a full node with one branch, one with two.
-fn take_each<'h>(
-    rt: &impl Abort,
-    heap: &'h LocalHeap,
-    blocks: &mut Blocks<'h>,
-    trie: &mut Trie<u32, &'h LocalHeap>,
-    pairs: &[(Prefix, u32)],
-) {
-    for (p, value) in pairs {
-        assert_value(rt, trie, *p, Some(*value));
-        take_out(rt, trie, *p, Some(*value));
-        take_out(rt, trie, *p, None);
-        take_all(rt, heap, blocks);
-    }
+/// Takes out a pair, which is there until then.
+fn take_one<A: Allocator + Copy>(rt: &impl Abort, trie: &mut Trie<u32, A>, p: Prefix, value: u32) {
+    assert_value(rt, trie, p, Some(value));
+    take_out(rt, trie, p, Some(value));
+    take_out(rt, trie, p, None);
 }
 
 /// What is asked where nothing is put in.
@@ -198,14 +187,16 @@ fn assert_answers<A: Allocator + Copy>(
 #[test]
 fn nothing_but_an_insertion_asks_for_memory(rt: HostRuntime) {
     let heap = region(&rt, rt.alloc(), 2_048);
-    let mut trie: Trie<u32, &LocalHeap> = Trie::new(&heap);
     let pairs = numbered(&rt, rt.alloc(), &STORED);
-    put_all(&rt, &mut trie, &pairs);
-    let mut blocks = all_the_rest(&rt, rt.alloc(), &heap);
+    let (mut trie, mut blocks) = hold_all(&rt, rt.alloc(), &heap, &pairs);
     assert_answers(&rt, &trie, &pairs);
     put_over(&rt, &mut trie, prefix(&rt, "10.0.0.0/8"), 20, 2);
     write_at(&rt, &mut trie, prefix(&rt, "10.0.0.0/8"), 2);
-    take_each(&rt, &heap, &mut blocks, &mut trie, &pairs);
+    // Each removal in a region that is full: a leaf below a fork, a full node with one branch, one with two.
+    for (p, value) in &pairs {
+        take_one(&rt, &mut trie, *p, *value);
+        take_all(&rt, &heap, &mut blocks);
+    }
     assert_counts(&rt, &trie, 0, 0);
     assert_pairs(&rt, &trie, &[]);
 }

@@ -3,8 +3,8 @@
 ghost use Rattle.std.specs.Prelude.{false};
 
 use super::{
-    STORED, all_the_rest, assert_counts, assert_same, assert_value, covering, eighth, numbered,
-    prefix, put_all, region, take_all,
+    STORED, assert_counts, assert_same, assert_value, covering, eighth, hold_all, numbered, prefix,
+    region, take_all,
 };
 use linked_list_allocator::LocalHeap;
 use rt_cidr::Prefix;
@@ -36,10 +36,8 @@ impl<V> Sieve<V> for OfLength {
 #[test]
 fn a_sieve_needs_no_memory(rt: HostRuntime) {
     let heap = region(&rt, rt.alloc(), 2_048);
-    let mut trie: Trie<u32, &LocalHeap> = Trie::new(&heap);
     let pairs = numbered(&rt, rt.alloc(), &STORED);
-    put_all(&rt, &mut trie, &pairs);
-    let mut blocks = all_the_rest(&rt, rt.alloc(), &heap);
+    let (mut trie, mut blocks) = hold_all(&rt, rt.alloc(), &heap, &pairs);
     trie.retain(&mut OfLength { len: 16 });
     assert_counts(&rt, &trie, 2, 3);
     assert_value(&rt, &trie, prefix(&rt, "10.1.0.0/16"), Some(3));

@@ -2,7 +2,7 @@
 //! all that covers an address.
 
 use super::random::{PlainList, insert_both};
-use super::{assert_same, covering, longest, numbered, numbered_prefix, prefix, put_all, put_new};
+use super::{assert_same, covering, longest, numbered_prefix, prefix, put_new, trie_of};
 use rt_cidr::{Addr, Prefix};
 use rt_trie::{Covering, Trie};
 use std::alloc::{Allocator, Global};
@@ -147,13 +147,8 @@ fn answers_at_both_ends(rt: HostRuntime) {
 /// An answer goes on past what has no prefix longer than its own, however many of the halves that it lies in are empty.
 #[test]
 fn an_answer_goes_up_to_the_next_border(rt: HostRuntime) {
-    let mut trie = Trie::new(rt.alloc());
-    let pairs = numbered(
-        &rt,
-        rt.alloc(),
-        &["10.0.0.0/8", "10.0.0.0/16", "10.200.0.0/16"],
-    );
-    put_all(&rt, &mut trie, &pairs);
+    let texts = ["10.0.0.0/8", "10.0.0.0/16", "10.200.0.0/16"];
+    let trie = trie_of(&rt, rt.alloc(), &texts);
     let wide = Some((prefix(&rt, "10.0.0.0/8"), 1));
     assert_until(&rt, &trie, 0, None, 0x09ff_ffff);
     assert_until(
