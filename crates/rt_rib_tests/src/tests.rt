@@ -37,6 +37,10 @@ fn add(prefix: Prefix, pref: u32, feed: u8) -> Cmd {
     }
 }
 
+fn look_up(addr: Addr) -> Cmd {
+    Cmd::Lookup { addr }
+}
+
 /// A route of the worked run, whose next hop has the number of its feed.
 fn route(prefix: Prefix, feed: u8, pref: u32) -> Route {
     Route {
@@ -123,9 +127,7 @@ fn worked_run(rt: HostRuntime) {
     let wide = prefix(&rt, addr(10, 0, 0, 0), 8);
     let narrow = prefix(&rt, addr(10, 0, 0, 0), 16);
     let other = prefix(&rt, addr(11, 0, 0, 0), 8);
-    let look_up = Cmd::Lookup {
-        addr: addr(10, 0, 0, 1),
-    };
+    let look_up = look_up(addr(10, 0, 0, 1));
     let replace = Cmd::Replace {
         prefix: wide,
         pref: 4,
@@ -152,12 +154,10 @@ fn worked_run(rt: HostRuntime) {
 
 #[test]
 fn nodes_come_and_go_with_their_prefixes(rt: HostRuntime) {
+    let look_up = look_up(addr(10, 1, 2, 3));
     let wide = prefix(&rt, addr(10, 0, 0, 0), 8);
     let one = prefix(&rt, addr(10, 1, 0, 0), 16);
     let two = prefix(&rt, addr(10, 2, 0, 0), 16);
-    let look_up = Cmd::Lookup {
-        addr: addr(10, 1, 2, 3),
-    };
     let rows = [
         (1, add(wide, 10, 1), Reply::Added, 1),
         (1, add(one, 10, 1), Reply::Added, 2),
@@ -220,9 +220,7 @@ fn a_purged_feed_starts_anew(rt: HostRuntime) {
         pref: 0,
         hop: Hop::Discard,
     };
-    let look_up = Cmd::Lookup {
-        addr: addr(10, 1, 2, 3),
-    };
+    let look_up = look_up(addr(10, 1, 2, 3));
     let rows = [
         (1, add(wide, 1, 1), Reply::Added, 1),
         (3, add(narrow, 1, 3), Reply::Added, 2),

@@ -51,8 +51,7 @@ fn ask_both<A: Allocator + Copy>(
     rt: &impl Abort,
     book: &mut Book<A>,
     idle: &mut Book<A>,
-    feed: u32,
-    cmd: Cmd,
+    (feed, cmd): (u32, Cmd),
 ) {
     answered(rt, book, feed, cmd);
     answered(rt, idle, 1, Cmd::Dump);
@@ -61,6 +60,17 @@ fn ask_both<A: Allocator + Copy>(
 /// How many requests more were made for the routes of a book than for its entries alone.
 fn asked_for_routes(memory: &Counted<Global>, other: &Counted<Global>) -> u64 {
     memory.asked().wrapping_sub(other.asked())
+}
+
+/// Compares how many requests more were made for the routes than for the entries.
+fn assert_asked(
+    rt: &impl Abort,
+    what: &str,
+    memory: &Counted<Global>,
+    other: &Counted<Global>,
+    wanted: u64,
+) {
+    assert_same(rt, what, asked_for_routes(memory, other), wanted);
 }
 
 /// A thousand look-ups of each kind, dumps and replacements.
@@ -77,9 +87,9 @@ fn look_up_and_replace<A: Allocator + Copy>(
         book.holds();
         let prefix = nth(rt, k % PREFIXES);
         let (pref, hop) = (k, via(1));
-        ask_both(rt, book, idle, 1, Cmd::Lookup { addr });
-        ask_both(rt, book, idle, 1, Cmd::Dump);
-        ask_both(rt, book, idle, 1, Cmd::Replace { prefix, pref, hop });
+        ask_both(rt, book, idle, (1, Cmd::Lookup { addr }));
+        ask_both(rt, book, idle, (1, Cmd::Dump));
+        ask_both(rt, book, idle, (1, Cmd::Replace { prefix, pref, hop }));
     }
 }
 
@@ -88,9 +98,9 @@ fn empty<A: Allocator + Copy>(rt: &impl Abort, book: &mut Book<A>, idle: &mut Bo
     for feed in 1..=u32::from(FEEDS) {
         for half in 0..PREFIXES / 2 {
             let prefix = nth(rt, 2 * half);
-            ask_both(rt, book, idle, feed, Cmd::Withdraw { prefix });
+            ask_both(rt, book, idle, (feed, Cmd::Withdraw { prefix }));
         }
-        ask_both(rt, book, idle, feed, Cmd::Purge);
+        ask_both(rt, book, idle, (feed, Cmd::Purge));
     }
 }
 
@@ -110,7 +120,7 @@ fn nothing_but_the_journal_and_an_add_asks_for_memory(rt: HostRuntime) {
     empty(&rt, &mut book, &mut idle);
     assert_same(&rt, "entries", book.journal().len(), idle.journal().len());
     assert_same(&rt, "nodes", book.nodes(), 0);
-    assert_same(&rt, "requests", asked_for_routes(&memory, &other), routes);
+    assert_asked(&rt, "requests", &memory, &other, routes);
 }
 
 /// Looks up all that covers the k-th prefix, and makes a list of as many routes one by one.
@@ -255,11 +265,24 @@ fn narrow(rt: &impl Abort, k: u32) -> Prefix {
 /// Feed 1 adds a route to each of the prefixes of the large book, and feed 64 one to every other.
 fn fill_many<A: Allocator + Copy>(rt: &impl Abort, book: &mut Book<A>, idle: &mut Book<A>) {
     for k in 0..MANY {
-        ask_both(rt, book, idle, 1, add(narrow(rt, k), k, 1));
+        ask_both(rt, book, idle, (1, add(narrow(rt, k), k, 1)));
         if k % 2 == 0 {
-            ask_both(rt, book, idle, 64, add(narrow(rt, k), k, 64));
+            ask_both(rt, book, idle, (64, add(narrow(rt, k), k, 64)));
         }
     }
+}
+
+/// The large book, and one with as long a journal and no route.
+fn large_book<'m>(
+    rt: &impl Abort,
+    memory: &'m Counted<Global>,
+    other: &'m Counted<Global>,
+) -> (Book<&'m Counted<Global>>, Book<&'m Counted<Global>>) {
+    let mut book = Book::new(memory, MOST_ROUTES);
+    let mut idle = Book::new(other, MOST_ROUTES);
+    assert_same(rt, "new", memory.asked(), 0);
+    fill_many(rt, &mut book, &mut idle);
+    (book, idle)
 }
 
 /// A look-up, a dump and a replacement at each of the prefixes of the large book, all of them read ahead.
@@ -275,7 +298,7 @@ fn ask_at_each<A: Allocator + Copy>(rt: &impl Abort, book: &mut Book<A>, idle: &
         ];
         book.read_ahead(&cmds);
         for cmd in cmds {
-            ask_both(rt, book, idle, 1, cmd);
+            ask_both(rt, book, idle, (1, cmd));
         }
     }
 }
@@ -297,10 +320,10 @@ fn look_up_each<A: Allocator + Copy>(rt: &impl Abort, alloc: Global, book: &Book
 fn empty_many<A: Allocator + Copy>(rt: &impl Abort, book: &mut Book<A>, idle: &mut Book<A>) {
     for k in 0..MANY / 2 {
         let prefix = narrow(rt, k);
-        ask_both(rt, book, idle, 1, Cmd::Withdraw { prefix });
+        ask_both(rt, book, idle, (1, Cmd::Withdraw { prefix }));
     }
-    ask_both(rt, book, idle, 1, Cmd::Purge);
-    ask_both(rt, book, idle, 64, Cmd::Purge);
+    ask_both(rt, book, idle, (1, Cmd::Purge));
+    ask_both(rt, book, idle, (64, Cmd::Purge));
     assert_same(rt, "nodes", book.nodes(), 0);
     assert_same(rt, "entries", book.journal().len(), idle.journal().len());
 }
@@ -312,29 +335,16 @@ fn empty_many<A: Allocator + Copy>(rt: &impl Abort, book: &mut Book<A>, idle: &m
 fn a_large_book_asks_for_its_entries_and_routes_alone(rt: HostRuntime) {
     let memory = Counted::new(rt.alloc());
     let other = Counted::new(rt.alloc());
-    let mut book = Book::new(&memory, MOST_ROUTES);
-    let mut idle = Book::new(&other, MOST_ROUTES);
-    assert_same(&rt, "new", memory.asked(), 0);
-    fill_many(&rt, &mut book, &mut idle);
+    let (mut book, mut idle) = large_book(&rt, &memory, &other);
     // A leaf for each prefix and a fork for all but one, and a box and a list for each second offer.
     let routes = 3 * u64::from(MANY) - 1;
-    assert_same(&rt, "add", asked_for_routes(&memory, &other), routes);
+    assert_asked(&rt, "add", &memory, &other, routes);
     ask_at_each(&rt, &mut book, &mut idle);
-    assert_same(
-        &rt,
-        "a command at each",
-        asked_for_routes(&memory, &other),
-        routes,
-    );
+    assert_asked(&rt, "a command at each", &memory, &other, routes);
     look_up_each(&rt, rt.alloc(), &book);
-    assert_same(&rt, "look_up", asked_for_routes(&memory, &other), routes);
+    assert_asked(&rt, "look_up", &memory, &other, routes);
     empty_many(&rt, &mut book, &mut idle);
-    assert_same(
-        &rt,
-        "withdraw and purge",
-        asked_for_routes(&memory, &other),
-        routes,
-    );
+    assert_asked(&rt, "withdraw and purge", &memory, &other, routes);
 }
 
 /// Fails where `keep_best` asks for memory: 198,017 requests, instead of 198,016.
@@ -342,9 +352,7 @@ fn a_large_book_asks_for_its_entries_and_routes_alone(rt: HostRuntime) {
 fn the_best_of_many_routes_are_kept_in_their_list(rt: HostRuntime) {
     let memory = Counted::new(rt.alloc());
     let other = Counted::new(rt.alloc());
-    let mut book = Book::new(&memory, MOST_ROUTES);
-    let mut idle = Book::new(&other, MOST_ROUTES);
-    fill_many(&rt, &mut book, &mut idle);
+    let (book, _idle) = large_book(&rt, &memory, &other);
     let mut routes = book.routes(&memory).expect(&rt, "memory");
     let asked = memory.asked();
     keep_best(&mut routes);

@@ -108,6 +108,12 @@ fn kind(reply: Reply) -> usize
     }
 }
 
+/// A book and a list, both empty.
+fn both(rt: &impl Abort, alloc: Global, limit: u32) -> (Book<Global>, Plain) {
+    assert!(rt; limit_ok(limit));
+    (Book::new(alloc, limit), Plain::new(alloc, limit))
+}
+
 /// Asks the list and then the book, which is to reply the same and to gain that entry. Answers the reply.
 fn ask_both(
     rt: &impl Abort,
@@ -170,10 +176,8 @@ fn go_over_all_addresses(rt: &impl Abort, alloc: Global, book: &Book<Global>, pl
 
 /// Six hundred commands, with the routes compared after each eighth. Answers which kinds of replies came.
 fn six_hundred_commands(rt: &impl Abort, alloc: Global, limit: u32) -> [bool; 10] {
-    assert!(rt; limit_ok(limit));
     let mut dice = Dice(limit as u64);
-    let mut book = Book::new(alloc, limit);
-    let mut plain = Plain::new(alloc, limit);
+    let (mut book, mut plain) = both(rt, alloc, limit);
     let mut kinds = [false; 10];
     for step in 0..600u32 {
         let feed = any_feed(&mut dice);
@@ -203,8 +207,7 @@ fn agrees_with_the_definition(rt: HostRuntime) {
 #[test]
 fn two_hundred_thousand_commands(rt: HostRuntime) {
     let mut dice = Dice(7);
-    let mut book = Book::new(rt.alloc(), 12);
-    let mut plain = Plain::new(rt.alloc(), 12);
+    let (mut book, mut plain) = both(&rt, rt.alloc(), 12);
     for step in 0..200_000u32 {
         let feed = any_feed(&mut dice);
         let cmd = rarely_a_purge(&rt, &mut dice);
@@ -235,8 +238,7 @@ fn sixty_adds(
 #[test]
 fn purges_among_many_prefixes(rt: HostRuntime) {
     let mut dice = Dice(11);
-    let mut book = Book::new(rt.alloc(), 1_000);
-    let mut plain = Plain::new(rt.alloc(), 1_000);
+    let (mut book, mut plain) = both(&rt, rt.alloc(), 1_000);
     for _ in 0..40u32 {
         sixty_adds(&rt, rt.alloc(), &mut dice, &mut book, &mut plain);
         go_over_all_addresses(&rt, rt.alloc(), &book, &plain);
