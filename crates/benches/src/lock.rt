@@ -21,13 +21,12 @@ const FEW: u64 = 3_000;
 fn pass_often<R: Wait, const L: u32>(
     rt: &R,
     lock: &TreeLock<Count, L>,
-    pass: Pass<Count>,
+    mut pass: Pass<Count>,
     times: u64,
 ) -> Pass<Count>
     requires { pass.lock ≡ lock.now }
     ensures { result.lock ≡ lock.now }
 {
-    let mut pass = pass;
     for _ in 0..times {
         let mut guard = lock.enter(rt, pass);
         guard.get_mut().add();
@@ -92,14 +91,13 @@ fn tree<R: Threads + Wait + Clock + Sync, const L: u32>(
 
 /// The same with the mutex.
 fn mutex<R: Threads + Wait + Clock + Sync>(rt: &R, alloc: Global, load: Load) -> Option<Duration> {
-    let mutex = Mutex::new(Count(0));
-    let shared = &mutex;
+    let mutex = &Mutex::new(Count(0));
     let start = Instant::now(rt).ok()?;
     let done = thread::map_indices(
         rt,
         alloc,
         load.threads,
-        &|_| lock_often(rt, shared, load.each),
+        &|_| lock_often(rt, mutex, load.each),
     );
     let time = start.elapsed(rt).ok()?;
     drop(done.ok()?);

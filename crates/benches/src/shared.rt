@@ -53,14 +53,13 @@ fn table<R: Threads + Wait + Clock + Sync>(rt: &R, alloc: Global, load: Load) ->
 
 /// The same of a book under the mutex.
 fn mutex<R: Threads + Wait + Clock + Sync>(rt: &R, alloc: Global, load: Load) -> Option<Duration> {
-    let mutex = Mutex::new(Book::new(alloc, LIMIT));
-    let shared = &mutex;
+    let mutex = &Mutex::new(Book::new(alloc, LIMIT));
     let start = Instant::now(rt).ok()?;
     let done = thread::map_indices(
         rt,
         alloc,
         load.threads,
-        &|place| { ask_book(rt, alloc, shared, place, load) },
+        &|place| { ask_book(rt, alloc, mutex, place, load) },
     );
     let time = start.elapsed(rt).ok()?;
     drop(done.ok()?);
