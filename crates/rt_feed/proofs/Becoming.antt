@@ -7,10 +7,8 @@ use Rattle.rt_feed.specs.declared.report.Line.{Line}
 use Rattle.rt_feed.specs.declared.report.Answer.{Answer}
 use Rattle.rt_feed.specs.declared.versions.Version.{Version}
 use Rattle.rt_feed.specs.declared.versions.Version.TheVariants.{One, Two}
-use Rattle.rt_feed.specs.Lines.{IsBody, CutsLine}
+use Rattle.rt_feed.specs.Lines.{IsBody, CutsLine, LineOutcome, skipped, faulty, asked, LinesBecome, Becomes, heading, reading, line_answer, numbered, report_lines, asked_by, asked_of}
 use Rattle.rt_feed.specs.Grammar.{AnswersLine}
-use Rattle.rt_feed.specs.LineOutcomes.{LineOutcome, skipped, faulty, asked, LinesBecome, Becomes, heading, reading, line_answer, numbered, report_lines}
-use Rattle.rt_feed.specs.LineOutcomes.{asked_by, asked_of}
 
 -- more lines after some
 pub become-append : (version : Version) (lines middle rest : List ℕ) (outcomes more : List LineOutcome) → LinesBecome version lines outcomes middle

@@ -31,9 +31,7 @@ use Rattle.rt_feed.specs.Grammar.{prefix, preference, hop, address, hash, is_ski
 use Rattle.rt_feed.specs.Grammar.{IsFirstFault, IsFaultAfter, IsFaultOfFields, AnswersLine}
 use Rattle.rt_feed.proofs.Pairs.{pair-read}
 use Rattle.rt_feed.specs.Addresses.{AnswersAddressLine}
-use Rattle.rt_feed.specs.Lines.{lf, CutsLine, TellsTwo, IsBody, IsVersion}
-use Rattle.rt_feed.specs.LineOutcomes.{LineOutcome, skipped, faulty, asked, reading, heading, LinesBecome, Becomes, line_answer, answer_of, numbered}
-use Rattle.rt_feed.specs.LineOutcomes.{report_lines, asked_by, asked_of}
+use Rattle.rt_feed.specs.Lines.{lf, CutsLine, TellsTwo, IsBody, IsVersion, LineOutcome, skipped, faulty, asked, reading, heading, LinesBecome, Becomes, line_answer, answer_of, numbered, report_lines, asked_by, asked_of}
 use Rattle.rt_feed.specs.Reports.{is_refusal, is_fault, NumbersRise, has_refusal, has_fault}
 use Rattle.rt_feed.specs.Visits.{visit_of, reply_to, entries, concatenated, piece_of, IsCut, Visit, Gains, AnswersBatch}
 use Rattle.rt_feed.specs.Printed.{hop_text, route_text, reply_text, fault_text, answer_text, line_text, report_text, row_text, count_text, rows_text}

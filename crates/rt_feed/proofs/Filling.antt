@@ -8,7 +8,7 @@ use Rattle.std.proofs.lemmas.Bool.{cases_Bool}
 use Rattle.rt_shared.specs.declared.outcome.Outcome.{Outcome}
 use Rattle.rt_feed.specs.declared.report.Line.{Line}
 use Rattle.rt_feed.specs.Reports.{is_fault, NumbersRise}
-use Rattle.rt_feed.specs.LineOutcomes.{answer_of}
+use Rattle.rt_feed.specs.Lines.{answer_of}
 use Rattle.rt_feed.specs.inside.Filling.{filled}
 
 -- where there are no outcomes the lines stay

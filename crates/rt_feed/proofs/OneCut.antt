@@ -2,8 +2,7 @@
 use Rattle.std.proofs.Common.{◌≡◌, ◌≢◌, ℕ, inl, inr, List, [], ◌∷◌, ◌++◌, length, map, All, refl, sym, ap, ◌∙◌, arith}
 use Rattle.std.proofs.lemmas.List.{map-append}
 use Rattle.std.proofs.lemmas.List.Elements.{All-head, All-tail}
-use Rattle.rt_feed.specs.Lines.{lf, CutsLine, TellsTwo, IsBody}
-use Rattle.rt_feed.specs.LineOutcomes.{LineOutcome, LinesBecome, Becomes, heading, reading}
+use Rattle.rt_feed.specs.Lines.{lf, CutsLine, TellsTwo, IsBody, LineOutcome, LinesBecome, Becomes, heading, reading}
 use Rattle.rt_feed.specs.declared.versions.Version.{Version}
 use Rattle.rt_feed.specs.declared.versions.Version.TheVariants.{One, Two}
 use Rattle.rt_feed.specs.Laws.{LineHasOneAnswer, OlderTextsStay}

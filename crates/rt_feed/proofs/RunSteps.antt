@@ -13,10 +13,8 @@ use Rattle.rt_feed.specs.declared.feed_run.FeedRun.{FeedRun}
 use Rattle.rt_feed.specs.Reports.{is_fault}
 use Rattle.rt_feed.specs.declared.versions.Version.{Version}
 use Rattle.rt_feed.specs.declared.versions.Version.TheVariants.{One, Two}
-use Rattle.rt_feed.specs.Lines.{IsBody, CutsLine}
+use Rattle.rt_feed.specs.Lines.{IsBody, CutsLine, LineOutcome, skipped, faulty, asked, reading, Becomes, heading, answer_of, line_answer, numbered, report_lines, asked_by, asked_of}
 use Rattle.rt_feed.specs.Grammar.{AnswersLine}
-use Rattle.rt_feed.specs.LineOutcomes.{LineOutcome, skipped, faulty, asked, reading, Becomes, heading, answer_of, line_answer, numbered, report_lines}
-use Rattle.rt_feed.specs.LineOutcomes.{asked_by, asked_of}
 use Rattle.rt_feed.specs.Visits.{Visit, Gains, concatenated, piece_of, visit_of, AnswersBatch}
 use Rattle.rt_feed.specs.inside.Filling.{filled}
 use Rattle.rt_feed.specs.FeedRuns.{RunsFeed, StopsWithin, IsTold}

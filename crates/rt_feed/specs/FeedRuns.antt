@@ -3,10 +3,9 @@ use Rattle.std.specs.Prelude.{◌≡◌, ◌≢◌, ℕ, List, [], map, None, Op
 use Rattle.rt_rib.specs.declared.commands.Cmd.{Cmd}
 use Rattle.rt_shared.specs.declared.outcome.Outcome.{Outcome}
 use Rattle.rt_feed.specs.declared.report.Line.{Line}
-use Rattle.rt_feed.specs.Lines.{CutsLine}
+use Rattle.rt_feed.specs.Lines.{CutsLine, LineOutcome, LinesBecome, Becomes, reading, line_answer, report_lines, asked_of}
 use Rattle.rt_feed.specs.declared.versions.Version.{Version}
 use Rattle.rt_feed.specs.Grammar.{AnswersLine}
-use Rattle.rt_feed.specs.LineOutcomes.{LineOutcome, LinesBecome, Becomes, reading, line_answer, report_lines, asked_of}
 use Rattle.rt_feed.specs.Visits.{Visit, Gains, IsCut, visit_of}
 
 -- the text's first lines became these, and the gate was asked their commands in pieces of `batch`, a visit for each

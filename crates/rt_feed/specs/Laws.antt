@@ -9,8 +9,7 @@ use Rattle.rt_feed.specs.declared.versions.Version.TheVariants.{One}
 use Rattle.rt_feed.specs.CommandText.{command_text, HasCommand}
 use Rattle.rt_feed.specs.Addresses.{AnswersAddressLine}
 use Rattle.rt_feed.specs.Grammar.{AnswersLine}
-use Rattle.rt_feed.specs.Lines.{CutsLine, TellsTwo}
-use Rattle.rt_feed.specs.LineOutcomes.{LineOutcome, LinesBecome, Becomes, reading}
+use Rattle.rt_feed.specs.Lines.{CutsLine, TellsTwo, LineOutcome, LinesBecome, Becomes, reading}
 
 -- a line has at most one answer
 abbrev pub LineHasOneAnswer : Type 0

@@ -3,7 +3,6 @@ pub mod CommandText
 pub mod DifferenceText
 pub mod Grammar
 pub mod Laws
-pub mod LineOutcomes
 pub mod Lines
 pub mod Printed
 pub mod Reports

@@ -1,6 +1,6 @@
 //! The answers to a feed's text, line by line.
 ghost use Rattle.std.specs.Prelude.{◌≡◌, ℕ, ◌<◌, ◌≤◌, List, [], ◌∷◌, ◌++◌, All, length, take, drop, OnOk, OnErr};
-ghost use Rattle.rt_feed.specs.LineOutcomes.{answer_of};
+ghost use Rattle.rt_feed.specs.Lines.{answer_of};
 ghost use Rattle.rt_feed.specs.inside.Filling.{filled};
 
 use crate::parse::LineFault;

@@ -1,7 +1,6 @@
 //! The version of a feed's text, which its first line tells.
 ghost use Rattle.std.specs.Prelude.{◌≡◌, ◌+◌, length};
-ghost use Rattle.rt_feed.specs.Lines.{IsBody, IsVersion};
-ghost use Rattle.rt_feed.specs.LineOutcomes.{heading};
+ghost use Rattle.rt_feed.specs.Lines.{IsBody, IsVersion, heading};
 
 use crate::lines::next_line;
 

@@ -23,7 +23,7 @@ use Rattle.rt_shared.specs.declared.outcome.Outcome.TheVariants as outcome
 use Rattle.rt_shared.specs.Laws.{EntriesOfVisits}
 use Rattle.rt_feed.specs.declared.parse.LineFault.{LineFault}
 use Rattle.rt_feed.specs.Laws.{TextHasOneReading}
-use Rattle.rt_feed.specs.LineOutcomes.{LineOutcome, skipped, faulty, asked, reading, Becomes, asked_of}
+use Rattle.rt_feed.specs.Lines.{LineOutcome, skipped, faulty, asked, reading, Becomes, asked_of}
 use Rattle.rt_feed.specs.Visits.{Visit, visit_of, entries}
 use Rattle.rt_feed.specs.Printed.{table_text}
 use Rattle.rt_run.specs.RunText.{Explains, ExplainsFrom, feeds_text, was_told, some_refused, was_faulty, status_of}

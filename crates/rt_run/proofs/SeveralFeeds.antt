@@ -13,7 +13,7 @@ use Rattle.rt_shared.specs.Table.{SharedId, HeldPass, ArePassesOf, Settles}
 use Rattle.rt_shared.specs.Visits.{Since, Uncut}
 use Rattle.rt_feed.specs.declared.report.Line.{Line}
 use Rattle.rt_feed.specs.declared.feeds.Feed.{Feed}
-use Rattle.rt_feed.specs.LineOutcomes.{LineOutcome, report_lines, asked_of}
+use Rattle.rt_feed.specs.Lines.{LineOutcome, report_lines, asked_of}
 use Rattle.rt_feed.specs.Visits.{Visit, visit_of, entries}
 use Rattle.rt_feed.specs.FeedRuns.{RunsFeed, StopsWithin, RunsOne}
 use Rattle.rt_feed.specs.Printed.{table_text}

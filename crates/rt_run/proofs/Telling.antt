@@ -11,7 +11,7 @@ use Rattle.rt_feed.specs.declared.report.Line.{Line}
 use Rattle.rt_feed.specs.declared.report.Answer.{Answer}
 use Rattle.rt_feed.specs.declared.report.Answer.TheVariants as answer
 use Rattle.rt_feed.specs.Reports.{is_fault, is_refusal, has_refusal, has_fault}
-use Rattle.rt_feed.specs.LineOutcomes.{LineOutcome, skipped, faulty, asked, line_answer, report_lines}
+use Rattle.rt_feed.specs.Lines.{LineOutcome, skipped, faulty, asked, line_answer, report_lines}
 use Rattle.rt_feed.specs.Printed.{reply_text, fault_text, answer_text, line_text, report_text}
 use Rattle.rt_run.specs.RunText.{told_text, lines_text, feeds_text, was_faulty, was_told, some_refused, status_of}
 use Rattle.rt_run.specs.TableText.{first_fault, tally_of, was_left_out}

@@ -6,7 +6,7 @@ use Rattle.rt_rib.specs.Sequential.{table_of_journal}
 use Rattle.rt_diff.specs.declared.answers.By.{By}
 use Rattle.rt_diff.specs.declared.differences.Difference.{Difference}
 use Rattle.rt_diff.specs.Differences.{AreDifferences}
-use Rattle.rt_feed.specs.LineOutcomes.{LineOutcome}
+use Rattle.rt_feed.specs.Lines.{LineOutcome}
 use Rattle.rt_feed.specs.DifferenceText.{differences_text}
 use Rattle.rt_run.specs.declared.tallies.Taken.{Taken}
 use Rattle.rt_run.specs.declared.differences.Compared.{Compared}

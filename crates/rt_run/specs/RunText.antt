@@ -11,7 +11,7 @@ use Rattle.rt_rib.specs.Sequential.{IsLawfulJournal, table_of_journal}
 use Rattle.rt_shared.specs.declared.outcome.Outcome.{Outcome}
 use Rattle.rt_shared.specs.declared.outcome.Outcome.TheVariants.{Did, Refused}
 use Rattle.rt_shared.specs.Visits.{Uncut}
-use Rattle.rt_feed.specs.LineOutcomes.{LineOutcome, skipped, faulty, asked, Becomes, asked_of}
+use Rattle.rt_feed.specs.Lines.{LineOutcome, skipped, faulty, asked, Becomes, asked_of}
 use Rattle.rt_feed.specs.Printed.{reply_text, fault_text, table_text}
 use Rattle.rt_feed.specs.declared.faults.RunFault.TheVariants as fault
 use Rattle.rt_run.specs.declared.faults.AppFault.{AppFault}

@@ -10,7 +10,7 @@ use Rattle.rt_rib.specs.Table.{IsTable}
 use Rattle.rt_rib.specs.Laws.{is_own}
 use Rattle.rt_shared.specs.declared.outcome.Outcome.{Outcome}
 use Rattle.rt_shared.specs.declared.outcome.Outcome.TheVariants.{Did}
-use Rattle.rt_feed.specs.LineOutcomes.{LineOutcome, Becomes, asked_of}
+use Rattle.rt_feed.specs.Lines.{LineOutcome, Becomes, asked_of}
 use Rattle.rt_feed.specs.Printed.{table_text}
 use Rattle.rt_run.specs.declared.tallies.Taken.{Taken}
 use Rattle.rt_run.specs.RunText.{IsHistory, IsRunText, feeds_text, some_refused}

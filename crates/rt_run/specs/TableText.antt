@@ -7,7 +7,7 @@ use Rattle.rt_rib.specs.declared.commands.Entry.{Entry}
 use Rattle.rt_rib.specs.LookUp.{look_up, look_up_all, best_routes}
 use Rattle.rt_rib.specs.Sequential.{table_of_journal}
 use Rattle.rt_feed.specs.declared.parse.LineFault.{LineFault}
-use Rattle.rt_feed.specs.LineOutcomes.{LineOutcome, faulty}
+use Rattle.rt_feed.specs.Lines.{LineOutcome, faulty}
 use Rattle.rt_feed.specs.Printed.{rows_text, found_text, all_found_text}
 use Rattle.rt_run.specs.declared.tallies.Tally.{Tally}
 use Rattle.rt_run.specs.declared.tallies.Taken.{Taken}

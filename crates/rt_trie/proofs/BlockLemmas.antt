@@ -14,7 +14,7 @@ use Rattle.rt_cidr.specs.declared.address.Addr.{Addr}
 use Rattle.rt_cidr.proofs.Promised.{size_pos}
 use Rattle.rt_cidr.specs.Cidr.{size_of}
 use Rattle.rt_cidr.specs.Prefix.{covers, contains}
-use Rattle.rt_trie.specs.Blocks.{IsKeyOf, IsChild, middle, middle_at, past}
+use Rattle.rt_trie.specs.Links.{IsKeyOf, IsChild, middle, middle_at, past}
 use Rattle.rt_trie.proofs.OrderLemmas.{rank}
 
 -- a prefix's middle is found by its key

@@ -8,9 +8,8 @@ use Rattle.std.proofs.lemmas.Bool.{false≢true}
 use Rattle.rt_cidr.specs.declared.prefixes.Prefix.{Prefix}
 use Rattle.rt_trie.specs.declared.nodes.Link.{Link, Empty, Leaf, Fork', Full'}
 use Rattle.rt_trie.specs.Map.{Pairs, same_prefix, get, put, erase, first, IsBeforeAll, IsOrdered}
-use Rattle.rt_trie.specs.Blocks.{IsInBlock}
+use Rattle.rt_trie.specs.Links.{IsInBlock, root, IsFilled, IsLawfulBelow, IsLawfulTrie}
 use Rattle.rt_trie.specs.inside.Links.{pairs, count}
-use Rattle.rt_trie.specs.Links.{root, IsFilled, IsLawfulBelow, IsLawfulTrie}
 use Rattle.rt_trie.proofs.OrderLemmas.{same_tells, before_tells, rank_of_before}
 use Rattle.rt_trie.proofs.PairLemmas.{AllKeys, AllKeys-map, IsOther, IsOther-higher, IsHigher, get-none}
 use Rattle.rt_trie.proofs.LinkLemmas.{filled_first}

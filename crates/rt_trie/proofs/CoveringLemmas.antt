@@ -9,8 +9,7 @@ use Rattle.rt_cidr.specs.declared.address.Addr.{Addr}
 use Rattle.rt_cidr.specs.Prefix.{covers}
 use Rattle.rt_trie.specs.declared.nodes.Link.{Link}
 use Rattle.rt_trie.specs.Map.{Pairs, covering}
-use Rattle.rt_trie.specs.Blocks.{middle}
-use Rattle.rt_trie.specs.Links.{IsLawfulBelow}
+use Rattle.rt_trie.specs.Links.{middle, IsLawfulBelow}
 use Rattle.rt_trie.specs.inside.Links.{own_pair, pairs, count, IsNode}
 use Rattle.rt_trie.proofs.PairLemmas.{AllKeys}
 use Rattle.rt_trie.proofs.NodeLemmas.{upper_clear, lower_clear, rest_clear}

@@ -11,10 +11,9 @@ use Rattle.std.proofs.lemmas.Bool.Decides.{leb_tells}
 use Rattle.rt_cidr.specs.declared.prefixes.Prefix.{Prefix}
 use Rattle.rt_trie.specs.declared.nodes.Link.{Link, Empty, Leaf, Fork', Full'}
 use Rattle.rt_trie.specs.Map.{Pairs, same_prefix, get, put}
-use Rattle.rt_trie.specs.Blocks.{IsChild, middle, middle_at}
+use Rattle.rt_trie.specs.Links.{IsChild, middle, middle_at, root, AreHalves, IsChildLink, IsFilled, IsLawfulTrie}
 use Rattle.rt_trie.specs.inside.Blocks.{is_key}
 use Rattle.rt_trie.specs.inside.Links.{own_pair, pairs, count}
-use Rattle.rt_trie.specs.Links.{root, AreHalves, IsChildLink, IsFilled, IsLawfulTrie}
 use Rattle.rt_trie.specs.inside.Descent.{found, written, overwritten}
 use Rattle.rt_trie.specs.TrieContents.{TrieContents}
 use Rattle.rt_trie.specs.inside.Tree.{tree_of}

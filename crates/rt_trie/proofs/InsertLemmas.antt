@@ -13,10 +13,9 @@ use Rattle.rt_trie.specs.declared.insertion.NewValue.{NewValue}
 use Rattle.rt_trie.specs.declared.nodes.FullNode.{FullNode}
 use Rattle.rt_trie.specs.Map.{get, put}
 use Rattle.rt_trie.specs.declared.nodes.Position.TheVariants.{Above, Apart}
-use Rattle.rt_trie.specs.Blocks.{IsKeyOf, IsInBlock, IsChild, PartsAt, middle, past}
+use Rattle.rt_trie.specs.Links.{IsKeyOf, IsInBlock, IsChild, PartsAt, middle, past, root, AreHalves, IsChildLink, IsFilled, IsLawfulBelow, IsLawfulTrie}
 use Rattle.rt_trie.specs.inside.Blocks.{StandsAt}
 use Rattle.rt_trie.specs.inside.Links.{own_pair, pairs, count, leaf_link, fork_link, full_link, IsNode}
-use Rattle.rt_trie.specs.Links.{root, AreHalves, IsChildLink, IsFilled, IsLawfulBelow, IsLawfulTrie}
 use Rattle.rt_trie.specs.inside.Changes.{IsPut, IsInserted, IsRefused, Inserts}
 use Rattle.rt_cidr.proofs.Promised.{size_pos}
 use Rattle.rt_trie.proofs.BlockLemmas.{lower_half}

@@ -9,9 +9,8 @@ use Rattle.rt_cidr.specs.declared.prefixes.Prefix.{Prefix}
 use Rattle.rt_cidr.specs.declared.address.Addr.{Addr}
 use Rattle.rt_trie.specs.declared.nodes.Link.{Link, Empty}
 use Rattle.rt_trie.specs.Map.{pair_copied, address_at, answer_at}
-use Rattle.rt_trie.specs.inside.Links.{pairs, count}
+use Rattle.rt_trie.specs.inside.Links.{pairs, count, or_else, last_cover}
 use Rattle.rt_trie.specs.Links.{IsLawfulBelow}
-use Rattle.rt_trie.specs.inside.LookUps.{or_else, last_cover}
 use Rattle.rt_trie.proofs.PairLemmas.{or_none}
 
 -- what is read at an index of the list, with any value for past its end

@@ -3,9 +3,8 @@ use Rattle.std.proofs.Common.{◌↔◌, true, false, Option, None}
 use Rattle.std.specs.Prelude.{IfNone}
 use Rattle.rt_cidr.specs.declared.prefixes.Prefix.{Prefix}
 use Rattle.rt_trie.specs.declared.nodes.Link.{Link, Empty, Leaf, Fork', Full'}
-use Rattle.rt_trie.specs.Blocks.{IsChild}
+use Rattle.rt_trie.specs.Links.{IsChild, root, AreHalves, IsFilled, IsLawfulTrie}
 use Rattle.rt_trie.specs.Laws.{ChildByNextBit, IsChildByBit, IsLawfulNode, IsLawfulByBits}
-use Rattle.rt_trie.specs.Links.{root, AreHalves, IsFilled, IsLawfulTrie}
 use Rattle.rt_trie.proofs.BlockLemmas.{child_reading}
 use Rattle.rt_trie.proofs.LinkLemmas.{if_some_map}
 

@@ -10,19 +10,17 @@ use Rattle.std.specs.Option.{option_copied}
 use Rattle.std.specs.Box.{with_value}
 use Rattle.rt_cidr.specs.declared.address.Addr.{Addr}
 use Rattle.rt_cidr.specs.Prefix.{covers}
-use Rattle.rt_trie.specs.inside.LookUps.{or_else, last_cover, no_longer, IsNoLonger}
+use Rattle.rt_trie.specs.inside.Links.{or_else, last_cover, no_longer, IsNoLonger, own_pair, pairs, count, IsNode, IsForkOf, IsSeenFrom}
 use Rattle.rt_trie.specs.declared.nodes.Link.{Link, Empty, Leaf, Fork', Full'}
 use Rattle.rt_trie.specs.declared.nodes.Link.TheVariants.{Fork, Full}
 use Rattle.rt_trie.specs.declared.nodes.LeafNode.{LeafNode}
 use Rattle.rt_trie.specs.declared.nodes.ForkNode.{ForkNode}
 use Rattle.rt_trie.specs.declared.nodes.FullNode.{FullNode}
 use Rattle.rt_trie.specs.Map.{Pairs, same_prefix, get, first, next_after, before, IsOrdered, IsLongest}
-use Rattle.rt_trie.specs.Blocks.{IsKeyOf, IsInBlock, IsChild, middle, past}
+use Rattle.rt_trie.specs.Links.{IsKeyOf, IsInBlock, IsChild, middle, past, root, AreHalves, IsFilled, IsNeeded, IsLawfulBelow, IsLawfulTrie}
 use Rattle.rt_trie.specs.inside.Blocks.{StandsAt}
 use Rattle.rt_trie.specs.declared.nodes.Position.{Position}
 use Rattle.rt_trie.specs.declared.nodes.Position.TheVariants.{Here, Left, Right, Above, Apart}
-use Rattle.rt_trie.specs.inside.Links.{own_pair, pairs, count, IsNode, IsForkOf, IsSeenFrom}
-use Rattle.rt_trie.specs.Links.{root, AreHalves, IsFilled, IsNeeded, IsLawfulBelow, IsLawfulTrie}
 use Rattle.rt_trie.proofs.OrderLemmas.{same_rank, same_tells, rank_of_before, rank_of_not_before}
 use Rattle.rt_cidr.proofs.Promised.{size_pos}
 use Rattle.rt_trie.proofs.NodeLemmas.{AreSides, IsJoined, get-lower, get-upper, get-here, get-past, IsOrdered-node, joined_to}

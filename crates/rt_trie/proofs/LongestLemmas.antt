@@ -7,7 +7,7 @@ use Rattle.std.proofs.lemmas.List.Elements.{All-nil, All-cons, All-weaker, All-c
 use Rattle.rt_cidr.specs.declared.prefixes.Prefix.{Prefix}
 use Rattle.rt_cidr.specs.declared.address.Addr.{Addr}
 use Rattle.rt_cidr.specs.Prefix.{covers}
-use Rattle.rt_trie.specs.inside.LookUps.{or_else, last_cover, no_longer}
+use Rattle.rt_trie.specs.inside.Links.{or_else, last_cover, no_longer}
 use Rattle.rt_trie.specs.Map.{Pairs, same_prefix, get, before, IsBeforeAll, IsOrdered, IsLongest}
 use Rattle.rt_trie.proofs.OrderLemmas.{before_tells, same_tells, rank_of_before}
 use Rattle.rt_cidr.proofs.Promised.{size_pos}

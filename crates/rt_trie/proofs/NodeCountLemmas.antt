@@ -6,9 +6,8 @@ use Rattle.rt_cidr.specs.declared.prefixes.Prefix.{Prefix}
 use Rattle.rt_cidr.specs.Cidr.{size_of}
 use Rattle.rt_trie.specs.declared.nodes.Link.{Link, Empty, Leaf, Fork', Full'}
 use Rattle.rt_trie.specs.Map.{Pairs, first, IsStored, IsOrdered}
-use Rattle.rt_trie.specs.Blocks.{IsInBlock, middle, past}
+use Rattle.rt_trie.specs.Links.{IsInBlock, middle, past, AreHalves, IsLawfulBelow, IsLawfulTrie, IsFilled}
 use Rattle.rt_trie.specs.inside.Links.{own_pair, pairs, count}
-use Rattle.rt_trie.specs.Links.{AreHalves, IsLawfulBelow, IsLawfulTrie, IsFilled}
 use Rattle.rt_trie.specs.Nodes.{IsNodeAt, CountsNodes}
 use Rattle.rt_trie.proofs.OrderLemmas.{same_rank}
 use Rattle.rt_cidr.proofs.Promised.{size_pos}

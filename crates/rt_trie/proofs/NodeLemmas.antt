@@ -7,10 +7,9 @@ use Rattle.std.proofs.lemmas.List.Elements.{filter-append}
 use Rattle.rt_cidr.specs.declared.prefixes.Prefix.{Prefix}
 use Rattle.rt_cidr.specs.declared.address.Addr.{Addr}
 use Rattle.rt_cidr.specs.Prefix.{covers}
-use Rattle.rt_trie.specs.inside.LookUps.{or_else, last_cover, no_longer}
+use Rattle.rt_trie.specs.inside.Links.{or_else, last_cover, no_longer, own_pair}
 use Rattle.rt_trie.specs.Map.{Pairs, same_prefix, get, first, next_after, IsBeforeAll, IsOrdered}
-use Rattle.rt_trie.specs.Blocks.{IsInBlock, middle, past}
-use Rattle.rt_trie.specs.inside.Links.{own_pair}
+use Rattle.rt_trie.specs.Links.{IsInBlock, middle, past}
 use Rattle.rt_trie.proofs.OrderLemmas.{rank, lower_rank, other_rank}
 use Rattle.rt_cidr.proofs.Promised.{size_pos}
 use Rattle.rt_trie.proofs.BlockLemmas.{covers_tells, outside_of_covers}

@@ -4,7 +4,7 @@ use Rattle.rt_cidr.specs.declared.prefixes.Prefix.{Prefix}
 use Rattle.rt_cidr.specs.declared.address.Addr.{Addr}
 use Rattle.rt_cidr.specs.Prefix.{covers}
 use Rattle.rt_trie.specs.Map.{Pairs, same_prefix, get, put, erase, first, next_after}
-use Rattle.rt_trie.specs.inside.LookUps.{or_else, last_cover}
+use Rattle.rt_trie.specs.inside.Links.{or_else, last_cover}
 use Rattle.rt_trie.proofs.OrderLemmas.{rank, same_tells, before_tells, same_rank, other_rank, lower_rank, higher_rank}
 
 -- every prefix of the list meets P

@@ -12,7 +12,7 @@ use Rattle.rt_cidr.specs.declared.prefixes.TextFault.{TextFault}
 use Rattle.rt_cidr.specs.declared.prefixes.TextFault.TheVariants.{Text, Length, Bits}
 use Rattle.rt_cidr.specs.Cidr.{size_of, IsPrefix}
 use Rattle.rt_cidr.specs.Reading.{AnswersPair}
-use Rattle.rt_trie.specs.Blocks.{IsChild, PartsAt, middle, past}
+use Rattle.rt_trie.specs.Links.{IsChild, PartsAt, middle, past}
 use Rattle.rt_cidr.proofs.Promised.{size_pos}
 use Rattle.rt_trie.proofs.BlockLemmas.{lower_half, upper_half, ends_before}
 

@@ -5,10 +5,8 @@ use Rattle.rt_cidr.specs.declared.prefixes.Prefix.{Prefix}
 use Rattle.rt_cidr.specs.declared.address.Addr.{Addr}
 use Rattle.rt_cidr.specs.Prefix.{covers}
 use Rattle.rt_trie.specs.declared.nodes.Link.{Link}
-use Rattle.rt_trie.specs.Blocks.{IsInBlock}
-use Rattle.rt_trie.specs.inside.LookUps.{last_cover}
-use Rattle.rt_trie.specs.inside.Links.{pairs}
-use Rattle.rt_trie.specs.Links.{root, IsLawfulBelow}
+use Rattle.rt_trie.specs.Links.{IsInBlock, root, IsLawfulBelow}
+use Rattle.rt_trie.specs.inside.Links.{last_cover, pairs}
 use Rattle.rt_trie.proofs.BlockLemmas.{past_fits}
 use Rattle.rt_trie.proofs.NodeLemmas.{covers-outside}
 use Rattle.rt_trie.proofs.PairLemmas.{AllKeys-map, last_cover-none}

@@ -7,7 +7,7 @@ use Rattle.rt_cidr.specs.declared.address.Addr.{Addr}
 use Rattle.rt_trie.specs.declared.nodes.Link.{Link}
 use Rattle.rt_trie.specs.declared.pieces.Place.{Place}
 use Rattle.rt_trie.specs.Map.{Pairs, pair_copied}
-use Rattle.rt_trie.specs.inside.LookUps.{sought}
+use Rattle.rt_trie.specs.inside.Links.{sought}
 use Rattle.rt_trie.specs.inside.Places.{IsPlace, IsNextPlace}
 
 module _ {V A : Type 0} (m : Pairs V) where

@@ -11,10 +11,9 @@ use Rattle.rt_trie.specs.Map.{Pairs, same_prefix, get, erase}
 use Rattle.rt_trie.specs.declared.nodes.Position.{Position}
 use Rattle.rt_trie.specs.declared.nodes.Position.TheVariants.{Here, Left, Right, Above, Apart}
 use Rattle.rt_trie.proofs.InsertLemmas.{get_above, get_apart, made_full_below}
-use Rattle.rt_trie.specs.Blocks.{IsKeyOf, IsChild, middle, past}
+use Rattle.rt_trie.specs.Links.{IsKeyOf, IsChild, middle, past, root, IsLawfulBelow, IsLawfulTrie}
 use Rattle.rt_trie.specs.inside.Blocks.{StandsAt}
 use Rattle.rt_trie.specs.inside.Links.{own_pair, pairs, IsVacant, IsLone, IsLeafOf, IsNode}
-use Rattle.rt_trie.specs.Links.{root, IsLawfulBelow, IsLawfulTrie}
 use Rattle.rt_trie.specs.inside.Changes.{IsErased, IsSpliced, AreSidesOf}
 use Rattle.rt_trie.proofs.OrderLemmas.{same_tells, same_rank}
 use Rattle.rt_cidr.proofs.Promised.{size_pos}

@@ -4,14 +4,13 @@ use Rattle.std.proofs.Common.{Option, Some, None, refl, sym, subst, ap, ◌∙�
 use Rattle.std.proofs.Common.{true, false, inl, inr}
 use Rattle.std.proofs.lemmas.Bool.{cases_lt}
 use Rattle.std.specs.Prelude.{IfSome, IsSomeAnd}
-use Rattle.rt_trie.specs.Blocks.{IsChild}
+use Rattle.rt_trie.specs.Links.{IsChild, root, IsLawfulBelow}
 use Rattle.rt_trie.proofs.LinkLemmas.{if_some_map}
 use Rattle.std.specs.Borrow.{Bor}
 use Rattle.rt_cidr.specs.declared.prefixes.Prefix.{Prefix}
 use Rattle.rt_trie.specs.declared.nodes.Link.{Link}
 use Rattle.rt_trie.specs.inside.References.{link_at}
 use Rattle.rt_trie.specs.inside.Links.{own_pair, pairs, count, IsNode}
-use Rattle.rt_trie.specs.Links.{root, IsLawfulBelow}
 use Rattle.rt_trie.specs.inside.WalkStack.{pairs_of, stack_pairs, IsFrom, IsWalkStack}
 
 -- how much work a link is: one, and two for each of its nodes

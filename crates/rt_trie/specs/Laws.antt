@@ -3,9 +3,8 @@ use Rattle.std.specs.Prelude.{◌≡◌, ◌↔◌, ◌<◌, ◌/◌, ◌%◌, B
 use Rattle.rt_cidr.specs.declared.prefixes.Prefix.{Prefix}
 use Rattle.rt_cidr.specs.Cidr.{size_of}
 use Rattle.rt_cidr.specs.Prefix.{contains}
-use Rattle.rt_trie.specs.Blocks.{IsChild, IsKeyOf}
+use Rattle.rt_trie.specs.Links.{IsChild, IsKeyOf, root, IsFilled, IsLawfulTrie}
 use Rattle.rt_trie.specs.declared.nodes.Link.{Link, Empty, Leaf, Fork', Full'}
-use Rattle.rt_trie.specs.Links.{root, IsFilled, IsLawfulTrie}
 use Rattle.rt_trie.specs.Map.{Pairs, same_prefix, before, get, put, erase, first, next_after, IsStored, IsOrdered}
 
 -- after v was put in at p, v stands at p, and at every other prefix what stood there

@@ -1,6 +1,5 @@
 pub use Rattle.rt_cidr.specs.Cidr
 pub use Rattle.rt_cidr.specs.Prefix
-pub mod Blocks
 pub mod TrieContents
 pub mod Lawful
 pub mod Laws

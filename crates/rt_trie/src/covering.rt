@@ -1,11 +1,9 @@
 //! Going over the pairs whose prefix covers an address.
 
 ghost use Rattle.std.specs.Prelude.{◌≡◌, ◌<◌, ◌≤◌};
-ghost use Rattle.rt_trie.specs.Blocks.{middle};
+ghost use Rattle.rt_trie.specs.Links.{middle, IsLawfulTrie};
 ghost use Rattle.rt_trie.specs.Map.{Pairs, covering};
-ghost use Rattle.rt_trie.specs.Links.{IsLawfulTrie};
-ghost use Rattle.rt_trie.specs.inside.Links.{pairs};
-ghost use Rattle.rt_trie.specs.inside.LookUps.{covering_below, IsLawfulOn};
+ghost use Rattle.rt_trie.specs.inside.Links.{pairs, covering_below, IsLawfulOn};
 
 use crate::nodes::{Link, NodeView, middle};
 use rt_cidr::{Addr, Prefix};

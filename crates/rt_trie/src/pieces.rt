@@ -5,12 +5,10 @@ ghost use Rattle.std.specs.Prelude.{◌≡◌, ◌-◌, ◌^◌, ◌<◌, ◌≤
 ghost use Rattle.std.specs.Option.{option_copied};
 ghost use Rattle.rt_cidr.specs.Prefix.{covers};
 ghost use Rattle.rt_cidr.specs.declared.address.Addr.{Addr};
-ghost use Rattle.rt_trie.specs.Blocks.{past};
+ghost use Rattle.rt_trie.specs.Links.{past, root, IsLawfulBelow, IsLawfulTrie};
 ghost use Rattle.rt_trie.specs.Map.{pair_copied, IsLongest};
-ghost use Rattle.rt_trie.specs.inside.Links.{own_pair, pairs, IsNode};
-ghost use Rattle.rt_trie.specs.inside.LookUps.{or_else, last_cover};
+ghost use Rattle.rt_trie.specs.inside.Links.{own_pair, pairs, IsNode, or_else, last_cover};
 ghost use Rattle.rt_trie.specs.inside.Places.{IsPlace, IsNextPlace};
-ghost use Rattle.rt_trie.specs.Links.{root, IsLawfulBelow, IsLawfulTrie};
 
 use crate::nodes::{Link, NodeView, middle};
 use rt_cidr::{Addr, Prefix};

@@ -4,7 +4,7 @@ use Rattle.rt_rib.specs.declared.commands.Cmd.{Cmd}
 use Rattle.rt_rib.specs.declared.commands.Entry.{Entry}
 use Rattle.rt_shared.specs.declared.outcome.Outcome.{Outcome}
 use Rattle.rt_feed.specs.declared.report.Line.{Line}
-use Rattle.rt_feed.specs.LineOutcomes.{LineOutcome, Becomes, report_lines, asked_of}
+use Rattle.rt_feed.specs.Lines.{LineOutcome, Becomes, report_lines, asked_of}
 use Rattle.rt_feed.specs.Visits.{Visit, IsCut, concatenated, visit_of, entries}
 
 -- the journal has the commands and replies of these visits, in order, as entries of feed 1

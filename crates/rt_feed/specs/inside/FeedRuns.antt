@@ -6,8 +6,7 @@ use Rattle.rt_shared.specs.declared.outcome.Outcome.TheVariants.{Refused}
 use Rattle.rt_feed.specs.declared.report.Line.{Line}
 use Rattle.rt_feed.specs.declared.report.Answer.TheVariants as answer
 use Rattle.rt_feed.specs.declared.feed_run.FeedRun.{FeedRun}
-use Rattle.rt_feed.specs.Lines.{CutsLine}
-use Rattle.rt_feed.specs.LineOutcomes.{LineOutcome, Becomes, heading, report_lines, asked_of}
+use Rattle.rt_feed.specs.Lines.{CutsLine, LineOutcome, Becomes, heading, report_lines, asked_of}
 use Rattle.rt_feed.specs.Visits.{Visit, Gains, concatenated, piece_of, visit_of}
 use Rattle.rt_feed.specs.inside.Filling.{filled}
 

@@ -3,7 +3,7 @@ use Rattle.std.specs.Prelude.{List, [], ◌∷◌, if◌then◌else◌}
 use Rattle.rt_shared.specs.declared.outcome.Outcome.{Outcome}
 use Rattle.rt_feed.specs.declared.report.Line.{Line}
 use Rattle.rt_feed.specs.Reports.{is_fault}
-use Rattle.rt_feed.specs.LineOutcomes.{answer_of}
+use Rattle.rt_feed.specs.Lines.{answer_of}
 
 -- the lines, of which those that are no faults were given these outcomes, in order
 abbrev pub filled : List Line → List Outcome → List Line

@@ -5,7 +5,7 @@ use Rattle.rt_rib.specs.Book.{BookContents}
 use Rattle.rt_shared.specs.Table.{SharedId, HeldPass, ArePassesOf, Settles}
 use Rattle.rt_feed.specs.declared.report.Line.{Line}
 use Rattle.rt_feed.specs.Reports.{has_refusal, has_fault}
-use Rattle.rt_feed.specs.LineOutcomes.{LineOutcome, report_lines}
+use Rattle.rt_feed.specs.Lines.{LineOutcome, report_lines}
 use Rattle.rt_run.specs.RunText.{IsHistory}
 use Rattle.rt_run.specs.inside.AskedRun.{AskedRun}
 use Rattle.rt_run.specs.inside.Tallies.{status_where}

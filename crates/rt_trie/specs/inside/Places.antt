@@ -8,8 +8,7 @@ use Rattle.rt_trie.specs.declared.answers.Way.{Way}
 use Rattle.rt_trie.specs.declared.answers.TheConstants.{PLACES}
 use Rattle.rt_trie.specs.Map.{Pairs, pair_copied}
 use Rattle.rt_trie.specs.Links.{IsLawfulTrie}
-use Rattle.rt_trie.specs.inside.Links.{pairs, count}
-use Rattle.rt_trie.specs.inside.LookUps.{or_else, last_cover, sought, IsLawfulOn}
+use Rattle.rt_trie.specs.inside.Links.{pairs, count, or_else, last_cover, sought, IsLawfulOn}
 
 -- how many links there are from the place on
 abbrev pub links_below : {V A : Type 0} → Option (Bor (Link V A)) → ℕ

@@ -1,8 +1,7 @@
 use Rattle.std.proofs.Common.{◌≡◌, ◌≤◌, ◌<◌, ◌++◌, ℕ, ◌+◌, ◌-◌, length, refl, sym, ap, ◌∙◌, arith, All, subst}
 use Rattle.std.proofs.lemmas.Result.{err_from_is_err_and}
 use Rattle.rt_feed.specs.declared.report.Line.{Line}
-use Rattle.rt_feed.specs.LineOutcomes.{heading}
-use Rattle.rt_feed.specs.Lines.{IsBody}
+use Rattle.rt_feed.specs.Lines.{heading, IsBody}
 use Rattle.rt_feed.specs.inside.FeedRuns.{HasRead}
 use Rattle.rt_feed.proofs.Becoming.{length-outcomes, length-cut, report_lines-below}
 use Rattle.rt_feed.proofs.RunSteps.{nothing_read, all_asked, stopped}

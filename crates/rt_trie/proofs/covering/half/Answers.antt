@@ -1,5 +1,5 @@
 use Rattle.std.proofs.Common.{arith}
-use Rattle.rt_trie.specs.Blocks.{IsKeyOf}
+use Rattle.rt_trie.specs.Links.{IsKeyOf}
 use Rattle.rt_trie.proofs.BlockLemmas.{middle_of_key}
 use Rattle.rt_trie.proofs.covering.half.Goals as goal
 

@@ -4,7 +4,7 @@ use Rattle.rt_trie.proofs.OrderLemmas.{same_tells}
 use Rattle.std.proofs.lemmas.Bool.{cases_lt, false≢true}
 use Rattle.rt_cidr.specs.declared.prefixes.Prefix.{Prefix}
 use Rattle.rt_cidr.specs.Prefix.{covers}
-use Rattle.rt_trie.specs.Blocks.{IsKeyOf, middle, past}
+use Rattle.rt_trie.specs.Links.{IsKeyOf, middle, past}
 use Rattle.rt_trie.proofs.nodes.position_of.Goals as goal
 use Rattle.rt_trie.proofs.nodes.position_of.Goals.{Then-offset-lt-END, else-len-via-then-len+else-offset-lt-END}
 use Rattle.rt_trie.proofs.nodes.position_of.Goals.{else-len-via-else-len, else-len-2-via-then-len-2+else-covers}

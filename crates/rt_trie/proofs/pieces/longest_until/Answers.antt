@@ -1,5 +1,5 @@
 use Rattle.std.proofs.Common.{ap, ◌∙◌, arith}
-use Rattle.rt_trie.specs.inside.LookUps.{sought}
+use Rattle.rt_trie.specs.inside.Links.{sought}
 use Rattle.rt_trie.specs.Map.{pair_copied}
 use Rattle.rt_trie.proofs.LinkLemmas.{longest_of}
 use Rattle.rt_trie.proofs.pieces.longest_until.Goals as goal

@@ -1,9 +1,8 @@
 use Rattle.std.proofs.Common.{◌≡◌, ◌≤◌, sym, ◌∙◌, arith}
 use Rattle.std.specs.Option.{option_copied}
 use Rattle.rt_cidr.specs.declared.address.Addr.{Addr}
-use Rattle.rt_trie.specs.inside.LookUps.{or_else, last_cover}
-use Rattle.rt_trie.specs.inside.Links.{own_pair}
-use Rattle.rt_trie.specs.Blocks.{IsKeyOf}
+use Rattle.rt_trie.specs.inside.Links.{or_else, last_cover, own_pair}
+use Rattle.rt_trie.specs.Links.{IsKeyOf}
 use Rattle.rt_trie.specs.Map.{pair_copied}
 use Rattle.rt_trie.proofs.BlockLemmas.{middle_of_key}
 use Rattle.rt_trie.proofs.NodeLemmas.{step_left, step_upper, step_none}

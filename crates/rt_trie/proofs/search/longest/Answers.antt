@@ -1,7 +1,6 @@
 use Rattle.std.proofs.Common.{sym, ap, ◌∙◌}
 use Rattle.rt_trie.specs.Map.{pair_copied}
-use Rattle.rt_trie.specs.inside.LookUps.{last_cover}
-use Rattle.rt_trie.specs.inside.Links.{pairs}
+use Rattle.rt_trie.specs.inside.Links.{last_cover, pairs}
 use Rattle.rt_trie.proofs.NodeLemmas.{all_no_longer}
 use Rattle.rt_trie.proofs.LinkLemmas.{longest_of}
 use Rattle.rt_trie.proofs.search.longest.Goals as goal

@@ -2,10 +2,9 @@ use Rattle.std.proofs.Common.{◌<◌, ◌+◌, Option, None, refl, sym, subst, 
 use Rattle.std.specs.Prelude.{IfSome}
 use Rattle.std.specs.Borrow.{Bor}
 use Rattle.rt_trie.specs.declared.nodes.Link.{Link}
-use Rattle.rt_trie.specs.inside.LookUps.{or_else, last_cover, pairs_below}
+use Rattle.rt_trie.specs.inside.Links.{or_else, last_cover, pairs_below, pairs, count}
 use Rattle.rt_trie.specs.declared.search.TheConstants.{LANES}
 use Rattle.rt_trie.specs.Map.{pair_copied, address_at}
-use Rattle.rt_trie.specs.inside.Links.{pairs, count}
 use Rattle.rt_trie.specs.Links.{root, IsLawfulBelow}
 use Rattle.rt_trie.proofs.LinkLemmas.{longest_of}
 use Rattle.rt_trie.proofs.NodeLemmas.{no_root_longer, found_of_all}

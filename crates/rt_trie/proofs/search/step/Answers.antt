@@ -1,6 +1,6 @@
 use Rattle.std.proofs.Common.{Some, refl, sym, subst, ap, ◌∙◌, inl, inr}
 use Rattle.rt_trie.specs.declared.nodes.LeafNode.{LeafNode}
-use Rattle.rt_trie.specs.inside.LookUps.{IsNoLonger}
+use Rattle.rt_trie.specs.inside.Links.{IsNoLonger}
 use Rattle.rt_trie.specs.Map.{pair_copied}
 use Rattle.rt_trie.proofs.NodeLemmas.{best_stored, best_unstored, step_single}
 use Rattle.rt_trie.proofs.LinkLemmas.{none_unless, of_leaf, of_fork, of_full, short_fork, short_full, short_leaf, key_of_leaf, key_of_fork}

@@ -1,7 +1,7 @@
 use Rattle.std.proofs.lemmas.Result.{err_from_is_err_and}
 use Rattle.std.proofs.Common.{◌≡◌, [], ◌∷◌, length, refl, sym, ap, ◌∙◌, append-nil, length-append, arith}
 use Rattle.rt_shared.specs.declared.outcome.Outcome.TheVariants.{Refused}
-use Rattle.rt_feed.specs.LineOutcomes.{skipped, faulty, asked}
+use Rattle.rt_feed.specs.Lines.{skipped, faulty, asked}
 use Rattle.rt_feed.proofs.RunSteps.{line_read, command_read, batch_asked}
 use Rattle.rt_feed.proofs.feed_run.FeedRun.read.Goals as goal
 

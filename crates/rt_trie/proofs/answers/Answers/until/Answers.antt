@@ -1,7 +1,6 @@
 use Rattle.std.proofs.Common.{refl, sym, ap, ◌∙◌, subst}
 use Rattle.rt_trie.specs.Map.{pair_copied, IsLongest}
-use Rattle.rt_trie.specs.inside.Links.{pairs}
-use Rattle.rt_trie.specs.inside.LookUps.{last_cover, sought}
+use Rattle.rt_trie.specs.inside.Links.{pairs, last_cover, sought}
 use Rattle.rt_trie.specs.inside.Places.{IsPlace}
 use Rattle.rt_trie.proofs.LinkLemmas.{longest_of}
 use Rattle.rt_trie.proofs.PlaceLemmas.{next_place, with_place}

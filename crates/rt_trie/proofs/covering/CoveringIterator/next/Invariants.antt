@@ -1,5 +1,5 @@
 use Rattle.std.proofs.Common.{◌≡◌}
-use Rattle.rt_trie.specs.inside.LookUps.{covering_below, IsLawfulOn}
+use Rattle.rt_trie.specs.inside.Links.{covering_below, IsLawfulOn}
 use Rattle.rt_trie.proofs.CoveringLemmas.{nodes_below}
 use Rattle.rt_trie.proofs.covering.CoveringIterator.next.Given as goal
 
