@@ -6,7 +6,6 @@ pub mod Changes
 pub mod Descent
 pub mod Lends
 pub mod Links
-pub mod LookUps
 pub mod OneProof
 pub mod Sifted
 pub mod Tree
