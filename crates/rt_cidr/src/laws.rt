@@ -1,7 +1,9 @@
 //! Laws of the text and of prefixes. Each function does nothing: its contract is the law, for all texts and values.
 ghost use Rattle.rt_cidr.specs.Text.{IsDecimal, IsAddressText};
 ghost use Rattle.rt_cidr.specs.Reading.{ReadsDecimal, ReadsAddress, ReadsPrefix};
-ghost use Rattle.rt_cidr.specs.Laws.{HasOneNumber, HasOneText, HasOnePair, PairHasOneText, AddressFits, HasOneAnswer, PairHasOneAnswer, WritesDecimal, WritesAddress, WritesPrefix, ReadsDecimalAgain, ReadsAddressAgain, ReadsPrefixAgain, SamePrefix, CoversItsRange, ContainsByRange, ContainsWhatItCovers, CoveringAreNested, CoveringAreSame};
+ghost use Rattle.rt_cidr.specs.Laws.{HasOneNumber, HasOneText, HasOnePair, PairHasOneText, AddressFits, HasOneAnswer, PairHasOneAnswer};
+ghost use Rattle.rt_cidr.specs.Laws.{WritesDecimal, WritesAddress, WritesPrefix, ReadsDecimalAgain, ReadsAddressAgain, ReadsPrefixAgain};
+ghost use Rattle.rt_cidr.specs.Laws.{SamePrefix, CoversItsRange, ContainsByRange, ContainsWhatItCovers, CoveringAreNested, CoveringAreSame};
 
 /// Each text is of at most one number, one address, and one pair of an address and a length. An address has 32 bits.
 pub fn one_value()

@@ -78,13 +78,16 @@ wherever_they_lie : HaveSameAnswers (range 10 20) (range 21 30)
 wherever_they_lie = (refl, refl)
 
 not_where_one_is_another :
-    (¬ HaveSameAnswers (range 10 20) (record (range 21 30) { old = answer.NoRoute })) × (¬ HaveSameAnswers (range 10 20) (record (range 21 30) { new = answer.Hop Discard }))
+    (¬ HaveSameAnswers (range 10 20) (record (range 21 30) { old = answer.NoRoute }))
+    × (¬ HaveSameAnswers (range 10 20) (record (range 21 30) { new = answer.Hop Discard }))
 not_where_one_is_another = (λ h. let old = h.0 in cc, λ h. let new = h.1 in cc)
 
 -- IsDifference
 what_a_range_is :
     (old new : List Route) → IsDifference by.Hop old new (range 10 20)
-    → (10 ≤ 20) × (20 < 4294967296) × ((addr : Addr) → (10 ≤ addr.0) × (addr.0 ≤ 20) → (answer_of by.Hop addr old ≡ answer.Hop Discard) × (answer_of by.Hop addr new ≡ answer.NoRoute))
+    → (10 ≤ 20) × (20 < 4294967296)
+    × ((addr : Addr) → (10 ≤ addr.0) × (addr.0 ≤ 20)
+    → (answer_of by.Hop addr old ≡ answer.Hop Discard) × (answer_of by.Hop addr new ≡ answer.NoRoute))
     × (answer.Hop Discard ≢ answer.NoRoute)
 what_a_range_is old new h = (h.some, h.fits, h.each, h.differ)
 

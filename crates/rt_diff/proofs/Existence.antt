@@ -71,7 +71,8 @@ module _ (by : By) (old new : List Route) where
   abbrev longer : ℕ → Difference → Difference
   longer from d = record { first = at from; last = d.last; old = d.old; new = d.new }
 
-  longer_first : (from : ℕ) (d : Difference) → Joins from d → IsNextDifference by old new (at (from + 1)) d → IsNextDifference by old new (at from) (longer from d)
+  longer_first : (from : ℕ) (d : Difference) → Joins from d → IsNextDifference by old new (at (from + 1)) d
+      → IsNextDifference by old new (at from) (longer from d)
   longer_first from d joins next = record {
     onward = omega arith;
     before = λ addr here before. absurd (omega arith);
@@ -105,7 +106,8 @@ module _ (by : By) (old new : List Route) where
   rest_unlike from [] fits unlike are = (
     alone from ∷ [],
     rest_next by old new (at from) (alone from) []
-        (alone_first from fits unlike (λ addr adjacent fits same. unlike (sym same.0 ∙ rest_alike_all by old new (from + 1) are addr (omega arith) fits ∙ same.1)))
+        (alone_first from fits unlike
+        (λ addr adjacent fits same. unlike (sym same.0 ∙ rest_alike_all by old new (from + 1) are addr (omega arith) fits ∙ same.1)))
         are,
   )
   rest_unlike from (d ∷ rest) fits unlike are =

@@ -76,10 +76,12 @@ module _ (by : By) (old new : List Route) where
       record {
         onward = All-weaker (Rises d) (λ (e : Difference). d.last.0 + 1 ≤ e.first.0) (λ e rises. omega arith) rest (AllPairs-head Rises d rest are.rising);
         each = All-tail (IsDifference by old new) d rest are.each;
-        all = λ addr here fits unlike. elim (Any-cases (λ (e : Difference). IsWithin e addr) d rest (are.all addr (omega (arith, first.some, onward)) fits unlike)) [
-          | inl within ↦ absurd (omega (arith, within.1))
-          | inr later ↦ later
-        ];
+        all = λ addr here fits unlike.
+            let some = are.all addr (omega (arith, first.some, onward)) fits unlike in
+            elim (Any-cases (λ (e : Difference). IsWithin e addr) d rest some) [
+              | inl within ↦ absurd (omega (arith, within.1))
+              | inr later ↦ later
+            ];
         rising = AllPairs-tail Rises d rest are.rising;
         fewest = AllPairs-tail IsApart d rest are.fewest;
       }
@@ -99,7 +101,8 @@ module _ (by : By) (old new : List Route) where
   }
 
   -- no range begins before the first one
-  none_before : (from : ℕ) (d : Difference) (rest : List Difference) → AreRest by old new from (d ∷ rest) → All (λ (e : Difference). d.first.0 ≤ e.first.0) (d ∷ rest)
+  none_before : (from : ℕ) (d : Difference) (rest : List Difference) → AreRest by old new from (d ∷ rest)
+      → All (λ (e : Difference). d.first.0 ≤ e.first.0) (d ∷ rest)
   none_before from d rest are =
       let first = All-head (IsDifference by old new) d rest are.each in
       All-cons (λ (e : Difference). d.first.0 ≤ e.first.0) d rest (omega arith)

@@ -275,7 +275,8 @@ module _ (laws : MapLaws) {m : Map} (h : IsMap m) (p : Prefix) {old : List Offer
         (subst (λ l. HasSwapped l new o true) (sym at_is) swap)
 
     -- the only offer goes with its prefix
-    pub last_gone : new ≡ old → (feed : ℕ) (o : Offer) → old ≡ o ∷ [] → is_from feed o ≡ true → routes_of (erase (put m p new) p) ≡ take_out feed p (routes_of m)
+    pub last_gone : new ≡ old → (feed : ℕ) (o : Offer) → old ≡ o ∷ [] → is_from feed o ≡ true
+        → routes_of (erase (put m p new) p) ≡ take_out feed p (routes_of m)
     last_gone same feed o only own =
         ap (λ n. routes_of (erase n p)) (unchanged same)
         ∙ routes_taken laws m (erase m p) h (IsMap-erase laws m h p) p [] (erase_with laws m h p) feed

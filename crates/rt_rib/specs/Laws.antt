@@ -56,13 +56,15 @@ LookUpAllFindsMatches =
 pub record TableByEntry : Type 0 where
   pub table : (limit : ℕ) (journal : List Entry) → IsTable (table_of_journal limit journal)
   pub empty : (limit : ℕ) → table_of_journal limit [] ≡ []
-  pub step : (limit : ℕ) (journal : List Entry) (e : Entry) → table_of_journal limit (journal ++ e ∷ []) ≡ table_after limit (table_of_journal limit journal) e.feed e.cmd
+  pub step : (limit : ℕ) (journal : List Entry) (e : Entry)
+      → table_of_journal limit (journal ++ e ∷ []) ≡ table_after limit (table_of_journal limit journal) e.feed e.cmd
 
 -- a journal without an entry is lawful, and one with an entry more where it was so before, and the entry is answered as the
 -- sequential table answers it
 pub record LawfulByEntry : Type 0 where
   pub empty : (limit : ℕ) → IsLawfulJournal limit []
-  pub step : (limit : ℕ) (journal : List Entry) (e : Entry) → IsLawfulJournal limit (journal ++ e ∷ []) ↔ (IsLawfulJournal limit journal × IsAnswered limit journal e)
+  pub step : (limit : ℕ) (journal : List Entry) (e : Entry)
+      → IsLawfulJournal limit (journal ++ e ∷ []) ↔ (IsLawfulJournal limit journal × IsAnswered limit journal e)
 
 -- the commands of a journal, each with the feed that asked
 abbrev pub asked : List Entry → List (ℕ × Cmd)
@@ -92,5 +94,7 @@ is_own Purge = true
 -- each feed's routes are what its own entries leave by themselves, and its commands are answered from them
 abbrev pub FeedsStandAlone : Type 0
 FeedsStandAlone =
-    (limit feed : ℕ) (journal : List Entry) (cmd : Cmd) → (feed_routes feed (table_of_journal limit journal) ≡ table_of_journal limit (feed_entries feed journal))
-    × (is_own cmd ≡ true → reply_of limit (table_of_journal limit journal) feed cmd ≡ reply_of limit (table_of_journal limit (feed_entries feed journal)) feed cmd)
+    (limit feed : ℕ) (journal : List Entry) (cmd : Cmd)
+    → (feed_routes feed (table_of_journal limit journal) ≡ table_of_journal limit (feed_entries feed journal))
+    × (is_own cmd ≡ true → reply_of limit (table_of_journal limit journal) feed cmd
+    ≡ reply_of limit (table_of_journal limit (feed_entries feed journal)) feed cmd)

@@ -1,6 +1,7 @@
 //! What holds of every set of routes and of every journal. Each function is a theorem: calling it makes its clause
 //! known, and it does nothing.
-ghost use Rattle.rt_rib.specs.Laws.{PutInAdds, TakeOutLeavesOthers, OneTableOfSet, LookUpFindsBest, LookUpAllFindsMatches, TableByEntry, LawfulByEntry, LawfulIsDetermined, FeedsStandAlone};
+ghost use Rattle.rt_rib.specs.Laws.{PutInAdds, TakeOutLeavesOthers, OneTableOfSet, LookUpFindsBest, LookUpAllFindsMatches};
+ghost use Rattle.rt_rib.specs.Laws.{TableByEntry, LawfulByEntry, LawfulIsDetermined, FeedsStandAlone};
 
 /// A table that a route is put into contains that route and what it contained.
 pub fn put_in_adds()

@@ -17,8 +17,8 @@
 //!
 //! The routes lie in a trie: under each prefix what is offered for it, the best offer first (`src/map.rt`, `src/offers.rt`). So
 //! a look-up goes down once and reads one offer, only an `Add` grows anything but the journal, whose room [`Book::reserve`]
-//! makes beforehand, and a `Purge` goes over the map once, up to the last route of its feed (`src/purge.rt`). Who has several commands at hand lets the trie wait for the memory
-//! of all of them at once by [`Book::read_ahead`] (`src/ahead.rt`).
+//! makes beforehand, and a `Purge` goes over the map once, up to the last route of its feed (`src/purge.rt`). Who has several
+//! commands at hand lets the trie wait for the memory of all of them at once by [`Book::read_ahead`] (`src/ahead.rt`).
 //!
 //! A book is also asked beside its journal: [`Book::look_up`] answers many addresses at once, [`Book::look_up_all`] gives every
 //! route whose prefix covers an address, the best first, and [`Book::look_up_until`] tells how far an answer goes. By

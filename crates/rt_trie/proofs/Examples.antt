@@ -16,7 +16,8 @@ use Rattle.rt_cidr.specs.declared.address.Addr.{Addr}
 use Rattle.rt_cidr.specs.Prefix.{covers, contains}
 use Rattle.rt_trie.specs.declared.nodes.Link.{Link, Empty, Leaf, Fork', Full'}
 use Rattle.rt_trie.specs.declared.nodes.LeafNode.{LeafNode}
-use Rattle.rt_trie.specs.Links.{middle_at, middle, past, IsKeyOf, IsInBlock, IsChild, PartsAt, root, IsFilled, IsChildLink, AreHalves, IsNeeded, IsLawfulBelow, IsLawfulTrie}
+use Rattle.rt_trie.specs.Links.{middle_at, middle, past, IsKeyOf, IsInBlock, IsChild, PartsAt}
+use Rattle.rt_trie.specs.Links.{root, IsFilled, IsChildLink, AreHalves, IsNeeded, IsLawfulBelow, IsLawfulTrie}
 use Rattle.rt_trie.specs.Nodes.{PartAt, IsNodeAt, CountsNodes}
 use Rattle.rt_trie.specs.Sifted.{with_pair, IsJudged, IsSifted}
 use Rattle.rt_trie.specs.TrieContents.{TrieContents}

@@ -1,7 +1,8 @@
 //! Laws of the map that the contracts speak of, and of a lawful trie. Each function does nothing: its contract is the
 //! law.
 
-ghost use Rattle.rt_trie.specs.Laws.{ChildByNextBit, PutIsSeen, EraseIsSeen, PutKeepsOrder, EraseKeepsOrder, PairsAreFound, MapHasOneList, FirstIsLeast, NoneIsFirst, AfterIsNext, NoneIsAfter, LawfulByBits};
+ghost use Rattle.rt_trie.specs.Laws.{PutIsSeen, EraseIsSeen, PutKeepsOrder, EraseKeepsOrder, PairsAreFound, MapHasOneList};
+ghost use Rattle.rt_trie.specs.Laws.{FirstIsLeast, NoneIsFirst, AfterIsNext, NoneIsAfter, ChildByNextBit, LawfulByBits};
 
 use rt_cidr::laws::same_prefix;
 use std::alloc::Allocator;

@@ -11,17 +11,23 @@ use Rattle.rt_shared.specs.Laws.{UncutAtFirst, UncutByVisit, UncutSince}
 use Rattle.walkthrough.specs.Shared.{AreBothUnseen, HasAsked, AreRoutesOfBoth}
 
 -- the batch of a feed that had seen nothing stands in one piece in what the journal becomes
-batch_uncut : UncutAtFirst → UncutByVisit → UncutSince → (limit feed number : ℕ) (before : List Entry) (cmds : List Cmd) (outcomes : List Outcome) (seen journal : List Entry)
-    → feed ≡ number → before ≡ [] → MakesVisit limit feed before cmds outcomes seen → Since feed seen journal → Uncut number (answered number cmds outcomes ∷ []) journal
+batch_uncut : UncutAtFirst → UncutByVisit → UncutSince → (limit feed number : ℕ) (before : List Entry)
+    (cmds : List Cmd) (outcomes : List Outcome) (seen journal : List Entry)
+    → feed ≡ number → before ≡ [] → MakesVisit limit feed before cmds outcomes seen → Since feed seen journal
+    → Uncut number (answered number cmds outcomes ∷ []) journal
 batch_uncut first call away limit feed number before cmds outcomes seen journal numbered unseen visit since =
+    let first_visit : MakesVisit limit feed [] cmds outcomes seen =
+    subst (λ (b : List Entry). MakesVisit limit feed b cmds outcomes seen) unseen visit in
     let visit' : MakesVisit limit number [] cmds outcomes seen =
-    subst (λ (f : ℕ). MakesVisit limit f [] cmds outcomes seen) numbered (subst (λ (b : List Entry). MakesVisit limit feed b cmds outcomes seen) unseen visit) in
+    subst (λ (f : ℕ). MakesVisit limit f [] cmds outcomes seen) numbered first_visit in
     away number (answered number cmds outcomes ∷ []) seen journal (call limit number [] [] seen cmds outcomes (first number) visit')
     (subst (λ (f : ℕ). Since f seen journal) numbered since)
 
 -- what a lawful journal leaves, once both have asked
-pub left_by_both : UncutAtFirst → UncutByVisit → UncutSince → (table : SharedId) (limit : ℕ) (xs ys : List Cmd) (one two one' two' : HeldPass) (journal : List Entry)
-    → table.limit ≡ limit → AreBothUnseen table one two → HasAsked table.limit one xs one' → HasAsked table.limit two ys two' → Settles table (one' ∷ two' ∷ []) journal
+pub left_by_both : UncutAtFirst → UncutByVisit → UncutSince → (table : SharedId) (limit : ℕ) (xs ys : List Cmd)
+    (one two one' two' : HeldPass) (journal : List Entry)
+    → table.limit ≡ limit → AreBothUnseen table one two → HasAsked table.limit one xs one' → HasAsked table.limit two ys two'
+    → Settles table (one' ∷ two' ∷ []) journal
     → (routes : List Route) → routes ≡ table_of_journal limit journal → AreRoutesOfBoth limit xs ys routes
 left_by_both first call away table limit xs ys one two one' two' journal same both a b settled routes of_journal = record {
   journal = journal;

@@ -1,5 +1,6 @@
 -- What a gate to a book of its own has served, one command after another.
-use Rattle.std.proofs.Common.{◌≡◌, List, [], ◌∷◌, ◌++◌, length, zip, refl, sym, ap, ◌∙◌, arith, append_assoc, append-nil, length-append, Result, Ok, Err, IfOk, OnErr}
+use Rattle.std.proofs.Common.{◌≡◌, List, [], ◌∷◌, ◌++◌, length, zip, refl, sym, ap, ◌∙◌, arith}
+use Rattle.std.proofs.Common.{append_assoc, append-nil, length-append, Result, Ok, Err, IfOk, OnErr}
 use Rattle.std.proofs.lemmas.List.{map-append}
 use Rattle.rt_rib.specs.declared.commands.Cmd.{Cmd}
 use Rattle.rt_rib.specs.declared.commands.Reply.{Reply}
@@ -28,7 +29,8 @@ visit_more [] cmd [] o same = append-nil (reply_to cmd o)
 visit_more [] cmd (p ∷ outcomes) o same = absurd (omega arith)
 visit_more (c ∷ cmds) cmd [] o same = absurd (omega arith)
 visit_more (c ∷ cmds) cmd (p ∷ outcomes) o same =
-    ap (λ (l : Visit). reply_to c p ++ l) (visit_more cmds cmd outcomes o (omega arith)) ∙ sym (append_assoc (reply_to c p) (visit_of (zip cmds outcomes)) (reply_to cmd o))
+    ap (λ (l : Visit). reply_to c p ++ l) (visit_more cmds cmd outcomes o (omega arith))
+    ∙ sym (append_assoc (reply_to c p) (visit_of (zip cmds outcomes)) (reply_to cmd o))
 
 pub served_more : (cmds : List Cmd) (cmd : Cmd) (old : List Entry) (before : List Outcome) (now next : List Entry) (after : List Outcome) (o : Outcome)
     → HasServed cmds old before now after → next ≡ now ++ entries 1 (reply_to cmd o) → HasServed (cmds ++ cmd ∷ []) old before next (after ++ o ∷ [])
