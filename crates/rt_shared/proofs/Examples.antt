@@ -161,7 +161,8 @@ nothing_of_its_own_has_come law a = law 1 a (dump 2 ∷ [])
 -- PassesKept
 passes_of_the_same_table_and_feeds :
     PassesKept → (table : SharedId) (old new : List HeldPass) → ArePassesOf table old → length new ≡ length old
-    → ((i : ℕ) (d : HeldPass) → i < length old → ((slice_index_or new i d).table ≡ (slice_index_or old i d).table) × ((slice_index_or new i d).feed ≡ (slice_index_or old i d).feed))
+    → ((i : ℕ) (d : HeldPass) → i < length old
+    → ((slice_index_or new i d).table ≡ (slice_index_or old i d).table) × ((slice_index_or new i d).feed ≡ (slice_index_or old i d).feed))
     → ArePassesOf table new
 passes_of_the_same_table_and_feeds law = law
 
@@ -207,7 +208,7 @@ unfolding node_of side_of table_of_journal table_after reply_of look_up
 a_run_in_which_both_are_answered = (
   omega arith,
   both_compete,
-  runs 1 (IsSequential 1) both_compete opening_world (omega arith, (omega arith, (omega arith, (omega arith, (omega arith, (omega arith, (omega arith, (omega arith, (omega arith, ((refl, refl), (omega arith, (omega arith, (omega arith, (omega arith, (omega arith, (omega arith, (omega arith, (omega arith, (omega arith, (omega arith, ((refl, refl), (omega arith, (omega arith, tt))))))))))))))))))))))),
+  runs 1 (IsSequential 1) both_compete opening_world refl ((refl, refl), ((refl, refl), tt)),
 )
 
 no_tree_of_no_level : (world : World Act) → ¬ IsRunTo 1 0 world
@@ -223,12 +224,11 @@ unfolding node_of side_of table_of_journal table_after reply_of
 a_run_in_which_an_add_is_over_the_limit = (
   omega arith,
   one_too_many,
-  runs 1 (IsSequential 0) one_too_many opening_world
-      (omega arith, (omega arith, (omega arith, (omega arith, ((refl, refl), tt))))),
+  runs 1 (IsSequential 0) one_too_many opening_world refl ((refl, refl), tt),
 )
 
 a_run_of_two_levels : IsRunTo 1 2 (follow 2 (Steps 3 ∷ []) opening_world)
-a_run_of_two_levels = (omega arith, Steps 3 ∷ [], runs 2 (IsSequential 1) (Steps 3 ∷ []) opening_world (omega arith, tt))
+a_run_of_two_levels = (omega arith, Steps 3 ∷ [], runs 2 (IsSequential 1) (Steps 3 ∷ []) opening_world refl tt)
 
 -- NoTwoInside
 nobody_at_the_start : NoTwoInside opening_world

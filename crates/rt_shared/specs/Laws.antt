@@ -45,5 +45,6 @@ EntriesSince = (feed : ℕ) (a b : List Entry) → Since feed a b → feed_entri
 abbrev pub PassesKept : Type 0
 PassesKept =
     (table : SharedId) (old new : List HeldPass) → ArePassesOf table old → length new ≡ length old
-    → ((i : ℕ) (d : HeldPass) → i < length old → ((slice_index_or new i d).table ≡ (slice_index_or old i d).table) × ((slice_index_or new i d).feed ≡ (slice_index_or old i d).feed))
+    → ((i : ℕ) (d : HeldPass) → i < length old
+    → ((slice_index_or new i d).table ≡ (slice_index_or old i d).table) × ((slice_index_or new i d).feed ≡ (slice_index_or old i d).feed))
     → ArePassesOf table new

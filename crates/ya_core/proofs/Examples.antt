@@ -1,9 +1,9 @@
 -- Examples by which definitions are tested, each under a line with the definition's name. Both sides are computed, and
 -- what a relation or a law says is spelled out for some values.
 use Rattle.std.proofs.Common.{◌≡◌, ◌≢◌, ℕ, zero, suc, ◌+◌, ◌^◌, ◌<◌, ◌≤◌, Bool, true, false, if◌then◌else◌, List, [], ◌∷◌, ◌++◌, ◌==◌, ◌&&◌, Some, None}
-use Rattle.std.proofs.Common.{inl, inr, map, refl, ap, sym, subst, ◌∙◌, arith}
+use Rattle.std.proofs.Common.{ltb, inl, inr, map, refl, ap, sym, subst, ◌∙◌, arith}
 use Rattle.std.specs.Prelude.{Option}
-use Rattle.std.proofs.lemmas.Bool.{false_from_ne_true, eq-eqb, eqb-true, ne_eqb, and_from, and_parts}
+use Rattle.std.proofs.lemmas.Bool.{false_from_ne_true, eq-eqb, eqb-true, ne_eqb, and_from, and_parts, ltb-true}
 use Rattle.ya_core.specs.declared.word.Word.{Word}
 use Rattle.ya_core.specs.declared.word.Word.TheVariants.{C, T, P}
 use Rattle.ya_core.specs.declared.word.Access.{Access}
@@ -1105,15 +1105,24 @@ abbrev pub follow : {X : Type 0} → ℕ → List (Event X) → World X → Worl
 follow levels [] world = world
 follow levels (event ∷ events) world = follow levels events (follows levels event world)
 
+-- each place that steps is one of the tree
+abbrev pub step_in_tree : {X : Type 0} → ℕ → List (Event X) → Bool
+step_in_tree levels [] = true
+step_in_tree levels (Steps place ∷ events) = ltb place (2 ^ levels) && step_in_tree levels events
+step_in_tree levels (Appends place entry ∷ events) = step_in_tree levels events
+
 module _ {X : Type 0} (levels : ℕ) (may : List (Marked X) → Marked X → Type 0) where
-  -- they may happen one after another
+  -- the event may happen in the world
   abbrev pub MayHappen : Event X → World X → Type 0
   MayHappen (Steps place) world = place < 2 ^ levels
   MayHappen (Appends place entry) world = IsInside world.state place × may (world.copies place) (place, entry)
 
-  abbrev pub AllMayHappen : List (Event X) → World X → Type 0
-  AllMayHappen [] world = Unit {0}
-  AllMayHappen (event ∷ events) world = MayHappen event world × AllMayHappen events (follows levels event world)
+  -- each entry may be made where it is made
+  abbrev pub MayAppend : List (Event X) → World X → Type 0
+  MayAppend [] world = Unit {0}
+  MayAppend (Steps place ∷ events) world = MayAppend events (follows levels (Steps place) world)
+  MayAppend (Appends place entry ∷ events) world =
+      MayHappen (Appends place entry) world × MayAppend events (appended place entry world)
 
   pub happens : (event : Event X) (world : World X) → MayHappen event world → Happens levels may event world (follows levels event world)
   happens (Steps place) world room = record {
@@ -1139,9 +1148,16 @@ module _ {X : Type 0} (levels : ℕ) (may : List (Marked X) → Marked X → Typ
     others_made = λ other apart. refl;
   }
 
-  pub runs : (events : List (Event X)) (world : World X) → AllMayHappen events world → Runs levels may world events (follow levels events world)
-  runs [] world all = refl
-  runs (event ∷ events) world all = (follows levels event world, happens event world all.0, runs events (follows levels event world) all.1)
+  pub runs : (events : List (Event X)) (world : World X) → step_in_tree levels events ≡ true → MayAppend events world
+      → Runs levels may world events (follow levels events world)
+  runs [] world room all = refl
+  runs (Steps place ∷ events) world room all =
+      let next : World X = follows levels (Steps place) world in
+      let rooms = and_parts (ltb place (2 ^ levels)) (step_in_tree levels events) room in
+      (next, happens (Steps place) world (ltb-true place (2 ^ levels) rooms.0), runs events next rooms.1 all)
+  runs (Appends place entry ∷ events) world room all =
+      let next : World X = appended place entry world in
+      (next, happens (Appends place entry) world all.0, runs events next room all.1)
 
 -- place 0 and then place 1 goes inside and makes an entry
 abbrev one_after_the_other : List (Event ℕ)
@@ -1262,25 +1278,7 @@ both_make_an_entry : (world : World ℕ) × IsReached 1 any_entry one_after_the_
 unfolding node_of side_of
 both_make_an_entry = (
   follow 1 one_after_the_other opening_world,
-  runs 1 any_entry one_after_the_other opening_world (
-    omega arith,
-    (
-      omega arith,
-      (
-        omega arith,
-        (
-          omega arith,
-          (
-            (refl, tt),
-            (
-              omega arith,
-              (omega arith, (omega arith, (omega arith, (omega arith, (omega arith, ((refl, tt), (omega arith, (omega arith, tt)))))))),
-            ),
-          ),
-        ),
-      ),
-    ),
-  ),
+  runs 1 any_entry one_after_the_other opening_world refl ((refl, tt), ((refl, tt), tt)),
   refl,
 )
 
@@ -1288,49 +1286,7 @@ both_make_an_entry_where_they_compete : (world : World ℕ) × IsReached 1 any_e
 unfolding node_of side_of
 both_make_an_entry_where_they_compete = (
   follow 1 both_compete opening_world,
-  runs 1 any_entry both_compete opening_world (
-    omega arith,
-    (
-      omega arith,
-      (
-        omega arith,
-        (
-          omega arith,
-          (
-            omega arith,
-            (
-              omega arith,
-              (
-                omega arith,
-                (
-                  omega arith,
-                  (
-                    omega arith,
-                    (
-                      (refl, tt),
-                      (
-                        omega arith,
-                        (
-                          omega arith,
-                          (
-                            omega arith,
-                            (
-                              omega arith,
-                              (omega arith, (omega arith, (omega arith, (omega arith, (omega arith, (omega arith, ((refl, tt), (omega arith, (omega arith, tt))))))))),
-                            ),
-                          ),
-                        ),
-                      ),
-                    ),
-                  ),
-                ),
-              ),
-            ),
-          ),
-        ),
-      ),
-    ),
-  ),
+  runs 1 any_entry both_compete opening_world refl ((refl, tt), ((refl, tt), tt)),
   refl,
 )
 

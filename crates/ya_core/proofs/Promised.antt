@@ -14,4 +14,4 @@ pub use Rattle.ya_core.proofs.Invariant.{opens, keeps, finds, is_inside_is, excl
 -- where some place takes part, one that takes part goes on
 pub use Rattle.ya_core.proofs.Deadlock.{someone_goes_on}
 -- a state after one step, and worlds after events that may happen; by these the crates above make examples
-pub use Rattle.ya_core.proofs.Examples.{after, steps_to, follow, AllMayHappen, runs}
+pub use Rattle.ya_core.proofs.Examples.{after, steps_to, follow, step_in_tree, MayAppend, runs}

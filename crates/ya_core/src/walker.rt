@@ -3,7 +3,8 @@ ghost use Rattle.std.specs.Prelude.{◌≡◌, ◌↔◌, ℕ, ◌+◌, ◌-◌,
 ghost use Rattle.ya_core.specs.declared.process.Process.TheVariants.{Idle, Inside, Entering};
 ghost use Rattle.ya_core.specs.ArbitrationTree.{node_of, side_of};
 ghost use Rattle.ya_core.specs.Steps.{access_of};
-ghost use Rattle.ya_core.specs.WalkerModel.{IsWalk, walk, op_of, due, FitsDue, IsStore, CanStand, cost_of, walk_after, budget, MovesOn, OpIsWithin, MayBeTold, due_of};
+ghost use Rattle.ya_core.specs.WalkerModel.{IsWalk, walk, walk_after, op_of, due, due_of, cost_of, budget};
+ghost use Rattle.ya_core.specs.WalkerModel.{FitsDue, IsStore, CanStand, MovesOn, OpIsWithin, MayBeTold};
 ghost use Rattle.ya_core.specs.inside.WalkerModel.{DueIsWithin, LevelIsSmall};
 
 use crate::process::{EntryPoint, Process};

@@ -3,7 +3,7 @@
 -- only raise.
 use Rattle.std.proofs.Common.{◌≡◌, ◌≢◌, ℕ, zero, suc, ◌+◌, ◌≤◌, List, [], ◌∷◌, ◌++◌, ◌∙◌, refl, sym, subst, arith, None, Some, replicate, set}
 use Rattle.std.specs.Prelude as std
-use Rattle.std.specs.Prelude.{IsTrue, ◌<◌, ◌^◌, Bool, true, false, length, slice_get, slice_index}
+use Rattle.std.specs.Prelude.{IsTrue, ◌<◌, true, false, length, slice_get, slice_index}
 use mathlib.Core.Option.{Option, none, some, some-injective, some-ne-none}
 use lib.ListN.{get_elem?}
 use Rattle.atomic_table.specs.Table.{State}
@@ -20,7 +20,8 @@ use Rattle.ya_core.specs.Soundness.{IsSoundState, claims, phase_of}
 use Rattle.ya_core.proofs.Promised.{opens}
 use Rattle.ya_lock.specs.declared.rule.View.{View}
 use Rattle.ya_lock.specs.declared.rule.View.TheVariants.{Unused, Making, Filling, HandingOut, Seated, Joining, Spent}
-use Rattle.ya_lock.specs.Rule.{index_of, making_index, words_in, place_of_view, least_at, least_count, GlobalView, IsBegun, ViewFits, Rule, row_length, KnowsValue, ValueInSlot, Obeys, Slots, count_from, count_after}
+use Rattle.ya_lock.specs.Rule.{index_of, making_index, words_in, row_length, place_of_view, least_at, least_count, count_from, count_after}
+use Rattle.ya_lock.specs.Rule.{GlobalView, IsBegun, ViewFits, Rule, KnowsValue, ValueInSlot, Obeys, Slots}
 use Rattle.ya_lock.specs.LockState.{IsOf, IsFilling, IsMaking, HasProcess, IsAway, NoneInside, ShowsCore, GoesOn, SomeSeatGoesOn}
 use Rattle.ya_lock.specs.LockState.{OneSeatAPlace, OneInside, IsInSlot, IsFresh, IsMadeByOne, IsLockState}
 use Rattle.ya_lock.specs.Lock.{LockId, IdlePass, OpenGuard, new_pass, guard_of, pass_of}
@@ -362,7 +363,8 @@ no_pass_that_another_seat_is_still_to_make h =
 all_idle : ShowsCore both_away 1
 all_idle = (
   λ place. Idle,
-  subst (λ (words : Word → ℕ). IsSoundState 1 record { words = words; processes = λ place. Idle }) (sym (words_behind 1 (making_index 1) (replicate 41 0) 1 (omega arith) ∙ words_zero 1 41)) (opens 1),
+  subst (λ (words : Word → ℕ). IsSoundState 1 record { words = words; processes = λ place. Idle })
+      (sym (words_behind 1 (making_index 1) (replicate 41 0) 1 (omega arith) ∙ words_zero 1 41)) (opens 1),
   λ seat place process value has. (away_both seat place process value has).1,
   λ place none. refl,
 )
@@ -666,13 +668,15 @@ a_lock_is_known_by_its_table id = id
 -- IdlePass
 the_parts_of_a_pass :
     (lock : LockId)
-    → ((new_pass {V = ℕ} lock 1 7).lock ≡ lock) × ((new_pass {V = ℕ} lock 1 7).place ≡ 1) × ((new_pass {V = ℕ} lock 1 7).seen ≡ 7) × ((new_pass {V = ℕ} lock 1 7).remote ≡ 0)
+    → ((new_pass {V = ℕ} lock 1 7).lock ≡ lock) × ((new_pass {V = ℕ} lock 1 7).place ≡ 1)
+    × ((new_pass {V = ℕ} lock 1 7).seen ≡ 7) × ((new_pass {V = ℕ} lock 1 7).remote ≡ 0)
 the_parts_of_a_pass lock = (refl, refl, refl, refl)
 
 -- OpenGuard
 the_parts_of_a_guard :
     (lock : LockId)
-    → ((guard_of (new_pass {V = ℕ} lock 1 7) 8 3).lock ≡ lock) × ((guard_of (new_pass {V = ℕ} lock 1 7) 8 3).place ≡ 1) × ((guard_of (new_pass {V = ℕ} lock 1 7) 8 3).found ≡ 8)
+    → ((guard_of (new_pass {V = ℕ} lock 1 7) 8 3).lock ≡ lock) × ((guard_of (new_pass {V = ℕ} lock 1 7) 8 3).place ≡ 1)
+    × ((guard_of (new_pass {V = ℕ} lock 1 7) 8 3).found ≡ 8)
     × ((guard_of (new_pass {V = ℕ} lock 1 7) 8 3).value ≡ 8) × ((guard_of (new_pass {V = ℕ} lock 1 7) 8 3).remote ≡ 3)
 the_parts_of_a_guard lock = (refl, refl, refl, refl, refl)
 

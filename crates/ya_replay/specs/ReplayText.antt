@@ -30,7 +30,8 @@ sign_text false = codes " = "
 -- `NUMBER pPLACE WORD := VALUE` or `NUMBER pPLACE WORD = VALUE`, and the mark
 unfoldable pub step_text : ℕ → Step → List ℕ
 step_text number step =
-    decimal number ++ (codes " p" ++ (decimal step.place ++ (codes " " ++ (word_text step.word ++ (sign_text step.store ++ (decimal step.value ++ mark_text step.mark))))))
+    decimal number ++ (codes " p" ++ (decimal step.place ++ (codes " " ++ (word_text step.word
+    ++ (sign_text step.store ++ (decimal step.value ++ mark_text step.mark))))))
 
 -- the lines of these steps, the first of them with this number
 abbrev pub steps_text : ℕ → List Step → List ℕ

@@ -15,8 +15,10 @@ settle-requires g c =
     let k = (c.for_each_mut.ensures i d (subst (λ (l : List HeldPass). i < length l) (sym was) h)).1 in
     let before : get_or c.deref_mut.result.now i d ≡ get_or old i d = ap (λ (l : List HeldPass). get_or l i d) was in
     let now : k.after_call.now ≡ get_or new i d = k.left in
-    let then' : k.argument.now ≡ get_or old i d = k.argument_is ∙ before in
-    (ap (λ (p : HeldPass). p.table) (sym now) ∙ (k.call.0 ∙ ap (λ (p : HeldPass). p.table) then'), ap (λ (p : HeldPass). p.feed) (sym now) ∙ (k.call.1 ∙ ap (λ (p : HeldPass). p.feed) then'))) in
+    let then' : k.argument.now ≡ get_or old i d = k.argument_is ∙ before in (
+      ap (λ (p : HeldPass). p.table) (sym now) ∙ (k.call.0 ∙ ap (λ (p : HeldPass). p.table) then'),
+      ap (λ (p : HeldPass). p.feed) (sym now) ∙ (k.call.1 ∙ ap (λ (p : HeldPass). p.feed) then'),
+    )) in
     let all : take c.in_ok-table.passes.len (new ++ drop (length new) old) ≡ new =
     subst (λ (n : ℕ). take n (new ++ drop (length new) old) ≡ new) (long ∙ sym c.in_ok-table.passes.ok.0) (take-append_seam new (drop (length new) old)) in
     (omega arith, subst (ArePassesOf c.in_ok-table.table) (sym all) kept)

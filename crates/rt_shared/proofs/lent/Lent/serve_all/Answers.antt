@@ -12,10 +12,12 @@ loop-index-preserved c =
     let n : ℕ = c.loop-index.index in let cmds : List Cmd = c.args.cmds.now in let cmd : Cmd = c.index-cmds-index.result in
     record {
       same = record { limit = s.same.limit ∙ i.same.limit; feeds = s.same.feeds ∙ i.same.feeds };
-      served = subst (λ (xs : List Cmd). AreServed c.args.feed xs c.args.self.now.book.journal c.args.out.now.items c.serve-outcome.new.self.book.journal c.push_reserved.new.self.items)
+      served = subst (λ (xs : List Cmd). AreServed c.args.feed xs c.args.self.now.book.journal c.args.out.now.items
+          c.serve-outcome.new.self.book.journal c.push_reserved.new.self.items)
           (sym (rw add-one (take-suc cmds n cmd c.loop-index-test.true ∙ ap (λ (x : Cmd). take n cmds ++ x ∷ []) (sym c.index-cmds-index.is))))
           (subst (λ (os : List Outcome). AreServed c.args.feed
           (take n cmds ++ cmd ∷ []) c.args.self.now.book.journal c.args.out.now.items c.serve-outcome.new.self.book.journal os) (sym p.items)
-          (served_more c.args.feed (take n cmds) cmd c.args.self.now.book.journal c.args.out.now.items c.loop-index.self.book.journal c.serve-outcome.new.self.book.journal c.loop-index.out.items c.serve-outcome.result i.served s.entry));
+          (served_more c.args.feed (take n cmds) cmd c.args.self.now.book.journal c.args.out.now.items c.loop-index.self.book.journal
+          c.serve-outcome.new.self.book.journal c.loop-index.out.items c.serve-outcome.result i.served s.entry));
       room = omega (arith, p.len, p.capacity, i.room);
     }

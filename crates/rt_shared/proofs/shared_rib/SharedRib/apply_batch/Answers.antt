@@ -38,7 +38,9 @@ leave-requires g c =
     let feed : c.pass.inside.feed ≡ feed_of c.enter-guard.result.place = there.0 ∙ ap feed_of (sym (ap (λ (x : OpenGuard Lent). x.place) guard)) in
     let value : c.get_mut.result.now ≡ c.enter-guard.result.found = c.get_mut.ensures.value ∙ ap (λ (x : OpenGuard Lent). x.value) guard in
     let lock : c.enter-guard.result.lock ≡ c.self.inside.lock =
-    ap (λ (x : OpenGuard Lent). x.lock) guard ∙ lock_of c.pass.inside.feed c.pass.inside.pass c.in-Some.idle c.args.pass.now c.args.self.now _ is c.pass.view_is c.requires c.self.view_is in (
+    ap (λ (x : OpenGuard Lent). x.lock) guard
+    ∙ lock_of c.pass.inside.feed c.pass.inside.pass c.in-Some.idle c.args.pass.now c.args.self.now _ is c.pass.view_is c.requires
+    c.self.view_is in (
       spaced,
       (
         lock,

@@ -1,6 +1,5 @@
 use Rattle.std.proofs.Common.{ℕ, lit<, sym, ap, ◌∙◌, subst}
 use Rattle.ya_core.specs.declared.process.Process.{Process}
-use Rattle.ya_core.specs.declared.process.Process.TheVariants.{Entering}
 use Rattle.ya_core.specs.declared.process.EntryPoint.TheVariants.{E8, E10}
 use Rattle.ya_lock.specs.inside.Lock.{HasLooked, OnWay, WayOf}
 use Rattle.ya_lock.proofs.EntrySteps.{due_entering, found_entering, looked_e8, looked_e10}

@@ -35,7 +35,8 @@ due_index levels number word most within is =
 may_step : {V : Type 0} (since done : ℕ → V → V → Type 0) (since_same : (place : ℕ) (a : V) → since place a a)
     (since_done : (place other : ℕ) (a b c : V) → other ≢ place → since place a b → done other b c → since place a c)
     (w : Walk) (a : Access) (L number key id : ℕ) (table : LockId) (me : Me (Option V) (View V)) (seen : V)
-    → (op_of w ≢ op.Idle) × (op_of w ≢ op.Inside) → SeatOf since done seen w me → IsWalk w → access_of w.levels w.place w.process ≡ a → IsWord w.levels (word_of a)
+    → (op_of w ≢ op.Idle) × (op_of w ≢ op.Inside) → SeatOf since done seen w me → IsWalk w
+    → access_of w.levels w.place w.process ≡ a → IsWord w.levels (word_of a)
     → number ≡ number_of w.levels (word_of a) → w.levels ≡ L → IsLockTable L key table
     → (8 * number < table.words) × Allows (Rule since key) table.slots id me (8 * number) (value_after a)
     (λ n then'. ProcessSteps since L (value_after a n) me.0 me.1 then')
