@@ -7,7 +7,8 @@ use Rattle.rt_feed.specs.declared.report.Line.{Line}
 use Rattle.rt_feed.specs.declared.report.Answer.{Answer}
 use Rattle.rt_feed.specs.declared.versions.Version.{Version}
 use Rattle.rt_feed.specs.declared.versions.Version.TheVariants.{One, Two}
-use Rattle.rt_feed.specs.Lines.{IsBody, CutsLine, LineOutcome, skipped, faulty, asked, LinesBecome, Becomes, heading, reading, line_answer, numbered, report_lines, asked_by, asked_of}
+use Rattle.rt_feed.specs.Lines.{IsBody, CutsLine, LineOutcome, skipped, faulty, asked, LinesBecome, Becomes}
+use Rattle.rt_feed.specs.Lines.{heading, reading, line_answer, numbered, report_lines, asked_by, asked_of}
 use Rattle.rt_feed.specs.Grammar.{AnswersLine}
 
 -- more lines after some

@@ -31,7 +31,8 @@ use Rattle.rt_feed.specs.Grammar.{prefix, preference, hop, address, hash, is_ski
 use Rattle.rt_feed.specs.Grammar.{IsFirstFault, IsFaultAfter, IsFaultOfFields, AnswersLine}
 use Rattle.rt_feed.proofs.Pairs.{pair-read}
 use Rattle.rt_feed.specs.Addresses.{AnswersAddressLine}
-use Rattle.rt_feed.specs.Lines.{lf, CutsLine, TellsTwo, IsBody, IsVersion, LineOutcome, skipped, faulty, asked, reading, heading, LinesBecome, Becomes, line_answer, answer_of, numbered, report_lines, asked_by, asked_of}
+use Rattle.rt_feed.specs.Lines.{lf, CutsLine, TellsTwo, IsBody, IsVersion, LineOutcome, skipped, faulty, asked}
+use Rattle.rt_feed.specs.Lines.{reading, heading, LinesBecome, Becomes, line_answer, answer_of, numbered, report_lines, asked_by, asked_of}
 use Rattle.rt_feed.specs.Reports.{is_refusal, is_fault, NumbersRise, has_refusal, has_fault}
 use Rattle.rt_feed.specs.Visits.{visit_of, reply_to, entries, concatenated, piece_of, IsCut, Visit, Gains, AnswersBatch}
 use Rattle.rt_feed.specs.Printed.{hop_text, route_text, reply_text, fault_text, answer_text, line_text, report_text, row_text, count_text, rows_text}
@@ -709,14 +710,18 @@ did cmd reply = asked cmd (outcome.Did reply)
 
 -- the three files of the tutorial, and what became of their lines
 abbrev pub north : List ℕ
-north = codes "# Has a way to all of 10.0.0.0/8, and a better one to a part of it.\nadd 10.0.0.0/8 50 192.0.2.1\nadd 10.1.0.0/16 10 192.0.2.1\nlookup 10.1.2.3\n"
+north =
+    codes "# Has a way to all of 10.0.0.0/8, and a better one to a part of it.\n"
+    ++ codes "add 10.0.0.0/8 50 192.0.2.1\nadd 10.1.0.0/16 10 192.0.2.1\nlookup 10.1.2.3\n"
 
 abbrev pub north_read : List LineOutcome
 north_read = skipped ∷ did (Add ten_8 50 (via_192_0_2 1)) Added ∷ did (Add ten_1_16 10 (via_192_0_2 1)) Added
     ∷ did (Lookup at_10_1_2_3) (Found (route_via ten_1_16 1 10 (via_192_0_2 1))) ∷ []
 
 abbrev pub south_lines : List ℕ
-south_lines = codes "# Loses its neighbour, takes back all that it said, and comes up again with one way.\nadd 10.0.0.0/8 20 192.0.2.2\nadd 10.2.0.0/16 20 192.0.2.2\npurge\nadd 10.0.0.0/8 30 192.0.2.2\n"
+south_lines =
+    codes "# Loses its neighbour, takes back all that it said, and comes up again with one way.\n"
+    ++ codes "add 10.0.0.0/8 20 192.0.2.2\nadd 10.2.0.0/16 20 192.0.2.2\npurge\nadd 10.0.0.0/8 30 192.0.2.2\n"
 
 abbrev pub south : List ℕ
 south = codes "version 2\n" ++ south_lines
@@ -726,7 +731,9 @@ south_read = skipped ∷ did (Add ten_8 20 (via_192_0_2 2)) Added ∷ did (Add t
     ∷ did (Add ten_8 30 (via_192_0_2 2)) Added ∷ []
 
 abbrev pub east_lines : List ℕ
-east_lines = codes "# Discards what nobody is to reach, and takes back one way.\nadd 10.9.0.0/16 10 discard\nadd 10.3.0.0/16 10 192.0.2.3\nwithdraw 10.3.0.0/16\nlookup 10.9.0.1\n"
+east_lines =
+    codes "# Discards what nobody is to reach, and takes back one way.\n"
+    ++ codes "add 10.9.0.0/16 10 discard\nadd 10.3.0.0/16 10 192.0.2.3\nwithdraw 10.3.0.0/16\nlookup 10.9.0.1\n"
 
 abbrev pub east : List ℕ
 east = codes "version 2\n" ++ east_lines
@@ -861,7 +868,8 @@ nothing_covers_it = refl
 
 three_cover_it :
     all_found_text at_10_1_2_3 (route_via ten_1_16 1 10 (via_192_0_2 1) ∷ route_via ten_8 2 30 (via_192_0_2 2) ∷ route_via ten_8 1 50 Discard ∷ [])
-    ≡ codes "10.1.2.3 route 10.1.0.0/16 feed 1 pref 10 via 192.0.2.1\n10.1.2.3 also 10.0.0.0/8 feed 2 pref 30 via 192.0.2.2 shorter\n10.1.2.3 also 10.0.0.0/8 feed 1 pref 50 via discard shorter\n"
+    ≡ codes "10.1.2.3 route 10.1.0.0/16 feed 1 pref 10 via 192.0.2.1\n"
+    ++ codes "10.1.2.3 also 10.0.0.0/8 feed 2 pref 30 via 192.0.2.2 shorter\n10.1.2.3 also 10.0.0.0/8 feed 1 pref 50 via discard shorter\n"
 unfolding digits address_text prefix_text found_text also_text reason_text reply_text route_text
 three_cover_it = refl
 

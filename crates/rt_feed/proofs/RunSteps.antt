@@ -13,7 +13,8 @@ use Rattle.rt_feed.specs.declared.feed_run.FeedRun.{FeedRun}
 use Rattle.rt_feed.specs.Reports.{is_fault}
 use Rattle.rt_feed.specs.declared.versions.Version.{Version}
 use Rattle.rt_feed.specs.declared.versions.Version.TheVariants.{One, Two}
-use Rattle.rt_feed.specs.Lines.{IsBody, CutsLine, LineOutcome, skipped, faulty, asked, reading, Becomes, heading, answer_of, line_answer, numbered, report_lines, asked_by, asked_of}
+use Rattle.rt_feed.specs.Lines.{IsBody, CutsLine, LineOutcome, skipped, faulty, asked, reading, Becomes}
+use Rattle.rt_feed.specs.Lines.{heading, answer_of, line_answer, numbered, report_lines, asked_by, asked_of}
 use Rattle.rt_feed.specs.Grammar.{AnswersLine}
 use Rattle.rt_feed.specs.Visits.{Visit, Gains, concatenated, piece_of, visit_of, AnswersBatch}
 use Rattle.rt_feed.specs.inside.Filling.{filled}

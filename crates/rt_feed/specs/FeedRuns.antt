@@ -9,7 +9,8 @@ use Rattle.rt_feed.specs.Grammar.{AnswersLine}
 use Rattle.rt_feed.specs.Visits.{Visit, Gains, IsCut, visit_of}
 
 -- the text's first lines became these, and the gate was asked their commands in pieces of `batch`, a visit for each
-pub record AsksLines {G : Type 0} (holds : G → List Visit → Type 0) (batch : ℕ) (text : List ℕ) (outcomes : List LineOutcome) (rest : List ℕ) (old new : G) : Type 0 where
+pub record AsksLines {G : Type 0} (holds : G → List Visit → Type 0) (batch : ℕ) (text : List ℕ) (outcomes : List LineOutcome) (rest : List ℕ)
+    (old new : G) : Type 0 where
   pub becomes : Becomes text outcomes rest
   pub pieces : List (List (Cmd × Outcome))
   pub cut : IsCut batch (asked_of outcomes) pieces
@@ -40,7 +41,8 @@ pub record StopsWithin {G : Type 0} (holds : G → List Visit → Type 0) (batch
 
 -- the feed's text was run through its gate, which keeps its name: this is the report, or, where it has none, a beginning
 -- of the text was asked. An empty text has a report
-pub record RunsOne {G N : Type 0} (name : G → N) (holds : G → List Visit → Type 0) (batch : ℕ) (text : List ℕ) (old new : G) (report : Option (List Line)) : Type 0 where
+pub record RunsOne {G N : Type 0} (name : G → N) (holds : G → List Visit → Type 0) (batch : ℕ) (text : List ℕ) (old new : G)
+    (report : Option (List Line)) : Type 0 where
   pub named : name new ≡ name old
   pub runs : MatchOption report (StopsWithin holds batch text old new) (λ lines. RunsFeed holds batch text old new lines)
   pub nothing : text ≡ [] → IsSome report

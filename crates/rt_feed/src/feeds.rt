@@ -34,7 +34,8 @@ pub fn run_feeds<R: Threads + Wait + Sync, G: Gate>(
     ensures count { (result ≡ Err (RunFault.FeedCount)) ↔ ((texts.now ≢ []) × (length texts.now ≢ length feeds.old)) }
     ensures unasked { (texts.now ≡ []) ⊎ (length texts.now ≢ length feeds.old) → feeds.new ≡ feeds.old }
     ensures each { length texts.now ≡ length feeds.old → (i : ℕ) (t : _) (d : _) → i < length texts.now
-        → RunsOne G.name G.holds batch (slice_index_or texts.now i t).items (slice_index_or feeds.old i d).gate (slice_index_or feeds.new i d).gate (slice_index_or feeds.new i d).report }
+        → RunsOne G.name G.holds batch (slice_index_or texts.now i t).items
+        (slice_index_or feeds.old i d).gate (slice_index_or feeds.new i d).gate (slice_index_or feeds.new i d).report }
     ensures ok { OnOk result (All (λ feed. IsSome feed.report) feeds.new) }
     ensures memory { result ≡ Err (RunFault.Memory) → Any (λ feed. feed.report ≡ None) feeds.new }
 {
@@ -50,7 +51,8 @@ pub fn run_feeds<R: Threads + Wait + Sync, G: Gate>(
         texts.len(),
         &|i: usize, feed: &mut Feed<G>|
             requires { (i < length texts.now) × (1 ≤ batch) }
-            ensures { (t : _) → RunsOne G.name G.holds batch (slice_index_or texts.entry.now i t).items feed.entry.now.gate feed.exit.now.gate feed.exit.now.report }
+            ensures { (t : _) → RunsOne G.name G.holds batch (slice_index_or texts.entry.now i t).items
+                feed.entry.now.gate feed.exit.now.gate feed.exit.now.report }
         {
             run_one(rt, alloc, texts[i].as_slice(), batch, feed);
         },

@@ -1,5 +1,6 @@
 //! Laws of the feed text. Each function does nothing: its contract is the law, for all lines and texts.
-ghost use Rattle.rt_feed.specs.Laws.{LineHasOneAnswer, AddressLineHasOneAnswer, CommandIsReadAgain, OnlyItsTextIsRead, OlderTextsStay, TextHasOneCut, TextHasOneReading};
+ghost use Rattle.rt_feed.specs.Laws.{LineHasOneAnswer, AddressLineHasOneAnswer, CommandIsReadAgain};
+ghost use Rattle.rt_feed.specs.Laws.{OnlyItsTextIsRead, OlderTextsStay, TextHasOneCut, TextHasOneReading};
 
 /// What `parse_line` answers is the only answer that its contract allows.
 pub fn one_answer()

@@ -4,7 +4,8 @@ ghost use Rattle.std.specs.List.{flat_map};
 ghost use Rattle.std.specs.Io.KnownBytes.{Appends};
 ghost use Rattle.rt_cidr.specs.Output.{AppendsBeginning};
 ghost use Rattle.rt_cidr.specs.ShortText.{FitsInShortText};
-ghost use Rattle.rt_feed.specs.Printed.{hop_text, route_text, reply_text, fault_text, answer_text, line_text, report_text, row_text, rows_text, count_text, table_text, found_text, reason_text, also_text, all_found_text};
+ghost use Rattle.rt_feed.specs.Printed.{hop_text, route_text, reply_text, fault_text, answer_text, line_text, report_text};
+ghost use Rattle.rt_feed.specs.Printed.{row_text, rows_text, count_text, table_text, found_text, reason_text, also_text, all_found_text};
 
 use crate::parse::LineFault;
 use crate::report::{Answer, Line, Report};

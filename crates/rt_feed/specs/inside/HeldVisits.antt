@@ -7,15 +7,18 @@ use Rattle.rt_shared.specs.Visits.{Uncut}
 use Rattle.rt_feed.specs.Visits.{Visit, entries}
 
 -- an entry of another feed in front cuts nothing
-uncut_behind : (feed : ℕ) (visits : List (List Entry)) (e : Entry) (journal : List Entry) → e.feed ≢ feed → Uncut feed visits journal → Uncut feed visits (e ∷ journal)
+uncut_behind : (feed : ℕ) (visits : List (List Entry)) (e : Entry) (journal : List Entry) → e.feed ≢ feed → Uncut feed visits journal
+    → Uncut feed visits (e ∷ journal)
 uncut_behind feed [] e journal other none = All-cons (λ (x : Entry). x.feed ≢ feed) e journal other none
 uncut_behind feed (visit ∷ visits) e journal other (before, rest, is, none, all, uncut) =
     (e ∷ before, rest, ap (λ (l : List Entry). e ∷ l) is, All-cons (λ (x : Entry). x.feed ≢ feed) e before other none, all, uncut)
 
 -- an entry of the feed in front is a visit more
-uncut_with : (feed : ℕ) (visits : List (List Entry)) (e : Entry) (journal : List Entry) → e.feed ≡ feed → Uncut feed visits journal → Uncut feed ((e ∷ []) ∷ visits) (e ∷ journal)
+uncut_with : (feed : ℕ) (visits : List (List Entry)) (e : Entry) (journal : List Entry) → e.feed ≡ feed → Uncut feed visits journal
+    → Uncut feed ((e ∷ []) ∷ visits) (e ∷ journal)
 uncut_with feed visits e journal own uncut =
-    ([], journal, refl, All-nil (λ (x : Entry). x.feed ≢ feed), All-cons (λ (x : Entry). x.feed ≡ feed) e [] own (All-nil (λ (x : Entry). x.feed ≡ feed)), uncut)
+    let only = All-cons (λ (x : Entry). x.feed ≡ feed) e [] own (All-nil (λ (x : Entry). x.feed ≡ feed)) in
+    ([], journal, refl, All-nil (λ (x : Entry). x.feed ≢ feed), only, uncut)
 
 -- the entry as a visit's
 by_feed : (feed : ℕ) (e : Entry) → e.feed ≡ feed → entries feed ((e.cmd, e.reply) ∷ []) ≡ e ∷ []
@@ -30,7 +33,8 @@ visits_in feed (e ∷ journal) =
       | inl own ↦
           let is : e.feed ≡ feed = eqb-true e.feed feed own in (
             ((e.cmd, e.reply) ∷ []) ∷ rest.0,
-            subst (λ (visit : List Entry). Uncut feed (visit ∷ map (entries feed) rest.0) (e ∷ journal)) (sym (by_feed feed e is)) (uncut_with feed (map (entries feed) rest.0) e journal is rest.1),
+            subst (λ (visit : List Entry). Uncut feed (visit ∷ map (entries feed) rest.0) (e ∷ journal)) (sym (by_feed feed e is))
+                (uncut_with feed (map (entries feed) rest.0) e journal is rest.1),
           )
       | inr other ↦ (rest.0, uncut_behind feed (map (entries feed) rest.0) e journal (eqb-false e.feed feed other) rest.1)
     ]
