@@ -9,7 +9,6 @@ use Rattle.rt_rib.specs.declared.commands.Cmd.{Cmd}
 use Rattle.rt_shared.specs.declared.outcome.Outcome.{Outcome}
 use Rattle.rt_shared.specs.declared.outcome.Outcome.TheVariants.{Did, Refused}
 use Rattle.rt_feed.specs.declared.report.Line.{Line}
-use Rattle.rt_feed.specs.declared.feed_run.FeedRun.{FeedRun}
 use Rattle.rt_feed.specs.Reports.{is_fault}
 use Rattle.rt_feed.specs.declared.versions.Version.{Version}
 use Rattle.rt_feed.specs.declared.versions.Version.TheVariants.{One, Two}
@@ -19,7 +18,7 @@ use Rattle.rt_feed.specs.Grammar.{AnswersLine}
 use Rattle.rt_feed.specs.Visits.{Visit, Gains, concatenated, piece_of, visit_of, AnswersBatch}
 use Rattle.rt_feed.specs.inside.Filling.{filled}
 use Rattle.rt_feed.specs.FeedRuns.{RunsFeed, StopsWithin, IsTold}
-use Rattle.rt_feed.specs.inside.FeedRuns.{AnswersWaiting, Gathers, HasRead}
+use Rattle.rt_feed.specs.inside.FeedRuns.{AnswersWaiting, Gathers, HasRead, RunSoFar}
 use Rattle.rt_feed.proofs.Becoming.{becomes-push, becomes-at, becomes-alike, becomes-first, report_lines-append, report_lines-push, asked_of-append}
 use Rattle.rt_feed.proofs.Filling.{filled-none, filled-fault, filled-given}
 
@@ -182,8 +181,8 @@ none_asked One = refl
 none_asked Two = refl
 
 -- before the first line
-pub nothing_read : {G : Type 0} (holds : G → List Visit → Type 0) (batch : ℕ) (text : List ℕ) (gate : G) (run : FeedRun) → run.report ≡ [] → run.first ≡ 0
-    → run.gathered.items ≡ []
+pub nothing_read : {G : Type 0} (holds : G → List Visit → Type 0) (batch : ℕ) (text : List ℕ) (gate : G) (run : RunSoFar) → run.report ≡ [] → run.first ≡ 0
+    → run.gathered ≡ []
     → (lines : List ℕ) → IsBody text run.version lines → HasRead holds batch text lines (length (heading run.version)) gate gate run
 nothing_read holds batch text gate run report first gathered lines body = record {
   settled = heading run.version;
@@ -203,10 +202,10 @@ nothing_read holds batch text gate run report first gathered lines body = record
 
 -- one line more, whose command waits if it is one
 pub line_read : {G : Type 0} (holds : G → List Visit → Type 0) (batch : ℕ) (text rest line next : List ℕ) (earlier number : ℕ) (start gate : G)
-    (run run' : FeedRun) (outcome : LineOutcome) (more : List Cmd)
+    (run run' : RunSoFar) (outcome : LineOutcome) (more : List Cmd)
     → HasRead holds batch text rest earlier start gate run → number ≡ earlier + 1 → CutsLine rest line next → AnswersLine run.version line (reading outcome)
     → asked_by outcome ≡ map (λ cmd. (cmd, Refused)) more → run'.report ≡ run.report ++ numbered number (line_answer outcome) → run'.first ≡ run.first
-    → run'.gathered.items ≡ run.gathered.items ++ more → run'.version ≡ run.version → HasRead holds batch text next number start gate run'
+    → run'.gathered ≡ run.gathered ++ more → run'.version ≡ run.version → HasRead holds batch text next number start gate run'
 line_read holds batch text rest line next earlier number start gate run run' outcome more so_far one_more cut reads asks reported first gathered version =
     let settled = so_far.settled in
     let waiting = so_far.waiting in
@@ -233,7 +232,7 @@ line_read holds batch text rest line next earlier number start gate run run' out
 
 -- one line more, whose command waits now
 pub command_read : {G : Type 0} (holds : G → List Visit → Type 0) (batch : ℕ) (text rest line next : List ℕ) (earlier number : ℕ) (start gate : G)
-    (run run' : FeedRun) (cmd : Cmd) → HasRead holds batch text rest earlier start gate run → number ≡ earlier + 1 → CutsLine rest line next
+    (run run' : RunSoFar) (cmd : Cmd) → HasRead holds batch text rest earlier start gate run → number ≡ earlier + 1 → CutsLine rest line next
     → AnswersLine run.version line (Ok (Some cmd)) → Gathers number cmd run run' → HasRead holds batch text next number start gate run'
 command_read holds batch text rest line next earlier number start gate run run' cmd so_far one_more cut reads gathers =
     line_read holds batch text rest line next earlier number start gate run run' (asked cmd Refused) (cmd ∷ []) so_far one_more cut reads refl
@@ -252,13 +251,14 @@ record Settled {G : Type 0} (holds : G → List Visit → Type 0) (version : Ver
   is_joined : asked_of outcomes ≡ concatenated pieces ++ asked
   gained : Gains holds start new (map visit_of (pieces ++ piece_of asked))
 
-settles : {G : Type 0} (holds : G → List Visit → Type 0) (batch : ℕ) (text rest : List ℕ) (number : ℕ) (start gate new : G) (run : FeedRun) (report : List Line)
-    → (read : HasRead holds batch text rest number start gate run) → (answers : AnswersWaiting holds gate new run.gathered.items run.first run.report report)
-    → Settled holds run.version text rest number start new read.asked.pieces (zip run.gathered.items answers.outcomes) report
+settles : {G : Type 0} (holds : G → List Visit → Type 0) (batch : ℕ) (text rest : List ℕ) (number : ℕ) (start gate new : G) (run : RunSoFar)
+    (report : List Line)
+    → (read : HasRead holds batch text rest number start gate run) → (answers : AnswersWaiting holds gate new run.gathered run.first run.report report)
+    → Settled holds run.version text rest number start new read.asked.pieces (zip run.gathered answers.outcomes) report
 settles holds batch text rest number start gate new run report read answers =
     let settled = read.settled in
     let waiting = read.waiting in
-    let cmds = run.gathered.items in
+    let cmds = run.gathered in
     let outcomes = answers.outcomes in
     let said : map reading (settled ++ waiting) ≡ map reading (settled ++ given waiting outcomes) =
     map-append reading settled waiting
@@ -310,12 +310,12 @@ pairs : (cmds : List Cmd) (outcomes : List Outcome) → length outcomes ≡ leng
 pairs cmds outcomes each = omega (arith, length-zip cmds outcomes, each)
 
 -- a batch was asked: none of the lines read waits
-pub batch_asked : {G : Type 0} (holds : G → List Visit → Type 0) (batch : ℕ) (text rest : List ℕ) (number : ℕ) (start gate new : G) (run run' : FeedRun)
-    → HasRead holds batch text rest number start gate run → length run.gathered.items ≡ batch
-    → AnswersWaiting holds gate new run.gathered.items run.first run.report run'.report
-    → run'.gathered.items ≡ [] → run'.first ≡ length run'.report → run'.version ≡ run.version → HasRead holds batch text rest number start new run'
+pub batch_asked : {G : Type 0} (holds : G → List Visit → Type 0) (batch : ℕ) (text rest : List ℕ) (number : ℕ) (start gate new : G) (run run' : RunSoFar)
+    → HasRead holds batch text rest number start gate run → length run.gathered ≡ batch
+    → AnswersWaiting holds gate new run.gathered run.first run.report run'.report
+    → run'.gathered ≡ [] → run'.first ≡ length run'.report → run'.version ≡ run.version → HasRead holds batch text rest number start new run'
 batch_asked holds batch text rest number start gate new run run' read whole answers emptied first version =
-    let asked = zip run.gathered.items answers.outcomes in
+    let asked = zip run.gathered answers.outcomes in
     let done = settles holds batch text rest number start gate new run run'.report read answers in
     let becomes = becomes-at text rest done.outcomes (done.outcomes ++ []) (append-nil done.outcomes) done.becomes in
     record {
@@ -329,7 +329,7 @@ batch_asked holds batch text rest number start gate new run run' read whole answ
       asked = record {
         pieces = read.asked.pieces ++ piece_of asked;
         full = All-append (λ piece. length piece ≡ batch) read.asked.pieces (piece_of asked) read.asked.full
-            (full_piece batch asked (pairs run.gathered.items answers.outcomes answers.each ∙ whole));
+            (full_piece batch asked (pairs run.gathered answers.outcomes answers.each ∙ whole));
         is_joined = done.is_joined ∙ piece_more read.asked.pieces asked;
         gained = done.gained;
       };
@@ -337,13 +337,13 @@ batch_asked holds batch text rest number start gate new run run' read whole answ
     }
 
 -- the text was read to its end, and the last commands were asked
-pub all_asked : {G : Type 0} (holds : G → List Visit → Type 0) (batch : ℕ) (text : List ℕ) (number : ℕ) (start gate new : G) (run : FeedRun)
+pub all_asked : {G : Type 0} (holds : G → List Visit → Type 0) (batch : ℕ) (text : List ℕ) (number : ℕ) (start gate new : G) (run : RunSoFar)
     (report : List Line)
-    → HasRead holds batch text [] number start gate run → length run.gathered.items < batch
-    → AnswersWaiting holds gate new run.gathered.items run.first run.report report
+    → HasRead holds batch text [] number start gate run → length run.gathered < batch
+    → AnswersWaiting holds gate new run.gathered run.first run.report report
     → RunsFeed holds batch text start new report
 all_asked holds batch text number start gate new run report read few answers =
-    let asked = zip run.gathered.items answers.outcomes in
+    let asked = zip run.gathered answers.outcomes in
     let done = settles holds batch text [] number start gate new run report read answers in
     record {
       outcomes = done.outcomes;
@@ -354,7 +354,7 @@ all_asked holds batch text number start gate new run report read few answers =
           whole = read.asked.pieces;
           last = asked;
           full = read.asked.full;
-          fewer = omega (arith, few, pairs run.gathered.items answers.outcomes answers.each);
+          fewer = omega (arith, few, pairs run.gathered answers.outcomes answers.each);
           is_joined = done.is_joined;
           is_cut = refl;
         };
@@ -364,8 +364,8 @@ all_asked holds batch text number start gate new run report read few answers =
     }
 
 -- the text was read so far, and no more is asked, though this line is next
-pub stopped : {G : Type 0} (holds : G → List Visit → Type 0) (batch : ℕ) (text rest line next : List ℕ) (number : ℕ) (start gate : G) (run : FeedRun)
-    → HasRead holds batch text rest number start gate run → length run.gathered.items < batch → CutsLine rest line next → IsTold run.version line
+pub stopped : {G : Type 0} (holds : G → List Visit → Type 0) (batch : ℕ) (text rest line next : List ℕ) (number : ℕ) (start gate : G) (run : RunSoFar)
+    → HasRead holds batch text rest number start gate run → length run.gathered < batch → CutsLine rest line next → IsTold run.version line
     → StopsWithin holds batch text start gate
 stopped holds batch text rest line next number start gate run read few cut told =
     let first = becomes-first text rest read.settled read.earlier read.waiting read.becomes

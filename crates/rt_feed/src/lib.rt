@@ -25,7 +25,6 @@
 mod addresses;
 mod differences;
 mod faults;
-mod feed_run;
 mod feeds;
 mod gates;
 pub mod laws;

@@ -3,7 +3,6 @@ ghost use Rattle.std.specs.Prelude.{◌≡◌, ◌≢◌, ◌<◌, ◌≤◌, []
 ghost use Rattle.rt_feed.specs.inside.FeedRuns.{AnswersWaiting, Gathers, ReadsOneMore};
 ghost use Rattle.rt_feed.specs.FeedRuns.{IsTold, RunsFeed, StopsWithin};
 
-use crate::feed_run::FeedRun;
 use crate::gates::Gate;
 use crate::lines::next_line;
 use crate::parse::parse_line;
@@ -12,6 +11,7 @@ use crate::versions::{Version, text_body};
 use rt_rib::{Cmd, Refused};
 use rt_shared::Outcome;
 use std::alloc::{AllocError, Global};
+use std::marker::Model;
 use std::sync::Wait;
 
 /// Asks the gate each command of the text in order, `batch` at once, and gives the report: with a batch of 1 one by one,
@@ -47,12 +47,43 @@ pub fn run_feed<R: Wait, G: Gate>(
     Ok(run.report)
 }
 
+/// How far a feed's text has come. Commands that are gathered and not yet asked stand in the report as refused, so that
+/// their answers need no room when they come.
+#[derive(Drop)]
+struct FeedRun {
+    /// By which version its lines are read.
+    version: Version,
+    report: Report,
+    /// Where in the report the lines begin that were read since the gate was last asked.
+    first: usize,
+    /// The commands that wait.
+    gathered: Vec<Cmd>,
+    /// Room for what becomes of a batch.
+    outcomes: Vec<Outcome>,
+}
+
+impl Model for FeedRun {
+    ghost use Rattle.std.specs.Prelude.{◌≤◌, length};
+    ghost use Rattle.rt_feed.specs.inside.FeedRuns.{RunSoFar};
+
+    ghost Value = { RunSoFar };
+
+    ghost view = { λ run. record {
+      version = run.version;
+      report = run.report;
+      first = run.first;
+      gathered = run.gathered.items;
+    } };
+
+    ghost invariant = { λ run. run.first ≤ length run.report };
+}
+
 impl FeedRun {
     fn new(alloc: Global, version: Version) -> FeedRun
         ensures version { result.version ≡ version }
         ensures report { result.report ≡ [] }
         ensures first { result.first ≡ 0 }
-        ensures gathered { result.gathered.items ≡ [] }
+        ensures gathered { result.gathered ≡ [] }
     {
         FeedRun {
             version,
@@ -111,9 +142,9 @@ impl FeedRun {
     /// Asks the commands that wait, if there are any, and puts what became of them into the report.
     fn ask<R: Wait, G: Gate>(&mut self, rt: &R, batch: usize, gate: &mut G)
         ensures name { G.name gate.new ≡ G.name gate.old }
-        ensures waiting { AnswersWaiting G.holds gate.old gate.new self.old.gathered.items self.old.first self.old.report self.new.report }
+        ensures waiting { AnswersWaiting G.holds gate.old gate.new self.old.gathered self.old.first self.old.report self.new.report }
         ensures version { self.new.version ≡ self.old.version }
-        ensures emptied { self.new.gathered.items ≡ [] }
+        ensures emptied { self.new.gathered ≡ [] }
         ensures none_waits { self.new.first ≡ length self.new.report }
     {
         let FeedRun {

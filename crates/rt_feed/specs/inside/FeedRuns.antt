@@ -5,7 +5,7 @@ use Rattle.rt_shared.specs.declared.outcome.Outcome.{Outcome}
 use Rattle.rt_shared.specs.declared.outcome.Outcome.TheVariants.{Refused}
 use Rattle.rt_feed.specs.declared.report.Line.{Line}
 use Rattle.rt_feed.specs.declared.report.Answer.TheVariants as answer
-use Rattle.rt_feed.specs.declared.feed_run.FeedRun.{FeedRun}
+use Rattle.rt_feed.specs.declared.versions.Version.{Version}
 use Rattle.rt_feed.specs.Lines.{CutsLine, LineOutcome, Becomes, heading, report_lines, asked_of}
 use Rattle.rt_feed.specs.Visits.{Visit, Gains, concatenated, piece_of, visit_of}
 use Rattle.rt_feed.specs.inside.Filling.{filled}
@@ -19,10 +19,18 @@ pub record AnswersWaiting {G : Type 0} (holds : G → List Visit → Type 0) (ol
   pub reported : (report' ≡ take first report ++ filled (drop first report) outcomes)
       ⊎ ((report' ≡ report) × (outcomes ≡ map (λ cmd. Refused) cmds))
 
+-- how far a run has come: by which version it reads, its report, where the lines begin in it that were read since the gate
+-- was last asked, and the commands that wait
+pub record RunSoFar : Type 0 where
+  pub version : Version
+  pub report : List Line
+  pub first : ℕ
+  pub gathered : List Cmd
+
 -- the command of the line of this number waits, and stands in the report as refused
-pub record Gathers (number : ℕ) (cmd : Cmd) (run run' : FeedRun) : Type 0 where
+pub record Gathers (number : ℕ) (cmd : Cmd) (run run' : RunSoFar) : Type 0 where
   pub reported : run'.report ≡ run.report ++ record { number = number; answer = answer.Refused } ∷ []
-  pub gathered : run'.gathered.items ≡ run.gathered.items ++ cmd ∷ []
+  pub gathered : run'.gathered ≡ run.gathered ++ cmd ∷ []
   pub first : run'.first ≡ run.first
   pub version : run'.version ≡ run.version
 
@@ -34,14 +42,14 @@ pub record AskedWhole {G : Type 0} (holds : G → List Visit → Type 0) (batch 
   pub gained : Gains holds old now (map visit_of pieces)
 
 -- the run reports the lines of both lists, and the commands of the second are gathered and stand in its report as refused
-pub record HasGathered (run : FeedRun) (settled waiting : List LineOutcome) : Type 0 where
+pub record HasGathered (run : RunSoFar) (settled waiting : List LineOutcome) : Type 0 where
   pub reported : run.report ≡ report_lines 1 (settled ++ waiting)
   pub first : run.first ≡ length (report_lines 1 settled)
-  pub gathered : asked_of waiting ≡ map (λ cmd. (cmd, Refused)) run.gathered.items
+  pub gathered : asked_of waiting ≡ map (λ cmd. (cmd, Refused)) run.gathered
 
 -- the run has read so many lines of the text, and this rest is unread. First come lines whose commands were asked, from
 -- the one that tells the version on; the commands of the others wait
-pub record HasRead {G : Type 0} (holds : G → List Visit → Type 0) (batch : ℕ) (text rest : List ℕ) (number : ℕ) (old now : G) (run : FeedRun) : Type 0 where
+pub record HasRead {G : Type 0} (holds : G → List Visit → Type 0) (batch : ℕ) (text rest : List ℕ) (number : ℕ) (old now : G) (run : RunSoFar) : Type 0 where
   pub settled : List LineOutcome
   pub waiting : List LineOutcome
   pub becomes : Becomes text (settled ++ waiting) rest
@@ -53,13 +61,13 @@ pub record HasRead {G : Type 0} (holds : G → List Visit → Type 0) (batch : �
   pub held : HasGathered run settled waiting
 
 -- the same, and fewer than a batch wait
-abbrev pub IsReading : {G : Type 0} → (G → List Visit → Type 0) → ℕ → List ℕ → List ℕ → ℕ → G → G → FeedRun → Type 0
+abbrev pub IsReading : {G : Type 0} → (G → List Visit → Type 0) → ℕ → List ℕ → List ℕ → ℕ → G → G → RunSoFar → Type 0
 IsReading {G} holds batch text rest number old now run =
-    HasRead holds batch text rest number old now run × (length run.gathered.items < batch)
+    HasRead holds batch text rest number old now run × (length run.gathered < batch)
 
 -- this line is read: if it is the first of the rest of a text whose lines before it were read, then it and they were
 -- read, whatever the text is
-abbrev pub ReadsOneMore : {G : Type 0} → (G → List Visit → Type 0) → ℕ → ℕ → List ℕ → G → G → FeedRun → FeedRun → Type 0
+abbrev pub ReadsOneMore : {G : Type 0} → (G → List Visit → Type 0) → ℕ → ℕ → List ℕ → G → G → RunSoFar → RunSoFar → Type 0
 ReadsOneMore {G} holds batch number line old new run run' =
     (text rest next : List ℕ) (earlier : ℕ) (start : G) → number ≡ earlier + 1 → IsReading holds batch text rest earlier start old run → CutsLine rest line next
     → IsReading holds batch text next number start new run'

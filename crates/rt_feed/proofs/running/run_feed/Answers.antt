@@ -2,7 +2,8 @@ use Rattle.std.proofs.Common.{◌≡◌, ◌≤◌, ◌<◌, ◌++◌, ℕ, ◌+
 use Rattle.std.proofs.lemmas.Result.{err_from_is_err_and}
 use Rattle.rt_feed.specs.declared.report.Line.{Line}
 use Rattle.rt_feed.specs.Lines.{heading, IsBody}
-use Rattle.rt_feed.specs.inside.FeedRuns.{HasRead}
+use Rattle.rt_feed.specs.FeedRuns.{RunsFeed}
+use Rattle.rt_feed.specs.inside.FeedRuns.{RunSoFar, HasRead}
 use Rattle.rt_feed.proofs.Becoming.{length-outcomes, length-cut, report_lines-below}
 use Rattle.rt_feed.proofs.RunSteps.{nothing_read, all_asked, stopped}
 use Rattle.rt_feed.proofs.running.run_feed.Goals as goal
@@ -64,9 +65,9 @@ pub returns-clause-ok : goal.returns-clause-ok
 returns-clause-ok g c =
     let read = c.loop-line.invariant.read in
     let none = c.in_default.ensures {u = tt} in
-    all_asked g.G.Gate.holds c.args.batch c.args.text.now c.loop-line.number c.args.gate.now c.loop-line.gate c.ask.new.gate c.loop-line.run
-    c.ask.new.self.report
-    (rw none at read.0) read.1 c.ask.ensures.waiting
+    subst (λ (run : RunSoFar). RunsFeed g.G.Gate.holds c.args.batch c.args.text.now c.args.gate.now c.ask.new.gate run.report) (sym c.run-2.view_is)
+    (all_asked g.G.Gate.holds c.args.batch c.args.text.now c.loop-line.number c.args.gate.now c.loop-line.gate c.ask.new.gate c.loop-line.run
+    c.ask.new.self.report (rw none at read.0) read.1 c.ask.ensures.waiting)
 
 pub loop-line-preserved : goal.loop-line-preserved
 loop-line-preserved g c = record {
