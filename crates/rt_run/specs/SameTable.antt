@@ -23,7 +23,8 @@ table_alone limit feed asked = fold (λ table one. table_after limit table feed 
 -- the text at place k, whose feed is k + 1, has commands that leave the route by themselves
 abbrev pub LeavesAlone : List (List ℕ) → ℕ → ℕ → Route → Type 0
 LeavesAlone texts limit k r =
-    (text : List ℕ) × (lines : List LineOutcome) × (slice_get texts k ≡ Some text) × Becomes text lines [] × Contains (table_alone limit (k + 1) (asked_of lines)) r
+    (text : List ℕ) × (lines : List LineOutcome) × (slice_get texts k ≡ Some text) × Becomes text lines []
+    × Contains (table_alone limit (k + 1) (asked_of lines)) r
 
 -- the table that contains a route exactly where some text leaves it by itself
 pub record IsUnion (texts : List (List ℕ)) (limit : ℕ) (union : List Route) : Type 0 where

@@ -63,7 +63,8 @@ pub fn lookup_all_texts<R: Threads + Wait + Sync, W: Write>(
     requires limited { IsLimit limit }
     requires few { length texts.now ≤ MOST_FEEDS }
     requires batched { 1 ≤ batch }
-    ensures text { Leaves (IsShown (map (λ text. text.items) texts.now) limit batch (all_answers_text addresses.now)) (W.contents w.old) (W.contents w.new) result }
+    ensures text { Leaves (IsShown (map (λ text. text.items) texts.now) limit batch (all_answers_text addresses.now))
+        (W.contents w.old) (W.contents w.new) result }
     ensures no_text { (result ≡ Err (AppFault.Run RunFault.NoText)) ↔ (texts.now ≡ []) }
 {
     let asked = FeedTexts::new(texts, limit, batch);

@@ -3,7 +3,8 @@ ghost use Rattle.std.specs.Prelude.{◌≡◌, find, map, IfOk};
 ghost use Rattle.std.specs.List.{list_any};
 ghost use Rattle.rt_feed.specs.declared.report.Line.{Line};
 ghost use Rattle.rt_feed.specs.Reports.{is_fault};
-ghost use Rattle.rt_run.specs.inside.Tallies.{was_full, was_existing, was_missing, fault_of, report_tally, has_refused, has_left_out, status_where, tallies_status, IsTaken};
+ghost use Rattle.rt_run.specs.inside.Tallies.{was_full, was_existing, was_missing, fault_of, report_tally};
+ghost use Rattle.rt_run.specs.inside.Tallies.{has_refused, has_left_out, status_where, tallies_status, IsTaken};
 
 use rt_feed::{Answer, Line, LineFault, Report};
 use rt_rib::Reply;

@@ -22,7 +22,8 @@ pub record RunOverBook (asked : AskedRun) (reports : List (List Line)) (book : B
 -- table settles to, the texts were run to their ends with it
 pub record RunBeforeSettle (texts : List (List ℕ)) (batch : ℕ) (table : SharedId) (passes : List HeldPass) (reports : List (List Line)) : Type 0 where
   pub back : ArePassesOf table passes
-  pub settled : (book : BookContents) → book.limit ≡ table.limit → Settles table passes book.journal → RunOverBook (record { texts = texts; limit = table.limit; batch = batch }) reports book
+  pub settled : (book : BookContents) → book.limit ≡ table.limit → Settles table passes book.journal
+      → RunOverBook (record { texts = texts; limit = table.limit; batch = batch }) reports book
 
 -- the status of these reports, of which a faulty line is what was not taken
 abbrev pub reports_status : List (List Line) → ℕ
