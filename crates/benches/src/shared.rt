@@ -46,9 +46,9 @@ fn table<R: Threads + Wait + Clock + Sync>(rt: &R, alloc: Global, load: Load) ->
             requires { pass.table ≡ shared.now }
         { ask_table(rt, alloc, shared, pass, load) },
     );
-    let time = start.elapsed(rt).ok()?;
+    let time = start.elapsed(rt).ok();
     drop(passes.ok()?);
-    Some(time)
+    time
 }
 
 /// The same of a book under the mutex.
@@ -61,9 +61,9 @@ fn mutex<R: Threads + Wait + Clock + Sync>(rt: &R, alloc: Global, load: Load) ->
         load.threads,
         &|place| { ask_book(rt, alloc, mutex, place, load) },
     );
-    let time = start.elapsed(rt).ok()?;
+    let time = start.elapsed(rt).ok();
     drop(done.ok()?);
-    Some(time)
+    time
 }
 
 /// One case: what is asked, by how many threads, how often in all, and how much at once.

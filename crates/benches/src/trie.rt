@@ -193,6 +193,46 @@ fn remove_all<R: Clock + CpuClock>(rt: &R, trie: &mut Values, n: u32) -> io::Res
     watch.per_call(rt, n)
 }
 
+/// What each call took, and what was found and left.
+#[derive(Clone, Copy, Drop)]
+struct Measured {
+    insert: Times,
+    longest: Times,
+    together: Times,
+    retain: Times,
+    remove: Times,
+    prefixes: usize,
+    nodes: usize,
+    found: u64,
+    same: u64,
+    kept: usize,
+    left: usize,
+}
+
+/// Times each call over so many prefixes, of a trie that is empty.
+fn measure<R: Clock + CpuClock>(rt: &R, trie: &mut Values, n: u32) -> io::Result<Measured> {
+    let insert = insert_all(rt, trie, n)?;
+    let (prefixes, nodes) = (trie.len(), trie.nodes());
+    let (longest, found) = look_up_each(rt, trie, n)?;
+    let (together, same) = look_up_together(rt, trie, n)?;
+    let retain = retain_most(rt, trie, n)?;
+    let kept = trie.len();
+    let remove = remove_all(rt, trie, n)?;
+    Ok(Measured {
+        insert,
+        longest,
+        together,
+        retain,
+        remove,
+        prefixes,
+        nodes,
+        found,
+        same,
+        kept,
+        left: trie.len(),
+    })
+}
+
 /// Times each call over as many prefixes as are asked for.
 pub(crate) fn time_trie<R: Clock + CpuClock + Eprint>(
     rt: &R,
@@ -204,21 +244,18 @@ pub(crate) fn time_trie<R: Clock + CpuClock + Eprint>(
         _ => FEW,
     };
     let mut trie: Values = Trie::new(alloc);
-    let insert = insert_all(rt, &mut trie, n)?;
-    let (len, nodes) = (trie.len(), trie.nodes());
-    let (longest, found) = look_up_each(rt, &trie, n)?;
-    let (together, same) = look_up_together(rt, &trie, n)?;
-    let retain = retain_most(rt, &mut trie, n)?;
-    let kept = trie.len();
-    let remove = remove_all(rt, &mut trie, n)?;
-    let left = trie.len();
+    let m = measure(rt, &mut trie, n)?;
+    drop(trie);
     eprintln!(rt;
         "insert {} longest {} together {} retain {} remove {}",
-        insert.clock, longest.clock, together.clock, retain.clock, remove.clock
+        m.insert.clock, m.longest.clock, m.together.clock, m.retain.clock, m.remove.clock
     )?;
     eprintln!(rt;
         "insert_cpu {} longest_cpu {} together_cpu {} retain_cpu {} remove_cpu {}",
-        insert.cpu, longest.cpu, together.cpu, retain.cpu, remove.cpu
+        m.insert.cpu, m.longest.cpu, m.together.cpu, m.retain.cpu, m.remove.cpu
     )?;
-    eprintln!(rt; "prefixes {len} nodes {nodes} found {found} same {same} kept {kept} left {left}")
+    eprintln!(rt;
+        "prefixes {} nodes {} found {} same {} kept {} left {}",
+        m.prefixes, m.nodes, m.found, m.same, m.kept, m.left
+    )
 }

@@ -83,6 +83,16 @@ fn ask_batch<R: Wait>(
     table.apply_batch(rt, &mut passes[at], cmds, out)
 }
 
+/// Prints a command of the feed with its answer.
+fn tell_turn<R: Print>(
+    rt: &R,
+    feed: usize,
+    cmd: Cmd,
+    answer: Result<Reply, Refused>,
+) -> io::Result<()> {
+    println!(rt; "feed {feed} {cmd:?} {answer:?}")
+}
+
 /// Asks the turns in order, and prints each with its answer.
 fn ask_turns<R: Wait + Print>(
     rt: &R,
@@ -97,7 +107,7 @@ fn ask_turns<R: Wait + Print>(
     for (at, line) in TURNS {
         let cmd = command(line);
         let answer = ask(rt, table, passes, at, cmd);
-        println!(rt; "feed {} {cmd:?} {answer:?}", at + 1)?;
+        tell_turn(rt, at + 1, cmd, answer)?;
     }
     Ok(())
 }
@@ -157,6 +167,24 @@ fn tell<R: Print>(rt: &R, alloc: Global, book: &Book<Global>) -> io::Result<()> 
     }
 }
 
+/// Asks the turns and the batches of a new table, and its routes by two feeds.
+fn ask_feeds<R: Wait + Print>(
+    rt: &R,
+    alloc: Global,
+    table: &SharedRib<6>,
+    passes: &mut Vec<FeedPass>,
+) -> io::Result<()>
+    requires all { ArePassesOf table.now passes.old.items }
+    requires count { length passes.old.items ≡ 64 }
+    ensures all { ArePassesOf table.now passes.new.items }
+    ensures count { length passes.new.items ≡ 64 }
+{
+    ask_turns(rt, table, passes)?;
+    ask_batches(rt, alloc, table, passes)?;
+    routes_by(rt, alloc, table, passes, 1)?;
+    routes_by(rt, alloc, table, passes, 0)
+}
+
 /// Asks all of it of a new table.
 fn ask_all<R: Wait + Print>(
     rt: &R,
@@ -167,10 +195,7 @@ fn ask_all<R: Wait + Print>(
     requires all { ArePassesOf table passes.items }
     requires count { length passes.items ≡ 64 }
 {
-    ask_turns(rt, &table, &mut passes)?;
-    ask_batches(rt, alloc, &table, &mut passes)?;
-    routes_by(rt, alloc, &table, &mut passes, 1)?;
-    routes_by(rt, alloc, &table, &mut passes, 0)?;
+    ask_feeds(rt, alloc, &table, &mut passes)?;
     let mut book = table.settle(rt, passes);
     println!(rt; "room {:?}", book.reserve(ENTRIES))?;
     tell(rt, alloc, &book)
