@@ -166,17 +166,46 @@ fn refusal_of(alloc: Global, error: &Error) -> Refusal {
     }
 }
 
+/// What a first word asks for.
+enum Subcommand {
+    Run,
+    Lookup,
+    Table,
+    Diff,
+    Replay,
+}
+
+/// All of them, in the order of the help text.
+const SUBCOMMANDS: &[Subcommand] = &[
+    Subcommand::Run,
+    Subcommand::Lookup,
+    Subcommand::Table,
+    Subcommand::Diff,
+    Subcommand::Replay,
+];
+
+impl Subcommand {
+    fn command<'a>(&self, alloc: Global) -> Result<Command<'a>, AllocError> {
+        match self {
+            Subcommand::Run => run_command(alloc),
+            Subcommand::Lookup => lookup_command(alloc),
+            Subcommand::Table => table_command(alloc),
+            Subcommand::Diff => diff_command(alloc),
+            Subcommand::Replay => replay_command(alloc),
+        }
+    }
+}
+
 fn program<'a>(alloc: Global) -> Result<Command<'a>, AllocError> {
-    Command::new(alloc, "yarib")
+    let mut program = Command::new(alloc, "yarib")
         .version("0.1.0")
         .about("One IPv4 routing table, learned from route feeds, whose answers are proved")
         .subcommand_required(true)
-        .arg_required_else_help(true)
-        .subcommand(run_command(alloc)?)?
-        .subcommand(lookup_command(alloc)?)?
-        .subcommand(table_command(alloc)?)?
-        .subcommand(diff_command(alloc)?)?
-        .subcommand(replay_command(alloc)?)
+        .arg_required_else_help(true);
+    for subcommand in SUBCOMMANDS {
+        program = program.subcommand(subcommand.command(alloc)?)?;
+    }
+    Ok(program)
 }
 
 fn run_command<'a>(alloc: Global) -> Result<Command<'a>, AllocError> {
