@@ -62,12 +62,22 @@ fn tell_feeds<W: Write>(alloc: Global, out: &mut W) -> Result<()> {
     Ok(())
 }
 
-fn tell_difference<W: Write>(alloc: Global, out: &mut W) -> Result<()> {
+/// A book with the route announced.
+fn announced(alloc: Global) -> Result<Book<Global>> {
     let announce = announce()?;
-    let before = Book::new(alloc, 10);
-    let mut changed = Book::new(alloc, 10);
-    changed.apply(1, announce)?;
-    let alike = diff::go_alike(&before, &changed);
+    let mut book = Book::new(alloc, 10);
+    book.apply(1, announce)?;
+    Ok(book)
+}
+
+/// Whether the route announced to one of two books leaves them answering alike.
+fn announced_alike(alloc: Global) -> Result<bool> {
+    let changed = announced(alloc)?;
+    Ok(diff::go_alike(&Book::new(alloc, 10), &changed))
+}
+
+fn tell_difference<W: Write>(alloc: Global, out: &mut W) -> Result<()> {
+    let alike = announced_alike(alloc)?;
     writeln!(out, "the route announced changes nothing: {alike}")?;
     Ok(())
 }
@@ -104,8 +114,9 @@ fn tell_shared<R: Wait, W: Write>(rt: &R, alloc: Global, out: &mut W) -> Result<
 fn tell_gate<R: Wait, W: Write>(rt: &R, alloc: Global, out: &mut W) -> Result<()> {
     let text = b"add 10.0.0.0/8 100 192.0.2.1\nlookup 10.1.2.3\n";
     let (report, book) = gate::run_alone(rt, alloc, text)?;
-    write_report(out, 1, &report)?;
     let entries = book.journal().len();
+    drop(book);
+    write_report(out, 1, &report)?;
     writeln!(out, "entries in the journal: {entries}")?;
     Ok(())
 }
