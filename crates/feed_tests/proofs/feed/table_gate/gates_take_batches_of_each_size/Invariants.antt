@@ -1,5 +1,5 @@
 use Rattle.std.proofs.Common.{◌≡◌}
-use Rattle.rt_feed_tests.proofs.tests.table_gate.gates_take_batches_of_each_size.Given as goal
+use Rattle.feed_tests.proofs.feed.table_gate.gates_take_batches_of_each_size.Given as goal
 
 abbrev pub invariant-loop-count : goal.invariant-loop-count
 invariant-loop-count g l = record {

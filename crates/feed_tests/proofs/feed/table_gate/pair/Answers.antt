@@ -1,6 +1,6 @@
 use Rattle.std.proofs.Common.{◌∙◌}
 use Rattle.rt_shared.proofs.Testing.{both_popped, are_both}
-use Rattle.rt_feed_tests.proofs.tests.table_gate.pair.Goals as goal
+use Rattle.feed_tests.proofs.feed.table_gate.pair.Goals as goal
 
 pub returns : goal.returns
 returns c =

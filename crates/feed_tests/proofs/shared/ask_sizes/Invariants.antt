@@ -1,5 +1,5 @@
 use Rattle.std.proofs.Common.{◌≡◌}
-use Rattle.rt_shared_tests.proofs.tests.ask_sizes.Given as goal
+use Rattle.feed_tests.proofs.shared.ask_sizes.Given as goal
 
 abbrev pub invariant-loop-size : goal.invariant-loop-size
 invariant-loop-size g l = record {

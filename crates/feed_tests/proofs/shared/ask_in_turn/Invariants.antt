@@ -1,5 +1,5 @@
 use Rattle.std.proofs.Common.{◌≡◌}
-use Rattle.rt_shared_tests.proofs.tests.ask_in_turn.Given as goal
+use Rattle.feed_tests.proofs.shared.ask_in_turn.Given as goal
 
 abbrev pub invariant-loop-index : goal.invariant-loop-index
 invariant-loop-index g l = record {

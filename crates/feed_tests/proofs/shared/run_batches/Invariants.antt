@@ -1,5 +1,5 @@
 use Rattle.std.proofs.Common.{◌≡◌}
-use Rattle.rt_shared_tests.proofs.tests.run_batches.Given as goal
+use Rattle.feed_tests.proofs.shared.run_batches.Given as goal
 
 abbrev pub invariant-loop-some : goal.invariant-loop-some
 invariant-loop-some g l = record {

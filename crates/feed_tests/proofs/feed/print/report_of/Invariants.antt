@@ -1,6 +1,6 @@
 use Rattle.std.proofs.Common.{◌+◌, ◌<◌, All}
 use Rattle.rt_feed.specs.declared.report.Line.{Line}
-use Rattle.rt_feed_tests.proofs.tests.print.report_of.Given as goal
+use Rattle.feed_tests.proofs.feed.print.report_of.Given as goal
 
 -- the lines so far have smaller numbers
 abbrev pub invariant-loop-i : goal.invariant-loop-i

@@ -1,5 +1,5 @@
 use Rattle.std.proofs.Common.{◌≡◌}
-use Rattle.rt_shared_tests.proofs.tests.add_many.Given as goal
+use Rattle.feed_tests.proofs.shared.add_many.Given as goal
 
 abbrev pub invariant-loop-j : goal.invariant-loop-j
 invariant-loop-j g l = record {

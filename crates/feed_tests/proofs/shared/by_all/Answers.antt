@@ -4,7 +4,7 @@ use Rattle.std.proofs.Math.Seq.{take-append_seam}
 use Rattle.rt_shared.specs.Table.{HeldPass, ArePassesOf}
 use denote.Param.Send.{sendable}
 use Rattle.rt_shared.proofs.Crossing.{pass_send, rib_sync}
-use Rattle.rt_shared_tests.proofs.tests.by_all.Goals as goal
+use Rattle.feed_tests.proofs.shared.by_all.Goals as goal
 
 pub settle-requires : goal.settle-requires
 settle-requires g c =
