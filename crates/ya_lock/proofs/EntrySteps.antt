@@ -1,20 +1,20 @@
 -- Where an access is due, and where it leads.
-use Rattle.std.proofs.Common.{◌≡◌, ◌≢◌, refl, ℕ, ◌+◌, ◌<◌, ◌==◌, Bool, true, false, inl, inr, sym, ap, ◌∙◌, subst}
+use Rattle.std.proofs.Common.{arith, ◌≡◌, ◌≢◌, refl, ℕ, ◌+◌, ◌<◌, ◌==◌, Bool, true, false, inl, inr, sym, ap, ◌∙◌, subst}
 use Rattle.std.specs.Prelude as std
-use Rattle.std.specs.Prelude.{if◌then◌else◌, nat_lt}
-use Rattle.std.proofs.lemmas.Bool.{false≢true}
+use Rattle.std.specs.Prelude.{if◌then◌else◌, nat_lt, IsTrue}
+use Rattle.std.proofs.lemmas.Bool.{false≢true, ltb-true}
 use Rattle.atomic_table.specs.Table.{Me}
 use Rattle.ya_core.specs.declared.word.Access.{Access}
 use Rattle.ya_core.specs.declared.word.Access.TheVariants.{Load, Store}
 use Rattle.ya_core.specs.declared.process.Process.{Process}
 use Rattle.ya_core.specs.declared.process.Process.TheVariants.{Idle, Entering, Inside, Leaving}
 use Rattle.ya_core.specs.declared.process.EntryPoint.{EntryPoint}
-use Rattle.ya_core.specs.declared.process.EntryPoint.TheVariants.{E1, E2, E5, E6, E8, E9, E10}
+use Rattle.ya_core.specs.declared.process.EntryPoint.TheVariants.{E1, E2, E5, E6, E7, E8, E9, E10}
 use Rattle.ya_core.specs.declared.process.ExitPoint.{ExitPoint}
 use Rattle.ya_core.specs.declared.walker.Op.{Op}
 use Rattle.ya_core.specs.declared.walker.Op.TheVariants as op
 use Rattle.ya_core.specs.Steps.{entry_access, exit_access, entry_next, next_of, won}
-use Rattle.ya_core.specs.WalkerModel.{Walk, walk, walk_after, op_of, op_of_access, points_ahead, is_waiting, MovesOn}
+use Rattle.ya_core.specs.WalkerModel.{Walk, walk, walk_after, op_of, op_of_access, points_of, points_ahead, is_waiting, MovesOn}
 use Rattle.ya_lock.specs.declared.rule.View.{View}
 use Rattle.ya_lock.specs.inside.Lock.{HasWon, HasPassed, HasLooked, IsAtFoot, OnWay, SeatOf}
 
@@ -89,6 +89,13 @@ lost_e5 w new level rival found at goes not_won =
     let is = leads w new level found (E5 rival) at goes in
     is ∙ lost_at (found == w.place + 1) w.levels level (E6 rival) (subst (λ (p : Process). HasWon p → ⊥) is not_won)
 
+-- and from e9 to e10
+pub lost_e9 : (w new : Walk) (level found : ℕ) → w.process ≡ Entering level E9 → new ≡ walk_after w found
+    → (HasWon new.process → ⊥) → new.process ≡ Entering level E10
+lost_e9 w new level found at goes not_won =
+    let is = leads w new level found E9 at goes in
+    is ∙ lost_at (found == w.place + 1) w.levels level E10 (subst (λ (p : Process). HasWon p → ⊥) is not_won)
+
 -- a process that doesn't wait comes nearer
 pub comes_nearer : (old new : Walk) → is_waiting old.process ≡ false → MovesOn old new → points_ahead new < points_ahead old
 comes_nearer old new still (inl nearer) = nearer
@@ -148,6 +155,32 @@ passed_waits levels (Entering level E8) after passed = ap is_waiting passed.0
 passed_waits levels (Entering level E10) after passed = ap is_waiting passed.0 ∙ not_waiting (nat_lt level levels) level
 passed_waits levels before after passed = absurd passed
 
+-- a wait behind e6 ends at e9: it was at e8, since nobody waits at e7
+pub passed_e8 : (wakes : Bool) (levels level rival : ℕ) (before : Process) (after : Walk)
+    → before ≡ (if wakes then Entering level (E7 rival) else Entering level E8) → HasPassed levels before after
+    → after.process ≡ Entering level E9
+passed_e8 true levels level rival before after at passed =
+    absurd (subst (λ (p : Process). HasPassed levels p after) at passed)
+passed_e8 false levels level rival before after at passed =
+    (subst (λ (p : Process). HasPassed levels p after) at passed).0
+
+-- and it waits there, unless it is at e7
+pub waits_behind : (wakes : Bool) (level rival : ℕ) (process : Process)
+    → process ≡ (if wakes then Entering level (E7 rival) else Entering level E8) → process ≢ Entering level (E7 rival)
+    → is_waiting process ≡ true
+waits_behind true level rival process at apart = absurd (apart at)
+waits_behind false level rival process at apart = ap is_waiting at
+
+-- and one at e10 ends where the level is won
+pub passed_e10 : (levels level : ℕ) (before : Process) (after : Walk) → before ≡ Entering level E10
+    → HasPassed levels before after → HasWon after.process
+passed_e10 levels level before after at passed =
+    subst HasWon (sym (subst (λ (p : Process). HasPassed levels p after) at passed).0) (has_won levels level)
+
+pub passed_begun : (levels level : ℕ) (before : Process) (after : Walk) → before ≡ Entering level E10
+    → HasPassed levels before after → after.begun ≡ false
+passed_begun levels level before after at passed = (subst (λ (p : Process). HasPassed levels p after) at passed).1
+
 -- a process that waits after a look stands where it stood
 pub waits_on : (levels : ℕ) (before : Process) (after : Walk) → is_waiting after.process ≡ true
     → HasLooked levels before after → after.process ≡ before
@@ -174,3 +207,26 @@ pub from_foot : (w new : Walk) (found : ℕ) → IsAtFoot w → new ≡ walk_aft
 from_foot w new found (inl idle) goes =
     (1, ap (λ (v : Walk). v.process) goes ∙ ap (λ (p : Process). next_of w.levels w.place p found) idle.0)
 from_foot w new found (inr entering) goes = (entering.0, leads w new entering.0 found E1 entering.1 goes)
+
+-- a wait that is over has brought the walk nearer
+nearer_past : (more : Bool) (levels level : ℕ) → (IsTrue more → level < levels)
+    → points_of levels (if more then Entering (level + 1) E1 else Inside) false < points_of levels (Entering level E10) false
+nearer_past true levels level below = let l : level < levels = below refl in omega arith
+nearer_past false levels level below = omega arith
+
+nearer_at : (levels : ℕ) (before : Process) (begun : Bool) (after : Walk) → after.levels ≡ levels → HasPassed levels before after
+    → points_ahead after < points_of levels before begun
+nearer_at levels (Entering level E8) begun after tree passed =
+    let near : points_of levels (Entering level E9) false < points_of levels (Entering level E8) begun = omega arith in
+    subst (λ (n : ℕ). n < points_of levels (Entering level E8) begun)
+    (λ i. points_of (sym tree i) (sym passed.0 i) (sym passed.1 i)) near
+nearer_at levels (Entering level E10) begun after tree passed =
+    subst (λ (n : ℕ). n < points_of levels (Entering level E10) begun)
+    (λ i. points_of (sym tree i) (sym passed.0 i) (sym passed.1 i)) (nearer_past (nat_lt level levels) levels level (λ lt. ltb-true level levels lt))
+nearer_at levels before begun after tree passed = absurd passed
+
+pub passed_nearer : (levels : ℕ) (before after : Walk) → before.levels ≡ levels → after.levels ≡ levels
+    → HasPassed levels before.process after → points_ahead after < points_ahead before
+passed_nearer levels before after here tree passed =
+    subst (λ (l : ℕ). points_ahead after < points_of l before.process before.begun) (sym here)
+    (nearer_at levels before.process before.begun after tree passed)

@@ -143,6 +143,7 @@ impl<'a, V: Kept + Drop, const L: u32> Passage<'a, V, L> {
         requires { is_waiting self.walk.process ≡ true }
         ensures of { result.of ≡ self.entry.of }
         ensures passed { HasPassed L self.entry.walk.process result.walk }
+        ensures tree { result.walk.levels ≡ L }
     {
         let mut passage = self;
         let mut patience = PATIENCE;

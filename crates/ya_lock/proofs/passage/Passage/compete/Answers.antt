@@ -1,14 +1,16 @@
-use Rattle.std.proofs.Common.{◌<◌, lit<, refl, sym, ap, ◌∙◌, subst, rules, inl}
+use Rattle.std.proofs.Common.{ℕ, ◌≡◌, ◌≢◌, ◌<◌, ◌≤◌, ◌==◌, arith, true, false, lit<, refl, sym, ap, ◌∙◌, subst, rules, inl}
 use Rattle.std.proofs.lemmas.Bool.{false≢true}
 use Rattle.ya_core.specs.declared.process.Process.{Process}
 use Rattle.ya_core.specs.declared.process.Process.TheVariants.{Entering}
 use Rattle.ya_core.specs.Steps.{next_of}
 use Rattle.ya_core.specs.declared.process.EntryPoint.TheVariants.{E5, E6, E7, E9}
 use Rattle.ya_core.specs.WalkerModel.{Walk, is_waiting, points_ahead}
-use Rattle.ya_lock.specs.inside.Lock.{OnWay}
+use Rattle.ya_lock.specs.inside.Lock.{OnWay, WayOf}
 use Rattle.ya_lock.proofs.EntryAccesses.{woken_in_tree}
-use Rattle.ya_lock.proofs.EntrySteps.{due_entering, found_at, found_entering, lost_e5, comes_nearer}
+use Rattle.ya_lock.proofs.EntrySteps.{due_entering, found_at, found_entering, leads, lost_e5, lost_e9, comes_nearer, waits_behind}
+use Rattle.ya_lock.proofs.EntrySteps.{passed_e8, passed_e10, passed_begun, passed_nearer}
 use Rattle.ya_lock.proofs.passage.Passage.compete.Goals as goal
+use Rattle.ya_lock.proofs.passage.Passage.compete.Goals.{in-Entering-default-E7, in-Entering-process-3+in-E1-1, in-Idle-1}
 
 pub ring-requires : goal.ring-requires
 ring-requires g c =
@@ -76,11 +78,162 @@ returns-then-has_won-2-clause-won g c = c.if-has_won-2.ensures.0 refl
 pub returns-then-has_won-2-clause-begun : goal.returns-then-has_won-2-clause-begun
 returns-then-has_won-2-clause-begun g c = ap (λ (w : Walk). w.begun) c.step-3.ensures.goes.1
 
-pub returns-clause-won : goal.returns-clause-won
-returns-clause-won g c = search rules
-
 pub write_out-requires-2 : goal.write_out-requires-2
-write_out-requires-2 g c = search rules
+write_out-requires-2 g c =
+    let p = c.match-process-3.passage in let at = c.write_out.ensures.at in let goes = c.step.ensures.goes in
+    let rival = c.in-Entering-default-E5.rival in let on = c.step-2.ensures.goes in
+    let lost = lost_e5 c.write_out.new.self.walk c.step.new.self.walk at.0 rival goes.0 at.1 goes.1
+    (λ won. false≢true (c.if-has_won.ensures.1 won)) in
+    let e6 = leads c.step.new.self.walk c.step-2.new.self.walk at.0 on.0 (E6 rival) lost on.1 in
+    let process : OnWay g.row.V.Denot → Process = λ q. q.walk.process in
+    let passed = c.spin-passage.ensures.passed in let after = c.spin-passage.result.walk in
+    let unwoken : p ≡ c.step-2.new.self → after.process ≡ Entering at.0 E9 =
+    λ is. passed_e8 (on.0 == 0) g.row.L at.0 rival p.walk.process after (ap process is ∙ e6) passed in
+    let e9 : (l : ℕ) × (after.process ≡ Entering l E9) =
+    elim c.match-process-3.branch [
+      | in-Entering-default-E7 w ↦
+          let e7 = w.in-Entering-default-E7 in let wakes = w.step-in-Entering-default-E7 in let told = wakes.ensures.goes in
+          let is = found_at (λ point. Entering e7.field-0 point) c.passage-2.view_is e7.ensures.value e7.field-1-is in
+          let e8 = leads c.step-2.new.self.walk wakes.new.self.walk e7.field-0 told.0 (E7 e7.rival) is told.1 in
+          (e7.field-0, passed_e8 false g.row.L e7.field-0 0 p.walk.process after (ap process (w.passage-is ∙ w.ring.ensures) ∙ e8) passed)
+      | in-Entering-process-3+in-E1-1 w ↦ (at.0, unwoken w.passage-is)
+      | in-Idle-1 w ↦ (at.0, unwoken w.passage-is)
+    ] in (lit< tt, e9)
 
 pub spin-requires : goal.spin-requires
-spin-requires g c = search rules
+spin-requires g c =
+    let at = c.write_out-2.ensures.at in let goes = c.step-3.ensures.goes in (
+      lit< tt,
+      ap is_waiting (lost_e9 c.write_out-2.new.self.walk c.step-3.new.self.walk at.0 goes.0 at.1 goes.1
+          (λ won. false≢true (c.if-has_won-2.ensures.1 won))),
+    )
+
+pub returns-clause-won : goal.returns-clause-won
+returns-clause-won g c =
+    let passed = c.spin.ensures.passed in let at = c.write_out-2.ensures.at in let goes = c.step-3.ensures.goes in
+    passed_e10 g.row.L at.0 c.step-3.new.self.walk.process _
+    (lost_e9 c.write_out-2.new.self.walk c.step-3.new.self.walk at.0 goes.0 at.1 goes.1
+    (λ won. false≢true (c.if-has_won-2.ensures.1 won))) passed
+
+pub returns-then-has_won-clause-of : goal.returns-then-has_won-clause-of
+returns-then-has_won-clause-of g c = c.step.ensures.of ∙ ap (λ (q : OnWay g.row.V.Denot). q.of) c.write_out.ensures.same
+
+pub returns-clause-begun : goal.returns-clause-begun
+returns-clause-begun g c =
+    let at = c.write_out-2.ensures.at in let goes = c.step-3.ensures.goes in
+    passed_begun g.row.L at.0 c.step-3.new.self.walk.process c.spin.result.walk
+    (lost_e9 c.write_out-2.new.self.walk c.step-3.new.self.walk at.0 goes.0 at.1 goes.1
+    (λ won. false≢true (c.if-has_won-2.ensures.1 won))) c.spin.ensures.passed
+
+pub returns-then-has_won-2-clause-of : goal.returns-then-has_won-2-clause-of
+returns-then-has_won-2-clause-of g c =
+    let V : Type 0 = g.row.V.Denot in let of : OnWay V → WayOf V = λ q. q.of in let p = c.match-process-3.passage in
+    let on = c.step-2.ensures.of ∙ (c.step.ensures.of ∙ ap of c.write_out.ensures.same) in
+    let met : p.of ≡ c.args.self.of =
+    elim c.match-process-3.branch [
+      | in-Entering-default-E7 w ↦ ap of (w.passage-is ∙ w.ring.ensures) ∙ (w.step-in-Entering-default-E7.ensures.of ∙ on)
+      | in-Entering-process-3+in-E1-1 w ↦ ap of w.passage-is ∙ on
+      | in-Idle-1 w ↦ ap of w.passage-is ∙ on
+    ] in c.step-3.ensures.of ∙ (ap of c.write_out-2.ensures.same ∙ (c.spin-passage.ensures.of ∙ met))
+
+pub returns-clause-of : goal.returns-clause-of
+returns-clause-of g c =
+    let V : Type 0 = g.row.V.Denot in let of : OnWay V → WayOf V = λ q. q.of in let p = c.match-process-3.passage in
+    let on = c.step-2.ensures.of ∙ (c.step.ensures.of ∙ ap of c.write_out.ensures.same) in
+    let met : p.of ≡ c.args.self.of =
+    elim c.match-process-3.branch [
+      | in-Entering-default-E7 w ↦ ap of (w.passage-is ∙ w.ring.ensures) ∙ (w.step-in-Entering-default-E7.ensures.of ∙ on)
+      | in-Entering-process-3+in-E1-1 w ↦ ap of w.passage-is ∙ on
+      | in-Idle-1 w ↦ ap of w.passage-is ∙ on
+    ] in
+    c.spin.ensures.of ∙ (c.step-3.ensures.of ∙ (ap of c.write_out-2.ensures.same ∙ (c.spin-passage.ensures.of ∙ met)))
+
+pub returns-then-has_won-2-clause-onward : goal.returns-then-has_won-2-clause-onward
+returns-then-has_won-2-clause-onward g c =
+    let V : Type 0 = g.row.V.Denot in let p = c.match-process-3.passage in
+    let ahead : OnWay V → ℕ = λ q. points_ahead q.walk in let levels : OnWay V → ℕ = λ q. q.walk.levels in
+    let at = c.write_out.ensures.at in let goes = c.step.ensures.goes in let rival = c.in-Entering-default-E5.rival in
+    let first = c.step.new.self in let second = c.step-2.new.self in let third = c.step-3.new.self in
+    let e5 = comes_nearer c.write_out.new.self.walk first.walk (ap is_waiting at.1) c.step.ensures.onward in
+    let lost = lost_e5 c.write_out.new.self.walk first.walk at.0 rival goes.0 at.1 goes.1
+    (λ won. false≢true (c.if-has_won.ensures.1 won)) in
+    let e6 = comes_nearer first.walk second.walk (ap is_waiting lost) c.step-2.ensures.onward in
+    let tree = ap levels (sym c.passage-2.view_is) ∙ c.passage-2.invariant.tree in
+    let within : OnWay V → Type 0 = λ q. points_ahead q.walk ≤ points_ahead second.walk in
+    let here : points_ahead second.walk ≤ points_ahead second.walk = omega arith in
+    let met : (points_ahead p.walk ≤ points_ahead second.walk) × (p.walk.levels ≡ g.row.L) =
+    elim c.match-process-3.branch [
+      | in-Entering-default-E7 w ↦
+          let e7 = w.in-Entering-default-E7 in let wakes = w.step-in-Entering-default-E7 in
+          let is = found_at (λ point. Entering e7.field-0 point) c.passage-2.view_is e7.ensures.value e7.field-1-is in
+          let near = comes_nearer second.walk wakes.new.self.walk (ap is_waiting is) wakes.ensures.onward in
+          let same = w.passage-is ∙ w.ring.ensures in
+          let below : points_ahead wakes.new.self.walk ≤ points_ahead second.walk = omega (arith, near) in (
+            subst within (sym same) below,
+            ap levels same ∙ (ap (λ (v : Walk). v.levels) wakes.ensures.goes.1 ∙ tree),
+          )
+      | in-Entering-process-3+in-E1-1 w ↦ (subst within (sym w.passage-is) here, ap levels w.passage-is ∙ tree)
+      | in-Idle-1 w ↦ (subst within (sym w.passage-is) here, ap levels w.passage-is ∙ tree)
+    ] in
+    let e8 = passed_nearer g.row.L p.walk c.spin-passage.result.walk met.1 c.spin-passage.ensures.tree c.spin-passage.ensures.passed in
+    let e9 = comes_nearer c.write_out-2.new.self.walk third.walk (ap is_waiting c.write_out-2.ensures.at.1) c.step-3.ensures.onward in
+    let start = ap ahead c.write_out.ensures.same in let between = ap ahead c.write_out-2.ensures.same in
+    omega (arith, e5, e6, met.0, e8, e9, start, between)
+
+pub returns-clause-onward : goal.returns-clause-onward
+returns-clause-onward g c =
+    let V : Type 0 = g.row.V.Denot in let p = c.match-process-3.passage in
+    let ahead : OnWay V → ℕ = λ q. points_ahead q.walk in let levels : OnWay V → ℕ = λ q. q.walk.levels in
+    let at = c.write_out.ensures.at in let goes = c.step.ensures.goes in let rival = c.in-Entering-default-E5.rival in
+    let first = c.step.new.self in let second = c.step-2.new.self in let third = c.step-3.new.self in
+    let e5 = comes_nearer c.write_out.new.self.walk first.walk (ap is_waiting at.1) c.step.ensures.onward in
+    let lost = lost_e5 c.write_out.new.self.walk first.walk at.0 rival goes.0 at.1 goes.1
+    (λ won. false≢true (c.if-has_won.ensures.1 won)) in
+    let e6 = comes_nearer first.walk second.walk (ap is_waiting lost) c.step-2.ensures.onward in
+    let tree = ap levels (sym c.passage-2.view_is) ∙ c.passage-2.invariant.tree in
+    let within : OnWay V → Type 0 = λ q. points_ahead q.walk ≤ points_ahead second.walk in
+    let here : points_ahead second.walk ≤ points_ahead second.walk = omega arith in
+    let met : (points_ahead p.walk ≤ points_ahead second.walk) × (p.walk.levels ≡ g.row.L) =
+    elim c.match-process-3.branch [
+      | in-Entering-default-E7 w ↦
+          let e7 = w.in-Entering-default-E7 in let wakes = w.step-in-Entering-default-E7 in
+          let is = found_at (λ point. Entering e7.field-0 point) c.passage-2.view_is e7.ensures.value e7.field-1-is in
+          let near = comes_nearer second.walk wakes.new.self.walk (ap is_waiting is) wakes.ensures.onward in
+          let same = w.passage-is ∙ w.ring.ensures in
+          let below : points_ahead wakes.new.self.walk ≤ points_ahead second.walk = omega (arith, near) in (
+            subst within (sym same) below,
+            ap levels same ∙ (ap (λ (v : Walk). v.levels) wakes.ensures.goes.1 ∙ tree),
+          )
+      | in-Entering-process-3+in-E1-1 w ↦ (subst within (sym w.passage-is) here, ap levels w.passage-is ∙ tree)
+      | in-Idle-1 w ↦ (subst within (sym w.passage-is) here, ap levels w.passage-is ∙ tree)
+    ] in
+    let e8 = passed_nearer g.row.L p.walk c.spin-passage.result.walk met.1 c.spin-passage.ensures.tree c.spin-passage.ensures.passed in
+    let e9 = comes_nearer c.write_out-2.new.self.walk third.walk (ap is_waiting c.write_out-2.ensures.at.1) c.step-3.ensures.onward in
+    let start = ap ahead c.write_out.ensures.same in let between = ap ahead c.write_out-2.ensures.same in
+    let e10 = passed_nearer g.row.L third.walk c.spin.result.walk (ap (λ (v : Walk). v.levels) c.step-3.ensures.goes.1
+    ∙ (ap levels c.write_out-2.ensures.same ∙ c.spin-passage.ensures.tree)) c.spin.ensures.tree c.spin.ensures.passed in
+    omega (arith, e5, e6, met.0, e8, e9, e10, start, between)
+
+pub spin-passage-requires : goal.spin-passage-requires
+spin-passage-requires g c =
+    let p = c.match-process-3.passage in let second = c.step-2.new.self.walk in
+    let process : OnWay g.row.V.Denot → Process = λ q. q.walk.process in
+    let at = c.write_out.ensures.at in let goes = c.step.ensures.goes in let on = c.step-2.ensures.goes in
+    let rival = c.in-Entering-default-E5.rival in
+    let lost = lost_e5 c.write_out.new.self.walk c.step.new.self.walk at.0 rival goes.0 at.1 goes.1
+    (λ won. false≢true (c.if-has_won.ensures.1 won)) in
+    let e6 = leads c.step.new.self.walk second at.0 on.0 (E6 rival) lost on.1 in
+    let found : c.process-2.result ≡ second.process = c.process-2.ensures.value ∙ ap process c.passage-2.view_is in
+    let unwoken : p ≡ c.step-2.new.self → (c.process-2.result ≢ Entering at.0 (E7 rival)) → is_waiting p.walk.process ≡ true =
+    λ is apart. ap (λ (q : OnWay g.row.V.Denot). is_waiting q.walk.process) is
+    ∙ waits_behind (on.0 == 0) at.0 rival second.process e6 (λ e. apart (found ∙ e)) in
+    let waits : is_waiting p.walk.process ≡ true =
+    elim c.match-process-3.branch [
+      | in-Entering-default-E7 w ↦
+          let e7 = w.in-Entering-default-E7 in let wakes = w.step-in-Entering-default-E7 in let told = wakes.ensures.goes in
+          let is = found_at (λ point. Entering e7.field-0 point) c.passage-2.view_is e7.ensures.value e7.field-1-is in
+          let e8 = leads second wakes.new.self.walk e7.field-0 told.0 (E7 e7.rival) is told.1 in
+          ap is_waiting (ap process (w.passage-is ∙ w.ring.ensures) ∙ e8)
+      | in-Entering-process-3+in-E1-1 w ↦ unwoken w.passage-is (λ e. search rules)
+      | in-Idle-1 w ↦ unwoken w.passage-is (λ e. search rules)
+    ] in (lit< tt, waits)

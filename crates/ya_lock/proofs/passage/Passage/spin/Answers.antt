@@ -35,3 +35,7 @@ returns-then-not-waits-clause-passed g c =
     ] in
     has_passed L c.args.self.walk.process now.walk c.requires
     (subst (λ (p : OnWay V). is_waiting p.walk.process ≡ false) c.passage-in-loop.view_is (sym c.if-not-waits.ensures)) all
+
+pub returns-then-not-waits-clause-tree : goal.returns-then-not-waits-clause-tree
+returns-then-not-waits-clause-tree g c =
+    ap (λ (p : OnWay g.row.V.Denot). p.walk.levels) (sym c.passage-in-loop.view_is) ∙ c.passage-in-loop.invariant.tree
