@@ -30,10 +30,8 @@ fn numbers(rt: &HostRuntime) -> io::Result<Numbers> {
 
 /// The argument at this place, empty where there is none.
 fn word(rt: &HostRuntime, alloc: Global, place: usize) -> io::Result<String> {
-    for word in env::args(rt)?.skip(place) {
-        return Ok(word);
-    }
-    Ok(String::new(alloc))
+    let word = env::args(rt)?.nth(place);
+    Ok(word.unwrap_or(String::new(alloc)))
 }
 
 fn main(rt: HostRuntime) -> io::Result<()> {
