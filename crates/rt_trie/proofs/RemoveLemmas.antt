@@ -1,5 +1,6 @@
 -- What taking a pair out, and then a node that isn't needed, makes of a link.
-use Rattle.std.proofs.Common.{◌≡◌, ℕ, ◌⊎◌, ◌+◌, ◌<◌, Bool, true, false, [], ◌∷◌, ◌++◌, Option, Some, None, inl, inr, refl, sym, subst, ap, ◌∙◌, arith}
+use Rattle.std.proofs.Common.{◌≡◌, ℕ, ◌⊎◌, ◌+◌, ◌<◌, Bool, true, false, [], ◌∷◌, ◌++◌, Option, Some, None, inl, inr}
+use Rattle.std.proofs.Common.{refl, sym, subst, ap, ◌∙◌, arith, rules}
 use Rattle.std.specs.Prelude.{Box}
 use Rattle.std.specs.Box.{with_value}
 use Rattle.rt_cidr.specs.declared.prefixes.Prefix.{Prefix}
@@ -13,7 +14,7 @@ use Rattle.rt_trie.specs.declared.nodes.Position.TheVariants.{Here, Left, Right,
 use Rattle.rt_trie.proofs.InsertLemmas.{get_above, get_apart, made_full_below}
 use Rattle.rt_trie.specs.Links.{IsKeyOf, IsChild, middle, past, root, IsLawfulBelow, IsLawfulTrie}
 use Rattle.rt_trie.specs.inside.Blocks.{StandsAt}
-use Rattle.rt_trie.specs.inside.Links.{own_pair, pairs, IsVacant, IsLone, IsLeafOf, IsNode}
+use Rattle.rt_trie.specs.inside.Links.{own_pair, pairs, count, IsVacant, IsLone, IsLeafOf, IsNode}
 use Rattle.rt_trie.specs.inside.Changes.{IsErased, IsSpliced, AreSidesOf}
 use Rattle.rt_trie.proofs.OrderLemmas.{same_tells, same_rank}
 use Rattle.rt_cidr.proofs.Promised.{size_pos}
@@ -70,6 +71,15 @@ module _ {V A : Type 0} where
       let none : n.value ≡ None = ap (λ (x : FullNode V A). x.value) f ∙ one.0 in
       sides_apart link n.prefix n.left n.right
       (subst (λ o. IsNode link n.prefix o n.left n.right) none (of_full b n link e f h)) (rw f one.1)
+
+  -- the side beside a vacant one has all pairs of the node, and moves up
+  pub right_moves_up : {old link left right : Link V A} → link ≡ old → AreSidesOf link left right → IsVacant left
+      → IsSpliced old right × (count old ≡ count right + 1)
+  right_moves_up e s h = search rules
+
+  pub left_moves_up : {old link left right : Link V A} → link ≡ old → AreSidesOf link left right → (IsVacant left → ⊥)
+      → IsSpliced old left × (count old ≡ count left + 1)
+  left_moves_up e s h = search rules
 
   -- what is taken out below a node is taken out of its sides
   erase_below : (old mid : Link V A) (q : Prefix) (w : Option V) (l r : Link V A) (p : Prefix) (rest : Pairs V) → IsNode old q w l r → q.len < p.len

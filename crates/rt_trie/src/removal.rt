@@ -101,7 +101,8 @@ fn move_up<V: Drop, A: Allocator + Drop>(link: &mut Link<V, A>, nodes: &mut usiz
     ensures counted { nodes.new + count link.old ≡ nodes.old + count link.new }
 {
     let (left, right) = into_sides(mem::replace(link, Link::Empty));
-    *link = if left.is_empty() { right } else { left };
+    let rest = if left.is_empty() { right } else { left };
+    *link = rest;
     *nodes -= 1;
 }
 
