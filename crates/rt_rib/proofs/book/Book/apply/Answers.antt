@@ -1,6 +1,7 @@
-use Rattle.rt_rib.specs.inside.TableState.{table_state}
+use Rattle.rt_rib.specs.Sequential.{reply_of}
+use Rattle.rt_rib.specs.inside.TableState.{TableState, table_state}
 use Rattle.rt_rib.proofs.TableChanges.{IsJournalOf-push, holds_table}
-use Rattle.std.proofs.Common.{rules}
+use Rattle.std.proofs.Common.{rules, sym, ap, ◌∙◌, arith}
 use Rattle.rt_rib.proofs.book.Book.apply.Goals as goal
 
 pub invariant_of-self-2 : goal.invariant_of-self-2
@@ -22,4 +23,18 @@ pub returns-in_err-reply-clause-holds : goal.returns-in_err-reply-clause-holds
 returns-in_err-reply-clause-holds g c = search rules
 
 pub returns-clause-ok : goal.returns-clause-ok
-returns-clause-ok g c = search rules
+returns-clause-ok g c =
+    let served = c.in_ok-reply.ensures.ok in
+    let limit = c.self.inside.table.limit in
+    rw (sym c.self.view_is) (record {
+      replied = served.replied ∙ ap (λ routes. reply_of limit routes c.args.feed c.args.cmd) c.self.invariant.routes;
+      limited = ap (λ (t : TableState). t.limit) served.changed;
+      journaled = rw c.in_ok-try_reserve.ensures.items at c.push_reserved.ensures.items;
+      roomy = omega (
+        arith,
+        c.push_reserved.ensures.capacity,
+        c.push_reserved.ensures.len,
+        c.in_ok-try_reserve.ensures.capacity,
+        c.in_ok-try_reserve.ensures.len,
+      );
+    })
