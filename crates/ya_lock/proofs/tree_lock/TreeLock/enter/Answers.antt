@@ -10,3 +10,6 @@ come_to_door-crowded-requires g c =
       place_below c.pass.inside.seat.table_id c.self.inside.table.shared.table_id c.pass.inside.place g.row.L g.row.L
           (same ∙ sym c.self.view_is) c.self.invariant.words refl c.pass.invariant.in_tree,
     )
+
+pub take_value-requires : goal.take_value-requires
+take_value-requires g c = (lit< tt, c.acquire.ensures.inside)
