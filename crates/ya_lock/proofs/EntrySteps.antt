@@ -101,6 +101,10 @@ pub comes_nearer : (old new : Walk) → is_waiting old.process ≡ false → Mov
 comes_nearer old new still (inl nearer) = nearer
 comes_nearer old new still (inr waits) = absurd (false≢true (sym still ∙ waits.0))
 
+-- a process that is inside and was not told to go on asks for nothing
+pub rests_inside : (w : Walk) → w.process ≡ Inside → w.begun ≡ false → op_of w ≡ op.Inside
+rests_inside w at begun = λ i. op_of (walk w.levels w.place (at i) (begun i) w.remote)
+
 -- at which level a process is on its way in
 abbrev level_of : Process → ℕ
 level_of (Entering level point) = level

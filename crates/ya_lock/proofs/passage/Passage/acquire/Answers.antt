@@ -1,9 +1,10 @@
-use Rattle.std.proofs.Common.{◌≡◌, lit<, sym, ap, ◌∙◌, rules, subst}
-use Rattle.ya_core.specs.declared.process.Process.TheVariants.{Entering}
+use Rattle.std.proofs.Common.{◌≡◌, Bool, false, lit<, sym, ap, ◌∙◌, rules, subst}
+use Rattle.ya_core.specs.declared.process.Process.TheVariants.{Entering, Inside}
 use Rattle.ya_core.specs.declared.process.EntryPoint.TheVariants.{E2, E3, E4}
+use Rattle.ya_core.specs.WalkerModel.{Walk}
 use Rattle.ya_lock.specs.inside.Lock.{HasWon, OnWay}
 use Rattle.ya_lock.proofs.EntryAccesses.{at_next}
-use Rattle.ya_lock.proofs.EntrySteps.{due_entering, due_at_foot, from_foot, leads}
+use Rattle.ya_lock.proofs.EntrySteps.{due_entering, due_at_foot, from_foot, leads, rests_inside}
 use Rattle.ya_lock.proofs.passage.Passage.acquire.Goals as goal
 use Rattle.ya_lock.proofs.passage.Passage.acquire.Goals.{then-not-has_won, else-not-has_won}
 
@@ -44,3 +45,16 @@ step-requires-in-loop-passage-3 g c =
     let e2 = from_foot c.loop-passage.passage.walk c.step.new.self.walk goes.0 c.loop-passage.invariant.foot goes.1 in
     let e3 : second.process ≡ Entering e2.0 E3 = leads c.step.new.self.walk second e2.0 on.0 E2 e2.1 on.1 in
     (lit< tt, due_entering third e2.0 E4 (leads second third e2.0 last.0 E3 e3 last.1))
+
+pub returns-in-Inside-clause-inside : goal.returns-in-Inside-clause-inside
+returns-in-Inside-clause-inside g c =
+    let V : Type 0 = g.row.V.Denot in let p = c.if-not-has_won.passage in
+    let begun : OnWay V → Bool = λ q. q.walk.begun in
+    let going : p.walk.begun ≡ false =
+    elim c.if-not-has_won.branch [
+      | then-not-has_won w ↦ ap begun w.passage-is ∙ w.compete-passage.ensures.begun
+      | else-not-has_won w ↦ ap begun w.passage-is ∙ ap (λ (v : Walk). v.begun) c.step-in-loop-passage-3.ensures.goes.1
+    ] in
+    let inside : c.process.result ≡ Inside = search in
+    let at = ap (λ (q : OnWay V). q.walk.process) (sym c.passage-in-loop-passage.view_is) in
+    rests_inside p.walk (at ∙ (sym c.process.ensures.value ∙ inside)) going
