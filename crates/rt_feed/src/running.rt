@@ -1,5 +1,6 @@
 //! A feed's text through a gate: its lines are read in order, and its commands asked in batches.
-ghost use Rattle.std.specs.Prelude.{◌≡◌, ◌≢◌, ◌<◌, ◌≤◌, [], ◌∷◌, length, All, IsOk, IfOk, OnOk, OnErr};
+ghost use Rattle.std.specs.Prelude.{◌≡◌, ◌≢◌, ℕ, ◌<◌, ◌≤◌, List, [], ◌∷◌, length, All, IsOk, IfOk, OnOk, OnErr, Ok, Some};
+ghost use Rattle.rt_feed.specs.Grammar.{AnswersLine};
 ghost use Rattle.rt_feed.specs.inside.FeedRuns.{AnswersWaiting, Gathers, ReadsOneMore};
 ghost use Rattle.rt_feed.specs.FeedRuns.{IsTold, RunsFeed, StopsWithin};
 
@@ -94,7 +95,7 @@ impl FeedRun {
         }
     }
 
-    /// Takes in the line of this number. Where that makes a batch, it is asked.
+    /// Takes in the line of this number.
     fn read<R: Wait, G: Gate>(
         &mut self,
         rt: &R,
@@ -116,15 +117,31 @@ impl FeedRun {
             }
             Ok(asked) => match asked {
                 None => Ok(()),
-                Some(cmd) => {
-                    self.gather(number, cmd)?;
-                    if self.gathered.len() == batch {
-                        self.ask(rt, batch, gate);
-                    }
-                    Ok(())
-                }
+                Some(cmd) => self.take(rt, number, cmd, batch, gate),
             },
         }
+    }
+
+    /// Takes in the line's command. Where that makes a batch, it is asked.
+    fn take<R: Wait, G: Gate>(
+        &mut self,
+        rt: &R,
+        number: usize,
+        cmd: Cmd,
+        batch: usize,
+        gate: &mut G,
+    ) -> Result<(), AllocError>
+        requires { All (λ earlier. earlier.number < number) self.old.report }
+        ensures name { G.name gate.new ≡ G.name gate.old }
+        ensures ok { OnOk result ((line : List ℕ) → AnswersLine self.old.version line (Ok (Some cmd))
+            → ReadsOneMore G.holds batch number line gate.old gate.new self.old self.new) }
+        ensures err { OnErr result (gate.new ≡ gate.old) }
+    {
+        self.gather(number, cmd)?;
+        if self.gathered.len() == batch {
+            self.ask(rt, batch, gate);
+        }
+        Ok(())
     }
 
     /// Puts the line's command with those that wait.
