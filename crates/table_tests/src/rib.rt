@@ -242,17 +242,27 @@ fn a_purged_feed_starts_anew(rt: HostRuntime) {
 /// The first route of a prefix takes the memory of a node with a value of 24 bytes, and no more.
 #[test]
 fn one_offer_lies_in_its_node(rt: HostRuntime) {
-    let heap = region(&rt, rt.alloc(), 65_536);
-    let other = region(&rt, rt.alloc(), 65_536);
-    let node = region(&rt, rt.alloc(), 65_536);
     let wide = prefix(&rt, addr(10, 0, 0, 0), 8);
+    let offer = held_by_book(&rt, rt.alloc(), (1, add(wide, 10, 1), Reply::Added));
+    let entry = held_by_book(&rt, rt.alloc(), (1, Cmd::Dump, Reply::Dumped(0)));
+    let node = held_by_trie(&rt, rt.alloc(), wide);
+    assert_same(&rt, "bytes", offer, entry.wrapping_add(node));
+}
+
+/// How many bytes a book holds that was asked this row.
+fn held_by_book(rt: &impl Abort, alloc: Global, row: (u32, Cmd, Reply)) -> usize {
+    let heap = region(rt, alloc, 65_536);
     let mut book = Book::new(&heap, 10);
-    let mut idle = Book::new(&other, 10);
-    ask(&rt, &mut book, (1, add(wide, 10, 1), Reply::Added));
-    ask(&rt, &mut idle, (1, Cmd::Dump, Reply::Dumped(0)));
-    let mut trie: Trie<[u64; 3], &LocalHeap> = Trie::new(&node);
-    assert!(&rt; trie.insert(wide, [0; 3]).is_ok());
-    assert_eq!(&rt; heap.used(), other.used().wrapping_add(node.used()));
+    ask(rt, &mut book, row);
+    heap.used()
+}
+
+/// How many bytes a trie holds that has one prefix, with a value as large as an offer or a list.
+fn held_by_trie(rt: &impl Abort, alloc: Global, prefix: Prefix) -> usize {
+    let heap = region(rt, alloc, 65_536);
+    let mut trie: Trie<[u64; 3], &LocalHeap> = Trie::new(&heap);
+    assert!(rt; trie.insert(prefix, [0; 3]).is_ok());
+    heap.used()
 }
 
 #[test]

@@ -112,18 +112,23 @@ fn nothing_but_the_journal_and_an_add_asks_for_memory(rt: HostRuntime) {
     let memory = Counted::new(rt.alloc());
     let other = Counted::new(rt.alloc());
     let mut book = Book::new(&memory, 100);
+    assert_same(&rt, "new", memory.asked(), 0);
     let mut idle = Book::new(&other, 100);
-    assert_eq!(rt; memory.asked(), 0);
     fill(&rt, &mut book, &mut idle);
     let routes = asked_for_routes(&memory, &other);
-    look_up_and_replace(&rt, &mut book, &mut idle);
-    empty(&rt, &mut book, &mut idle);
-    assert_same(&rt, "entries", book.journal().len(), idle.journal().len());
-    assert_same(&rt, "nodes", book.nodes(), 0);
+    ask_all_kinds(&rt, &mut book, &mut idle);
     assert_asked(&rt, "requests", &memory, &other, routes);
 }
 
-/// Looks up all that covers the k-th prefix, and makes a list of as many routes one by one.
+/// Asks the books that were filled commands of each other kind, until no route remains.
+fn ask_all_kinds<A: Allocator + Copy>(rt: &impl Abort, book: &mut Book<A>, idle: &mut Book<A>) {
+    look_up_and_replace(rt, book, idle);
+    empty(rt, book, idle);
+    assert_same(rt, "entries", book.journal().len(), idle.journal().len());
+    assert_same(rt, "nodes", book.nodes(), 0);
+}
+
+/// Looks up all that covers the k-th prefix, and makes a list of as many routes one by one, which asks no less often.
 fn list_all<'m>(
     rt: &impl Abort,
     book: &Book<&'m Counted<Global>>,
@@ -139,6 +144,7 @@ fn list_all<'m>(
         list.push(*route).expect(rt, "memory");
     }
     assert_same(rt, "matches", matches.len() as u64, u64::from(k) + 1);
+    assert!(rt; own.asked() <= plain.asked());
 }
 
 /// Fails where `Book::look_up_all` asks for memory of the book's allocator, or for more of its own than a list of its
@@ -155,7 +161,6 @@ fn a_look_up_of_all_asks_for_its_list_alone(rt: HostRuntime) {
     let asked = memory.asked();
     for k in 0..PREFIXES {
         list_all(&rt, &book, &own, &plain, k);
-        assert!(rt; own.asked() <= plain.asked());
     }
     assert_same(&rt, "requests", memory.asked(), asked);
 }
@@ -199,16 +204,26 @@ fn what_was_reserved_is_not_asked_for_again(rt: HostRuntime) {
     let memory = Counted::new(rt.alloc());
     let mut book = Book::new(&memory, 100);
     reserve(&rt, &mut book, 0);
-    assert_eq!(rt; memory.asked(), 0);
+    assert_same(&rt, "no entry", memory.asked(), 0);
     for k in 0..PREFIXES {
         ask(&rt, &mut book, (1, add(nth(&rt, k), k, 1), Reply::Added));
     }
     for entries in [1, 7, 100, 5_000] {
-        reserve(&rt, &mut book, entries);
-        let asked = memory.asked();
-        ask_where_reserved(&rt, &mut book, entries);
-        assert_eq!(rt; memory.asked(), asked, "{entries} entries");
+        assert_reserved(&rt, &memory, &mut book, entries);
     }
+}
+
+/// Reserves room for so many entries, which then ask for no memory.
+fn assert_reserved<'m>(
+    rt: &impl Abort,
+    memory: &'m Counted<Global>,
+    book: &mut Book<&'m Counted<Global>>,
+    entries: u32,
+) {
+    reserve(rt, book, entries);
+    let asked = memory.asked();
+    ask_where_reserved(rt, book, entries);
+    assert_same(rt, "entries", memory.asked(), asked);
 }
 
 /// The feed withdraws its routes one by one, if it is to, and purges the rest.
