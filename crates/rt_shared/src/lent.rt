@@ -1,12 +1,15 @@
-//! What the lock lends to one feed at a time.
+//! What the lock lends to one feed at a time, and what a feed does to it.
 ghost use Rattle.std.specs.Prelude.{◌≡◌, ◌≤◌, All};
 ghost use Rattle.rt_rib.specs.declared.limits.TheConstants.{MOST_FEEDS};
 ghost use Rattle.rt_rib.specs.Sequential.{IsLawfulJournal};
 ghost use Rattle.rt_rib.specs.Book.{HoldsTable};
 ghost use Rattle.rt_rib.specs.inside.OneProof.{HoldsTable-prop};
 
-use rt_rib::Book;
+use crate::outcome::Outcome;
+use rt_rib::laws::lawful_by_entry;
+use rt_rib::{AHEAD, Book, Cmd, Refused, Reply};
 use std::alloc::Global;
+use ya_lock::Kept;
 
 /// The book that all feeds change. Its journal is lawful, each of its entries is of a feed of the table, and its trie is
 /// lawful and holds exactly the routes that the journal leaves.
@@ -18,4 +21,81 @@ pub struct Lent {
     ghost holds: { HoldsTable book } by { HoldsTable-prop book },
     ghost of_feeds: { All (λ e. (1 ≤ e.feed) × (e.feed ≤ feeds)) book.journal },
     ghost few: { feeds ≤ MOST_FEEDS },
+}
+
+impl Kept for Lent {
+    ghost use Rattle.rt_shared.specs.LentChanges.{GrowsByOthers, GrowsByFeed};
+    ghost use Rattle.rt_shared.specs.inside.LentLaws.{others_add_nothing, feed_adds_nothing, grows_by_others};
+
+    ghost since = { λ place a b. GrowsByOthers place a b };
+
+    ghost done = { λ place a b. GrowsByFeed place a b };
+
+    ghost since_same = { λ place a. others_add_nothing place a };
+
+    ghost done_same = { λ place a. feed_adds_nothing place a };
+
+    ghost since_done = { λ place other a b c ne s d. grows_by_others place other a b c ne s d };
+}
+
+impl Lent {
+    ghost use Rattle.std.specs.Prelude.{ℕ, ◌+◌, ◌<◌, IfOk, OnErr, [], ◌∷◌, ◌++◌, vec_len, vec_capacity, length};
+    ghost use Rattle.rt_rib.specs.Book.{Applies, Refuses, IsLimit};
+    ghost use Rattle.rt_shared.specs.Visits.{answered};
+    ghost use Rattle.rt_shared.specs.inside.Visits.{AreServed};
+    ghost use Rattle.rt_shared.specs.LentChanges.{HasSameBounds};
+
+    /// An empty book for so many feeds.
+    pub(crate) fn new(alloc: Global, limit: u32, feeds: u32) -> Lent
+        requires { IsLimit limit × (feeds ≤ MOST_FEEDS) }
+        ensures limit { result.book.limit ≡ limit }
+        ensures journal { result.book.journal ≡ [] }
+        ensures feeds { result.feeds ≡ feeds }
+    {
+        lawful_by_entry();
+        Lent {
+            book: Book::new(alloc, limit),
+            feeds,
+        }
+    }
+
+    /// Answers a command of the feed, as the book does.
+    pub(crate) fn apply(&mut self, feed: u32, cmd: Cmd) -> Result<Reply, Refused>
+        requires { (1 ≤ feed) × (feed ≤ self.old.feeds) }
+        ensures feeds { self.new.feeds ≡ self.old.feeds }
+        ensures ok { IfOk result (λ reply. Applies self.old.book self.new.book feed cmd reply) }
+        ensures err { OnErr result (Refuses self.old.book self.new.book feed cmd) }
+    {
+        lawful_by_entry();
+        self.book.apply(feed, cmd)
+    }
+
+    /// The same, with the outcome in place of a result.
+    fn serve(&mut self, feed: u32, cmd: Cmd) -> Outcome
+        requires { (1 ≤ feed) × (feed ≤ self.old.feeds) }
+        ensures same { HasSameBounds self.old self.new }
+        ensures entry { self.new.book.journal ≡ self.old.book.journal ++ answered feed (cmd ∷ []) (result ∷ []) }
+    {
+        match self.apply(feed, cmd) {
+            Ok(reply) => Outcome::Did(reply),
+            Err(Refused) => Outcome::Refused,
+        }
+    }
+
+    /// Answers commands of the feed in order, with an outcome of each. One that is refused memory changes nothing, and the
+    /// rest go on.
+    pub(crate) fn serve_all(&mut self, feed: u32, cmds: &[Cmd], out: &mut Vec<Outcome>)
+        requires feed { (1 ≤ feed) × (feed ≤ self.old.feeds) }
+        requires room { vec_len out.old + length cmds.now ≤ vec_capacity out.old }
+        ensures same { HasSameBounds self.old self.new }
+        ensures served { AreServed feed cmds.now self.old.book.journal out.old.items self.new.book.journal out.new.items }
+    {
+        for (index, cmd) in cmds.iter().enumerate() {
+            if index % AHEAD == 0 {
+                self.book.read_ahead(&cmds[index..]);
+            }
+            let outcome = self.serve(feed, *cmd);
+            out.push_reserved(outcome);
+        }
+    }
 }

@@ -14,7 +14,6 @@ pub mod laws;
 mod lent;
 mod outcome;
 mod sequential;
-mod serving;
 mod shared_rib;
 
 pub use lent::Lent;
