@@ -1,7 +1,7 @@
 //! Tests: numbers of words against figures worked out by hand, and the machine against a second one.
 mod second_machine;
 
-use self::second_machine::Second;
+use self::second_machine::SecondMachine;
 use std::alloc::Global;
 use std::process::Abort;
 use std::test::*;
@@ -233,19 +233,19 @@ fn a_second_machine_agrees_where_few_places_crowd(rt: HostRuntime) -> Result<(),
 fn compare(rt: &impl Abort, alloc: Global, levels: u32, picks: &[u32]) -> Result<(), Fail> {
     let steps = replay(alloc, levels, picks)?;
     assert_eq!(rt; steps.len(), picks.len());
-    let mut second = Second::new(alloc, levels)?;
+    let mut second = SecondMachine::new(alloc, levels)?;
     for (step, pick) in steps.iter().zip(picks) {
-        let told = second.step(alloc, *pick as usize)?;
+        let report = second.step(alloc, *pick as usize)?;
         assert_eq!(rt; step.place, *pick as usize);
-        assert_eq!(rt; name(alloc, step.word)?.as_str(), told.word.as_str());
-        assert_eq!(rt; step.store, told.store);
-        assert_eq!(rt; step.value, told.value);
+        assert_eq!(rt; name(alloc, step.word)?.as_str(), report.word.as_str());
+        assert_eq!(rt; step.store, report.store);
+        assert_eq!(rt; step.value, report.value);
         let mark = match step.mark {
             Mark::Plain => "",
             Mark::Inside => "inside",
             Mark::Out => "out",
         };
-        assert_eq!(rt; mark, told.mark);
+        assert_eq!(rt; mark, report.mark);
     }
     Ok(())
 }

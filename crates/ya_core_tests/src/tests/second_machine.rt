@@ -7,7 +7,7 @@ use std::test::*;
 
 /// What the second machine tells of a step.
 #[derive(Drop)]
-pub struct Told {
+pub struct StepReport {
     pub word: String,
     pub store: bool,
     pub value: u64,
@@ -28,27 +28,27 @@ const INSIDE: u32 = 14;
 
 /// All places of a tree.
 #[derive(Drop)]
-pub struct Second {
+pub struct SecondMachine {
     levels: u32,
     words: BTreeMap<String, u64>,
     stands: Vec<Stand>,
 }
 
-impl Second {
-    pub fn new(alloc: Global, levels: u32) -> Result<Second, Fail> {
+impl SecondMachine {
+    pub fn new(alloc: Global, levels: u32) -> Result<SecondMachine, Fail> {
         let idle = Stand {
             point: IDLE,
             level: 0,
             rival: 0,
         };
-        Ok(Second {
+        Ok(SecondMachine {
             levels,
             words: BTreeMap::new(alloc),
             stands: vec![in alloc; idle; 64]?,
         })
     }
 
-    pub fn step(&mut self, alloc: Global, place: usize) -> Result<Told, Fail> {
+    pub fn step(&mut self, alloc: Global, place: usize) -> Result<StepReport, Fail> {
         let stand = self.begun(*self.stands.get(place).ok_or("a place")?);
         let own = place as u64 + 1;
         let word = word(alloc, place, stand)?;
@@ -64,7 +64,7 @@ impl Second {
         if let Some(stands) = self.stands.get_mut(place) {
             *stands = next;
         }
-        Ok(Told {
+        Ok(StepReport {
             word,
             store: stored.is_some(),
             value,

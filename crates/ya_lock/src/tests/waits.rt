@@ -124,7 +124,7 @@ fn time_to_be_let_in<R: Threads + Wait + Clock + CpuClock + Sync, const L: u32>(
 
 /// What a place waits for.
 #[derive(Clone, Copy)]
-enum Wanted {
+enum WaitPoint {
     TheRoot,
     ToBeLetIn,
 }
@@ -133,13 +133,13 @@ enum Wanted {
 fn time_of_wait<R: Threads + Wait + Clock + CpuClock + Sync, const L: u32>(
     rt: &R,
     alloc: Global,
-    wanted: Wanted,
+    point: WaitPoint,
 ) -> Result<Duration, Fail>
     requires { (1 ≤ L) × (L ≤ 6) }
 {
-    match wanted {
-        Wanted::TheRoot => time_at_the_root::<_, L>(rt, alloc),
-        Wanted::ToBeLetIn => time_to_be_let_in::<_, L>(rt, alloc),
+    match point {
+        WaitPoint::TheRoot => time_at_the_root::<_, L>(rt, alloc),
+        WaitPoint::ToBeLetIn => time_to_be_let_in::<_, L>(rt, alloc),
     }
 }
 
@@ -147,12 +147,12 @@ fn time_of_wait<R: Threads + Wait + Clock + CpuClock + Sync, const L: u32>(
 fn longest<R: Threads + Wait + Clock + CpuClock + Sync>(
     rt: &R,
     alloc: Global,
-    wanted: Wanted,
+    point: WaitPoint,
 ) -> Result<Duration, Fail> {
-    let mut longest = time_of_wait::<_, 1>(rt, alloc, wanted)?;
-    longest = longest.max(time_of_wait::<_, 2>(rt, alloc, wanted)?);
-    longest = longest.max(time_of_wait::<_, 3>(rt, alloc, wanted)?);
-    Ok(longest.max(time_of_wait::<_, 6>(rt, alloc, wanted)?))
+    let mut longest = time_of_wait::<_, 1>(rt, alloc, point)?;
+    longest = longest.max(time_of_wait::<_, 2>(rt, alloc, point)?);
+    longest = longest.max(time_of_wait::<_, 3>(rt, alloc, point)?);
+    Ok(longest.max(time_of_wait::<_, 6>(rt, alloc, point)?))
 }
 
 /// Fails where a place never sleeps, or only at the first level.
@@ -160,7 +160,7 @@ fn longest<R: Threads + Wait + Clock + CpuClock + Sync>(
 fn a_place_that_waits_at_the_root_leaves_the_processor_to_others(
     rt: HostRuntime,
 ) -> Result<(), Fail> {
-    assert!(rt; longest(&rt, rt.alloc(), Wanted::TheRoot)? < Duration::from_millis(50));
+    assert!(rt; longest(&rt, rt.alloc(), WaitPoint::TheRoot)? < Duration::from_millis(50));
     Ok(())
 }
 
@@ -169,6 +169,6 @@ fn a_place_that_waits_at_the_root_leaves_the_processor_to_others(
 fn a_place_that_waits_to_be_let_in_leaves_the_processor_to_others(
     rt: HostRuntime,
 ) -> Result<(), Fail> {
-    assert!(rt; longest(&rt, rt.alloc(), Wanted::ToBeLetIn)? < Duration::from_millis(50));
+    assert!(rt; longest(&rt, rt.alloc(), WaitPoint::ToBeLetIn)? < Duration::from_millis(50));
     Ok(())
 }

@@ -9,8 +9,9 @@ use Rattle.ya_lock.specs.inside.Lock.{OnWay, WayOf}
 use Rattle.ya_lock.proofs.EntryAccesses.{woken_in_tree}
 use Rattle.ya_lock.proofs.EntrySteps.{due_entering, found_at, found_entering, leads, lost_e5, lost_e9, comes_nearer, waits_behind}
 use Rattle.ya_lock.proofs.EntrySteps.{passed_e8, passed_e10, passed_begun, passed_nearer}
+use Rattle.ya_lock.proofs.passage.Passage.compete.Given.{Over}
 use Rattle.ya_lock.proofs.passage.Passage.compete.Goals as goal
-use Rattle.ya_lock.proofs.passage.Passage.compete.Goals.{in-Entering-default-E7, in-Entering-process-3+in-E1-1, in-Idle-1}
+use Rattle.ya_lock.proofs.passage.Passage.compete.Goals.{After-step-3, in-Entering-default-E7, in-Entering-process-3+in-E1-1, in-Idle-1}
 
 pub ring-requires : goal.ring-requires
 ring-requires g c =
@@ -125,8 +126,9 @@ returns-clause-begun g c =
     (lost_e9 c.write_out-2.new.self.walk c.step-3.new.self.walk at.0 goes.0 at.1 goes.1
     (λ won. false≢true (c.if-has_won-2.ensures.1 won))) c.spin.ensures.passed
 
-pub returns-then-has_won-2-clause-of : goal.returns-then-has_won-2-clause-of
-returns-then-has_won-2-clause-of g c =
+-- past e9 it is the same passage
+past_e9_of : (g : Over) (c : After-step-3 g) → c.step-3.new.self.of ≡ c.args.self.of
+past_e9_of g c =
     let V : Type 0 = g.row.V.Denot in let of : OnWay V → WayOf V = λ q. q.of in let p = c.match-process-3.passage in
     let on = c.step-2.ensures.of ∙ (c.step.ensures.of ∙ ap of c.write_out.ensures.same) in
     let met : p.of ≡ c.args.self.of =
@@ -136,20 +138,15 @@ returns-then-has_won-2-clause-of g c =
       | in-Idle-1 w ↦ ap of w.passage-is ∙ on
     ] in c.step-3.ensures.of ∙ (ap of c.write_out-2.ensures.same ∙ (c.spin-passage.ensures.of ∙ met))
 
-pub returns-clause-of : goal.returns-clause-of
-returns-clause-of g c =
-    let V : Type 0 = g.row.V.Denot in let of : OnWay V → WayOf V = λ q. q.of in let p = c.match-process-3.passage in
-    let on = c.step-2.ensures.of ∙ (c.step.ensures.of ∙ ap of c.write_out.ensures.same) in
-    let met : p.of ≡ c.args.self.of =
-    elim c.match-process-3.branch [
-      | in-Entering-default-E7 w ↦ ap of (w.passage-is ∙ w.ring.ensures) ∙ (w.step-in-Entering-default-E7.ensures.of ∙ on)
-      | in-Entering-process-3+in-E1-1 w ↦ ap of w.passage-is ∙ on
-      | in-Idle-1 w ↦ ap of w.passage-is ∙ on
-    ] in
-    c.spin.ensures.of ∙ (c.step-3.ensures.of ∙ (ap of c.write_out-2.ensures.same ∙ (c.spin-passage.ensures.of ∙ met)))
+pub returns-then-has_won-2-clause-of : goal.returns-then-has_won-2-clause-of
+returns-then-has_won-2-clause-of g c = past_e9_of g (goal.at.returns-then-has_won-2-clause-of g c).After-step-3
 
-pub returns-then-has_won-2-clause-onward : goal.returns-then-has_won-2-clause-onward
-returns-then-has_won-2-clause-onward g c =
+pub returns-clause-of : goal.returns-clause-of
+returns-clause-of g c = c.spin.ensures.of ∙ past_e9_of g (goal.at.returns-clause-of g c).After-step-3
+
+-- and nearer to the critical section
+past_e9_onward : (g : Over) (c : After-step-3 g) → points_ahead c.step-3.new.self.walk < points_ahead c.args.self.walk
+past_e9_onward g c =
     let V : Type 0 = g.row.V.Denot in let p = c.match-process-3.passage in
     let ahead : OnWay V → ℕ = λ q. points_ahead q.walk in let levels : OnWay V → ℕ = λ q. q.walk.levels in
     let at = c.write_out.ensures.at in let goes = c.step.ensures.goes in let rival = c.in-Entering-default-E5.rival in
@@ -180,39 +177,16 @@ returns-then-has_won-2-clause-onward g c =
     let start = ap ahead c.write_out.ensures.same in let between = ap ahead c.write_out-2.ensures.same in
     omega (arith, e5, e6, met.0, e8, e9, start, between)
 
+pub returns-then-has_won-2-clause-onward : goal.returns-then-has_won-2-clause-onward
+returns-then-has_won-2-clause-onward g c = past_e9_onward g (goal.at.returns-then-has_won-2-clause-onward g c).After-step-3
+
 pub returns-clause-onward : goal.returns-clause-onward
 returns-clause-onward g c =
-    let V : Type 0 = g.row.V.Denot in let p = c.match-process-3.passage in
-    let ahead : OnWay V → ℕ = λ q. points_ahead q.walk in let levels : OnWay V → ℕ = λ q. q.walk.levels in
-    let at = c.write_out.ensures.at in let goes = c.step.ensures.goes in let rival = c.in-Entering-default-E5.rival in
-    let first = c.step.new.self in let second = c.step-2.new.self in let third = c.step-3.new.self in
-    let e5 = comes_nearer c.write_out.new.self.walk first.walk (ap is_waiting at.1) c.step.ensures.onward in
-    let lost = lost_e5 c.write_out.new.self.walk first.walk at.0 rival goes.0 at.1 goes.1
-    (λ won. false≢true (c.if-has_won.ensures.1 won)) in
-    let e6 = comes_nearer first.walk second.walk (ap is_waiting lost) c.step-2.ensures.onward in
-    let tree = ap levels (sym c.passage-2.view_is) ∙ c.passage-2.invariant.tree in
-    let within : OnWay V → Type 0 = λ q. points_ahead q.walk ≤ points_ahead second.walk in
-    let here : points_ahead second.walk ≤ points_ahead second.walk = omega arith in
-    let met : (points_ahead p.walk ≤ points_ahead second.walk) × (p.walk.levels ≡ g.row.L) =
-    elim c.match-process-3.branch [
-      | in-Entering-default-E7 w ↦
-          let e7 = w.in-Entering-default-E7 in let wakes = w.step-in-Entering-default-E7 in
-          let is = found_at (λ point. Entering e7.field-0 point) c.passage-2.view_is e7.ensures.value e7.field-1-is in
-          let near = comes_nearer second.walk wakes.new.self.walk (ap is_waiting is) wakes.ensures.onward in
-          let same = w.passage-is ∙ w.ring.ensures in
-          let below : points_ahead wakes.new.self.walk ≤ points_ahead second.walk = omega (arith, near) in (
-            subst within (sym same) below,
-            ap levels same ∙ (ap (λ (v : Walk). v.levels) wakes.ensures.goes.1 ∙ tree),
-          )
-      | in-Entering-process-3+in-E1-1 w ↦ (subst within (sym w.passage-is) here, ap levels w.passage-is ∙ tree)
-      | in-Idle-1 w ↦ (subst within (sym w.passage-is) here, ap levels w.passage-is ∙ tree)
-    ] in
-    let e8 = passed_nearer g.row.L p.walk c.spin-passage.result.walk met.1 c.spin-passage.ensures.tree c.spin-passage.ensures.passed in
-    let e9 = comes_nearer c.write_out-2.new.self.walk third.walk (ap is_waiting c.write_out-2.ensures.at.1) c.step-3.ensures.onward in
-    let start = ap ahead c.write_out.ensures.same in let between = ap ahead c.write_out-2.ensures.same in
+    let levels : OnWay g.row.V.Denot → ℕ = λ q. q.walk.levels in let third = c.step-3.new.self in
+    let e9 = past_e9_onward g (goal.at.returns-clause-onward g c).After-step-3 in
     let e10 = passed_nearer g.row.L third.walk c.spin.result.walk (ap (λ (v : Walk). v.levels) c.step-3.ensures.goes.1
     ∙ (ap levels c.write_out-2.ensures.same ∙ c.spin-passage.ensures.tree)) c.spin.ensures.tree c.spin.ensures.passed in
-    omega (arith, e5, e6, met.0, e8, e9, e10, start, between)
+    omega (arith, e9, e10)
 
 pub spin-passage-requires : goal.spin-passage-requires
 spin-passage-requires g c =
