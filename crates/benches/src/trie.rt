@@ -195,7 +195,7 @@ fn remove_all<R: Clock + CpuClock>(rt: &R, trie: &mut Values, n: u32) -> io::Res
 
 /// What each call took, and what was found and left.
 #[derive(Clone, Copy, Drop)]
-struct Measured {
+struct Measurement {
     insert: Times,
     longest: Times,
     together: Times,
@@ -210,7 +210,7 @@ struct Measured {
 }
 
 /// Times each call over so many prefixes, of a trie that is empty.
-fn measure<R: Clock + CpuClock>(rt: &R, trie: &mut Values, n: u32) -> io::Result<Measured> {
+fn measure<R: Clock + CpuClock>(rt: &R, trie: &mut Values, n: u32) -> io::Result<Measurement> {
     let insert = insert_all(rt, trie, n)?;
     let (prefixes, nodes) = (trie.len(), trie.nodes());
     let (longest, found) = look_up_each(rt, trie, n)?;
@@ -218,7 +218,7 @@ fn measure<R: Clock + CpuClock>(rt: &R, trie: &mut Values, n: u32) -> io::Result
     let retain = retain_most(rt, trie, n)?;
     let kept = trie.len();
     let remove = remove_all(rt, trie, n)?;
-    Ok(Measured {
+    Ok(Measurement {
         insert,
         longest,
         together,

@@ -52,13 +52,13 @@ fn no_text_is_refused(rt: HostRuntime) {
 
 /// A text, and what a run of it prints.
 #[derive(Drop)]
-struct Worked {
+struct WorkedRun {
     texts: [Vec<u8>; 1],
     output: Vec<u8>,
 }
 
 /// One route and so many look-ups of it, which are answered in 70 bytes and more each.
-fn looked_up(alloc: Global, look_ups: usize) -> Result<Worked, Fail> {
+fn looked_up(alloc: Global, look_ups: usize) -> Result<WorkedRun, Fail> {
     let mut text = Vec::from_slice(alloc, b"add 100.100.100.0/24 4294967295 100.100.100.100\n")?;
     let mut output = Vec::from_slice(alloc, b"1:1 added\n")?;
     for number in (2usize..).take(look_ups) {
@@ -66,7 +66,7 @@ fn looked_up(alloc: Global, look_ups: usize) -> Result<Worked, Fail> {
         output.extend_from_slice(format!(in alloc; "1:{number} route {ROUTE}")?.as_bytes())?;
     }
     output.extend_from_slice(format!(in alloc; "table 1\n{ROUTE}")?.as_bytes())?;
-    Ok(Worked {
+    Ok(WorkedRun {
         texts: [text],
         output,
     })
@@ -78,7 +78,7 @@ const ROUTE: &str = "100.100.100.0/24 feed 1 pref 4294967295 via 100.100.100.100
 fn run_stops<R: Threads + Wait + Sync + Abort>(
     rt: &R,
     alloc: Global,
-    worked: &Worked,
+    worked: &WorkedRun,
     room: usize,
     at_once: usize,
     fault: io::Error,
@@ -127,7 +127,7 @@ fn is_tried(room: usize) -> bool {
 fn stops_everywhere<R: Threads + Wait + Sync + Abort>(
     rt: &R,
     alloc: Global,
-    worked: &Worked,
+    worked: &WorkedRun,
     at_once: usize,
     kind: ErrorKind,
 ) {
@@ -214,7 +214,7 @@ fn a_fault_after_any_number_of_bytes_leaves_a_beginning(rt: HostRuntime) -> Resu
 fn calls_of<R: Threads + Wait + Sync + Abort>(
     rt: &R,
     alloc: Global,
-    worked: &Worked,
+    worked: &WorkedRun,
     at_once: usize,
 ) -> usize {
     let mut out = StumblingWriter::new(alloc, at_once, usize::MAX, None);

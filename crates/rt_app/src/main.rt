@@ -13,8 +13,8 @@ use program::Stop;
 pub use program::{run_words, run_words_beside};
 pub use rt_feed::RunFault;
 pub use rt_run::{
-    AppFault, Compared, MOST_TEXTS, Taken, Tally, diff_texts, laws, lookup_all_texts, lookup_texts,
-    replay_text, run_texts, table_texts,
+    AppFault, DiffSummary, MOST_TEXTS, RunSummary, Tally, diff_texts, laws, lookup_all_texts,
+    lookup_texts, replay_text, run_texts, table_texts,
 };
 use std::alloc::Global;
 use std::io::{self, IsTerminal, Write};

@@ -34,7 +34,8 @@ use Rattle.rt_feed.specs.Addresses.{AnswersAddressLine}
 use Rattle.rt_feed.specs.Lines.{lf, CutsLine, TellsTwo, IsBody, IsVersion, LineOutcome, skipped, faulty, asked}
 use Rattle.rt_feed.specs.Lines.{reading, heading, LinesBecome, Becomes, line_answer, answer_of, numbered, report_lines, asked_by, asked_of}
 use Rattle.rt_feed.specs.Reports.{is_refusal, is_fault, NumbersRise, has_refusal, has_fault}
-use Rattle.rt_feed.specs.Visits.{visit_of, reply_to, entries, concatenated, piece_of, IsCut, Visit, Gains, AnswersBatch}
+use Rattle.rt_shared.specs.Visits.{Visit, visit_of}
+use Rattle.rt_feed.specs.Visits.{concatenated, piece_of, IsCut, Gains, AnswersBatch}
 use Rattle.rt_feed.specs.Printed.{hop_text, route_text, reply_text, fault_text, answer_text, line_text, report_text, row_text, count_text, rows_text}
 use Rattle.rt_feed.specs.Printed.{table_text, found_text, reason_text, also_text, all_found_text}
 use Rattle.std.specs.Prelude.{◌↔◌, ◌⊎◌, ◌<◌, ◌≤◌, ◌-◌, ◌^◌, ◌%◌, Option, IsSome, MatchOption, AllPairs, decimal, zip}
@@ -550,23 +551,6 @@ a_reply_is_no_fault = refl
 a_refused_command_is_no_fault : is_fault answer.Refused ≡ false
 a_refused_command_is_no_fault = refl
 
--- reply_to
-with_its_reply : reply_to Dump (outcome.Did (Dumped 0)) ≡ (Dump, Dumped 0) ∷ []
-with_its_reply = refl
-
-none_where_it_was_refused : reply_to Dump outcome.Refused ≡ []
-none_where_it_was_refused = refl
-
--- entries
-as_entries_of_feed_64 : entries 64 ((Dump, Dumped 0) ∷ (Purge, Purged 2) ∷ []) ≡ record { feed = 64; cmd = Dump; reply = Dumped 0 }
-    ∷ record { feed = 64; cmd = Purge; reply = Purged 2 } ∷ []
-as_entries_of_feed_64 = refl
-
--- visit_of
-what_was_refused_is_no_part_of_it : visit_of ((Dump, outcome.Did (Dumped 0)) ∷ (Purge, outcome.Refused) ∷ (Dump, outcome.Did (Dumped 1)) ∷ [])
-    ≡ (Dump, Dumped 0) ∷ (Dump, Dumped 1) ∷ []
-what_was_refused_is_no_part_of_it = refl
-
 -- a piece at the front is whole where another follows
 first_is_whole : {X : Type 0} (size : ℕ) (piece other : List X) (more whole : List (List X)) (last : List X)
     → All (λ piece. length piece ≡ size) whole → piece ∷ other ∷ more ≡ whole ++ piece_of last → length piece ≡ size
@@ -929,10 +913,6 @@ in_the_second_of_two :
     (has_fault (record { number = 1; answer = answer.Did Added } ∷ record { number = 2; answer = answer.Fault fault.Hop } ∷ []) ≡ true)
     × (has_fault (record { number = 1; answer = answer.Refused } ∷ []) ≡ false)
 in_the_second_of_two = (refl, refl)
-
--- Visit
-a_command_and_its_reply : Visit
-a_command_and_its_reply = (Dump, Dumped 0) ∷ []
 
 -- Gains
 what_a_gate_holds_besides :

@@ -15,7 +15,8 @@ use Rattle.rt_feed.specs.declared.versions.Version.TheVariants.{One, Two}
 use Rattle.rt_feed.specs.Lines.{IsBody, CutsLine, LineOutcome, skipped, faulty, asked, reading, Becomes}
 use Rattle.rt_feed.specs.Lines.{heading, answer_of, line_answer, numbered, report_lines, asked_by, asked_of}
 use Rattle.rt_feed.specs.Grammar.{AnswersLine}
-use Rattle.rt_feed.specs.Visits.{Visit, Gains, concatenated, piece_of, visit_of, AnswersBatch}
+use Rattle.rt_shared.specs.Visits.{Visit, visit_of}
+use Rattle.rt_feed.specs.Visits.{Gains, concatenated, piece_of, AnswersBatch}
 use Rattle.rt_feed.specs.inside.Filling.{filled}
 use Rattle.rt_feed.specs.FeedRuns.{RunsFeed, StopsWithin, IsTold}
 use Rattle.rt_feed.specs.inside.FeedRuns.{AnswersWaiting, Gathers, HasRead, RunSoFar}

@@ -1,38 +1,26 @@
 -- Visits that lie uncut in a journal, as the journal grows.
-use Rattle.std.proofs.Common.{◌≡◌, ℕ, List, [], ◌∷◌, ◌++◌, map, zip, refl, sym, ap, subst, append-nil}
+use Rattle.std.proofs.Common.{◌≡◌, ℕ, List, [], ◌∷◌, ◌++◌, map, zip, sym, subst, append-nil}
 use Rattle.std.proofs.lemmas.List.{map-append}
 use Rattle.std.proofs.lemmas.List.Elements.{All-nil}
 use Rattle.rt_rib.specs.declared.commands.Cmd.{Cmd}
 use Rattle.rt_rib.specs.declared.commands.Entry.{Entry}
 use Rattle.rt_shared.specs.declared.outcome.Outcome.{Outcome}
-use Rattle.rt_shared.specs.declared.outcome.Outcome.TheVariants.{Did, Refused}
 use Rattle.std.specs.declared.result.Result.{Result}
 use Rattle.std.specs.Prelude.{IfOk, OnOk, OnErr, Ok, Err}
 use Rattle.rt_shared.specs.Table.{HeldPass}
-use Rattle.rt_shared.specs.Visits as shared
-use Rattle.rt_shared.specs.Visits.{Uncut, answered}
+use Rattle.rt_shared.specs.Visits.{Uncut, Visit, visit_of, entries, MakesVisit}
 use Rattle.rt_shared.proofs.Promised.{uncut_visit, uncut_by_visit}
-use Rattle.rt_feed.specs.Visits.{Visit, visit_of, entries}
 
--- the entries of served commands are those of their visit
-entries_answered : (feed : ℕ) (cmds : List Cmd) (outcomes : List Outcome) → answered feed cmds outcomes ≡ entries feed (visit_of (zip cmds outcomes))
-entries_answered feed [] [] = refl
-entries_answered feed [] (outcome ∷ outcomes) = refl
-entries_answered feed (cmd ∷ cmds) [] = refl
-entries_answered feed (cmd ∷ cmds) (Did reply ∷ outcomes) =
-    ap (λ es. record { feed = feed; cmd = cmd; reply = reply } ∷ es) (entries_answered feed cmds outcomes)
-entries_answered feed (cmd ∷ cmds) (Refused ∷ outcomes) = entries_answered feed cmds outcomes
-
--- so a visit to the shared table lies uncut behind the others
+-- a visit to the shared table lies uncut behind the others
 uncut_entries : (limit feed : ℕ) (seen now : List Entry) (cmds : List Cmd) (outcomes : List Outcome) (visits : List Visit)
-    → shared.MakesVisit limit feed seen cmds outcomes now
+    → MakesVisit limit feed seen cmds outcomes now
     → Uncut feed (map (entries feed) visits) seen → Uncut feed (map (entries feed) (visits ++ visit_of (zip cmds outcomes) ∷ [])) now
 uncut_entries limit feed seen now cmds outcomes visits visit uncut =
-    rw (map-append, ← entries_answered feed cmds outcomes) (uncut_by_visit limit feed (map (entries feed) visits) seen now cmds outcomes uncut visit)
+    rw map-append (uncut_by_visit limit feed (map (entries feed) visits) seen now cmds outcomes uncut visit)
 
 -- a visit of the pass of a gate
 pub gate_visit : (limit : ℕ) (inside old new : HeldPass) (cmds : List Cmd) (outcomes : List Outcome) → inside ≡ old → new.feed ≡ inside.feed
-    → shared.MakesVisit limit inside.feed inside.seen cmds outcomes new.seen
+    → MakesVisit limit inside.feed inside.seen cmds outcomes new.seen
     → (visits : List Visit) → Uncut old.feed (map (entries old.feed) visits) old.seen
     → Uncut new.feed (map (entries new.feed) (visits ++ visit_of (zip cmds outcomes) ∷ [])) new.seen
 gate_visit limit inside old new cmds outcomes is feed visit visits held =

@@ -6,7 +6,8 @@ use Rattle.rt_feed.specs.declared.report.Line.{Line}
 use Rattle.rt_feed.specs.Lines.{CutsLine, LineOutcome, LinesBecome, Becomes, reading, line_answer, report_lines, asked_of}
 use Rattle.rt_feed.specs.declared.versions.Version.{Version}
 use Rattle.rt_feed.specs.Grammar.{AnswersLine}
-use Rattle.rt_feed.specs.Visits.{Visit, Gains, IsCut, visit_of}
+use Rattle.rt_shared.specs.Visits.{Visit, visit_of}
+use Rattle.rt_feed.specs.Visits.{Gains, IsCut}
 
 -- the text's first lines became these, and the gate was asked their commands in pieces of `batch`, a visit for each
 pub record AsksLines {G : Type 0} (holds : G → List Visit → Type 0) (batch : ℕ) (text : List ℕ) (outcomes : List LineOutcome) (rest : List ℕ)

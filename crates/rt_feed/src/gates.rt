@@ -1,6 +1,7 @@
 //! What answers the commands of a feed: any gate, and the one to the shared table.
 ghost use Rattle.std.specs.Prelude.{◌≡◌, List, [], ◌∷◌, IfOk, OnOk, OnErr};
-ghost use Rattle.rt_feed.specs.Visits.{Visit, Gains, AnswersBatch};
+ghost use Rattle.rt_shared.specs.Visits.{Visit};
+ghost use Rattle.rt_feed.specs.Visits.{Gains, AnswersBatch};
 
 use rt_rib::{Cmd, Refused, Reply};
 use rt_shared::{FeedPass, Outcome, SharedRib};
@@ -90,8 +91,7 @@ impl<'a, const L: u32> fmt::Debug for TableGate<'a, L> {
 impl<'a, const L: u32> Gate for TableGate<'a, L> {
     ghost use Rattle.std.specs.Prelude.{◌≡◌, ℕ, map};
     ghost use Rattle.rt_shared.specs.Table.{SharedId};
-    ghost use Rattle.rt_shared.specs.Visits.{Uncut};
-    ghost use Rattle.rt_feed.specs.Visits.{entries};
+    ghost use Rattle.rt_shared.specs.Visits.{Uncut, entries};
     ghost use Rattle.rt_feed.specs.inside.HeldVisits.{visits_in};
 
     ghost Name = { SharedId × ℕ };

@@ -10,7 +10,7 @@ use Rattle.rt_trie.specs.Map.{IsOrdered}
 use Rattle.rt_trie.specs.Sifted.{with_pair, IsSifted}
 use Rattle.rt_rib.specs.declared.routes.Route.{Route}
 use Rattle.rt_rib.specs.declared.offers.Offer.{Offer}
-use Rattle.rt_rib.specs.declared.offers.Taken.TheVariants.{Missing, Last, Gone}
+use Rattle.rt_rib.specs.declared.offers.Removal.TheVariants.{Missing, Last, Gone}
 use Rattle.rt_rib.specs.declared.purge.Purging.{Purging}
 use Rattle.rt_rib.specs.Maps.{is_from, IsOffers, Map, route_by, routes_of, IsMap}
 use Rattle.rt_rib.specs.inside.Offers.{without, TakesOut}

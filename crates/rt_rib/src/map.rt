@@ -4,7 +4,7 @@ ghost use Rattle.rt_rib.specs.Table.{has, put_in, take_out};
 ghost use Rattle.rt_rib.specs.Maps.{routes_of, route_by, IsMap};
 ghost use Rattle.rt_rib.specs.inside.Maps.{offers_at, offer_of, MapLaws};
 
-use crate::offers::{Offer, Offers, Taken};
+use crate::offers::{Offer, Offers, Removal};
 use crate::refused::Refused;
 use crate::routes::Route;
 use rt_cidr::Prefix;
@@ -117,14 +117,14 @@ pub(crate) fn take_out<A: Allocator + Copy>(map: &mut Map<A>, feed: u32, prefix:
     ensures map { IsMap map.new.pairs }
 {
     map_laws::<A>();
-    let taken = match map.get_mut(prefix) {
+    let removal = match map.get_mut(prefix) {
         None => return false,
         Some(offers) => offers.take_out(feed),
     };
-    match taken {
-        Taken::Missing => false,
-        Taken::Gone => true,
-        Taken::Last => {
+    match removal {
+        Removal::Missing => false,
+        Removal::Gone => true,
+        Removal::Last => {
             map.remove(prefix);
             true
         }

@@ -45,7 +45,7 @@ impl<A: Allocator + Copy> Model for Offers<A> {
 
 /// What became of a feed's offer that was to be taken out.
 #[derive(Clone, Copy)]
-pub(crate) enum Taken {
+pub(crate) enum Removal {
     /// The feed has none.
     Missing,
     /// It is the only one, and stays.
@@ -102,7 +102,7 @@ impl<A: Allocator + Copy> Offers<A> {
     }
 
     /// Takes the feed's offer out, unless it is the only one. It takes no memory.
-    pub(crate) fn take_out(&mut self, feed: u32) -> Taken
+    pub(crate) fn take_out(&mut self, feed: u32) -> Removal
         ensures taken { TakesOut self.old self.new feed result }
         ensures lawful { IsOffers self.new }
     {
@@ -151,7 +151,7 @@ impl<A: Allocator + Copy> OneOrMany<A> {
     }
 
     /// Takes the feed's offer out, unless it is the only one.
-    fn take_out(&mut self, feed: u32) -> Taken
+    fn take_out(&mut self, feed: u32) -> Removal
         requires { IsOneOrMany self.old }
         ensures taken { TakesOut (items self.old) (items self.new) feed result }
         ensures valid { IsOneOrMany self.new }
@@ -159,19 +159,19 @@ impl<A: Allocator + Copy> OneOrMany<A> {
         match self {
             OneOrMany::One(offer) => {
                 if offer.feed == feed {
-                    return Taken::Last;
+                    return Removal::Last;
                 }
-                Taken::Missing
+                Removal::Missing
             }
             OneOrMany::Many(offers) => {
                 if !take_among(offers, feed) {
-                    return Taken::Missing;
+                    return Removal::Missing;
                 }
                 if offers.len() == 1 {
                     let offer = offers[0];
                     *self = OneOrMany::One(offer);
                 }
-                Taken::Gone
+                Removal::Gone
             }
         }
     }

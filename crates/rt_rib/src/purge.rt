@@ -5,7 +5,7 @@ ghost use Rattle.rt_rib.specs.Maps.{routes_of, IsMap};
 ghost use Rattle.rt_rib.specs.inside.Purges.{is_over, IsPurged};
 
 use crate::map::{Map, map_laws};
-use crate::offers::{Offers, Taken};
+use crate::offers::{Offers, Removal};
 use rt_cidr::Prefix;
 use rt_trie::Sieve;
 use std::alloc::Allocator;
@@ -29,12 +29,12 @@ impl<A: Allocator + Copy> Sieve<Offers<A>> for Purging {
 
     fn keeps(&mut self, _prefix: Prefix, offers: &mut Offers<A>) -> bool {
         match offers.take_out(self.feed) {
-            Taken::Missing => true,
-            Taken::Gone => {
+            Removal::Missing => true,
+            Removal::Gone => {
                 self.remaining -= 1;
                 true
             }
-            Taken::Last => {
+            Removal::Last => {
                 self.remaining -= 1;
                 false
             }

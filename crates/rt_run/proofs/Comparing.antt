@@ -13,11 +13,11 @@ use Rattle.rt_diff.specs.Differences.{IsFirstDifference, AreDifferences}
 use Rattle.rt_diff.proofs.Promised.{at, rest_none, rest_next, rest_there, whole, differences_of, differences_are, is_differences_of}
 use Rattle.rt_feed.specs.declared.report.Line.{Line}
 use Rattle.rt_feed.specs.DifferenceText.{difference_text, differences_text}
-use Rattle.rt_run.specs.declared.differences.Compared.{Compared}
+use Rattle.rt_run.specs.declared.differences.DiffSummary.{DiffSummary}
 use Rattle.rt_run.specs.DiffText.{differ_status, IsDiffText}
 use Rattle.rt_run.specs.inside.Comparisons.{IsFirstOf, lines_of, compared_status, IsSoFar}
 use Rattle.rt_run.specs.inside.RunResults.{RunOverBook}
-use Rattle.rt_run.specs.inside.Tallies.{IsTaken}
+use Rattle.rt_run.specs.inside.Tallies.{IsSummary}
 use Rattle.rt_run.proofs.Outputs.{left_table}
 
 -- what is no difference is none
@@ -112,10 +112,10 @@ module _ (by : By) (old new : List Route) where
 
 -- what was written of two runs tells of both tables
 pub is_diff : (by : By) (old_texts new_texts : List (List ℕ)) (limit batch : ℕ) (old_reports new_reports : List (List Line)) (old new : BookContents)
-    (given : Compared) (first : Option Difference)
+    (given : DiffSummary) (first : Option Difference)
     → RunOverBook (record { texts = old_texts; limit = limit; batch = batch }) old_reports old
     → RunOverBook (record { texts = new_texts; limit = limit; batch = batch }) new_reports new
-    → IsTaken old_reports given.old → IsTaken new_reports given.new → IsFirstOf by (table_of old) (table_of new) first
+    → IsSummary old_reports given.old → IsSummary new_reports given.new → IsFirstOf by (table_of old) (table_of new) first
     → given.status ≡ compared_status given.old.status given.new.status first
     → IsDiffText by old_texts new_texts limit batch (lines_of by (table_of old) (table_of new)) given
 is_diff by old_texts new_texts limit batch old_reports new_reports old new given first old_ran new_ran of_old of_new is status = record {

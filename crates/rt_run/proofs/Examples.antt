@@ -34,7 +34,7 @@ use Rattle.rt_diff.specs.declared.answers.By.TheVariants as by
 use Rattle.rt_diff.specs.declared.differences.Difference.{Difference}
 use Rattle.rt_diff.specs.Differences.{AreDifferences}
 use Rattle.rt_feed.specs.DifferenceText.{differences_text}
-use Rattle.rt_run.specs.declared.differences.Compared.{Compared}
+use Rattle.rt_run.specs.declared.differences.DiffSummary.{DiffSummary}
 use Rattle.rt_run.specs.DiffText.{LeavesTable, differ_status, IsDiffText}
 use Rattle.rt_run.specs.SameDiff.{TellsUnions, DiffsUnions, DiffOnce}
 use Rattle.rt_run.specs.declared.faults.AppFault.TheVariants.{Run, Replay, Write}
@@ -42,7 +42,7 @@ use Rattle.rt_run.specs.RunText.{entries_of, Explains, ExplainsFrom, told_of, to
 use Rattle.rt_run.specs.RunText.{was_faulty, was_told, some_refused, status_of, IsHistory, IsRunText, Leaves}
 use Rattle.ya_replay.specs.ReplayText.{inside_text}
 use Rattle.rt_run.specs.Replayed.{IsReplayText, LeavesReplay}
-use Rattle.rt_run.specs.declared.tallies.Taken.{Taken}
+use Rattle.rt_run.specs.declared.tallies.RunSummary.{RunSummary}
 use Rattle.rt_run.specs.TableText.{answers_text, all_answers_text, routes_text, first_fault, tally_of, was_left_out, IsShown}
 use Rattle.rt_run.specs.SameTable.{table_alone, LeavesAlone, IsUnion, IsAnsweredAlone}
 use Rattle.rt_run.specs.SameTable.{LeavesUnion, AnswersAlone, HaveOneUnion, EndsInUnion, EndInOneTable, ShowsUnion, ShowOneTable}
@@ -523,10 +523,10 @@ the_tutorials_outcomes = north_read ∷ (skipped ∷ south_read) ∷ (skipped �
 
 -- IsShown
 what_is_told_of_the_tutorial :
-    (text_of : List Route → List ℕ) (taken : Taken) → taken.tallies.items ≡ map tally_of the_tutorials_outcomes → taken.status ≡ 0
-    → IsShown (north ∷ south ∷ east ∷ []) 65536 1 text_of (text_of (table_of_journal 65536 tutorial)) taken
+    (text_of : List Route → List ℕ) (summary : RunSummary) → summary.tallies.items ≡ map tally_of the_tutorials_outcomes → summary.status ≡ 0
+    → IsShown (north ∷ south ∷ east ∷ []) 65536 1 text_of (text_of (table_of_journal 65536 tutorial)) summary
 unfolding reply_text
-what_is_told_of_the_tutorial text_of taken tallied status = record {
+what_is_told_of_the_tutorial text_of summary tallied status = record {
   journal = tutorial;
   outcomes = the_tutorials_outcomes;
   history = the_history_of_the_tutorial;
@@ -535,13 +535,13 @@ what_is_told_of_the_tutorial text_of taken tallied status = record {
   is_status = status;
 }
 
-its_status_is_told : (bytes : List ℕ) (taken : Taken) → taken.status ≡ 1 → ¬ IsShown (text ∷ []) 1 1 table_text bytes taken
-its_status_is_told bytes taken one h = none_is_1 (some_refused h.outcomes) (list_any (list_any was_left_out) h.outcomes) (sym one ∙ h.is_status)
+its_status_is_told : (bytes : List ℕ) (summary : RunSummary) → summary.status ≡ 1 → ¬ IsShown (text ∷ []) 1 1 table_text bytes summary
+its_status_is_told bytes summary one h = none_is_1 (some_refused h.outcomes) (list_any (list_any was_left_out) h.outcomes) (sym one ∙ h.is_status)
 
-no_table_untold : (bytes : List ℕ) (taken : Taken) → taken.tallies.items ≡ [] → ¬ IsShown (text ∷ []) 1 1 table_text bytes taken
-no_table_untold bytes taken none h = by h.outcomes h.history.explained h.tallied
+no_table_untold : (bytes : List ℕ) (summary : RunSummary) → summary.tallies.items ≡ [] → ¬ IsShown (text ∷ []) 1 1 table_text bytes summary
+no_table_untold bytes summary none h = by h.outcomes h.history.explained h.tallied
   where
-    by : (outcomes : List (List LineOutcome)) → ExplainsFrom 1 1 h.journal (text ∷ []) outcomes → taken.tallies.items ≢ map tally_of outcomes
+    by : (outcomes : List (List LineOutcome)) → ExplainsFrom 1 1 h.journal (text ∷ []) outcomes → summary.tallies.items ≢ map tally_of outcomes
     by [] explained same = explained
     by (one ∷ others) explained same = let some : [] ≡ tally_of one ∷ map tally_of others = sym none ∙ same in cc
 
@@ -555,26 +555,26 @@ abbrev length_text : List Route → List ℕ
 length_text table = length table ∷ []
 
 -- IsShown
-no_route_of_no_text : (taken : Taken) → ¬ IsShown [] 1 1 length_text (1 ∷ []) taken
+no_route_of_no_text : (summary : RunSummary) → ¬ IsShown [] 1 1 length_text (1 ∷ []) summary
 unfolding table_of_journal
-no_route_of_no_text taken h =
+no_route_of_no_text summary h =
     let shown = subst (λ (journal : List Entry). 1 ∷ [] ≡ length_text (table_of_journal 1 journal)) (nobody_asks h.journal h.history.no_other) h.shown in
     let none : ◌≡◌ {A = List ℕ} (1 ∷ []) (0 ∷ []) = shown in cc
 
 -- Leaves
 whatever_was_told :
-    (texts : List (List ℕ)) (limit batch : ℕ) (text_of : List Route → List ℕ) (old bytes : List ℕ) (taken : Taken)
-    → IsShown texts limit batch text_of bytes taken → Leaves (IsShown texts limit batch text_of) (Some old) (Some (old ++ bytes)) (Ok taken)
-whatever_was_told texts limit batch text_of old bytes taken is = (bytes, is, refl)
+    (texts : List (List ℕ)) (limit batch : ℕ) (text_of : List Route → List ℕ) (old bytes : List ℕ) (summary : RunSummary)
+    → IsShown texts limit batch text_of bytes summary → Leaves (IsShown texts limit batch text_of) (Some old) (Some (old ++ bytes)) (Ok summary)
+whatever_was_told texts limit batch text_of old bytes summary is = (bytes, is, refl)
 
 nothing_but_what_is_told :
-    (texts : List (List ℕ)) (limit batch : ℕ) (text_of : List Route → List ℕ) (new : List ℕ) (taken : Taken)
-    → Leaves (IsShown texts limit batch text_of) (Some []) (Some new) (Ok taken) → IsShown texts limit batch text_of new taken
-nothing_but_what_is_told texts limit batch text_of new taken (bytes, is, same) =
-    let all : bytes ≡ new = sym same in subst (λ b. IsShown texts limit batch text_of b taken) all is
+    (texts : List (List ℕ)) (limit batch : ℕ) (text_of : List Route → List ℕ) (new : List ℕ) (summary : RunSummary)
+    → Leaves (IsShown texts limit batch text_of) (Some []) (Some new) (Ok summary) → IsShown texts limit batch text_of new summary
+nothing_but_what_is_told texts limit batch text_of new summary (bytes, is, same) =
+    let all : bytes ≡ new = sym same in subst (λ b. IsShown texts limit batch text_of b summary) all is
 
-no_table_in_place_of_what_the_writer_had : (taken : Taken) → ¬ Leaves (IsShown (text ∷ []) 1 1 table_text) (Some (codes "x")) (Some []) (Ok taken)
-no_table_in_place_of_what_the_writer_had taken (bytes, is, same) = let lost : [] ≡ 120 ∷ bytes = same in cc
+no_table_in_place_of_what_the_writer_had : (summary : RunSummary) → ¬ Leaves (IsShown (text ∷ []) 1 1 table_text) (Some (codes "x")) (Some []) (Ok summary)
+no_table_in_place_of_what_the_writer_had summary (bytes, is, same) = let lost : [] ≡ 120 ∷ bytes = same in cc
 
 no_table_where_it_was_refused : Leaves (IsShown [] 1 1 table_text) (Some (codes "x")) (Some (codes "x")) (Err (Run run.NoText))
 no_table_where_it_was_refused = ((λ same. cc), refl)
@@ -592,14 +592,14 @@ nor_as_a_replay : ¬ Leaves (IsShown (text ∷ []) 1 1 table_text) (Some []) (So
 nor_as_a_replay h = h
 
 a_beginning_of_it_where_it_could_not_be_written :
-    (texts : List (List ℕ)) (limit batch : ℕ) (text_of : List Route → List ℕ) (taken : Taken)
-    → IsShown texts limit batch text_of (codes "table 0\n") taken
+    (texts : List (List ℕ)) (limit batch : ℕ) (text_of : List Route → List ℕ) (summary : RunSummary)
+    → IsShown texts limit batch text_of (codes "table 0\n") summary
     → Leaves (IsShown texts limit batch text_of) (Some (codes "x")) (Some (codes "xtab")) (Err Write)
-a_beginning_of_it_where_it_could_not_be_written texts limit batch text_of taken is =
-    (codes "table 0\n", taken, is, record { count = 3; within = omega arith; appended = refl })
+a_beginning_of_it_where_it_could_not_be_written texts limit batch text_of summary is =
+    (codes "table 0\n", summary, is, record { count = 3; within = omega arith; appended = refl })
 
 no_bytes_lost_where_the_table_could_not_be_written : ¬ Leaves (IsShown (text ∷ []) 1 1 table_text) (Some (codes "x")) (Some []) (Err Write)
-no_bytes_lost_where_the_table_could_not_be_written (bytes, taken, is, begins) = let lost : [] ≡ 120 ∷ take begins.count bytes = begins.appended in cc
+no_bytes_lost_where_the_table_could_not_be_written (bytes, summary, is, begins) = let lost : [] ≡ 120 ∷ take begins.count bytes = begins.appended in cc
 
 -- LeavesUnion
 batches_of_512_leave_the_union :
@@ -633,16 +633,16 @@ batches_of_1_and_of_512_end_in_one_table law texts limit bytes bytes' status sta
 
 -- ShowsUnion
 what_is_told_is_told_of_the_union :
-    ShowsUnion → (texts : List (List ℕ)) (limit : ℕ) (text_of : List Route → List ℕ) (bytes : List ℕ) (taken : Taken)
-    → IsShown texts limit 512 text_of bytes taken → taken.status ≢ 5 → (union : List Route) × IsUnion texts limit union × (bytes ≡ text_of union)
-what_is_told_is_told_of_the_union law texts limit text_of bytes taken shown done = law texts limit 512 text_of bytes taken shown done
+    ShowsUnion → (texts : List (List ℕ)) (limit : ℕ) (text_of : List Route → List ℕ) (bytes : List ℕ) (summary : RunSummary)
+    → IsShown texts limit 512 text_of bytes summary → summary.status ≢ 5 → (union : List Route) × IsUnion texts limit union × (bytes ≡ text_of union)
+what_is_told_is_told_of_the_union law texts limit text_of bytes summary shown done = law texts limit 512 text_of bytes summary shown done
 
 -- ShowOneTable
 batches_of_1_and_of_512_tell_the_same :
-    ShowOneTable → (texts : List (List ℕ)) (limit : ℕ) (text_of : List Route → List ℕ) (bytes bytes' : List ℕ) (taken taken' : Taken)
-    → IsShown texts limit 1 text_of bytes taken → IsShown texts limit 512 text_of bytes' taken' → taken.status ≢ 5 → taken'.status ≢ 5 → bytes ≡ bytes'
-batches_of_1_and_of_512_tell_the_same law texts limit text_of bytes bytes' taken taken' shown shown' done done' =
-    law texts limit 1 512 text_of bytes bytes' taken taken' shown shown' done done'
+    ShowOneTable → (texts : List (List ℕ)) (limit : ℕ) (text_of : List Route → List ℕ) (bytes bytes' : List ℕ) (summary summary' : RunSummary)
+    → IsShown texts limit 1 text_of bytes summary → IsShown texts limit 512 text_of bytes' summary' → summary.status ≢ 5 → summary'.status ≢ 5 → bytes ≡ bytes'
+batches_of_1_and_of_512_tell_the_same law texts limit text_of bytes bytes' summary summary' shown shown' done done' =
+    law texts limit 1 512 text_of bytes bytes' summary summary' shown shown' done done'
 
 -- IsReplayText
 nothing_picked : IsReplayText 1 [] (codes "inside none\n")
@@ -677,14 +677,14 @@ some_range_or_none d = (refl, refl, refl)
 
 -- LeavesTable
 what_a_run_leaves :
-    (table : List Route) (taken : Taken) (h : LeavesTable (text ∷ []) 7 1 table taken)
+    (table : List Route) (summary : RunSummary) (h : LeavesTable (text ∷ []) 7 1 table summary)
     → IsHistory (text ∷ []) 7 1 h.journal h.outcomes × (table ≡ table_of_journal 7 h.journal)
-    × (taken.tallies.items ≡ map tally_of h.outcomes) × (taken.status ≡ status_of was_left_out h.outcomes)
-what_a_run_leaves table taken h = (h.history, h.left, h.tallied, h.is_status)
+    × (summary.tallies.items ≡ map tally_of h.outcomes) × (summary.status ≡ status_of was_left_out h.outcomes)
+what_a_run_leaves table summary h = (h.history, h.left, h.tallied, h.is_status)
 
 -- IsDiffText
 what_two_runs_differ_in :
-    (bytes : List ℕ) (given : Compared) (h : IsDiffText by.Route (text ∷ []) [] 7 1 bytes given)
+    (bytes : List ℕ) (given : DiffSummary) (h : IsDiffText by.Route (text ∷ []) [] 7 1 bytes given)
     → LeavesTable (text ∷ []) 7 1 h.old given.old × LeavesTable [] 7 1 h.new given.new × AreDifferences by.Route h.old h.new h.list
     × (bytes ≡ differences_text h.list) × (given.status ≡ max (differ_status h.list) (max given.old.status given.new.status))
 what_two_runs_differ_in bytes given h = (h.old_left, h.new_left, h.differences, h.printed, h.is_status)
@@ -697,13 +697,13 @@ what_two_unions_differ_in bytes h = (h.old_union, h.new_union, h.differences, h.
 
 -- DiffsUnions
 a_comparison_tells_of_unions :
-    DiffsUnions → (old_texts new_texts : List (List ℕ)) (bytes : List ℕ) (given : Compared)
+    DiffsUnions → (old_texts new_texts : List (List ℕ)) (bytes : List ℕ) (given : DiffSummary)
     → IsDiffText by.Hop old_texts new_texts 7 512 bytes given → given.old.status ≢ 5 → given.new.status ≢ 5 → TellsUnions by.Hop old_texts new_texts 7 bytes
 a_comparison_tells_of_unions law old_texts new_texts bytes given = law by.Hop old_texts new_texts 7 512 bytes given
 
 -- DiffOnce
 batches_of_1_and_of_512_differ_in_the_same :
-    DiffOnce → (old_texts new_texts : List (List ℕ)) (bytes bytes' : List ℕ) (given given' : Compared)
+    DiffOnce → (old_texts new_texts : List (List ℕ)) (bytes bytes' : List ℕ) (given given' : DiffSummary)
     → IsDiffText by.Hop old_texts new_texts 7 1 bytes given → IsDiffText by.Hop old_texts new_texts 7 512 bytes' given'
     → given.old.status ≢ 5 → given.new.status ≢ 5 → given'.old.status ≢ 5 → given'.new.status ≢ 5 → bytes ≡ bytes'
 batches_of_1_and_of_512_differ_in_the_same law old_texts new_texts bytes bytes' given given' =

@@ -6,13 +6,13 @@ use Rattle.rt_feed.specs.declared.report.Line.{Line}
 use Rattle.rt_feed.specs.declared.faults.RunFault.TheVariants as refusal
 use Rattle.rt_run.specs.declared.faults.AppFault.{AppFault}
 use Rattle.rt_run.specs.declared.faults.AppFault.TheVariants.{Run, Replay, Write}
-use Rattle.rt_run.specs.declared.tallies.Taken.{Taken}
+use Rattle.rt_run.specs.declared.tallies.RunSummary.{RunSummary}
 use Rattle.rt_run.specs.RunText.{Leaves}
 use Rattle.rt_run.specs.inside.AskedRun.{AskedRun}
 use Rattle.rt_run.specs.inside.RunResults.{RunOverBook}
 use Rattle.rt_run.specs.DiffText.{LeavesTable}
 use Rattle.rt_run.specs.TableText.{IsShown}
-use Rattle.rt_run.specs.inside.Tallies.{IsTaken, tallies_status}
+use Rattle.rt_run.specs.inside.Tallies.{IsSummary, tallies_status}
 use Rattle.rt_run.proofs.Telling.{tallies-lines, tallies_status-lines}
 use Rattle.rt_run.specs.inside.Outputs.{Writes}
 
@@ -24,9 +24,9 @@ leaves_fault IsSuch old new bytes given (Replay why) is wrote = absurd wrote
 leaves_fault IsSuch old new bytes given Write is wrote = (bytes, given, is, wrote)
 
 -- a run leaves the table of its book
-pub left_table : (asked : AskedRun) (reports : List (List Line)) (book : BookContents) (taken : Taken)
-    → RunOverBook asked reports book → IsTaken reports taken → LeavesTable asked.texts asked.limit asked.batch (table_of book) taken
-left_table asked reports book taken ran told = record {
+pub left_table : (asked : AskedRun) (reports : List (List Line)) (book : BookContents) (summary : RunSummary)
+    → RunOverBook asked reports book → IsSummary reports summary → LeavesTable asked.texts asked.limit asked.batch (table_of book) summary
+left_table asked reports book summary ran told = record {
   journal = book.journal;
   outcomes = ran.outcomes;
   history = ran.history;
@@ -36,10 +36,10 @@ left_table asked reports book taken ran told = record {
 }
 
 -- what was written of a run's table tells of it
-pub is_shown : (asked : AskedRun) (text_of : List Route → List ℕ) (reports : List (List Line)) (book : BookContents) (taken : Taken)
-    → RunOverBook asked reports book → IsTaken reports taken → IsShown asked.texts asked.limit asked.batch text_of (text_of (table_of book)) taken
-is_shown asked text_of reports book taken ran told =
-    let left = left_table asked reports book taken ran told in
+pub is_shown : (asked : AskedRun) (text_of : List Route → List ℕ) (reports : List (List Line)) (book : BookContents) (summary : RunSummary)
+    → RunOverBook asked reports book → IsSummary reports summary → IsShown asked.texts asked.limit asked.batch text_of (text_of (table_of book)) summary
+is_shown asked text_of reports book summary ran told =
+    let left = left_table asked reports book summary ran told in
     record {
       journal = left.journal;
       outcomes = left.outcomes;

@@ -8,7 +8,8 @@ use Rattle.std.proofs.lemmas.List.{take-append-drop, take_all}
 use Rattle.rt_rib.specs.declared.commands.Cmd.{Cmd}
 use Rattle.rt_shared.specs.declared.outcome.Outcome.{Outcome}
 use Rattle.rt_shared.specs.declared.outcome.Outcome.TheVariants.{Did, Refused}
-use Rattle.rt_feed.specs.Visits.{IsCut, concatenated, piece_of, visit_of, entries}
+use Rattle.rt_shared.specs.Visits.{visit_of, entries}
+use Rattle.rt_feed.specs.Visits.{IsCut, concatenated, piece_of}
 use Rattle.rt_run.specs.RunText.{entries_of}
 
 -- the entries of what was answered are those of the visit

@@ -4,7 +4,7 @@ use Rattle.rt_rib.specs.declared.routes.Route.{Route}
 use Rattle.rt_diff.specs.Differences.{AreDifferences}
 use Rattle.rt_diff.specs.Laws.{HaveOneList}
 use Rattle.rt_feed.specs.DifferenceText.{differences_text}
-use Rattle.rt_run.specs.declared.tallies.Taken.{Taken}
+use Rattle.rt_run.specs.declared.tallies.RunSummary.{RunSummary}
 use Rattle.rt_run.specs.TableText.{was_left_out}
 use Rattle.rt_run.specs.SameTable.{IsUnion, LeavesUnion, HaveOneUnion}
 use Rattle.rt_run.specs.DiffText.{LeavesTable}
@@ -12,11 +12,11 @@ use Rattle.rt_run.specs.SameDiff.{DiffsUnions, DiffOnce}
 use Rattle.rt_run.proofs.SameTables.{by_status}
 
 -- a run leaves the union
-leaves_one : LeavesUnion → (texts : List (List ℕ)) (limit batch : ℕ) (table : List Route) (taken : Taken)
-    → LeavesTable texts limit batch table taken → taken.status ≢ 5 → IsUnion texts limit table
-leaves_one leaves texts limit batch table taken left not =
+leaves_one : LeavesUnion → (texts : List (List ℕ)) (limit batch : ℕ) (table : List Route) (summary : RunSummary)
+    → LeavesTable texts limit batch table summary → summary.status ≢ 5 → IsUnion texts limit table
+leaves_one leaves texts limit batch table summary left not =
     subst (IsUnion texts limit) (sym left.left)
-    (leaves texts limit batch left.journal left.outcomes left.history (by_status was_left_out left.outcomes taken.status left.is_status not))
+    (leaves texts limit batch left.journal left.outcomes left.history (by_status was_left_out left.outcomes summary.status left.is_status not))
 
 pub diffs_unions : LeavesUnion → DiffsUnions
 diffs_unions leaves by old_texts new_texts limit batch bytes given is old_not new_not = record {

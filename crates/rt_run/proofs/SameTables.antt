@@ -24,7 +24,7 @@ use Rattle.rt_shared.specs.Laws.{EntriesOfVisits}
 use Rattle.rt_feed.specs.declared.parse.LineFault.{LineFault}
 use Rattle.rt_feed.specs.Laws.{TextHasOneReading}
 use Rattle.rt_feed.specs.Lines.{LineOutcome, skipped, faulty, asked, reading, Becomes, asked_of}
-use Rattle.rt_feed.specs.Visits.{Visit, visit_of, entries}
+use Rattle.rt_shared.specs.Visits.{Visit, visit_of, entries}
 use Rattle.rt_feed.specs.Printed.{table_text}
 use Rattle.rt_run.specs.RunText.{Explains, ExplainsFrom, feeds_text, was_told, some_refused, was_faulty, status_of}
 use Rattle.rt_run.proofs.Pieces.{entries-visit, entries-chunks}
@@ -384,14 +384,14 @@ end_in_one_table ends one texts limit batch batch' bytes bytes' status status' r
     (here.0, here.2, there.2 ∙ ap (λ t. feeds_text 1 run'.outcomes ++ table_text t) same)
 
 pub shows_union : LeavesUnion → ShowsUnion
-shows_union leaves texts limit batch text_of bytes taken is not = (
+shows_union leaves texts limit batch text_of bytes summary is not = (
   table_of_journal limit is.journal,
-  leaves texts limit batch is.journal is.outcomes is.history (by_status was_left_out is.outcomes taken.status is.is_status not),
+  leaves texts limit batch is.journal is.outcomes is.history (by_status was_left_out is.outcomes summary.status is.is_status not),
   is.shown,
 )
 
 pub show_one_table : ShowsUnion → HaveOneUnion → ShowOneTable
-show_one_table shows one texts limit batch batch' text_of bytes bytes' taken taken' is is' not not' =
-    let here = shows texts limit batch text_of bytes taken is not in
-    let there = shows texts limit batch' text_of bytes' taken' is' not' in
+show_one_table shows one texts limit batch batch' text_of bytes bytes' summary summary' is is' not not' =
+    let here = shows texts limit batch text_of bytes summary is not in
+    let there = shows texts limit batch' text_of bytes' summary' is' not' in
     here.2 ∙ (ap text_of (one texts limit here.0 there.0 here.1 there.1) ∙ sym there.2)

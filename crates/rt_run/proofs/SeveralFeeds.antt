@@ -10,11 +10,10 @@ use Rattle.std.proofs.lemmas.Option.{slice_get-get_or, slice_get_within, same_So
 use Rattle.rt_rib.specs.declared.commands.Entry.{Entry}
 use Rattle.rt_rib.specs.Book.{BookContents, table_of}
 use Rattle.rt_shared.specs.Table.{SharedId, HeldPass, ArePassesOf, Settles}
-use Rattle.rt_shared.specs.Visits.{Since, Uncut}
+use Rattle.rt_shared.specs.Visits.{Since, Uncut, Visit, visit_of, entries}
 use Rattle.rt_feed.specs.declared.report.Line.{Line}
 use Rattle.rt_feed.specs.declared.feeds.Feed.{Feed}
 use Rattle.rt_feed.specs.Lines.{LineOutcome, report_lines, asked_of}
-use Rattle.rt_feed.specs.Visits.{Visit, visit_of, entries}
 use Rattle.rt_feed.specs.FeedRuns.{RunsFeed, StopsWithin, RunsOne}
 use Rattle.rt_feed.specs.Printed.{table_text}
 use Rattle.rt_shared.proofs.Promised.{uncut_since}

@@ -12,7 +12,7 @@ use Rattle.rt_shared.specs.declared.outcome.Outcome.{Outcome}
 use Rattle.rt_shared.specs.declared.outcome.Outcome.TheVariants.{Did}
 use Rattle.rt_feed.specs.Lines.{LineOutcome, Becomes, asked_of}
 use Rattle.rt_feed.specs.Printed.{table_text}
-use Rattle.rt_run.specs.declared.tallies.Taken.{Taken}
+use Rattle.rt_run.specs.declared.tallies.RunSummary.{RunSummary}
 use Rattle.rt_run.specs.RunText.{IsHistory, IsRunText, feeds_text, some_refused}
 use Rattle.rt_run.specs.TableText.{IsShown}
 
@@ -70,13 +70,13 @@ EndInOneTable =
 -- where no command was refused for want of memory, what is told of a run's table is told of the union
 abbrev pub ShowsUnion : Type 0
 ShowsUnion =
-    (texts : List (List ℕ)) (limit batch : ℕ) (text_of : List Route → List ℕ) (bytes : List ℕ) (taken : Taken)
-    → IsShown texts limit batch text_of bytes taken → taken.status ≢ 5
+    (texts : List (List ℕ)) (limit batch : ℕ) (text_of : List Route → List ℕ) (bytes : List ℕ) (summary : RunSummary)
+    → IsShown texts limit batch text_of bytes summary → summary.status ≢ 5
     → (union : List Route) × IsUnion texts limit union × (bytes ≡ text_of union)
 
 -- so two runs of the same texts and limit tell the same bytes in one way, whatever their batches and however their threads ran
 abbrev pub ShowOneTable : Type 0
 ShowOneTable =
-    (texts : List (List ℕ)) (limit batch batch' : ℕ) (text_of : List Route → List ℕ) (bytes bytes' : List ℕ) (taken taken' : Taken)
-    → IsShown texts limit batch text_of bytes taken → IsShown texts limit batch' text_of bytes' taken' → taken.status ≢ 5 → taken'.status ≢ 5
+    (texts : List (List ℕ)) (limit batch batch' : ℕ) (text_of : List Route → List ℕ) (bytes bytes' : List ℕ) (summary summary' : RunSummary)
+    → IsShown texts limit batch text_of bytes summary → IsShown texts limit batch' text_of bytes' summary' → summary.status ≢ 5 → summary'.status ≢ 5
     → bytes ≡ bytes'

@@ -10,7 +10,7 @@ use Rattle.rt_feed.specs.declared.parse.LineFault.{LineFault}
 use Rattle.rt_feed.specs.Lines.{LineOutcome, faulty}
 use Rattle.rt_feed.specs.Printed.{rows_text, found_text, all_found_text}
 use Rattle.rt_run.specs.declared.tallies.Tally.{Tally}
-use Rattle.rt_run.specs.declared.tallies.Taken.{Taken}
+use Rattle.rt_run.specs.declared.tallies.RunSummary.{RunSummary}
 use Rattle.rt_run.specs.RunText.{IsHistory, was_faulty, was_told, status_of}
 
 -- for each address, in order, what a look-up of it finds in the table
@@ -47,10 +47,10 @@ abbrev pub was_left_out : LineOutcome → Bool
 was_left_out line = was_faulty line || was_told (codes "full") line
 
 -- the bytes tell, in this way, of the table that a run of these texts left, and so much of the texts was taken
-pub record IsShown (texts : List (List ℕ)) (limit batch : ℕ) (text_of : List Route → List ℕ) (bytes : List ℕ) (taken : Taken) : Type 0 where
+pub record IsShown (texts : List (List ℕ)) (limit batch : ℕ) (text_of : List Route → List ℕ) (bytes : List ℕ) (summary : RunSummary) : Type 0 where
   pub journal : List Entry
   pub outcomes : List (List LineOutcome)
   pub history : IsHistory texts limit batch journal outcomes
   pub shown : bytes ≡ text_of (table_of_journal limit journal)
-  pub tallied : taken.tallies.items ≡ map tally_of outcomes
-  pub is_status : taken.status ≡ status_of was_left_out outcomes
+  pub tallied : summary.tallies.items ≡ map tally_of outcomes
+  pub is_status : summary.status ≡ status_of was_left_out outcomes

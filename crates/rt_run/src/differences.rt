@@ -14,8 +14,8 @@ ghost use Rattle.rt_run.specs.inside.Comparisons.{IsFirstOf, lines_of, compared_
 use crate::faults::AppFault;
 use crate::feed_texts::FeedTexts;
 use crate::output::{Output, write_output};
-use crate::runs::{Ran, run_all};
-use crate::tallies::Taken;
+use crate::runs::{FinishedRun, run_all};
+use crate::tallies::RunSummary;
 use rt_cidr::Addr;
 use rt_diff::{By, Comparison, Difference, first_difference};
 use rt_feed::{RunFault, write_difference};
@@ -30,13 +30,13 @@ const DIFFER: u8 = 1;
 
 /// What a comparison of two runs gives.
 #[derive(Debug, Drop)]
-pub struct Compared {
+pub struct DiffSummary {
     /// The exit status, the greatest of these: 1 where some address is answered otherwise, and those of both runs.
     pub status: u8,
     /// How much of the old texts was taken.
-    pub old: Taken,
+    pub old: RunSummary,
     /// How much of the new ones was.
-    pub new: Taken,
+    pub new: RunSummary,
 }
 
 /// Runs the old texts and then the new ones as `run_texts` does, each over a table of its own, and when all have ended writes
@@ -53,7 +53,7 @@ pub fn diff_texts<R: Threads + Wait + Sync, W: Write>(
     batch: usize,
     by: By,
     w: &mut W,
-) -> Result<Compared, AppFault>
+) -> Result<DiffSummary, AppFault>
     requires limited { IsLimit limit }
     requires few_old { length old_texts.now ≤ MOST_FEEDS }
     requires few_new { length new_texts.now ≤ MOST_FEEDS }
@@ -69,28 +69,28 @@ pub fn diff_texts<R: Threads + Wait + Sync, W: Write>(
     let asked_new = FeedTexts::new(new_texts, limit, batch);
     let old = run_all(rt, alloc, &asked_old)?;
     let new = run_all(rt, alloc, &asked_new)?;
-    let compared = compare_ran(alloc, &old, &new, by, w);
+    let compared = compare_runs(alloc, &old, &new, by, w);
     old.leave_table();
     new.leave_table();
     compared
 }
 
 /// Writes what two runs' tables answer otherwise, and tells how much of the texts was taken.
-fn compare_ran<W: Write>(
+fn compare_runs<W: Write>(
     alloc: Global,
-    old: &Ran,
-    new: &Ran,
+    old: &FinishedRun,
+    new: &FinishedRun,
     by: By,
     w: &mut W,
-) -> Result<Compared, AppFault>
+) -> Result<DiffSummary, AppFault>
     ensures text { (old_texts new_texts : List (List ℕ)) (limit batch : ℕ)
         → RunOverBook (record { texts = old_texts; limit = limit; batch = batch }) old.now.reports.items old.now.book
         → RunOverBook (record { texts = new_texts; limit = limit; batch = batch }) new.now.reports.items new.now.book
         → Leaves (IsDiffText by old_texts new_texts limit batch) (W.contents w.old) (W.contents w.new) result }
     ensures ran { result ≢ Err (AppFault.Run RunFault.NoText) }
 {
-    let of_old = old.taken(alloc)?;
-    let of_new = new.taken(alloc)?;
+    let of_old = old.summary(alloc)?;
+    let of_new = new.summary(alloc)?;
     let first = first_difference(&old.book, &new.book, by, Addr(0));
     let status = status_of(&of_old, &of_new, first);
     write_output(
@@ -98,7 +98,7 @@ fn compare_ran<W: Write>(
         Output::Differences(&old.book, &new.book, by, first),
         w,
     )?;
-    Ok(Compared {
+    Ok(DiffSummary {
         status,
         old: of_old,
         new: of_new,
@@ -106,7 +106,7 @@ fn compare_ran<W: Write>(
 }
 
 /// The status of two runs of which this was taken, and of what their tables answer otherwise first.
-fn status_of(old: &Taken, new: &Taken, first: Option<Difference>) -> u8
+fn status_of(old: &RunSummary, new: &RunSummary, first: Option<Difference>) -> u8
     ensures { result ≡ compared_status old.now.status new.now.status first }
 {
     let differ = if first.is_some() { DIFFER } else { 0 };

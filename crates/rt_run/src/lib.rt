@@ -27,9 +27,9 @@ mod runs;
 mod shown;
 mod tallies;
 
-pub use differences::{Compared, diff_texts};
+pub use differences::{DiffSummary, diff_texts};
 pub use faults::AppFault;
 pub use replays::replay_text;
 pub use runs::{MOST_TEXTS, run_texts};
 pub use shown::{lookup_all_texts, lookup_texts, table_texts};
-pub use tallies::{NOT_TAKEN, Taken, Tally};
+pub use tallies::{NOT_TAKEN, RunSummary, Tally};

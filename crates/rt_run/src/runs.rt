@@ -7,13 +7,13 @@ ghost use Rattle.rt_feed.specs.Reports.{has_refusal, has_fault};
 ghost use Rattle.rt_run.specs.RunText.{IsRunText, Leaves};
 ghost use Rattle.rt_run.specs.inside.AskedRun.{AskedRun};
 ghost use Rattle.rt_run.specs.inside.RunResults.{RunOverBook, RunBeforeSettle, reports_status};
-ghost use Rattle.rt_run.specs.inside.Tallies.{IsTaken};
+ghost use Rattle.rt_run.specs.inside.Tallies.{IsSummary};
 ghost use Rattle.rt_shared.specs.Table.{ArePassesOf};
 
 use crate::faults::AppFault;
 use crate::feed_texts::FeedTexts;
 use crate::output::{Output, write_output};
-use crate::tallies::{Taken, status_where, taken_of};
+use crate::tallies::{RunSummary, status_where, summary_of};
 use rt_feed::{Feed, Report, RunFault, TableGate, run_feeds};
 use rt_rib::{Book, MOST_FEEDS, Refused};
 use rt_shared::{FeedPass, SharedRib};
@@ -46,25 +46,25 @@ pub fn run_texts<R: Threads + Wait + Sync, W: Write>(
     ensures no_text { (result ≡ Err (AppFault.Run RunFault.NoText)) ↔ (texts.now ≡ []) }
 {
     let asked = FeedTexts::new(texts, limit, batch);
-    let ran = run_all(rt, alloc, &asked)?;
-    let written = write_ran(alloc, &ran, w);
-    ran.leave_table();
+    let run = run_all(rt, alloc, &asked)?;
+    let written = report_run(alloc, &run, w);
+    run.leave_table();
     written
 }
 
 /// What a run has done: each feed's report, in order, and the book.
 #[derive(Drop)]
-pub(crate) struct Ran {
+pub(crate) struct FinishedRun {
     pub(crate) reports: Vec<Report>,
     pub(crate) book: Book<Global>,
 }
 
-impl Ran {
+impl FinishedRun {
     /// How much of the texts was taken.
-    pub(crate) fn taken(&self, alloc: Global) -> Result<Taken, AllocError>
-        ensures { IfOk result (λ taken. IsTaken self.now.reports.items taken) }
+    pub(crate) fn summary(&self, alloc: Global) -> Result<RunSummary, AllocError>
+        ensures { IfOk result (λ summary. IsSummary self.now.reports.items summary) }
     {
-        taken_of(alloc, self.reports.as_slice())
+        summary_of(alloc, self.reports.as_slice())
     }
 
     /// Leaves the table where it is: to free it node by node would take a tenth of a run, and the system takes its
@@ -79,8 +79,8 @@ pub(crate) fn run_all<R: Threads + Wait + Sync>(
     rt: &R,
     alloc: Global,
     asked: &FeedTexts<'_>,
-) -> Result<Ran, RunFault>
-    ensures ran { IfOk result (λ ran. RunOverBook asked.now ran.reports.items ran.book) }
+) -> Result<FinishedRun, RunFault>
+    ensures ran { IfOk result (λ run. RunOverBook asked.now run.reports.items run.book) }
     ensures refused { result ≢ Err RunFault.FeedCount }
     ensures no_text { (result ≡ Err RunFault.NoText) ↔ (asked.now.texts ≡ []) }
 {
@@ -88,7 +88,7 @@ pub(crate) fn run_all<R: Threads + Wait + Sync>(
         return Err(RunFault::NoText);
     }
     match run_in_lowest_tree(rt, alloc, asked) {
-        Ok(ran) => Ok(ran),
+        Ok(run) => Ok(run),
         Err(Refused) => Err(RunFault::Memory),
     }
 }
@@ -98,8 +98,8 @@ fn run_in_lowest_tree<R: Threads + Wait + Sync>(
     rt: &R,
     alloc: Global,
     asked: &FeedTexts<'_>,
-) -> Result<Ran, Refused>
-    ensures { IfOk result (λ ran. RunOverBook asked.now ran.reports.items ran.book) }
+) -> Result<FinishedRun, Refused>
+    ensures { IfOk result (λ run. RunOverBook asked.now run.reports.items run.book) }
 {
     match asked.count() {
         0..=2 => run_in_tree::<_, 1>(rt, alloc, asked),
@@ -116,14 +116,14 @@ fn run_in_tree<R: Threads + Wait + Sync, const L: u32>(
     rt: &R,
     alloc: Global,
     asked: &FeedTexts<'_>,
-) -> Result<Ran, Refused>
+) -> Result<FinishedRun, Refused>
     requires levels { (1 ≤ L) × (L ≤ 6) }
     requires placed { length asked.now.texts ≤ 2 ^ L }
     requires fewest { (L ≡ 1) ⊎ (2 ^ L < 2 * length asked.now.texts) }
-    ensures { IfOk result (λ ran. RunOverBook asked.now ran.reports.items ran.book) }
+    ensures { IfOk result (λ run. RunOverBook asked.now run.reports.items run.book) }
 {
     let (table, passes) = SharedRib::<L>::new(alloc, asked.limit)?;
-    let Ended { passes, reports } = run_passes(
+    let JoinedFeeds { passes, reports } = run_passes(
         rt,
         alloc,
         &table,
@@ -132,12 +132,12 @@ fn run_in_tree<R: Threads + Wait + Sync, const L: u32>(
         asked.batch,
     )?;
     let book = table.settle(rt, passes);
-    Ok(Ran { reports, book })
+    Ok(FinishedRun { reports, book })
 }
 
 /// The passes of a table and the reports, once all threads are joined.
 #[derive(Drop)]
-struct Ended {
+struct JoinedFeeds {
     passes: Vec<FeedPass>,
     reports: Vec<Report>,
 }
@@ -150,12 +150,12 @@ fn run_passes<R: Threads + Wait + Sync, const L: u32>(
     passes: Vec<FeedPass>,
     texts: &[Vec<u8>],
     batch: usize,
-) -> Result<Ended, AllocError>
+) -> Result<JoinedFeeds, AllocError>
     requires dealt { ArePassesOf table.now passes.items }
     requires fresh { All (λ p. p.seen ≡ []) passes.items }
     requires few { length texts.now ≤ length passes.items }
     requires batched { 1 ≤ batch }
-    ensures { IfOk result (λ ended. RunBeforeSettle (map (λ text. text.items) texts.now) batch table.now ended.passes.items ended.reports.items) }
+    ensures { IfOk result (λ joined. RunBeforeSettle (map (λ text. text.items) texts.now) batch table.now joined.passes.items joined.reports.items) }
 {
     let mut ended = Vec::with_capacity(alloc, passes.len())?;
     let mut reports = Vec::with_capacity(alloc, texts.len())?;
@@ -167,7 +167,7 @@ fn run_passes<R: Threads + Wait + Sync, const L: u32>(
     };
     close_gates(feeds, &mut ended, &mut reports);
     put_behind(&mut ended, idle);
-    Ok(Ended {
+    Ok(JoinedFeeds {
         passes: ended,
         reports,
     })
@@ -224,14 +224,14 @@ fn put_behind(passes: &mut Vec<FeedPass>, mut more: Vec<FeedPass>)
 }
 
 /// Writes what a run has done, and gives its status.
-fn write_ran<W: Write>(alloc: Global, ran: &Ran, w: &mut W) -> Result<u8, AppFault>
-    requires few { length ran.now.reports.items ≤ MOST_FEEDS }
-    ensures text { (asked : AskedRun) → RunOverBook asked ran.now.reports.items ran.now.book
+fn report_run<W: Write>(alloc: Global, run: &FinishedRun, w: &mut W) -> Result<u8, AppFault>
+    requires few { length run.now.reports.items ≤ MOST_FEEDS }
+    ensures text { (asked : AskedRun) → RunOverBook asked run.now.reports.items run.now.book
         → Leaves (IsRunText asked.texts asked.limit asked.batch) (W.contents w.old) (W.contents w.new) result }
     ensures ran { result ≢ Err (AppFault.Run RunFault.NoText) }
 {
-    let routes = ran.book.routes(alloc)?;
-    let reports = ran.reports.as_slice();
+    let routes = run.book.routes(alloc)?;
+    let reports = run.reports.as_slice();
     write_output(alloc, Output::Run(reports, routes.as_slice()), w)?;
     Ok(status_of(reports))
 }

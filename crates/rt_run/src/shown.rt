@@ -12,8 +12,8 @@ ghost use Rattle.rt_run.specs.inside.Outputs.{matches_text, shown_text, Writes};
 use crate::faults::AppFault;
 use crate::feed_texts::FeedTexts;
 use crate::output::{Matches, Output, write_output};
-use crate::runs::{Ran, run_all};
-use crate::tallies::Taken;
+use crate::runs::{FinishedRun, run_all};
+use crate::tallies::RunSummary;
 use rt_cidr::Addr;
 use rt_feed::RunFault;
 use rt_rib::{Book, Refused, Route, keep_best};
@@ -35,7 +35,7 @@ pub fn lookup_texts<R: Threads + Wait + Sync, W: Write>(
     batch: usize,
     addresses: &[Addr],
     w: &mut W,
-) -> Result<Taken, AppFault>
+) -> Result<RunSummary, AppFault>
     requires limited { IsLimit limit }
     requires few { length texts.now ≤ MOST_FEEDS }
     requires batched { 1 ≤ batch }
@@ -43,7 +43,7 @@ pub fn lookup_texts<R: Threads + Wait + Sync, W: Write>(
     ensures no_text { (result ≡ Err (AppFault.Run RunFault.NoText)) ↔ (texts.now ≡ []) }
 {
     let asked = FeedTexts::new(texts, limit, batch);
-    show_texts(rt, alloc, &asked, Shown::Answers(addresses), w)
+    show_texts(rt, alloc, &asked, Query::Answers(addresses), w)
 }
 
 /// Runs the texts as `run_texts` does, and when all have ended writes to `w`, for each address in order, every route that
@@ -59,7 +59,7 @@ pub fn lookup_all_texts<R: Threads + Wait + Sync, W: Write>(
     batch: usize,
     addresses: &[Addr],
     w: &mut W,
-) -> Result<Taken, AppFault>
+) -> Result<RunSummary, AppFault>
     requires limited { IsLimit limit }
     requires few { length texts.now ≤ MOST_FEEDS }
     requires batched { 1 ≤ batch }
@@ -68,7 +68,7 @@ pub fn lookup_all_texts<R: Threads + Wait + Sync, W: Write>(
     ensures no_text { (result ≡ Err (AppFault.Run RunFault.NoText)) ↔ (texts.now ≡ []) }
 {
     let asked = FeedTexts::new(texts, limit, batch);
-    show_texts(rt, alloc, &asked, Shown::AllAnswers(addresses), w)
+    show_texts(rt, alloc, &asked, Query::AllAnswers(addresses), w)
 }
 
 /// Runs the texts as `run_texts` does, and when all have ended writes to `w` the table's routes in order, without its first
@@ -82,7 +82,7 @@ pub fn table_texts<R: Threads + Wait + Sync, W: Write>(
     batch: usize,
     only_best: bool,
     w: &mut W,
-) -> Result<Taken, AppFault>
+) -> Result<RunSummary, AppFault>
     requires limited { IsLimit limit }
     requires few { length texts.now ≤ MOST_FEEDS }
     requires batched { 1 ≤ batch }
@@ -90,12 +90,12 @@ pub fn table_texts<R: Threads + Wait + Sync, W: Write>(
     ensures no_text { (result ≡ Err (AppFault.Run RunFault.NoText)) ↔ (texts.now ≡ []) }
 {
     let asked = FeedTexts::new(texts, limit, batch);
-    show_texts(rt, alloc, &asked, Shown::Routes(only_best), w)
+    show_texts(rt, alloc, &asked, Query::Routes(only_best), w)
 }
 
 /// What is asked of the finished table.
 #[derive(Clone, Copy)]
-enum Shown<'a> {
+enum Query<'a> {
     /// What a look-up of each address finds.
     Answers(&'a [Addr]),
     /// All routes that cover each address.
@@ -109,50 +109,50 @@ fn show_texts<R: Threads + Wait + Sync, W: Write>(
     rt: &R,
     alloc: Global,
     asked: &FeedTexts<'_>,
-    shown: Shown<'_>,
+    query: Query<'_>,
     w: &mut W,
-) -> Result<Taken, AppFault>
-    ensures text { Leaves (IsShown asked.now.texts asked.now.limit asked.now.batch (shown_text shown.entry)) (W.contents w.old) (W.contents w.new) result }
+) -> Result<RunSummary, AppFault>
+    ensures text { Leaves (IsShown asked.now.texts asked.now.limit asked.now.batch (shown_text query.entry)) (W.contents w.old) (W.contents w.new) result }
     ensures no_text { (result ≡ Err (AppFault.Run RunFault.NoText)) ↔ (asked.now.texts ≡ []) }
 {
-    let ran = run_all(rt, alloc, asked)?;
-    let written = show_ran(alloc, &ran, shown, w);
-    ran.leave_table();
+    let run = run_all(rt, alloc, asked)?;
+    let written = show_run(alloc, &run, query, w);
+    run.leave_table();
     written
 }
 
 /// Writes what is asked of a run's table, and tells how much of the texts was taken.
-fn show_ran<W: Write>(
+fn show_run<W: Write>(
     alloc: Global,
-    ran: &Ran,
-    shown: Shown<'_>,
+    run: &FinishedRun,
+    query: Query<'_>,
     w: &mut W,
-) -> Result<Taken, AppFault>
-    ensures text { (asked : AskedRun) → RunOverBook asked ran.now.reports.items ran.now.book
-        → Leaves (IsShown asked.texts asked.limit asked.batch (shown_text shown.entry)) (W.contents w.old) (W.contents w.new) result }
+) -> Result<RunSummary, AppFault>
+    ensures text { (asked : AskedRun) → RunOverBook asked run.now.reports.items run.now.book
+        → Leaves (IsShown asked.texts asked.limit asked.batch (shown_text query.entry)) (W.contents w.old) (W.contents w.new) result }
     ensures ran { result ≢ Err (AppFault.Run RunFault.NoText) }
 {
-    let taken = ran.taken(alloc)?;
-    write_shown(alloc, &ran.book, shown, w)?;
-    Ok(taken)
+    let summary = run.summary(alloc)?;
+    write_shown(alloc, &run.book, query, w)?;
+    Ok(summary)
 }
 
 /// Writes what is asked of the book's table.
 fn write_shown<W: Write>(
     alloc: Global,
     book: &Book<Global>,
-    shown: Shown<'_>,
+    query: Query<'_>,
     w: &mut W,
 ) -> Result<(), AppFault>
-    ensures { Writes (shown_text shown.entry (table_of book.now)) (W.contents w.old) (W.contents w.new) result }
+    ensures { Writes (shown_text query.entry (table_of book.now)) (W.contents w.old) (W.contents w.new) result }
 {
-    match shown {
-        Shown::Answers(addresses) => write_output(alloc, Output::Answers(book, addresses), w),
-        Shown::AllAnswers(addresses) => {
+    match query {
+        Query::Answers(addresses) => write_output(alloc, Output::Answers(book, addresses), w),
+        Query::AllAnswers(addresses) => {
             let all = matches_of(alloc, book, addresses)?;
             write_output(alloc, Output::Matches(all.as_slice()), w)
         }
-        Shown::Routes(only_best) => {
+        Query::Routes(only_best) => {
             let routes = routes_of(alloc, book, only_best)?;
             write_output(alloc, Output::Routes(routes.as_slice()), w)
         }

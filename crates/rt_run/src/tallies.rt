@@ -4,7 +4,7 @@ ghost use Rattle.std.specs.List.{list_any};
 ghost use Rattle.rt_feed.specs.declared.report.Line.{Line};
 ghost use Rattle.rt_feed.specs.Reports.{is_fault};
 ghost use Rattle.rt_run.specs.inside.Tallies.{was_full, was_existing, was_missing, fault_of, report_tally};
-ghost use Rattle.rt_run.specs.inside.Tallies.{has_refused, has_left_out, status_where, tallies_status, IsTaken};
+ghost use Rattle.rt_run.specs.inside.Tallies.{has_refused, has_left_out, status_where, tallies_status, IsSummary};
 
 use rt_feed::{Answer, Line, LineFault, Report};
 use rt_rib::Reply;
@@ -49,9 +49,9 @@ impl Tally {
     }
 }
 
-/// How much of its texts a run has taken.
+/// What a run comes to: its exit status, and what of its texts was not taken.
 #[derive(Debug, Drop)]
-pub struct Taken {
+pub struct RunSummary {
     /// The exit status: 5 where some command was refused for want of memory, else 2 where some line was faulty or some
     /// `add` over the limit, else 0.
     pub status: u8,
@@ -60,12 +60,12 @@ pub struct Taken {
 }
 
 /// Tells of the reports how much of the texts was taken.
-pub(crate) fn taken_of(alloc: Global, reports: &[Report]) -> Result<Taken, AllocError>
-    ensures { IfOk result (λ taken. IsTaken reports.now taken) }
+pub(crate) fn summary_of(alloc: Global, reports: &[Report]) -> Result<RunSummary, AllocError>
+    ensures { IfOk result (λ summary. IsSummary reports.now summary) }
 {
     let tallies = tallies_of(alloc, reports)?;
     let status = status_of(tallies.as_slice());
-    Ok(Taken { status, tallies })
+    Ok(RunSummary { status, tallies })
 }
 
 fn tallies_of(alloc: Global, reports: &[Report]) -> Result<Vec<Tally>, AllocError>

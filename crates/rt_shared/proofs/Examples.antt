@@ -28,9 +28,8 @@ use Rattle.rt_rib.proofs.Promised.{ten_8, at_10_1_2_3, route_via, entry, empty_b
 use Rattle.rt_shared.specs.declared.lent.Lent.{Lent}
 use Rattle.rt_shared.specs.declared.outcome.Outcome.{Outcome}
 use Rattle.rt_shared.specs.declared.outcome.Outcome.TheVariants.{Did, Refused}
-use Rattle.rt_shared.specs.LentChanges.{feed_of, HasSameBounds, GrowsByOthers, GrowsByFeed}
-use Rattle.rt_shared.specs.Visits.{AllBy, NoneBy, Since, answered, MakesVisit, MakesVisitWith, Uncut}
-use Rattle.rt_shared.specs.Table.{SharedId, HeldPass, ArePassesOf, Settles}
+use Rattle.rt_shared.specs.Visits.{AllBy, NoneBy, Since, Visit, reply_to, visit_of, entries, answered, MakesVisit, MakesVisitWith, Uncut}
+use Rattle.rt_shared.specs.Table.{SharedId, HeldPass, ArePassesOf, Settles, feed_of, HasSameBounds, GrowsByOthers, GrowsByFeed}
 use Rattle.rt_shared.specs.Laws.{SinceAgain, AnsweredInPieces, UncutAtFirst, UncutSince, UncutByVisit, EntriesOfVisits, EntriesSince, PassesKept}
 use Rattle.rt_shared.specs.Headline.{Act, entry_of, journal_of, IsSequential, IsRunTo, NoTwoInside, HasAllMade, FindsBest}
 use Rattle.rt_shared.specs.Moments.{Moment, HasPass, BookInSlot, IsAtRest, MeetsHeadline}
@@ -62,6 +61,25 @@ others_have_come = record { others = dump 2 ∷ []; grown = refl; by_others = no
 
 not_its_own : (feed : ℕ) → ¬ Since feed [] (dump feed ∷ [])
 not_its_own feed h = let same : h.others ≡ dump feed ∷ [] = sym h.grown in h.by_others 0 (dump feed) (rw same (omega arith)) (rw same refl)
+
+-- Visit
+a_command_and_its_reply : Visit
+a_command_and_its_reply = (Dump, Dumped 0) ∷ []
+
+-- reply_to
+with_its_reply : reply_to Dump (Did (Dumped 0)) ≡ (Dump, Dumped 0) ∷ []
+with_its_reply = refl
+
+none_where_it_was_refused : reply_to Dump Refused ≡ []
+none_where_it_was_refused = refl
+
+-- visit_of
+what_was_refused_is_no_part_of_it : visit_of ((Dump, Did (Dumped 0)) ∷ (Purge, Refused) ∷ (Dump, Did (Dumped 1)) ∷ []) ≡ (Dump, Dumped 0) ∷ (Dump, Dumped 1) ∷ []
+what_was_refused_is_no_part_of_it = refl
+
+-- entries
+as_entries_of_feed_64 : entries 64 ((Dump, Dumped 0) ∷ (Purge, Purged 0) ∷ []) ≡ dump 64 ∷ purge 64 ∷ []
+as_entries_of_feed_64 = refl
 
 -- answered
 what_was_refused_has_no_entry : answered 1 (Dump ∷ Purge ∷ Purge ∷ []) (Did (Dumped 0) ∷ Refused ∷ Did (Purged 0) ∷ []) ≡ dump 1 ∷ purge 1 ∷ []

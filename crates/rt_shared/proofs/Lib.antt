@@ -4,5 +4,6 @@ pub mod Answered
 pub mod Passes
 pub mod Uncutting
 pub mod Runs
+pub mod TwoPasses
 pub mod Testing
 pub mod Examples

@@ -5,3 +5,5 @@
 pub use Rattle.rt_shared.proofs.Crossing.{pass_send, rib_sync}
 -- a feed's visits stay uncut while it is away, and as it adds one
 pub use Rattle.rt_shared.proofs.Uncutting.{uncut_since, uncut_visit, uncut_by_visit}
+-- the passes of a table of two feeds, taken from the end of their list
+pub use Rattle.rt_shared.proofs.TwoPasses.{both_popped}

@@ -1,8 +1,6 @@
 -- The two passes of a table of two feeds, taken from the end of their list one after the other.
-use Rattle.std.proofs.Common.{◌≡◌, ◌∙◌, List, [], ◌∷◌, ◌++◌, Option, Some, length, length-append, refl, subst, ap, arith}
+use Rattle.std.proofs.Common.{◌≡◌, ◌∙◌, List, [], ◌∷◌, ◌++◌, Option, Some, length, length-append, subst, ap, arith}
 use Rattle.std.specs.Option.{option_to_list}
-use Rattle.rt_shared.specs.Table.{SharedId, HeldPass, ArePassesOf}
-use Rattle.rt_shared.specs.tests.Testing.{AreBoth}
 
 -- a list of two elements is the two that stood last
 two_of : {X : Type 0} (rest xs : List X) (first second : X) → length xs ≡ 2 → xs ≡ (rest ++ first ∷ []) ++ second ∷ [] → xs ≡ first ∷ second ∷ []
@@ -18,15 +16,3 @@ both_popped {X} xs shorter rest last before first second two is of_second then o
     let one : shorter ≡ rest ++ first ∷ [] = then ∙ ap (λ (o : Option X). rest ++ option_to_list o) of_first in
     let both : xs ≡ shorter ++ second ∷ [] = is ∙ ap (λ (o : Option X). shorter ++ option_to_list o) of_second in
     two_of rest xs first second two (both ∙ ap (λ (l : List X). l ++ second ∷ []) one)
-
-pub are_both : (table : SharedId) (passes : List HeldPass) (first second : HeldPass) → ArePassesOf table passes
-    → table.feeds ≡ 2 → passes ≡ first ∷ second ∷ [] → AreBoth table first second
-are_both table passes first second are two is =
-    let both : ArePassesOf table (first ∷ second ∷ []) = subst (ArePassesOf table) is are in
-    record {
-      two = two;
-      of_first = both.tables 0 first (omega arith);
-      of_second = both.tables 1 first (omega arith);
-      one = both.feeds 0 first refl;
-      other = both.feeds 1 second refl;
-    }

@@ -1,5 +1,4 @@
 pub mod Visits
-pub mod LentChanges
 pub mod Table
 pub mod Laws
 pub mod Headline

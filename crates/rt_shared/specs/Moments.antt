@@ -9,7 +9,7 @@ use Rattle.ya_lock.specs.LockState.{HasProcess, IsAway, NoneInside, OneInside}
 use Rattle.rt_rib.specs.Book.{HoldsTable}
 use Rattle.rt_rib.specs.Sequential.{IsLawfulJournal}
 use Rattle.rt_shared.specs.declared.lent.Lent.{Lent}
-use Rattle.rt_shared.specs.LentChanges.{feed_of}
+use Rattle.rt_shared.specs.Table.{feed_of}
 use Rattle.rt_shared.specs.Visits.{Since}
 
 -- the words, the slot of the lent book, and the views of all seats

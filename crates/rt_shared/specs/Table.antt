@@ -1,9 +1,10 @@
--- What contracts see of a shared table and of a pass.
-use Rattle.std.specs.Prelude.{◌≡◌, ℕ, ◌+◌, ◌≤◌, List, slice_get, length, Some, All}
+-- What contracts see of a shared table and of a pass, and how what is lent changes.
+use Rattle.std.specs.Prelude.{◌≡◌, ℕ, ◌+◌, ◌≤◌, List, ◌++◌, slice_get, length, Some, All}
 use Rattle.rt_rib.specs.declared.commands.Entry.{Entry}
 use Rattle.rt_rib.specs.Sequential.{IsLawfulJournal}
 use Rattle.ya_lock.specs.Lock.{LockId}
-use Rattle.rt_shared.specs.Visits.{Since}
+use Rattle.rt_shared.specs.declared.lent.Lent.{Lent}
+use Rattle.rt_shared.specs.Visits.{AllBy, Since}
 
 -- which table it is: its lock, how many routes each feed may have, and how many feeds there are
 pub record SharedId : Type 0 where
@@ -29,3 +30,24 @@ pub record Settles (table : SharedId) (passes : List HeldPass) (journal : List E
   pub lawful : IsLawfulJournal table.limit journal
   pub of_feeds : All (λ e. (1 ≤ e.feed) × (e.feed ≤ table.feeds)) journal
   pub since : All (λ p. Since p.feed p.seen journal) passes
+
+-- the feed of a place
+abbrev pub feed_of : ℕ → ℕ
+feed_of place = place + 1
+
+-- the limit and the number of feeds are the same
+pub record HasSameBounds (a b : Lent) : Type 0 where
+  pub limit : b.book.limit ≡ a.book.limit
+  pub feeds : b.feeds ≡ a.feeds
+
+-- others may have been answered, but not the place's feed
+pub record GrowsByOthers (place : ℕ) (a b : Lent) : Type 0 where
+  pub same : HasSameBounds a b
+  pub since : Since (feed_of place) a.book.journal b.book.journal
+
+-- the place's feed may have been answered, and no other
+pub record GrowsByFeed (place : ℕ) (a b : Lent) : Type 0 where
+  pub same : HasSameBounds a b
+  pub own : List Entry
+  pub added : b.book.journal ≡ a.book.journal ++ own
+  pub by_feed : AllBy (feed_of place) own

@@ -1,6 +1,7 @@
 -- The visits of a feed to the shared table: what each adds to the journal, and how they lie in it.
-use Rattle.std.specs.Prelude.{◌≡◌, ◌≢◌, ℕ, List, [], ◌∷◌, ◌++◌, length, All}
+use Rattle.std.specs.Prelude.{◌≡◌, ◌≢◌, ℕ, List, [], ◌∷◌, ◌++◌, length, map, zip, All}
 use Rattle.rt_rib.specs.declared.commands.Cmd.{Cmd}
+use Rattle.rt_rib.specs.declared.commands.Reply.{Reply}
 use Rattle.rt_rib.specs.declared.commands.Entry.{Entry}
 use Rattle.rt_rib.specs.Sequential.{IsLawfulJournal}
 use Rattle.rt_shared.specs.declared.outcome.Outcome.{Outcome}
@@ -8,11 +9,11 @@ use Rattle.rt_shared.specs.declared.outcome.Outcome.TheVariants.{Did, Refused}
 
 -- all of these entries are the feed's
 abbrev pub AllBy : ℕ → List Entry → Type 0
-AllBy feed entries = All (λ e. e.feed ≡ feed) entries
+AllBy feed part = All (λ e. e.feed ≡ feed) part
 
 -- none of these entries is the feed's
 abbrev pub NoneBy : ℕ → List Entry → Type 0
-NoneBy feed entries = All (λ e. e.feed ≢ feed) entries
+NoneBy feed part = All (λ e. e.feed ≢ feed) part
 
 -- what the feed has seen begins the journal as it is now, and nothing behind it is the feed's
 pub record Since (feed : ℕ) (seen now : List Entry) : Type 0 where
@@ -20,11 +21,27 @@ pub record Since (feed : ℕ) (seen now : List Entry) : Type 0 where
   pub grown : now ≡ seen ++ others
   pub by_others : NoneBy feed others
 
+-- the commands that one call answered, in order, each with its reply
+abbrev pub Visit : Type 0
+Visit = List (Cmd × Reply)
+
+-- the command with its reply, if it had one
+abbrev pub reply_to : Cmd → Outcome → Visit
+reply_to cmd (Did reply) = (cmd, reply) ∷ []
+reply_to cmd Refused = []
+
+-- of these commands those that had a reply, in order, each with it
+abbrev pub visit_of : List (Cmd × Outcome) → Visit
+visit_of [] = []
+visit_of (one ∷ asked) = reply_to one.0 one.1 ++ visit_of asked
+
+-- the visit as entries of this feed
+abbrev pub entries : ℕ → Visit → List Entry
+entries feed visit = map (λ p. record { feed = feed; cmd = p.0; reply = p.1 }) visit
+
 -- the entries of a feed's commands, in order: one for each that has a reply, and none for one that was refused
 abbrev pub answered : ℕ → List Cmd → List Outcome → List Entry
-answered feed (cmd ∷ cmds) (Did reply ∷ outcomes) = record { feed = feed; cmd = cmd; reply = reply } ∷ answered feed cmds outcomes
-answered feed (cmd ∷ cmds) (Refused ∷ outcomes) = answered feed cmds outcomes
-answered feed _ _ = []
+answered feed cmds outcomes = entries feed (visit_of (zip cmds outcomes))
 
 -- a visit: the feed finds a journal to which others alone have added since it last saw it, and leaves it with the
 -- entries of its commands at the end, in one piece. What it leaves is lawful, so each reply is the sequential table's

@@ -24,7 +24,7 @@ pub struct Lent {
 }
 
 impl Kept for Lent {
-    ghost use Rattle.rt_shared.specs.LentChanges.{GrowsByOthers, GrowsByFeed};
+    ghost use Rattle.rt_shared.specs.Table.{GrowsByOthers, GrowsByFeed};
     ghost use Rattle.rt_shared.specs.inside.LentLaws.{others_add_nothing, feed_adds_nothing, grows_by_others};
 
     ghost since = { λ place a b. GrowsByOthers place a b };
@@ -43,7 +43,7 @@ impl Lent {
     ghost use Rattle.rt_rib.specs.Book.{Applies, Refuses, IsLimit};
     ghost use Rattle.rt_shared.specs.Visits.{answered};
     ghost use Rattle.rt_shared.specs.inside.Visits.{AreServed};
-    ghost use Rattle.rt_shared.specs.LentChanges.{HasSameBounds};
+    ghost use Rattle.rt_shared.specs.Table.{HasSameBounds};
 
     /// An empty book for so many feeds.
     pub(crate) fn new(alloc: Global, limit: u32, feeds: u32) -> Lent

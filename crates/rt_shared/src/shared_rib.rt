@@ -4,8 +4,7 @@ ghost use Rattle.rt_rib.specs.declared.limits.TheConstants.{MOST_FEEDS};
 ghost use Rattle.rt_rib.specs.Book.{IsLimit};
 ghost use Rattle.rt_rib.specs.Sequential.{table_of_journal, IsLawfulJournal};
 ghost use Rattle.rt_shared.specs.Visits.{Since, MakesVisit, MakesVisitWith};
-ghost use Rattle.rt_shared.specs.LentChanges.{feed_of};
-ghost use Rattle.rt_shared.specs.Table.{ArePassesOf, Settles};
+ghost use Rattle.rt_shared.specs.Table.{ArePassesOf, Settles, feed_of};
 ghost use Rattle.rt_shared.specs.inside.PassModel.{shared_id, of_feed};
 
 use crate::lent::Lent;

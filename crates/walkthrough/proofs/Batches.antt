@@ -8,7 +8,7 @@ use Rattle.rt_shared.specs.declared.outcome.Outcome.{Outcome}
 use Rattle.rt_shared.specs.Table.{SharedId, HeldPass, Settles}
 use Rattle.rt_shared.specs.Visits.{Since, MakesVisit, Uncut, answered}
 use Rattle.rt_shared.specs.Laws.{UncutAtFirst, UncutByVisit, UncutSince}
-use Rattle.walkthrough.specs.Shared.{AreBothUnseen, HasAsked, AreRoutesOfBoth}
+use Rattle.walkthrough.specs.Shared.{AreBothUnseen, AreRoutesOfBoth}
 
 -- the batch of a feed that had seen nothing stands in one piece in what the journal becomes
 batch_uncut : UncutAtFirst → UncutByVisit → UncutSince → (limit feed number : ℕ) (before : List Entry)
@@ -23,21 +23,25 @@ batch_uncut first call away limit feed number before cmds outcomes seen journal 
     away number (answered number cmds outcomes ∷ []) seen journal (call limit number [] [] seen cmds outcomes (first number) visit')
     (subst (λ (f : ℕ). Since f seen journal) numbered since)
 
+-- the pass has made a visit with these commands
+abbrev HasVisited : ℕ → HeldPass → List Cmd → HeldPass → Type 0
+HasVisited limit before cmds after = (outcomes : List Outcome) × MakesVisit limit before.feed before.seen cmds outcomes after.seen
+
 -- what a lawful journal leaves, once both have asked
 pub left_by_both : UncutAtFirst → UncutByVisit → UncutSince → (table : SharedId) (limit : ℕ) (xs ys : List Cmd)
     (one two one' two' : HeldPass) (journal : List Entry)
-    → table.limit ≡ limit → AreBothUnseen table one two → HasAsked table.limit one xs one' → HasAsked table.limit two ys two'
-    → Settles table (one' ∷ two' ∷ []) journal
+    → table.limit ≡ limit → AreBothUnseen table one two → one'.feed ≡ one.feed → two'.feed ≡ two.feed
+    → HasVisited table.limit one xs one' → HasVisited table.limit two ys two' → Settles table (one' ∷ two' ∷ []) journal
     → (routes : List Route) → routes ≡ table_of_journal limit journal → AreRoutesOfBoth limit xs ys routes
-left_by_both first call away table limit xs ys one two one' two' journal same both a b settled routes of_journal = record {
+left_by_both first call away table limit xs ys one two one' two' journal same both same_one same_two a b settled routes of_journal = record {
   journal = journal;
   lawful = subst (λ (l : ℕ). IsLawfulJournal l journal) same settled.lawful;
-  of_first = a.outcomes;
-  first_uncut = batch_uncut first call away table.limit one.feed 1 one.seen xs a.outcomes one'.seen journal both.one both.unseen.0 a.visit
-      (subst (λ (f : ℕ). Since f one'.seen journal) a.same_feed (settled.since 0 one' (omega arith)));
-  of_second = b.outcomes;
-  second_uncut = batch_uncut first call away table.limit two.feed 2 two.seen ys b.outcomes two'.seen journal both.other both.unseen.1 b.visit
-      (subst (λ (f : ℕ). Since f two'.seen journal) b.same_feed (settled.since 1 one' (omega arith)));
+  of_first = a.0;
+  first_uncut = batch_uncut first call away table.limit one.feed 1 one.seen xs a.0 one'.seen journal both.one both.unseen.0 a.1
+      (subst (λ (f : ℕ). Since f one'.seen journal) same_one (settled.since 0 one' (omega arith)));
+  of_second = b.0;
+  second_uncut = batch_uncut first call away table.limit two.feed 2 two.seen ys b.0 two'.seen journal both.other both.unseen.1 b.1
+      (subst (λ (f : ℕ). Since f two'.seen journal) same_two (settled.since 1 one' (omega arith)));
   of_journal = of_journal;
 }
 

@@ -8,7 +8,8 @@ use Rattle.rt_rib.specs.declared.commands.Entry.{Entry}
 use Rattle.rt_rib.specs.declared.refused.Refused.{Refused}
 use Rattle.rt_rib.specs.Book.{BookContents, Applies, Refuses}
 use Rattle.rt_shared.specs.declared.outcome.Outcome.{Outcome}
-use Rattle.rt_feed.specs.Visits.{Visit, reply_to, visit_of, concatenated, entries}
+use Rattle.rt_shared.specs.Visits.{Visit, reply_to, visit_of, entries}
+use Rattle.rt_feed.specs.Visits.{concatenated}
 use Rattle.walkthrough.specs.Gate.{HasVisits}
 
 -- the commands had these outcomes, and the journal has the entries of those that were answered

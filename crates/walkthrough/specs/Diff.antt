@@ -1,5 +1,5 @@
 -- Two tables by which packets go alike.
-use Rattle.std.specs.Prelude.{ℕ, ◌^◌, ◌<◌, List}
+use Rattle.std.specs.Prelude.{◌^◌, ◌<◌, List}
 use Rattle.rt_cidr.specs.declared.address.Addr.{Addr}
 use Rattle.rt_rib.specs.declared.routes.Route.{Route}
 use Rattle.rt_diff.specs.declared.answers.By.TheVariants as by

@@ -5,7 +5,8 @@ use Rattle.rt_rib.specs.declared.commands.Entry.{Entry}
 use Rattle.rt_shared.specs.declared.outcome.Outcome.{Outcome}
 use Rattle.rt_feed.specs.declared.report.Line.{Line}
 use Rattle.rt_feed.specs.Lines.{LineOutcome, Becomes, report_lines, asked_of}
-use Rattle.rt_feed.specs.Visits.{Visit, IsCut, concatenated, visit_of, entries}
+use Rattle.rt_shared.specs.Visits.{Visit, visit_of, entries}
+use Rattle.rt_feed.specs.Visits.{IsCut, concatenated}
 
 -- the journal has the commands and replies of these visits, in order, as entries of feed 1
 abbrev pub HasVisits : List Entry → List Visit → Type 0

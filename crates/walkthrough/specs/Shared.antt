@@ -6,7 +6,7 @@ use Rattle.rt_rib.specs.declared.commands.Entry.{Entry}
 use Rattle.rt_rib.specs.Sequential.{IsLawfulJournal, table_of_journal}
 use Rattle.rt_shared.specs.declared.outcome.Outcome.{Outcome}
 use Rattle.rt_shared.specs.Table.{SharedId, HeldPass}
-use Rattle.rt_shared.specs.Visits.{MakesVisit, Uncut, answered}
+use Rattle.rt_shared.specs.Visits.{Uncut, answered}
 
 -- the passes of feed 1 and feed 2, of a table that has no other, before they have seen anything
 pub record AreBothUnseen (table : SharedId) (first second : HeldPass) : Type 0 where
@@ -16,13 +16,6 @@ pub record AreBothUnseen (table : SharedId) (first second : HeldPass) : Type 0 w
   pub one : first.feed ≡ 1
   pub other : second.feed ≡ 2
   pub unseen : (first.seen ≡ []) × (second.seen ≡ [])
-
--- the pass has asked these commands in one visit
-pub record HasAsked (limit : ℕ) (before : HeldPass) (cmds : List Cmd) (after : HeldPass) : Type 0 where
-  pub same_table : after.table ≡ before.table
-  pub same_feed : after.feed ≡ before.feed
-  pub outcomes : List Outcome
-  pub visit : MakesVisit limit before.feed before.seen cmds outcomes after.seen
 
 -- a lawful journal leaves these routes, in which each feed's commands stand in one piece, and no other of the feed's
 pub record AreRoutesOfBoth (limit : ℕ) (first second : List Cmd) (routes : List Route) : Type 0 where

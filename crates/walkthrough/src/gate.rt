@@ -1,6 +1,6 @@
 //! `rt_feed`: a feed's text through a gate of one's own, here to a book that no other feed shares.
 ghost use Rattle.std.specs.Prelude.{◌≡◌, ◌++◌, IfOk, All};
-ghost use Rattle.rt_feed.specs.Visits.{entries, reply_to};
+ghost use Rattle.rt_shared.specs.Visits.{entries, reply_to};
 ghost use Rattle.walkthrough.specs.Gate.{IsRunOf};
 
 use rt_feed::{Gate, Outcome, Report, run_feed};

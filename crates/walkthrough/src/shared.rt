@@ -1,6 +1,8 @@
 //! `rt_shared`: two feeds change one table, each by a batch, which stands in one piece in the journal.
-ghost use Rattle.std.specs.Prelude.{◌≡◌, IfOk};
-ghost use Rattle.walkthrough.specs.Shared.{AreBothUnseen, HasAsked, AreRoutesOfBoth};
+ghost use Rattle.std.specs.Prelude.{◌≡◌, List, IfOk};
+ghost use Rattle.rt_shared.specs.declared.outcome.Outcome.{Outcome};
+ghost use Rattle.rt_shared.specs.Visits.{MakesVisit};
+ghost use Rattle.walkthrough.specs.Shared.{AreBothUnseen, AreRoutesOfBoth};
 
 use rt_rib::{Cmd, Route};
 use rt_shared::laws::visits;
@@ -30,7 +32,9 @@ fn ask<R: Wait>(
     cmds: &[Cmd],
 ) -> Result<FeedPass, Refused>
     requires { pass.table ≡ table.now }
-    ensures { IfOk result (λ after. HasAsked table.now.limit pass cmds.now after) }
+    ensures table { IfOk result (λ after. after.table ≡ pass.table) }
+    ensures feed { IfOk result (λ after. after.feed ≡ pass.feed) }
+    ensures visit { IfOk result (λ after. (outcomes : List Outcome) × MakesVisit table.now.limit pass.feed pass.seen cmds.now outcomes after.seen) }
 {
     let mut pass = pass;
     let mut outcomes = Vec::new(alloc);

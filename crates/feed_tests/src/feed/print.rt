@@ -102,7 +102,7 @@ fn prints_every_answer_without_a_route(rt: HostRuntime) -> Result<(), Fail> {
 
 /// A report of three lines, and two routes.
 #[derive(Drop)]
-struct Told {
+struct Sample {
     report: Report,
     routes: [Route; 2],
 }
@@ -116,7 +116,7 @@ fn route(base: u32, len: u8, hop: u32) -> Result<Route, TextFault> {
     })
 }
 
-fn new_told(alloc: Global) -> Result<Told, Fail> {
+fn new_sample(alloc: Global) -> Result<Sample, Fail> {
     let ten = route(0x0a00_0000, 8, 0xc000_0201)?;
     let other = route(0x0a02_0000, 16, 0xc000_0203)?;
     let answers = [
@@ -124,18 +124,18 @@ fn new_told(alloc: Global) -> Result<Told, Fail> {
         Answer::Did(Reply::Found(ten)),
         Answer::Fault(LineFault::Hop),
     ];
-    Ok(Told {
+    Ok(Sample {
         report: report_of(alloc, &answers)?,
         routes: [ten, other],
     })
 }
 
 /// Writes a text of each kind, one after another.
-fn write_each<W: Write>(w: &mut W, told: &Told) -> io::Result<()> {
-    let [ten, other] = told.routes;
-    write_report(w, 1, &told.report)?;
-    write_table(w, &told.routes)?;
-    write_rows(w, &told.routes)?;
+fn write_each<W: Write>(w: &mut W, sample: &Sample) -> io::Result<()> {
+    let [ten, other] = sample.routes;
+    write_report(w, 1, &sample.report)?;
+    write_table(w, &sample.routes)?;
+    write_rows(w, &sample.routes)?;
     write_found(w, Addr(0x0a00_0001), Some(ten))?;
     write_found(w, Addr(0), None)?;
     write_all_found(w, Addr(0x0a02_0001), &[other, ten])
@@ -160,7 +160,7 @@ table 2
 #[test]
 fn writes_a_byte_a_call(rt: HostRuntime) -> Result<(), Fail> {
     let mut out = StumblingWriter::new(rt.alloc(), 1, usize::MAX, None);
-    write_each(&mut out, &new_told(rt.alloc())?)?;
+    write_each(&mut out, &new_sample(rt.alloc())?)?;
     assert!(rt; out.taken.as_slice() == EACH);
     Ok(())
 }
@@ -174,15 +174,15 @@ fn makes_one_write_for_each_line_and_no_other_call(rt: HostRuntime) -> Result<()
     write_report(&mut out, 1, &Report::new(rt.alloc()))?;
     write_rows(&mut out, &[])?;
     assert!(rt; out.calls == 0);
-    write_each(&mut out, &new_told(rt.alloc())?)?;
+    write_each(&mut out, &new_sample(rt.alloc())?)?;
     assert!(rt; out.calls == 12);
     Ok(())
 }
 
 /// After so many bytes the writer's own fault is what every text answers, and nothing more was written.
-fn assert_stops(rt: &impl Abort, alloc: Global, told: &Told, room: usize, fault: io::Error) {
+fn assert_stops(rt: &impl Abort, alloc: Global, sample: &Sample, room: usize, fault: io::Error) {
     let mut out = StumblingWriter::new(alloc, 7, room, Some(fault));
-    let is_told = match write_each(&mut out, told) {
+    let is_told = match write_each(&mut out, sample) {
         Ok(()) => false,
         Err(met) => met.raw_os_error() == fault.raw_os_error() && met.kind() == fault.kind(),
     };
@@ -197,13 +197,13 @@ fn assert_stops(rt: &impl Abort, alloc: Global, told: &Told, room: usize, fault:
 /// Fails where the lines after the first answer another fault, if only another number of its kind: `after 10 bytes`.
 #[test]
 fn stops_with_the_writers_own_fault_after_each_byte(rt: HostRuntime) -> Result<(), Fail> {
-    let told = new_told(rt.alloc())?;
+    let sample = new_sample(rt.alloc())?;
     for code in [4, 28, 32] {
         for room in 0..EACH.len() {
             assert_stops(
                 &rt,
                 rt.alloc(),
-                &told,
+                &sample,
                 room,
                 io::Error::from_raw_os_error(code),
             );
@@ -215,10 +215,10 @@ fn stops_with_the_writers_own_fault_after_each_byte(rt: HostRuntime) -> Result<(
 /// Fails where what was found answers `Other` in place of the system's `TimedOut`: `after 250 bytes`.
 #[test]
 fn stops_with_a_fault_of_any_kind(rt: HostRuntime) -> Result<(), Fail> {
-    let told = new_told(rt.alloc())?;
+    let sample = new_sample(rt.alloc())?;
     for fault in &each_fault(rt.alloc())? {
         for room in (0..EACH.len()).step_by(10) {
-            assert_stops(&rt, rt.alloc(), &told, room, *fault);
+            assert_stops(&rt, rt.alloc(), &sample, room, *fault);
         }
     }
     Ok(())

@@ -1,10 +1,10 @@
 //! `diff`: which addresses the tables of two sets of feed files answer otherwise, and what of the files was not taken.
 
-use super::showing::tell_taken;
+use super::showing::tell_summary;
 use super::{Program, Stop};
 use command_line::DiffRequest;
 use rt_diff::By;
-use rt_run::{Compared, diff_texts};
+use rt_run::{DiffSummary, diff_texts};
 use std::io::Write;
 use std::rt::Files;
 use std::sync::Wait;
@@ -27,7 +27,7 @@ where
         } else {
             By::Hop
         };
-        let Compared { status, old, new } = diff_texts(
+        let DiffSummary { status, old, new } = diff_texts(
             self.rt,
             self.alloc,
             old_texts,
@@ -39,8 +39,8 @@ where
                 .screen
                 .beside(old_texts.len() + new_texts.len(), self.out),
         )?;
-        tell_taken(&mut self.screen, old_names, &old);
-        tell_taken(&mut self.screen, new_names, &new);
+        tell_summary(&mut self.screen, old_names, &old);
+        tell_summary(&mut self.screen, new_names, &new);
         Ok(status)
     }
 }

@@ -8,7 +8,7 @@ use super::{Program, Stop};
 use command_line::{LookupRequest, TableRequest};
 use rt_cidr::Addr;
 use rt_feed::{next_line, parse_address_line};
-use rt_run::{AppFault, NOT_TAKEN, Taken, lookup_all_texts, lookup_texts, table_texts};
+use rt_run::{AppFault, NOT_TAKEN, RunSummary, lookup_all_texts, lookup_texts, table_texts};
 use std::alloc::{AllocError, Global};
 use std::io::Write;
 use std::rt::Files;
@@ -37,11 +37,11 @@ where
             let text = self.read_file(name)?;
             add_addresses(text.as_slice(), &mut addresses)?;
         }
-        let taken = self.answer(request, texts.as_slice(), addresses.asked.as_slice())?;
+        let summary = self.answer(request, texts.as_slice(), addresses.asked.as_slice())?;
         if let Some(name) = request.more {
             tell_faulty(&mut self.screen, name, addresses.faulty);
         }
-        let status = tell_taken(&mut self.screen, run.files.as_slice(), &taken);
+        let status = tell_summary(&mut self.screen, run.files.as_slice(), &summary);
         Ok(if status == 0 && addresses.faulty.count > 0 {
             NOT_TAKEN
         } else {
@@ -53,7 +53,7 @@ where
     pub(super) fn show_routes<'w>(&mut self, request: &TableRequest<'w>) -> Result<u8, Stop<'w>> {
         let run = &request.run;
         let texts = self.read_feeds(run.files.as_slice())?;
-        let taken = table_texts(
+        let summary = table_texts(
             self.rt,
             self.alloc,
             texts.as_slice(),
@@ -62,7 +62,7 @@ where
             request.only_best,
             &mut self.screen.beside(texts.len(), self.out),
         )?;
-        Ok(tell_taken(&mut self.screen, run.files.as_slice(), &taken))
+        Ok(tell_summary(&mut self.screen, run.files.as_slice(), &summary))
     }
 }
 
@@ -73,7 +73,7 @@ impl<R: Threads + Wait + Sync, O: Write, E: Write> Program<'_, R, O, E> {
         request: &LookupRequest<'_>,
         texts: &[Vec<u8>],
         addresses: &[Addr],
-    ) -> Result<Taken, AppFault>
+    ) -> Result<RunSummary, AppFault>
         requires { length texts.now ≤ MOST_FEEDS }
     {
         let (rt, alloc) = (self.rt, self.alloc);
@@ -88,11 +88,11 @@ impl<R: Threads + Wait + Sync, O: Write, E: Write> Program<'_, R, O, E> {
 }
 
 /// Tells of each file what was not taken, and gives the status.
-pub(super) fn tell_taken<E: Write>(err: &mut E, names: &[&str], taken: &Taken) -> u8 {
-    for (name, tally) in names.iter().zip(taken.tallies.iter()) {
+pub(super) fn tell_summary<E: Write>(err: &mut E, names: &[&str], summary: &RunSummary) -> u8 {
+    for (name, tally) in names.iter().zip(summary.tallies.iter()) {
         tell_tally(err, name, tally);
     }
-    taken.status
+    summary.status
 }
 
 /// The addresses of the command line.

@@ -7,7 +7,8 @@ use Rattle.rt_feed.specs.declared.report.Line.{Line}
 use Rattle.rt_feed.specs.declared.report.Answer.TheVariants as answer
 use Rattle.rt_feed.specs.declared.versions.Version.{Version}
 use Rattle.rt_feed.specs.Lines.{CutsLine, LineOutcome, Becomes, heading, report_lines, asked_of}
-use Rattle.rt_feed.specs.Visits.{Visit, Gains, concatenated, piece_of, visit_of}
+use Rattle.rt_shared.specs.Visits.{Visit, visit_of}
+use Rattle.rt_feed.specs.Visits.{Gains, concatenated, piece_of}
 use Rattle.rt_feed.specs.inside.Filling.{filled}
 
 -- the commands that wait have been asked, in one visit if there are any, and the report has what became of them, from

@@ -3,8 +3,7 @@ use Rattle.std.proofs.Common.{◌≡◌, ◌≢◌, ℕ, List, [], ◌∷◌, ma
 use Rattle.std.proofs.lemmas.Bool.{cases_Bool, eqb-true, eqb-false}
 use Rattle.std.proofs.lemmas.List.Elements.{All-nil, All-cons}
 use Rattle.rt_rib.specs.declared.commands.Entry.{Entry}
-use Rattle.rt_shared.specs.Visits.{Uncut}
-use Rattle.rt_feed.specs.Visits.{Visit, entries}
+use Rattle.rt_shared.specs.Visits.{Uncut, Visit, entries}
 
 -- an entry of another feed in front cuts nothing
 uncut_behind : (feed : ℕ) (visits : List (List Entry)) (e : Entry) (journal : List Entry) → e.feed ≢ feed → Uncut feed visits journal

@@ -2,8 +2,8 @@
 use Rattle.std.specs.Prelude.{◌≡◌, ℕ, ◌≤◌, ◌+◌, Bool, true, false, not, List, [], ◌∷◌, length, filter, ◌⊎◌, ◌↔◌}
 use Rattle.std.specs.List.{AllWithin, Contains, list_any}
 use Rattle.rt_rib.specs.declared.offers.Offer.{Offer}
-use Rattle.rt_rib.specs.declared.offers.Taken.{Taken}
-use Rattle.rt_rib.specs.declared.offers.Taken.TheVariants.{Missing, Last, Gone}
+use Rattle.rt_rib.specs.declared.offers.Removal.{Removal}
+use Rattle.rt_rib.specs.declared.offers.Removal.TheVariants.{Missing, Last, Gone}
 use Rattle.rt_rib.specs.Maps.{outranks, is_from}
 
 -- where the offer belongs: those before that index outrank it, and no others do
@@ -29,7 +29,7 @@ HasSwapped old new offer true =
 
 -- what became of the offers as the feed's was to be taken out: it had none, and they are as they were; it has the only one, and
 -- that stays; or its offer is gone
-abbrev pub TakesOut : List Offer → List Offer → ℕ → Taken → Type 0
+abbrev pub TakesOut : List Offer → List Offer → ℕ → Removal → Type 0
 TakesOut old new feed Missing = (new ≡ old) × (list_any (is_from feed) old ≡ false)
 TakesOut old new feed Last = (new ≡ old) × ((o : Offer) × (old ≡ o ∷ []) × (is_from feed o ≡ true))
 TakesOut old new feed Gone = (new ≡ without feed old) × (list_any (is_from feed) old ≡ true) × (length new + 1 ≡ length old)

@@ -14,8 +14,8 @@ use Rattle.rt_run.specs.declared.faults.AppFault.TheVariants.{Run, Replay, Write
 use Rattle.rt_run.specs.declared.output.Matches.{Matches}
 use Rattle.rt_run.specs.declared.output.Output.{Output}
 use Rattle.rt_run.specs.declared.output.Output.TheVariants as output
-use Rattle.rt_run.specs.declared.shown.Shown.{Shown}
-use Rattle.rt_run.specs.declared.shown.Shown.TheVariants as shown
+use Rattle.rt_run.specs.declared.shown.Query.{Query}
+use Rattle.rt_run.specs.declared.shown.Query.TheVariants as query
 use Rattle.ya_replay.specs.ReplayText.{replay_text_of}
 use Rattle.rt_run.specs.inside.Comparisons.{IsFirstOf, lines_of}
 use Rattle.rt_run.specs.TableText.{answers_text, all_answers_text, routes_text}
@@ -56,7 +56,7 @@ Writes text old new (Err (Replay fault)) = ⊥
 Writes text old new (Err Write) = AppendsBeginning old new text
 
 -- the text of what is asked of a table
-abbrev pub shown_text : Shown → List Route → List ℕ
-shown_text (shown.Answers addresses) table = answers_text addresses.now table
-shown_text (shown.AllAnswers addresses) table = all_answers_text addresses.now table
-shown_text (shown.Routes only_best) table = routes_text only_best table
+abbrev pub shown_text : Query → List Route → List ℕ
+shown_text (query.Answers addresses) table = answers_text addresses.now table
+shown_text (query.AllAnswers addresses) table = all_answers_text addresses.now table
+shown_text (query.Routes only_best) table = routes_text only_best table

@@ -8,7 +8,7 @@ use Rattle.rt_feed.specs.declared.report.Answer.{Answer}
 use Rattle.rt_feed.specs.declared.report.Answer.TheVariants.{Did, Refused, Fault}
 use Rattle.rt_feed.specs.Reports.{is_fault, is_refusal}
 use Rattle.rt_run.specs.declared.tallies.Tally.{Tally}
-use Rattle.rt_run.specs.declared.tallies.Taken.{Taken}
+use Rattle.rt_run.specs.declared.tallies.RunSummary.{RunSummary}
 
 -- an `add` was over the limit
 abbrev pub was_full : Answer → Bool
@@ -64,6 +64,6 @@ abbrev pub tallies_status : List Tally → ℕ
 tallies_status tallies = status_where (list_any has_refused tallies) (list_any has_left_out tallies)
 
 -- the reports are tallied, and the status is that of the tallies
-pub record IsTaken (reports : List (List Line)) (taken : Taken) : Type 0 where
-  pub tallied : taken.tallies.items ≡ map report_tally reports
-  pub is_status : taken.status ≡ tallies_status taken.tallies.items
+pub record IsSummary (reports : List (List Line)) (summary : RunSummary) : Type 0 where
+  pub tallied : summary.tallies.items ≡ map report_tally reports
+  pub is_status : summary.status ≡ tallies_status summary.tallies.items

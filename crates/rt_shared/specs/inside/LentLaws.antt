@@ -4,7 +4,7 @@ use Rattle.std.proofs.lemmas.List.Elements.{All-nil, All-append, All-weaker}
 use Rattle.rt_rib.specs.declared.commands.Entry.{Entry}
 use Rattle.rt_shared.specs.declared.lent.Lent.{Lent}
 use Rattle.rt_shared.specs.Visits.{AllBy, NoneBy, Since}
-use Rattle.rt_shared.specs.LentChanges.{feed_of, HasSameBounds, GrowsByOthers, GrowsByFeed}
+use Rattle.rt_shared.specs.Table.{feed_of, HasSameBounds, GrowsByOthers, GrowsByFeed}
 
 -- nothing may have happened
 pub since_same : (feed : ℕ) (journal : List Entry) → Since feed journal journal

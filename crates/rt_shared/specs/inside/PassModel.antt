@@ -2,8 +2,7 @@
 use Rattle.std.specs.Prelude.{◌≡◌, ℕ, ◌≤◌, [], Option, Some, None}
 use Rattle.ya_lock.specs.Lock.{IdlePass}
 use Rattle.rt_shared.specs.declared.lent.Lent.{Lent}
-use Rattle.rt_shared.specs.LentChanges.{feed_of}
-use Rattle.rt_shared.specs.Table.{SharedId, HeldPass}
+use Rattle.rt_shared.specs.Table.{SharedId, HeldPass, feed_of}
 use Rattle.rt_shared.specs.inside.Table.{no_table}
 
 -- the table that the book is lent by

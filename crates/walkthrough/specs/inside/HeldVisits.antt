@@ -1,8 +1,8 @@
 -- Why a gate to a book of its own holds some visits: all that its journal has may be one.
-use Rattle.std.proofs.Common.{◌≡◌, ℕ, List, [], ◌∷◌, ◌++◌, All, map, refl, sym, ap, ◌∙◌, append-nil}
+use Rattle.std.proofs.Common.{◌≡◌, ℕ, List, [], ◌∷◌, All, map, refl, sym, ap, ◌∙◌, append-nil}
 use Rattle.std.proofs.lemmas.List.Elements.{All-head, All-tail}
 use Rattle.rt_rib.specs.declared.commands.Entry.{Entry}
-use Rattle.rt_feed.specs.Visits.{Visit, entries}
+use Rattle.rt_shared.specs.Visits.{Visit, entries}
 use Rattle.walkthrough.specs.Gate.{HasVisits}
 
 -- the commands of a journal with their replies

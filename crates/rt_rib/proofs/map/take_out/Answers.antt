@@ -14,7 +14,7 @@ returns-in-Missing-clause-kept g c = λ none. unchanged c.map_laws.ensures c.req
 
 pub returns-in-Missing-clause-map : goal.returns-in-Missing-clause-map
 returns-in-Missing-clause-map g c =
-    IsMap-put c.map_laws.ensures c.args.map.now.pairs c.requires c.args.prefix c.take_out-taken.new.self c.in-Missing.ensures.lawful
+    IsMap-put c.map_laws.ensures c.args.map.now.pairs c.requires c.args.prefix c.take_out-removal.new.self c.in-Missing.ensures.lawful
 
 pub returns-in-Gone-clause-had : goal.returns-in-Gone-clause-had
 returns-in-Gone-clause-had g c = sym (is_had c.map_laws.ensures c.requires c.args.prefix c.in-Some.ensures.value c.args.feed ∙ c.in-Gone.ensures.taken.1)
@@ -23,10 +23,10 @@ pub returns-in-Gone-clause-gone : goal.returns-in-Gone-clause-gone
 returns-in-Gone-clause-gone g c =
     λ some.
     less c.map_laws.ensures c.requires c.args.prefix c.in-Some.ensures.value c.in-Gone.ensures.lawful c.args.feed
-    (lost c.args.feed c.in-Some.offers.now c.take_out-taken.new.self c.in-Gone.ensures.taken.0)
+    (lost c.args.feed c.in-Some.offers.now c.take_out-removal.new.self c.in-Gone.ensures.taken.0)
 
 pub returns-in-Gone-clause-map : goal.returns-in-Gone-clause-map
-returns-in-Gone-clause-map g c = IsMap-put c.map_laws.ensures c.args.map.now.pairs c.requires c.args.prefix c.take_out-taken.new.self c.in-Gone.ensures.lawful
+returns-in-Gone-clause-map g c = IsMap-put c.map_laws.ensures c.args.map.now.pairs c.requires c.args.prefix c.take_out-removal.new.self c.in-Gone.ensures.lawful
 
 pub returns-in-Last-clause-had : goal.returns-in-Last-clause-had
 returns-in-Last-clause-had g c =

@@ -14,7 +14,7 @@ returns g c =
     let settled : Settles table (one' ∷ two' ∷ []) book.journal =
     subst (λ (ps : List HeldPass). Settles table ps book.journal) c.in_ok-passes.ensures.items c.settle.ensures.settled in
     let left = left_by_both law.first law.call law.away table LIMIT c.args.first.now c.args.second.now one two one' two' book.journal
-    made.0 made.1 c.in_ok-one.ensures c.in_ok-two.ensures settled in
+    made.0 made.1 c.in_ok-one.ensures.feed c.in_ok-two.ensures.feed c.in_ok-one.ensures.visit c.in_ok-two.ensures.visit settled in
     if_ok c.routes-2.result (λ routes. routes.items ≡ table_of_journal book.limit book.journal)
     (λ routes. AreRoutesOfBoth LIMIT c.args.first.now c.args.second.now routes.items)
     (λ routes is. left routes.items (is ∙ ap (λ (l : ℕ). table_of_journal l book.journal) same))

@@ -1,5 +1,5 @@
 use Rattle.std.proofs.lemmas.Result.{err_from_is_err_and, on_ok_weaker, on_err_weaker}
-use Rattle.std.proofs.Common.{[], ◌∷◌, refl, sym, append-nil}
+use Rattle.std.proofs.Common.{[], refl, sym, append-nil}
 use Rattle.rt_shared.specs.declared.outcome.Outcome.TheVariants.{Refused}
 use Rattle.rt_feed.specs.Lines.{skipped, faulty, asked}
 use Rattle.rt_feed.proofs.RunSteps.{line_read}

@@ -4,12 +4,11 @@ use Rattle.rt_rib.specs.declared.commands.Entry.{Entry}
 use Rattle.std.proofs.lemmas.List.{nil_from_length}
 use Rattle.rt_rib.specs.Sequential.{IsLawfulJournal}
 use Rattle.ya_lock.specs.Lock.{IdlePass, OpenGuard, guard_of}
-use Rattle.rt_shared.specs.LentChanges.{HasSameBounds}
 use Rattle.rt_shared.specs.inside.PassModel.{shared_id}
 use Rattle.rt_shared.proofs.Passes.{all_amid, last_of, since_of, all_front, spaced}
 use Rattle.rt_shared.specs.declared.lent.Lent.{Lent}
 use Rattle.rt_shared.specs.Visits.{Since}
-use Rattle.rt_shared.specs.Table.{HeldPass, SharedId}
+use Rattle.rt_shared.specs.Table.{HeldPass, SharedId, HasSameBounds}
 use Rattle.rt_shared.proofs.shared_rib.SharedRib.settle.Goals as goal
 
 -- what the pass has seen begins the journal

@@ -2,7 +2,7 @@ use Rattle.std.proofs.Common.{◌≡◌, ℕ, ◌∷◌, ◌++◌, [], List, tak
 use Rattle.std.proofs.Math.Seq.{take-suc, take-length}
 use Rattle.rt_rib.specs.declared.commands.Cmd.{Cmd}
 use Rattle.rt_shared.specs.declared.outcome.Outcome.{Outcome}
-use Rattle.rt_feed.specs.Visits.{visit_of}
+use Rattle.rt_shared.specs.Visits.{visit_of}
 use Rattle.walkthrough.proofs.Serving.{HasServed, served_more, holds_more, holds_no_batch}
 use Rattle.walkthrough.proofs.gate.OwnBookGate.apply_batch.Goals as goal
 
