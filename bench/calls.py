@@ -129,7 +129,7 @@ SHOWN = [
 10.0.0.1 route 10.0.0.0/8 feed 1 pref 30 via 192.0.2.8
 10.0.0.3 route 10.0.0.0/8 feed 1 pref 30 via 192.0.2.8
 """, 2, """\
-yarib: odd.txt: faulty lines: 2, the first 2: E3: the field is no prefix or address
+yarib: odd.txt: faulty lines: 2, the first is line 2: E3: the field is no prefix or address
 yarib: again.feed: adds of a prefix already there: 1
 yarib: again.feed: replaces and withdraws of a prefix not there: 2
 """),
@@ -172,7 +172,7 @@ yarib: again.feed: replaces and withdraws of a prefix not there: 2
 10.0.0.0/8 feed 1 pref 40 via 192.0.2.4
 10.0.0.0/8 feed 2 pref 50 via 192.0.2.1
 """, 2, """\
-yarib: west.feed: faulty lines: 2, the first 2: E5: a bit past the prefix's length is set
+yarib: west.feed: faulty lines: 2, the first is line 2: E5: a bit past the prefix's length is set
 yarib: west.feed: adds over the limit: 1
 yarib: north.feed: adds over the limit: 1
 """),
@@ -191,7 +191,7 @@ yarib: again.feed: replaces and withdraws of a prefix not there: 2
 10.0.0.1 route 10.0.0.0/8 feed 1 pref 30 via 192.0.2.8
 10.0.0.3 route 10.0.0.0/8 feed 1 pref 30 via 192.0.2.8
 """, 2, """\
-yarib: odd.txt: faulty lines: 2, the first 2: E3: the field is no prefix or address
+yarib: odd.txt: faulty lines: 2, the first is line 2: E3: the field is no prefix or address
 yarib: again.feed: adds of a prefix already there: 1
 yarib: again.feed: replaces and withdraws of a prefix not there: 2
 """),
@@ -199,14 +199,14 @@ yarib: again.feed: replaces and withdraws of a prefix not there: 2
     call("lookup --addresses odd.txt equal.feed", """\
 10.0.0.1 route 10.0.0.0/8 feed 1 pref 30 via 192.0.2.5
 10.0.0.3 route 10.0.0.0/8 feed 1 pref 30 via 192.0.2.5
-""", 2, "yarib: odd.txt: faulty lines: 2, the first 2: E3: the field is no prefix or address\n"),
+""", 2, "yarib: odd.txt: faulty lines: 2, the first is line 2: E3: the field is no prefix or address\n"),
     call("lookup --addresses cr.txt none.feed",
-         "", 2, "yarib: cr.txt: faulty lines: 1, the first 1: E3: the field is no prefix or address\n"),
+         "", 2, "yarib: cr.txt: faulty lines: 1, the first is line 1: E3: the field is no prefix or address\n"),
     call("lookup --addresses no.txt equal.feed", ""),
     call("lookup --address 10.0.0.1 none.feed", "10.0.0.1 no route\n"),
     call("table none.feed", ""),
     call("lookup equal.feed", "", 3, "yarib: no address is asked for: give --address or --addresses\n"),
-    call("lookup --address 10.0.0.1 --address 10.0.0.256 nosuchfile", "", 3, "yarib: no address: 10.0.0.256\n"),
+    call("lookup --address 10.0.0.1 --address 10.0.0.256 nosuchfile", "", 3, "yarib: not an address: 10.0.0.256\n"),
     call("lookup --address 10.0.0.1 equal.feed nosuchfile", "", 4, "yarib: cannot read nosuchfile\n"),
     call("lookup --addresses nosuchtext equal.feed", "", 4, "yarib: cannot read nosuchtext\n"),
     call("table nosuchfile equal.feed", "", 4, "yarib: cannot read nosuchfile\n"),
@@ -253,8 +253,8 @@ COMPARED = [
 0.0.0.0-0.0.0.0 via 192.0.2.1 -> no route
 10.0.0.0-10.255.255.255 no route -> via 192.0.2.1
 255.255.255.255-255.255.255.255 via 192.0.2.1 -> no route
-""", 2, "yarib: faulty.feed: faulty lines: 1, the first 2: E1: the first field is no command\n"),
+""", 2, "yarib: faulty.feed: faulty lines: 1, the first is line 2: E1: the first field is no command of this version\n"),
     call("diff faulty.feed -- old.feed",
-         "", 2, "yarib: faulty.feed: faulty lines: 1, the first 2: E1: the first field is no command\n"),
+         "", 2, "yarib: faulty.feed: faulty lines: 1, the first is line 2: E1: the first field is no command of this version\n"),
     call("diff old.feed -- missing", "", 4, "yarib: cannot read missing\n"),
 ]

@@ -23,7 +23,8 @@ import time
 import tty
 
 import calls
-from hostile import ROW, ROW_OUT, TOP, built, close_all, expect, failures, run
+from checks import TOP, built, end, expect, run, run_each
+from hostile import ROW, ROW_OUT, close_all
 
 CANNOT_WRITE = (6, "", "yarib: cannot write\n")
 
@@ -490,9 +491,9 @@ def not_taken(yarib):
     pathlib.Path("three.feed").write_text(ROW + "frob\nadd 11.0.0.0/8 1 192.0.2.1\nadd 12.0.0.0/8 1 192.0.2.1\nlookup 1\n")
     pathlib.Path("asked.txt").write_text("10.0.0.1\n" + "#" * 129 + "\nx\n10.0.0.2\n")
     answer = "10.0.0.1 route " + route(1)
-    faulty = "yarib: three.feed: faulty lines: 2, the first 2: E1: the first field is no command\n"
+    faulty = "yarib: three.feed: faulty lines: 2, the first is line 2: E1: the first field is no command of this version\n"
     over = "yarib: three.feed: adds over the limit: 2\n"
-    asked = "yarib: asked.txt: faulty lines: 2, the first 2: E8: the line has over 128 bytes\n"
+    asked = "yarib: asked.txt: faulty lines: 2, the first is line 2: E8: the line has over 128 bytes\n"
     one = ["--limit", "1"]
     expect("faulty lines", run([yarib, "lookup", "--address", "10.0.0.1", "three.feed"]), (2, answer, faulty))
     expect("faulty lines and adds over the limit", run([yarib, "lookup", *one, "--address", "10.0.0.1", "three.feed"]), (2, answer, faulty + over))
@@ -504,7 +505,7 @@ def not_taken(yarib):
     addresses_told(yarib)
     for word in ("10.0.0.256", "", "10.0.0.1/32", "10.0.0.01", " 10.0.0.1", "x"):
         ended = run([yarib, "lookup", "--address", "10.0.0.1", f"--address={word}", "missing"])
-        expect(f"the address {word!r}", ended, (3, "", f"yarib: no address: {word}\n"))
+        expect(f"the address {word!r}", ended, (3, "", f"yarib: not an address: {word}\n"))
     expect("no address", run([yarib, "lookup", "row.feed"]), (3, "", "yarib: no address is asked for: give --address or --addresses\n"))
     for command in (["lookup", "--address", "10.0.0.1"], ["table"]):
         expect(f"{command} of a missing file", run([yarib, *command, "row.feed", "missing"]), (4, "", "yarib: cannot read missing\n"))
@@ -572,7 +573,7 @@ def compared_tables(yarib):
             expect(f"by {what} {number}", run([yarib, "diff", "--by", what, *old_names, "--", *new_names]), (1 if wanted else 0, wanted, ""))
         expect(f"with itself {number}", run([yarib, "diff", "--by", "route", *old_names, "--", *old_names]), (0, "", ""))
     pathlib.Path("odd.feed").write_text("frob\n" + ROW)
-    told = "yarib: odd.feed: faulty lines: 1, the first 1: E1: the first field is no command\n"
+    told = "yarib: odd.feed: faulty lines: 1, the first is line 1: E1: the first field is no command of this version\n"
     expect("what was not taken of both", run([yarib, "diff", "odd.feed", "--", "row.feed", "odd.feed"]), (2, "", told * 2))
     expect("more than 64 new files", run([yarib, "diff", "row.feed", "--", *["row.feed"] * 65]), (3, "", "yarib: more than 64 files\n"))
     expect("an old file that is missing", run([yarib, "diff", "missing", "--", "row.feed"]), (4, "", "yarib: cannot read missing\n"))
@@ -595,7 +596,7 @@ def files_told(yarib):
                                   "withdraw 12.0.0.0/8\nadd 13.0.0.0/8 1 192.0.2.1\nfrob\ndump 1\n")
     pathlib.Path("again.feed").write_text(ROW + ROW)
     pathlib.Path("gone.feed").write_text("withdraw 10.0.0.0/8\n")
-    kinds = "".join(f"yarib: {long}: {what}\n" for what in ("faulty lines: 2, the first 9: E1: the first field is no command",
+    kinds = "".join(f"yarib: {long}: {what}\n" for what in ("faulty lines: 2, the first is line 9: E1: the first field is no command of this version",
                     "adds over the limit: 1", "adds of a prefix already there: 1", "replaces and withdraws of a prefix not there: 3"))
     again = "yarib: again.feed: adds of a prefix already there: 1\n"
     gone = "yarib: gone.feed: replaces and withdraws of a prefix not there: 1\n"
@@ -620,7 +621,7 @@ def addresses_told(yarib):
     skipped = "# note\n\n" * 3_000
     pathlib.Path("asked.txt").write_text(skipped + "10.0.0.1\n" + skipped * 2 + "frob\n10.0.0.1\nfrob\n")
     line = 3 * 6_000 + 2
-    told = f"yarib: asked.txt: faulty lines: 2, the first {line}: E3: the field is no prefix or address\n"
+    told = f"yarib: asked.txt: faulty lines: 2, the first is line {line}: E3: the field is no prefix or address\n"
     asked = [yarib, "lookup", "--addresses", "asked.txt"]
     answer = "10.0.0.1 route " + route(1)
     expect("a long text of addresses", run([*asked, "row.feed"]), (2, answer * 2, told))
@@ -692,7 +693,7 @@ def sent_to(screen):
 def progress(yarib):
     os.mkfifo("slow.feed")
     goes_on = lambda text: lambda: pathlib.Path("slow.feed").write_text(text)
-    fault = "yarib: slow.feed: faulty lines: 1, the first 1: E1: the first field is no command\n"
+    fault = "yarib: slow.feed: faulty lines: 1, the first is line 1: E1: the first field is no command of this version\n"
     expect("a short run on a terminal", on_terminal([yarib, "run", "row.feed"]), (0, ROW_OUT, ""))
     expect("a short run on a terminal alone", on_terminal([yarib, "run", "row.feed"], out_too=True), (0, "", ROW_OUT))
     expect("a missing file on a terminal", on_terminal([yarib, "run", "missing"]), (4, "", "yarib: cannot read missing\n"))
@@ -739,11 +740,13 @@ def main():
         os.chdir(folder)
         for name, text in (("row", ROW), ("empty", ""), ("faulty", "frob\n")):
             pathlib.Path(f"{name}.feed").write_text(text)
-        for rows in (runs, what_the_table_says, what_two_tables_answer_otherwise, file_order, many_files, unreadable, names, texts, limits, batches, twice, replays, finished_tables, compared_tables, not_taken, pages, examples_of_the_help, help_is_true, closed_outputs, progress, progress_of_long_runs):
-            rows(yarib)
-            print(f"{rows.__name__.replace('_', ' ')}: done", flush=True)
+        run_each((
+            runs, what_the_table_says, what_two_tables_answer_otherwise, file_order, many_files, unreadable, names,
+            texts, limits, batches, twice, replays, finished_tables, compared_tables, not_taken, pages,
+            examples_of_the_help, help_is_true, closed_outputs, progress, progress_of_long_runs,
+        ), yarib)
         os.chdir("/")
-    sys.exit(f"{len(failures)} wrong" if failures else 0)
+    end()
 
 
 if __name__ == "__main__":

@@ -19,7 +19,7 @@ import sys
 import tempfile
 import time
 
-from hostile import built, expect, failures
+from checks import built, end, expect
 
 # How many of a hundred prefixes are of this length.
 LENGTHS = [24] * 60 + [23] * 9 + [22] * 11 + [21] * 4 + [20] * 5 + [19] * 3 + [18] * 2 + [17] + [16] * 3 + [14, 12]
@@ -182,7 +182,7 @@ def main():
         print(f"plain     loading {loading:.3f} s, comparing {beyond:.3f} s: {beyond / loading:.2f}")
         tell_radix(old, new)
         print(f"{len(wanted.splitlines())} ranges")
-    sys.exit(f"{len(failures)} wrong" if failures else 0)
+    end()
 
 
 if __name__ == "__main__":

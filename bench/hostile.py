@@ -10,7 +10,6 @@ says were refused; never by a signal. Limits under which it can't be loaded at a
 and of a list is refused in turn, as refused_growth.py does it for all kinds of runs. With --large (some minutes, and up to 8 GB of memory) texts
 of 1 to 10 million lines and lines of 100 MB to 1 GB are run, and time and memory for a line or a byte are printed; --store keeps these figures in bench/figures/.
 """
-import contextlib
 import os
 import pathlib
 import re
@@ -22,27 +21,11 @@ import tempfile
 import time
 
 import figures
+from checks import built, end, expect, run
 from refused_growth import Wrong, check_shown, files as text_files, own_text, refuse_each, refuser, run_text
 
-TOP = pathlib.Path(__file__).resolve().parent.parent
 ROW = "add 10.0.0.0/8 100 192.0.2.1\n"
 ROW_OUT = "1:1 added\ntable 1\n10.0.0.0/8 feed 1 pref 100 via 192.0.2.1\n"
-failures = []
-
-
-def expect(what, found, wanted):
-    """Notes where something else was found."""
-    if found != wanted:
-        failures.append(what)
-        print(f"WRONG {what}: {found!r} in place of {wanted!r}", flush=True)
-
-
-def run(words, **how):
-    """Status, standard output and standard error of one call."""
-    how = {"stdout": subprocess.PIPE, "stderr": subprocess.PIPE, "timeout": 120} | how
-    ended = subprocess.run(words, **how)
-    return ended.returncode, (ended.stdout or b"").decode(), (ended.stderr or b"").decode()
-
 
 # Lines that leave the table as it was.
 AGAIN = "add 10.0.0.0/8 100 192.0.2.1\nlookup 10.1.2.3\nwithdraw 10.0.0.0/8\ndump\n"
@@ -298,14 +281,6 @@ def large_texts(yarib, folder):
     figures.keep("large", 1, rows)
 
 
-def built(words):
-    """The built program that the words name, or else ./yarib's, which is built first where a source is newer."""
-    if words:
-        return pathlib.Path(words[0]).resolve()
-    subprocess.run([TOP / "yarib", "--version"], check=True, stdout=subprocess.DEVNULL)
-    return TOP / "out" / "yarib"
-
-
 def main():
     yarib = built([word for word in figures.words() if word != "--large"])
     with tempfile.TemporaryDirectory() as made:
@@ -316,7 +291,7 @@ def main():
         refused_commands(yarib, folder)
         if "--large" in sys.argv[1:]:
             large_texts(yarib, folder)
-    sys.exit(f"{len(failures)} wrong" if failures else 0)
+    end()
 
 
 if __name__ == "__main__":

@@ -377,7 +377,7 @@ def told_text(texts, names, limit=65_536):
         answers = [line.split(" ", 1) for line in printed if line.startswith(f"{feed}:")]
         faulty = [place.split(":")[1] for place, answer in answers if answer == "fault E1"]
         if faulty:
-            told += f"yarib: {name}: faulty lines: {len(faulty)}, the first {faulty[0]}: E1: the first field is no command\n"
+            told += f"yarib: {name}: faulty lines: {len(faulty)}, the first is line {faulty[0]}: E1: the first field is no command of this version\n"
         for answer, what in NOT_TAKEN.items():
             if count := sum(found == answer for _, found in answers):
                 told += f"yarib: {name}: {what}: {count}\n"

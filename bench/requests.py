@@ -14,7 +14,7 @@ import subprocess
 import sys
 import tempfile
 
-from hostile import TOP, built, expect, failures, run
+from checks import TOP, built, end, expect, run, run_each
 from refused_growth import address
 
 # How many requests more a text of twice the length may make: for its bytes, the reports' lists, the batch and the journal.
@@ -113,11 +113,9 @@ def main():
         count = pathlib.Path(folder) / "count.so"
         subprocess.run(["gcc", "-O2", "-shared", "-fPIC", "-o", count, TOP / "bench" / "count.c"], check=True)
         os.chdir(folder)
-        for rows in (commands, routes, shown):
-            rows(yarib, count)
-            print(f"{rows.__name__}: done", flush=True)
+        run_each((commands, routes, shown), yarib, count)
         os.chdir("/")
-    sys.exit(f"{len(failures)} wrong" if failures else 0)
+    end()
 
 
 if __name__ == "__main__":

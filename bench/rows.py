@@ -17,8 +17,7 @@ import time
 from typing import NamedTuple
 
 import judge
-from hostile import built, expect, failures, run
-from sizes import compare
+from checks import built, compare, end, expect, run, run_each
 
 
 class Worked(NamedTuple):
@@ -316,7 +315,7 @@ FAULTY = {
 
 # What standard error says of each fault.
 FAULT_TEXTS = [
-    ("frob", "E1: the first field is no command"),
+    ("frob", "E1: the first field is no command of this version"),
     ("dump x", "E2: the command takes another number of fields"),
     ("lookup 10.0.0", "E3: the field is no prefix or address"),
     ("withdraw 10.0.0.0/33", "E4: the prefix's length is over 32"),
@@ -338,7 +337,7 @@ def faulty_lines(yarib):
                 compare(f"{line[:130]!r} behind {first!r}", ended, 2, f"1:2 fault {fault}\ntable 0\n")
     for line, told in FAULT_TEXTS:
         pathlib.Path("faulty.feed").write_text(line)
-        expect(f"what is told of {line!r}", run([yarib, "table", "faulty.feed"]), (2, "", f"yarib: faulty.feed: faulty lines: 1, the first 1: {told}\n"))
+        expect(f"what is told of {line!r}", run([yarib, "table", "faulty.feed"]), (2, "", f"yarib: faulty.feed: faulty lines: 1, the first is line 1: {told}\n"))
 
 
 # Fails where F3 is returned for a text of one byte.
@@ -373,7 +372,7 @@ def addresses(yarib):
         expect(f"{line!r}, which is skipped", asked([line, "1.2.3.4"]), (0, found("1.2.3.4"), ""))
     for line in [*NO_ADDRESS, "#" * 129, "1" * 129]:
         fault = "E8: the line has over 128 bytes" if len(line) > 128 else "E3: the field is no prefix or address"
-        told = f"yarib: asked.txt: faulty lines: 1, the first 1: {fault}\n"
+        told = f"yarib: asked.txt: faulty lines: 1, the first is line 1: {fault}\n"
         expect(f"{line!r}, which is no address", asked([line, "1.2.3.4"]), (2, found("1.2.3.4"), told))
 
 
@@ -951,18 +950,16 @@ def main():
     yarib = built(sys.argv[1:])
     with tempfile.TemporaryDirectory() as folder:
         os.chdir(folder)
-        for rows in (
+        run_each((
             worked_runs, every_batch_size, hundreds_of_thousands_of_lines, versions, texts_are_cut_into_lines, faulty_lines,
             texts_of_one_byte, addresses, answers_of_lookups,
             every_byte_at_every_place, a_byte_more_or_less_at_every_place, lines_about_128_bytes, forty_thousand_hostile_lines,
             feeds_meet_in_one_table, a_place_for_each_of_64_feeds, tables_of_each_size,
             a_thousand_routes_of_two_feeds, feeds_run_at_the_same_time, some_order_explains_each_run,
             no_order_explains_what_was_changed, the_judge_tells_what_an_order_explains, replays,
-        ):
-            rows(yarib)
-            print(f"{rows.__name__.replace('_', ' ')}: done", flush=True)
+        ), yarib)
         os.chdir("/")
-    sys.exit(f"{len(failures)} wrong" if failures else 0)
+    end()
 
 
 if __name__ == "__main__":

@@ -13,19 +13,10 @@ import pathlib
 import sys
 import tempfile
 
-from hostile import built, expect, failures, run
+from checks import built, compare, end, run, run_each
 from refused_growth import address, all_answers_text, answers_text, ran, run_text, told_text
 
 MOST = 1_000_000
-
-
-def compare(what, ended, status, out, err=""):
-    """As expect, but for outputs too long to be shown: the first line that differs is."""
-    if (ended[0], ended[2]) == (status, err) and ended[1] == out:
-        return
-    found, wanted = ended[1].splitlines(), out.splitlines()
-    at = next((at for at, pair in enumerate(zip(found, wanted)) if pair[0] != pair[1]), min(len(found), len(wanted)))
-    expect(what, (ended[0], ended[2], at + 1, found[at : at + 1]), (status, err, at + 1, wanted[at : at + 1]))
 
 
 # Fails where a journal of 1,000,000 entries or more never grows: `a million routes`, `1:1048578 refused`.
@@ -202,11 +193,9 @@ def main():
     yarib = built(sys.argv[1:])
     with tempfile.TemporaryDirectory() as folder:
         os.chdir(folder)
-        for rows in (batches, purges, feeds, many_offers, million):
-            rows(yarib)
-            print(f"{rows.__name__.replace('_', ' ')}: done", flush=True)
+        run_each((batches, purges, feeds, many_offers, million), yarib)
         os.chdir("/")
-    sys.exit(f"{len(failures)} wrong" if failures else 0)
+    end()
 
 
 if __name__ == "__main__":

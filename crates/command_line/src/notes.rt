@@ -19,7 +19,7 @@ macro_rules! taken_notes {
             $before,
             "\
 Standard error tells of each file what was not taken, one line a kind:
-  yarib: FILE: faulty lines: N, the first LINE: FAULT
+  yarib: FILE: faulty lines: N, the first is line LINE: FAULT
   yarib: FILE: adds over the limit: N
   yarib: FILE: adds of a prefix already there: N
   yarib: FILE: replaces and withdraws of a prefix not there: N

@@ -24,7 +24,7 @@ const DISCARD: &[u8] = b"discard";
 #[derive(Clone, Copy, PartialEq, Eq, Debug, Error)]
 pub enum LineFault {
     /// E1: the first field names no command of the text's version.
-    #[error("E1: the first field is no command")]
+    #[error("E1: the first field is no command of this version")]
     Command,
     /// E2: the command takes another number of fields.
     #[error("E2: the command takes another number of fields")]

@@ -1,6 +1,5 @@
 -- A tally of two parts, of which each place changes its own.
 use Rattle.std.specs.Prelude.{◌≡◌, ◌≢◌, ℕ, ◌==◌, if◌then◌else◌}
-use Rattle.std.proofs.Common.{sym, ◌∙◌}
 use Rattle.ya_lock.specs.Lock.{LockId, IdlePass}
 use Rattle.walkthrough.specs.declared.lock.Tally.{Tally}
 
@@ -21,7 +20,3 @@ pub record IsFreshPass (lock : LockId) (place : ℕ) (pass : IdlePass Tally) : T
   pub of_lock : pass.lock ≡ lock
   pub at_place : pass.place ≡ place
   pub counted : part place pass.seen ≡ 0
-
--- what another place does keeps this one's part
-pub keeps_after : (place other : ℕ) (a b c : Tally) → other ≢ place → KeepsPart place a b → KeepsOthers other b c → KeepsPart place a c
-keeps_after place other a b c apart since done = done place (λ e. apart (sym e)) ∙ since

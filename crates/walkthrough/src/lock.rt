@@ -1,6 +1,7 @@
 //! `ya_lock`: a value that two threads change in turn, each its own part, and what is known of it at the end.
 ghost use Rattle.std.specs.Prelude.{◌≡◌, refl, ◌+◌, ◌^◌, ◌<◌, IfOk};
-ghost use Rattle.walkthrough.specs.Tally.{part, KeepsPart, KeepsOthers, keeps_after, IsFreshPass};
+ghost use Rattle.walkthrough.specs.Tally.{part, KeepsPart, KeepsOthers, IsFreshPass};
+ghost use Rattle.walkthrough.specs.inside.TallyLaws.{keeps_after};
 
 use std::alloc::Global;
 use std::sync::Wait;

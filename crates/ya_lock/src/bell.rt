@@ -12,9 +12,9 @@ use crate::step_effects::SetBell;
 use crate::tree_lock::TreeLock;
 use std::sync::Wait;
 
-/// How often a place that waits looks at its spin word before it sleeps. After each look it spins, twice as long each
-/// time up to 64 pauses. It never yields: beside other work a yield gives a whole time slice away, for which all others
-/// wait.
+/// How often a place that waits spins, each time after a look at its spin word, before it sleeps after a look: twice as
+/// long each time up to 64 pauses. It never yields: beside other work a yield gives a whole time slice away, for which
+/// all others wait.
 pub const PATIENCE: u32 = 14;
 
 impl<V: Kept + Drop, const L: u32> TreeLock<V, L> {

@@ -15,7 +15,7 @@ static RUN_FAULTS: [(RunFault, &str, &str); 3] = [
 static LINE_FAULTS: [(LineFault, &str, &str); 8] = [
     (
         LineFault::Command,
-        "E1: the first field is no command",
+        "E1: the first field is no command of this version",
         "Command",
     ),
     (

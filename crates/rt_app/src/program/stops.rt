@@ -103,7 +103,7 @@ impl<'a> Stop<'a> {
             Stop::Misused(text) => put(err, text.as_bytes()),
             Stop::TooMany => put(err, b"yarib: more than 64 files\n"),
             Stop::NothingAsked => put(err, NOTHING_ASKED),
-            Stop::NoAddress(word) => tell_of(err, b"no address: ", word),
+            Stop::NoAddress(word) => tell_of(err, b"not an address: ", word),
             Stop::Unreadable(name) => tell_of(err, b"cannot read ", name),
             Stop::Fault(fault) => put(err, fault_ending(*fault).1),
         }

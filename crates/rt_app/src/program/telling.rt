@@ -42,7 +42,7 @@ pub(super) fn tell_faulty<E: Write>(err: &mut E, name: &str, faulty: FaultyLines
         let count = faulty.count;
         let _ = writeln!(
             err,
-            "yarib: {name}: faulty lines: {count}, the first {number}: {fault}"
+            "yarib: {name}: faulty lines: {count}, the first is line {number}: {fault}"
         );
     }
 }

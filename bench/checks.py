@@ -1,0 +1,50 @@
+"""What the scripts share that judge the program: a call, what is noted where something else was found, and the end."""
+import pathlib
+import subprocess
+import sys
+
+TOP = pathlib.Path(__file__).resolve().parent.parent
+failures = []
+
+
+def built(words):
+    """The built program that the words name, or else ./yarib's, which is built first where a source is newer."""
+    if words:
+        return pathlib.Path(words[0]).resolve()
+    subprocess.run([TOP / "yarib", "--version"], check=True, stdout=subprocess.DEVNULL)
+    return TOP / "out" / "yarib"
+
+
+def run(words, **how):
+    """Status, standard output and standard error of one call."""
+    how = {"stdout": subprocess.PIPE, "stderr": subprocess.PIPE, "timeout": 120} | how
+    ended = subprocess.run(words, **how)
+    return ended.returncode, (ended.stdout or b"").decode(), (ended.stderr or b"").decode()
+
+
+def expect(what, found, wanted):
+    """Notes where something else was found."""
+    if found != wanted:
+        failures.append(what)
+        print(f"WRONG {what}: {found!r} in place of {wanted!r}", flush=True)
+
+
+def compare(what, ended, status, out, err=""):
+    """As expect, but for outputs too long to be shown: the first line that differs is."""
+    if (ended[0], ended[2]) == (status, err) and ended[1] == out:
+        return
+    found, wanted = ended[1].splitlines(), out.splitlines()
+    at = next((at for at, pair in enumerate(zip(found, wanted)) if pair[0] != pair[1]), min(len(found), len(wanted)))
+    expect(what, (ended[0], ended[2], at + 1, found[at : at + 1]), (status, err, at + 1, wanted[at : at + 1]))
+
+
+def run_each(groups, *given):
+    """Runs each group of rows, and says when it is done."""
+    for rows in groups:
+        rows(*given)
+        print(f"{rows.__name__.replace('_', ' ')}: done", flush=True)
+
+
+def end():
+    """Ends with a fault where something else was found."""
+    sys.exit(f"{len(failures)} wrong" if failures else 0)
