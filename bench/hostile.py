@@ -75,6 +75,7 @@ def little_memory(yarib, folder):
         ("a look-up in 64 files", ["lookup", "--address", "9.2.3.4", *text_files(folder, "own", many)], None, 65_536, 0.1),
         ("all that covers, in 64 files", ["lookup", "--all", "--address", "9.2.3.4", *text_files(folder, "own", many)], None, 65_536, 0.1),
         ("the table of 64 files", ["table", *text_files(folder, "own", many)], None, 65_536, 0.1),
+        ("a comparison of 64 files with one", ["diff", *text_files(folder, "own", many), "--", *text_files(folder, "small", row)], None, 65_536, 0.1),
         ("a replay", ["replay", "--levels", "6", *["5", "63"] * 100], None, 4_096, 0),
         ("the help", ["run", "--help"], None, 4_096, 0),
     ]
@@ -101,7 +102,8 @@ def refused_commands(yarib, folder):
     paths = text_files(folder, "refused", [AGAIN, ROW])
     asked = folder / "faulty.txt"
     asked.write_text("10.0.0.1\nfrob\n")
-    for words in (["lookup", "--addresses", asked], ["lookup", "--address", "10.0.0.1"], ["lookup", "--all", "--addresses", asked], ["table"]):
+    for words in (["lookup", "--addresses", asked], ["lookup", "--address", "10.0.0.1"], ["lookup", "--all", "--addresses", asked], ["table"],
+                  ["diff", "--by=route", paths[1], "--"]):
         name, kinds = f"{words[:2]} in two files", set()
         try:
             refuse_each([yarib, *words, *paths], check_shown, refuse, False, kinds)
@@ -173,14 +175,15 @@ def files(yarib, folder):
 
 
 def outputs(yarib, folder):
-    large, row = folder / "large.feed", folder / "row.feed"
+    large, row, none = folder / "large.feed", folder / "row.feed", folder / "none.feed"
     large.write_text(AGAIN * 2_500)
     row.write_text(ROW)
+    none.write_text("")
     cannot = (6, "", "yarib: cannot write\n")
     asked = folder / "asked.txt"
     asked.write_text("10.0.0.1\n" * 5_000)
     for words in (["run", row], ["run", large], ["lookup", "--addresses", asked, row],
-                  ["lookup", "--all", "--addresses", asked, row], ["table", row], ["replay", "--levels", "1", "0"], ["run", "--help"], ["--version"]):
+                  ["lookup", "--all", "--addresses", asked, row], ["table", row], ["diff", row, "--", none], ["replay", "--levels", "1", "0"], ["run", "--help"], ["--version"]):
         name = " ".join(str(word) for word in words if not isinstance(word, pathlib.Path))
         with open("/dev/full", "w") as full:
             expect(f"{name}: a full output", run([yarib, *words], stdout=full), cannot)

@@ -466,6 +466,7 @@ def cases(folder, yarib, libraries):
         yield f"a look-up in {name}", [yarib, "lookup", "--addresses", folder / "asked.txt", *paths], check_shown
         yield f"all that covers, of {name}", [yarib, "lookup", "--all", "--addresses", folder / "asked.txt", *paths], check_shown
         yield f"the table of {name}", [yarib, "table", "--best", *paths], check_shown
+        yield f"a comparison of {name} with one", [yarib, "diff", *paths, "--", *files(folder, "other", row)], check_shown
     yield "a replay", [yarib, "replay", "--levels", "1", "0", "0", "0", "0"], check_same
     yield "a replay of 6 levels", [yarib, "replay", "--levels", "6"] + ["5", "63"] * 30, check_same
     yield "the help", [yarib, "run", "--help"], check_same

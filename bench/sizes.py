@@ -123,7 +123,7 @@ add {feed + 10}.128.0.0/9 0 discard
 
 
 def shown(yarib, texts, names):
-    """What `lookup` and `table` print and tell of these files; each has a line that isn't taken, by turns of another kind."""
+    """What `lookup`, `table` and `diff` print and tell of these files; each has a line that isn't taken, by turns of another kind."""
     turns = ("frob", "add 10.0.0.0/8 1 192.0.2.1", "withdraw 9.0.0.0/8", "add 99.0.0.0/8 1 192.0.2.1")
     texts = [text + turns[feed % 4] + "\n" for feed, text in enumerate(texts)]
     names = [f"shown-{name}" for name in names]
@@ -139,6 +139,8 @@ def shown(yarib, texts, names):
     listed = ran(texts, set(), 3)[1].listed()
     out = "".join(line + "\n" for line in listed)
     compare(f"the table of {len(names)} files", run([yarib, "table", "--limit", "3", *names]), status, out, told)
+    ended = run([yarib, "diff", "--limit", "3", *names, "--", *names])
+    compare(f"{len(names)} files compared with themselves", ended, status, "", told + told)
 
 
 # Fails where F3 is answered above 200,000 routes, a limit over 65,536 is refused, or a journal of 200,000 entries or

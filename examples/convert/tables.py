@@ -6,18 +6,21 @@ import sys
 import feeds
 
 REPORT = re.compile(r"\d+:\d+ .+")
+# what a report says of a line whose route is not in the table
+NOT_TAKEN = re.compile(r".* (?:full|refused|fault E\d)")
 HEAD = re.compile(r"table (\d+)")
 
 
 def table_lines(lines):
     """The table's lines: those after `table COUNT`, or all where the input is a bare list."""
     given = iter(lines)
-    reports, head, rows = 0, None, 0
+    reports, not_taken, head, rows = 0, 0, None, 0
     for line in given:
         head = HEAD.fullmatch(line)
         if head or not REPORT.fullmatch(line):
             break
         reports += 1
+        not_taken += NOT_TAKEN.fullmatch(line) is not None
     if head is None and reports:
         raise feeds.Refused("the table is missing: a report alone was given")
     if head is None:
@@ -27,6 +30,8 @@ def table_lines(lines):
         yield line
     if head and rows != int(head[1]):
         raise feeds.Refused(f"the table should have {head[1]} routes and has {rows}")
+    if not_taken:
+        print(f"{not_taken} lines of the report say full, refused or fault: their routes are not in the table", file=sys.stderr)
 
 
 def best_routes():
