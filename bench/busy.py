@@ -14,6 +14,7 @@ import subprocess
 import sys
 import tempfile
 
+import checks
 import figures
 import run
 
@@ -74,7 +75,7 @@ def main():
     words = figures.words()
     rounds = int(words[0]) if words else 5
     lines = int(words[1]) if len(words) > 1 else 160_000
-    subprocess.run([run.TOP / "yarib", "--version"], check=True, stdout=subprocess.DEVNULL)
+    checks.built([])
     with tempfile.TemporaryDirectory() as made:
         folder = pathlib.Path(made)
         table = run.changing_table(lines * 10 // 16)

@@ -16,10 +16,18 @@ def built(words):
 
 
 def run(words, **how):
-    """Status, standard output and standard error of one call."""
+    """Status, standard output and standard error of one call, or that it had no end in time."""
     how = {"stdout": subprocess.PIPE, "stderr": subprocess.PIPE, "timeout": 120} | how
-    ended = subprocess.run(words, **how)
-    return ended.returncode, (ended.stdout or b"").decode(), (ended.stderr or b"").decode()
+    try:
+        ended = subprocess.run(words, **how)
+    except subprocess.TimeoutExpired:
+        return "no end in time", "", ""
+    return ended.returncode, text_of(ended.stdout), text_of(ended.stderr)
+
+
+def text_of(written):
+    """What was written, as text; bytes that are none stand as such."""
+    return (written or b"").decode(errors="backslashreplace")
 
 
 def expect(what, found, wanted):
@@ -31,9 +39,9 @@ def expect(what, found, wanted):
 
 def compare(what, ended, status, out, err=""):
     """As expect, but for outputs too long to be shown: the first line that differs is."""
-    if (ended[0], ended[2]) == (status, err) and ended[1] == out:
+    if ended == (status, out, err):
         return
-    found, wanted = ended[1].splitlines(), out.splitlines()
+    found, wanted = ended[1].splitlines(keepends=True), out.splitlines(keepends=True)
     at = next((at for at, pair in enumerate(zip(found, wanted)) if pair[0] != pair[1]), min(len(found), len(wanted)))
     expect(what, (ended[0], ended[2], at + 1, found[at : at + 1]), (status, err, at + 1, wanted[at : at + 1]))
 

@@ -3,6 +3,7 @@
    writes to standard output there were, and how many requests before each of those. It rests on names of glibc. */
 #define _GNU_SOURCE
 #include <dlfcn.h>
+#include <errno.h>
 #include <malloc.h>
 #include <stdatomic.h>
 #include <stdlib.h>
@@ -45,6 +46,13 @@ void *calloc(size_t count, size_t size) { return made(__libc_calloc(count, size)
 void *memalign(size_t align, size_t size) { return made(__libc_memalign(align, size)); }
 
 void *aligned_alloc(size_t align, size_t size) { return memalign(align, size); }
+
+int posix_memalign(void **block, size_t align, size_t size) {
+  void *found = memalign(align, size);
+  if (found == NULL) return ENOMEM;
+  *block = found;
+  return 0;
+}
 
 void free(void *block) {
   if (block != NULL) {

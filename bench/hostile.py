@@ -21,8 +21,8 @@ import tempfile
 import time
 
 import figures
-from checks import built, end, expect, run
-from refused_growth import Wrong, check_shown, files as text_files, own_text, refuse_each, refuser, run_text
+from checks import built, end, expect, run, run_each
+from refused_growth import Wrong, answered_addresses, check_shown, files as text_files, own_text, refuse_each, refuser, run_text
 
 ROW = "add 10.0.0.0/8 100 192.0.2.1\n"
 ROW_OUT = "1:1 added\ntable 1\n10.0.0.0/8 feed 1 pref 100 via 192.0.2.1\n"
@@ -51,12 +51,14 @@ def limited(words, size):
     return None if ended[0] == 127 else ended
 
 
-def judge(what, ended, ample, texts):
+def judge(what, ended, ample, texts, words):
     """Compares a run under a limit with the one that had all it wanted, or with the model where commands were refused."""
     if ended == ample:
         return "as with ample memory"
     status, out, err = ended
     if status == 5 and re.search(r"^yarib: .*: commands refused for want of memory: [1-9]", err, re.MULTILINE):
+        asked = [word for before, word in zip(words, words[1:]) if before == "--address"]
+        expect(f"{what}: the addresses", answered_addresses(out), asked)
         return "with commands refused"
     if (status, out) == (5, "") and err in ("yarib: fault F3\n", "yarib: fault P3\n"):
         return "with status 5 and nothing printed"
@@ -85,11 +87,12 @@ def little_memory(yarib, folder):
         while in_turn < 40 and size < 1 << 40:
             ended = limited([yarib, *words], size)
             if ended is not None:
-                kind = judge(f"{name} in {size // 1024} KB", ended, ample, texts)
+                kind = judge(f"{name} in {size // 1024} KB", ended, ample, texts, words)
                 kinds[kind] = kinds.get(kind, 0) + 1
                 in_turn = in_turn + 1 if ended == ample else 0
             size += max(step, int(size * part)) // 4096 * 4096
         expect(f"{name}: the last runs have all they want", in_turn, 40)
+        expect(f"{name}: some run was short of memory", len(kinds) > 1, True)
         print(f"{name} under rising limits: " + ", ".join(f"{count} ended {kind}" for kind, count in kinds.items()), flush=True)
 
 
@@ -111,7 +114,6 @@ def refused_commands(yarib, folder):
             expect(name, str(wrong), "as foreseen")
             continue
         expect(f"{name}: what was refused", kinds, {"lookup or table", "a command of a look-up or list"})
-    print("refused commands: done", flush=True)
 
 
 # Files
@@ -168,7 +170,6 @@ def files(yarib, folder):
     status, out, err = run([yarib, "run", b"\xff.feed"])
     expect("a name that is no text", (status, out, err), (3, "", "yarib: arguments are not UTF-8\n"))
     expect("a name of 5,000 bytes", run([yarib, "run", "x" * 5_000]), unreadable("x" * 5_000))
-    print("files: done", flush=True)
 
 
 # Outputs
@@ -200,7 +201,6 @@ def outputs(yarib, folder):
     disc_fills(yarib, large, folder)
     status, _, _ = run([yarib, "run", row], stderr=None, preexec_fn=lambda: os.close(2))
     expect("standard error closed", status, 0)
-    print("outputs: done", flush=True)
 
 
 def close_all():
@@ -288,10 +288,7 @@ def main():
     yarib = built([word for word in figures.words() if word != "--large"])
     with tempfile.TemporaryDirectory() as made:
         folder = pathlib.Path(made)
-        files(yarib, folder)
-        outputs(yarib, folder)
-        little_memory(yarib, folder)
-        refused_commands(yarib, folder)
+        run_each((files, outputs, little_memory, refused_commands), yarib, folder)
         if "--large" in sys.argv[1:]:
             large_texts(yarib, folder)
     end()

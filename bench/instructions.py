@@ -11,6 +11,7 @@ import re
 import subprocess
 import tempfile
 
+import checks
 import figures
 import run
 
@@ -43,7 +44,7 @@ def counted(program, lines, folder):
 
 
 def main():
-    subprocess.run([run.TOP / "yarib", "--version"], check=True, stdout=subprocess.DEVNULL)
+    checks.built([])
     with tempfile.TemporaryDirectory() as made:
         one, real = (
             counted(run.TOP / "out" / "yarib", lines, pathlib.Path(made))

@@ -18,6 +18,8 @@ import subprocess
 import sys
 import tempfile
 
+import checks
+
 TOP = pathlib.Path(__file__).resolve().parent.parent
 
 Ending = collections.namedtuple("Ending", "status out err refused")
@@ -35,12 +37,11 @@ def build(folder):
     refuse = refuser(folder)
     if len(sys.argv) > 2:
         return pathlib.Path(sys.argv[1]).resolve(), pathlib.Path(sys.argv[2]).resolve(), refuse
-    subprocess.run([TOP / "yarib", "--version"], check=True, stdout=subprocess.DEVNULL)
-    crate = TOP / "crates" / "benches"
+    yarib, crate = checks.built([]), TOP / "crates" / "benches"
     built = subprocess.run(["rt", "run", "--", "growth"], cwd=crate, capture_output=True, text=True)
     if built.returncode != 0:
         sys.exit("bench/refused_growth.py: the crate was not built\n" + built.stdout[-2000:] + built.stderr[-2000:])
-    return TOP / "out" / "yarib", crate / "out" / "benches", refuse
+    return yarib, crate / "out" / "benches", refuse
 
 
 def run(words, refuse, at, rest):
@@ -396,6 +397,12 @@ def all_answers_text(texts, addresses, limit=65_536):
     return "".join(line for addr in addresses for line in table.all(addr))
 
 
+def answered_addresses(out):
+    """The addresses that a look-up has answered, in order, each once for all its lines."""
+    lines = re.findall(r"^([\d.]+) (?:route|no route|also)\b", out, re.MULTILINE)
+    return [addr for at, addr in enumerate(lines) if at == 0 or addr != lines[at - 1]]
+
+
 def check_shown(ending, ample, kinds):
     """A look-up or list of the table: all is as it was, or nothing is printed and nothing told, or commands were refused."""
     if (ending.status, ending.out, ending.err) == (5, "", "yarib: fault F3\n"):
@@ -404,6 +411,7 @@ def check_shown(ending, ample, kinds):
     if ending.status != 5:
         agree(ending[:3], ample[:3], "all of it")
         return
+    agree(answered_addresses(ending.out), answered_addresses(ample.out), "the addresses that are answered")
     told = [line for line in ending.err.splitlines() if re.fullmatch(r"yarib: .*: commands refused for want of memory: [1-9]\d*", line)]
     agree(len(told) > 0, True, "that refused commands are told")
     kinds.add("a command of a look-up or list")

@@ -12,10 +12,10 @@ here depends on how the threads ran. --store keeps the figures in bench/figures/
 import os
 import pathlib
 import random
-import subprocess
 import sys
 import tempfile
 
+import checks
 import figures
 import run
 
@@ -80,7 +80,7 @@ def main():
     words = [word for word in figures.words() if word != "--batches"]
     rounds = int(words[0]) if words else 3
     count = int(words[1]) if len(words) > 1 else 100_000
-    subprocess.run([run.TOP / "yarib", "--version"], check=True, stdout=subprocess.DEVNULL)
+    checks.built([])
     with tempfile.TemporaryDirectory() as made:
         folder = pathlib.Path(made)
         programs = run.TOP / "out" / "yarib", run.build_peer(folder)

@@ -25,7 +25,7 @@ class Worked(NamedTuple):
 
     name: str
     lines: list
-    rows: list = []
+    rows: tuple = ()
     limit: int = 65_536
     end: str = "\n"
 

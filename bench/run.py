@@ -18,6 +18,7 @@ import sys
 import tempfile
 import time
 
+import checks
 import figures
 
 TOP = pathlib.Path(__file__).resolve().parent.parent
@@ -193,7 +194,7 @@ def main():
     words = [word for word in figures.words() if word != "--sizes"]
     rounds = int(words[0]) if words else 5
     count = int(words[1]) if len(words) > 1 else 500_000
-    subprocess.run([TOP / "yarib", "--version"], check=True, stdout=subprocess.DEVNULL)
+    checks.built([])
     inputs = [
         ("one prefix, then look-ups of it", lambda: [one_prefix(200_000)]),
         ("a table in random order", lambda: [real_table(count, False)]),

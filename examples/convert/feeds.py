@@ -17,6 +17,13 @@ def say_in_one_line(kind, error, _):
 # before anything else is loaded
 sys.excepthook = say_in_one_line
 
+
+def say(text):
+    """A line on standard error, if that is open: else `print` would write it to standard output."""
+    if sys.stderr is not None:
+        print(text, file=sys.stderr)
+
+
 import argparse
 import codecs
 import contextlib
@@ -405,12 +412,18 @@ def hop_of(prefix, address, arguments):
     return arguments.ipv6_hop
 
 
+def is_usable(path, valid):
+    """Whether the daemon may choose the path: it is valid, and neither damped nor removed (of which FRR tells beside that)."""
+    unused = any(member(path, name, bool, False) for name in ("damped", "history", "removed"))
+    return not unused and (valid is None or member(path, valid, bool, False))
+
+
 def chosen_first(prefix, paths, notes, valid="valid", best="best"):
     """The paths to an IPv4 prefix that a BGP daemon may use, its choice first; none where it has no choice."""
     if prefix_of(prefix) is None:
         notes.leave_out("of IPv6", len(paths))
         return []
-    usable = [path for path in paths if valid is None or member(path, valid, bool, False)]
+    usable = [path for path in paths if is_usable(path, valid)]
     if len(usable) < len(paths):
         notes.leave_out("that are not valid", len(paths) - len(usable))
     if len(usable) > 1:
@@ -535,9 +548,9 @@ class FeedFiles:
             raise Refused(notes.report(0, what).replace("\n", "; ") + "; nothing is written")
         number = self.put_in_place(names or list(self.waiting))
         PROGRESS.erase()
-        print(notes.report(self.taken, what), file=sys.stderr)
+        say(notes.report(self.taken, what))
         if number > MOST_FILES:
-            print(f"{number} feeds were written; `yarib run` takes at most {MOST_FILES} files", file=sys.stderr)
+            say(f"{number} feeds were written; `yarib run` takes at most {MOST_FILES} files")
 
 
 def convert_table(arguments, given, read):

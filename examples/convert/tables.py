@@ -31,7 +31,7 @@ def table_lines(lines):
     if head and rows != int(head[1]):
         raise feeds.Refused(f"the table should have {head[1]} routes and has {rows}")
     if not_taken:
-        print(f"{not_taken} lines of the report say full, refused or fault: their routes are not in the table", file=sys.stderr)
+        feeds.say(f"{not_taken} lines of the report say full, refused or fault: their routes are not in the table")
 
 
 def best_routes():
@@ -120,4 +120,4 @@ def convert(patterns, arguments, tell_outside=None, before="", after=""):
     sys.stdout.write(after)
     outside = sum(kind(hop) == "outside" for hop in best.values())
     if outside and tell_outside:
-        print(f"{outside} {tell_outside}", file=sys.stderr)
+        feeds.say(f"{outside} {tell_outside}")
