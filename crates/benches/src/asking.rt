@@ -16,7 +16,7 @@ pub struct Load {
     pub batch: usize,
 }
 
-/// The feed's command of this number: its route is put in, and then replaced and looked up, in turn.
+/// The feed's command of this number: its route is put in, and then looked up and replaced, in turn.
 #[inline(always)]
 fn command(feed: u32, number: u64) -> Cmd {
     let base = feed.wrapping_shl(24);

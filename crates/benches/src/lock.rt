@@ -14,7 +14,7 @@ use std::time::{Duration, Instant};
 use std::{io, thread};
 use ya_lock::{Pass, TreeLock};
 
-/// How many passages one thread makes alone where no argument says so.
+/// How many passages are made in each case where no argument says so.
 const FEW: u64 = 3_000;
 
 /// Enters and leaves so often.
@@ -66,6 +66,7 @@ fn made<const L: u32>(
     }
 }
 
+/// The time of the passages of a tree, each thread at a place of its own.
 fn tree<R: Threads + Wait + Clock + Sync, const L: u32>(
     rt: &R,
     alloc: Global,
@@ -104,7 +105,7 @@ fn mutex<R: Threads + Wait + Clock + Sync>(rt: &R, alloc: Global, load: Load) ->
     Some(time)
 }
 
-/// A passage of a tree of so many levels; of the mutex where there is no such tree.
+/// The time of the passages of a tree of so many levels; of the mutex where there is no such tree.
 fn timed<R: Threads + Wait + Clock + Sync>(
     rt: &R,
     alloc: Global,

@@ -1,5 +1,5 @@
-//! Times commands of the shared table beside those of a book under std's mutex. Each feed puts in a route, and then replaces it
-//! and looks it up, in turn. The numbers: how many commands are made in all; 1 for the shared table, of 64 feeds, or 0 for the
+//! Times commands of the shared table beside those of a book under std's mutex. Each feed puts in a route, and then looks it up
+//! and replaces it, in turn; each batch begins with the add, which finds the route there from the second on. The numbers: how many commands are made in all; 1 for the shared table, of 64 feeds, or 0 for the
 //! mutex; the threads, 1 to 64; and the commands of a batch. With fewer than four it runs every case.
 
 ghost use Rattle.std.specs.Prelude.{◌≡◌, All, IfSome};

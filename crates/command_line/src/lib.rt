@@ -1,11 +1,11 @@
 //! The command line: what the words ask for.
 //!
-//! [`read`] gives a [`Request`], or the text of a help or of a misuse. The numbers of a request lie in their bounds, by its
-//! type; all else is only tested.
+//! [`read`] gives a [`Request`], or the text of a help or of a misuse. That limit and batch are at least 1, and the limit
+//! no more than a table takes, is in the type; all else is only tested.
 //!
 //! ```
 //! match read(alloc, words)? {
-//!     Request::Replay(asked) => replay(asked.levels, asked.picks.as_slice()),
+//!     Request::Replay(request) => replay(request.levels, request.picks.as_slice()),
 //!     ..
 //! }
 //! ```
@@ -146,11 +146,12 @@ pub fn read<'a>(alloc: Global, words: &'a [String]) -> Result<Request<'a>, Refus
 
 fn request_of<'a>(alloc: Global, matches: &ArgMatches<'a>) -> Result<Request<'a>, Refusal> {
     match matches.subcommand() {
-        Some(("replay", asked)) => replay_request(alloc, asked),
-        Some(("lookup", asked)) => lookup_request(alloc, asked),
-        Some(("table", asked)) => table_request(alloc, asked),
-        Some(("diff", asked)) => diff_request(alloc, asked),
-        Some((_, asked)) => Ok(Request::Run(run_request(alloc, asked)?)),
+        Some(("replay", matches)) => replay_request(alloc, matches),
+        Some(("lookup", matches)) => lookup_request(alloc, matches),
+        Some(("table", matches)) => table_request(alloc, matches),
+        Some(("diff", matches)) => diff_request(alloc, matches),
+        Some((_, matches)) => Ok(Request::Run(run_request(alloc, matches)?)),
+        // A subcommand is required, so there is one.
         None => Err(Refusal::Memory),
     }
 }
@@ -175,7 +176,8 @@ enum Subcommand {
     Replay,
 }
 
-/// All of them, in the order of the help text.
+/// All of them, in the order of the help text. A loop over them has one early exit; five calls would have five, and at
+/// each the prover goes through all that is dropped.
 const SUBCOMMANDS: &[Subcommand] = &[
     Subcommand::Run,
     Subcommand::Lookup,
@@ -210,7 +212,7 @@ fn program<'a>(alloc: Global) -> Result<Command<'a>, AllocError> {
 
 fn run_command<'a>(alloc: Global) -> Result<Command<'a>, AllocError> {
     Command::new(alloc, "run")
-        .about("Run the commands of feed files at once and print the replies and the table")
+        .about("Run feed files, and print the reply to each command and the table")
         .after_help(RUN_NOTES)
         .arg(limit(alloc))?
         .arg(batch(alloc, DEFAULT_BATCH))?
@@ -362,38 +364,38 @@ fn number<'a>(
         .help(help)
 }
 
-fn lookup_request<'a>(alloc: Global, asked: &ArgMatches<'a>) -> Result<Request<'a>, Refusal> {
+fn lookup_request<'a>(alloc: Global, matches: &ArgMatches<'a>) -> Result<Request<'a>, Refusal> {
     Ok(Request::Lookup(LookupRequest {
-        run: run_request(alloc, asked)?,
-        addresses: texts_of(alloc, asked, "address")?,
-        more: asked.get_str("addresses"),
-        all: asked.get_flag("all"),
+        run: run_request(alloc, matches)?,
+        addresses: texts_of(alloc, matches, "address")?,
+        more: matches.get_str("addresses"),
+        all: matches.get_flag("all"),
     }))
 }
 
-fn table_request<'a>(alloc: Global, asked: &ArgMatches<'a>) -> Result<Request<'a>, Refusal> {
+fn table_request<'a>(alloc: Global, matches: &ArgMatches<'a>) -> Result<Request<'a>, Refusal> {
     Ok(Request::Table(TableRequest {
-        run: run_request(alloc, asked)?,
-        only_best: asked.get_flag("best"),
+        run: run_request(alloc, matches)?,
+        only_best: matches.get_flag("best"),
     }))
 }
 
-fn diff_request<'a>(alloc: Global, asked: &ArgMatches<'a>) -> Result<Request<'a>, Refusal> {
+fn diff_request<'a>(alloc: Global, matches: &ArgMatches<'a>) -> Result<Request<'a>, Refusal> {
     Ok(Request::Diff(DiffRequest {
-        run: run_request(alloc, asked)?,
-        new_files: texts_of(alloc, asked, "new")?,
-        whole_routes: asked.get_str("by") == Some(ROUTE),
+        run: run_request(alloc, matches)?,
+        new_files: texts_of(alloc, matches, "new")?,
+        whole_routes: matches.get_str("by") == Some(ROUTE),
     }))
 }
 
 /// The texts that were given for the argument, in order.
 fn texts_of<'a>(
     alloc: Global,
-    asked: &ArgMatches<'a>,
+    matches: &ArgMatches<'a>,
     name: &str,
 ) -> Result<Vec<&'a str>, Refusal> {
     let mut texts = Vec::new(alloc);
-    if let Some(given) = asked.get_strs(name) {
+    if let Some(given) = matches.get_strs(name) {
         for text in given {
             texts.push(*text)?;
         }
@@ -402,13 +404,13 @@ fn texts_of<'a>(
 }
 
 /// The feed files, the limit and the batch. Both numbers have defaults, so that there is one, and have been bounded.
-fn run_request<'a>(alloc: Global, asked: &ArgMatches<'a>) -> Result<RunRequest<'a>, Refusal> {
-    let files = texts_of(alloc, asked, "files")?;
-    let limit = asked
+fn run_request<'a>(alloc: Global, matches: &ArgMatches<'a>) -> Result<RunRequest<'a>, Refusal> {
+    let files = texts_of(alloc, matches, "files")?;
+    let limit = matches
         .get_one::<u32>("limit")
         .filter(|limit| *limit >= 1 && *limit <= MOST_ROUTES)
         .unwrap_or(1);
-    let batch = asked
+    let batch = matches
         .get_one::<u32>("batch")
         .filter(|batch| *batch >= 1)
         .unwrap_or(1);
@@ -419,10 +421,10 @@ fn run_request<'a>(alloc: Global, asked: &ArgMatches<'a>) -> Result<RunRequest<'
     })
 }
 
-fn replay_request<'a>(alloc: Global, asked: &ArgMatches<'_>) -> Result<Request<'a>, Refusal> {
-    let levels = asked.get_one::<u32>("levels").unwrap_or(0);
+fn replay_request<'a>(alloc: Global, matches: &ArgMatches<'_>) -> Result<Request<'a>, Refusal> {
+    let levels = matches.get_one::<u32>("levels").unwrap_or(0);
     let mut picks = Vec::new(alloc);
-    if let Some(texts) = asked.get_strs("picks") {
+    if let Some(texts) = matches.get_strs("picks") {
         for text in texts {
             // The command line has made sure that it is a number.
             picks.push(text.parse().unwrap_or(u32::MAX))?;

@@ -61,7 +61,8 @@ Exit status, the greatest that applies:
 
 ";
     "Each add beyond is answered full, with status 0: look for full in the
-report. `lookup` and `table` tell of such adds on standard error, with status 2.
+report. `lookup`, `table` and `diff` tell of such adds on standard error, with
+status 2.
 
 Example, where one.feed says `add 10.0.0.0/8 100 192.0.2.1`:
   $ yarib run one.feed
@@ -111,8 +112,8 @@ best first, and why it was left behind: shorter (its prefix), else preference
 pub(crate) const TABLE_NOTES: &str = taken_notes!(
     "\
 Each route has one line, when all feeds have ended, sorted by base address,
-length, preference and feed; with --best only the one of each prefix that a
-look-up would give:
+length, preference and feed; with --best only the best of each prefix, which
+has the least P, and of equal ones the least F:
   PREFIX feed F pref P via HOP
 
 ",

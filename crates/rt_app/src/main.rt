@@ -1,4 +1,5 @@
-//! The program `yarib`: feed files in, one reply a command and the sorted table out.
+//! The program `yarib`: feed files in; out come replies and the sorted table, answers to addresses, routes or what two
+//! tables answer otherwise; or the steps of the lock for a schedule.
 //!
 //! [`run_words`] is the program over its words. It has the command line read by `command_line`, reads the files, calls
 //! `rt_run` for what is asked, and turns each outcome into an exit status and a text on standard error. Of these the

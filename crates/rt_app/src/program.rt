@@ -91,22 +91,22 @@ where
 {
     fn carry_out<'w>(&mut self, words: &'w [String]) -> Result<u8, Stop<'w>> {
         match command_line::read(self.alloc, words) {
-            Ok(Request::Run(asked)) => self.run_files(&asked),
-            Ok(Request::Lookup(asked)) => self.show_answers(&asked),
-            Ok(Request::Table(asked)) => self.show_routes(&asked),
-            Ok(Request::Diff(asked)) => self.compare(&asked),
-            Ok(Request::Replay(asked)) => show_replay(self.alloc, &asked, self.out),
+            Ok(Request::Run(request)) => self.run_files(&request),
+            Ok(Request::Lookup(request)) => self.show_answers(&request),
+            Ok(Request::Table(request)) => self.show_routes(&request),
+            Ok(Request::Diff(request)) => self.compare(&request),
+            Ok(Request::Replay(request)) => show_replay(self.alloc, &request, self.out),
             Err(Refusal::Shown(text)) => show_text(text.as_bytes(), self.out),
             Err(Refusal::Misused(text)) => Err(Stop::Misused(text)),
             Err(Refusal::Memory) => Err(NO_MEMORY),
         }
     }
 
-    fn run_files<'w>(&mut self, asked: &RunRequest<'w>) -> Result<u8, Stop<'w>> {
-        let texts = self.read_feeds(asked.files.as_slice())?;
-        let (texts, batch) = (texts.as_slice(), asked.batch as usize);
+    fn run_files<'w>(&mut self, request: &RunRequest<'w>) -> Result<u8, Stop<'w>> {
+        let texts = self.read_feeds(request.files.as_slice())?;
+        let (texts, batch) = (texts.as_slice(), request.batch as usize);
         let mut out = self.screen.beside(texts.len(), self.out);
-        Ok(run_texts(self.rt, self.alloc, texts, asked.limit, batch, &mut out)?)
+        Ok(run_texts(self.rt, self.alloc, texts, request.limit, batch, &mut out)?)
     }
 }
 
@@ -142,10 +142,10 @@ impl<R: Files + Wait + AllocGlobal, O, E: Write> Program<'_, R, O, E> {
 
 fn show_replay<'w, O: Write>(
     alloc: Global,
-    asked: &ReplayRequest,
+    request: &ReplayRequest,
     out: &mut O,
 ) -> Result<u8, Stop<'w>> {
-    Ok(replay_text(alloc, asked.levels, asked.picks.as_slice(), out)?)
+    Ok(replay_text(alloc, request.levels, request.picks.as_slice(), out)?)
 }
 
 fn show_text<'w, O: Write>(text: &[u8], out: &mut O) -> Result<u8, Stop<'w>> {

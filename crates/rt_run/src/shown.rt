@@ -72,7 +72,7 @@ pub fn lookup_all_texts<R: Threads + Wait + Sync, W: Write>(
 }
 
 /// Runs the texts as `run_texts` does, and when all have ended writes to `w` the table's routes in order, without its first
-/// line, or with `only_best` of each prefix the route that a look-up would give. What it gives, and its faults, are as for
+/// line, or with `only_best` the best of each prefix alone. What it gives, and its faults, are as for
 /// `lookup_texts`.
 pub fn table_texts<R: Threads + Wait + Sync, W: Write>(
     rt: &R,

@@ -13,4 +13,4 @@ mod line;
 mod screen;
 
 pub use line::{Line, Stage};
-pub use screen::{Beside, Screen};
+pub use screen::{Screen, ScreenOutput};

@@ -39,12 +39,13 @@ fn put_count<E: Write>(err: &mut E, what: &[u8], count: usize) -> Result<(), io:
     put(err, Buffer::new().format(count).as_bytes())
 }
 
-/// What the line is to say, if anything, and whether it is there. A fault of the terminal is dropped.
+/// What the line is to say, if anything, whether it is there, and whether it has ended. A fault of the terminal is
+/// dropped.
 #[derive(Drop)]
 struct LineState {
     stage: Option<Stage>,
     is_shown: bool,
-    is_over: bool,
+    has_ended: bool,
 }
 
 impl LineState {
@@ -52,9 +53,9 @@ impl LineState {
         self.stage = Some(stage);
     }
 
-    /// Writes the line over what it said before; false where it is over.
+    /// Writes the line in place of what it said before; false where it has ended.
     fn write<E: Write>(&mut self, err: &mut E) -> bool {
-        if self.is_over {
+        if self.has_ended {
             return false;
         }
         self.erase(err);
@@ -68,7 +69,7 @@ impl LineState {
     /// Erases the line, which isn't written again.
     fn end<E: Write>(&mut self, err: &mut E) {
         self.erase(err);
-        self.is_over = true;
+        self.has_ended = true;
     }
 
     fn erase<E: Write>(&mut self, err: &mut E) {
@@ -85,7 +86,7 @@ pub struct Line {
     /// Whether standard output goes to a terminal, too.
     pub(crate) beside_output: bool,
     now: Mutex<LineState>,
-    over: Parker,
+    ended: Parker,
 }
 
 impl Line {
@@ -96,16 +97,16 @@ impl Line {
             now: Mutex::new(LineState {
                 stage: None,
                 is_shown: false,
-                is_over: false,
+                has_ended: false,
             }),
-            over: Parker::new(),
+            ended: Parker::new(),
         }
     }
 
-    /// Writes the line each second, until it is over.
+    /// Writes the line each second, until it has ended.
     pub fn keep<R: Wait, T: Print>(&self, rt: &R, terminal: &T) {
         for _ in rt.forever() {
-            self.over.park_timeout(rt, Duration::from_secs(1));
+            self.ended.park_timeout(rt, Duration::from_secs(1));
             if !self.now.lock(rt).write(&mut io::writer(terminal)) {
                 return;
             }
@@ -119,6 +120,6 @@ impl Line {
     /// Erases the line, which isn't written again.
     pub(crate) fn end<R: Wait, E: Write>(&self, rt: &R, err: &mut E) {
         self.now.lock(rt).end(err);
-        self.over.unpark();
+        self.ended.unpark();
     }
 }

@@ -30,14 +30,14 @@ impl<'a, R: Wait, E: Write> Screen<'a, R, E> {
         self.line.end(self.rt, self.err);
     }
 
-    /// So many feeds are to be run, and then written to `out`.
+    /// Standard output, for what so many feeds leave; from now on the line says that these run.
     pub fn beside<'s, O: Write>(
         &'s mut self,
         feeds: usize,
         out: &'s mut O,
-    ) -> Beside<'a, 's, R, O, E> {
+    ) -> ScreenOutput<'a, 's, R, O, E> {
         self.set(Stage::Running(feeds));
-        Beside {
+        ScreenOutput {
             out,
             screen: self,
             has_begun: false,
@@ -58,13 +58,13 @@ impl<R: Wait, E: Write> Write for Screen<'_, R, E> {
 
 /// Standard output beside the line. Its first bytes end the line where both go to a terminal, or else are told there.
 #[derive(Drop)]
-pub struct Beside<'a, 's, R, O, E> {
+pub struct ScreenOutput<'a, 's, R, O, E> {
     out: &'s mut O,
     screen: &'s mut Screen<'a, R, E>,
     has_begun: bool,
 }
 
-impl<R: Wait, O: Write, E: Write> Beside<'_, '_, R, O, E> {
+impl<R: Wait, O: Write, E: Write> ScreenOutput<'_, '_, R, O, E> {
     fn begin(&mut self) {
         if self.screen.line.beside_output {
             self.screen.end();
@@ -75,7 +75,7 @@ impl<R: Wait, O: Write, E: Write> Beside<'_, '_, R, O, E> {
     }
 }
 
-impl<R: Wait, O: Write, E: Write> Write for Beside<'_, '_, R, O, E> {
+impl<R: Wait, O: Write, E: Write> Write for ScreenOutput<'_, '_, R, O, E> {
     fn write(&mut self, bytes: &[u8]) -> io::Result<usize> {
         if !self.has_begun {
             self.begin();

@@ -1,5 +1,5 @@
 -- What two feeds leave that ask a batch each, and then the table is settled.
-use Rattle.std.proofs.Common.{◌≡◌, ℕ, List, [], ◌∷◌, subst, arith, Result, Ok, Err, IfOk}
+use Rattle.std.proofs.Common.{◌≡◌, ℕ, List, [], ◌∷◌, subst, arith}
 use Rattle.rt_rib.specs.declared.commands.Cmd.{Cmd}
 use Rattle.rt_rib.specs.declared.commands.Entry.{Entry}
 use Rattle.rt_rib.specs.declared.routes.Route.{Route}
@@ -41,11 +41,6 @@ left_by_both first call away table limit xs ys one two one' two' journal same bo
       (subst (λ (f : ℕ). Since f one'.seen journal) same_one (settled.since 0 one' (omega arith)));
   of_second = b.0;
   second_uncut = batch_uncut first call away table.limit two.feed 2 two.seen ys b.0 two'.seen journal both.other both.unseen.1 b.1
-      (subst (λ (f : ℕ). Since f two'.seen journal) same_two (settled.since 1 one' (omega arith)));
+      (subst (λ (f : ℕ). Since f two'.seen journal) same_two (settled.since 1 two' (omega arith)));
   of_journal = of_journal;
 }
-
--- a fact of a value is one of the result that has it
-pub if_ok : {X E : Type 0} (r : Result X E) (P Q : X → Type 0) → ((x : X) → P x → Q x) → IfOk r P → IfOk r Q
-if_ok (Ok x) P Q f p = f x p
-if_ok (Err e) P Q f p = tt

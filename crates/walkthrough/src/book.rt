@@ -9,7 +9,7 @@ use std::alloc::Global;
 /// How many routes a feed may have here.
 const LIMIT: u32 = 10;
 
-/// What an empty book answers to a command of feed 1, and then to one of feed 2.
+/// What an empty book answers to a command of feed 1, and then to one of feed 2. An error where memory is refused.
 pub fn two_feeds(alloc: Global, first: Cmd, second: Cmd) -> Result<(Reply, Reply), Refused>
     ensures { IfOk result (λ replies. AnswersBoth LIMIT first second replies.0 replies.1) }
 {

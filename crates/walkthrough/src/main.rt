@@ -30,7 +30,7 @@ fn add(prefix: &[u8], pref: u32, hop: &[u8]) -> Result<Cmd> {
 }
 
 /// The command that the tables here begin with.
-fn announce() -> Result<Cmd> {
+fn first_add() -> Result<Cmd> {
     add(b"10.0.0.0/8", 100, b"192.0.2.1")
 }
 
@@ -53,7 +53,7 @@ fn tell_port<W: Write>(alloc: Global, out: &mut W) -> Result<()> {
 
 fn tell_feeds<W: Write>(alloc: Global, out: &mut W) -> Result<()> {
     let addr = Addr::parse(b"10.1.2.3")?;
-    let replies = book::two_feeds(alloc, announce()?, Cmd::Lookup { addr })?;
+    let replies = book::two_feeds(alloc, first_add()?, Cmd::Lookup { addr })?;
     if let (Reply::Added, Reply::Found(route)) = replies {
         let feed = route.feed;
         route.prefix.write_to(out)?;
@@ -62,23 +62,23 @@ fn tell_feeds<W: Write>(alloc: Global, out: &mut W) -> Result<()> {
     Ok(())
 }
 
-/// A book with the route announced.
-fn announced(alloc: Global) -> Result<Book<Global>> {
-    let announce = announce()?;
+/// A book with that route.
+fn book_of_one(alloc: Global) -> Result<Book<Global>> {
+    let add = first_add()?;
     let mut book = Book::new(alloc, 10);
-    book.apply(1, announce)?;
+    book.apply(1, add)?;
     Ok(book)
 }
 
-/// Whether the route announced to one of two books leaves them answering alike.
-fn announced_alike(alloc: Global) -> Result<bool> {
-    let changed = announced(alloc)?;
+/// Whether that route in one of two books leaves them answering alike.
+fn one_route_alike(alloc: Global) -> Result<bool> {
+    let changed = book_of_one(alloc)?;
     Ok(diff::go_alike(&Book::new(alloc, 10), &changed))
 }
 
 fn tell_difference<W: Write>(alloc: Global, out: &mut W) -> Result<()> {
-    let alike = announced_alike(alloc)?;
-    writeln!(out, "the route announced changes nothing: {alike}")?;
+    let alike = one_route_alike(alloc)?;
+    writeln!(out, "the route added changes nothing: {alike}")?;
     Ok(())
 }
 

@@ -7,7 +7,8 @@ use rt_cidr::{Addr, Prefix};
 use rt_trie::Trie;
 use std::alloc::{AllocError, Global};
 
-/// The longer of the two prefixes that covers the address, with its value.
+/// The longest of the two prefixes that cover the address, with its value, if one does. An error where memory is
+/// refused.
 pub fn port_of(
     alloc: Global,
     wide: (Prefix, u32),

@@ -16,14 +16,14 @@ const OUTCOMES: [Outcome; ROOM] = [Outcome::Did(REPLY); ROOM];
 
 /// Answers each command alike, and remembers it. It takes no memory of its own.
 #[derive(Drop)]
-pub struct Remembering {
+pub struct Recorder {
     asked: [Cmd; ROOM],
     count: usize,
 }
 
-impl Remembering {
-    pub fn new() -> Remembering {
-        Remembering {
+impl Recorder {
+    pub fn new() -> Recorder {
+        Recorder {
             asked: [Cmd::Dump; ROOM],
             count: 0,
         }
@@ -42,7 +42,7 @@ impl Remembering {
     }
 }
 
-impl Gate for Remembering {
+impl Gate for Recorder {
     ghost Name = { Unit {0} };
 
     ghost name = { λ _. tt };

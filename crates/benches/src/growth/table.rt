@@ -112,7 +112,7 @@ fn ask_turns<R: Wait + Print>(
     Ok(())
 }
 
-/// Asks the batch of two feeds, one after the other, and prints what became of it, with all that it was told by then.
+/// Asks the batch of three feeds, one after the other, and prints what became of it, with all that it was told by then.
 fn ask_batches<R: Wait + Print>(
     rt: &R,
     alloc: Global,

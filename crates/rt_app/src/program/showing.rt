@@ -95,7 +95,7 @@ pub(super) fn tell_summary<E: Write>(err: &mut E, names: &[&str], summary: &RunS
     summary.status
 }
 
-/// The addresses of the command line.
+/// The addresses of the command line. Stops where none is asked for, or a word is no address.
 fn named_addresses<'a>(alloc: Global, request: &LookupRequest<'a>) -> Result<Addresses, Stop<'a>> {
     if request.addresses.is_empty() && request.more.is_none() {
         return Err(Stop::NothingAsked);

@@ -30,7 +30,7 @@ pub(crate) enum Stop<'a> {
     NotUtf8,
     /// The command line was refused: the text to show.
     Misused(String),
-    /// There are more files than a run takes. None was read.
+    /// There are more files than a run takes. None of these was read; of `diff` the old ones may have been.
     TooMany,
     /// No address is asked for.
     NothingAsked,

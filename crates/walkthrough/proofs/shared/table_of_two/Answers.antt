@@ -14,9 +14,9 @@ returns c =
       record {
         two = e.table.1;
         of_first = are.tables 0 first (omega arith);
-        of_second = are.tables 1 first (omega arith);
+        of_second = are.tables 1 second (omega arith);
         one = are.feeds 0 first refl;
         other = are.feeds 1 second refl;
-        unseen = (seen 0 first (omega arith), seen 1 first (omega arith));
+        unseen = (seen 0 first (omega arith), seen 1 second (omega arith));
       },
     )
