@@ -123,8 +123,8 @@ impl<A: Allocator + Copy> Book<A> {
     }
 
     /// The answer to a look-up of the address, and how far it goes: up to this last address each from the given one on has the
-    /// very same. Past it a prefix begins or has ended, if it isn't 255.255.255.255: who goes on there goes over all addresses
-    /// in at most 2n + 1 calls, where the trie has n nodes. It takes no memory and changes nothing.
+    /// very same. It is as far as the trie's nodes show, so a caller who goes on past it goes over all addresses in some two
+    /// calls a node (which no clause says). It takes no memory and changes nothing.
     pub fn look_up_until(&self, addr: Addr) -> (Option<Route>, Addr)
         ensures onward { addr.0 ≤ result.1.0 }
         ensures same { (b : Addr) → addr.0 ≤ b.0 → b.0 ≤ result.1.0 → look_up b (table_of self.now) ≡ result.0 }

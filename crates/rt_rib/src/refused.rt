@@ -2,7 +2,7 @@
 use std::alloc::{AllocError, AllocFailed};
 use thiserror::Error;
 
-/// M1: memory was refused. What was asked has not been done, and nothing has changed.
+/// M1: memory was refused. What was asked has not been done; each call says what is then as before.
 #[derive(Clone, Copy, PartialEq, Eq, Debug, Error)]
 #[error("memory was refused")]
 pub struct Refused;

@@ -178,9 +178,8 @@ impl<V: Drop, A: Allocator + Copy> Trie<V, A> {
     }
 
     /// `longest` of the address, and how far it goes: up to this last address each from the given one on has the very
-    /// same. It is 255.255.255.255, or the last before those that a node's prefix covers, or the last that one covers:
-    /// so who goes on past it goes over all addresses in at most 2n + 1 calls, where the map has n nodes. It takes no
-    /// memory.
+    /// same. It is as far as the nodes show, so a caller who goes on past it goes over all addresses in some two calls a
+    /// node (which no clause says). It takes no memory.
     pub fn longest_until(&self, a: Addr) -> (Option<(Prefix, &V)>, Addr)
         ensures onward { a.0 ≤ result.1.0 }
         ensures same { (b : Addr) → a.0 ≤ b.0 → b.0 ≤ result.1.0 → IsLongest self.now.pairs b (pair_copied result.0) }

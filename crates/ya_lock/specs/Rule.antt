@@ -85,7 +85,7 @@ module _ {V : Type 0} (since : ℕ → V → V → Type 0) where
   KnowsValue content place true value = content ≡ some value
   KnowsValue content place false value = (now : V) × (content ≡ some now) × since place value now
 
-  -- the value is in its slot exactly where no process is inside
+  -- the value, once it was given, is in its slot exactly where no process is inside
   abbrev pub ValueInSlot : (ℕ → Process) → List (Option (std.Option V)) → Option V → Type 0
   ValueInSlot processes homes none = Unit {0}
   ValueInSlot processes homes (some value) =
@@ -125,7 +125,7 @@ module _ {V : Type 0} (since : ℕ → V → V → Type 0) where
           → (view : View V) × (get_elem? s.views seat ≡ some view) × (place_of_view view ≡ some place)
       pub absent : (place : ℕ) → x.seat_of place ≡ none → x.processes place ≡ Idle
       pub sound : IsSoundState levels (record { words = words_in levels s.words; processes = x.processes })
-      -- value: it is in its slot exactly where no process is inside, and each seat knows what its view says
+      -- value: once given, it is in its slot exactly where no process is inside, and each seat knows what its view says
       pub lies : ValueInSlot x.processes s.homes x.content
       pub fits : (seat : ℕ) (view : View V) → get_elem? s.views seat ≡ some view → ViewFits seat view
 

@@ -36,7 +36,7 @@ pub enum View<V> {
 }
 
 /// The rule, at a number of levels: the core's invariant holds of the words and of the processes that the seats show,
-/// and the value is in its slot exactly where no process is inside.
+/// and the value, once it was given, is in its slot exactly where no process is inside.
 pub struct LockRule;
 
 impl<V: Kept> TableRule<Option<V>, View<V>, u32> for LockRule {
