@@ -75,7 +75,7 @@ one_of (x ∷ t) h r s c d e =
     ]
 
 -- two routes of which neither is better have one preference and one feed
-even : (r s : Route) → is_better r s ≡ false → is_better s r ≡ false → s.feed ≡ r.feed
+pub even : (r s : Route) → is_better r s ≡ false → is_better s r ≡ false → s.feed ≡ r.feed
 even r s a b =
     elim (below_then-false r.pref s.pref (ltb r.feed s.feed) a) [
       | inl less ↦ elim (below_then-false s.pref r.pref (ltb s.feed r.feed) b) [ inl more ↦ omega arith | inr same ↦ let e = same.0 in omega arith ]

@@ -1,22 +1,25 @@
 -- In a table the first route to each prefix is the best one to it.
-use Rattle.std.proofs.Common.{◌≡◌, ◌<◌, ◌≤◌, true, false, not, eqb, ◌⊎◌, inl, inr, List, [], ◌∷◌, refl, ap, ◌∙◌, sym, subst, arith}
-use Rattle.std.specs.Prelude.{Bool, ◌&&◌}
+use Rattle.std.proofs.Common.{◌≡◌, ◌<◌, ◌≤◌, ◌/◌, true, false, not, eqb, ◌⊎◌, inl, inr, List, [], ◌∷◌, length, get_or, refl, ap, ◌∙◌, sym, subst, arith}
+use Rattle.std.specs.Prelude.{Bool, ◌&&◌, Option, Some, None}
 use Rattle.std.proofs.lemmas.Bool.{cases_Bool, cond-true, cond-false, both_ways, false_from_ne_true, and_parts, and_from, not-true, not_from_false}
 use Rattle.std.proofs.lemmas.Bool.{eqb-true, eq-eqb}
-use Rattle.std.proofs.lemmas.List.Elements.{All-head, All-tail, All-contains}
+use Rattle.std.proofs.lemmas.List.Elements.{All-head, All-tail, All-contains, Contains-get_or}
 use Rattle.std.proofs.lemmas.List.Filters.{All-dedup}
 use Rattle.std.proofs.lemmas.List.Kept.{AllPairs-cons, AllPairs-filter, Contains-from_dedup}
 use Rattle.std.specs.List.{AllPairs, Contains, dedup, list_all}
+use Rattle.rt_cidr.specs.declared.address.Addr.{Addr}
 use Rattle.rt_cidr.specs.declared.prefixes.Prefix.{Prefix}
-use Rattle.rt_cidr.specs.Prefix.{same_prefix}
+use Rattle.rt_cidr.specs.Cidr.{size_of}
+use Rattle.rt_cidr.specs.Prefix.{covers, same_prefix}
 use Rattle.rt_rib.specs.declared.routes.Route.{Route}
-use Rattle.rt_rib.specs.Table.{below_then, is_better, precedes, IsTable}
-use Rattle.rt_rib.specs.LookUp.{best_routes}
+use Rattle.rt_rib.specs.Table.{below_then, is_better, is_of, precedes, IsTable}
+use Rattle.rt_rib.specs.LookUp.{look_up, best_routes}
+use Rattle.rt_rib.specs.Laws.{IsBestMatch, BestRoutesSuffice}
 use Rattle.rt_rib.proofs.Lists.{AllPairs-head, AllPairs-tail}
-use Rattle.rt_rib.proofs.Order.{below_then-true, is_better-itself, is_better-trans}
+use Rattle.rt_rib.proofs.Order.{below_then-true, is_better-itself, is_better-trans, is_of-from}
 use Rattle.rt_rib.proofs.Tables.{Ordered, Apart}
 use Rattle.rt_rib.proofs.Sets.{Contains-head, Contains-tail, Contains-cases, Contains-none, filter-keeps, filter-from, one_table_of_set}
-use Rattle.rt_rib.proofs.Best.{list_all-contained, list_all-from_contained}
+use Rattle.rt_rib.proofs.Best.{list_all-contained, list_all-from_contained, even, look_up_finds_best}
 
 module _ {X : Type 0} (R : X → X → Type 0) where
   -- the second of a list left out
@@ -180,16 +183,20 @@ best-kept k (x ∷ xs) h r c best =
 abbrev surpasses : Route → Route → Bool
 surpasses s r = to_one s r && is_better s r
 
+-- no route of the table surpasses one of its best
+unbeaten : (t : List Route) (r s : Route) → Contains (best_routes t) r → Contains t s → to_one s r ≡ true → is_better s r ≡ false
+unbeaten t r s c d one =
+    let passes = (filter-from (λ (r : Route). list_all (λ (s : Route). not (surpasses s r)) t) t r c).1 in
+    false_from_ne_true (is_better s r) (λ yes.
+    both_ways (surpasses s r) (not-true (surpasses s r) (list_all-contained (λ (s : Route). not (surpasses s r)) t s passes d))
+    (and_from (to_one s r) (is_better s r) one yes))
+
 -- what is left are the best routes
 pub dedup-best : (t : List Route) → IsTable t → dedup to_one t ≡ best_routes t
 dedup-best [] h = refl
 dedup-best (k ∷ xs) h =
     let t = k ∷ xs in
     let is_best = λ (r : Route). list_all (λ (s : Route). not (surpasses s r)) t in
-    let unbeaten : (r : Route) → is_best r ≡ true → (s : Route) → Contains t s → to_one s r ≡ true → is_better s r ≡ false =
-    λ r e s d one. false_from_ne_true (is_better s r) (λ yes.
-    both_ways (surpasses s r) (not-true (surpasses s r) (list_all-contained (λ (s : Route). not (surpasses s r)) t s e d))
-    (and_from (to_one s r) (is_better s r) one yes)) in
     one_table_of_set (dedup to_one t) (best_routes t)
     (record { ordered = AllPairs-dedup Ordered to_one k xs h.ordered; single = AllPairs-dedup Apart to_one k xs h.single })
     (record { ordered = AllPairs-filter Ordered is_best t h.ordered; single = AllPairs-filter Apart is_best t h.single })
@@ -199,5 +206,61 @@ dedup-best (k ∷ xs) h =
           (list_all-from_contained (λ (s : Route). not (surpasses s r)) t (λ s d. not_from_false (surpasses s r) (false_from_ne_true (surpasses s r) (λ yes.
           let parts = and_parts (to_one s r) (is_better s r) yes in
           both_ways (is_better s r) (kept-best k xs h.ordered r s c d parts.0) parts.1))))),
-      (λ c. let from = filter-from is_best t r c in best-kept k xs h.ordered r from.0 (unbeaten r from.1)),
+      (λ c. let from = filter-from is_best t r c in best-kept k xs h.ordered r from.0 (λ s. unbeaten t r s c)),
     ))
+
+-- the best routes of a table are a table
+IsTable-best : (t : List Route) → IsTable t → IsTable (best_routes t)
+IsTable-best t h =
+    let is_best = λ (r : Route). list_all (λ (s : Route). not (surpasses s r)) t in
+    record { ordered = AllPairs-filter Ordered is_best t h.ordered; single = AllPairs-filter Apart is_best t h.single }
+
+-- what a table's best routes contain it contains itself
+from_table : (t : List Route) (r : Route) → Contains (best_routes t) r → Contains t r
+from_table t r c = (filter-from (λ (r : Route). list_all (λ (s : Route). not (surpasses s r)) t) t r c).0
+
+-- routes to one prefix cover the same addresses
+covers-one : (addr : Addr) (s r : Route) → to_one s r ≡ true → covers s.prefix addr ≡ covers r.prefix addr
+covers-one addr s r one =
+    let parts = one-parts s r one in
+    ap (λ len. eqb (addr.0 / size_of len) (s.prefix.base / size_of len)) parts.1
+    ∙ ap (λ base. eqb (addr.0 / size_of r.prefix.len) (base / size_of r.prefix.len)) parts.0
+
+-- the best match of a table is one of its best routes, and so the best match there
+best_among : (addr : Addr) (t : List Route) (r : Route) → IsBestMatch addr t r → IsBestMatch addr (best_routes t) r
+best_among addr t r h =
+    let unsurpassed : (s : Route) → Contains t s → not (surpasses s r) ≡ true =
+    λ s d. not_from_false (surpasses s r) (false_from_ne_true (surpasses s r) (λ yes.
+    let parts = and_parts (to_one s r) (is_better s r) yes in
+    both_ways (is_better s r) (h.best s d (covers-one addr s r parts.0 ∙ h.covering) (one-parts s r parts.0).1) parts.1)) in
+    record {
+      contained = filter-keeps (λ (r : Route). list_all (λ (s : Route). not (surpasses s r)) t) t r h.contained
+          (list_all-from_contained (λ (s : Route). not (surpasses s r)) t unsurpassed);
+      covering = h.covering;
+      longest = λ s c. h.longest s (from_table t s c);
+      best = λ s c. h.best s (from_table t s c);
+    }
+
+-- two best routes of a table that are not one are to two prefixes
+best_apart : (t : List Route) (r s : Route) → Contains (best_routes t) r → Contains (best_routes t) s → Apart r s
+    → same_prefix r.prefix s.prefix ≡ false
+best_apart t r s c d apart = false_from_ne_true (same_prefix r.prefix s.prefix) (λ one.
+    let parts = one-parts r s one in
+    let other = one-from s r (sym parts.0) (sym parts.1) in
+    let feed = even r s (unbeaten t s r d (from_table t r c) one) (unbeaten t r s c (from_table t s d) other) in
+    both_ways (is_of s.feed s.prefix r) apart (is_of-from s.feed s.prefix r (sym feed) parts.0 parts.1))
+
+pub best_routes_suffice : BestRoutesSuffice
+best_routes_suffice = record {
+  single = λ t h i j d l m.
+      let inside : i < length (best_routes t) = omega arith in
+      best_apart t (get_or (best_routes t) i d) (get_or (best_routes t) j d) (Contains-get_or (best_routes t) i d inside)
+      (Contains-get_or (best_routes t) j d m) ((IsTable-best t h).single i j d l m);
+  answers = λ addr t h. by_answer addr t h (look_up addr t) refl;
+} where
+  -- by what is found in the table
+  by_answer : (addr : Addr) (t : List Route) → IsTable t → (found : Option Route) → look_up addr t ≡ found → look_up addr (best_routes t) ≡ found
+  by_answer addr t h None e = (look_up_finds_best addr (best_routes t) (IsTable-best t h)).1.1 (λ s c.
+      (look_up_finds_best addr t h).1.0 e s (from_table t s c))
+  by_answer addr t h (Some r) e =
+      ((look_up_finds_best addr (best_routes t) (IsTable-best t h)).0 r).1 (best_among addr t r (((look_up_finds_best addr t h).0 r).0 e))

@@ -2,14 +2,14 @@
 use Rattle.std.specs.Prelude.{◌≡◌, ℕ, ◌≤◌, Bool, true, false, Some, None, ◌==◌, ◌⊎◌, ◌↔◌, List, [], ◌∷◌, ◌++◌, map, filter, slice_get}
 use Rattle.std.specs.List.{AllPairs, Contains}
 use Rattle.rt_cidr.specs.declared.address.Addr.{Addr}
-use Rattle.rt_cidr.specs.Prefix.{covers}
+use Rattle.rt_cidr.specs.Prefix.{covers, same_prefix}
 use Rattle.rt_cidr.specs.declared.prefixes.Prefix.{Prefix}
 use Rattle.rt_rib.specs.declared.routes.Route.{Route}
 use Rattle.rt_rib.specs.declared.commands.Cmd.{Cmd}
 use Rattle.rt_rib.specs.declared.commands.Entry.{Entry}
 use Rattle.rt_rib.specs.Table.{is_better, is_of, put_in, take_out, IsTable}
 use Rattle.rt_rib.specs.declared.commands.Cmd.TheVariants.{Add, Replace, Withdraw, Lookup, Dump, Purge}
-use Rattle.rt_rib.specs.LookUp.{look_up, beats, look_up_all}
+use Rattle.rt_rib.specs.LookUp.{look_up, beats, look_up_all, best_routes}
 use Rattle.rt_rib.specs.Sequential.{reply_of, table_after, table_of_journal, IsAnswered, IsLawfulJournal}
 
 -- a route put in: the set, and that route
@@ -50,6 +50,11 @@ LookUpAllFindsMatches =
     (addr : Addr) (table : List Route) → IsTable table
     → ((matches : List Route) → (look_up_all addr table ≡ matches) ↔ AreMatches addr table matches)
     × (slice_get (look_up_all addr table) 0 ≡ look_up addr table)
+
+-- the best route of each prefix: no two are to one prefix, and a look-up in them finds what it finds in the whole table
+pub record BestRoutesSuffice : Type 0 where
+  pub single : (table : List Route) → IsTable table → AllPairs (λ r s. same_prefix r.prefix s.prefix ≡ false) (best_routes table)
+  pub answers : (addr : Addr) (table : List Route) → IsTable table → look_up addr (best_routes table) ≡ look_up addr table
 
 -- what a journal leaves is a table: the empty one where it has no entry, and after one entry more what that entry's command
 -- leaves

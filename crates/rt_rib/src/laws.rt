@@ -1,6 +1,7 @@
 //! What holds of every set of routes and of every journal. Each function is a theorem: calling it makes its clause
 //! known, and it does nothing.
 ghost use Rattle.rt_rib.specs.Laws.{PutInAdds, TakeOutLeavesOthers, OneTableOfSet, LookUpFindsBest, LookUpAllFindsMatches};
+ghost use Rattle.rt_rib.specs.Laws.{BestRoutesSuffice};
 ghost use Rattle.rt_rib.specs.Laws.{TableByEntry, LawfulByEntry, LawfulIsDetermined, FeedsStandAlone};
 
 /// A table that a route is put into contains that route and what it contained.
@@ -28,6 +29,12 @@ pub fn look_up_finds_best()
 /// none out and names none twice. The first of them is what a look-up finds.
 pub fn look_up_all_finds_matches()
     ensures { LookUpAllFindsMatches }
+{}
+
+/// The best route of each prefix is all that a router needs to forward by: no two of these are to one prefix, and a
+/// look-up in them finds what it finds in the whole table.
+pub fn best_routes()
+    ensures { BestRoutesSuffice }
 {}
 
 /// What a journal leaves is a table: the empty one before the first entry, and after each entry what its command leaves.
