@@ -60,7 +60,8 @@ entry_next levels level place E8 value = if value == 0 then Entering level E8 el
 entry_next levels level place E9 value = if value == place + 1 then Entering level E10 else won levels level
 entry_next levels level place E10 value = if value == 2 then won levels level else Entering level E10
 
--- where each point of the way out leads
+-- where each point of the way out leads; at x2 the word T names a place, since by the invariant it isn't nil there
+-- (`releasing` of `IsSoundLevel`), so no state that has it comes to the row of 0 - 1
 abbrev pub exit_next : ℕ → ℕ → ExitPoint → ℕ → Process
 exit_next level place X1 value = Leaving level X2
 exit_next level place X2 value = if value == place + 1 then after_exit level else Leaving level (X3 (value - 1))
