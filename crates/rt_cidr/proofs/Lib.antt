@@ -8,4 +8,3 @@ pub mod Texts
 pub mod ShortTexts
 pub mod Outputs
 pub mod Buffers
-pub mod Examples

@@ -11,10 +11,6 @@ pub use Rattle.rt_cidr.proofs.ShortTexts.{length-decimal, length-address_text, l
 pub use Rattle.rt_cidr.proofs.Outputs.{appends_after, begins_after, begins_longer}
 -- what is in a writer when text went to it through a buffer
 pub use Rattle.rt_cidr.proofs.Buffers.{stops, stops_held}
--- prefixes and texts of the examples, and what is no text
-pub use Rattle.rt_cidr.proofs.Examples.{everything, ten_8, ten_0_16, last_32, decimal_4294967296}
-pub use Rattle.rt_cidr.proofs.Examples.{pair_10_0_0_1_33, pair_10_0_0_1_8, length_before_bits, bit_past_the_length, a_bit_past_the_length_is_set}
-pub use Rattle.rt_cidr.proofs.Examples.{no_address_without_a_dot, no_prefix_without_a_dot, no_prefix_without_a_slash}
 -- what is written for a number, an address and a prefix is its text, and a text is of one pair
 pub use Rattle.rt_cidr.proofs.Texts.{decimal_is_decimal, decimal_one_number, address_text_is_address, pair_one_value}
 pub use Rattle.rt_cidr.proofs.OneAnswer.{prefix_is_written}

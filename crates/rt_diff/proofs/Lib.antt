@@ -6,4 +6,3 @@ pub mod Equality
 pub mod Existence
 pub mod Uniqueness
 pub mod Whole
-pub mod Examples

@@ -1,4 +1,3 @@
-pub mod Promised
 pub mod Cutting
 pub mod Words
 pub mod Becoming
@@ -11,4 +10,3 @@ pub mod Pairs
 pub mod OneAnswer
 pub mod OneAddress
 pub mod OneCut
-pub mod Examples

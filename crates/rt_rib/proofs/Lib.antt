@@ -20,4 +20,3 @@ pub mod MapChanges
 pub mod MapLookUps
 pub mod MapMatches
 pub mod BestRoutes
-pub mod Examples

@@ -9,4 +9,3 @@ pub mod SeveralFeeds
 pub mod SameTables
 pub mod SameDiffs
 pub mod Replayed
-pub mod Examples

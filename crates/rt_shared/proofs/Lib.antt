@@ -6,4 +6,3 @@ pub mod Uncutting
 pub mod Runs
 pub mod TwoPasses
 pub mod Testing
-pub mod Examples

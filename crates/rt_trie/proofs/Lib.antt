@@ -4,7 +4,6 @@ pub mod BlockLemmas
 pub mod CountLemmas
 pub mod CoveringLemmas
 pub mod DescentLemmas
-pub mod Examples
 pub mod InsertLemmas
 pub mod LaneLemmas
 pub mod LawfulLemmas

@@ -29,4 +29,3 @@ pub mod Outcomes
 pub mod NamedWords
 pub mod MachineSteps
 pub mod DueAccess
-pub mod Examples

@@ -13,5 +13,3 @@ pub use Rattle.ya_core.proofs.Properness.{within_access}
 pub use Rattle.ya_core.proofs.Invariant.{opens, keeps, finds, is_inside_is, excludes}
 -- where some place takes part, one that takes part goes on
 pub use Rattle.ya_core.proofs.Deadlock.{someone_goes_on}
--- a state after one step, and worlds after events that may happen; by these the crates above make examples
-pub use Rattle.ya_core.proofs.Examples.{after, steps_to, follow, step_in_tree, MayAppend, runs}

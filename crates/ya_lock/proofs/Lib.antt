@@ -13,4 +13,3 @@ pub mod RuleMeaning
 pub mod EntryAccesses
 pub mod EntrySteps
 pub mod PassageSteps
-pub mod Examples

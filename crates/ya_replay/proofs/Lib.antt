@@ -2,4 +2,3 @@ pub mod Promised
 pub mod Numbered
 pub mod Replaying
 pub mod WhoIsInside
-pub mod Examples

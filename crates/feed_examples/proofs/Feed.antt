@@ -1,0 +1,992 @@
+-- Examples by which the definitions of rt_feed are tested, each under a line with the definition's name. Both sides are
+-- computed, and what a relation or a law says is spelled out for some values.
+use Rattle.std.proofs.Common.{◌≡◌, ◌≢◌, ℕ, true, false, List, [], ◌∷◌, ◌++◌, length, map, slice_index, eqb, Some, None, Ok, Err, inl, inr, codes, refl}
+use Rattle.std.proofs.Common.{sym, ap, ◌∙◌, subst, arith}
+use Rattle.std.proofs.lemmas.Bool.{or_parts, eqb-false}
+use Rattle.std.proofs.lemmas.List.Elements.{All-nil, All-cons}
+use Rattle.std.specs.List.{All, list_any}
+use Rattle.std.specs.Fmt.{digits}
+use Rattle.rt_cidr.specs.declared.address.Addr.{Addr}
+use Rattle.rt_cidr.specs.Cidr.{IsPrefix}
+use Rattle.rt_cidr.specs.Text.{IsDecimal, IsAddressText, IsPrefixText, address_text, prefix_text}
+use Rattle.table_examples.proofs.Cidr.{decimal_4294967296, no_address_without_a_dot, no_prefix_without_a_dot}
+use Rattle.rt_cidr.proofs.Promised.{decimal_is_decimal, decimal_one_number, address_text_is_address, pair_one_value, prefix_is_written}
+use Rattle.table_examples.proofs.Cidr.{ten_8}
+use Rattle.table_examples.proofs.Rib.{ten_1_16, ten_2_16, ten_3_16, ten_9_16, at_10_1_2_3, at_10_9_0_1, via_192_0_2, route_via}
+use Rattle.rt_rib.specs.declared.routes.Route.{Route}
+use Rattle.rt_rib.specs.declared.routes.Hop.TheVariants.{Via, Discard}
+use Rattle.rt_rib.specs.declared.commands.Cmd.{Cmd}
+use Rattle.rt_rib.specs.declared.commands.Cmd.TheVariants.{Add, Replace, Withdraw, Lookup, Dump, Purge}
+use Rattle.rt_rib.specs.declared.commands.Reply.{Reply}
+use Rattle.rt_rib.specs.declared.commands.Reply.TheVariants.{Added, Exists, Full, Replaced, Withdrawn, Missing, Found, NoRoute, Dumped, Purged}
+use Rattle.rt_shared.specs.declared.outcome.Outcome.TheVariants as outcome
+use Rattle.rt_diff.specs.declared.answers.Answer.TheVariants as answered
+use Rattle.rt_diff.specs.declared.differences.Difference.{Difference}
+use Rattle.rt_feed.specs.DifferenceText.{way_text, answered_text, difference_text, differences_text}
+use Rattle.rt_feed.specs.declared.parse.LineFault.{LineFault}
+use Rattle.rt_feed.specs.declared.parse.LineFault.TheVariants as fault
+use Rattle.rt_feed.specs.declared.report.Answer.TheVariants as answer
+use Rattle.rt_feed.specs.declared.versions.Version.TheVariants.{One, Two}
+use Rattle.rt_feed.specs.CommandText.{space, words, route_words, command_text, HasHop, HasCommand}
+use Rattle.rt_feed.specs.Grammar.{prefix, preference, hop, address, hash, is_skipped, fields, purge_kinds, kinds_after, IsOfKind, IsPairText, IsFaultOf}
+use Rattle.rt_feed.specs.Grammar.{IsFirstFault, IsFaultAfter, IsFaultOfFields, AnswersLine}
+use Rattle.rt_feed.proofs.Pairs.{pair-read}
+use Rattle.rt_feed.specs.Addresses.{AnswersAddressLine}
+use Rattle.rt_feed.specs.Lines.{lf, CutsLine, TellsTwo, IsBody, IsVersion, LineOutcome, skipped, faulty, asked}
+use Rattle.rt_feed.specs.Lines.{reading, heading, LinesBecome, Becomes, line_answer, answer_of, numbered, report_lines, asked_by, asked_of}
+use Rattle.rt_feed.specs.Reports.{is_refusal, is_fault, NumbersRise, has_refusal, has_fault}
+use Rattle.rt_shared.specs.Visits.{Visit, visit_of}
+use Rattle.rt_feed.specs.Visits.{concatenated, piece_of, IsCut, Gains, AnswersBatch}
+use Rattle.rt_feed.specs.Printed.{hop_text, route_text, reply_text, fault_text, answer_text, line_text, report_text, row_text, count_text, rows_text}
+use Rattle.rt_feed.specs.Printed.{table_text, found_text, reason_text, also_text, all_found_text}
+use Rattle.std.specs.Prelude.{◌↔◌, ◌⊎◌, ◌<◌, ◌≤◌, ◌-◌, ◌^◌, ◌%◌, Option, IsSome, MatchOption, AllPairs, decimal, zip}
+use Rattle.rt_cidr.specs.declared.prefixes.Prefix.{Prefix}
+use Rattle.rt_rib.specs.declared.routes.Hop.{Hop}
+use Rattle.rt_shared.specs.declared.outcome.Outcome.{Outcome}
+use Rattle.rt_feed.specs.declared.report.Line.{Line}
+use Rattle.rt_feed.specs.declared.versions.Version.{Version}
+use Rattle.std.specs.declared.result.Result.{Result}
+use Rattle.rt_feed.specs.FeedRuns.{AsksLines, RunsFeed, IsTold, StopsWithin, RunsOne}
+use Rattle.rt_feed.specs.Laws.{LineHasOneAnswer, AddressLineHasOneAnswer, CommandIsReadAgain, OnlyItsTextIsRead, OlderTextsStay, TextHasOneCut}
+use Rattle.rt_feed.specs.Laws.{TextHasOneReading}
+
+-- the address 192.0.2.1, and the command of the first line of examples/first.feed
+abbrev at_192_0_2_1 : Addr
+at_192_0_2_1 = record { 0 = 3221225985 }
+
+abbrev add_10 : Cmd
+add_10 = Add ten_8 100 (Via at_192_0_2_1)
+
+-- space
+two_words_and_a_space : codes "a b" ≡ 97 ∷ space ∷ 98 ∷ []
+two_words_and_a_space = refl
+
+-- hash
+the_byte_of_a_comment : codes "#" ≡ hash ∷ []
+the_byte_of_a_comment = refl
+
+-- lf
+the_byte_of_a_line_feed : codes "\n" ≡ lf ∷ []
+the_byte_of_a_line_feed = refl
+
+-- route_words
+a_prefix_a_preference_and_a_hop : route_words ten_8 100 Discard ≡ codes "10.0.0.0/8" ∷ codes "100" ∷ codes "discard" ∷ []
+unfolding digits address_text prefix_text
+a_prefix_a_preference_and_a_hop = refl
+
+-- words
+words_of_a_withdrawal : words (Withdraw ten_8) ≡ codes "withdraw" ∷ codes "10.0.0.0/8" ∷ []
+unfolding digits address_text prefix_text
+words_of_a_withdrawal = refl
+
+words_of_a_replacement : words (Replace ten_8 100 Discard) ≡ codes "replace" ∷ route_words ten_8 100 Discard
+words_of_a_replacement = refl
+
+words_of_a_purge : words Purge ≡ codes "purge" ∷ []
+words_of_a_purge = refl
+
+of_each_command :
+    (p : Prefix) (pref : ℕ) (next : Hop) (a : Addr)
+    → (words (Add p pref next) ≡ codes "add" ∷ route_words p pref next) × (words (Replace p pref next) ≡ codes "replace" ∷ route_words p pref next)
+    × (words (Withdraw p) ≡ codes "withdraw" ∷ prefix_text p.base p.len ∷ []) × (words (Lookup a) ≡ codes "lookup" ∷ address_text a.0 ∷ [])
+    × (words Dump ≡ codes "dump" ∷ []) × (words Purge ≡ codes "purge" ∷ [])
+of_each_command p pref next a = (refl, refl, refl, refl, refl, refl)
+
+-- HasHop
+an_address_in_version_1 : HasHop One (Via at_192_0_2_1)
+an_address_in_version_1 = omega arith
+
+discard_in_version_2 : HasHop Two Discard
+discard_in_version_2 = refl
+
+no_discard_in_version_1 : ¬ HasHop One Discard
+no_discard_in_version_1 h = cc
+
+what_each_version_has :
+    (a : Addr) → (HasHop One (Via a) → a.0 < 4294967296) × (HasHop One Discard → One ≡ Two)
+what_each_version_has a = (λ h. h, λ h. h)
+
+-- command_text
+the_text_of_an_add : command_text add_10 ≡ codes "add 10.0.0.0/8 100 192.0.2.1"
+unfolding digits address_text prefix_text
+the_text_of_an_add = refl
+
+the_text_of_a_discard : command_text (Add ten_8 100 Discard) ≡ codes "add 10.0.0.0/8 100 discard"
+unfolding digits address_text prefix_text
+the_text_of_a_discard = refl
+
+the_text_of_a_look_up : command_text (Lookup at_192_0_2_1) ≡ codes "lookup 192.0.2.1"
+unfolding digits address_text
+the_text_of_a_look_up = refl
+
+the_text_of_a_dump : command_text Dump ≡ codes "dump"
+the_text_of_a_dump = refl
+
+-- HasCommand
+version_1_has_no_purge : ¬ HasCommand One Purge
+version_1_has_no_purge h = cc
+
+version_2_has_it : HasCommand Two Purge
+version_2_has_it = refl
+
+version_1_has_no_discard : ¬ HasCommand One (Add ten_8 100 Discard)
+version_1_has_no_discard h = let same = h.1 in cc
+
+what_it_asks_of_each :
+    (version : Version) (p : Prefix) (pref : ℕ) (next : Hop) (a : Addr)
+    → (HasCommand version (Add p pref next) → (pref < 4294967296) × HasHop version next)
+    × (HasCommand version (Replace p pref next) → (pref < 4294967296) × HasHop version next)
+    × (HasCommand version (Lookup a) → a.0 < 4294967296) × (HasCommand version Purge → version ≡ Two)
+what_it_asks_of_each version p pref next a = (λ h. h, λ h. h, λ h. h, λ h. h)
+
+and_nothing_of_two : (version : Version) (p : Prefix) → HasCommand version (Withdraw p) × HasCommand version Dump
+and_nothing_of_two version p = (tt, tt)
+
+-- is_skipped
+an_empty_line_is_skipped : is_skipped [] ≡ true
+an_empty_line_is_skipped = refl
+
+a_comment_is_skipped : is_skipped (codes "# dump") ≡ true
+a_comment_is_skipped = refl
+
+a_blank_is_not : is_skipped (codes " # dump") ≡ false
+a_blank_is_not = refl
+
+-- fields
+cut_at_every_space : fields (codes "add  x") ≡ codes "add" ∷ [] ∷ codes "x" ∷ []
+cut_at_every_space = refl
+
+-- kinds_after
+a_route_has_three_fields : kinds_after One (codes "add") ≡ Some (prefix ∷ preference ∷ hop One ∷ [])
+a_route_has_three_fields = refl
+
+no_purge_in_version_1 : kinds_after One (codes "purge") ≡ None
+no_purge_in_version_1 = refl
+
+a_purge_in_version_2 : kinds_after Two (codes "purge") ≡ Some []
+a_purge_in_version_2 = refl
+
+names_are_in_small_letters : kinds_after Two (codes "Dump") ≡ None
+names_are_in_small_letters = refl
+
+after_each_name :
+    map (kinds_after One) (codes "add" ∷ codes "replace" ∷ codes "withdraw" ∷ codes "lookup" ∷ codes "dump" ∷ codes "frob" ∷ [])
+    ≡ Some (prefix ∷ preference ∷ hop One ∷ []) ∷ Some (prefix ∷ preference ∷ hop One ∷ []) ∷ Some (prefix ∷ []) ∷ Some (address ∷ []) ∷ Some [] ∷ None ∷ []
+after_each_name = refl
+
+-- purge_kinds
+a_word_of_version_2 : purge_kinds Two ≡ Some []
+a_word_of_version_2 = refl
+
+no_word_of_version_1 : purge_kinds One ≡ None
+no_word_of_version_1 = refl
+
+-- IsPairText
+of_a_length_over_32 : IsPairText (codes "192.0.2.1/50") 3221225985 50
+unfolding digits address_text
+of_a_length_over_32 =
+    (codes "50", omega arith, decimal_is_decimal 50 (omega arith), refl)
+
+of_an_address_with_a_bit : IsPairText (codes "192.0.2.1/10") 3221225985 10
+unfolding digits address_text
+of_an_address_with_a_bit =
+    (codes "10", omega arith, decimal_is_decimal 10 (omega arith), refl)
+
+of_no_pair_without_a_dot : (base len : ℕ) → ¬ IsPairText (codes "10/33") base len
+of_no_pair_without_a_dot base len is = no_prefix_without_a_dot (codes "10/33") base len refl (pair-read (codes "10/33") base len is)
+
+what_a_pair_says :
+    (text : List ℕ) (base len : ℕ) → IsPairText text base len
+    → (digits : List ℕ) × (base < 4294967296) × IsDecimal digits len × (text ≡ address_text base ++ 47 ∷ digits)
+what_a_pair_says text base len h = h
+
+-- IsOfKind
+no_prefix_50 : ¬ IsOfKind prefix (codes "192.0.2.1/50")
+no_prefix_50 (p, same) =
+    let is : IsPrefixText (codes "192.0.2.1/50") p.base p.len = subst (λ text. IsPrefixText text p.base p.len) (sym same) (prefix_is_written p) in
+    let one = pair_one_value (codes "192.0.2.1/50") p.base 3221225985 p.len 50 is (pair-read (codes "192.0.2.1/50") 3221225985 50 of_a_length_over_32) in
+    omega (arith, one.1, p.is_prefix.short)
+
+a_bit_is_set : ¬ IsPrefix 3221225985 10
+a_bit_is_set h = let clear : 3221225985 % 2 ^ (32 - 10) ≡ 0 = h.clear in omega (arith, clear)
+
+no_prefix_with_a_bit : ¬ IsOfKind prefix (codes "192.0.2.1/10")
+no_prefix_with_a_bit (p, same) =
+    let is : IsPrefixText (codes "192.0.2.1/10") p.base p.len = subst (λ text. IsPrefixText text p.base p.len) (sym same) (prefix_is_written p) in
+    let one = pair_one_value (codes "192.0.2.1/10") p.base 3221225985 p.len 10 is (pair-read (codes "192.0.2.1/10") 3221225985 10 of_an_address_with_a_bit) in
+    a_bit_is_set (rw (one.0, one.1) at p.is_prefix)
+
+no_prefix_33_by_1 : ¬ IsOfKind prefix (codes "10/33")
+no_prefix_33_by_1 (p, same) =
+    no_prefix_without_a_dot (codes "10/33") p.base p.len refl (subst (λ text. IsPrefixText text p.base p.len) (sym same) (prefix_is_written p))
+
+no_address_10 : ¬ IsOfKind address (codes "10")
+no_address_10 (a, fits, same) =
+    no_address_without_a_dot (codes "10") a.0 refl (subst (λ text. IsAddressText text a.0) (sym same) (address_text_is_address a.0 fits))
+
+preference_too_large : ¬ IsOfKind preference (codes "4294967296")
+preference_too_large (pref, fits, same) =
+    let is : IsDecimal (codes "4294967296") pref = subst (λ text. IsDecimal text pref) (sym same) (decimal_is_decimal pref (omega (arith, fits))) in
+    let one = decimal_one_number (codes "4294967296") pref 4294967296 is decimal_4294967296 in
+    omega (arith, fits, one)
+
+discard_is_no_hop_in_version_1 : ¬ IsOfKind (hop One) (codes "discard")
+discard_is_no_hop_in_version_1 (Via a, fits, same) =
+    no_address_without_a_dot (codes "discard") a.0 refl (subst (λ text. IsAddressText text a.0) (sym same) (address_text_is_address a.0 fits))
+discard_is_no_hop_in_version_1 (Discard, has, same) = cc
+
+is_10 : IsOfKind prefix (codes "10.0.0.0/8")
+unfolding digits address_text prefix_text
+is_10 = (ten_8, refl)
+
+is_100 : IsOfKind preference (codes "100")
+unfolding digits
+is_100 = (100, omega arith, refl)
+
+is_no_hop : ¬ IsOfKind (hop Two) (codes "10")
+is_no_hop (Via a, fits, same) =
+    no_address_without_a_dot (codes "10") a.0 refl (subst (λ text. IsAddressText text a.0) (sym same) (address_text_is_address a.0 fits))
+is_no_hop (Discard, has, same) = cc
+
+what_each_kind_is :
+    (field : List ℕ)
+    → (IsOfKind prefix field → (p : Prefix) × (field ≡ prefix_text p.base p.len))
+    × (IsOfKind preference field → (pref : ℕ) × (pref < 4294967296) × (field ≡ decimal pref))
+    × (IsOfKind (hop One) field → (next : Hop) × HasHop One next × (field ≡ hop_text next))
+    × (IsOfKind address field → (a : Addr) × (a.0 < 4294967296) × (field ≡ address_text a.0))
+what_each_kind_is field = (λ h. h, λ h. h, λ h. h, λ h. h)
+
+-- IsFaultOf
+a_length_of_50_is_E4 : IsFaultOf prefix (codes "192.0.2.1/50") fault.PrefixLength
+a_length_of_50_is_E4 = (3221225985, 50, of_a_length_over_32, omega arith)
+
+a_bit_past_the_length_is_E5 : IsFaultOf prefix (codes "192.0.2.1/10") fault.PrefixBits
+a_bit_past_the_length_is_E5 = (3221225985, 10, of_an_address_with_a_bit, omega arith, a_bit_is_set)
+
+no_pair_is_E3 : IsFaultOf prefix (codes "10/33") fault.Text
+no_pair_is_E3 = of_no_pair_without_a_dot
+
+a_preference_is_E6 : IsFaultOf preference (codes "x") fault.Preference
+a_preference_is_E6 = refl
+
+an_address_is_E3 : IsFaultOf address (codes "10") fault.Text
+an_address_is_E3 = refl
+
+an_address_is_not_E7 : ¬ IsFaultOf address (codes "10") fault.Hop
+an_address_is_not_E7 h = cc
+
+the_fault_of_each_kind :
+    (field : List ℕ) (answer : LineFault)
+    → (IsFaultOf prefix field fault.Text → (base len : ℕ) → ¬ IsPairText field base len)
+    × (IsFaultOf prefix field fault.PrefixLength → (base len : ℕ) × IsPairText field base len × (32 < len))
+    × (IsFaultOf prefix field fault.PrefixBits → (base len : ℕ) × IsPairText field base len × (len ≤ 32) × ¬ IsPrefix base len)
+    × (¬ IsFaultOf prefix field fault.Command) × (¬ IsFaultOf prefix field fault.FieldCount) × (¬ IsFaultOf prefix field fault.Preference)
+    × (¬ IsFaultOf prefix field fault.Hop) × (¬ IsFaultOf prefix field fault.LineLength)
+    × (IsFaultOf preference field answer → answer ≡ fault.Preference) × (IsFaultOf (hop One) field answer → answer ≡ fault.Hop)
+    × (IsFaultOf address field answer → answer ≡ fault.Text)
+the_fault_of_each_kind field answer = (λ h. h, λ h. h, λ h. h, λ h. h, λ h. h, λ h. h, λ h. h, λ h. h, λ h. h, λ h. h, λ h. h)
+
+-- IsFirstFault
+the_first_from_the_left : IsFirstFault (prefix ∷ preference ∷ []) (codes "192.0.2.1/50" ∷ codes "4294967296" ∷ []) fault.PrefixLength
+the_first_from_the_left = inl (no_prefix_50, a_length_of_50_is_E4)
+
+the_second_where_the_first_is_right : IsFirstFault (prefix ∷ preference ∷ []) (codes "10.0.0.0/8" ∷ codes "4294967296" ∷ []) fault.Preference
+the_second_where_the_first_is_right = inr (is_10, inl (preference_too_large, refl))
+
+not_the_second_before_the_first : ¬ IsFirstFault (prefix ∷ preference ∷ []) (codes "192.0.2.1/50" ∷ codes "4294967296" ∷ []) fault.Preference
+not_the_second_before_the_first (inl first) = first.1
+not_the_second_before_the_first (inr second) = no_prefix_50 second.0
+
+none_where_a_list_is_at_its_end : (answer : LineFault) → (¬ IsFirstFault [] [] answer) × (¬ IsFirstFault (preference ∷ []) [] answer)
+none_where_a_list_is_at_its_end answer = (λ h. h, λ h. h)
+
+this_one_or_a_later :
+    (field : List ℕ) (rest : List (List ℕ)) (answer : LineFault) → IsFirstFault (preference ∷ address ∷ []) (field ∷ rest) answer
+    → ((¬ IsOfKind preference field) × IsFaultOf preference field answer) ⊎ (IsOfKind preference field × IsFirstFault (address ∷ []) rest answer)
+this_one_or_a_later field rest answer h = h
+
+-- IsFaultAfter
+a_field_too_few : IsFaultAfter (Some (prefix ∷ [])) [] fault.FieldCount
+a_field_too_few = inl ((λ same. omega (arith, same)), refl)
+
+one_too_many_before_the_first : ¬ IsFaultAfter (Some (address ∷ [])) (codes "10" ∷ codes "x" ∷ []) fault.Text
+one_too_many_before_the_first (inl many) = let same = many.1 in cc
+one_too_many_before_the_first (inr as_many) = let same : 2 ≡ 1 = as_many.0 in omega (arith, same)
+
+not_so_many_or_the_first :
+    (rest : List (List ℕ)) (answer : LineFault) → IsFaultAfter (Some (preference ∷ [])) rest answer
+    → ((length rest ≢ 1) × (answer ≡ fault.FieldCount)) ⊎ ((length rest ≡ 1) × IsFirstFault (preference ∷ []) rest answer)
+not_so_many_or_the_first rest answer h = h
+
+no_command : IsFaultAfter None [] fault.Command
+no_command = refl
+
+after_no_name : (rest : List (List ℕ)) (answer : LineFault) → IsFaultAfter None rest answer → answer ≡ fault.Command
+after_no_name rest answer h = h
+
+-- IsFaultOfFields
+a_withdrawal_of_nothing : IsFaultOfFields One (codes "withdraw" ∷ []) fault.FieldCount
+a_withdrawal_of_nothing = a_field_too_few
+
+no_fault_of_no_field : (answer : LineFault) → ¬ IsFaultOfFields One [] answer
+no_fault_of_no_field answer h = h
+
+after_the_name :
+    (name : List ℕ) (rest : List (List ℕ)) (answer : LineFault) → IsFaultOfFields One (name ∷ rest) answer → IsFaultAfter (kinds_after One name) rest answer
+after_the_name name rest answer h = h
+
+-- AnswersLine
+an_add : AnswersLine One (codes "add 10.0.0.0/8 100 192.0.2.1") (Ok (Some add_10))
+an_add = ((omega arith, omega arith), sym the_text_of_an_add)
+
+a_purge : AnswersLine Two (codes "purge") (Ok (Some Purge))
+a_purge = (refl, refl)
+
+an_empty_line : AnswersLine One [] (Ok None)
+an_empty_line = (omega arith, refl)
+
+an_unknown_command_is_E1_before_E2 : AnswersLine One (codes "frob 1 2 3 4 5") (Err fault.Command)
+an_unknown_command_is_E1_before_E2 = inr (omega arith, refl, refl)
+
+a_purge_is_E1_in_version_1 : AnswersLine One (codes "purge") (Err fault.Command)
+a_purge_is_E1_in_version_1 = inr (omega arith, refl, refl)
+
+two_spaces_are_E2_before_E3 : AnswersLine One (codes "withdraw  10") (Err fault.FieldCount)
+two_spaces_are_E2_before_E3 = inr (omega arith, refl, inl ((λ e. cc), refl))
+
+no_prefix_is_E3_before_E4 : AnswersLine One (codes "withdraw 10/33") (Err fault.Text)
+no_prefix_is_E3_before_E4 =
+    inr (omega arith, refl, inr (refl, inl (no_prefix_33_by_1, of_no_pair_without_a_dot)))
+
+no_address_is_E3 : AnswersLine One (codes "lookup 10") (Err fault.Text)
+no_address_is_E3 = inr (omega arith, refl, inr (refl, inl (no_address_10, refl)))
+
+a_length_of_50_is_E4_before_E5 : AnswersLine One (codes "withdraw 192.0.2.1/50") (Err fault.PrefixLength)
+a_length_of_50_is_E4_before_E5 = inr (omega arith, refl, inr (refl, inl (no_prefix_50, a_length_of_50_is_E4)))
+
+a_bit_too_many_is_E5_before_E6 : AnswersLine One (codes "add 192.0.2.1/10 4294967296 discard") (Err fault.PrefixBits)
+a_bit_too_many_is_E5_before_E6 = inr (omega arith, refl, inr (refl, inl (no_prefix_with_a_bit, a_bit_past_the_length_is_E5)))
+
+a_preference_too_large_is_E6_before_E7 : AnswersLine One (codes "add 10.0.0.0/8 4294967296 discard") (Err fault.Preference)
+a_preference_too_large_is_E6_before_E7 = inr (omega arith, refl, inr (refl, inr (is_10, inl (preference_too_large, refl))))
+
+a_discard_is_E7_in_version_1 : AnswersLine One (codes "add 10.0.0.0/8 100 discard") (Err fault.Hop)
+a_discard_is_E7_in_version_1 = inr (omega arith, refl, inr (refl, inr (is_10, inr (is_100, inl (discard_is_no_hop_in_version_1, refl)))))
+
+a_discard_is_a_hop_in_version_2 : AnswersLine Two (codes "add 10.0.0.0/8 100 discard") (Ok (Some (Add ten_8 100 Discard)))
+a_discard_is_a_hop_in_version_2 = ((omega arith, refl), sym the_text_of_a_discard)
+
+no_hop_is_E7_in_version_2 : AnswersLine Two (codes "add 10.0.0.0/8 100 10") (Err fault.Hop)
+no_hop_is_E7_in_version_2 = inr (omega arith, refl, inr (refl, inr (is_10, inr (is_100, inl (is_no_hop, refl)))))
+
+a_comment_of_128_bytes : AnswersLine One
+    (codes "################################################################################################################################") (Ok None)
+a_comment_of_128_bytes = (omega arith, refl)
+
+one_byte_more_is_E8_whatever_it_says : AnswersLine One
+    (codes "#################################################################################################################################")
+    (Err fault.LineLength)
+one_byte_more_is_E8_whatever_it_says = inl (omega arith, refl)
+
+what_an_answer_says :
+    (line : List ℕ) (answer : LineFault)
+    → (AnswersLine One line (Ok (Some Dump)) → HasCommand One Dump × (line ≡ command_text Dump))
+    × (AnswersLine One line (Ok None) → (length line ≤ 128) × (is_skipped line ≡ true))
+    × (AnswersLine One line (Err answer)
+    → ((128 < length line) × (answer ≡ fault.LineLength)) ⊎ ((length line ≤ 128) × (is_skipped line ≡ false) × IsFaultOfFields One (fields line) answer))
+what_an_answer_says line answer = (λ h. h, λ h. h, λ h. h)
+
+-- AnswersAddressLine
+an_address_alone : AnswersAddressLine (codes "192.0.2.1") (Ok (Some at_192_0_2_1))
+unfolding digits address_text
+an_address_alone = (omega arith, refl)
+
+a_comment_names_no_address : AnswersAddressLine (codes "# 192.0.2.1") (Ok None)
+a_comment_names_no_address = (omega arith, refl)
+
+what_is_no_address_is_E3 : AnswersAddressLine (codes "10") (Err fault.Text)
+what_is_no_address_is_E3 = inr (omega arith, refl, no_address_10, refl)
+
+a_comment_of_129_bytes_is_E8 : AnswersAddressLine
+    (codes "#################################################################################################################################")
+    (Err fault.LineLength)
+a_comment_of_129_bytes_is_E8 = inl (omega arith, refl)
+
+what_an_answer_to_an_address_says :
+    (line : List ℕ) (addr : Addr) (answer : LineFault)
+    → (AnswersAddressLine line (Ok (Some addr)) → (addr.0 < 4294967296) × (line ≡ address_text addr.0))
+    × (AnswersAddressLine line (Ok None) → (length line ≤ 128) × (is_skipped line ≡ true))
+    × (AnswersAddressLine line (Err answer)
+    → ((128 < length line) × (answer ≡ fault.LineLength))
+    ⊎ ((length line ≤ 128) × (is_skipped line ≡ false) × (¬ IsOfKind address line) × (answer ≡ fault.Text)))
+what_an_answer_to_an_address_says line addr answer = (λ h. h, λ h. h, λ h. h)
+
+-- a text without LF is a line's
+unbroken : (text : List ℕ) → list_any (λ byte. eqb byte lf) text ≡ false → All (λ byte. byte ≢ lf) text
+unbroken [] none = All-nil (λ byte. byte ≢ lf)
+unbroken (byte ∷ text) none =
+    let parts = or_parts (eqb byte lf) (list_any (λ byte. eqb byte lf) text) none in
+    All-cons (λ byte. byte ≢ lf) byte text (eqb-false byte lf parts.0) (unbroken text parts.1)
+
+-- no LF stands in the empty text
+no_end : (line rest : List ℕ) → [] ≢ line ++ lf ∷ rest
+no_end [] rest h = cc
+no_end (byte ∷ line) rest h = cc
+
+-- CutsLine
+a_line_ends_at_its_LF : CutsLine (codes "a\nb\n") (codes "a") (codes "b\n")
+a_line_ends_at_its_LF = record { unbroken = unbroken (codes "a") refl; ended = inl refl }
+
+the_last_line_may_go_without : CutsLine (codes "a") (codes "a") []
+the_last_line_may_go_without = record { unbroken = unbroken (codes "a") refl; ended = inr (refl, (λ e. cc), refl) }
+
+nothing_has_no_line : (line rest : List ℕ) → ¬ CutsLine [] line rest
+nothing_has_no_line line rest h = elim h.ended [
+  | inl ended ↦ no_end line rest ended
+  | inr whole ↦ whole.1 (sym whole.0)
+]
+
+without_an_LF_up_to_the_first :
+    (text line rest : List ℕ) → CutsLine text line rest
+    → All (λ byte. byte ≢ 10) line × ((text ≡ line ++ 10 ∷ rest) ⊎ ((text ≡ line) × (line ≢ []) × (rest ≡ [])))
+without_an_LF_up_to_the_first text line rest h = (h.unbroken, h.ended)
+
+-- TellsTwo
+the_first_line_and_no_more : TellsTwo (codes "version 2\npurge") (codes "purge")
+the_first_line_and_no_more = record { unbroken = unbroken (codes "version 2") refl; ended = inl refl }
+
+a_text_of_that_line_alone : TellsTwo (codes "version 2") []
+a_text_of_that_line_alone = record { unbroken = unbroken (codes "version 2") refl; ended = inr (refl, (λ e. cc), refl) }
+
+not_with_a_space_behind : (rest : List ℕ) → ¬ TellsTwo (codes "version 2 \npurge") rest
+not_with_a_space_behind rest h = elim h.ended [
+  | inl ended ↦ let tenth : 32 ≡ 10 = ap (λ text. slice_index text 9) ended in omega (arith, tenth)
+  | inr whole ↦ let tenth : 32 ≡ 0 = ap (λ text. slice_index text 9) whole.0 in omega (arith, tenth)
+]
+
+its_first_line_is_this : (text rest : List ℕ) → TellsTwo text rest → CutsLine text (codes "version 2") rest
+its_first_line_is_this text rest h = h
+
+-- IsBody
+version_2_is_told_by_the_first_line : IsBody (codes "version 2\npurge") Two (codes "purge")
+version_2_is_told_by_the_first_line = record { unbroken = unbroken (codes "version 2") refl; ended = inl refl }
+
+version_1_has_all_lines : IsBody (codes "purge") One (codes "purge")
+version_1_has_all_lines = (
+  λ rest h. elim h.ended [
+    | inl ended ↦ let first : 112 ≡ 118 = ap (λ text. slice_index text 0) ended in omega (arith, first)
+    | inr whole ↦ let first : 112 ≡ 118 = ap (λ text. slice_index text 0) whole.0 in omega (arith, first)
+  ],
+  refl,
+)
+
+all_lines_or_those_behind_the_first :
+    (text lines : List ℕ)
+    → (IsBody text One lines → ((rest : List ℕ) → ¬ TellsTwo text rest) × (lines ≡ text)) × (IsBody text Two lines → TellsTwo text lines)
+all_lines_or_those_behind_the_first text lines = (λ h. h, λ h. h)
+
+-- reading
+what_a_line_asks_whatever_became_of_it :
+    map reading (skipped ∷ faulty fault.Command ∷ asked Dump outcome.Refused ∷ []) ≡ Ok None ∷ Err fault.Command ∷ Ok (Some Dump) ∷ []
+what_a_line_asks_whatever_became_of_it = refl
+
+-- heading
+the_line_that_tells_version_2_is_skipped : heading Two ≡ skipped ∷ []
+the_line_that_tells_version_2_is_skipped = refl
+
+no_line_tells_version_1 : heading One ≡ []
+no_line_tells_version_1 = refl
+
+-- answer_of
+done_or_refused : map answer_of (outcome.Did Added ∷ outcome.Refused ∷ []) ≡ answer.Did Added ∷ answer.Refused ∷ []
+done_or_refused = refl
+
+-- line_answer
+a_comment_alone_has_none :
+    map line_answer (skipped ∷ faulty fault.Hop ∷ asked Dump (outcome.Did (Dumped 0)) ∷ asked Dump outcome.Refused ∷ [])
+    ≡ None ∷ Some (answer.Fault fault.Hop) ∷ Some (answer.Did (Dumped 0)) ∷ Some answer.Refused ∷ []
+a_comment_alone_has_none = refl
+
+-- numbered
+with_its_number : numbered 7 (Some answer.Refused) ≡ record { number = 7; answer = answer.Refused } ∷ []
+with_its_number = refl
+
+no_line_without_an_answer : numbered 7 None ≡ []
+no_line_without_an_answer = refl
+
+-- report_lines
+each_line_has_its_number :
+    report_lines 1 (skipped ∷ faulty fault.Command ∷ asked Dump (outcome.Did (Dumped 0)) ∷ asked Purge outcome.Refused ∷ [])
+    ≡ record { number = 2; answer = answer.Fault fault.Command } ∷ record { number = 3; answer = answer.Did (Dumped 0) }
+    ∷ record { number = 4; answer = answer.Refused } ∷ []
+each_line_has_its_number = refl
+
+-- asked_by
+a_refused_command_was_asked : asked_by (asked Dump outcome.Refused) ≡ (Dump, outcome.Refused) ∷ []
+a_refused_command_was_asked = refl
+
+a_faulty_line_asked_nothing : asked_by (faulty fault.Hop) ≡ []
+a_faulty_line_asked_nothing = refl
+
+-- asked_of
+the_commands_alone : asked_of (skipped ∷ faulty fault.Command ∷ asked Dump (outcome.Did (Dumped 0)) ∷ []) ≡ (Dump, outcome.Did (Dumped 0)) ∷ []
+the_commands_alone = refl
+
+-- is_refusal
+a_refused_command : is_refusal answer.Refused ≡ true
+a_refused_command = refl
+
+a_reply_is_no_refusal : is_refusal (answer.Did Added) ≡ false
+a_reply_is_no_refusal = refl
+
+a_faulty_line_is_no_refusal : is_refusal (answer.Fault fault.Hop) ≡ false
+a_faulty_line_is_no_refusal = refl
+
+-- is_fault
+a_faulty_line : is_fault (answer.Fault fault.Hop) ≡ true
+a_faulty_line = refl
+
+a_reply_is_no_fault : is_fault (answer.Did Full) ≡ false
+a_reply_is_no_fault = refl
+
+a_refused_command_is_no_fault : is_fault answer.Refused ≡ false
+a_refused_command_is_no_fault = refl
+
+-- a piece at the front is whole where another follows
+first_is_whole : {X : Type 0} (size : ℕ) (piece other : List X) (more whole : List (List X)) (last : List X)
+    → All (λ piece. length piece ≡ size) whole → piece ∷ other ∷ more ≡ whole ++ piece_of last → length piece ≡ size
+first_is_whole size piece other more [] [] full same = cc
+first_is_whole size piece other more [] (x ∷ xs) full same = cc
+first_is_whole size piece other more (one ∷ whole) last full same = let first : piece ≡ one = cc in ap length first ∙ full 0 one (omega arith)
+
+-- concatenated
+one_after_another : concatenated {X = ℕ} ((1 ∷ 2 ∷ []) ∷ [] ∷ (3 ∷ []) ∷ []) ≡ 1 ∷ 2 ∷ 3 ∷ []
+one_after_another = refl
+
+-- piece_of
+a_piece_by_itself : piece_of {X = ℕ} (3 ∷ []) ≡ (3 ∷ []) ∷ []
+a_piece_by_itself = refl
+
+no_piece_that_is_empty : piece_of {X = ℕ} [] ≡ []
+no_piece_that_is_empty = refl
+
+-- IsCut
+three_in_pieces_of_two : IsCut {X = ℕ} 2 (1 ∷ 2 ∷ 3 ∷ []) ((1 ∷ 2 ∷ []) ∷ (3 ∷ []) ∷ [])
+three_in_pieces_of_two = record {
+  whole = (1 ∷ 2 ∷ []) ∷ [];
+  last = 3 ∷ [];
+  full = All-cons (λ piece. length piece ≡ 2) (1 ∷ 2 ∷ []) [] refl (All-nil (λ piece. length piece ≡ 2));
+  fewer = omega arith;
+  is_joined = refl;
+  is_cut = refl;
+}
+
+two_in_one_piece_of_two : IsCut {X = ℕ} 2 (1 ∷ 2 ∷ []) ((1 ∷ 2 ∷ []) ∷ [])
+two_in_one_piece_of_two = record {
+  whole = (1 ∷ 2 ∷ []) ∷ [];
+  last = [];
+  full = All-cons (λ piece. length piece ≡ 2) (1 ∷ 2 ∷ []) [] refl (All-nil (λ piece. length piece ≡ 2));
+  fewer = omega arith;
+  is_joined = refl;
+  is_cut = refl;
+}
+
+not_a_short_piece_before_another : ¬ IsCut {X = ℕ} 2 (1 ∷ 2 ∷ 3 ∷ []) ((1 ∷ []) ∷ (2 ∷ 3 ∷ []) ∷ [])
+not_a_short_piece_before_another h = let two = first_is_whole 2 (1 ∷ []) (2 ∷ 3 ∷ []) [] h.whole h.last h.full h.is_cut in cc
+
+the_pieces_of_a_cut :
+    (xs : List ℕ) (pieces : List (List ℕ)) (h : IsCut 2 xs pieces)
+    → All (λ piece. length piece ≡ 2) h.whole × (length h.last < 2) × (xs ≡ concatenated h.whole ++ h.last) × (pieces ≡ h.whole ++ piece_of h.last)
+the_pieces_of_a_cut xs pieces h = (h.full, h.fewer, h.is_joined, h.is_cut)
+
+-- hop_text
+an_address_as_next_hop : hop_text (Via at_192_0_2_1) ≡ codes "192.0.2.1"
+unfolding digits address_text
+an_address_as_next_hop = refl
+
+discard_as_next_hop : hop_text Discard ≡ codes "discard"
+discard_as_next_hop = refl
+
+-- reply_text
+replies_of_one_word : map reply_text (Added ∷ Exists ∷ Full ∷ Replaced ∷ Withdrawn ∷ Missing ∷ [])
+    ≡ codes "added" ∷ codes "exists" ∷ codes "full" ∷ codes "replaced" ∷ codes "withdrawn" ∷ codes "missing" ∷ []
+unfolding reply_text
+replies_of_one_word = refl
+
+nothing_found : reply_text NoRoute ≡ codes "no route"
+unfolding reply_text
+nothing_found = refl
+
+counts_in_decimal : map reply_text (Dumped 100 ∷ Purged 0 ∷ []) ≡ codes "dumped 100" ∷ codes "purged 0" ∷ []
+unfolding digits reply_text
+counts_in_decimal = refl
+
+a_found_route : reply_text (Found (route_via ten_1_16 1 10 (via_192_0_2 1))) ≡ codes "route 10.1.0.0/16 feed 1 pref 10 via 192.0.2.1"
+unfolding digits address_text prefix_text reply_text route_text
+a_found_route = refl
+
+-- fault_text
+E1_to_E8 :
+    map fault_text (fault.Command ∷ fault.FieldCount ∷ fault.Text ∷ fault.PrefixLength ∷ fault.PrefixBits ∷ fault.Preference ∷ fault.Hop ∷ fault.LineLength
+    ∷ [])
+    ≡ codes "fault E1" ∷ codes "fault E2" ∷ codes "fault E3" ∷ codes "fault E4" ∷ codes "fault E5" ∷ codes "fault E6" ∷ codes "fault E7" ∷ codes "fault E8" ∷ []
+unfolding fault_text
+E1_to_E8 = refl
+
+-- answer_text
+a_reply_a_refusal_and_a_fault : map answer_text (answer.Did Added ∷ answer.Refused ∷ answer.Fault fault.Text ∷ [])
+    ≡ codes "added" ∷ codes "refused" ∷ codes "fault E3" ∷ []
+unfolding answer_text reply_text fault_text
+a_reply_a_refusal_and_a_fault = refl
+
+-- route_text
+a_route_that_discards : route_text (route_via ten_9_16 3 10 Discard) ≡ codes "10.9.0.0/16 feed 3 pref 10 via discard"
+unfolding digits address_text prefix_text route_text
+a_route_that_discards = refl
+
+-- line_text
+a_line_of_a_report : line_text 1 (record { number = 100; answer = answer.Did Added }) ≡ codes "1:100 added\n"
+unfolding digits line_text answer_text reply_text
+a_line_of_a_report = refl
+
+-- report_text
+two_lines_of_feed_1 :
+    report_text 1 (record { number = 2; answer = answer.Did Added } ∷ record { number = 5; answer = answer.Fault fault.Hop } ∷ [])
+    ≡ codes "1:2 added\n1:5 fault E7\n"
+unfolding digits line_text answer_text reply_text fault_text
+two_lines_of_feed_1 = refl
+
+-- row_text
+a_row : row_text (route_via ten_8 2 30 (via_192_0_2 2)) ≡ codes "10.0.0.0/8 feed 2 pref 30 via 192.0.2.2\n"
+unfolding digits address_text prefix_text row_text route_text
+a_row = refl
+
+-- count_text
+the_count_of_four : count_text 4 ≡ codes "table 4\n"
+unfolding digits count_text
+the_count_of_four = refl
+
+-- the route of that command, as feed 1's
+abbrev route_10 : Route
+route_10 = record { prefix = ten_8; feed = 1; pref = 100; hop = Via at_192_0_2_1 }
+
+-- rows_text
+no_rows : rows_text [] ≡ []
+no_rows = refl
+
+one_row : rows_text (route_10 ∷ []) ≡ codes "10.0.0.0/8 feed 1 pref 100 via 192.0.2.1\n"
+unfolding digits address_text prefix_text row_text route_text
+one_row = refl
+
+-- table_text
+the_empty_table : table_text [] ≡ codes "table 0\n"
+unfolding digits count_text
+the_empty_table = refl
+
+a_table_of_two :
+    table_text (route_via ten_8 2 30 (via_192_0_2 2) ∷ route_via ten_9_16 3 10 Discard ∷ [])
+    ≡ codes "table 2\n10.0.0.0/8 feed 2 pref 30 via 192.0.2.2\n10.9.0.0/16 feed 3 pref 10 via discard\n"
+unfolding digits address_text prefix_text count_text row_text route_text
+a_table_of_two = refl
+
+-- what became of a line whose command was answered
+abbrev did : Cmd → Reply → LineOutcome
+did cmd reply = asked cmd (outcome.Did reply)
+
+-- the three files of the tutorial, and what became of their lines
+abbrev pub north : List ℕ
+north =
+    codes "# Has a way to all of 10.0.0.0/8, and a better one to a part of it.\n"
+    ++ codes "add 10.0.0.0/8 50 192.0.2.1\nadd 10.1.0.0/16 10 192.0.2.1\nlookup 10.1.2.3\n"
+
+abbrev pub north_read : List LineOutcome
+north_read = skipped ∷ did (Add ten_8 50 (via_192_0_2 1)) Added ∷ did (Add ten_1_16 10 (via_192_0_2 1)) Added
+    ∷ did (Lookup at_10_1_2_3) (Found (route_via ten_1_16 1 10 (via_192_0_2 1))) ∷ []
+
+abbrev pub south_lines : List ℕ
+south_lines =
+    codes "# Loses its neighbour, takes back all that it said, and comes up again with one way.\n"
+    ++ codes "add 10.0.0.0/8 20 192.0.2.2\nadd 10.2.0.0/16 20 192.0.2.2\npurge\nadd 10.0.0.0/8 30 192.0.2.2\n"
+
+abbrev pub south : List ℕ
+south = codes "version 2\n" ++ south_lines
+
+abbrev pub south_read : List LineOutcome
+south_read = skipped ∷ did (Add ten_8 20 (via_192_0_2 2)) Added ∷ did (Add ten_2_16 20 (via_192_0_2 2)) Added ∷ did Purge (Purged 2)
+    ∷ did (Add ten_8 30 (via_192_0_2 2)) Added ∷ []
+
+abbrev pub east_lines : List ℕ
+east_lines =
+    codes "# Discards what nobody is to reach, and takes back one way.\n"
+    ++ codes "add 10.9.0.0/16 10 discard\nadd 10.3.0.0/16 10 192.0.2.3\nwithdraw 10.3.0.0/16\nlookup 10.9.0.1\n"
+
+abbrev pub east : List ℕ
+east = codes "version 2\n" ++ east_lines
+
+abbrev pub east_read : List LineOutcome
+east_read = skipped ∷ did (Add ten_9_16 10 Discard) Added ∷ did (Add ten_3_16 10 (via_192_0_2 3)) Added ∷ did (Withdraw ten_3_16) Withdrawn
+    ∷ did (Lookup at_10_9_0_1) (Found (route_via ten_9_16 3 10 Discard)) ∷ []
+
+-- a line that an LF ends is cut there
+cut : (line rest : List ℕ) → list_any (λ byte. eqb byte lf) line ≡ false → CutsLine (line ++ lf ∷ rest) line rest
+cut line rest none = record { unbroken = unbroken line none; ended = inl refl }
+
+-- each of these lines is read as its outcome says, and the text that they are with an LF behind each
+abbrev AreRead : Version → List (List ℕ) → List LineOutcome → Type 0
+AreRead version [] outcomes = outcomes ≡ []
+AreRead version (line ∷ lines) [] = ⊥
+AreRead version (line ∷ lines) (outcome ∷ outcomes) = AnswersLine version line (reading outcome) × AreRead version lines outcomes
+
+abbrev text_of : List (List ℕ) → List ℕ
+text_of [] = []
+text_of (line ∷ lines) = line ++ lf ∷ text_of lines
+
+become : (version : Version) (lines : List (List ℕ)) (outcomes : List LineOutcome) → list_any (λ line. list_any (λ byte. eqb byte lf) line) lines ≡ false
+    → AreRead version lines outcomes → LinesBecome version (text_of lines) outcomes []
+become version [] [] none are = refl
+become version [] (outcome ∷ outcomes) none are = absurd cc
+become version (line ∷ lines) [] none are = absurd are
+become version (line ∷ lines) (outcome ∷ outcomes) none (answers, are) =
+    let parts = or_parts (list_any (λ byte. eqb byte lf) line) (list_any (λ line. list_any (λ byte. eqb byte lf) line) lines) none in
+    (line, text_of lines, cut line (text_of lines) parts.0, answers, become version lines outcomes parts.1 are)
+
+-- LinesBecome
+lines_of_north : LinesBecome One north north_read []
+unfolding digits address_text prefix_text
+lines_of_north = become One (codes "# Has a way to all of 10.0.0.0/8, and a better one to a part of it." ∷ codes "add 10.0.0.0/8 50 192.0.2.1"
+    ∷ codes "add 10.1.0.0/16 10 192.0.2.1" ∷ codes "lookup 10.1.2.3" ∷ [])
+    north_read refl ((omega arith, refl), (((omega arith, omega arith), refl), (((omega arith, omega arith), refl), ((omega arith, refl), refl))))
+
+lines_of_south : LinesBecome Two south_lines south_read []
+unfolding digits address_text prefix_text
+lines_of_south = become Two (codes "# Loses its neighbour, takes back all that it said, and comes up again with one way." ∷ codes "add 10.0.0.0/8 20 192.0.2.2"
+    ∷ codes "add 10.2.0.0/16 20 192.0.2.2" ∷ codes "purge" ∷ codes "add 10.0.0.0/8 30 192.0.2.2" ∷ [])
+    south_read refl (
+      (omega arith, refl),
+      (
+        ((omega arith, omega arith), refl),
+        (
+          ((omega arith, omega arith), refl),
+          (
+            (refl, refl),
+            (((omega arith, omega arith), refl), refl),
+          ),
+        ),
+      ),
+    )
+
+lines_of_east : LinesBecome Two east_lines east_read []
+unfolding digits address_text prefix_text
+lines_of_east = become Two (codes "# Discards what nobody is to reach, and takes back one way." ∷ codes "add 10.9.0.0/16 10 discard"
+    ∷ codes "add 10.3.0.0/16 10 192.0.2.3" ∷ codes "withdraw 10.3.0.0/16" ∷ codes "lookup 10.9.0.1" ∷ [])
+    east_read refl ((omega arith, refl), (((omega arith, refl), refl), (((omega arith, omega arith), refl), ((tt, refl), ((omega arith, refl), refl)))))
+
+no_line_left_out : ¬ LinesBecome One (codes "dump\n") [] []
+no_line_left_out same = cc
+
+the_first_of_them :
+    (lines : List ℕ) (rest : List ℕ) (outcomes : List LineOutcome) → LinesBecome One lines (skipped ∷ outcomes) rest
+    → (line : List ℕ) × (next : List ℕ) × CutsLine lines line next × AnswersLine One line (Ok None) × LinesBecome One next outcomes rest
+the_first_of_them lines rest outcomes h = h
+
+where_none_is_left : (lines rest : List ℕ) → LinesBecome One lines [] rest → lines ≡ rest
+where_none_is_left lines rest h = h
+
+-- north's first byte is none of `version 2`
+north_tells_no_version : (rest : List ℕ) → ¬ TellsTwo north rest
+north_tells_no_version rest h = elim h.ended [
+  | inl ended ↦ let first : 35 ≡ 118 = ap (λ text. slice_index text 0) ended in omega (arith, first)
+  | inr whole ↦ let first : 35 ≡ 118 = ap (λ text. slice_index text 0) whole.0 in omega (arith, first)
+]
+
+-- Becomes
+pub what_north_becomes : Becomes north north_read []
+what_north_becomes = record { version = One; lines = north; read = north_read; body = (north_tells_no_version, refl); become = lines_of_north; joined = refl }
+
+pub what_south_becomes : Becomes south (skipped ∷ south_read) []
+what_south_becomes = record
+    { version = Two; lines = south_lines; read = south_read; body = cut (codes "version 2") south_lines refl; become = lines_of_south; joined = refl }
+
+pub what_east_becomes : Becomes east (skipped ∷ east_read) []
+what_east_becomes = record
+    { version = Two; lines = east_lines; read = east_read; body = cut (codes "version 2") east_lines refl; become = lines_of_east; joined = refl }
+
+the_lines_of_its_version :
+    (text rest : List ℕ) (outcomes : List LineOutcome) (h : Becomes text outcomes rest)
+    → IsBody text h.version h.lines × LinesBecome h.version h.lines h.read rest × (outcomes ≡ heading h.version ++ h.read)
+the_lines_of_its_version text rest outcomes h = (h.body, h.become, h.joined)
+
+-- found_text
+a_route_was_found : found_text at_192_0_2_1 (Some route_10) ≡ codes "192.0.2.1 route 10.0.0.0/8 feed 1 pref 100 via 192.0.2.1\n"
+unfolding digits address_text prefix_text found_text reply_text route_text
+a_route_was_found = refl
+
+no_route_was_found : found_text at_192_0_2_1 None ≡ codes "192.0.2.1 no route\n"
+unfolding digits address_text found_text reply_text
+no_route_was_found = refl
+
+-- reason_text
+each_step_has_its_reason :
+    (reason_text (route_via ten_1_16 1 10 Discard) (route_via ten_8 1 10 Discard) ≡ codes "shorter")
+    × (reason_text (route_via ten_8 1 10 Discard) (route_via ten_8 1 30 Discard) ≡ codes "preference")
+    × (reason_text (route_via ten_8 1 10 Discard) (route_via ten_8 2 10 Discard) ≡ codes "feed")
+unfolding reason_text
+each_step_has_its_reason = (refl, refl, refl)
+
+the_first_step_that_differs :
+    (reason_text (route_via ten_1_16 2 30 Discard) (route_via ten_8 1 10 Discard) ≡ codes "shorter")
+    × (reason_text (route_via ten_8 2 10 Discard) (route_via ten_8 1 30 Discard) ≡ codes "preference")
+unfolding reason_text
+the_first_step_that_differs = (refl, refl)
+
+-- also_text
+a_route_left_behind :
+    also_text at_10_1_2_3 (route_via ten_1_16 1 10 (via_192_0_2 1)) (route_via ten_8 2 30 (via_192_0_2 2))
+    ≡ codes "10.1.2.3 also 10.0.0.0/8 feed 2 pref 30 via 192.0.2.2 shorter\n"
+unfolding digits address_text prefix_text also_text reason_text route_text
+a_route_left_behind = refl
+
+-- all_found_text
+nothing_covers_it : all_found_text at_192_0_2_1 [] ≡ codes "192.0.2.1 no route\n"
+unfolding digits address_text found_text reply_text
+nothing_covers_it = refl
+
+three_cover_it :
+    all_found_text at_10_1_2_3 (route_via ten_1_16 1 10 (via_192_0_2 1) ∷ route_via ten_8 2 30 (via_192_0_2 2) ∷ route_via ten_8 1 50 Discard ∷ [])
+    ≡ codes "10.1.2.3 route 10.1.0.0/16 feed 1 pref 10 via 192.0.2.1\n"
+    ++ codes "10.1.2.3 also 10.0.0.0/8 feed 2 pref 30 via 192.0.2.2 shorter\n10.1.2.3 also 10.0.0.0/8 feed 1 pref 50 via discard shorter\n"
+unfolding digits address_text prefix_text found_text also_text reason_text reply_text route_text
+three_cover_it = refl
+
+-- LineHasOneAnswer
+one_answer_of_version_2 :
+    LineHasOneAnswer → (line : List ℕ) (one two : Result (Option Cmd) LineFault) → AnswersLine Two line one → AnswersLine Two line two → one ≡ two
+one_answer_of_version_2 law = law Two
+
+-- AddressLineHasOneAnswer
+an_address_or_a_fault :
+    AddressLineHasOneAnswer → (line : List ℕ) (two : Result (Option Addr) LineFault)
+    → AnswersAddressLine line (Err fault.Text) → AnswersAddressLine line two → Err fault.Text ≡ two
+an_address_or_a_fault law line = law line (Err fault.Text)
+
+-- CommandIsReadAgain
+a_dump_is_read_as_a_dump :
+    CommandIsReadAgain → (answer : Result (Option Cmd) LineFault) → HasCommand One Dump → AnswersLine One (command_text Dump) answer → answer ≡ Ok (Some Dump)
+a_dump_is_read_as_a_dump law = law One Dump
+
+-- OnlyItsTextIsRead
+no_other_line_is_read_as_a_purge :
+    OnlyItsTextIsRead → (line : List ℕ) → AnswersLine Two line (Ok (Some Purge)) → HasCommand Two Purge × (line ≡ command_text Purge)
+no_other_line_is_read_as_a_purge law line = law Two line Purge
+
+-- OlderTextsStay
+all_lines_by_version_1 :
+    OlderTextsStay → (text : List ℕ) → ((rest : List ℕ) → ¬ TellsTwo text rest) → Becomes text (skipped ∷ []) [] ↔ LinesBecome One text (skipped ∷ []) []
+all_lines_by_version_1 law text = law text (skipped ∷ [])
+
+-- TextHasOneCut
+two_first_lines_are_one :
+    TextHasOneCut → (text line rest : List ℕ) → CutsLine text line rest → CutsLine text (codes "a") (codes "b") → (line ≡ codes "a") × (rest ≡ codes "b")
+two_first_lines_are_one law text line rest = law text line rest (codes "a") (codes "b")
+
+-- TextHasOneReading
+whatever_became_of_its_commands :
+    TextHasOneReading → (text : List ℕ) (outcomes : List LineOutcome)
+    → Becomes text outcomes [] → Becomes text (skipped ∷ []) [] → map reading outcomes ≡ map reading (skipped ∷ [])
+whatever_became_of_its_commands law text outcomes = law text outcomes (skipped ∷ [])
+
+-- IsVersion
+the_lines_that_it_reads : (text : List ℕ) → IsVersion text Two → (lines : List ℕ) × IsBody text Two lines
+the_lines_that_it_reads text h = h
+
+-- NumbersRise
+each_is_smaller_than_the_later : (lines : List Line) → NumbersRise lines → AllPairs (λ (earlier later : Line). earlier.number < later.number) lines
+each_is_smaller_than_the_later lines h = h
+
+-- has_refusal
+in_one_of_two_lines :
+    (has_refusal (record { number = 1; answer = answer.Did Added } ∷ record { number = 2; answer = answer.Refused } ∷ []) ≡ true)
+    × (has_refusal (record { number = 1; answer = answer.Fault fault.Hop } ∷ []) ≡ false)
+in_one_of_two_lines = (refl, refl)
+
+-- has_fault
+in_the_second_of_two :
+    (has_fault (record { number = 1; answer = answer.Did Added } ∷ record { number = 2; answer = answer.Fault fault.Hop } ∷ []) ≡ true)
+    × (has_fault (record { number = 1; answer = answer.Refused } ∷ []) ≡ false)
+in_the_second_of_two = (refl, refl)
+
+-- Gains
+what_a_gate_holds_besides :
+    {G : Type 0} (holds : G → List Visit → Type 0) (old new : G) (more : List Visit) → Gains holds old new more
+    → (visits : List Visit) → holds old visits → holds new (visits ++ more)
+what_a_gate_holds_besides holds old new more h = h
+
+-- AnswersBatch
+one_visit_with_an_outcome_for_each :
+    {G : Type 0} (holds : G → List Visit → Type 0) (old new : G) (out out' : List Outcome) (h : AnswersBatch holds old new (Dump ∷ []) out out')
+    → (length h.outcomes ≡ 1) × (out' ≡ out ++ h.outcomes) × Gains holds old new (visit_of (zip (Dump ∷ []) h.outcomes) ∷ [])
+one_visit_with_an_outcome_for_each holds old new out out' h = (h.each, h.appended, h.gained)
+
+-- AsksLines
+a_visit_for_each_piece :
+    {G : Type 0} (holds : G → List Visit → Type 0) (text rest : List ℕ) (outcomes : List LineOutcome) (old new : G)
+    (h : AsksLines holds 2 text outcomes rest old new)
+    → Becomes text outcomes rest × IsCut 2 (asked_of outcomes) h.pieces × Gains holds old new (map visit_of h.pieces)
+a_visit_for_each_piece holds text rest outcomes old new h = (h.becomes, h.cut, h.gained)
+
+-- RunsFeed
+the_whole_text_and_its_report :
+    {G : Type 0} (holds : G → List Visit → Type 0) (text : List ℕ) (old new : G) (report : List Line) (h : RunsFeed holds 2 text old new report)
+    → AsksLines holds 2 text h.outcomes [] old new × (report ≡ report_lines 1 h.outcomes)
+the_whole_text_and_its_report holds text old new report h = (h.asks, h.reported)
+
+-- IsTold
+a_command_or_a_fault :
+    (line : List ℕ) → IsTold One line → (outcome : LineOutcome) × AnswersLine One line (reading outcome) × (line_answer outcome ≢ None)
+a_command_or_a_fault line h = h
+
+-- StopsWithin
+before_a_line_that_is_told :
+    {G : Type 0} (holds : G → List Visit → Type 0) (text : List ℕ) (old new : G) (h : StopsWithin holds 2 text old new)
+    → AsksLines holds 2 text h.outcomes h.unasked old new × LinesBecome h.asks.becomes.version h.unasked h.more h.rest × CutsLine h.rest h.line h.next
+    × IsTold h.asks.becomes.version h.line
+before_a_line_that_is_told holds text old new h = (h.asks, h.become, h.cut, h.told)
+
+-- RunsOne
+its_report_or_a_beginning :
+    {G : Type 0} (name : G → ℕ) (holds : G → List Visit → Type 0) (text : List ℕ) (old new : G) (report : Option (List Line))
+    → RunsOne name holds 2 text old new report
+    → (name new ≡ name old) × MatchOption report (StopsWithin holds 2 text old new) (λ lines. RunsFeed holds 2 text old new lines)
+    × (text ≡ [] → IsSome report)
+its_report_or_a_beginning name holds text old new report h = (h.named, h.runs, h.nothing)
+
+-- way_text
+the_way_to_a_router : way_text (Via at_192_0_2_1) ≡ codes "via 192.0.2.1"
+unfolding digits address_text
+the_way_to_a_router = refl
+
+discard_as_way : way_text Discard ≡ codes "discard"
+discard_as_way = refl
+
+-- answered_text
+an_answer_of_each_kind :
+    (answered_text answered.NoRoute ≡ codes "no route") × (answered_text (answered.Hop Discard) ≡ codes "discard")
+    × (answered_text (answered.Route route_10) ≡ codes "10.0.0.0/8 feed 1 pref 100 via 192.0.2.1")
+unfolding digits address_text prefix_text answered_text route_text
+an_answer_of_each_kind = (refl, refl, refl)
+
+-- the addresses from 10.1.2.3 to 10.9.0.1, which had a way and now have none
+abbrev range_without_way : Difference
+range_without_way = record { first = at_10_1_2_3; last = at_10_9_0_1; old = answered.Hop (Via at_192_0_2_1); new = answered.NoRoute }
+
+-- difference_text
+a_range_and_both_answers : difference_text range_without_way ≡ codes "10.1.2.3-10.9.0.1 via 192.0.2.1 -> no route\n"
+unfolding digits address_text difference_text answered_text
+a_range_and_both_answers = refl
+
+-- differences_text
+one_line_for_each_range :
+    differences_text (range_without_way ∷ range_without_way ∷ [])
+    ≡ codes "10.1.2.3-10.9.0.1 via 192.0.2.1 -> no route\n10.1.2.3-10.9.0.1 via 192.0.2.1 -> no route\n"
+unfolding digits address_text difference_text answered_text
+one_line_for_each_range = refl

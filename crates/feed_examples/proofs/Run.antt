@@ -1,0 +1,711 @@
+-- Examples by which the definitions of rt_run are tested, each under a line with the definition's name. Both sides are
+-- computed, but for the texts that are written for numbers, which have one spelling each.
+use Rattle.std.proofs.Common.{◌≡◌, ◌≢◌, ℕ, ◌+◌, ◌≤◌, ◌==◌, ◌&&◌, nat_le, ◌*◌, zero, suc, Bool, true, false, if◌then◌else◌, Some, None, Ok, Err}
+use Rattle.std.proofs.Common.{List, [], ◌∷◌, ◌++◌, length, map, filter, take, drop, inl, inr, codes, refl, sym, ap, ◌∙◌, subst, arith}
+use Rattle.std.specs.List.{All, list_any, list_all, slice_get, Contains}
+use Rattle.std.proofs.lemmas.Bool.{and_parts, eqb-true, eqb-false, leb-true}
+use Rattle.std.proofs.lemmas.List.Elements.{All-nil, All-cons}
+use Rattle.std.specs.Fmt.{digits}
+use Rattle.rt_cidr.specs.Text.{address_text, prefix_text}
+use Rattle.ya_core.specs.declared.schedule.ReplayFault.TheVariants as replay
+use Rattle.ya_core.specs.Steps.{opening}
+use Rattle.rt_rib.specs.declared.routes.Hop.TheVariants.{Discard}
+use Rattle.rt_rib.specs.declared.routes.Route.{Route}
+use Rattle.rt_rib.specs.declared.commands.Cmd.{Cmd}
+use Rattle.rt_rib.specs.declared.commands.Cmd.TheVariants.{Add, Withdraw, Dump, Purge}
+use Rattle.rt_rib.specs.declared.commands.Reply.TheVariants.{Added, Exists, Full, Withdrawn, Missing, Dumped}
+use Rattle.rt_rib.specs.declared.commands.Entry.{Entry}
+use Rattle.rt_rib.specs.Sequential.{reply_of, table_after, table_of_journal, IsAnswered, IsLawfulJournal}
+use Rattle.rt_rib.specs.LookUp.{look_up, look_up_all}
+use Rattle.table_examples.proofs.Rib.{entry, at_10_1_2_3, at_10_9_0_1, ten_1_16, ten_9_16, via_192_0_2, route_via}
+use Rattle.table_examples.proofs.Cidr.{ten_8}
+use Rattle.table_examples.proofs.Rib.{tutorial, the_journal_of_the_tutorial, the_table_of_the_tutorial}
+use Rattle.rt_shared.specs.Visits.{Uncut}
+use Rattle.rt_shared.specs.declared.outcome.Outcome.{Outcome}
+use Rattle.rt_shared.specs.declared.outcome.Outcome.TheVariants.{Did, Refused}
+use Rattle.rt_feed.specs.declared.parse.LineFault.TheVariants as fault
+use Rattle.rt_feed.specs.declared.versions.Version.TheVariants.{One}
+use Rattle.rt_feed.specs.Lines.{TellsTwo, CutsLine, skipped, faulty, asked, LineOutcome, Becomes, asked_of}
+use Rattle.std.specs.Simd.{first_chunks}
+use Rattle.rt_feed.specs.Printed.{reply_text, fault_text, route_text, row_text, count_text, table_text, found_text, also_text, reason_text}
+use Rattle.rt_feed.specs.declared.faults.RunFault.TheVariants as run
+use Rattle.feed_examples.proofs.Feed.{north, north_read, south, south_read, east, east_read, what_north_becomes, what_south_becomes, what_east_becomes}
+use Rattle.std.specs.Prelude.{max}
+use Rattle.rt_diff.specs.declared.answers.By.TheVariants as by
+use Rattle.rt_diff.specs.declared.differences.Difference.{Difference}
+use Rattle.rt_diff.specs.Differences.{AreDifferences}
+use Rattle.rt_feed.specs.DifferenceText.{differences_text}
+use Rattle.rt_run.specs.declared.differences.DiffSummary.{DiffSummary}
+use Rattle.rt_run.specs.DiffText.{LeavesTable, differ_status, IsDiffText}
+use Rattle.rt_run.specs.SameDiff.{TellsUnions, DiffsUnions, DiffOnce}
+use Rattle.rt_run.specs.declared.faults.AppFault.TheVariants.{Run, Replay, Write}
+use Rattle.rt_run.specs.RunText.{entries_of, Explains, ExplainsFrom, told_of, told_text, lines_text, feeds_text}
+use Rattle.rt_run.specs.RunText.{was_faulty, was_told, some_refused, status_of, IsHistory, IsRunText, Leaves}
+use Rattle.ya_replay.specs.ReplayText.{inside_text}
+use Rattle.rt_run.specs.Replayed.{IsReplayText, LeavesReplay}
+use Rattle.rt_run.specs.declared.tallies.RunSummary.{RunSummary}
+use Rattle.rt_run.specs.TableText.{answers_text, all_answers_text, routes_text, first_fault, tally_of, was_left_out, IsShown}
+use Rattle.rt_run.specs.SameTable.{table_alone, LeavesAlone, IsUnion, IsAnsweredAlone}
+use Rattle.rt_run.specs.SameTable.{LeavesUnion, AnswersAlone, HaveOneUnion, EndsInUnion, EndInOneTable, ShowsUnion, ShowOneTable}
+
+-- entries_of
+what_was_refused_has_no_entry :
+    entries_of 2 ((Dump, Did (Dumped 0)) ∷ (Purge, Refused) ∷ (Dump, Did (Dumped 1)) ∷ []) ≡ entry 2 Dump (Dumped 0) ∷ entry 2 Dump (Dumped 1) ∷ []
+what_was_refused_has_no_entry = refl
+
+-- table_alone
+what_south_leaves : table_alone 65536 2 (asked_of south_read) ≡ route_via ten_8 2 30 (via_192_0_2 2) ∷ []
+unfolding table_alone table_after
+what_south_leaves = refl
+
+its_own_limit : table_alone 1 2 (asked_of east_read) ≡ route_via ten_9_16 2 10 Discard ∷ []
+unfolding table_alone table_after
+its_own_limit = refl
+
+one_route_at_most : table_alone 1 2 ((Add ten_8 5 Discard, Refused) ∷ (Add ten_9_16 5 Discard, Did Added) ∷ []) ≡ route_via ten_8 2 5 Discard ∷ []
+unfolding table_alone table_after
+one_route_at_most = refl
+
+-- LeavesAlone
+a_route_of_south : LeavesAlone (north ∷ south ∷ east ∷ []) 65536 1 (route_via ten_8 2 30 (via_192_0_2 2))
+unfolding table_alone table_after
+a_route_of_south = (south, skipped ∷ south_read, refl, what_south_becomes, (0, omega arith, refl))
+
+a_route_of_north : LeavesAlone (north ∷ south ∷ east ∷ []) 65536 0 (route_via ten_8 1 50 (via_192_0_2 1))
+unfolding table_alone table_after
+a_route_of_north = (north, north_read, refl, what_north_becomes, (0, omega arith, refl))
+
+what_it_leaves :
+    (texts : List (List ℕ)) (limit k : ℕ) (r : Route) → LeavesAlone texts limit k r
+    → (text : List ℕ) × (lines : List LineOutcome) × (slice_get texts k ≡ Some text) × Becomes text lines []
+    × Contains (table_alone limit (k + 1) (asked_of lines)) r
+what_it_leaves texts limit k r h = h
+
+no_text_leaves_none : (k : ℕ) (r : Route) → ¬ LeavesAlone [] 65536 k r
+no_text_leaves_none k r (text, lines, at, becomes, has) = cc
+
+-- IsUnion
+of_no_text : IsUnion [] 65536 []
+of_no_text = record {
+  table = record { ordered = λ i j d below within. absurd (omega (arith, within)); single = λ i j d below within. absurd (omega (arith, within)) };
+  contains = λ r. (λ has. absurd (omega (arith, has.1)), λ leaves. absurd (no_text_leaves_none leaves.0 r leaves.1));
+}
+
+no_route_that_no_text_leaves : (r : Route) → ¬ IsUnion [] 65536 (r ∷ [])
+no_route_that_no_text_leaves r h =
+    let leaves = (h.contains r).0 (0, omega arith, refl) in no_text_leaves_none leaves.0 r leaves.1
+
+-- IsAnsweredAlone
+as_if_there_were_no_other : IsAnsweredAlone 1 2 ((Add ten_8 5 Discard, Did Added) ∷ [])
+unfolding table_alone reply_of
+as_if_there_were_no_other [] later cmd outcome same own =
+    let first : (Add ten_8 5 Discard, Did Added) ≡ (cmd, outcome) = cc in
+    subst (λ (one : Cmd × Outcome). one.1 ≡ Did (reply_of 1 (table_alone 1 2 []) 2 one.0)) first refl
+as_if_there_were_no_other (x ∷ []) later cmd outcome same own = cc
+as_if_there_were_no_other (x ∷ y ∷ earlier) later cmd outcome same own = cc
+
+not_otherwise : ¬ IsAnsweredAlone 1 2 ((Add ten_8 5 Discard, Did Exists) ∷ [])
+unfolding table_alone reply_of
+not_otherwise h = let same = h [] [] (Add ten_8 5 Discard) (Did Exists) refl refl in cc
+
+not_a_second_route_where_one_is_the_limit :
+    ¬ IsAnsweredAlone 1 2 ((Add ten_8 5 Discard, Did Added) ∷ (Add ten_9_16 5 Discard, Did Added) ∷ [])
+unfolding table_alone table_after reply_of
+not_a_second_route_where_one_is_the_limit h =
+    let same = h ((Add ten_8 5 Discard, Did Added) ∷ []) [] (Add ten_9_16 5 Discard) (Did Added) refl refl in cc
+
+nor_its_withdrawal :
+    ¬ IsAnsweredAlone 1 2 ((Add ten_8 5 Discard, Did Added) ∷ (Add ten_9_16 5 Discard, Did Full) ∷ (Withdraw ten_9_16, Did Withdrawn) ∷ [])
+unfolding table_alone table_after reply_of
+nor_its_withdrawal h =
+    let same = h ((Add ten_8 5 Discard, Did Added) ∷ (Add ten_9_16 5 Discard, Did Full) ∷ []) [] (Withdraw ten_9_16) (Did Withdrawn) refl refl in cc
+
+-- told_of
+what_is_told_of_each :
+    map told_of (skipped ∷ faulty fault.Hop ∷ asked Dump Refused ∷ asked Dump (Did Added) ∷ [])
+    ≡ None ∷ Some (codes "fault E7") ∷ Some (codes "refused") ∷ Some (codes "added") ∷ []
+unfolding fault_text reply_text
+what_is_told_of_each = refl
+
+-- told_text
+a_line_of_feed_2 : told_text 2 3 (asked Dump Refused) ≡ codes "2:3 refused\n"
+unfolding digits
+a_line_of_feed_2 = refl
+
+nothing_is_told_of_a_comment : told_text 2 3 skipped ≡ []
+nothing_is_told_of_a_comment = refl
+
+-- lines_text
+a_comment_has_its_number : lines_text 1 1 (skipped ∷ asked Dump Refused ∷ asked Dump Refused ∷ []) ≡ codes "1:2 refused\n1:3 refused\n"
+unfolding digits
+a_comment_has_its_number = refl
+
+-- feeds_text
+the_second_is_of_feed_2 : feeds_text 1 ((asked Dump Refused ∷ []) ∷ (skipped ∷ asked Dump (Did (Dumped 0)) ∷ []) ∷ []) ≡ codes "1:1 refused\n2:2 dumped 0\n"
+unfolding digits reply_text
+the_second_is_of_feed_2 = refl
+
+-- was_faulty
+a_fault_alone : map was_faulty (skipped ∷ faulty fault.Hop ∷ asked Dump Refused ∷ asked Dump (Did (Dumped 0)) ∷ []) ≡ false ∷ true ∷ false ∷ false ∷ []
+a_fault_alone = refl
+
+-- was_told
+full_alone :
+    map (was_told (codes "full")) (skipped ∷ faulty fault.Hop ∷ asked Dump Refused ∷ asked Dump (Did Full) ∷ asked Dump (Did Exists) ∷ [])
+    ≡ false ∷ false ∷ false ∷ true ∷ false ∷ []
+unfolding fault_text reply_text
+full_alone = refl
+
+-- some_refused
+one_of_the_second_was : some_refused ((skipped ∷ []) ∷ (faulty fault.Hop ∷ asked Dump Refused ∷ []) ∷ []) ≡ true
+unfolding fault_text
+one_of_the_second_was = refl
+
+none_was : some_refused ((skipped ∷ faulty fault.Hop ∷ asked Dump (Did (Dumped 0)) ∷ []) ∷ [] ∷ []) ≡ false
+unfolding fault_text reply_text
+none_was = refl
+
+-- status_of
+all_was_done : status_of was_faulty ((skipped ∷ asked Dump (Did (Dumped 0)) ∷ []) ∷ [] ∷ []) ≡ 0
+unfolding reply_text
+all_was_done = refl
+
+some_line_was_faulty : status_of was_faulty ([] ∷ (faulty fault.Hop ∷ []) ∷ []) ≡ 2
+unfolding fault_text
+some_line_was_faulty = refl
+
+a_refusal_before_a_fault : status_of was_faulty ((faulty fault.Hop ∷ []) ∷ (asked Dump Refused ∷ []) ∷ []) ≡ 5
+unfolding fault_text
+a_refusal_before_a_fault = refl
+
+-- two routes to one prefix, the better one first
+abbrev two_to_ten_8 : List Route
+two_to_ten_8 = route_via ten_8 2 30 Discard ∷ route_via ten_8 1 50 Discard ∷ []
+
+-- routes_text
+all_of_them : routes_text false two_to_ten_8 ≡ codes "10.0.0.0/8 feed 2 pref 30 via discard\n10.0.0.0/8 feed 1 pref 50 via discard\n"
+unfolding digits address_text prefix_text row_text route_text
+all_of_them = refl
+
+only_the_best : routes_text true two_to_ten_8 ≡ codes "10.0.0.0/8 feed 2 pref 30 via discard\n"
+unfolding digits address_text prefix_text row_text route_text
+only_the_best = refl
+
+-- answers_text
+one_is_covered_and_one_is_not :
+    answers_text (at_10_1_2_3 ∷ at_10_9_0_1 ∷ []) (route_via ten_1_16 1 10 Discard ∷ [])
+    ≡ codes "10.1.2.3 route 10.1.0.0/16 feed 1 pref 10 via discard\n10.9.0.1 no route\n"
+unfolding digits address_text prefix_text look_up found_text reply_text route_text
+one_is_covered_and_one_is_not = refl
+
+-- all_answers_text
+all_that_cover_each :
+    all_answers_text (at_10_1_2_3 ∷ at_10_9_0_1 ∷ []) (two_to_ten_8 ++ route_via ten_1_16 1 10 Discard ∷ [])
+    ≡ codes "10.1.2.3 route 10.1.0.0/16 feed 1 pref 10 via discard\n10.1.2.3 also 10.0.0.0/8 feed 2 pref 30 via discard shorter\n"
+    ++ codes "10.1.2.3 also 10.0.0.0/8 feed 1 pref 50 via discard shorter\n10.9.0.1 route 10.0.0.0/8 feed 2 pref 30 via discard\n"
+    ++ codes "10.9.0.1 also 10.0.0.0/8 feed 1 pref 50 via discard preference\n"
+unfolding digits address_text prefix_text look_up_all found_text also_text reason_text reply_text route_text
+all_that_cover_each = refl
+
+-- first_fault
+the_second_line_has_the_first : first_fault 3 (asked Dump Refused ∷ faulty fault.Hop ∷ faulty fault.Text ∷ []) ≡ Some (4, fault.Hop)
+the_second_line_has_the_first = refl
+
+no_line_has_one : first_fault 1 (skipped ∷ asked Dump Refused ∷ []) ≡ None
+no_line_has_one = refl
+
+-- tally_of
+faults_and_an_add_over_the_limit :
+    tally_of (faulty fault.Hop ∷ asked Dump (Did Full) ∷ skipped ∷ faulty fault.Text ∷ [])
+    ≡ record { faulty = 2; first_faulty = Some (1, fault.Hop); full = 1; existing = 0; missing = 0; refused = 0 }
+unfolding fault_text reply_text
+faults_and_an_add_over_the_limit = refl
+
+-- an add of a prefix that is there, and two commands about one that is not
+found_otherwise :
+    tally_of (asked Dump (Did Exists) ∷ asked Dump (Did Missing) ∷ skipped ∷ asked Dump (Did Missing) ∷ [])
+    ≡ record { faulty = 0; first_faulty = None; full = 0; existing = 1; missing = 2; refused = 0 }
+unfolding reply_text
+found_otherwise = refl
+
+-- tally_of
+refused_alone : tally_of (asked Dump Refused ∷ []) ≡ record { faulty = 0; first_faulty = None; full = 0; existing = 0; missing = 0; refused = 1 }
+refused_alone = refl
+
+all_was_taken : tally_of (asked Dump (Did (Dumped 0)) ∷ []) ≡ record { faulty = 0; first_faulty = None; full = 0; existing = 0; missing = 0; refused = 0 }
+unfolding reply_text
+all_was_taken = refl
+
+-- was_left_out
+a_faulty_line_is_left_out : was_left_out (faulty fault.Hop) ≡ true
+a_faulty_line_is_left_out = refl
+
+an_add_over_the_limit_is_left_out : was_left_out (asked Dump (Did Full)) ≡ true
+unfolding reply_text
+an_add_over_the_limit_is_left_out = refl
+
+all_else_is_not : map was_left_out (skipped ∷ asked Dump Refused ∷ asked Dump (Did Exists) ∷ asked Dump (Did Missing) ∷ []) ≡ false ∷ false ∷ false ∷ false ∷ []
+unfolding reply_text
+all_else_is_not = refl
+
+-- a text of one line, and its entry
+abbrev text : List ℕ
+text = codes "dump\n"
+
+abbrev dumped : Entry
+dumped = record { feed = 1; cmd = Dump; reply = Dumped 0 }
+
+abbrev lines : List LineOutcome
+lines = asked Dump (Did (Dumped 0)) ∷ []
+
+-- it is lawful by itself
+nothing_else : (earlier : List Entry) (e : Entry) (later : List Entry) → [] ≢ earlier ++ e ∷ later
+nothing_else [] e later same = cc
+nothing_else (x ∷ earlier) e later same = cc
+
+answered : (earlier : List Entry) (e : Entry) (later : List Entry) → dumped ∷ [] ≡ earlier ++ e ∷ later → IsAnswered 1 earlier e
+unfolding table_of_journal reply_of
+answered [] e later same = let one : dumped ≡ e = cc in subst (λ x. IsAnswered 1 [] x) one refl
+answered (x ∷ earlier) e later same = let none : [] ≡ earlier ++ e ∷ later = cc in absurd (nothing_else earlier e later none)
+
+lawful : IsLawfulJournal 1 (dumped ∷ [])
+lawful = record { answered = answered }
+
+abbrev NoLF : ℕ → Type 0
+NoLF byte = byte ≢ 10
+
+-- its first line ends at the LF, and does not tell version 2
+cut_after_dump : CutsLine text (codes "dump") []
+cut_after_dump = record {
+  unbroken =
+      All-cons NoLF 100 (codes "ump") (λ e. omega (arith, e))
+      (All-cons NoLF 117 (codes "mp") (λ e. omega (arith, e))
+      (All-cons NoLF 109 (codes "p") (λ e. omega (arith, e)) (All-cons NoLF 112 [] (λ e. omega (arith, e)) (All-nil NoLF))));
+  ended = inl refl;
+}
+
+of_version_1 : (rest : List ℕ) → ¬ TellsTwo text rest
+of_version_1 rest h = elim h.ended [
+  | inl ended ↦ cc
+  | inr whole ↦ cc
+]
+
+-- entries of a feed, each a visit of its own, lie uncut among those of the others
+abbrev alone : List Entry → List (List Entry)
+alone [] = []
+alone (e ∷ entries) = (e ∷ []) ∷ alone entries
+
+behind_another : (feed : ℕ) (e : Entry) (visits : List (List Entry)) (journal : List Entry) → e.feed ≢ feed
+    → Uncut feed visits journal → Uncut feed visits (e ∷ journal)
+behind_another feed e [] journal other none = All-cons (λ e. e.feed ≢ feed) e journal other none
+behind_another feed e (visit ∷ visits) journal other (before, rest, same, none, own, uncut) =
+    (e ∷ before, rest, ap (λ entries. e ∷ entries) same, All-cons (λ e. e.feed ≢ feed) e before other none, own, uncut)
+
+each_alone : (feed : ℕ) (journal : List Entry) → Uncut feed (alone (filter (λ e. e.feed == feed) journal)) journal
+each_alone feed [] = All-nil (λ e. e.feed ≢ feed)
+each_alone feed (e ∷ journal) = by (e.feed == feed) refl (each_alone feed journal)
+  where
+    by : (own : Bool) → (e.feed == feed) ≡ own → Uncut feed (alone (filter (λ e. e.feed == feed) journal)) journal
+        → Uncut feed (alone (if own then e ∷ filter (λ e. e.feed == feed) journal else filter (λ e. e.feed == feed) journal)) (e ∷ journal)
+    by true is uncut = (
+      [],
+      journal,
+      refl,
+      All-nil (λ e. e.feed ≢ feed),
+      All-cons (λ e. e.feed ≡ feed) e [] (eqb-true e.feed feed is) (All-nil (λ e. e.feed ≡ feed)),
+      uncut,
+    )
+    by false is uncut = behind_another feed e (alone (filter (λ e. e.feed == feed) journal)) journal (eqb-false e.feed feed is) uncut
+
+-- entries of these feeds, by their numbers
+by_range : (last : ℕ) (entries : List Entry) → list_all (λ e. nat_le 1 e.feed && nat_le e.feed last) entries ≡ true
+    → All (λ (e : Entry). (1 ≤ e.feed) × (e.feed ≤ last)) entries
+by_range last [] all = All-nil (λ (e : Entry). (1 ≤ e.feed) × (e.feed ≤ last))
+by_range last (e ∷ entries) all =
+    let parts = and_parts (nat_le 1 e.feed && nat_le e.feed last) (list_all (λ e. nat_le 1 e.feed && nat_le e.feed last) entries) all in
+    let both = and_parts (nat_le 1 e.feed) (nat_le e.feed last) parts.0 in
+    All-cons (λ (e : Entry). (1 ≤ e.feed) × (e.feed ≤ last)) e entries (leb-true 1 e.feed both.0, leb-true e.feed last both.1) (by_range last entries parts.1)
+
+-- IsHistory
+the_history_of_a_dump : IsHistory (text ∷ []) 1 1 (dumped ∷ []) (lines ∷ [])
+the_history_of_a_dump = record {
+  lawful = lawful;
+  explained = (
+    record {
+      becomes = record {
+        version = One;
+        lines = text;
+        read = lines;
+        body = (of_version_1, refl);
+        become = (codes "dump", [], cut_after_dump, (tt, refl), refl);
+        joined = refl;
+      };
+      count = 1;
+      hold = omega arith;
+      uncut = each_alone 1 (dumped ∷ []);
+    },
+    tt,
+  );
+  no_other = by_range 1 (dumped ∷ []) refl;
+}
+
+-- IsRunText
+the_run_of_a_dump : IsRunText (text ∷ []) 1 1 (codes "1:1 dumped 0\ntable 0\n") 0
+unfolding digits table_of_journal table_after reply_of reply_text count_text
+the_run_of_a_dump = record {
+  journal = dumped ∷ [];
+  outcomes = lines ∷ [];
+  history = the_history_of_a_dump;
+  printed = refl;
+  is_status = refl;
+}
+
+-- the lines of a text are explained, one command at a time, where their entries are the feed's in the tutorial
+one_by_one : (feed : ℕ) (text : List ℕ) (lines : List LineOutcome) → Becomes text lines []
+    → map (entries_of feed) (first_chunks 1 (length (asked_of lines)) (asked_of lines)) ≡ alone (filter (λ e. e.feed == feed) tutorial)
+    → Explains 1 feed tutorial text lines
+one_by_one feed text lines becomes same = record {
+  becomes = becomes;
+  count = length (asked_of lines);
+  hold = omega arith;
+  uncut = subst (λ visits. Uncut feed visits tutorial) (sym same) (each_alone feed tutorial);
+}
+
+-- Explains
+the_lines_of_north : Explains 1 1 tutorial north north_read
+the_lines_of_north = one_by_one 1 north north_read what_north_becomes refl
+
+the_lines_of_south : Explains 1 2 tutorial south (skipped ∷ south_read)
+the_lines_of_south = one_by_one 2 south (skipped ∷ south_read) what_south_becomes refl
+
+the_lines_of_east : Explains 1 3 tutorial east (skipped ∷ east_read)
+the_lines_of_east = one_by_one 3 east (skipped ∷ east_read) what_east_becomes refl
+
+the_same_lines_in_pieces_of_two : Explains 2 1 tutorial north north_read
+the_same_lines_in_pieces_of_two = record {
+  becomes = what_north_becomes;
+  count = 2;
+  hold = omega arith;
+  uncut = (
+    [],
+    drop 2 tutorial,
+    refl,
+    All-nil (λ (e : Entry). e.feed ≢ 1),
+    All-cons (λ (e : Entry). e.feed ≡ 1) (entry 1 (Add ten_8 50 (via_192_0_2 1)) Added) (entry 1 (Add ten_1_16 10 (via_192_0_2 1)) Added ∷ []) refl
+        (All-cons (λ (e : Entry). e.feed ≡ 1) (entry 1 (Add ten_1_16 10 (via_192_0_2 1)) Added) [] refl (All-nil (λ (e : Entry). e.feed ≡ 1))),
+    each_alone 1 (drop 2 tutorial),
+  );
+}
+
+-- a command that was answered in a piece has its entry
+no_entry : (count : ℕ) → 1 ≤ count * 1 → ¬ Uncut 1 (map (entries_of 1) (first_chunks 1 count (asked_of lines))) []
+no_entry zero hold uncut = absurd (omega (arith, hold))
+no_entry (suc count) hold (before, rest, same, none, own, more) = nothing_else before dumped rest same
+
+-- Explains
+not_by_an_empty_journal : ¬ Explains 1 1 [] text lines
+not_by_an_empty_journal h = no_entry h.count h.hold h.uncut
+
+not_in_fewer_pieces_than_hold_all : ¬ ((h : Explains 1 1 (dumped ∷ []) text lines) × (h.count ≡ 0))
+not_in_fewer_pieces_than_hold_all (h, none) = let hold : 1 ≤ h.count * 1 = h.hold in omega (arith, hold, none)
+
+what_explains_a_text :
+    (batch feed : ℕ) (journal : List Entry) (text : List ℕ) (lines : List LineOutcome) → (h : Explains batch feed journal text lines)
+    → Becomes text lines [] × (length (asked_of lines) ≤ h.count * batch)
+    × Uncut feed (map (entries_of feed) (first_chunks batch h.count (asked_of lines))) journal
+what_explains_a_text batch feed journal its_text its_lines h = (h.becomes, h.hold, h.uncut)
+
+-- ExplainsFrom
+each_by_its_feed : ExplainsFrom 1 1 tutorial (north ∷ south ∷ east ∷ []) (north_read ∷ (skipped ∷ south_read) ∷ (skipped ∷ east_read) ∷ [])
+each_by_its_feed = (the_lines_of_north, (the_lines_of_south, (the_lines_of_east, tt)))
+
+no_lines_of_no_text : ¬ ExplainsFrom 1 1 tutorial [] (north_read ∷ [])
+no_lines_of_no_text h = h
+
+no_text_left_out : ¬ ExplainsFrom 1 1 tutorial (north ∷ []) []
+no_text_left_out h = h
+
+-- what the tutorial shows of its run
+abbrev the_tutorials_page : List ℕ
+the_tutorials_page =
+    codes "1:2 added\n1:3 added\n1:4 route 10.1.0.0/16 feed 1 pref 10 via 192.0.2.1\n"
+    ++ codes "2:3 added\n2:4 added\n2:5 purged 2\n2:6 added\n"
+    ++ codes "3:3 added\n3:4 added\n3:5 withdrawn\n3:6 route 10.9.0.0/16 feed 3 pref 10 via discard\n"
+    ++ codes "table 4\n10.0.0.0/8 feed 2 pref 30 via 192.0.2.2\n10.0.0.0/8 feed 1 pref 50 via 192.0.2.1\n"
+    ++ codes "10.1.0.0/16 feed 1 pref 10 via 192.0.2.1\n10.9.0.0/16 feed 3 pref 10 via discard\n"
+
+-- IsHistory
+the_history_of_the_tutorial : IsHistory (north ∷ south ∷ east ∷ []) 65536 1 tutorial (north_read ∷ (skipped ∷ south_read) ∷ (skipped ∷ east_read) ∷ [])
+the_history_of_the_tutorial = record {
+  lawful = the_journal_of_the_tutorial;
+  explained = each_by_its_feed;
+  no_other = by_range 3 tutorial refl;
+}
+
+-- IsRunText
+the_run_of_the_tutorial : IsRunText (north ∷ south ∷ east ∷ []) 65536 1 the_tutorials_page 0
+unfolding digits address_text prefix_text reply_text count_text row_text route_text
+the_run_of_the_tutorial = record {
+  journal = tutorial;
+  outcomes = north_read ∷ (skipped ∷ south_read) ∷ (skipped ∷ east_read) ∷ [];
+  history = the_history_of_the_tutorial;
+  printed = rw the_table_of_the_tutorial refl;
+  is_status = refl;
+}
+
+nothing_printed_is_no_run : (texts : List (List ℕ)) (limit batch status : ℕ) → ¬ IsRunText texts limit batch [] status
+unfolding count_text
+nothing_printed_is_no_run texts limit batch status h = ends (feeds_text 1 h.outcomes) h.printed
+  where
+    ends : (reports : List ℕ) → [] ≢ reports ++ table_text (table_of_journal limit h.journal)
+    ends [] same = cc
+    ends (byte ∷ reports) same = cc
+
+-- a status is 5, 2 or 0
+none_is_1 : (refused wrong : Bool) → ◌≢◌ {A = ℕ} 1 (if refused then 5 else if wrong then 2 else 0)
+none_is_1 true wrong same = cc
+none_is_1 false true same = cc
+none_is_1 false false same = cc
+
+-- IsRunText
+no_run_has_status_1 : (texts : List (List ℕ)) (limit batch : ℕ) (bytes : List ℕ) → ¬ IsRunText texts limit batch bytes 1
+no_run_has_status_1 texts limit batch bytes h = none_is_1 (some_refused h.outcomes) (list_any (list_any was_faulty) h.outcomes) h.is_status
+
+-- Leaves
+behind_what_the_writer_had : Leaves (IsRunText (text ∷ []) 1 1) (Some (codes "x")) (Some (codes "x1:1 dumped 0\ntable 0\n")) (Ok 0)
+behind_what_the_writer_had = (codes "1:1 dumped 0\ntable 0\n", the_run_of_a_dump, refl)
+
+whatever_was_run :
+    (texts : List (List ℕ)) (limit batch : ℕ) (old bytes : List ℕ) (status : ℕ) → IsRunText texts limit batch bytes status
+    → Leaves (IsRunText texts limit batch) (Some old) (Some (old ++ bytes)) (Ok status)
+whatever_was_run texts limit batch old bytes status is = (bytes, is, refl)
+
+nothing_but_the_text_of_a_run :
+    (texts : List (List ℕ)) (limit batch : ℕ) (new : List ℕ) (status : ℕ) → Leaves (IsRunText texts limit batch) (Some []) (Some new) (Ok status)
+    → IsRunText texts limit batch new status
+nothing_but_the_text_of_a_run texts limit batch new status (bytes, is, same) =
+    let all : bytes ≡ new = sym same in subst (λ b. IsRunText texts limit batch b status) all is
+
+nothing_where_it_was_refused : Leaves (IsRunText [] 1 1) (Some (codes "x")) (Some (codes "x")) (Err (Run run.NoText))
+nothing_where_it_was_refused = ((λ same. cc), refl)
+
+a_beginning_where_it_could_not_be_written : Leaves (IsRunText (text ∷ []) 1 1) (Some []) (Some (codes "1:1 dum")) (Err Write)
+a_beginning_where_it_could_not_be_written = (codes "1:1 dumped 0\ntable 0\n", 0, the_run_of_a_dump, record { count = 7; within = omega arith; appended = refl })
+
+a_beginning_of_whatever_was_to_be_written :
+    (texts : List (List ℕ)) (limit batch status : ℕ) → IsRunText texts limit batch (codes "table 0\n") status
+    → Leaves (IsRunText texts limit batch) (Some (codes "x")) (Some (codes "xtab")) (Err Write)
+a_beginning_of_whatever_was_to_be_written texts limit batch status is =
+    (codes "table 0\n", status, is, record { count = 3; within = omega arith; appended = refl })
+
+never_as_F2 : ¬ Leaves (IsRunText (text ∷ []) 1 1) (Some []) (Some []) (Err (Run run.FeedCount))
+never_as_F2 h = h.0 refl
+
+nothing_else_as_F1 : ¬ Leaves (IsRunText [] 1 1) (Some []) (Some (codes "x")) (Err (Run run.NoText))
+nothing_else_as_F1 h = let same = h.1 in cc
+
+nothing_else_as_F3 : ¬ Leaves (IsRunText (text ∷ []) 1 1) (Some []) (Some (codes "x")) (Err (Run run.Memory))
+nothing_else_as_F3 h = let same = h.1 in cc
+
+never_as_a_replay : ¬ Leaves (IsRunText (text ∷ []) 1 1) (Some []) (Some []) (Err (Replay replay.Place))
+never_as_a_replay h = h
+
+nothing_lost_where_it_could_not_be_written : ¬ Leaves (IsRunText (text ∷ []) 1 1) (Some (codes "x")) (Some []) (Err Write)
+nothing_lost_where_it_could_not_be_written (bytes, status, is, begins) = let lost : [] ≡ 120 ∷ take begins.count bytes = begins.appended in cc
+
+never_without_a_text : ¬ Leaves (IsRunText (text ∷ []) 1 1) (Some []) (Some []) (Ok 0)
+never_without_a_text (bytes, is, same) =
+    let none : [] ≡ bytes = same in
+    nothing_printed_is_no_run (text ∷ []) 1 1 0 (subst (λ b. IsRunText (text ∷ []) 1 1 b 0) (sym none) is)
+
+-- what each text of the tutorial became
+abbrev the_tutorials_outcomes : List (List LineOutcome)
+the_tutorials_outcomes = north_read ∷ (skipped ∷ south_read) ∷ (skipped ∷ east_read) ∷ []
+
+-- IsShown
+what_is_told_of_the_tutorial :
+    (text_of : List Route → List ℕ) (summary : RunSummary) → summary.tallies.items ≡ map tally_of the_tutorials_outcomes → summary.status ≡ 0
+    → IsShown (north ∷ south ∷ east ∷ []) 65536 1 text_of (text_of (table_of_journal 65536 tutorial)) summary
+unfolding reply_text
+what_is_told_of_the_tutorial text_of summary tallied status = record {
+  journal = tutorial;
+  outcomes = the_tutorials_outcomes;
+  history = the_history_of_the_tutorial;
+  shown = refl;
+  tallied = tallied;
+  is_status = status;
+}
+
+its_status_is_told : (bytes : List ℕ) (summary : RunSummary) → summary.status ≡ 1 → ¬ IsShown (text ∷ []) 1 1 table_text bytes summary
+its_status_is_told bytes summary one h = none_is_1 (some_refused h.outcomes) (list_any (list_any was_left_out) h.outcomes) (sym one ∙ h.is_status)
+
+no_table_untold : (bytes : List ℕ) (summary : RunSummary) → summary.tallies.items ≡ [] → ¬ IsShown (text ∷ []) 1 1 table_text bytes summary
+no_table_untold bytes summary none h = by h.outcomes h.history.explained h.tallied
+  where
+    by : (outcomes : List (List LineOutcome)) → ExplainsFrom 1 1 h.journal (text ∷ []) outcomes → summary.tallies.items ≢ map tally_of outcomes
+    by [] explained same = explained
+    by (one ∷ others) explained same = let some : [] ≡ tally_of one ∷ map tally_of others = sym none ∙ same in cc
+
+-- where there is no text there is no feed, and no entry
+nobody_asks : (journal : List Entry) → All (λ (e : Entry). (1 ≤ e.feed) × (e.feed ≤ 0)) journal → journal ≡ []
+nobody_asks [] all = refl
+nobody_asks (e ∷ journal) all = let its = all 0 e (omega arith) in absurd (omega (arith, its.0, its.1))
+
+-- how many routes there are, as a byte
+abbrev length_text : List Route → List ℕ
+length_text table = length table ∷ []
+
+-- IsShown
+no_route_of_no_text : (summary : RunSummary) → ¬ IsShown [] 1 1 length_text (1 ∷ []) summary
+unfolding table_of_journal
+no_route_of_no_text summary h =
+    let shown = subst (λ (journal : List Entry). 1 ∷ [] ≡ length_text (table_of_journal 1 journal)) (nobody_asks h.journal h.history.no_other) h.shown in
+    let none : ◌≡◌ {A = List ℕ} (1 ∷ []) (0 ∷ []) = shown in cc
+
+-- Leaves
+whatever_was_told :
+    (texts : List (List ℕ)) (limit batch : ℕ) (text_of : List Route → List ℕ) (old bytes : List ℕ) (summary : RunSummary)
+    → IsShown texts limit batch text_of bytes summary → Leaves (IsShown texts limit batch text_of) (Some old) (Some (old ++ bytes)) (Ok summary)
+whatever_was_told texts limit batch text_of old bytes summary is = (bytes, is, refl)
+
+nothing_but_what_is_told :
+    (texts : List (List ℕ)) (limit batch : ℕ) (text_of : List Route → List ℕ) (new : List ℕ) (summary : RunSummary)
+    → Leaves (IsShown texts limit batch text_of) (Some []) (Some new) (Ok summary) → IsShown texts limit batch text_of new summary
+nothing_but_what_is_told texts limit batch text_of new summary (bytes, is, same) =
+    let all : bytes ≡ new = sym same in subst (λ b. IsShown texts limit batch text_of b summary) all is
+
+no_table_in_place_of_what_the_writer_had : (summary : RunSummary) → ¬ Leaves (IsShown (text ∷ []) 1 1 table_text) (Some (codes "x")) (Some []) (Ok summary)
+no_table_in_place_of_what_the_writer_had summary (bytes, is, same) = let lost : [] ≡ 120 ∷ bytes = same in cc
+
+no_table_where_it_was_refused : Leaves (IsShown [] 1 1 table_text) (Some (codes "x")) (Some (codes "x")) (Err (Run run.NoText))
+no_table_where_it_was_refused = ((λ same. cc), refl)
+
+no_other_bytes_as_F1 : ¬ Leaves (IsShown [] 1 1 table_text) (Some []) (Some (codes "x")) (Err (Run run.NoText))
+no_other_bytes_as_F1 h = let same = h.1 in cc
+
+no_other_bytes_as_F3 : ¬ Leaves (IsShown (text ∷ []) 1 1 table_text) (Some []) (Some (codes "x")) (Err (Run run.Memory))
+no_other_bytes_as_F3 h = let same = h.1 in cc
+
+a_table_is_never_refused_as_F2 : ¬ Leaves (IsShown (text ∷ []) 1 1 table_text) (Some []) (Some []) (Err (Run run.FeedCount))
+a_table_is_never_refused_as_F2 h = h.0 refl
+
+nor_as_a_replay : ¬ Leaves (IsShown (text ∷ []) 1 1 table_text) (Some []) (Some []) (Err (Replay replay.Place))
+nor_as_a_replay h = h
+
+a_beginning_of_it_where_it_could_not_be_written :
+    (texts : List (List ℕ)) (limit batch : ℕ) (text_of : List Route → List ℕ) (summary : RunSummary)
+    → IsShown texts limit batch text_of (codes "table 0\n") summary
+    → Leaves (IsShown texts limit batch text_of) (Some (codes "x")) (Some (codes "xtab")) (Err Write)
+a_beginning_of_it_where_it_could_not_be_written texts limit batch text_of summary is =
+    (codes "table 0\n", summary, is, record { count = 3; within = omega arith; appended = refl })
+
+no_bytes_lost_where_the_table_could_not_be_written : ¬ Leaves (IsShown (text ∷ []) 1 1 table_text) (Some (codes "x")) (Some []) (Err Write)
+no_bytes_lost_where_the_table_could_not_be_written (bytes, summary, is, begins) = let lost : [] ≡ 120 ∷ take begins.count bytes = begins.appended in cc
+
+-- LeavesUnion
+batches_of_512_leave_the_union :
+    LeavesUnion → (texts : List (List ℕ)) (limit : ℕ) (journal : List Entry) (outcomes : List (List LineOutcome)) → IsHistory texts limit 512 journal outcomes
+    → some_refused outcomes ≡ false → IsUnion texts limit (table_of_journal limit journal)
+batches_of_512_leave_the_union law texts limit journal outcomes history none = law texts limit 512 journal outcomes history none
+
+-- AnswersAlone
+its_replies_are_as_if_alone :
+    AnswersAlone → (texts : List (List ℕ)) (limit : ℕ) (journal : List Entry) (outcomes : List (List LineOutcome)) → IsHistory texts limit 512 journal outcomes
+    → some_refused outcomes ≡ false → (k : ℕ) (lines : List LineOutcome) → slice_get outcomes k ≡ Some lines → IsAnsweredAlone limit (k + 1) (asked_of lines)
+its_replies_are_as_if_alone law texts limit journal outcomes history none k lines is = law texts limit 512 journal outcomes history none k lines is
+
+-- HaveOneUnion
+two_unions_of_a_text_are_one : HaveOneUnion → (one other : List Route) → IsUnion (text ∷ []) 5 one → IsUnion (text ∷ []) 5 other → one ≡ other
+two_unions_of_a_text_are_one law one other is also = law (text ∷ []) 5 one other is also
+
+-- EndsInUnion
+a_run_in_batches_of_512_ends_in_the_union :
+    EndsInUnion → (texts : List (List ℕ)) (limit : ℕ) (bytes : List ℕ) (status : ℕ) (run : IsRunText texts limit 512 bytes status) → status ≢ 5
+    → (union : List Route) × IsUnion texts limit union × (bytes ≡ feeds_text 1 run.outcomes ++ table_text union)
+a_run_in_batches_of_512_ends_in_the_union law texts limit bytes status run done = law texts limit 512 bytes status run done
+
+-- EndInOneTable
+batches_of_1_and_of_512_end_in_one_table :
+    EndInOneTable → (texts : List (List ℕ)) (limit : ℕ) (bytes bytes' : List ℕ) (status status' : ℕ)
+    (run : IsRunText texts limit 1 bytes status) (run' : IsRunText texts limit 512 bytes' status') → status ≢ 5 → status' ≢ 5
+    → (table : List Route) × (bytes ≡ feeds_text 1 run.outcomes ++ table_text table) × (bytes' ≡ feeds_text 1 run'.outcomes ++ table_text table)
+batches_of_1_and_of_512_end_in_one_table law texts limit bytes bytes' status status' run run' done done' =
+    law texts limit 1 512 bytes bytes' status status' run run' done done'
+
+-- ShowsUnion
+what_is_told_is_told_of_the_union :
+    ShowsUnion → (texts : List (List ℕ)) (limit : ℕ) (text_of : List Route → List ℕ) (bytes : List ℕ) (summary : RunSummary)
+    → IsShown texts limit 512 text_of bytes summary → summary.status ≢ 5 → (union : List Route) × IsUnion texts limit union × (bytes ≡ text_of union)
+what_is_told_is_told_of_the_union law texts limit text_of bytes summary shown done = law texts limit 512 text_of bytes summary shown done
+
+-- ShowOneTable
+batches_of_1_and_of_512_tell_the_same :
+    ShowOneTable → (texts : List (List ℕ)) (limit : ℕ) (text_of : List Route → List ℕ) (bytes bytes' : List ℕ) (summary summary' : RunSummary)
+    → IsShown texts limit 1 text_of bytes summary → IsShown texts limit 512 text_of bytes' summary' → summary.status ≢ 5 → summary'.status ≢ 5 → bytes ≡ bytes'
+batches_of_1_and_of_512_tell_the_same law texts limit text_of bytes bytes' summary summary' shown shown' done done' =
+    law texts limit 1 512 text_of bytes bytes' summary summary' shown shown' done done'
+
+-- IsReplayText
+nothing_picked : IsReplayText 1 [] (codes "inside none\n")
+unfolding inside_text
+nothing_picked = record { steps = []; last = opening; taken = refl; inside = None; told = λ place. (λ same. cc, λ is. cc); printed = refl }
+
+-- LeavesReplay
+its_text_and_status_0 : LeavesReplay 1 [] (Some []) (Some (codes "inside none\n")) (Ok 0)
+its_text_and_status_0 = (refl, codes "inside none\n", nothing_picked, refl)
+
+no_other_status : ¬ LeavesReplay 1 [] (Some []) (Some (codes "inside none\n")) (Ok 2)
+no_other_status h = let status : 2 ≡ 0 = h.0 in omega (arith, status)
+
+nothing_where_it_was_refused_as_a_replay : LeavesReplay 1 (2 ∷ []) (Some []) (Some []) (Err (Replay replay.Place))
+nothing_where_it_was_refused_as_a_replay = refl
+
+and_no_other_bytes : ¬ LeavesReplay 1 (2 ∷ []) (Some []) (Some (codes "x")) (Err (Replay replay.Place))
+and_no_other_bytes same = cc
+
+never_as_a_run_is : ¬ LeavesReplay 1 [] (Some []) (Some []) (Err (Run run.NoText))
+never_as_a_run_is h = h
+
+a_beginning_where_its_text_could_not_be_written : LeavesReplay 1 [] (Some (codes "x")) (Some (codes "xinside")) (Err Write)
+a_beginning_where_its_text_could_not_be_written = (codes "inside none\n", nothing_picked, record { count = 6; within = omega arith; appended = refl })
+
+no_byte_lost_where_its_text_could_not_be_written : ¬ LeavesReplay 1 [] (Some (codes "x")) (Some []) (Err Write)
+no_byte_lost_where_its_text_could_not_be_written (its_text, is, begins) = let lost : [] ≡ 120 ∷ take begins.count its_text = begins.appended in cc
+
+-- differ_status
+some_range_or_none : (d : Difference) → (differ_status [] ≡ 0) × (differ_status (d ∷ []) ≡ 1) × (differ_status (d ∷ d ∷ []) ≡ 1)
+some_range_or_none d = (refl, refl, refl)
+
+-- LeavesTable
+what_a_run_leaves :
+    (table : List Route) (summary : RunSummary) (h : LeavesTable (text ∷ []) 7 1 table summary)
+    → IsHistory (text ∷ []) 7 1 h.journal h.outcomes × (table ≡ table_of_journal 7 h.journal)
+    × (summary.tallies.items ≡ map tally_of h.outcomes) × (summary.status ≡ status_of was_left_out h.outcomes)
+what_a_run_leaves table summary h = (h.history, h.left, h.tallied, h.is_status)
+
+-- IsDiffText
+what_two_runs_differ_in :
+    (bytes : List ℕ) (given : DiffSummary) (h : IsDiffText by.Route (text ∷ []) [] 7 1 bytes given)
+    → LeavesTable (text ∷ []) 7 1 h.old given.old × LeavesTable [] 7 1 h.new given.new × AreDifferences by.Route h.old h.new h.list
+    × (bytes ≡ differences_text h.list) × (given.status ≡ max (differ_status h.list) (max given.old.status given.new.status))
+what_two_runs_differ_in bytes given h = (h.old_left, h.new_left, h.differences, h.printed, h.is_status)
+
+-- TellsUnions
+what_two_unions_differ_in :
+    (bytes : List ℕ) (h : TellsUnions by.Hop (text ∷ []) [] 7 bytes)
+    → IsUnion (text ∷ []) 7 h.old × IsUnion [] 7 h.new × AreDifferences by.Hop h.old h.new h.list × (bytes ≡ differences_text h.list)
+what_two_unions_differ_in bytes h = (h.old_union, h.new_union, h.differences, h.printed)
+
+-- DiffsUnions
+a_comparison_tells_of_unions :
+    DiffsUnions → (old_texts new_texts : List (List ℕ)) (bytes : List ℕ) (given : DiffSummary)
+    → IsDiffText by.Hop old_texts new_texts 7 512 bytes given → given.old.status ≢ 5 → given.new.status ≢ 5 → TellsUnions by.Hop old_texts new_texts 7 bytes
+a_comparison_tells_of_unions law old_texts new_texts bytes given = law by.Hop old_texts new_texts 7 512 bytes given
+
+-- DiffOnce
+batches_of_1_and_of_512_differ_in_the_same :
+    DiffOnce → (old_texts new_texts : List (List ℕ)) (bytes bytes' : List ℕ) (given given' : DiffSummary)
+    → IsDiffText by.Hop old_texts new_texts 7 1 bytes given → IsDiffText by.Hop old_texts new_texts 7 512 bytes' given'
+    → given.old.status ≢ 5 → given.new.status ≢ 5 → given'.old.status ≢ 5 → given'.new.status ≢ 5 → bytes ≡ bytes'
+batches_of_1_and_of_512_differ_in_the_same law old_texts new_texts bytes bytes' given given' =
+    law by.Hop old_texts new_texts 7 1 512 bytes bytes' given given'

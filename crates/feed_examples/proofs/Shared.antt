@@ -1,0 +1,468 @@
+-- Examples by which the definitions of rt_shared are tested, each under a line with the definition's name. Both sides
+-- are computed.
+use Rattle.std.proofs.Common.{◌≡◌, ◌≢◌, ℕ, zero, suc, ◌+◌, ◌<◌, ◌≤◌, None, Some, List, [], ◌∷◌, ◌++◌, refl, sym, ap, subst, arith}
+use Rattle.std.specs.Prelude as std
+use Rattle.std.specs.Prelude.{All, length, slice_get, slice_index_or}
+use Rattle.std.specs.List.{flat_map}
+use mathlib.Core.Option.{Option, none, some, some-injective, some-ne-none}
+use Rattle.std.proofs.lemmas.List.Elements.{All-nil, All-cons}
+use Rattle.ya_core.specs.declared.process.Process.{Process}
+use Rattle.ya_core.specs.declared.process.Process.TheVariants.{Idle, Inside}
+use Rattle.ya_core.specs.ArbitrationTree.{node_of, side_of}
+use Rattle.ya_core.specs.Steps.{opening}
+use Rattle.ya_core.specs.Worlds.{World, Event, Steps, Appends, opening_world}
+use Rattle.lock_examples.proofs.Core.{follow, runs}
+use Rattle.ya_lock.specs.Lock.{LockId}
+use Rattle.ya_lock.specs.declared.rule.View.TheVariants.{Seated}
+use Rattle.ya_lock.specs.LockState.{IsOf, HasProcess}
+use Rattle.rt_rib.specs.declared.routes.Hop.TheVariants.{Discard}
+use Rattle.rt_rib.specs.declared.routes.Route.{Route}
+use Rattle.rt_rib.specs.declared.commands.Cmd.TheVariants.{Add, Lookup, Dump, Purge}
+use Rattle.rt_rib.specs.declared.commands.Reply.TheVariants.{Added, Full, Found, Dumped, Purged}
+use Rattle.rt_rib.specs.declared.commands.Entry.{Entry}
+use Rattle.rt_rib.specs.declared.commands.Cmd.{Cmd}
+use Rattle.rt_rib.specs.Laws.{feed_entries}
+use Rattle.rt_rib.specs.LookUp.{look_up}
+use Rattle.rt_rib.specs.Sequential.{reply_of, table_after, table_of_journal, IsLawfulJournal}
+use Rattle.rt_rib.specs.Book.{HoldsTable}
+use Rattle.table_examples.proofs.Cidr.{ten_8}
+use Rattle.table_examples.proofs.Rib.{at_10_1_2_3, route_via, entry, empty_book, holds_no_route}
+use Rattle.rt_rib.proofs.Promised.{IsLawfulJournal-nil, IsLawfulJournal-push}
+use Rattle.rt_shared.specs.declared.lent.Lent.{Lent}
+use Rattle.rt_shared.specs.declared.outcome.Outcome.{Outcome}
+use Rattle.rt_shared.specs.declared.outcome.Outcome.TheVariants.{Did, Refused}
+use Rattle.rt_shared.specs.Visits.{AllBy, NoneBy, Since, Visit, reply_to, visit_of, entries, answered, MakesVisit, MakesVisitWith, Uncut}
+use Rattle.rt_shared.specs.Table.{SharedId, HeldPass, ArePassesOf, Settles, feed_of, HasSameBounds, GrowsByOthers, GrowsByFeed}
+use Rattle.rt_shared.specs.Laws.{SinceAgain, AnsweredInPieces, UncutAtFirst, UncutSince, UncutByVisit, EntriesOfVisits, EntriesSince, PassesKept}
+use Rattle.rt_shared.specs.Headline.{Act, entry_of, journal_of, IsSequential, IsRunTo, NoTwoInside, HasAllMade, FindsBest}
+use Rattle.rt_shared.specs.Moments.{Moment, HasPass, BookInSlot, IsAtRest, MeetsHeadline}
+
+-- entries of feed 1 and of feed 2
+abbrev dump : ℕ → Entry
+dump feed = record { feed = feed; cmd = Dump; reply = Dumped 0 }
+
+abbrev purge : ℕ → Entry
+purge feed = record { feed = feed; cmd = Purge; reply = Purged 0 }
+
+-- NoneBy
+none_by_1 : NoneBy 1 (dump 2 ∷ [])
+none_by_1 = All-cons (λ e. e.feed ≢ 1) (dump 2) [] (λ same. cc) (All-nil (λ e. e.feed ≢ 1))
+
+one_by_1_is : ¬ NoneBy 1 (dump 2 ∷ dump 1 ∷ [])
+one_by_1_is h = h 1 (dump 1) (omega arith) refl
+
+-- AllBy
+both_by_1 : AllBy 1 (dump 1 ∷ purge 1 ∷ [])
+both_by_1 = All-cons (λ e. e.feed ≡ 1) (dump 1) (purge 1 ∷ []) refl (All-cons (λ e. e.feed ≡ 1) (purge 1) [] refl (All-nil (λ e. e.feed ≡ 1)))
+
+one_by_2_is_not : ¬ AllBy 1 (dump 1 ∷ dump 2 ∷ [])
+one_by_2_is_not h = let feed : 2 ≡ 1 = h 1 (dump 1) (omega arith) in omega (arith, feed)
+
+-- Since
+others_have_come : Since 1 (dump 1 ∷ []) (dump 1 ∷ dump 2 ∷ [])
+others_have_come = record { others = dump 2 ∷ []; grown = refl; by_others = none_by_1 }
+
+not_its_own : (feed : ℕ) → ¬ Since feed [] (dump feed ∷ [])
+not_its_own feed h = let same : h.others ≡ dump feed ∷ [] = sym h.grown in h.by_others 0 (dump feed) (rw same (omega arith)) (rw same refl)
+
+-- Visit
+a_command_and_its_reply : Visit
+a_command_and_its_reply = (Dump, Dumped 0) ∷ []
+
+-- reply_to
+with_its_reply : reply_to Dump (Did (Dumped 0)) ≡ (Dump, Dumped 0) ∷ []
+with_its_reply = refl
+
+none_where_it_was_refused : reply_to Dump Refused ≡ []
+none_where_it_was_refused = refl
+
+-- visit_of
+what_was_refused_is_no_part_of_it : visit_of ((Dump, Did (Dumped 0)) ∷ (Purge, Refused) ∷ (Dump, Did (Dumped 1)) ∷ []) ≡ (Dump, Dumped 0) ∷ (Dump, Dumped 1) ∷ []
+what_was_refused_is_no_part_of_it = refl
+
+-- entries
+as_entries_of_feed_64 : entries 64 ((Dump, Dumped 0) ∷ (Purge, Purged 0) ∷ []) ≡ dump 64 ∷ purge 64 ∷ []
+as_entries_of_feed_64 = refl
+
+-- answered
+what_was_refused_has_no_entry : answered 1 (Dump ∷ Purge ∷ Purge ∷ []) (Did (Dumped 0) ∷ Refused ∷ Did (Purged 0) ∷ []) ≡ dump 1 ∷ purge 1 ∷ []
+what_was_refused_has_no_entry = refl
+
+-- an entry of feed 2 stands between the two
+no_piece : (before rest : List Entry) → dump 1 ∷ dump 2 ∷ purge 1 ∷ [] ≡ before ++ (dump 1 ∷ purge 1 ∷ rest) → ¬ NoneBy 1 before
+no_piece [] rest same free =
+    let second : dump 2 ≡ purge 1 = cc in
+    let feeds : ◌≡◌ {A = ℕ} 2 1 = ap (λ (one : Entry). one.feed) second in
+    omega (arith, feeds)
+no_piece (e ∷ before) rest same free = let first : e ≡ dump 1 = cc in free 0 e (omega arith) (ap (λ (one : Entry). one.feed) first)
+
+-- Uncut
+in_one_piece : Uncut 1 ((dump 1 ∷ purge 1 ∷ []) ∷ []) (dump 2 ∷ dump 1 ∷ purge 1 ∷ dump 2 ∷ [])
+in_one_piece = (dump 2 ∷ [], dump 2 ∷ [], refl, none_by_1, both_by_1, none_by_1)
+
+in_two_visits : Uncut 1 ((dump 1 ∷ []) ∷ (purge 1 ∷ []) ∷ []) (dump 1 ∷ dump 2 ∷ purge 1 ∷ [])
+in_two_visits = (
+  [],
+  dump 2 ∷ purge 1 ∷ [],
+  refl,
+  All-nil (λ e. e.feed ≢ 1),
+  All-cons (λ e. e.feed ≡ 1) (dump 1) [] refl (All-nil (λ e. e.feed ≡ 1)),
+  (dump 2 ∷ [], [], refl, none_by_1, All-cons (λ e. e.feed ≡ 1) (purge 1) [] refl (All-nil (λ e. e.feed ≡ 1)), All-nil (λ e. e.feed ≢ 1)),
+)
+
+one_between : ¬ Uncut 1 ((dump 1 ∷ purge 1 ∷ []) ∷ []) (dump 1 ∷ dump 2 ∷ purge 1 ∷ [])
+one_between h = no_piece h.0 h.1 h.2 h.3
+
+-- SharedId
+its_lock_its_limit_and_its_feeds : (lock : LockId) → (t : SharedId) × (t.lock ≡ lock) × (t.limit ≡ 5) × (t.feeds ≡ 2)
+its_lock_its_limit_and_its_feeds lock = (record { lock = lock; limit = 5; feeds = 2 }, refl, refl, refl)
+
+-- HeldPass
+its_table_its_feed_and_what_it_saw : (table : SharedId) → (p : HeldPass) × (p.table ≡ table) × (p.feed ≡ 2) × (p.seen ≡ dump 1 ∷ [])
+its_table_its_feed_and_what_it_saw table = (record { table = table; feed = 2; seen = dump 1 ∷ [] }, refl, refl, refl)
+
+-- ArePassesOf
+one_for_each_feed_in_order :
+    (table : SharedId) (passes : List HeldPass) (are : ArePassesOf table passes)
+    → (length passes ≡ table.feeds) × All (λ p. p.table ≡ table) passes × ((i : ℕ) (p : HeldPass) → slice_get passes i ≡ Some p → p.feed ≡ i + 1)
+one_for_each_feed_in_order table passes are = (are.count, are.tables, are.feeds)
+
+-- Settles
+a_settled_journal_has_what_each_pass_saw :
+    (table : SharedId) (passes : List HeldPass) (journal : List Entry) (settled : Settles table passes journal)
+    → IsLawfulJournal table.limit journal × All (λ e. (1 ≤ e.feed) × (e.feed ≤ table.feeds)) journal × All (λ p. Since p.feed p.seen journal) passes
+a_settled_journal_has_what_each_pass_saw table passes journal settled = (settled.lawful, settled.of_feeds, settled.since)
+
+-- MakesVisit
+a_visit_adds_what_was_answered :
+    (seen now : List Entry) (cmds : List Cmd) (outcomes : List Outcome) (visit : MakesVisit 5 1 seen cmds outcomes now)
+    → Since 1 seen visit.found × (length outcomes ≡ length cmds) × (now ≡ visit.found ++ answered 1 cmds outcomes) × IsLawfulJournal 5 now
+a_visit_adds_what_was_answered seen now cmds outcomes visit = (visit.since, visit.each, visit.added, visit.lawful)
+
+-- MakesVisitWith
+its_outcomes_are_appended :
+    (seen now : List Entry) (cmds : List Cmd) (before after : List Outcome) (visit : MakesVisitWith 5 1 seen cmds before after now)
+    → (after ≡ before ++ visit.outcomes) × MakesVisit 5 1 seen cmds visit.outcomes now
+its_outcomes_are_appended seen now cmds before after visit = (visit.appended, visit.visit)
+
+-- SinceAgain
+others_came_and_others_came : SinceAgain → (b : List Entry) → Since 1 [] b → Since 1 b (dump 2 ∷ []) → Since 1 [] (dump 2 ∷ [])
+others_came_and_others_came law b = law 1 [] b (dump 2 ∷ [])
+
+-- AnsweredInPieces
+one_command_and_then_two :
+    AnsweredInPieces → (os ps : List Outcome) → length os ≡ 1
+    → (answered 1 (Dump ∷ Purge ∷ Dump ∷ []) (os ++ ps) ≡ answered 1 (Dump ∷ []) os ++ answered 1 (Purge ∷ Dump ∷ []) ps) × AllBy 1 (answered 1 (Dump ∷ []) os)
+one_command_and_then_two law os ps = law 1 (Dump ∷ []) (Purge ∷ Dump ∷ []) os ps
+
+-- UncutAtFirst
+feed_2_has_made_no_visit : UncutAtFirst → Uncut 2 [] []
+feed_2_has_made_no_visit law = law 2
+
+-- UncutSince
+its_visits_stay_where_others_come :
+    UncutSince → (visits : List (List Entry)) (a : List Entry) → Uncut 1 visits a → Since 1 a (dump 2 ∷ []) → Uncut 1 visits (dump 2 ∷ [])
+its_visits_stay_where_others_come law visits a = law 1 visits a (dump 2 ∷ [])
+
+-- UncutByVisit
+one_more_visit_of_a_dump :
+    UncutByVisit → (visits : List (List Entry)) (seen now : List Entry) → Uncut 1 visits seen
+    → MakesVisit 5 1 seen (Dump ∷ []) (Did (Dumped 0) ∷ []) now → Uncut 1 (visits ++ (dump 1 ∷ []) ∷ []) now
+one_more_visit_of_a_dump law visits seen now = law 5 1 visits seen now (Dump ∷ []) (Did (Dumped 0) ∷ [])
+
+-- EntriesOfVisits
+its_entries_are_those_of_two_visits :
+    EntriesOfVisits → (a b journal : List Entry) → Uncut 1 (a ∷ b ∷ []) journal → feed_entries 1 journal ≡ flat_map (λ visit. visit) (a ∷ b ∷ [])
+its_entries_are_those_of_two_visits law a b = law 1 (a ∷ b ∷ [])
+
+-- EntriesSince
+nothing_of_its_own_has_come : EntriesSince → (a : List Entry) → Since 1 a (dump 2 ∷ []) → feed_entries 1 (dump 2 ∷ []) ≡ feed_entries 1 a
+nothing_of_its_own_has_come law a = law 1 a (dump 2 ∷ [])
+
+-- PassesKept
+passes_of_the_same_table_and_feeds :
+    PassesKept → (table : SharedId) (old new : List HeldPass) → ArePassesOf table old → length new ≡ length old
+    → ((i : ℕ) (d : HeldPass) → i < length old
+    → ((slice_index_or new i d).table ≡ (slice_index_or old i d).table) × ((slice_index_or new i d).feed ≡ (slice_index_or old i d).feed))
+    → ArePassesOf table new
+passes_of_the_same_table_and_feeds law = law
+
+-- feed_of
+the_first_place_is_feed_1s : feed_of 0 ≡ 1
+the_first_place_is_feed_1s = refl
+
+-- entry_of
+the_last_place_is_feed_64s : entry_of 63 (Dump, Dumped 0) ≡ dump 64
+the_last_place_is_feed_64s = refl
+
+-- feed 1 puts a route in and feed 2 looks an address up, where both compete for the lock
+abbrev its_route : Route
+its_route = route_via ten_8 1 5 Discard
+
+abbrev both_compete : List (Event Act)
+both_compete =
+    Steps 0 ∷ Steps 1 ∷ Steps 0 ∷ Steps 1 ∷ Steps 0 ∷ Steps 1 ∷ Steps 0 ∷ Steps 1 ∷ Steps 0 ∷ Appends 0 (Add ten_8 5 Discard, Added)
+    ∷ Steps 1 ∷ Steps 1 ∷ Steps 1 ∷ Steps 1 ∷ Steps 0 ∷ Steps 0 ∷ Steps 0
+    ∷ Steps 1 ∷ Steps 1 ∷ Steps 1 ∷ Appends 1 (Lookup at_10_1_2_3, Found its_route) ∷ Steps 1 ∷ Steps 1 ∷ []
+
+abbrev after_both : World Act
+after_both = follow 1 both_compete opening_world
+
+-- journal_of
+an_add_and_then_a_look_up :
+    journal_of after_both.content ≡ entry 1 (Add ten_8 5 Discard) Added ∷ entry 2 (Lookup at_10_1_2_3) (Found its_route) ∷ []
+unfolding node_of side_of
+an_add_and_then_a_look_up = refl
+
+-- IsSequential
+an_empty_table_is_dumped_as_0 : IsSequential 1 [] (0, (Dump, Dumped 0))
+unfolding table_of_journal reply_of
+an_empty_table_is_dumped_as_0 = refl
+
+not_as_1 : ¬ IsSequential 1 [] (0, (Dump, Dumped 1))
+unfolding table_of_journal reply_of
+not_as_1 h = cc
+
+-- IsRunTo
+a_run_in_which_both_are_answered : IsRunTo 1 1 after_both
+unfolding node_of side_of table_of_journal table_after reply_of look_up
+a_run_in_which_both_are_answered = (
+  omega arith,
+  both_compete,
+  runs 1 (IsSequential 1) both_compete opening_world refl ((refl, refl), ((refl, refl), tt)),
+)
+
+no_tree_of_no_level : (world : World Act) → ¬ IsRunTo 1 0 world
+no_tree_of_no_level world h = omega (arith, h.0)
+
+-- feed 1 adds a route where no feed may have any
+abbrev one_too_many : List (Event Act)
+one_too_many = Steps 0 ∷ Steps 0 ∷ Steps 0 ∷ Steps 0 ∷ Appends 0 (Add ten_8 5 Discard, Full) ∷ []
+
+-- IsRunTo
+a_run_in_which_an_add_is_over_the_limit : IsRunTo 0 1 (follow 1 one_too_many opening_world)
+unfolding node_of side_of table_of_journal table_after reply_of
+a_run_in_which_an_add_is_over_the_limit = (
+  omega arith,
+  one_too_many,
+  runs 1 (IsSequential 0) one_too_many opening_world refl ((refl, refl), tt),
+)
+
+a_run_of_two_levels : IsRunTo 1 2 (follow 2 (Steps 3 ∷ []) opening_world)
+a_run_of_two_levels = (omega arith, Steps 3 ∷ [], runs 2 (IsSequential 1) (Steps 3 ∷ []) opening_world refl tt)
+
+-- NoTwoInside
+nobody_at_the_start : NoTwoInside opening_world
+nobody_at_the_start p q one other = cc
+
+-- a world in which these are the processes, and nothing was made
+abbrev world_of : (ℕ → Process) → World Act
+world_of processes =
+    record { state = record { words = λ word. 0; processes = processes }; content = []; copies = λ place. []; doing = λ place. []; made = λ place. [] }
+
+-- place 0 alone is inside
+abbrev first_inside : ℕ → Process
+first_inside zero = Inside
+first_inside (suc place) = Idle
+
+-- NoTwoInside
+one_may_be : NoTwoInside (world_of first_inside)
+one_may_be zero zero one other = refl
+one_may_be zero (suc q) one other = cc
+one_may_be (suc p) q one other = cc
+
+not_where_all_are : ¬ NoTwoInside (world_of (λ place. Inside))
+not_where_all_are h = let same = h 0 1 refl refl in omega (arith, same)
+
+-- HasAllMade
+nothing_at_the_start : HasAllMade opening_world
+nothing_at_the_start place = refl
+
+no_entry_that_nobody_made :
+    ¬ HasAllMade (record { state = opening; content = (0, (Dump, Dumped 0)) ∷ []; copies = λ place. []; doing = λ place. []; made = λ place. [] })
+no_entry_that_nobody_made h = let entries = h 0 in cc
+
+nothing_made_that_is_lost :
+    ¬ HasAllMade (record { state = opening; content = []; copies = λ place. []; doing = λ place. []; made = λ place. (Dump, Dumped 0) ∷ [] })
+nothing_made_that_is_lost h = let entries = h 0 in cc
+
+-- FindsBest
+no_look_up_no_wrong_one : FindsBest 1 (dump 1 ∷ [])
+no_look_up_no_wrong_one feed addr r [] later same =
+    let first : dump 1 ≡ entry feed (Lookup addr) (Found r) = cc in
+    let asked : Dump ≡ Lookup addr = ap (λ (e : Entry). e.cmd) first in cc
+no_look_up_no_wrong_one feed addr r (e ∷ []) later same = cc
+no_look_up_no_wrong_one feed addr r (e ∷ f ∷ earlier) later same = cc
+
+nothing_in_an_empty_table : ¬ FindsBest 1 (entry 1 (Lookup at_10_1_2_3) (Found its_route) ∷ [])
+unfolding table_of_journal
+nothing_in_an_empty_table h = let match = h 1 at_10_1_2_3 its_route [] [] refl in omega (arith, match.contained.1)
+
+nothing_for_another_feed_either : ¬ FindsBest 1 (entry 2 (Lookup at_10_1_2_3) (Found its_route) ∷ [])
+unfolding table_of_journal
+nothing_for_another_feed_either h = let match = h 2 at_10_1_2_3 its_route [] [] refl in omega (arith, match.contained.1)
+
+nothing_behind_a_dump : ¬ FindsBest 1 (dump 1 ∷ entry 2 (Lookup at_10_1_2_3) (Found its_route) ∷ [])
+unfolding table_of_journal table_after
+nothing_behind_a_dump h = let match = h 2 at_10_1_2_3 its_route (dump 1 ∷ []) [] refl in omega (arith, match.contained.1)
+
+nothing_that_is_added_later : ¬ FindsBest 1 (entry 2 (Lookup at_10_1_2_3) (Found its_route) ∷ entry 1 (Add ten_8 5 Discard) Added ∷ [])
+unfolding table_of_journal
+nothing_that_is_added_later h =
+    let match = h 2 at_10_1_2_3 its_route [] (entry 1 (Add ten_8 5 Discard) Added ∷ []) refl in omega (arith, match.contained.1)
+
+-- a dump leaves no route
+no_route_by_a_dump : table_of_journal 1 (dump 2 ∷ []) ≡ []
+unfolding table_of_journal table_after
+no_route_by_a_dump = refl
+
+no_route_at_the_start : table_of_journal 1 [] ≡ []
+unfolding table_of_journal
+no_route_at_the_start = refl
+
+lawful_dump : IsLawfulJournal 1 (dump 2 ∷ [])
+unfolding table_of_journal reply_of
+lawful_dump = IsLawfulJournal-push 1 [] (dump 2) (IsLawfulJournal-nil 1) refl
+
+-- the lent book at the start, and after a dump by feed 2
+abbrev new : Lent
+new = record {
+  book = empty_book [];
+  feeds = 2;
+  lawful = IsLawfulJournal-nil 1;
+  holds = holds_no_route [] no_route_at_the_start;
+  of_feeds = All-nil (λ (e : Entry). (1 ≤ e.feed) × (e.feed ≤ 2));
+  few = omega arith;
+}
+
+abbrev dumped : Lent
+dumped = record {
+  book = empty_book (dump 2 ∷ []);
+  feeds = 2;
+  lawful = lawful_dump;
+  holds = holds_no_route (dump 2 ∷ []) no_route_by_a_dump;
+  of_feeds = All-cons (λ (e : Entry). (1 ≤ e.feed) × (e.feed ≤ 2)) (dump 2) [] (omega arith, omega arith)
+      (All-nil (λ (e : Entry). (1 ≤ e.feed) × (e.feed ≤ 2)));
+  few = omega arith;
+}
+
+-- HasSameBounds
+the_journal_alone_has_changed : HasSameBounds new dumped
+the_journal_alone_has_changed = record { limit = refl; feeds = refl }
+
+not_with_another_limit : (a b : Lent) → b.book.limit ≢ a.book.limit → ¬ HasSameBounds a b
+not_with_another_limit a b other h = other h.limit
+
+not_with_more_feeds : (a b : Lent) → b.feeds ≢ a.feeds → ¬ HasSameBounds a b
+not_with_more_feeds a b other h = other h.feeds
+
+by_feed_2 : Since 1 [] (dump 2 ∷ [])
+by_feed_2 = record { others = dump 2 ∷ []; grown = refl; by_others = none_by_1 }
+
+-- GrowsByOthers
+while_the_first_place_was_away : GrowsByOthers 0 new dumped
+while_the_first_place_was_away = record { same = the_journal_alone_has_changed; since = by_feed_2 }
+
+not_while_the_second_was : ¬ GrowsByOthers 1 new dumped
+not_while_the_second_was h = not_its_own 2 h.since
+
+not_to_another_limit : (place : ℕ) (a b : Lent) → b.book.limit ≢ a.book.limit → ¬ GrowsByOthers place a b
+not_to_another_limit place a b other h = other h.same.limit
+
+-- GrowsByFeed
+by_the_second_place : GrowsByFeed 1 new dumped
+by_the_second_place = record {
+  same = the_journal_alone_has_changed;
+  own = dump 2 ∷ [];
+  added = refl;
+  by_feed = All-cons (λ e. e.feed ≡ 2) (dump 2) [] refl (All-nil (λ e. e.feed ≡ 2));
+}
+
+its_own_entries_at_the_end : (a b : Lent) (grows : GrowsByFeed 1 a b) → HasSameBounds a b × (b.book.journal ≡ a.book.journal ++ grows.own) × AllBy 2 grows.own
+its_own_entries_at_the_end a b grows = (grows.same, grows.added, grows.by_feed)
+
+-- MakesVisit
+a_dump_by_itself : MakesVisit 1 2 [] (Dump ∷ []) (Did (Dumped 0) ∷ []) (dump 2 ∷ [])
+a_dump_by_itself = record {
+  found = [];
+  since = record { others = []; grown = refl; by_others = All-nil (λ e. e.feed ≢ 2) };
+  each = refl;
+  added = refl;
+  lawful = lawful_dump;
+}
+
+-- both passes are away, and the second place's feed was answered since the first was last inside
+abbrev moment : List (Option (std.Option Lent)) → Moment
+moment homes = record { words = []; homes = homes; views = Seated 0 Idle new 0 ∷ Seated 1 Idle dumped 3 ∷ [] }
+
+abbrev at_rest : Moment
+at_rest = moment (some (Some dumped) ∷ [])
+
+-- HasPass
+the_first_has_one : HasPass at_rest
+the_first_has_one = (0, 0, (Idle, (new, (Seated 0 Idle new 0, refl, (refl, refl, refl)))))
+
+one_that_is_inside_has_one : HasPass (record { words = []; homes = none ∷ []; views = Seated 1 Inside new 0 ∷ [] })
+one_that_is_inside_has_one = (0, 1, (Inside, (new, (Seated 1 Inside new 0, refl, (refl, refl, refl)))))
+
+none_before_they_are_made : ¬ HasPass (record { words = []; homes = some None ∷ []; views = [] })
+none_before_they_are_made (seat, place, (process, (seen, has))) = some-ne-none has.0 (sym has.1)
+
+-- BookInSlot
+it_lies_there : BookInSlot at_rest dumped
+it_lies_there = refl
+
+not_where_it_was_taken : ¬ BookInSlot (moment (none ∷ [])) dumped
+not_where_it_was_taken h = cc
+
+-- what each seat shows
+seen_by : (homes : List (Option (std.Option Lent))) (seat place : ℕ) (process : Process) (seen : Lent) → HasProcess (moment homes) seat place process seen
+    → (Idle ≡ process) × Since (feed_of place) seen.book.journal (dump 2 ∷ [])
+seen_by homes zero place process seen has =
+    let is = subst (λ view. IsOf view place process seen) (some-injective has.0 (Seated 0 Idle new 0) (sym has.1)) has.2 in
+    (is.1, subst (λ (lent : Lent). Since (feed_of place) lent.book.journal (dump 2 ∷ [])) is.2 (subst (λ p. Since (feed_of p) [] (dump 2 ∷ [])) is.0 by_feed_2))
+seen_by homes (suc zero) place process seen has =
+    let is = subst (λ view. IsOf view place process seen) (some-injective has.0 (Seated 1 Idle dumped 3) (sym has.1)) has.2 in (
+      is.1,
+      subst (λ (lent : Lent). Since (feed_of place) lent.book.journal (dump 2 ∷ [])) is.2
+          (record { others = []; grown = refl; by_others = All-nil (λ e. e.feed ≢ feed_of place) }),
+    )
+seen_by homes (suc (suc seat)) place process seen has = absurd (some-ne-none has.0 (sym has.1))
+
+-- IsAtRest
+the_dump_was_seen_by_its_feed : IsAtRest at_rest
+the_dump_was_seen_by_its_feed = record {
+  lent = dumped;
+  in_slot = refl;
+  holds = holds_no_route (dump 2 ∷ []) no_route_by_a_dump;
+  lawful = lawful_dump;
+  since = λ seat place seen away. (seen_by (some (Some dumped) ∷ []) seat place away.0 seen away.2).1;
+}
+
+not_with_the_book_out : ¬ IsAtRest (moment (none ∷ []))
+not_with_the_book_out h = let in_slot = h.in_slot in cc
+
+-- the book has an entry of feed 2, of which the pass of feed 2 knows nothing
+not_where_its_own_entry_is_unseen : ¬ IsAtRest (record { words = []; homes = some (Some dumped) ∷ []; views = Seated 1 Idle new 0 ∷ [] })
+not_where_its_own_entry_is_unseen h =
+    let same : dumped ≡ h.lent = cc in
+    let since = h.since 0 1 new (Idle, (λ inside. cc), (Seated 1 Idle new 0, refl, (refl, refl, refl))) in
+    not_its_own 2 (subst (λ (lent : Lent). Since 2 [] lent.book.journal) (sym same) since)
+
+the_trie_holds_what_the_journal_leaves : (s : Moment) (rest : IsAtRest s) → HoldsTable rest.lent.book
+the_trie_holds_what_the_journal_leaves s rest = rest.holds
+
+the_journal_is_lawful : (s : Moment) (rest : IsAtRest s) → IsLawfulJournal rest.lent.book.limit rest.lent.book.journal
+the_journal_is_lawful s rest = rest.lawful
+
+-- MeetsHeadline
+both_away : MeetsHeadline at_rest
+both_away = record {
+  exclusion = λ one other p q v w a b. let idle = (seen_by (some (Some dumped) ∷ []) one p Inside v a).0 in cc;
+  at_rest = λ pass nobody. the_dump_was_seen_by_its_feed;
+}
+
+not_with_the_book_out_where_nobody_is_inside : ¬ MeetsHeadline (moment (none ∷ []))
+not_with_the_book_out_where_nobody_is_inside h =
+    not_with_the_book_out (h.at_rest (0, 0, (Idle, (new, (Seated 0 Idle new 0, refl, (refl, refl, refl)))))
+    (λ seat place value has. let idle = (seen_by (none ∷ []) seat place Inside value has).0 in cc))

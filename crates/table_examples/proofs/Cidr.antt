@@ -1,0 +1,420 @@
+-- Examples by which the definitions of rt_cidr are tested, each under a line with the definition's name. Both sides are
+-- computed, and what a relation or a law says is spelled out for some values.
+use Rattle.std.proofs.Common.{map, length, slice_index, ◌/◌, ◌%◌, ◌≡◌, ℕ, ◌+◌, ◌*◌, ◌<◌, Bool, true, false, List}
+use Rattle.std.proofs.Common.{[], ◌∷◌, ◌++◌, ◌||◌, Some, Ok, Err, codes, decimal, take, eqb, refl, ap, subst, ◌∙◌}
+use Rattle.std.proofs.Common.{arith}
+use Rattle.std.proofs.lemmas.Bool.{eq-eqb, or_right}
+use Rattle.std.proofs.lemmas.List.Folds.{list_any-append}
+use Rattle.std.specs.List.{list_any}
+use Rattle.std.specs.Str.Parse.{IsNumeral, digits_value}
+use Rattle.std.specs.Fmt.{digits}
+use Rattle.rt_cidr.specs.declared.address.Addr.{Addr}
+use Rattle.rt_cidr.specs.declared.prefixes.Prefix.{Prefix}
+use Rattle.rt_cidr.specs.declared.prefixes.TextFault.TheVariants.{Text, Length, Bits}
+use Rattle.rt_cidr.specs.Cidr.{size_of, IsPrefix}
+use Rattle.rt_cidr.specs.Output.{AppendsBeginning, buffered}
+use Rattle.rt_cidr.specs.Prefix.{covers, contains, same_prefix}
+use Rattle.rt_cidr.specs.Text.{dot, slash, zero_digit, IsDecimal, IsOctetText, IsAddressText, IsPrefixText, address_text, prefix_text}
+use Rattle.rt_cidr.specs.Reading.{ReadsPrefix, ReadsDecimal, ReadsAddress, AnswersPair}
+use Rattle.rt_cidr.proofs.Fronts.{four_octets}
+use Rattle.rt_cidr.proofs.Texts.{decimal_is_decimal, address_one_number, prefix_text_is_pair, pair_one_value}
+use Rattle.std.specs.Prelude.{◌↔◌, ◌≤◌, IsTrue, Option, None, Result}
+use Rattle.rt_cidr.specs.declared.prefixes.TextFault.{TextFault}
+use Rattle.rt_cidr.specs.declared.short_text.TheConstants.{SHORT_TEXT_BYTES}
+use Rattle.rt_cidr.specs.ShortText.{FitsInShortText}
+use Rattle.rt_cidr.specs.Laws.{HasOneNumber, HasOneText, HasOnePair, PairHasOneText, AddressFits, HasOneAnswer}
+use Rattle.rt_cidr.specs.Laws.{PairHasOneAnswer, WritesDecimal, WritesAddress, WritesPrefix, ReadsDecimalAgain}
+use Rattle.rt_cidr.specs.Laws.{ReadsAddressAgain, ReadsPrefixAgain, SamePrefix, CoversItsRange, ContainsByRange}
+use Rattle.rt_cidr.specs.Laws.{ContainsWhatItCovers, CoveringAreNested, CoveringAreSame}
+
+-- 0.0.0.0/0, 10.0.0.0/8, 255.255.255.255/32
+abbrev pub everything : Prefix
+everything = record { base = 0; len = 0; is_prefix = record { short = omega arith; fits = omega arith; clear = refl } }
+
+abbrev pub ten_8 : Prefix
+ten_8 = record { base = 167772160; len = 8; is_prefix = record { short = omega arith; fits = omega arith; clear = refl } }
+
+abbrev pub last_32 : Prefix
+last_32 = record { base = 4294967295; len = 32; is_prefix = record { short = omega arith; fits = omega arith; clear = refl } }
+
+-- 0.0.0.0/8 and 10.0.0.0/16
+abbrev zero_8 : Prefix
+zero_8 = record { base = 0; len = 8; is_prefix = record { short = omega arith; fits = omega arith; clear = refl } }
+
+abbrev pub ten_0_16 : Prefix
+ten_0_16 = record { base = 167772160; len = 16; is_prefix = record { short = omega arith; fits = omega arith; clear = refl } }
+
+-- the address of this number
+abbrev at : ℕ → Addr
+at n = record { 0 = n }
+
+-- size_of
+all_addresses : size_of 0 ≡ 4294967296
+all_addresses = refl
+
+one_address : size_of 32 ≡ 1
+one_address = refl
+
+half_of_them_with_each_bit : map size_of (0 ∷ 1 ∷ 8 ∷ 31 ∷ 32 ∷ []) ≡ 4294967296 ∷ 2147483648 ∷ 16777216 ∷ 2 ∷ 1 ∷ []
+half_of_them_with_each_bit = refl
+
+-- IsPrefix
+the_last_address_by_itself : IsPrefix 4294967295 32
+the_last_address_by_itself = record { short = omega arith; fits = omega arith; clear = refl }
+
+a_prefix_of_8_bits : IsPrefix 167772160 8
+a_prefix_of_8_bits = record { short = omega arith; fits = omega arith; clear = refl }
+
+pub a_bit_past_the_length_is_set : ¬ IsPrefix 167772161 8
+a_bit_past_the_length_is_set h = let none = h.clear in cc
+
+no_prefix_of_33_bits : ¬ IsPrefix 0 33
+no_prefix_of_33_bits h = omega (arith, h.short)
+
+no_length_of_33 : ¬ IsPrefix 0 33
+no_length_of_33 h = omega (arith, h.short)
+
+no_base_of_33_bits : ¬ IsPrefix 4294967296 0
+no_base_of_33_bits h = omega (arith, h.fits)
+
+-- covers
+the_first_and_the_last_of_its_addresses : map (λ n. covers ten_8 (at n)) (167772160 ∷ 184549375 ∷ []) ≡ true ∷ true ∷ []
+the_first_and_the_last_of_its_addresses = refl
+
+the_addresses_before_and_behind : map (λ n. covers ten_8 (at n)) (167772159 ∷ 184549376 ∷ []) ≡ false ∷ false ∷ []
+the_addresses_before_and_behind = refl
+
+length_0_covers_every_address : covers everything (at 4294967295) ≡ true
+length_0_covers_every_address = refl
+
+length_32_covers_one : covers last_32 (at 4294967294) ≡ false
+length_32_covers_one = refl
+
+-- same_prefix
+the_same_but_none_of_one_base_or_of_one_length_alone :
+    map (same_prefix ten_8) (ten_8 ∷ ten_0_16 ∷ zero_8 ∷ []) ≡ true ∷ false ∷ false ∷ []
+the_same_but_none_of_one_base_or_of_one_length_alone = refl
+
+of_another_base : same_prefix everything ten_8 ≡ false
+of_another_base = refl
+
+-- contains
+itself_and_a_longer_one_at_its_base_but_none_beside_it :
+    map (contains ten_8) (ten_8 ∷ ten_0_16 ∷ last_32 ∷ []) ≡ true ∷ true ∷ false ∷ []
+itself_and_a_longer_one_at_its_base_but_none_beside_it = refl
+
+no_shorter_one : map (λ p. contains p everything) (ten_8 ∷ zero_8 ∷ []) ≡ false ∷ false ∷ []
+no_shorter_one = refl
+
+a_longer_one_in_it : contains everything last_32 ≡ true
+a_longer_one_in_it = refl
+
+-- zero_digit
+the_byte_of_a_zero : codes "0" ≡ zero_digit ∷ []
+the_byte_of_a_zero = refl
+
+-- dot
+the_byte_of_a_dot : codes "." ≡ dot ∷ []
+the_byte_of_a_dot = refl
+
+-- slash
+the_byte_of_a_slash : codes "/" ≡ slash ∷ []
+the_byte_of_a_slash = refl
+
+-- IsDecimal
+decimal_0 : IsDecimal (codes "0") 0
+decimal_0 = record { digits = (omega arith, (omega arith, tt)); value = refl; no_leading_zero = λ _. refl }
+
+decimal_8 : IsDecimal (codes "8") 8
+decimal_8 = record { digits = (omega arith, (omega arith, tt)); value = refl; no_leading_zero = λ _. refl }
+
+decimal_10 : IsDecimal (codes "10") 10
+decimal_10 = record { digits = (omega arith, (omega arith, (omega arith, tt))); value = refl; no_leading_zero = λ zero. cc }
+
+decimal_255 : IsDecimal (codes "255") 255
+decimal_255 = record { digits = (omega arith, (omega arith, (omega arith, (omega arith, tt)))); value = refl; no_leading_zero = λ zero. cc }
+
+pub decimal_4294967296 : IsDecimal (codes "4294967296") 4294967296
+unfolding digits
+decimal_4294967296 = decimal_is_decimal 4294967296 (omega arith)
+
+no_leading_zero : ¬ IsDecimal (codes "08") 8
+no_leading_zero h = let one = h.no_leading_zero refl in cc
+
+no_digit_at_all : (n : ℕ) → ¬ IsDecimal [] n
+no_digit_at_all n h = omega (arith, h.digits.0)
+
+no_sign : (n : ℕ) → ¬ IsDecimal (codes "+1") n
+no_sign n h = omega (arith, h.digits.1.0)
+
+the_digits_the_value_and_no_leading_zero :
+    (text : List ℕ) → IsDecimal text 7 → IsNumeral 10 text × (digits_value 10 text ≡ 7) × (slice_index text 0 ≡ 48 → length text ≡ 1)
+the_digits_the_value_and_no_leading_zero text h = (h.digits, h.value, h.no_leading_zero)
+
+-- IsOctetText
+the_greatest_octet : IsOctetText (codes "255") 255
+the_greatest_octet = record { spelled = decimal_255; fits = omega arith }
+
+no_octet_of_256 : (n : ℕ) → ¬ IsOctetText (codes "256") n
+no_octet_of_256 n h = let value = h.spelled.value in omega (arith, h.fits)
+
+a_decimal_below_256 : (text : List ℕ) (octet : ℕ) → IsOctetText text octet → IsDecimal text octet × (octet < 256)
+a_decimal_below_256 text octet h = (h.spelled, h.fits)
+
+-- addresses are of these octets
+octet_0 : IsOctetText (codes "0") 0
+octet_0 = record { spelled = decimal_0; fits = omega arith }
+
+octet_10 : IsOctetText (codes "10") 10
+octet_10 = record { spelled = decimal_10; fits = omega arith }
+
+-- IsAddressText
+address_10_0_0_0 : IsAddressText (codes "10.0.0.0") 167772160
+address_10_0_0_0 = four_octets octet_10 octet_0 octet_0 octet_0
+
+the_last_address : IsAddressText (codes "255.255.255.255") 4294967295
+the_last_address = four_octets the_greatest_octet the_greatest_octet the_greatest_octet the_greatest_octet
+
+the_first_octet_is_the_most_significant : ¬ IsAddressText (codes "10.0.0.0") 10
+the_first_octet_is_the_most_significant h = let same = address_one_number (codes "10.0.0.0") 167772160 10 address_10_0_0_0 h in cc
+
+its_octets :
+    (text : List ℕ) (address : ℕ) (h : IsAddressText text address)
+    → IsOctetText h.first_text h.first × IsOctetText h.second_text h.second × IsOctetText h.third_text h.third × IsOctetText h.fourth_text h.fourth
+    × (text ≡ h.first_text ++ 46 ∷ (h.second_text ++ 46 ∷ (h.third_text ++ 46 ∷ h.fourth_text)))
+    × (address ≡ h.first * 16777216 + h.second * 65536 + h.third * 256 + h.fourth)
+its_octets text address h = (h.is_first, h.is_second, h.is_third, h.is_fourth, h.joined, h.value)
+
+-- IsPrefixText
+pair_10_0_0_0_8 : IsPrefixText (codes "10.0.0.0/8") 167772160 8
+pair_10_0_0_0_8 = record { address_part = codes "10.0.0.0"; len_part = codes "8"; is_address = address_10_0_0_0; is_len = decimal_8; joined = refl }
+
+pub pair_10_0_0_1_8 : IsPrefixText (codes "10.0.0.1/8") 167772161 8
+unfolding digits address_text prefix_text
+pair_10_0_0_1_8 = prefix_text_is_pair 167772161 8 (omega arith) (omega arith)
+
+pub pair_10_0_0_1_33 : IsPrefixText (codes "10.0.0.1/33") 167772161 33
+unfolding digits address_text prefix_text
+pair_10_0_0_1_33 = prefix_text_is_pair 167772161 33 (omega arith) (omega arith)
+
+its_address_and_its_length :
+    (text : List ℕ) (h : IsPrefixText text 7 8) → IsAddressText h.address_part 7 × IsDecimal h.len_part 8 × (text ≡ h.address_part ++ 47 ∷ h.len_part)
+its_address_and_its_length text h = (h.is_address, h.is_len, h.joined)
+
+-- address_text
+two_addresses_as_they_are_written : map address_text (3221225985 ∷ 4294967295 ∷ []) ≡ codes "192.0.2.1" ∷ codes "255.255.255.255" ∷ []
+unfolding digits address_text
+two_addresses_as_they_are_written = refl
+
+its_four_octets :
+    (address : ℕ)
+    → address_text address
+    ≡ decimal (address / 16777216 % 256) ++ 46 ∷ (decimal (address / 65536 % 256) ++ 46 ∷ (decimal (address / 256 % 256) ++ 46 ∷ decimal (address % 256)))
+unfolding address_text
+its_four_octets address = refl
+
+-- prefix_text
+a_prefix_as_it_is_written : prefix_text 167772160 8 ≡ codes "10.0.0.0/8"
+unfolding digits address_text prefix_text
+a_prefix_as_it_is_written = refl
+
+the_address_a_slash_and_the_length : prefix_text 7 8 ≡ address_text 7 ++ 47 ∷ decimal 8
+unfolding prefix_text
+the_address_a_slash_and_the_length = refl
+
+-- whether a byte stands in a text
+abbrev pub has_byte : ℕ → List ℕ → Bool
+has_byte mark text = list_any (λ byte. eqb byte mark) text
+
+-- a text that has the mark somewhere has it
+has_byte-joined : (mark : ℕ) (front rest : List ℕ) → has_byte mark (front ++ mark ∷ rest) ≡ true
+has_byte-joined mark front rest =
+    list_any-append (λ byte. eqb byte mark) front (mark ∷ rest)
+    ∙ or_right (has_byte mark front) (eqb mark mark || has_byte mark rest)
+    (ap (λ b. b || has_byte mark rest) (eq-eqb mark mark refl))
+
+-- a text without a dot is no address's, and none without a dot or a slash is a prefix's
+pub no_address_without_a_dot : (text : List ℕ) (address : ℕ) → has_byte dot text ≡ false → ¬ IsAddressText text address
+no_address_without_a_dot text address none h =
+    let some = ap (has_byte dot) h.joined ∙ has_byte-joined dot h.first_text _ in cc
+
+pub no_prefix_without_a_slash : (text : List ℕ) (address len : ℕ) → has_byte slash text ≡ false → ¬ IsPrefixText text address len
+no_prefix_without_a_slash text address len none h =
+    let some = ap (has_byte slash) h.joined ∙ has_byte-joined slash h.address_part h.len_part in cc
+
+pub no_prefix_without_a_dot : (text : List ℕ) (address len : ℕ) → has_byte dot text ≡ false → ¬ IsPrefixText text address len
+no_prefix_without_a_dot text address len none h =
+    let address_has = ap (has_byte dot) h.is_address.joined ∙ has_byte-joined dot h.is_address.first_text _ in
+    let both = ap (has_byte dot) h.joined ∙ list_any-append (λ byte. eqb byte dot) h.address_part (slash ∷ h.len_part) in
+    let some : has_byte dot text ≡ true = both ∙ ap (λ b. b || has_byte dot (slash ∷ h.len_part)) address_has in cc
+
+-- AppendsBeginning
+two_bytes_of_three : AppendsBeginning (Some (codes "a")) (Some (codes "abc")) (codes "bcd")
+two_bytes_of_three = record { count = 2; within = omega arith; appended = refl }
+
+none_of_them : AppendsBeginning (Some (codes "a")) (Some (codes "a")) (codes "b")
+none_of_them = record { count = 0; within = omega arith; appended = refl }
+
+never_all_of_them : ¬ AppendsBeginning (Some []) (Some (codes "b")) (codes "b")
+never_all_of_them h =
+    let zero : h.count ≡ 0 = omega (arith, h.within) in
+    let same = subst (λ n. codes "b" ≡ [] ++ take n (codes "b")) zero h.appended in cc
+
+-- ReadsPrefix
+reads_10_0_0_0_8 : ReadsPrefix (codes "10.0.0.0/8") (Ok ten_8)
+reads_10_0_0_0_8 = pair_10_0_0_0_8
+
+no_length_is_no_prefix : ReadsPrefix (codes "10.0.0.0") (Err Text)
+no_length_is_no_prefix = λ address len. no_prefix_without_a_slash (codes "10.0.0.0") address len refl
+
+pub length_before_bits : ReadsPrefix (codes "10.0.0.1/33") (Err Length)
+length_before_bits = (167772161, 33, pair_10_0_0_1_33, omega arith)
+
+not_bits_before_length : ¬ ReadsPrefix (codes "10.0.0.1/33") (Err Bits)
+not_bits_before_length (address, len, is, short, none) =
+    let same = pair_one_value (codes "10.0.0.1/33") address 167772161 len 33 is pair_10_0_0_1_33 in omega (arith, same.1)
+
+pub bit_past_the_length : ReadsPrefix (codes "10.0.0.1/8") (Err Bits)
+bit_past_the_length = (167772161, 8, pair_10_0_0_1_8, omega arith, a_bit_past_the_length_is_set)
+
+the_prefix_of_a_text : (text : List ℕ) → ReadsPrefix text (Ok ten_8) → IsPrefixText text 167772160 8
+the_prefix_of_a_text text h = h
+
+no_pair_has_it : (text : List ℕ) → ReadsPrefix text (Err Text) → (address len : ℕ) → ¬ IsPrefixText text address len
+no_pair_has_it text h = h
+
+its_length_is_above_32 : (text : List ℕ) → ReadsPrefix text (Err Length) → (address len : ℕ) × IsPrefixText text address len × (32 < len)
+its_length_is_above_32 text h = h
+
+its_length_is_not_but_a_bit_is_past_it :
+    (text : List ℕ) → ReadsPrefix text (Err Bits) → (address len : ℕ) × IsPrefixText text address len × (len ≤ 32) × ¬ IsPrefix address len
+its_length_is_not_but_a_bit_is_past_it text h = h
+
+-- ReadsDecimal
+the_number_of_a_text : (text : List ℕ) → ReadsDecimal text (Some 7) → IsDecimal text 7 × (7 < 4294967296)
+the_number_of_a_text text h = h
+
+none_of_its_numbers : (text : List ℕ) → ReadsDecimal text None → (n : ℕ) → n < 4294967296 → ¬ IsDecimal text n
+none_of_its_numbers text h = h
+
+-- ReadsAddress
+the_address_of_a_text : (text : List ℕ) → ReadsAddress text (Ok (at 7)) → IsAddressText text 7
+the_address_of_a_text text h = h
+
+no_address_has_it : (text : List ℕ) → ReadsAddress text (Err Text) → (address : ℕ) → ¬ IsAddressText text address
+no_address_has_it text h = h
+
+no_other_fault_of_an_address : (text : List ℕ) → (¬ ReadsAddress text (Err Length)) × (¬ ReadsAddress text (Err Bits))
+no_other_fault_of_an_address text = (λ h. h, λ h. h)
+
+-- AnswersPair
+the_prefix_of_a_pair : (base len : ℕ) → AnswersPair base len (Ok ten_8) → (167772160 ≡ base) × (8 ≡ len)
+the_prefix_of_a_pair base len h = h
+
+a_pair_is_no_text : (base len : ℕ) → ¬ AnswersPair base len (Err Text)
+a_pair_is_no_text base len h = h
+
+a_length_above_32 : (base len : ℕ) → AnswersPair base len (Err Length) → 32 < len
+a_length_above_32 base len h = h
+
+a_bit_past_the_length : (base len : ℕ) → AnswersPair base len (Err Bits) → (len ≤ 32) × (¬ IsPrefix base len)
+a_bit_past_the_length base len h = h
+
+-- buffered
+what_is_below_and_then_what_is_held : buffered 9 (Some (1 ∷ [])) (Some (1 ∷ 2 ∷ [])) (3 ∷ []) ≡ Some (9 ∷ 1 ∷ 1 ∷ 2 ∷ 3 ∷ [])
+what_is_below_and_then_what_is_held = refl
+
+nothing_is_below_yet : buffered 9 (Some (1 ∷ [])) (Some (1 ∷ [])) (3 ∷ []) ≡ Some (9 ∷ 1 ∷ 1 ∷ 3 ∷ [])
+nothing_is_below_yet = refl
+
+not_where_less_is_below_than_at_first : buffered 9 (Some (1 ∷ 2 ∷ [])) (Some (1 ∷ [])) (3 ∷ 4 ∷ []) ≡ None
+not_where_less_is_below_than_at_first = refl
+
+nor_where_the_writer_tells_nothing : (buffered 9 (Some []) None [] ≡ None) × (buffered 9 None (Some []) [] ≡ None) × (buffered 9 None None [] ≡ None)
+nor_where_the_writer_tells_nothing = (refl, refl, refl)
+
+-- FitsInShortText
+as_many_bytes_as_the_room_has : (text old : List ℕ) → FitsInShortText text old → length text + length old ≤ SHORT_TEXT_BYTES
+as_many_bytes_as_the_room_has text old h = h
+
+-- HasOneNumber
+the_number_of_a_text_of_7_is_7 : HasOneNumber IsDecimal → (text : List ℕ) (n : ℕ) → IsDecimal text 7 → IsDecimal text n → 7 ≡ n
+the_number_of_a_text_of_7_is_7 law text = law text 7
+
+-- HasOneText
+two_texts_of_7_are_one : HasOneText IsDecimal → (text other : List ℕ) → IsDecimal text 7 → IsDecimal other 7 → text ≡ other
+two_texts_of_7_are_one law text other = law text other 7
+
+-- HasOnePair
+two_pairs_of_a_text_are_one : HasOnePair → (text : List ℕ) (len : ℕ) → IsPrefixText text 1 8 → IsPrefixText text 2 len → (◌≡◌ {A = ℕ} 1 2) × (8 ≡ len)
+two_pairs_of_a_text_are_one law text len = law text 1 2 8 len
+
+-- PairHasOneText
+two_texts_of_a_pair_are_one : PairHasOneText → (text other : List ℕ) → IsPrefixText text 1 8 → IsPrefixText other 1 8 → text ≡ other
+two_texts_of_a_pair_are_one law text other = law text other 1 8
+
+-- AddressFits
+of_32_bits : AddressFits → (text : List ℕ) (address : ℕ) → IsAddressText text address → address < 4294967296
+of_32_bits law = law
+
+-- HasOneAnswer
+never_both_7_and_none : HasOneAnswer ReadsDecimal → (text : List ℕ) → ReadsDecimal text (Some 7) → ¬ ReadsDecimal text None
+never_both_7_and_none law text seven none = let same = law text (Some 7) None seven none in cc
+
+-- PairHasOneAnswer
+no_other_answer_where_a_bit_is_past_the_length :
+    PairHasOneAnswer → (base : ℕ) (two : Result Prefix TextFault) → AnswersPair base 8 (Err Bits) → AnswersPair base 8 two → Err Bits ≡ two
+no_other_answer_where_a_bit_is_past_the_length law base = law base 8 (Err Bits)
+
+-- WritesDecimal
+every_number_of_64_bits : WritesDecimal → (n : ℕ) → n < 18446744073709551616 → IsDecimal (decimal n) n
+every_number_of_64_bits law = law
+
+-- WritesAddress
+every_number_of_32_bits : WritesAddress → (address : ℕ) → address < 4294967296 → IsAddressText (address_text address) address
+every_number_of_32_bits law = law
+
+-- WritesPrefix
+ten_8_is_written : WritesPrefix → IsPrefixText (prefix_text 167772160 8) 167772160 8
+ten_8_is_written law = law ten_8
+
+-- ReadsDecimalAgain
+a_number_of_32_bits_is_read : ReadsDecimalAgain → (n : ℕ) (answer : Option ℕ) → n < 4294967296 → ReadsDecimal (decimal n) answer → answer ≡ Some n
+a_number_of_32_bits_is_read law = law
+
+-- ReadsAddressAgain
+an_address_is_read :
+    ReadsAddressAgain → (a : Addr) (answer : Result Addr TextFault) → a.0 < 4294967296 → ReadsAddress (address_text a.0) answer → answer ≡ Ok a
+an_address_is_read law = law
+
+-- ReadsPrefixAgain
+ten_8_is_read : ReadsPrefixAgain → (answer : Result Prefix TextFault) → ReadsPrefix (prefix_text 167772160 8) answer → answer ≡ Ok ten_8
+ten_8_is_read law = law ten_8
+
+-- SamePrefix
+ten_8_is_one : SamePrefix → (p : Prefix) → p.base ≡ 167772160 → p.len ≡ 8 → p ≡ ten_8
+ten_8_is_one law p = law p ten_8
+
+-- CoversItsRange
+the_range_of_ten_8 : CoversItsRange → (a : Addr) → IsTrue (covers ten_8 a) ↔ ((167772160 ≤ a.0) × (a.0 < 184549376))
+the_range_of_ten_8 law = law ten_8
+
+-- ContainsByRange
+what_lies_in_ten_8 : ContainsByRange → (q : Prefix) → IsTrue (contains ten_8 q) ↔ ((8 ≤ q.len) × (167772160 ≤ q.base) × (q.base < 184549376))
+what_lies_in_ten_8 law = law ten_8
+
+-- ContainsWhatItCovers
+whose_addresses_ten_8_covers :
+    ContainsWhatItCovers → (q : Prefix)
+    → IsTrue (contains ten_8 q) ↔ ((a : Addr) → a.0 < 4294967296 → IsTrue (covers q a) → IsTrue (covers ten_8 a))
+whose_addresses_ten_8_covers law = law ten_8
+
+-- CoveringAreNested
+what_covers_one_of_its_addresses_and_is_no_shorter :
+    CoveringAreNested → (q : Prefix) (a : Addr) → IsTrue (covers ten_8 a) → IsTrue (covers q a) → 8 ≤ q.len → IsTrue (contains ten_8 q)
+what_covers_one_of_its_addresses_and_is_no_shorter law = law ten_8
+
+-- CoveringAreSame
+what_covers_one_of_its_addresses_and_is_as_long :
+    CoveringAreSame → (q : Prefix) (a : Addr) → IsTrue (covers ten_8 a) → IsTrue (covers q a) → 8 ≡ q.len → ten_8 ≡ q
+what_covers_one_of_its_addresses_and_is_as_long law = law ten_8

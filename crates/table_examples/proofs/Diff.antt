@@ -1,0 +1,148 @@
+-- Examples by which the definitions of rt_diff are tested, each under a line with the definition's name. Both sides are
+-- computed, and what a relation or a law says is spelled out for some values.
+use Rattle.std.proofs.Common.{◌≡◌, ℕ, ◌+◌, ◌^◌, ◌<◌, ◌≤◌, Some, None, List, [], ◌∷◌, refl, arith}
+use Rattle.std.specs.Prelude.{◌≢◌, All, Any}
+use Rattle.std.specs.List.{AllPairs}
+use Rattle.std.proofs.lemmas.List.Elements.{All-nil}
+use Rattle.rt_cidr.specs.declared.address.Addr.{Addr}
+use Rattle.rt_rib.specs.declared.routes.Hop.{Hop}
+use Rattle.rt_rib.specs.declared.routes.Hop.TheVariants.{Discard}
+use Rattle.rt_rib.specs.declared.routes.Route.{Route}
+use Rattle.rt_rib.specs.LookUp.{look_up}
+use Rattle.table_examples.proofs.Cidr.{ten_8}
+use Rattle.table_examples.proofs.Rib.{ten_1_16, at_10_1_2_3, at_10_9_0_1, via_192_0_2, route_via}
+use Rattle.rt_diff.specs.declared.answers.By.{By}
+use Rattle.rt_diff.specs.declared.answers.By.TheVariants as by
+use Rattle.rt_diff.specs.declared.answers.Answer.{Answer}
+use Rattle.rt_diff.specs.declared.answers.Answer.TheVariants as answer
+use Rattle.rt_diff.specs.declared.differences.Difference.{Difference}
+use Rattle.rt_diff.specs.Answers.{answer_by, answer_of}
+use Rattle.rt_diff.specs.Differences.{HasAnswers, IsAlike, IsWithin, IsDifference, IsNextDifference, IsFirstDifference, Compared}
+use Rattle.rt_diff.specs.Differences.{HaveSameAnswers, AreDifferences}
+use Rattle.rt_diff.specs.Laws.{HaveDifferences, HaveOneList}
+use Rattle.rt_diff.proofs.Rest.{at}
+use Rattle.rt_diff.proofs.Lists.{AllPairs-none}
+
+-- 10.0.0.0/8 by 192.0.2.1, and 10.1.0.0/16 by a hop
+abbrev by_1 : Route
+by_1 = route_via ten_8 1 5 (via_192_0_2 1)
+
+abbrev longer_by : Hop → Route
+longer_by hop = route_via ten_1_16 2 5 hop
+
+-- a range whose addresses were discarded and now have no route
+abbrev range : ℕ → ℕ → Difference
+range first last = record { first = at first; last = at last; old = answer.Hop Discard; new = answer.NoRoute }
+
+-- answer_by
+what_is_found_makes_an_answer :
+    (answer_by by.Hop None ≡ answer.NoRoute) × (answer_by by.Route None ≡ answer.NoRoute)
+    × (answer_by by.Hop (Some by_1) ≡ answer.Hop (via_192_0_2 1)) × (answer_by by.Route (Some by_1) ≡ answer.Route by_1)
+what_is_found_makes_an_answer = (refl, refl, refl, refl)
+
+-- answer_of
+the_longer_prefix_answers : answer_of by.Hop at_10_1_2_3 (by_1 ∷ longer_by (via_192_0_2 2) ∷ []) ≡ answer.Hop (via_192_0_2 2)
+unfolding look_up
+the_longer_prefix_answers = refl
+
+beside_it_the_shorter_one : answer_of by.Route at_10_9_0_1 (by_1 ∷ longer_by (via_192_0_2 2) ∷ []) ≡ answer.Route by_1
+unfolding look_up
+beside_it_the_shorter_one = refl
+
+-- IsAlike
+another_route_of_one_hop : IsAlike by.Hop (by_1 ∷ []) (by_1 ∷ longer_by (via_192_0_2 1) ∷ []) at_10_1_2_3
+unfolding look_up
+another_route_of_one_hop = refl
+
+is_another_route : ¬ IsAlike by.Route (by_1 ∷ []) (by_1 ∷ longer_by (via_192_0_2 1) ∷ []) at_10_1_2_3
+unfolding look_up
+is_another_route same = cc
+
+-- HasAnswers
+first_the_old_ones_then_the_new_ones : HasAnswers by.Hop (by_1 ∷ []) [] at_10_1_2_3 (answer.Hop (via_192_0_2 1)) answer.NoRoute
+unfolding look_up
+first_the_old_ones_then_the_new_ones = (refl, refl)
+
+not_exchanged : ¬ HasAnswers by.Hop (by_1 ∷ []) [] at_10_1_2_3 answer.NoRoute (answer.Hop (via_192_0_2 1))
+unfolding look_up
+not_exchanged answers = let of_old = answers.0 in cc
+
+-- IsWithin
+its_first_and_its_last : IsWithin (range 10 20) (at 10) × IsWithin (range 10 20) (at 20)
+its_first_and_its_last = ((omega arith, omega arith), (omega arith, omega arith))
+
+none_beside_them : (¬ IsWithin (range 10 20) (at 9)) × (¬ IsWithin (range 10 20) (at 21))
+none_beside_them = (λ h. omega (arith, h.0), λ h. omega (arith, h.1))
+
+-- HaveSameAnswers
+wherever_they_lie : HaveSameAnswers (range 10 20) (range 21 30)
+wherever_they_lie = (refl, refl)
+
+not_where_one_is_another :
+    (¬ HaveSameAnswers (range 10 20) (record (range 21 30) { old = answer.NoRoute }))
+    × (¬ HaveSameAnswers (range 10 20) (record (range 21 30) { new = answer.Hop Discard }))
+not_where_one_is_another = (λ h. let old = h.0 in cc, λ h. let new = h.1 in cc)
+
+-- IsDifference
+what_a_range_is :
+    (old new : List Route) → IsDifference by.Hop old new (range 10 20)
+    → (10 ≤ 20) × (20 < 4294967296)
+    × ((addr : Addr) → (10 ≤ addr.0) × (addr.0 ≤ 20)
+    → (answer_of by.Hop addr old ≡ answer.Hop Discard) × (answer_of by.Hop addr new ≡ answer.NoRoute))
+    × (answer.Hop Discard ≢ answer.NoRoute)
+what_a_range_is old new h = (h.some, h.fits, h.each, h.differ)
+
+no_range_without_an_address : (old new : List Route) → ¬ IsDifference by.Hop old new (range 20 10)
+no_range_without_an_address old new h = omega (arith, h.some)
+
+-- IsNextDifference
+what_the_first_range_from_5_on_is :
+    (old new : List Route) → IsNextDifference by.Hop old new (at 5) (range 10 20)
+    → (5 ≤ 10) × ((addr : Addr) → 5 ≤ addr.0 → addr.0 < 10 → IsAlike by.Hop old new addr) × IsDifference by.Hop old new (range 10 20)
+    × ((addr : Addr) → addr.0 ≡ 21 → addr.0 < 4294967296 → ¬ HasAnswers by.Hop old new addr (answer.Hop Discard) answer.NoRoute)
+what_the_first_range_from_5_on_is old new h = (h.onward, h.before, h.difference, h.longest)
+
+not_one_before_5 : (old new : List Route) → ¬ IsNextDifference by.Hop old new (at 5) (range 4 20)
+not_one_before_5 old new h = omega (arith, h.onward)
+
+-- IsFirstDifference
+none_where_all_are_alike :
+    (old new : List Route) → ((addr : Addr) → 5 ≤ addr.0 → addr.0 < 4294967296 → IsAlike by.Hop old new addr) → IsFirstDifference by.Hop old new (at 5) None
+none_where_all_are_alike old new h = h
+
+that_range_where_it_is_the_first :
+    (old new : List Route) → IsNextDifference by.Hop old new (at 5) (range 10 20) → IsFirstDifference by.Hop old new (at 5) (Some (range 10 20))
+that_range_where_it_is_the_first old new h = h
+
+-- a route and an empty table, compared by next hops
+abbrev one_and_none : Compared
+one_and_none = record { by = by.Hop; old_table = by_1 ∷ []; new_table = [] }
+
+-- Compared
+by_what_and_both_tables : (one_and_none.by ≡ by.Hop) × (one_and_none.old_table ≡ by_1 ∷ []) × (one_and_none.new_table ≡ [])
+by_what_and_both_tables = (refl, refl, refl)
+
+-- AreDifferences
+a_table_and_itself_have_none : (table : List Route) → AreDifferences by.Route table table []
+a_table_and_itself_have_none table = record {
+  each = All-nil (IsDifference by.Route table table);
+  all = λ addr fits unlike. absurd (unlike refl);
+  rising = AllPairs-none (λ (c d : Difference). c.last.0 < d.first.0);
+  fewest = AllPairs-none (λ (c d : Difference). c.last.0 + 1 ≡ d.first.0 → ¬ HaveSameAnswers c d);
+}
+
+what_a_list_of_ranges_says :
+    (old new : List Route) (list : List Difference) → AreDifferences by.Hop old new list
+    → All (IsDifference by.Hop old new) list
+    × ((addr : Addr) → addr.0 < 4294967296 → ¬ IsAlike by.Hop old new addr → Any (λ (d : Difference). (d.first.0 ≤ addr.0) × (addr.0 ≤ d.last.0)) list)
+    × AllPairs (λ (c d : Difference). c.last.0 < d.first.0) list
+    × AllPairs (λ (c d : Difference). c.last.0 + 1 ≡ d.first.0 → ¬ HaveSameAnswers c d) list
+what_a_list_of_ranges_says old new list h = (h.each, h.all, h.rising, h.fewest)
+
+-- HaveDifferences
+what_two_tables_have : HaveDifferences → (new : List Route) → (list : List Difference) × AreDifferences by.Hop [] new list
+what_two_tables_have law new = law by.Hop [] new
+
+-- HaveOneList
+and_once : HaveOneList → (new : List Route) (other : List Difference) → AreDifferences by.Hop [] new [] → AreDifferences by.Hop [] new other → [] ≡ other
+and_once law new other = law by.Hop [] new [] other

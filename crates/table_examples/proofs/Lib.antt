@@ -1,0 +1,4 @@
+pub mod Cidr
+pub mod Trie
+pub mod Rib
+pub mod Diff

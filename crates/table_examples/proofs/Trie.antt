@@ -1,0 +1,502 @@
+-- Examples by which the definitions of rt_trie are tested, each under a line with the definition's name. Both sides are
+-- computed, and what a relation or a law says is spelled out for some values.
+use Rattle.std.proofs.Common.{◌≡◌, ℕ, true, false, Some, None, [], ◌∷◌, refl, arith}
+use Rattle.rt_cidr.specs.declared.prefixes.Prefix.{Prefix}
+use Rattle.table_examples.proofs.Cidr.{ten_8, ten_0_16}
+use Rattle.rt_trie.specs.Map.{Pairs, before, IsBeforeAll, IsOrdered, get, same_prefix, IsStored, put, erase, first}
+use Rattle.rt_trie.specs.Map.{next_after, IsLongest, covering, address_at, answer_at, pair_copied, AreLongest}
+use Rattle.rt_trie.specs.Tree.{Tree, Vacant, Node, top, size, stored}
+use Rattle.rt_trie.specs.Laws.{IsChildByBit, PutIsSeen, EraseIsSeen, PutKeepsOrder, EraseKeepsOrder, PairsAreFound}
+use Rattle.rt_trie.specs.Laws.{MapHasOneList, FirstIsLeast, NoneIsFirst, AfterIsNext, NoneIsAfter, ChildByNextBit}
+use Rattle.rt_trie.specs.Laws.{IsLawfulNode, IsLawfulByBits, LawfulByBits}
+use Rattle.rt_trie.specs.Lawful.{IsLawfulAt, IsLawfulTree, IsLawful}
+use Rattle.std.specs.Prelude.{◌↔◌, ◌⊎◌, ◌+◌, ◌<◌, ◌≤◌, ◌++◌, ◌/◌, ◌%◌, Bool, List, Option, IsTrue, IsSome, IfSome}
+use Rattle.std.specs.Prelude.{IfNone, All, Contains, Box, is_some, length, map, slice_index_or, if◌then◌else◌}
+use Rattle.rt_cidr.specs.declared.address.Addr.{Addr}
+use Rattle.rt_cidr.specs.Prefix.{covers, contains}
+use Rattle.rt_trie.specs.declared.nodes.Link.{Link, Empty, Leaf, Fork', Full'}
+use Rattle.rt_trie.specs.declared.nodes.LeafNode.{LeafNode}
+use Rattle.rt_trie.specs.Links.{middle_at, middle, past, IsKeyOf, IsInBlock, IsChild, PartsAt}
+use Rattle.rt_trie.specs.Links.{root, IsFilled, IsChildLink, AreHalves, IsNeeded, IsLawfulBelow, IsLawfulTrie}
+use Rattle.rt_trie.specs.Nodes.{PartAt, IsNodeAt, CountsNodes}
+use Rattle.rt_trie.specs.Sifted.{with_pair, IsJudged, IsSifted}
+use Rattle.rt_trie.specs.TrieContents.{TrieContents}
+use Rattle.std.specs.Borrow.{Bor, MutBor, RattleType, Lends, LendsIf}
+use Rattle.std.specs.declared.alloc.Allocator.{Ghosts}
+use denote.Follow.{follows_by}
+use Rattle.rt_trie.specs.contracts.tries.Trie.{the_row}
+use Rattle.rt_trie.specs.TrieLends.{contents_with, lends_value}
+use Rattle.rt_trie.specs.inside.Links.{own_pair, pairs, count}
+use Rattle.rt_trie.specs.inside.Tree.{tree_of}
+use Rattle.rt_trie.specs.inside.Trie.{contents_of}
+use Rattle.rt_trie.specs.declared.tries.Trie.TheInside.{Inside}
+
+-- 10.1.0.0/16 and 10.128.0.0/9
+abbrev ten_1_16 : Prefix
+ten_1_16 = record { base = 167837696; len = 16; is_prefix = record { short = omega arith; fits = omega arith; clear = refl } }
+
+abbrev ten_128_9 : Prefix
+ten_128_9 = record { base = 176160768; len = 9; is_prefix = record { short = omega arith; fits = omega arith; clear = refl } }
+
+-- two values, and the trie that keeps them below a node that has none
+abbrev two : Pairs ℕ
+two = (ten_1_16, 5) ∷ (ten_128_9, 7) ∷ []
+
+abbrev leaf : Prefix → Tree
+leaf p = Node p true Vacant Vacant
+
+abbrev below_ten_8 : Tree
+below_ten_8 = Node ten_8 false (leaf ten_1_16) (leaf ten_128_9)
+
+-- before
+by_base : before ten_1_16 ten_128_9 ≡ true
+by_base = refl
+
+by_length_where_the_base_is_one : before ten_8 ten_0_16 ≡ true
+by_length_where_the_base_is_one = refl
+
+not_itself : before ten_8 ten_8 ≡ false
+not_itself = refl
+
+neither_a_greater_base_nor_a_lesser_length : (before ten_128_9 ten_8 ≡ false) × (before ten_0_16 ten_8 ≡ false) × (before ten_1_16 ten_8 ≡ false)
+neither_a_greater_base_nor_a_lesser_length = (refl, refl, refl)
+
+not_a_shorter_one_of_a_greater_base : before ten_128_9 ten_1_16 ≡ false
+not_a_shorter_one_of_a_greater_base = refl
+
+-- IsBeforeAll
+before_both : IsBeforeAll ten_8 two
+before_both = (refl, (refl, tt))
+
+not_before_itself : ¬ IsBeforeAll ten_1_16 two
+not_before_itself h = let same = h.0 in cc
+
+what_comes_before_all : (rest : Pairs ℕ) → IsBeforeAll ten_8 ((ten_1_16, 5) ∷ rest) → IsTrue (before ten_8 ten_1_16) × IsBeforeAll ten_8 rest
+what_comes_before_all rest h = h
+
+-- IsOrdered
+two_in_order : IsOrdered two
+two_in_order = ((refl, tt), (tt, tt))
+
+none_twice : ¬ IsOrdered {V = ℕ} ((ten_8, 5) ∷ (ten_8, 7) ∷ [])
+none_twice h = let same = h.0.0 in cc
+
+the_first_before_the_others : (rest : Pairs ℕ) → IsOrdered ((ten_8, 5) ∷ rest) → IsBeforeAll ten_8 rest × IsOrdered rest
+the_first_before_the_others rest h = h
+
+-- get
+the_value_at_a_prefix : get two ten_128_9 ≡ Some 7
+the_value_at_a_prefix = refl
+
+none_at_a_shorter_one : get two ten_8 ≡ None
+none_at_a_shorter_one = refl
+
+-- top
+the_topmost : top below_ten_8 ≡ Some ten_8
+the_topmost = refl
+
+no_node_no_top : top Vacant ≡ None
+no_node_no_top = refl
+
+-- size
+three_nodes : size below_ten_8 ≡ 3
+three_nodes = refl
+
+one_more_than_below_it : (size Vacant ≡ 0) × (size (Node ten_8 true (leaf ten_1_16) Vacant) ≡ 2) × (size (Node ten_8 true Vacant (leaf ten_128_9)) ≡ 2)
+one_more_than_below_it = (refl, refl, refl)
+
+-- stored
+two_have_a_value : stored below_ten_8 ≡ ten_1_16 ∷ ten_128_9 ∷ []
+two_have_a_value = refl
+
+its_own_comes_first : stored (Node ten_8 true Vacant (leaf ten_128_9)) ≡ ten_8 ∷ ten_128_9 ∷ []
+its_own_comes_first = refl
+
+its_own_and_then_those_on_each_side : (stored (Node ten_8 true (leaf ten_1_16) (leaf ten_128_9)) ≡ ten_8 ∷ ten_1_16 ∷ ten_128_9 ∷ []) × (stored Vacant ≡ [])
+its_own_and_then_those_on_each_side = (refl, refl)
+
+-- IsChildByBit
+on_the_lower_side : IsChildByBit ten_8 false ten_1_16
+on_the_lower_side = record { longer = omega arith; contained = refl; next_bit = refl }
+
+on_the_upper_side : IsChildByBit ten_8 true ten_128_9
+on_the_upper_side = record { longer = omega arith; contained = refl; next_bit = refl }
+
+not_on_the_other_side : ¬ IsChildByBit ten_8 false ten_128_9
+not_on_the_other_side h = let bit = h.next_bit in cc
+
+no_child_of_itself : ¬ IsChildByBit ten_8 false ten_8
+no_child_of_itself h = omega (arith, h.longer)
+
+what_a_child_on_the_upper_side_is :
+    (c : Prefix) → IsChildByBit ten_8 true c → (8 < c.len) × IsTrue (contains ten_8 c) × ((c.base / 8388608) % 2 ≡ 1)
+what_a_child_on_the_upper_side_is c h = (h.longer, h.contained, h.next_bit)
+
+-- IsLawfulAt
+two_children_without_a_value : IsLawfulAt ten_8 false (leaf ten_1_16) (leaf ten_128_9)
+two_children_without_a_value = record { needed = λ _. (refl, refl); lower = on_the_lower_side; upper = on_the_upper_side }
+
+not_one_child_without_a_value : ¬ IsLawfulAt ten_8 false (leaf ten_1_16) Vacant
+not_one_child_without_a_value h = let second = (h.needed refl).1 in cc
+
+what_a_node_without_a_value_has :
+    (left right : Tree) → IsLawfulAt ten_8 false left right
+    → (IsSome (top left) × IsSome (top right)) × IfSome (top left) (IsChildByBit ten_8 false) × IfSome (top right) (IsChildByBit ten_8 true)
+what_a_node_without_a_value_has left right h = (h.needed refl, h.lower, h.upper)
+
+-- IsLawfulTree
+lawful_at_each_node : IsLawfulTree below_ten_8
+lawful_at_each_node = (
+  two_children_without_a_value,
+  (record { needed = λ e. cc; lower = tt; upper = tt }, tt, tt),
+  (record { needed = λ e. cc; lower = tt; upper = tt }, tt, tt),
+)
+
+not_with_sides_exchanged : ¬ IsLawfulTree (Node ten_8 false (leaf ten_128_9) (leaf ten_1_16))
+not_with_sides_exchanged h = not_on_the_other_side h.0.lower
+
+at_a_node_and_below_it :
+    (left right : Tree) → IsLawfulTree (Node ten_8 false left right) → IsLawfulAt ten_8 false left right × IsLawfulTree left × IsLawfulTree right
+at_a_node_and_below_it left right h = h
+
+-- IsLawful
+the_trie_of_two_values : IsLawful {V = ℕ} (record { pairs = two; nodes = 3; tree = below_ten_8 })
+the_trie_of_two_values = record { tree = lawful_at_each_node; stored = refl; count = refl }
+
+no_value_left_out : ¬ IsLawful {V = ℕ} (record { pairs = two; nodes = 1; tree = leaf ten_1_16 })
+no_value_left_out h = let stored = h.stored in cc
+
+no_node_uncounted : ¬ IsLawful {V = ℕ} (record { pairs = two; nodes = 2; tree = below_ten_8 })
+no_node_uncounted h = let count = h.count in cc
+
+its_tree_its_values_and_its_count :
+    (t : TrieContents ℕ) → IsLawful t → IsLawfulTree t.tree × (stored t.tree ≡ map (λ x. x.0) t.pairs) × (size t.tree ≡ t.nodes)
+its_tree_its_values_and_its_count t h = (h.tree, h.stored, h.count)
+
+-- Pairs
+a_prefix_and_its_value : Pairs ℕ
+a_prefix_and_its_value = (ten_8, 5) ∷ []
+
+-- IsStored
+a_value_stands_there : IsStored two ten_1_16
+a_value_stands_there = refl
+
+none_stands_at_a_shorter : ¬ IsStored two ten_8
+none_stands_at_a_shorter h = cc
+
+-- put
+in_its_place :
+    (put two ten_8 9 ≡ (ten_8, 9) ∷ two) × (put two ten_1_16 9 ≡ (ten_1_16, 9) ∷ (ten_128_9, 7) ∷ [])
+    × (put two ten_128_9 9 ≡ (ten_1_16, 5) ∷ (ten_128_9, 9) ∷ []) × (put {V = ℕ} ((ten_8, 9) ∷ []) ten_1_16 5 ≡ (ten_8, 9) ∷ (ten_1_16, 5) ∷ [])
+in_its_place = (refl, refl, refl, refl)
+
+-- erase
+without_it :
+    (erase two ten_1_16 ≡ (ten_128_9, 7) ∷ []) × (erase two ten_128_9 ≡ (ten_1_16, 5) ∷ []) × (erase two ten_8 ≡ two) × (erase {V = ℕ} [] ten_8 ≡ [])
+without_it = (refl, refl, refl, refl)
+
+-- first
+the_least_of_two : first two ≡ Some ten_1_16
+the_least_of_two = refl
+
+none_of_nothing : first {V = ℕ} [] ≡ None
+none_of_nothing = refl
+
+-- next_after
+one_after_another : (next_after two ten_8 ≡ Some ten_1_16) × (next_after two ten_1_16 ≡ Some ten_128_9) × (next_after two ten_128_9 ≡ None)
+one_after_another = (refl, refl, refl)
+
+-- IsLongest
+what_the_longest_is :
+    (m : Pairs ℕ) (a : Addr) → IsLongest m a (Some (ten_8, 5))
+    → Contains m (ten_8, 5) × IsTrue (covers ten_8 a) × All (λ y. IsTrue (covers y.0 a) → y.0.len ≤ 8) m
+what_the_longest_is m a h = h
+
+none_where_none_covers : (m : Pairs ℕ) (a : Addr) → IsLongest m a None → All (λ y. covers y.0 a ≡ false) m
+none_where_none_covers m a h = h
+
+-- covering
+each_that_covers_it_the_shortest_first : covering ((ten_8, 4) ∷ two) (record { 0 = 167837697 }) ≡ (ten_8, 4) ∷ (ten_1_16, 5) ∷ []
+each_that_covers_it_the_shortest_first = refl
+
+none_that_does_not_cover_it : (covering two (record { 0 = 167772160 }) ≡ []) × (covering {V = ℕ} [] (record { 0 = 0 }) ≡ [])
+none_that_does_not_cover_it = (refl, refl)
+
+-- address_at
+the_second_of_two : address_at (record { 0 = 7 } ∷ record { 0 = 9 } ∷ []) 1 ≡ record { 0 = 9 }
+the_second_of_two = refl
+
+the_least_behind_the_last : address_at [] 0 ≡ record { 0 = 0 }
+the_least_behind_the_last = refl
+
+-- middle_at
+where_the_upper_half_begins : middle_at 8 167772160 ≡ 176160768
+where_the_upper_half_begins = refl
+
+-- middle
+the_middle_of_ten_8 : middle ten_8 ≡ 176160768
+the_middle_of_ten_8 = refl
+
+-- past
+behind_ten_8 : past ten_8 ≡ 184549376
+behind_ten_8 = refl
+
+-- IsKeyOf
+its_length_and_its_base : (len base : ℕ) → IsKeyOf len base ten_8 → (len ≡ 8) × (base ≡ 167772160)
+its_length_and_its_base len base h = (h.len_is, h.base_is)
+
+-- IsInBlock
+no_shorter_and_within : (c : Prefix) → IsInBlock 5 9 8 c → (8 ≤ c.len) × (5 ≤ c.base) × (past c ≤ 9)
+no_shorter_and_within c h = (h.long, h.from, h.to)
+
+-- IsChild
+in_the_lower_half : (c : Prefix) → IsChild ten_8 false c → IsInBlock 167772160 176160768 9 c
+in_the_lower_half c h = h
+
+in_the_upper_half : (c : Prefix) → IsChild ten_8 true c → IsInBlock 176160768 184549376 9 c
+in_the_upper_half c h = h
+
+-- PartsAt
+one_in_each_half : (low high : Prefix) → PartsAt ten_8 low high → IsChild ten_8 false low × IsChild ten_8 true high
+one_in_each_half low high h = h
+
+-- PartAt
+of_two_that_are_stored :
+    (m : Pairs ℕ) (h : PartAt m ten_8) → IsStored m h.low × IsStored m h.high × PartsAt ten_8 h.low h.high
+of_two_that_are_stored m h = (h.low_stored, h.high_stored, h.parts)
+
+-- IsNodeAt
+where_one_is_stored_or_two_part : (m : Pairs ℕ) → IsNodeAt m ten_8 → IsStored m ten_8 ⊎ PartAt m ten_8
+where_one_is_stored_or_two_part m h = h
+
+-- CountsNodes
+it_lists_them_without_values : (m : Pairs ℕ) → CountsNodes m 3 → Pairs (Unit {0})
+it_lists_them_without_values m h = h.nodes
+
+three_nodes_listed_in_order :
+    (m : Pairs ℕ) (h : CountsNodes m 3) → IsOrdered h.nodes × (IsStored h.nodes ten_8 ↔ IsNodeAt m ten_8) × (length h.nodes ≡ 3)
+three_nodes_listed_in_order m h = (h.ordered, h.each ten_8, h.count)
+
+-- the map of two values, with the nodes that keep it
+abbrev the_two : TrieContents ℕ
+the_two = record { pairs = two; nodes = 3; tree = below_ten_8 }
+
+-- TrieContents
+its_pairs_its_nodes_and_their_tree : (the_two.pairs ≡ two) × (the_two.nodes ≡ 3) × (the_two.tree ≡ below_ten_8)
+its_pairs_its_nodes_and_their_tree = (refl, refl, refl)
+
+-- contents_with
+the_pairs_alone_change : contents_with the_two ten_1_16 9 ≡ record { pairs = (ten_1_16, 9) ∷ (ten_128_9, 7) ∷ []; nodes = 3; tree = below_ten_8 }
+the_pairs_alone_change = refl
+
+-- lends_value
+the_value_written_last_stands_there :
+    (V A : RattleType) (alloc : Ghosts A.Denot) (t : MutBor (TrieContents V.Denot)) (r : MutBor V.Denot)
+    → lends_value V A alloc t ten_8 (Some r)
+    ≡ Lends (the_row V A alloc) V t r (λ w. record { pairs = put t.now.pairs ten_8 w; nodes = t.now.nodes; tree = t.now.tree })
+unfolding follows_by
+the_value_written_last_stands_there V A alloc t r = refl
+
+without_a_reference_the_trie_stays :
+    (V A : RattleType) (alloc : Ghosts A.Denot) (t : MutBor (TrieContents V.Denot))
+    → lends_value V A alloc t ten_8 None ≡ LendsIf (the_row V A alloc) V t None (λ w. t.now) t.now
+unfolding follows_by
+without_a_reference_the_trie_stays V A alloc t = refl
+
+-- with_pair
+with_it_or_without : (with_pair true ten_8 5 two ≡ (ten_8, 5) ∷ two) × (with_pair false ten_8 5 two ≡ two)
+with_it_or_without = (refl, refl)
+
+-- IsJudged
+what_the_sieve_made_of_it :
+    {S : Type 0} (is_done : S → Bool) (judges : S → Prefix → ℕ → S → ℕ → Bool → Type 0) (s t : S) (rest new : Pairs ℕ)
+    (h : IsJudged is_done judges s t ten_8 5 rest new) → judges s ten_8 5 t h.made h.stays × (new ≡ with_pair h.stays ten_8 h.made rest)
+what_the_sieve_made_of_it is_done judges s t rest new h = (h.judged, h.new_is)
+
+-- IsSifted
+nothing_to_show :
+    {S : Type 0} (is_done : S → Bool) (judges : S → Prefix → ℕ → S → ℕ → Bool → Type 0) (s t : S) (new : Pairs ℕ)
+    → IsSifted is_done judges s t [] new → (t ≡ s) × (new ≡ [])
+nothing_to_show is_done judges s t new h = h
+
+it_is_done_or_is_shown_the_first :
+    {S : Type 0} (is_done : S → Bool) (judges : S → Prefix → ℕ → S → ℕ → Bool → Type 0) (s t : S) (rest new : Pairs ℕ)
+    → IsSifted is_done judges s t ((ten_8, 5) ∷ rest) new
+    → (IsTrue (is_done s) × (t ≡ s) × (new ≡ (ten_8, 5) ∷ rest))
+    ⊎ ((is_done s ≡ false) × (next : S) × (remaining : Pairs ℕ) × IsJudged is_done judges s next ten_8 5 remaining new
+    × IsSifted is_done judges next t rest remaining)
+it_is_done_or_is_shown_the_first is_done judges s t rest new h = h
+
+-- root
+the_prefix_of_each_kind_of_link :
+    {V A : Type 0} (len base : ℕ) (b : Box (LeafNode V) A) (p : _) (o : _) (left right : Link V A) (v : Option V)
+    → (root {V = V} {A = A} Empty ≡ None) × (root (Leaf len base b) ≡ Some b.value.prefix)
+    × (root (Fork' len base p left right ten_8) ≡ Some ten_8) × (root (Full' len base o left right ten_8 v) ≡ Some ten_8)
+the_prefix_of_each_kind_of_link len base b p o left right v = (refl, refl, refl, refl)
+
+-- IsFilled
+by_a_leaf : {V A : Type 0} (len base : ℕ) (b : Box (LeafNode V) A) → IsFilled (Leaf len base b)
+by_a_leaf len base b = refl
+
+not_by_nothing : (V A : Type 0) → ¬ IsFilled {V = V} {A = A} Empty
+not_by_nothing V A h = cc
+
+-- IsChildLink
+its_node_is_a_child : {V A : Type 0} (link : Link V A) → IsChildLink ten_8 true link → IfSome (root link) (IsChild ten_8 true)
+its_node_is_a_child link h = h
+
+-- AreHalves
+a_child_in_each : {V A : Type 0} (left right : Link V A) → AreHalves ten_8 left right → IsChildLink ten_8 false left × IsChildLink ten_8 true right
+a_child_in_each left right h = (h.lower, h.upper)
+
+-- IsNeeded
+nothing_and_a_leaf_are : {V A : Type 0} (len base : ℕ) (b : Box (LeafNode V) A) → IsNeeded {V = V} {A = A} Empty × IsNeeded (Leaf len base b)
+nothing_and_a_leaf_are len base b = (tt, tt)
+
+a_fork_by_two_children :
+    {V A : Type 0} (len base : ℕ) (p : _) (left right : Link V A) → IsNeeded (Fork' len base p left right ten_8) → IsFilled left × IsFilled right
+a_fork_by_two_children len base p left right h = h
+
+a_full_node_by_its_value_or_so :
+    {V A : Type 0} (len base : ℕ) (o : _) (left right : Link V A) (v : Option V)
+    → IsNeeded (Full' len base o left right ten_8 v) → IfNone v (IsFilled left × IsFilled right)
+a_full_node_by_its_value_or_so len base o left right v h = h
+
+-- IsLawfulBelow
+what_is_lawful_of_each_kind_of_link :
+    {V A : Type 0} (len base : ℕ) (b : Box (LeafNode V) A) (p : _) (o : _) (left right : Link V A) (v : Option V)
+    → IsLawfulBelow {V = V} {A = A} Empty × (IsLawfulBelow (Leaf len base b) → IsKeyOf len base b.value.prefix)
+    × (IsLawfulBelow (Fork' len base p left right ten_8)
+    → AreHalves ten_8 left right × (IsLawfulBelow left × IsNeeded left) × (IsLawfulBelow right × IsNeeded right) × IsKeyOf len base ten_8)
+    × (IsLawfulBelow (Full' len base o left right ten_8 v)
+    → AreHalves ten_8 left right × (IsLawfulBelow left × IsNeeded left) × (IsLawfulBelow right × IsNeeded right) × IsKeyOf len base ten_8)
+what_is_lawful_of_each_kind_of_link len base b p o left right v = (tt, λ h. h, λ h. h, λ h. h)
+
+-- IsLawfulTrie
+below_it_and_by_itself : {V A : Type 0} (link : Link V A) → IsLawfulTrie link → IsLawfulBelow link × IsNeeded link
+below_it_and_by_itself link h = h
+
+-- own_pair
+its_prefix_and_its_value : (own_pair {V = ℕ} ten_8 (Some 5) ≡ (ten_8, 5) ∷ []) × (own_pair {V = ℕ} ten_8 None ≡ [])
+its_prefix_and_its_value = (refl, refl)
+
+-- pairs
+the_pairs_of_each_kind_of_link :
+    {V A : Type 0} (len base : ℕ) (b : Box (LeafNode V) A) (p : _) (o : _) (left right : Link V A) (v : Option V)
+    → (pairs {V = V} {A = A} Empty ≡ []) × (pairs (Leaf len base b) ≡ (b.value.prefix, b.value.value) ∷ [])
+    × (pairs (Fork' len base p left right ten_8) ≡ pairs left ++ pairs right)
+    × (pairs (Full' len base o left right ten_8 v) ≡ own_pair ten_8 v ++ (pairs left ++ pairs right))
+the_pairs_of_each_kind_of_link len base b p o left right v = (refl, refl, refl, refl)
+
+-- count
+how_many_nodes_each_has :
+    {V A : Type 0} (len base : ℕ) (b : Box (LeafNode V) A) (p : _) (o : _) (left right : Link V A) (v : Option V)
+    → (count {V = V} {A = A} Empty ≡ 0) × (count (Leaf len base b) ≡ 1)
+    × (count (Fork' len base p left right ten_8) ≡ count left + count right + 1)
+    × (count (Full' len base o left right ten_8 v) ≡ count left + count right + 1)
+how_many_nodes_each_has len base b p o left right v = (refl, refl, refl, refl)
+
+-- tree_of
+the_tree_of_each_kind_of_link :
+    {V A : Type 0} (len base : ℕ) (b : Box (LeafNode V) A) (p : _) (o : _) (left right : Link V A) (v : Option V)
+    → (tree_of {V = V} {A = A} Empty ≡ Vacant) × (tree_of (Leaf len base b) ≡ Node b.value.prefix true Vacant Vacant)
+    × (tree_of (Fork' len base p left right ten_8) ≡ Node ten_8 false (tree_of left) (tree_of right))
+    × (tree_of (Full' len base o left right ten_8 v) ≡ Node ten_8 (is_some v) (tree_of left) (tree_of right))
+the_tree_of_each_kind_of_link len base b p o left right v = (refl, refl, refl, refl)
+
+-- PutIsSeen
+what_stands_where_once_5_was_put :
+    PutIsSeen ℕ → (m : Pairs ℕ) (q : Prefix) → get (put m ten_8 5) q ≡ (if same_prefix ten_8 q then Some 5 else get m q)
+what_stands_where_once_5_was_put law m = law m ten_8 5
+
+-- EraseIsSeen
+what_stands_where_once_it_was_erased :
+    EraseIsSeen ℕ → (m : Pairs ℕ) (q : Prefix) → IsOrdered m → get (erase m ten_8) q ≡ (if same_prefix ten_8 q then None else get m q)
+what_stands_where_once_it_was_erased law m = law m ten_8
+
+-- PutKeepsOrder
+in_order_with_5 : PutKeepsOrder ℕ → (m : Pairs ℕ) → IsOrdered m → IsOrdered (put m ten_8 5)
+in_order_with_5 law m = law m ten_8 5
+
+-- EraseKeepsOrder
+in_order_without_it : EraseKeepsOrder ℕ → (m : Pairs ℕ) → IsOrdered m → IsOrdered (erase m ten_8)
+in_order_without_it law m = law m ten_8
+
+-- PairsAreFound
+a_pair_is_found : PairsAreFound ℕ → (m : Pairs ℕ) → IsOrdered m → Contains m (ten_8, 5) ↔ (get m ten_8 ≡ Some 5)
+a_pair_is_found law m = law m ten_8 5
+
+-- MapHasOneList
+one_list_of_what_stands_where : MapHasOneList ℕ → (m : Pairs ℕ) → IsOrdered m → IsOrdered two → ((p : Prefix) → get m p ≡ get two p) → m ≡ two
+one_list_of_what_stands_where law m = law m two
+
+-- FirstIsLeast
+what_the_first_is :
+    FirstIsLeast ℕ → (m : Pairs ℕ) → IsOrdered m
+    → (first m ≡ Some ten_8) ↔ (IsStored m ten_8 × ((x : Prefix) → IsStored m x → before x ten_8 ≡ false))
+what_the_first_is law m = law m ten_8
+
+-- NoneIsFirst
+none_is_first_of_nothing_alone : NoneIsFirst ℕ → (m : Pairs ℕ) → (first m ≡ None) ↔ (m ≡ [])
+none_is_first_of_nothing_alone law = law
+
+-- AfterIsNext
+what_comes_next :
+    AfterIsNext ℕ → (m : Pairs ℕ) → IsOrdered m
+    → (next_after m ten_8 ≡ Some ten_1_16)
+    ↔ (IsStored m ten_1_16 × IsTrue (before ten_8 ten_1_16) × ((x : Prefix) → IsStored m x → IsTrue (before ten_8 x) → before x ten_1_16 ≡ false))
+what_comes_next law m = law m ten_8 ten_1_16
+
+-- NoneIsAfter
+none_comes_behind_the_last :
+    NoneIsAfter ℕ → (m : Pairs ℕ) → (next_after m ten_8 ≡ None) ↔ ((x : Prefix) → IsStored m x → before ten_8 x ≡ false)
+none_comes_behind_the_last law m = law m ten_8
+
+-- ChildByNextBit
+by_blocks_and_by_bits : ChildByNextBit → (c : Prefix) → IsChild ten_8 true c ↔ IsChildByBit ten_8 true c
+by_blocks_and_by_bits law c = law ten_8 c true
+
+-- IsLawfulNode
+what_a_lawful_node_has :
+    {V A : Type 0} (v : Option V) (left right : Link V A) → IsLawfulNode ten_8 v left right
+    → IfNone v (IsFilled left × IsFilled right) × IfSome (root left) (IsChildByBit ten_8 false) × IfSome (root right) (IsChildByBit ten_8 true)
+what_a_lawful_node_has v left right h = (h.needed, h.lower, h.upper)
+
+-- IsLawfulByBits
+nothing_is_and_a_leaf_with_its_key :
+    {V A : Type 0} (len base : ℕ) (b : Box (LeafNode V) A)
+    → IsLawfulByBits {V = V} {A = A} Empty × (IsLawfulByBits (Leaf len base b) → IsKeyOf len base b.value.prefix)
+nothing_is_and_a_leaf_with_its_key len base b = (tt, λ h. h)
+
+a_fork_is_a_node_without_a_value :
+    {V A : Type 0} (len base : ℕ) (p : _) (left right : Link V A) → IsLawfulByBits (Fork' len base p left right ten_8)
+    → IsLawfulNode ten_8 None left right × IsLawfulByBits left × IsLawfulByBits right × IsKeyOf len base ten_8
+a_fork_is_a_node_without_a_value len base p left right h = h
+
+a_full_node_has_its_value :
+    {V A : Type 0} (len base : ℕ) (o : _) (left right : Link V A) (v : Option V) → IsLawfulByBits (Full' len base o left right ten_8 v)
+    → IsLawfulNode ten_8 v left right × IsLawfulByBits left × IsLawfulByBits right × IsKeyOf len base ten_8
+a_full_node_has_its_value len base o left right v h = h
+
+-- LawfulByBits
+lawful_by_blocks_and_by_bits : {A : Type 0} → LawfulByBits ℕ A → (link : Link ℕ A) → IsLawfulTrie link ↔ IsLawfulByBits link
+lawful_by_blocks_and_by_bits law = law
+
+-- pair_copied
+with_the_value_that_is_pointed_to :
+    {V : Type 0} (x : Prefix × Bor V) → (pair_copied (Some x) ≡ Some (x.0, x.1.now)) × (pair_copied {V = V} None ≡ None)
+with_the_value_that_is_pointed_to x = (refl, refl)
+
+-- answer_at
+the_second_answer : {V : Type 0} (answers : List (Option (Prefix × Bor V))) → answer_at answers 1 ≡ pair_copied (slice_index_or answers 1 None)
+the_second_answer answers = refl
+
+-- AreLongest
+each_answer_to_its_address :
+    {V : Type 0} (m : Pairs V) (addresses : List Addr) (answers : List (Option (Prefix × Bor V))) → AreLongest m addresses answers
+    → (k : ℕ) → k < length addresses → IsLongest m (address_at addresses k) (answer_at answers k)
+each_answer_to_its_address m addresses answers h = h
+
+-- contents_of
+what_its_links_hold : {V A : Type 0} (t : Inside V A) → contents_of t ≡ record { pairs = pairs t.root; nodes = count t.root; tree = tree_of t.root }
+what_its_links_hold t = refl
