@@ -43,7 +43,7 @@ const ROUTE: &str = "route";
 const COMPARED: &[&str] = &[HOP, ROUTE];
 
 /// What the words of a command line ask for.
-#[derive(Debug, Drop)]
+#[derive(Drop)]
 pub enum Request<'a> {
     /// To run feed files.
     Run(RunRequest<'a>),
@@ -58,7 +58,7 @@ pub enum Request<'a> {
 }
 
 /// Which feed files to run.
-#[derive(Debug, Drop)]
+#[derive(Drop)]
 pub struct RunRequest<'a> {
     /// How many routes a feed may have.
     pub limit: u32,
@@ -72,7 +72,7 @@ pub struct RunRequest<'a> {
 }
 
 /// Which addresses to look up, after which feed files.
-#[derive(Debug, Drop)]
+#[derive(Drop)]
 pub struct LookupRequest<'a> {
     /// The feed files.
     pub run: RunRequest<'a>,
@@ -85,7 +85,7 @@ pub struct LookupRequest<'a> {
 }
 
 /// Which routes to list, after which feed files.
-#[derive(Debug, Drop)]
+#[derive(Drop)]
 pub struct TableRequest<'a> {
     /// The feed files.
     pub run: RunRequest<'a>,
@@ -94,7 +94,7 @@ pub struct TableRequest<'a> {
 }
 
 /// Which tables to compare.
-#[derive(Debug, Drop)]
+#[derive(Drop)]
 pub struct DiffRequest<'a> {
     /// The old feed files, and the limit and the batch of both runs.
     pub run: RunRequest<'a>,
@@ -105,7 +105,7 @@ pub struct DiffRequest<'a> {
 }
 
 /// Which schedule to show.
-#[derive(Debug, Drop)]
+#[derive(Drop)]
 pub struct ReplayRequest {
     /// How many levels the tree has.
     pub levels: u32,
@@ -114,7 +114,7 @@ pub struct ReplayRequest {
 }
 
 /// Why there is nothing to do.
-#[derive(Debug, Drop)]
+#[derive(Drop)]
 pub enum Refusal {
     /// Help or the version was asked for: its text.
     Shown(String),
@@ -167,129 +167,168 @@ fn refusal_of(alloc: Global, error: &Error) -> Refusal {
     }
 }
 
-/// What a first word asks for.
-enum Subcommand {
-    Run,
-    Lookup,
-    Table,
-    Diff,
-    Replay,
+/// What a first word asks for: its name, what the help says of it, and what may follow, in the order of the help text.
+struct Subcommand {
+    name: &'static str,
+    about: &'static str,
+    notes: &'static str,
+    parameters: &'static [Parameter],
 }
 
-/// All of them, in the order of the help text. A loop over them has one early exit; five calls would have five, and at
-/// each the prover goes through all that is dropped.
+/// All of them, in the order of the help text.
 const SUBCOMMANDS: &[Subcommand] = &[
-    Subcommand::Run,
-    Subcommand::Lookup,
-    Subcommand::Table,
-    Subcommand::Diff,
-    Subcommand::Replay,
+    Subcommand {
+        name: "run",
+        about: "Run feed files, and print the reply to each command and the table",
+        notes: RUN_NOTES,
+        parameters: &[
+            Parameter::Limit,
+            Parameter::Batch(DEFAULT_BATCH),
+            Parameter::Files,
+        ],
+    },
+    Subcommand {
+        name: "lookup",
+        about: "Run feed files, and answer for each address from the table that they leave",
+        notes: LOOKUP_NOTES,
+        parameters: &[
+            Parameter::All,
+            Parameter::Limit,
+            Parameter::Batch(UNSEEN_BATCH),
+            Parameter::Address,
+            Parameter::Addresses,
+            Parameter::Files,
+        ],
+    },
+    Subcommand {
+        name: "table",
+        about: "Run feed files, and print the routes of the table that they leave",
+        notes: TABLE_NOTES,
+        parameters: &[
+            Parameter::Best,
+            Parameter::Limit,
+            Parameter::Batch(UNSEEN_BATCH),
+            Parameter::Files,
+        ],
+    },
+    Subcommand {
+        name: "diff",
+        about: "Run two sets of feed files, and print which addresses their tables answer otherwise",
+        notes: DIFF_NOTES,
+        parameters: &[
+            Parameter::By,
+            Parameter::Limit,
+            Parameter::Batch(UNSEEN_BATCH),
+            Parameter::OldFiles,
+            Parameter::NewFiles,
+        ],
+    },
+    Subcommand {
+        name: "replay",
+        about: "Show the atomic steps of the lock for one schedule, one a line",
+        notes: REPLAY_NOTES,
+        parameters: &[Parameter::Levels, Parameter::Picks],
+    },
 ];
 
 impl Subcommand {
+    /// A loop over the parameters has one early exit; a call for each would have as many as there are, and at each the
+    /// prover goes through all that is dropped.
     fn command<'a>(&self, alloc: Global) -> Result<Command<'a>, AllocError> {
+        let mut command = Command::new(alloc, self.name)
+            .about(self.about)
+            .after_help(self.notes);
+        for parameter in self.parameters {
+            command = command.arg(parameter.arg(alloc))?;
+        }
+        Ok(command)
+    }
+}
+
+/// What may follow a first word.
+enum Parameter {
+    All,
+    Address,
+    Addresses,
+    Best,
+    By,
+    Limit,
+    /// And how many are asked at once where the command line does not say.
+    Batch(&'static str),
+    Files,
+    OldFiles,
+    NewFiles,
+    Levels,
+    Picks,
+}
+
+impl Parameter {
+    fn arg<'a>(&self, alloc: Global) -> Arg<'a> {
         match self {
-            Subcommand::Run => run_command(alloc),
-            Subcommand::Lookup => lookup_command(alloc),
-            Subcommand::Table => table_command(alloc),
-            Subcommand::Diff => diff_command(alloc),
-            Subcommand::Replay => replay_command(alloc),
+            Parameter::All => all(alloc),
+            Parameter::Address => address(alloc),
+            Parameter::Addresses => addresses(alloc),
+            Parameter::Best => best(alloc),
+            Parameter::By => by(alloc),
+            Parameter::Limit => limit(alloc),
+            Parameter::Batch(unless_given) => batch(alloc, unless_given),
+            Parameter::Files => files(alloc),
+            Parameter::OldFiles => old_files(alloc),
+            Parameter::NewFiles => new_files(alloc),
+            Parameter::Levels => levels(alloc),
+            Parameter::Picks => picks(alloc),
         }
     }
 }
 
 fn program<'a>(alloc: Global) -> Result<Command<'a>, AllocError> {
-    let mut program = Command::new(alloc, "yarib")
-        .version("0.1.0")
-        .about("One IPv4 routing table, learned from route feeds, whose answers are proved")
-        .subcommand_required(true)
-        .arg_required_else_help(true);
+    let mut program = bare_program(alloc);
     for subcommand in SUBCOMMANDS {
         program = program.subcommand(subcommand.command(alloc)?)?;
     }
     Ok(program)
 }
 
-fn run_command<'a>(alloc: Global) -> Result<Command<'a>, AllocError> {
-    Command::new(alloc, "run")
-        .about("Run feed files, and print the reply to each command and the table")
-        .after_help(RUN_NOTES)
-        .arg(limit(alloc))?
-        .arg(batch(alloc, DEFAULT_BATCH))?
-        .arg(files(alloc))
-}
-
-fn lookup_command<'a>(alloc: Global) -> Result<Command<'a>, AllocError> {
-    Command::new(alloc, "lookup")
-        .about("Run feed files, and answer for each address from the table that they leave")
-        .after_help(LOOKUP_NOTES)
-        .arg(all(alloc))?
-        .arg(limit(alloc))?
-        .arg(batch(alloc, UNSEEN_BATCH))?
-        .arg(address(alloc))?
-        .arg(addresses(alloc))?
-        .arg(files(alloc))
-}
-
-fn table_command<'a>(alloc: Global) -> Result<Command<'a>, AllocError> {
-    Command::new(alloc, "table")
-        .about("Run feed files, and print the routes of the table that they leave")
-        .after_help(TABLE_NOTES)
-        .arg(best(alloc))?
-        .arg(limit(alloc))?
-        .arg(batch(alloc, UNSEEN_BATCH))?
-        .arg(files(alloc))
-}
-
-fn diff_command<'a>(alloc: Global) -> Result<Command<'a>, AllocError> {
-    Command::new(alloc, "diff")
-        .about(
-            "Run two sets of feed files, and print which addresses their tables answer otherwise",
-        )
-        .after_help(DIFF_NOTES)
-        .arg(by(alloc))?
-        .arg(limit(alloc))?
-        .arg(batch(alloc, UNSEEN_BATCH))?
-        .arg(old_files(alloc))?
-        .arg(new_files(alloc))
+/// The program without its subcommands.
+fn bare_program<'a>(alloc: Global) -> Command<'a> {
+    Command::new(alloc, "yarib")
+        .version("0.1.0")
+        .about("One IPv4 routing table, learned from route feeds, whose answers are proved")
+        .subcommand_required(true)
+        .arg_required_else_help(true)
 }
 
 fn all<'a>(alloc: Global) -> Arg<'a> {
-    Arg::new(alloc, "all")
-        .long("all")
-        .action(ArgAction::SetTrue)
-        .help("Print every route that covers an address, the best first")
+    let help = "Print every route that covers an address, the best first";
+    option(alloc, "all", help).action(ArgAction::SetTrue)
 }
 
 fn address<'a>(alloc: Global) -> Arg<'a> {
-    Arg::new(alloc, "address")
-        .long("address")
-        .value_name("ADDR")
-        .action(ArgAction::Append)
-        .help("An address to look up; may be given again")
+    option(
+        alloc,
+        "address",
+        "An address to look up; may be given again",
+    )
+    .value_name("ADDR")
+    .action(ArgAction::Append)
 }
 
 fn addresses<'a>(alloc: Global) -> Arg<'a> {
-    Arg::new(alloc, "addresses")
-        .long("addresses")
-        .value_name("FILE")
-        .help("A file of further addresses, one a line")
+    let help = "A file of further addresses, one a line";
+    option(alloc, "addresses", help).value_name("FILE")
 }
 
 fn best<'a>(alloc: Global) -> Arg<'a> {
-    Arg::new(alloc, "best")
-        .long("best")
-        .action(ArgAction::SetTrue)
-        .help("Print only the best route of each prefix")
+    let help = "Print only the best route of each prefix";
+    option(alloc, "best", help).action(ArgAction::SetTrue)
 }
 
 fn by<'a>(alloc: Global) -> Arg<'a> {
-    Arg::new(alloc, "by")
-        .long("by")
+    let help = "What is compared: where packets go, or whole routes";
+    option(alloc, "by", help)
         .value_name("WHAT")
         .value_parser(ValueParser::Names(COMPARED))
         .default_value(HOP)
-        .help("What is compared: where packets go, or whole routes")
 }
 
 fn limit<'a>(alloc: Global) -> Arg<'a> {
@@ -303,36 +342,16 @@ fn batch<'a>(alloc: Global, unless_given: &'a str) -> Arg<'a> {
 }
 
 fn files<'a>(alloc: Global) -> Arg<'a> {
-    Arg::new(alloc, "files")
-        .value_name("FILE")
-        .required(true)
-        .num_args(1..)
-        .help("Feed files, 1 to 64: one command a line; /dev/stdin may be one")
+    let help = "Feed files, 1 to 64: one command a line; /dev/stdin may be one";
+    file_names(alloc, "files", "FILE", help)
 }
 
 fn old_files<'a>(alloc: Global) -> Arg<'a> {
-    Arg::new(alloc, "files")
-        .value_name("OLD")
-        .required(true)
-        .num_args(1..)
-        .help("The old feed files, 1 to 64")
+    file_names(alloc, "files", "OLD", "The old feed files, 1 to 64")
 }
 
 fn new_files<'a>(alloc: Global) -> Arg<'a> {
-    Arg::new(alloc, "new")
-        .value_name("NEW")
-        .required(true)
-        .last(true)
-        .num_args(1..)
-        .help("The new feed files, 1 to 64")
-}
-
-fn replay_command<'a>(alloc: Global) -> Result<Command<'a>, AllocError> {
-    Command::new(alloc, "replay")
-        .about("Show the atomic steps of the lock for one schedule, one a line")
-        .after_help(REPLAY_NOTES)
-        .arg(levels(alloc))?
-        .arg(picks(alloc))
+    file_names(alloc, "new", "NEW", "The new feed files, 1 to 64").last(true)
 }
 
 fn levels<'a>(alloc: Global) -> Arg<'a> {
@@ -348,6 +367,11 @@ fn picks<'a>(alloc: Global) -> Arg<'a> {
         .help("The place that takes the next step")
 }
 
+/// An option of this long name.
+fn option<'a>(alloc: Global, name: &'a str, help: &'a str) -> Arg<'a> {
+    Arg::new(alloc, name).long(name).help(help)
+}
+
 /// An option that takes a number from the least to the most.
 fn number<'a>(
     alloc: Global,
@@ -357,10 +381,17 @@ fn number<'a>(
     most: u64,
     help: &'a str,
 ) -> Arg<'a> {
-    Arg::new(alloc, name)
-        .long(name)
+    option(alloc, name, help)
         .value_name(value_name)
         .value_parser(ValueParser::unsigned(least, most))
+}
+
+/// The names of files, at least one.
+fn file_names<'a>(alloc: Global, name: &'a str, value_name: &'a str, help: &'a str) -> Arg<'a> {
+    Arg::new(alloc, name)
+        .value_name(value_name)
+        .required(true)
+        .num_args(1..)
         .help(help)
 }
 
