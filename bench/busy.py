@@ -5,7 +5,8 @@ Usage: bench/busy.py [--store] [ROUNDS [LINES]]. Needs a built program (./yarib 
 twice as many busy processes as there are processors, in the ordinary scheduling class, and ends them by their ids. For each
 number of files and batch all run ROUNDS times in turn (5 if left out) with so many lines in all (160,000 if left out). Prints
 the middle time on the clock and of the processors, in milliseconds, the least and the greatest on the clock, and the ratios to
-one file and to the plain program; the last rows are of the quiet machine. --store keeps the figures in bench/figures/.
+one file and to the plain program; the last rows are of the quiet machine. --store keeps the figures in bench/figures/, and
+--default-memory has the C library's own memory measured.
 """
 import os
 import pathlib

@@ -1,9 +1,12 @@
 """What the scripts share that judge the program: a call, what is noted where something else was found, and the end."""
 import pathlib
+import re
 import subprocess
 import sys
 
 TOP = pathlib.Path(__file__).resolve().parent.parent
+# What the launchers set before the program starts, as ./yarib's own line says it: one arena of large pages for all threads.
+LAUNCHED = {"GLIBC_TUNABLES": re.search(r'^export GLIBC_TUNABLES="(.*?)\$', (TOP / "yarib").read_text(), re.M)[1]}
 failures = []
 
 

@@ -2,7 +2,8 @@
 
 A bench that is called with `--store` writes its file there. `docs/figures` makes the tables of docs/PERFORMANCE.md out of these
 files, and `docs/pictures/draw_figures.py` the pictures. It measures in the ordinary scheduling class, and doesn't begin to measure
-for a file while the machine has other work: half a processor's or more."""
+for a file while the machine has other work: half a processor's or more. It measures with the memory that ./yarib and what is
+installed start the program with, or, with `--default-memory`, with the C library's own; the plain programs have the same."""
 import datetime
 import json
 import os
@@ -12,7 +13,10 @@ import re
 import sys
 import time
 
+import checks
+
 FOLDER = pathlib.Path(__file__).resolve().parent / "figures"
+OPTIONS = ("--store", "--default-memory")
 
 
 # The machine's clock and the time that its host kept from it, when the measuring began.
@@ -20,12 +24,23 @@ began = None
 
 
 def words():
-    """The words of the command line but `--store`, with which the machine has to be quiet."""
+    """The words of the command line but `--store`, with which the machine has to be quiet, and `--default-memory`. All programs
+    that are started from then on have the memory that is measured, and the bench says which."""
     global began
     if "--store" in sys.argv and (others := working_processors()) > 0.5:
         sys.exit(f"{sys.argv[0]}: {others:.1f} processors work for others; figures are kept of a quiet machine alone")
+    for name, value in checks.LAUNCHED.items():
+        os.environ.pop(name, None)
+        if memory() == "launcher":
+            os.environ[name] = value
+    print(f"memory: {'as the launcher sets it' if memory() == 'launcher' else 'as the C library has it'}", flush=True)
     began = time.monotonic(), stolen_seconds()
-    return [word for word in sys.argv[1:] if word != "--store"]
+    return [word for word in sys.argv[1:] if word not in OPTIONS]
+
+
+def memory():
+    """Whose setting of memory is measured: the launcher's, or the default of the C library."""
+    return "default" if "--default-memory" in sys.argv else "launcher"
 
 
 def working_processors():
@@ -70,7 +85,7 @@ def keep(name, rounds, rows):
     head = {"machine": machine(), "made": datetime.date.today().isoformat(), "rounds": rounds}
     # of counts it doesn't matter
     if began is not None:
-        head["stolen"] = stolen()
+        head |= {"stolen": stolen(), "memory": memory()}
     lines = ",\n    ".join(json.dumps(row) for row in rows)
     text = json.dumps(head)[:-1] + f', "rows": [\n    {lines}\n]}}\n'
     json.loads(text)

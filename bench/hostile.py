@@ -4,9 +4,10 @@
 Usage: bench/hostile.py [--large [--store]] [YARIB]. Builds ./yarib first unless a built program is named. Linux, python3,
 gcc and glibc.
 
-Little memory: the program is run under rising limits of its address space. It must end as with ample memory, or with status 5
-and nothing on standard output, or with status 5 and what the model of refused_growth.py prints without the commands that it
-says were refused; never by a signal. Limits under which it can't be loaded at all are left out. Then each request of a look-up
+Little memory: the program is run under rising limits of its address space, with the memory that the C library gives by itself, and
+as the launchers set it. It must end as with ample memory, or with status 5 and nothing on standard output, or with status 5 and
+what the model of refused_growth.py prints without the commands that it says were refused; never by a signal. Limits under which it
+can't be loaded at all are left out. Then each request of a look-up
 and of a list is refused in turn, as refused_growth.py does it for all kinds of runs. With --large (some minutes, and up to 8 GB of memory) texts
 of 1 to 10 million lines and lines of 100 MB to 1 GB are run, and time and memory for a line or a byte are printed; --store keeps these figures in bench/figures/.
 """
@@ -21,7 +22,7 @@ import tempfile
 import time
 
 import figures
-from checks import built, end, expect, run, run_each
+from checks import LAUNCHED, built, end, expect, run, run_each
 from refused_growth import Wrong, answered_addresses, check_shown, files as text_files, own_text, refuse_each, refuser, run_text
 
 ROW = "add 10.0.0.0/8 100 192.0.2.1\n"
@@ -34,8 +35,9 @@ AGAIN = "add 10.0.0.0/8 100 192.0.2.1\nlookup 10.1.2.3\nwithdraw 10.0.0.0/8\ndum
 # Little memory
 
 
-def limited(words, size):
-    """A call with at most so many bytes of address space, or None where the program can't be loaded into them."""
+def limited(words, size, memory):
+    """A call with at most so many bytes of address space, with this setting of memory, or None where the program can't be loaded
+    into them."""
 
     def limit():
         resource.setrlimit(resource.RLIMIT_AS, (size, size))
@@ -45,7 +47,7 @@ def limited(words, size):
         loaded = run(words, preexec_fn=limit, env={"LD_TRACE_LOADED_OBJECTS": "1"})
         if loaded[0] != 0:
             return None
-        ended = run(words, preexec_fn=limit, env={})
+        ended = run(words, preexec_fn=limit, env=memory)
     except (subprocess.SubprocessError, OSError):
         return None
     return None if ended[0] == 127 else ended
@@ -82,18 +84,24 @@ def little_memory(yarib, folder):
         ("the help", ["run", "--help"], None, 4_096, 0),
     ]
     for name, words, texts, step, part in cases:
-        ample = run([yarib, *words])
-        kinds, size, in_turn = {}, 1 << 20, 0
-        while in_turn < 40 and size < 1 << 40:
-            ended = limited([yarib, *words], size)
-            if ended is not None:
-                kind = judge(f"{name} in {size // 1024} KB", ended, ample, texts, words)
-                kinds[kind] = kinds.get(kind, 0) + 1
-                in_turn = in_turn + 1 if ended == ample else 0
-            size += max(step, int(size * part)) // 4096 * 4096
-        expect(f"{name}: the last runs have all they want", in_turn, 40)
-        expect(f"{name}: some run was short of memory", len(kinds) > 1, True)
-        print(f"{name} under rising limits: " + ", ".join(f"{count} ended {kind}" for kind, count in kinds.items()), flush=True)
+        for memory, setting in (({}, ""), (LAUNCHED, ", launched")):
+            rising_limits(name + setting, [yarib, *words], texts, step, part, memory)
+
+
+def rising_limits(name, words, texts, step, part, memory):
+    """Runs under limits that rise by a step, and by a part of themselves, until 40 in succession have all they want."""
+    ample = run(words)
+    kinds, size, in_turn = {}, 1 << 20, 0
+    while in_turn < 40 and size < 1 << 40:
+        ended = limited(words, size, memory)
+        if ended is not None:
+            kind = judge(f"{name} in {size // 1024} KB", ended, ample, texts, words)
+            kinds[kind] = kinds.get(kind, 0) + 1
+            in_turn = in_turn + 1 if ended == ample else 0
+        size += max(step, int(size * part)) // 4096 * 4096
+    expect(f"{name}: the last runs have all they want", in_turn, 40)
+    expect(f"{name}: some run was short of memory", len(kinds) > 1, True)
+    print(f"{name} under rising limits: " + ", ".join(f"{count} ended {kind}" for kind, count in kinds.items()), flush=True)
 
 
 # Fails where status 2 stands in place of 5, or another text tells of refused commands: `['lookup', '--address'] in two
@@ -285,7 +293,8 @@ def large_texts(yarib, folder):
 
 
 def main():
-    yarib = built([word for word in figures.words() if word != "--large"])
+    words = figures.words() if "--large" in sys.argv else sys.argv[1:]
+    yarib = built([word for word in words if word != "--large"])
     with tempfile.TemporaryDirectory() as made:
         folder = pathlib.Path(made)
         run_each((files, outputs, little_memory, refused_commands), yarib, folder)

@@ -4,7 +4,8 @@
 Usage: bench/lock.py [--store] [ROUNDS [PASSAGES]]. Needs rt, gcc and pthreads. Each case runs the program crates/benches, bench/lock.c
 and the mutex one after another, ROUNDS times (9 if left out), each with so many passages (200,000 if left out). For each case
 the least time of a passage is printed, in nanoseconds, and its ratio to C: time on the clock, and time of the processors (user
-and system). --store keeps the figures in bench/figures/.
+and system). --store keeps the figures in bench/figures/, and
+--default-memory has the C library's own memory measured.
 """
 import os
 import pathlib

@@ -8,7 +8,8 @@ Each case is run with its first request refused, then with its second, and so on
 so that all requests after the refused one are refused as well. The cases are those of crates/benches/src/growth.rt (the lock, the
 shared table, feeds on gates) and runs and replays of the program. After each run the answers, the journal, the routes and
 what was printed are compared whole with a model that leaves out what was refused, and no run may end by a signal. At the end
-each kind of refusal must have been met.
+each kind of refusal must have been met. The requests are refused before the C library sees them, so what the launchers set
+changes nothing here, and all is run once.
 """
 import collections
 import os

@@ -6,6 +6,7 @@ Usage: bench/requests.py [YARIB]. Builds ./yarib first unless a built program is
 A list that grows doubles its room. So twice as many commands of a kind that takes no memory may cost no more than some
 requests for the text, the reports and the journal, and one more for each is seen; a run writes with not one request between
 two writes; and what a run holds at its end, when all routes are withdrawn or purged, is what a run of as many `dump`s holds.
+What the launchers set changes no request, only where the C library finds what it grants, so all is run once.
 """
 import os
 import pathlib

@@ -7,7 +7,8 @@ program (./yarib --version builds it), rustc and python3. Each of 1, 4, 16 and 6
 file takes back all it has by `purge`. Both programs run in turn, ROUNDS times (3 if left out), on one processor, on two and on
 all, in batches of 256; with --batches of 20,000 prefixes, in batches of 1, 16 and 256. Prints for each the least time on the
 clock and of the processors (user and system) and the peak memory, with the ratios, and fails where the outputs differ: no answer
-here depends on how the threads ran. --store keeps the figures in bench/figures/.
+here depends on how the threads ran. --store keeps the figures in bench/figures/, and
+--default-memory has the C library's own memory measured.
 """
 import os
 import pathlib

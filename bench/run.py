@@ -7,7 +7,8 @@ big ones have PREFIXES prefixes (500,000 if left out) with the lengths of a real
 run alone, at 10,000 to 1,000,000 prefixes. The plain program has one thread and takes the files in turn. Prints for each input
 the least time on the clock, the least time of the processors (user and system) and the peak memory of both, with the ratios, and
 fails where their outputs differ: whole for one file, the table for several, whose look-ups depend on how the threads ran.
---store keeps the figures in bench/figures/.
+--store keeps the figures in bench/figures/, and
+--default-memory has the C library's own memory measured.
 """
 import hashlib
 import os

@@ -5,7 +5,8 @@ Usage: bench/shared.py [--store] [ROUNDS [COMMANDS]]. Needs rt. Each case runs t
 mutex one after the other, ROUNDS times (9 if left out), each with so many commands in all (200,000 if left out). For each case
 the nanoseconds of a command are printed, on the clock and of the processors (user and system), and their ratios to the mutex:
 the least of one thread, whom other work can only slow down, and the middle one of several, of which single rounds differ much.
-The last rows are of two processors alone. --store keeps the figures in bench/figures/.
+The last rows are of two processors alone. --store keeps the figures in bench/figures/, and
+--default-memory has the C library's own memory measured.
 """
 import os
 import pathlib

@@ -6,14 +6,15 @@ Usage: bench/sizes.py [YARIB]. Builds ./yarib first unless a built program is na
 That a call which wants memory gets it where there is some, no clause can say. So: a million routes of one feed and more than a
 million lines, entries and answers; each number of files from 1 to 64, with as many offers of one prefix; feeds with other
 texts of their own; batches about the sizes at which lists grow; the greatest numbers and the last address. `lookup` and
-`table` are called on each number of files, on 300,000 routes and with 100,000 addresses.
+`table` are called on each number of files, on 300,000 routes and with 100,000 addresses. All is run with the memory that the C
+library gives by itself, and once more as the launchers set it.
 """
 import os
 import pathlib
 import sys
 import tempfile
 
-from checks import built, compare, end, run, run_each
+from checks import LAUNCHED, built, compare, end, run, run_each
 from refused_growth import address, all_answers_text, answers_text, ran, run_text, told_text
 
 MOST = 1_000_000
@@ -195,7 +196,11 @@ def main():
     yarib = built(sys.argv[1:])
     with tempfile.TemporaryDirectory() as folder:
         os.chdir(folder)
-        run_each((batches, purges, feeds, many_offers, million), yarib)
+        os.environ.pop("GLIBC_TUNABLES", None)
+        for setting, memory in (("by itself", {}), ("as the launchers set it", LAUNCHED)):
+            print(f"memory {setting}:", flush=True)
+            os.environ |= memory
+            run_each((batches, purges, feeds, many_offers, million), yarib)
         os.chdir("/")
     end()
 

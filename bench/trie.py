@@ -6,7 +6,8 @@ turn, ROUNDS times (5 if left out) over each number of prefixes (3,000, 30,000 a
 run more often). The table has a row for each call, with the least of the times in nanoseconds and the ratio: on the clock,
 and of the processor, for the user and the system. `together` is a look-up where 64 are asked for at once, beside the plain
 trie's single one; `retain` is a walk that takes out one of a thousand, for each prefix. Then how many nodes the trie has, and how many bytes a prefix the plain one asked for.
---store keeps the figures in bench/figures/.
+--store keeps the figures in bench/figures/, and
+--default-memory has the C library's own memory measured.
 """
 import pathlib
 import subprocess
