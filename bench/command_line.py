@@ -23,7 +23,7 @@ import time
 import tty
 
 import calls
-from checks import TOP, built, end, expect, run, run_each
+from checks import TOP, built, compare, end, expect, run, run_each
 from hostile import ROW, ROW_OUT, close_all
 
 CANNOT_WRITE = (6, "", "yarib: cannot write\n")
@@ -225,12 +225,15 @@ def batch_seen(yarib, words, batch):
     return divides
 
 
+# Fails where `--by` may be given twice: `--by twice`.
 def twice(yarib):
     for first, second in (("1", "2"), ("2", "2")):
         for name in ("--limit", "--batch"):
             misused(f"{name} twice", run([yarib, "run", name, first, name, second, "row.feed"]), name)
             misused(f"{name} before and behind", run([yarib, "run", name, first, "row.feed", name, second]), name)
         misused("--levels twice", run([yarib, "replay", "--levels", first, "--levels", second, "0"]), "--levels")
+    for second in ("hop", "route"):
+        misused(f"--by twice: {second}", run([yarib, "diff", "--by", "hop", "--by", second, "row.feed", "--", "row.feed"]), "--by")
 
 
 # Replays
@@ -575,6 +578,7 @@ def compared_tables(yarib):
     pathlib.Path("odd.feed").write_text("frob\n" + ROW)
     told = "yarib: odd.feed: faulty lines: 1, the first is line 1: E1: the first field is no command of this version\n"
     expect("what was not taken of both", run([yarib, "diff", "odd.feed", "--", "row.feed", "odd.feed"]), (2, "", told * 2))
+    old_first(yarib)
     expect("more than 64 new files", run([yarib, "diff", "row.feed", "--", *["row.feed"] * 65]), (3, "", "yarib: more than 64 files\n"))
     expect("an old file that is missing", run([yarib, "diff", "missing", "--", "row.feed"]), (4, "", "yarib: cannot read missing\n"))
     misused("no new file", run([yarib, "diff", "row.feed"]), "<NEW>")
@@ -583,10 +587,24 @@ def compared_tables(yarib):
     misused("what can't be compared", run([yarib, "diff", "--by", "feed", "row.feed", "--", "row.feed"]), "'feed'")
 
 
+# Fails where the new files are read first: `both are missing`.
+# Fails where the new files are told of first: `what was not taken of the old files comes first`.
+def old_first(yarib):
+    pathlib.Path("gone.feed").write_text("withdraw 10.0.0.0/8\n")
+    told = ["yarib: gone.feed: replaces and withdraws of a prefix not there: 1\n",
+            "yarib: faulty.feed: faulty lines: 1, the first is line 1: E1: the first field is no command of this version\n"]
+    for sides, lines in ((("gone", "faulty"), told), (("faulty", "gone"), told[::-1])):
+        old, new = (f"{side}.feed" for side in sides)
+        expect("what was not taken of the old files comes first", run([yarib, "diff", old, "--", new]), (2, "", "".join(lines)))
+    expect("both are missing", run([yarib, "diff", "missing", "--", "nor"]), (4, "", "yarib: cannot read missing\n"))
+    expect("both are missing, the other way round", run([yarib, "diff", "nor", "--", "missing"]), (4, "", "yarib: cannot read nor\n"))
+
+
 # Fails where nothing is told from the third file on, of a file that is named twice, or of it the second time: `a third
 # file and one that is named again`.
 # Fails where only the last part of a name is told: `all kinds of one file`.
 # Fails where an `add` of a prefix already there is told as one over the limit: `an add of what is there`.
+# Fails where what was not taken is counted to 255, 1,000 or 65,535: `tens of thousands of each kind`.
 # Fails where `table` gives status 0 where there were only `add`s over the limit: `adds over the limit alone`.
 def files_told(yarib):
     """Each file is told of, by the whole of its name and as often as it is named."""
@@ -609,10 +627,18 @@ def files_told(yarib):
     expect("adds over the limit alone", run([yarib, "table", "--limit", "1", "over.feed"]), (2, route(1), "yarib: over.feed: adds over the limit: 1\n"))
     many = [f"{name}.feed" for name in ("again", "gone", "row")] * 21 + ["again.feed"]
     expect("64 files, most of them told of", table(*many), (0, route(1), (again + gone) * 21 + again))
+    counts = {"frob\n": 70_001, "add 11.0.0.0/8 1 192.0.2.1\n": 70_002, ROW: 70_003, "withdraw 12.0.0.0/8\n": 70_004}
+    pathlib.Path("many.feed").write_text(ROW + "".join(line * count for line, count in counts.items()))
+    told = "".join(f"yarib: many.feed: {what}\n" for what in (
+        "faulty lines: 70001, the first is line 2: E1: the first field is no command of this version", "adds over the limit: 70002",
+        "adds of a prefix already there: 70003", "replaces and withdraws of a prefix not there: 70004"))
+    expect("tens of thousands of each kind", table("many.feed"), (2, route(1), told))
 
 
 # Fails where the first faulty address is numbered without the lines that are skipped, or only 64 KB of the text are read:
 # `a long text of addresses`.
+# Fails where faulty addresses are counted to 255 or 65,535: `256 faulty addresses`, `70001 faulty addresses`.
+# Fails where F3 is given to more than 1,000 or 4,096 `--address`es: `--address 1001 times`, `--address 30000 times`.
 # Fails where F3 is given to more than 2,000 addresses, or status 6 to more than 2,000 answers: `20,000 addresses`.
 # Fails where something is told of what was not taken though the output could not be written: `nothing is told where the
 # output is full`.
@@ -625,6 +651,12 @@ def addresses_told(yarib):
     asked = [yarib, "lookup", "--addresses", "asked.txt"]
     answer = "10.0.0.1 route " + route(1)
     expect("a long text of addresses", run([*asked, "row.feed"]), (2, answer * 2, told))
+    for count in (255, 256, 70_001):
+        pathlib.Path("asked.txt").write_text("frob\n" * count + "10.0.0.1\n")
+        told = f"yarib: asked.txt: faulty lines: {count}, the first is line 1: E3: the field is no prefix or address\n"
+        expect(f"{count} faulty addresses", run([*asked, "row.feed"]), (2, answer, told))
+    for count in (999, 1_000, 1_001, 1_024, 1_025, 30_000):
+        compare(f"--address {count} times", run([yarib, "lookup", *["--address=10.0.0.1"] * count, "row.feed"]), 0, answer * count)
     pathlib.Path("asked.txt").write_text("10.0.0.1\n" * 20_000)
     expect("20,000 addresses", run([*asked, "row.feed"]), (0, answer * 20_000, ""))
     pathlib.Path("asked.txt").write_text("frob\n10.0.0.1\n")
@@ -690,6 +722,14 @@ def sent_to(screen):
         return b""
 
 
+def seconds_on_terminal(words):
+    began = time.monotonic()
+    on_terminal(words, is_short=True)
+    return time.monotonic() - began
+
+
+# Fails where a call on a terminal lasts as long as the line's next second: `some call on a terminal is over in half a second`.
+# Fails where status 1 is 0 on a terminal: `a difference on a terminal`.
 # Fails where a run of less than a second says something, or one that isn't on a terminal; where the line isn't erased before
 # another text and at the end; where nothing is said after a second.
 def progress(yarib):
@@ -699,6 +739,9 @@ def progress(yarib):
     expect("a short run on a terminal", on_terminal([yarib, "run", "row.feed"], is_short=True), (0, ROW_OUT, ""))
     expect("a short run on a terminal alone", on_terminal([yarib, "run", "row.feed"], out_too=True, is_short=True), (0, "", ROW_OUT))
     expect("a missing file on a terminal", on_terminal([yarib, "run", "missing"], is_short=True), (4, "", "yarib: cannot read missing\n"))
+    differs = on_terminal([yarib, "diff", "row.feed", "--", "empty.feed"], is_short=True)
+    expect("a difference on a terminal", differs, (1, "10.0.0.0-10.255.255.255 via 192.0.2.1 -> no route\n", ""))
+    expect("some call on a terminal is over in half a second", any(seconds_on_terminal([yarib, "run", "row.feed"]) < 0.5 for _ in range(10)), True)
     slow, none_read = [yarib, "run", "slow.feed"], "yarib: files read: 0 of 1"
     expect("a slow file", on_terminal(slow, none_read, goes_on(ROW)), (0, ROW_OUT, ""))
     expect("a slow file, on a terminal alone", on_terminal(slow, none_read, goes_on(ROW), True), (0, "", ROW_OUT))
@@ -712,6 +755,25 @@ def progress(yarib):
     expect("a slow file, no terminal", child.communicate(timeout=120), (ROW_OUT, ""))
 
 
+# Fails where the line is written each 200 ms, or every other second: `the second line comes after ..`.
+def line_each_second(yarib):
+    """A held up run says a second time after two seconds how far it has come, or somewhat later beside other work."""
+    began, told = time.monotonic(), b"yarib: files read: 0 of 1"
+    screen, terminal = pty.openpty()
+    tty.setraw(terminal)
+    child = subprocess.Popen([yarib, "run", "slow.feed"], stdout=subprocess.DEVNULL, stderr=terminal)
+    os.close(terminal)
+    sent = b""
+    while sent.count(told) < 2 and (piece := sent_to(screen)):
+        sent += piece
+    seconds = time.monotonic() - began
+    expect(f"the second line comes after {seconds:.1f} seconds", 2 <= seconds < 4, True)
+    pathlib.Path("slow.feed").write_text(ROW)
+    expect("a run that told twice how far it has come", child.wait(timeout=120), 0)
+    os.close(screen)
+
+
+# Fails where the line tells only of the old feeds of a comparison: `32 busy feeds compared with 32`.
 # Fails where something else is said than how far a run has come, or where what was said before isn't erased.
 # Fails where something is said before a run has begun: `a long replay`.
 # Fails where the line is written on a terminal that has output already: `a long output on a terminal alone`.
@@ -731,6 +793,8 @@ def progress_of_long_runs(yarib):
     pathlib.Path("dumps.feed").write_text("dump\n" * 40_000)
     busy = [yarib, "table", "--batch", "1", *["dumps.feed"] * 64]
     expect("64 busy feeds", on_terminal(busy, "yarib: feeds running: 64"), (0, "", ""))
+    both = [yarib, "diff", "--batch", "1", *["dumps.feed"] * 32, "--", *["dumps.feed"] * 32]
+    expect("32 busy feeds compared with 32", on_terminal(both, "yarib: feeds running: 64"), (0, "", ""))
 
 
 def main():
@@ -745,7 +809,7 @@ def main():
         run_each((
             runs, what_the_table_says, what_two_tables_answer_otherwise, file_order, many_files, unreadable, names,
             texts, limits, batches, twice, replays, finished_tables, compared_tables, not_taken, pages,
-            examples_of_the_help, help_is_true, closed_outputs, progress, progress_of_long_runs,
+            examples_of_the_help, help_is_true, closed_outputs, progress, line_each_second, progress_of_long_runs,
         ), yarib)
         os.chdir("/")
     end()

@@ -192,6 +192,72 @@ def at_limit(yarib):
     compare("a run of 65,537 routes", run([*batched, "--limit", "1000000"]), 0, whole)
 
 
+# Fails where F3 is answered where over 128 routes cover an address, or over 2,000: `addresses that 64 to 2112 routes cover`.
+def covered(yarib):
+    """All prefixes of one address from 64 feeds, the most that can cover it, and numbers of them about powers of two."""
+    # So many feeds have the prefix of each length: 64, 127, 128, 129, 193, 255, 256, 257 and then 64 more at each length.
+    offers = [64, 63, 1, 1, 64, 62, 1, 1] + [64] * 25
+    base = 0b1010_1010_1010_1010_1010_1010_1010_1010
+    prefix = lambda length: f"{address(base >> 32 - length << 32 - length)}/{length}"
+    # Each address leaves the others' way behind another bit.
+    asked = [address(base ^ (1 << 31 - length if length < 32 else 0)) for length in range(33)]
+    for name, counts in (("some", offers), ("all", [64] * 33)):
+        texts = ["".join(f"add {prefix(length)} {feed} 192.0.2.{feed}\n" for length, count in enumerate(counts) if feed <= count) for feed in range(1, 65)]
+        names = [f"{name}{feed}.feed" for feed in range(1, 65)]
+        for file, text in zip(names, texts):
+            pathlib.Path(file).write_text(text)
+        ended = run([yarib, "lookup", "--all", *[f"--address={addr}" for addr in asked], *names])
+        compare(f"addresses that {counts[0]} to {sum(counts)} routes cover", ended, 0, all_answers_text(texts, asked))
+
+
+# Fails where F3 is answered to a comparison of more than 8,192 or 262,144 nodes, or after 1,000 ranges: `8193 routes that differ`,
+# `300000 routes that differ`, `1001 routes that differ`.
+def compared(yarib):
+    """Single addresses, no two of them neighbours, all of which differ or none, or the last alone."""
+    for count in (1, 999, 1_000, 1_001, 8_192, 8_193, 65_536, 300_000):
+        places = [address(0x0A00_0000 + 2 * at) for at in range(count)]
+        for side in (1, 2):
+            pathlib.Path(f"side{side}.feed").write_text("".join(f"add {place}/32 1 192.0.2.{side}\n" for place in places))
+        pathlib.Path("last.feed").write_text("".join(f"add {place}/32 1 192.0.2.1\n" for place in places[:-1]))
+        words = [yarib, "diff", "--limit", str(MOST)]
+        out = "".join(f"{place}-{place} via 192.0.2.1 -> via 192.0.2.2\n" for place in places)
+        compare(f"{count} routes that differ", run([*words, "side1.feed", "--", "side2.feed"]), 1, out)
+        compare(f"{count} routes of which none differs", run([*words, "side1.feed", "--", "side1.feed"]), 0, "")
+        out = f"{places[-1]}-{places[-1]} no route -> via 192.0.2.1\n"
+        compare(f"{count} routes of which one differs", run([*words, "last.feed", "--", "side1.feed"]), 1, out)
+
+
+# Fails where F3 is answered to more than 100,000 or 1,000,000 addresses: `100001 addresses`, `1000001 addresses`.
+def addresses(yarib):
+    pathlib.Path("row.feed").write_text("add 10.0.0.0/8 1 192.0.2.1\n")
+    answer = "10.0.0.1 route 10.0.0.0/8 feed 1 pref 1 via 192.0.2.1\n"
+    for count in (100_001, MOST + 1, 2_500_000):
+        pathlib.Path("asked.txt").write_text("10.0.0.1\n" * count)
+        for words in ([], ["--all"]):
+            compare(f"{count} addresses {words}", run([yarib, "lookup", *words, "--addresses", "asked.txt", "row.feed"]), 0, answer * count)
+
+
+# Fails where F3 is answered to more than 1,000,000 routes in all: `the table of 1000001 routes in all`.
+def in_all(yarib):
+    """More routes in all than one feed may have: a few more in every command, and far more where little of them is printed."""
+    places = [f"10.{at >> 8}.{at & 255}.0/24" for at in range(65_536)]
+    adds = [f"add {place} 1 192.0.2.1\n" for place in places]
+    pathlib.Path("whole.feed").write_text("".join(adds))
+    pathlib.Path("rest.feed").write_text("".join(adds[: MOST + 1 - 15 * 65_536]))
+    names = ["whole.feed"] * 15 + ["rest.feed"]
+    feeds = [15 + (at < MOST + 1 - 15 * 65_536) for at in range(65_536)]
+    listed = "".join(f"{place} feed {feed} pref 1 via 192.0.2.1\n" for place, count in zip(places, feeds) for feed in range(1, count + 1))
+    compare("the table of 1000001 routes in all", run([yarib, "table", *names]), 0, listed)
+    report = "".join(f"{feed}:{line} added\n" for feed in range(1, 17) for line in range(1, 65_537 if feed < 16 else MOST + 2 - 15 * 65_536))
+    compare("a run of 1000001 routes in all", run([yarib, "run", "--batch", "256", *names]), 0, report + "table 1000001\n" + listed)
+    best = [f"{place} feed 1 pref 1 via 192.0.2.1\n" for place in places]
+    last = ["--address", "10.255.255.1"]
+    for count, more in ((16, names), (64, ["whole.feed"] * 64)):
+        compare(f"the best routes of {count} feeds", run([yarib, "table", "--best", *more]), 0, "".join(best))
+        compare(f"a look-up in {count} feeds", run([yarib, "lookup", *last, *more]), 0, "10.255.255.1 route " + best[-1])
+    compare("16 feeds compared with 16", run([yarib, "diff", *names, "--", *names]), 0, "")
+
+
 def main():
     yarib = built(sys.argv[1:])
     with tempfile.TemporaryDirectory() as folder:
@@ -200,7 +266,7 @@ def main():
         for setting, memory in (("by itself", {}), ("as the launchers set it", LAUNCHED)):
             print(f"memory {setting}:", flush=True)
             os.environ |= memory
-            run_each((batches, purges, feeds, many_offers, million), yarib)
+            run_each((batches, purges, feeds, many_offers, covered, compared, addresses, in_all, million), yarib)
         os.chdir("/")
     end()
 
