@@ -1,7 +1,8 @@
 /* Counts waits. Loaded before a program by LD_PRELOAD, it keeps in the file of descriptor COUNT_IN for each word on which the
    program's threads wait how often they waited there for less than a second, how often for as long as it takes, and how
-   often one was woken: naps at the lock's door, sleep at a bell, and its ringing. It rests on the program's calls of glibc's
-   `syscall`. */
+   often one was woken: naps at the lock's door, sleep at a bell, and its ringing. Before these it keeps the nanoseconds that
+   the program's threads had worked at the first write to standard output, and at the end of the last. It rests on the
+   program's calls of glibc's `syscall` and `write`. */
 #define _GNU_SOURCE
 #include <dlfcn.h>
 #include <linux/futex.h>
@@ -11,6 +12,7 @@
 #include <sys/mman.h>
 #include <sys/syscall.h>
 #include <time.h>
+#include <unistd.h>
 
 enum { WORDS = 1000, COMMANDS = 127 };
 
@@ -19,23 +21,40 @@ struct word {
   atomic_ulong naps, sleeps, wakes;
 };
 
-static struct word unread[WORDS], *words = unread;
-static long (*real)(long, ...);
+struct counts {
+  unsigned long first_write, last_write;
+  struct word words[WORDS];
+};
+
+static struct counts unread, *counts = &unread;
+static long (*real_syscall)(long, ...);
+static ssize_t (*real_write)(int, const void *, size_t);
 
 __attribute__((constructor)) static void begin(void) {
-  real = (long (*)(long, ...))dlsym(RTLD_NEXT, "syscall");
+  real_syscall = (long (*)(long, ...))dlsym(RTLD_NEXT, "syscall");
+  real_write = (ssize_t (*)(int, const void *, size_t))dlsym(RTLD_NEXT, "write");
   const char *descriptor = getenv("COUNT_IN");
   if (descriptor == NULL) return;
-  void *shared = mmap(NULL, sizeof unread, PROT_READ | PROT_WRITE, MAP_SHARED, atoi(descriptor), 0);
-  if (shared != MAP_FAILED) words = shared;
+  void *shared = mmap(NULL, sizeof *counts, PROT_READ | PROT_WRITE, MAP_SHARED, atoi(descriptor), 0);
+  if (shared != MAP_FAILED) counts = shared;
 }
 
-static struct word *counts_of(long place) {
+static struct word *word_at(long place) {
   for (int at = 0; at < WORDS; at++) {
+    struct word *word = &counts->words[at];
     long found = 0;
-    if (atomic_compare_exchange_strong(&words[at].place, &found, place) || found == place) return &words[at];
+    if (atomic_compare_exchange_strong(&word->place, &found, place) || found == place) return word;
   }
   abort();
+}
+
+static void count(long place, int command, const struct timespec *limit) {
+  if (command == FUTEX_WAKE) {
+    word_at(place)->wakes++;
+  } else if (command == FUTEX_WAIT || command == FUTEX_WAIT_BITSET) {
+    if (limit != NULL && limit->tv_sec < 1) word_at(place)->naps++;
+    else word_at(place)->sleeps++;
+  }
 }
 
 long syscall(long number, ...) {
@@ -44,14 +63,19 @@ long syscall(long number, ...) {
   va_start(rest, number);
   for (int at = 0; at < 6; at++) given[at] = va_arg(rest, long);
   va_end(rest);
-  int command = given[1] & COMMANDS;
-  if (number == SYS_futex && (command == FUTEX_WAIT || command == FUTEX_WAIT_BITSET)) {
-    struct word *counts = counts_of(given[0]);
-    const struct timespec *limit = (const struct timespec *)given[3];
-    if (limit != NULL && limit->tv_sec < 1) counts->naps++;
-    else counts->sleeps++;
-  } else if (number == SYS_futex && command == FUTEX_WAKE) {
-    counts_of(given[0])->wakes++;
-  }
-  return real(number, given[0], given[1], given[2], given[3], given[4], given[5]);
+  if (number == SYS_futex) count(given[0], given[1] & COMMANDS, (const struct timespec *)given[3]);
+  return real_syscall(number, given[0], given[1], given[2], given[3], given[4], given[5]);
+}
+
+static unsigned long worked(void) {
+  struct timespec now;
+  clock_gettime(CLOCK_PROCESS_CPUTIME_ID, &now);
+  return now.tv_sec * 1000000000UL + now.tv_nsec;
+}
+
+ssize_t write(int descriptor, const void *from, size_t size) {
+  if (descriptor == 1 && counts->first_write == 0) counts->first_write = worked();
+  ssize_t written = real_write(descriptor, from, size);
+  if (descriptor == 1) counts->last_write = worked();
+  return written;
 }
