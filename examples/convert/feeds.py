@@ -582,6 +582,18 @@ def parser(documentation, numbers=("local-pref",)):
     return made
 
 
+def always_compare_med(parser):
+    """The option of those that choose among BGP's routes."""
+    parser.add_argument("--always-compare-med", action="store_true", help="compare MED whatever the neighbouring AS")
+
+
+def as_number(text):
+    """The number of an AS of the command line."""
+    if not text.isdecimal() or not 0 < int(text) <= GREATEST:
+        raise ValueError
+    return int(text)
+
+
 def plain_parser(documentation):
     return argparse.ArgumentParser(
         description=documentation, formatter_class=argparse.RawDescriptionHelpFormatter, allow_abbrev=False

@@ -1,0 +1,144 @@
+"""BGP's choice among the routes to one prefix: attributes in, order out.
+
+The steps are those of RFC 4271, section 9.1.2.2, behind the degree of preference of section 9.1.1; each decides where all
+before it leave a tie:
+
+1. the greatest local preference
+2. the shortest AS path: a set counts as one AS, a confederation's segment as none (RFC 5065, section 5.3)
+3. the lowest origin: IGP, EGP, INCOMPLETE
+4. the lowest MED (a route without one has 0), among routes from the same neighbouring AS alone
+5. EBGP before IBGP; a peer of the same confederation counts as internal (RFC 5065, section 5.3)
+6. the lowest cost of the way to the next hop
+7. the lowest BGP identifier of the speaker; of a reflected route its ORIGINATOR_ID (RFC 4456, section 9)
+8. the shortest CLUSTER_LIST (RFC 4456, section 9)
+9. the lowest address of the peer
+10. of several paths of one peer the lowest number (RFC 7911 leaves this open)
+
+What the input doesn't show is alike for all routes, so that the next step decides.
+
+MED makes no order: of three routes, each may lose to another. The best route is that of the standard, which doesn't depend on
+how the routes are listed: first the best of each neighbouring AS, then the best of these without MED. The next one is what would
+be the best if no source of an earlier one had any route; that is what a daemon chooses when their sessions end. When the session of
+a later source ends, the daemon's choice among the others may change, and no order of the sources can tell that."""
+import functools
+import ipaddress
+import re
+import typing
+
+# of a local preference, a MED and an address
+GREATEST = 4294967295
+# what is taken where a route has no local preference
+LOCAL_PREF = 100
+ORIGINS = {"IGP": 0, "EGP": 1, "INCOMPLETE": 2}
+# a confederation's segments of a path, as bgpdump and FRR print them or as BIRD does, and a set
+CONFEDERATION = re.compile(r"\([^)]*\)|\[[^]]*\]")
+SET = re.compile(r"\{[^}]*\}")
+# the neighbouring AS of a path that names none
+OWN = ""
+# where the steps before MED begin in their number, in bits
+LENGTH_AT, PREFERENCE_AT, MED_BITS = 2, 32, 32
+# A candidate is a tuple that begins with these: what is compared before MED and what behind it, the number of a peer's path, MED,
+# the AS path, and the source. Of the first three the least is the best.
+BEFORE, BEHIND, NUMBER, MED, PATH, SOURCE = range(6)
+
+
+class Attributes(typing.NamedTuple):
+    """What a route is compared by. `ahead` is what its daemon compares before all, the least first."""
+
+    ahead: tuple = ()
+    local_pref: int = LOCAL_PREF
+    path: str = ""
+    origin: int = ORIGINS["IGP"]
+    med: int = 0
+    internal: bool = False
+    cost: int = 0
+    identifier: tuple = ()
+    clusters: int = 0
+    peer: tuple = ()
+    number: int = 0
+
+
+def length_of(path):
+    """The number of AS in a path."""
+    if "(" in path or "{" in path or "[" in path:
+        return len(SET.sub(" set ", CONFEDERATION.sub(" ", path)).split())
+    return path.count(" ") + 1 if path else 0
+
+
+def neighbour_of(path):
+    """The neighbouring AS: the first of the path behind a confederation's segments, the own one if it isn't in a sequence
+    (RFC 4271, section 9.1.2.2 c; RFC 5065, section 5.3)."""
+    first = path.partition(" ")[0]
+    if first[:1] in "([{":
+        outside = CONFEDERATION.sub(" ", path).split()
+        return outside[0] if outside and not outside[0].startswith("{") else OWN
+    return first
+
+
+def before_med(local_pref, length, origin):
+    """The steps before MED as one number: numbers are compared faster than tuples."""
+    return (GREATEST - local_pref) << PREFERENCE_AT | length << LENGTH_AT | origin
+
+
+def with_med(before, med):
+    """The same and MED, where that is compared whatever the neighbouring AS."""
+    return before << MED_BITS | med
+
+
+@functools.lru_cache(1024)
+def address_order(text):
+    """By what addresses are compared; IPv4 comes first, and before it what is no address."""
+    try:
+        address = ipaddress.ip_address(text)
+    except ValueError:
+        return 0, 0, text
+    return address.version, int(address), ""
+
+
+def candidate(source, attributes, always_compare_med=False):
+    ahead, local_pref, path, origin, med, internal, cost, identifier, clusters, peer, number = attributes
+    before = before_med(local_pref, length_of(path), origin)
+    if always_compare_med:
+        before, med = with_med(before, med), 0
+    internal = internal or path.startswith(("(", "["))
+    return (ahead, before), (internal, cost, identifier, clusters, peer), number, med, path, source
+
+
+def best_of_each(candidates):
+    """The best candidate of each source, in the order of choice."""
+    candidates = sorted(candidates)
+    if med_decides(candidates):
+        return list(one_by_one(candidates))
+    if len({candidate[SOURCE] for candidate in candidates}) == len(candidates):
+        return candidates
+    best = {}
+    for candidate in candidates:
+        best.setdefault(candidate[SOURCE], candidate)
+    return list(best.values())
+
+
+def med_decides(candidates):
+    """Whether two of one neighbouring AS are alike before MED and differ in it."""
+    if len({candidate[MED] for candidate in candidates}) == 1:
+        return False
+    neighbours = [neighbour_of(candidate[PATH]) for candidate in candidates]
+    if len(set(neighbours)) == len(candidates):
+        return False
+    meds = {}
+    for candidate, neighbour in zip(candidates, neighbours):
+        if meds.setdefault((candidate[BEFORE], neighbour), candidate[MED]) != candidate[MED]:
+            return True
+    return False
+
+
+def one_by_one(candidates):
+    """Each time the best of the sources that are left: the first of those that no other of their neighbouring AS precedes."""
+    left = sorted(candidates, key=lambda candidate: (candidate[BEFORE], candidate[MED], candidate))
+    left = [(candidate, neighbour_of(candidate[PATH])) for candidate in left]
+    while left:
+        first = {}
+        for candidate, neighbour in left:
+            first.setdefault(neighbour, candidate)
+        best = min(first.values())
+        yield best
+        left = [pair for pair in left if pair[0][SOURCE] != best[SOURCE]]
