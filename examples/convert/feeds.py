@@ -435,13 +435,18 @@ def chosen_first(prefix, paths, notes, valid="valid", best="best"):
 
 
 def one_each(offers, notes):
-    """The offers of a prefix without the further ones of a source, for a feed has one route to a prefix."""
+    """The offers of a prefix without the further ones of a source."""
     first = {}
     for offer in offers:
         first.setdefault(offer.source, offer)
-    if len(first) < len(offers):
-        notes.leave_out("further routes of a source to one prefix", len(offers) - len(first))
+    leave_out_further(len(offers) - len(first), notes)
     return first.values()
+
+
+def leave_out_further(number, notes):
+    """A feed has one route to a prefix."""
+    if number:
+        notes.leave_out("further routes of a source to one prefix", number)
 
 
 def preference_of(prefix, offer):
