@@ -144,13 +144,16 @@ def one_by_one(candidates):
         left = [pair for pair in left if pair[0][SOURCE] != best[SOURCE]]
 
 
+def ranked(routes, source_of, attributes_of, always_compare_med=False):
+    """Of each source the best route, in the order of choice."""
+    candidates = [
+        (*candidate(source_of(route), attributes_of(route), always_compare_med), place) for place, route in enumerate(routes)
+    ]
+    return [routes[place] for *_, place in best_of_each(candidates)]
+
+
 def behind_the_first(routes, source_of, attributes_of, always_compare_med=False):
     """The first route, which is the daemon's choice, and of each other source the best one in the order of choice."""
     first, *others = routes
     others = [route for route in others if source_of(route) != source_of(first)]
-    if len(others) < 2:
-        return [first, *others]
-    candidates = [
-        (*candidate(source_of(route), attributes_of(route), always_compare_med), place) for place, route in enumerate(others)
-    ]
-    return [first, *(others[place] for *_, place in best_of_each(candidates))]
+    return [first, *(ranked(others, source_of, attributes_of, always_compare_med) if len(others) > 1 else others)]
