@@ -32,30 +32,39 @@ LOCAL_PREF = 100
 ORIGINS = {"IGP": 0, "EGP": 1, "INCOMPLETE": 2}
 # a confederation's segments of a path, as bgpdump and FRR print them or as BIRD does, and a set
 CONFEDERATION = re.compile(r"\([^)]*\)|\[[^]]*\]")
+# how the path begins that came from a peer of the same confederation
+INSIDE = ("(", "[")
 SET = re.compile(r"\{[^}]*\}")
 # the neighbouring AS of a path that names none
 OWN = ""
 # where the steps before MED begin in their number, in bits
-LENGTH_AT, PREFERENCE_AT, MED_BITS = 2, 32, 32
-# A candidate is a tuple that begins with these: what is compared before MED and what behind it, the number of a peer's path, MED,
-# the AS path, and the source. Of the first three the least is the best.
-BEFORE, BEHIND, NUMBER, MED, PATH, SOURCE = range(6)
+LENGTH_AT, PREFERENCE_AT, AHEAD_AT, MED_BITS = 2, 32, 64, 32
+# A candidate is a tuple of these: what is compared before MED and what behind it, the number of a peer's path, MED, the AS path, the
+# source, and what it stands for. Of the first three the least is the best.
+BEFORE, BEHIND, NUMBER, MED, PATH, SOURCE, WHAT = range(7)
 
 
 class Attributes(typing.NamedTuple):
-    """What a route is compared by. `ahead` is what its daemon compares before all, the least first."""
+    """What a route is compared by, but for the path and MED, which differ from prefix to prefix. `ahead` is what its daemon
+    compares before all, the least first."""
 
-    ahead: tuple = ()
+    ahead: int = 0
     local_pref: int = LOCAL_PREF
-    path: str = ""
     origin: int = ORIGINS["IGP"]
-    med: int = 0
     internal: bool = False
     cost: int = 0
     identifier: tuple = ()
     clusters: int = 0
     peer: tuple = ()
-    number: int = 0
+
+
+class Standing(typing.NamedTuple):
+    """What attributes come to: what is compared before MED, without the path's length, and what behind it, for a path from
+    outside and for one from a confederation's peer."""
+
+    before: int
+    behind: tuple
+    behind_inside: tuple
 
 
 def length_of(path):
@@ -75,9 +84,9 @@ def neighbour_of(path):
     return first
 
 
-def before_med(local_pref, length, origin):
+def before_med(local_pref, length, origin, ahead=0):
     """The steps before MED as one number: numbers are compared faster than tuples."""
-    return (GREATEST - local_pref) << PREFERENCE_AT | length << LENGTH_AT | origin
+    return ahead << AHEAD_AT | (GREATEST - local_pref) << PREFERENCE_AT | length << LENGTH_AT | origin
 
 
 def with_med(before, med):
@@ -95,13 +104,17 @@ def address_order(text):
     return address.version, int(address), ""
 
 
-def candidate(source, attributes, always_compare_med=False):
-    ahead, local_pref, path, origin, med, internal, cost, identifier, clusters, peer, number = attributes
-    before = before_med(local_pref, length_of(path), origin)
+def standing(attributes):
+    ahead, local_pref, origin, internal, *behind = attributes
+    return Standing(before_med(local_pref, 0, origin, ahead), (internal, *behind), (True, *behind))
+
+
+def candidate(standing, path, med, number, source, what, always_compare_med=False):
+    before, behind, behind_inside = standing
+    before += length_of(path) << LENGTH_AT
     if always_compare_med:
         before, med = with_med(before, med), 0
-    internal = internal or path.startswith(("(", "["))
-    return (ahead, before), (internal, cost, identifier, clusters, peer), number, med, path, source
+    return before, behind_inside if path.startswith(INSIDE) else behind, number, med, path, source, what
 
 
 def best_of_each(candidates):
@@ -142,18 +155,3 @@ def one_by_one(candidates):
         best = min(first.values())
         yield best
         left = [pair for pair in left if pair[0][SOURCE] != best[SOURCE]]
-
-
-def ranked(routes, source_of, attributes_of, always_compare_med=False):
-    """Of each source the best route, in the order of choice."""
-    candidates = [
-        (*candidate(source_of(route), attributes_of(route), always_compare_med), place) for place, route in enumerate(routes)
-    ]
-    return [routes[place] for *_, place in best_of_each(candidates)]
-
-
-def behind_the_first(routes, source_of, attributes_of, always_compare_med=False):
-    """The first route, which is the daemon's choice, and of each other source the best one in the order of choice."""
-    first, *others = routes
-    others = [route for route in others if source_of(route) != source_of(first)]
-    return [first, *(ranked(others, source_of, attributes_of, always_compare_med) if len(others) > 1 else others)]

@@ -8,7 +8,7 @@ from choice import ORIGINS
 
 # Each step in the order of the standard, with what wins and what loses; what is compared before is alike.
 STEPS = (
-    ("the daemon's own", {"ahead": (0,)}, {"ahead": (1,)}),
+    ("the daemon's own", {"ahead": 0}, {"ahead": 1}),
     ("local preference", {"local_pref": 200}, {"local_pref": 100}),
     ("length of the path", {"path": "65001 65008"}, {"path": "65001 65009 65010"}),
     ("origin IGP", {"origin": ORIGINS["IGP"]}, {"origin": ORIGINS["EGP"]}),
