@@ -17,9 +17,11 @@ before it leave a tie:
 What the input doesn't show is alike for all routes, so that the next step decides.
 
 MED makes no order: of three routes, each may lose to another. The best route is that of the standard, which doesn't depend on
-how the routes are listed: first the best of each neighbouring AS, then the best of these without MED. The next one is what would
-be the best if no source of an earlier one had any route; that is what a daemon chooses when their sessions end. When the session of
-a later source ends, the daemon's choice among the others may change, and no order of the sources can tell that."""
+how the routes are listed: first the best of each neighbouring AS, then the best of these without MED. BIRD and FRR, unless they are
+configured to do so (deterministic MED), go through the routes as they list them instead, and keep the better of two each time (`in
+turn`). The next route is what would be the best if no source of an earlier one had any; that is what a daemon chooses when their
+sessions end. When the session of a later source ends, the choice among the others may change, and no order of the sources can tell
+that."""
 import functools
 import ipaddress
 import re
@@ -117,15 +119,15 @@ def candidate(standing, path, med, number, source, what, always_compare_med=Fals
     return before, behind_inside if path.startswith(INSIDE) else behind, number, med, path, source, what
 
 
-def best_of_each(candidates):
+def best_of_each(candidates, in_turn=False):
     """The best candidate of each source, in the order of choice."""
-    candidates = sorted(candidates)
-    if med_decides(candidates):
-        return list(one_by_one(candidates))
-    if len({candidate[SOURCE] for candidate in candidates}) == len(candidates):
-        return candidates
+    ordered = sorted(candidates)
+    if med_decides(ordered):
+        return list(one_by_one(candidates, first_in_turn if in_turn else first_of_neighbours))
+    if len({candidate[SOURCE] for candidate in ordered}) == len(ordered):
+        return ordered
     best = {}
-    for candidate in candidates:
+    for candidate in ordered:
         best.setdefault(candidate[SOURCE], candidate)
     return list(best.values())
 
@@ -144,14 +146,32 @@ def med_decides(candidates):
     return False
 
 
-def one_by_one(candidates):
-    """Each time the best of the sources that are left: the first of those that no other of their neighbouring AS precedes."""
-    left = sorted(candidates, key=lambda candidate: (candidate[BEFORE], candidate[MED], candidate))
-    left = [(candidate, neighbour_of(candidate[PATH])) for candidate in left]
+def one_by_one(candidates, first):
+    """Each time the first of the sources that are left."""
+    left = [(candidate, neighbour_of(candidate[PATH])) for candidate in candidates]
     while left:
-        first = {}
-        for candidate, neighbour in left:
-            first.setdefault(neighbour, candidate)
-        best = min(first.values())
+        best = first(left)
         yield best
         left = [pair for pair in left if pair[0][SOURCE] != best[SOURCE]]
+
+
+def first_of_neighbours(pairs):
+    """The first of those that are each the first of a neighbouring AS."""
+    best = {}
+    for candidate, neighbour in pairs:
+        order = candidate[BEFORE], candidate[MED], candidate
+        if neighbour not in best or order < best[neighbour]:
+            best[neighbour] = order
+    return min(candidate for _, _, candidate in best.values())
+
+
+def first_in_turn(pairs):
+    """The better of each and of what was kept of those before it."""
+    (best, best_neighbour), *others = pairs
+    for candidate, neighbour in others:
+        before, best_before = candidate[BEFORE], best[BEFORE]
+        if neighbour == best_neighbour:
+            before, best_before = (before, candidate[MED]), (best_before, best[MED])
+        if (before, candidate) < (best_before, best):
+            best, best_neighbour = candidate, neighbour
+    return best

@@ -36,17 +36,19 @@ PATHS = (
     ("(65101 65102)", 0, ""),
     ("(65101) {65002,65003}", 1, ""),
 )
-# Routes of which MED decides: a source, its path, MED and peer; and the order. In each the sources are named in the
-# order of their peers.
+THREE = (("a", "1", 20), ("b", "2", 0), ("c", "1", 10))
+# Routes of which MED decides: the order, and of each its source, path and MED. The sources are named in the order of their peers.
 OF_MED = (
     ("a lower MED of another neighbouring AS decides nothing", "ab", (("a", "1", 20), ("b", "2", 10))),
     ("a lower MED of the same neighbouring AS decides", "ba", (("a", "1 5", 20), ("b", "1 6", 10))),
     ("none is 0", "ba", (("a", "1 5", 1), ("b", "1 6", 0))),
-    ("a route that loses by MED doesn't beat others", "bca", (("a", "1", 20), ("b", "2", 0), ("c", "1", 10))),
+    ("a route that loses by MED doesn't beat others", "bca", THREE),
     ("what is left when the best is gone", "bcad", (("a", "2", 10), ("b", "1", 10), ("c", "2", 0), ("d", "1", 20))),
     ("of a confederation's own routes", "ba", (("a", "(65101)", 20), ("b", "(65102)", 10))),
     ("a path longer than the best one's loses to none by MED", "abc", (("a", "1", 20), ("b", "2", 0), ("c", "1 5", 10))),
 )
+# How those three are listed, and their order where a daemon goes through them in turn.
+IN_TURN = (("abc", "cab"), ("acb", "bca"), ("bac", "cab"), ("bca", "abc"), ("cab", "bca"), ("cba", "abc"))
 
 
 class Sample:
@@ -176,6 +178,8 @@ FEASIBLE = "RFC 4271, 9.1.2: a route whose NEXT_HOP isn't resolvable is excluded
 EXTERNAL = "RFC 4271, 9.1.2.2 d: if a route was received via EBGP, all that were received via IBGP are removed"
 INSIDE = "RFC 5065, 5.3, 4: a route from a peer in the same confederation is treated as internal"
 ADDRESS = "RFC 4271, 9.1.2.2 g: prefer the route received from the lowest peer address"
+IN_TURN_ALONE = "RFC 4271, 9.1.2.2 c isn't followed: without `deterministic MED` BIRD and FRR compare routes in turn"
+OF_TWO_SYSTEMS = ((3, {"path": "65010", "metric": 20}), (4, {"path": "65020"}), (5, {"path": "65010", "metric": 10}))
 FRR = (
     Sample("FRR's next hop is the one that is used", "RFC 2545, 3: a next hop may be a global and a link-local address",
            "frr-to-feeds", frr((2, {**CHOSEN, "nexthops": [{"ip": "192.0.2.8"}, {"ip": "192.0.2.9", "used": True}]})),
@@ -197,6 +201,9 @@ FRR = (
     behind_frr("MED", SAME_NEIGHBOUR, {"path": "65015", "metric": 20}, {"path": "65015", "metric": 10}),
     behind_frr("MED of others", SAME_NEIGHBOUR, {"metric": 20}, {"metric": 10}, "9 3 4"),
     behind_frr("MED of others that is compared", SAME_NEIGHBOUR, {"metric": 20}, {"metric": 10}, options="--always-compare-med"),
+    Sample("FRR, behind its choice: in turn", IN_TURN_ALONE, "frr-to-feeds", frr((9, CHOSEN), *OF_TWO_SYSTEMS), {"10.0.0.0/8": "9 5 3 4"}),
+    Sample("FRR, behind its choice: deterministic MED", SAME_NEIGHBOUR, "frr-to-feeds --deterministic-med",
+           frr((9, CHOSEN), *OF_TWO_SYSTEMS), {"10.0.0.0/8": "9 4 5 3"}),
     behind_frr("EBGP", EXTERNAL, {"pathFrom": "internal"}, {}),
     behind_frr("a confederation's peer", INSIDE, {"path": "(65101) 65013"}, {}),
     behind_frr("address of the peer", ADDRESS, {"peerId": "127.0.0.10"}, {}),
@@ -244,6 +251,7 @@ REFLECTED = "RFC 4456, 9: ORIGINATOR_ID is treated as the BGP identifier; then t
 INTERIOR = "RFC 4271, 9.1.2.2 e: routes with a less-preferred interior cost are removed"
 OWN_PREFERENCE = "BIRD compares the preference of protocols before all"
 NOTE = "1 prefixes have routes of one preference behind BIRD's choice that are ranked as they are listed"
+LISTED = ((3, "100", {"as_path": "65010", "med": "20"}), (4, "100", {"as_path": "65020"}), (5, "100", {"as_path": "65010", "med": "10"}))
 BIRD = (
     Sample("BIRD's way to a recursive next hop is the one that counts", "RFC 4271, 5.1.3: the immediate next hop is looked up",
            "bird-to-feeds", bird((2, "100/10", {"next_hop": "198.51.100.7"})), {"10.0.0.0/8": "2"}),
@@ -257,6 +265,9 @@ BIRD = (
     behind_bird("MED", SAME_NEIGHBOUR, {"as_path": "65015", "med": "20"}, {"as_path": "65015", "med": "10"}),
     behind_bird("MED of others", SAME_NEIGHBOUR, {"med": "20"}, {"med": "10"}, "9 3 4"),
     behind_bird("MED of others that is compared", SAME_NEIGHBOUR, {"med": "20"}, {"med": "10"}, options="--always-compare-med"),
+    Sample("BIRD, behind its choice: in turn", IN_TURN_ALONE, "bird-to-feeds", bird((9,), *LISTED), {"10.0.0.0/8": "9 5 3 4"}),
+    Sample("BIRD, behind its choice: deterministic MED", SAME_NEIGHBOUR, "bird-to-feeds --deterministic-med",
+           bird((9,), *LISTED), {"10.0.0.0/8": "9 4 5 3"}),
     behind_bird("EBGP", EXTERNAL, {"originator_id": "10.0.0.1"}, {}),
     behind_bird("cost of the next hop", INTERIOR, {}, {}, costs=("100/20", "100/10")),
     behind_bird("a cost that isn't known", INTERIOR, {}, {}, costs=("100/?", "100/10")),

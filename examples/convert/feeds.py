@@ -592,6 +592,11 @@ def always_compare_med(parser):
     parser.add_argument("--always-compare-med", action="store_true", help="compare MED whatever the neighbouring AS")
 
 
+def deterministic_med(parser):
+    """The option for daemons that compare routes in turn if they aren't configured otherwise."""
+    parser.add_argument("--deterministic-med", action="store_true", help="compare MED by neighbouring AS, not in turn")
+
+
 def as_number(text):
     """The number of an AS of the command line."""
     if not text.isdecimal() or not 0 < int(text) <= GREATEST:
