@@ -1,7 +1,7 @@
 """BGP's choice among the routes to one prefix: attributes in, order out.
 
-The steps are those of RFC 4271, section 9.1.2.2, behind the degree of preference of section 9.1.1; each decides where all
-before it leave a tie:
+The steps are those of RFC 4271, section 9.1.2.2, behind the degree of preference of section 9.1.1; each decides where
+all before it leave a tie:
 
 1. the greatest local preference
 2. the shortest AS path: a set counts as one AS, a confederation's segment as none (RFC 5065, section 5.3)
@@ -16,12 +16,14 @@ before it leave a tie:
 
 What the input doesn't show is alike for all routes, so that the next step decides.
 
-MED makes no order: of three routes, each may lose to another. The best route is that of the standard, which doesn't depend on
-how the routes are listed: first the best of each neighbouring AS, then the best of these without MED. BIRD and FRR, unless they are
-configured to do so (deterministic MED), go through the routes as they list them instead, and keep the better of two each time (`in
-turn`). The next route is what would be the best if no source of an earlier one had any; that is what a daemon chooses when their
-sessions end. When the session of a later source ends, the choice among the others may change, and no order of the sources can tell
-that."""
+MED makes no order: of three routes, each may lose to another. The best route is that of the standard, which doesn't
+depend on how the routes are listed: first the best of each neighbouring AS, then the best of these without MED. BIRD and
+FRR, unless they are configured to do so (deterministic MED), go through the routes as they list them instead, and each
+time keep the better of two (`in turn`).
+
+The next route is what would be the best if no source of an earlier one had any; that is what a daemon chooses when their
+sessions end. When the session of a later source ends, the choice among the others may change, and no order of the
+sources can tell that."""
 import functools
 import ipaddress
 import re
@@ -41,8 +43,8 @@ SET = re.compile(r"\{[^}]*\}")
 OWN = ""
 # where the steps before MED begin in their number, in bits
 LENGTH_AT, PREFERENCE_AT, AHEAD_AT, MED_BITS = 2, 32, 64, 32
-# A candidate is a tuple of these: what is compared before MED and what behind it, the number of a peer's path, MED, the AS path, the
-# source, and what it stands for. Of the first three the least is the best.
+# A candidate is a tuple of these: what is compared before MED and what behind it, the number of a peer's path, MED, the
+# AS path, the source, and what it stands for. Of the first three the least is the best.
 BEFORE, BEHIND, NUMBER, MED, PATH, SOURCE, WHAT = range(7)
 
 

@@ -81,14 +81,15 @@ def session(peer, before, after):
     return f"BGP4MP|1795441783|STATE|127.0.0.{peer}|65000|{before}|{after}\n"
 
 
-SAME_NEIGHBOUR = "RFC 4271, 9.1.2.2 c: MED is comparable only between routes learned from the same neighboring AS; the lowest is preferred"
+SAME_NEIGHBOUR = "RFC 4271, 9.1.2.2 c: MED is only comparable between routes learned from the same neighboring AS"
 LENGTH = "RFC 4271, 9.1.2.2 a: the smallest number of AS numbers in the AS_PATH; an AS_SET counts as 1"
 CONFEDERATED = "RFC 5065, 5.3, 3: AS_CONFED_SEQUENCE and AS_CONFED_SET are not counted in the length of the AS_PATH"
 ORIGIN = "RFC 4271, 9.1.2.2 b: the lowest Origin number is preferred; 4.3: IGP is 0, EGP 1, INCOMPLETE 2"
 LOCAL_PREFERENCE = "RFC 4271, 5.1.5: the higher degree of preference is preferred; 0 is what collectors write for none"
+OWN_LOOP = "RFC 4271, 9.1.2: a route with the AS of the local system in its AS_PATH is excluded"
 ENDED = "RFC 4271, 8.2.2: when the session ends, all routes associated with it are deleted"
 OTHER_FAMILY = "RFC 4760, 3: the Network Layer protocol of a prefix and of its next hop is told by AFI and SAFI (RFC 8950)"
-OPEN = "RFC 7911, 5: the way in which one of several paths of a peer is chosen is a local matter"
+OPEN = "RFC 7911, 2: the number of a path carries no particular semantics; OpenBGPD takes the least"
 BGPDUMP = (
     Sample("MED is compared within one neighbouring AS", SAME_NEIGHBOUR, "bgpdump-to-feeds",
            dumped((2, "65010 65011", {"med": 20}), (3, "65010 65012", {"med": 10})), {"10.0.0.0/8": "3 2"}),
@@ -119,11 +120,11 @@ BGPDUMP = (
            dumped((2, "65010", {"origin": "INCOMPLETE"}), (3, "65020", {"origin": "EGP"})), {"10.0.0.0/8": "3 2"}),
     Sample("a peer of the router's own AS comes behind others", "RFC 4271, 9.1.2.2 d: routes received via EBGP are preferred",
            "bgpdump-to-feeds --local-as 65002", dumped((2, "65010", {}), (3, "65020", {})), {"10.0.0.0/8": "3 2"}),
-    Sample("a path through the router's own AS is dropped", "RFC 4271, 9.1.2: a route with the local AS in its AS_PATH is excluded",
-           "bgpdump-to-feeds --local-as 65010", dumped((2, "65020 65010", {}), (3, "65020 165010 65011", {})),
+    Sample("a path through the router's own AS is dropped", OWN_LOOP, "bgpdump-to-feeds --local-as 65010",
+           dumped((2, "65020 65010", {}), (3, "65020 165010 65011", {})),
            {"10.0.0.0/8": "3"}, "left out 1 with AS 65010 in the path (--local-as)"),
-    Sample("what has the router's own AS takes the place of what the peer had", "RFC 4271, 9.1.2: as above; 9: a newer route replaces",
-           "bgpdump-to-feeds --local-as 65010",
+    Sample("what has the router's own AS takes the place of what the peer had",
+           f"{OWN_LOOP}; 9: a route replaces the one before", "bgpdump-to-feeds --local-as 65010",
            session(2, 5, 6) + update(2, 1, "65020", "192.0.2.2") + update(2, 2, "65020 65021", "192.0.2.3")
            + update(2, 1, "65020 65010", "192.0.2.4"), {"10.0.0.0/8": "3"}),
     Sample("MED decides among a peer's paths within one neighbouring AS", SAME_NEIGHBOUR, "bgpdump-to-feeds",
@@ -201,7 +202,8 @@ FRR = (
     behind_frr("MED", SAME_NEIGHBOUR, {"path": "65015", "metric": 20}, {"path": "65015", "metric": 10}),
     behind_frr("MED of others", SAME_NEIGHBOUR, {"metric": 20}, {"metric": 10}, "9 3 4"),
     behind_frr("MED of others that is compared", SAME_NEIGHBOUR, {"metric": 20}, {"metric": 10}, options="--always-compare-med"),
-    Sample("FRR, behind its choice: in turn", IN_TURN_ALONE, "frr-to-feeds", frr((9, CHOSEN), *OF_TWO_SYSTEMS), {"10.0.0.0/8": "9 5 3 4"}),
+    Sample("FRR, behind its choice: in turn", IN_TURN_ALONE, "frr-to-feeds", frr((9, CHOSEN), *OF_TWO_SYSTEMS),
+           {"10.0.0.0/8": "9 5 3 4"}),
     Sample("FRR, behind its choice: deterministic MED", SAME_NEIGHBOUR, "frr-to-feeds --deterministic-med",
            frr((9, CHOSEN), *OF_TWO_SYSTEMS), {"10.0.0.0/8": "9 4 5 3"}),
     behind_frr("EBGP", EXTERNAL, {"pathFrom": "internal"}, {}),
@@ -212,8 +214,9 @@ FRR = (
 
 def gobgp(*attributes):
     """GoBGP's table of one route, with its origin and its path and those attributes."""
-    path = {"nlri": {"prefix": "10.0.0.0/8"}, "age": 1795441762, "best": True, "source-id": "192.0.2.2", "neighbor-ip": "127.0.0.2",
-            "attrs": [{"type": 1, "value": 0}, {"type": 2, "as_paths": [{"segment_type": 2, "num": 1, "asns": [65001]}]}, *attributes]}
+    as_path = {"type": 2, "as_paths": [{"segment_type": 2, "num": 1, "asns": [65001]}]}
+    path = {"nlri": {"prefix": "10.0.0.0/8"}, "age": 1795441762, "best": True, "source-id": "192.0.2.2",
+            "neighbor-ip": "127.0.0.2", "attrs": [{"type": 1, "value": 0}, as_path, *attributes]}
     return json.dumps({"10.0.0.0/8": [path]}) + "\n"
 
 
@@ -234,11 +237,12 @@ def bird(*routes):
         bird_route("10.0.0.0/8" if place == 0 else "", place == 0, *route) for place, route in enumerate(routes))
 
 
-def bird_route(prefix, is_chosen, peer, behind="100", attributes=(), hop=None):
+def bird_route(prefix, is_chosen, peer, behind="100", attributes=()):
     usual = {"origin": "IGP", "as_path": f"6501{peer}", "next_hop": f"192.0.2.{peer}", "local_pref": "100"}
-    head = f"{prefix:20} unicast [peer{peer} 13:49:20.215 from 127.0.0.{peer}] {'* ' if is_chosen else ''}({behind}) [AS6501{peer}i]\n"
+    source, mark = f"peer{peer} 13:49:20.215 from 127.0.0.{peer}", "* " if is_chosen else ""
     shown = {} if attributes is None else {**usual, **dict(attributes)}
-    return head + f"\tvia {hop or f'192.0.2.{peer}'} on uplink\n" + "".join(f"\tBGP.{name}: {value}\n" for name, value in shown.items())
+    return (f"{prefix:20} unicast [{source}] {mark}({behind}) [AS6501{peer}i]\n\tvia 192.0.2.{peer} on uplink\n"
+            + "".join(f"\tBGP.{name}: {value}\n" for name, value in shown.items()))
 
 
 def behind_bird(name, standard, loses, wins, order="9 4 3", options="", costs=("100", "100")):
@@ -251,7 +255,8 @@ REFLECTED = "RFC 4456, 9: ORIGINATOR_ID is treated as the BGP identifier; then t
 INTERIOR = "RFC 4271, 9.1.2.2 e: routes with a less-preferred interior cost are removed"
 OWN_PREFERENCE = "BIRD compares the preference of protocols before all"
 NOTE = "1 prefixes have routes of one preference behind BIRD's choice that are ranked as they are listed"
-LISTED = ((3, "100", {"as_path": "65010", "med": "20"}), (4, "100", {"as_path": "65020"}), (5, "100", {"as_path": "65010", "med": "10"}))
+LISTED = ((3, "100", {"as_path": "65010", "med": "20"}), (4, "100", {"as_path": "65020"}),
+          (5, "100", {"as_path": "65010", "med": "10"}))
 BIRD = (
     Sample("BIRD's way to a recursive next hop is the one that counts", "RFC 4271, 5.1.3: the immediate next hop is looked up",
            "bird-to-feeds", bird((2, "100/10", {"next_hop": "198.51.100.7"})), {"10.0.0.0/8": "2"}),
@@ -260,7 +265,8 @@ BIRD = (
     behind_bird("local preference", "RFC 4271, 5.1.5: the higher degree of preference is preferred",
                 {"local_pref": "50"}, {"as_path": "65014 65015"}),
     behind_bird("length of the path", LENGTH, {"as_path": "65013 65015"}, {"origin": "Incomplete"}),
-    behind_bird("a set of BIRD's, which has blanks", LENGTH, {"as_path": "65013 65015 65016"}, {"as_path": "65014 {65015 65016}"}),
+    behind_bird("a set of BIRD's, which has blanks", LENGTH, {"as_path": "65013 65015 65016"},
+                {"as_path": "65014 {65015 65016}"}),
     behind_bird("origin", ORIGIN, {"origin": "Incomplete"}, {"origin": "EGP"}),
     behind_bird("MED", SAME_NEIGHBOUR, {"as_path": "65015", "med": "20"}, {"as_path": "65015", "med": "10"}),
     behind_bird("MED of others", SAME_NEIGHBOUR, {"med": "20"}, {"med": "10"}, "9 3 4"),
@@ -279,7 +285,8 @@ BIRD = (
     Sample("BIRD, behind its choice: attributes that aren't shown", "none: `show route` doesn't tell what BGP compares",
            "bird-to-feeds", bird((9, "100", None), (4, "100", None), (3, "100", None)), {"10.0.0.0/8": "9 4 3"}, NOTE),
     Sample("BIRD, behind its choice: preferences without attributes", OWN_PREFERENCE,
-           "bird-to-feeds", bird((9, "150", None), (4, "100", None), (3, "120", None)), {"10.0.0.0/8": "9 3 4"}, "left out nothing\n"),
+           "bird-to-feeds", bird((9, "150", None), (4, "100", None), (3, "120", None)), {"10.0.0.0/8": "9 3 4"},
+           "left out nothing\n"),
     Sample("BIRD, behind its choice: a sorted table", "BIRD's `sorted table`: routes are listed in the order of choice",
            "bird-to-feeds --sorted", bird((9,), (4,), (3,)), {"10.0.0.0/8": "9 4 3"}, "left out nothing\n"),
 )

@@ -589,12 +589,20 @@ def parser(documentation, numbers=("local-pref",)):
 
 def always_compare_med(parser):
     """The option of those that choose among BGP's routes."""
-    parser.add_argument("--always-compare-med", action="store_true", help="compare MED whatever the neighbouring AS")
+    parser.add_argument(
+        "--always-compare-med",
+        action="store_true",
+        help="MED is compared whatever the neighbouring AS (BIRD: med metric on; FRR: bgp always-compare-med)",
+    )
 
 
 def deterministic_med(parser):
     """The option for daemons that compare routes in turn if they aren't configured otherwise."""
-    parser.add_argument("--deterministic-med", action="store_true", help="compare MED by neighbouring AS, not in turn")
+    parser.add_argument(
+        "--deterministic-med",
+        action="store_true",
+        help="MED isn't compared in turn (BIRD: deterministic med on; FRR: bgp deterministic-med)",
+    )
 
 
 def as_number(text):
