@@ -3,6 +3,8 @@ import os
 import sys
 
 NAME = os.path.basename(sys.argv[0])
+# what erases a terminal's line
+ERASED = "\r\033[K"
 NO_MEMORY = f"{NAME}: the memory is not enough for this input"
 
 
@@ -19,9 +21,10 @@ sys.excepthook = say_in_one_line
 
 
 def say(text):
-    """A line on standard error, if that is open: else `print` would write it to standard output."""
+    """A line on standard error, if that is open: else `print` would write it to standard output. On a terminal it takes
+    the place of the line of progress."""
     if sys.stderr is not None:
-        print(text, file=sys.stderr)
+        print(ERASED + text if is_terminal() else text, file=sys.stderr)
 
 
 import argparse
@@ -32,7 +35,6 @@ import gc
 import ipaddress
 import json
 import operator
-import pathlib
 import re
 import shutil
 import signal
@@ -41,16 +43,23 @@ import struct
 import typing
 from socket import AF_INET, inet_pton
 
+from errors import Missing, Refused, Wrong, in_words, naming
+from folders import Folder
+
 GREATEST = 4294967295
 MOST_FILES = 64
+# of what is told so many names are said
+MOST_NAMED = 3
+# how many routes a feed may have without `--limit`, and with it
+USUAL_LIMIT, GREATEST_LIMIT = 65536, 1000000
 DISCARD = "discard"
 # what stands for the next hop of a connected network, as in the output of `route -n`
 CONNECTED = "0.0.0.0"
 BLOCK = 1 << 20
 # seconds between two lines of progress
 EACH = 1
-# a line of more bytes is none of a table's
-LONGEST = 1 << 24
+# a line or a value of more bytes is none of a table's, and a table has fewer
+LONGEST, MOST_BYTES = 1 << 24, 10**11
 # of JSON: what isn't text, and what may stand between values
 LONGEST_WORD, BLANKS = 16, re.compile(r"[ \t\r\n]*")
 KINDS = {"[": "a list", "{": "an object"}
@@ -58,15 +67,15 @@ KINDS = {"[": "a list", "{": "an object"}
 MOST_KNOWN = 16384
 # so many lines are kept before they are written
 MOST_WAITING = 200000
-GZIP = b"\x1f\x8b"
+# how a compressed file begins, and what reads it
+COMPRESSED = {b"\x1f\x8b": ("gzip", "zcat"), b"\xfd7zXZ\0": ("xz", "xzcat"), b"BZh": ("bzip2", "bzcat"),
+              b"\x28\xb5\x2f\xfd": ("zstd", "zstdcat")}
+# the signals that end a converter which has something to clear away
+ENDING = (signal.SIGTERM, signal.SIGHUP)
 # the number of an address's four bytes
 NUMBER = struct.Struct(">I").unpack
 # the bits past a prefix of that length
 HOST_BITS = {str(length): (1 << 32 - length) - 1 for length in range(33)}
-
-
-class Refused(Exception):
-    """The input can't be converted; the text says why."""
 
 
 class Offer(typing.NamedTuple):
@@ -97,10 +106,6 @@ class Notes:
         return "\n".join(lines + [f"{number} {name}" for name, number in self.told.items()])
 
 
-class Wrong(ValueError):
-    """A field of the input isn't what it should be; the text says how."""
-
-
 class Progress:
     """Where standard error is a terminal, a line there that is written over each second and erased at the end."""
 
@@ -116,7 +121,7 @@ class Progress:
         if self.files:
             taken = self.files.taken + sum(map(len, self.files.waiting.values()))
             parts.append(f"{len(self.files.waiting)} sources, {taken:,} routes")
-        os.write(2, ("\r\033[K" + ", ".join(parts)).encode())
+        os.write(2, (ERASED + ", ".join(parts)).encode())
 
     def __enter__(self):
         if is_terminal():
@@ -130,7 +135,7 @@ class Progress:
         """Ends it, before anything else is said there."""
         if is_terminal():
             signal.setitimer(signal.ITIMER_REAL, 0)
-            os.write(2, b"\r\033[K")
+            os.write(2, ERASED.encode())
 
 
 def is_terminal():
@@ -147,28 +152,39 @@ class Input:
     `before` lines precede what is in use, `lines` and `done` bytes were read in all, and `size` is the input's size
     where that is known."""
 
-    def __init__(self):
-        status = os.fstat(0)
+    def __init__(self, most):
+        with naming("standard input"):
+            status = os.fstat(0)
+        self.most = most
         self.size = status.st_size if stat.S_ISREG(status.st_mode) else 0
         self.done = self.before = self.lines = 0
         self.after_block = lambda: None
         PROGRESS.input = self
 
     def blocks(self):
-        while data := os.read(0, BLOCK):
-            if self.done == 0 and data.startswith(GZIP):
-                raise Refused("the input is compressed: give it through zcat")
-            self.done += len(data)
-            yield data
+        with naming("standard input"):
+            while data := os.read(0, BLOCK):
+                if self.done == 0:
+                    refuse_compressed(data)
+                self.done += len(data)
+                if self.done > self.most:
+                    raise Refused(f"the input has more than {self.most} bytes; --most allows it")
+                yield data
         if self.done == 0:
             raise Refused("the input is empty")
+
+
+def refuse_compressed(data):
+    for begin, (form, reader) in COMPRESSED.items():
+        if data.startswith(begin):
+            raise Refused(f"the input is compressed ({form}): give it through {reader}")
 
 
 class Lines(Input):
     """The entries of standard input, which here are its lines."""
 
-    def __init__(self):
-        super().__init__()
+    def __init__(self, most):
+        super().__init__(most)
         # of the last block: the entries, and what gives those that are not in use yet
         self.entries, self.rest = [], iter(())
 
@@ -187,12 +203,20 @@ class Lines(Input):
             rest += data
             end = self.last_end(rest, begin)
             if end >= 0:
-                yield text_of(rest[:end])
+                yield text_of(rest[: end + 1])
                 rest = rest[end + 1 :]
             if len(rest) > LONGEST:
-                raise Refused(f"line {self.lines + 1} begins what is too long for a table: {text_of(rest[:100])!r}")
+                raise Refused(f"line {self.lines + 1} begins what is too long for a table: {decoded(rest[:100])!r}")
         if rest:
-            yield text_of(rest.removesuffix(b"\n"))
+            self.refuse_cut(rest)
+            yield text_of(rest)
+
+    def refuse_cut(self, rest):
+        """What these daemons and programs print ends with a line's end."""
+        *earlier, last = rest.split(b"\n")
+        if last:
+            number = self.lines + len(earlier) + 1
+            raise Refused(f"line {number} has no end (LF), so the input was cut: {decoded(last[:100])!r}")
 
     def __iter__(self):
         for text in self.texts():
@@ -232,16 +256,23 @@ class Entries(Lines):
         return re.split(r"\n(?!\t)", text)
 
 
+def decoded(data):
+    return data.decode("utf-8", errors="replace")
+
+
 def text_of(data):
-    text = data.decode("utf-8", errors="replace")
-    return text.replace("\r\n", "\n") if "\r" in text else text
+    """The text of whole lines without the last one's end."""
+    text = decoded(data)
+    return (text.replace("\r\n", "\n") if "\r" in text else text)[:-1]
 
 
 class Json(Input):
-    """The JSON document of standard input. It is read piece by piece, and what was read isn't kept."""
+    """The JSON document of standard input, which a command prints. It is read piece by piece, and what was read isn't
+    kept."""
 
-    def __init__(self):
-        super().__init__()
+    def __init__(self, most, command):
+        super().__init__(most)
+        self.command = command
         self.pieces = codecs.iterdecode(self.blocks(), "utf-8", errors="replace")
         self.decode = json.JSONDecoder().raw_decode
         # what waits to be read begins there
@@ -259,7 +290,8 @@ class Json(Input):
 
     def wrong(self, what, at):
         line = self.before + self.text.count("\n", 0, at) + 1
-        return Refused(f"the input is no JSON of that daemon: {what} at line {line}, before {self.text[at : at + 40]!r}")
+        before = self.text[at : at + 40]
+        return Refused(f"the input is no JSON of {self.command}: {what} at line {line}, before {before!r}")
 
     def sign(self):
         """The next character that is no blank, which is left to be read; "" at the input's end."""
@@ -290,6 +322,8 @@ class Json(Input):
                 cut = error.msg.startswith("Unterminated") or error.pos > len(self.text) - LONGEST_WORD
                 if self.ended or not cut:
                     raise self.wrong(error.msg, error.pos) from None
+                if len(self.text) - self.at > LONGEST:
+                    raise self.wrong("a value is too long for a table", self.at) from None
             except (ValueError, RecursionError) as error:
                 raise self.wrong(str(error), self.at) from None
             else:
@@ -339,19 +373,20 @@ class Json(Input):
         """What is wrong with a value is refused by the line on which the value ends."""
         try:
             yield
-        except Wrong as wrong:
+        except (Wrong, Missing) as wrong:
             line = self.before + self.text.count("\n", 0, self.at) + 1
-            raise Refused(f"line {line}: {wrong}") from None
+            read = f"; what is read is the output of {self.command}" if isinstance(wrong, Missing) else ""
+            raise Refused(f"line {line}: {wrong}{read}") from None
 
 
 def member(record, name, kind, absent=None):
     """The member of a JSON object; `absent` stands for one that isn't there, which is refused if that is None."""
     if type(record) is not dict:
-        raise Refused(f"an object was expected: {json.dumps(record)[:100]}")
+        raise Missing(f"an object was expected: {json.dumps(record)[:100]}")
     value = record.get(name, absent)
     # true and false are numbers for `isinstance` alone
     if type(value) is not kind:
-        raise Refused(f"the member {name!r} is missing or of another kind: {json.dumps(record)[:100]}")
+        raise Missing(f"the member {name!r} is missing or of another kind: {json.dumps(record)[:100]}")
     return value
 
 
@@ -485,84 +520,110 @@ class FeedFiles:
     named."""
 
     def __init__(self, folder):
-        self.folder = pathlib.Path(folder).resolve()
-        if self.folder.exists() and any(entry.suffix != ".feed" for entry in self.folder.iterdir()):
-            raise Refused(f"{self.folder} holds other things than feed files; name a new folder")
-        self.new = self.folder.with_name(f".{self.folder.name}.new-{os.getpid()}")
-        self.old = self.folder.with_name(f".{self.folder.name}.old-{os.getpid()}")
-        self.waiting = {}
+        self.folder = Folder(folder, NAME)
+        self.waiting, self.counts = {}, []
         self.taken = 0
         PROGRESS.files = self
 
     def __enter__(self):
+        for number in ENDING:
+            # what `nohup` ignores stays ignored
+            if signal.getsignal(number) is signal.SIG_DFL:
+                signal.signal(number, end)
+        self.folder.__enter__()
         return self
 
     def __exit__(self, *_):
-        if self.old.exists() and not self.folder.exists():
-            self.old.rename(self.folder)
-        shutil.rmtree(self.new, ignore_errors=True)
-        shutil.rmtree(self.old, ignore_errors=True)
+        self.folder.__exit__()
 
     def lines(self, source):
         return self.waiting.setdefault(source, [])
 
-    def flush(self, most=MOST_WAITING):
-        """Writes what waits, if it is more than that many lines."""
-        if sum(map(len, self.waiting.values())) <= most:
-            return
-        self.new.mkdir(parents=True, exist_ok=True)
+    def path(self, number):
+        return self.folder.new / str(number)
+
+    def flush_many(self):
+        """Writes what waits, if that is many lines."""
+        if sum(map(len, self.waiting.values())) > MOST_WAITING:
+            self.flush()
+
+    def flush(self):
+        """Writes what waits."""
+        self.counts += [0] * (len(self.waiting) - len(self.counts))
         for number, lines in enumerate(self.waiting.values()):
             if lines:
-                with open(self.new / str(number), "a") as file:
+                with naming(self.path(number)), open(self.path(number), "a") as file:
                     file.write("".join(lines))
                 self.taken += len(lines)
+                self.counts[number] += len(lines)
                 lines.clear()
 
     def written(self, source):
         """The lines of a source that are written."""
-        number = list(self.waiting).index(source)
-        if (self.new / str(number)).exists():
-            with open(self.new / str(number)) as file:
+        path = self.path(list(self.waiting).index(source))
+        if path.exists():
+            with naming(path), open(path) as file:
                 yield from file
 
     def rewrite(self, source, lines):
         """Writes other lines in place of a source's."""
-        number = list(self.waiting).index(source)
-        with open(self.new / "rewritten", "w") as file:
+        path = self.folder.new / "rewritten"
+        with naming(path), open(path, "w") as file:
             file.writelines(lines)
-        (self.new / "rewritten").rename(self.new / str(number))
+        path.rename(self.path(list(self.waiting).index(source)))
 
-    def put_in_place(self, names):
-        """Gives the files of the sources that have lines their names, and the folder its place."""
-        named = [number for number in range(len(names)) if (self.new / str(number)).exists()]
-        for number, name in zip(named, file_names([names[number] for number in named])):
-            with open(self.new / name, "wb") as file:
+    def put_in_place(self, sources):
+        """Gives the files of the sources that have lines their names, and the folder its place. Returns how many feeds
+        are there, and lines that tell what became of others."""
+        numbers = [number for number, count in enumerate(self.counts) if count]
+        names = file_names([sources[number] for number in numbers])
+        for number, name in zip(numbers, names):
+            path = self.folder.new / name
+            with naming(path), open(path, "wb") as file, open(self.path(number), "rb") as lines:
                 file.write(b"version 2\n")
-                with open(self.new / str(number), "rb") as lines:
-                    shutil.copyfileobj(lines, file, BLOCK)
-            (self.new / str(number)).unlink()
-        if self.folder.exists():
-            self.folder.rename(self.old)
-        self.new.rename(self.folder)
-        return len(named)
+                shutil.copyfileobj(lines, file, BLOCK)
+            self.path(number).unlink()
+        replaced, kept = self.folder.put_in_place(names)
+        told = [f"replaced {replaced} feeds that {NAME} had written"] if replaced else []
+        if kept:
+            names = ", ".join(kept[:MOST_NAMED]) + (", .." if len(kept) > MOST_NAMED else "")
+            told.append(f"kept {len(kept)} feeds that {NAME} had not written: {names}")
+        return len(numbers) + len(kept), told
 
-    def finish(self, notes, what="routes", names=None):
-        """Puts the files in their place and says what was taken; a table of which nothing is taken is refused."""
-        self.flush(0)
+    def finish(self, notes, what="routes", names=None, most_routes=None):
+        """Puts the files in their place and says what was taken; a table of which nothing is taken is refused.
+        `most_routes` is how many routes the largest feed has at a time, where it isn't the number of its lines."""
+        self.flush()
         if self.taken == 0:
             raise Refused(notes.report(0, what).replace("\n", "; ") + "; nothing is written")
-        number = self.put_in_place(names or list(self.waiting))
+        number, told = self.put_in_place(names or list(self.waiting))
         PROGRESS.erase()
-        say(notes.report(self.taken, what))
+        say("\n".join([notes.report(self.taken, what), *told]))
         if number > MOST_FILES:
-            say(f"{number} feeds were written; `yarib run` takes at most {MOST_FILES} files")
+            say(f"{number} feeds are in the folder; `yarib run` takes at most {MOST_FILES} files")
+        tell_limit(most_routes or max(self.counts))
+
+
+def tell_limit(routes):
+    """Says which limit `yarib` needs for a feed of so many routes, if it isn't the usual one."""
+    if routes > GREATEST_LIMIT:
+        say(f"a feed has {routes} routes; `yarib` takes at most {GREATEST_LIMIT} of a feed")
+    elif routes > USUAL_LIMIT:
+        say(f"a feed has {routes} routes: `yarib` needs --limit {routes}")
+
+
+def end(number, _):
+    """Ends the program so that what it has begun is cleared away, which a further signal doesn't interrupt."""
+    for ending in ENDING:
+        signal.signal(ending, signal.SIG_IGN)
+    sys.exit(128 + number)
 
 
 def convert_table(arguments, given, read):
     """Converts the table that `read(given, arguments, notes)` gives: each prefix with its offers, best first."""
     notes, met = Notes(), set()
     with FeedFiles(arguments.folder) as files:
-        given.after_block = files.flush
+        given.after_block = files.flush_many
         with given.named():
             for prefix, offers in read(given, arguments, notes):
                 if prefix in met:
@@ -575,7 +636,7 @@ def convert_table(arguments, given, read):
 def parser(documentation, numbers=("local-pref",)):
     """The options that all converters into feeds have. `numbers` are the numbers that preferences can be made of."""
     made = plain_parser(documentation)
-    made.add_argument("folder", help="the folder that is written anew")
+    made.add_argument("folder", help="the folder of the feed files; what others wrote there is kept")
     made.add_argument(
         "--by",
         choices=["rank", *numbers],
@@ -613,14 +674,24 @@ def as_number(text):
 
 
 def plain_parser(documentation):
-    return argparse.ArgumentParser(
+    made = argparse.ArgumentParser(
         description=documentation, formatter_class=argparse.RawDescriptionHelpFormatter, allow_abbrev=False
     )
+    made.add_argument("--most", default=MOST_BYTES, metavar="BYTES", type=count,
+                      help="how long the input may be, for it might have no end (default: %(default)s)")
+    return made
 
 
 def ipv4(text):
     """An address of the command line."""
     return str(ipaddress.IPv4Address(text))
+
+
+def count(text):
+    """A positive number of the command line."""
+    if not text.isdecimal() or int(text) == 0:
+        raise ValueError
+    return int(text)
 
 
 def run(convert, *arguments):
@@ -630,10 +701,11 @@ def run(convert, *arguments):
     try:
         with PROGRESS:
             convert(*arguments)
-        sys.stdout.flush()
+        with naming("standard output"):
+            sys.stdout.flush()
         return
     except (Refused, Wrong, OSError) as error:
-        said = f"{NAME}: {error}"
+        said = f"{NAME}: {in_words(error)}"
     except MemoryError:
         said = NO_MEMORY
     except KeyboardInterrupt:

@@ -34,10 +34,10 @@ def table_lines(lines):
         feeds.say(f"{not_taken} lines of the report say full, refused or fault: their routes are not in the table")
 
 
-def best_routes():
+def best_routes(most):
     """The prefixes and next hops of the best routes: of each prefix the first line."""
     best = {}
-    lines = feeds.Lines()
+    lines = feeds.Lines(most)
     hops = {feeds.DISCARD: feeds.DISCARD}
     with lines.named():
         for line in table_lines(lines):
@@ -96,28 +96,34 @@ def options(documentation):
     parser = feeds.plain_parser(documentation)
     parser.add_argument("--device", metavar="[PREFIX=]NAME", action="append", default=[],
                         help="the interface of a connected network (next hop 0.0.0.0); without PREFIX, of the only one")
+    parser.add_argument("--onlink", metavar="NAME",
+                        help="the interface over which next hops in no connected network of the table are reached")
     return parser
 
 
-def around(pattern, hop):
+def around(pattern, hop, device):
     """What a pattern writes before a route's prefix and behind it."""
     before, _, behind = pattern.partition("{prefix}")
-    return before, behind.format(hop=hop)
+    return before, behind.format(hop=hop, device=device)
 
 
-def convert(patterns, arguments, tell_outside=None, before="", after=""):
+def convert(patterns, arguments, told_outside, before="", after=""):
     """Writes each best route by the pattern of its kind; connected networks come first, since next hops lie in them."""
     if sys.stdout is None:
         raise feeds.Refused("standard output is closed")
-    best = best_routes()
+    best = best_routes(arguments.most)
     connected = [prefix for prefix, hop in best.items() if hop == feeds.CONNECTED]
     devices = devices_of(connected, arguments.device)
     kind = kinds(connected)
-    text = functools.lru_cache(feeds.MOST_KNOWN)(lambda hop: around(patterns[kind(hop)], hop))
-    sys.stdout.write(before)
-    sys.stdout.writelines(patterns["device"].format(prefix=prefix, device=devices[prefix]) for prefix in connected)
-    sys.stdout.writelines(prefix.join(text(hop)) for prefix, hop in best.items() if hop != feeds.CONNECTED)
-    sys.stdout.write(after)
+    if arguments.onlink:
+        patterns = patterns | {"outside": patterns["onlink"]}
+    text = functools.lru_cache(feeds.MOST_KNOWN)(lambda hop: around(patterns[kind(hop)], hop, arguments.onlink))
+    with feeds.naming("standard output"):
+        sys.stdout.write(before)
+        sys.stdout.writelines(patterns["device"].format(prefix=prefix, device=devices[prefix]) for prefix in connected)
+        sys.stdout.writelines(prefix.join(text(hop)) for prefix, hop in best.items() if hop != feeds.CONNECTED)
+        sys.stdout.write(after)
     outside = sum(kind(hop) == "outside" for hop in best.values())
-    if outside and tell_outside:
-        feeds.say(f"{outside} {tell_outside}")
+    if outside and not arguments.onlink:
+        feeds.say(f"{outside} routes have a next hop in no connected network of the table: {told_outside} "
+                  "(--onlink NAME names the interface to use)")

@@ -1,0 +1,78 @@
+"""What the tests have in common: how a converter is run."""
+import os
+import pathlib
+import runpy
+import subprocess
+import sys
+import tempfile
+# what converters load, so that copies of this process have it
+import argparse, codecs, ipaddress, json, shutil
+
+HERE = pathlib.Path(__file__).resolve().parent
+SAMPLES = HERE / "samples"
+
+# Runs a converter with other constants of feeds.py.
+WITH_CONSTANTS = """
+import runpy, sys
+_, folder, constants, *sys.argv = sys.argv
+sys.path.insert(0, folder)
+import feeds
+exec(constants, vars(feeds))
+runpy.run_path(sys.argv[0], run_name="__main__")
+"""
+
+
+class Failed(Exception):
+    """What was found; the text says it."""
+
+
+def words(command, constants=""):
+    """The words of a converter's call, which may be given other constants of feeds.py."""
+    name, *options = command.split()
+    return [*([sys.executable, "-c", WITH_CONSTANTS, HERE, constants] if constants else []), HERE / name, *options]
+
+
+def run(command, data, *more, constants="", **settings):
+    """Runs a converter: its status, what it writes, and what it says."""
+    done = subprocess.run([*words(command, constants), *more], input=data, capture_output=True, **settings)
+    return done.returncode, done.stdout.decode(), done.stderr.decode()
+
+
+def run_here(command, data, folder):
+    """The status of a converter and what it says, as `run`; it is run in a copy of this process, which is begun sooner."""
+    name, *options = command.split()
+    with tempfile.TemporaryFile() as given, tempfile.TemporaryFile() as said:
+        given.write(data)
+        given.seek(0)
+        child = os.fork()
+        if child == 0:
+            os.dup2(given.fileno(), 0)
+            os.dup2(said.fileno(), 2)
+            run_in_child([str(HERE / name), *options, str(folder)])
+        _, status = os.waitpid(child, 0)
+        said.seek(0)
+        return os.waitstatus_to_exitcode(status), said.read().decode()
+
+
+def run_in_child(words):
+    status = 0
+    sys.argv = words
+    try:
+        runpy.run_path(words[0], run_name="__main__")
+    except SystemExit as ended:
+        if isinstance(ended.code, str):
+            print(ended.code, file=sys.stderr)
+        status = ended.code if isinstance(ended.code, int) else 1
+    except BaseException as error:
+        print(repr(error), file=sys.stderr)
+        status = 2
+    os._exit(status)
+
+
+def text_of(files):
+    return "".join(f"== {file.name}\n{file.read_text()}" for file in files)
+
+
+def files_of(folder):
+    """The feed files of a folder."""
+    return sorted(folder.glob("*.feed"))
