@@ -1,7 +1,7 @@
 #!/usr/bin/env python3
 """Tries ./install and ./try with the built program: what they leave, and that it runs as the program itself does.
 
-Usage: bench/launchers.py [YARIB]. Builds ./yarib first unless a built program is named. Linux, python3, bash and sh.
+Usage: bench/installed.py [YARIB]. Builds ./yarib first unless a built program is named. Linux, python3, bash and sh.
 
 It works on a copy of the repository in which that program stands as built. For ./try a stand-in of `rt` does what `rt try` does
 with words, files and standard input, but runs that program in place of one that it builds. Where the user may make a root of its
