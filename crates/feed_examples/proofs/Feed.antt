@@ -859,41 +859,46 @@ unfolding digits address_text prefix_text found_text also_text reason_text reply
 three_cover_it = refl
 
 -- LineHasOneAnswer
-one_answer_of_version_2 :
-    LineHasOneAnswer → (line : List ℕ) (one two : Result (Option Cmd) LineFault) → AnswersLine Two line one → AnswersLine Two line two → one ≡ two
-one_answer_of_version_2 law = law Two
+a_line_has_one_answer :
+    LineHasOneAnswer → (version : Version) (line : List ℕ) (one two : Result (Option Cmd) LineFault) → AnswersLine version line one
+    → AnswersLine version line two → one ≡ two
+a_line_has_one_answer law = law
 
 -- AddressLineHasOneAnswer
-an_address_or_a_fault :
-    AddressLineHasOneAnswer → (line : List ℕ) (two : Result (Option Addr) LineFault)
-    → AnswersAddressLine line (Err fault.Text) → AnswersAddressLine line two → Err fault.Text ≡ two
-an_address_or_a_fault law line = law line (Err fault.Text)
+a_line_of_addresses_has_one_answer :
+    AddressLineHasOneAnswer → (line : List ℕ) (one two : Result (Option Addr) LineFault) → AnswersAddressLine line one → AnswersAddressLine line two
+    → one ≡ two
+a_line_of_addresses_has_one_answer law = law
 
 -- CommandIsReadAgain
-a_dump_is_read_as_a_dump :
-    CommandIsReadAgain → (answer : Result (Option Cmd) LineFault) → HasCommand One Dump → AnswersLine One (command_text Dump) answer → answer ≡ Ok (Some Dump)
-a_dump_is_read_as_a_dump law = law One Dump
+each_command_is_read_again :
+    CommandIsReadAgain → (version : Version) (cmd : Cmd) (answer : Result (Option Cmd) LineFault) → HasCommand version cmd
+    → AnswersLine version (command_text cmd) answer → answer ≡ Ok (Some cmd)
+each_command_is_read_again law = law
 
 -- OnlyItsTextIsRead
-no_other_line_is_read_as_a_purge :
-    OnlyItsTextIsRead → (line : List ℕ) → AnswersLine Two line (Ok (Some Purge)) → HasCommand Two Purge × (line ≡ command_text Purge)
-no_other_line_is_read_as_a_purge law line = law Two line Purge
+no_other_line_is_read_as_a_command :
+    OnlyItsTextIsRead → (version : Version) (line : List ℕ) (cmd : Cmd) → AnswersLine version line (Ok (Some cmd))
+    → HasCommand version cmd × (line ≡ command_text cmd)
+no_other_line_is_read_as_a_command law = law
 
 -- OlderTextsStay
-all_lines_by_version_1 :
-    OlderTextsStay → (text : List ℕ) → ((rest : List ℕ) → ¬ TellsTwo text rest) → Becomes text (skipped ∷ []) [] ↔ LinesBecome One text (skipped ∷ []) []
-all_lines_by_version_1 law text = law text (skipped ∷ [])
+a_text_without_a_version_is_read_as_before :
+    OlderTextsStay → (text : List ℕ) (outcomes : List LineOutcome) → ((rest : List ℕ) → ¬ TellsTwo text rest)
+    → Becomes text outcomes [] ↔ LinesBecome One text outcomes []
+a_text_without_a_version_is_read_as_before law = law
 
 -- TextHasOneCut
-two_first_lines_are_one :
-    TextHasOneCut → (text line rest : List ℕ) → CutsLine text line rest → CutsLine text (codes "a") (codes "b") → (line ≡ codes "a") × (rest ≡ codes "b")
-two_first_lines_are_one law text line rest = law text line rest (codes "a") (codes "b")
+a_text_is_cut_in_one_way :
+    TextHasOneCut → (text line rest other other_rest : List ℕ) → CutsLine text line rest → CutsLine text other other_rest
+    → (line ≡ other) × (rest ≡ other_rest)
+a_text_is_cut_in_one_way law = law
 
 -- TextHasOneReading
-whatever_became_of_its_commands :
-    TextHasOneReading → (text : List ℕ) (outcomes : List LineOutcome)
-    → Becomes text outcomes [] → Becomes text (skipped ∷ []) [] → map reading outcomes ≡ map reading (skipped ∷ [])
-whatever_became_of_its_commands law text outcomes = law text outcomes (skipped ∷ [])
+a_text_is_read_in_one_way :
+    TextHasOneReading → (text : List ℕ) (outcomes others : List LineOutcome) → Becomes text outcomes [] → Becomes text others []
+    → map reading outcomes ≡ map reading others
+a_text_is_read_in_one_way law = law
 
 -- IsVersion
 the_lines_that_it_reads : (text : List ℕ) → IsVersion text Two → (lines : List ℕ) × IsBody text Two lines

@@ -47,6 +47,7 @@ use Rattle.rt_run.specs.declared.tallies.RunSummary.{RunSummary}
 use Rattle.rt_run.specs.TableText.{answers_text, all_answers_text, routes_text, first_fault, tally_of, was_left_out, IsShown}
 use Rattle.rt_run.specs.SameTable.{table_alone, LeavesAlone, IsUnion, IsAnsweredAlone}
 use Rattle.rt_run.specs.SameTable.{LeavesUnion, AnswersAlone, HaveOneUnion, EndsInUnion, EndInOneTable, ShowsUnion, ShowOneTable}
+use Rattle.rt_diff.specs.declared.answers.By.{By}
 
 -- entries_of
 what_was_refused_has_no_entry :
@@ -603,52 +604,58 @@ no_bytes_lost_where_the_table_could_not_be_written : ¬ Leaves (IsShown (text �
 no_bytes_lost_where_the_table_could_not_be_written (bytes, summary, is, begins) = let lost : [] ≡ 120 ∷ take begins.count bytes = begins.appended in cc
 
 -- LeavesUnion
-batches_of_512_leave_the_union :
-    LeavesUnion → (texts : List (List ℕ)) (limit : ℕ) (journal : List Entry) (outcomes : List (List LineOutcome)) → IsHistory texts limit 512 journal outcomes
-    → some_refused outcomes ≡ false → IsUnion texts limit (table_of_journal limit journal)
-batches_of_512_leave_the_union law texts limit journal outcomes history none = law texts limit 512 journal outcomes history none
+a_run_leaves_the_union :
+    LeavesUnion → (texts : List (List ℕ)) (limit batch : ℕ) (journal : List Entry) (outcomes : List (List LineOutcome))
+    → IsHistory texts limit batch journal outcomes → some_refused outcomes ≡ false → IsUnion texts limit (table_of_journal limit journal)
+a_run_leaves_the_union law = law
 
 -- AnswersAlone
 its_replies_are_as_if_alone :
-    AnswersAlone → (texts : List (List ℕ)) (limit : ℕ) (journal : List Entry) (outcomes : List (List LineOutcome)) → IsHistory texts limit 512 journal outcomes
-    → some_refused outcomes ≡ false → (k : ℕ) (lines : List LineOutcome) → slice_get outcomes k ≡ Some lines → IsAnsweredAlone limit (k + 1) (asked_of lines)
-its_replies_are_as_if_alone law texts limit journal outcomes history none k lines is = law texts limit 512 journal outcomes history none k lines is
+    AnswersAlone → (texts : List (List ℕ)) (limit batch : ℕ) (journal : List Entry) (outcomes : List (List LineOutcome))
+    → IsHistory texts limit batch journal outcomes → some_refused outcomes ≡ false → (k : ℕ) (lines : List LineOutcome)
+    → slice_get outcomes k ≡ Some lines → IsAnsweredAlone limit (k + 1) (asked_of lines)
+its_replies_are_as_if_alone law = law
 
 -- HaveOneUnion
-two_unions_of_a_text_are_one : HaveOneUnion → (one other : List Route) → IsUnion (text ∷ []) 5 one → IsUnion (text ∷ []) 5 other → one ≡ other
-two_unions_of_a_text_are_one law one other is also = law (text ∷ []) 5 one other is also
+texts_have_one_union :
+    HaveOneUnion → (texts : List (List ℕ)) (limit : ℕ) (one other : List Route) → IsUnion texts limit one → IsUnion texts limit other → one ≡ other
+texts_have_one_union law = law
 
 -- EndsInUnion
-a_run_in_batches_of_512_ends_in_the_union :
-    EndsInUnion → (texts : List (List ℕ)) (limit : ℕ) (bytes : List ℕ) (status : ℕ) (run : IsRunText texts limit 512 bytes status) → status ≢ 5
+a_run_ends_in_the_union :
+    EndsInUnion → (texts : List (List ℕ)) (limit batch : ℕ) (bytes : List ℕ) (status : ℕ) (run : IsRunText texts limit batch bytes status) → status ≢ 5
     → (union : List Route) × IsUnion texts limit union × (bytes ≡ feeds_text 1 run.outcomes ++ table_text union)
-a_run_in_batches_of_512_ends_in_the_union law texts limit bytes status run done = law texts limit 512 bytes status run done
+a_run_ends_in_the_union law = law
 
 -- EndInOneTable
-batches_of_1_and_of_512_end_in_one_table :
-    EndInOneTable → (texts : List (List ℕ)) (limit : ℕ) (bytes bytes' : List ℕ) (status status' : ℕ)
-    (run : IsRunText texts limit 1 bytes status) (run' : IsRunText texts limit 512 bytes' status') → status ≢ 5 → status' ≢ 5
+two_runs_end_in_one_table :
+    EndInOneTable → (texts : List (List ℕ)) (limit batch batch' : ℕ) (bytes bytes' : List ℕ) (status status' : ℕ)
+    (run : IsRunText texts limit batch bytes status) (run' : IsRunText texts limit batch' bytes' status') → status ≢ 5 → status' ≢ 5
     → (table : List Route) × (bytes ≡ feeds_text 1 run.outcomes ++ table_text table) × (bytes' ≡ feeds_text 1 run'.outcomes ++ table_text table)
-batches_of_1_and_of_512_end_in_one_table law texts limit bytes bytes' status status' run run' done done' =
-    law texts limit 1 512 bytes bytes' status status' run run' done done'
+two_runs_end_in_one_table law = law
 
 -- ShowsUnion
 what_is_told_is_told_of_the_union :
-    ShowsUnion → (texts : List (List ℕ)) (limit : ℕ) (text_of : List Route → List ℕ) (bytes : List ℕ) (summary : RunSummary)
-    → IsShown texts limit 512 text_of bytes summary → summary.status ≢ 5 → (union : List Route) × IsUnion texts limit union × (bytes ≡ text_of union)
-what_is_told_is_told_of_the_union law texts limit text_of bytes summary shown done = law texts limit 512 text_of bytes summary shown done
+    ShowsUnion → (texts : List (List ℕ)) (limit batch : ℕ) (text_of : List Route → List ℕ) (bytes : List ℕ) (summary : RunSummary)
+    → IsShown texts limit batch text_of bytes summary → summary.status ≢ 5 → (union : List Route) × IsUnion texts limit union × (bytes ≡ text_of union)
+what_is_told_is_told_of_the_union law = law
 
 -- ShowOneTable
-batches_of_1_and_of_512_tell_the_same :
-    ShowOneTable → (texts : List (List ℕ)) (limit : ℕ) (text_of : List Route → List ℕ) (bytes bytes' : List ℕ) (summary summary' : RunSummary)
-    → IsShown texts limit 1 text_of bytes summary → IsShown texts limit 512 text_of bytes' summary' → summary.status ≢ 5 → summary'.status ≢ 5 → bytes ≡ bytes'
-batches_of_1_and_of_512_tell_the_same law texts limit text_of bytes bytes' summary summary' shown shown' done done' =
-    law texts limit 1 512 text_of bytes bytes' summary summary' shown shown' done done'
+two_runs_show_one_table :
+    ShowOneTable → (texts : List (List ℕ)) (limit batch batch' : ℕ) (text_of : List Route → List ℕ) (bytes bytes' : List ℕ) (summary summary' : RunSummary)
+    → IsShown texts limit batch text_of bytes summary → IsShown texts limit batch' text_of bytes' summary' → summary.status ≢ 5 → summary'.status ≢ 5
+    → bytes ≡ bytes'
+two_runs_show_one_table law = law
 
 -- IsReplayText
 nothing_picked : IsReplayText 1 [] (codes "inside none\n")
 unfolding inside_text
 nothing_picked = record { steps = []; last = opening; taken = refl; inside = None; told = λ place. (λ same. cc, λ is. cc); printed = refl }
+
+the_run_who_is_inside_and_its_text :
+    (levels : ℕ) (picks text : List ℕ) (h : IsReplayText levels picks text)
+    → ReplaysTo levels opening picks h.steps h.last × TellsInside h.last h.inside × (text ≡ replay_text_of h.steps h.inside)
+the_run_who_is_inside_and_its_text levels picks text h = (h.taken, h.told, h.printed)
 
 -- LeavesReplay
 its_text_and_status_0 : LeavesReplay 1 [] (Some []) (Some (codes "inside none\n")) (Ok 0)
@@ -697,15 +704,15 @@ what_two_unions_differ_in :
 what_two_unions_differ_in bytes h = (h.old_union, h.new_union, h.differences, h.printed)
 
 -- DiffsUnions
-a_comparison_tells_of_unions :
-    DiffsUnions → (old_texts new_texts : List (List ℕ)) (bytes : List ℕ) (given : DiffSummary)
-    → IsDiffText by.Hop old_texts new_texts 7 512 bytes given → given.old.status ≢ 5 → given.new.status ≢ 5 → TellsUnions by.Hop old_texts new_texts 7 bytes
-a_comparison_tells_of_unions law old_texts new_texts bytes given = law by.Hop old_texts new_texts 7 512 bytes given
+a_comparison_is_of_the_unions :
+    DiffsUnions → (by : By) (old_texts new_texts : List (List ℕ)) (limit batch : ℕ) (bytes : List ℕ) (given : DiffSummary)
+    → IsDiffText by old_texts new_texts limit batch bytes given → given.old.status ≢ 5 → given.new.status ≢ 5
+    → TellsUnions by old_texts new_texts limit bytes
+a_comparison_is_of_the_unions law = law
 
 -- DiffOnce
-batches_of_1_and_of_512_differ_in_the_same :
-    DiffOnce → (old_texts new_texts : List (List ℕ)) (bytes bytes' : List ℕ) (given given' : DiffSummary)
-    → IsDiffText by.Hop old_texts new_texts 7 1 bytes given → IsDiffText by.Hop old_texts new_texts 7 512 bytes' given'
-    → given.old.status ≢ 5 → given.new.status ≢ 5 → given'.old.status ≢ 5 → given'.new.status ≢ 5 → bytes ≡ bytes'
-batches_of_1_and_of_512_differ_in_the_same law old_texts new_texts bytes bytes' given given' =
-    law by.Hop old_texts new_texts 7 1 512 bytes bytes' given given'
+two_comparisons_differ_in_the_same :
+    DiffOnce → (by : By) (old_texts new_texts : List (List ℕ)) (limit batch batch' : ℕ) (bytes bytes' : List ℕ) (given given' : DiffSummary)
+    → IsDiffText by old_texts new_texts limit batch bytes given → IsDiffText by old_texts new_texts limit batch' bytes' given' → given.old.status ≢ 5
+    → given.new.status ≢ 5 → given'.old.status ≢ 5 → given'.new.status ≢ 5 → bytes ≡ bytes'
+two_comparisons_differ_in_the_same law = law

@@ -146,38 +146,38 @@ its_outcomes_are_appended :
 its_outcomes_are_appended seen now cmds before after visit = (visit.appended, visit.visit)
 
 -- SinceAgain
-others_came_and_others_came : SinceAgain → (b : List Entry) → Since 1 [] b → Since 1 b (dump 2 ∷ []) → Since 1 [] (dump 2 ∷ [])
-others_came_and_others_came law b = law 1 [] b (dump 2 ∷ [])
+what_came_in_two_steps_came : SinceAgain → (feed : ℕ) (a b c : List Entry) → Since feed a b → Since feed b c → Since feed a c
+what_came_in_two_steps_came law = law
 
 -- AnsweredInPieces
-one_command_and_then_two :
-    AnsweredInPieces → (os ps : List Outcome) → length os ≡ 1
-    → (answered 1 (Dump ∷ Purge ∷ Dump ∷ []) (os ++ ps) ≡ answered 1 (Dump ∷ []) os ++ answered 1 (Purge ∷ Dump ∷ []) ps) × AllBy 1 (answered 1 (Dump ∷ []) os)
-one_command_and_then_two law os ps = law 1 (Dump ∷ []) (Purge ∷ Dump ∷ []) os ps
+answered_in_two_pieces :
+    AnsweredInPieces → (feed : ℕ) (xs ys : List Cmd) (os ps : List Outcome) → length os ≡ length xs
+    → (answered feed (xs ++ ys) (os ++ ps) ≡ answered feed xs os ++ answered feed ys ps) × AllBy feed (answered feed xs os)
+answered_in_two_pieces law = law
 
 -- UncutAtFirst
-feed_2_has_made_no_visit : UncutAtFirst → Uncut 2 [] []
-feed_2_has_made_no_visit law = law 2
+uncut_where_nothing_was_seen : UncutAtFirst → (feed : ℕ) → Uncut feed [] []
+uncut_where_nothing_was_seen law = law
 
 -- UncutSince
-its_visits_stay_where_others_come :
-    UncutSince → (visits : List (List Entry)) (a : List Entry) → Uncut 1 visits a → Since 1 a (dump 2 ∷ []) → Uncut 1 visits (dump 2 ∷ [])
-its_visits_stay_where_others_come law visits a = law 1 visits a (dump 2 ∷ [])
+uncut_while_others_add : UncutSince → (feed : ℕ) (visits : List (List Entry)) (a b : List Entry) → Uncut feed visits a → Since feed a b → Uncut feed visits b
+uncut_while_others_add law = law
 
 -- UncutByVisit
-one_more_visit_of_a_dump :
-    UncutByVisit → (visits : List (List Entry)) (seen now : List Entry) → Uncut 1 visits seen
-    → MakesVisit 5 1 seen (Dump ∷ []) (Did (Dumped 0) ∷ []) now → Uncut 1 (visits ++ (dump 1 ∷ []) ∷ []) now
-one_more_visit_of_a_dump law visits seen now = law 5 1 visits seen now (Dump ∷ []) (Did (Dumped 0) ∷ [])
+uncut_with_a_visit_more :
+    UncutByVisit → (limit feed : ℕ) (visits : List (List Entry)) (seen now : List Entry) (cmds : List Cmd) (outcomes : List Outcome)
+    → Uncut feed visits seen → MakesVisit limit feed seen cmds outcomes now → Uncut feed (visits ++ answered feed cmds outcomes ∷ []) now
+uncut_with_a_visit_more law = law
 
 -- EntriesOfVisits
-its_entries_are_those_of_two_visits :
-    EntriesOfVisits → (a b journal : List Entry) → Uncut 1 (a ∷ b ∷ []) journal → feed_entries 1 journal ≡ flat_map (λ visit. visit) (a ∷ b ∷ [])
-its_entries_are_those_of_two_visits law a b = law 1 (a ∷ b ∷ [])
+the_entries_of_a_feed_are_those_of_its_visits :
+    EntriesOfVisits → (feed : ℕ) (visits : List (List Entry)) (journal : List Entry) → Uncut feed visits journal
+    → feed_entries feed journal ≡ flat_map (λ visit. visit) visits
+the_entries_of_a_feed_are_those_of_its_visits law = law
 
 -- EntriesSince
-nothing_of_its_own_has_come : EntriesSince → (a : List Entry) → Since 1 a (dump 2 ∷ []) → feed_entries 1 (dump 2 ∷ []) ≡ feed_entries 1 a
-nothing_of_its_own_has_come law a = law 1 a (dump 2 ∷ [])
+nothing_of_its_own_has_come : EntriesSince → (feed : ℕ) (a b : List Entry) → Since feed a b → feed_entries feed b ≡ feed_entries feed a
+nothing_of_its_own_has_come law = law
 
 -- PassesKept
 passes_of_the_same_table_and_feeds :
@@ -285,6 +285,11 @@ no_entry_that_nobody_made h = let entries = h 0 in cc
 nothing_made_that_is_lost :
     ¬ HasAllMade (record { state = opening; content = []; copies = λ place. []; doing = λ place. []; made = λ place. (Dump, Dumped 0) ∷ [] })
 nothing_made_that_is_lost h = let entries = h 0 in cc
+
+each_feeds_entries_are_those_that_it_made :
+    (world : World Act) → HasAllMade world → (place : ℕ)
+    → feed_entries (feed_of place) (journal_of world.content) ≡ map (entry_of place) (world.made place)
+each_feeds_entries_are_those_that_it_made world h = h
 
 -- FindsBest
 no_look_up_no_wrong_one : FindsBest 1 (dump 1 ∷ [])
@@ -407,6 +412,10 @@ one_that_is_inside_has_one = (0, 1, (Inside, (new, (Seated 1 Inside new 0, refl,
 
 none_before_they_are_made : ¬ HasPass (record { words = []; homes = some None ∷ []; views = [] })
 none_before_they_are_made (seat, place, (process, (seen, has))) = some-ne-none has.0 (sym has.1)
+
+any_seats_process_has_one :
+    (s : Moment) (seat place : ℕ) (process : Process) (seen : Lent) → HasProcess s seat place process seen → HasPass s
+any_seats_process_has_one s seat place process seen has = (seat, place, (process, (seen, has)))
 
 -- BookInSlot
 it_lies_there : BookInSlot at_rest dumped

@@ -859,12 +859,12 @@ what_a_step_of_place_1_in_seat_5_is since process s t h = (h.access, (h.value, h
 
 -- EachMayStep
 which_step_each_seat_may_take :
-    (since done : ℕ → ℕ → ℕ → Type 0) (s : State (std.Option ℕ) (View ℕ)) → EachMayStep since done 2 s
-    → (seat place : ℕ) (process : Process) (value : ℕ) (count : ℕ) (slots : Slots ℕ)
-    → get_elem? s.views seat ≡ some (Seated place process value count) → place < 4
+    {V : Type 0} → (since done : ℕ → V → V → Type 0) (levels : ℕ) (s : State (std.Option V) (View V)) → EachMayStep since done levels s
+    → (seat place : ℕ) (process : Process) (value : V) (count : ℕ) (slots : Slots V)
+    → get_elem? s.views seat ≡ some (Seated place process value count) → place < 2 ^ levels
     → IsReady done (is_inside process) place value slots
-    → (t : State (std.Option ℕ) (View ℕ)) × TakesStep since 2 seat place process count s t
-which_step_each_seat_may_take since done s h = h
+    → (t : State (std.Option V) (View V)) × TakesStep since levels seat place process count s t
+which_step_each_seat_may_take since done levels s h = h
 
 each_of_both_may_step : EachMayStep raised raised 1 both_made
 each_of_both_may_step =

@@ -26,6 +26,7 @@ use Rattle.rt_cidr.specs.Laws.{HasOneNumber, HasOneText, HasOnePair, PairHasOneT
 use Rattle.rt_cidr.specs.Laws.{PairHasOneAnswer, WritesDecimal, WritesAddress, WritesPrefix, ReadsDecimalAgain}
 use Rattle.rt_cidr.specs.Laws.{ReadsAddressAgain, ReadsPrefixAgain, SamePrefix, CoversItsRange, ContainsByRange}
 use Rattle.rt_cidr.specs.Laws.{ContainsWhatItCovers, CoveringAreNested, CoveringAreSame}
+use Rattle.std.specs.Prelude.{◌^◌}
 
 -- 0.0.0.0/0, 10.0.0.0/8, 255.255.255.255/32
 abbrev pub everything : Prefix
@@ -338,33 +339,34 @@ as_many_bytes_as_the_room_has : (text old : List ℕ) → FitsInShortText text o
 as_many_bytes_as_the_room_has text old h = h
 
 -- HasOneNumber
-the_number_of_a_text_of_7_is_7 : HasOneNumber IsDecimal → (text : List ℕ) (n : ℕ) → IsDecimal text 7 → IsDecimal text n → 7 ≡ n
-the_number_of_a_text_of_7_is_7 law text = law text 7
+a_text_has_one_number : (IsText : List ℕ → ℕ → Type 0) → HasOneNumber IsText → (text : List ℕ) (m n : ℕ) → IsText text m → IsText text n → m ≡ n
+a_text_has_one_number IsText law = law
 
 -- HasOneText
-two_texts_of_7_are_one : HasOneText IsDecimal → (text other : List ℕ) → IsDecimal text 7 → IsDecimal other 7 → text ≡ other
-two_texts_of_7_are_one law text other = law text other 7
+a_number_has_one_text : (IsText : List ℕ → ℕ → Type 0) → HasOneText IsText → (text other : List ℕ) (n : ℕ) → IsText text n → IsText other n → text ≡ other
+a_number_has_one_text IsText law = law
 
 -- HasOnePair
-two_pairs_of_a_text_are_one : HasOnePair → (text : List ℕ) (len : ℕ) → IsPrefixText text 1 8 → IsPrefixText text 2 len → (◌≡◌ {A = ℕ} 1 2) × (8 ≡ len)
-two_pairs_of_a_text_are_one law text len = law text 1 2 8 len
+a_text_has_one_pair :
+    HasOnePair → (text : List ℕ) (address other m n : ℕ) → IsPrefixText text address m → IsPrefixText text other n → (address ≡ other) × (m ≡ n)
+a_text_has_one_pair law = law
 
 -- PairHasOneText
-two_texts_of_a_pair_are_one : PairHasOneText → (text other : List ℕ) → IsPrefixText text 1 8 → IsPrefixText other 1 8 → text ≡ other
-two_texts_of_a_pair_are_one law text other = law text other 1 8
+a_pair_has_one_text : PairHasOneText → (text other : List ℕ) (address len : ℕ) → IsPrefixText text address len → IsPrefixText other address len → text ≡ other
+a_pair_has_one_text law = law
 
 -- AddressFits
 of_32_bits : AddressFits → (text : List ℕ) (address : ℕ) → IsAddressText text address → address < 4294967296
 of_32_bits law = law
 
 -- HasOneAnswer
-never_both_7_and_none : HasOneAnswer ReadsDecimal → (text : List ℕ) → ReadsDecimal text (Some 7) → ¬ ReadsDecimal text None
-never_both_7_and_none law text seven none = let same = law text (Some 7) None seven none in cc
+a_text_is_read_in_one_way :
+    {A : Type 0} → (Reads : List ℕ → A → Type 0) → HasOneAnswer Reads → (text : List ℕ) (one two : A) → Reads text one → Reads text two → one ≡ two
+a_text_is_read_in_one_way Reads law = law
 
 -- PairHasOneAnswer
-no_other_answer_where_a_bit_is_past_the_length :
-    PairHasOneAnswer → (base : ℕ) (two : Result Prefix TextFault) → AnswersPair base 8 (Err Bits) → AnswersPair base 8 two → Err Bits ≡ two
-no_other_answer_where_a_bit_is_past_the_length law base = law base 8 (Err Bits)
+a_pair_has_one_answer : PairHasOneAnswer → (base len : ℕ) (one two : Result Prefix TextFault) → AnswersPair base len one → AnswersPair base len two → one ≡ two
+a_pair_has_one_answer law = law
 
 -- WritesDecimal
 every_number_of_64_bits : WritesDecimal → (n : ℕ) → n < 18446744073709551616 → IsDecimal (decimal n) n
@@ -375,8 +377,8 @@ every_number_of_32_bits : WritesAddress → (address : ℕ) → address < 429496
 every_number_of_32_bits law = law
 
 -- WritesPrefix
-ten_8_is_written : WritesPrefix → IsPrefixText (prefix_text 167772160 8) 167772160 8
-ten_8_is_written law = law ten_8
+each_prefix_is_written : WritesPrefix → (p : Prefix) → IsPrefixText (prefix_text p.base p.len) p.base p.len
+each_prefix_is_written law = law
 
 -- ReadsDecimalAgain
 a_number_of_32_bits_is_read : ReadsDecimalAgain → (n : ℕ) (answer : Option ℕ) → n < 4294967296 → ReadsDecimal (decimal n) answer → answer ≡ Some n
@@ -388,33 +390,32 @@ an_address_is_read :
 an_address_is_read law = law
 
 -- ReadsPrefixAgain
-ten_8_is_read : ReadsPrefixAgain → (answer : Result Prefix TextFault) → ReadsPrefix (prefix_text 167772160 8) answer → answer ≡ Ok ten_8
-ten_8_is_read law = law ten_8
+each_prefix_is_read : ReadsPrefixAgain → (p : Prefix) (answer : Result Prefix TextFault) → ReadsPrefix (prefix_text p.base p.len) answer → answer ≡ Ok p
+each_prefix_is_read law = law
 
 -- SamePrefix
-ten_8_is_one : SamePrefix → (p : Prefix) → p.base ≡ 167772160 → p.len ≡ 8 → p ≡ ten_8
-ten_8_is_one law p = law p ten_8
+base_and_length_are_all_of_a_prefix : SamePrefix → (p q : Prefix) → p.base ≡ q.base → p.len ≡ q.len → p ≡ q
+base_and_length_are_all_of_a_prefix law = law
 
 -- CoversItsRange
-the_range_of_ten_8 : CoversItsRange → (a : Addr) → IsTrue (covers ten_8 a) ↔ ((167772160 ≤ a.0) × (a.0 < 184549376))
-the_range_of_ten_8 law = law ten_8
+what_a_prefix_covers_is_its_range : CoversItsRange → (p : Prefix) (a : Addr) → IsTrue (covers p a) ↔ ((p.base ≤ a.0) × (a.0 < p.base + size_of p.len))
+what_a_prefix_covers_is_its_range law = law
 
 -- ContainsByRange
-what_lies_in_ten_8 : ContainsByRange → (q : Prefix) → IsTrue (contains ten_8 q) ↔ ((8 ≤ q.len) × (167772160 ≤ q.base) × (q.base < 184549376))
-what_lies_in_ten_8 law = law ten_8
+what_lies_in_a_prefix : ContainsByRange → (p q : Prefix) → IsTrue (contains p q) ↔ ((p.len ≤ q.len) × (p.base ≤ q.base) × (q.base < p.base + size_of p.len))
+what_lies_in_a_prefix law = law
 
 -- ContainsWhatItCovers
-whose_addresses_ten_8_covers :
-    ContainsWhatItCovers → (q : Prefix)
-    → IsTrue (contains ten_8 q) ↔ ((a : Addr) → a.0 < 4294967296 → IsTrue (covers q a) → IsTrue (covers ten_8 a))
-whose_addresses_ten_8_covers law = law ten_8
+whose_addresses_a_prefix_covers :
+    ContainsWhatItCovers → (p q : Prefix) → IsTrue (contains p q) ↔ ((a : Addr) → a.0 < 2 ^ 32 → IsTrue (covers q a) → IsTrue (covers p a))
+whose_addresses_a_prefix_covers law = law
 
 -- CoveringAreNested
-what_covers_one_of_its_addresses_and_is_no_shorter :
-    CoveringAreNested → (q : Prefix) (a : Addr) → IsTrue (covers ten_8 a) → IsTrue (covers q a) → 8 ≤ q.len → IsTrue (contains ten_8 q)
-what_covers_one_of_its_addresses_and_is_no_shorter law = law ten_8
+of_two_that_cover_an_address_the_shorter_contains_the_other :
+    CoveringAreNested → (p q : Prefix) (a : Addr) → IsTrue (covers p a) → IsTrue (covers q a) → p.len ≤ q.len → IsTrue (contains p q)
+of_two_that_cover_an_address_the_shorter_contains_the_other law = law
 
 -- CoveringAreSame
-what_covers_one_of_its_addresses_and_is_as_long :
-    CoveringAreSame → (q : Prefix) (a : Addr) → IsTrue (covers ten_8 a) → IsTrue (covers q a) → 8 ≡ q.len → ten_8 ≡ q
-what_covers_one_of_its_addresses_and_is_as_long law = law ten_8
+two_of_one_length_that_cover_an_address_are_one :
+    CoveringAreSame → (p q : Prefix) (a : Addr) → IsTrue (covers p a) → IsTrue (covers q a) → p.len ≡ q.len → p ≡ q
+two_of_one_length_that_cover_an_address_are_one law = law

@@ -1,6 +1,6 @@
 -- Examples by which the definitions of rt_diff are tested, each under a line with the definition's name. Both sides are
 -- computed, and what a relation or a law says is spelled out for some values.
-use Rattle.std.proofs.Common.{◌≡◌, ℕ, ◌+◌, ◌^◌, ◌<◌, ◌≤◌, Some, None, List, [], ◌∷◌, refl, arith}
+use Rattle.std.proofs.Common.{◌≡◌, ℕ, ◌+◌, ◌<◌, ◌≤◌, Some, None, List, [], ◌∷◌, refl, arith}
 use Rattle.std.specs.Prelude.{◌≢◌, All, Any}
 use Rattle.std.specs.List.{AllPairs}
 use Rattle.std.proofs.lemmas.List.Elements.{All-nil}
@@ -13,7 +13,6 @@ use Rattle.table_examples.proofs.Cidr.{ten_8}
 use Rattle.table_examples.proofs.Rib.{ten_1_16, at_10_1_2_3, at_10_9_0_1, via_192_0_2, route_via}
 use Rattle.rt_diff.specs.declared.answers.By.{By}
 use Rattle.rt_diff.specs.declared.answers.By.TheVariants as by
-use Rattle.rt_diff.specs.declared.answers.Answer.{Answer}
 use Rattle.rt_diff.specs.declared.answers.Answer.TheVariants as answer
 use Rattle.rt_diff.specs.declared.differences.Difference.{Difference}
 use Rattle.rt_diff.specs.Answers.{answer_by, answer_of}
@@ -140,9 +139,11 @@ what_a_list_of_ranges_says :
 what_a_list_of_ranges_says old new list h = (h.each, h.all, h.rising, h.fewest)
 
 -- HaveDifferences
-what_two_tables_have : HaveDifferences → (new : List Route) → (list : List Difference) × AreDifferences by.Hop [] new list
-what_two_tables_have law new = law by.Hop [] new
+what_two_tables_have : HaveDifferences → (by : By) (old new : List Route) → (list : List Difference) × AreDifferences by old new list
+what_two_tables_have law = law
 
 -- HaveOneList
-and_once : HaveOneList → (new : List Route) (other : List Difference) → AreDifferences by.Hop [] new [] → AreDifferences by.Hop [] new other → [] ≡ other
-and_once law new other = law by.Hop [] new [] other
+and_once :
+    HaveOneList → (by : By) (old new : List Route) (one other : List Difference) → AreDifferences by old new one → AreDifferences by old new other
+    → one ≡ other
+and_once law = law

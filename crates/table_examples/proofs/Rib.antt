@@ -23,7 +23,7 @@ use Rattle.rt_rib.specs.LookUp.{matching, longest_of, best, look_up, beats, rank
 use Rattle.rt_rib.specs.Sequential.{reply_of, table_after, table_of_journal, IsAnswered, IsLawfulJournal}
 use Rattle.rt_rib.specs.Book.{IsLimit, BookContents, OfferTrie, table_of, HoldsRoutes, HoldsTable, IsFeed, Applies, Refuses, Reserves}
 use Rattle.rt_rib.specs.Laws.{IsBestMatch, is_own, feed_entries, PutInAdds, TakeOutLeavesOthers, OneTableOfSet, LookUpFindsBest, AreMatches}
-use Rattle.rt_rib.specs.Laws.{LookUpAllFindsMatches, TableByEntry, LawfulByEntry, LawfulIsDetermined, asked, feed_routes, FeedsStandAlone}
+use Rattle.rt_rib.specs.Laws.{LookUpAllFindsMatches, BestRoutesSuffice, TableByEntry, LawfulByEntry, LawfulIsDetermined, asked, feed_routes, FeedsStandAlone}
 use Rattle.rt_rib.proofs.Tables.{IsTable-nil, IsTable-put_in}
 use Rattle.rt_rib.proofs.Sets.{Contains-cases, Contains-none}
 use Rattle.rt_rib.proofs.Best.{look_up_finds_best}
@@ -686,26 +686,23 @@ those_of_feed_2 : feed_routes 2 (route everything 1 9 ∷ route ten_8 2 30 ∷ r
 those_of_feed_2 = refl
 
 -- PutInAdds
-what_a_route_more_contains :
-    PutInAdds → (x : Route) (table : List Route) → Contains (put_in (route ten_8 1 5) table) x ↔ (Contains table x ⊎ (route ten_8 1 5 ≡ x))
-what_a_route_more_contains law = law (route ten_8 1 5)
+what_a_table_contains_once_a_route_was_put_in : PutInAdds → (r x : Route) (table : List Route) → Contains (put_in r table) x ↔ (Contains table x ⊎ (r ≡ x))
+what_a_table_contains_once_a_route_was_put_in law = law
 
 -- TakeOutLeavesOthers
-what_is_left_without_feed_1s :
-    TakeOutLeavesOthers → (x : Route) (table : List Route) → Contains (take_out 1 ten_8 table) x ↔ (Contains table x × (is_of 1 ten_8 x ≡ false))
-what_is_left_without_feed_1s law = law 1 ten_8
+what_a_table_contains_once_a_route_was_taken_out :
+    TakeOutLeavesOthers → (feed : ℕ) (prefix : Prefix) (x : Route) (table : List Route)
+    → Contains (take_out feed prefix table) x ↔ (Contains table x × (is_of feed prefix x ≡ false))
+what_a_table_contains_once_a_route_was_taken_out law = law
 
 -- OneTableOfSet
-one_table_of_what_both_contain :
-    OneTableOfSet → (t : List Route) → IsTable t → IsTable nested → ((x : Route) → Contains t x ↔ Contains nested x) → t ≡ nested
-one_table_of_what_both_contain law t = law t nested
+tables_of_one_set_are_one : OneTableOfSet → (t u : List Route) → IsTable t → IsTable u → ((x : Route) → Contains t x ↔ Contains u x) → t ≡ u
+tables_of_one_set_are_one law = law
 
 -- LookUpFindsBest
-what_is_found_is_the_best_match :
-    LookUpFindsBest → (table : List Route) → IsTable table
-    → ((r : Route) → (look_up at_last table ≡ Some r) ↔ IsBestMatch at_last table r)
-    × ((look_up at_last table ≡ None) ↔ ((s : Route) → Contains table s → covers s.prefix at_last ≡ false))
-what_is_found_is_the_best_match law = law at_last
+a_look_up_finds_the_best_match :
+    LookUpFindsBest → (addr : Addr) (table : List Route) → IsTable table → ((r : Route) → (look_up addr table ≡ Some r) ↔ IsBestMatch addr table r) × ((look_up addr table ≡ None) ↔ ((s : Route) → Contains table s → covers s.prefix addr ≡ false))
+a_look_up_finds_the_best_match law = law
 
 -- AreMatches
 what_covers_in_order_are_the_matches : AreMatches at_10_2_3_4 (route ten_8 2 30 ∷ []) (route ten_8 2 30 ∷ [])
@@ -734,25 +731,28 @@ what_matches_are :
 what_matches_are table matches h = (h.exactly, h.ordered)
 
 -- LookUpAllFindsMatches
-all_that_is_found_are_the_matches :
-    LookUpAllFindsMatches → (table : List Route) → IsTable table
-    → ((matches : List Route) → (look_up_all at_last table ≡ matches) ↔ AreMatches at_last table matches)
-    × (slice_get (look_up_all at_last table) 0 ≡ look_up at_last table)
-all_that_is_found_are_the_matches law = law at_last
+a_look_up_of_all_finds_the_matches :
+    LookUpAllFindsMatches → (addr : Addr) (table : List Route) → IsTable table → ((matches : List Route) → (look_up_all addr table ≡ matches) ↔ AreMatches addr table matches) × (slice_get (look_up_all addr table) 0 ≡ look_up addr table)
+a_look_up_of_all_finds_the_matches law = law
+
+-- BestRoutesSuffice
+the_best_routes_are_apart_and_answer :
+    BestRoutesSuffice → (addr : Addr) (table : List Route) → IsTable table
+    → AllPairs (λ r s. same_prefix r.prefix s.prefix ≡ false) (best_routes table) × (look_up addr (best_routes table) ≡ look_up addr table)
+the_best_routes_are_apart_and_answer law addr table is = (law.single table is, law.answers addr table is)
 
 -- TableByEntry
 by_one_entry_more :
-    TableByEntry → (journal : List Entry)
-    → IsTable (table_of_journal 1 journal) × (table_of_journal 1 [] ≡ [])
-    × (table_of_journal 1 (journal ++ entry 2 Purge (Purged 0) ∷ []) ≡ table_after 1 (table_of_journal 1 journal) 2 Purge)
-by_one_entry_more law journal = (law.table 1 journal, law.empty 1, law.step 1 journal (entry 2 Purge (Purged 0)))
+    TableByEntry → (limit : ℕ) (journal : List Entry) (e : Entry)
+    → IsTable (table_of_journal limit journal) × (table_of_journal limit [] ≡ [])
+    × (table_of_journal limit (journal ++ e ∷ []) ≡ table_after limit (table_of_journal limit journal) e.feed e.cmd)
+by_one_entry_more law limit journal e = (law.table limit journal, law.empty limit, law.step limit journal e)
 
 -- LawfulByEntry
 lawful_with_one_entry_more :
-    LawfulByEntry → (journal : List Entry)
-    → IsLawfulJournal 1 []
-    × (IsLawfulJournal 1 (journal ++ entry 2 Purge (Purged 0) ∷ []) ↔ (IsLawfulJournal 1 journal × IsAnswered 1 journal (entry 2 Purge (Purged 0))))
-lawful_with_one_entry_more law journal = (law.empty 1, law.step 1 journal (entry 2 Purge (Purged 0)))
+    LawfulByEntry → (limit : ℕ) (journal : List Entry) (e : Entry)
+    → IsLawfulJournal limit [] × (IsLawfulJournal limit (journal ++ e ∷ []) ↔ (IsLawfulJournal limit journal × IsAnswered limit journal e))
+lawful_with_one_entry_more law limit journal e = (law.empty limit, law.step limit journal e)
 
 -- asked
 who_asked_what : asked (entry 1 Dump (Dumped 0) ∷ entry 2 Purge (Purged 0) ∷ []) ≡ (1, Dump) ∷ (2, Purge) ∷ []
@@ -760,15 +760,14 @@ who_asked_what = refl
 
 -- LawfulIsDetermined
 one_lawful_journal_of_what_was_asked :
-    LawfulIsDetermined → (j k : List Entry) → IsLawfulJournal 1 j → IsLawfulJournal 1 k → asked j ≡ asked k → j ≡ k
-one_lawful_journal_of_what_was_asked law = law 1
+    LawfulIsDetermined → (limit : ℕ) (j k : List Entry) → IsLawfulJournal limit j → IsLawfulJournal limit k → asked j ≡ asked k → j ≡ k
+one_lawful_journal_of_what_was_asked law = law
 
 -- FeedsStandAlone
-feed_2_stands_alone :
-    FeedsStandAlone → (journal : List Entry)
-    → (feed_routes 2 (table_of_journal 1 journal) ≡ table_of_journal 1 (feed_entries 2 journal))
-    × (true ≡ true → reply_of 1 (table_of_journal 1 journal) 2 Purge ≡ reply_of 1 (table_of_journal 1 (feed_entries 2 journal)) 2 Purge)
-feed_2_stands_alone law journal = law 1 2 journal Purge
+each_feed_stands_alone :
+    FeedsStandAlone → (limit feed : ℕ) (journal : List Entry) (cmd : Cmd)
+    → (feed_routes feed (table_of_journal limit journal) ≡ table_of_journal limit (feed_entries feed journal)) × (is_own cmd ≡ true → reply_of limit (table_of_journal limit journal) feed cmd ≡ reply_of limit (table_of_journal limit (feed_entries feed journal)) feed cmd)
+each_feed_stands_alone law = law
 
 -- Applies
 what_an_answered_dump_does :
@@ -785,10 +784,10 @@ what_a_refused_dump_leaves :
 what_a_refused_dump_leaves old new h = (h.limited, h.journaled, h.kept, h.roomy, h.wanted)
 
 -- Reserves
-what_a_book_with_room_for_three_is :
-    (old new : BookContents) → Reserves old new 3
-    → (new.limit ≡ old.limit) × (new.journal ≡ old.journal) × (new.trie ≡ old.trie) × (old.room ≤ new.room) × (3 ≤ new.room)
-what_a_book_with_room_for_three_is old new h = (h.limited, h.journaled, h.kept, h.roomy, h.reserved)
+what_a_book_with_room_is :
+    (old new : BookContents) (entries : ℕ) → Reserves old new entries
+    → (new.limit ≡ old.limit) × (new.journal ≡ old.journal) × (new.trie ≡ old.trie) × (old.room ≤ new.room) × (entries ≤ new.room)
+what_a_book_with_room_is old new entries h = (h.limited, h.journaled, h.kept, h.roomy, h.reserved)
 
 -- BookContents
 the_parts_of_a_book :

@@ -405,56 +405,54 @@ the_tree_of_each_kind_of_link :
 the_tree_of_each_kind_of_link len base b p o left right v = (refl, refl, refl, refl)
 
 -- PutIsSeen
-what_stands_where_once_5_was_put :
-    PutIsSeen ℕ → (m : Pairs ℕ) (q : Prefix) → get (put m ten_8 5) q ≡ (if same_prefix ten_8 q then Some 5 else get m q)
-what_stands_where_once_5_was_put law m = law m ten_8 5
+what_stands_where_after_a_put :
+    {V : Type 0} → PutIsSeen V → (m : Pairs V) (p : Prefix) (v : V) (q : Prefix) → get (put m p v) q ≡ (if same_prefix p q then Some v else get m q)
+what_stands_where_after_a_put law = law
 
 -- EraseIsSeen
-what_stands_where_once_it_was_erased :
-    EraseIsSeen ℕ → (m : Pairs ℕ) (q : Prefix) → IsOrdered m → get (erase m ten_8) q ≡ (if same_prefix ten_8 q then None else get m q)
-what_stands_where_once_it_was_erased law m = law m ten_8
+what_stands_where_after_an_erasure :
+    {V : Type 0} → EraseIsSeen V → (m : Pairs V) (p q : Prefix) → IsOrdered m → get (erase m p) q ≡ (if same_prefix p q then None else get m q)
+what_stands_where_after_an_erasure law = law
 
 -- PutKeepsOrder
-in_order_with_5 : PutKeepsOrder ℕ → (m : Pairs ℕ) → IsOrdered m → IsOrdered (put m ten_8 5)
-in_order_with_5 law m = law m ten_8 5
+in_order_after_a_put : {V : Type 0} → PutKeepsOrder V → (m : Pairs V) (p : Prefix) (v : V) → IsOrdered m → IsOrdered (put m p v)
+in_order_after_a_put law = law
 
 -- EraseKeepsOrder
-in_order_without_it : EraseKeepsOrder ℕ → (m : Pairs ℕ) → IsOrdered m → IsOrdered (erase m ten_8)
-in_order_without_it law m = law m ten_8
+in_order_after_an_erasure : {V : Type 0} → EraseKeepsOrder V → (m : Pairs V) (p : Prefix) → IsOrdered m → IsOrdered (erase m p)
+in_order_after_an_erasure law = law
 
 -- PairsAreFound
-a_pair_is_found : PairsAreFound ℕ → (m : Pairs ℕ) → IsOrdered m → Contains m (ten_8, 5) ↔ (get m ten_8 ≡ Some 5)
-a_pair_is_found law m = law m ten_8 5
+each_pair_is_found : {V : Type 0} → PairsAreFound V → (m : Pairs V) (p : Prefix) (v : V) → IsOrdered m → Contains m (p, v) ↔ (get m p ≡ Some v)
+each_pair_is_found law = law
 
 -- MapHasOneList
-one_list_of_what_stands_where : MapHasOneList ℕ → (m : Pairs ℕ) → IsOrdered m → IsOrdered two → ((p : Prefix) → get m p ≡ get two p) → m ≡ two
-one_list_of_what_stands_where law m = law m two
+one_list_of_what_stands_where : {V : Type 0} → MapHasOneList V → (m n : Pairs V) → IsOrdered m → IsOrdered n → ((p : Prefix) → get m p ≡ get n p) → m ≡ n
+one_list_of_what_stands_where law = law
 
 -- FirstIsLeast
 what_the_first_is :
-    FirstIsLeast ℕ → (m : Pairs ℕ) → IsOrdered m
-    → (first m ≡ Some ten_8) ↔ (IsStored m ten_8 × ((x : Prefix) → IsStored m x → before x ten_8 ≡ false))
-what_the_first_is law m = law m ten_8
+    {V : Type 0} → FirstIsLeast V → (m : Pairs V) (p : Prefix) → IsOrdered m → (first m ≡ Some p) ↔ (IsStored m p × ((x : Prefix) → IsStored m x → before x p ≡ false))
+what_the_first_is law = law
 
 -- NoneIsFirst
-none_is_first_of_nothing_alone : NoneIsFirst ℕ → (m : Pairs ℕ) → (first m ≡ None) ↔ (m ≡ [])
+none_is_first_of_nothing_alone : {V : Type 0} → NoneIsFirst V → (m : Pairs V) → (first m ≡ None) ↔ (m ≡ [])
 none_is_first_of_nothing_alone law = law
 
 -- AfterIsNext
 what_comes_next :
-    AfterIsNext ℕ → (m : Pairs ℕ) → IsOrdered m
-    → (next_after m ten_8 ≡ Some ten_1_16)
-    ↔ (IsStored m ten_1_16 × IsTrue (before ten_8 ten_1_16) × ((x : Prefix) → IsStored m x → IsTrue (before ten_8 x) → before x ten_1_16 ≡ false))
-what_comes_next law m = law m ten_8 ten_1_16
+    {V : Type 0} → AfterIsNext V → (m : Pairs V) (p q : Prefix) → IsOrdered m
+    → (next_after m p ≡ Some q) ↔ (IsStored m q × IsTrue (before p q) × ((x : Prefix) → IsStored m x → IsTrue (before p x) → before x q ≡ false))
+what_comes_next law = law
 
 -- NoneIsAfter
 none_comes_behind_the_last :
-    NoneIsAfter ℕ → (m : Pairs ℕ) → (next_after m ten_8 ≡ None) ↔ ((x : Prefix) → IsStored m x → before ten_8 x ≡ false)
-none_comes_behind_the_last law m = law m ten_8
+    {V : Type 0} → NoneIsAfter V → (m : Pairs V) (p : Prefix) → (next_after m p ≡ None) ↔ ((x : Prefix) → IsStored m x → before p x ≡ false)
+none_comes_behind_the_last law = law
 
 -- ChildByNextBit
-by_blocks_and_by_bits : ChildByNextBit → (c : Prefix) → IsChild ten_8 true c ↔ IsChildByBit ten_8 true c
-by_blocks_and_by_bits law c = law ten_8 c true
+by_blocks_and_by_bits : ChildByNextBit → (parent c : Prefix) (upper : Bool) → IsChild parent upper c ↔ IsChildByBit parent upper c
+by_blocks_and_by_bits law = law
 
 -- IsLawfulNode
 what_a_lawful_node_has :
@@ -479,7 +477,7 @@ a_full_node_has_its_value :
 a_full_node_has_its_value len base o left right v h = h
 
 -- LawfulByBits
-lawful_by_blocks_and_by_bits : {A : Type 0} → LawfulByBits ℕ A → (link : Link ℕ A) → IsLawfulTrie link ↔ IsLawfulByBits link
+lawful_by_blocks_and_by_bits : {V A : Type 0} → LawfulByBits V A → (link : Link V A) → IsLawfulTrie link ↔ IsLawfulByBits link
 lawful_by_blocks_and_by_bits law = law
 
 -- pair_copied
