@@ -300,7 +300,7 @@ class Scratch:
         for name, _, line in ERROR.findall(printed):
             copy, blocks = written[name]
             before = self.file(name).read_text().split("\n")[: int(line)].count("") if self.file(name).exists() else 0
-            refused[copy].add(blocks[before - 1] if before else None)
+            refused[copy].add(blocks[before - 1] if 0 < before <= len(blocks) else None)
         return refused
 
     def file(self, name):

@@ -408,6 +408,10 @@ unfolding table_of_journal table_after
 the_table_of_the_tutorial = refl
 
 -- IsAnswered
+answered_added : IsAnswered 1 [] (entry 1 (Add ten_8 5 Discard) Added)
+unfolding table_of_journal table_after reply_of
+answered_added = refl
+
 answered_exists : IsAnswered 1 (entry 1 (Add ten_8 5 Discard) Added ∷ []) (entry 1 (Add ten_8 5 Discard) Exists)
 unfolding table_of_journal table_after reply_of
 answered_exists = refl
