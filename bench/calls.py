@@ -129,7 +129,7 @@ SHOWN = [
 10.0.0.1 route 10.0.0.0/8 feed 1 pref 30 via 192.0.2.8
 10.0.0.3 route 10.0.0.0/8 feed 1 pref 30 via 192.0.2.8
 """, 2, """\
-yarib: odd.txt: faulty lines: 2, the first is line 2: E3: the field is no prefix or address
+yarib: odd.txt: faulty lines: 2, the first is line 2: E3: the field is no prefix or address (the CR of CRLF is part of it)
 yarib: again.feed: adds of a prefix already there: 1
 yarib: again.feed: replaces and withdraws of a prefix not there: 2
 """),
@@ -191,7 +191,7 @@ yarib: again.feed: replaces and withdraws of a prefix not there: 2
 10.0.0.1 route 10.0.0.0/8 feed 1 pref 30 via 192.0.2.8
 10.0.0.3 route 10.0.0.0/8 feed 1 pref 30 via 192.0.2.8
 """, 2, """\
-yarib: odd.txt: faulty lines: 2, the first is line 2: E3: the field is no prefix or address
+yarib: odd.txt: faulty lines: 2, the first is line 2: E3: the field is no prefix or address (the CR of CRLF is part of it)
 yarib: again.feed: adds of a prefix already there: 1
 yarib: again.feed: replaces and withdraws of a prefix not there: 2
 """),
@@ -199,9 +199,9 @@ yarib: again.feed: replaces and withdraws of a prefix not there: 2
     call("lookup --addresses odd.txt equal.feed", """\
 10.0.0.1 route 10.0.0.0/8 feed 1 pref 30 via 192.0.2.5
 10.0.0.3 route 10.0.0.0/8 feed 1 pref 30 via 192.0.2.5
-""", 2, "yarib: odd.txt: faulty lines: 2, the first is line 2: E3: the field is no prefix or address\n"),
+""", 2, "yarib: odd.txt: faulty lines: 2, the first is line 2: E3: the field is no prefix or address (the CR of CRLF is part of it)\n"),
     call("lookup --addresses cr.txt none.feed",
-         "", 2, "yarib: cr.txt: faulty lines: 1, the first is line 1: E3: the field is no prefix or address\n"),
+         "", 2, "yarib: cr.txt: faulty lines: 1, the first is line 1: E3: the field is no prefix or address (the CR of CRLF is part of it)\n"),
     call("lookup --addresses no.txt equal.feed", ""),
     call("lookup --address 10.0.0.1 none.feed", "10.0.0.1 no route\n"),
     call("table none.feed", ""),

@@ -647,7 +647,7 @@ def addresses_told(yarib):
     skipped = "# note\n\n" * 3_000
     pathlib.Path("asked.txt").write_text(skipped + "10.0.0.1\n" + skipped * 2 + "frob\n10.0.0.1\nfrob\n")
     line = 3 * 6_000 + 2
-    told = f"yarib: asked.txt: faulty lines: 2, the first is line {line}: E3: the field is no prefix or address\n"
+    told = f"yarib: asked.txt: faulty lines: 2, the first is line {line}: E3: the field is no prefix or address (the CR of CRLF is part of it)\n"
     asked = [yarib, "lookup", "--addresses", "asked.txt"]
     answer = "10.0.0.1 route " + route(1)
     expect("a long text of addresses", run([*asked, "row.feed"]), (2, answer * 2, told))

@@ -317,12 +317,14 @@ FAULTY = {
 FAULT_TEXTS = [
     ("frob", "E1: the first field is no command of this version"),
     ("dump x", "E2: the command takes another number of fields"),
-    ("lookup 10.0.0", "E3: the field is no prefix or address"),
+    ("lookup 10.0.0", "E3: the field is no prefix or address (the CR of CRLF is part of it)"),
     ("withdraw 10.0.0.0/33", "E4: the prefix's length is over 32"),
     ("withdraw 10.0.0.1/8", "E5: a bit past the prefix's length is set"),
     ("add 10.0.0.0/8 x 192.0.2.1", "E6: the preference is no decimal from 0 to 4294967295"),
-    ("add 10.0.0.0/8 1 x", "E7: the next hop is neither an address nor, in version 2, `discard`"),
+    ("add 10.0.0.0/8 1 x", "E7: the next hop is neither an address nor, in version 2, `discard` (the CR of CRLF is part of it)"),
     ("x" * 129, "E8: the line has over 128 bytes"),
+    ("withdraw 10.0.0.0/8\r", "E3: the field is no prefix or address (the CR of CRLF is part of it)"),
+    ("add 10.0.0.0/8 1 192.0.2.1\r", "E7: the next hop is neither an address nor, in version 2, `discard` (the CR of CRLF is part of it)"),
 ]
 
 
@@ -371,7 +373,7 @@ def addresses(yarib):
     for line in SKIPPED:
         expect(f"{line!r}, which is skipped", asked([line, "1.2.3.4"]), (0, found("1.2.3.4"), ""))
     for line in [*NO_ADDRESS, "#" * 129, "1" * 129]:
-        fault = "E8: the line has over 128 bytes" if len(line) > 128 else "E3: the field is no prefix or address"
+        fault = "E8: the line has over 128 bytes" if len(line) > 128 else "E3: the field is no prefix or address (the CR of CRLF is part of it)"
         told = f"yarib: asked.txt: faulty lines: 1, the first is line 1: {fault}\n"
         expect(f"{line!r}, which is no address", asked([line, "1.2.3.4"]), (2, found("1.2.3.4"), told))
 

@@ -30,7 +30,7 @@ pub enum LineFault {
     #[error("E2: the command takes another number of fields")]
     FieldCount,
     /// E3: a field is not of the form of a prefix or, in a `lookup`, of an address; in a text of addresses a whole line is not.
-    #[error("E3: the field is no prefix or address")]
+    #[error("E3: the field is no prefix or address (the CR of CRLF is part of it)")]
     Text,
     /// E4: the prefix's length is over 32.
     #[error("E4: the prefix's length is over 32")]
@@ -42,7 +42,7 @@ pub enum LineFault {
     #[error("E6: the preference is no decimal from 0 to 4294967295")]
     Preference,
     /// E7: the next hop is neither an address nor, in version 2, `discard`.
-    #[error("E7: the next hop is neither an address nor, in version 2, `discard`")]
+    #[error("E7: the next hop is neither an address nor, in version 2, `discard` (the CR of CRLF is part of it)")]
     Hop,
     /// E8: the line has over 128 bytes, whatever it says.
     #[error("E8: the line has over 128 bytes")]

@@ -25,7 +25,7 @@ static LINE_FAULTS: [(LineFault, &str, &str); 8] = [
     ),
     (
         LineFault::Text,
-        "E3: the field is no prefix or address",
+        "E3: the field is no prefix or address (the CR of CRLF is part of it)",
         "Text",
     ),
     (
@@ -45,7 +45,7 @@ static LINE_FAULTS: [(LineFault, &str, &str); 8] = [
     ),
     (
         LineFault::Hop,
-        "E7: the next hop is neither an address nor, in version 2, `discard`",
+        "E7: the next hop is neither an address nor, in version 2, `discard` (the CR of CRLF is part of it)",
         "Hop",
     ),
     (
