@@ -3,7 +3,7 @@
 -- which others can only raise.
 use Rattle.std.proofs.Common.{◌≡◌, ◌≢◌, ℕ, zero, suc, ◌+◌, ◌≤◌, List, [], ◌∷◌, ◌++◌, ◌∙◌, refl, sym, subst, arith, None, Some, replicate, set}
 use Rattle.std.specs.Prelude as std
-use Rattle.std.specs.Prelude.{IsTrue, ◌<◌, true, false, length, slice_get, slice_index}
+use Rattle.std.specs.Prelude.{IsTrue, ◌<◌, ◌^◌, true, false, length, slice_get, slice_index}
 use mathlib.Core.Option.{Option, none, some, some-injective, some-ne-none}
 use lib.ListN.{get_elem?}
 use Rattle.atomic_table.specs.Table.{State}
