@@ -9,7 +9,8 @@ beside, or has them by another hop, so many changes in all. The model goes over 
 which prefixes are open. Told is the time of `diff` beside that of two runs that look one address up, the old files' and the new
 ones': what a comparison takes beyond them, as a part of what they take, on the clock and of the processor; the least of five.
 In turn with these runs a program in plain Rust does the same (bench/diff_peer.rs), and where the system's python3 has py-radix
-(Debian's python3-radix) that is loaded with both tables and asked at each border.
+(Debian's python3-radix) that is loaded with both tables and asked at each border. --default-memory has the C library's own memory
+measured.
 """
 import pathlib
 import random
@@ -19,6 +20,7 @@ import sys
 import tempfile
 import time
 
+import figures
 from checks import built, end, expect
 
 # How many of a hundred prefixes are of this length.
@@ -152,8 +154,9 @@ def timed(words):
 
 
 def main():
-    yarib = built(sys.argv[1:2])
-    prefixes, changes = (int(word) for word in (sys.argv[2:] + ["500000", "1000"][len(sys.argv[2:]):]))
+    words = figures.words()
+    yarib = built(words[:1])
+    prefixes, changes = (int(word) for word in (words[1:] + ["500000", "1000"][len(words[1:]):]))
     with tempfile.TemporaryDirectory() as folder:
         old, new = pathlib.Path(folder, "old.feed"), pathlib.Path(folder, "new.feed")
         table = drawn(prefixes)
