@@ -101,7 +101,7 @@ def to_be_moved(copy, folder):
     expect("the program that the launcher names", "exec '/opt/yarib/libexec/yarib/yarib'" in launcher, True)
     in_empty_root(destination, folder / "row.feed")
     expect("removed below DESTDIR", run([copy / "install", "--remove", "/opt/yarib"], **how)[0], 0)
-    expect("what stays below DESTDIR", files_below(destination), [])
+    expect("what stays below DESTDIR", (files_below(destination), (destination / "opt").exists()), ([], False))
 
 
 def in_empty_root(root, feed):
@@ -178,7 +178,7 @@ def tries(copy, folder):
     expect("try of a pipe", tried(copy, folder, ["run", "pipe"]), (0, ROW_OUT, ""))
     writer.wait()
     status, _, err = tried(copy, folder, ["run", "row.feed"], env={"ENDS": "no"})
-    expect("a try that has no end", (status, err.splitlines()[-1]), (126, "try: the program did not run to its end"))
+    expect("a try that has no end", (status, err.splitlines()[-1].partition(":")[0]), (126, "try"))
     expect("a try without the toolchain", run([copy / "try"], env={"PATH": "/usr/bin:/bin"})[0], 127)
     os.chdir("/")
 
