@@ -39,19 +39,25 @@ def record_of(folder):
 class Folder:
     """A folder of feed files, and `new`, which is written beside it and takes its place.
 
-    Whoever writes has the lock of the record in `new`; where a process was killed the lock is free, and what it left is
-    cleared away. `old` is the folder while it is replaced."""
+    Whoever writes has the locks of the records in `new` and in the folder, the first of which moves there with `new`; where
+    a process was killed they are free, and what it left is cleared away. `old` is the folder while it is replaced."""
 
     def __init__(self, path, writer):
         self.path, self.writer = pathlib.Path(path).resolve(), writer
         self.new = self.path.with_name(f".{self.path.name}.new")
         self.old = self.path.with_name(f".{self.path.name}.old")
         self.made = [parent for parent in self.path.parents if not parent.exists()]
-        self.record = None
+        self.record = self.record_before = None
 
     def __enter__(self):
         while not self.is_locked():
             pass
+        try:
+            if (self.path / RECORD).exists():
+                self.record_before = self.locked(self.path / RECORD)
+        except BaseException:
+            self.leave()
+            raise
         try:
             self.restore()
             self.record.truncate(0)
@@ -66,6 +72,10 @@ class Folder:
 
     def __exit__(self, *_):
         self.restore()
+        self.leave()
+
+    def leave(self):
+        """Takes back what was begun, and unlocks."""
         shutil.rmtree(self.new, ignore_errors=True)
         self.record.close()
         if not self.path.exists():
@@ -77,15 +87,20 @@ class Folder:
         """Locks the record in `new`; False where that went to its place, or away, in the meantime."""
         self.new.mkdir(parents=True, exist_ok=True)
         with contextlib.suppress(FileNotFoundError):
-            self.record = open(self.new / RECORD, "a")
-            try:
-                fcntl.flock(self.record, fcntl.LOCK_EX | fcntl.LOCK_NB)
-            except BlockingIOError:
-                raise Refused(f"another converter is writing to {self.path}") from None
+            self.record = self.locked(self.new / RECORD)
             if os.path.samestat(os.fstat(self.record.fileno()), (self.new / RECORD).stat()):
                 return True
             self.record.close()
         return False
+
+    def locked(self, record):
+        """Opens and locks a record."""
+        opened = open(record, "a")
+        try:
+            fcntl.flock(opened, fcntl.LOCK_EX | fcntl.LOCK_NB)
+        except BlockingIOError:
+            raise Refused(f"another converter is writing to {self.path}") from None
+        return opened
 
     def files(self):
         """The names of the folder's files."""

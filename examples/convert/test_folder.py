@@ -1,5 +1,6 @@
 """What becomes of the folder that a converter writes to: of what others wrote there, of what is cut short, and of two
 that write at once."""
+import fcntl
 import os
 import resource
 import signal
@@ -105,6 +106,13 @@ def check_two(made):
         raise Failed(f"the second of two has status {status}: {said}")
     first.communicate()
     expect("the first of two", (first.returncode, names_in(folder)), (0, [".written", "127.0.0.1.feed"]))
+    expect("beside it", names_in(folder.parent), ["two"])
+    # the first has the lock of the new folder until it has cleared away the old one
+    with open(folder / ".written", "a") as record:
+        fcntl.flock(record, fcntl.LOCK_EX)
+        status, _, said = run("bird-to-feeds", BIRD, folder)
+    if status != 1 or f"another converter is writing to {folder}" not in said:
+        raise Failed(f"one that comes before the first has cleared away has status {status}: {said}")
     expect("beside it", names_in(folder.parent), ["two"])
 
 

@@ -43,6 +43,12 @@ SAME_SOURCE = b"""{"rib":[
 """
 
 
+# Two routes of BGP over an interface, whose next hop is the peer's, as `show route all` shows them.
+OVER_DEVICE = b"Table master4:\n" + b"".join(
+    b"10.%d.0.0/16 unicast [a 09:20:39.677] * (100) [AS65001i]\n\tdev uplink\n\tType: BGP univ\n\tBGP.origin: IGP\n"
+    b"\tBGP.as_path: 65001\n\tBGP.next_hop: 192.0.2.1\n\tBGP.local_pref: 100\n" % second for second in (1, 2))
+
+
 def prefixes(number):
     return [f"{10 + (i >> 16)}.{i >> 8 & 255}.{i & 255}.0/24" for i in range(number)]
 
@@ -85,6 +91,16 @@ def check_cuts(made, conversions):
             cuts += [draw.choice(ends[:-1] or [1]) for _ in range(CUTS)]
         for cut in cuts:
             check_cut(made / f"cut{number}-{cut}", command, data[:cut], whole)
+
+
+def check_cut_attributes(made):
+    """A route of BGP over an interface is refused where it was cut before its next hop, or between other attributes."""
+    lines = OVER_DEVICE.splitlines(keepends=True)
+    for number in range(len(lines) // 2 + 1, len(lines) + 1):
+        status, said = run_here("bird-to-feeds", b"".join(lines[:number]), made / f"attributes{number}")
+        # what ends behind the first route is whole
+        if (status == 0) != (number in (len(lines) // 2 + 1, len(lines))):
+            raise Failed(f"what is cut behind {lines[number - 1]!r} has status {status} and says {said}")
 
 
 def expect(what, found, expected):
@@ -140,8 +156,10 @@ def check_names(made):
 def check_many(made):
     """No line is lost where there are many, or many peers: neither between two blocks nor between two writes."""
     few = "BLOCK, MOST_WAITING = 4096, 50"
-    for name, peers, each, constants in (("lines", 1, 310000, "MOST_WAITING = 20000"), ("blocks", 3, 700, few), ("peers", 2100, 1, few),
-                                         ("more than 64 peers", 70, 30, few)):
+    for name, peers, each, constants in (
+        ("lines", 1, 310000, "MOST_WAITING = 20000"), ("blocks", 3, 700, few), ("peers", 2100, 1, few),
+        ("more than 64 peers", 70, 30, few),
+    ):
         folder = made / f"many-{name}"
         data = "".join(DUMPED.format(f"127.0.{peer >> 8}.{peer & 255}", prefix) for prefix in prefixes(each)
                        for peer in range(peers))
@@ -159,6 +177,13 @@ def check_many(made):
            (0, "", "took 5000 routes; left out nothing\n"))
 
 
+def at_a_time(last):
+    """Updates of a peer that has three routes at most, before the last."""
+    line = "BGP4MP|1|{}|127.0.0.1|1|10.{}.0.0/16|1|IGP|192.0.2.1|0|0||NAG||\n"
+    changes = "".join(line.format(*change) for change in ("A0", "A1", "W0", "A2", "A3"))
+    return f"BGP4MP|0|STATE|127.0.0.1|1|5|6\n{changes}BGP4MP|2|{last}\n"
+
+
 def check_limit(made):
     """A feed of more routes than a run takes is told with the limit that it needs, of updates for as many as it has at a
     time."""
@@ -167,12 +192,12 @@ def check_limit(made):
         data = "".join(DUMPED.format("127.0.0.1", prefix) for prefix in prefixes(each))
         said = run("bgpdump-to-feeds", data.encode(), made / f"limit{each}")[2]
         expect(f"{each} routes", said.splitlines()[1:], told)
-    line = "BGP4MP|1|{}|127.0.0.1|1|{}|1|IGP|192.0.2.1|0|0||NAG||\n"
-    data = "BGP4MP|0|STATE|127.0.0.1|1|5|6\n" + "".join(
-        line.format(kind, f"10.{second}.0.0/16") for kind, second in ("A0", "A1", "W0", "A2", "A3", "W1", "A4"))
-    for limit, told in ((3, []), (2, [needs.format(3)])):
-        said = run("bgpdump-to-feeds", data.encode(), made / f"at-a-time{limit}", constants=f"USUAL_LIMIT = {limit}")[2]
-        expect(f"routes at a time: {said}", said.splitlines()[1:], told)
+    for last in ("W|127.0.0.1|1|10.1.0.0/16", "STATE|127.0.0.1|1|6|1"):
+        data = at_a_time(last)
+        for limit, told in ((3, []), (2, [needs.format(3)])):
+            folder = made / f"at-a-time{limit}{last[0]}"
+            said = run("bgpdump-to-feeds", data.encode(), folder, constants=f"USUAL_LIMIT = {limit}")[2]
+            expect(f"routes at a time: {said}", said.splitlines()[1:], told)
     said = run("bgpdump-to-feeds", data.encode(), made / "too-many", constants="GREATEST_LIMIT = 2")[2]
     expect("more than any limit", said.splitlines()[1:], ["a feed has 3 routes; `yarib` takes at most 2 of a feed"])
 
@@ -193,9 +218,14 @@ def check_endless(made):
     for command in ("gobgp-to-feeds", "bird-to-feeds", "table-to-frr"):
         folder = [made / "endless"] if command.endswith("feeds") else []
         endless = subprocess.Popen(["yes", ""], stdout=subprocess.PIPE)
-        done = subprocess.run([*words(f"{command} --most 300000"), *folder], stdin=endless.stdout, capture_output=True)
-        endless.stdout.close()
-        endless.wait()
+        try:
+            done = subprocess.run([*words(f"{command} --most 300000"), *folder], stdin=endless.stdout, capture_output=True,
+                                  timeout=60)
+        except subprocess.TimeoutExpired:
+            raise Failed(f"{command} reads on and on") from None
+        finally:
+            endless.stdout.close()
+            endless.wait()
         said = done.stderr.decode()
         if done.returncode != 1 or not said.startswith(f"{command}: ") or said.count("\n") != 1:
             raise Failed(f"{command} of an endless input has status {done.returncode}: {said}")
@@ -204,7 +234,8 @@ def check_endless(made):
     data = (SAMPLES / "bgpdump/rib.txt").read_bytes()
     for most, status in ((len(data), 0), (len(data) - 1, 1)):
         expect(f"--most {most}", run(f"bgpdump-to-feeds --most {most}", data, made / f"most{status}")[0], status)
-    status, _, said = run("gobgp-to-feeds", b'{"10.0.0.0/8":"' + b"a" * 5000, made / "long", constants="BLOCK, LONGEST = 64, 1000")
+    value = b'{"10.0.0.0/8":"' + b"a" * 5000
+    status, _, said = run("gobgp-to-feeds", value, made / "long", constants="BLOCK, LONGEST = 64, 1000")
     if status != 1 or "a value is too long for a table at line 1" not in said:
         raise Failed(f"an endless value of JSON has status {status}: {said}")
 
@@ -244,6 +275,6 @@ def check_missing(made):
 
 def check(made, conversions):
     check_cuts(made, conversions)
-    for each in (check_last_line, check_crlf, check_ipv6_default, check_names, check_many, check_limit, check_compressed,
-                 check_endless, check_files, check_missing):
+    for each in (check_cut_attributes, check_last_line, check_crlf, check_ipv6_default, check_names, check_many,
+                 check_limit, check_compressed, check_endless, check_files, check_missing):
         each(made)
