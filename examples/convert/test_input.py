@@ -8,7 +8,7 @@ import subprocess
 
 from trial import SAMPLES, Failed, files_of, run, run_here, text_of, words
 
-CUTS = 6
+CUTS = 3
 # the converters that read lines, each with a sample
 LINES = (("bird-to-feeds", "bird/bgp-routes-all.txt"), ("bgpdump-to-feeds", "bgpdump/updates.txt"),
          ("table-to-frr --device 192.0.2.0/24=a --device 198.51.100.0/24=b", "table/run.txt"))
