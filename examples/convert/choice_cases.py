@@ -46,6 +46,7 @@ OF_MED = (
     ("what is left when the best is gone", "bcad", (("a", "2", 10), ("b", "1", 10), ("c", "2", 0), ("d", "1", 20))),
     ("of a confederation's own routes", "ba", (("a", "(65101)", 20), ("b", "(65102)", 10))),
     ("a path longer than the best one's loses to none by MED", "abc", (("a", "1", 20), ("b", "2", 0), ("c", "1 5", 10))),
+    ("no shorter path loses by MED", "bcad", (*THREE, ("d", "1 5", 0))),
 )
 # How those three are listed, and their order where a daemon goes through them in turn.
 IN_TURN = (("abc", "cab"), ("acb", "bca"), ("bac", "cab"), ("bca", "abc"), ("cab", "bca"), ("cba", "abc"))
@@ -173,12 +174,29 @@ def behind_frr(name, standard, loses, wins, order="9 4 3", options=""):
     return Sample(f"FRR, behind its choice: {name}", standard, f"frr-to-feeds {options}".strip(), text, {"10.0.0.0/8": order})
 
 
+def behind_frr_in_detail(name, standard, loses, wins):
+    """The same of `json detail`: the identifier of a peer, the cost of its next hop, and other members."""
+    chosen = ("192.0.2.9", 0, {"bestpath": {"overall": True}})
+    paths = [frr_detailed(peer, *path) for peer, path in ((9, chosen), (3, loses), (4, wins))]
+    text = json.dumps({"vrfName": "default", "routes": {"10.0.0.0/8": [{"prefix": "10.0.0.0/8"}, *paths]}}) + "\n"
+    return Sample(f"FRR in detail, behind its choice: {name}", standard, "frr-to-feeds", text, {"10.0.0.0/8": "9 4 3"})
+
+
+def frr_detailed(peer, identifier, cost, other):
+    hop = {"ip": f"192.0.2.{peer}", "afi": "ipv4", "metric": cost, "accessible": True, "used": True}
+    return {"aspath": {"string": f"6501{peer}"}, "origin": "IGP", "valid": True, "nexthops": [hop],
+            "peer": {"peerId": f"127.0.0.{peer}", "routerId": identifier, "type": "external"}, **other}
+
+
 CHOSEN = {"bestpath": True}
 ABSENT = "`show bgp ipv4 unicast json`: a path without `locPrf` has the local preference `defaultLocPrf`"
 FEASIBLE = "RFC 4271, 9.1.2: a route whose NEXT_HOP isn't resolvable is excluded; FRR marks what it may choose `valid`"
 EXTERNAL = "RFC 4271, 9.1.2.2 d: if a route was received via EBGP, all that were received via IBGP are removed"
 INSIDE = "RFC 5065, 5.3, 4: a route from a peer in the same confederation is treated as internal"
 ADDRESS = "RFC 4271, 9.1.2.2 g: prefer the route received from the lowest peer address"
+INTERIOR = "RFC 4271, 9.1.2.2 e: routes with a less-preferred interior cost are removed"
+IDENTIFIER = "RFC 4271, 9.1.2.2 f: all but the routes of the speaker with the lowest BGP Identifier value are removed"
+REFLECTED = "RFC 4456, 9: ORIGINATOR_ID is treated as the BGP Identifier; then the shorter CLUSTER_LIST is preferred"
 IN_TURN_ALONE = "RFC 4271, 9.1.2.2 c isn't followed: without `deterministic MED` BIRD and FRR compare routes in turn"
 OF_TWO_SYSTEMS = ((3, {"path": "65010", "metric": 20}), (4, {"path": "65020"}), (5, {"path": "65010", "metric": 10}))
 FRR = (
@@ -209,6 +227,12 @@ FRR = (
     behind_frr("EBGP", EXTERNAL, {"pathFrom": "internal"}, {}),
     behind_frr("a confederation's peer", INSIDE, {"path": "(65101) 65013"}, {}),
     behind_frr("address of the peer", ADDRESS, {"peerId": "127.0.0.10"}, {}),
+    behind_frr_in_detail("cost of the next hop", INTERIOR, ("192.0.2.3", 20, {}), ("192.0.2.4", 10, {})),
+    behind_frr_in_detail("router identifier", IDENTIFIER, ("192.0.2.4", 0, {}), ("192.0.2.3", 0, {})),
+    behind_frr_in_detail("ORIGINATOR_ID", REFLECTED, ("192.0.2.3", 0, {}), ("192.0.2.4", 0, {"originatorId": "192.0.2.2"})),
+    behind_frr_in_detail(
+        "CLUSTER_LIST", REFLECTED, ("192.0.2.3", 0, {"clusterList": {"list": ["10.0.0.8", "10.0.0.9"]}}),
+        ("192.0.2.3", 0, {"clusterList": {"list": ["10.0.0.9"]}})),
 )
 
 
@@ -251,8 +275,6 @@ def behind_bird(name, standard, loses, wins, order="9 4 3", options="", costs=("
     return Sample(f"BIRD, behind its choice: {name}", standard, f"bird-to-feeds {options}".strip(), text, {"10.0.0.0/8": order})
 
 
-REFLECTED = "RFC 4456, 9: ORIGINATOR_ID is treated as the BGP identifier; then the shorter CLUSTER_LIST is preferred"
-INTERIOR = "RFC 4271, 9.1.2.2 e: routes with a less-preferred interior cost are removed"
 OWN_PREFERENCE = "BIRD compares the preference of protocols before all"
 NOTE = "1 prefixes have routes of one preference behind BIRD's choice that are ranked as they are listed"
 LISTED = ((3, "100", {"as_path": "65010", "med": "20"}), (4, "100", {"as_path": "65020"}),
