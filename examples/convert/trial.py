@@ -1,4 +1,5 @@
 """What the tests have in common: how a converter is run."""
+import ipaddress
 import os
 import pathlib
 import runpy
@@ -6,7 +7,7 @@ import subprocess
 import sys
 import tempfile
 # what converters load, so that copies of this process have it
-import argparse, codecs, ipaddress, json, shutil
+import argparse, codecs, json, shutil
 
 HERE = pathlib.Path(__file__).resolve().parent
 SAMPLES = HERE / "samples"
@@ -67,6 +68,25 @@ def run_in_child(words):
         print(repr(error), file=sys.stderr)
         status = 2
     os._exit(status)
+
+
+def state(files):
+    """The table's lines that the feeds leave, each by itself: ordered by base, length, preference, feed."""
+    rows = []
+    for number, file in enumerate(files, 1):
+        routes = {}
+        for word, *fields in (line.split() for line in file.read_text().splitlines()[1:]):
+            if word in ("add", "replace"):
+                if (fields[0] in routes) != (word == "replace"):
+                    raise Failed(f"{file.name} has a wrong {word} of {fields[0]}")
+                routes[fields[0]] = (int(fields[1]), number, fields[2])
+            elif word == "withdraw":
+                del routes[fields[0]]
+            else:
+                routes.clear()
+        rows += [(ipaddress.ip_network(prefix), *route) for prefix, route in routes.items()]
+    rows.sort(key=lambda row: (row[0].network_address, row[0].prefixlen, row[1], row[2]))
+    return [f"{prefix} feed {number} pref {preference} via {hop}" for prefix, preference, number, hop in rows]
 
 
 def text_of(files):
