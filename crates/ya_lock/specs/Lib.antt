@@ -4,4 +4,3 @@ pub mod GuardLends
 pub mod LockState
 pub mod DueStep
 pub mod inside
-pub mod tests

@@ -1,68 +1,77 @@
-//! Waits at the root of trees of several heights, and waits to be let in: a place sleeps there, and is woken.
-ghost use Rattle.std.specs.Prelude.{◌≡◌, ◌≤◌, IfOk, IfSome, All};
+//! Waits of places that were led so far: to be woken by a rival that comes later, and to be let in.
+ghost use Rattle.std.specs.Prelude.{◌≡◌, ◌≤◌};
 
-use crate::tests::led::LedPlace;
-use crate::tests::{Marks, made, stay, time_of};
+use crate::tests::led::{LedPlace, sleeps};
+use crate::tests::{Number, ends};
 use crate::{Pass, TreeLock};
 use std::alloc::Global;
+use std::process::Abort;
 use std::sync::Wait;
-use std::test::Fail;
 use std::thread;
 use std::thread::Threads;
 use std::time::{Clock, CpuClock, Duration};
 
-/// The first of the passes.
-fn first_of<const L: u32>(
-    lock: &TreeLock<Marks, L>,
-    passes: Vec<Pass<Marks>>,
-) -> Option<Pass<Marks>>
-    requires { All (λ p. p.lock ≡ lock.now) passes.items }
-    ensures { IfSome result (λ p. p.lock ≡ lock.now) }
-{
-    let mut passes = passes;
-    passes.truncate(1);
-    passes.pop()
-}
-
-/// A lock with the passes of its first place and of its last, which meet at the root alone.
-fn ends<const L: u32>(alloc: Global) -> Result<(TreeLock<Marks, L>, Pass<Marks>, Pass<Marks>), Fail>
-    requires { (1 ≤ L) × (L ≤ 6) }
-    ensures { IfOk result (λ m. (m.1.lock ≡ m.0) × (m.2.lock ≡ m.0)) }
-{
-    let (lock, mut passes) = made::<Marks, L>(alloc, Marks::new(alloc))?;
-    let last = passes.pop().ok_or("a last pass")?;
-    let first = first_of(&lock, passes).ok_or("a first pass")?;
-    Ok((lock, first, last))
-}
-
-/// The processor time of the last place, which waits at the root until the first one, inside for a fifth of a second,
-/// goes out.
-fn time_at_the_root<R: Threads + Wait + Clock + CpuClock + Sync, const L: u32>(
+/// Looks, for ten seconds at most, until the other place sleeps, and then announces itself and comes in. Whether the other
+/// slept, and then competed.
+fn come_late<R: Wait + Clock>(
     rt: &R,
-    alloc: Global,
-) -> Result<Duration, Fail>
-    requires { (1 ≤ L) × (L ≤ 6) }
+    lock: &TreeLock<Number, 1>,
+    led: LedPlace<'_, Number, 1>,
+) -> bool
+    requires { led ≡ lock.now }
 {
-    let (lock, first, last) = ends::<L>(alloc)?;
+    let slept = falls_asleep(rt, lock);
+    let competed = led.advance(3).compete(rt);
+    slept && competed
+}
+
+/// Whether the second place sleeps within ten seconds.
+fn falls_asleep<R: Clock>(rt: &R, lock: &TreeLock<Number, 1>) -> bool {
+    for _ in 0..10_000u32 {
+        thread::sleep(rt, Duration::from_millis(1));
+        if sleeps(lock, 1) {
+            return true;
+        }
+    }
+    false
+}
+
+/// Comes in, and goes out.
+fn pass_through<R: Wait>(rt: &R, lock: &TreeLock<Number, 1>, pass: Pass<Number>)
+    requires { pass.lock ≡ lock.now }
+{
+    let guard = lock.enter(rt, pass);
+    let _ = lock.leave(guard);
+}
+
+/// Whether a place that sleeps until its rival announces itself comes in, and the rival after it.
+fn both_come_in<R: Threads + Wait + Clock + Sync + Abort>(rt: &R, alloc: Global) -> bool {
+    let (lock, first, second) = ends::<_, 1>(rt, alloc);
     let shared = &lock;
-    let ((), time) = thread::join(
+    // It competes, so that the other waits for it, and hasn't announced itself.
+    let led = LedPlace::begin(shared, first).advance(1);
+    let (competed, ()) = thread::join(
         rt,
-        move ||
-            requires { first.lock ≡ shared.now }
-        { stay(rt, shared, first) },
-        move || -> Option<Duration>
-            requires { last.lock ≡ shared.now }
-        { time_of(rt, shared, last) },
+        move || -> bool
+            requires { led ≡ shared.now }
+        { come_late(rt, shared, led) },
+        move || pass_through(rt, shared, second),
     );
-    Ok(time.ok_or("a clock")?)
+    competed
+}
+
+/// Fails where a bell isn't rung after e7: it hangs.
+#[test]
+fn a_place_that_sleeps_is_woken_by_a_rival_that_came_later(rt: HostRuntime) {
+    assert!(rt; both_come_in(&rt, rt.alloc()));
 }
 
 /// Leads both to the root, and there so far that the first is inside, and the last has been woken and waits to be let
 /// in: it announced itself after the first, which then woke it.
 fn meet<'a, const L: u32>(
-    first: LedPlace<'a, Marks, L>,
-    last: LedPlace<'a, Marks, L>,
-) -> (LedPlace<'a, Marks, L>, LedPlace<'a, Marks, L>)
+    first: LedPlace<'a, Number, L>,
+    last: LedPlace<'a, Number, L>,
+) -> (LedPlace<'a, Number, L>, LedPlace<'a, Number, L>)
     ensures { (result.0 ≡ first.entry) × (result.1 ≡ last.entry) }
 {
     // A level where nobody else is takes four accesses.
@@ -84,91 +93,52 @@ fn meet<'a, const L: u32>(
     (first, last)
 }
 
-/// Is inside for a fifth of a second, and goes out; or nothing where it isn't inside.
+/// Is inside for a fifth of a second, and goes out. Whether it was inside.
 fn stay_on<R: Clock, const L: u32>(
     rt: &R,
-    lock: &TreeLock<Marks, L>,
-    led: LedPlace<'_, Marks, L>,
-) -> Option<()>
+    lock: &TreeLock<Number, L>,
+    led: LedPlace<'_, Number, L>,
+) -> bool
     requires { led ≡ lock.now }
 {
-    let guard = led.guard()?;
+    let Some(guard) = led.guard() else {
+        return false;
+    };
     thread::sleep(rt, Duration::from_millis(200));
     let _ = lock.leave(guard);
-    Some(())
+    true
 }
 
-/// The processor time of a place that has been woken and waits to be let in at the root, by another which is inside for
-/// a fifth of a second.
-fn time_to_be_let_in<R: Threads + Wait + Clock + CpuClock + Sync, const L: u32>(
+/// A place that has been woken waits to be let in at the root, by another which is inside for a fifth of a second: that
+/// takes it less than a quarter of that in processor time.
+fn assert_sleeps_until_let_in<R: Threads + Wait + Clock + CpuClock + Sync + Abort, const L: u32>(
     rt: &R,
     alloc: Global,
-) -> Result<Duration, Fail>
+)
     requires { (1 ≤ L) × (L ≤ 6) }
 {
-    let (lock, first, last) = ends::<L>(alloc)?;
+    let (lock, first, last) = ends::<_, L>(rt, alloc);
     let shared = &lock;
     let first = LedPlace::begin(shared, first);
     let last = LedPlace::begin(shared, last);
     let (first, last) = meet(first, last);
     let (inside, time) = thread::join(
         rt,
-        move || -> Option<()>
+        move || -> bool
             requires { first ≡ shared.now }
         { stay_on(rt, shared, first) },
         move || -> Option<Duration> { last.time_to_be_let_in(rt) },
     );
-    inside.ok_or("a place that is inside")?;
-    Ok(time.ok_or("a place that waits to be let in")?)
-}
-
-/// What a place waits for.
-#[derive(Clone, Copy)]
-enum WaitPoint {
-    TheRoot,
-    ToBeLetIn,
-}
-
-/// The processor time of such a wait of a fifth of a second.
-fn time_of_wait<R: Threads + Wait + Clock + CpuClock + Sync, const L: u32>(
-    rt: &R,
-    alloc: Global,
-    point: WaitPoint,
-) -> Result<Duration, Fail>
-    requires { (1 ≤ L) × (L ≤ 6) }
-{
-    match point {
-        WaitPoint::TheRoot => time_at_the_root::<_, L>(rt, alloc),
-        WaitPoint::ToBeLetIn => time_to_be_let_in::<_, L>(rt, alloc),
-    }
-}
-
-/// The longest of them in trees of several heights.
-fn longest<R: Threads + Wait + Clock + CpuClock + Sync>(
-    rt: &R,
-    alloc: Global,
-    point: WaitPoint,
-) -> Result<Duration, Fail> {
-    let mut longest = time_of_wait::<_, 1>(rt, alloc, point)?;
-    longest = longest.max(time_of_wait::<_, 2>(rt, alloc, point)?);
-    longest = longest.max(time_of_wait::<_, 3>(rt, alloc, point)?);
-    Ok(longest.max(time_of_wait::<_, 6>(rt, alloc, point)?))
-}
-
-/// Fails where a place never sleeps, or only at the first level.
-#[test]
-fn a_place_that_waits_at_the_root_leaves_the_processor_to_others(
-    rt: HostRuntime,
-) -> Result<(), Fail> {
-    assert!(rt; longest(&rt, rt.alloc(), WaitPoint::TheRoot)? < Duration::from_millis(50));
-    Ok(())
+    assert!(rt; inside, "none is inside at {L} levels");
+    let time = time.expect(rt, "a place that waits to be let in");
+    assert!(rt; time < Duration::from_millis(50), "{time:?} at {L} levels");
 }
 
 /// Fails where a place sleeps at its first wait alone, and never at that to be let in, or there at the first level alone.
 #[test]
-fn a_place_that_waits_to_be_let_in_leaves_the_processor_to_others(
-    rt: HostRuntime,
-) -> Result<(), Fail> {
-    assert!(rt; longest(&rt, rt.alloc(), WaitPoint::ToBeLetIn)? < Duration::from_millis(50));
-    Ok(())
+fn a_place_that_waits_to_be_let_in_leaves_the_processor_to_others(rt: HostRuntime) {
+    assert_sleeps_until_let_in::<_, 1>(&rt, rt.alloc());
+    assert_sleeps_until_let_in::<_, 2>(&rt, rt.alloc());
+    assert_sleeps_until_let_in::<_, 3>(&rt, rt.alloc());
+    assert_sleeps_until_let_in::<_, 6>(&rt, rt.alloc());
 }

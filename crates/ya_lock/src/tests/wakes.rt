@@ -1,13 +1,13 @@
 //! Wakes just when the one to be woken falls asleep.
-ghost use Rattle.std.specs.Prelude.{◌≡◌, ◌<◌, IfOk};
+ghost use Rattle.std.specs.Prelude.{◌≡◌, ◌<◌};
 
 use crate::rule::SPACING;
 use crate::tests::led::sleeps;
-use crate::tests::{Number, made};
+use crate::tests::{Number, ends};
 use crate::{Pass, TreeLock};
 use std::alloc::Global;
+use std::process::Abort;
 use std::sync::Wait;
-use std::test::Fail;
 use std::thread::Threads;
 use std::time::{Clock, Duration, Instant};
 use std::{hint, thread};
@@ -118,26 +118,23 @@ fn wake_once<R: Wait>(
 }
 
 /// How often each of two places gave the other a sign.
-fn wake_each_other<R: Threads + Wait + Clock + Sync>(
+fn wake_each_other<R: Threads + Wait + Clock + Sync + Abort>(
     rt: &R,
     alloc: Global,
-) -> Result<(usize, usize), Fail> {
-    let (lock, mut passes) = made::<Number, 1>(alloc, Number(0))?;
-    let second = passes.pop().ok_or("a second pass")?;
-    let first = passes.pop().ok_or("a first pass")?;
+) -> (usize, usize) {
+    let (lock, first, second) = ends::<_, 1>(rt, alloc);
     let shared = &lock;
-    Ok(thread::join(
+    thread::join(
         rt,
         move || wake_often(rt, shared, first),
         move || wake_often(rt, shared, second),
-    ))
+    )
 }
 
 /// Fails where a waker wakes without storing 0 in the bell, or before it stores it, and where a place parks on its bell
 /// without a second look: it hangs in some of its runs.
 #[test]
-fn a_place_that_falls_asleep_is_woken(rt: HostRuntime) -> Result<(), Fail> {
-    let (first, second) = wake_each_other(&rt, rt.alloc())?;
+fn a_place_that_falls_asleep_is_woken(rt: HostRuntime) {
+    let (first, second) = wake_each_other(&rt, rt.alloc());
     assert!(rt; first > 10 && second > 10, "{first} and {second} signs");
-    Ok(())
 }

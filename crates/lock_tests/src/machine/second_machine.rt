@@ -1,18 +1,12 @@
 //! A second machine, written from the table of the steps in docs/LOCK.md over a map of named words. It shares no code
-//! with the crate.
-use std::alloc::{AllocError, Global};
+//! with the crate, but for the types of what it tells.
+use std::alloc::Global;
 use std::collections::BTreeMap;
-use std::fmt::Write;
-use std::test::*;
+use std::process::Abort;
+use ya_core::{Mark, Step, Word};
 
-/// What the second machine tells of a step.
-#[derive(Drop)]
-pub struct StepReport {
-    pub word: String,
-    pub store: bool,
-    pub value: u64,
-    pub mark: &'static str,
-}
+/// How many places there are at most.
+const PLACES: usize = 64;
 
 /// Where a process of the second machine stands. Points 1 to 10 are those of the way in, 11 to 13 those of the way out.
 #[derive(Clone, Copy)]
@@ -30,46 +24,50 @@ const INSIDE: u32 = 14;
 #[derive(Drop)]
 pub struct SecondMachine {
     levels: u32,
-    words: BTreeMap<String, u64>,
-    stands: Vec<Stand>,
+    words: BTreeMap<Name, u64>,
+    stands: [Stand; PLACES],
 }
 
 impl SecondMachine {
-    pub fn new(alloc: Global, levels: u32) -> Result<SecondMachine, Fail> {
+    pub fn new(alloc: Global, levels: u32) -> SecondMachine {
         let idle = Stand {
             point: IDLE,
             level: 0,
             rival: 0,
         };
-        Ok(SecondMachine {
+        SecondMachine {
             levels,
             words: BTreeMap::new(alloc),
-            stands: vec![in alloc; idle; 64]?,
-        })
+            stands: [idle; PLACES],
+        }
     }
 
-    pub fn step(&mut self, alloc: Global, place: usize) -> Result<StepReport, Fail> {
-        let stand = self.begun(*self.stands.get(place).ok_or("a place")?);
+    pub fn step(&mut self, rt: &impl Abort, place: usize) -> Step {
+        assert!(rt; place < PLACES);
+        let stand = self.begun(self.stands[place]);
         let own = place as u64 + 1;
-        let word = word(alloc, place, stand)?;
+        let word = word(place, stand);
         let stored = stored(stand.point, own);
-        let value = match stored {
-            Some(value) => value,
-            None => self.words.get(word.as_str()).copied().unwrap_or(0),
-        };
-        if stored.is_some() {
-            self.words.insert(word.clone()?, value)?;
-        }
+        let value = self.access(rt, name(word), stored);
         let next = self.next(stand, own, value);
-        if let Some(stands) = self.stands.get_mut(place) {
-            *stands = next;
-        }
-        Ok(StepReport {
+        self.stands[place] = next;
+        Step {
+            place,
             word,
             store: stored.is_some(),
             value,
             mark: mark(next.point),
-        })
+        }
+    }
+
+    /// Stores the value, or loads one where there is none to store. What the word then is.
+    fn access(&mut self, rt: &impl Abort, name: Name, stored: Option<u64>) -> u64 {
+        let Some(value) = stored else {
+            return self.words.get(&name).copied().unwrap_or(0);
+        };
+        let put: Result<_, _> = self.words.insert(name, value);
+        put.expect(rt, "memory");
+        value
     }
 
     /// Where a place stands that goes on: one that is idle or inside begins its way in or out.
@@ -140,24 +138,36 @@ fn stored(point: u32, own: u64) -> Option<u64> {
     }
 }
 
-fn mark(point: u32) -> &'static str {
+fn mark(point: u32) -> Mark {
     match point {
-        IDLE => "out",
-        INSIDE => "inside",
-        _ => "",
+        IDLE => Mark::Out,
+        INSIDE => Mark::Inside,
+        _ => Mark::Plain,
     }
 }
 
-/// The name of the word that the place is to load or store.
-fn word(alloc: Global, place: usize, stand: Stand) -> Result<String, AllocError> {
+/// The word that the place is to load or store.
+fn word(place: usize, stand: Stand) -> Word {
     let level = stand.level;
     let node = place.checked_shr(level).unwrap_or(0);
     let side = place.checked_shr(level.saturating_sub(1)).unwrap_or(0) % 2;
+    let rival = stand.rival.saturating_sub(1) as usize;
     match stand.point {
-        1 | 11 => format!(in alloc; "C{level}.{node}.{side}"),
-        4 => format!(in alloc; "C{level}.{node}.{}", 1 - side),
-        2 | 5 | 9 | 12 => format!(in alloc; "T{level}.{node}"),
-        6 | 7 | 13 => format!(in alloc; "P{level}.{}", stand.rival.saturating_sub(1)),
-        _ => format!(in alloc; "P{level}.{place}"),
+        1 | 11 => Word::C(level, node, side),
+        4 => Word::C(level, node, 1 - side),
+        2 | 5 | 9 | 12 => Word::T(level, node),
+        6 | 7 | 13 => Word::P(level, rival),
+        _ => Word::P(level, place),
+    }
+}
+
+/// A word's letter, its level, and the numbers of the node and its side, or of the place.
+type Name = (char, u32, usize, usize);
+
+fn name(word: Word) -> Name {
+    match word {
+        Word::C(level, node, side) => ('C', level, node, side),
+        Word::T(level, node) => ('T', level, node, 0),
+        Word::P(level, place) => ('P', level, place, 0),
     }
 }

@@ -1,0 +1,19 @@
+//! The tests of `ya_core`, and of what any caller sees of `ya_lock`. They are a crate of their own, since a crate with
+//! tests is proved once more for them.
+#![tactic(auto)]
+
+#[cfg(test)]
+mod lock;
+#[cfg(test)]
+mod machine;
+
+#[cfg(test)]
+use std::fmt::Debug;
+#[cfg(test)]
+use std::process::Abort;
+
+/// Compares two values, of which a failure tells what they are.
+#[cfg(test)]
+fn assert_same<T: PartialEq + Debug + Copy>(rt: &impl Abort, what: &str, found: T, wanted: T) {
+    assert_eq!(rt; found, wanted, "{what}");
+}

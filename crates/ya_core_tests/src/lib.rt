@@ -1,5 +1,0 @@
-//! The tests of `ya_core`. They are a crate of their own, since a crate with tests is proved once more for them.
-#![tactic(auto)]
-
-#[cfg(test)]
-mod tests;
