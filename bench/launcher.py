@@ -26,6 +26,8 @@ mkdir -p out
 if [ "$crate" = rt_app ]; then cp "$STARTED" out/rt_app; fi
 echo "end $crate" >>"$NOTES"
 """
+# What the launcher sets of glibc's memory.
+TUNABLES = ""
 NEEDS = dict(re.findall(r"^([a-z]\w*):(.*)$", (TOP / "crates.txt").read_text(), re.M))
 
 
@@ -69,16 +71,22 @@ class Copy:
         path.touch()
 
 
-def told(words, folder, tunables=None, given=""):
+def told(words, folder, tunables=TUNABLES, given=""):
     """What the program tells that was started with these words in this folder."""
-    return "\0".join([str(len(words) + 1), "yarib", *words, str(folder), tunables or TUNABLES, given])
+    return "\0".join([str(len(words) + 1), "yarib", *words, str(folder), tunables, given])
+
+
+def with_own(tunables):
+    """The launcher's tunables with those of a user behind them, where they win."""
+    return ":".join(filter(None, (TUNABLES, tunables)))
 
 
 # Each of these has a copy of its own, and they run at the same time.
 
 
 # Fails where words beyond the third are lost, where they are split or joined, or where the status is lost: `the words`, `the status`.
-# Fails where the program is started in the repository's folder, or by another name: `from elsewhere`.
+# Fails where the program is started in the repository's folder, or by another name: `from elsewhere`, `the words []`.
+# Fails where a user's own tunables are lost: `a user's own tunables`.
 def what_it_is_given(copy):
     copy.start()
     for words in ([], ["run"], ["run", "--limit", "3", "--batch", "4", "one.feed", "two.feed"], [str(count) for count in range(300)],
@@ -89,6 +97,8 @@ def what_it_is_given(copy):
     for status in (1, 2, 6, 126, 127, 255):
         expect(f"the status {status}", copy.start("x", names={"STARTED_STATUS": str(status)})[::2], (status, ""))
     expect("standard input", copy.start("x", stdin=None, input=b"10.0.0.1\n"), (0, told(["x"], copy.top, given="10.0.0.1\n"), ""))
+    own = "glibc.malloc.arena_max=2"
+    expect("a user's own tunables", copy.start("x", names={"GLIBC_TUNABLES": own}), (0, told(["x"], copy.top, tunables=with_own(own)), ""))
     link = copy.top.parent / "called"
     link.symlink_to(copy.top / "yarib")
     expect("from elsewhere", copy.start("x", by=link, cwd=link.parent), (0, told(["x"], link.parent), ""))
@@ -146,7 +156,7 @@ def failed_builds(copy):
         status, out, err = copy.start("x", names={"FAILS": crate})
         log = (copy.top / "out/build.log").read_text()
         expect(f"{crate} fails", (status, out, "build" in err or crate in err, f"no proof of {crate}" in log), (126, "", True, True))
-        expect(f"rt_app is not built where {crate} fails", f"end rt_app" in copy.built(), False)
+        expect(f"rt_app is not built where {crate} fails", "end rt_app" in copy.built(), False)
     expect("built when nothing fails any more", built_by(copy).count("end rt_app"), 1)
 
 
@@ -173,10 +183,6 @@ def nothing_to_build_with(copy):
         status, out, err = copy.start("x")
         expect(f"a folder without sources: no {name}", (status, out, str(copy.top) in err, copy.built()), (126, "", True, []))
         (copy.top / "kept").rename(copy.top / name)
-
-
-# What the launcher sets for the program's memory. A user's own values stand behind it, so that they win.
-TUNABLES = ""
 
 
 # Completions

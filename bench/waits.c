@@ -1,11 +1,13 @@
 /* Counts waits. Loaded before a program by LD_PRELOAD, it keeps in the file of descriptor COUNT_IN for each word on which the
    program's threads wait how often they waited there for less than a second, how often for as long as it takes, and how
    often one was woken: naps at the lock's door, sleep at a bell, and its ringing. Before these it keeps the nanoseconds that
-   the program's threads had worked at the first write to standard output, and at the end of the last. It rests on the
-   program's calls of glibc's `syscall` and `write`. */
+   the program's threads had worked at the first write to standard output, and at the end of the last. With HOLD_UP=1 a
+   request for memory waits, once there are threads, until another thread sleeps, or 20 ms: a route that is added asks inside
+   the lock, so all others who come then meet it there. It rests on the program's calls of glibc, and on names of glibc. */
 #define _GNU_SOURCE
 #include <dlfcn.h>
 #include <linux/futex.h>
+#include <pthread.h>
 #include <stdarg.h>
 #include <stdatomic.h>
 #include <stdlib.h>
@@ -14,7 +16,9 @@
 #include <time.h>
 #include <unistd.h>
 
-enum { WORDS = 1000, COMMANDS = 127 };
+extern void *__libc_malloc(size_t);
+
+enum { WORDS = 1000, COMMANDS = 127, MOST_LOOKS = 200 };
 
 struct word {
   atomic_long place;
@@ -29,10 +33,15 @@ struct counts {
 static struct counts unread, *counts = &unread;
 static long (*real_syscall)(long, ...);
 static ssize_t (*real_write)(int, const void *, size_t);
+static int (*real_create)(pthread_t *, const pthread_attr_t *, void *(*)(void *), void *);
+static int holds_up;
+static atomic_int has_threads, sleepers;
 
 __attribute__((constructor)) static void begin(void) {
   real_syscall = (long (*)(long, ...))dlsym(RTLD_NEXT, "syscall");
   real_write = (ssize_t (*)(int, const void *, size_t))dlsym(RTLD_NEXT, "write");
+  real_create = (int (*)(pthread_t *, const pthread_attr_t *, void *(*)(void *), void *))dlsym(RTLD_NEXT, "pthread_create");
+  holds_up = getenv("HOLD_UP") != NULL;
   const char *descriptor = getenv("COUNT_IN");
   if (descriptor == NULL) return;
   void *shared = mmap(NULL, sizeof *counts, PROT_READ | PROT_WRITE, MAP_SHARED, atoi(descriptor), 0);
@@ -48,13 +57,14 @@ static struct word *word_at(long place) {
   abort();
 }
 
-static void count(long place, int command, const struct timespec *limit) {
-  if (command == FUTEX_WAKE) {
-    word_at(place)->wakes++;
-  } else if (command == FUTEX_WAIT || command == FUTEX_WAIT_BITSET) {
-    if (limit != NULL && limit->tv_sec < 1) word_at(place)->naps++;
-    else word_at(place)->sleeps++;
-  }
+/* Counts the call, and tells whether its thread will sleep. */
+static int count(long place, int command, const struct timespec *limit) {
+  if (command == FUTEX_WAKE) word_at(place)->wakes++;
+  if (command != FUTEX_WAIT && command != FUTEX_WAIT_BITSET) return 0;
+  int naps = limit != NULL && limit->tv_sec < 1;
+  if (naps) word_at(place)->naps++;
+  else word_at(place)->sleeps++;
+  return !naps;
 }
 
 long syscall(long number, ...) {
@@ -63,8 +73,21 @@ long syscall(long number, ...) {
   va_start(rest, number);
   for (int at = 0; at < 6; at++) given[at] = va_arg(rest, long);
   va_end(rest);
-  if (number == SYS_futex) count(given[0], given[1] & COMMANDS, (const struct timespec *)given[3]);
-  return real_syscall(number, given[0], given[1], given[2], given[3], given[4], given[5]);
+  int sleeps = number == SYS_futex && count(given[0], given[1] & COMMANDS, (const struct timespec *)given[3]);
+  sleepers += sleeps;
+  long result = real_syscall(number, given[0], given[1], given[2], given[3], given[4], given[5]);
+  sleepers -= sleeps;
+  return result;
+}
+
+int pthread_create(pthread_t *thread, const pthread_attr_t *attributes, void *(*begin)(void *), void *given) {
+  has_threads = 1;
+  return real_create(thread, attributes, begin, given);
+}
+
+void *malloc(size_t size) {
+  for (int looks = 0; holds_up && has_threads && sleepers == 0 && looks < MOST_LOOKS; looks++) usleep(100);
+  return __libc_malloc(size);
 }
 
 static unsigned long worked(void) {
