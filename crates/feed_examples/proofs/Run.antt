@@ -9,6 +9,8 @@ use Rattle.std.specs.Fmt.{digits}
 use Rattle.rt_cidr.specs.Text.{address_text, prefix_text}
 use Rattle.ya_core.specs.declared.schedule.ReplayFault.TheVariants as replay
 use Rattle.ya_core.specs.Steps.{opening}
+use Rattle.ya_core.specs.Machines.{ReplaysTo}
+use Rattle.ya_core.specs.Worlds.{TellsInside}
 use Rattle.rt_rib.specs.declared.routes.Hop.TheVariants.{Discard}
 use Rattle.rt_rib.specs.declared.routes.Route.{Route}
 use Rattle.rt_rib.specs.declared.commands.Cmd.{Cmd}
@@ -41,7 +43,7 @@ use Rattle.rt_run.specs.SameDiff.{TellsUnions, DiffsUnions, DiffOnce}
 use Rattle.rt_run.specs.declared.faults.AppFault.TheVariants.{Run, Replay, Write}
 use Rattle.rt_run.specs.RunText.{entries_of, Explains, ExplainsFrom, told_of, told_text, lines_text, feeds_text}
 use Rattle.rt_run.specs.RunText.{was_faulty, was_told, some_refused, status_of, IsHistory, IsRunText, Leaves}
-use Rattle.ya_replay.specs.ReplayText.{inside_text}
+use Rattle.ya_replay.specs.ReplayText.{inside_text, replay_text_of}
 use Rattle.rt_run.specs.Replayed.{IsReplayText, LeavesReplay}
 use Rattle.rt_run.specs.declared.tallies.RunSummary.{RunSummary}
 use Rattle.rt_run.specs.TableText.{answers_text, all_answers_text, routes_text, first_fault, tally_of, was_left_out, IsShown}
