@@ -27,7 +27,7 @@ if [ "$crate" = rt_app ]; then cp "$STARTED" out/rt_app; fi
 echo "end $crate" >>"$NOTES"
 """
 # What the launcher sets of glibc's memory.
-TUNABLES = ""
+TUNABLES = "glibc.malloc.arena_max=1:glibc.malloc.hugetlb=1"
 NEEDS = dict(re.findall(r"^([a-z]\w*):(.*)$", (TOP / "crates.txt").read_text(), re.M))
 
 
