@@ -65,6 +65,8 @@ LONGEST_WORD, BLANKS = 16, re.compile(r"[ \t\r\n]*")
 KINDS = {"[": "a list", "{": "an object"}
 # of what many routes have alike, so many are known
 MOST_KNOWN = 16384
+# why FRR doesn't use a path that is valid
+SET_ASIDE = frozenset(("damped", "history", "removed"))
 # so many lines are kept before they are written
 MOST_WAITING = 200000
 # how a compressed file begins, and what reads it
@@ -449,7 +451,9 @@ def hop_of(prefix, address, arguments):
 
 def is_usable(path, valid):
     """Whether the daemon may choose the path: it is valid, and neither damped nor removed (of which FRR tells beside that)."""
-    unused = any(member(path, name, bool, False) for name in ("damped", "history", "removed"))
+    # hardly any path has one of these
+    may_be = type(path) is not dict or not SET_ASIDE.isdisjoint(path)
+    unused = may_be and any(member(path, name, bool, False) for name in SET_ASIDE)
     return not unused and (valid is None or member(path, valid, bool, False))
 
 
