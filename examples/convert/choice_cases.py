@@ -47,6 +47,7 @@ OF_MED = (
     ("of a confederation's own routes", "ba", (("a", "(65101)", 20), ("b", "(65102)", 10))),
     ("a path longer than the best one's loses to none by MED", "abc", (("a", "1", 20), ("b", "2", 0), ("c", "1 5", 10))),
     ("no shorter path loses by MED", "bcad", (*THREE, ("d", "1 5", 0))),
+    ("all routes of a source are gone with its best", "bca", (*THREE, ("b", "1", 0))),
 )
 # How those three are listed, and their order where a daemon goes through them in turn.
 IN_TURN = (("abc", "cab"), ("acb", "bca"), ("bac", "cab"), ("bca", "abc"), ("cab", "bca"), ("cba", "abc"))
@@ -227,6 +228,9 @@ FRR = (
     behind_frr("EBGP", EXTERNAL, {"pathFrom": "internal"}, {}),
     behind_frr("a confederation's peer", INSIDE, {"path": "(65101) 65013"}, {}),
     behind_frr("address of the peer", ADDRESS, {"peerId": "127.0.0.10"}, {}),
+    Sample("FRR, behind its choice: paths of a peer that are alike", "FRR keeps the one that it heard first, which it lists last",
+           "frr-to-feeds", frr((9, CHOSEN), (3, {"nexthops": [{"ip": "192.0.2.7", "used": True}]}), (3, {})),
+           {"10.0.0.0/8": "9 3"}, "left out 1 further routes of a source to one prefix"),
     behind_frr_in_detail("cost of the next hop", INTERIOR, ("192.0.2.3", 20, {}), ("192.0.2.4", 10, {})),
     behind_frr_in_detail("router identifier", IDENTIFIER, ("192.0.2.4", 0, {}), ("192.0.2.3", 0, {})),
     behind_frr_in_detail("ORIGINATOR_ID", REFLECTED, ("192.0.2.3", 0, {}), ("192.0.2.4", 0, {"originatorId": "192.0.2.2"})),
@@ -304,6 +308,8 @@ BIRD = (
                 {"originator_id": "10.0.0.1", "cluster_list": "10.0.0.8"}),
     Sample("BIRD, behind its choice: address of the peer", ADDRESS, "bird-to-feeds",
            bird((9,), (4,), (3,)), {"10.0.0.0/8": "9 3 4"}, "left out nothing\n"),
+    Sample("BIRD, behind its choice: the peer isn't its next hop", ADDRESS, "bird-to-feeds",
+           bird((9,), (4,), (3,)).replace("via 192.0.2.4", "via 192.0.2.1"), {"10.0.0.0/8": "9 3 1"}),
     Sample("BIRD, behind its choice: attributes that aren't shown", "none: `show route` doesn't tell what BGP compares",
            "bird-to-feeds", bird((9, "100", None), (4, "100", None), (3, "100", None)), {"10.0.0.0/8": "9 4 3"}, NOTE),
     Sample("BIRD, behind its choice: preferences without attributes", OWN_PREFERENCE,
