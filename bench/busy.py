@@ -15,9 +15,9 @@ import subprocess
 import sys
 import tempfile
 
-import checks
 import figures
 import run
+from figures import checks
 
 FILES = (2, 4, 16, 64)
 BATCHES = (1, 256)

@@ -21,7 +21,7 @@ import tempfile
 import time
 
 import figures
-from checks import built, end, expect
+from figures import checks
 
 # How many of a hundred prefixes are of this length.
 LENGTHS = [24] * 60 + [23] * 9 + [22] * 11 + [21] * 4 + [20] * 5 + [19] * 3 + [18] * 2 + [17] + [16] * 3 + [14, 12]
@@ -155,7 +155,7 @@ def timed(words):
 
 def main():
     words = figures.words()
-    yarib = built(words[:1])
+    yarib = checks.built(words[:1])
     prefixes, changes = (int(word) for word in (words[1:] + ["500000", "1000"][len(words[1:]):]))
     with tempfile.TemporaryDirectory() as folder:
         old, new = pathlib.Path(folder, "old.feed"), pathlib.Path(folder, "new.feed")
@@ -169,14 +169,14 @@ def main():
         for _ in range(ROUNDS):
             calls = {name: timed([yarib, "lookup", *limit, "--address", "0.0.0.0", name]) for name in (old, new)}
             calls["diff"] = timed([yarib, "diff", *limit, old, "--", new])
-            expect("the ranges", calls["diff"][2], (1 if wanted else 0, wanted, ""))
+            checks.expect("the ranges", calls["diff"][2], (1 if wanted else 0, wanted, ""))
             _, _, (status, out, err) = timed([plain, old, new])
-            expect("the plain program's ranges", (status, out), (0, wanted))
+            checks.expect("the plain program's ranges", (status, out), (0, wanted))
             of_plain.append([int(word) / 1e9 for word in err.split()])
             for name, (clock, processor, _) in calls.items():
                 best = least.setdefault(name, [clock, processor])
                 least[name] = [min(best[0], clock), min(best[1], processor)]
-        expect("a table and itself", timed([yarib, "diff", *limit, new, "--", new])[2], (0, "", ""))
+        checks.expect("a table and itself", timed([yarib, "diff", *limit, new, "--", new])[2], (0, "", ""))
         for place, measure in enumerate(("clock", "processor")):
             loading = least[old][place] + least[new][place]
             beyond = least["diff"][place] - loading
@@ -185,7 +185,7 @@ def main():
         print(f"plain     loading {loading:.3f} s, comparing {beyond:.3f} s: {beyond / loading:.2f}")
         tell_radix(old, new)
         print(f"{len(wanted.splitlines())} ranges")
-    end()
+    checks.end()
 
 
 if __name__ == "__main__":

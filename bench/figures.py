@@ -1,7 +1,7 @@
 """Where the benches keep what they measured: `bench/figures/NAME.json` has the machine, the day, and a row for each case.
 
-A bench that is called with `--store` writes its file there. `docs/figures` makes the tables of docs/PERFORMANCE.md out of these
-files, and `docs/pictures/draw_figures.py` the pictures. It measures in the ordinary scheduling class, and doesn't begin to measure
+A bench that is called with `--store` writes its file there. `tools/figures` makes the tables of docs/PERFORMANCE.md out of these
+files, and `tools/draw_figures.py` the pictures. It measures in the ordinary scheduling class, and doesn't begin to measure
 for a file while the machine has other work: half a processor's or more. It measures with the memory that ./yarib and what is
 installed start the program with, or, with `--default-memory`, with the C library's own; the plain programs have the same."""
 import datetime
@@ -13,7 +13,9 @@ import re
 import sys
 import time
 
-import checks
+# What judges the program knows how it is built and how the launchers start it.
+sys.path.append(str(pathlib.Path(__file__).resolve().parent.parent / "tests"))
+import checks  # noqa: E402
 
 FOLDER = pathlib.Path(__file__).resolve().parent / "figures"
 OPTIONS = ("--store", "--default-memory")

@@ -11,9 +11,9 @@ import re
 import subprocess
 import tempfile
 
-import checks
 import figures
 import run
+from figures import checks
 
 # The first that is found in a function's name tells its part.
 PARTS = [

@@ -16,9 +16,9 @@ import random
 import sys
 import tempfile
 
-import checks
 import figures
 import run
+from figures import checks
 
 FILES = (1, 4, 16, 64)
 

@@ -19,8 +19,8 @@ import sys
 import tempfile
 import time
 
-import checks
 import figures
+from figures import checks
 
 TOP = pathlib.Path(__file__).resolve().parent.parent
 SIZES = (10_000, 30_000, 100_000, 300_000, 1_000_000)

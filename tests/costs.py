@@ -1,0 +1,182 @@
+#!/usr/bin/env python3
+"""What a run costs: how its feeds wait for one another, and its processor time beside a peer's in the same run.
+
+Usage: tests/costs.py [YARIB]. Builds ./yarib first unless a built program is named. Needs gcc and glibc.
+
+No clause says how long anything takes. Waits are counted (tests/waits.c), which other work on the machine changes little.
+Processor time has a peer in the same run, which other work makes as much dearer: passages of a mutex in C, or what the same call
+has used before its first output. Each bound is one and a half to three times what was found. With --tell it prints what it finds.
+"""
+import os
+import pathlib
+import random
+import struct
+import subprocess
+import sys
+import tempfile
+from typing import NamedTuple
+
+from checks import TOP, built, end, expect, run, run_each
+from refused_growth import address
+
+WORDS = 1000
+TELLS = "--tell" in sys.argv[1:]
+
+
+class Waits(NamedTuple):
+    """The waits of one word, a place's bell: short ones at the door, longer ones in the lock, and how often it was rung."""
+
+    naps: int
+    sleeps: int
+    wakes: int
+
+
+class Ended(NamedTuple):
+    """The waits of each place that waited at all, in the order of the places, and nanoseconds of the processor."""
+
+    waits: list
+    before_output: int
+    of_output: int
+
+
+class Called:
+    """Calls of the program, with what counts its waits."""
+
+    def __init__(self, yarib, folder):
+        self.yarib, self.counter, self.mutex = yarib, folder / "waits.so", folder / "mutex"
+        subprocess.run(["gcc", "-O2", "-shared", "-fPIC", "-o", self.counter, TOP / "tests" / "waits.c"], check=True)
+        subprocess.run(["gcc", "-O2", "-pthread", "-o", self.mutex, TOP / "tests" / "mutex.c"], check=True)
+
+    def call(self, *words, status=0, **more):
+        with tempfile.TemporaryFile() as kept:
+            kept.truncate(16 + 32 * WORDS)
+            names = {"LD_PRELOAD": str(self.counter), "COUNT_IN": str(kept.fileno())} | more
+            ended = run([self.yarib, *words], stdout=subprocess.DEVNULL, env=names, pass_fds=[kept.fileno()])
+            kept.seek(0)
+            data = kept.read()
+        expect(f"{words[:4]}: it ends", ended, (status, "", ""))
+        first, last = struct.unpack_from("2Q", data)
+        rows = sorted(row for row in struct.iter_unpack("q3Q", data[16:]) if row[0])
+        return Ended([Waits(*row[1:]) for row in rows], first, last - first)
+
+    def dumps(self, files, lines):
+        """A run of so many files of so many `dump`s each, one command at a time."""
+        pathlib.Path("dumps.feed").write_text("dump\n" * lines)
+        return self.call("run", "--batch", "1", *["dumps.feed"] * files)
+
+
+def tell(what, found):
+    if TELLS:
+        print(f"  {what}: {found}", flush=True)
+
+
+# Waits
+
+
+# Fails where a place naps where nobody is: `one file waits for nobody`.
+def one_file(called):
+    expect("one file waits for nobody", called.dumps(1, 100_000).waits, [])
+
+
+# Fails where a place naps inside, or at each entry: `at most one of 20 entries of 8 files naps`.
+def crowd(called):
+    """Eight files that ask all the time. Who has napped finds the door free for as long as others nap."""
+    naps = sum(place.naps for place in called.dumps(8, 4_000).waits)
+    tell("naps of 32,000 entries of 8 files", naps)
+    expect(f"at most one of 20 entries of 8 files naps: {naps} of 32,000", naps <= 32_000 / 20, True)
+
+
+# Fails where no place ever naps, or a place looks only at one side of the root: `file 1 naps`, `file 2 naps`.
+def door(called):
+    """Each of two files naps at some time where it meets the other one again and again."""
+    write_meeting(dumps=200_000, seldom=0)
+    for file, names in ((1, ["dumps.feed", "adds.feed"]), (2, ["adds.feed", "dumps.feed"])):
+        naps, rounds = 0, 0
+        while naps == 0 and rounds < 30:
+            naps, rounds = met(called, file, *names).naps, rounds + 1
+        tell(f"naps of file {file}", f"{naps}, in round {rounds}")
+        expect(f"file {file} naps", naps > 0, True)
+
+
+# Fails where a place never forgets a crowd: `file 1 has forgotten the crowd`.
+def forgotten(called):
+    """A file that has met the other one 20 times in a row meets it now and then, and doesn't nap for that."""
+    write_meeting(dumps=3_000_000, seldom=70)
+    for _ in range(3):
+        waits = met(called, 1, "dumps.feed", "adds.feed")
+        tell("waits of the file of dumps", waits)
+        expect(f"file 1 has forgotten the crowd: {waits.naps} naps", waits.naps < 40, True)
+        expect("how often it met the other one", waits.sleeps >= 60, True)
+
+
+def write_meeting(dumps, seldom):
+    """A long file of `dump`s, and one of `add`s: 20 in a row and then, so seldom that the other one has asked over a thousand
+    times in between, some more."""
+    adds = [f"add 10.{at >> 8}.{at & 255}.0/24 1 192.0.2.1\n" for at in range(20 + seldom)]
+    pathlib.Path("dumps.feed").write_text("dump\n" * dumps)
+    pathlib.Path("adds.feed").write_text("".join(adds[:20]) + "".join("#\n" * 100_000 + add for add in adds[20:]))
+
+
+def met(called, file, *names):
+    """The waits of one of two files, where each `add` is held up inside until the other file waits."""
+    waits = called.call("run", "--batch", "1", *names, HOLD_UP="1").waits
+    return waits[file - 1] if len(waits) == 2 else Waits(0, 0, 0)
+
+
+# Processor time
+
+
+def at_most(what, found, bound):
+    tell(what, f"{found:.2f}, at most {bound}")
+    expect(f"{what}: {found:.2f}, at most {bound}", found <= bound, True)
+
+
+# Fails where each entry takes microseconds more, asleep or not: `a passage alone, to one of a mutex`.
+def passage_alone(called):
+    """The passages of one file are what its commands one at a time take beyond the same in batches of 1,024."""
+    lines, passages, batches = 200_000, [], []
+    pathlib.Path("dumps.feed").write_text("dump\n" * lines)
+    for _ in range(5):
+        one, batched = (called.call("run", "--batch", batch, "dumps.feed").before_output / lines for batch in ("1", "1024"))
+        mutex = float(run([called.mutex, "1000000"])[1])
+        passages.append((one - batched) / mutex)
+        batches.append(batched / mutex)
+    at_most("a passage alone, to one of a mutex", min(passages), 20)
+    at_most("a line in a batch, to a passage of a mutex", min(batches), 25)
+
+
+# Fails where the cursors of a comparison begin anew at each answer: `the answers of a comparison, to its runs`.
+def outputs(called):
+    """What a call takes from its first output on, to what it takes before: the runs of its files."""
+    choice = random.Random(56)
+    low = [address(at << 9) for at in range(3_000)]
+    high = [address(0x0100_0000 + (place << 8)) for place in choice.sample(range(1 << 20), 100_000)]
+    for side in (1, 2):
+        adds = [f"add {base}/24 1 192.0.2.{side}\n" for base in low] + [f"add {base}/24 1 192.0.2.1\n" for base in high]
+        pathlib.Path(f"side{side}.feed").write_text("".join(adds))
+    pathlib.Path("asked.txt").write_text("".join(f"{base}\n" for base in choice.sample(high, len(high))))
+    asked = ["--addresses", "asked.txt", "side1.feed"]
+    for what, status, words, bound in (
+        # The first output has some of the low routes that differ; of the others none does, and so nothing is printed for them.
+        ("the answers of a comparison, to its runs", 1, ["diff", "side1.feed", "--", "side2.feed"], 0.4),
+        ("the answers of look-ups, to the run", 0, ["lookup", *asked], 0.8),
+        ("the rows of a table, to the run", 0, ["table", "side1.feed"], 0.12),
+        ("what a run prints, to the run", 0, ["run", "--batch", "256", "side1.feed"], 0.2),
+    ):
+        ended = [called.call(words[0], "--limit", "200000", *words[1:], status=status) for _ in range(3)]
+        at_most(what, min(one.of_output / one.before_output for one in ended), bound)
+
+
+def main():
+    yarib = built([word for word in sys.argv[1:] if word != "--tell"])
+    with tempfile.TemporaryDirectory() as made:
+        folder = pathlib.Path(made)
+        called = Called(yarib, folder)
+        os.chdir(folder)
+        run_each((one_file, crowd, door, forgotten, passage_alone, outputs), called)
+        os.chdir("/")
+    end()
+
+
+if __name__ == "__main__":
+    main()

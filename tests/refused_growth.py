@@ -1,0 +1,528 @@
+#!/usr/bin/env python3
+"""Refuses each request for memory in turn, and compares what comes out with a plain model.
+
+Usage: tests/refused_growth.py [YARIB LIBRARIES]. Needs rt, gcc and glibc; takes some minutes once all is built. The two
+words name a built yarib and a built crates/benches, which are else built first.
+
+Each case is run with its first request refused, then with its second, and so on until a run meets no refusal; and once more
+so that all requests after the refused one are refused as well. The cases are those of crates/benches/src/growth.rt (the lock, the
+shared table, feeds on gates) and runs and replays of the program. After each run the answers, the journal, the routes and
+what was printed are compared whole with a model that leaves out what was refused, and no run may end by a signal. At the end
+each kind of refusal must have been met. The requests are refused before the C library sees them, so what the launchers set
+changes nothing here, and all is run once.
+"""
+import collections
+import os
+import pathlib
+import re
+import subprocess
+import sys
+import tempfile
+
+import checks
+
+TOP = pathlib.Path(__file__).resolve().parent.parent
+
+Ending = collections.namedtuple("Ending", "status out err refused")
+
+
+def refuser(folder):
+    """The path of what refuses."""
+    refuse = folder / "refuse.so"
+    subprocess.run(["gcc", "-O2", "-shared", "-fPIC", "-o", refuse, TOP / "tests" / "refuse.c"], check=True)
+    return refuse
+
+
+def build(folder):
+    """The paths of the program, of the crate's program and of what refuses."""
+    refuse = refuser(folder)
+    if len(sys.argv) > 2:
+        return pathlib.Path(sys.argv[1]).resolve(), pathlib.Path(sys.argv[2]).resolve(), refuse
+    yarib, crate = checks.built([]), TOP / "crates" / "benches"
+    built = subprocess.run(["rt", "run", "--", "growth"], cwd=crate, capture_output=True, text=True)
+    if built.returncode != 0:
+        sys.exit("tests/refused_growth.py: the crate was not built\n" + built.stdout[-2000:] + built.stderr[-2000:])
+    return yarib, crate / "out" / "benches", refuse
+
+
+def run(words, refuse, at, rest):
+    """One run in which the request of this number is refused, and all later ones where `rest` says so."""
+    heard, told = os.pipe()
+    asked = {"LD_PRELOAD": str(refuse), "REFUSE_AT": str(at), "REFUSE_REST": str(int(rest)), "REFUSE_TELL": str(told)}
+    ended = subprocess.run(words, env=asked, capture_output=True, text=True, pass_fds=[told], timeout=60)
+    os.close(told)
+    refused = os.read(heard, 1) != b""
+    os.close(heard)
+    return Ending(ended.returncode, ended.stdout, ended.stderr, refused)
+
+
+def address(number):
+    return ".".join(str(number >> shift & 255) for shift in (24, 16, 8, 0))
+
+
+def plain(text):
+    """Prefixes, addresses and hops as a feed's text has them, in place of how the crate's program prints them."""
+    text = re.sub(r"Prefix \{ base: (\d+), len: (\d+) \}", lambda m: f"{address(int(m[1]))}/{m[2]}", text)
+    text = re.sub(r"(?:Via\()?Addr\((\d+)\)\)?(?=[ ,)]|$)", lambda m: address(int(m[1])), text)
+    return text.replace("Discard", "discard")
+
+
+class Table:
+    """The sequential table, from its definition, over the words of a feed's line."""
+
+    def __init__(self, limit):
+        self.limit = limit
+        self.routes = {}
+
+    def apply(self, feed, words):
+        name, *rest = words
+        mine = [key for key in self.routes if key[1] == feed]
+        key = (rest[0], feed) if rest else None
+        if name == "add":
+            if key in self.routes:
+                return "exists"
+            if len(mine) == self.limit:
+                return "full"
+            self.routes[key] = rest[1:]
+            return "added"
+        if name in ("replace", "withdraw") and key not in self.routes:
+            return "missing"
+        if name == "replace":
+            self.routes[key] = rest[1:]
+            return "replaced"
+        if name == "withdraw":
+            del self.routes[key]
+            return "withdrawn"
+        if name == "lookup":
+            return self.best(rest[0])
+        if name == "purge":
+            for key in mine:
+                del self.routes[key]
+            return f"purged {len(mine)}"
+        return f"dumped {len(self.routes)}"
+
+    def best(self, addr):
+        covering = [key for key in self.routes if covers(key[0], addr)]
+        if not covering:
+            return "no route"
+        longest = max(int(prefix.split("/")[1]) for prefix, _ in covering)
+        of_longest = [key for key in covering if int(key[0].split("/")[1]) == longest]
+        return "route " + self.shown(min(of_longest, key=lambda key: (int(self.routes[key][0]), key[1])))
+
+    def all(self, addr):
+        """The lines of all that covers the address, the best first, with the step at which each was left behind it."""
+        place = lambda key: (-int(key[0].split("/")[1]), int(self.routes[key][0]), key[1])
+        covering = sorted((key for key in self.routes if covers(key[0], addr)), key=place)
+        if not covering:
+            return [f"{addr} no route\n"]
+        reason = lambda key: next(word for word, a, b in zip(("shorter", "preference", "feed"), place(key), place(covering[0])) if a != b)
+        return [f"{addr} route {self.shown(covering[0])}\n"] + [f"{addr} also {self.shown(key)} {reason(key)}\n" for key in covering[1:]]
+
+    def shown(self, key):
+        pref, hop = self.routes[key]
+        return f"{key[0]} feed {key[1]} pref {pref} via {hop}"
+
+    def listed(self):
+        def place(key):
+            base, length = key[0].split("/")
+            return (number(base), int(length), int(self.routes[key][0]), key[1])
+
+        return [self.shown(key) for key in sorted(self.routes, key=place)]
+
+
+def number(text):
+    return int.from_bytes(bytes(map(int, text.split("."))), "big")
+
+
+def covers(prefix, addr):
+    base, length = prefix.split("/")
+    return number(base) >> 32 - int(length) == number(addr) >> 32 - int(length)
+
+
+def words_of(command):
+    """The words of a feed's line that a command of the crate's program stands for."""
+    name, _, rest = plain(command).partition(" ")
+    return [name.lower()] + re.findall(r": ([^ ,]+)", rest)
+
+
+def reply_of(reply):
+    """A reply of the crate's program as a feed's report has it."""
+    reply = plain(reply)
+    if reply.startswith("Found"):
+        prefix, feed, pref, hop = re.findall(r": ([^ ,()]+)", reply)
+        return f"route {prefix} feed {feed} pref {pref} via {hop}"
+    if reply == "NoRoute":
+        return "no route"
+    return re.sub(r"\((\d+)\)", r" \1", reply).lower()
+
+
+def routes_of(text):
+    """A list of routes as the program's table has them."""
+    return [reply_of("Found(" + route + ")").removeprefix("route ") for route in re.findall(r"Route \{[^{}]*(?:\{[^{}]*\}[^{}]*)*\}", text)]
+
+
+class Wrong(Exception):
+    """What a run printed is not what the model explains."""
+
+
+def agree(found, wanted, what):
+    if found != wanted:
+        raise Wrong(f"{what}: {found!r} in place of {wanted!r}")
+
+
+def check_lock(lines, ample, kinds):
+    """Two tries at a lock that lends a value."""
+    agree(len(lines), 2, "the number of lines")
+    for value, line in zip((7, 8), lines):
+        if line == f"lock refused, {value} is back":
+            kinds.add("TreeLock::new")
+        else:
+            agree(line, f"lock of 64 places lent {value}", "the lock")
+
+
+def asked_of(lines):
+    """What the lines of the table's case ask, without the answers."""
+    asked = [re.sub(r"^(routes|left) .*| (?:Ok|Err)\(.*", r"\1", line) for line in lines]
+    return [line for line in asked if not line.startswith(("journal", "table"))]
+
+
+def check_table(lines, ample, kinds):
+    """The commands of several feeds over one table, whose journal has those that were answered."""
+    table, journal, told = Table(2), [], []
+    agree(asked_of(lines), [] if lines == ["table refused"] * 2 else asked_of(ample), "what was asked")
+
+    def answered(feed, command, reply):
+        agree(reply_of(reply), table.apply(feed, words_of(command)), command)
+        journal.append((feed, command, reply))
+
+    lines = collections.deque(lines)
+    while lines and lines[0] == "table refused":
+        lines.popleft()
+        kinds.add("SharedRib::new")
+    while lines:
+        line = lines.popleft()
+        if one := re.fullmatch(r"feed (\d+) (.*) Ok\((.*)\)", line):
+            answered(int(one[1]), one[2], one[3])
+        elif one := re.fullmatch(r"feed \d+ (\w+).* Err\(Refused\)", line):
+            kinds.add("SharedRib::apply " + one[1])
+        elif one := re.fullmatch(r"batch of feed (\d+) Err\(Refused\) \[(.*)\]", line):
+            agree(outcomes_of(one[2]), told, "what was told before a batch was refused")
+            kinds.add("SharedRib::apply_batch")
+        elif one := re.fullmatch(r"batch of feed (\d+) Ok\(\(\)\) \[(.*)\]", line):
+            outcomes = outcomes_of(one[2])
+            agree(outcomes[: len(told)], told, "what was told before a batch")
+            new = outcomes[len(told) :]
+            agree(len(new), 3, "the outcomes of a batch")
+            for command, outcome in zip(BATCH, new):
+                if outcome == "Refused":
+                    kinds.add("a command of a batch")
+                else:
+                    answered(int(one[1]), command, outcome[4:-1])
+            told = outcomes
+        elif line.startswith("routes"):
+            if line == "routes refused":
+                kinds.add("SharedRib::routes")
+            else:
+                agree(routes_of(line), table.listed(), "the routes")
+        elif line == "room Err(Refused)":
+            kinds.add("Book::reserve")
+        elif line.startswith("room"):
+            agree(line, "room Ok(())", "the room")
+        elif line.startswith("journal"):
+            feed, command, reply = journal.pop(0) if journal else (0, "nothing", "")
+            agree(line, f"journal feed {feed} {command} {reply}", "the journal")
+        elif line == "left refused":
+            kinds.add("Book::routes")
+        else:
+            agree(line[:4], "left", "the last line")
+            agree(routes_of(line), table.listed(), "what is left")
+    agree(journal, [], "entries that the journal has not")
+
+
+BATCH = [
+    "Add { prefix: Prefix { base: 167903232, len: 16 }, pref: 1, hop: Discard }",
+    "Lookup { addr: Addr(167903233) }",
+    "Dump",
+]
+
+
+def outcomes_of(text):
+    """The outcomes of a printed list."""
+    return re.findall(r"Refused|Did\((?:[^()]|\((?:[^()]|\([^()]*\))*\))*\)", text)
+
+
+# Of each text the commands, by the lines that they stand on, and the faulty lines.
+FEEDS = [
+    ({2: "dump", 5: "add 10.0.0.0/8 5 discard", 7: "purge", 8: "lookup 1.2.3.4"}, {3: "Command"}),
+    ({1: "lookup 10.0.0.1", 2: "add 10.0.0.0/8 5 192.0.2.2", 4: "dump"}, {3: "PrefixLength"}),
+    ({1: "dump", 2: "dump", 3: "dump"}, {}),
+]
+
+
+def check_feed(feed, lines, kinds):
+    """What one feed was answered, and what its gate was asked. Gives whether it has no report."""
+    commands, faults = FEEDS[feed - 1]
+    asked = [" ".join(words_of(line.split(" ", 3)[3])) for line in lines if line.split()[2] == "asked"]
+    told = [line for line in lines if line.split()[2] != "asked"]
+    if told == [f"feed {feed} refused"]:
+        kinds.add("run_feed")
+        left = iter(commands.values())
+        agree([command for command in asked if command not in left], [], "commands that were asked out of their order")
+        return True
+    answers = [(int(line.split(" ", 4)[3]), line.split(" ", 4)[4]) for line in told]
+    agree([at for at, _ in answers], sorted({**commands, **faults}), "the lines of the report")
+    answered = []
+    for at, answer in answers:
+        if at in faults:
+            agree(answer, f"Fault({faults[at]})", "a faulty line")
+        elif answer == "Refused":
+            kinds.add("a command of a feed")
+        else:
+            agree(reply_of(answer[4:-1]), "dumped 0", "a reply")
+            answered.append(commands[at])
+    agree(asked, answered, "what the gate was asked")
+    return False
+
+
+def check_feeds(lines, ample, kinds):
+    """Feeds through gates that remember."""
+    runs = []
+    for line in lines:
+        if line.startswith("feed"):
+            runs[-1][1].append(line)
+        elif line.startswith(("one feed", "three feeds", "no texts")):
+            runs.append(([line], []))
+        else:
+            runs[-1][0].append(line)
+    titles = [line for line in ample if " in batches of " in line]
+    agree(len(runs), len(titles), "the number of runs")
+    for wanted, ((title, *ended), told) in zip(titles, runs):
+        if title == "no texts" and wanted.startswith("three"):
+            agree((ended, told), ([], []), "what came of no texts")
+            continue
+        agree(title, wanted, "what was run")
+        feeds = range(1, 4 if title.startswith("three") else 2)
+        agree({line.split()[1] for line in told} - set(map(str, feeds)), set(), "lines of other feeds")
+        missing = [check_feed(feed, [line for line in told if line.split()[1] == str(feed)], kinds) for feed in feeds]
+        if title.startswith("three"):
+            agree(ended, ["fault F3" if any(missing) else "all were run"], "what run_feeds answered")
+            if any(missing):
+                kinds.add("run_feeds")
+        else:
+            agree(ended, [], "what one feed was run")
+
+
+def check_crate(check):
+    """What the crate's program prints, by the check of its case; it may want memory for its words, and then prints nothing."""
+
+    def compare(ending, ample, kinds):
+        if ending.refused and ending.status == 1 and ending.out == "":
+            return
+        agree(ending.status, 0, "the status")
+        check(ending.out.splitlines(), ample.out.splitlines(), kinds)
+        if not ending.refused:
+            agree(ending.out, ample.out, "what a run without refusals prints")
+
+    return compare
+
+
+def ran(texts, refused, limit=65_536):
+    """The lines of the reports that a run of these texts prints if these lines, by feed and number, are refused, and its table."""
+    table, printed = Table(limit), []
+    for feed, text in enumerate(texts, 1):
+        for at, line in enumerate(text.splitlines(), 1):
+            if (at, line) == (1, "version 2") or line.startswith("#"):
+                continue
+            if line == "frob":
+                answer = "fault E1"
+            elif (feed, at) in refused:
+                answer = "refused"
+            else:
+                answer = table.apply(feed, line.split())
+            printed.append(f"{feed}:{at} {answer}")
+    return printed, table
+
+
+def run_text(texts, refused):
+    """What a run of these texts prints if these lines, by feed and number, are refused."""
+    printed, table = ran(texts, refused)
+    return "".join(line + "\n" for line in printed + [f"table {len(table.routes)}"] + table.listed())
+
+
+def check_run(texts):
+    """A run of the program over these texts, no one of which can tell what another feed did."""
+    faulty = 2 if any("frob" in text for text in texts) else 0
+
+    def compare(ending, ample, kinds):
+        if (ending.status, ending.out, ending.err) == (5, "", "yarib: fault F3\n"):
+            kinds.add("run_texts")
+            return
+        agree(ending.err, "", "standard error")
+        refused = {tuple(map(int, pair)) for pair in re.findall(r"^(\d+):(\d+) refused$", ending.out, re.MULTILINE)}
+        agree(ending.status, 5 if refused else faulty, "the status")
+        agree(ending.out, run_text(texts, refused), "the run's text")
+        if refused:
+            kinds.add("a line of a run")
+
+    return compare
+
+
+NOT_TAKEN = {"full": "adds over the limit", "exists": "adds of a prefix already there",
+             "missing": "replaces and withdraws of a prefix not there", "refused": "commands refused for want of memory"}
+
+
+def told_text(texts, names, limit=65_536):
+    """What `lookup` and `table` tell of these texts, of which no line is refused, whose faulty lines are E1."""
+    printed, _ = ran(texts, set(), limit)
+    told = ""
+    for feed, name in enumerate(names, 1):
+        answers = [line.split(" ", 1) for line in printed if line.startswith(f"{feed}:")]
+        faulty = [place.split(":")[1] for place, answer in answers if answer == "fault E1"]
+        if faulty:
+            told += f"yarib: {name}: faulty lines: {len(faulty)}, the first is line {faulty[0]}: E1: the first field is no command of this version\n"
+        for answer, what in NOT_TAKEN.items():
+            if count := sum(found == answer for _, found in answers):
+                told += f"yarib: {name}: {what}: {count}\n"
+    return told
+
+
+def answers_text(texts, addresses, limit=65_536):
+    """What a look-up of these addresses prints of these texts."""
+    _, table = ran(texts, set(), limit)
+    return "".join(f"{addr} {table.best(addr)}\n" for addr in addresses)
+
+
+def all_answers_text(texts, addresses, limit=65_536):
+    """The same of `lookup --all`."""
+    _, table = ran(texts, set(), limit)
+    return "".join(line for addr in addresses for line in table.all(addr))
+
+
+def answered_addresses(out):
+    """The addresses that a look-up has answered, in order, each once for all its lines."""
+    lines = re.findall(r"^([\d.]+) (?:route|no route|also)\b", out, re.MULTILINE)
+    return [addr for at, addr in enumerate(lines) if at == 0 or addr != lines[at - 1]]
+
+
+def check_shown(ending, ample, kinds):
+    """A look-up or list of the table: all is as it was, or nothing is printed and nothing told, or commands were refused."""
+    if (ending.status, ending.out, ending.err) == (5, "", "yarib: fault F3\n"):
+        kinds.add("lookup or table")
+        return
+    if ending.status != 5:
+        agree(ending[:3], ample[:3], "all of it")
+        return
+    agree(answered_addresses(ending.out), answered_addresses(ample.out), "the addresses that are answered")
+    told = [line for line in ending.err.splitlines() if re.fullmatch(r"yarib: .*: commands refused for want of memory: [1-9]\d*", line)]
+    agree(len(told) > 0, True, "that refused commands are told")
+    kinds.add("a command of a look-up or list")
+
+
+def check_same(ending, ample, kinds):
+    """A call of the program that has all or nothing."""
+    if (ending.status, ending.out) == (5, "") and ending.err in ("yarib: fault F3\n", "yarib: fault P3\n"):
+        kinds.add(ending.err[7:-1])
+        return
+    agree(ending[:3], ample[:3], "all of it")
+
+
+ROW = """add 10.0.0.0/8 10 192.0.2.1
+add 10.1.0.0/16 10 192.0.2.2
+add 10.2.0.0/16 10 192.0.2.3
+withdraw 10.1.0.0/16
+lookup 10.1.2.3
+dump
+"""
+
+
+def own_text(feed):
+    """A text of prefixes that no other feed has."""
+    return f"""version 2
+add {feed}.0.0.0/8 10 192.0.2.1
+replace {feed}.0.0.0/8 9 discard
+frob
+lookup {feed}.1.2.3
+add {feed}.1.0.0/16 10 192.0.2.2
+withdraw {feed}.0.0.0/8
+purge
+add {feed}.2.0.0/16 1 192.0.2.3
+"""
+
+
+def files(folder, name, texts):
+    """The paths of files with these texts."""
+    paths = []
+    for place, text in enumerate(texts, 1):
+        paths.append(folder / f"{name}{place}.feed")
+        paths[-1].write_text(text)
+    return paths
+
+
+def cases(folder, yarib, libraries):
+    """Each case: its name, its words, and what compares its endings."""
+    row, three, many = [ROW], [own_text(feed) for feed in range(1, 4)], [own_text(feed) for feed in range(1, 65)]
+    yield "the lock", [libraries, "growth", "lock"], check_crate(check_lock)
+    yield "the shared table", [libraries, "growth", "table"], check_crate(check_table)
+    yield "a feed", [libraries, "growth", "feed"], check_crate(check_feeds)
+    yield "three feeds", [libraries, "growth", "feeds"], check_crate(check_feeds)
+    for name, texts in (("one file", row), ("three files", three), ("64 files", many)):
+        paths = files(folder, name.replace(" ", ""), texts)
+        for batch in ("1", "3"):
+            yield f"{name}, --batch {batch}", [yarib, "run", "--batch", batch, *paths], check_run(texts)
+    (folder / "asked.txt").write_text("10.0.0.1\nfrob\n" + "".join(f"{feed}.2.3.4\n" for feed in range(1, 65)))
+    for name, texts in (("one file", row), ("three files", three), ("64 files", many)):
+        paths = files(folder, name.replace(" ", ""), texts)
+        yield f"a look-up in {name}", [yarib, "lookup", "--addresses", folder / "asked.txt", *paths], check_shown
+        yield f"all that covers, of {name}", [yarib, "lookup", "--all", "--addresses", folder / "asked.txt", *paths], check_shown
+        yield f"the table of {name}", [yarib, "table", "--best", *paths], check_shown
+        yield f"a comparison of {name} with one", [yarib, "diff", *paths, "--", *files(folder, "other", row)], check_shown
+    yield "a replay", [yarib, "replay", "--levels", "1", "0", "0", "0", "0"], check_same
+    yield "a replay of 6 levels", [yarib, "replay", "--levels", "6"] + ["5", "63"] * 30, check_same
+    yield "the help", [yarib, "run", "--help"], check_same
+    yield "a refused command line", [yarib, "walk"], check_refused_words
+
+
+def check_refused_words(ending, ample, kinds):
+    """A command line that is refused anyway."""
+    if (ending.status, ending.out, ending.err) != (5, "", "yarib: fault F3\n"):
+        agree(ending[:3], ample[:3], "all of it")
+
+
+KINDS = {
+    "TreeLock::new", "SharedRib::new", "SharedRib::apply_batch", "SharedRib::routes", "a command of a batch", "Book::reserve", "Book::routes",
+    "lookup or table", "a command of a look-up or list", "run_feed", "run_feeds", "a command of a feed", "run_texts", "a line of a run", "fault F3", "fault P3",
+} | {"SharedRib::apply " + name for name in ("Add", "Replace", "Withdraw", "Lookup", "Dump", "Purge")}
+
+
+def refuse_each(words, compare, refuse, rest, kinds):
+    """Refuses each request of a case in turn, with all later ones where `rest` says so, and gives how many there are."""
+    ample = run(words, refuse, 0, False)
+    at = 0
+    while at == 0 or ending.refused:
+        at += 1
+        ending = run(words, refuse, at, rest)
+        try:
+            compare(ending, ample, kinds)
+        except Wrong as wrong:
+            raise Wrong(f"request {at} refused{' and all later ones' if rest else ''}: {wrong}\n{ending}") from wrong
+    return at - 1
+
+
+def main():
+    kinds = set()
+    with tempfile.TemporaryDirectory() as made:
+        folder = pathlib.Path(made)
+        yarib, libraries, refuse = build(folder)
+        for name, words, compare in cases(folder, yarib, libraries):
+            try:
+                counts = [refuse_each(words, compare, refuse, rest, kinds) for rest in (False, True)]
+            except Wrong as wrong:
+                sys.exit(f"{name}: {wrong}")
+            print(f"{name}: {counts[0]} requests refused in turn, and {counts[1]} with all later ones", flush=True)
+    if kinds != KINDS:
+        sys.exit(f"kinds of refusal that were not met, or not foreseen: {sorted(kinds ^ KINDS)}")
+    print("each kind of refusal was met")
+
+
+if __name__ == "__main__":
+    main()

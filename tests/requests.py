@@ -1,0 +1,135 @@
+#!/usr/bin/env python3
+"""Counts the program's requests for memory, and wants none where the pages say that a call takes none.
+
+Usage: tests/requests.py [YARIB]. Builds ./yarib first unless a built program is named. Needs gcc and glibc.
+
+A list that grows doubles its room. So twice as many commands of a kind that takes no memory may cost no more than some
+requests for the text, the reports and the journal, and one more for each is seen; a run writes with not one request between
+two writes; what a run holds at its end, when all routes are withdrawn or purged, is what a run of as many `dump`s holds; and a
+table that has routes is left to the system. What the launchers set changes no request, only where the C library finds what it
+grants, so all is run once.
+"""
+import os
+import pathlib
+import struct
+import subprocess
+import sys
+import tempfile
+
+from checks import TOP, built, end, expect, run, run_each
+from refused_growth import address
+
+# How many requests more a text of twice the length may make: for its bytes, the reports' lists, the batch and the journal.
+DOUBLING = 6
+WRITES = 1000
+BATCHES = ("1", "64", "1024")
+
+
+def counted(words, count):
+    """Requests, the blocks and bytes held at the end, and the requests at each write to standard output."""
+    with tempfile.TemporaryFile() as kept:
+        kept.truncate(32 + 8 * WRITES)
+        status, _, err = run(words, env={"LD_PRELOAD": str(count), "COUNT_IN": str(kept.fileno())}, pass_fds=[kept.fileno()])
+        kept.seek(0)
+        data = kept.read()
+    requests, blocks, size, writes = struct.unpack_from("4Q", data)
+    expect(f"{words[1:]}: it ends", (status, err), (0, ""))
+    expect(f"{words[1:]}: there were requests", requests > 0, True)
+    return requests, (blocks, size), struct.unpack_from(f"{min(writes, WRITES)}Q", data, 32)
+
+
+OWN = "version 2\nadd 10.0.0.0/8 1 192.0.2.1\n"
+# Lines of which none takes memory, each kind by itself. The feed may have one route, and has it.
+KINDS = {
+    "lookup": "lookup 10.1.2.3\n",
+    "lookup of none": "lookup 11.1.2.3\n",
+    "dump": "dump\n",
+    "replace": "replace 10.0.0.0/8 2 discard\n",
+    "replace of none": "replace 11.0.0.0/8 2 discard\n",
+    "withdraw of none": "withdraw 11.0.0.0/8\n",
+    "add of its own": "add 10.0.0.0/8 3 192.0.2.1\n",
+    "add beyond the limit": "add 11.0.0.0/8 3 192.0.2.1\n",
+    "purge": "purge\n",
+    "skipped": "# note\n",
+}
+
+
+# Fails where `run_feed` makes a list for each line: `lookup, in batches of 1: 20003 requests more`.
+def commands(yarib, count):
+    """Twice as many lines that take no memory cost no request for each."""
+    for name, line in KINDS.items():
+        for batch in BATCHES:
+            few, many = (counted_text(yarib, count, OWN + line * lines, batch, "--limit", "1")[0] for lines in (20_000, 40_000))
+            expect(f"{name}, in batches of {batch}: {many - few} requests more", many - few <= DOUBLING, True)
+
+
+def counted_text(yarib, count, text, batch, *words):
+    pathlib.Path("text.feed").write_text(text)
+    requests, held, at_writes = counted([yarib, "run", "--batch", batch, *words, "text.feed"], count)
+    # What is printed takes none.
+    expect(f"{len(text)} bytes in batches of {batch}: requests while it writes", len(set(at_writes)), 1)
+    return requests, held
+
+
+def shown(yarib, count):
+    """Twice as many answers and rows cost no request for each, but one each of all that covers, nor any while they are written."""
+    adds = "".join(f"add {address(0x0A00_0000 + (at << 8))}/24 1 192.0.2.1\n" for at in range(10_000))
+    pathlib.Path("text.feed").write_text(adds)
+    few, many = (counted_shown(yarib, count, ["lookup", "--addresses", "asked.txt"], lines) for lines in (20_000, 40_000))
+    expect(f"answers: {many - few} requests more", many - few <= DOUBLING, True)
+    few, many = (counted_shown(yarib, count, ["lookup", "--all", "--addresses", "asked.txt"], lines) for lines in (20_000, 40_000))
+    # The routes that cover an address lie in a list of their own.
+    expect(f"all that covers: {many - few} requests more", 0 <= many - few - 20_000 <= DOUBLING, True)
+    listed = counted_shown(yarib, count, ["table"], 1)
+    run_of = counted([yarib, "run", "--batch", "256", "text.feed"], count)[0]
+    expect(f"a table: {listed - run_of} requests more than a run", listed - run_of <= DOUBLING, True)
+
+
+def counted_shown(yarib, count, words, lines):
+    pathlib.Path("asked.txt").write_text("".join(f"10.0.{at & 255}.1\n" for at in range(lines)))
+    requests, _, at_writes = counted([yarib, *words, "text.feed"], count)
+    expect(f"{words} of {lines}: requests while it writes", len(set(at_writes)), 1)
+    return requests
+
+
+def routes(yarib, count):
+    """A route costs two boxes at most, and one that comes and goes a box; and all is given back."""
+    prefix = lambda at: f"{address(0x0A00_0000 + (at << 8))}/24"
+    adds = "".join(f"add {prefix(at)} 1 192.0.2.1\n" for at in range(10_000))
+    withdraws = "".join(f"withdraw {prefix(at * 7919 % 10_000)}\n" for at in range(10_000))
+    dumps, purge = "version 2\n" + "dump\n" * 20_000, "purge\n" * 10_000
+    for batch in BATCHES:
+        idle = counted_text(yarib, count, dumps, batch)
+        for name, last in (("withdrawn", withdraws), ("purged", purge)):
+            requests, held = counted_text(yarib, count, "version 2\n" + adds + last, batch)
+            expect(f"{name}, in batches of {batch}: held", held, idle[1])
+            expect(f"{name}, in batches of {batch}: {requests - idle[0]} requests", requests - idle[0] <= 20_000 + DOUBLING, True)
+    come_and_go = [counted_text(yarib, count, "add 10.0.0.0/8 1 192.0.2.1\nwithdraw 10.0.0.0/8\n" * times, "64") for times in (10_000, 20_000)]
+    more = come_and_go[1][0] - come_and_go[0][0] - 10_000
+    expect(f"a route that comes and goes: {more} requests more", 0 <= more <= DOUBLING, True)
+
+
+# Fails where the finished table is freed node by node, which takes a tenth of a run: `run: 10,000 routes are left`.
+def left(yarib, count):
+    """The routes of a table are still held at the end: the system takes their pages back at once."""
+    pathlib.Path("none.feed").write_text("")
+    pathlib.Path("text.feed").write_text("".join(f"add {address(0x0A00_0000 + (at << 8))}/24 1 192.0.2.1\n" for at in range(10_000)))
+    for name, words, tables in (("run", [], 1), ("table", [], 1), ("lookup", ["--address", "10.0.0.1"], 1), ("diff", [], 2)):
+        files = lambda file: [file] if tables == 1 else [file, "--", file]
+        none, routes = (counted([yarib, name, *words, *files(file)], count)[1][0] for file in ("none.feed", "text.feed"))
+        expect(f"{name}: 10,000 routes are left", routes - none >= tables * 10_000, True)
+
+
+def main():
+    yarib = built(sys.argv[1:])
+    with tempfile.TemporaryDirectory() as folder:
+        count = pathlib.Path(folder) / "count.so"
+        subprocess.run(["gcc", "-O2", "-shared", "-fPIC", "-o", count, TOP / "tests" / "count.c"], check=True)
+        os.chdir(folder)
+        run_each((commands, routes, shown, left), yarib, count)
+        os.chdir("/")
+    end()
+
+
+if __name__ == "__main__":
+    main()

@@ -1,0 +1,968 @@
+#!/usr/bin/env python3
+"""Feed files, texts of addresses and schedules: all that the program writes for each is compared with what it has to be.
+
+Usage: tests/rows.py [YARIB]. Builds ./yarib first unless a built program is named. Linux, python3.
+
+Worked runs stand here line beside line, and replays whole. Hostile lines are read by a plain reader, written from
+docs/FORMATS.md; around each that it takes for a command are others, whose answers show all that the program has read there. Runs
+of random feeds on threads are judged by tests/judge.py: some order of the feeds' visits has to explain each.
+"""
+import os
+import pathlib
+import random
+import re
+import sys
+import tempfile
+import time
+from typing import NamedTuple
+
+import judge
+from checks import built, compare, end, expect, run, run_each
+
+
+class Worked(NamedTuple):
+    """A feed's lines, each with its answer, or None where it has none; and the rows of the table that they leave."""
+
+    name: str
+    lines: list
+    rows: tuple = ()
+    limit: int = 65_536
+    end: str = "\n"
+
+    @property
+    def text(self):
+        return "\n".join(line for line, _ in self.lines) + (self.end if self.lines else "")
+
+    @property
+    def output(self):
+        return report(1, [answer for _, answer in self.lines]) + table(self.rows)
+
+    @property
+    def status(self):
+        return 2 if any(answer and answer.startswith("fault") for _, answer in self.lines) else 0
+
+
+def report(feed, answers):
+    """What a run prints of a feed whose lines have these answers."""
+    return "".join(f"{feed}:{number} {answer}\n" for number, answer in enumerate(answers, 1) if answer)
+
+
+def table(rows):
+    return f"table {len(rows)}\n" + "".join(row + "\n" for row in rows)
+
+
+def run_texts(yarib, texts, words=()):
+    """How a run of these texts ends, each a file."""
+    names = [f"{feed}.feed" for feed in range(1, len(texts) + 1)]
+    for name, text in zip(names, texts):
+        pathlib.Path(name).write_bytes(text if isinstance(text, bytes) else text.encode())
+    return run([yarib, "run", *words, *names])
+
+
+# Worked runs
+
+# Six commands, which every batch size cuts in another way.
+SIX = Worked(
+    "six commands",
+    [
+        ("add 10.0.0.0/8 10 192.0.2.1", "added"),
+        ("add 10.1.0.0/16 10 192.0.2.2", "added"),
+        ("add 10.2.0.0/16 10 192.0.2.3", "added"),
+        ("withdraw 10.1.0.0/16", "withdrawn"),
+        ("lookup 10.1.2.3", "route 10.0.0.0/8 feed 1 pref 10 via 192.0.2.1"),
+        ("dump", "dumped 2"),
+    ],
+    ["10.0.0.0/8 feed 1 pref 10 via 192.0.2.1", "10.2.0.0/16 feed 1 pref 10 via 192.0.2.3"],
+)
+
+WORKED = [
+    SIX,
+    Worked("no line", []),
+    Worked(
+        "one route",
+        [("add 10.0.0.0/8 100 192.0.2.1", "added"), ("lookup 10.1.2.3", "route 10.0.0.0/8 feed 1 pref 100 via 192.0.2.1")],
+        ["10.0.0.0/8 feed 1 pref 100 via 192.0.2.1"],
+    ),
+    Worked(
+        "the shortest and the longest prefix",
+        [
+            ("add 0.0.0.0/0 1 192.0.2.1", "added"),
+            ("add 10.0.0.0/8 1 192.0.2.2", "added"),
+            ("add 10.255.255.255/32 1 192.0.2.3", "added"),
+            ("lookup 10.255.255.255", "route 10.255.255.255/32 feed 1 pref 1 via 192.0.2.3"),
+            ("lookup 10.255.255.254", "route 10.0.0.0/8 feed 1 pref 1 via 192.0.2.2"),
+            ("lookup 11.0.0.0", "route 0.0.0.0/0 feed 1 pref 1 via 192.0.2.1"),
+        ],
+        [
+            "0.0.0.0/0 feed 1 pref 1 via 192.0.2.1",
+            "10.0.0.0/8 feed 1 pref 1 via 192.0.2.2",
+            "10.255.255.255/32 feed 1 pref 1 via 192.0.2.3",
+        ],
+    ),
+    Worked("a bit past the length", [("add 10.0.0.1/8 1 192.0.2.1", "fault E5")]),
+    Worked(
+        "prefixes that are none",
+        [
+            ("add 10.0.0.0/33 1 192.0.2.1", "fault E4"),
+            ("add 010.0.0.0/8 1 192.0.2.1", "fault E3"),
+            ("add 10.0.0/8 1 192.0.2.1", "fault E3"),
+            ("add 10.0.0.0/08 1 192.0.2.1", "fault E3"),
+        ],
+    ),
+    Worked(
+        "a full table",
+        [
+            ("add 10.0.0.0/8 1 192.0.2.1", "added"),
+            ("add 10.0.0.0/8 1 192.0.2.1", "exists"),
+            ("add 11.0.0.0/8 1 192.0.2.1", "full"),
+        ],
+        ["10.0.0.0/8 feed 1 pref 1 via 192.0.2.1"],
+        limit=1,
+    ),
+    Worked("what is not there", [("replace 10.0.0.0/8 1 192.0.2.1", "missing"), ("withdraw 10.0.0.0/8", "missing")]),
+    Worked(
+        "both halves",
+        [
+            ("add 128.0.0.0/1 1 192.0.2.1", "added"),
+            ("add 0.0.0.0/1 1 192.0.2.2", "added"),
+            ("lookup 127.255.255.255", "route 0.0.0.0/1 feed 1 pref 1 via 192.0.2.2"),
+            ("withdraw 0.0.0.0/1", "withdrawn"),
+            ("add 0.0.0.0/2 1 192.0.2.3", "added"),
+            ("lookup 64.0.0.0", "no route"),
+        ],
+        ["0.0.0.0/2 feed 1 pref 1 via 192.0.2.3", "128.0.0.0/1 feed 1 pref 1 via 192.0.2.1"],
+    ),
+    Worked(
+        "each fault but two",
+        [
+            ("frob", "fault E1"),
+            ("dump x", "fault E2"),
+            ("add  10.0.0.0/8 1 192.0.2.1", "fault E2"),
+            ("lookup 1.2.3.4.5", "fault E3"),
+            ("add 10.0.0.0/8 4294967296 192.0.2.1", "fault E6"),
+            ("add 10.0.0.0/8 4294967295 256.0.0.1", "fault E7"),
+            ("", None),
+            ("# note", None),
+            ("dump", "dumped 0"),
+        ],
+    ),
+    Worked("a line of 129 bytes, and a last one without LF", [("#" * 129, "fault E8"), ("dump", "dumped 0")], end=""),
+    Worked("a comment of 128 bytes", [("#" * 128, None), ("dump", "dumped 0")], end=""),
+    Worked(
+        "a replaced route",
+        [
+            ("add 10.0.0.0/8 5 192.0.2.1", "added"),
+            ("replace 10.0.0.0/8 9 192.0.2.2", "replaced"),
+            ("lookup 10.255.255.255", "route 10.0.0.0/8 feed 1 pref 9 via 192.0.2.2"),
+        ],
+        ["10.0.0.0/8 feed 1 pref 9 via 192.0.2.2"],
+    ),
+    Worked(
+        "an aggregate whose addresses lead nowhere, but for one part of it; a purge takes out all that the feed has",
+        [
+            ("version 2", None),
+            ("# note", None),
+            ("add 10.0.0.0/8 5 discard", "added"),
+            ("add 10.1.0.0/16 5 192.0.2.1", "added"),
+            ("lookup 10.1.0.1", "route 10.1.0.0/16 feed 1 pref 5 via 192.0.2.1"),
+            ("lookup 10.2.0.1", "route 10.0.0.0/8 feed 1 pref 5 via discard"),
+            ("purge", "purged 2"),
+            ("lookup 10.1.0.1", "no route"),
+        ],
+    ),
+    Worked(
+        "a discard route that is replaced",
+        [
+            ("version 2", None),
+            ("add 10.0.0.0/8 5 discard", "added"),
+            ("add 10.1.0.0/16 5 192.0.2.1", "added"),
+            ("lookup 10.1.0.1", "route 10.1.0.0/16 feed 1 pref 5 via 192.0.2.1"),
+            ("lookup 10.2.0.1", "route 10.0.0.0/8 feed 1 pref 5 via discard"),
+            ("replace 10.0.0.0/8 5 192.0.2.9", "replaced"),
+            ("lookup 10.2.0.1", "route 10.0.0.0/8 feed 1 pref 5 via 192.0.2.9"),
+        ],
+        ["10.0.0.0/8 feed 1 pref 5 via 192.0.2.9", "10.1.0.0/16 feed 1 pref 5 via 192.0.2.1"],
+    ),
+    Worked(
+        "a comment before the version",
+        [("# x", None), ("version 2", "fault E1"), ("add 10.0.0.0/8 5 discard", "fault E7")],
+    ),
+    Worked("a version alone", [("version 2", None)], end=""),
+    Worked(
+        "purges",
+        [
+            ("version 2", None),
+            ("add 10.0.0.0/8 1 192.0.2.1", "added"),
+            ("add 10.1.0.0/16 1 192.0.2.1", "added"),
+            ("add 10.2.0.0/16 1 192.0.2.1", "added"),
+            ("purge", "purged 3"),
+            ("purge", "purged 0"),
+            ("dump", "dumped 0"),
+        ],
+    ),
+    Worked(
+        "a purge of a full table",
+        [
+            ("version 2", None),
+            ("add 10.0.0.0/8 1 192.0.2.1", "added"),
+            ("add 11.0.0.0/8 1 192.0.2.1", "full"),
+            ("purge", "purged 1"),
+            ("add 11.0.0.0/8 1 192.0.2.1", "added"),
+        ],
+        ["11.0.0.0/8 feed 1 pref 1 via 192.0.2.1"],
+        limit=1,
+    ),
+    Worked("a version with a carriage return", [("version 2\r", "fault E1"), ("purge", "fault E1")]),
+    Worked("a version with a space more", [("version 2 ", "fault E1"), ("purge", "fault E1")]),
+    Worked("a version on a later line", [("dump", "dumped 0"), ("version 2", "fault E1"), ("purge", "fault E1")]),
+    Worked("a version behind an empty line", [("", None), ("version 2", "fault E1"), ("purge", "fault E1")]),
+    Worked("two versions", [("version 2", None), ("version 2", "fault E1"), ("purge", "purged 0")]),
+    Worked(
+        "a version before a comment and a last line without LF",
+        [("version 2", None), ("", None), ("# note", None), ("add 10.0.0.0/8 5 discard", "added")],
+        ["10.0.0.0/8 feed 1 pref 5 via discard"],
+        end="",
+    ),
+    Worked(
+        "the least and the greatest preference",
+        [
+            ("add 10.0.0.0/8 4294967295 192.0.2.1", "added"),
+            ("lookup 10.0.0.1", "route 10.0.0.0/8 feed 1 pref 4294967295 via 192.0.2.1"),
+            ("replace 10.0.0.0/8 0 255.255.255.255", "replaced"),
+            ("lookup 10.0.0.1", "route 10.0.0.0/8 feed 1 pref 0 via 255.255.255.255"),
+            ("withdraw 10.0.0.0/8", "withdrawn"),
+        ],
+    ),
+]
+
+
+# Fails where `run_texts` always returns F3 or `Write`, or every command is reported as refused.
+# Fails where F3 is returned for one of the texts.
+# Fails where `write_report` or `write_table` gives up at once.
+def worked_runs(yarib):
+    for worked in WORKED:
+        ended = run_texts(yarib, [worked.text], ["--limit", str(worked.limit)])
+        compare(worked.name, ended, worked.status, worked.output)
+
+
+# Fails where F3 is returned in batches of 700.
+def every_batch_size(yarib):
+    for batch in range(1, 1025):
+        compare(f"in batches of {batch}", run_texts(yarib, [SIX.text], ["--batch", str(batch)]), 0, SIX.output)
+
+
+# Fails where `write_report` or `write_table` gives up beyond some number of lines.
+def hundreds_of_thousands_of_lines(yarib):
+    prefixes = [f"10.{at >> 16}.{at >> 8 & 255}.{at & 255}/32" for at in range(200_000)]
+    text = "".join(f"add {prefix} 7 192.0.2.1\n" for prefix in prefixes)
+    rows = [f"{prefix} feed 1 pref 7 via 192.0.2.1" for prefix in prefixes]
+    compare("200,000 routes", run_texts(yarib, [text], ["--limit", "200000"]), 0, report(1, ["added"] * 200_000) + table(rows))
+
+
+# First lines of texts, and the version that each is of.
+FIRST_LINES = [
+    (2, "version 2"), (1, ""), (1, "\nversion 2"), (1, "# x\nversion 2"), (1, "version 2\r"), (1, "version 2 "), (1, " version 2"),
+    (1, "version  2"), (1, "version 1"), (1, "Version 2"), (1, "version 22"), (1, "version"),
+]
+
+
+def versions(yarib):
+    for version, first in FIRST_LINES:
+        lines = [*first.split("\n"), "purge"]
+        answers = [None if line[:1] in ("", "#") else "fault E1" for line in lines]
+        if version == 2:
+            answers = [None, "purged 0"]
+        ended = run_texts(yarib, ["\n".join(lines)])
+        compare(f"the first line {first!r}", ended, 2 if version == 1 else 0, report(1, answers) + table([]))
+
+
+# Texts and the answers to their lines: each `frob` is a line that is seen.
+TEXTS = [
+    ("", []), ("\n", [None]), ("frob", ["fault E1"]), ("frob\n", ["fault E1"]), ("frob\n\n", ["fault E1", None]), ("\n\nadd", [None, None, "fault E2"]),
+    ("# note\nfrob\r\n", [None, "fault E1"]), ("dump\rdump\nfrob", ["fault E1", "fault E1"]),
+]
+
+
+# Fails where a last line without LF is dropped.
+def texts_are_cut_into_lines(yarib):
+    for text, answers in TEXTS:
+        compare(f"the text {text!r}", run_texts(yarib, [text]), 2 if any(answers) else 0, report(1, answers) + table([]))
+
+
+# Faulty lines
+
+# Lines and their fault in version 1, and in version 2 where it is another.
+FAULTY = {
+    "E1": ["frob", " dump", "ADD 10.0.0.0/8 1 192.0.2.1", "x" * 128, "version 2"],
+    "E1 E2": ["purge 10.0.0.0/8", "purge "],
+    "E2": [
+        "dump x", "dump ", "add", "add 10.0.0.0/8 1", "add 10.0.0.0/8 1 192.0.2.1 ", "add  10.0.0.0/8 1 192.0.2.1", "withdraw",
+        "withdraw 10.0.0.0/8 ",
+    ],
+    "E3": [
+        "add 010.0.0.0/8 1 192.0.2.1", "add 10.0.0/8 1 192.0.2.1", "add 10.0.0.0/08 1 192.0.2.1", "lookup 1.2.3.4.5",
+        "lookup 1.2.3.4\r", "lookup 10.0.0.0/8", "lookup discard", "withdraw discard",
+    ],
+    "E4": ["add 10.0.0.0/33 1 192.0.2.1", "add 10.0.0.1/33 x y"],
+    "E5": ["add 10.0.0.1/8 1 192.0.2.1", "replace 10.0.0.1/8 x y"],
+    "E6": ["add 10.0.0.0/8 4294967296 192.0.2.1", "add 10.0.0.0/8 01 256.0.0.1", "add 10.0.0.0/8 x discard"],
+    "E7": [
+        "add 10.0.0.0/8 4294967295 256.0.0.1", "add 10.0.0.0/8 1 256.0.0.1", "add 10.0.0.0/8 5 Discard",
+        "add 10.0.0.0/8 5 discards",
+    ],
+    "E8": ["x" * 129, "#" * 129, "x" * 1_000_000],
+}
+
+# What standard error says of each fault.
+FAULT_TEXTS = [
+    ("frob", "E1: the first field is no command of this version"),
+    ("dump x", "E2: the command takes another number of fields"),
+    ("lookup 10.0.0", "E3: the field is no prefix or address (the CR of CRLF is part of it)"),
+    ("withdraw 10.0.0.0/33", "E4: the prefix's length is over 32"),
+    ("withdraw 10.0.0.1/8", "E5: a bit past the prefix's length is set"),
+    ("add 10.0.0.0/8 x 192.0.2.1", "E6: the preference is no decimal from 0 to 4294967295"),
+    ("add 10.0.0.0/8 1 x", "E7: the next hop is neither an address nor, in version 2, `discard` (the CR of CRLF is part of it)"),
+    ("x" * 129, "E8: the line has over 128 bytes"),
+    ("withdraw 10.0.0.0/8\r", "E3: the field is no prefix or address (the CR of CRLF is part of it)"),
+    ("add 10.0.0.0/8 1 192.0.2.1\r", "E7: the next hop is neither an address nor, in version 2, `discard` (the CR of CRLF is part of it)"),
+]
+
+
+# Fails where a space at the end is let through.
+# Fails where F3 is returned for a line of 129 bytes.
+# Fails where a fault has another text, E8 that tells of 127 bytes say.
+def faulty_lines(yarib):
+    for faults, lines in FAULTY.items():
+        for line in lines:
+            for first, fault in (("#", faults.split()[0]), ("version 2", faults.split()[-1])):
+                ended = run_texts(yarib, [f"{first}\n{line}"])
+                compare(f"{line[:130]!r} behind {first!r}", ended, 2, f"1:2 fault {fault}\ntable 0\n")
+    for line, told in FAULT_TEXTS:
+        pathlib.Path("faulty.feed").write_text(line)
+        expect(f"what is told of {line!r}", run([yarib, "table", "faulty.feed"]), (2, "", f"yarib: faulty.feed: faulty lines: 1, the first is line 1: {told}\n"))
+
+
+# Fails where F3 is returned for a text of one byte.
+# Fails where a line that begins with NUL is skipped.
+def texts_of_one_byte(yarib):
+    for byte in range(256):
+        status, answer = (0, "") if bytes([byte]) in b"#\n" else (2, "1:1 fault E1\n")
+        compare(f"the byte {byte}", run_texts(yarib, [bytes([byte])]), status, answer + table([]))
+
+
+# Texts of addresses: those that are one, lines that say nothing, and lines that are none.
+ADDRESSES = ["0.0.0.0", "192.0.2.1", "127.255.255.255", "255.255.255.255"]
+SKIPPED = ["", "#", "# 192.0.2.1", "#" * 128]
+NO_ADDRESS = [
+    " ", " 192.0.2.1", "192.0.2.1 ", "192.0.2.1\r", "192.0.2.1 # note", "lookup 192.0.2.1", "10.0.0.0/8", "256.0.0.0", "version 2",
+    "1" * 128,
+]
+
+
+# Fails where a carriage return after an address is swallowed.
+def addresses(yarib):
+    pathlib.Path("each.feed").write_text("".join(f"add {address}/32 1 192.0.2.1\n" for address in ["1.2.3.4", *ADDRESSES]))
+    found = lambda address: f"{address} route {address}/32 feed 1 pref 1 via 192.0.2.1\n"
+
+    def asked(lines):
+        pathlib.Path("asked.txt").write_bytes("\n".join(lines).encode())
+        return run([yarib, "lookup", "--addresses", "asked.txt", "each.feed"])
+
+    for line in ADDRESSES:
+        expect(f"the address {line}", asked([line, "1.2.3.4"]), (0, found(line) + found("1.2.3.4"), ""))
+    for line in SKIPPED:
+        expect(f"{line!r}, which is skipped", asked([line, "1.2.3.4"]), (0, found("1.2.3.4"), ""))
+    for line in [*NO_ADDRESS, "#" * 129, "1" * 129]:
+        fault = "E8: the line has over 128 bytes" if len(line) > 128 else "E3: the field is no prefix or address (the CR of CRLF is part of it)"
+        told = f"yarib: asked.txt: faulty lines: 1, the first is line 1: {fault}\n"
+        expect(f"{line!r}, which is no address", asked([line, "1.2.3.4"]), (2, found("1.2.3.4"), told))
+
+
+# Answers of look-ups
+
+# What each feed offers, in the order of the feeds; feed 64 is the last.
+OFFERS = {
+    1: "add 10.1.0.0/16 70 192.0.2.4\nadd 10.0.0.0/8 5 192.0.2.1\nadd 0.0.0.0/0 0 192.0.2.3\n",
+    2: "add 10.0.0.0/8 5 192.0.2.1\n",
+    64: "version 2\nadd 10.0.0.0/8 4294967295 discard\nadd 128.0.0.0/1 0 discard\n",
+}
+
+FOUND = """10.1.2.3 route 10.1.0.0/16 feed 1 pref 70 via 192.0.2.4
+10.255.255.255 route 10.0.0.0/8 feed 1 pref 5 via 192.0.2.1
+11.0.0.0 route 0.0.0.0/0 feed 1 pref 0 via 192.0.2.3
+255.255.255.255 route 128.0.0.0/1 feed 64 pref 0 via discard
+"""
+
+ALL_FOUND = """10.1.2.3 route 10.1.0.0/16 feed 1 pref 70 via 192.0.2.4
+10.1.2.3 also 10.0.0.0/8 feed 1 pref 5 via 192.0.2.1 shorter
+10.1.2.3 also 10.0.0.0/8 feed 2 pref 5 via 192.0.2.1 shorter
+10.1.2.3 also 10.0.0.0/8 feed 64 pref 4294967295 via discard shorter
+10.1.2.3 also 0.0.0.0/0 feed 1 pref 0 via 192.0.2.3 shorter
+10.255.255.255 route 10.0.0.0/8 feed 1 pref 5 via 192.0.2.1
+10.255.255.255 also 10.0.0.0/8 feed 2 pref 5 via 192.0.2.1 feed
+10.255.255.255 also 10.0.0.0/8 feed 64 pref 4294967295 via discard preference
+10.255.255.255 also 0.0.0.0/0 feed 1 pref 0 via 192.0.2.3 shorter
+11.0.0.0 route 0.0.0.0/0 feed 1 pref 0 via 192.0.2.3
+255.255.255.255 route 128.0.0.0/1 feed 64 pref 0 via discard
+255.255.255.255 also 0.0.0.0/0 feed 1 pref 0 via 192.0.2.3 shorter
+"""
+
+ALL_ROWS = """0.0.0.0/0 feed 1 pref 0 via 192.0.2.3
+10.0.0.0/8 feed 1 pref 5 via 192.0.2.1
+10.0.0.0/8 feed 2 pref 5 via 192.0.2.1
+10.0.0.0/8 feed 64 pref 4294967295 via discard
+10.1.0.0/16 feed 1 pref 70 via 192.0.2.4
+128.0.0.0/1 feed 64 pref 0 via discard
+"""
+
+
+# Fails where `write_found`, `write_all_found` or `write_rows` gives up at once.
+def answers_of_lookups(yarib):
+    names = [f"offers{feed}.feed" for feed in range(1, 65)]
+    for feed, name in enumerate(names, 1):
+        pathlib.Path(name).write_text(OFFERS.get(feed, ""))
+    words = [word for line in FOUND.splitlines() for word in ("--address", line.split()[0])]
+    for command, out in ((["lookup", *words], FOUND), (["lookup", "--all", *words], ALL_FOUND), (["table"], ALL_ROWS)):
+        compare(f"{command}", run([yarib, *command, *names]), 0, out)
+    empty = run([yarib, "lookup", "--all", "--address", "11.0.0.0", names[1]])
+    compare("an address that no prefix covers", empty, 0, "11.0.0.0 no route\n")
+    compare("the rows of an empty table", run([yarib, "table", names[2]]), 0, "")
+
+
+# Hostile lines
+
+TAKES = {b"add": 3, b"replace": 3, b"withdraw": 1, b"lookup": 1, b"dump": 0}
+
+
+def reading(line, version):
+    """What the line says: a command's name and fields as they are printed, nothing, or the number of its fault."""
+    if len(line) > 128:
+        return 8
+    if line[:1] in (b"", b"#"):
+        return None
+    name, *fields = line.split(b" ")
+    takes = TAKES | {b"purge": 0} if version == 2 else TAKES
+    if name not in takes:
+        return 1
+    if len(fields) != takes[name]:
+        return 2
+    faults = [fault(field, version) for fault, field in zip(FIELD_FAULTS[name], fields)]
+    return next(filter(None, faults), None) or tuple(part.decode() for part in (name, *fields))
+
+
+def decimal(text):
+    """The number of a decimal without leading zeros; none where it is another text."""
+    return int(text) if re.fullmatch(rb"0|[1-9][0-9]*", text) else None
+
+
+def address(text):
+    octets = [decimal(part) for part in text.split(b".")]
+    is_address = len(octets) == 4 and all(octet is not None and octet < 256 for octet in octets)
+    return int.from_bytes(octets, "big") if is_address else None
+
+
+def prefix_fault(text, _version):
+    base, *lengths = text.split(b"/")
+    base, length = address(base), decimal(lengths[0]) if len(lengths) == 1 else None
+    if base is None or length is None:
+        return 3
+    return 4 if length > 32 else 5 if base % 2 ** (32 - length) else None
+
+
+def address_fault(text, _version):
+    return 3 if address(text) is None else None
+
+
+def preference_fault(text, _version):
+    pref = decimal(text)
+    return 6 if pref is None or pref >= 2**32 else None
+
+
+def hop_fault(text, version):
+    return 7 if address(text) is None and (version == 1 or text != b"discard") else None
+
+
+OFFER_FAULTS = (prefix_fault, preference_fault, hop_fault)
+FIELD_FAULTS = {
+    b"add": OFFER_FAULTS, b"replace": OFFER_FAULTS, b"withdraw": (prefix_fault,), b"lookup": (address_fault,), b"dump": (), b"purge": (),
+}
+
+
+def around(said):
+    """The command's answer in an empty table that the lines before have filled, and lines behind it that tell what it has left and
+    empty the table again."""
+    name, *fields = said
+    if name in ("add", "replace"):
+        prefix, pref, hop = fields
+        shown = f"route {prefix} feed 1 pref {pref} via {hop}"
+        before = [(f"add {prefix} 7 203.0.113.7", "added")] if name == "replace" else []
+        return before, "added" if name == "add" else "replaced", [(f"lookup {prefix.split('/')[0]}", shown), (f"withdraw {prefix}", "withdrawn")]
+    if name == "withdraw":
+        return [(f"add {fields[0]} 7 203.0.113.7", "added")], "withdrawn", [("dump", "dumped 0")]
+    if name == "lookup":
+        host, rest = f"{fields[0]}/32", "0.0.0.0/0"
+        before = [(f"add {prefix} 7 203.0.113.7", "added") for prefix in (rest, host)]
+        return before, f"route {host} feed 1 pref 7 via 203.0.113.7", [(f"withdraw {prefix}", "withdrawn") for prefix in (rest, host)]
+    before = [("add 10.0.0.0/8 7 203.0.113.7", "added")]
+    return (before, "purged 1", [("dump", "dumped 0")]) if name == "purge" else (before, "dumped 1", [("withdraw 10.0.0.0/8", "withdrawn")])
+
+
+def compare_lines(yarib, what, hostile):
+    """Compares the program's answers to these lines with the plain reader's, in a text of each version that ends in the last."""
+    for version in (1, 2):
+        said = [(line, reading(line, version)) for text in hostile for line in text.split(b"\n")]
+        lines = [(b"version 2" if version == 2 else b"#", None)]
+        for line, what_said in said:
+            before, answer, behind = [], what_said and f"fault E{what_said}", []
+            if isinstance(what_said, tuple):
+                before, answer, behind = around(what_said)
+            lines += [(text.encode(), told) for text, told in before] + [(line, answer)] + [(text.encode(), told) for text, told in behind]
+        status = 2 if any(isinstance(what_said, int) for _, what_said in said) else 0
+        ended = run_texts(yarib, [b"\n".join(line for line, _ in lines)])
+        compare(f"{what} in version {version}", ended, status, report(1, [answer for _, answer in lines]) + table([]))
+
+
+# Lines that are commands in version 2.
+COMMANDS = [
+    b"add 10.0.0.0/8 100 192.0.2.1", b"add 0.0.0.0/0 0 0.0.0.0", b"add 255.255.255.255/32 4294967295 255.255.255.255",
+    b"add 172.16.0.0/12 5 discard", b"replace 10.128.0.0/9 42 198.51.100.7", b"replace 192.0.2.128/25 1 discard",
+    b"withdraw 10.0.0.0/8", b"withdraw 203.0.113.9/32", b"lookup 10.1.2.3", b"lookup 255.0.255.0", b"dump", b"purge",
+]
+
+
+# Fails where NUL ends a field as a space does.
+# Fails where a carriage return at the end is swallowed.
+# Fails where `:` is a digit, one past `9`.
+# Fails where the length 33 is taken as 32.
+def every_byte_at_every_place(yarib):
+    for command in COMMANDS:
+        changed = [command[:at] + bytes([byte]) + command[at + 1 :] for at in range(len(command)) for byte in range(256)]
+        compare_lines(yarib, f"every byte at every place of {command}", changed)
+
+
+# Fails where two spaces are taken as one.
+# Fails where a leading zero is let through.
+# Fails where from 2^32 on a preference wraps to 0.
+def a_byte_more_or_less_at_every_place(yarib):
+    lines = list(COMMANDS)
+    for command in COMMANDS:
+        for at in range(len(command)):
+            before, behind = command[:at], command[at:]
+            more = [before + byte + behind for byte in (b" ", b"0", b"1", b".", b"/", b"\r", behind[:1])]
+            lines += [before, behind, before + behind[1:], *more]
+    compare_lines(yarib, "a byte more or less", lines)
+
+
+# Beginnings of lines that more bytes are put behind.
+FRONTS = [b"#", b"", b"dump ", b"add ", b"lookup ", b"withdraw 10.0.0.0/", b"add 10.0.0.0/8 ", b"add 10.0.0.0/8 1 "]
+
+
+# Fails where 129 bytes are read.
+def lines_about_128_bytes(yarib):
+    lines = [front + bytes([filling]) * count for front in FRONTS for filling in b"10 x\0" for count in range(131)]
+    compare_lines(yarib, "lines about 128 bytes", lines)
+
+
+NAMES = [b"add", b"replace", b"withdraw", b"lookup", b"dump", b"purge", b"Add", b"adds", b"ad", b"", b"#", b"version"]
+
+# Fields that are near to what they are to be, or far.
+FIELDS = [
+    b"10.0.0.0/8", b"10.0.0.1/8", b"10.0.0.0/32", b"10.0.0.0/33", b"10.0.0.1/33", b"10.0.0.0/31", b"10.0.0.0/08", b"10.0.0.0/00",
+    b"0.0.0.0/0", b"128.0.0.0/0", b"0.0.0.1/31", b"0.0.0.1/32", b"10.0.0.0/4294967304", b"10.0.0.0/18446744073709551624", b"10.0.0.0/",
+    b"/8", b"10.0.0.0//8", b"10.0.0/8", b"10.0.0.0.0/8", b"256.0.0.0/8", b"010.0.0.0/8", b"+10.0.0.0/8", b"10.0.0.0/-1",
+    b"4294967306.0.0.0/8", b"192.0.2.1", b"192.0.2.256", b"192.0.2", b"192.0.2.1.", b".192.0.2.1", b"192..0.2", b"192.0.2.01", b"0.0.0.0",
+    b"255.255.255.255", b"0", b"00", b"1", b"01", b"-1", b"4294967295", b"4294967296", b"4294967297", b"18446744073709551616", b"1e3",
+    b"discard", b"Discard", b"2", b"", b"\0\xff",
+]
+
+ENDS = [b"", b"", b"", b"", b" ", b"\r", b"\0", b"\x80"]
+
+
+# Fails where a last line without LF is dropped.
+# Fails where a number wraps at 2^64.
+def forty_thousand_hostile_lines(yarib):
+    for seed in range(1, 41):
+        choice = random.Random(seed)
+        fields = lambda: b"".join(b" " + choice.choice(FIELDS) for _ in range(choice.randrange(5)))
+        lines = [choice.choice(NAMES) + fields() + choice.choice(ENDS) for _ in range(1000)]
+        compare_lines(yarib, f"hostile lines of seed {seed}", [*lines, b"frob"])
+
+
+# Several feeds
+
+# Texts of feeds whose output is the same for every interleaving, their answers, and the table's rows.
+FEEDS = [
+    (
+        ["add 10.0.0.0/8 5 192.0.2.1\n", "add 10.0.0.0/8 5 192.0.2.2\n"],
+        [["added"], ["added"]],
+        ["10.0.0.0/8 feed 1 pref 5 via 192.0.2.1", "10.0.0.0/8 feed 2 pref 5 via 192.0.2.2"],
+    ),
+    (
+        ["add 10.0.0.0/8 7 192.0.2.1\n", "add 10.0.0.0/8 5 192.0.2.2\n"],
+        [["added"], ["added"]],
+        ["10.0.0.0/8 feed 2 pref 5 via 192.0.2.2", "10.0.0.0/8 feed 1 pref 7 via 192.0.2.1"],
+    ),
+    (
+        ["version 2\nadd 10.0.0.0/8 1 192.0.2.1\npurge\n", "add 10.0.0.0/8 2 192.0.2.2\npurge\n"],
+        [[None, "added", "purged 1"], ["added", "fault E1"]],
+        ["10.0.0.0/8 feed 2 pref 2 via 192.0.2.2"],
+    ),
+]
+
+
+# Fails where `run_feed` always returns M3, or `run_feeds` F3.
+# Fails where F3 is returned for two feeds in batches of 2.
+def feeds_meet_in_one_table(yarib):
+    for texts, answers, rows in FEEDS:
+        wanted = report(1, answers[0]) + report(2, answers[1]) + table(rows)
+        for batch in (1, 2, 1024):
+            ended = run_texts(yarib, texts, ["--batch", str(batch)])
+            compare(f"{texts} in batches of {batch}", ended, 2 if "fault" in wanted else 0, wanted)
+
+
+# Fails where F3 is returned for 17 feeds.
+def a_place_for_each_of_64_feeds(yarib):
+    # The least and the greatest number of feeds of each height of the lock's tree.
+    for count in (1, 2, 3, 4, 5, 8, 9, 16, 17, 32, 33, 64):
+        feeds = range(1, count + 1)
+        rows = [f"10.0.0.0/8 feed {feed} pref 5 via 192.0.2.{feed}" for feed in feeds]
+        ended = run_texts(yarib, [f"add 10.0.0.0/8 5 192.0.2.{feed}\n" for feed in feeds])
+        compare(f"{count} feeds", ended, 0, "".join(report(feed, ["added"]) for feed in feeds) + table(rows))
+
+
+# Fails where `SharedRib::new` refuses a limit over 65,536, or at some number of levels, that of 16 feeds say.
+def tables_of_each_size(yarib):
+    for feeds, limit in ((2, 1), (4, 65_536), (8, 65_537), (16, 100_000), (32, 999_999), (64, 1_000_000)):
+        ended = run_texts(yarib, [""] * feeds, ["--limit", str(limit)])
+        compare(f"{feeds} feeds of {limit} routes", ended, 0, table([]))
+
+
+def a_thousand_routes_of_two_feeds(yarib):
+    """Two feeds add 500 routes each at the same time; each finds its own, and the table has all."""
+    prefixes = {feed: [f"{feed}.{at >> 8}.{at & 255}.0/24" for at in range(500)] for feed in (1, 2)}
+    lines = lambda feed: (f"add {prefix} {at} 192.0.2.1\nlookup {prefix.removesuffix('/24')}\n" for at, prefix in enumerate(prefixes[feed]))
+    rows = {feed: [f"{prefix} feed {feed} pref {at} via 192.0.2.1" for at, prefix in enumerate(prefixes[feed])] for feed in (1, 2)}
+    reports = [report(feed, [answer for row in rows[feed] for answer in ("added", f"route {row}")]) for feed in (1, 2)]
+    for batch in (1, 3, 7, 256):
+        ended = run_texts(yarib, ["".join(lines(1)), "".join(lines(2))], ["--limit", "500", "--batch", str(batch)])
+        compare(f"a thousand routes in batches of {batch}", ended, 0, "".join(reports) + table(rows[1] + rows[2]))
+
+
+# Fails where `run_texts` bypasses `run_feeds` and runs one feed after another.
+def feeds_run_at_the_same_time(yarib):
+    """A route comes and goes 10,000 times, and some dump of another feed meets it."""
+    texts = ["add 10.0.0.0/8 1 192.0.2.1\nwithdraw 10.0.0.0/8\n" * 10_000, "dump\n" * 20_000]
+    expect("no dump of feed 2 met the route of feed 1", any(" dumped 1\n" in run_texts(yarib, texts, ["--batch", "1"])[1] for _ in range(100)), True)
+
+
+# Runs of random texts, each explained by some order of its feeds' visits; and outputs that no order explains
+
+# Few prefixes, so that feeds meet, and addresses that they cover.
+PREFIXES = ["0.0.0.0/0", "10.0.0.0/8", "10.1.0.0/16", "10.1.2.0/24", "10.1.2.3/32"]
+LOOKED_UP = ["10.1.2.3", "10.1.2.4", "10.9.9.9", "192.0.2.1"]
+HOPS = ["192.0.2.1", "192.0.2.2"]
+
+
+def random_line(choice):
+    prefix, offer = choice.choice(PREFIXES), f"{choice.randrange(3)} {choice.choice(HOPS)}"
+    kinds = {
+        f"add {prefix} {offer}": 5, f"replace {prefix} {offer}": 2, f"withdraw {prefix}": 3, f"lookup {choice.choice(LOOKED_UP)}": 3,
+        "dump": 1, "purge": 1, "# nothing\n\nfrob": 1,
+    }
+    return choice.choices(list(kinds), list(kinds.values()))[0] + "\n"
+
+
+class Drawn(NamedTuple):
+    """Random texts, and how a run of them is to be made."""
+
+    texts: list
+    limit: int
+    batch: int
+
+    def run(self, yarib):
+        """What a run of the texts writes."""
+        status, out, _ = run_texts(yarib, self.texts, ["--limit", str(self.limit), "--batch", str(self.batch)])
+        expect("the status of random texts", status in (0, 2), True)
+        return out
+
+    def explains(self, output, batch):
+        """Whether some order of the texts' visits explains the output, where each asks so many commands at once."""
+        return judge.explains([judge.read(text) for text in self.texts], self.limit, batch, output)
+
+
+# How many comments a text has, about: so many that a feed is not done before the others have begun.
+PAUSES = 200_000
+
+
+def draw(seed, feeds, lines, pauses=PAUSES):
+    """Random texts of so many lines, and about so many comments between them."""
+    choice = random.Random(seed)
+    pause = lambda: "#\n" * choice.randrange(2 * pauses // lines)
+    text = lambda: choice.choice(("", "version 2\n")) + "".join(pause() + random_line(choice) for _ in range(lines))
+    return Drawn([text() for _ in range(feeds)], choice.choice((2, 65_536, 65_536)), choice.randrange(1, 5))
+
+
+# On one processor the feeds may as well run one after another.
+# Fails where a look-up answers the last offer of the longest prefix, not the best.
+def some_order_explains_each_run(yarib):
+    """Judges up to 100 runs of each number of feeds, on a busy machine as many as begin in four seconds, and counts those that no
+    order of whole feeds explains."""
+    runs, interleaved = 0, 0
+    for feeds, lines in ((2, 100), (3, 60), (4, 20), (5, 10), (6, 7)):
+        start = time.monotonic()
+        for seed in range(1, 101):
+            if time.monotonic() - start > 4:
+                break
+            drawn = draw(seed, feeds, lines)
+            output = drawn.run(yarib)
+            expect(f"{feeds} feeds of seed {seed}", drawn.explains(output, drawn.batch), True)
+            runs, interleaved = runs + 1, interleaved + (not drawn.explains(output, sys.maxsize))
+    is_enough = runs >= 5 and (len(os.sched_getaffinity(0)) == 1 or interleaved >= runs // 10)
+    expect(f"{interleaved} of {runs} runs interleaved", is_enough, True)
+
+
+def with_answers(output, answers):
+    """The output with these answers on the lines that begin so."""
+    lines = [line.split(" ", 1) for line in output.splitlines()]
+    return "".join(f"{heading} {answers.get(heading, rest)}\n" for heading, rest in lines)
+
+
+def losing_a_withdrawal(yarib, drawn):
+    """An output of the texts into which a lost withdrawal was put, if they have one: it is answered, and the route stays."""
+    lost = re.search(r"^((\d+):(\d+)) withdrawn$", drawn.run(yarib), re.M)
+    if lost is None:
+        return None
+    lines = drawn.texts[int(lost[2]) - 1].split("\n")
+    lines[int(lost[3]) - 1] = "dump"
+    texts = [*drawn.texts]
+    texts[int(lost[2]) - 1] = "\n".join(lines)
+    return with_answers(drawn._replace(texts=texts).run(yarib), {lost[1]: "withdrawn"})
+
+
+def swapping_replies(yarib, drawn):
+    """An output of the texts with two replies to one feed swapped that speak of its own routes alone, if it has two that differ."""
+    output = drawn.run(yarib)
+    own = re.findall(r"^((\d+):\d+) (added|exists|full|replaced|withdrawn|missing)$", output, re.M)
+    for heading, feed, said in own:
+        for other, its_feed, other_said in own:
+            if feed == its_feed and said != other_said:
+                return with_answers(output, {heading: other_said, other: said})
+    return None
+
+
+# Fails where the judge finds an order for whatever was written.
+def no_order_explains_what_was_changed(yarib):
+    for change, least in ((losing_a_withdrawal, 20), (swapping_replies, 50)):
+        changed = 0
+        for seed in range(1, 101):
+            drawn = draw(seed, 3, 9, pauses=9_000)
+            output = change(yarib, drawn)
+            if output is not None:
+                changed += 1
+                expect(f"{change.__name__}, seed {seed}", drawn.explains(output, drawn.batch), False)
+        expect(f"{changed} times {change.__name__}", changed >= least, True)
+
+
+COMES_AND_GOES = ["add 10.0.0.0/8 1 192.0.2.1\nwithdraw 10.0.0.0/8\n", "dump\n"]
+ASKED_TWICE = ["add 10.0.0.0/8 1 192.0.2.1\n", "lookup 10.1.2.3\nlookup 10.1.2.3\n"]
+EACH_OTHER = ["lookup 10.0.0.1\nadd 11.0.0.0/8 1 192.0.2.1\n", "lookup 11.0.0.1\nadd 10.0.0.0/8 2 192.0.2.2\n"]
+TEN, ELEVEN = "10.0.0.0/8 feed 1 pref 1 via 192.0.2.1", "11.0.0.0/8 feed 1 pref 1 via 192.0.2.1"
+OTHER_TEN = "10.0.0.0/8 feed 2 pref 2 via 192.0.2.2"
+
+# Texts, how many commands are asked at once, an output in lines, and whether some order of the texts' visits explains it.
+JUDGED = [
+    (COMES_AND_GOES, 1, ["1:1 added", "1:2 withdrawn", "2:1 dumped 0", "table 0"], True),
+    (COMES_AND_GOES, 1, ["1:1 added", "1:2 withdrawn", "2:1 dumped 1", "table 0"], True),
+    # A dump that cuts a batch, a lost withdrawal, swapped replies, and more routes than there ever were.
+    (COMES_AND_GOES, 2, ["1:1 added", "1:2 withdrawn", "2:1 dumped 1", "table 0"], False),
+    (COMES_AND_GOES, 1, ["1:1 added", "1:2 withdrawn", "2:1 dumped 1", "table 1", TEN], False),
+    (COMES_AND_GOES, 1, ["1:1 withdrawn", "1:2 added", "2:1 dumped 0", "table 0"], False),
+    (COMES_AND_GOES, 1, ["1:1 added", "1:2 withdrawn", "2:1 dumped 2", "table 0"], False),
+    # A missing line, a line of another feed, a table with another count, and more behind the table.
+    (COMES_AND_GOES, 1, ["1:1 added", "2:1 dumped 0", "table 0"], False),
+    (COMES_AND_GOES, 1, ["1:1 added", "2:2 withdrawn", "2:1 dumped 0", "table 0"], False),
+    (COMES_AND_GOES, 1, ["1:1 added", "1:2 withdrawn", "2:1 dumped 0", "table 1"], False),
+    (COMES_AND_GOES, 1, ["1:1 added", "1:2 withdrawn", "2:1 dumped 0", "table 0", "table 0"], False),
+    (ASKED_TWICE, 1, ["1:1 added", "2:1 no route", f"2:2 route {TEN}", "table 1", TEN], True),
+    # An add that cuts a batch, and swapped look-ups.
+    (ASKED_TWICE, 2, ["1:1 added", "2:1 no route", f"2:2 route {TEN}", "table 1", TEN], False),
+    (ASKED_TWICE, 1, ["1:1 added", f"2:1 route {TEN}", "2:2 no route", "table 1", TEN], False),
+    (EACH_OTHER, 1, [f"1:1 route {OTHER_TEN}", "1:2 added", "2:1 no route", "2:2 added", "table 2", OTHER_TEN, ELEVEN], True),
+    # Each found what the other added only later, and a table out of order.
+    (EACH_OTHER, 1, [f"1:1 route {OTHER_TEN}", "1:2 added", f"2:1 route {ELEVEN}", "2:2 added", "table 2", OTHER_TEN, ELEVEN], False),
+    (EACH_OTHER, 1, [f"1:1 route {OTHER_TEN}", "1:2 added", "2:1 no route", "2:2 added", "table 2", ELEVEN, OTHER_TEN], False),
+]
+
+
+# Fails where the judge finds an order for whatever was written.
+def the_judge_tells_what_an_order_explains(_yarib):
+    for texts, batch, lines, explained in JUDGED:
+        output = "".join(line + "\n" for line in lines)
+        expect(f"an order of {lines}", Drawn(texts, 65_536, batch).explains(output, batch), explained)
+
+
+# Replays: levels, picks, and what is written.
+
+REPLAYS = [
+    (
+        "one place alone",
+        1,
+        "0 0 0 0",
+        """1 p0 C1.0.0 := 1
+2 p0 T1.0 := 1
+3 p0 P1.0 := 0
+4 p0 C1.0.1 = 0 inside
+inside p0
+""",
+    ),
+    (
+        "the handshake",
+        1,
+        "0 1 0 1 0 1 0 1 0 1 1 1 1",
+        """1 p0 C1.0.0 := 1
+2 p1 C1.0.1 := 2
+3 p0 T1.0 := 1
+4 p1 T1.0 := 2
+5 p0 P1.0 := 0
+6 p1 P1.1 := 0
+7 p0 C1.0.1 = 2
+8 p1 C1.0.0 = 1
+9 p0 T1.0 = 2 inside
+10 p1 T1.0 = 2
+11 p1 P1.0 = 0
+12 p1 P1.0 := 1
+13 p1 P1.1 = 0
+inside p0
+""",
+    ),
+    (
+        "the late release",
+        1,
+        "0 0 0 0 1 1 0 0 1 1 1 1 1 1 1 0 0 1 1 1 1 1 1 1 0 0 0 0 0 0",
+        """1 p0 C1.0.0 := 1
+2 p0 T1.0 := 1
+3 p0 P1.0 := 0
+4 p0 C1.0.1 = 0 inside
+5 p1 C1.0.1 := 2
+6 p1 T1.0 := 2
+7 p0 C1.0.0 := 0
+8 p0 T1.0 = 2
+9 p1 P1.1 := 0
+10 p1 C1.0.0 = 0 inside
+11 p1 C1.0.1 := 0
+12 p1 T1.0 = 2 out
+13 p1 C1.0.1 := 2
+14 p1 T1.0 := 2
+15 p1 P1.1 := 0
+16 p0 P1.1 := 2 out
+17 p0 C1.0.0 := 1
+18 p1 C1.0.0 = 1
+19 p1 T1.0 = 2
+20 p1 P1.0 = 0
+21 p1 P1.0 := 1
+22 p1 P1.1 = 2
+23 p1 T1.0 = 2
+24 p1 P1.1 = 2 inside
+25 p0 T1.0 := 1
+26 p0 P1.0 := 0
+27 p0 C1.0.1 = 2
+28 p0 T1.0 = 1
+29 p0 P1.1 = 2
+30 p0 P1.0 = 0
+inside p1
+""",
+    ),
+    (
+        "the order over levels",
+        2,
+        "3 3 3 3 3 3 3 3 3 3 3 3",
+        """1 p3 C1.1.1 := 4
+2 p3 T1.1 := 4
+3 p3 P1.3 := 0
+4 p3 C1.1.0 = 0
+5 p3 C2.0.1 := 4
+6 p3 T2.0 := 4
+7 p3 P2.3 := 0
+8 p3 C2.0.0 = 0 inside
+9 p3 C2.0.1 := 0
+10 p3 T2.0 = 4
+11 p3 C1.1.1 := 0
+12 p3 T1.1 = 4 out
+inside none
+""",
+    ),
+    (
+        "a release at the root",
+        2,
+        "0 0 0 0 0 0 0 0 2 2 2 2 2 2 2 2 2 2 2 2 0 0 0 0 0 2 2 2",
+        """1 p0 C1.0.0 := 1
+2 p0 T1.0 := 1
+3 p0 P1.0 := 0
+4 p0 C1.0.1 = 0
+5 p0 C2.0.0 := 1
+6 p0 T2.0 := 1
+7 p0 P2.0 := 0
+8 p0 C2.0.1 = 0 inside
+9 p2 C1.1.0 := 3
+10 p2 T1.1 := 3
+11 p2 P1.2 := 0
+12 p2 C1.1.1 = 0
+13 p2 C2.0.1 := 3
+14 p2 T2.0 := 3
+15 p2 P2.2 := 0
+16 p2 C2.0.0 = 1
+17 p2 T2.0 = 3
+18 p2 P2.0 = 0
+19 p2 P2.0 := 1
+20 p2 P2.2 = 0
+21 p0 C2.0.0 := 0
+22 p0 T2.0 = 3
+23 p0 P2.2 := 2
+24 p0 C1.0.0 := 0
+25 p0 T1.0 = 1 out
+26 p2 P2.2 = 2
+27 p2 T2.0 = 3
+28 p2 P2.2 = 2 inside
+inside p2
+""",
+    ),
+    (
+        "no pick",
+        1,
+        "",
+        """inside none
+""",
+    ),
+]
+
+# Levels and picks that are refused, and how. Faulty levels are told before a pick that is no place.
+REFUSED = [(1, "0 1 2", "P1"), (0, "200", "P2"), (7, "200", "P2")]
+
+
+# Fails where `replay` always returns want of memory, or `replay_text` P3 or `Write`, if only where nothing is picked.
+def replays(yarib):
+    replayed = lambda levels, picks: run([yarib, "replay", "--levels", str(levels), *picks.split()])
+    for name, levels, picks, text in REPLAYS:
+        compare(name, replayed(levels, picks), 0, text)
+    for levels, picks, fault in REFUSED:
+        expect(f"{levels} levels, {picks}", replayed(levels, picks), (3, "", f"yarib: fault {fault}\n"))
+
+
+def main():
+    yarib = built(sys.argv[1:])
+    with tempfile.TemporaryDirectory() as folder:
+        os.chdir(folder)
+        run_each((
+            worked_runs, every_batch_size, hundreds_of_thousands_of_lines, versions, texts_are_cut_into_lines, faulty_lines,
+            texts_of_one_byte, addresses, answers_of_lookups,
+            every_byte_at_every_place, a_byte_more_or_less_at_every_place, lines_about_128_bytes, forty_thousand_hostile_lines,
+            feeds_meet_in_one_table, a_place_for_each_of_64_feeds, tables_of_each_size,
+            a_thousand_routes_of_two_feeds, feeds_run_at_the_same_time, some_order_explains_each_run,
+            no_order_explains_what_was_changed, the_judge_tells_what_an_order_explains, replays,
+        ), yarib)
+        os.chdir("/")
+    end()
+
+
+if __name__ == "__main__":
+    main()

@@ -1,0 +1,357 @@
+"""Definitions of specs/, the examples that test them, and copies of both, by which one check tries many changes of definitions.
+
+tools/hollow makes such changes by itself, and tools/definitions tries those that a crate lists. For each change three things are
+copied into files of a crate above the crates of examples: the changed definition, examples that name it, and what lies between."""
+import collections
+import importlib.machinery
+import importlib.util
+import os
+import pathlib
+import re
+import shutil
+import subprocess
+import sys
+
+sys.dont_write_bytecode = True
+loader = importlib.machinery.SourceFileLoader("statement", str(pathlib.Path(__file__).resolve().parent / "statement"))
+statement = importlib.util.module_from_spec(importlib.util.spec_from_loader("statement", loader))
+loader.exec_module(statement)
+TOP, CRATES = statement.TOP, statement.CRATES
+
+DECLARED = re.compile(r" *(?:(?:pub|abbrev|unfoldable|record|data) )*([^\s:(){}\[\],;]+)")
+WORD = re.compile(r"(?<![\w.'])[^\W\d][\w']*(?:-[\w']+)*")
+USE = re.compile(r"(?:pub )?use ([\w.«»'-]+?)(?:\.\{([^}]*)\})?(?: as (\w+))?$")
+ERROR = re.compile(r"^(?:note: )?\S*\bproofs/((H\d+_)\w+)\.antt: ?(\d+):\d+: (?!warning: )", re.M)
+
+
+# -- files and what is declared in them
+
+class Block:
+    """A declaration of a file, or a whole `module _` with all that it declares: its lines and their numbers, its names, and the name
+    in the comment line above it, if that is one name alone."""
+
+    def __init__(self, file, heading):
+        self.file, self.heading = file, heading
+        self.lines, self.numbers = [], []
+
+    def add(self, number, line):
+        self.numbers.append(number)
+        self.lines.append(line)
+
+    def is_section(self):
+        return self.lines[0].startswith("module ")
+
+    def is_example(self):
+        return not re.match(r"(pub )?(abbrev|module|record|data|unfoldable)\b", self.lines[0])
+
+    def text(self):
+        return "\n".join(self.lines)
+
+    def words(self):
+        return set(WORD.findall(uncommented(self.text())))
+
+    def first_name(self):
+        return declared_name(self.lines[0])
+
+
+class Definition:
+    """A definition of a block: its name, and from which of the block's lines to which."""
+
+    def __init__(self, block, start, end):
+        self.block, self.start, self.end = block, start, end
+        self.lines = block.lines[start:end]
+        self.name = declared_name(self.lines[0])
+        self.names = {self.name}
+        if re.match(r" *(pub )?data ", self.lines[0]):
+            self.names |= {match[1] for line in self.lines[1:] if (match := re.match(r"\s+(\S+) :", line))}
+
+    def said(self):
+        return f"{self.block.file.path.relative_to(TOP)}: {self.name}"
+
+
+def uncommented(text):
+    return re.sub(r"(?m)(?:^|(?<=\s))--.*$", "", text)
+
+
+def declared_name(line):
+    found = DECLARED.match(line)
+    return found[1] if found else None
+
+
+def definitions_in(block):
+    """The definitions of a block: one, or those of a `module _` and of the ones within it."""
+    if not block.is_section():
+        return [Definition(block, 0, len(block.lines))]
+    found, start = [], None
+    for at, line in enumerate(block.lines):
+        margin = len(line) - len(line.lstrip())
+        is_head = re.match(r" *(pub |abbrev |unfoldable |record |data )+\S+ ?[:(]| +[^\s:(){}]+ : ", line) and not re.match(r" +\w+ : .*;$", line)
+        if start is not None and margin > len(block.lines[start]) - len(block.lines[start].lstrip()):
+            continue
+        if is_head and (start is None or declared_name(line) != declared_name(block.lines[start])) or line.lstrip().startswith(("module ", "--")):
+            if start is not None:
+                found.append(Definition(block, start, at))
+            start = at if is_head else None
+    return found + ([Definition(block, start, len(block.lines))] if start is not None else [])
+
+
+class File:
+    """A file of specs/ or proofs/, or another text of it: its `use` lines and its blocks."""
+
+    def __init__(self, path, text=None):
+        self.crate, self.path = statement.crate_of(path), path
+        self.module = f"Rattle.{self.crate}." + str(path.relative_to(CRATES / self.crate).with_suffix("")).replace("/", ".")
+        self.uses, self.blocks, self.owner, self.definitions = [], [], {}, []
+        self.read((path.read_text() if text is None else text).split("\n"))
+        for block in self.blocks:
+            for definition in definitions_in(block):
+                self.definitions.append(definition)
+                self.owner.update({name: block for name in definition.names})
+        self.imported = {}
+        for module, items, _ in self.uses:
+            for item in (items or "").split(","):
+                name, _, other = item.strip().partition(" as ")
+                if name:
+                    self.imported[other or name] = (module, name)
+
+    def read(self, lines):
+        current, heading = None, None
+        for number, line in enumerate(lines, 1):
+            used = USE.match(line)
+            if line.startswith("--"):
+                found = re.fullmatch(r"-- (\S+)", line)
+                heading, current = found[1] if found else None, None
+            elif used:
+                self.uses.append(used.groups())
+                current = None
+            elif re.match(r"(pub )?mod ", line) or not line.strip():
+                continue
+            elif current and (line[0] in " })]" or line.startswith("unfolding ") or declared_name(line) == declared_name(current.lines[0])):
+                current.add(number, line)
+            else:
+                current = Block(self, heading)
+                self.blocks.append(current)
+                current.add(number, line)
+
+    def definition_at(self, number):
+        for definition in self.definitions:
+            numbers = definition.block.numbers[definition.start : definition.end]
+            if numbers[0] <= number <= numbers[-1]:
+                return definition
+        return None
+
+
+class Crate:
+    """The files of a crate's specs/ and proofs/ and of its examples, and which block speaks of which."""
+
+    def __init__(self, name):
+        self.name = name
+        folder = CRATES / name
+        self.examples = next(File(path) for path, crate in statement.example_files().values() if crate == name)
+        paths = [*sorted(folder.glob("specs/**/*.antt")), *sorted(folder.glob("proofs/*.antt"))]
+        files = [*(File(path) for path in paths if path != self.examples.path), self.examples]
+        self.files = {file.module: file for file in files}
+        self.speaks = {block: self.spoken_of(block) for file in files for block in file.blocks}
+        self.known = {}
+
+    def spoken_of(self, block):
+        found = set()
+        for word in block.words():
+            module, name = (block.file.module, word) if word in block.file.owner else block.file.imported.get(word, (None, None))
+            if module in self.files and name in self.files[module].owner:
+                found.add(self.files[module].owner[name])
+        return found - {block}
+
+    def resting_on(self, block):
+        """All blocks of the crate that rest on this one, itself among them."""
+        if block not in self.known:
+            found, more = set(), {block}
+            while more:
+                found |= more
+                more = {other for other, spoken in self.speaks.items() if other not in found and spoken & found}
+            self.known[block] = found
+        return self.known[block]
+
+    def near(self, definition):
+        """The examples under a line with the definition's name, and those that name it, but for those that cite a lemma about it."""
+        resting = self.resting_on(definition.block)
+        named = [block for block in self.examples.blocks if block.is_example() and (block.heading == definition.name or definition.names & block.words())]
+        return [block for block in named if not any(other.file.path.parent.name == "proofs" and other.file is not self.examples
+                                                    for other in self.speaks[block] & resting)]
+
+    def far(self, definition):
+        resting = self.resting_on(definition.block)
+        return [block for block in self.examples.blocks if block.is_example() and block in resting]
+
+
+# -- the copies that try them
+
+class Copy:
+    """Definitions with texts of their own, or as they are, and the examples that try them."""
+
+    def __init__(self, crate, number, texts, examples, uses=None):
+        """texts: what stands in place of each of these blocks, all of one file; uses: the `use` lines in place of that file's."""
+        self.crate, self.number, self.texts, self.examples, self.new_uses = crate, number, texts, examples, uses
+        resting = set().union(*(crate.resting_on(block) for block in texts))
+        self.needed, ahead = set(texts), [*examples]
+        while ahead:
+            block = ahead.pop()
+            if block not in self.needed:
+                self.needed.add(block)
+                ahead += [other for other in crate.speaks[block] if other in resting or other.file is crate.examples]
+
+    def name_of(self, file):
+        return f"H{self.number}_" + file.module.removeprefix("Rattle.").replace(".", "_")
+
+    def uses(self, file, kept):
+        """The `use` lines of the copy of a file: what is copied comes from the copies, all else from where it was."""
+        out, words = [], set().union(*(WORD.findall(uncommented(self.text_of(block))) for block in kept))
+        is_changed = self.new_uses is not None and any(block in self.texts for block in kept)
+        for module, items, alias in self.new_uses if is_changed else file.uses:
+            if items is None:
+                out.append(f"use {module}" + (f" as {alias}" if alias else ""))
+                continue
+            lists = {False: [], True: []}
+            for item in (one.strip() for one in items.split(",")):
+                origin = self.crate.files.get(module)
+                lists[bool(origin) and origin.owner.get(item.partition(" as ")[0]) in self.needed].append(item)
+            out += [f"use {module}.{{{', '.join(lists[False])}}}"] * bool(lists[False])
+            if lists[True]:
+                copied = self.name_of(self.crate.files[module])
+                out.append(f"use Rattle.{COPIES}.proofs.{copied}.{{{', '.join(lists[True])}}}")
+        own = sorted(name for name, block in file.owner.items() if block not in kept and name in words)
+        return out + [f"use {file.module}.{{{', '.join(own)}}}"] * bool(own)
+
+    def text_of(self, block):
+        return self.texts.get(block) or block.text()
+
+    def files(self):
+        """Each file: its name, its text, and its blocks, before each of which stands an empty line, and in none of which."""
+        for file in self.crate.files.values():
+            kept = [block for block in file.blocks if block in self.needed]
+            if not kept:
+                continue
+            lines = self.uses(file, kept)
+            for block in kept:
+                body = self.text_of(block).split("\n")
+                if not block.is_section():
+                    body[0] = re.sub(r"^(?!(?:\w+ )*pub )((?:abbrev |unfoldable )?)", r"\1pub ", body[0])
+                lines += ["", *body]
+            yield self.name_of(file), "\n".join(lines) + "\n", kept
+
+
+# A crate of copies alone, above the crates of examples.
+COPIES = "changed_definitions"
+ROOT = "//! Copies of definitions, changed, and of the examples that try them.\n#![tactic(auto)]\n"
+
+
+def needs():
+    """The crates of crates.txt, each with what its line names."""
+    lines = [line.partition("#")[0] for line in (TOP / "crates.txt").read_text().splitlines()]
+    return {name.split()[0]: rest.split() for name, _, rest in (line.partition(":") for line in lines) if name.strip()}
+
+
+def below(crates):
+    """These crates and all on which they rest."""
+    known, found, waiting = needs(), set(), list(crates)
+    while waiting:
+        crate = waiting.pop()
+        if crate in known and crate not in found:
+            found.add(crate)
+            waiting += known[crate]
+    return found
+
+
+class Scratch:
+    """A tree of the crates that some crates of examples rest on, and of others, with a crate of copies above those examples."""
+
+    def __init__(self, examples, room, others=()):
+        self.crates, self.folder = pathlib.Path(room) / "crates", pathlib.Path(room) / "crates" / COPIES
+        used = below(examples)
+        for crate in used.union(others):
+            for part in ("src", "specs", "proofs"):
+                if (CRATES / crate / part).exists():
+                    shutil.copytree(CRATES / crate / part, self.crates / crate / part)
+        lines = [f"{crate}: {' '.join(rest)}" for crate, rest in needs().items() if (self.crates / crate).exists()]
+        named = sorted(used | {name for crate in used for name in needs()[crate]})
+        (self.crates.parent / "crates.txt").write_text("\n".join([*lines, f"{COPIES}: {' '.join(named)}", ""]))
+        shutil.copy(TOP / "HANDLES", room)
+        for part in ("src", "proofs"):
+            (self.folder / part).mkdir(parents=True)
+        (self.folder / "src/lib.rt").write_text(ROOT)
+
+    def tried(self, copies, check):
+        """Of each copy the blocks that the prover refuses, None for an error at another place. check: what has the crate of copies
+        proved, and gives what that printed."""
+        written = {}
+        for copy in copies:
+            for name, text, blocks in copy.files():
+                written[name] = (copy, blocks)
+                self.file(name).write_text(text)
+        self.list_files()
+        refused = self.refused_in(check(self), written)
+        for file in self.files():
+            file.unlink()
+        return refused
+
+    def refused_in(self, printed, written):
+        """Which blocks of which copy have the errors that were printed. Before each block of a file stands an empty line."""
+        refused = collections.defaultdict(set)
+        for name, _, line in ERROR.findall(printed):
+            copy, blocks = written[name]
+            before = self.file(name).read_text().split("\n")[: int(line)].count("") if self.file(name).exists() else 0
+            refused[copy].add(blocks[before - 1] if 0 < before <= len(blocks) else None)
+        return refused
+
+    def file(self, name):
+        return self.folder / f"proofs/{name}.antt"
+
+    def files(self):
+        return self.folder.glob("proofs/H*.antt")
+
+    def list_files(self):
+        (self.folder / "proofs/Lib.antt").write_text("".join(f"pub mod {file.stem}\n" for file in sorted(self.files())))
+
+
+def by_check(jobs):
+    """The check of one who works on a crate, over what earlier checks kept in out/."""
+    def check(scratch):
+        for crate in scratch.crates.iterdir():
+            kept = CRATES / crate.name / "out/rlib"
+            if kept.is_dir() and not (crate / "out").exists():
+                shutil.copytree(kept, crate / "out/rlib", copy_function=linked)
+        words = ["rt", "check", "--jobs", str(jobs), "--allow-holes"]
+        printed = said_by(words, scratch.folder)
+        if not re.search(r"^(?:logic|holes)=", printed, re.M):
+            sys.exit(f"the prover gave no verdict\n{printed[-3000:]}")
+        return printed
+    return check
+
+
+def by_gate(scratch):
+    """The proof that `rt ci` makes, over what it kept on this machine of the crates below. What it refuses to read is left out of it."""
+    printed, unread = "", True
+    while unread:
+        said = said_by(["rt", "fmt"], scratch.folder)
+        unread = {file for _, number, _ in ERROR.findall(said) for file in scratch.folder.glob(f"proofs/{number}*.antt")}
+        for file in unread:
+            file.unlink()
+        scratch.list_files()
+        printed += said
+    said = said_by(["rt", "ci"], scratch.crates.parent)
+    if not re.search(r"^logic=", said.partition(f"== {COPIES}\n")[2], re.M):
+        sys.exit(f"the prover gave no verdict\n{said[-3000:]}")
+    return printed + said
+
+
+def linked(one, other):
+    """A file of a library gets a second name: rt never writes into such a file."""
+    try:
+        os.link(one, other)
+    except OSError:
+        shutil.copy2(one, other)
+
+
+def said_by(words, folder):
+    return subprocess.run(words, cwd=folder, stdin=subprocess.DEVNULL, stdout=subprocess.PIPE, stderr=subprocess.STDOUT, text=True,
+                          errors="replace").stdout

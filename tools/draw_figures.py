@@ -1,0 +1,159 @@
+#!/usr/bin/env python3
+"""Draws what the benches measured, out of bench/figures/.
+
+Usage: tools/draw_figures.py [--check]. Writes time_by_prefixes.svg, time_by_feeds.svg, time_beside_others.svg,
+lock_by_threads.svg and trie_by_size.svg into docs/pictures/, or with --check compares them with what it would write. Each axis
+begins at zero, but for the lower ones, which have one place for each number that was measured.
+"""
+import pathlib
+import statistics
+import sys
+
+from picture import BLUE, GREEN, INK, QUIET, Picture, settle
+
+sys.path.insert(0, str(pathlib.Path(__file__).resolve().parent.parent / "bench"))
+import figures  # noqa: E402
+
+ORANGE = "#b3541e"
+# Of a panel, in a picture of so many.
+WIDTHS = {1: 560, 2: 300, 3: 260, 4: 230}
+HEIGHT, LEFT, TOP, GAP = 220, 70, 70, 70
+
+
+def top_of(most):
+    """The least of 1, 2, 2.5, 4, 5, 8 and 10 times a power of ten that isn't below it, and into how many parts it is cut."""
+    power = 1.0
+    while power * 10 < most:
+        power *= 10
+    while power >= most:
+        power /= 10
+    for factor, parts in ((1, 5), (2, 4), (2.5, 5), (4, 4), (5, 5), (8, 4), (10, 5)):
+        if factor * power >= most:
+            return factor * power, parts
+    return 10 * power, 5
+
+
+class Panel:
+    """One pair of axes: a place below for each number, and lines over them."""
+
+    def __init__(self, picture, x, width, title, below, numbers, most):
+        self.picture, self.numbers = picture, numbers
+        self.x, self.y, self.width = x, TOP, width
+        self.top, parts = top_of(most)
+        picture.text(self.x + width / 2, self.y - 14, title, weight="bold")
+        for part in range(parts + 1):
+            value = self.top * part / parts
+            y = self.height(value)
+            picture.line(self.x, y, self.x + width, y, "#ddd" if part else QUIET, width=1)
+            picture.text(self.x - 8, y + 4, f"{value:,g}", "end", 12, QUIET)
+        for number in numbers:
+            picture.text(self.place(number), self.y + HEIGHT + 18, f"{number:,}", size=12, fill=QUIET)
+        picture.text(self.x + width / 2, self.y + HEIGHT + 38, below, size=12)
+
+    def place(self, number):
+        return round(self.x + self.width * (self.numbers.index(number) + 0.5) / len(self.numbers), 1)
+
+    def height(self, value):
+        return round(self.y + HEIGHT * (1 - value / self.top), 1)
+
+    def draw(self, values, stroke, dash=False):
+        self.picture.path([(self.place(number), self.height(value)) for number, value in values], stroke, dash)
+
+
+def charts(title, unit, below, kinds, panels, kept):
+    """A picture with a panel for each title, with lines of these kinds (name, colour, whether dashed), each panel to the same
+    scale. A panel is the values of each kind: pairs of a number below and a measure."""
+    width = WIDTHS[len(panels)]
+    picture = Picture(LEFT + len(panels) * (width + GAP) - GAP + 30, TOP + HEIGHT + 100, title)
+    picture.text(LEFT, 24, f"{title} ({unit})", "start", 15, weight="bold")
+    values = [value for _, lines in panels for line in lines for _, value in line]
+    for column, (name, lines) in enumerate(panels):
+        numbers = sorted({number for line in lines for number, _ in line})
+        panel = Panel(picture, LEFT + column * (width + GAP), width, name, below, numbers, max(values))
+        for (_, colour, dash), line in zip(kinds, lines):
+            panel.draw(line, colour, dash)
+    x = LEFT
+    for name, colour, dash in kinds:
+        picture.path([(x, TOP + HEIGHT + 62), (x + 28, TOP + HEIGHT + 62)], colour, dash)
+        picture.text(x + 36, TOP + HEIGHT + 66, name, "start", 12)
+        x += 60 + 7 * len(name)
+    picture.text(LEFT, TOP + HEIGHT + 90, f"{kept['machine']}; {kept['made']}", "start", 11, QUIET)
+    return picture
+
+
+PROGRAM = [("plain Rust", ORANGE, True), ("yarib, batch 1", QUIET, False), ("batch 16", GREEN, False), ("batch 256", BLUE, False)]
+
+
+def program_lines(rows, number, measure):
+    """The lines of the program's kinds: microseconds a line of text, by this number. The plain program takes one command at a
+    time; of its three times the least is shown."""
+    numbers = sorted({row[number] for row in rows})
+    of = {(row[number], row["batch"]): [time * 1000 / row["lines"] for time in row[measure]] for row in rows}
+    plain = [(each, min(of[each, batch][1] for batch in (1, 16, 256))) for each in numbers]
+    return [plain] + [[(each, of[each, batch][0]) for each in numbers] for batch in (1, 16, 256)]
+
+
+def time_by_prefixes():
+    kept = figures.kept("sizes")
+    panels = [("on the clock", program_lines(kept["rows"], "prefixes", "clock"))]
+    return charts("One file, a table that changes", "µs a line", "prefixes", PROGRAM, panels, kept)
+
+
+def time_by_feeds():
+    kept = figures.kept("batches")
+    on = sorted({row["on"] for row in kept["rows"]})
+    panels = [
+        (f"{some} processor{'s' if some > 1 else ''}", program_lines([row for row in kept["rows"] if row["on"] == some], "files", "clock"))
+        for some in on
+    ]
+    return charts("Feeds that announce the same 20,000 prefixes, on the clock", "µs a line", "feeds", PROGRAM, panels, kept)
+
+
+def time_beside_others():
+    kept = figures.kept("busy")
+    kinds = [("plain Rust", ORANGE, True), ("yarib, batch 1", QUIET, False), ("batch 256", BLUE, False)]
+    panels = [(title, busy_lines([row for row in kept["rows"] if bool(row["others"]) == busy])) for title, busy in BESIDE]
+    return charts("The same lines in one file and in several, on the clock", "µs a line", "files", kinds, panels, kept)
+
+
+BESIDE = (("nothing else on the machine", False), ("beside busy processes", True))
+
+
+def busy_lines(rows):
+    """Microseconds a line of the plain program and of both batches, by the number of files: the middle of the rounds. What one
+    file takes is the middle over the cases of its batch."""
+    plain = statistics.median(row["clock"][2][0] * 1000 / row["lines"] for row in rows)
+    lines = [[(files, plain) for files in (1, *sorted({row["files"] for row in rows}))]]
+    for batch in (1, 256):
+        mine = [row for row in rows if row["batch"] == batch]
+        one = statistics.median(row["clock"][1][0] * 1000 / row["lines"] for row in mine)
+        lines.append([(1, one)] + [(row["files"], row["clock"][0][0] * 1000 / row["lines"]) for row in mine])
+    return lines
+
+
+def lock_by_threads():
+    kept = figures.kept("lock")
+    rows = [row for row in kept["rows"] if row["levels"] == 6]
+    kinds = [("yarib's lock", BLUE, False), ("the same in C", ORANGE, True), ("std's mutex", QUIET, False)]
+    panels = [
+        (title, [[(row["threads"], row[measure][kind]) for row in rows] for kind in range(3)])
+        for title, measure in (("on the clock", "clock"), ("of the processors", "processors"))
+    ]
+    return charts("A passage of six levels, one increment inside", "ns", "threads", kinds, panels, kept)
+
+
+def trie_by_size():
+    kept = figures.kept("trie")
+    kinds = [("yarib's trie", BLUE, False), ("plain Rust", ORANGE, True)]
+    calls = (("insert", "insertion"), ("longest", "longest match"), ("together", "64 longest matches"), ("remove", "removal"))
+    panels = [
+        (title, [[(row["prefixes"], row["clock"][kind]) for row in kept["rows"] if row["call"] == call] for kind in (0, 1)])
+        for call, title in calls
+    ]
+    return charts("The trie", "ns a call, on the clock", "prefixes", kinds, panels, kept)
+
+
+settle(
+    "draw_figures.py",
+    [(draw.__name__, draw()) for draw in (time_by_prefixes, time_by_feeds, time_beside_others, lock_by_threads, trie_by_size)],
+)
