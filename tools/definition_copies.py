@@ -3,8 +3,6 @@
 tools/hollow makes such changes by itself, and tools/definitions tries those that a crate lists. For each change three things are
 copied into files of a crate above the crates of examples: the changed definition, examples that name it, and what lies between."""
 import collections
-import importlib.machinery
-import importlib.util
 import os
 import pathlib
 import re
@@ -13,10 +11,7 @@ import subprocess
 import sys
 
 sys.dont_write_bytecode = True
-loader = importlib.machinery.SourceFileLoader("statement", str(pathlib.Path(__file__).resolve().parent / "statement"))
-statement = importlib.util.module_from_spec(importlib.util.spec_from_loader("statement", loader))
-loader.exec_module(statement)
-TOP, CRATES = statement.TOP, statement.CRATES
+from definition_reader import CRATES, TOP, crate_of, example_files, uncommented
 
 DECLARED = re.compile(r" *(?:(?:pub|abbrev|unfoldable|record|data) )*([^\s:(){}\[\],;]+)")
 WORD = re.compile(r"(?<![\w.'])[^\W\d][\w']*(?:-[\w']+)*")
@@ -69,10 +64,6 @@ class Definition:
         return f"{self.block.file.path.relative_to(TOP)}: {self.name}"
 
 
-def uncommented(text):
-    return re.sub(r"(?m)(?:^|(?<=\s))--.*$", "", text)
-
-
 def declared_name(line):
     found = DECLARED.match(line)
     return found[1] if found else None
@@ -99,7 +90,7 @@ class File:
     """A file of specs/ or proofs/, or another text of it: its `use` lines and its blocks."""
 
     def __init__(self, path, text=None):
-        self.crate, self.path = statement.crate_of(path), path
+        self.crate, self.path = crate_of(path), path
         self.module = f"Rattle.{self.crate}." + str(path.relative_to(CRATES / self.crate).with_suffix("")).replace("/", ".")
         self.uses, self.blocks, self.owner, self.definitions = [], [], {}, []
         self.read((path.read_text() if text is None else text).split("\n"))
@@ -147,7 +138,7 @@ class Crate:
     def __init__(self, name):
         self.name = name
         folder = CRATES / name
-        self.examples = next(File(path) for path, crate in statement.example_files().values() if crate == name)
+        self.examples = next(File(path) for path, crate in example_files().values() if crate == name)
         paths = [*sorted(folder.glob("specs/**/*.antt")), *sorted(folder.glob("proofs/*.antt"))]
         files = [*(File(path) for path in paths if path != self.examples.path), self.examples]
         self.files = {file.module: file for file in files}

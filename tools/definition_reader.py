@@ -1,0 +1,316 @@
+"""Definitions of specs/ and types of src/: where each stands, its lines, and what it speaks of. tools/statement, tools/reach,
+tools/lemmas, tools/hollow and tools/definitions are written over it."""
+import functools
+import pathlib
+import re
+import sys
+
+TOP = pathlib.Path(__file__).resolve().parent.parent
+CRATES = TOP / "crates"
+
+# The libraries, each behind those that it stands on.
+LIBRARY_CRATES = ("rt_cidr", "rt_trie", "rt_rib", "rt_diff", "ya_core", "ya_lock", "rt_shared", "rt_feed", "ya_replay", "rt_run")
+
+WORD = re.compile(r"(\.?)([^\W\d][\w'?]*(?:-[^\W\d][\w']*)*|\d+)|(\"[^\"]*\")|([^\s\w(){}\[\],;.\"'\\]+)")
+DECLARED = re.compile(r"(?:abbrev |unfoldable )?(?:pub )?(?:abbrev |unfoldable )?(?:(record|data|ruleset) )?([^\s:(){}]+)")
+RUST_ITEM = r"^(?:pub(?:\([^)]*\))? )?(?:struct|enum|trait|type|const) {name}\b"
+
+
+class Definition:
+    """A definition of specs/ or a type of src/: where it stands, its comment, its lines, and the parameters around it."""
+
+    def __init__(self, key, file, line, comment, lines, context=()):
+        self.key, self.file, self.line, self.comment, self.lines = key, file, line, comment, lines
+        self.context = context
+        self.name = key.rpartition(".")[2]
+
+    def count(self):
+        """How many lines it has, without those that are comments alone."""
+        return sum(not line.strip().startswith(("--", "//")) for line in self.lines)
+
+
+def all_crates():
+    return sorted(path.parent.name for path in CRATES.glob("*/src"))
+
+
+def crate_of(file):
+    return file.relative_to(CRATES).parts[0]
+
+
+def uncommented(text):
+    return re.sub(r"(?m)(?:^|(?<=\s))--.*$", "", text)
+
+
+def imports(text):
+    """What each word of a file stands for: a name of a module, or (with no name) the module itself."""
+    found = {}
+    for module, items, alias in re.findall(r"(?m)^\s*(?:ghost )?(?:pub )?use (Rattle[\w.«»?]*|mathlib[\w.«»?]*|lib[\w.«»?]*?)"
+                                           r"(?:\.\{([^}]*)\})?(?: as (\w+))?;?\s*$", text):
+        if items:
+            for item in items.split(","):
+                name, _, other = item.strip().partition(" as ")
+                if name:
+                    found[other or name] = (module, name)
+        else:
+            found[alias or module.rpartition(".")[2]] = (module, None)
+    return found
+
+
+@functools.cache
+def spec_module(module):
+    """The definitions of a module of specs/ by name, and what its other words stand for. None where it is none of ours."""
+    match = re.fullmatch(r"Rattle\.(\w+)\.(?:specs|proofs)\.(.+)", module)
+    if not match:
+        return None
+    kind = module.split(".")[2]
+    file = CRATES / match[1] / kind / (match[2].replace(".", "/") + ".antt")
+    if not file.exists():
+        return None
+    return parse_module(module, file), imports(file.read_text())
+
+
+def parse_module(module, file):
+    definitions, comment, current, levels = {}, [], None, [(0, None)]
+    lines = file.read_text().split("\n")
+    number = 0
+    while number < len(lines):
+        line = lines[number]
+        number += 1
+        indent = len(line) - len(line.lstrip())
+        stripped = line.strip()
+        if not stripped:
+            if comment and current is None:
+                comment = []
+            current = None if current and (number >= len(lines) or not lines[number].startswith(" " * (levels[-1][0] + 1))) else current
+            continue
+        if current and indent > levels[-1][0]:
+            current.lines.append(line)
+            continue
+        while indent < levels[-1][0]:
+            levels.pop()
+        if stripped.startswith("--"):
+            if not comment or current:
+                comment = []
+            current = None
+            comment.append(stripped[2:].strip())
+            continue
+        if re.match(r"(pub )?(use|mod|open)\b", stripped):
+            comment, current = [], None
+            continue
+        if re.match(r"module _|mutual\b", stripped):
+            head = stripped
+            while not re.search(r"\bwhere$|^mutual$", head):
+                head += " " + lines[number].strip()
+                number += 1
+            said = re.fullmatch(r"module _ ?(.*?) ?where", head)
+            levels.append((indent + 2, said[1] if said else None))
+            comment, current = [], None
+            continue
+        declared = DECLARED.match(stripped)
+        if not declared or stripped[0] in "]})":
+            if current:
+                current.lines.append(line)
+            continue
+        name = declared[2]
+        if name == "unfolding" or current and name == current.name:
+            if current:
+                current.lines.append(line)
+            continue
+        if name in definitions and not re.match(r"(abbrev|unfoldable|pub|record|data) ", stripped):
+            current = definitions[name]
+            current.lines.append(line)
+            continue
+        context = [params for _, params in levels if params]
+        current = Definition(f"{module}.{name}", file, number, comment, [line], context=context)
+        definitions[name] = current
+        comment = []
+    for definition in definitions.values():
+        while not definition.lines[-1].strip():
+            definition.lines.pop()
+        margin = len(definition.lines[0]) - len(definition.lines[0].lstrip())
+        definition.lines = [line[margin:] for line in definition.lines]
+    return definitions
+
+
+def constructors(definition):
+    if not re.match(r"(pub )?data ", definition.lines[0]):
+        return set()
+    return {match[1] for line in definition.lines[1:] if (match := re.match(r"\s+(\S+) :", line))}
+
+
+def all_definitions(crate):
+    for file in sorted((CRATES / crate / "specs").rglob("*.antt")):
+        module = ".".join(("Rattle", crate, *file.relative_to(CRATES / crate).with_suffix("").parts))
+        yield from spec_module(module)[0].values()
+
+
+@functools.cache
+def rust_file(file):
+    text = file.read_text()
+    found = {}
+    for path in re.findall(r"(?m)^\s*(?:pub )?use ([^;]+);", re.sub(r"(?m)^\s*ghost use .*$", "", text)):
+        head, brace, inner = path.partition("{")
+        head = head.rstrip(":") if brace else head.rpartition("::")[0]
+        for item in (inner.rstrip("} \n").split(",") if brace else [path.rpartition("::")[2]]):
+            name, _, other = item.strip().partition(" as ")
+            if name:
+                found[(other or name).rpartition("::")[2]] = "::".join(part for part in (head, name) if part)
+    return text, found
+
+
+def sources(crate):
+    return sorted(file for file in (CRATES / crate / "src").rglob("*.rt") if "tests" not in file.parts[-2:])
+
+
+@functools.cache
+def rust_type(crate, name):
+    """A struct, enum, trait, type or constant of the crate, as its source has it."""
+    for file in sources(crate):
+        lines = file.read_text().split("\n")
+        for number, line in enumerate(lines):
+            if re.match(RUST_ITEM.format(name=re.escape(name)), line):
+                return parse_rust_item(f"{crate}::{file.stem}.{name}", file, number, lines)
+    return None
+
+
+def parse_rust_item(key, file, number, lines):
+    start = number
+    while start and re.match(r"\s*(///|#\[)", lines[start - 1]):
+        start -= 1
+    comment = [line.strip()[3:].strip() for line in lines[start:number] if line.strip().startswith("///")]
+    body, depth = [], 0
+    for line in lines[number:]:
+        code = re.sub(r"//.*", "", line)
+        if line.strip() and not line.strip().startswith("#["):
+            body.append(line)
+        depth += code.count("{") + code.count("(") - code.count("}") - code.count(")")
+        if depth == 0 and re.search(r"[;}]\s*$", code):
+            break
+    name = key.rpartition(".")[2]
+    text = file.read_text()
+    model = re.search(r"(?ms)^impl(?:<[^{]*?>)? Model for " + name + r"\b.*?^}", text)
+    value = model and re.search(r"ghost Value = (\{.*?\});", model[0])
+    if value:
+        body = [re.sub(r"\s*[{;].*", "", body[0]) + f" // contracts see it as {value[1]}"]
+    return Definition(key, file, number + 1, comment, body)
+
+
+def rust_words(definition):
+    """The words of a Rust type that are types of ours, and those of its ghost parts."""
+    text, used = rust_file(definition.file)
+    ghosts = imports(text)
+    code = "\n".join(re.sub(r"//(?! contracts see it as).*", "", line) for line in definition.lines)
+    for word in re.findall(r"[A-Za-z_]\w*", code):
+        if word in ghosts:
+            yield from resolved(*ghosts[word])
+        elif word[0].isupper() and word != definition.name:
+            yield from rust_named(definition.file, word)
+
+
+def rust_named(file, word):
+    """The type that a word of a source file names, if it is one of ours."""
+    text, used = rust_file(file)
+    if re.search(RUST_ITEM.format(name=re.escape(word)), text, re.M):
+        yield rust_type(crate_of(file), word)
+    elif word in used:
+        crate, _, rest = used[word].partition("::")
+        crate = crate_of(file) if crate == "crate" else crate
+        if (CRATES / crate).is_dir() and (found := rust_type(crate, rest.rpartition("::")[2])):
+            yield found
+
+
+def resolved(module, name):
+    """The definition that a name of a module is, or (module, name) where it is the library's."""
+    declared = re.fullmatch(r"Rattle\.(\w+)\.specs\.declared\.(.+)", module)
+    if declared and (CRATES / declared[1]).is_dir():
+        parts = declared[2].split(".")
+        if parts[-1] in ("TheVariants", "TheInside"):
+            named = parts[-2]
+        elif parts[-1] == "TheConstants":
+            named = name
+        else:
+            named = parts[-1]
+        found = rust_type(declared[1], named)
+        if not found:
+            sys.exit(f"tools/definition_reader.py: no type {named} in {declared[1]}")
+        yield found
+        return
+    ours = spec_module(module)
+    if not ours:
+        yield (module, name)
+        return
+    definitions, used = ours
+    if name in definitions:
+        yield definitions[name]
+        return
+    for definition in definitions.values():
+        if name in constructors(definition):
+            yield definition
+            return
+    if name in used:
+        yield from resolved(*used[name])
+        return
+    sys.exit(f"tools/definition_reader.py: no {name} in {module}")
+
+
+def words_of(text, local, used):
+    """What the words of a term stand for: definitions of ours and (module, name) of the library's. A variable that has the
+    name of a definition is taken for it: better one too many on the page than one missing."""
+    text = uncommented(text)
+    tokens = [(match[1], match[2], match[4], match.start(), match.end()) for match in WORD.finditer(text)]
+    seen = {token[1] for token in tokens if token[1]} | {token[2] for token in tokens if token[2]}
+    for dot, word, sign, start, end in tokens:
+        if sign or not word:
+            continue
+        is_projection = dot and start and re.match(r"[\w')\]⟧]", text[start - 1])
+        is_field = re.search(r"\bpub $", text[:start]) or (
+            re.match(r"\s*=(?!=)", text[end:]) and re.search(r"(?:[{;]\s*|\n\s+)$", text[:start + len(dot)]))
+        if is_projection or is_field:
+            continue
+        if word in local:
+            yield local[word]
+        elif (maker := next((d for d in local.values() if word in constructors(d)), None)):
+            yield maker
+        elif word in used:
+            target, name = used[word]
+            if name is None:
+                follows = re.match(r"\.([^\W\d][\w'?]*)", text[end:])
+                if follows:
+                    yield from resolved(target, follows[1])
+            else:
+                yield from resolved(target, name)
+    for name, (target, item) in used.items():
+        if item and "◌" in item and set(part for part in item.split("◌") if part) <= seen:
+            yield (target, item)
+
+
+@functools.cache
+def rests_on(definition):
+    """What the definition speaks of: definitions of ours, and (module, name) of the library's."""
+    if definition.file.suffix == ".rt":
+        return unique(rust_words(definition), definition)
+    module = definition.key.rpartition(".")[0]
+    local, used = spec_module(module)
+    text = "\n".join(definition.lines) + "\n" + "\n".join(definition.context)
+    return unique(words_of(text, local, used), definition)
+
+
+def unique(found, but=None):
+    seen, kept = set(), []
+    for one in found:
+        key = one.key if isinstance(one, Definition) else one
+        if key not in seen and not (but and key == but.key):
+            seen.add(key)
+            kept.append(one)
+    return kept
+
+
+@functools.cache
+def example_files():
+    """The files of examples by module, each with the crate whose definitions it tests: a library's stand in a file with the
+    second part of its name in a crate of examples, those of the program in its own proofs/."""
+    found = {f"Rattle.{crate_of(file)}.proofs.Examples": (file, crate_of(file)) for file in CRATES.glob("*/proofs/Examples.antt")}
+    for crate in LIBRARY_CRATES:
+        name = crate.partition("_")[2].capitalize()
+        found.update((f"Rattle.{crate_of(file)}.proofs.{name}", (file, crate)) for file in CRATES.glob(f"*_examples/proofs/{name}.antt"))
+    return dict(sorted(found.items(), key=lambda one: one[1][1]))
