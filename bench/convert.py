@@ -24,7 +24,7 @@ PATHS = 100_000
 
 def prefixes(count):
     """So many prefixes in rising order, as daemons and collectors list them."""
-    return [f"{run.address(base)}/{length}" for base, length in sorted(run.real_prefixes(count, random.Random(1)))]
+    return [f"{run.dotted(base)}/{length}" for base, length in sorted(run.real_prefixes(count, random.Random(1)))]
 
 
 def paths():

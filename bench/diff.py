@@ -16,12 +16,12 @@ import pathlib
 import random
 import resource
 import subprocess
-import sys
 import tempfile
 import time
 
 import figures
 from figures import checks
+from table_model import dotted
 
 # How many of a hundred prefixes are of this length.
 LENGTHS = [24] * 60 + [23] * 9 + [22] * 11 + [21] * 4 + [20] * 5 + [19] * 3 + [18] * 2 + [17] + [16] * 3 + [14, 12]
@@ -53,12 +53,8 @@ def changed(table, changes):
     return after
 
 
-def address(number):
-    return ".".join(str(number >> shift & 255) for shift in (24, 16, 8, 0))
-
-
 def write(path, table):
-    path.write_text("".join(f"add {address(base)}/{length} 100 192.0.2.{hop}\n" for (base, length), hop in table.items()))
+    path.write_text("".join(f"add {dotted(base)}/{length} 100 192.0.2.{hop}\n" for (base, length), hop in table.items()))
 
 
 def pieces(table):
@@ -92,10 +88,10 @@ def ranges(old, new):
         if place + 1 < len(borders) and borders[place + 1][0] == here or tuple(answers) == begun:
             continue
         if begun[0] != begun[1]:
-            lines.append(f"{address(first)}-{address(here - 1)} {said(begun[0])} -> {said(begun[1])}\n")
+            lines.append(f"{dotted(first)}-{dotted(here - 1)} {said(begun[0])} -> {said(begun[1])}\n")
         first, begun = here, tuple(answers)
     if begun[0] != begun[1]:
-        lines.append(f"{address(first)}-255.255.255.255 {said(begun[0])} -> {said(begun[1])}\n")
+        lines.append(f"{dotted(first)}-255.255.255.255 {said(begun[0])} -> {said(begun[1])}\n")
     return "".join(lines)
 
 

@@ -32,9 +32,9 @@ def feed(number, count, prefixes):
     for base, length in announced:
         yield run.add(draw, base, length)
     for base, length in announced[:tenth]:
-        yield f"withdraw {run.address(base)}/{length}"
+        yield f"withdraw {run.dotted(base)}/{length}"
     for base, length in announced[tenth : 2 * tenth]:
-        yield f"replace {run.address(base)}/{length} {draw.randrange(200)} 192.0.2.2"
+        yield f"replace {run.dotted(base)}/{length} {draw.randrange(200)} 192.0.2.2"
     if number == count:
         yield "purge"
 

@@ -21,13 +21,10 @@ import time
 
 import figures
 from figures import checks
+from table_model import dotted
 
 TOP = pathlib.Path(__file__).resolve().parent.parent
 SIZES = (10_000, 30_000, 100_000, 300_000, 1_000_000)
-
-
-def address(number):
-    return ".".join(str(number >> shift & 255) for shift in (24, 16, 8, 0))
 
 
 def one_prefix(count):
@@ -47,7 +44,7 @@ def real_prefixes(count, draw):
 
 
 def add(draw, base, length):
-    return f"add {address(base)}/{length} {draw.randrange(200)} 192.0.2.1"
+    return f"add {dotted(base)}/{length} {draw.randrange(200)} 192.0.2.1"
 
 
 def look_ups(count, prefixes, draw):
@@ -55,7 +52,7 @@ def look_ups(count, prefixes, draw):
     for _ in range(count):
         base, length = draw.choice(prefixes)
         within = draw.getrandbits(32) if draw.randrange(10) == 0 else base | draw.getrandbits(32 - length)
-        yield f"lookup {address(within)}"
+        yield f"lookup {dotted(within)}"
 
 
 def real_table(count, rising):
@@ -79,9 +76,9 @@ def changing_table(count):
         if number % 5 == 4:
             base, length = prefixes[draw.randrange(number)]
             if draw.randrange(2):
-                lines.append(f"withdraw {address(base)}/{length}")
+                lines.append(f"withdraw {dotted(base)}/{length}")
             else:
-                lines.append(f"replace {address(base)}/{length} {draw.randrange(200)} 192.0.2.2")
+                lines.append(f"replace {dotted(base)}/{length} {draw.randrange(200)} 192.0.2.2")
     lines.extend(look_ups(count * 2 // 5, prefixes, draw))
     return lines
 

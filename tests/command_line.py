@@ -25,6 +25,7 @@ import tty
 import calls
 from checks import TOP, built, compare, end, expect, run, run_each
 from hostile import ROW, ROW_OUT, close_all
+from table_model import dotted
 
 CANNOT_WRITE = (6, "", "yarib: cannot write\n")
 
@@ -437,10 +438,6 @@ def all_of(routes, address):
     first, *others = covering
     reason = lambda r: "shorter" if r[1] < first[1] else "preference" if r[2] > first[2] else "feed"
     return [f"{dotted(address)} route {shown(first)}"] + [f"{dotted(address)} also {shown(r)[:-1]} {reason(r)}\n" for r in others]
-
-
-def dotted(number):
-    return ".".join(str(number >> shift & 255) for shift in (24, 16, 8, 0))
 
 
 def shown(route):

@@ -17,7 +17,7 @@ import tempfile
 from typing import NamedTuple
 
 from checks import TOP, built, end, expect, run, run_each
-from refused_growth import address
+from table_model import dotted
 
 WORDS = 1000
 TELLS = "--tell" in sys.argv[1:]
@@ -149,8 +149,8 @@ def passage_alone(called):
 def outputs(called):
     """What a call takes from its first output on, to what it takes before: the runs of its files."""
     choice = random.Random(56)
-    low = [address(at << 9) for at in range(3_000)]
-    high = [address(0x0100_0000 + (place << 8)) for place in choice.sample(range(1 << 20), 100_000)]
+    low = [dotted(at << 9) for at in range(3_000)]
+    high = [dotted(0x0100_0000 + (place << 8)) for place in choice.sample(range(1 << 20), 100_000)]
     for side in (1, 2):
         adds = [f"add {base}/24 1 192.0.2.{side}\n" for base in low] + [f"add {base}/24 1 192.0.2.1\n" for base in high]
         pathlib.Path(f"side{side}.feed").write_text("".join(adds))

@@ -6,7 +6,7 @@ and glibc.
 
 Little memory: the program is run under rising limits of its address space, with the memory that the C library gives by itself, and
 as the launchers set it. It must end as with ample memory, or with status 5 and nothing on standard output, or with status 5 and
-what the model of refused_growth.py prints without the commands that it says were refused; never by a signal. Limits under which it
+what the model prints without the commands that it says were refused; never by a signal. Limits under which it
 can't be loaded at all are left out. Then each request of a look-up and of a list is refused in turn, as refused_growth.py does it
 for all kinds of runs.
 """
@@ -20,7 +20,8 @@ import sys
 import tempfile
 
 from checks import LAUNCHED, built, end, expect, run, run_each
-from refused_growth import Wrong, answered_addresses, check_shown, files as text_files, own_text, refuse_each, refuser, run_text
+from refused_growth import Wrong, answered_addresses, check_shown, files as text_files, own_text, refuse_each, refuser
+from table_model import run_text
 
 ROW = "add 10.0.0.0/8 100 192.0.2.1\n"
 ROW_OUT = "1:1 added\ntable 1\n10.0.0.0/8 feed 1 pref 100 via 192.0.2.1\n"

@@ -15,6 +15,8 @@ answer.
 """
 import functools
 
+from table_model import number
+
 TAKES = {"add": 3, "replace": 3, "withdraw": 1, "lookup": 1, "dump": 0}
 
 
@@ -75,7 +77,7 @@ def answer(table, limit, feed, name, *fields):
     own = [place for place in table if place[0] == feed]
     place = (feed, fields[0]) if fields else None
     if name == "lookup":
-        found = best(table, address(fields[0]))
+        found = best(table, number(fields[0]))
         return f"route {found}" if found else "no route"
     if name == "dump":
         return f"dumped {len(table)}"
@@ -121,9 +123,4 @@ def table_text(table):
 def block(prefix):
     """Base and length of a prefix."""
     base, length = prefix.split("/")
-    return address(base), int(length)
-
-
-@functools.cache
-def address(text):
-    return int.from_bytes(map(int, text.split(".")), "big")
+    return number(base), int(length)

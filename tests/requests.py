@@ -17,7 +17,7 @@ import sys
 import tempfile
 
 from checks import TOP, built, end, expect, run, run_each
-from refused_growth import address
+from table_model import dotted
 
 # How many requests more a text of twice the length may make: for its bytes, the reports' lists, the batch and the journal.
 DOUBLING = 6
@@ -73,7 +73,7 @@ def counted_text(yarib, count, text, batch, *words):
 
 def shown(yarib, count):
     """Twice as many answers and rows cost no request for each, but one each of all that covers, nor any while they are written."""
-    adds = "".join(f"add {address(0x0A00_0000 + (at << 8))}/24 1 192.0.2.1\n" for at in range(10_000))
+    adds = "".join(f"add {dotted(0x0A00_0000 + (at << 8))}/24 1 192.0.2.1\n" for at in range(10_000))
     pathlib.Path("text.feed").write_text(adds)
     few, many = (counted_shown(yarib, count, ["lookup", "--addresses", "asked.txt"], lines) for lines in (20_000, 40_000))
     expect(f"answers: {many - few} requests more", many - few <= DOUBLING, True)
@@ -94,7 +94,7 @@ def counted_shown(yarib, count, words, lines):
 
 def routes(yarib, count):
     """A route costs two boxes at most, and one that comes and goes a box; and all is given back."""
-    prefix = lambda at: f"{address(0x0A00_0000 + (at << 8))}/24"
+    prefix = lambda at: f"{dotted(0x0A00_0000 + (at << 8))}/24"
     adds = "".join(f"add {prefix(at)} 1 192.0.2.1\n" for at in range(10_000))
     withdraws = "".join(f"withdraw {prefix(at * 7919 % 10_000)}\n" for at in range(10_000))
     dumps, purge = "version 2\n" + "dump\n" * 20_000, "purge\n" * 10_000
@@ -113,7 +113,7 @@ def routes(yarib, count):
 def left(yarib, count):
     """The routes of a table are still held at the end: the system takes their pages back at once."""
     pathlib.Path("none.feed").write_text("")
-    pathlib.Path("text.feed").write_text("".join(f"add {address(0x0A00_0000 + (at << 8))}/24 1 192.0.2.1\n" for at in range(10_000)))
+    pathlib.Path("text.feed").write_text("".join(f"add {dotted(0x0A00_0000 + (at << 8))}/24 1 192.0.2.1\n" for at in range(10_000)))
     for name, words, tables in (("run", [], 1), ("table", [], 1), ("lookup", ["--address", "10.0.0.1"], 1), ("diff", [], 2)):
         files = lambda file: [file] if tables == 1 else [file, "--", file]
         none, routes = (counted([yarib, name, *words, *files(file)], count)[1][0] for file in ("none.feed", "text.feed"))

@@ -15,7 +15,7 @@ import sys
 import tempfile
 
 from checks import LAUNCHED, built, compare, end, run, run_each
-from refused_growth import address, all_answers_text, answers_text, ran, run_text, told_text
+from table_model import all_answers_text, answers_text, dotted, ran, run_text, told_text
 
 MOST = 1_000_000
 
@@ -25,13 +25,13 @@ def million(yarib):
     """A feed that fills its limit with single addresses in no order, the last one among them, and goes on."""
     bases = [0xFFFF_FFFF - at * 2_654_435_761 % 2**32 for at in range(MOST)]
     prefs = [0xFFFF_FFFF - at % 7 for at in range(MOST)]
-    lines = [f"add {address(base)}/32 {pref} 192.0.2.1\n" for base, pref in zip(bases, prefs)]
-    shown = lambda at: f"{address(bases[at])}/32 feed 1 pref {prefs[at]} via 192.0.2.1"
+    lines = [f"add {dotted(base)}/32 {pref} 192.0.2.1\n" for base, pref in zip(bases, prefs)]
+    shown = lambda at: f"{dotted(bases[at])}/32 feed 1 pref {prefs[at]} via 192.0.2.1"
     answers = ["added"] * MOST
     rest = [
         ("add 0.0.0.0/0 1 192.0.2.1", "full"),
         ("lookup 255.255.255.255", "route " + shown(0)),
-        (f"lookup {address(bases[-1])}", "route " + shown(MOST - 1)),
+        (f"lookup {dotted(bases[-1])}", "route " + shown(MOST - 1)),
         ("dump", f"dumped {MOST}"),
         ("withdraw 255.255.255.255/32", "withdrawn"),
         ("lookup 255.255.255.255", "no route"),
@@ -57,7 +57,7 @@ def of_one_feed(count):
     """A text of so many lines: routes that nest, in both kinds of hop, and what is asked of them."""
     lines = ["version 2"]
     for at in range(count):
-        base = address(0x0A00_0000 + (at * 40_503 % 65_536 << 8))
+        base = dotted(0x0A00_0000 + (at * 40_503 % 65_536 << 8))
         lines.append((f"add {base}/24 {at} 192.0.2.1", f"add {base}/32 {2**32 - 1 - at} discard", f"lookup {base}", f"dump",
                       f"replace {base}/24 1 discard", f"withdraw {base}/28", f"# {at}", f"add {base}/24 1 192.0.2.2")[at % 8])
     return "".join(line + "\n" for line in lines)
@@ -149,12 +149,12 @@ def shown(yarib, texts, names):
 # Fails where `lookup` and `table` answer F3 above 65,536 routes: `the table of 300,000 routes`, `100,000 addresses`.
 def many_offers(yarib):
     """300,000 routes of three feeds, the same prefixes for each."""
-    bases = [address(0x0100_0000 + (at * 40_503 % 100_000 << 8)) for at in range(100_000)]
+    bases = [dotted(0x0100_0000 + (at * 40_503 % 100_000 << 8)) for at in range(100_000)]
     for feed in range(1, 4):
         pathlib.Path(f"{feed}.feed").write_text("".join(f"add {base}/24 {9 - feed} 192.0.2.{feed}\n" for base in bases))
     report = "".join(f"{feed}:{line} added\n" for feed in range(1, 4) for line in range(1, 100_001))
     offers = lambda base: "".join(f"{base}/24 feed {feed} pref {9 - feed} via 192.0.2.{feed}\n" for feed in (3, 2, 1))
-    sorted_bases = [address(0x0100_0000 + (at << 8)) for at in range(100_000)]
+    sorted_bases = [dotted(0x0100_0000 + (at << 8)) for at in range(100_000)]
     ended = run([yarib, "run", "--limit", "100000", "--batch", "256", "1.feed", "2.feed", "3.feed"])
     routes = "".join(map(offers, sorted_bases))
     compare("300,000 routes of three feeds", ended, 0, report + "table 300000\n" + routes)
@@ -198,9 +198,9 @@ def covered(yarib):
     # So many feeds have the prefix of each length: 64, 127, 128, 129, 193, 255, 256, 257 and then 64 more at each length.
     offers = [64, 63, 1, 1, 64, 62, 1, 1] + [64] * 25
     base = 0b1010_1010_1010_1010_1010_1010_1010_1010
-    prefix = lambda length: f"{address(base >> 32 - length << 32 - length)}/{length}"
+    prefix = lambda length: f"{dotted(base >> 32 - length << 32 - length)}/{length}"
     # Each address leaves the others' way behind another bit.
-    asked = [address(base ^ (1 << 31 - length if length < 32 else 0)) for length in range(33)]
+    asked = [dotted(base ^ (1 << 31 - length if length < 32 else 0)) for length in range(33)]
     for name, counts in (("some", offers), ("all", [64] * 33)):
         texts = ["".join(f"add {prefix(length)} {feed} 192.0.2.{feed}\n" for length, count in enumerate(counts) if feed <= count) for feed in range(1, 65)]
         names = [f"{name}{feed}.feed" for feed in range(1, 65)]
@@ -215,7 +215,7 @@ def covered(yarib):
 def compared(yarib):
     """Single addresses, no two of them neighbours, all of which differ or none, or the last alone."""
     for count in (1, 999, 1_000, 1_001, 8_192, 8_193, 65_536, 300_000):
-        places = [address(0x0A00_0000 + 2 * at) for at in range(count)]
+        places = [dotted(0x0A00_0000 + 2 * at) for at in range(count)]
         for side in (1, 2):
             pathlib.Path(f"side{side}.feed").write_text("".join(f"add {place}/32 1 192.0.2.{side}\n" for place in places))
         pathlib.Path("last.feed").write_text("".join(f"add {place}/32 1 192.0.2.1\n" for place in places[:-1]))
