@@ -11,7 +11,7 @@ import subprocess
 import sys
 
 sys.dont_write_bytecode = True
-from definition_reader import CRATES, TOP, crate_of, example_files, uncommented
+from definition_reader import CRATES, TOP, constructors, crate_of, example_files, parse_module, uncommented
 
 DECLARED = re.compile(r" *(?:(?:pub|abbrev|unfoldable|record|data) )*([^\s:(){}\[\],;]+)")
 WORD = re.compile(r"(?<![\w.'])[^\W\d][\w']*(?:-[\w']+)*")
@@ -50,15 +50,14 @@ class Block:
 
 
 class Definition:
-    """A definition of a block: its name, and from which of the block's lines to which."""
+    """A definition of a block, as it was read: its name, and from which of the block's lines to which."""
 
-    def __init__(self, block, start, end):
-        self.block, self.start, self.end = block, start, end
-        self.lines = block.lines[start:end]
-        self.name = declared_name(self.lines[0])
-        self.names = {self.name}
-        if re.match(r" *(pub )?data ", self.lines[0]):
-            self.names |= {match[1] for line in self.lines[1:] if (match := re.match(r"\s+(\S+) :", line))}
+    def __init__(self, block, read):
+        self.block, self.start = block, block.numbers.index(read.line)
+        self.end = self.start + len(read.lines)
+        self.lines = block.lines[self.start : self.end]
+        self.name = read.name
+        self.names = {read.name, *constructors(read)}
 
     def said(self):
         return f"{self.block.file.path.relative_to(TOP)}: {self.name}"
@@ -69,23 +68,6 @@ def declared_name(line):
     return found[1] if found else None
 
 
-def definitions_in(block):
-    """The definitions of a block: one, or those of a `module _` and of the ones within it."""
-    if not block.is_section():
-        return [Definition(block, 0, len(block.lines))]
-    found, start = [], None
-    for at, line in enumerate(block.lines):
-        margin = len(line) - len(line.lstrip())
-        is_head = re.match(r" *(pub |abbrev |unfoldable |record |data )+\S+ ?[:(]| +[^\s:(){}]+ : ", line) and not re.match(r" +\w+ : .*;$", line)
-        if start is not None and margin > len(block.lines[start]) - len(block.lines[start].lstrip()):
-            continue
-        if is_head and (start is None or declared_name(line) != declared_name(block.lines[start])) or line.lstrip().startswith(("module ", "--")):
-            if start is not None:
-                found.append(Definition(block, start, at))
-            start = at if is_head else None
-    return found + ([Definition(block, start, len(block.lines))] if start is not None else [])
-
-
 class File:
     """A file of specs/ or proofs/, or another text of it: its `use` lines and its blocks."""
 
@@ -93,11 +75,13 @@ class File:
         self.crate, self.path = crate_of(path), path
         self.module = f"Rattle.{self.crate}." + str(path.relative_to(CRATES / self.crate).with_suffix("")).replace("/", ".")
         self.uses, self.blocks, self.owner, self.definitions = [], [], {}, []
-        self.read((path.read_text() if text is None else text).split("\n"))
-        for block in self.blocks:
-            for definition in definitions_in(block):
-                self.definitions.append(definition)
-                self.owner.update({name: block for name in definition.names})
+        text = path.read_text() if text is None else text
+        self.read(text.split("\n"))
+        blocks = {number: block for block in self.blocks for number in block.numbers}
+        for read in parse_module(self.module, path, text).values():
+            definition = Definition(blocks[read.line], read)
+            self.definitions.append(definition)
+            self.owner.update({name: definition.block for name in definition.names})
         self.imported = {}
         for module, items, _ in self.uses:
             for item in (items or "").split(","):

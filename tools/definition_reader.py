@@ -69,9 +69,10 @@ def spec_module(module):
     return parse_module(module, file), imports(file.read_text())
 
 
-def parse_module(module, file):
+def parse_module(module, file, text=None):
+    """The definitions of a file, or of another text of it, by name."""
     definitions, comment, current, levels = {}, [], None, [(0, None)]
-    lines = file.read_text().split("\n")
+    lines = (file.read_text() if text is None else text).split("\n")
     number = 0
     while number < len(lines):
         line = lines[number]
