@@ -120,7 +120,10 @@ def check_ended(made):
     """A signal leaves nothing beside the folder; what is left where nothing could be cleared away goes the next time."""
     for ending in (signal.SIGTERM, signal.SIGHUP, signal.SIGINT):
         folder = made / ending.name / "feeds"
+        # what nohup or a shell's `&` has ignored would be so in the converter too
+        before = signal.signal(ending, signal.SIG_DFL)
         process = started(folder)
+        signal.signal(ending, before)
         process.send_signal(ending)
         said = process.communicate()[1]
         expect(ending.name, (process.returncode, said, folder.parent.exists()), (128 + ending, b"", False))
