@@ -7,6 +7,7 @@ use Rattle.std.proofs.lemmas.Bool.{and_parts, eqb-true, eqb-false, leb-true}
 use Rattle.std.proofs.lemmas.List.Elements.{All-nil, All-cons}
 use Rattle.std.specs.Fmt.{digits}
 use Rattle.rt_cidr.specs.Text.{address_text, prefix_text}
+use Rattle.ya_core.specs.declared.schedule.ReplayFault.{ReplayFault}
 use Rattle.ya_core.specs.declared.schedule.ReplayFault.TheVariants as replay
 use Rattle.ya_core.specs.Steps.{opening}
 use Rattle.ya_core.specs.Machines.{ReplaysTo}
@@ -19,6 +20,8 @@ use Rattle.rt_rib.specs.declared.commands.Reply.TheVariants.{Added, Exists, Full
 use Rattle.rt_rib.specs.declared.commands.Entry.{Entry}
 use Rattle.rt_rib.specs.Sequential.{reply_of, table_after, table_of_journal, IsAnswered, IsLawfulJournal}
 use Rattle.rt_rib.specs.LookUp.{look_up, look_up_all}
+use Rattle.rt_rib.specs.Table.{IsTable}
+use Rattle.rt_rib.specs.Laws.{is_own}
 use Rattle.table_examples.proofs.Rib.{entry, at_10_1_2_3, at_10_9_0_1, ten_1_16, ten_9_16, via_192_0_2, route_via}
 use Rattle.table_examples.proofs.Cidr.{ten_8}
 use Rattle.table_examples.proofs.Rib.{tutorial, the_journal_of_the_tutorial, the_table_of_the_tutorial}
@@ -30,10 +33,12 @@ use Rattle.rt_feed.specs.declared.versions.Version.TheVariants.{One}
 use Rattle.rt_feed.specs.Lines.{TellsTwo, CutsLine, skipped, faulty, asked, LineOutcome, Becomes, asked_of}
 use Rattle.std.specs.Simd.{first_chunks}
 use Rattle.rt_feed.specs.Printed.{reply_text, fault_text, route_text, row_text, count_text, table_text, found_text, also_text, reason_text}
+use Rattle.rt_feed.specs.declared.faults.RunFault.{RunFault}
 use Rattle.rt_feed.specs.declared.faults.RunFault.TheVariants as run
 use Rattle.feed_examples.proofs.Feed.{north, north_read, south, south_read, east, east_read, what_north_becomes, what_south_becomes, what_east_becomes}
-use Rattle.std.specs.Prelude.{max}
-use Rattle.rt_diff.specs.declared.answers.By.TheVariants as by
+use Rattle.std.specs.Prelude.{◌↔◌, max, Option}
+use Rattle.std.specs.Io.KnownBytes.{Appends}
+use Rattle.rt_cidr.specs.Output.{AppendsBeginning}
 use Rattle.rt_diff.specs.declared.differences.Difference.{Difference}
 use Rattle.rt_diff.specs.Differences.{AreDifferences}
 use Rattle.rt_feed.specs.DifferenceText.{differences_text}
@@ -88,6 +93,11 @@ no_text_leaves_none : (k : ℕ) (r : Route) → ¬ LeavesAlone [] 65536 k r
 no_text_leaves_none k r (text, lines, at, becomes, has) = cc
 
 -- IsUnion
+the_table_of_what_texts_leave :
+    (texts : List (List ℕ)) (limit : ℕ) (union : List Route) → IsUnion texts limit union
+    ↔ (IsTable union × ((r : Route) → Contains union r ↔ ((k : ℕ) × LeavesAlone texts limit k r)))
+the_table_of_what_texts_leave texts limit union = (λ h. (h.table, h.contains), λ (table, contains). record { table = table; contains = contains })
+
 of_no_text : IsUnion [] 65536 []
 of_no_text = record {
   table = record { ordered = λ i j d below within. absurd (omega (arith, within)); single = λ i j d below within. absurd (omega (arith, within)) };
@@ -99,6 +109,12 @@ no_route_that_no_text_leaves r h =
     let leaves = (h.contains r).0 (0, omega arith, refl) in no_text_leaves_none leaves.0 r leaves.1
 
 -- IsAnsweredAlone
+from_what_its_earlier_commands_leave :
+    (limit feed : ℕ) (commands : List (Cmd × Outcome)) → IsAnsweredAlone limit feed commands
+    ↔ ((earlier later : List (Cmd × Outcome)) (cmd : Cmd) (outcome : Outcome) → commands ≡ earlier ++ (cmd, outcome) ∷ later → is_own cmd ≡ true
+    → outcome ≡ Did (reply_of limit (table_alone limit feed earlier) feed cmd))
+from_what_its_earlier_commands_leave limit feed commands = (λ h. h, λ h. h)
+
 as_if_there_were_no_other : IsAnsweredAlone 1 2 ((Add ten_8 5 Discard, Did Added) ∷ [])
 unfolding table_alone reply_of
 as_if_there_were_no_other [] later cmd outcome same own =
@@ -330,6 +346,14 @@ by_range last (e ∷ entries) all =
     All-cons (λ (e : Entry). (1 ≤ e.feed) × (e.feed ≤ last)) e entries (leb-true 1 e.feed both.0, leb-true e.feed last both.1) (by_range last entries parts.1)
 
 -- IsHistory
+what_a_history_is :
+    (texts : List (List ℕ)) (limit batch : ℕ) (journal : List Entry) (outcomes : List (List LineOutcome)) → IsHistory texts limit batch journal outcomes
+    ↔ (IsLawfulJournal limit journal × ExplainsFrom batch 1 journal texts outcomes × All (λ e. (1 ≤ e.feed) × (e.feed ≤ length texts)) journal)
+what_a_history_is texts limit batch journal outcomes = (
+  λ h. (h.lawful, h.explained, h.no_other),
+  λ (lawful, explained, no_other). record { lawful = lawful; explained = explained; no_other = no_other },
+)
+
 the_history_of_a_dump : IsHistory (text ∷ []) 1 1 (dumped ∷ []) (lines ∷ [])
 the_history_of_a_dump = record {
   lawful = lawful;
@@ -353,6 +377,12 @@ the_history_of_a_dump = record {
 }
 
 -- IsRunText
+what_the_text_of_a_run_is :
+    (texts : List (List ℕ)) (limit batch : ℕ) (bytes : List ℕ) (status : ℕ) (h : IsRunText texts limit batch bytes status)
+    → IsHistory texts limit batch h.journal h.outcomes × (bytes ≡ feeds_text 1 h.outcomes ++ table_text (table_of_journal limit h.journal))
+    × (status ≡ status_of was_faulty h.outcomes)
+what_the_text_of_a_run_is texts limit batch bytes status h = (h.history, h.printed, h.is_status)
+
 the_run_of_a_dump : IsRunText (text ∷ []) 1 1 (codes "1:1 dumped 0\ntable 0\n") 0
 unfolding digits table_of_journal table_after reply_of reply_text count_text
 the_run_of_a_dump = record {
@@ -475,6 +505,13 @@ no_run_has_status_1 : (texts : List (List ℕ)) (limit batch : ℕ) (bytes : Lis
 no_run_has_status_1 texts limit batch bytes h = none_is_1 (some_refused h.outcomes) (list_any (list_any was_faulty) h.outcomes) h.is_status
 
 -- Leaves
+what_a_run_leaves_in_its_writer :
+    {X : Type 0} (IsSuch : List ℕ → X → Type 0) (old new : Option (List ℕ)) (given : X) (refusal : RunFault)
+    → (Leaves IsSuch old new (Ok given) ↔ ((bytes : List ℕ) × IsSuch bytes given × Appends old new bytes))
+    × (Leaves IsSuch old new (Err (Run refusal)) ↔ ((refusal ≢ run.FeedCount) × (new ≡ old)))
+    × (Leaves IsSuch old new (Err Write) ↔ ((bytes : List ℕ) × (other : X) × IsSuch bytes other × AppendsBeginning old new bytes))
+what_a_run_leaves_in_its_writer IsSuch old new given refusal = ((λ h. h, λ h. h), (λ h. h, λ h. h), (λ h. h, λ h. h))
+
 behind_what_the_writer_had : Leaves (IsRunText (text ∷ []) 1 1) (Some (codes "x")) (Some (codes "x1:1 dumped 0\ntable 0\n")) (Ok 0)
 behind_what_the_writer_had = (codes "1:1 dumped 0\ntable 0\n", the_run_of_a_dump, refl)
 
@@ -526,6 +563,13 @@ abbrev the_tutorials_outcomes : List (List LineOutcome)
 the_tutorials_outcomes = north_read ∷ (skipped ∷ south_read) ∷ (skipped ∷ east_read) ∷ []
 
 -- IsShown
+what_is_told_of_a_run :
+    (texts : List (List ℕ)) (limit batch : ℕ) (text_of : List Route → List ℕ) (bytes : List ℕ) (summary : RunSummary)
+    (h : IsShown texts limit batch text_of bytes summary)
+    → IsHistory texts limit batch h.journal h.outcomes × (bytes ≡ text_of (table_of_journal limit h.journal))
+    × (summary.tallies.items ≡ map tally_of h.outcomes) × (summary.status ≡ status_of was_left_out h.outcomes)
+what_is_told_of_a_run texts limit batch text_of bytes summary h = (h.history, h.shown, h.tallied, h.is_status)
+
 what_is_told_of_the_tutorial :
     (text_of : List Route → List ℕ) (summary : RunSummary) → summary.tallies.items ≡ map tally_of the_tutorials_outcomes → summary.status ≡ 0
     → IsShown (north ∷ south ∷ east ∷ []) 65536 1 text_of (text_of (table_of_journal 65536 tutorial)) summary
@@ -660,6 +704,13 @@ the_run_who_is_inside_and_its_text :
 the_run_who_is_inside_and_its_text levels picks text h = (h.taken, h.told, h.printed)
 
 -- LeavesReplay
+what_a_replay_leaves :
+    (levels : ℕ) (picks : List ℕ) (old new : Option (List ℕ)) (status : ℕ) (refusal : ReplayFault)
+    → (LeavesReplay levels picks old new (Ok status) ↔ ((status ≡ 0) × (text : List ℕ) × IsReplayText levels picks text × Appends old new text))
+    × (LeavesReplay levels picks old new (Err (Replay refusal)) ↔ (new ≡ old))
+    × (LeavesReplay levels picks old new (Err Write) ↔ ((text : List ℕ) × IsReplayText levels picks text × AppendsBeginning old new text))
+what_a_replay_leaves levels picks old new status refusal = ((λ h. h, λ h. h), (λ h. h, λ h. h), (λ h. h, λ h. h))
+
 its_text_and_status_0 : LeavesReplay 1 [] (Some []) (Some (codes "inside none\n")) (Ok 0)
 its_text_and_status_0 = (refl, codes "inside none\n", nothing_picked, refl)
 
@@ -687,23 +738,24 @@ some_range_or_none d = (refl, refl, refl)
 
 -- LeavesTable
 what_a_run_leaves :
-    (table : List Route) (summary : RunSummary) (h : LeavesTable (text ∷ []) 7 1 table summary)
-    → IsHistory (text ∷ []) 7 1 h.journal h.outcomes × (table ≡ table_of_journal 7 h.journal)
+    (texts : List (List ℕ)) (limit batch : ℕ) (table : List Route) (summary : RunSummary) (h : LeavesTable texts limit batch table summary)
+    → IsHistory texts limit batch h.journal h.outcomes × (table ≡ table_of_journal limit h.journal)
     × (summary.tallies.items ≡ map tally_of h.outcomes) × (summary.status ≡ status_of was_left_out h.outcomes)
-what_a_run_leaves table summary h = (h.history, h.left, h.tallied, h.is_status)
+what_a_run_leaves texts limit batch table summary h = (h.history, h.left, h.tallied, h.is_status)
 
 -- IsDiffText
 what_two_runs_differ_in :
-    (bytes : List ℕ) (given : DiffSummary) (h : IsDiffText by.Route (text ∷ []) [] 7 1 bytes given)
-    → LeavesTable (text ∷ []) 7 1 h.old given.old × LeavesTable [] 7 1 h.new given.new × AreDifferences by.Route h.old h.new h.list
+    (by : By) (old_texts new_texts : List (List ℕ)) (limit batch : ℕ) (bytes : List ℕ) (given : DiffSummary)
+    (h : IsDiffText by old_texts new_texts limit batch bytes given)
+    → LeavesTable old_texts limit batch h.old given.old × LeavesTable new_texts limit batch h.new given.new × AreDifferences by h.old h.new h.list
     × (bytes ≡ differences_text h.list) × (given.status ≡ max (differ_status h.list) (max given.old.status given.new.status))
-what_two_runs_differ_in bytes given h = (h.old_left, h.new_left, h.differences, h.printed, h.is_status)
+what_two_runs_differ_in by old_texts new_texts limit batch bytes given h = (h.old_left, h.new_left, h.differences, h.printed, h.is_status)
 
 -- TellsUnions
 what_two_unions_differ_in :
-    (bytes : List ℕ) (h : TellsUnions by.Hop (text ∷ []) [] 7 bytes)
-    → IsUnion (text ∷ []) 7 h.old × IsUnion [] 7 h.new × AreDifferences by.Hop h.old h.new h.list × (bytes ≡ differences_text h.list)
-what_two_unions_differ_in bytes h = (h.old_union, h.new_union, h.differences, h.printed)
+    (by : By) (old_texts new_texts : List (List ℕ)) (limit : ℕ) (bytes : List ℕ) (h : TellsUnions by old_texts new_texts limit bytes)
+    → IsUnion old_texts limit h.old × IsUnion new_texts limit h.new × AreDifferences by h.old h.new h.list × (bytes ≡ differences_text h.list)
+what_two_unions_differ_in by old_texts new_texts limit bytes h = (h.old_union, h.new_union, h.differences, h.printed)
 
 -- DiffsUnions
 a_comparison_is_of_the_unions :

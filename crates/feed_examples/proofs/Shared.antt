@@ -2,7 +2,7 @@
 -- are computed.
 use Rattle.std.proofs.Common.{◌≡◌, ◌≢◌, ℕ, zero, suc, ◌+◌, ◌<◌, ◌≤◌, None, Some, List, [], ◌∷◌, ◌++◌, refl, sym, ap, subst, arith}
 use Rattle.std.specs.Prelude as std
-use Rattle.std.specs.Prelude.{All, length, map, slice_get, slice_index_or}
+use Rattle.std.specs.Prelude.{◌↔◌, All, length, map, slice_get, slice_index_or}
 use Rattle.std.specs.List.{flat_map}
 use mathlib.Core.Option.{Option, none, some, some-injective, some-ne-none}
 use Rattle.std.proofs.lemmas.List.Elements.{All-nil, All-cons}
@@ -10,20 +10,21 @@ use Rattle.ya_core.specs.declared.process.Process.{Process}
 use Rattle.ya_core.specs.declared.process.Process.TheVariants.{Idle, Inside}
 use Rattle.ya_core.specs.ArbitrationTree.{node_of, side_of}
 use Rattle.ya_core.specs.Steps.{opening}
-use Rattle.ya_core.specs.Worlds.{World, Event, Steps, Appends, opening_world}
+use Rattle.ya_core.specs.Worlds.{Marked, World, Event, Steps, Appends, IsReached, IsInside, opening_world}
 use Rattle.lock_examples.proofs.Core.{follow, runs}
 use Rattle.ya_lock.specs.Lock.{LockId}
 use Rattle.ya_lock.specs.declared.rule.View.TheVariants.{Seated}
-use Rattle.ya_lock.specs.LockState.{IsOf, HasProcess}
+use Rattle.ya_lock.specs.LockState.{IsOf, HasProcess, IsAway, NoneInside, OneInside}
 use Rattle.rt_rib.specs.declared.routes.Hop.TheVariants.{Discard}
 use Rattle.rt_rib.specs.declared.routes.Route.{Route}
 use Rattle.rt_rib.specs.declared.commands.Cmd.TheVariants.{Add, Lookup, Dump, Purge}
 use Rattle.rt_rib.specs.declared.commands.Reply.TheVariants.{Added, Full, Found, Dumped, Purged}
 use Rattle.rt_rib.specs.declared.commands.Entry.{Entry}
 use Rattle.rt_rib.specs.declared.commands.Cmd.{Cmd}
-use Rattle.rt_rib.specs.Laws.{feed_entries}
+use Rattle.rt_rib.specs.Laws.{feed_entries, IsBestMatch}
+use Rattle.rt_cidr.specs.declared.address.Addr.{Addr}
 use Rattle.rt_rib.specs.LookUp.{look_up}
-use Rattle.rt_rib.specs.Sequential.{reply_of, table_after, table_of_journal, IsLawfulJournal}
+use Rattle.rt_rib.specs.Sequential.{reply_of, table_after, table_of_journal, IsAnswered, IsLawfulJournal}
 use Rattle.rt_rib.specs.Book.{HoldsTable}
 use Rattle.table_examples.proofs.Cidr.{ten_8}
 use Rattle.table_examples.proofs.Rib.{at_10_1_2_3, route_via, entry, empty_book, holds_no_route}
@@ -51,6 +52,9 @@ none_by_1 = All-cons (λ e. e.feed ≢ 1) (dump 2) [] (λ same. cc) (All-nil (λ
 one_by_1_is : ¬ NoneBy 1 (dump 2 ∷ dump 1 ∷ [])
 one_by_1_is h = h 1 (dump 1) (omega arith) refl
 
+what_none_of_it_by_a_feed_says : (feed : ℕ) (part : List Entry) → NoneBy feed part ↔ All (λ e. e.feed ≢ feed) part
+what_none_of_it_by_a_feed_says feed part = (λ h. h, λ h. h)
+
 -- AllBy
 both_by_1 : AllBy 1 (dump 1 ∷ purge 1 ∷ [])
 both_by_1 = All-cons (λ e. e.feed ≡ 1) (dump 1) (purge 1 ∷ []) refl (All-cons (λ e. e.feed ≡ 1) (purge 1) [] refl (All-nil (λ e. e.feed ≡ 1)))
@@ -58,7 +62,17 @@ both_by_1 = All-cons (λ e. e.feed ≡ 1) (dump 1) (purge 1 ∷ []) refl (All-co
 one_by_2_is_not : ¬ AllBy 1 (dump 1 ∷ dump 2 ∷ [])
 one_by_2_is_not h = let feed : 2 ≡ 1 = h 1 (dump 1) (omega arith) in omega (arith, feed)
 
+what_all_of_it_by_a_feed_says : (feed : ℕ) (part : List Entry) → AllBy feed part ↔ All (λ e. e.feed ≡ feed) part
+what_all_of_it_by_a_feed_says feed part = (λ h. h, λ h. h)
+
 -- Since
+what_has_come_since :
+    (feed : ℕ) (seen now : List Entry) → Since feed seen now ↔ ((others : List Entry) × (now ≡ seen ++ others) × NoneBy feed others)
+what_has_come_since feed seen now = (
+  λ h. (h.others, h.grown, h.by_others),
+  λ (others, grown, by_others). record { others = others; grown = grown; by_others = by_others },
+)
+
 others_have_come : Since 1 (dump 1 ∷ []) (dump 1 ∷ dump 2 ∷ [])
 others_have_come = record { others = dump 2 ∷ []; grown = refl; by_others = none_by_1 }
 
@@ -97,6 +111,13 @@ no_piece [] rest same free =
 no_piece (e ∷ before) rest same free = let first : e ≡ dump 1 = cc in free 0 e (omega arith) (ap (λ (one : Entry). one.feed) first)
 
 -- Uncut
+no_visit_or_one_before_others :
+    (feed : ℕ) (visit : List Entry) (visits : List (List Entry)) (journal : List Entry)
+    → (Uncut feed [] journal ↔ NoneBy feed journal)
+    × (Uncut feed (visit ∷ visits) journal ↔ ((before rest : List Entry) × (journal ≡ before ++ (visit ++ rest)) × NoneBy feed before
+    × AllBy feed visit × Uncut feed visits rest))
+no_visit_or_one_before_others feed visit visits journal = ((λ h. h, λ h. h), (λ h. h, λ h. h))
+
 in_one_piece : Uncut 1 ((dump 1 ∷ purge 1 ∷ []) ∷ []) (dump 2 ∷ dump 1 ∷ purge 1 ∷ dump 2 ∷ [])
 in_one_piece = (dump 2 ∷ [], dump 2 ∷ [], refl, none_by_1, both_by_1, none_by_1)
 
@@ -135,15 +156,16 @@ a_settled_journal_has_what_each_pass_saw table passes journal settled = (settled
 
 -- MakesVisit
 a_visit_adds_what_was_answered :
-    (seen now : List Entry) (cmds : List Cmd) (outcomes : List Outcome) (visit : MakesVisit 5 1 seen cmds outcomes now)
-    → Since 1 seen visit.found × (length outcomes ≡ length cmds) × (now ≡ visit.found ++ answered 1 cmds outcomes) × IsLawfulJournal 5 now
-a_visit_adds_what_was_answered seen now cmds outcomes visit = (visit.since, visit.each, visit.added, visit.lawful)
+    (limit feed : ℕ) (seen now : List Entry) (cmds : List Cmd) (outcomes : List Outcome) (visit : MakesVisit limit feed seen cmds outcomes now)
+    → Since feed seen visit.found × (length outcomes ≡ length cmds) × (now ≡ visit.found ++ answered feed cmds outcomes) × IsLawfulJournal limit now
+a_visit_adds_what_was_answered limit feed seen now cmds outcomes visit = (visit.since, visit.each, visit.added, visit.lawful)
 
 -- MakesVisitWith
 its_outcomes_are_appended :
-    (seen now : List Entry) (cmds : List Cmd) (before after : List Outcome) (visit : MakesVisitWith 5 1 seen cmds before after now)
-    → (after ≡ before ++ visit.outcomes) × MakesVisit 5 1 seen cmds visit.outcomes now
-its_outcomes_are_appended seen now cmds before after visit = (visit.appended, visit.visit)
+    (limit feed : ℕ) (seen now : List Entry) (cmds : List Cmd) (before after : List Outcome)
+    (visit : MakesVisitWith limit feed seen cmds before after now)
+    → (after ≡ before ++ visit.outcomes) × MakesVisit limit feed seen cmds visit.outcomes now
+its_outcomes_are_appended limit feed seen now cmds before after visit = (visit.appended, visit.visit)
 
 -- SinceAgain
 what_came_in_two_steps_came : SinceAgain → (feed : ℕ) (a b c : List Entry) → Since feed a b → Since feed b c → Since feed a c
@@ -195,6 +217,9 @@ the_first_place_is_feed_1s = refl
 the_last_place_is_feed_64s : entry_of 63 (Dump, Dumped 0) ≡ dump 64
 the_last_place_is_feed_64s = refl
 
+what_a_place_did_as_an_entry : (place : ℕ) (act : Act) → entry_of place act ≡ record { feed = place + 1; cmd = act.0; reply = act.1 }
+what_a_place_did_as_an_entry place act = refl
+
 -- feed 1 puts a route in and feed 2 looks an address up, where both compete for the lock
 abbrev its_route : Route
 its_route = route_via ten_8 1 5 Discard
@@ -215,6 +240,11 @@ unfolding node_of side_of
 an_add_and_then_a_look_up = refl
 
 -- IsSequential
+as_the_sequential_table_answers :
+    (limit : ℕ) (earlier : List (Marked Act)) (x : Marked Act)
+    → IsSequential limit earlier x ↔ IsAnswered limit (journal_of earlier) (entry_of x.0 x.1)
+as_the_sequential_table_answers limit earlier x = (λ h. h, λ h. h)
+
 an_empty_table_is_dumped_as_0 : IsSequential 1 [] (0, (Dump, Dumped 0))
 unfolding table_of_journal reply_of
 an_empty_table_is_dumped_as_0 = refl
@@ -224,6 +254,11 @@ unfolding table_of_journal reply_of
 not_as_1 h = cc
 
 -- IsRunTo
+some_events_lead_there :
+    (limit levels : ℕ) (world : World Act)
+    → IsRunTo limit levels world ↔ ((1 ≤ levels) × (events : List (Event Act)) × IsReached levels (IsSequential limit) events world)
+some_events_lead_there limit levels world = (λ h. h, λ h. h)
+
 a_run_in_which_both_are_answered : IsRunTo 1 1 after_both
 unfolding node_of side_of table_of_journal table_after reply_of look_up
 a_run_in_which_both_are_answered = (
@@ -252,6 +287,10 @@ a_run_of_two_levels : IsRunTo 1 2 (follow 2 (Steps 3 ∷ []) opening_world)
 a_run_of_two_levels = (omega arith, Steps 3 ∷ [], runs 2 (IsSequential 1) (Steps 3 ∷ []) opening_world refl tt)
 
 -- NoTwoInside
+whoever_is_inside_is_one :
+    (world : World Act) → NoTwoInside world ↔ ((p q : ℕ) → IsInside world.state p → IsInside world.state q → p ≡ q)
+whoever_is_inside_is_one world = (λ h. h, λ h. h)
+
 nobody_at_the_start : NoTwoInside opening_world
 nobody_at_the_start p q one other = cc
 
@@ -292,6 +331,12 @@ each_feeds_entries_are_those_that_it_made :
 each_feeds_entries_are_those_that_it_made world h = h
 
 -- FindsBest
+what_each_look_up_found :
+    (limit : ℕ) (journal : List Entry) → FindsBest limit journal
+    ↔ ((feed : ℕ) (addr : Addr) (r : Route) (earlier later : List Entry)
+    → journal ≡ earlier ++ record { feed = feed; cmd = Lookup addr; reply = Found r } ∷ later → IsBestMatch addr (table_of_journal limit earlier) r)
+what_each_look_up_found limit journal = (λ h. h, λ h. h)
+
 no_look_up_no_wrong_one : FindsBest 1 (dump 1 ∷ [])
 no_look_up_no_wrong_one feed addr r [] later same =
     let first : dump 1 ≡ entry feed (Lookup addr) (Found r) = cc in
@@ -368,6 +413,10 @@ by_feed_2 = record { others = dump 2 ∷ []; grown = refl; by_others = none_by_1
 while_the_first_place_was_away : GrowsByOthers 0 new dumped
 while_the_first_place_was_away = record { same = the_journal_alone_has_changed; since = by_feed_2 }
 
+while_any_place_was_away :
+    (place : ℕ) (a b : Lent) → GrowsByOthers place a b ↔ (HasSameBounds a b × Since (feed_of place) a.book.journal b.book.journal)
+while_any_place_was_away place a b = (λ h. (h.same, h.since), λ (same, since). record { same = same; since = since })
+
 not_while_the_second_was : ¬ GrowsByOthers 1 new dumped
 not_while_the_second_was h = not_its_own 2 h.since
 
@@ -383,8 +432,10 @@ by_the_second_place = record {
   by_feed = All-cons (λ e. e.feed ≡ 2) (dump 2) [] refl (All-nil (λ e. e.feed ≡ 2));
 }
 
-its_own_entries_at_the_end : (a b : Lent) (grows : GrowsByFeed 1 a b) → HasSameBounds a b × (b.book.journal ≡ a.book.journal ++ grows.own) × AllBy 2 grows.own
-its_own_entries_at_the_end a b grows = (grows.same, grows.added, grows.by_feed)
+its_own_entries_at_the_end :
+    (place : ℕ) (a b : Lent) (grows : GrowsByFeed place a b)
+    → HasSameBounds a b × (b.book.journal ≡ a.book.journal ++ grows.own) × AllBy (feed_of place) grows.own
+its_own_entries_at_the_end place a b grows = (grows.same, grows.added, grows.by_feed)
 
 -- MakesVisit
 a_dump_by_itself : MakesVisit 1 2 [] (Dump ∷ []) (Did (Dumped 0) ∷ []) (dump 2 ∷ [])
@@ -418,6 +469,9 @@ any_seats_process_has_one :
 any_seats_process_has_one s seat place process seen has = (seat, place, (process, (seen, has)))
 
 -- BookInSlot
+what_lies_in_its_slot : (s : Moment) (lent : Lent) → BookInSlot s lent ↔ (s.homes ≡ some (Some lent) ∷ [])
+what_lies_in_its_slot s lent = (λ h. h, λ h. h)
+
 it_lies_there : BookInSlot at_rest dumped
 it_lies_there = refl
 
@@ -464,7 +518,15 @@ the_trie_holds_what_the_journal_leaves s rest = rest.holds
 the_journal_is_lawful : (s : Moment) (rest : IsAtRest s) → IsLawfulJournal rest.lent.book.limit rest.lent.book.journal
 the_journal_is_lawful s rest = rest.lawful
 
+what_a_pass_away_has_seen :
+    (s : Moment) (rest : IsAtRest s) → BookInSlot s rest.lent
+    × ((seat place : ℕ) (seen : Lent) → IsAway s seat place seen → Since (feed_of place) seen.book.journal rest.lent.book.journal)
+what_a_pass_away_has_seen s rest = (rest.in_slot, rest.since)
+
 -- MeetsHeadline
+what_a_moment_meets : (s : Moment) → MeetsHeadline s ↔ (OneInside s × (HasPass s → NoneInside s → IsAtRest s))
+what_a_moment_meets s = (λ h. (h.exclusion, h.at_rest), λ (exclusion, at_rest). record { exclusion = exclusion; at_rest = at_rest })
+
 both_away : MeetsHeadline at_rest
 both_away = record {
   exclusion = λ one other p q v w a b. let idle = (seen_by (some (Some dumped) ∷ []) one p Inside v a).0 in cc;

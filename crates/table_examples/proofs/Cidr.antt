@@ -187,6 +187,11 @@ its_octets :
 its_octets text address h = (h.is_first, h.is_second, h.is_third, h.is_fourth, h.joined, h.value)
 
 -- IsPrefixText
+an_address_a_slash_and_a_length :
+    (text : List ℕ) (address len : ℕ) (h : IsPrefixText text address len)
+    → IsAddressText h.address_part address × IsDecimal h.len_part len × (text ≡ h.address_part ++ 47 ∷ h.len_part)
+an_address_a_slash_and_a_length text address len h = (h.is_address, h.is_len, h.joined)
+
 pair_10_0_0_0_8 : IsPrefixText (codes "10.0.0.0/8") 167772160 8
 pair_10_0_0_0_8 = record { address_part = codes "10.0.0.0"; len_part = codes "8"; is_address = address_10_0_0_0; is_len = decimal_8; joined = refl }
 
@@ -219,9 +224,9 @@ a_prefix_as_it_is_written : prefix_text 167772160 8 ≡ codes "10.0.0.0/8"
 unfolding digits address_text prefix_text
 a_prefix_as_it_is_written = refl
 
-the_address_a_slash_and_the_length : prefix_text 7 8 ≡ address_text 7 ++ 47 ∷ decimal 8
+the_address_a_slash_and_the_length : (base len : ℕ) → prefix_text base len ≡ address_text base ++ 47 ∷ decimal len
 unfolding prefix_text
-the_address_a_slash_and_the_length = refl
+the_address_a_slash_and_the_length base len = refl
 
 -- whether a byte stands in a text
 abbrev pub has_byte : ℕ → List ℕ → Bool

@@ -1,7 +1,7 @@
 -- Examples by which the definitions of rt_diff are tested, each under a line with the definition's name. Both sides are
 -- computed, and what a relation or a law says is spelled out for some values.
 use Rattle.std.proofs.Common.{◌≡◌, ℕ, ◌+◌, ◌<◌, ◌≤◌, Some, None, List, [], ◌∷◌, refl, arith}
-use Rattle.std.specs.Prelude.{◌≢◌, All, Any}
+use Rattle.std.specs.Prelude.{◌≢◌, ◌↔◌, ◌^◌, All, Any}
 use Rattle.std.specs.List.{AllPairs}
 use Rattle.std.proofs.lemmas.List.Elements.{All-nil}
 use Rattle.rt_cidr.specs.declared.address.Addr.{Addr}
@@ -13,6 +13,7 @@ use Rattle.table_examples.proofs.Cidr.{ten_8}
 use Rattle.table_examples.proofs.Rib.{ten_1_16, at_10_1_2_3, at_10_9_0_1, via_192_0_2, route_via}
 use Rattle.rt_diff.specs.declared.answers.By.{By}
 use Rattle.rt_diff.specs.declared.answers.By.TheVariants as by
+use Rattle.rt_diff.specs.declared.answers.Answer.{Answer}
 use Rattle.rt_diff.specs.declared.answers.Answer.TheVariants as answer
 use Rattle.rt_diff.specs.declared.differences.Difference.{Difference}
 use Rattle.rt_diff.specs.Answers.{answer_by, answer_of}
@@ -57,6 +58,9 @@ is_another_route : ¬ IsAlike by.Route (by_1 ∷ []) (by_1 ∷ longer_by (via_19
 unfolding look_up
 is_another_route same = cc
 
+where_both_answer_alike : (by : By) (old new : List Route) (addr : Addr) → IsAlike by old new addr ↔ (answer_of by addr old ≡ answer_of by addr new)
+where_both_answer_alike by old new addr = (λ h. h, λ h. h)
+
 -- HasAnswers
 first_the_old_ones_then_the_new_ones : HasAnswers by.Hop (by_1 ∷ []) [] at_10_1_2_3 (answer.Hop (via_192_0_2 1)) answer.NoRoute
 unfolding look_up
@@ -65,6 +69,11 @@ first_the_old_ones_then_the_new_ones = (refl, refl)
 not_exchanged : ¬ HasAnswers by.Hop (by_1 ∷ []) [] at_10_1_2_3 answer.NoRoute (answer.Hop (via_192_0_2 1))
 unfolding look_up
 not_exchanged answers = let of_old = answers.0 in cc
+
+what_each_table_answers :
+    (by : By) (old new : List Route) (addr : Addr) (of_old of_new : Answer)
+    → HasAnswers by old new addr of_old of_new ↔ ((answer_of by addr old ≡ of_old) × (answer_of by addr new ≡ of_new))
+what_each_table_answers by old new addr of_old of_new = (λ h. h, λ h. h)
 
 -- IsWithin
 its_first_and_its_last : IsWithin (range 10 20) (at 10) × IsWithin (range 10 20) (at 20)
@@ -94,6 +103,14 @@ what_a_range_is old new h = (h.some, h.fits, h.each, h.differ)
 no_range_without_an_address : (old new : List Route) → ¬ IsDifference by.Hop old new (range 20 10)
 no_range_without_an_address old new h = omega (arith, h.some)
 
+what_any_range_is :
+    (by : By) (old new : List Route) (d : Difference) → IsDifference by old new d
+    ↔ ((d.first.0 ≤ d.last.0) × (d.last.0 < 2 ^ 32) × ((addr : Addr) → IsWithin d addr → HasAnswers by old new addr d.old d.new) × (d.old ≢ d.new))
+what_any_range_is by old new d = (
+  λ h. (h.some, h.fits, h.each, h.differ),
+  λ (some, fits, each, differ). record { some = some; fits = fits; each = each; differ = differ },
+)
+
 -- IsNextDifference
 what_the_first_range_from_5_on_is :
     (old new : List Route) → IsNextDifference by.Hop old new (at 5) (range 10 20)
@@ -104,6 +121,15 @@ what_the_first_range_from_5_on_is old new h = (h.onward, h.before, h.difference,
 not_one_before_5 : (old new : List Route) → ¬ IsNextDifference by.Hop old new (at 5) (range 4 20)
 not_one_before_5 old new h = omega (arith, h.onward)
 
+what_the_first_range_from_an_address_on_is :
+    (by : By) (old new : List Route) (from : Addr) (d : Difference) → IsNextDifference by old new from d
+    ↔ ((from.0 ≤ d.first.0) × ((addr : Addr) → from.0 ≤ addr.0 → addr.0 < d.first.0 → IsAlike by old new addr) × IsDifference by old new d
+    × ((addr : Addr) → addr.0 ≡ d.last.0 + 1 → addr.0 < 2 ^ 32 → ¬ HasAnswers by old new addr d.old d.new))
+what_the_first_range_from_an_address_on_is by old new from d = (
+  λ h. (h.onward, h.before, h.difference, h.longest),
+  λ (onward, before, difference, longest). record { onward = onward; before = before; difference = difference; longest = longest },
+)
+
 -- IsFirstDifference
 none_where_all_are_alike :
     (old new : List Route) → ((addr : Addr) → 5 ≤ addr.0 → addr.0 < 4294967296 → IsAlike by.Hop old new addr) → IsFirstDifference by.Hop old new (at 5) None
@@ -112,6 +138,12 @@ none_where_all_are_alike old new h = h
 that_range_where_it_is_the_first :
     (old new : List Route) → IsNextDifference by.Hop old new (at 5) (range 10 20) → IsFirstDifference by.Hop old new (at 5) (Some (range 10 20))
 that_range_where_it_is_the_first old new h = h
+
+the_first_one_or_none_from_an_address_on :
+    (by : By) (old new : List Route) (from : Addr) (d : Difference)
+    → (IsFirstDifference by old new from None ↔ ((addr : Addr) → from.0 ≤ addr.0 → addr.0 < 2 ^ 32 → IsAlike by old new addr))
+    × (IsFirstDifference by old new from (Some d) ↔ IsNextDifference by old new from d)
+the_first_one_or_none_from_an_address_on by old new from d = ((λ h. h, λ h. h), (λ h. h, λ h. h))
 
 -- a route and an empty table, compared by next hops
 abbrev one_and_none : Compared
@@ -137,6 +169,15 @@ what_a_list_of_ranges_says :
     × AllPairs (λ (c d : Difference). c.last.0 < d.first.0) list
     × AllPairs (λ (c d : Difference). c.last.0 + 1 ≡ d.first.0 → ¬ HaveSameAnswers c d) list
 what_a_list_of_ranges_says old new list h = (h.each, h.all, h.rising, h.fewest)
+
+what_any_list_of_ranges_is :
+    (by : By) (old new : List Route) (list : List Difference) → AreDifferences by old new list
+    ↔ (All (IsDifference by old new) list × ((addr : Addr) → addr.0 < 2 ^ 32 → ¬ IsAlike by old new addr → Any (λ d. IsWithin d addr) list)
+    × AllPairs (λ c d. c.last.0 < d.first.0) list × AllPairs (λ c d. c.last.0 + 1 ≡ d.first.0 → ¬ HaveSameAnswers c d) list)
+what_any_list_of_ranges_is by old new list = (
+  λ h. (h.each, h.all, h.rising, h.fewest),
+  λ (each, all, rising, fewest). record { each = each; all = all; rising = rising; fewest = fewest },
+)
 
 -- HaveDifferences
 what_two_tables_have : HaveDifferences → (by : By) (old new : List Route) → (list : List Difference) × AreDifferences by old new list
