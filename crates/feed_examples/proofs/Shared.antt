@@ -2,7 +2,7 @@
 -- are computed.
 use Rattle.std.proofs.Common.{◌≡◌, ◌≢◌, ℕ, zero, suc, ◌+◌, ◌<◌, ◌≤◌, None, Some, List, [], ◌∷◌, ◌++◌, refl, sym, ap, subst, arith}
 use Rattle.std.specs.Prelude as std
-use Rattle.std.specs.Prelude.{◌↔◌, All, length, map, slice_get, slice_index_or}
+use Rattle.std.specs.Prelude.{◌↔◌, All, length, map, zip, slice_get, slice_index_or}
 use Rattle.std.specs.List.{flat_map}
 use mathlib.Core.Option.{Option, none, some, some-injective, some-ne-none}
 use Rattle.std.proofs.lemmas.List.Elements.{All-nil, All-cons}
@@ -19,6 +19,7 @@ use Rattle.rt_rib.specs.declared.routes.Hop.TheVariants.{Discard}
 use Rattle.rt_rib.specs.declared.routes.Route.{Route}
 use Rattle.rt_rib.specs.declared.commands.Cmd.TheVariants.{Add, Lookup, Dump, Purge}
 use Rattle.rt_rib.specs.declared.commands.Reply.TheVariants.{Added, Full, Found, Dumped, Purged}
+use Rattle.rt_rib.specs.declared.commands.Reply.{Reply}
 use Rattle.rt_rib.specs.declared.commands.Entry.{Entry}
 use Rattle.rt_rib.specs.declared.commands.Cmd.{Cmd}
 use Rattle.rt_rib.specs.Laws.{feed_entries, IsBestMatch}
@@ -90,6 +91,9 @@ with_its_reply = refl
 none_where_it_was_refused : reply_to Dump Refused ≡ []
 none_where_it_was_refused = refl
 
+any_command_with_its_reply : (cmd : Cmd) (reply : Reply) → (reply_to cmd (Did reply) ≡ (cmd, reply) ∷ []) × (reply_to cmd Refused ≡ [])
+any_command_with_its_reply cmd reply = (refl, refl)
+
 -- visit_of
 what_was_refused_is_no_part_of_it : visit_of ((Dump, Did (Dumped 0)) ∷ (Purge, Refused) ∷ (Dump, Did (Dumped 1)) ∷ []) ≡ (Dump, Dumped 0) ∷ (Dump, Dumped 1) ∷ []
 what_was_refused_is_no_part_of_it = refl
@@ -98,9 +102,16 @@ what_was_refused_is_no_part_of_it = refl
 as_entries_of_feed_64 : entries 64 ((Dump, Dumped 0) ∷ (Purge, Purged 0) ∷ []) ≡ dump 64 ∷ purge 64 ∷ []
 as_entries_of_feed_64 = refl
 
+as_entries_of_any_feed : (feed : ℕ) (visit : Visit) → entries feed visit ≡ map (λ p. record { feed = feed; cmd = p.0; reply = p.1 }) visit
+as_entries_of_any_feed feed visit = refl
+
 -- answered
 what_was_refused_has_no_entry : answered 1 (Dump ∷ Purge ∷ Purge ∷ []) (Did (Dumped 0) ∷ Refused ∷ Did (Purged 0) ∷ []) ≡ dump 1 ∷ purge 1 ∷ []
 what_was_refused_has_no_entry = refl
+
+what_any_feed_was_answered :
+    (feed : ℕ) (cmds : List Cmd) (outcomes : List Outcome) → answered feed cmds outcomes ≡ entries feed (visit_of (zip cmds outcomes))
+what_any_feed_was_answered feed cmds outcomes = refl
 
 -- an entry of feed 2 stands between the two
 no_piece : (before rest : List Entry) → dump 1 ∷ dump 2 ∷ purge 1 ∷ [] ≡ before ++ (dump 1 ∷ purge 1 ∷ rest) → ¬ NoneBy 1 before
@@ -212,6 +223,9 @@ passes_of_the_same_table_and_feeds law = law
 -- feed_of
 the_first_place_is_feed_1s : feed_of 0 ≡ 1
 the_first_place_is_feed_1s = refl
+
+the_feed_of_any_place : (place : ℕ) → feed_of place ≡ place + 1
+the_feed_of_any_place place = refl
 
 -- entry_of
 the_last_place_is_feed_64s : entry_of 63 (Dump, Dumped 0) ≡ dump 64

@@ -14,7 +14,8 @@ use Rattle.rt_rib.specs.declared.commands.Cmd.TheVariants.{Add, Replace, Withdra
 use Rattle.rt_rib.specs.declared.commands.Reply.{Reply}
 use Rattle.rt_rib.specs.declared.commands.Reply.TheVariants.{Added, Exists, Full, Replaced, Withdrawn, Missing, Found, NoRoute, Dumped, Purged}
 use Rattle.rt_rib.specs.declared.commands.Entry.{Entry}
-use Rattle.rt_trie.specs.Map.{get, same_prefix}
+use Rattle.rt_trie.specs.Map.{get, same_prefix, IsOrdered}
+use Rattle.rt_trie.specs.Lawful.{IsLawful}
 use Rattle.rt_trie.specs.Tree.{Tree, Vacant, Node}
 use Rattle.rt_rib.specs.declared.offers.Offer.{Offer}
 use Rattle.rt_rib.specs.Maps.{outranks, is_from, IsRanked, IsOffers, Map, route_by, routes_of, IsMap}
@@ -194,6 +195,11 @@ another_order_is_no_table h = let same = h.ordered 0 1 (route ten_8 1 50) (omega
 
 two_of_one_feed_and_prefix_are_no_table : ¬ IsTable (route ten_8 1 10 ∷ route ten_8 1 50 ∷ [])
 two_of_one_feed_and_prefix_are_no_table h = let same = h.single 0 1 (route ten_8 1 50) (omega arith) (omega arith) in cc
+
+what_a_table_is :
+    (table : List Route) → IsTable table
+    ↔ (AllPairs (λ r s. precedes r s ≡ true) table × AllPairs (λ r s. is_of s.feed s.prefix r ≡ false) table)
+what_a_table_is table = (λ h. (h.ordered, h.single), λ (ordered, single). record { ordered = ordered; single = single })
 
 -- matching
 matching_leaves_the_prefixes_that_cover : matching at_10_2_3_4 nested ≡ route everything 1 200 ∷ route ten_8 1 100 ∷ []
@@ -421,6 +427,10 @@ not_answered_added_twice :
 unfolding table_of_journal table_after reply_of
 not_answered_added_twice h = cc
 
+as_in_the_table_that_earlier_entries_leave :
+    (limit : ℕ) (earlier : List Entry) (e : Entry) → IsAnswered limit earlier e ↔ (e.reply ≡ reply_of limit (table_of_journal limit earlier) e.feed e.cmd)
+as_in_the_table_that_earlier_entries_leave limit earlier e = (λ h. h, λ h. h)
+
 -- IsLawfulJournal
 a_lawful_journal : IsLawfulJournal 1 (two_look_ups NoRoute)
 unfolding table_of_journal table_after reply_of look_up
@@ -453,8 +463,9 @@ unfolding table_of_journal table_after reply_of look_up
 one_entry_of_it_left_out h = let first = h.answered [] (entry 1 (Lookup at_10_1_2_3) (Found (route ten_8 1 5))) [] refl in cc
 
 each_entry_is_answered :
-    (earlier later : List Entry) (e : Entry) → IsLawfulJournal 1 (earlier ++ e ∷ later) → e.reply ≡ reply_of 1 (table_of_journal 1 earlier) e.feed e.cmd
-each_entry_is_answered earlier later e h = h.answered earlier e later refl
+    (limit : ℕ) (journal : List Entry) → IsLawfulJournal limit journal
+    ↔ ((earlier : List Entry) (e : Entry) (later : List Entry) → journal ≡ earlier ++ e ∷ later → IsAnswered limit earlier e)
+each_entry_is_answered limit journal = (λ h. h.answered, λ answered. record { answered = answered })
 
 -- IsBestMatch
 the_longest_is_the_best_match : IsBestMatch at_10_2_3_4 (route ten_8 2 30 ∷ []) (route ten_8 2 30)
@@ -470,11 +481,14 @@ one_of_greater_preference_is_no_best_match :
 one_of_greater_preference_is_no_best_match h = let better = h.best (route ten_8 2 30) (0, omega arith, refl) refl refl in cc
 
 what_a_best_match_is :
-    (table : List Route) → IsBestMatch at_10_1_2_3 table (route ten_8 1 5)
-    → Contains table (route ten_8 1 5) × (covers ten_8 at_10_1_2_3 ≡ true)
-    × ((s : Route) → Contains table s → covers s.prefix at_10_1_2_3 ≡ true → s.prefix.len ≤ 8)
-    × ((s : Route) → Contains table s → covers s.prefix at_10_1_2_3 ≡ true → s.prefix.len ≡ 8 → is_better s (route ten_8 1 5) ≡ false)
-what_a_best_match_is table h = (h.contained, h.covering, h.longest, h.best)
+    (addr : Addr) (table : List Route) (r : Route) → IsBestMatch addr table r
+    ↔ (Contains table r × (covers r.prefix addr ≡ true)
+    × ((s : Route) → Contains table s → covers s.prefix addr ≡ true → s.prefix.len ≤ r.prefix.len)
+    × ((s : Route) → Contains table s → covers s.prefix addr ≡ true → s.prefix.len ≡ r.prefix.len → is_better s r ≡ false))
+what_a_best_match_is addr table r = (
+  λ h. (h.contained, h.covering, h.longest, h.best),
+  λ (contained, covering, longest, best). record { contained = contained; covering = covering; longest = longest; best = best },
+)
 
 -- is_own
 an_add_is_its_own : is_own (Add ten_8 5 Discard) ≡ true
@@ -548,6 +562,11 @@ the_best_comes_first h = let same = h.ordered 0 1 (offer 1 50) (omega arith) (om
 a_feed_has_one_offer : ¬ IsRanked (offer 1 30 ∷ offer 1 50 ∷ [])
 a_feed_has_one_offer h = let same = h.single 0 1 (offer 1 30) (omega arith) (omega arith) in cc
 
+what_ranked_offers_are :
+    (offers : List Offer) → IsRanked offers
+    ↔ (AllPairs (λ a b. outranks a b ≡ true) offers × AllPairs (λ a b. is_from b.feed a ≡ false) offers)
+what_ranked_offers_are offers = (λ h. (h.ordered, h.single), λ (ordered, single). record { ordered = ordered; single = single })
+
 -- IsOffers
 two_are_offers : IsOffers (offer 2 30 ∷ offer 1 50 ∷ [])
 two_are_offers = record { some = omega arith; ranked = two_ranked }
@@ -582,6 +601,9 @@ no_prefix_without_offers h = none_is_not (h.each ten_8 [] refl)
 
 no_prefix_twice : ¬ IsMap ((ten_8, offer 2 30 ∷ []) ∷ (ten_8, offer 1 50 ∷ []) ∷ [])
 no_prefix_twice h = let same = h.ordered.0.0 in cc
+
+what_a_map_is : (m : Map) → IsMap m ↔ (IsOrdered m × ((p : Prefix) (offers : List Offer) → get m p ≡ Some offers → IsOffers offers))
+what_a_map_is m = (λ h. (h.ordered, h.each), λ (ordered, each). record { ordered = ordered; each = each })
 
 -- route_by
 the_route_of_an_offer : route_by ten_8 (offer 2 30) ≡ route ten_8 2 30
@@ -638,6 +660,8 @@ a_node_without_its_value : ¬ HoldsTable
     (book_with (record { pairs = two_prefixes; nodes = 2; tree = Node ten_8 false (Node ten_1_16 true Vacant Vacant) Vacant }))
 a_node_without_its_value h = let stored = h.lawful.stored in cc
 
+what_a_book_holds : (book : BookContents) → HoldsTable book ↔ HoldsRoutes book.trie (table_of_journal book.limit book.journal)
+what_a_book_holds book = (λ h. h, λ h. h)
 -- a trie of one prefix with one offer
 abbrev one_offer : OfferTrie
 one_offer = record { pairs = (ten_8, offer 1 5 ∷ []) ∷ []; nodes = 1; tree = Node ten_8 true Vacant Vacant }
@@ -665,6 +689,14 @@ not_by_a_prefix_without_offers h = none_is_not (h.map.each ten_8 [] refl)
 
 none_of_them_twice : (trie : OfferTrie) → ¬ HoldsRoutes trie (route ten_8 1 5 ∷ route ten_8 1 5 ∷ [])
 none_of_them_twice trie h = let same = h.once.single 0 1 (route ten_8 1 5) (omega arith) (omega arith) in cc
+
+what_a_trie_holds :
+    (trie : OfferTrie) (routes : List Route) → HoldsRoutes trie routes
+    ↔ (IsLawful trie × IsMap trie.pairs × (routes_of trie.pairs ≡ routes) × IsTable routes)
+what_a_trie_holds trie routes = (
+  λ h. (h.lawful, h.map, h.exactly, h.once),
+  λ (lawful, map, exactly, once). record { lawful = lawful; map = map; exactly = exactly; once = once },
+)
 
 -- a book without a route
 abbrev pub empty_book : List Entry → BookContents
@@ -729,10 +761,9 @@ matches_begin_with_the_longest : ¬ AreMatches at_10_2_3_4 nested (route everyth
 matches_begin_with_the_longest h = let order = h.ordered 0 1 (route ten_8 1 100) (omega arith) (omega arith) in cc
 
 what_matches_are :
-    (table matches : List Route) → AreMatches at_10_1_2_3 table matches
-    → ((r : Route) → Contains matches r ↔ (Contains table r × (covers r.prefix at_10_1_2_3 ≡ true)))
-    × AllPairs (λ r s. beats r s ≡ true) matches
-what_matches_are table matches h = (h.exactly, h.ordered)
+    (addr : Addr) (table matches : List Route) → AreMatches addr table matches
+    ↔ (((r : Route) → Contains matches r ↔ (Contains table r × (covers r.prefix addr ≡ true))) × AllPairs (λ r s. beats r s ≡ true) matches)
+what_matches_are addr table matches = (λ h. (h.exactly, h.ordered), λ (exactly, ordered). record { exactly = exactly; ordered = ordered })
 
 -- LookUpAllFindsMatches
 a_look_up_of_all_finds_the_matches :
@@ -774,18 +805,24 @@ each_feed_stands_alone :
 each_feed_stands_alone law = law
 
 -- Applies
-what_an_answered_dump_does :
-    (old new : BookContents) → Applies old new 2 Dump (Dumped 0)
-    → (Dumped 0 ≡ reply_of old.limit (table_of old) 2 Dump) × (new.limit ≡ old.limit)
-    × (new.journal ≡ old.journal ++ entry 2 Dump (Dumped 0) ∷ []) × (old.room ≤ new.room + 1)
-what_an_answered_dump_does old new h = (h.replied, h.limited, h.journaled, h.roomy)
+what_an_answered_command_does :
+    (old new : BookContents) (feed : ℕ) (cmd : Cmd) (reply : Reply) → Applies old new feed cmd reply
+    ↔ ((reply ≡ reply_of old.limit (table_of old) feed cmd) × (new.limit ≡ old.limit)
+    × (new.journal ≡ old.journal ++ record { feed = feed; cmd = cmd; reply = reply } ∷ []) × (old.room ≤ new.room + 1))
+what_an_answered_command_does old new feed cmd reply = (
+  λ h. (h.replied, h.limited, h.journaled, h.roomy),
+  λ (replied, limited, journaled, roomy). record { replied = replied; limited = limited; journaled = journaled; roomy = roomy },
+)
 
 -- Refuses
-what_a_refused_dump_leaves :
-    (old new : BookContents) → Refuses old new 2 Dump
-    → (new.limit ≡ old.limit) × (new.journal ≡ old.journal) × (new.trie ≡ old.trie) × (old.room ≤ new.room)
-    × ((old.room ≡ 0) ⊎ (reply_of old.limit (table_of old) 2 Dump ≡ Added))
-what_a_refused_dump_leaves old new h = (h.limited, h.journaled, h.kept, h.roomy, h.wanted)
+what_a_refused_command_leaves :
+    (old new : BookContents) (feed : ℕ) (cmd : Cmd) → Refuses old new feed cmd
+    ↔ ((new.limit ≡ old.limit) × (new.journal ≡ old.journal) × (new.trie ≡ old.trie) × (old.room ≤ new.room)
+    × ((old.room ≡ 0) ⊎ (reply_of old.limit (table_of old) feed cmd ≡ Added)))
+what_a_refused_command_leaves old new feed cmd = (
+  λ h. (h.limited, h.journaled, h.kept, h.roomy, h.wanted),
+  λ (limited, journaled, kept, roomy, wanted). record { limited = limited; journaled = journaled; kept = kept; roomy = roomy; wanted = wanted },
+)
 
 -- Reserves
 what_a_book_with_room_is :
