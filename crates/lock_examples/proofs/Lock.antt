@@ -3,19 +3,22 @@
 -- which others can only raise.
 use Rattle.std.proofs.Common.{◌≡◌, ◌≢◌, ℕ, zero, suc, ◌+◌, ◌≤◌, List, [], ◌∷◌, ◌++◌, ◌∙◌, refl, sym, subst, arith, None, Some, replicate, set}
 use Rattle.std.specs.Prelude as std
-use Rattle.std.specs.Prelude.{IsTrue, ◌<◌, ◌^◌, true, false, length, slice_get, slice_index}
+use Rattle.std.specs.Prelude.{IsTrue, ◌↔◌, ◌<◌, ◌^◌, ◌*◌, ◌-◌, if◌then◌else◌, true, false, length, slice_get, slice_index}
 use mathlib.Core.Option.{Option, none, some, some-injective, some-ne-none}
 use lib.ListN.{get_elem?}
 use Rattle.atomic_table.specs.Table.{State}
 use Rattle.ya_core.specs.declared.word.Word.{Word}
 use Rattle.ya_core.specs.declared.word.Word.TheVariants.{C, P}
+use Rattle.ya_core.specs.declared.process.EntryPoint.{EntryPoint}
 use Rattle.ya_core.specs.declared.process.EntryPoint.TheVariants.{E1, E2, E3, E4, E8}
+use Rattle.ya_core.specs.declared.process.ExitPoint.{ExitPoint}
 use Rattle.ya_core.specs.declared.process.ExitPoint.TheVariants.{X1}
 use Rattle.ya_core.specs.declared.process.Process.{Process}
 use Rattle.ya_core.specs.declared.process.Process.TheVariants.{Idle, Entering, Inside, Leaving}
 use Rattle.ya_core.specs.ArbitrationTree.{node_of, side_of, number_of, count_of_words}
 use Rattle.ya_core.specs.Steps.{Accesses, access_of, next_of, value_of}
 use Rattle.ya_core.specs.WalkerModel.{cost_of}
+use Rattle.ya_core.specs.FlatRow.{is_word}
 use Rattle.ya_core.specs.Soundness.{IsSoundState, claims, phase_of}
 use Rattle.ya_core.proofs.Promised.{opens}
 use Rattle.ya_lock.specs.declared.rule.View.{View}
@@ -39,10 +42,18 @@ the_last_word_of_one_level : index_of 1 (P 1 1) ≡ 32
 unfolding index_of number_of
 the_last_word_of_one_level = refl
 
+eight_words_apart : (levels : ℕ) (word : Word) → index_of levels word ≡ 8 * number_of levels word
+unfolding index_of
+eight_words_apart levels word = refl
+
 -- making_index
 a_cache_line_behind_it : making_index 1 ≡ 40
 unfolding making_index count_of_words
 a_cache_line_behind_it = refl
+
+behind_all_words_of_any_tree : (levels : ℕ) → making_index levels ≡ 8 * count_of_words levels
+unfolding making_index
+behind_all_words_of_any_tree levels = refl
 
 -- words_in
 what_lies_at_its_index : words_in 1 (replicate 32 0 ++ 9 ∷ []) (P 1 1) ≡ 9
@@ -52,6 +63,12 @@ what_lies_at_its_index = refl
 a_word_that_the_tree_has_not : words_in 1 (replicate 41 9) (C 1 1 0) ≡ 0
 unfolding words_in
 a_word_that_the_tree_has_not = refl
+
+what_any_row_holds :
+    (levels : ℕ) (row : List ℕ) (word : Word)
+    → words_in levels row word ≡ (if is_word levels word then slice_index row (index_of levels word) else 0)
+unfolding words_in
+what_any_row_holds levels row word = refl
 
 -- IsOf
 a_place_away_has_seen_a_value : IsOf {V = ℕ} (Seated 1 (Entering 1 E8) 5 4) 1 (Entering 1 E8) 5
@@ -431,16 +448,16 @@ no_seat_has_one_inside s h = h
 
 -- GoesOn
 its_step_changes_the_process :
-    (s : State (std.Option ℕ) (View ℕ)) (process : Process) → GoesOn s 2 1 process
-    → next_of 2 1 process (value_of (words_in 2 s.words) (access_of 2 1 process)) ≢ process
-its_step_changes_the_process s process h = h
+    (s : State (std.Option ℕ) (View ℕ)) (levels place : ℕ) (process : Process) → GoesOn s levels place process
+    ↔ (next_of levels place process (value_of (words_in levels s.words) (access_of levels place process)) ≢ process)
+its_step_changes_the_process s levels place process = (λ h. h, λ h. h)
 
 -- SomeSeatGoesOn
 where_one_takes_part_one_goes_on :
-    (s : State (std.Option ℕ) (View ℕ)) → SomeSeatGoesOn s 2 → (seat place : ℕ) (process : Process) (value : ℕ)
+    (s : State (std.Option ℕ) (View ℕ)) (levels : ℕ) → SomeSeatGoesOn s levels → (seat place : ℕ) (process : Process) (value : ℕ)
     → HasProcess s seat place process value → process ≢ Idle
-    → (other q : ℕ) × ((x : Process) × ((v : ℕ) × HasProcess s other q x v × (x ≢ Idle) × GoesOn s 2 q x))
-where_one_takes_part_one_goes_on s h = h
+    → (other q : ℕ) × ((x : Process) × ((v : ℕ) × HasProcess s other q x v × (x ≢ Idle) × GoesOn s levels q x))
+where_one_takes_part_one_goes_on s levels h = h
 
 -- OneSeatAPlace
 two_views_of_a_place_are_of_one_seat :
@@ -471,31 +488,31 @@ what_has_become_of_what_was_seen since s h = h
 
 -- IsMadeByOne
 how_the_passes_are_made :
-    (s : State (std.Option ℕ) (View ℕ)) → IsMadeByOne s 2
-    → (slice_index s.words (making_index 2) ≡ 0 → (seat : ℕ) (view : View ℕ) → get_elem? s.views seat ≡ some view → view ≡ Unused)
-    × (slice_index s.words (making_index 2) ≡ 0 → s.homes ≡ some None ∷ [])
+    (s : State (std.Option ℕ) (View ℕ)) (levels : ℕ) → IsMadeByOne s levels
+    → (slice_index s.words (making_index levels) ≡ 0 → (seat : ℕ) (view : View ℕ) → get_elem? s.views seat ≡ some view → view ≡ Unused)
+    × (slice_index s.words (making_index levels) ≡ 0 → s.homes ≡ some None ∷ [])
     × ((one other : ℕ) (v w : View ℕ) → get_elem? s.views one ≡ some v → IsMaking v → get_elem? s.views other ≡ some w
     → IsMaking w → one ≡ other)
     × ((seat : ℕ) (view : View ℕ) → get_elem? s.views seat ≡ some view → IsFilling view
     → (other place : ℕ) (process : Process) (value : ℕ) → ¬ HasProcess s other place process value)
     × ((seat first given : ℕ) → get_elem? s.views seat ≡ some (HandingOut first given)
     → (other place : ℕ) (process : Process) (value : ℕ) → first ≤ place → ¬ HasProcess s other place process value)
-how_the_passes_are_made s h = (h.unused, h.empty, h.one_maker, h.unfilled, h.not_made)
+how_the_passes_are_made s levels h = (h.unused, h.empty, h.one_maker, h.unfilled, h.not_made)
 
 -- ShowsCore
 what_words_and_views_show :
-    (s : State (std.Option ℕ) (View ℕ)) → ShowsCore s 2
-    → (processes : ℕ → Process) × IsSoundState 2 (record { words = words_in 2 s.words; processes = processes })
+    (s : State (std.Option ℕ) (View ℕ)) (levels : ℕ) → ShowsCore s levels
+    → (processes : ℕ → Process) × IsSoundState levels (record { words = words_in levels s.words; processes = processes })
     × ((seat place : ℕ) (process : Process) (value : ℕ) → HasProcess s seat place process value → processes place ≡ process)
     × ((place : ℕ) → ((seat : ℕ) (process : Process) (value : ℕ) → ¬ HasProcess s seat place process value)
     → processes place ≡ Idle)
-what_words_and_views_show s h = h
+what_words_and_views_show s levels h = h
 
 -- IsLockState
 what_each_moment_shows :
-    (since : ℕ → ℕ → ℕ → Type 0) (s : State (std.Option ℕ) (View ℕ)) → IsLockState since 2 s
-    → ShowsCore s 2 × SomeSeatGoesOn s 2 × OneSeatAPlace s × OneInside s × IsInSlot s × IsFresh s since × IsMadeByOne s 2
-what_each_moment_shows since s h = (h.core, h.progress, h.places, h.exclusion, h.value, h.fresh, h.making)
+    (since : ℕ → ℕ → ℕ → Type 0) (levels : ℕ) (s : State (std.Option ℕ) (View ℕ)) → IsLockState since levels s
+    → ShowsCore s levels × SomeSeatGoesOn s levels × OneSeatAPlace s × OneInside s × IsInSlot s × IsFresh s since × IsMadeByOne s levels
+what_each_moment_shows since levels s h = (h.core, h.progress, h.places, h.exclusion, h.value, h.fresh, h.making)
 
 -- both places are away, and the row is as long as a lock's
 abbrev both_made : State (std.Option ℕ) (View ℕ)
@@ -640,6 +657,12 @@ three_at_each_level_inside = refl
 still_so_on_its_way_out : least_count 2 (Leaving 1 X1) ≡ 6
 still_so_on_its_way_out = refl
 
+three_at_each_level_that_it_won :
+    (levels level : ℕ) (entry : EntryPoint) (exit : ExitPoint)
+    → (least_count levels Idle ≡ 0) × (least_count levels (Entering level entry) ≡ 3 * (level - 1) + least_at entry)
+    × (least_count levels Inside ≡ 3 * levels) × (least_count levels (Leaving level exit) ≡ 3 * levels)
+three_at_each_level_that_it_won levels level entry exit = (refl, refl, refl, refl)
+
 -- ViewFits
 no_count_is_reset_inside : (s : State (std.Option ℕ) (View ℕ)) (x : GlobalView ℕ) (seat : ℕ) → ¬ ViewFits raised 1 s x seat (Seated 0 Inside 7 0)
 no_count_is_reset_inside s x seat fits = let least : 3 ≤ 0 = fits.4 in omega (arith, least)
@@ -647,19 +670,29 @@ no_count_is_reset_inside s x seat fits = let least : 3 ≤ 0 = fits.4 in omega (
 nor_while_it_takes_in_a_pass : (s : State (std.Option ℕ) (View ℕ)) (x : GlobalView ℕ) (seat : ℕ) → ¬ ViewFits raised 1 s x seat (Joining 0 7 1 5 0)
 nor_while_it_takes_in_a_pass s x seat fits = let least : 3 ≤ 0 = fits.5 in omega (arith, least)
 
-some_global_view_obeys : (s : State (std.Option ℕ) (View ℕ)) → Rule raised 2 s → (x : GlobalView ℕ) × Obeys raised 2 s x
-some_global_view_obeys s h = h
+some_global_view_obeys :
+    (since : ℕ → ℕ → ℕ → Type 0) (levels : ℕ) (s : State (std.Option ℕ) (View ℕ))
+    → Rule since levels s ↔ ((x : GlobalView ℕ) × Obeys since levels s x)
+some_global_view_obeys since levels s = (λ h. h, λ h. h)
 
 -- row_length
 of_one_level_and_of_two : (row_length 1 ≡ 64) × (row_length 2 ≡ 176)
 unfolding making_index count_of_words
 of_one_level_and_of_two = (refl, refl)
 
+of_any_levels : (levels : ℕ) → row_length levels ≡ making_index levels + 8 * (1 + 2 ^ levels)
+of_any_levels levels = refl
+
 -- place_of_view
 of_a_seated_and_of_a_joining_process :
     (place_of_view {V = ℕ} (Seated 3 Idle 7 0) ≡ some 3) × (place_of_view {V = ℕ} (Joining 2 7 1 5 3) ≡ some 2)
     × (place_of_view {V = ℕ} Spent ≡ none) × (place_of_view {V = ℕ} (HandingOut 1 7) ≡ none)
 of_a_seated_and_of_a_joining_process = (refl, refl, refl, refl)
+
+of_any_process :
+    (place value other seen count : ℕ) (process : Process)
+    → (place_of_view (Seated place process value count) ≡ some place) × (place_of_view (Joining place value other seen count) ≡ some place)
+of_any_process place value other seen count process = (refl, refl)
 
 -- LockId
 a_lock_is_known_by_its_table : TableId → LockId
@@ -686,11 +719,21 @@ it_has_what_its_entry_found :
     ≡ record { lock = lock; place = 1; found = 8; value = 8; remote = 3; view = Seated 1 Inside 8 3 }
 it_has_what_its_entry_found lock = refl
 
+whatever_its_entry_found :
+    (pass : IdlePass ℕ) (found remote : ℕ) → guard_of pass found remote
+    ≡ record { lock = pass.lock; place = pass.place; found = found; value = found; remote = remote; view = Seated pass.place Inside found remote }
+whatever_its_entry_found pass found remote = refl
+
 -- guard_with_value
 with_another_value :
     (lock : LockId) → guard_with_value (guard_of (new_pass {V = ℕ} lock 1 7) 8 3) 9
     ≡ record { lock = lock; place = 1; found = 8; value = 9; remote = 3; view = Seated 1 Inside 8 3 }
 with_another_value lock = refl
+
+with_any_other_value :
+    (guard : OpenGuard ℕ) (value : ℕ) → guard_with_value guard value
+    ≡ record { lock = guard.lock; place = guard.place; found = guard.found; value = value; remote = guard.remote; view = guard.view }
+with_any_other_value guard value = refl
 
 -- pass_of
 it_has_seen_what_its_guard_leaves :
@@ -699,11 +742,21 @@ it_has_seen_what_its_guard_leaves :
     ≡ record { lock = lock; place = 1; seen = 9; remote = 6; view = Seated 1 Idle 9 6 }
 it_has_seen_what_its_guard_leaves lock = refl
 
+whatever_its_guard_leaves :
+    (guard : OpenGuard ℕ) (remote : ℕ) → pass_of guard remote
+    ≡ record { lock = guard.lock; place = guard.place; seen = guard.value; remote = remote; view = Seated guard.place Idle guard.value remote }
+whatever_its_guard_leaves guard remote = refl
+
 -- new_pass
 it_has_made_no_access_yet :
     (lock : LockId) → new_pass {V = ℕ} lock 1 7
     ≡ record { lock = lock; place = 1; seen = 7; remote = 0; view = Seated 1 Idle 7 0 }
 it_has_made_no_access_yet lock = refl
+
+nor_has_that_of_any_place :
+    (lock : LockId) (place value : ℕ)
+    → new_pass lock place value ≡ record { lock = lock; place = place; seen = value; remote = 0; view = Seated place Idle value 0 }
+nor_has_that_of_any_place lock place value = refl
 
 -- ArePassesInOrder
 four_passes_of_two_levels :
@@ -711,25 +764,32 @@ four_passes_of_two_levels :
     → (length passes ≡ 4) × ((place : ℕ) → place < 4 → slice_get passes place ≡ Some (new_pass lock place 7))
 four_passes_of_two_levels lock passes h = (h.count, h.each)
 
+one_pass_of_each_place :
+    (lock : LockId) (levels value : ℕ) (passes : List (IdlePass ℕ)) → ArePassesInOrder lock levels value passes
+    ↔ ((length passes ≡ 2 ^ levels) × ((place : ℕ) → place < 2 ^ levels → slice_get passes place ≡ Some (new_pass lock place value)))
+one_pass_of_each_place lock levels value passes = (λ h. (h.count, h.each), λ (count, each). record { count = count; each = each })
+
 -- GlobalView
 what_all_seats_show :
     (both_are_away.seat_of 1 ≡ some 1) × (both_are_away.processes 1 ≡ Idle) × (both_are_away.maker ≡ none) × (both_are_away.content ≡ some 7)
 what_all_seats_show = (refl, refl, refl, refl)
 
 -- KnowsValue
-inside_it_is_the_content : (content : Option ℕ) → KnowsValue raised content 1 true 7 → content ≡ some 7
-inside_it_is_the_content content h = h
+inside_it_is_the_content :
+    (since : ℕ → ℕ → ℕ → Type 0) (content : Option ℕ) (place value : ℕ) → KnowsValue since content place true value ↔ (content ≡ some value)
+inside_it_is_the_content since content place value = (λ h. h, λ h. h)
 
 else_the_content_is_what_it_may_have_become :
-    (content : Option ℕ) → KnowsValue raised content 1 false 7 → (now : ℕ) × (content ≡ some now) × raised 1 7 now
-else_the_content_is_what_it_may_have_become content h = h
+    (since : ℕ → ℕ → ℕ → Type 0) (content : Option ℕ) (place value : ℕ)
+    → KnowsValue since content place false value ↔ ((now : ℕ) × (content ≡ some now) × since place value now)
+else_the_content_is_what_it_may_have_become since content place value = (λ h. h, λ h. h)
 
 -- ValueInSlot
 it_lies_there_where_nobody_is_inside :
-    (processes : ℕ → Process) (homes : List (Option (std.Option ℕ))) → ValueInSlot raised processes homes (some 7)
-    → (((place : ℕ) → is_inside (processes place) ≡ false) → homes ≡ some (Some 7) ∷ [])
-    × ((place : ℕ) → is_inside (processes place) ≡ true → homes ≡ none ∷ [])
-it_lies_there_where_nobody_is_inside processes homes h = h
+    (processes : ℕ → Process) (homes : List (Option (std.Option ℕ))) (value : ℕ) → ValueInSlot raised processes homes (some value)
+    ↔ ((((place : ℕ) → is_inside (processes place) ≡ false) → homes ≡ some (Some value) ∷ [])
+    × ((place : ℕ) → is_inside (processes place) ≡ true → homes ≡ none ∷ []))
+it_lies_there_where_nobody_is_inside processes homes value = (λ h. h, λ h. h)
 
 before_it_was_given_it_lies_nowhere : (processes : ℕ → Process) (homes : List (Option (std.Option ℕ))) → ValueInSlot raised processes homes none
 before_it_was_given_it_lies_nowhere processes homes = tt
@@ -738,6 +798,11 @@ before_it_was_given_it_lies_nowhere processes homes = tt
 the_making_word_is_not_0 : (s : State (std.Option ℕ) (View ℕ)) (x : GlobalView ℕ) → IsBegun raised 1 s x → slice_index s.words 40 ≢ 0
 unfolding making_index count_of_words
 the_making_word_is_not_0 s x h = h
+
+the_making_word_of_any_lock_is_not_0 :
+    (since : ℕ → ℕ → ℕ → Type 0) (levels : ℕ) (s : State (std.Option ℕ) (View ℕ)) (x : GlobalView ℕ)
+    → IsBegun since levels s x ↔ (slice_index s.words (making_index levels) ≢ 0)
+the_making_word_of_any_lock_is_not_0 since levels s x = (λ h. h, λ h. h)
 
 -- ViewFits
 what_a_maker_shows :
@@ -765,19 +830,39 @@ what_one_that_has_none_shows :
     (s : State (std.Option ℕ) (View ℕ)) (x : GlobalView ℕ) → ViewFits raised 2 s x 5 Unused × (ViewFits raised 2 s x 5 Spent → IsBegun raised 2 s x)
 what_one_that_has_none_shows s x = (tt, λ h. h)
 
+what_the_view_of_any_seat_shows :
+    (since : ℕ → ℕ → ℕ → Type 0) (levels : ℕ) (s : State (std.Option ℕ) (View ℕ)) (x : GlobalView ℕ) (seat first place other value seen count : ℕ)
+    (process : Process)
+    → (ViewFits since levels s x seat Making
+    ↔ (IsBegun since levels s x × (x.maker ≡ some seat) × (x.content ≡ none) × (s.homes ≡ some None ∷ [])))
+    × (ViewFits since levels s x seat Filling
+    ↔ (IsBegun since levels s x × (x.maker ≡ some seat) × (x.content ≡ none) × (length s.homes ≡ 1)))
+    × (ViewFits since levels s x seat (HandingOut first value)
+    ↔ (IsBegun since levels s x × (x.maker ≡ some seat) × (first < 2 ^ levels)
+    × ((p : ℕ) → first ≤ p → (x.seat_of p ≡ none) × KnowsValue since x.content p false value)))
+    × (ViewFits since levels s x seat (Seated place process value count)
+    ↔ (IsBegun since levels s x × (x.seat_of place ≡ some seat) × (x.processes place ≡ process)
+    × KnowsValue since x.content place (is_inside process) value × (least_count levels process ≤ count)))
+    × (ViewFits since levels s x seat (Joining place value other seen count)
+    ↔ (IsBegun since levels s x × (x.seat_of place ≡ some seat) × (x.processes place ≡ Inside) × KnowsValue since x.content place true value
+    × KnowsValue since x.content other false seen × (least_count levels Inside ≤ count)))
+    × (ViewFits since levels s x seat Spent ↔ IsBegun since levels s x)
+what_the_view_of_any_seat_shows since levels s x seat first place other value seen count process =
+    ((λ h. h, λ h. h), (λ h. h, λ h. h), (λ h. h, λ h. h), (λ h. h, λ h. h), (λ h. h, λ h. h), (λ h. h, λ h. h))
+
 -- Obeys
-what_it_says_of_place_1_and_seat_5 :
-    (s : State (std.Option ℕ) (View ℕ)) (x : GlobalView ℕ) → Obeys raised 2 s x
-    → (length s.words ≡ row_length 2)
-    × (slice_index s.words (making_index 2) ≡ 0 → (x.content ≡ none) × (s.homes ≡ some None ∷ []))
-    × (x.content ≡ none → x.seat_of 1 ≡ none)
-    × (x.seat_of 1 ≡ some 5 → (view : View ℕ) × (get_elem? s.views 5 ≡ some view) × (place_of_view view ≡ some 1))
-    × (x.seat_of 1 ≡ none → x.processes 1 ≡ Idle)
-    × IsSoundState 2 (record { words = words_in 2 s.words; processes = x.processes })
-    × ValueInSlot raised x.processes s.homes x.content
-    × ((view : View ℕ) → get_elem? s.views 5 ≡ some view → ViewFits raised 2 s x 5 view)
-what_it_says_of_place_1_and_seat_5 s x h =
-    (h.wide, h.unmade, λ none_given. h.before none_given 1, h.seated 1 5, h.absent 1, h.sound, h.lies, h.fits 5)
+what_it_says_of_each_place_and_seat :
+    (since : ℕ → ℕ → ℕ → Type 0) (levels : ℕ) (s : State (std.Option ℕ) (View ℕ)) (x : GlobalView ℕ) → Obeys since levels s x
+    → (length s.words ≡ row_length levels)
+    × (slice_index s.words (making_index levels) ≡ 0 → (x.content ≡ none) × (s.homes ≡ some None ∷ []))
+    × (x.content ≡ none → (place : ℕ) → x.seat_of place ≡ none)
+    × ((place seat : ℕ) → x.seat_of place ≡ some seat
+    → (view : View ℕ) × (get_elem? s.views seat ≡ some view) × (place_of_view view ≡ some place))
+    × ((place : ℕ) → x.seat_of place ≡ none → x.processes place ≡ Idle)
+    × IsSoundState levels (record { words = words_in levels s.words; processes = x.processes })
+    × ValueInSlot since x.processes s.homes x.content
+    × ((seat : ℕ) (view : View ℕ) → get_elem? s.views seat ≡ some view → ViewFits since levels s x seat view)
+what_it_says_of_each_place_and_seat since levels s x h = (h.wide, h.unmade, h.before, h.seated, h.absent, h.sound, h.lies, h.fits)
 
 -- count_from
 a_new_entry_begins_with_none : count_from Idle 9 ≡ 0
@@ -785,6 +870,12 @@ a_new_entry_begins_with_none = refl
 
 one_under_way_goes_on_counting : count_from Inside 9 ≡ 9
 one_under_way_goes_on_counting = refl
+
+any_of_them_goes_on_counting :
+    (count level : ℕ) (entry : EntryPoint) (exit : ExitPoint)
+    → (count_from Idle count ≡ 0) × (count_from (Entering level entry) count ≡ count) × (count_from Inside count ≡ count)
+    × (count_from (Leaving level exit) count ≡ count)
+any_of_them_goes_on_counting count level entry exit = (refl, refl, refl, refl)
 
 -- count_after
 the_claim_of_a_new_entry_counts : count_after 1 0 Idle 9 ≡ 1
@@ -832,30 +923,32 @@ each_slot_with_its_value slots = slots
 
 -- IsReady
 what_its_slot_holds :
-    (done : ℕ → ℕ → ℕ → Type 0) (slots : Slots ℕ)
-    → (IsReady done true 1 7 slots → (next : ℕ) × (slots ≡ (0, Some next) ∷ []) × done 1 7 next)
-    × (IsReady done false 1 7 slots → slots ≡ [])
-what_its_slot_holds done slots = (λ h. h, λ h. h)
+    (done : ℕ → ℕ → ℕ → Type 0) (place value : ℕ) (slots : Slots ℕ)
+    → (IsReady done true place value slots ↔ ((next : ℕ) × (slots ≡ (0, Some next) ∷ []) × done place value next))
+    × (IsReady done false place value slots ↔ (slots ≡ []))
+what_its_slot_holds done place value slots = ((λ h. h, λ h. h), (λ h. h, λ h. h))
 
 -- process_after
-where_place_1_goes :
-    (s : State (std.Option ℕ) (View ℕ)) (process : Process)
-    → process_after 2 s 1 process ≡ next_of 2 1 process (value_of (words_in 2 s.words) (access_of 2 1 process))
-where_place_1_goes s process = refl
+where_each_place_goes :
+    (levels : ℕ) (s : State (std.Option ℕ) (View ℕ)) (place : ℕ) (process : Process)
+    → process_after levels s place process ≡ next_of levels place process (value_of (words_in levels s.words) (access_of levels place process))
+where_each_place_goes levels s place process = refl
 
 -- count_after
-what_place_1_has_made :
-    (process : Process) (count : ℕ) → count_after 2 1 process count ≡ count_from process count + cost_of 1 (access_of 2 1 process)
-what_place_1_has_made process count = refl
+what_each_place_has_made :
+    (levels place : ℕ) (process : Process) (count : ℕ)
+    → count_after levels place process count ≡ count_from process count + cost_of place (access_of levels place process)
+what_each_place_has_made levels place process count = refl
 
 -- TakesStep
-what_a_step_of_place_1_in_seat_5_is :
-    (since : ℕ → ℕ → ℕ → Type 0) (process : Process) (s t : State (std.Option ℕ) (View ℕ)) → TakesStep since 2 5 1 process 4 s t
-    → Accesses (access_of 2 1 process) (words_in 2 s.words) (words_in 2 t.words)
-    × ((value : ℕ) × (get_elem? t.views 5 ≡ some (Seated 1 (process_after 2 s 1 process) value (count_after 2 1 process 4))))
-    × ((other : ℕ) → other ≢ 5 → get_elem? t.views other ≡ get_elem? s.views other)
-    × Rule since 2 t
-what_a_step_of_place_1_in_seat_5_is since process s t h = (h.access, (h.value, h.own), h.others, h.rule)
+what_a_step_of_each_place_and_seat_is :
+    (since : ℕ → ℕ → ℕ → Type 0) (levels seat place : ℕ) (process : Process) (count : ℕ) (s t : State (std.Option ℕ) (View ℕ))
+    → TakesStep since levels seat place process count s t
+    → Accesses (access_of levels place process) (words_in levels s.words) (words_in levels t.words)
+    × ((value : ℕ) × (get_elem? t.views seat ≡ some (Seated place (process_after levels s place process) value (count_after levels place process count))))
+    × ((other : ℕ) → other ≢ seat → get_elem? t.views other ≡ get_elem? s.views other)
+    × Rule since levels t
+what_a_step_of_each_place_and_seat_is since levels seat place process count s t h = (h.access, (h.value, h.own), h.others, h.rule)
 
 -- EachMayStep
 which_step_each_seat_may_take :

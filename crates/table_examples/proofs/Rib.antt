@@ -31,8 +31,8 @@ use Rattle.rt_rib.proofs.Best.{look_up_finds_best}
 use Rattle.rt_rib.proofs.Ranking.{look_up_all_finds_matches}
 use Rattle.rt_rib.proofs.OfferLists.{IsRanked-one}
 use Rattle.rt_rib.proofs.Journals.{IsTable-of_journal, IsLawfulJournal-nil, IsLawfulJournal-push}
-use Rattle.std.specs.Prelude.{◌↔◌, ◌⊎◌, ◌≤◌, ◌<◌, length, map, slice_get}
-use Rattle.std.specs.List.{AllPairs, Contains}
+use Rattle.std.specs.Prelude.{◌↔◌, ◌⊎◌, ◌≤◌, ◌<◌, ◌==◌, ◌&&◌, ◌||◌, not, nat_lt, length, map, filter, slice_get}
+use Rattle.std.specs.List.{list_any, AllPairs, Contains}
 use Rattle.rt_cidr.specs.Prefix.{covers}
 
 -- prefixes of the examples, beside those of rt_cidr: 128.0.0.0/1 and 10.1.0.0/16
@@ -117,6 +117,9 @@ has_its_own = refl
 has_no_other_feeds : has 64 ten_8 (route ten_8 1 5 ∷ route last_32 64 5 ∷ []) ≡ false
 has_no_other_feeds = refl
 
+has_a_route_of_the_feed_to_the_prefix : (feed : ℕ) (prefix : Prefix) (table : List Route) → has feed prefix table ≡ list_any (is_of feed prefix) table
+has_a_route_of_the_feed_to_the_prefix feed prefix table = refl
+
 -- count_of
 three_are_of_feed_1 : count_of 1 (route ten_8 2 5 ∷ nested) ≡ 3
 three_are_of_feed_1 = refl
@@ -136,6 +139,9 @@ equal_is_not_below = refl
 
 above_whatever_the_rest : below_then 3 2 true ≡ false
 above_whatever_the_rest = refl
+
+any_number_below_any_other : (a b : ℕ) (rest : Bool) → below_then a b rest ≡ (nat_lt a b || (a == b && rest))
+any_number_below_any_other a b rest = refl
 
 -- is_better
 lesser_preference_is_better : is_better (route ten_8 64 4) (route ten_8 1 5) ≡ true
@@ -178,6 +184,10 @@ take_out_leaves_the_other_feeds = refl
 
 take_out_leaves_the_other_prefixes : take_out 1 ten_1_16 nested ≡ route everything 1 200 ∷ route ten_8 1 100 ∷ []
 take_out_leaves_the_other_prefixes = refl
+
+take_out_leaves_what_is_not_the_feeds_to_the_prefix :
+    (feed : ℕ) (prefix : Prefix) (table : List Route) → take_out feed prefix table ≡ filter (λ r. not (is_of feed prefix r)) table
+take_out_leaves_what_is_not_the_feeds_to_the_prefix feed prefix table = refl
 
 -- purge
 purge_leaves_the_other_feeds : purge 1 (route ten_8 2 30 ∷ nested) ≡ route ten_8 2 30 ∷ []
@@ -515,6 +525,9 @@ entries_of_one_feed :
     ≡ entry 2 (Lookup at_last) NoRoute ∷ []
 entries_of_one_feed = refl
 
+entries_of_any_feed : (feed : ℕ) (journal : List Entry) → feed_entries feed journal ≡ filter (λ e. e.feed == feed) journal
+entries_of_any_feed feed journal = refl
+
 -- IsLimit
 from_one_up_to_the_greatest : IsLimit 1 × IsLimit 1000000
 from_one_up_to_the_greatest = ((omega arith, omega arith), (omega arith, omega arith))
@@ -720,6 +733,9 @@ none_before_and_none_behind = (λ h. omega (arith, h.0), λ h. omega (arith, h.1
 -- feed_routes
 those_of_feed_2 : feed_routes 2 (route everything 1 9 ∷ route ten_8 2 30 ∷ route ten_8 3 50 ∷ []) ≡ route ten_8 2 30 ∷ []
 those_of_feed_2 = refl
+
+those_of_any_feed : (feed : ℕ) (table : List Route) → feed_routes feed table ≡ filter (λ r. r.feed == feed) table
+those_of_any_feed feed table = refl
 
 -- PutInAdds
 what_a_table_contains_once_a_route_was_put_in : PutInAdds → (r x : Route) (table : List Route) → Contains (put_in r table) x ↔ (Contains table x ⊎ (r ≡ x))
