@@ -1,10 +1,10 @@
 -- Examples by which the definitions of rt_feed are tested, each under a line with the definition's name. Both sides are
 -- computed, and what a relation or a law says is spelled out for some values.
-use Rattle.std.proofs.Common.{◌≡◌, ◌≢◌, ℕ, true, false, List, [], ◌∷◌, ◌++◌, length, map, slice_index, eqb, Some, None, Ok, Err, inl, inr, codes, refl}
+use Rattle.std.proofs.Common.{◌≡◌, ◌≢◌, ℕ, ◌+◌, true, false, List, [], ◌∷◌, ◌++◌, length, map, slice_index, eqb, Some, None, Ok, Err, inl, inr, codes, refl}
 use Rattle.std.proofs.Common.{sym, ap, ◌∙◌, subst, arith}
 use Rattle.std.proofs.lemmas.Bool.{or_parts, eqb-false}
 use Rattle.std.proofs.lemmas.List.Elements.{All-nil, All-cons}
-use Rattle.std.specs.List.{All, list_any}
+use Rattle.std.specs.List.{All, list_any, flat_map}
 use Rattle.std.specs.Fmt.{digits}
 use Rattle.rt_cidr.specs.declared.address.Addr.{Addr}
 use Rattle.rt_cidr.specs.Cidr.{IsPrefix}
@@ -25,10 +25,11 @@ use Rattle.rt_diff.specs.declared.differences.Difference.{Difference}
 use Rattle.rt_feed.specs.DifferenceText.{way_text, answered_text, difference_text, differences_text}
 use Rattle.rt_feed.specs.declared.parse.LineFault.{LineFault}
 use Rattle.rt_feed.specs.declared.parse.LineFault.TheVariants as fault
+use Rattle.rt_feed.specs.declared.report.Answer.{Answer}
 use Rattle.rt_feed.specs.declared.report.Answer.TheVariants as answer
 use Rattle.rt_feed.specs.declared.versions.Version.TheVariants.{One, Two}
 use Rattle.rt_feed.specs.CommandText.{space, words, route_words, command_text, HasHop, HasCommand}
-use Rattle.rt_feed.specs.Grammar.{prefix, preference, hop, address, hash, is_skipped, fields, purge_kinds, kinds_after, IsOfKind, IsPairText, IsFaultOf}
+use Rattle.rt_feed.specs.Grammar.{Kind, prefix, preference, hop, address, hash, is_skipped, fields, purge_kinds, kinds_after, IsOfKind, IsPairText, IsFaultOf}
 use Rattle.rt_feed.specs.Grammar.{IsFirstFault, IsFaultAfter, IsFaultOfFields, AnswersLine}
 use Rattle.rt_feed.proofs.Pairs.{pair-read}
 use Rattle.rt_feed.specs.Addresses.{AnswersAddressLine}
@@ -74,6 +75,10 @@ a_prefix_a_preference_and_a_hop : route_words ten_8 100 Discard ≡ codes "10.0.
 unfolding digits address_text prefix_text
 a_prefix_a_preference_and_a_hop = refl
 
+the_words_of_any_route :
+    (p : Prefix) (pref : ℕ) (next : Hop) → route_words p pref next ≡ prefix_text p.base p.len ∷ decimal pref ∷ hop_text next ∷ []
+the_words_of_any_route p pref next = refl
+
 -- words
 words_of_a_withdrawal : words (Withdraw ten_8) ≡ codes "withdraw" ∷ codes "10.0.0.0/8" ∷ []
 unfolding digits address_text prefix_text
@@ -103,8 +108,8 @@ no_discard_in_version_1 : ¬ HasHop One Discard
 no_discard_in_version_1 h = cc
 
 what_each_version_has :
-    (a : Addr) → (HasHop One (Via a) → a.0 < 4294967296) × (HasHop One Discard → One ≡ Two)
-what_each_version_has a = (λ h. h, λ h. h)
+    (version : Version) (a : Addr) → (HasHop version (Via a) ↔ (a.0 < 2 ^ 32)) × (HasHop version Discard ↔ (version ≡ Two))
+what_each_version_has version a = ((λ h. h, λ h. h), (λ h. h, λ h. h))
 
 -- command_text
 the_text_of_an_add : command_text add_10 ≡ codes "add 10.0.0.0/8 100 192.0.2.1"
@@ -249,12 +254,12 @@ is_no_hop (Via a, fits, same) =
 is_no_hop (Discard, has, same) = cc
 
 what_each_kind_is :
-    (field : List ℕ)
-    → (IsOfKind prefix field → (p : Prefix) × (field ≡ prefix_text p.base p.len))
-    × (IsOfKind preference field → (pref : ℕ) × (pref < 4294967296) × (field ≡ decimal pref))
-    × (IsOfKind (hop One) field → (next : Hop) × HasHop One next × (field ≡ hop_text next))
-    × (IsOfKind address field → (a : Addr) × (a.0 < 4294967296) × (field ≡ address_text a.0))
-what_each_kind_is field = (λ h. h, λ h. h, λ h. h, λ h. h)
+    (version : Version) (field : List ℕ)
+    → (IsOfKind prefix field ↔ ((p : Prefix) × (field ≡ prefix_text p.base p.len)))
+    × (IsOfKind preference field ↔ ((pref : ℕ) × (pref < 2 ^ 32) × (field ≡ decimal pref)))
+    × (IsOfKind (hop version) field ↔ ((next : Hop) × HasHop version next × (field ≡ hop_text next)))
+    × (IsOfKind address field ↔ ((a : Addr) × (a.0 < 2 ^ 32) × (field ≡ address_text a.0)))
+what_each_kind_is version field = ((λ h. h, λ h. h), (λ h. h, λ h. h), (λ h. h, λ h. h), (λ h. h, λ h. h))
 
 -- IsFaultOf
 a_length_of_50_is_E4 : IsFaultOf prefix (codes "192.0.2.1/50") fault.PrefixLength
@@ -301,9 +306,10 @@ none_where_a_list_is_at_its_end : (answer : LineFault) → (¬ IsFirstFault [] [
 none_where_a_list_is_at_its_end answer = (λ h. h, λ h. h)
 
 this_one_or_a_later :
-    (field : List ℕ) (rest : List (List ℕ)) (answer : LineFault) → IsFirstFault (preference ∷ address ∷ []) (field ∷ rest) answer
-    → ((¬ IsOfKind preference field) × IsFaultOf preference field answer) ⊎ (IsOfKind preference field × IsFirstFault (address ∷ []) rest answer)
-this_one_or_a_later field rest answer h = h
+    (kind : Kind) (kinds : List Kind) (field : List ℕ) (rest : List (List ℕ)) (answer : LineFault)
+    → IsFirstFault (kind ∷ kinds) (field ∷ rest) answer
+    ↔ (((¬ IsOfKind kind field) × IsFaultOf kind field answer) ⊎ (IsOfKind kind field × IsFirstFault kinds rest answer))
+this_one_or_a_later kind kinds field rest answer = (λ h. h, λ h. h)
 
 -- IsFaultAfter
 a_field_too_few : IsFaultAfter (Some (prefix ∷ [])) [] fault.FieldCount
@@ -314,9 +320,9 @@ one_too_many_before_the_first (inl many) = let same = many.1 in cc
 one_too_many_before_the_first (inr as_many) = let same : 2 ≡ 1 = as_many.0 in omega (arith, same)
 
 not_so_many_or_the_first :
-    (rest : List (List ℕ)) (answer : LineFault) → IsFaultAfter (Some (preference ∷ [])) rest answer
-    → ((length rest ≢ 1) × (answer ≡ fault.FieldCount)) ⊎ ((length rest ≡ 1) × IsFirstFault (preference ∷ []) rest answer)
-not_so_many_or_the_first rest answer h = h
+    (kinds : List Kind) (rest : List (List ℕ)) (answer : LineFault) → IsFaultAfter (Some kinds) rest answer
+    ↔ (((length rest ≢ length kinds) × (answer ≡ fault.FieldCount)) ⊎ ((length rest ≡ length kinds) × IsFirstFault kinds rest answer))
+not_so_many_or_the_first kinds rest answer = (λ h. h, λ h. h)
 
 no_command : IsFaultAfter None [] fault.Command
 no_command = refl
@@ -332,8 +338,9 @@ no_fault_of_no_field : (answer : LineFault) → ¬ IsFaultOfFields One [] answer
 no_fault_of_no_field answer h = h
 
 after_the_name :
-    (name : List ℕ) (rest : List (List ℕ)) (answer : LineFault) → IsFaultOfFields One (name ∷ rest) answer → IsFaultAfter (kinds_after One name) rest answer
-after_the_name name rest answer h = h
+    (version : Version) (name : List ℕ) (rest : List (List ℕ)) (answer : LineFault)
+    → IsFaultOfFields version (name ∷ rest) answer ↔ IsFaultAfter (kinds_after version name) rest answer
+after_the_name version name rest answer = (λ h. h, λ h. h)
 
 -- AnswersLine
 an_add : AnswersLine One (codes "add 10.0.0.0/8 100 192.0.2.1") (Ok (Some add_10))
@@ -389,12 +396,12 @@ one_byte_more_is_E8_whatever_it_says : AnswersLine One
 one_byte_more_is_E8_whatever_it_says = inl (omega arith, refl)
 
 what_an_answer_says :
-    (line : List ℕ) (answer : LineFault)
-    → (AnswersLine One line (Ok (Some Dump)) → HasCommand One Dump × (line ≡ command_text Dump))
-    × (AnswersLine One line (Ok None) → (length line ≤ 128) × (is_skipped line ≡ true))
-    × (AnswersLine One line (Err answer)
-    → ((128 < length line) × (answer ≡ fault.LineLength)) ⊎ ((length line ≤ 128) × (is_skipped line ≡ false) × IsFaultOfFields One (fields line) answer))
-what_an_answer_says line answer = (λ h. h, λ h. h, λ h. h)
+    (version : Version) (line : List ℕ) (cmd : Cmd) (answer : LineFault)
+    → (AnswersLine version line (Ok (Some cmd)) ↔ (HasCommand version cmd × (line ≡ command_text cmd)))
+    × (AnswersLine version line (Ok None) ↔ ((length line ≤ 128) × (is_skipped line ≡ true)))
+    × (AnswersLine version line (Err answer) ↔ (((128 < length line) × (answer ≡ fault.LineLength))
+    ⊎ ((length line ≤ 128) × (is_skipped line ≡ false) × IsFaultOfFields version (fields line) answer)))
+what_an_answer_says version line cmd answer = ((λ h. h, λ h. h), (λ h. h, λ h. h), (λ h. h, λ h. h))
 
 -- AnswersAddressLine
 an_address_alone : AnswersAddressLine (codes "192.0.2.1") (Ok (Some at_192_0_2_1))
@@ -511,6 +518,9 @@ a_comment_alone_has_none = refl
 with_its_number : numbered 7 (Some answer.Refused) ≡ record { number = 7; answer = answer.Refused } ∷ []
 with_its_number = refl
 
+with_any_number : (number : ℕ) (one : Answer) → (numbered number None ≡ []) × (numbered number (Some one) ≡ record { number = number; answer = one } ∷ [])
+with_any_number number one = (refl, refl)
+
 no_line_without_an_answer : numbered 7 None ≡ []
 no_line_without_an_answer = refl
 
@@ -521,9 +531,17 @@ each_line_has_its_number :
     ∷ record { number = 4; answer = answer.Refused } ∷ []
 each_line_has_its_number = refl
 
+from_any_number_on :
+    (number : ℕ) (one : LineOutcome) (outcomes : List LineOutcome)
+    → report_lines number (one ∷ outcomes) ≡ numbered number (line_answer one) ++ report_lines (number + 1) outcomes
+from_any_number_on number one outcomes = refl
+
 -- asked_by
 a_refused_command_was_asked : asked_by (asked Dump outcome.Refused) ≡ (Dump, outcome.Refused) ∷ []
 a_refused_command_was_asked = refl
+
+whatever_was_asked : (cmd : Cmd) (became : Outcome) → asked_by (asked cmd became) ≡ (cmd, became) ∷ []
+whatever_was_asked cmd became = refl
 
 a_faulty_line_asked_nothing : asked_by (faulty fault.Hop) ≡ []
 a_faulty_line_asked_nothing = refl
@@ -595,9 +613,9 @@ not_a_short_piece_before_another : ¬ IsCut {X = ℕ} 2 (1 ∷ 2 ∷ 3 ∷ []) (
 not_a_short_piece_before_another h = let two = first_is_whole 2 (1 ∷ []) (2 ∷ 3 ∷ []) [] h.whole h.last h.full h.is_cut in cc
 
 the_pieces_of_a_cut :
-    (xs : List ℕ) (pieces : List (List ℕ)) (h : IsCut 2 xs pieces)
-    → All (λ piece. length piece ≡ 2) h.whole × (length h.last < 2) × (xs ≡ concatenated h.whole ++ h.last) × (pieces ≡ h.whole ++ piece_of h.last)
-the_pieces_of_a_cut xs pieces h = (h.full, h.fewer, h.is_joined, h.is_cut)
+    {X : Type 0} (size : ℕ) (xs : List X) (pieces : List (List X)) (h : IsCut size xs pieces)
+    → All (λ piece. length piece ≡ size) h.whole × (length h.last < size) × (xs ≡ concatenated h.whole ++ h.last) × (pieces ≡ h.whole ++ piece_of h.last)
+the_pieces_of_a_cut size xs pieces h = (h.full, h.fewer, h.is_joined, h.is_cut)
 
 -- hop_text
 an_address_as_next_hop : hop_text (Via at_192_0_2_1) ≡ codes "192.0.2.1"
@@ -625,6 +643,12 @@ a_found_route : reply_text (Found (route_via ten_1_16 1 10 (via_192_0_2 1))) ≡
 unfolding digits address_text prefix_text reply_text route_text
 a_found_route = refl
 
+any_route_and_any_count :
+    (route : Route) (count : ℕ) → (reply_text (Found route) ≡ codes "route " ++ route_text route)
+    × (reply_text (Dumped count) ≡ codes "dumped " ++ decimal count) × (reply_text (Purged count) ≡ codes "purged " ++ decimal count)
+unfolding reply_text
+any_route_and_any_count route count = (refl, refl, refl)
+
 -- fault_text
 E1_to_E8 :
     map fault_text (fault.Command ∷ fault.FieldCount ∷ fault.Text ∷ fault.PrefixLength ∷ fault.PrefixBits ∷ fault.Preference ∷ fault.Hop ∷ fault.LineLength
@@ -644,10 +668,22 @@ a_route_that_discards : route_text (route_via ten_9_16 3 10 Discard) ≡ codes "
 unfolding digits address_text prefix_text route_text
 a_route_that_discards = refl
 
+any_route : (route : Route) → route_text route
+    ≡ prefix_text route.prefix.base route.prefix.len ++ (codes " feed " ++ (decimal route.feed ++
+    (codes " pref " ++ (decimal route.pref ++ (codes " via " ++ hop_text route.hop)))))
+unfolding route_text
+any_route route = refl
+
 -- line_text
 a_line_of_a_report : line_text 1 (record { number = 100; answer = answer.Did Added }) ≡ codes "1:100 added\n"
 unfolding digits line_text answer_text reply_text
 a_line_of_a_report = refl
+
+a_line_of_any_report :
+    (feed : ℕ) (line : Line)
+    → line_text feed line ≡ decimal feed ++ (codes ":" ++ (decimal line.number ++ (codes " " ++ (answer_text line.answer ++ codes "\n"))))
+unfolding line_text
+a_line_of_any_report feed line = refl
 
 -- report_text
 two_lines_of_feed_1 :
@@ -655,6 +691,9 @@ two_lines_of_feed_1 :
     ≡ codes "1:2 added\n1:5 fault E7\n"
 unfolding digits line_text answer_text reply_text fault_text
 two_lines_of_feed_1 = refl
+
+all_lines_of_any_feed : (feed : ℕ) (lines : List Line) → report_text feed lines ≡ flat_map (line_text feed) lines
+all_lines_of_any_feed feed lines = refl
 
 -- row_text
 a_row : row_text (route_via ten_8 2 30 (via_192_0_2 2)) ≡ codes "10.0.0.0/8 feed 2 pref 30 via 192.0.2.2\n"
@@ -665,6 +704,10 @@ a_row = refl
 the_count_of_four : count_text 4 ≡ codes "table 4\n"
 unfolding digits count_text
 the_count_of_four = refl
+
+the_count_of_any : (count : ℕ) → count_text count ≡ codes "table " ++ (decimal count ++ codes "\n")
+unfolding count_text
+the_count_of_any count = refl
 
 -- the route of that command, as feed 1's
 abbrev route_10 : Route
@@ -785,12 +828,12 @@ no_line_left_out : ¬ LinesBecome One (codes "dump\n") [] []
 no_line_left_out same = cc
 
 the_first_of_them :
-    (lines : List ℕ) (rest : List ℕ) (outcomes : List LineOutcome) → LinesBecome One lines (skipped ∷ outcomes) rest
-    → (line : List ℕ) × (next : List ℕ) × CutsLine lines line next × AnswersLine One line (Ok None) × LinesBecome One next outcomes rest
-the_first_of_them lines rest outcomes h = h
+    (version : Version) (lines rest : List ℕ) (one : LineOutcome) (outcomes : List LineOutcome) → LinesBecome version lines (one ∷ outcomes) rest
+    ↔ ((line : List ℕ) × (next : List ℕ) × CutsLine lines line next × AnswersLine version line (reading one) × LinesBecome version next outcomes rest)
+the_first_of_them version lines rest one outcomes = (λ h. h, λ h. h)
 
-where_none_is_left : (lines rest : List ℕ) → LinesBecome One lines [] rest → lines ≡ rest
-where_none_is_left lines rest h = h
+where_none_is_left : (version : Version) (lines rest : List ℕ) → LinesBecome version lines [] rest ↔ (lines ≡ rest)
+where_none_is_left version lines rest = (λ h. h, λ h. h)
 
 -- north's first byte is none of `version 2`
 north_tells_no_version : (rest : List ℕ) → ¬ TellsTwo north rest
@@ -825,6 +868,12 @@ no_route_was_found : found_text at_192_0_2_1 None ≡ codes "192.0.2.1 no route\
 unfolding digits address_text found_text reply_text
 no_route_was_found = refl
 
+whatever_was_found :
+    (addr : Addr) (route : Route) → (found_text addr (Some route) ≡ address_text addr.0 ++ (codes " " ++ (reply_text (Found route) ++ codes "\n")))
+    × (found_text addr None ≡ address_text addr.0 ++ (codes " " ++ (reply_text NoRoute ++ codes "\n")))
+unfolding found_text
+whatever_was_found addr route = (refl, refl)
+
 -- reason_text
 each_step_has_its_reason :
     (reason_text (route_via ten_1_16 1 10 Discard) (route_via ten_8 1 10 Discard) ≡ codes "shorter")
@@ -846,6 +895,12 @@ a_route_left_behind :
 unfolding digits address_text prefix_text also_text reason_text route_text
 a_route_left_behind = refl
 
+any_route_left_behind :
+    (addr : Addr) (first r : Route)
+    → also_text addr first r ≡ address_text addr.0 ++ (codes " also " ++ (route_text r ++ (codes " " ++ (reason_text first r ++ codes "\n"))))
+unfolding also_text
+any_route_left_behind addr first r = refl
+
 -- all_found_text
 nothing_covers_it : all_found_text at_192_0_2_1 [] ≡ codes "192.0.2.1 no route\n"
 unfolding digits address_text found_text reply_text
@@ -857,6 +912,11 @@ three_cover_it :
     ++ codes "10.1.2.3 also 10.0.0.0/8 feed 2 pref 30 via 192.0.2.2 shorter\n10.1.2.3 also 10.0.0.0/8 feed 1 pref 50 via discard shorter\n"
 unfolding digits address_text prefix_text found_text also_text reason_text reply_text route_text
 three_cover_it = refl
+
+any_number_covers_it :
+    (addr : Addr) (first : Route) (others : List Route) → (all_found_text addr [] ≡ found_text addr None)
+    × (all_found_text addr (first ∷ others) ≡ found_text addr (Some first) ++ flat_map (also_text addr first) others)
+any_number_covers_it addr first others = (refl, refl)
 
 -- LineHasOneAnswer
 a_line_has_one_answer :
@@ -901,8 +961,8 @@ a_text_is_read_in_one_way :
 a_text_is_read_in_one_way law = law
 
 -- IsVersion
-the_lines_that_it_reads : (text : List ℕ) → IsVersion text Two → (lines : List ℕ) × IsBody text Two lines
-the_lines_that_it_reads text h = h
+the_lines_that_it_reads : (text : List ℕ) (version : Version) → IsVersion text version ↔ ((lines : List ℕ) × IsBody text version lines)
+the_lines_that_it_reads text version = (λ h. h, λ h. h)
 
 -- NumbersRise
 each_is_smaller_than_the_later : (lines : List Line) → NumbersRise lines → AllPairs (λ (earlier later : Line). earlier.number < later.number) lines
@@ -928,42 +988,44 @@ what_a_gate_holds_besides holds old new more h = h
 
 -- AnswersBatch
 one_visit_with_an_outcome_for_each :
-    {G : Type 0} (holds : G → List Visit → Type 0) (old new : G) (out out' : List Outcome) (h : AnswersBatch holds old new (Dump ∷ []) out out')
-    → (length h.outcomes ≡ 1) × (out' ≡ out ++ h.outcomes) × Gains holds old new (visit_of (zip (Dump ∷ []) h.outcomes) ∷ [])
-one_visit_with_an_outcome_for_each holds old new out out' h = (h.each, h.appended, h.gained)
+    {G : Type 0} (holds : G → List Visit → Type 0) (old new : G) (cmds : List Cmd) (out out' : List Outcome)
+    (h : AnswersBatch holds old new cmds out out')
+    → (length h.outcomes ≡ length cmds) × (out' ≡ out ++ h.outcomes) × Gains holds old new (visit_of (zip cmds h.outcomes) ∷ [])
+one_visit_with_an_outcome_for_each holds old new cmds out out' h = (h.each, h.appended, h.gained)
 
 -- AsksLines
 a_visit_for_each_piece :
-    {G : Type 0} (holds : G → List Visit → Type 0) (text rest : List ℕ) (outcomes : List LineOutcome) (old new : G)
-    (h : AsksLines holds 2 text outcomes rest old new)
-    → Becomes text outcomes rest × IsCut 2 (asked_of outcomes) h.pieces × Gains holds old new (map visit_of h.pieces)
-a_visit_for_each_piece holds text rest outcomes old new h = (h.becomes, h.cut, h.gained)
+    {G : Type 0} (holds : G → List Visit → Type 0) (batch : ℕ) (text rest : List ℕ) (outcomes : List LineOutcome) (old new : G)
+    (h : AsksLines holds batch text outcomes rest old new)
+    → Becomes text outcomes rest × IsCut batch (asked_of outcomes) h.pieces × Gains holds old new (map visit_of h.pieces)
+a_visit_for_each_piece holds batch text rest outcomes old new h = (h.becomes, h.cut, h.gained)
 
 -- RunsFeed
 the_whole_text_and_its_report :
-    {G : Type 0} (holds : G → List Visit → Type 0) (text : List ℕ) (old new : G) (report : List Line) (h : RunsFeed holds 2 text old new report)
-    → AsksLines holds 2 text h.outcomes [] old new × (report ≡ report_lines 1 h.outcomes)
-the_whole_text_and_its_report holds text old new report h = (h.asks, h.reported)
+    {G : Type 0} (holds : G → List Visit → Type 0) (batch : ℕ) (text : List ℕ) (old new : G) (report : List Line)
+    (h : RunsFeed holds batch text old new report) → AsksLines holds batch text h.outcomes [] old new × (report ≡ report_lines 1 h.outcomes)
+the_whole_text_and_its_report holds batch text old new report h = (h.asks, h.reported)
 
 -- IsTold
 a_command_or_a_fault :
-    (line : List ℕ) → IsTold One line → (outcome : LineOutcome) × AnswersLine One line (reading outcome) × (line_answer outcome ≢ None)
-a_command_or_a_fault line h = h
+    (version : Version) (line : List ℕ)
+    → IsTold version line ↔ ((outcome : LineOutcome) × AnswersLine version line (reading outcome) × (line_answer outcome ≢ None))
+a_command_or_a_fault version line = (λ h. h, λ h. h)
 
 -- StopsWithin
 before_a_line_that_is_told :
-    {G : Type 0} (holds : G → List Visit → Type 0) (text : List ℕ) (old new : G) (h : StopsWithin holds 2 text old new)
-    → AsksLines holds 2 text h.outcomes h.unasked old new × LinesBecome h.asks.becomes.version h.unasked h.more h.rest × CutsLine h.rest h.line h.next
+    {G : Type 0} (holds : G → List Visit → Type 0) (batch : ℕ) (text : List ℕ) (old new : G) (h : StopsWithin holds batch text old new)
+    → AsksLines holds batch text h.outcomes h.unasked old new × LinesBecome h.asks.becomes.version h.unasked h.more h.rest × CutsLine h.rest h.line h.next
     × IsTold h.asks.becomes.version h.line
-before_a_line_that_is_told holds text old new h = (h.asks, h.become, h.cut, h.told)
+before_a_line_that_is_told holds batch text old new h = (h.asks, h.become, h.cut, h.told)
 
 -- RunsOne
 its_report_or_a_beginning :
-    {G : Type 0} (name : G → ℕ) (holds : G → List Visit → Type 0) (text : List ℕ) (old new : G) (report : Option (List Line))
-    → RunsOne name holds 2 text old new report
-    → (name new ≡ name old) × MatchOption report (StopsWithin holds 2 text old new) (λ lines. RunsFeed holds 2 text old new lines)
+    {G : Type 0} (name : G → ℕ) (holds : G → List Visit → Type 0) (batch : ℕ) (text : List ℕ) (old new : G) (report : Option (List Line))
+    → RunsOne name holds batch text old new report
+    → (name new ≡ name old) × MatchOption report (StopsWithin holds batch text old new) (λ lines. RunsFeed holds batch text old new lines)
     × (text ≡ [] → IsSome report)
-its_report_or_a_beginning name holds text old new report h = (h.named, h.runs, h.nothing)
+its_report_or_a_beginning name holds batch text old new report h = (h.named, h.runs, h.nothing)
 
 -- way_text
 the_way_to_a_router : way_text (Via at_192_0_2_1) ≡ codes "via 192.0.2.1"
