@@ -2,7 +2,8 @@
 -- computed, but for the texts that are written for numbers, which have one spelling each.
 use Rattle.std.proofs.Common.{◌≡◌, ◌≢◌, ℕ, ◌+◌, ◌≤◌, ◌==◌, ◌&&◌, nat_le, ◌*◌, zero, suc, Bool, true, false, if◌then◌else◌, Some, None, Ok, Err}
 use Rattle.std.proofs.Common.{List, [], ◌∷◌, ◌++◌, length, map, filter, take, drop, inl, inr, codes, refl, sym, ap, ◌∙◌, subst, arith}
-use Rattle.std.specs.List.{All, list_any, list_all, slice_get, Contains}
+use Rattle.std.specs.List.{All, list_any, list_all, flat_map, slice_get, Contains}
+use Rattle.std.specs.Option.{option_map_or}
 use Rattle.std.proofs.lemmas.Bool.{and_parts, eqb-true, eqb-false, leb-true}
 use Rattle.std.proofs.lemmas.List.Elements.{All-nil, All-cons}
 use Rattle.std.specs.Fmt.{digits}
@@ -32,11 +33,12 @@ use Rattle.rt_feed.specs.declared.parse.LineFault.TheVariants as fault
 use Rattle.rt_feed.specs.declared.versions.Version.TheVariants.{One}
 use Rattle.rt_feed.specs.Lines.{TellsTwo, CutsLine, skipped, faulty, asked, LineOutcome, Becomes, asked_of}
 use Rattle.std.specs.Simd.{first_chunks}
-use Rattle.rt_feed.specs.Printed.{reply_text, fault_text, route_text, row_text, count_text, table_text, found_text, also_text, reason_text}
+use Rattle.rt_feed.specs.Printed.{reply_text, fault_text, route_text, row_text, count_text, table_text, found_text, all_found_text, also_text, reason_text}
 use Rattle.rt_feed.specs.declared.faults.RunFault.{RunFault}
 use Rattle.rt_feed.specs.declared.faults.RunFault.TheVariants as run
 use Rattle.feed_examples.proofs.Feed.{north, north_read, south, south_read, east, east_read, what_north_becomes, what_south_becomes, what_east_becomes}
-use Rattle.std.specs.Prelude.{◌↔◌, max, Option}
+use Rattle.std.specs.Prelude.{◌↔◌, max, decimal, bytes_eq, Option}
+use Rattle.rt_cidr.specs.declared.address.Addr.{Addr}
 use Rattle.std.specs.Io.KnownBytes.{Appends}
 use Rattle.rt_cidr.specs.Output.{AppendsBeginning}
 use Rattle.rt_diff.specs.declared.differences.Difference.{Difference}
@@ -154,6 +156,11 @@ a_line_of_feed_2 = refl
 nothing_is_told_of_a_comment : told_text 2 3 skipped ≡ []
 nothing_is_told_of_a_comment = refl
 
+a_line_of_any_feed :
+    (feed number : ℕ) (outcome : LineOutcome) → told_text feed number outcome
+    ≡ option_map_or (λ told. decimal feed ++ (codes ":" ++ (decimal number ++ (codes " " ++ (told ++ codes "\n"))))) (told_of outcome) []
+a_line_of_any_feed feed number outcome = refl
+
 -- lines_text
 a_comment_has_its_number : lines_text 1 1 (skipped ∷ asked Dump Refused ∷ asked Dump Refused ∷ []) ≡ codes "1:2 refused\n1:3 refused\n"
 unfolding digits
@@ -174,6 +181,9 @@ full_alone :
     ≡ false ∷ false ∷ false ∷ true ∷ false ∷ []
 unfolding fault_text reply_text
 full_alone = refl
+
+any_text_alone : (told : List ℕ) (outcome : LineOutcome) → was_told told outcome ≡ option_map_or (bytes_eq told) (told_of outcome) false
+any_text_alone told outcome = refl
 
 -- some_refused
 one_of_the_second_was : some_refused ((skipped ∷ []) ∷ (faulty fault.Hop ∷ asked Dump Refused ∷ []) ∷ []) ≡ true
@@ -217,6 +227,10 @@ one_is_covered_and_one_is_not :
 unfolding digits address_text prefix_text look_up found_text reply_text route_text
 one_is_covered_and_one_is_not = refl
 
+what_each_address_finds :
+    (addresses : List Addr) (table : List Route) → answers_text addresses table ≡ flat_map (λ addr. found_text addr (look_up addr table)) addresses
+what_each_address_finds addresses table = refl
+
 -- all_answers_text
 all_that_cover_each :
     all_answers_text (at_10_1_2_3 ∷ at_10_9_0_1 ∷ []) (two_to_ten_8 ++ route_via ten_1_16 1 10 Discard ∷ [])
@@ -225,6 +239,11 @@ all_that_cover_each :
     ++ codes "10.9.0.1 also 10.0.0.0/8 feed 1 pref 50 via discard preference\n"
 unfolding digits address_text prefix_text look_up_all found_text also_text reason_text reply_text route_text
 all_that_cover_each = refl
+
+all_that_each_address_finds :
+    (addresses : List Addr) (table : List Route)
+    → all_answers_text addresses table ≡ flat_map (λ addr. all_found_text addr (look_up_all addr table)) addresses
+all_that_each_address_finds addresses table = refl
 
 -- first_fault
 the_second_line_has_the_first : first_fault 3 (asked Dump Refused ∷ faulty fault.Hop ∷ faulty fault.Text ∷ []) ≡ Some (4, fault.Hop)

@@ -2,6 +2,7 @@
 -- computed, and what a relation or a law says is spelled out for some values.
 use Rattle.std.proofs.Common.{◌≡◌, ℕ, true, false, Some, None, [], ◌∷◌, refl, arith}
 use Rattle.rt_cidr.specs.declared.prefixes.Prefix.{Prefix}
+use Rattle.rt_cidr.specs.Cidr.{size_of}
 use Rattle.table_examples.proofs.Cidr.{ten_8, ten_0_16}
 use Rattle.rt_trie.specs.Map.{Pairs, before, IsBeforeAll, IsOrdered, get, same_prefix, IsStored, put, erase, first}
 use Rattle.rt_trie.specs.Map.{next_after, IsLongest, covering, address_at, answer_at, pair_copied, AreLongest}
@@ -71,8 +72,9 @@ before_both = (refl, (refl, tt))
 not_before_itself : ¬ IsBeforeAll ten_1_16 two
 not_before_itself h = let same = h.0 in cc
 
-what_comes_before_all : (rest : Pairs ℕ) → IsBeforeAll ten_8 ((ten_1_16, 5) ∷ rest) → IsTrue (before ten_8 ten_1_16) × IsBeforeAll ten_8 rest
-what_comes_before_all rest h = h
+what_comes_before_all :
+    {V : Type 0} (p q : Prefix) (v : V) (rest : Pairs V) → IsBeforeAll p ((q, v) ∷ rest) ↔ (IsTrue (before p q) × IsBeforeAll p rest)
+what_comes_before_all p q v rest = (λ h. h, λ h. h)
 
 -- IsOrdered
 two_in_order : IsOrdered two
@@ -81,8 +83,8 @@ two_in_order = ((refl, tt), (tt, tt))
 none_twice : ¬ IsOrdered {V = ℕ} ((ten_8, 5) ∷ (ten_8, 7) ∷ [])
 none_twice h = let same = h.0.0 in cc
 
-the_first_before_the_others : (rest : Pairs ℕ) → IsOrdered ((ten_8, 5) ∷ rest) → IsBeforeAll ten_8 rest × IsOrdered rest
-the_first_before_the_others rest h = h
+the_first_before_the_others : {V : Type 0} (p : Prefix) (v : V) (rest : Pairs V) → IsOrdered ((p, v) ∷ rest) ↔ (IsBeforeAll p rest × IsOrdered rest)
+the_first_before_the_others p v rest = (λ h. h, λ h. h)
 
 -- get
 the_value_at_a_prefix : get two ten_128_9 ≡ Some 7
@@ -144,6 +146,12 @@ what_a_node_without_a_value_has :
     → (IsSome (top left) × IsSome (top right)) × IfSome (top left) (IsChildByBit ten_8 false) × IfSome (top right) (IsChildByBit ten_8 true)
 what_a_node_without_a_value_has left right h = (h.needed refl, h.lower, h.upper)
 
+what_any_node_has :
+    (q : Prefix) (valued : Bool) (left right : Tree) → IsLawfulAt q valued left right
+    ↔ ((valued ≡ false → IsSome (top left) × IsSome (top right)) × IfSome (top left) (IsChildByBit q false) × IfSome (top right) (IsChildByBit q true))
+what_any_node_has q valued left right =
+    (λ h. (h.needed, h.lower, h.upper), λ (needed, lower, upper). record { needed = needed; lower = lower; upper = upper })
+
 -- IsLawfulTree
 lawful_at_each_node : IsLawfulTree below_ten_8
 lawful_at_each_node = (
@@ -156,8 +164,9 @@ not_with_sides_exchanged : ¬ IsLawfulTree (Node ten_8 false (leaf ten_128_9) (l
 not_with_sides_exchanged h = not_on_the_other_side h.0.lower
 
 at_a_node_and_below_it :
-    (left right : Tree) → IsLawfulTree (Node ten_8 false left right) → IsLawfulAt ten_8 false left right × IsLawfulTree left × IsLawfulTree right
-at_a_node_and_below_it left right h = h
+    (q : Prefix) (valued : Bool) (left right : Tree)
+    → IsLawfulTree (Node q valued left right) ↔ (IsLawfulAt q valued left right × IsLawfulTree left × IsLawfulTree right)
+at_a_node_and_below_it q valued left right = (λ h. h, λ h. h)
 
 -- IsLawful
 the_trie_of_two_values : IsLawful {V = ℕ} (record { pairs = two; nodes = 3; tree = below_ten_8 })
@@ -208,12 +217,12 @@ one_after_another = (refl, refl, refl)
 
 -- IsLongest
 what_the_longest_is :
-    (m : Pairs ℕ) (a : Addr) → IsLongest m a (Some (ten_8, 5))
-    → Contains m (ten_8, 5) × IsTrue (covers ten_8 a) × All (λ y. IsTrue (covers y.0 a) → y.0.len ≤ 8) m
-what_the_longest_is m a h = h
+    {V : Type 0} (m : Pairs V) (a : Addr) (x : Prefix × V) → IsLongest m a (Some x)
+    ↔ (Contains m x × IsTrue (covers x.0 a) × All (λ y. IsTrue (covers y.0 a) → y.0.len ≤ x.0.len) m)
+what_the_longest_is m a x = (λ h. h, λ h. h)
 
-none_where_none_covers : (m : Pairs ℕ) (a : Addr) → IsLongest m a None → All (λ y. covers y.0 a ≡ false) m
-none_where_none_covers m a h = h
+none_where_none_covers : {V : Type 0} (m : Pairs V) (a : Addr) → IsLongest m a None ↔ All (λ y. covers y.0 a ≡ false) m
+none_where_none_covers m a = (λ h. h, λ h. h)
 
 -- covering
 each_that_covers_it_the_shortest_first : covering ((ten_8, 4) ∷ two) (record { 0 = 167837697 }) ≡ (ten_8, 4) ∷ (ten_1_16, 5) ∷ []
@@ -229,25 +238,37 @@ the_second_of_two = refl
 the_least_behind_the_last : address_at [] 0 ≡ record { 0 = 0 }
 the_least_behind_the_last = refl
 
+any_of_them : (addresses : List Addr) (k : ℕ) → address_at addresses k ≡ slice_index_or addresses k (record { 0 = 0 })
+any_of_them addresses k = refl
+
 -- middle_at
 where_the_upper_half_begins : middle_at 8 167772160 ≡ 176160768
 where_the_upper_half_begins = refl
+
+half_of_its_addresses_behind_the_base : (len base : ℕ) → middle_at len base ≡ base + size_of len / 2
+half_of_its_addresses_behind_the_base len base = refl
 
 -- middle
 the_middle_of_ten_8 : middle ten_8 ≡ 176160768
 the_middle_of_ten_8 = refl
 
+the_middle_of_any_prefix : (q : Prefix) → middle q ≡ middle_at q.len q.base
+the_middle_of_any_prefix q = refl
+
 -- past
 behind_ten_8 : past ten_8 ≡ 184549376
 behind_ten_8 = refl
 
+behind_any_prefix : (q : Prefix) → past q ≡ q.base + size_of q.len
+behind_any_prefix q = refl
+
 -- IsKeyOf
-its_length_and_its_base : (len base : ℕ) → IsKeyOf len base ten_8 → (len ≡ 8) × (base ≡ 167772160)
-its_length_and_its_base len base h = (h.len_is, h.base_is)
+its_length_and_its_base : (len base : ℕ) (q : Prefix) → IsKeyOf len base q ↔ ((len ≡ q.len) × (base ≡ q.base))
+its_length_and_its_base len base q = (λ h. (h.len_is, h.base_is), λ (len_is, base_is). record { len_is = len_is; base_is = base_is })
 
 -- IsInBlock
-no_shorter_and_within : (c : Prefix) → IsInBlock 5 9 8 c → (8 ≤ c.len) × (5 ≤ c.base) × (past c ≤ 9)
-no_shorter_and_within c h = (h.long, h.from, h.to)
+no_shorter_and_within : (lo hi len : ℕ) (c : Prefix) → IsInBlock lo hi len c ↔ ((len ≤ c.len) × (lo ≤ c.base) × (past c ≤ hi))
+no_shorter_and_within lo hi len c = (λ h. (h.long, h.from, h.to), λ (long, from, to). record { long = long; from = from; to = to })
 
 -- IsChild
 in_the_lower_half : (c : Prefix) → IsChild ten_8 false c → IsInBlock 167772160 176160768 9 c
@@ -256,18 +277,23 @@ in_the_lower_half c h = h
 in_the_upper_half : (c : Prefix) → IsChild ten_8 true c → IsInBlock 176160768 184549376 9 c
 in_the_upper_half c h = h
 
+in_either_half :
+    (parent c : Prefix) → (IsChild parent false c ↔ IsInBlock parent.base (middle parent) (parent.len + 1) c)
+    × (IsChild parent true c ↔ IsInBlock (middle parent) (past parent) (parent.len + 1) c)
+in_either_half parent c = ((λ h. h, λ h. h), (λ h. h, λ h. h))
+
 -- PartsAt
-one_in_each_half : (low high : Prefix) → PartsAt ten_8 low high → IsChild ten_8 false low × IsChild ten_8 true high
-one_in_each_half low high h = h
+one_in_each_half : (c low high : Prefix) → PartsAt c low high ↔ (IsChild c false low × IsChild c true high)
+one_in_each_half c low high = (λ h. h, λ h. h)
 
 -- PartAt
 of_two_that_are_stored :
-    (m : Pairs ℕ) (h : PartAt m ten_8) → IsStored m h.low × IsStored m h.high × PartsAt ten_8 h.low h.high
-of_two_that_are_stored m h = (h.low_stored, h.high_stored, h.parts)
+    {V : Type 0} (m : Pairs V) (c : Prefix) (h : PartAt m c) → IsStored m h.low × IsStored m h.high × PartsAt c h.low h.high
+of_two_that_are_stored m c h = (h.low_stored, h.high_stored, h.parts)
 
 -- IsNodeAt
-where_one_is_stored_or_two_part : (m : Pairs ℕ) → IsNodeAt m ten_8 → IsStored m ten_8 ⊎ PartAt m ten_8
-where_one_is_stored_or_two_part m h = h
+where_one_is_stored_or_two_part : {V : Type 0} (m : Pairs V) (c : Prefix) → IsNodeAt m c ↔ (IsStored m c ⊎ PartAt m c)
+where_one_is_stored_or_two_part m c = (λ h. h, λ h. h)
 
 -- CountsNodes
 it_lists_them_without_values : (m : Pairs ℕ) → CountsNodes m 3 → Pairs (Unit {0})
@@ -276,6 +302,11 @@ it_lists_them_without_values m h = h.nodes
 three_nodes_listed_in_order :
     (m : Pairs ℕ) (h : CountsNodes m 3) → IsOrdered h.nodes × (IsStored h.nodes ten_8 ↔ IsNodeAt m ten_8) × (length h.nodes ≡ 3)
 three_nodes_listed_in_order m h = (h.ordered, h.each ten_8, h.count)
+
+any_number_of_nodes_listed_in_order :
+    {V : Type 0} (m : Pairs V) (n : ℕ) (h : CountsNodes m n)
+    → IsOrdered h.nodes × ((c : Prefix) → IsStored h.nodes c ↔ IsNodeAt m c) × (length h.nodes ≡ n)
+any_number_of_nodes_listed_in_order m n h = (h.ordered, h.each, h.count)
 
 -- the map of two values, with the nodes that keep it
 abbrev the_two : TrieContents ℕ
@@ -289,29 +320,34 @@ its_pairs_its_nodes_and_their_tree = (refl, refl, refl)
 the_pairs_alone_change : contents_with the_two ten_1_16 9 ≡ record { pairs = (ten_1_16, 9) ∷ (ten_128_9, 7) ∷ []; nodes = 3; tree = below_ten_8 }
 the_pairs_alone_change = refl
 
+whatever_stands_there :
+    {V : Type 0} (t : TrieContents V) (p : Prefix) (w : V) → contents_with t p w ≡ record { pairs = put t.pairs p w; nodes = t.nodes; tree = t.tree }
+whatever_stands_there t p w = refl
+
 -- lends_value
 the_value_written_last_stands_there :
-    (V A : RattleType) (alloc : Ghosts A.Denot) (t : MutBor (TrieContents V.Denot)) (r : MutBor V.Denot)
-    → lends_value V A alloc t ten_8 (Some r)
-    ≡ Lends (the_row V A alloc) V t r (λ w. record { pairs = put t.now.pairs ten_8 w; nodes = t.now.nodes; tree = t.now.tree })
+    (V A : RattleType) (alloc : Ghosts A.Denot) (t : MutBor (TrieContents V.Denot)) (p : Prefix) (r : MutBor V.Denot)
+    → lends_value V A alloc t p (Some r)
+    ≡ Lends (the_row V A alloc) V t r (λ w. record { pairs = put t.now.pairs p w; nodes = t.now.nodes; tree = t.now.tree })
 unfolding follows_by
-the_value_written_last_stands_there V A alloc t r = refl
+the_value_written_last_stands_there V A alloc t p r = refl
 
 without_a_reference_the_trie_stays :
-    (V A : RattleType) (alloc : Ghosts A.Denot) (t : MutBor (TrieContents V.Denot))
-    → lends_value V A alloc t ten_8 None ≡ LendsIf (the_row V A alloc) V t None (λ w. t.now) t.now
+    (V A : RattleType) (alloc : Ghosts A.Denot) (t : MutBor (TrieContents V.Denot)) (p : Prefix)
+    → lends_value V A alloc t p None ≡ LendsIf (the_row V A alloc) V t None (λ w. t.now) t.now
 unfolding follows_by
-without_a_reference_the_trie_stays V A alloc t = refl
+without_a_reference_the_trie_stays V A alloc t p = refl
 
 -- with_pair
-with_it_or_without : (with_pair true ten_8 5 two ≡ (ten_8, 5) ∷ two) × (with_pair false ten_8 5 two ≡ two)
-with_it_or_without = (refl, refl)
+with_it_or_without :
+    {V : Type 0} (p : Prefix) (v : V) (rest : Pairs V) → (with_pair true p v rest ≡ (p, v) ∷ rest) × (with_pair false p v rest ≡ rest)
+with_it_or_without p v rest = (refl, refl)
 
 -- IsJudged
 what_the_sieve_made_of_it :
-    {S : Type 0} (is_done : S → Bool) (judges : S → Prefix → ℕ → S → ℕ → Bool → Type 0) (s t : S) (rest new : Pairs ℕ)
-    (h : IsJudged is_done judges s t ten_8 5 rest new) → judges s ten_8 5 t h.made h.stays × (new ≡ with_pair h.stays ten_8 h.made rest)
-what_the_sieve_made_of_it is_done judges s t rest new h = (h.judged, h.new_is)
+    {V S : Type 0} (is_done : S → Bool) (judges : S → Prefix → V → S → V → Bool → Type 0) (s t : S) (p : Prefix) (v : V) (rest new : Pairs V)
+    (h : IsJudged is_done judges s t p v rest new) → judges s p v t h.made h.stays × (new ≡ with_pair h.stays p h.made rest)
+what_the_sieve_made_of_it is_done judges s t p v rest new h = (h.judged, h.new_is)
 
 -- IsSifted
 nothing_to_show :
@@ -320,19 +356,19 @@ nothing_to_show :
 nothing_to_show is_done judges s t new h = h
 
 it_is_done_or_is_shown_the_first :
-    {S : Type 0} (is_done : S → Bool) (judges : S → Prefix → ℕ → S → ℕ → Bool → Type 0) (s t : S) (rest new : Pairs ℕ)
-    → IsSifted is_done judges s t ((ten_8, 5) ∷ rest) new
-    → (IsTrue (is_done s) × (t ≡ s) × (new ≡ (ten_8, 5) ∷ rest))
-    ⊎ ((is_done s ≡ false) × (next : S) × (remaining : Pairs ℕ) × IsJudged is_done judges s next ten_8 5 remaining new
+    {V S : Type 0} (is_done : S → Bool) (judges : S → Prefix → V → S → V → Bool → Type 0) (s t : S) (p : Prefix) (v : V) (rest new : Pairs V)
+    → IsSifted is_done judges s t ((p, v) ∷ rest) new
+    → (IsTrue (is_done s) × (t ≡ s) × (new ≡ (p, v) ∷ rest))
+    ⊎ ((is_done s ≡ false) × (next : S) × (remaining : Pairs V) × IsJudged is_done judges s next p v remaining new
     × IsSifted is_done judges next t rest remaining)
-it_is_done_or_is_shown_the_first is_done judges s t rest new h = h
+it_is_done_or_is_shown_the_first is_done judges s t p v rest new h = h
 
 -- root
 the_prefix_of_each_kind_of_link :
-    {V A : Type 0} (len base : ℕ) (b : Box (LeafNode V) A) (p : _) (o : _) (left right : Link V A) (v : Option V)
+    {V A : Type 0} (q : Prefix) (len base : ℕ) (b : Box (LeafNode V) A) (p : _) (o : _) (left right : Link V A) (v : Option V)
     → (root {V = V} {A = A} Empty ≡ None) × (root (Leaf len base b) ≡ Some b.value.prefix)
-    × (root (Fork' len base p left right ten_8) ≡ Some ten_8) × (root (Full' len base o left right ten_8 v) ≡ Some ten_8)
-the_prefix_of_each_kind_of_link len base b p o left right v = (refl, refl, refl, refl)
+    × (root (Fork' len base p left right q) ≡ Some q) × (root (Full' len base o left right q v) ≡ Some q)
+the_prefix_of_each_kind_of_link q len base b p o left right v = (refl, refl, refl, refl)
 
 -- IsFilled
 by_a_leaf : {V A : Type 0} (len base : ℕ) (b : Box (LeafNode V) A) → IsFilled (Leaf len base b)
@@ -342,35 +378,37 @@ not_by_nothing : (V A : Type 0) → ¬ IsFilled {V = V} {A = A} Empty
 not_by_nothing V A h = cc
 
 -- IsChildLink
-its_node_is_a_child : {V A : Type 0} (link : Link V A) → IsChildLink ten_8 true link → IfSome (root link) (IsChild ten_8 true)
-its_node_is_a_child link h = h
+its_node_is_a_child :
+    {V A : Type 0} (parent : Prefix) (upper : Bool) (link : Link V A) → IsChildLink parent upper link ↔ IfSome (root link) (IsChild parent upper)
+its_node_is_a_child parent upper link = (λ h. h, λ h. h)
 
 -- AreHalves
-a_child_in_each : {V A : Type 0} (left right : Link V A) → AreHalves ten_8 left right → IsChildLink ten_8 false left × IsChildLink ten_8 true right
-a_child_in_each left right h = (h.lower, h.upper)
+a_child_in_each :
+    {V A : Type 0} (q : Prefix) (left right : Link V A) → AreHalves q left right ↔ (IsChildLink q false left × IsChildLink q true right)
+a_child_in_each q left right = (λ h. (h.lower, h.upper), λ (lower, upper). record { lower = lower; upper = upper })
 
 -- IsNeeded
 nothing_and_a_leaf_are : {V A : Type 0} (len base : ℕ) (b : Box (LeafNode V) A) → IsNeeded {V = V} {A = A} Empty × IsNeeded (Leaf len base b)
 nothing_and_a_leaf_are len base b = (tt, tt)
 
 a_fork_by_two_children :
-    {V A : Type 0} (len base : ℕ) (p : _) (left right : Link V A) → IsNeeded (Fork' len base p left right ten_8) → IsFilled left × IsFilled right
-a_fork_by_two_children len base p left right h = h
+    {V A : Type 0} (q : Prefix) (len base : ℕ) (p : _) (left right : Link V A) → IsNeeded (Fork' len base p left right q) → IsFilled left × IsFilled right
+a_fork_by_two_children q len base p left right h = h
 
 a_full_node_by_its_value_or_so :
-    {V A : Type 0} (len base : ℕ) (o : _) (left right : Link V A) (v : Option V)
-    → IsNeeded (Full' len base o left right ten_8 v) → IfNone v (IsFilled left × IsFilled right)
-a_full_node_by_its_value_or_so len base o left right v h = h
+    {V A : Type 0} (q : Prefix) (len base : ℕ) (o : _) (left right : Link V A) (v : Option V)
+    → IsNeeded (Full' len base o left right q v) → IfNone v (IsFilled left × IsFilled right)
+a_full_node_by_its_value_or_so q len base o left right v h = h
 
 -- IsLawfulBelow
 what_is_lawful_of_each_kind_of_link :
-    {V A : Type 0} (len base : ℕ) (b : Box (LeafNode V) A) (p : _) (o : _) (left right : Link V A) (v : Option V)
+    {V A : Type 0} (q : Prefix) (len base : ℕ) (b : Box (LeafNode V) A) (p : _) (o : _) (left right : Link V A) (v : Option V)
     → IsLawfulBelow {V = V} {A = A} Empty × (IsLawfulBelow (Leaf len base b) → IsKeyOf len base b.value.prefix)
-    × (IsLawfulBelow (Fork' len base p left right ten_8)
-    → AreHalves ten_8 left right × (IsLawfulBelow left × IsNeeded left) × (IsLawfulBelow right × IsNeeded right) × IsKeyOf len base ten_8)
-    × (IsLawfulBelow (Full' len base o left right ten_8 v)
-    → AreHalves ten_8 left right × (IsLawfulBelow left × IsNeeded left) × (IsLawfulBelow right × IsNeeded right) × IsKeyOf len base ten_8)
-what_is_lawful_of_each_kind_of_link len base b p o left right v = (tt, λ h. h, λ h. h, λ h. h)
+    × (IsLawfulBelow (Fork' len base p left right q)
+    → AreHalves q left right × (IsLawfulBelow left × IsNeeded left) × (IsLawfulBelow right × IsNeeded right) × IsKeyOf len base q)
+    × (IsLawfulBelow (Full' len base o left right q v)
+    → AreHalves q left right × (IsLawfulBelow left × IsNeeded left) × (IsLawfulBelow right × IsNeeded right) × IsKeyOf len base q)
+what_is_lawful_of_each_kind_of_link q len base b p o left right v = (tt, λ h. h, λ h. h, λ h. h)
 
 -- IsLawfulTrie
 below_it_and_by_itself : {V A : Type 0} (link : Link V A) → IsLawfulTrie link → IsLawfulBelow link × IsNeeded link
@@ -382,27 +420,27 @@ its_prefix_and_its_value = (refl, refl)
 
 -- pairs
 the_pairs_of_each_kind_of_link :
-    {V A : Type 0} (len base : ℕ) (b : Box (LeafNode V) A) (p : _) (o : _) (left right : Link V A) (v : Option V)
+    {V A : Type 0} (q : Prefix) (len base : ℕ) (b : Box (LeafNode V) A) (p : _) (o : _) (left right : Link V A) (v : Option V)
     → (pairs {V = V} {A = A} Empty ≡ []) × (pairs (Leaf len base b) ≡ (b.value.prefix, b.value.value) ∷ [])
-    × (pairs (Fork' len base p left right ten_8) ≡ pairs left ++ pairs right)
-    × (pairs (Full' len base o left right ten_8 v) ≡ own_pair ten_8 v ++ (pairs left ++ pairs right))
-the_pairs_of_each_kind_of_link len base b p o left right v = (refl, refl, refl, refl)
+    × (pairs (Fork' len base p left right q) ≡ pairs left ++ pairs right)
+    × (pairs (Full' len base o left right q v) ≡ own_pair q v ++ (pairs left ++ pairs right))
+the_pairs_of_each_kind_of_link q len base b p o left right v = (refl, refl, refl, refl)
 
 -- count
 how_many_nodes_each_has :
-    {V A : Type 0} (len base : ℕ) (b : Box (LeafNode V) A) (p : _) (o : _) (left right : Link V A) (v : Option V)
+    {V A : Type 0} (q : Prefix) (len base : ℕ) (b : Box (LeafNode V) A) (p : _) (o : _) (left right : Link V A) (v : Option V)
     → (count {V = V} {A = A} Empty ≡ 0) × (count (Leaf len base b) ≡ 1)
-    × (count (Fork' len base p left right ten_8) ≡ count left + count right + 1)
-    × (count (Full' len base o left right ten_8 v) ≡ count left + count right + 1)
-how_many_nodes_each_has len base b p o left right v = (refl, refl, refl, refl)
+    × (count (Fork' len base p left right q) ≡ count left + count right + 1)
+    × (count (Full' len base o left right q v) ≡ count left + count right + 1)
+how_many_nodes_each_has q len base b p o left right v = (refl, refl, refl, refl)
 
 -- tree_of
 the_tree_of_each_kind_of_link :
-    {V A : Type 0} (len base : ℕ) (b : Box (LeafNode V) A) (p : _) (o : _) (left right : Link V A) (v : Option V)
+    {V A : Type 0} (q : Prefix) (len base : ℕ) (b : Box (LeafNode V) A) (p : _) (o : _) (left right : Link V A) (v : Option V)
     → (tree_of {V = V} {A = A} Empty ≡ Vacant) × (tree_of (Leaf len base b) ≡ Node b.value.prefix true Vacant Vacant)
-    × (tree_of (Fork' len base p left right ten_8) ≡ Node ten_8 false (tree_of left) (tree_of right))
-    × (tree_of (Full' len base o left right ten_8 v) ≡ Node ten_8 (is_some v) (tree_of left) (tree_of right))
-the_tree_of_each_kind_of_link len base b p o left right v = (refl, refl, refl, refl)
+    × (tree_of (Fork' len base p left right q) ≡ Node q false (tree_of left) (tree_of right))
+    × (tree_of (Full' len base o left right q v) ≡ Node q (is_some v) (tree_of left) (tree_of right))
+the_tree_of_each_kind_of_link q len base b p o left right v = (refl, refl, refl, refl)
 
 -- PutIsSeen
 what_stands_where_after_a_put :
@@ -456,9 +494,9 @@ by_blocks_and_by_bits law = law
 
 -- IsLawfulNode
 what_a_lawful_node_has :
-    {V A : Type 0} (v : Option V) (left right : Link V A) → IsLawfulNode ten_8 v left right
-    → IfNone v (IsFilled left × IsFilled right) × IfSome (root left) (IsChildByBit ten_8 false) × IfSome (root right) (IsChildByBit ten_8 true)
-what_a_lawful_node_has v left right h = (h.needed, h.lower, h.upper)
+    {V A : Type 0} (q : Prefix) (v : Option V) (left right : Link V A) → IsLawfulNode q v left right
+    → IfNone v (IsFilled left × IsFilled right) × IfSome (root left) (IsChildByBit q false) × IfSome (root right) (IsChildByBit q true)
+what_a_lawful_node_has q v left right h = (h.needed, h.lower, h.upper)
 
 -- IsLawfulByBits
 nothing_is_and_a_leaf_with_its_key :
@@ -467,14 +505,14 @@ nothing_is_and_a_leaf_with_its_key :
 nothing_is_and_a_leaf_with_its_key len base b = (tt, λ h. h)
 
 a_fork_is_a_node_without_a_value :
-    {V A : Type 0} (len base : ℕ) (p : _) (left right : Link V A) → IsLawfulByBits (Fork' len base p left right ten_8)
-    → IsLawfulNode ten_8 None left right × IsLawfulByBits left × IsLawfulByBits right × IsKeyOf len base ten_8
-a_fork_is_a_node_without_a_value len base p left right h = h
+    {V A : Type 0} (q : Prefix) (len base : ℕ) (p : _) (left right : Link V A) → IsLawfulByBits (Fork' len base p left right q)
+    → IsLawfulNode q None left right × IsLawfulByBits left × IsLawfulByBits right × IsKeyOf len base q
+a_fork_is_a_node_without_a_value q len base p left right h = h
 
 a_full_node_has_its_value :
-    {V A : Type 0} (len base : ℕ) (o : _) (left right : Link V A) (v : Option V) → IsLawfulByBits (Full' len base o left right ten_8 v)
-    → IsLawfulNode ten_8 v left right × IsLawfulByBits left × IsLawfulByBits right × IsKeyOf len base ten_8
-a_full_node_has_its_value len base o left right v h = h
+    {V A : Type 0} (q : Prefix) (len base : ℕ) (o : _) (left right : Link V A) (v : Option V) → IsLawfulByBits (Full' len base o left right q v)
+    → IsLawfulNode q v left right × IsLawfulByBits left × IsLawfulByBits right × IsKeyOf len base q
+a_full_node_has_its_value q len base o left right v h = h
 
 -- LawfulByBits
 lawful_by_blocks_and_by_bits : {V A : Type 0} → LawfulByBits V A → (link : Link V A) → IsLawfulTrie link ↔ IsLawfulByBits link
@@ -488,6 +526,9 @@ with_the_value_that_is_pointed_to x = (refl, refl)
 -- answer_at
 the_second_answer : {V : Type 0} (answers : List (Option (Prefix × Bor V))) → answer_at answers 1 ≡ pair_copied (slice_index_or answers 1 None)
 the_second_answer answers = refl
+
+any_answer : {V : Type 0} (answers : List (Option (Prefix × Bor V))) (k : ℕ) → answer_at answers k ≡ pair_copied (slice_index_or answers k None)
+any_answer answers k = refl
 
 -- AreLongest
 each_answer_to_its_address :
