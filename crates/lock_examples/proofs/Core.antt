@@ -28,7 +28,7 @@ use Rattle.ya_core.specs.Worlds.{Marked, World, Event, Steps, Appends, WorldStep
 use Rattle.ya_core.specs.Worlds.{opening_world, entries_of, TellsInside, places_of, FollowsFrom, EachMayFollow}
 use Rattle.ya_core.specs.RealTime.{KeepsRealTimeOrder}
 use Rattle.ya_core.proofs.Content.{entries_of-marked_other}
-use Rattle.std.specs.Prelude.{IsTrue, ◌⊎◌, ◌||◌, ◌↔◌, ◌-◌, length}
+use Rattle.std.specs.Prelude.{IsTrue, ◌⊎◌, ◌||◌, ◌↔◌, ◌-◌, ◌*◌, ◌/◌, ◌%◌, length}
 use Rattle.ya_core.specs.declared.process.EntryPoint.{EntryPoint}
 use Rattle.ya_core.specs.declared.process.ExitPoint.{ExitPoint}
 use Rattle.ya_core.specs.declared.walker.Op.TheVariants as op
@@ -2060,3 +2060,392 @@ some_state_is_the_last = (after 2 3 opening, one_step_of_place_3)
 
 none_where_a_step_has_no_place : (step : Step) → ¬ Replays 2 opening [] (step ∷ [])
 none_where_a_step_has_no_place step h = h.1
+
+-- the same of any place, level, word and process
+
+-- node_of
+the_node_of_any_place : (level place : ℕ) → node_of level place ≡ place / 2 ^ level
+unfolding node_of
+the_node_of_any_place level place = refl
+
+-- side_of
+the_side_of_any_place : (level place : ℕ) → side_of level place ≡ place / 2 ^ (level - 1) % 2
+unfolding side_of
+the_side_of_any_place level place = refl
+
+-- Rivals
+at_one_node_on_two_sides : (node side : ℕ → ℕ) (p q : ℕ) → Rivals node side p q ↔ ((node p ≡ node q) × (side p ≢ side q))
+at_one_node_on_two_sides node side p q = (λ h. h, λ h. h)
+
+-- AreRivals
+at_one_node_of_the_level_on_two_sides :
+    (level p q : ℕ) → AreRivals level p q ↔ ((node_of level p ≡ node_of level q) × (side_of level p ≢ side_of level q))
+at_one_node_of_the_level_on_two_sides level p q = (λ h. h, λ h. h)
+
+-- IsWord
+which_words_any_tree_has :
+    (levels level node side place : ℕ)
+    → (IsWord levels (C level node side) ↔ ((1 ≤ level) × (level ≤ levels) × (node < 2 ^ (levels - level)) × (side < 2)))
+    × (IsWord levels (T level node) ↔ ((1 ≤ level) × (level ≤ levels) × (node < 2 ^ (levels - level))))
+    × (IsWord levels (P level place) ↔ ((1 ≤ level) × (level ≤ levels) × (place < 2 ^ levels)))
+which_words_any_tree_has levels level node side place = ((λ h. h, λ h. h), (λ h. h, λ h. h), (λ h. h, λ h. h))
+
+-- nodes_below
+below_any_level : (levels level : ℕ) → nodes_below levels level ≡ 2 ^ levels - 2 ^ (levels - level + 1)
+below_any_level levels level = refl
+
+-- number_of
+the_number_of_any_word :
+    (levels level node side place : ℕ)
+    → (number_of levels (C level node side) ≡ 2 * (nodes_below levels level + node) + side)
+    × (number_of levels (T level node) ≡ 2 * (2 ^ levels - 1) + nodes_below levels level + node)
+    × (number_of levels (P level place) ≡ 3 * (2 ^ levels - 1) + (level - 1) * 2 ^ levels + place)
+unfolding number_of
+the_number_of_any_word levels level node side place = (refl, refl, refl)
+
+-- count_of_words
+the_words_of_any_tree : (levels : ℕ) → count_of_words levels ≡ 3 * (2 ^ levels - 1) + levels * 2 ^ levels
+unfolding count_of_words
+the_words_of_any_tree levels = refl
+
+-- access_of
+the_access_of_any_process :
+    (levels place level : ℕ) (entry : EntryPoint) (exit : ExitPoint)
+    → (access_of levels place Idle ≡ entry_access 1 place E1) × (access_of levels place (Entering level entry) ≡ entry_access level place entry)
+    × (access_of levels place Inside ≡ exit_access levels place X1) × (access_of levels place (Leaving level exit) ≡ exit_access level place exit)
+the_access_of_any_process levels place level entry exit = (refl, refl, refl, refl)
+
+-- exit_access
+on_the_way_out_of_any_level :
+    (level place rival : ℕ)
+    → (exit_access level place X1 ≡ Store (C level (node_of level place) (side_of level place)) 0)
+    × (exit_access level place X2 ≡ Load (T level (node_of level place))) × (exit_access level place (X3 rival) ≡ Store (P level rival) 2)
+on_the_way_out_of_any_level level place rival = (refl, refl, refl)
+
+-- entry_access
+on_the_way_in_of_any_level :
+    (level place rival : ℕ)
+    → (entry_access level place E1 ≡ Store (C level (node_of level place) (side_of level place)) (place + 1))
+    × (entry_access level place E2 ≡ Store (T level (node_of level place)) (place + 1)) × (entry_access level place E3 ≡ Store (P level place) 0)
+    × (entry_access level place E4 ≡ Load (C level (node_of level place) (1 - side_of level place)))
+    × (entry_access level place (E5 rival) ≡ Load (T level (node_of level place))) × (entry_access level place (E6 rival) ≡ Load (P level rival))
+    × (entry_access level place (E7 rival) ≡ Store (P level rival) 1) × (entry_access level place E8 ≡ Load (P level place))
+    × (entry_access level place E9 ≡ Load (T level (node_of level place))) × (entry_access level place E10 ≡ Load (P level place))
+on_the_way_in_of_any_level level place rival = (refl, refl, refl, refl, refl, refl, refl, refl, refl, refl)
+
+-- next_of
+where_any_process_goes :
+    (levels place level value : ℕ) (entry : EntryPoint) (exit : ExitPoint)
+    → (next_of levels place Idle value ≡ Entering 1 E2) × (next_of levels place (Entering level entry) value ≡ entry_next levels level place entry value)
+    × (next_of levels place Inside value ≡ Leaving levels X2) × (next_of levels place (Leaving level exit) value ≡ exit_next level place exit value)
+where_any_process_goes levels place level value entry exit = (refl, refl, refl, refl)
+
+-- entry_next
+where_each_point_of_any_way_in_leads :
+    (levels level place rival value : ℕ)
+    → (entry_next levels level place E1 value ≡ Entering level E2) × (entry_next levels level place E2 value ≡ Entering level E3)
+    × (entry_next levels level place E3 value ≡ Entering level E4)
+    × (entry_next levels level place E4 value ≡ (if value == 0 then won levels level else Entering level (E5 (value - 1))))
+    × (entry_next levels level place (E5 rival) value ≡ (if value == place + 1 then Entering level (E6 rival) else won levels level))
+    × (entry_next levels level place (E6 rival) value ≡ (if value == 0 then Entering level (E7 rival) else Entering level E8))
+    × (entry_next levels level place (E7 rival) value ≡ Entering level E8)
+    × (entry_next levels level place E8 value ≡ (if value == 0 then Entering level E8 else Entering level E9))
+    × (entry_next levels level place E9 value ≡ (if value == place + 1 then Entering level E10 else won levels level))
+    × (entry_next levels level place E10 value ≡ (if value == 2 then won levels level else Entering level E10))
+where_each_point_of_any_way_in_leads levels level place rival value = (refl, refl, refl, refl, refl, refl, refl, refl, refl, refl)
+
+-- exit_next
+where_each_point_of_any_way_out_leads :
+    (level place rival value : ℕ)
+    → (exit_next level place X1 value ≡ Leaving level X2)
+    × (exit_next level place X2 value ≡ (if value == place + 1 then after_exit level else Leaving level (X3 (value - 1))))
+    × (exit_next level place (X3 rival) value ≡ after_exit level)
+where_each_point_of_any_way_out_leads level place rival value = (refl, refl, refl)
+
+-- Accesses
+what_any_access_changes :
+    (word : Word) (value : ℕ) (old new : Word → ℕ)
+    → (Accesses (Load word) old new ↔ ((other : Word) → new other ≡ old other))
+    × (Accesses (Store word value) old new ↔ ((new word ≡ value) × ((other : Word) → other ≢ word → new other ≡ old other)))
+what_any_access_changes word value old new = ((λ h. h, λ h. h), (λ h. h, λ h. h))
+
+-- StepsTo
+what_any_step_is :
+    (levels place : ℕ) (old new : State) → StepsTo levels place old new
+    ↔ ((place < 2 ^ levels) × Accesses (access_of levels place (old.processes place)) old.words new.words
+    × (new.processes place ≡ next_of levels place (old.processes place) (value_of old.words (access_of levels place (old.processes place))))
+    × ((other : ℕ) → other ≢ place → new.processes other ≡ old.processes other))
+what_any_step_is levels place old new = (
+  λ h. (h.in_tree, h.words, h.process, h.others),
+  λ (in_tree, words, process, others). record { in_tree = in_tree; words = words; process = process; others = others },
+)
+
+-- LeadTo
+one_step_after_another :
+    (levels place : ℕ) (places : List ℕ) (old new : State) → (LeadTo levels old [] new ↔ (new ≡ old))
+    × (LeadTo levels old (place ∷ places) new ↔ ((next : State) × StepsTo levels place old next × LeadTo levels next places new))
+one_step_after_another levels place places old new = ((λ h. h, λ h. h), (λ h. h, λ h. h))
+
+-- CanStand
+what_can_stand_in_any_word :
+    (level node side place value : ℕ)
+    → (CanStand (C level node side) value
+    ↔ ((value ≡ 0) ⊎ ((1 ≤ value) × (node_of level (value - 1) ≡ node) × (side_of level (value - 1) ≡ side))))
+    × (CanStand (T level node) value ↔ ((1 ≤ value) × (node_of level (value - 1) ≡ node))) × (CanStand (P level place) value ↔ (value ≤ 2))
+what_can_stand_in_any_word level node side place value = ((λ h. h, λ h. h), (λ h. h, λ h. h), (λ h. h, λ h. h))
+
+-- cost_of_word
+of_any_word :
+    (place level node side owner : ℕ)
+    → (cost_of_word place (C level node side) ≡ 1) × (cost_of_word place (T level node) ≡ 1)
+    × (cost_of_word place (P level owner) ≡ (if owner == place then 0 else 1))
+of_any_word place level node side owner = (refl, refl, refl)
+
+-- CountIsKept
+made_and_ahead_within_the_allowance :
+    (levels remote : ℕ) (process : Process) (begun : Bool)
+    → CountIsKept levels remote process begun ↔ (remote + budget_of levels process begun ≤ allowance levels process begun)
+made_and_ahead_within_the_allowance levels remote process begun = (λ h. h, λ h. h)
+
+-- IsWalk
+what_any_walk_is :
+    (w : Walk) → IsWalk w ↔ ((1 ≤ w.levels) × (w.levels ≤ 6) × (w.place < 2 ^ w.levels) × IsProper w.levels w.place w.process
+    × CountIsKept w.levels w.remote w.process w.begun)
+what_any_walk_is w = (
+  λ h. (h.least, h.most, h.in_tree, h.proper, h.counted),
+  λ (least, most, in_tree, proper, counted). record { least = least; most = most; in_tree = in_tree; proper = proper; counted = counted },
+)
+
+-- WalkLeadsTo
+told_one_value_after_another :
+    (w v : Walk) (value : ℕ) (values : List ℕ)
+    → WalkLeadsTo w (value ∷ values) v ↔ (MayBeTold (due w) value × WalkLeadsTo (walk_after w value) values v)
+told_one_value_after_another w v value values = (λ h. h, λ h. h)
+
+-- walk_after
+any_walk_after_its_access :
+    (w : Walk) (value : ℕ) → walk_after w value
+    ≡ walk w.levels w.place (next_of w.levels w.place w.process value) false (w.remote + cost_of w.place (access_of w.levels w.place w.process))
+any_walk_after_its_access w value = refl
+
+-- IsInside
+whether_any_place_is : (s : State) (place : ℕ) → IsInside s place ↔ IsTrue (is_inside (s.processes place))
+whether_any_place_is s place = (λ h. h, λ h. h)
+
+-- TellsInside
+whomever_it_tells : (s : State) (inside : Option ℕ) → TellsInside s inside ↔ ((place : ℕ) → (inside ≡ Some place) ↔ IsInside s place)
+whomever_it_tells s inside = (λ h. h, λ h. h)
+
+-- Happens
+by_any_step_and_any_entry :
+    {X : Type 0} (levels place : ℕ) (may : List (Marked X) → Marked X → Type 0) (entry : X) (old new : World X)
+    → (Happens levels may (Steps place) old new ↔ WorldSteps levels place old new)
+    × (Happens levels may (Appends place entry) old new ↔ WorldAppends may place entry old new)
+by_any_step_and_any_entry levels place may entry old new = ((λ h. h, λ h. h), (λ h. h, λ h. h))
+
+-- Runs
+one_event_after_another :
+    {X : Type 0} (levels : ℕ) (may : List (Marked X) → Marked X → Type 0) (event : Event X) (events : List (Event X)) (old new : World X)
+    → (Runs levels may old [] new ↔ (new ≡ old))
+    × (Runs levels may old (event ∷ events) new ↔ ((next : World X) × Happens levels may event old next × Runs levels may next events new))
+one_event_after_another levels may event events old new = ((λ h. h, λ h. h), (λ h. h, λ h. h))
+
+-- IsReached
+from_the_opening_world_by_any_events :
+    {X : Type 0} (levels : ℕ) (may : List (Marked X) → Marked X → Type 0) (events : List (Event X)) (world : World X)
+    → IsReached levels may events world ↔ Runs levels may opening_world events world
+from_the_opening_world_by_any_events levels may events world = (λ h. h, λ h. h)
+
+-- entries_of
+those_of_any_place :
+    {X : Type 0} (place : ℕ) (entry : Marked X) (entries : List (Marked X))
+    → entries_of place (entry ∷ entries) ≡ (if entry.0 == place then entry.1 ∷ entries_of place entries else entries_of place entries)
+those_of_any_place place entry entries = refl
+
+-- FollowsFrom
+each_behind_those_before_it :
+    {X : Type 0} (ok : List (Marked X) → Marked X → Type 0) (before entries : List (Marked X)) (entry : Marked X)
+    → FollowsFrom ok before (entry ∷ entries) ↔ (ok before entry × FollowsFrom ok (before ++ entry ∷ []) entries)
+each_behind_those_before_it ok before entries entry = (λ h. h, λ h. h)
+
+-- EachMayFollow
+from_none_on :
+    {X : Type 0} (ok : List (Marked X) → Marked X → Type 0) (entries : List (Marked X)) → EachMayFollow ok entries ↔ FollowsFrom ok [] entries
+from_none_on ok entries = (λ h. h, λ h. h)
+
+-- step_by
+what_is_told_of_any_access :
+    (place value : ℕ) (access : Access) (next : Process)
+    → step_by place access value next ≡ record { place = place; word = word_of access; store = is_store access; value = value; mark = mark_of next }
+what_is_told_of_any_access place value access next = refl
+
+-- step_of
+what_is_told_of_any_step :
+    (levels place : ℕ) (s : State) → step_of levels place s
+    ≡ step_by place (access_of levels place (s.processes place)) (value_of s.words (access_of levels place (s.processes place)))
+    (next_of levels place (s.processes place) (value_of s.words (access_of levels place (s.processes place))))
+what_is_told_of_any_step levels place s = refl
+
+-- ReplaysTo
+any_step_of_whoever_is_picked :
+    (levels place : ℕ) (picks : List ℕ) (step : Step) (steps : List Step) (s last : State)
+    → (ReplaysTo levels s [] [] last ↔ (last ≡ s))
+    × (ReplaysTo levels s (place ∷ picks) (step ∷ steps) last
+    ↔ ((next : State) × StepsTo levels place s next × (step ≡ step_of levels place s) × ReplaysTo levels next picks steps last))
+any_step_of_whoever_is_picked levels place picks step steps s last = ((λ h. h, λ h. h), (λ h. h, λ h. h))
+
+-- Replays
+to_some_state :
+    (levels : ℕ) (s : State) (picks : List ℕ) (steps : List Step) → Replays levels s picks steps ↔ ((last : State) × ReplaysTo levels s picks steps last)
+to_some_state levels s picks steps = (λ h. h, λ h. h)
+
+-- PickLeadsTo
+any_pick_or_none :
+    (levels place : ℕ) (old new : State) → (PickLeadsTo levels (Some place) old new ↔ StepsTo levels place old new)
+    × (PickLeadsTo levels None old new ↔ (new ≡ old))
+any_pick_or_none levels place old new = ((λ h. h, λ h. h), (λ h. h, λ h. h))
+
+-- IsRunOfSchedule
+the_run_of_any_schedule :
+    (levels : ℕ) (schedule : ℕ → Option ℕ) (first : State) (states : ℕ → State) → IsRunOfSchedule levels schedule first states
+    ↔ ((states 0 ≡ first) × ((time : ℕ) → PickLeadsTo levels (schedule time) (states time) (states (time + 1))))
+the_run_of_any_schedule levels schedule first states = (λ h. (h.start, h.picks), λ (start, picks). record { start = start; picks = picks })
+
+-- Eventually
+at_any_time_no_earlier : (time : ℕ) (So : ℕ → Type 0) → Eventually time So ↔ ((later : ℕ) × (time ≤ later) × So later)
+at_any_time_no_earlier time So = (λ h. h, λ h. h)
+
+-- IsFair
+whenever_any_place_is_not_idle :
+    (schedule : ℕ → Option ℕ) (states : ℕ → State) → IsFair schedule states
+    ↔ ((place time : ℕ) → (states time).processes place ≢ Idle → Eventually time (λ later. schedule later ≡ Some place))
+whenever_any_place_is_not_idle schedule states = (λ h. h, λ h. h)
+
+-- PicksEachAgain
+any_place_of_the_tree_again :
+    (levels : ℕ) (turns : ℕ → ℕ) → PicksEachAgain levels turns
+    ↔ ((place time : ℕ) → place < 2 ^ levels → Eventually time (λ later. turns later ≡ place))
+any_place_of_the_tree_again levels turns = (λ h. h, λ h. h)
+
+-- cost_of_pick
+the_cost_of_any_pick :
+    (place levels picked : ℕ) (s : State) → (cost_of_pick place levels s None ≡ 0)
+    × (cost_of_pick place levels s (Some picked) ≡ (if picked == place then cost_of place (access_of levels place (s.processes place)) else 0))
+the_cost_of_any_pick place levels picked s = (refl, refl)
+
+-- remote_accesses
+before_any_time :
+    (place levels time : ℕ) (schedule : ℕ → Option ℕ) (states : ℕ → State)
+    → (remote_accesses place levels schedule states 0 ≡ 0)
+    × (remote_accesses place levels schedule states (suc time)
+    ≡ remote_accesses place levels schedule states time + cost_of_pick place levels (states time) (schedule time))
+before_any_time place levels time schedule states = (refl, refl)
+
+-- CanLeadTo
+by_some_schedule :
+    (levels : ℕ) (s : State) (So : State → Type 0)
+    → CanLeadTo levels s So ↔ ((places : List ℕ) × (next : State) × LeadTo levels s places next × So next)
+by_some_schedule levels s So = (λ h. h, λ h. h)
+
+-- SomeoneGoesOn
+whoever_goes_on :
+    (levels : ℕ) (s : State) (h : SomeoneGoesOn levels s)
+    → (s.processes h.place ≢ Idle) × StepsTo levels h.place s h.after × (h.after.processes h.place ≢ s.processes h.place)
+whoever_goes_on levels s h = (h.busy, h.step, h.goes_on)
+
+-- SomeoneGoesOnIn
+whoever_goes_on_there :
+    {X : Type 0} (levels : ℕ) (world : World X) (h : SomeoneGoesOnIn levels world)
+    → (world.state.processes h.place ≢ Idle) × WorldSteps levels h.place world h.after
+    × (h.after.state.processes h.place ≢ world.state.processes h.place)
+whoever_goes_on_there levels world h = (h.busy, h.step, h.goes_on)
+
+-- LevelSees
+one_step_and_the_later_ones :
+    (levels level : ℕ) (s : State) (step : LevelStep) (steps : List LevelStep) → LevelSees levels level s (step ∷ steps)
+    ↔ ((next : State) × StepsTo levels step.place s next
+    × (step.deed ≡ deed_of level (s.processes step.place) (next.processes step.place)) × LevelSees levels level next steps)
+one_step_and_the_later_ones levels level s step steps = (λ h. h, λ h. h)
+
+-- HasNotWon
+neither_by_any_step_nor_later :
+    (place : ℕ) (step : LevelStep) (steps : List LevelStep)
+    → HasNotWon place (step ∷ steps) ↔ ((step.place ≡ place → step.deed ≢ Wins) × HasNotWon place steps)
+neither_by_any_step_nor_later place step steps = (λ h. h, λ h. h)
+
+-- announces
+any_place_announces_itself : (place : ℕ) → announces place ≡ record { place = place; deed = Announces }
+any_place_announces_itself place = refl
+
+-- times_overtaken
+by_any_rival_at_any_level :
+    (level place : ℕ) (step : LevelStep) (steps : List LevelStep) → times_overtaken level place (step ∷ steps)
+    ≡ (if is_rival level place step.place && is_win step.deed then 1 else 0) + times_overtaken level place steps
+by_any_rival_at_any_level level place step steps = refl
+
+-- phase_at
+below_at_and_above_any_level :
+    (level stands : ℕ) (phase : Phase) → phase_at level stands phase ≡ (if ltb level stands then Holding else (if level == stands then phase else Away))
+below_at_and_above_any_level level stands phase = refl
+
+-- phase_of
+the_phase_of_any_process :
+    (levels level stands : ℕ) (entry : EntryPoint) (exit : ExitPoint)
+    → (phase_of levels level Idle ≡ Away) × (phase_of levels level (Entering stands entry) ≡ phase_at level stands (entry_phase entry))
+    × (phase_of levels level Inside ≡ phase_at level levels Holding) × (phase_of levels level (Leaving stands exit) ≡ phase_at level stands (exit_phase exit))
+the_phase_of_any_process levels level stands entry exit = (refl, refl, refl, refl)
+
+-- SomeRival
+one_of_any_kind :
+    (node side : ℕ → ℕ) (phase : ℕ → Phase) (p : ℕ) (kind : Phase → Bool)
+    → SomeRival node side phase p kind ↔ ((q : ℕ) × Rivals node side p q × IsTrue (kind (phase q)))
+one_of_any_kind node side phase p kind = (λ h. h, λ h. h)
+
+-- EntryIsProper
+whichever_rival_it_knows :
+    (level place rival : ℕ) → (EntryIsProper level place (E5 rival) ↔ AreRivals level place rival)
+    × (EntryIsProper level place (E6 rival) ↔ AreRivals level place rival) × (EntryIsProper level place (E7 rival) ↔ AreRivals level place rival)
+whichever_rival_it_knows level place rival = ((λ h. h, λ h. h), (λ h. h, λ h. h), (λ h. h, λ h. h))
+
+-- ExitIsProper
+whichever_place_it_is_to_let_in :
+    (level place rival : ℕ) → ExitIsProper level place (X3 rival) ↔ ((node_of level place ≡ node_of level rival) × (rival ≢ place))
+whichever_place_it_is_to_let_in level place rival = (λ h. h, λ h. h)
+
+-- IsOnItsWay
+at_any_level_of_any_tree :
+    (levels place level : ℕ) (Knows : Type 0) → IsOnItsWay levels place level Knows ↔ ((place < 2 ^ levels) × (1 ≤ level) × (level ≤ levels) × Knows)
+at_any_level_of_any_tree levels place level Knows = (
+  λ h. (h.in_tree, h.least, h.most, h.knows),
+  λ (in_tree, least, most, knows). record { in_tree = in_tree; least = least; most = most; knows = knows },
+)
+
+-- IsProper
+any_process_of_any_place :
+    (levels place level : ℕ) (entry : EntryPoint) (exit : ExitPoint)
+    → (IsProper levels place (Entering level entry) ↔ IsOnItsWay levels place level (EntryIsProper level place entry))
+    × (IsProper levels place Inside ↔ (place < 2 ^ levels))
+    × (IsProper levels place (Leaving level exit) ↔ IsOnItsWay levels place level (ExitIsProper level place exit))
+any_process_of_any_place levels place level entry exit = ((λ h. h, λ h. h), (λ h. h, λ h. h), (λ h. h, λ h. h))
+
+-- IsSoundAt
+any_level_of_any_state :
+    (levels level : ℕ) (s : State) → IsSoundAt levels s level
+    ↔ IsSoundLevel (node_of level) (side_of level) (λ p. phase_of levels level (s.processes p)) (λ n d. s.words (C level n d))
+    (λ n. s.words (T level n)) (λ p. s.words (P level p))
+any_level_of_any_state levels level s = (λ h. h, λ h. h)
+
+-- IsOwedAt
+each_place_at_any_level :
+    (levels level : ℕ) (s : State) → IsOwedAt levels s level
+    ↔ ((p : ℕ) → IsOwed (node_of level) (side_of level) (λ q. phase_of levels level (s.processes q)) (λ n. s.words (T level n))
+    (λ q. s.words (P level q)) p)
+each_place_at_any_level levels level s = (λ h. h, λ h. h)
+
+-- IsSoundState
+each_place_and_each_level_of_any_tree :
+    (levels : ℕ) (s : State) → IsSoundState levels s
+    ↔ (((p : ℕ) → IsProper levels p (s.processes p)) × ((level : ℕ) → 1 ≤ level → level ≤ levels → IsSoundAt levels s level)
+    × ((level : ℕ) → 1 ≤ level → level ≤ levels → IsOwedAt levels s level))
+each_place_and_each_level_of_any_tree levels s =
+    (λ h. (h.proper, h.sound, h.owed), λ (proper, sound, owed). record { proper = proper; sound = sound; owed = owed })
