@@ -721,7 +721,13 @@ one_row : rows_text (route_10 ∷ []) ≡ codes "10.0.0.0/8 feed 1 pref 100 via 
 unfolding digits address_text prefix_text row_text route_text
 one_row = refl
 
+any_rows : (routes : List Route) → rows_text routes ≡ flat_map row_text routes
+any_rows routes = refl
+
 -- table_text
+any_table : (routes : List Route) → table_text routes ≡ count_text (length routes) ++ rows_text routes
+any_table routes = refl
+
 the_empty_table : table_text [] ≡ codes "table 0\n"
 unfolding digits count_text
 the_empty_table = refl

@@ -28,7 +28,7 @@ use Rattle.ya_core.specs.Worlds.{Marked, World, Event, Steps, Appends, WorldStep
 use Rattle.ya_core.specs.Worlds.{opening_world, entries_of, TellsInside, places_of, FollowsFrom, EachMayFollow}
 use Rattle.ya_core.specs.RealTime.{KeepsRealTimeOrder}
 use Rattle.ya_core.proofs.Content.{entries_of-marked_other}
-use Rattle.std.specs.Prelude.{IsTrue, ◌⊎◌, ◌||◌, ◌↔◌, ◌-◌, ◌*◌, ◌/◌, ◌%◌, length}
+use Rattle.std.specs.Prelude.{IsTrue, ◌⊎◌, ◌||◌, ◌↔◌, ◌-◌, ◌*◌, ◌/◌, ◌%◌, not, length}
 use Rattle.ya_core.specs.declared.process.EntryPoint.{EntryPoint}
 use Rattle.ya_core.specs.declared.process.ExitPoint.{ExitPoint}
 use Rattle.ya_core.specs.declared.walker.Op.TheVariants as op
@@ -2449,3 +2449,153 @@ each_place_and_each_level_of_any_tree :
     × ((level : ℕ) → 1 ≤ level → level ≤ levels → IsOwedAt levels s level))
 each_place_and_each_level_of_any_tree levels s =
     (λ h. (h.proper, h.sound, h.owed), λ (proper, sound, owed). record { proper = proper; sound = sound; owed = owed })
+
+-- WorldSteps
+what_a_step_of_any_place_does :
+    {X : Type 0} (levels place : ℕ) (old new : World X) → WorldSteps levels place old new
+    → StepsTo levels place old.state new.state
+    × (new.copies place ≡ (if is_inside (new.state.processes place) then old.content else old.copies place))
+    × (new.doing place ≡ (if is_inside (new.state.processes place) then [] else old.doing place))
+    × (new.content ≡ (if is_inside (old.state.processes place) then old.copies place else old.content))
+    × (new.made place ≡ (if is_inside (old.state.processes place) then old.made place ++ old.doing place else old.made place))
+    × ((other : ℕ) → other ≢ place → new.copies other ≡ old.copies other)
+    × ((other : ℕ) → other ≢ place → new.doing other ≡ old.doing other)
+    × ((other : ℕ) → other ≢ place → new.made other ≡ old.made other)
+what_a_step_of_any_place_does levels place old new h =
+    (h.state, h.copy, h.doing, h.content, h.made, h.others_copy, h.others_doing, h.others_made)
+
+-- WorldAppends
+what_any_entry_of_any_place_does :
+    {X : Type 0} (may : List (Marked X) → Marked X → Type 0) (place : ℕ) (entry : X) (old new : World X) → WorldAppends may place entry old new
+    → IsInside old.state place × may (old.copies place) (place, entry) × (new.state ≡ old.state) × (new.content ≡ old.content)
+    × (new.copies place ≡ old.copies place ++ (place, entry) ∷ []) × (new.doing place ≡ old.doing place ++ entry ∷ [])
+    × (new.made place ≡ old.made place)
+    × ((other : ℕ) → other ≢ place → new.copies other ≡ old.copies other)
+    × ((other : ℕ) → other ≢ place → new.doing other ≡ old.doing other)
+    × ((other : ℕ) → other ≢ place → new.made other ≡ old.made other)
+what_any_entry_of_any_place_does may place entry old new h =
+    (h.inside, h.may_follow, h.state, h.content, h.copy, h.doing, h.made, h.others_copy, h.others_doing, h.others_made)
+
+-- KeepsRealTimeOrder
+what_any_place_has_made_since :
+    {X : Type 0} (early late : World X) (h : KeepsRealTimeOrder early late)
+    → (late.content ≡ early.content ++ h.since) × ((place : ℕ) → entries_of place early.content ≡ early.made place)
+    × ((place : ℕ) → late.made place ≡ early.made place ++ entries_of place h.since)
+what_any_place_has_made_since early late h = (h.content, h.made, h.made_since)
+
+-- IsSoundLevel
+what_it_says_of_any_place_and_its_rival :
+    (node side : ℕ → ℕ) (phase : ℕ → Phase) (claim : ℕ → ℕ → ℕ) (turn spin : ℕ → ℕ) → IsSoundLevel node side phase claim turn spin
+    → ((p : ℕ) → IsTrue (claims (phase p)) → claim (node p) (side p) ≡ p + 1)
+    × ((n s p : ℕ) → claim n s ≡ p + 1 → (node p ≡ n) × (side p ≡ s) × IsTrue (claims (phase p)))
+    × ((n p : ℕ) → turn n ≡ p + 1 → node p ≡ n)
+    × ((p : ℕ) → IsTrue (has_announced (phase p)) → turn (node p) ≢ 0)
+    × ((p : ℕ) → IsTrue (is_releasing (phase p)) → turn (node p) ≢ 0)
+    × ((p q : ℕ) → Rivals node side p q → IsTrue (has_announced (phase p)) → IsTrue (has_announced (phase q))
+    → (turn (node p) ≡ p + 1) ⊎ (turn (node p) ≡ q + 1))
+    × ((p q : ℕ) → Rivals node side p q → IsTrue (holds (phase p)) → IsTrue (has_announced (phase q)) → turn (node p) ≡ q + 1)
+    × ((p : ℕ) → spin p ≤ 2)
+    × ((p q : ℕ) → Rivals node side p q → IsTrue (waits (phase p)) → spin p ≡ 2 → IsTrue (has_announced (phase q)) → turn (node p) ≡ q + 1)
+what_it_says_of_any_place_and_its_rival node side phase claim turn spin h =
+    (h.claimed, h.claimant, h.below, h.announced, h.releasing, h.one_of_two, h.waiter, h.in_range, h.let_in)
+
+-- IsOwed
+what_is_owed_to_any_place :
+    (node side : ℕ → ℕ) (phase : ℕ → Phase) (turn spin : ℕ → ℕ) (p : ℕ) → IsOwed node side phase turn spin p
+    → (IsTrue (awaits_wake (phase p)) → spin p ≡ 0 → SomeRival node side phase p (λ x. claims x || is_to_let_in (turn (node p)) p x))
+    × (IsTrue (waits (phase p)) → spin p ≡ 1 → SomeRival node side phase p (λ x. has_announced x || is_to_let_in (turn (node p)) p x))
+    × (IsTrue (was_woken (phase p)) → spin p ≢ 0)
+    × (turn (node p) ≢ p + 1 → IsTrue (saw_itself_last (phase p)) → spin p ≡ 0 → SomeRival node side phase p (is_to_wake p))
+    × (turn (node p) ≢ p + 1 → IsTrue (awaits_release (phase p)) → spin p ≡ 2)
+    × (turn (node p) ≢ p + 1 → IsTrue (awaits_release (phase p)) → (q : ℕ) → Rivals node side p q → wakes_next p (phase q) ≡ false)
+what_is_owed_to_any_place node side phase turn spin p h = (h.unwoken, h.unreleased, h.woken, h.owed_one, h.has_two, h.keeps_two)
+
+-- due_of
+the_access_due_to_any_process :
+    (levels place level : ℕ) (begun : Bool) (entry : EntryPoint) (exit : ExitPoint)
+    → (due_of levels place Idle begun ≡ (if begun then Some (access_of levels place Idle) else None))
+    × (due_of levels place (Entering level entry) begun ≡ Some (access_of levels place (Entering level entry)))
+    × (due_of levels place Inside begun ≡ (if begun then Some (access_of levels place Inside) else None))
+    × (due_of levels place (Leaving level exit) begun ≡ Some (access_of levels place (Leaving level exit)))
+the_access_due_to_any_process levels place level begun entry exit = (refl, refl, refl, refl)
+
+-- budget_of
+at_any_level_of_any_tree_it_has_left :
+    (levels level : ℕ) (begun : Bool) (entry : EntryPoint) (exit : ExitPoint)
+    → (budget_of levels Idle begun ≡ (if begun then 7 * levels else 0))
+    × (budget_of levels (Entering level entry) begun ≡ 7 * (levels - level) + entry_cost entry)
+    × (budget_of levels Inside begun ≡ (if begun then 3 * levels else 0))
+    × (budget_of levels (Leaving level exit) begun ≡ 3 * (level - 1) + exit_points exit)
+at_any_level_of_any_tree_it_has_left levels level begun entry exit = (refl, refl, refl, refl)
+
+-- points_of
+at_any_level_of_any_tree_are_ahead :
+    (levels level : ℕ) (begun : Bool) (entry : EntryPoint) (exit : ExitPoint)
+    → (points_of levels Idle begun ≡ (if begun then 10 * levels else 0))
+    × (points_of levels (Entering level entry) begun ≡ 10 * (levels - level) + entry_points entry)
+    × (points_of levels Inside begun ≡ (if begun then 3 * levels else 0))
+    × (points_of levels (Leaving level exit) begun ≡ 3 * (level - 1) + exit_points exit)
+at_any_level_of_any_tree_are_ahead levels level begun entry exit = (refl, refl, refl, refl)
+
+-- allowance
+at_any_level_of_any_tree_may_be_made :
+    (levels level : ℕ) (begun : Bool) (entry : EntryPoint) (exit : ExitPoint)
+    → (allowance levels Idle begun ≡ (if begun then 7 * levels else 10 * levels)) × (allowance levels (Entering level entry) begun ≡ 7 * levels)
+    × (allowance levels Inside begun ≡ (if begun then 10 * levels else 7 * levels)) × (allowance levels (Leaving level exit) begun ≡ 10 * levels)
+at_any_level_of_any_tree_may_be_made levels level begun entry exit = (refl, refl, refl, refl)
+
+-- op_of_access
+any_word_by_its_number :
+    (levels value : ℕ) (word : Word)
+    → (op_of_access levels (Load word) ≡ op.Load (number_of levels word)) × (op_of_access levels (Store word value) ≡ op.Store (number_of levels word) value)
+any_word_by_its_number levels value word = (refl, refl)
+
+-- op_of_due
+any_access_or_none :
+    (levels : ℕ) (process : Process) (access : Access)
+    → (op_of_due levels process None ≡ op_at_rest process) × (op_of_due levels process (Some access) ≡ op_of_access levels access)
+any_access_or_none levels process access = (refl, refl)
+
+-- OpIsWithin
+any_number_of_any_tree :
+    (levels number value : ℕ) → (OpIsWithin levels (op.Load number) ↔ (number < count_of_words levels))
+    × (OpIsWithin levels (op.Store number value) ↔ (number < count_of_words levels))
+any_number_of_any_tree levels number value = ((λ h. h, λ h. h), (λ h. h, λ h. h))
+
+-- AccessIsWithin
+any_word_of_any_tree :
+    (levels value : ℕ) (word : Word)
+    → (AccessIsWithin levels (Load word) ↔ IsWord levels word) × (AccessIsWithin levels (Store word value) ↔ IsWord levels word)
+any_word_of_any_tree levels value word = ((λ h. h, λ h. h), (λ h. h, λ h. h))
+
+-- FitsAccess
+a_load_of_any_word : (word : Word) (value : ℕ) → FitsAccess (Some (Load word)) value ↔ CanStand word value
+a_load_of_any_word word value = (λ h. h, λ h. h)
+
+-- MayFind
+any_load_and_any_store : (word : Word) (value stored : ℕ) → (MayFind (Load word) value ↔ CanStand word value) × MayFind (Store word stored) value
+any_load_and_any_store word value stored = ((λ h. h, λ h. h), tt)
+
+-- MayBeTold
+whatever_any_access_may_find : (access : Access) (value : ℕ) → MayBeTold (Some access) value ↔ MayFind access value
+whatever_any_access_may_find access value = (λ h. h, λ h. h)
+
+-- walk
+from_any_parts :
+    (levels place remote : ℕ) (process : Process) (begun : Bool)
+    → walk levels place process begun remote ≡ record { levels = levels; place = place; process = process; begun = begun; remote = remote }
+from_any_parts levels place remote process begun = refl
+
+-- is_rival
+any_two_places_at_any_level :
+    (level place other : ℕ)
+    → is_rival level place other ≡ ((node_of level other == node_of level place) && not (side_of level other == side_of level place))
+any_two_places_at_any_level level place other = refl
+
+-- won
+on_from_any_level : (levels level : ℕ) → won levels level ≡ (if ltb level levels then Entering (level + 1) E1 else Inside)
+on_from_any_level levels level = refl
+
+-- after_exit
+down_from_any_level : (level : ℕ) → after_exit level ≡ (if ltb 1 level then Leaving (level - 1) X1 else Idle)
+down_from_any_level level = refl
