@@ -650,7 +650,8 @@ def addresses_told(yarib):
     expect("a long text of addresses", run([*asked, "row.feed"]), (2, answer * 2, told))
     for count in (255, 256, 70_001):
         pathlib.Path("asked.txt").write_text("frob\n" * count + "10.0.0.1\n")
-        told = f"yarib: asked.txt: faulty lines: {count}, the first is line 1: E3: the field is no prefix or address\n"
+        told = f"yarib: asked.txt: faulty lines: {count}, the first is line 1: E3: " \
+            "the field is no prefix or address (the CR of CRLF is part of it)\n"
         expect(f"{count} faulty addresses", run([*asked, "row.feed"]), (2, answer, told))
     for count in (999, 1_000, 1_001, 1_024, 1_025, 30_000):
         compare(f"--address {count} times", run([yarib, "lookup", *["--address=10.0.0.1"] * count, "row.feed"]), 0, answer * count)
