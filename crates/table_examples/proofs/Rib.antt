@@ -675,6 +675,7 @@ a_node_without_its_value h = let stored = h.lawful.stored in cc
 
 what_a_book_holds : (book : BookContents) → HoldsTable book ↔ HoldsRoutes book.trie (table_of_journal book.limit book.journal)
 what_a_book_holds book = (λ h. h, λ h. h)
+
 -- a trie of one prefix with one offer
 abbrev one_offer : OfferTrie
 one_offer = record { pairs = (ten_8, offer 1 5 ∷ []) ∷ []; nodes = 1; tree = Node ten_8 true Vacant Vacant }
