@@ -10,7 +10,7 @@ import subprocess
 import sys
 import tempfile
 
-from picture import BLUE, GREEN, INK, PALE_GREEN, QUIET, Picture, settle
+from common.picture import BLUE, GREEN, INK, PALE_GREEN, QUIET, Picture, settle
 
 TOP = pathlib.Path(__file__).resolve().parent.parent
 PROGRAM = next((word for word in sys.argv[1:] if word != "--check"), TOP / "yarib")

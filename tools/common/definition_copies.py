@@ -10,8 +10,7 @@ import shutil
 import subprocess
 import sys
 
-sys.dont_write_bytecode = True
-from definition_reader import CRATES, TOP, constructors, crate_of, example_files, parse_module, uncommented
+from .definition_reader import CRATES, TOP, constructors, crate_of, example_files, parse_module, uncommented
 
 DECLARED = re.compile(r" *(?:(?:pub|abbrev|unfoldable|record|data) )*([^\s:(){}\[\],;]+)")
 WORD = re.compile(r"(?<![\w.'])[^\W\d][\w']*(?:-[\w']+)*")

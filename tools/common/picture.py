@@ -3,7 +3,7 @@ import html
 import pathlib
 import sys
 
-FOLDER = pathlib.Path(__file__).resolve().parent.parent / "docs/pictures"
+FOLDER = pathlib.Path(__file__).resolve().parent.parent.parent / "docs/pictures"
 INK, QUIET, BLUE, GREEN, PALE_GREEN = "#222", "#777", "#1f5fa8", "#1a7f37", "#dafbe1"
 
 

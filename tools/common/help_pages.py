@@ -4,7 +4,7 @@ import pathlib
 import re
 import typing
 
-HELP = pathlib.Path(__file__).resolve().parent.parent / "tests/help"
+HELP = pathlib.Path(__file__).resolve().parent.parent.parent / "tests/help"
 OPTION = re.compile(r"^ +(?:(-\w), )?(--[\w-]+)(?: <(\w+)>)?  +(.*)$", re.M)
 VALUES = re.compile(r" \[possible values: (.*)\]$")
 

@@ -5,7 +5,7 @@ import pathlib
 import re
 import sys
 
-TOP = pathlib.Path(__file__).resolve().parent.parent
+TOP = pathlib.Path(__file__).resolve().parent.parent.parent
 CRATES = TOP / "crates"
 
 # The libraries, each behind those that it stands on.
@@ -233,7 +233,7 @@ def resolved(module, name):
             named = parts[-1]
         found = rust_type(declared[1], named)
         if not found:
-            sys.exit(f"tools/definition_reader.py: no type {named} in {declared[1]}")
+            sys.exit(f"tools/common/definition_reader.py: no type {named} in {declared[1]}")
         yield found
         return
     ours = spec_module(module)
@@ -251,7 +251,7 @@ def resolved(module, name):
     if name in used:
         yield from resolved(*used[name])
         return
-    sys.exit(f"tools/definition_reader.py: no {name} in {module}")
+    sys.exit(f"tools/common/definition_reader.py: no {name} in {module}")
 
 
 def words_of(text, local, used):

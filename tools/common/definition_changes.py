@@ -2,7 +2,7 @@
 variable fixed at what the examples have in its place."""
 import re
 
-from definition_copies import WORD
+from .definition_copies import WORD
 
 SIGNS = [("≡", "≢"), ("≢", "≡"), ("≤", "<"), ("<", "≤"), ("&&", "||"), ("||", "&&"), ("↔", "→"), ("+", "-"), ("-", "+")]
 NAMES = [("true", "false"), ("false", "true"), ("nat_lt", "nat_le"), ("nat_le", "nat_lt"), ("list_any", "list_all"), ("list_all", "list_any"),

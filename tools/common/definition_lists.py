@@ -2,7 +2,7 @@
 import pathlib
 import re
 
-CRATES = pathlib.Path(__file__).resolve().parent.parent / "crates"
+CRATES = pathlib.Path(__file__).resolve().parent.parent.parent / "crates"
 LISTS = "*/must-fail/definitions.md"
 FORM = re.compile(r"([\w-]+)\n\n```\nfile: (specs/\S+)\n((?:old: .+\nnew:.*\n)+)refused by: (\S+)\n```\n+")
 

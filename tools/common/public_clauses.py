@@ -3,8 +3,8 @@ import functools
 import re
 import sys
 
-import definition_reader
-from definition_reader import CRATES, TOP, Definition, all_crates, imports, rust_file, words_of
+from . import definition_reader
+from .definition_reader import CRATES, TOP, Definition, all_crates, imports, rust_file, words_of
 
 # What a type gives as an instance of a trait and no caller reads: how its value is seen in its private fields and what it keeps
 # of them, and proofs.
@@ -58,7 +58,7 @@ def items_of(file, lines, margin):
                 break
             number += 1
             if number == len(lines):
-                sys.exit(f"tools/public_clauses.py: {file.relative_to(TOP)}: no end of {line.strip()}")
+                sys.exit(f"tools/common/public_clauses.py: {file.relative_to(TOP)}: no end of {line.strip()}")
         yield Item(file, match[2], match[3], (match[1] or "").strip() == "pub", lines[start:number + 1])
         number += 1
 

@@ -1,0 +1,661 @@
+"""The pages of statements: public clauses, and below them the definitions that they rest on (tools/statement)."""
+import functools
+import re
+import sys
+import textwrap
+
+from .definition_reader import (
+    CRATES, LIBRARY_CRATES, TOP, Definition, all_definitions, crate_of, example_files, imports, parse_module, resolved, rests_on,
+    rust_file, rust_named, sources, uncommented, unique, words_of,
+)
+from .public_clauses import judged_crates, public_clauses, words
+
+
+class Chapter:
+    """A chapter of a page: its sentence, what has to hold for it, its clauses, and what ties them to the sources."""
+
+    def __init__(self, title, said, premises, clauses, ties=()):
+        self.title, self.said, self.premises, self.clauses, self.ties = title, said, premises, clauses, ties
+
+
+class Page:
+    """A page: its folder, its file, its title, what it says, and its chapters. The repository keeps those in docs/."""
+
+    def __init__(self, name, title, said, chapters, folder="docs"):
+        self.name, self.title, self.said, self.chapters, self.folder = name, title, said, chapters, folder
+        self.file = TOP / folder / name
+
+    def link(self, page):
+        """What leads from here to another page."""
+        return page.name if page.folder == self.folder else f"../{page.folder}/{page.name}"
+
+
+RUN = Page("STATEMENT-RUN.md", "What a run prints", (
+    "What `yarib run`, `lookup`, `table` and `diff` write, from the bytes of the files to the bytes of the output, and what of "
+    "it is the same however the threads ran. No clause here names the lock."), [
+    Chapter("A run from bytes to bytes", (
+        "A run writes the report of each feed in order and then the table, and some journal explains all of it: each "
+        "of its replies is the sequential table's in the set that the entries before it leave, each feed's entries are "
+        "the commands of its text in order with the replies that its report shows, and the table is what the whole "
+        "journal leaves."), (
+        "1 to 64 texts, a limit of 1 to 1,000,000 and a batch of at least 1 (`requires`); a writer that tells its bytes, for "
+        "of one whose `contents` are `None` nothing is said (`W.contents w.old` is what was in the writer before the call, "
+        "`W.contents w.new` what is in it after); and that the call returns, since its threads wait for one another."),
+        ["rt_run::runs::run_texts"]),
+    Chapter("The same table for every interleaving", (
+        "A run ends in the table of the union of what each text's commands leave by themselves, which is one for the same "
+        "texts and limit, and a command that is about its feed's own routes is answered as if there were no other feed. So "
+        "two runs of the same texts and limit end in one table, whatever their batches and however their threads ran: "
+        "`ends_in_union` and `end_in_one_table` say so of the bytes of two runs."), (
+        "no command was refused for want of memory, in any of the runs: no status is 5."),
+        ["rt_run::laws::leaves_union", "rt_run::laws::answers_alone", "rt_run::laws::one_union", "rt_run::laws::ends_in_union",
+         "rt_run::laws::end_in_one_table"]),
+    Chapter("What the finished table says", (
+        "A look-up writes, for each address in order, the best route of the longest prefix that covers it, in the table "
+        "that such a run leaves; or every route that covers it, the best first, with the step at which it was left behind that "
+        "one. A list writes the routes of that table, or the best of each prefix. By the laws above, where "
+        "no command was refused for want of memory, that table is the union, so that the bytes are a function of the texts, "
+        "the limit and what is asked: `shows_union` and `show_one_table` say so of the bytes of two runs."), (
+        "those of the first chapter; for the last sentence that no status is 5."),
+        ["rt_run::shown::lookup_texts", "rt_run::shown::table_texts", "rt_run::laws::shows_union", "rt_run::laws::show_one_table"]),
+    Chapter("Why a route won and what a change changes", (
+        "A look-up of all writes, for each address in order, every route of that table that covers it, each before those "
+        "that it beats, and with which step it was left behind the first. A comparison runs two sets of texts, each over a table "
+        "of its own, and writes all the ranges of addresses that the two tables answer otherwise: an address lies in one "
+        "exactly where its two answers differ, and has the answers of its line. So where nothing is written, all 2^32 "
+        "addresses are answered alike. Two tables have one list of such ranges (`one_list`). Where no command was refused for "
+        "want of memory, it is the list of both unions, so that two comparisons of the same texts and limit write the same "
+        "bytes: `diffs_unions` and `diff_once`."), (
+        "those of the first chapter, and for a comparison those of two runs."),
+        ["rt_run::shown::lookup_all_texts", "rt_run::differences::diff_texts", "rt_diff::laws::one_list",
+         "rt_run::laws::diffs_unions", "rt_run::laws::diff_once"]),
+])
+
+LOCK = Page("STATEMENT-LOCK.md", "The lock", (
+    "That no two feeds are ever inside, what then holds of the journal and of the lent book, how many remote accesses a "
+    "passage "
+    "makes, and that everybody gets on."), [
+    Chapter("The headline", (
+        "In every interleaving of any number of atomic steps of the places of a tree, no two are inside; the content "
+        "is a lawful journal, which leaves a table; each place's entries in it are those that it made, in order; and "
+        "what a look-up found is the best route of the longest prefix that covers the address, in the table that the "
+        "entries before it leave."), (
+        "a step is one load or one store of one word, and steps come one after another (sequential consistency); a "
+        "place appends to its copy of the content while it is inside, each entry answered as the sequential table "
+        "answers it there."),
+        ["rt_shared::laws::headline"]),
+    Chapter("The running lock", (
+        "The same of the running table, between any two atomic steps of its threads: no two are inside, and whenever "
+        "none is, the lent book lies in its slot, its trie is lawful and holds exactly the routes that its journal "
+        "leaves, the journal is lawful, and what each pass away has seen begins it, with no entry of that pass's feed "
+        "behind. That so no two guards exist: who has a guard or a pass has its seat, whose view nobody else can change, and "
+        "the view of a guard's seat says that its place is inside (`enter`), that of a pass's that it is idle (`leave`). The "
+        "lock's rule allows one such view at most (`rule`), and the views go on by the core's steps alone (`steps`)."), (
+        "sequential consistency; `Rule`, which the type of the lock's table keeps at every moment; and that the "
+        "threads share nothing but this table, which no clause can say and `tools/accesses` looks after; that a seat's view "
+        "is what its holder knows between any two steps, which is what `atomic_table` states of its `Seat` and `Table`. That "
+        "a trie's `tree` is what its nodes in memory are, its [view](../crates/rt_trie/src/tries.rt) says."),
+        ["rt_shared::laws::running", "ya_lock::TreeLock::enter.guard", "ya_lock::TreeLock::leave.pass", "ya_lock::laws::rule",
+         "ya_lock::laws::steps"],
+        [("ya_lock/src/rule.rt", "impl<V: Kept> TableRule<Option<V>, View<V>, u32> for LockRule", ["holds"],
+          "What ties `running` to the lock: `Rule` is the rule of its table."),
+         ("rt_shared/src/lent.rt", "impl Kept for Lent", ["since"],
+          "And `GrowsByOthers` is what the lent book's `since` is there.")]),
+    Chapter("Real-time order", (
+        "Runs of the core are linearizable: at each time the content begins the content at every later time, and has all "
+        "that was made by then. So what was made by a passage that has ended stands before everything that a passage "
+        "makes that begins later."), (
+        "sequential consistency; a run from the opening world. Of the running table it is said of what each pass has "
+        "seen itself (`since`), not of two passes that never told each other anything."),
+        ["ya_core::laws::real_time"]),
+    Chapter("The counts", (
+        "A passage makes at most seven remote accesses a level on its way in, however long it waits, and three a level "
+        "on its way out: at most 7L and 3L in a tree of L levels."), (
+        "sequential consistency; a run from any state, as the rest of a longer run is one. Of the running lock, that "
+        "`enter` returns; what is counted there [LOCK](LOCK.md#the-count) says."),
+        ["ya_core::laws::passage_count", "ya_lock::TreeLock::enter.count", "ya_lock::TreeLock::leave.count"]),
+    Chapter("Freedom from deadlock", (
+        "Where some place isn't idle, some place that isn't idle has a step that changes its process, in every world "
+        "that can be reached; and from every state of the invariant a schedule leads each place on its way in to the "
+        "inside, and each other place to idle."), (
+        "sequential consistency; for states, the invariant `IsSoundState`, which the opening state meets and each step "
+        "keeps: that is `soundness`."),
+        ["ya_core::laws::soundness", "ya_core::laws::no_deadlock"]),
+    Chapter("Freedom from starvation", (
+        "In the run of a fair schedule each place on its way in is inside then or later, and each that is inside or on "
+        "its way out is idle then or later. A run may end: then none is picked any more."), (
+        "sequential consistency; a first state where the invariant `IsSoundState` holds; a fair schedule, in which each "
+        "place that isn't idle takes a step then or later, one that is inside too, so that who enters leaves. That a "
+        "machine schedules its threads so isn't promised."),
+        ["ya_core::laws::starvation_freedom"]),
+    Chapter("Overtaking", (
+        "From its announcement at a node until it wins that node, a place is overtaken there by the other side at most "
+        "once."), (
+        "sequential consistency; a run from the opening state."),
+        ["ya_core::laws::one_overtaking"]),
+])
+
+LIBRARIES = Page("STATEMENT-LIBRARIES.md", "What else the libraries promise", (
+    "For who calls the libraries: all other definitions on which a public clause of a library rests, library by "
+    "library, below a list of what speaks of them. The clauses stand in the sources; `tools/statement CLAUSE` prints "
+    "one with all that it rests on."),
+    [], "out")
+
+# What a reader who knows Rust and no dependent types has to know, in ten lines.
+LEGEND = [
+    ("`f x y`, `λ x. e`", "a call `f(x, y)`; the closure that takes x and gives e"),
+    ("`f : A → B → C`",
+     "f takes an A and a B and gives a C; below it its cases, of which the first that fits counts, as in a `match`"),
+    ("`Type 0`",
+     "statements: `IsLimit : ℕ → Type 0` says something of a number, true or not; elsewhere `{X : Type 0}` is a type "
+     "parameter"),
+    ("`A → B`, `A ↔ B`, `¬ A`", "between statements: if A, then B; A exactly where B; not A"),
+    ("`A × B`, `A ⊎ B`", "A and B; A or B; of types, a pair, whose parts are `.0` and `.1`"),
+    ("`(x : A) → B`, `(x : A) × B`", "B for every x of type A; there is an x of type A such that B"),
+    ("`≡`, `≢`, `==`",
+     "is equal, is not equal, and the same test as a `Bool`; `Unit {0}` is always true, `⊥` never"),
+    ("`record R … : Type 0`",
+     "the statement that all its fields hold, or a `struct` where the fields are data; `data` is an `enum`"),
+    ("`ℕ`, `List X`, `Some`, `[]`, `x ∷ xs`, `++`",
+     "whole numbers from 0, lists, `Option`'s `Some`; the empty list, x before xs, one list behind another"),
+    ("`abbrev`, `unfoldable`, `pub`",
+     "how far a proof sees through it: nothing for the reader. `text.now`, `w.old`, `w.new`: an argument at the call, "
+     "before and after it"),
+]
+
+# What is shown by its first line alone on the pages of a run and of the lock, and why nobody has to read the rest to
+# believe their clauses. The page of the libraries has it whole.
+BRIEF = {
+    "Rattle.ya_lock.specs.Rule.Rule":
+        "a premise that the type of the lock's table keeps: it holds of the table as it is made, and no step that "
+        "breaks it passes the prover. A stronger one would leave a clause that follows from it fewer moments to speak of; "
+        "but every moment of a table meets it, as it is. Whatever is lent, a moment at which both passes were made meets "
+        "it: `whatever_is_lent` of its examples.",
+    "Rattle.ya_core.specs.Soundness.IsSoundState":
+        "the invariant from which the core's laws are proved. `soundness` says that it holds at the start and that each "
+        "step keeps it, so a law that has it for a premise holds in every run from there, whatever it says.",
+    "ya_core::schedule.ReplayFault":
+        "why a replay of the lock was refused, as no run is: `Leaves` says so.",
+}
+
+# What the words of the kit's library say, as far as the pages of a run and of the lock use them.
+KIT = {
+    "All P xs, Any P xs": "P holds of each element; of some element",
+    "AllPairs R xs": "R holds of each element and each later one",
+    "Appends old new bytes":
+        "the contents were `old` and are `new`, which is `old` and then the bytes; where `old` is `None`, of a writer that "
+        "doesn't tell its bytes, it says nothing",
+    "Contains xs x": "x is an element of xs",
+    "IfSome o P": "P holds of the value, if there is one",
+    "IsNumeral radix text": "one digit or more, and nothing else",
+    "IsSome o, IsTrue b": "it is a `Some`; it is `true`",
+    "State":
+        "a table of words and slots as plain data: `words`, what its words hold, in order; `homes`, for each slot `some` of "
+        "what lies in it, and `none` while a seat has taken it; `views`, what each seat knows",
+    "TableId": "which table it is: no two have the same",
+    "bytes_eq xs ys": "whether the two texts are equal",
+    "codes \"..\"": "the bytes of a text",
+    "count_by p xs, filter p xs, find p xs": "how many elements pass the test; those, in order; the first of them",
+    "decimal n": "what `{}` writes for n, a number of at most 64 digits",
+    "first_chunks n count xs":
+        "`count` pieces of xs: its first n elements, the next n, and so on; past the end of xs fewer, or none",
+    "digits_value radix text": "the number that the digits write",
+    "fold f a xs": "`xs.fold(a, f)`",
+    "flat_map f xs, map f xs": "what f gives for each element, the lists one behind another; the same without that",
+    "get_elem? xs i": "the i-th element from 0, `some` or `none`, which are the logic's own `Some` and `None`",
+    "join_with_byte c texts": "the texts in a row, with the byte between each two",
+    "length xs, take n xs": "how many elements; the first n of them",
+    "list_all p xs, list_any p xs": "whether each element passes the test; whether some does",
+    "max m n": "the greater of the two",
+    "nat_le m n, nat_lt m n, not b": "`m <= n`, `m < n` and `!b`",
+    "option_map_or f o d": "f of the value, and d where there is none",
+    "slice_get xs i, slice_index xs i": "the i-th element from 0, if there is one; the i-th number, and 0 past the end",
+    "slice_split p xs":
+        "xs cut at each element that passes the test, which is left out: one part more than there are such",
+    "zero, suc n": "0, and n + 1, as cases of a number",
+    "m - n, m / n, m % n, m ^ n": "0 where n is greater; rounded down; the rest; m to the power of n",
+}
+PLAIN = {"Bool", "Err", "List", "None", "Ok", "Option", "Result", "Some", "false", "true", "none", "some", "ℕ"}
+
+# How contracts see a type of a library, where a definition is to be seen to speak of memory.
+VIEWS = {
+    "rt_trie": [("rt_trie/src/tries.rt", "impl<V, A: Allocator> Model for Trie<V, A>", ["view"],
+                 "What contracts see of a trie is read off the nodes below its root: `tree` has each of them, so "
+                 "`IsLawful` speaks of memory.")],
+    "ya_lock": [("ya_lock/src/rule.rt", "impl<V: Kept> TableRule<Option<V>, View<V>, u32> for LockRule", ["holds"],
+                 "The rule of the lock's table.")],
+}
+
+
+class Tie:
+    """Members of an `impl` that tie a definition to the sources: read like a clause."""
+
+    def __init__(self, file, head, members, said):
+        self.file, self.said = CRATES / file, said
+        lines = self.file.read_text().split("\n")
+        start = lines.index(head + " {")
+        end = lines.index("}", start)
+        kept = [line for line in lines[start:end] if line.strip().startswith(tuple(f"ghost {name} =" for name in members))]
+        self.line, self.lines = start + 1, [lines[start], *kept, "}"]
+        self.comment = []
+
+    def rests_on(self):
+        ghosts = imports(rust_file(self.file)[0])
+        return [one for one in unique(words_of("\n".join(self.lines[1:-1]), {}, ghosts)) if isinstance(one, Definition)]
+
+
+class Clause:
+    """The contract of a public function: its comment, what is said of it, and what that rests on."""
+
+    def __init__(self, said):
+        path, _, label = said.partition(".")
+        parts = path.split("::")
+        self.said, self.crate, self.function = said, parts[0], parts[-1]
+        if len(parts) < 3 or not (CRATES / self.crate).is_dir():
+            sys.exit(f"tools/statement: {said}: not CRATE::MODULE::FUNCTION or CRATE::TYPE::FUNCTION")
+        self.owner = owner = parts[-2]
+        for file in sources(self.crate):
+            text = file.read_text()
+            lines = text.split("\n")
+            within = None
+            for number, line in enumerate(lines):
+                if (match := re.match(r"impl(?:<.*>)? (\w+)", line)) and " for " not in line:
+                    within = match[1]
+                elif line.startswith("}"):
+                    within = None
+                if re.match(r"\s*pub (?:const )?fn " + self.function + r"\b", line) and owner in (within, None if within else file.stem):
+                    self.read(file, number, lines, label)
+                    return
+        sys.exit(f"tools/statement: no public function {said}")
+
+    def read(self, file, number, lines, label):
+        self.file, self.line = file, number + 1
+        start = number
+        while start and re.match(r"\s*(///|#\[)", lines[start - 1]):
+            start -= 1
+        self.comment = [line.strip()[3:].strip() for line in lines[start:number] if line.strip().startswith("///")]
+        margin = len(lines[number]) - len(lines[number].lstrip())
+        head, clauses = [], []
+        for line in lines[number:]:
+            if re.match(r"\s*\{(\s*\}?\s*$)", line) and len(line) - len(line.lstrip()) == margin:
+                break
+            line = line[margin:]
+            if re.match(r"\s*(requires|ensures)\b", line):
+                clauses.append([line])
+            elif clauses:
+                clauses[-1].append(line)
+            else:
+                head.append(line)
+        if label:
+            clauses = [clause for clause in clauses if re.match(rf"\s*(requires\b|ensures\*? {label}\b)", clause[0])]
+            if not any("ensures" in clause[0] for clause in clauses):
+                sys.exit(f"tools/statement: {self.said}: no such label")
+        self.lines = head + [line for clause in clauses for line in clause]
+        self.head, self.clauses = head, clauses
+
+    def rests_on(self):
+        text, used = rust_file(self.file)
+        ghosts = imports(text)
+        terms = "\n".join(re.sub(r"^\s*(requires|ensures)\*?( \w+)? \{", "{", "\n".join(clause)) for clause in self.clauses)
+        found = list(words_of(terms, {}, ghosts))
+        rust = re.findall(r"[A-Z]\w*", "\n".join(self.head)) + [self.owner] * bool(re.search(r"\bself\b", "\n".join(self.head)))
+        for term in re.findall(r"⟦(.*?)⟧", terms, re.S):
+            rust += re.findall(r"[A-Z]\w*", term)
+        rust += [word for word in re.findall(r"(?<![\w.])[A-Z]\w*", terms) if word not in ghosts]
+        for word in rust:
+            found += rust_named(self.file, word)
+        return unique(found)
+
+
+def has_function(said):
+    crate, *_, function = said.split("::")
+    return any(re.search(rf"\bpub fn {function}\b", file.read_text()) for file in sources(crate))
+
+
+def in_order(speakers, known, brief=()):
+    """What clauses, ties and definitions rest on, each below all that speak of it, but for what is known; and the library's
+    words. What is brief is shown by its first line alone, so what it rests on doesn't count."""
+    order, library, visited = [], {}, set()
+
+    def visit(definition):
+        visited.add(definition.key)
+        if definition.key not in brief:
+            look_at(definition)
+        order.append(definition)
+
+    def look_at(speaker):
+        for one in reversed(speaks_of(speaker)):
+            if not isinstance(one, Definition):
+                library.setdefault(one[0], set()).add(one[1])
+            elif one.key not in visited:
+                visit(one)
+
+    for speaker in reversed(speakers):
+        look_at(speaker)
+    order.reverse()
+    return [one for one in order if one.key not in known], [one for one in order if one.key in known], library
+
+
+def speaks_of(one):
+    return rests_on(one) if isinstance(one, Definition) else one.rests_on()
+
+
+@functools.cache
+def example_module(module):
+    """The abbreviations of a file of examples by name, and what its other words stand for."""
+    file, _ = example_files()[module]
+    found = parse_module(module, file)
+    return {name: one for name, one in found.items() if one.lines[0].startswith("abbrev")}, imports(file.read_text())
+
+
+def example_name(module, word):
+    """Where a word of the examples is an abbreviation of them: in this file, or in one from which it is imported."""
+    names, used = example_module(module)
+    if word in names:
+        return module, word
+    other, name = used.get(word, (None, None))
+    return example_name(other, name) if other in example_files() and name else None
+
+
+def named_in_examples(tested):
+    """The abbreviations that the examples of these definitions are written with, by crate."""
+    texts = [(example.key.rpartition(".")[0], "\n".join(statement)) for key in tested for example, statement in examples().get(key, ())]
+    named, out = set(), []
+    while texts:
+        module, text = texts.pop()
+        for word in re.findall(r"[^\W\d][\w'-]*", uncommented(text)):
+            found = example_name(module, word)
+            if found and found not in named:
+                named.add(found)
+                texts.append((found[0], "\n".join(example_module(found[0])[0][found[1]].lines)))
+    for module, (file, crate) in example_files().items():
+        lines = [line for name, one in example_module(module)[0].items() if (module, name) in named
+                 for line in [*(f"-- {said}" for said in one.comment), *one.lines]]
+        out += [f"Of [{crate}](../{file.relative_to(TOP)}):", "", "```agda", *lines, "```", ""] if lines else []
+    return out
+
+
+@functools.cache
+def examples():
+    """The examples of all crates, by the definition that they test: their statements."""
+    found = {}
+    for module, (file, _) in example_files().items():
+        definitions, used = parse_module(module, file), imports(file.read_text())
+        tested = None
+        lines = file.read_text().split("\n")
+        starts = {definition.line - 1: definition for definition in definitions.values()}
+        for number, line in enumerate(lines):
+            heading = re.fullmatch(r"-- (\S+)", line)
+            if line.startswith("--") and not heading:
+                tested = None
+            if heading:
+                if heading[1] not in used:
+                    sys.exit(f"tools/statement: {file.relative_to(TOP)}: {heading[1]} is no definition that it uses")
+                tested = next(iter(resolved(*used[heading[1]]))).key
+            elif tested and number in starts and not re.match(r"(abbrev|record|data) ", line):
+                example = starts[number]
+                statement = [line.removeprefix("pub ")]
+                for more in lines[number + 1:]:
+                    if not more.startswith(" "):
+                        break
+                    statement.append(more)
+                found.setdefault(tested, []).append((example, statement))
+    return found
+
+
+def folded(summary, lines):
+    """What is not to be read at once: one line, below which the rest can be opened."""
+    return [f"<details><summary>{summary}</summary>", "", *lines, "", "</details>", ""]
+
+
+def shown(definition, link, brief=()):
+    """A definition on the page: its comment and its lines, its place, and what it is tested by."""
+    lines = definition.lines
+    if definition.key in brief:
+        lines = [re.sub(r" (where|\{)$", "", lines[0])]
+    is_spec = definition.file.suffix == ".antt"
+    comment = [f"{'--' if is_spec else '///'} {line}" for line in definition.comment]
+    context = [f"-- for every {' '.join(definition.context)}"] if definition.context and is_spec else []
+    out = [f"[`{definition.name}`]({link}{definition.file.relative_to(TOP)}#L{definition.line})"]
+    if definition.key in brief:
+        out += ["", *wrapped(f"Its first line alone: {BRIEF[definition.key]}")]
+    language = "agda" if is_spec else "rust"
+    out += ["", f"```{language}", *comment, *context, *lines, "```", ""]
+    tests = examples().get(definition.key, ())
+    if tests and definition.key not in brief:
+        said = "one example" if len(tests) == 1 else f"{len(tests)} examples"
+        out += folded(f"Tested by {said}", ["```agda", *(line for _, statement in tests for line in statement), "```"])
+    return out
+
+
+def shown_clause(clause, link):
+    place = f"{link}{clause.file.relative_to(TOP)}#L{clause.line}"
+    is_clause = isinstance(clause, Clause)
+    head = [f"[`{clause.said}`]({place})"] if is_clause else wrapped(f"{clause.said} [Source]({place})")
+    return [*head, "", "```rust", *(f"/// {line}" for line in clause.comment), *clause.lines, "```", ""]
+
+
+def wrapped(prose, margin=""):
+    """The lines of a sentence or an item of a list."""
+    return textwrap.wrap(prose, 120, subsequent_indent=margin, break_long_words=False, break_on_hyphens=False)
+
+
+def named(definitions):
+    return ", ".join(f"`{one.name}`" for one in definitions)
+
+
+class Written:
+    """What is written by now: which definitions stand on which page, and the kit's words of each page."""
+
+    def __init__(self, page=None):
+        self.page, self.home, self.library = page, {}, {}
+        self.definitions = self.lines = 0
+
+    def turn_to(self, page):
+        self.page, self.library, self.definitions, self.lines = page, {}, 0, 0
+
+    def has(self, definition, brief):
+        self.home[definition.key] = None if definition.key in brief else self.page
+        self.definitions += 1
+        self.lines += 1 if definition.key in brief else definition.count()
+
+    def known(self):
+        return {key for key, page in self.home.items() if page or key in BRIEF and self.page is not LIBRARIES}
+
+
+def from_above(old, spoken_of, written):
+    """Which definitions that stand further up are spoken of here, and those of another page with its name."""
+    pages = {}
+    for one in old:
+        if one.key in spoken_of:
+            pages.setdefault(written.home[one.key] or written.page, []).append(one)
+    for page, definitions in pages.items():
+        place = "above" if page is written.page else f"[{page.title}]({written.page.link(page)})"
+        yield from [*wrapped(f"From {place}: {named(definitions)}, and what they rest on."), ""]
+
+
+def definitions_of(speakers, written, brief, link):
+    """What the speakers rest on, as far as it doesn't stand further up."""
+    new, old, words = in_order(speakers, written.known(), brief)
+    bare = [one.key for one in new if not one.comment]
+    if bare:
+        sys.exit("tools/statement: no comment says what this is: " + ", ".join(bare))
+    spoken_of = {one.key for speaker in speakers + new for one in speaks_of(speaker) if isinstance(one, Definition)}
+    out = list(from_above(old, spoken_of, written))
+    for definition in new:
+        out += shown(definition, link, brief)
+        written.has(definition, brief)
+    for module, names in words.items():
+        written.library.setdefault(module, set()).update(names)
+    return out, new
+
+
+def chapter(one, written, link):
+    """A chapter: its sentence and its premises, its clauses, and what they rest on."""
+    speakers = [*map(Clause, one.clauses), *(Tie(*tie) for tie in one.ties)]
+    out = [f"## {one.title}", "", *wrapped(one.said), "", *wrapped(f"*Premises:* {one.premises}"), ""]
+    for speaker in speakers:
+        out += shown_clause(speaker, link)
+    return out + definitions_of(speakers, written, BRIEF, link)[0]
+
+
+def legend():
+    return ["| Sign | How to read it |", "|---|---|", *(f"| {sign} | {said} |" for sign, said in LEGEND), ""]
+
+
+def kit_words(written):
+    """The kit's words of a page with what they say. Each that isn't Rust's or the legend's has to be told."""
+    told = {word for words in KIT for word in re.findall(r"[^\W\d][\w?]*", words)}
+    used = {name for names in written.library.values() for name in names if name and "◌" not in name}
+    if missing := used - told - PLAIN:
+        sys.exit("tools/statement: KIT doesn't say what these are: " + ", ".join(sorted(missing)))
+    rows = [f"| `{words}` | {said} |" for words, said in KIT.items()
+            if used & set(re.findall(r"[^\W\d][\w?]*", words)) or words.startswith("m ")]
+    return ["## Words of the kit's library", "", "| Word | What it says |", "|---|---|", *rows, ""]
+
+
+def head_of(page, table, written):
+    return [f"# {page.title}", "", *wrapped(page.said), "", *wrapped(
+        "Each clause is proved. To believe what it says one reads it and the definitions below it: "
+        f"{written.lines} lines on this page, comments not counted, in {written.definitions} definitions and types. Each "
+        "stands once, below all that speak of it, with its comment and its place. Proofs and bodies need not be read. "
+        "`tools/statement --write` writes this page out of the sources."), "",
+        *legend(), "| Chapter | New definitions | Their lines |", "|---|---|---|", *table, ""]
+
+
+def anchor(title):
+    return title.lower().replace(" ", "-")
+
+
+def statement_page(page, written):
+    """A page of chapters, with the names that its examples use and the kit's words."""
+    written.turn_to(page)
+    before, body, table = set(written.home), [], []
+    for one in page.chapters:
+        definitions, lines = written.definitions, written.lines
+        body += chapter(one, written, "../")
+        counts = f"{written.definitions - definitions} | {written.lines - lines}"
+        table.append(f"| [{one.title}](#{anchor(one.title)}) | {counts} |")
+    used = folded("Names that the examples use", named_in_examples(set(written.home) - before)[:-1])
+    return page_text(head_of(page, table, written) + body + kit_words(written) + used)
+
+
+def page_text(lines):
+    return "\n".join(lines).rstrip("\n") + "\n"
+
+
+class Speaker:
+    """A public clause of a library, as public_clauses finds it."""
+
+    def __init__(self, file, name, found):
+        self.file, self.name, self.found = file, name, list(found)
+        self.line = line_of(file, name)
+
+    def rests_on(self):
+        return self.found
+
+
+def line_of(file, name):
+    """Where an item stands: a function of an owner behind the head of an `impl` of it."""
+    owner, _, item = name.rpartition("::")
+    inside = not owner
+    for number, line in enumerate(file.read_text().split("\n"), 1):
+        if owner and re.match(rf"impl\b.*\b{owner}\b", line):
+            inside = True
+        elif line.startswith("}"):
+            inside = not owner
+        if inside and re.match(rf"\s*(?:pub(?:\([^)]*\))? )?(?:(?:const|ghost|fn|struct|enum|trait|type) )*{item}\b", line):
+            return number
+    return 1
+
+
+def sentence_of(crate):
+    """The first paragraph of what a library says of itself."""
+    said = []
+    for line in (CRATES / crate / "src/lib.rt").read_text().split("\n"):
+        if not line.startswith("//!") or not line[3:].strip():
+            break
+        said.append(line[3:].strip())
+    return " ".join(said)
+
+
+def library_chapter(crate, written):
+    """A library's definitions that stand on no page yet, below a list of the clauses that speak of them."""
+    speakers = [Speaker(file, name, words(file, text)) for file, name, text in public_clauses(crate)]
+    ties = [Tie(*tie) for tie in VIEWS.get(crate, ())]
+    out, new = definitions_of(speakers + ties, written, (), "../")
+    keys = {one.key for one in new if one.file.suffix == ".antt"}
+    spoken = [(speaker, [one for one in unique(speaker.found) if one.key in keys]) for speaker in speakers]
+    listed = [line for speaker, found in spoken if found for line in wrapped(
+        f"- [`{speaker.name}`](../{speaker.file.relative_to(TOP)}#L{speaker.line}): {named(found)}", "  ")]
+    tied = [line for tie in ties for line in shown_clause(tie, "../")]
+    return [f"## {crate}", "", *wrapped(sentence_of(crate)), "", *listed, "", *tied, *out], len(new)
+
+
+def libraries_page(written):
+    """All other definitions of specs/ on which a public clause of a library rests."""
+    written.turn_to(LIBRARIES)
+    before, body, table = {key for key, page in written.home.items() if page}, [], []
+    for crate in LIBRARY_CRATES:
+        lines = written.lines
+        out, count = library_chapter(crate, written)
+        if count:
+            body += out
+            table.append(f"| [{crate}](#{crate}) | {count} | {written.lines - lines} |")
+    missing = [one.key for crate in judged_crates() for one in all_definitions(crate)
+               if one.file.parent.name == "specs" and not written.home.get(one.key)]
+    if missing:
+        sys.exit("tools/statement: on no page: " + ", ".join(missing))
+    head = [f"# {LIBRARIES.title}", "", *wrapped(LIBRARIES.said), "", *wrapped(
+        f"These are {written.definitions} definitions and types of {written.lines} lines, comments not counted, beside "
+        f"those of [{RUN.title}]({LIBRARIES.link(RUN)}) and [{LOCK.title}]({LIBRARIES.link(LOCK)}), where a legend says how to read them. "
+        "`tools/statement --write` writes this page out of the sources."), "",
+        "| Library | New definitions | Their lines |", "|---|---|---|", *table, ""]
+    used = folded("Names that the examples use", named_in_examples(set(written.home) - before)[:-1])
+    return page_text(head + body + used)
+
+
+def pages():
+    """The text of each page, and how many lines of definitions it has."""
+    written = Written()
+    for page in (RUN, LOCK):
+        yield page, statement_page(page, written), written.lines
+    yield LIBRARIES, libraries_page(written), written.lines
+
+
+def figure(page):
+    """Where the front page tells how many lines a page has."""
+    return re.compile(rf"\[(\d+) lines\]\(docs/{re.escape(page.name)}\)")
+
+
+def check():
+    """Ends with a fault where a page that is kept, or its number of lines on the front page, is another one."""
+    readme = (TOP / "README.md").read_text()
+    for page, text, lines in pages():
+        if page is LIBRARIES:
+            continue
+        if not page.file.exists() or page.file.read_text() != text:
+            sys.exit(f"docs/{page.name} is not what tools/statement --write would write")
+        said = figure(page).search(readme)
+        if not said or int(said[1]) != lines:
+            sys.exit(f"README.md: docs/{page.name} has {lines} lines of definitions")
+
+
+def write():
+    readme = TOP / "README.md"
+    for page, text, lines in pages():
+        page.file.parent.mkdir(exist_ok=True)
+        page.file.write_text(text)
+        readme.write_text(figure(page).sub(f"[{lines} lines](docs/{page.name})", readme.read_text()))
+        print(f"{page.folder}/{page.name}: {lines} lines")
+
+
+def print_clauses(said):
+    """Any clauses and what they rest on, on standard output."""
+    speakers, written = [Clause(one) for one in said], Written(LOCK)
+    out = [line for speaker in speakers for line in shown_clause(speaker, "")]
+    out += definitions_of(speakers, written, BRIEF, "")[0]
+    library = [f"- `{module}`: " + ", ".join(f"`{name}`" for name in sorted(name for name in names if name))
+               for module, names in sorted(written.library.items())]
+    counts = f"{written.definitions} definitions, {written.lines} lines"
+    print("\n".join([*out, "Words of the kit's library:", "", *library, counts]))
