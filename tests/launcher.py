@@ -107,14 +107,16 @@ def what_it_is_given(copy):
 
 
 # Fails where a changed file of `specs/` rebuilds nothing: `built where crates/rt_trie/specs/S.antt is newer`.
-# Fails where an edit that the prover has to refuse, or a test, has the program built anew: `not built where ..`.
+# Fails where an edit that the prover has to refuse, or a crate on which the program doesn't stand, has it built anew: `not built
+# where crates/walkthrough/src/lib.rt is newer`.
 def what_is_built_anew(copy):
     whole = len(built_by(copy))
     for name in ("crates/rt_trie/src/lib.rt", "crates/rt_trie/specs/S.antt", "crates/ya_core/specs/inside/new.antt", "crates.txt"):
         copy.touch(name)
         expect(f"built where {name} is newer", len(built_by(copy)), whole)
         expect(f"not built again where {name} was newer", built_by(copy), [])
-    for name in ("crates/rt_trie/must-fail/m.edit", "crates/table_tests/src/lib.rt", "crates/rt_trie/out/rlib", "README.md", "tests/rows.py"):
+    others = [f"crates/{crate}/src/lib.rt" for crate in sorted(set(NEEDS) - needed("rt_app"))]
+    for name in ("crates/rt_trie/must-fail/m.edit", *others, "crates/rt_trie/out/rlib", "README.md", "tests/rows.py"):
         copy.touch(name)
         expect(f"not built where {name} is newer", built_by(copy), [])
     (copy.top / "out/yarib").unlink()
