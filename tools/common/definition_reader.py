@@ -8,8 +8,10 @@ import sys
 TOP = pathlib.Path(__file__).resolve().parent.parent.parent
 CRATES = TOP / "crates"
 
-# The libraries, each behind those that it stands on.
-LIBRARY_CRATES = ("rt_cidr", "rt_trie", "rt_rib", "rt_diff", "ya_core", "ya_lock", "rt_shared", "rt_feed", "ya_replay", "rt_run")
+# The libraries that have definitions, in the order of crates.txt: each behind those that it stands on.
+LIBRARY_CRATES = tuple(
+    crate for crate in re.findall(r"^([a-z]\w*):", (TOP / "crates.txt").read_text(), re.M)
+    if (CRATES / crate / "specs").is_dir() and (CRATES / crate / "src/lib.rt").exists() and not crate.endswith("_tests"))
 
 WORD = re.compile(r"(\.?)([^\W\d][\w'?]*(?:-[^\W\d][\w']*)*|\d+)|(\"[^\"]*\")|([^\s\w(){}\[\],;.\"'\\]+)")
 DECLARED = re.compile(r"(?:abbrev |unfoldable )?(?:pub )?(?:abbrev |unfoldable )?(?:(record|data|ruleset) )?([^\s:(){}]+)")
