@@ -1,5 +1,5 @@
 -- What stands in a writer when text was sent to it, at once or through a buffer.
-use Rattle.std.specs.Prelude.{ℕ, ◌<◌, List, ◌∷◌, ◌++◌, length, take, Option, Some, None, if◌then◌else◌, nat_le}
+use Rattle.std.specs.Prelude.{ℕ, ◌<◌, List, ◌∷◌, ◌++◌, length, take, Option, Some, None, Result, OnOk, OnErr, if◌then◌else◌, nat_le}
 use Rattle.std.specs.Io.KnownBytes.{Appends}
 
 -- after a fault: known contents grew by a beginning of the bytes, and never by all of them
@@ -7,6 +7,11 @@ pub record AppendsBeginning (old new : Option (List ℕ)) (bytes : List ℕ) : T
   pub count : ℕ
   pub within : count < length bytes
   pub appended : Appends old new (take count bytes)
+
+-- the text was written: known contents grew by all of it, or after a fault by a beginning of it and never all
+pub record WritesText {T E : Type 0} (old new : Option (List ℕ)) (text : List ℕ) (result : Result T E) : Type 0 where
+  pub ok : OnOk result (Appends old new text)
+  pub err : OnErr result (AppendsBeginning old new text)
 
 -- the contents of a buffer over a writer: what lies in the writer and then what the buffer holds, where the writer tells
 -- of its bytes, and still has as many as it began with. In front stand the name of the reference to the writer and how

@@ -12,9 +12,10 @@ use crate::prefixes::TextFault;
 use crate::short_text::ShortText;
 use std::fmt;
 use std::io::{self, Write};
+use std::str::FromStr;
 
 /// An IPv4 address, its first octet the most significant.
-#[derive(Clone, Copy, PartialEq, Eq, PartialOrd, Ord, Debug)]
+#[derive(Clone, Copy, PartialEq, Eq, PartialOrd, Ord, Hash, Debug)]
 pub struct Addr(pub u32);
 
 impl Addr {
@@ -75,6 +76,18 @@ impl fmt::Display for Addr {
         let (first, second) = ((self.0 >> 24) % 256, (self.0 >> 16) % 256);
         let (third, fourth) = ((self.0 >> 8) % 256, self.0 % 256);
         write!(f, "{first}.{second}.{third}.{fourth}")
+    }
+}
+
+impl FromStr for Addr {
+    type Err = TextFault;
+
+    ghost use Rattle.rt_cidr.specs.Reading.{ReadsAddress};
+
+    ghost from_str_gives = { ReadsAddress };
+
+    fn from_str(s: &str) -> Result<Addr, TextFault> {
+        Addr::parse(s.as_bytes())
     }
 }
 

@@ -7,6 +7,7 @@ ghost use Rattle.rt_cidr.specs.declared.buffer.TheConstants.{OUTPUT_BYTES};
 
 use crate::output::put_counted;
 use std::alloc::{AllocError, Global};
+use std::fmt;
 use std::io::{self, Write};
 use std::marker::Model;
 use std::snapshot::Snapshot;
@@ -144,6 +145,15 @@ impl<'w, W: Write> OutputBuffer<'w, W> {
         let (written, outcome) = put_counted(self.writer, self.held.as_bytes());
         self.held.remove_front(written);
         outcome
+    }
+}
+
+/// Shows how many bytes are held, and neither these nor the writer.
+impl<'w, W> fmt::Debug for OutputBuffer<'w, W> {
+    fn fmt<F: fmt::Write>(&self, f: &mut fmt::Formatter<F>) -> fmt::Result {
+        f.debug_struct("OutputBuffer")
+            .field("held", &self.held.as_bytes().len())
+            .finish_non_exhaustive()
     }
 }
 

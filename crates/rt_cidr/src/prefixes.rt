@@ -13,6 +13,7 @@ use crate::output::put;
 use crate::short_text::ShortText;
 use std::fmt;
 use std::io::{self, Write};
+use std::str::FromStr;
 use thiserror::Error;
 
 /// Why a text or a pair of numbers is no address or prefix.
@@ -34,7 +35,7 @@ const MAX_LEN: u8 = 32;
 
 /// An IPv4 prefix (RFC 4632, section 3.1): a base address and a length of at most 32 bits.
 /// Every bit of the base past the length is zero.
-#[derive(Clone, Copy, PartialEq, Eq, PartialOrd, Ord, Debug)]
+#[derive(Clone, Copy, PartialEq, Eq, PartialOrd, Ord, Hash, Debug)]
 pub struct Prefix {
     base: u32,
     len: u8,
@@ -140,6 +141,18 @@ impl fmt::Display for Prefix {
     fn fmt<W: fmt::Write>(&self, f: &mut fmt::Formatter<W>) -> fmt::Result {
         let (base, len) = (Addr(self.base), self.len);
         write!(f, "{base}/{len}")
+    }
+}
+
+impl FromStr for Prefix {
+    type Err = TextFault;
+
+    ghost use Rattle.rt_cidr.specs.Reading.{ReadsPrefix};
+
+    ghost from_str_gives = { ReadsPrefix };
+
+    fn from_str(s: &str) -> Result<Prefix, TextFault> {
+        Prefix::parse(s.as_bytes())
     }
 }
 

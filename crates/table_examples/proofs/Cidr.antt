@@ -12,7 +12,8 @@ use Rattle.rt_cidr.specs.declared.address.Addr.{Addr}
 use Rattle.rt_cidr.specs.declared.prefixes.Prefix.{Prefix}
 use Rattle.rt_cidr.specs.declared.prefixes.TextFault.TheVariants.{Text, Length, Bits}
 use Rattle.rt_cidr.specs.Cidr.{size_of, IsPrefix}
-use Rattle.rt_cidr.specs.Output.{AppendsBeginning, buffered}
+use Rattle.std.specs.Io.KnownBytes.{Appends}
+use Rattle.rt_cidr.specs.Output.{AppendsBeginning, WritesText, buffered}
 use Rattle.rt_cidr.specs.Prefix.{covers, contains, same_prefix}
 use Rattle.rt_cidr.specs.Text.{dot, slash, zero_digit, IsDecimal, IsOctetText, IsAddressText, IsPrefixText, address_text, prefix_text}
 use Rattle.rt_cidr.specs.Reading.{ReadsPrefix, ReadsDecimal, ReadsAddress, AnswersPair}
@@ -265,6 +266,14 @@ never_all_of_them : ¬ AppendsBeginning (Some []) (Some (codes "b")) (codes "b")
 never_all_of_them h =
     let zero : h.count ≡ 0 = omega (arith, h.within) in
     let same = subst (λ n. codes "b" ≡ [] ++ take n (codes "b")) zero h.appended in cc
+
+-- WritesText
+all_of_it_or_after_a_fault_a_beginning :
+    {T E : Type 0} (old new : Option (List ℕ)) (text : List ℕ) (done : T) (fault : E)
+    → (WritesText {T = T} {E = E} old new text (Ok done) ↔ Appends old new text)
+    × (WritesText {T = T} {E = E} old new text (Err fault) ↔ AppendsBeginning old new text)
+all_of_it_or_after_a_fault_a_beginning old new text done fault =
+    ((λ h. h.ok, λ all. record { ok = all; err = tt }), (λ h. h.err, λ some. record { ok = tt; err = some }))
 
 -- ReadsPrefix
 reads_10_0_0_0_8 : ReadsPrefix (codes "10.0.0.0/8") (Ok ten_8)
