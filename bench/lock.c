@@ -32,7 +32,7 @@
 #define SPINS 7
 #endif
 #ifndef SHARE
-#define SHARE 100 // microseconds
+#define SHARE 200 // microseconds
 #endif
 
 typedef _Atomic uint64_t word;

@@ -23,7 +23,7 @@ const LOOKS: u32 = 4;
 const SPINS: u32 = 7;
 
 /// A place's share of a turn, in microseconds. A nap lasts as long as the shares of all places.
-const SHARE: u64 = 100;
+const SHARE: u64 = 200;
 
 impl<V: Kept + Drop, const L: u32> TreeLock<V, L> {
     /// Naps once where the lock is crowded. `crowded` is what the place remembers, and the result what it then does: below
