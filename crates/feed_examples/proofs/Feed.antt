@@ -8,7 +8,7 @@ use Rattle.std.specs.List.{All, list_any, flat_map}
 use Rattle.std.specs.Fmt.{digits}
 use Rattle.rt_cidr.specs.declared.address.Addr.{Addr}
 use Rattle.rt_cidr.specs.Cidr.{IsPrefix}
-use Rattle.rt_cidr.specs.Text.{IsDecimal, IsAddressText, IsPrefixText, address_text, prefix_text}
+use Rattle.rt_cidr.specs.Text.{slash, IsDecimal, IsAddressText, IsPrefixText, address_text, prefix_text}
 use Rattle.table_examples.proofs.Cidr.{decimal_4294967296, no_address_without_a_dot, no_prefix_without_a_dot}
 use Rattle.rt_cidr.proofs.Promised.{decimal_is_decimal, decimal_one_number, address_text_is_address, pair_one_value, prefix_is_written}
 use Rattle.table_examples.proofs.Cidr.{ten_8}
@@ -29,12 +29,12 @@ use Rattle.rt_feed.specs.declared.report.Answer.{Answer}
 use Rattle.rt_feed.specs.declared.report.Answer.TheVariants as answer
 use Rattle.rt_feed.specs.declared.versions.Version.TheVariants.{One, Two}
 use Rattle.rt_feed.specs.CommandText.{space, words, route_words, command_text, HasHop, HasCommand}
-use Rattle.rt_feed.specs.Grammar.{Kind, prefix, preference, hop, address, hash, is_skipped, fields, purge_kinds, kinds_after, IsOfKind, IsPairText, IsFaultOf}
+use Rattle.rt_feed.specs.Grammar.{Kind, prefix, preference, hop, address, hash, is_skipped, fields, purge_kinds, kinds_after, IsOfKind, IsFaultOf}
 use Rattle.rt_feed.specs.Grammar.{IsFirstFault, IsFaultAfter, IsFaultOfFields, AnswersLine}
-use Rattle.rt_feed.proofs.Pairs.{pair-read}
-use Rattle.rt_feed.specs.Addresses.{AnswersAddressLine}
+use Rattle.rt_feed.specs.declared.faulty.FaultyLines.{FaultyLines}
+use Rattle.rt_feed.specs.Addresses.{AnswersAddressLine, addresses_said, faults_said, faulty_lines, SaysAddresses}
 use Rattle.rt_feed.specs.Lines.{lf, CutsLine, TellsTwo, IsBody, IsVersion, LineOutcome, skipped, faulty, asked}
-use Rattle.rt_feed.specs.Lines.{reading, heading, LinesBecome, Becomes, line_answer, answer_of, numbered, report_lines, asked_by, asked_of}
+use Rattle.rt_feed.specs.Lines.{reading, heading, LinesSay, LinesBecome, Becomes, line_answer, command_answer, numbered, report_lines, asked_by, asked_of}
 use Rattle.rt_feed.specs.Reports.{is_refusal, is_fault, NumbersRise, has_refusal, has_fault}
 use Rattle.rt_shared.specs.Visits.{Visit, visit_of}
 use Rattle.rt_feed.specs.Visits.{concatenated, piece_of, IsCut, Gains, AnswersBatch}
@@ -48,8 +48,8 @@ use Rattle.rt_feed.specs.declared.report.Line.{Line}
 use Rattle.rt_feed.specs.declared.versions.Version.{Version}
 use Rattle.std.specs.declared.result.Result.{Result}
 use Rattle.rt_feed.specs.FeedRuns.{AsksLines, RunsFeed, IsTold, StopsWithin, RunsOne}
-use Rattle.rt_feed.specs.Laws.{LineHasOneAnswer, AddressLineHasOneAnswer, CommandIsReadAgain, OnlyItsTextIsRead, OlderTextsStay, TextHasOneCut}
-use Rattle.rt_feed.specs.Laws.{TextHasOneReading}
+use Rattle.rt_feed.specs.Laws.{LineHasOneAnswer, AddressLineHasOneAnswer, AddressTextHasOneReading, CommandIsReadAgain, OnlyItsTextIsRead}
+use Rattle.rt_feed.specs.Laws.{OlderTextsStay, TextHasOneCut, TextHasOneReading}
 
 -- the address 192.0.2.1, and the command of the first line of examples/first.feed
 abbrev at_192_0_2_1 : Addr
@@ -186,30 +186,32 @@ a_word_of_version_2 = refl
 no_word_of_version_1 : purge_kinds One ≡ None
 no_word_of_version_1 = refl
 
--- IsPairText
-of_a_length_over_32 : IsPairText (codes "192.0.2.1/50") 3221225985 50
+-- the text of an address, a slash and a length of any size
+pair_text : (digits : List ℕ) (base len : ℕ) → base < 2 ^ 32 → IsDecimal digits len → IsPrefixText (address_text base ++ slash ∷ digits) base len
+pair_text digits base len fits spelled = record {
+  address_part = address_text base;
+  len_part = digits;
+  is_address = address_text_is_address base fits;
+  is_len = spelled;
+  joined = refl;
+}
+
+of_a_length_over_32 : IsPrefixText (codes "192.0.2.1/50") 3221225985 50
 unfolding digits address_text
-of_a_length_over_32 =
-    (codes "50", omega arith, decimal_is_decimal 50 (omega arith), refl)
+of_a_length_over_32 = pair_text (codes "50") 3221225985 50 (omega arith) (decimal_is_decimal 50 (omega arith))
 
-of_an_address_with_a_bit : IsPairText (codes "192.0.2.1/10") 3221225985 10
+of_an_address_with_a_bit : IsPrefixText (codes "192.0.2.1/10") 3221225985 10
 unfolding digits address_text
-of_an_address_with_a_bit =
-    (codes "10", omega arith, decimal_is_decimal 10 (omega arith), refl)
+of_an_address_with_a_bit = pair_text (codes "10") 3221225985 10 (omega arith) (decimal_is_decimal 10 (omega arith))
 
-of_no_pair_without_a_dot : (base len : ℕ) → ¬ IsPairText (codes "10/33") base len
-of_no_pair_without_a_dot base len is = no_prefix_without_a_dot (codes "10/33") base len refl (pair-read (codes "10/33") base len is)
-
-what_a_pair_says :
-    (text : List ℕ) (base len : ℕ) → IsPairText text base len
-    → (digits : List ℕ) × (base < 4294967296) × IsDecimal digits len × (text ≡ address_text base ++ 47 ∷ digits)
-what_a_pair_says text base len h = h
+of_no_pair_without_a_dot : (base len : ℕ) → ¬ IsPrefixText (codes "10/33") base len
+of_no_pair_without_a_dot base len is = no_prefix_without_a_dot (codes "10/33") base len refl is
 
 -- IsOfKind
 no_prefix_50 : ¬ IsOfKind prefix (codes "192.0.2.1/50")
 no_prefix_50 (p, same) =
     let is : IsPrefixText (codes "192.0.2.1/50") p.base p.len = subst (λ text. IsPrefixText text p.base p.len) (sym same) (prefix_is_written p) in
-    let one = pair_one_value (codes "192.0.2.1/50") p.base 3221225985 p.len 50 is (pair-read (codes "192.0.2.1/50") 3221225985 50 of_a_length_over_32) in
+    let one = pair_one_value (codes "192.0.2.1/50") p.base 3221225985 p.len 50 is of_a_length_over_32 in
     omega (arith, one.1, p.is_prefix.short)
 
 a_bit_is_set : ¬ IsPrefix 3221225985 10
@@ -218,7 +220,7 @@ a_bit_is_set h = let clear : 3221225985 % 2 ^ (32 - 10) ≡ 0 = h.clear in omega
 no_prefix_with_a_bit : ¬ IsOfKind prefix (codes "192.0.2.1/10")
 no_prefix_with_a_bit (p, same) =
     let is : IsPrefixText (codes "192.0.2.1/10") p.base p.len = subst (λ text. IsPrefixText text p.base p.len) (sym same) (prefix_is_written p) in
-    let one = pair_one_value (codes "192.0.2.1/10") p.base 3221225985 p.len 10 is (pair-read (codes "192.0.2.1/10") 3221225985 10 of_an_address_with_a_bit) in
+    let one = pair_one_value (codes "192.0.2.1/10") p.base 3221225985 p.len 10 is of_an_address_with_a_bit in
     a_bit_is_set (rw (one.0, one.1) at p.is_prefix)
 
 no_prefix_33_by_1 : ¬ IsOfKind prefix (codes "10/33")
@@ -282,9 +284,9 @@ an_address_is_not_E7 h = cc
 
 the_fault_of_each_kind :
     (field : List ℕ) (answer : LineFault)
-    → (IsFaultOf prefix field fault.Text → (base len : ℕ) → ¬ IsPairText field base len)
-    × (IsFaultOf prefix field fault.PrefixLength → (base len : ℕ) × IsPairText field base len × (32 < len))
-    × (IsFaultOf prefix field fault.PrefixBits → (base len : ℕ) × IsPairText field base len × (len ≤ 32) × ¬ IsPrefix base len)
+    → (IsFaultOf prefix field fault.Text → (base len : ℕ) → ¬ IsPrefixText field base len)
+    × (IsFaultOf prefix field fault.PrefixLength → (base len : ℕ) × IsPrefixText field base len × (32 < len))
+    × (IsFaultOf prefix field fault.PrefixBits → (base len : ℕ) × IsPrefixText field base len × (len ≤ 32) × ¬ IsPrefix base len)
     × (¬ IsFaultOf prefix field fault.Command) × (¬ IsFaultOf prefix field fault.FieldCount) × (¬ IsFaultOf prefix field fault.Preference)
     × (¬ IsFaultOf prefix field fault.Hop) × (¬ IsFaultOf prefix field fault.LineLength)
     × (IsFaultOf preference field answer → answer ≡ fault.Preference) × (IsFaultOf (hop One) field answer → answer ≡ fault.Hop)
@@ -504,8 +506,8 @@ the_line_that_tells_version_2_is_skipped = refl
 no_line_tells_version_1 : heading One ≡ []
 no_line_tells_version_1 = refl
 
--- answer_of
-done_or_refused : map answer_of (outcome.Did Added ∷ outcome.Refused ∷ []) ≡ answer.Did Added ∷ answer.Refused ∷ []
+-- command_answer
+done_or_refused : map command_answer (outcome.Did Added ∷ outcome.Refused ∷ []) ≡ answer.Did Added ∷ answer.Refused ∷ []
 done_or_refused = refl
 
 -- line_answer
@@ -865,6 +867,90 @@ the_lines_of_its_version :
     → IsBody text h.version h.lines × LinesBecome h.version h.lines h.read rest × (outcomes ≡ heading h.version ++ h.read)
 the_lines_of_its_version text rest outcomes h = (h.body, h.become, h.joined)
 
+-- LinesSay
+what_the_first_line_says :
+    {X : Type 0} (says : List ℕ → X → Type 0) (lines rest : List ℕ) (one : X) (others : List X) → LinesSay says lines (one ∷ others) rest
+    ↔ ((line : List ℕ) × (next : List ℕ) × CutsLine lines line next × says line one × LinesSay says next others rest)
+what_the_first_line_says says lines rest one others = (λ h. h, λ h. h)
+
+where_no_line_is_read : {X : Type 0} (says : List ℕ → X → Type 0) (lines rest : List ℕ) → LinesSay says lines [] rest ↔ (lines ≡ rest)
+where_no_line_is_read says lines rest = (λ h. h, λ h. h)
+
+-- a text of addresses, whose last line goes without an LF
+abbrev pub asked_text : List ℕ
+asked_text = codes "# Two are asked.\n192.0.2.1\n10\n\n10.1.2.3"
+
+abbrev pub asked_read : List (Result (Option Addr) LineFault)
+asked_read = Ok None ∷ Ok (Some at_192_0_2_1) ∷ Err fault.Text ∷ Ok None ∷ Ok (Some at_10_1_2_3) ∷ []
+
+-- LinesSay
+what_its_lines_say : LinesSay AnswersAddressLine asked_text asked_read []
+unfolding digits address_text
+what_its_lines_say =
+    let last : CutsLine (codes "10.1.2.3") (codes "10.1.2.3") [] =
+    record { unbroken = unbroken (codes "10.1.2.3") refl; ended = inr (refl, (λ e. cc), refl) } in (
+      codes "# Two are asked.",
+      codes "192.0.2.1\n10\n\n10.1.2.3",
+      cut (codes "# Two are asked.") (codes "192.0.2.1\n10\n\n10.1.2.3") refl,
+      (omega arith, refl),
+      codes "192.0.2.1",
+      codes "10\n\n10.1.2.3",
+      cut (codes "192.0.2.1") (codes "10\n\n10.1.2.3") refl,
+      (omega arith, refl),
+      codes "10",
+      codes "\n10.1.2.3",
+      cut (codes "10") (codes "\n10.1.2.3") refl,
+      what_is_no_address_is_E3,
+      [],
+      codes "10.1.2.3",
+      cut [] (codes "10.1.2.3") refl,
+      (omega arith, refl),
+      codes "10.1.2.3",
+      [],
+      last,
+      (omega arith, refl),
+      refl,
+    )
+
+-- addresses_said
+those_that_are_addresses : addresses_said asked_read ≡ at_192_0_2_1 ∷ at_10_1_2_3 ∷ []
+those_that_are_addresses = refl
+
+what_any_line_adds :
+    (addr : Addr) (answer : LineFault) (says : List (Result (Option Addr) LineFault)) → (addresses_said [] ≡ [])
+    × (addresses_said (Ok (Some addr) ∷ says) ≡ addr ∷ addresses_said says) × (addresses_said (Ok None ∷ says) ≡ addresses_said says)
+    × (addresses_said (Err answer ∷ says) ≡ addresses_said says)
+what_any_line_adds addr answer says = (refl, refl, refl, refl)
+
+-- faults_said
+the_third_line_is_faulty : faults_said 1 asked_read ≡ (3, fault.Text) ∷ []
+the_third_line_is_faulty = refl
+
+each_by_its_number :
+    (number : ℕ) (said : Option Addr) (answer : LineFault) (says : List (Result (Option Addr) LineFault)) → (faults_said number [] ≡ [])
+    × (faults_said number (Ok said ∷ says) ≡ faults_said (number + 1) says)
+    × (faults_said number (Err answer ∷ says) ≡ (number, answer) ∷ faults_said (number + 1) says)
+each_by_its_number number said answer says = (refl, refl, refl)
+
+-- faulty_lines
+how_many_and_the_first : faulty_lines ((3, fault.Text) ∷ (5, fault.LineLength) ∷ []) ≡ record { count = 2; first = Some (3, fault.Text) }
+how_many_and_the_first = refl
+
+of_any_faulty_lines :
+    (one : ℕ × LineFault) (others : List (ℕ × LineFault)) → (faulty_lines [] ≡ record { count = 0; first = None })
+    × (faulty_lines (one ∷ others) ≡ record { count = length (one ∷ others); first = Some one })
+of_any_faulty_lines one others = (refl, refl)
+
+-- SaysAddresses
+two_are_asked_and_a_line_is_faulty :
+    SaysAddresses asked_text (at_192_0_2_1 ∷ at_10_1_2_3 ∷ []) (record { count = 1; first = Some (3, fault.Text) })
+two_are_asked_and_a_line_is_faulty = record { says = asked_read; lines = what_its_lines_say; said = refl; faults = refl }
+
+what_every_line_of_it_says :
+    (text : List ℕ) (addresses : List Addr) (faulty : FaultyLines) (h : SaysAddresses text addresses faulty)
+    → LinesSay AnswersAddressLine text h.says [] × (addresses ≡ addresses_said h.says) × (faulty ≡ faulty_lines (faults_said 1 h.says))
+what_every_line_of_it_says text addresses faulty h = (h.lines, h.said, h.faults)
+
 -- found_text
 a_route_was_found : found_text at_192_0_2_1 (Some route_10) ≡ codes "192.0.2.1 route 10.0.0.0/8 feed 1 pref 100 via 192.0.2.1\n"
 unfolding digits address_text prefix_text found_text reply_text route_text
@@ -935,6 +1021,12 @@ a_line_of_addresses_has_one_answer :
     AddressLineHasOneAnswer → (line : List ℕ) (one two : Result (Option Addr) LineFault) → AnswersAddressLine line one → AnswersAddressLine line two
     → one ≡ two
 a_line_of_addresses_has_one_answer law = law
+
+-- AddressTextHasOneReading
+a_text_of_addresses_is_read_in_one_way :
+    AddressTextHasOneReading → (text : List ℕ) (addresses others : List Addr) (faulty other_faulty : FaultyLines) → SaysAddresses text addresses faulty
+    → SaysAddresses text others other_faulty → (addresses ≡ others) × (faulty ≡ other_faulty)
+a_text_of_addresses_is_read_in_one_way law = law
 
 -- CommandIsReadAgain
 each_command_is_read_again :

@@ -10,14 +10,11 @@ use Rattle.rt_feed.specs.declared.versions.Version.TheVariants.{One, Two}
 use Rattle.rt_feed.specs.Lines.{IsBody, CutsLine, LineOutcome, skipped, faulty, asked, LinesBecome, Becomes}
 use Rattle.rt_feed.specs.Lines.{heading, reading, line_answer, numbered, report_lines, asked_by, asked_of}
 use Rattle.rt_feed.specs.Grammar.{AnswersLine}
+use Rattle.rt_feed.proofs.Saying.{say-append, say-first, length-cut, length-said}
 
--- more lines after some
-pub become-append : (version : Version) (lines middle rest : List ℕ) (outcomes more : List LineOutcome) → LinesBecome version lines outcomes middle
-    → LinesBecome version middle more rest
-    → LinesBecome version lines (outcomes ++ more) rest
-become-append version lines middle rest [] more first second = rw first second
-become-append version lines middle rest (outcome ∷ outcomes) more (line, next, cut, reads, first) second =
-    (line, next, cut, reads, become-append version next middle rest outcomes more first second)
+-- what a line says that became this
+abbrev says : Version → List ℕ → LineOutcome → Type 0
+says version line outcome = AnswersLine version line (reading outcome)
 
 -- one line more of a text
 pub becomes-push : (text line middle rest : List ℕ) (outcomes : List LineOutcome) (outcome : LineOutcome) → (is : Becomes text outcomes middle)
@@ -29,7 +26,7 @@ becomes-push text line middle rest outcomes outcome is cut reads = (
     lines = is.lines;
     read = is.read ++ outcome ∷ [];
     body = is.body;
-    become = become-append is.version is.lines middle rest is.read (outcome ∷ []) is.become (line, rest, cut, reads, refl);
+    become = say-append (says is.version) is.lines middle rest is.read (outcome ∷ []) is.become (line, rest, cut, reads, refl);
     joined = ap (λ os. os ++ outcome ∷ []) is.joined ∙ append_assoc (heading is.version) is.read (outcome ∷ []);
   },
   refl,
@@ -86,13 +83,6 @@ becomes-alike text rest outcomes others same is =
       refl,
     )
 
--- the first of some lines became what they became, and so did the others
-become-first : (version : Version) (lines rest : List ℕ) (outcomes more : List LineOutcome) → LinesBecome version lines (outcomes ++ more) rest
-    → (middle : List ℕ) × LinesBecome version lines outcomes middle × LinesBecome version middle more rest
-become-first version lines rest [] more is = (lines, refl, is)
-become-first version lines rest (outcome ∷ outcomes) more (line, next, cut, reads, is) =
-    let first = become-first version next rest outcomes more is in (first.0, (line, next, cut, reads, first.1), first.2)
-
 -- what follows the heading
 behind_heading : (version : Version) (earlier more read : List LineOutcome) → (heading version ++ earlier) ++ more ≡ heading version ++ read
     → read ≡ earlier ++ more
@@ -104,34 +94,16 @@ pub becomes-first : (text rest : List ℕ) (outcomes earlier more : List LineOut
     → (middle : List ℕ) × (begun : Becomes text outcomes middle) × (begun.version ≡ is.version) × LinesBecome begun.version middle more rest
 becomes-first text rest outcomes earlier more is begins =
     let parts : is.read ≡ earlier ++ more = behind_heading is.version earlier more is.read (ap (λ os. os ++ more) (sym begins) ∙ is.joined) in
-    let first = become-first is.version is.lines rest earlier more (subst (λ os. LinesBecome is.version is.lines os rest) parts is.become) in
+    let first = say-first (says is.version) is.lines rest earlier more (subst (λ os. LinesBecome is.version is.lines os rest) parts is.become) in
     (first.0, record { version = is.version; lines = is.lines; read = earlier; body = is.body; become = first.1; joined = begins }, refl, first.2)
 
-not_nil : (line : List ℕ) → line ≢ [] → 0 < length line
-not_nil [] ne = absurd (ne refl)
-not_nil (byte ∷ line) ne = omega arith
-
--- a line takes at least one byte
-pub length-cut : (text line rest : List ℕ) → CutsLine text line rest → length rest < length text
-length-cut text line rest cut = elim cut.ended [
-  | inl more ↦ omega (arith, ap length more, length-append line (10 ∷ rest))
-  | inr last ↦ let some : 0 < length line = not_nil line last.1 in omega (arith, some, ap length last.0, ap length last.2)
-]
-
--- so the lines are no more than the bytes that they took
-length-lines : (version : Version) (lines rest : List ℕ) (outcomes : List LineOutcome) → LinesBecome version lines outcomes rest
-    → length outcomes + length rest ≤ length lines
-length-lines version lines rest [] is = omega (arith, ap length is)
-length-lines version lines rest (outcome ∷ outcomes) (line, next, cut, reads, is) =
-    omega (arith, length-cut lines line next cut, length-lines version next rest outcomes is)
-
--- and so it is of a text
+-- lines are no more than the bytes that they took, and so it is of a text
 length-body : (text lines rest : List ℕ) (version : Version) (outcomes read : List LineOutcome) → IsBody text version lines
     → LinesBecome version lines read rest
     → outcomes ≡ heading version ++ read → length outcomes + length rest ≤ length text
-length-body text lines rest One outcomes read body become joined = omega (arith, ap length joined, ap length body.1, length-lines One lines rest read become)
+length-body text lines rest One outcomes read body become joined = omega (arith, ap length joined, ap length body.1, length-said (says One) lines rest read become)
 length-body text lines rest Two outcomes read body become joined =
-    omega (arith, ap length joined, length-cut text _ lines body, length-lines Two lines rest read become)
+    omega (arith, ap length joined, length-cut text _ lines body, length-said (says Two) lines rest read become)
 
 pub length-outcomes : (text rest : List ℕ) (outcomes : List LineOutcome) → Becomes text outcomes rest → length outcomes + length rest ≤ length text
 length-outcomes text rest outcomes is = length-body text is.lines rest is.version outcomes is.read is.body is.become is.joined

@@ -8,7 +8,7 @@ use Rattle.std.proofs.lemmas.Bool.{cases_Bool}
 use Rattle.rt_shared.specs.declared.outcome.Outcome.{Outcome}
 use Rattle.rt_feed.specs.declared.report.Line.{Line}
 use Rattle.rt_feed.specs.Reports.{is_fault, NumbersRise}
-use Rattle.rt_feed.specs.Lines.{answer_of}
+use Rattle.rt_feed.specs.Lines.{command_answer}
 use Rattle.rt_feed.specs.inside.Filling.{filled}
 
 -- where there are no outcomes the lines stay
@@ -24,7 +24,7 @@ filled-fault line lines (outcome ∷ outcomes) is = rw is refl
 
 -- another line is given the first outcome
 pub filled-given : (line : Line) (lines : List Line) (outcome : Outcome) (outcomes : List Outcome) → is_fault line.answer ≡ false
-    → filled (line ∷ lines) (outcome ∷ outcomes) ≡ record line { answer = answer_of outcome } ∷ filled lines outcomes
+    → filled (line ∷ lines) (outcome ∷ outcomes) ≡ record line { answer = command_answer outcome } ∷ filled lines outcomes
 filled-given line lines outcome outcomes is = rw is refl
 
 -- where no outcome is left all lines stay
@@ -45,11 +45,11 @@ module _ (lines : List Line) (index : ℕ) (d : Line) (here : index < length lin
 
   -- another line is given the next outcome
   pub fills_line : (lines' : List Line) (outcome : Outcome) (outcomes : List Outcome) → is_fault (get_or lines index d).answer ≡ false
-      → lines' ≡ set lines index (record (get_or lines index d) { answer = answer_of outcome })
+      → lines' ≡ set lines index (record (get_or lines index d) { answer = command_answer outcome })
       → take (index + 1) lines' ++ filled (drop (index + 1) lines') outcomes ≡ take index lines ++ filled (drop index lines) (outcome ∷ outcomes)
   fills_line lines' outcome outcomes is changed =
       let line = get_or lines index d in
-      let given = record line { answer = answer_of outcome } in
+      let given = record line { answer = command_answer outcome } in
       let first : take (index + 1) lines' ≡ take index lines ++ given ∷ [] = ap (take (index + 1)) changed
       ∙ take-set_at lines index (index + 1) given refl here in
       let rest : drop (index + 1) lines' ≡ drop (index + 1) lines =

@@ -1,12 +1,14 @@
 pub mod Cutting
-pub mod Words
+pub mod CommandWords
+pub mod Saying
 pub mod Becoming
 pub mod Filling
 pub mod RunSteps
 pub mod UncutVisits
 pub mod Printing
 pub mod DifferenceLines
-pub mod Pairs
+pub mod PrefixFaults
 pub mod OneAnswer
 pub mod OneAddress
 pub mod OneCut
+pub mod ReadAddresses

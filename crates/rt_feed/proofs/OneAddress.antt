@@ -6,7 +6,7 @@ use Rattle.rt_feed.specs.declared.parse.LineFault.{LineFault}
 use Rattle.rt_feed.specs.Addresses.{AnswersAddressLine}
 use Rattle.rt_feed.specs.Laws.{AddressLineHasOneAnswer}
 use Rattle.rt_feed.proofs.OneAnswer.{Texts, one_address}
-use Rattle.rt_feed.proofs.Words.{not_skipped-address_text}
+use Rattle.rt_feed.proofs.CommandWords.{not_skipped-address_text}
 
 -- an address's text is neither skipped nor faulty
 never_skipped : (line : List ℕ) (addr : Addr) → AnswersAddressLine line (Ok (Some addr)) → ¬ AnswersAddressLine line (Ok None)

@@ -19,8 +19,8 @@ use Rattle.rt_feed.specs.Grammar.{Kind, prefix, preference, hop, address, IsFaul
 use Rattle.rt_feed.specs.Grammar.{AnswersLine}
 use Rattle.rt_feed.specs.inside.Fields.{route_kinds, IsFaultAmong}
 use Rattle.rt_feed.specs.Laws.{LineHasOneAnswer}
-use Rattle.rt_feed.proofs.Pairs.{one_prefix_fault}
-use Rattle.rt_feed.proofs.Words.{address-ne-discard, fields-command_text, length-command_text, not_skipped-command_text}
+use Rattle.rt_feed.proofs.PrefixFaults.{one_prefix_fault}
+use Rattle.rt_feed.proofs.CommandWords.{address-ne-discard, fields-command_text, length-command_text, not_skipped-command_text}
 
 -- what rt_cidr promises of prefixes and addresses and their text
 pub record Texts : Type 0 where

@@ -2,11 +2,12 @@
 use Rattle.std.proofs.Common.{◌≡◌, ◌≢◌, ℕ, inl, inr, List, [], ◌∷◌, ◌++◌, length, map, All, refl, sym, ap, ◌∙◌, arith}
 use Rattle.std.proofs.lemmas.List.{map-append}
 use Rattle.std.proofs.lemmas.List.Elements.{All-head, All-tail}
-use Rattle.rt_feed.specs.Lines.{lf, CutsLine, TellsTwo, IsBody, LineOutcome, LinesBecome, Becomes, heading, reading}
+use Rattle.rt_feed.specs.Grammar.{AnswersLine}
+use Rattle.rt_feed.specs.Lines.{lf, CutsLine, TellsTwo, IsBody, LineOutcome, LinesSay, LinesBecome, Becomes, heading, reading}
 use Rattle.rt_feed.specs.declared.versions.Version.{Version}
 use Rattle.rt_feed.specs.declared.versions.Version.TheVariants.{One, Two}
 use Rattle.rt_feed.specs.Laws.{LineHasOneAnswer, OlderTextsStay}
-use Rattle.rt_feed.proofs.Becoming.{length-cut}
+use Rattle.rt_feed.proofs.Saying.{length-cut}
 
 -- the mark does not stand in what has none
 unmarked_ends : (mark : ℕ) (xs ys more : List ℕ) → All (λ byte. byte ≢ mark) xs → xs ≢ ys ++ mark ∷ more
@@ -40,18 +41,25 @@ one_cut text line rest other other_rest cut again = elim cut.ended [
   ]
 ]
 
--- lines that are read by one version say the same
+-- lines say the same where each says one thing
+pub say_alike : {X Y : Type 0} (says : List ℕ → X → Type 0) (f : X → Y)
+    → ((line : List ℕ) (one two : X) → says line one → says line two → f one ≡ f two)
+    → (lines : List ℕ) (some others : List X) → LinesSay says lines some [] → LinesSay says lines others [] → map f some ≡ map f others
+say_alike says f once lines [] [] is other = refl
+say_alike says f once lines [] (other ∷ others) is (line, next, cut, said, more) = absurd (omega (arith, length-cut lines line next cut, ap length is))
+say_alike says f once lines (one ∷ some) [] (line, next, cut, said, more) is = absurd (omega (arith, length-cut lines line next cut, ap length is))
+say_alike says f once lines (one ∷ some) (other ∷ others) (line, next, cut, said, more) (line', next', cut', said', more') =
+    let same = one_cut lines line next line' next' cut cut' in
+    let head = once line' one other (rw same.0 at said) said' in
+    let tail = say_alike says f once next' some others (rw same.1 at more) more' in cc
+
+-- so do lines that are read by one version
 reads_alike : LineHasOneAnswer → (version : Version) (lines : List ℕ) (outcomes others : List LineOutcome) → LinesBecome version lines outcomes []
     → LinesBecome version lines others []
     → map reading outcomes ≡ map reading others
-reads_alike once version lines [] [] is other = refl
-reads_alike once version lines [] (outcome ∷ others) is (line, next, cut, reads, become) = absurd (omega (arith, length-cut lines line next cut, ap length is))
-reads_alike once version lines (outcome ∷ outcomes) [] (line, next, cut, reads, become) is =
-    absurd (omega (arith, length-cut lines line next cut, ap length is))
-reads_alike once version lines (outcome ∷ outcomes) (other ∷ others) (line, next, cut, reads, become) (line', next', cut', reads', become') =
-    let same = one_cut lines line next line' next' cut cut' in
-    let head = once version line' (reading outcome) (reading other) (rw same.0 at reads) reads' in
-    let tail = reads_alike once version next' outcomes others (rw same.1 at become) become' in cc
+reads_alike once version lines outcomes others is other =
+    say_alike (λ line outcome. AnswersLine version line (reading outcome)) reading (λ line one two. once version line (reading one) (reading two)) lines
+    outcomes others is other
 
 -- a text has one version, by which the same lines are read
 pub one_body : (text lines others : List ℕ) (one two : Version) → IsBody text one lines → IsBody text two others → (one ≡ two) × (lines ≡ others)

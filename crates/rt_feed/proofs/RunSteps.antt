@@ -13,7 +13,7 @@ use Rattle.rt_feed.specs.Reports.{is_fault}
 use Rattle.rt_feed.specs.declared.versions.Version.{Version}
 use Rattle.rt_feed.specs.declared.versions.Version.TheVariants.{One, Two}
 use Rattle.rt_feed.specs.Lines.{IsBody, CutsLine, LineOutcome, skipped, faulty, asked, reading, Becomes}
-use Rattle.rt_feed.specs.Lines.{heading, answer_of, line_answer, numbered, report_lines, asked_by, asked_of}
+use Rattle.rt_feed.specs.Lines.{heading, command_answer, line_answer, numbered, report_lines, asked_by, asked_of}
 use Rattle.rt_feed.specs.Grammar.{AnswersLine}
 use Rattle.rt_shared.specs.Visits.{Visit, visit_of}
 use Rattle.rt_feed.specs.Visits.{Gains, concatenated, piece_of, AnswersBatch}
@@ -24,7 +24,7 @@ use Rattle.rt_feed.proofs.Becoming.{becomes-push, becomes-at, becomes-alike, bec
 use Rattle.rt_feed.proofs.Filling.{filled-none, filled-fault, filled-given}
 
 -- pieces one after another
-concatenated-append : {X : Type 0} (pieces more : List (List X)) → concatenated (pieces ++ more) ≡ concatenated pieces ++ concatenated more
+pub concatenated-append : {X : Type 0} (pieces more : List (List X)) → concatenated (pieces ++ more) ≡ concatenated pieces ++ concatenated more
 concatenated-append [] more = refl
 concatenated-append (piece ∷ pieces) more = ap (λ xs. piece ++ xs) (concatenated-append pieces more)
     ∙ sym (append_assoc piece (concatenated pieces) (concatenated more))
@@ -69,7 +69,7 @@ length-given (asked cmd old ∷ lines) [] = refl
 length-given (asked cmd old ∷ lines) (outcome ∷ outcomes) = ap suc (length-given lines outcomes)
 
 -- a command's answer is no fault
-no_fault : (outcome : Outcome) → is_fault (answer_of outcome) ≡ false
+no_fault : (outcome : Outcome) → is_fault (command_answer outcome) ≡ false
 no_fault (Did reply) = refl
 no_fault Refused = refl
 
@@ -85,7 +85,7 @@ report_lines-given number (faulty fault ∷ lines) outcomes =
 report_lines-given number (asked cmd old ∷ lines) [] = sym (filled-none (report_lines number (asked cmd old ∷ lines)))
 report_lines-given number (asked cmd old ∷ lines) (outcome ∷ outcomes) =
     ap (λ ls. numbered number (line_answer (asked cmd outcome)) ++ ls) (report_lines-given (number + 1) lines outcomes)
-    ∙ sym (filled-given (record { number = number; answer = answer_of old }) (report_lines (number + 1) lines) outcome outcomes (no_fault old))
+    ∙ sym (filled-given (record { number = number; answer = command_answer old }) (report_lines (number + 1) lines) outcome outcomes (no_fault old))
 
 -- their outcomes are the ones given
 asked_of-given : (lines : List LineOutcome) (cmds : List Cmd) (outcomes : List Outcome) → asked_of lines ≡ map (λ cmd. (cmd, Refused)) cmds

@@ -1,12 +1,12 @@
 -- The grammar of one line of a feed's text, without its LF: the command whose text it is, or the first fault that it has.
 use Rattle.std.specs.Prelude.{◌≡◌, ◌≢◌, ℕ, ◌^◌, ◌<◌, ◌≤◌, ◌==◌, ◌⊎◌, ◌||◌, Bool, true, false, if◌then◌else◌}
-use Rattle.std.specs.Prelude.{List, [], ◌∷◌, ◌++◌, length, codes, decimal, bytes_eq, Option, None, Some, Ok, Err}
+use Rattle.std.specs.Prelude.{List, [], ◌∷◌, length, codes, decimal, bytes_eq, Option, None, Some, Ok, Err}
 use Rattle.std.specs.declared.result.Result.{Result}
 use Rattle.std.specs.List.{slice_split}
 use Rattle.rt_cidr.specs.declared.address.Addr.{Addr}
 use Rattle.rt_cidr.specs.declared.prefixes.Prefix.{Prefix}
 use Rattle.rt_cidr.specs.Cidr.{IsPrefix}
-use Rattle.rt_cidr.specs.Text.{slash, IsDecimal, address_text, prefix_text}
+use Rattle.rt_cidr.specs.Text.{IsPrefixText, address_text, prefix_text}
 use Rattle.rt_rib.specs.declared.routes.Hop.{Hop}
 use Rattle.rt_rib.specs.declared.commands.Cmd.{Cmd}
 use Rattle.rt_feed.specs.declared.parse.TheConstants.{LINE_BYTES}
@@ -44,18 +44,13 @@ IsOfKind preference field = (pref : ℕ) × (pref < 2 ^ 32) × (field ≡ decima
 IsOfKind (hop version) field = (next : Hop) × HasHop version next × (field ≡ hop_text next)
 IsOfKind address field = (a : Addr) × (a.0 < 2 ^ 32) × (field ≡ address_text a.0)
 
--- the text is this pair's: a 32-bit address, a slash, and a length of any size, which is a plain decimal
-abbrev pub IsPairText : List ℕ → ℕ → ℕ → Type 0
-IsPairText text base len =
-    (digits : List ℕ) × (base < 2 ^ 32) × IsDecimal digits len × (text ≡ address_text base ++ slash ∷ digits)
-
 -- the fault of a field that is not what it is to be; of one that is to be a prefix, that it is no pair's text, or what is
 -- wrong with the pair
 abbrev pub IsFaultOf : Kind → List ℕ → LineFault → Type 0
-IsFaultOf prefix field fault.Text = (base len : ℕ) → ¬ IsPairText field base len
-IsFaultOf prefix field fault.PrefixLength = (base len : ℕ) × IsPairText field base len × (32 < len)
+IsFaultOf prefix field fault.Text = (base len : ℕ) → ¬ IsPrefixText field base len
+IsFaultOf prefix field fault.PrefixLength = (base len : ℕ) × IsPrefixText field base len × (32 < len)
 IsFaultOf prefix field fault.PrefixBits =
-    (base len : ℕ) × IsPairText field base len × (len ≤ 32) × ¬ IsPrefix base len
+    (base len : ℕ) × IsPrefixText field base len × (len ≤ 32) × ¬ IsPrefix base len
 IsFaultOf prefix field answer = ⊥
 IsFaultOf preference field answer = answer ≡ fault.Preference
 IsFaultOf (hop version) field answer = answer ≡ fault.Hop

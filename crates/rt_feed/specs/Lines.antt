@@ -48,12 +48,15 @@ reading skipped = Ok None
 reading (faulty fault) = Err fault
 reading (asked cmd outcome) = Ok (Some cmd)
 
+-- these lines begin with some that say these, in order, as this relation tells of each, and this is the rest of them
+abbrev pub LinesSay : {X : Type 0} → (List ℕ → X → Type 0) → List ℕ → List X → List ℕ → Type 0
+LinesSay says lines [] rest = lines ≡ rest
+LinesSay says lines (one ∷ others) rest =
+    (line : List ℕ) × (next : List ℕ) × CutsLine lines line next × says line one × LinesSay says next others rest
+
 -- these lines begin with some that became these, in order, each read by this version, and this is the rest of them
 abbrev pub LinesBecome : Version → List ℕ → List LineOutcome → List ℕ → Type 0
-LinesBecome version lines [] rest = lines ≡ rest
-LinesBecome version lines (outcome ∷ outcomes) rest =
-    (line : List ℕ) × (next : List ℕ) × CutsLine lines line next × AnswersLine version line (reading outcome)
-    × LinesBecome version next outcomes rest
+LinesBecome version lines outcomes rest = LinesSay (λ line outcome. AnswersLine version line (reading outcome)) lines outcomes rest
 
 -- what became of the lines before those that are read: the line that tells version 2 is skipped
 abbrev pub heading : Version → List LineOutcome
@@ -71,15 +74,15 @@ pub record Becomes (text : List ℕ) (outcomes : List LineOutcome) (rest : List 
   pub joined : outcomes ≡ heading version ++ read
 
 -- the answer of a command in a report
-abbrev pub answer_of : Outcome → Answer
-answer_of (outcome.Did reply) = Did reply
-answer_of outcome.Refused = Refused
+abbrev pub command_answer : Outcome → Answer
+command_answer (outcome.Did reply) = Did reply
+command_answer outcome.Refused = Refused
 
 -- the answer that the report has for a line, if it has one
 abbrev pub line_answer : LineOutcome → Option Answer
 line_answer skipped = None
 line_answer (faulty fault) = Some (Fault fault)
-line_answer (asked cmd outcome) = Some (answer_of outcome)
+line_answer (asked cmd outcome) = Some (command_answer outcome)
 
 -- the line of a report at this number, if it has one
 abbrev pub numbered : ℕ → Option Answer → List Line

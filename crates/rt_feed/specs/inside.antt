@@ -2,5 +2,6 @@
 pub mod Fields
 pub mod Filling
 pub mod Lines
+pub mod ReadAddresses
 pub mod FeedRuns
 pub mod HeldVisits

@@ -1,5 +1,5 @@
 //! Laws of the feed text. Each function does nothing: its contract is the law, for all lines and texts.
-ghost use Rattle.rt_feed.specs.Laws.{LineHasOneAnswer, AddressLineHasOneAnswer, CommandIsReadAgain};
+ghost use Rattle.rt_feed.specs.Laws.{LineHasOneAnswer, AddressLineHasOneAnswer, AddressTextHasOneReading, CommandIsReadAgain};
 ghost use Rattle.rt_feed.specs.Laws.{OnlyItsTextIsRead, OlderTextsStay, TextHasOneCut, TextHasOneReading};
 
 /// What `parse_line` answers is the only answer that its contract allows.
@@ -16,6 +16,13 @@ pub fn one_address()
 {
     rt_cidr::laws::written();
     rt_cidr::laws::read_again();
+}
+
+/// What `read_addresses` gives is the only result that its contract allows.
+pub fn one_address_text()
+    ensures { AddressTextHasOneReading }
+{
+    one_address();
 }
 
 /// A line says a command exactly where it is the command's text: its words joined by single spaces, numbers plain.

@@ -23,8 +23,9 @@
 #![tactic(auto)]
 
 mod addresses;
-mod differences;
+mod difference_line;
 mod faults;
+mod faulty;
 mod feeds;
 mod gates;
 pub mod laws;
@@ -35,9 +36,10 @@ mod report;
 mod running;
 mod versions;
 
-pub use addresses::parse_address_line;
-pub use differences::write_difference;
+pub use addresses::{AddressText, parse_address_line, read_addresses};
+pub use difference_line::write_difference;
 pub use faults::RunFault;
+pub use faulty::FaultyLines;
 pub use feeds::{Feed, run_feeds};
 pub use gates::{Gate, TableGate};
 pub use lines::next_line;

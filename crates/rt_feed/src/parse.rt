@@ -67,27 +67,28 @@ enum Name {
 pub fn parse_line(line: &[u8], version: Version) -> Result<Option<Cmd>, LineFault>
     ensures { AnswersLine version line.now result }
 {
-    if says_nothing(line)? {
+    check_length(line)?;
+    if is_skipped(line) {
         return Ok(None);
     }
     let command = parse_fields(line, version)?;
     Ok(Some(command))
 }
 
-/// Whether the line is skipped. A line that is too long is E8, whatever it says.
-pub(crate) fn says_nothing(line: &[u8]) -> Result<bool, LineFault>
+/// Makes sure that the line is not too long: such a line is E8, whatever it says.
+pub(crate) fn check_length(line: &[u8]) -> Result<(), LineFault>
     ensures { MatchResult result
-        (λ skipped. (length line.now ≤ LINE_BYTES) × (skipped ≡ is_skipped line.now))
+        (λ _. length line.now ≤ LINE_BYTES)
         (λ answer. (LINE_BYTES < length line.now) × (answer ≡ LineFault.LineLength)) }
 {
     if line.len() > LINE_BYTES {
         return Err(LineFault::LineLength);
     }
-    Ok(is_skipped(line))
+    Ok(())
 }
 
 /// Whether the line is empty or a comment.
-fn is_skipped(line: &[u8]) -> bool
+pub(crate) fn is_skipped(line: &[u8]) -> bool
     ensures { result ≡ is_skipped line.now }
 {
     match line {
@@ -240,7 +241,6 @@ fn parse_prefix(field: &[u8]) -> Result<Prefix, LineFault>
         (λ prefix. field.now ≡ prefix_text prefix.base prefix.len)
         (λ answer. IsFaulty Kind.prefix field.now answer) }
 {
-    laws::one_value();
     laws::one_text();
     laws::written();
     laws::read_again();

@@ -1,6 +1,6 @@
 //! The answers to a feed's text, line by line.
 ghost use Rattle.std.specs.Prelude.{◌≡◌, ℕ, ◌<◌, ◌≤◌, List, [], ◌∷◌, ◌++◌, All, length, take, drop, OnOk, OnErr};
-ghost use Rattle.rt_feed.specs.Lines.{answer_of};
+ghost use Rattle.rt_feed.specs.Lines.{command_answer};
 ghost use Rattle.rt_feed.specs.inside.Filling.{filled};
 
 use crate::parse::LineFault;
@@ -135,15 +135,15 @@ fn fill_lines(lines: &mut [Line], first: usize, outcomes: &[Outcome])
     let mut next = 0;
     for index in first..lines.len() {
         if next < outcomes.len() && !lines[index].answer.is_fault() {
-            lines[index].answer = answer_of(outcomes[next]);
+            lines[index].answer = command_answer(outcomes[next]);
             next += 1;
         }
     }
 }
 
 /// The command's answer in a report.
-fn answer_of(outcome: Outcome) -> Answer
-    ensures { result ≡ answer_of outcome }
+fn command_answer(outcome: Outcome) -> Answer
+    ensures { result ≡ command_answer outcome }
 {
     match outcome {
         Outcome::Did(reply) => Answer::Did(reply),

@@ -9,6 +9,7 @@ use crate::outcome::Outcome;
 use rt_rib::laws::lawful_by_entry;
 use rt_rib::{AHEAD, Book, Cmd, Refused, Reply};
 use std::alloc::Global;
+use std::fmt;
 use ya_lock::Kept;
 
 /// The book that all feeds change. Its journal is lawful, each of its entries is of a feed of the table, and its trie is
@@ -97,5 +98,13 @@ impl Lent {
             let outcome = self.serve(feed, *cmd);
             out.push_reserved(outcome);
         }
+    }
+}
+
+impl fmt::Debug for Lent {
+    fn fmt<F: fmt::Write>(&self, f: &mut fmt::Formatter<F>) -> fmt::Result {
+        f.debug_struct("Lent")
+            .field("feeds", &self.feeds)
+            .finish_non_exhaustive()
     }
 }

@@ -11,6 +11,7 @@ use crate::lent::Lent;
 use crate::outcome::Outcome;
 use rt_rib::{Book, Cmd, Refused, Reply, Route};
 use std::alloc::Global;
+use std::fmt;
 use std::marker::Model;
 use std::sync::Wait;
 use ya_lock::{Pass, TreeLock};
@@ -66,6 +67,14 @@ impl FeedPass {
             unreachable!()
         };
         idle
+    }
+}
+
+impl fmt::Debug for FeedPass {
+    fn fmt<F: fmt::Write>(&self, f: &mut fmt::Formatter<F>) -> fmt::Result {
+        f.debug_struct("FeedPass")
+            .field("feed", &self.feed)
+            .finish_non_exhaustive()
     }
 }
 
@@ -211,5 +220,13 @@ impl<const L: u32> SharedRib<L> {
         }
         let Lent { book, feeds: _ } = lock.close(guard);
         book
+    }
+}
+
+impl<const L: u32> fmt::Debug for SharedRib<L> {
+    fn fmt<F: fmt::Write>(&self, f: &mut fmt::Formatter<F>) -> fmt::Result {
+        f.debug_struct("SharedRib")
+            .field("limit", &self.limit)
+            .finish_non_exhaustive()
     }
 }

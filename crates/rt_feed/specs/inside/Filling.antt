@@ -3,7 +3,7 @@ use Rattle.std.specs.Prelude.{List, [], ◌∷◌, if◌then◌else◌}
 use Rattle.rt_shared.specs.declared.outcome.Outcome.{Outcome}
 use Rattle.rt_feed.specs.declared.report.Line.{Line}
 use Rattle.rt_feed.specs.Reports.{is_fault}
-use Rattle.rt_feed.specs.Lines.{answer_of}
+use Rattle.rt_feed.specs.Lines.{command_answer}
 
 -- the lines, of which those that are no faults were given these outcomes, in order
 abbrev pub filled : List Line → List Outcome → List Line
@@ -11,4 +11,4 @@ filled [] outcomes = []
 filled (line ∷ lines) [] = line ∷ lines
 filled (line ∷ lines) (outcome ∷ outcomes) =
     if is_fault line.answer then line ∷ filled lines (outcome ∷ outcomes)
-    else record line { answer = answer_of outcome } ∷ filled lines outcomes
+    else record line { answer = command_answer outcome } ∷ filled lines outcomes

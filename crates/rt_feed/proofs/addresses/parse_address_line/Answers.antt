@@ -7,5 +7,5 @@ returns c = search rules
 pub returns-in_err-addr : goal.returns-in_err-addr
 returns-in_err-addr c = search rules
 
-pub returns-in_err-says_nothing : goal.returns-in_err-says_nothing
-returns-in_err-says_nothing c = search rules
+pub returns-in_err-check_length : goal.returns-in_err-check_length
+returns-in_err-check_length c = search rules

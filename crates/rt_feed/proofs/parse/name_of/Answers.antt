@@ -1,4 +1,4 @@
-use Rattle.rt_feed.proofs.Words.{too_short}
+use Rattle.rt_feed.proofs.CommandWords.{too_short}
 use Rattle.rt_feed.proofs.parse.name_of.Goals as goal
 
 pub returns-in_default : goal.returns-in_default

@@ -1,4 +1,4 @@
-use Rattle.rt_feed.proofs.Words.{line-from_words}
+use Rattle.rt_feed.proofs.CommandWords.{line-from_words}
 use Rattle.rt_feed.proofs.parse.parse_line.Goals as goal
 
 pub returns : goal.returns

@@ -30,7 +30,7 @@ loop-index-preserved c =
             so_far =
                 ap (λ n. take (index + 1) c.if-next-outcomes.lines ++ filled (drop (index + 1) c.if-next-outcomes.lines) (drop n outcomes)) w.next-is
                 ∙ (fills_line lines index d here c.if-next-outcomes.lines outcome (drop (c.loop-index.next + 1) outcomes) other
-                (w.lines-is ∙ ap (λ (a : Answer). set lines index (record (get_or lines index d) { answer = a })) w.answer_of.ensures)
+                (w.lines-is ∙ ap (λ (a : Answer). set lines index (record (get_or lines index d) { answer = a })) w.command_answer.ensures)
                 ∙ (ap (λ os. take index lines ++ filled (drop index lines) os) (sym more) ∙ c.loop-index.invariant.so_far));
           }
       | else-next-outcomes w ↦ elim w.else-next-outcomes.branch [

@@ -1,0 +1,121 @@
+-- A text of addresses, read line by line, and why it says one list of them.
+use Rattle.std.proofs.Common.{◌≡◌, ℕ, suc, ◌+◌, ◌<◌, ◌≤◌, List, [], ◌∷◌, ◌++◌, length, Option, Some, None, Result, Ok, Err, refl, sym, ap, ◌∙◌, arith}
+use Rattle.std.proofs.Common.{add-zero, append-nil, length-append}
+use Rattle.std.proofs.lemmas.List.{map-id}
+use Rattle.rt_cidr.specs.declared.address.Addr.{Addr}
+use Rattle.rt_feed.specs.declared.parse.LineFault.{LineFault}
+use Rattle.rt_feed.specs.declared.faulty.FaultyLines.{FaultyLines}
+use Rattle.rt_feed.specs.Lines.{CutsLine, LinesSay}
+use Rattle.rt_feed.specs.Laws.{AddressLineHasOneAnswer, AddressTextHasOneReading}
+use Rattle.rt_feed.specs.Addresses.{AnswersAddressLine, SaysAddresses, addresses_said, faults_said, faulty_lines}
+use Rattle.rt_feed.specs.inside.ReadAddresses.{AreSaid, AreRead, PutsLine}
+use Rattle.rt_feed.proofs.Saying.{say-append, length-cut, length-said}
+use Rattle.rt_feed.proofs.OneCut.{say_alike}
+
+-- what a line says
+abbrev Says : Type 0
+Says = Result (Option Addr) LineFault
+
+-- the addresses of more lines after some
+addresses_said-append : (says more : List Says) → addresses_said (says ++ more) ≡ addresses_said says ++ addresses_said more
+addresses_said-append [] more = refl
+addresses_said-append (Ok (Some addr) ∷ says) more = ap (λ (l : List Addr). addr ∷ l) (addresses_said-append says more)
+addresses_said-append (Ok None ∷ says) more = addresses_said-append says more
+addresses_said-append (Err fault ∷ says) more = addresses_said-append says more
+
+-- and their faulty ones
+faults_said-append : (number : ℕ) (says more : List Says)
+    → faults_said number (says ++ more) ≡ faults_said number says ++ faults_said (number + length says) more
+faults_said-append number [] more = rw add-zero refl
+faults_said-append number (Ok addr ∷ says) more =
+    let next : number + 1 + length says ≡ number + suc (length says) = omega arith in
+    faults_said-append (number + 1) says more ∙ ap (λ n. faults_said (number + 1) says ++ faults_said n more) next
+faults_said-append number (Err fault ∷ says) more =
+    let next : number + 1 + length says ≡ number + suc (length says) = omega arith in
+    ap (λ (l : List (ℕ × LineFault)). (number, fault) ∷ l)
+    (faults_said-append (number + 1) says more ∙ ap (λ n. faults_said (number + 1) says ++ faults_said n more) next)
+
+-- no more lines are faulty than there are
+faults-few : (number : ℕ) (says : List Says) → length (faults_said number says) ≤ length says
+faults-few number [] = omega arith
+faults-few number (Ok addr ∷ says) = omega (arith, faults-few (number + 1) says)
+faults-few number (Err fault ∷ says) = omega (arith, faults-few (number + 1) says)
+
+-- so many they are
+count-lines : (faults : List (ℕ × LineFault)) → (faulty_lines faults).count ≡ length faults
+count-lines [] = refl
+count-lines (one ∷ others) = refl
+
+pub counted-below : (text rest : List ℕ) (number : ℕ) (addresses : List Addr) (faulty : FaultyLines) → AreRead text rest number addresses faulty
+    → faulty.count < number + 1
+counted-below text rest number addresses faulty read =
+    omega (arith, read.counted, faults-few 1 read.says, count-lines (faults_said 1 read.says), ap (λ (f : FaultyLines). f.count) read.are_said.faults)
+
+-- at first no line is read
+pub none_read : (text : List ℕ) (addresses : List Addr) (faulty : FaultyLines) → addresses ≡ [] → faulty ≡ faulty_lines [] → AreRead text text 0 addresses faulty
+none_read text addresses faulty no_address no_fault = record {
+  says = [];
+  lines = refl;
+  counted = refl;
+  are_said = record { said = no_address; faults = no_fault };
+}
+
+-- one line more that is an address
+pub said_address : (says : List Says) (old new : List Addr) (faulty faulty' : FaultyLines) (addr : Addr) → AreSaid says old faulty
+    → new ≡ old ++ addr ∷ [] → faulty' ≡ faulty → AreSaid (says ++ Ok (Some addr) ∷ []) new faulty'
+said_address says old new faulty faulty' addr are pushed same = record {
+  said = pushed ∙ (ap (λ (l : List Addr). l ++ addr ∷ []) are.said ∙ sym (addresses_said-append says (Ok (Some addr) ∷ [])));
+  faults = same ∙ (are.faults ∙ ap faulty_lines (sym (faults_said-append 1 says (Ok (Some addr) ∷ []) ∙ append-nil (faults_said 1 says))));
+}
+
+-- one that is skipped
+pub said_nothing : (says : List Says) (old new : List Addr) (faulty faulty' : FaultyLines) → AreSaid says old faulty
+    → new ≡ old → faulty' ≡ faulty → AreSaid (says ++ Ok None ∷ []) new faulty'
+said_nothing says old new faulty faulty' are kept same = record {
+  said = kept ∙ (are.said ∙ sym (addresses_said-append says (Ok None ∷ []) ∙ append-nil (addresses_said says)));
+  faults = same ∙ (are.faults ∙ ap faulty_lines (sym (faults_said-append 1 says (Ok None ∷ []) ∙ append-nil (faults_said 1 says))));
+}
+
+-- one that is faulty
+pub said_fault : (says : List Says) (number : ℕ) (old new : List Addr) (faulty faulty' : FaultyLines) (fault : LineFault) → AreSaid says old faulty
+    → number ≡ length says + 1 → new ≡ old
+    → ((faults : List (ℕ × LineFault)) → faulty ≡ faulty_lines faults → faulty' ≡ faulty_lines (faults ++ (number, fault) ∷ []))
+    → AreSaid (says ++ Err fault ∷ []) new faulty'
+said_fault says number old new faulty faulty' fault are numbered kept put =
+    let is : number ≡ 1 + length says = omega (arith, numbered) in
+    record {
+      said = kept ∙ (are.said ∙ sym (addresses_said-append says (Err fault ∷ []) ∙ append-nil (addresses_said says)));
+      faults = put (faults_said 1 says) are.faults
+          ∙ (ap (λ n. faulty_lines (faults_said 1 says ++ (n, fault) ∷ [])) is ∙ ap faulty_lines (sym (faults_said-append 1 says (Err fault ∷ []))));
+    }
+
+-- the line after those that were read is taken in
+pub read_more : (text rest line next : List ℕ) (number : ℕ) (old new : List Addr) (faulty faulty' : FaultyLines) → AreRead text rest number old faulty
+    → CutsLine rest line next → PutsLine (number + 1) line old faulty new faulty'
+    → AreRead text next (number + 1) new faulty'
+read_more text rest line next number old new faulty faulty' read cut put =
+    let more = put read.says (omega (arith, read.counted)) read.are_said in
+    record {
+      says = read.says ++ more.0 ∷ [];
+      lines = say-append AnswersAddressLine text rest next read.says (more.0 ∷ []) read.lines (line, next, cut, more.1, refl);
+      counted = omega (arith, read.counted, length-append read.says (more.0 ∷ []));
+      are_said = more.2;
+    }
+
+-- the lines read are no more than the text's bytes
+pub numbered-within : (text rest : List ℕ) (number : ℕ) (addresses : List Addr) (faulty : FaultyLines) → AreRead text rest number addresses faulty
+    → number + length rest ≤ length text
+numbered-within text rest number addresses faulty read =
+    omega (arith, read.counted, length-said AnswersAddressLine text rest read.says read.lines)
+
+-- at the end all are read
+pub all_read : (text : List ℕ) (number : ℕ) (addresses : List Addr) (faulty : FaultyLines) → AreRead text [] number addresses faulty
+    → SaysAddresses text addresses faulty
+all_read text number addresses faulty read = record { says = read.says; lines = read.lines; said = read.are_said.said; faults = read.are_said.faults }
+
+-- a line has one answer, and so has the text
+pub one_address_text : AddressLineHasOneAnswer → AddressTextHasOneReading
+one_address_text once text addresses others faulty other_faulty one two =
+    let same : one.says ≡ two.says =
+    sym (map-id one.says) ∙ (say_alike AnswersAddressLine (λ says. says) once text one.says two.says one.lines two.lines ∙ map-id two.says) in
+    (one.said ∙ (ap addresses_said same ∙ sym two.said), one.faults ∙ (ap (λ says. faulty_lines (faults_said 1 says)) same ∙ sym two.faults))
