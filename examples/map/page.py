@@ -1,0 +1,140 @@
+"""Writes a map as one HTML page, and tells what can't be done in one line."""
+import argparse
+import array
+import base64
+import errno
+import gc
+import html
+import itertools
+import json
+import operator
+import os
+import pathlib
+import re
+import sys
+import zlib
+
+import chart
+from reading import Refused
+
+NAME = os.path.basename(sys.argv[0])
+TEMPLATE = pathlib.Path(__file__).resolve().parent / "page.html"
+# the dots of a map have 2^ORDER in a row: of a table finer ones than its cells, of a comparison one each, so that the
+# least change is seen
+TABLE_ORDER, COMPARISON_ORDER = 10, 8
+# of zlib's levels: the next one takes twice the time for a twentieth less
+LEVEL = 5
+
+
+def steps(firsts):
+    """How far each range begins behind the one before: numbers that are more alike than addresses."""
+    return array.array("I", map(operator.sub, firsts, itertools.chain((0,), firsts)))
+
+
+def columns(made, colourings):
+    """What the page holds, by name: those of four bytes first, as their places have to be multiples of four."""
+    four, one = {"step": steps(made.firsts), "address": made.hops.addresses}, {}
+    for side, answers in made.sides.items():
+        four |= {f"{side}hop": answers.hops}
+        if made.are_routes:
+            four |= {f"{side}pref": answers.prefs}
+            one |= {f"{side}length": answers.lengths, f"{side}feed": answers.feeds}
+    for colouring in colourings:
+        one[f"class by {colouring.name}"] = colouring.classes
+    return four | one
+
+
+def bytes_of(column):
+    if sys.byteorder == "big":
+        column = column[:]
+        column.byteswap()
+    return column.tobytes()
+
+
+def for_script(value):
+    """JSON that may stand in an element of HTML."""
+    return json.dumps(value, separators=(",", ":")).replace("<", "\\u003c")
+
+
+def page(title, kind, order, held, colourings):
+    """The page's text."""
+    about = {
+        "kind": kind,
+        "order": order,
+        "ways": chart.WAYS,
+        "columns": [[name, column.itemsize, len(column)] for name, column in held.items()],
+        "colourings": [vars(colouring) | {"classes": f"class by {colouring.name}"} for colouring in colourings],
+    }
+    packed = zlib.compress(b"".join(map(bytes_of, held.values())), LEVEL)
+    parts = {
+        "title": html.escape(title),
+        "style": chart.style(),
+        "about": for_script(about),
+        "data": base64.b64encode(packed).decode(),
+    }
+    return re.sub(r"\{\{(\w+)\}\}", lambda found: parts[found[1]], TEMPLATE.read_text(encoding="utf-8"))
+
+
+def of_table(table, title):
+    colourings = chart.of_table(table)
+    title = title or f"Prefixes of the table: {table.rows:,}"
+    return page(title, "table", TABLE_ORDER, columns(table, colourings), colourings)
+
+
+def of_comparison(made, title):
+    changes = chart.changes_of(made)
+    colourings = chart.of_comparison(made, changes)
+    held = columns(made, colourings) | {"change": changes}
+    title = title or f"Ranges answered otherwise: {made.rows:,}"
+    return page(title, "comparison", COMPARISON_ORDER, held, colourings)
+
+
+def run(documentation, read, write, empty):
+    """Runs a script; what it can't do is one line on standard error and status 1. `empty` is what no row says."""
+    parser = argparse.ArgumentParser(
+        description=documentation, formatter_class=argparse.RawDescriptionHelpFormatter, allow_abbrev=False)
+    parser.add_argument("file", nargs="?", help="the file to read; standard input where none is named")
+    parser.add_argument("--title", help="what stands above the map")
+    arguments = parser.parse_args()
+    name = arguments.file or "standard input"
+    # nothing that is kept refers to itself, so there is nothing for the collector of cycles to find
+    gc.disable()
+    try:
+        made = read_from(arguments.file, read)
+        if not made.rows:
+            say(f"{NAME}: {name}: no row: {empty}")
+        write_out(write(made, arguments.title))
+        return
+    except Refused as refused:
+        said = f"{NAME}: {name}: {refused}"
+    except OSError as error:
+        said = f"{NAME}: standard output: {error.strerror}"
+    except MemoryError:
+        said = f"{NAME}: the memory is not enough for this input"
+    except KeyboardInterrupt:
+        sys.exit(130)
+    # what is left to be flushed has nobody to read it
+    sys.stdout = None
+    sys.exit(said)
+
+
+def read_from(file, read):
+    try:
+        with open(file or 0, "rb") as stream:
+            return read(stream)
+    except OSError as error:
+        raise Refused(error.strerror) from None
+
+
+def write_out(text):
+    if sys.stdout is None:
+        raise OSError(errno.EBADF, "it is closed")
+    # words of the command line may hold bytes that are no text
+    sys.stdout.buffer.write(text.encode("utf-8", errors="replace"))
+    sys.stdout.flush()
+
+
+def say(text):
+    """A line on standard error, if that is open: else `print` would write it to standard output."""
+    if sys.stderr is not None:
+        print(text, file=sys.stderr)
