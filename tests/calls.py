@@ -6,6 +6,8 @@ one of these calls (tools/check).
 import collections
 import pathlib
 
+from table_model import E3
+
 EXAMPLES = pathlib.Path(__file__).resolve().parent.parent / "examples"
 
 # The words without the program's name; the status, standard output and standard error.
@@ -199,9 +201,9 @@ yarib: again.feed: replaces and withdraws of a prefix not there: 2
     call("lookup --addresses odd.txt equal.feed", """\
 10.0.0.1 route 10.0.0.0/8 feed 1 pref 30 via 192.0.2.5
 10.0.0.3 route 10.0.0.0/8 feed 1 pref 30 via 192.0.2.5
-""", 2, "yarib: odd.txt: faulty lines: 2, the first is line 2: E3: the field is no prefix or address (the CR of CRLF is part of it)\n"),
+""", 2, f"yarib: odd.txt: faulty lines: 2, the first is line 2: {E3}\n"),
     call("lookup --addresses cr.txt none.feed",
-         "", 2, "yarib: cr.txt: faulty lines: 1, the first is line 1: E3: the field is no prefix or address (the CR of CRLF is part of it)\n"),
+         "", 2, f"yarib: cr.txt: faulty lines: 1, the first is line 1: {E3}\n"),
     call("lookup --addresses no.txt equal.feed", ""),
     call("lookup --address 10.0.0.1 none.feed", "10.0.0.1 no route\n"),
     call("table none.feed", ""),

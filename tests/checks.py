@@ -1,21 +1,95 @@
-"""What the scripts share that judge the program: a call, what is noted where something else was found, and the end."""
+"""What the scripts share that judge the program: their command line and their cases, a call, and what is noted where something
+else was found."""
+import argparse
+import inspect
+import os
 import pathlib
 import re
 import subprocess
 import sys
+import tempfile
+import threading
+import traceback
 
 TOP = pathlib.Path(__file__).resolve().parent.parent
 # What the launchers set before the program starts, as ./yarib's own line says it: one arena of large pages for all threads.
 LAUNCHED = {"GLIBC_TUNABLES": re.search(r'^export GLIBC_TUNABLES="(.*?)\$', (TOP / "yarib").read_text(), re.M)[1]}
-failures = []
+
+failures = []  # of each the case's name and what was wrong
+of_thread = threading.local()  # `case` is the name of the case that runs on it
 
 
-def built(words):
-    """The built program that the words name, or else ./yarib's, which is built first where a source is newer."""
-    if words:
-        return pathlib.Path(words[0]).resolve()
+class Program:
+    """A program that is called with words: `program("run", "one.feed")`. In a list of words it is its own path."""
+
+    def __init__(self, path):
+        self.path = pathlib.Path(path)
+
+    def __fspath__(self):
+        return str(self.path)
+
+    def __call__(self, *words, **how):
+        return run([self.path, *words], **how)
+
+
+def program(word):
+    """A built program that a command line names."""
+    path = pathlib.Path(word).resolve()
+    if not os.access(path, os.X_OK) or path.is_dir():
+        raise argparse.ArgumentTypeError(f"no program: {word}")
+    return Program(path)
+
+
+def like(cases):
+    """The names of the script's functions that take what its cases take, and so are cases too."""
+    takes = {tuple(inspect.signature(case).parameters) for case in cases if inspect.isfunction(case)}
+    own = inspect.getmembers(sys.modules["__main__"], inspect.isfunction)
+    return [name for name, one in own if one.__module__ == "__main__" and tuple(inspect.signature(one).parameters) in takes]
+
+
+def chosen(about, cases, takes=("program",), flags=()):
+    """A script's command line: the built programs that it takes, and those of its cases, by name, that are to be run."""
+    reader = argparse.ArgumentParser(description=about, formatter_class=argparse.RawDescriptionHelpFormatter)
+    for name in takes:
+        reader.add_argument(name, nargs="?", type=program, help="a built program, which is else built first")
+    reader.add_argument("cases", nargs="*", metavar="CASE", help="a case; where none is named all are run")
+    for flag in ("--list", *flags):
+        reader.add_argument(flag, action="store_true")
+    words = reader.parse_intermixed_args()
+    known = {case.__name__: case for case in cases}
+    if forgotten := sorted(set(like(cases)) - set(known)):
+        reader.error(f"{', '.join(forgotten)} would be a case, and isn't in the list of cases")
+    if words.list:
+        print("\n".join(known))
+        sys.exit()
+    if unknown := [name for name in words.cases if name not in known]:
+        reader.error(f"no case {', '.join(unknown)}; --list names them")
+    words.cases = [known[name] for name in words.cases or known]
+    if "program" in takes:
+        words.program = words.program or built()
+    return words
+
+
+def built():
+    """./yarib's program, which is built first where a source is newer."""
     subprocess.run([TOP / "yarib", "--version"], check=True, stdout=subprocess.DEVNULL)
-    return TOP / "out" / "yarib"
+    return Program(TOP / "out" / "yarib")
+
+
+def compiled(folder, source, *options):
+    """What gcc makes of a source in C, of this repository, in the folder: a program, or with -shared what is loaded before one."""
+    made = folder / pathlib.Path(source).stem
+    subprocess.run(["gcc", "-O2", *options, "-o", made, TOP / source], check=True)
+    return made
+
+
+def built_benches(*words):
+    """The program of crates/benches, which is built first and run with these words."""
+    crate = TOP / "crates" / "benches"
+    ended = subprocess.run(["rt", "run", "--", *words], cwd=crate, capture_output=True, text=True)
+    if ended.returncode != 0 or not (crate / "out" / "benches").exists():
+        sys.exit(f"{sys.argv[0]}: crates/benches was not built\n" + ended.stdout[-2000:] + ended.stderr[-2000:])
+    return crate / "out" / "benches"
 
 
 def run(words, **how):
@@ -33,10 +107,15 @@ def text_of(written):
     return (written or b"").decode(errors="backslashreplace")
 
 
+def note(what):
+    """Notes that something was wrong, of the case that runs."""
+    failures.append((getattr(of_thread, "case", "no case"), what))
+
+
 def expect(what, found, wanted):
     """Notes where something else was found."""
     if found != wanted:
-        failures.append(what)
+        note(what)
         print(f"WRONG {what}: {found!r} in place of {wanted!r}", flush=True)
 
 
@@ -49,13 +128,30 @@ def compare(what, ended, status, out, err=""):
     expect(what, (ended[0], ended[2], at + 1, found[at : at + 1]), (status, err, at + 1, wanted[at : at + 1]))
 
 
-def run_each(groups, *given):
-    """Runs each group of rows, and says when it is done."""
-    for rows in groups:
-        rows(*given)
-        print(f"{rows.__name__.replace('_', ' ')}: done", flush=True)
+def run_case(case, *given):
+    """Runs a case, and says how it ended; where it can't go on, that is noted."""
+    of_thread.case = case.__name__
+    try:
+        case(*given)
+    except Exception:
+        note("it can't go on")
+        traceback.print_exc()
+    wrong = sum(name == case.__name__ for name, _ in failures)
+    print(f"{case.__name__}: {f'{wrong} WRONG' if wrong else 'done'}", flush=True)
+
+
+def run_each(cases, *given, files={}):
+    """Runs each case in a folder of its own, in which these files stand."""
+    for case in cases:
+        with tempfile.TemporaryDirectory() as folder:
+            os.chdir(folder)
+            for name, text in files.items():
+                pathlib.Path(name).write_text(text)
+            run_case(case, *given)
+            os.chdir("/")
 
 
 def end():
-    """Ends with a fault where something else was found."""
-    sys.exit(f"{len(failures)} wrong" if failures else 0)
+    """Ends with a fault where something else was found, and names the cases."""
+    cases = ", ".join(dict.fromkeys(name for name, _ in failures))
+    sys.exit(f"{len(failures)} wrong, of {cases}" if failures else 0)

@@ -1,12 +1,13 @@
 #!/usr/bin/env python3
 """Calls the program by its words, and compares the status and both outputs of each call with what they have to be.
 
-Usage: tests/command_line.py [YARIB]. Builds ./yarib first unless a built program is named. Linux, python3.
+tests/command_line.py [PROGRAM [CASE..]], or --list for the names of the cases. Linux, python3.
 
 Outputs of the program's own are compared whole, to the byte; tests/calls.py has those that stand by themselves. Of a text of the
 library that reads the command line, no more is wanted than that it is a fault that names the word; the help pages are compared
 with those of tests/help. A replay is compared with a model of the tree, written from docs/FORMATS.md. How many commands are asked
-at once is seen by another feed: its `dump`s change only where a batch of the one and a batch of the other end.
+at once is seen by another feed: its `dump`s change only where a batch of the one and a batch of the other end. In each case's
+folder stand row.feed, empty.feed and faulty.feed.
 """
 import math
 import os
@@ -16,16 +17,15 @@ import random
 import re
 import select
 import subprocess
-import sys
 import tempfile
 import textwrap
 import time
 import tty
 
 import calls
-from checks import TOP, built, compare, end, expect, run, run_each
+from checks import TOP, Program, chosen, compare, end, expect, run_each
 from hostile import ROW, ROW_OUT, close_all
-from table_model import dotted
+from table_model import E1, E3, E8, Table, differences_text, dotted
 
 CANNOT_WRITE = (6, "", "yarib: cannot write\n")
 
@@ -50,11 +50,10 @@ def misused(what, found, *parts):
 
 def make(yarib, texts, listed):
     """Makes each call where these files stand, by the program's name, and compares how it ends."""
-    with tempfile.TemporaryDirectory() as folder:
-        for name, text in texts.items():
-            pathlib.Path(folder, name).write_text(text)
-        for words, ending in listed:
-            expect(" ".join(words), run([yarib, *words], cwd=folder), ending)
+    for name, text in texts.items():
+        pathlib.Path(name).write_text(text)
+    for words, ending in listed:
+        expect(" ".join(words), yarib(*words), ending)
 
 
 # Fails where each file is taken for one for which memory was refused, or for a misuse.
@@ -88,7 +87,7 @@ def file_order(yarib):
     for order in ((1, 2, 3), (3, 1, 2), (2, 3, 1), (3, 2, 1)):
         names = [("one", "two", "three")[hop - 1] + ".feed" for hop in order]
         routes = [route(order.index(hop) + 1, f"10.{hop}.0.0/16", 7, f"192.0.2.{hop}") for hop in (1, 2, 3)]
-        expect(f"the files {names}", run([yarib, "run", *names]), (0, "1:1 added\n2:1 added\n3:1 added\n" + table(*routes), ""))
+        expect(f"the files {names}", yarib("run", *names), (0, "1:1 added\n2:1 added\n3:1 added\n" + table(*routes), ""))
 
 
 # Fails where 64 files are too many: `64 files`.
@@ -101,27 +100,27 @@ def many_files(yarib):
     for count in (63, 64):
         added = "".join(f"{feed}:1 added\n" for feed in range(1, count + 1))
         routes = [route(feed, pref=100 - feed, hop=f"192.0.2.{feed}") for feed in range(count, 0, -1)]
-        expect(f"{count} files", run([yarib, "run", *names[:count]]), (0, added + table(*routes), ""))
+        expect(f"{count} files", yarib("run", *names[:count]), (0, added + table(*routes), ""))
     too_many = (3, "", "yarib: more than 64 files\n")
-    expect("65 files", run([yarib, "run", *names]), too_many)
-    expect("65 files, the first missing", run([yarib, "run", "missing", *names[:64]]), too_many)
+    expect("65 files", yarib("run", *names), too_many)
+    expect("65 files, the first missing", yarib("run", "missing", *names[:64]), too_many)
 
 
 # Fails where the last file is named, not the first that can't be read: `two missing files`.
 def unreadable(yarib):
     os.mkdir("folder")
     cannot = lambda name: (4, "", f"yarib: cannot read {name}\n")
-    expect("two missing files", run([yarib, "run", "no", "nor"]), cannot("no"))
-    expect("two missing files, the other first", run([yarib, "run", "nor", "no"]), cannot("nor"))
-    expect("a missing file behind a readable one", run([yarib, "run", "row.feed", "no", "nor"]), cannot("no"))
-    expect("a faulty file and a missing one", run([yarib, "run", "faulty.feed", "no"]), cannot("no"))
-    expect("a folder", run([yarib, "run", "folder"]), cannot("folder"))
-    expect("a folder before a missing file", run([yarib, "run", "row.feed", "folder", "no"]), cannot("folder"))
-    expect("a file as a folder", run([yarib, "run", "row.feed/x"]), cannot("row.feed/x"))
-    expect("the empty name", run([yarib, "run", ""]), cannot(""))
+    expect("two missing files", yarib("run", "no", "nor"), cannot("no"))
+    expect("two missing files, the other first", yarib("run", "nor", "no"), cannot("nor"))
+    expect("a missing file behind a readable one", yarib("run", "row.feed", "no", "nor"), cannot("no"))
+    expect("a faulty file and a missing one", yarib("run", "faulty.feed", "no"), cannot("no"))
+    expect("a folder", yarib("run", "folder"), cannot("folder"))
+    expect("a folder before a missing file", yarib("run", "row.feed", "folder", "no"), cannot("folder"))
+    expect("a file as a folder", yarib("run", "row.feed/x"), cannot("row.feed/x"))
+    expect("the empty name", yarib("run", ""), cannot(""))
     for name in ("no such file", "né.feed", "x" * 300, "/no/such/file", "-", "it's $HOME"):
-        expect(f"the missing file {name[:20]!r}", run([yarib, "run", name]), cannot(name))
-    expect("missing behind --", run([yarib, "run", "--", "--limit"]), cannot("--limit"))
+        expect(f"the missing file {name[:20]!r}", yarib("run", name), cannot(name))
+    expect("missing behind --", yarib("run", "--", "--limit"), cannot("--limit"))
 
 
 # Fails where a name of 300 bytes can't be read: the file.
@@ -130,16 +129,16 @@ def names(yarib):
     os.mkdir("d" * 150)
     for name in ("a name.feed", "é.feed", " ", "it's $HOME", "ＡＢＣ", long, os.path.abspath("absolute.feed")):
         pathlib.Path(name).write_text(ROW)
-        expect(f"the file {name[:20]!r}", run([yarib, "run", name]), (0, ROW_OUT, ""))
+        expect(f"the file {name[:20]!r}", yarib("run", name), (0, ROW_OUT, ""))
     for name in ("-", "--", "--limit", "-h"):
         pathlib.Path(name).write_text(ROW)
-        expect(f"the file {name} behind --", run([yarib, "run", "--", name]), (0, ROW_OUT, ""))
-    expect("the file - is no standard input", run([yarib, "run", "-"], input=b"frob\n"), (0, ROW_OUT, ""))
-    expect("-- behind the file", run([yarib, "run", "row.feed", "--"]), (0, ROW_OUT, ""))
-    misused("-- alone", run([yarib, "run", "--"]), "<FILE>")
+        expect(f"the file {name} behind --", yarib("run", "--", name), (0, ROW_OUT, ""))
+    expect("the file - is no standard input", yarib("run", "-", input=b"frob\n"), (0, ROW_OUT, ""))
+    expect("-- behind the file", yarib("run", "row.feed", "--"), (0, ROW_OUT, ""))
+    misused("-- alone", yarib("run", "--"), "<FILE>")
     no_text = (3, "", "yarib: arguments are not UTF-8\n")
     for words in ([b"run", b"\xff.feed"], [b"run", b"row.feed", b"\xc3"], [b"\x80"], [b"replay", b"--levels", b"\xf0\x9f"]):
-        expect(f"words that are no text: {words}", run([yarib, *words]), no_text)
+        expect(f"words that are no text: {words}", yarib(*words), no_text)
 
 
 def texts(yarib):
@@ -160,9 +159,9 @@ def texts(yarib):
     ]
     for text, status, out in cases:
         pathlib.Path("text.feed").write_bytes(text.encode())
-        expect(f"the text {text!r}", run([yarib, "run", "text.feed"]), (status, out, ""))
+        expect(f"the text {text!r}", yarib("run", "text.feed"), (status, out, ""))
     out = "1:1 added\n3:1 added\n" + table(route(1), route(3))
-    expect("an empty file between two", run([yarib, "run", "row.feed", "empty.feed", "row.feed"]), (0, out, ""))
+    expect("an empty file between two", yarib("run", "row.feed", "empty.feed", "row.feed"), (0, out, ""))
 
 
 # Numbers
@@ -178,19 +177,19 @@ def limits(yarib):
         routes = [route(feed, f"10.{k}.0.0/16", 1) for k in range(1, kept + 1) for feed in (1, 2)]
         words = [] if limit is None else ["--limit", str(limit)]
         for more in ([], ["--batch", "3"], ["--batch", "1024"]):
-            ended = run([yarib, "run", *words, *more, "four.feed", "four.feed"])
+            ended = yarib("run", *words, *more, "four.feed", "four.feed")
             expect(f"{words} {more}", ended, (0, answers(1) + answers(2) + table(*routes), ""))
-            ended = run([yarib, "run", "four.feed", *more, "four.feed", *words])
+            ended = yarib("run", "four.feed", *more, "four.feed", *words)
             expect(f"{words} {more} behind the files", ended, (0, answers(1) + answers(2) + table(*routes), ""))
     for limit in ("0", "1000001", "4294967297", "18446744073709551617", "-1", "x", "", "1.0", "0x1", "1 "):
-        misused(f"--limit {limit!r}", run([yarib, "run", f"--limit={limit}", "row.feed"]), f"'{limit}'" if limit else "", "--limit")
+        misused(f"--limit {limit!r}", yarib("run", f"--limit={limit}", "row.feed"), f"'{limit}'" if limit else "", "--limit")
     for batch in ("0", "1025", "4294967297", "18446744073709551617", "-1", "x", ""):
-        misused(f"--batch {batch!r}", run([yarib, "run", f"--batch={batch}", "row.feed"]), f"'{batch}'" if batch else "", "--batch")
+        misused(f"--batch {batch!r}", yarib("run", f"--batch={batch}", "row.feed"), f"'{batch}'" if batch else "", "--batch")
     for words in (["--limit", "0"], ["--limit", "1000001"], ["--limit", "x"], ["--batch", "0"], ["--batch", "1025"]):
-        misused(f"{words}", run([yarib, "run", *words, "row.feed"]), f"'{words[1]}'", words[0])
-    misused("--limit without a number", run([yarib, "run", "--limit"]), "--limit")
-    misused("--limit without a number, before --batch", run([yarib, "run", "--limit", "--batch", "1", "row.feed"]), "--limit")
-    misused("--limit before run", run([yarib, "--limit", "1", "run", "row.feed"]), "--limit")
+        misused(f"{words}", yarib("run", *words, "row.feed"), f"'{words[1]}'", words[0])
+    misused("--limit without a number", yarib("run", "--limit"), "--limit")
+    misused("--limit without a number, before --batch", yarib("run", "--limit", "--batch", "1", "row.feed"), "--limit")
+    misused("--limit before run", yarib("--limit", "1", "run", "row.feed"), "--limit")
 
 
 # Fails where 32 commands are asked for `--batch 64`, or 512 for `--batch 1024`: `32 in place of 64`, `512 in place of
@@ -213,7 +212,7 @@ def batch_seen(yarib, words, batch):
     added = [f"1:{line} added" for line in range(1, count + 1)]
     divides = 0
     for _ in range(40):
-        status, out, err = run([yarib, "run", *words, "adds.feed", "dumps.feed"])
+        status, out, err = yarib("run", *words, "adds.feed", "dumps.feed")
         lines = out.splitlines()
         if (status, err, lines[:count]) != (0, "", added):
             return "a route was not added"
@@ -230,11 +229,11 @@ def batch_seen(yarib, words, batch):
 def twice(yarib):
     for first, second in (("1", "2"), ("2", "2")):
         for name in ("--limit", "--batch"):
-            misused(f"{name} twice", run([yarib, "run", name, first, name, second, "row.feed"]), name)
-            misused(f"{name} before and behind", run([yarib, "run", name, first, "row.feed", name, second]), name)
-        misused("--levels twice", run([yarib, "replay", "--levels", first, "--levels", second, "0"]), "--levels")
+            misused(f"{name} twice", yarib("run", name, first, name, second, "row.feed"), name)
+            misused(f"{name} before and behind", yarib("run", name, first, "row.feed", name, second), name)
+        misused("--levels twice", yarib("replay", "--levels", first, "--levels", second, "0"), "--levels")
     for second in ("hop", "route"):
-        misused(f"--by twice: {second}", run([yarib, "diff", "--by", "hop", "--by", second, "row.feed", "--", "row.feed"]), "--by")
+        misused(f"--by twice: {second}", yarib("diff", "--by", "hop", "--by", second, "row.feed", "--", "row.feed"), "--by")
 
 
 # Replays
@@ -324,7 +323,7 @@ class Tree:
 def replays(yarib):
     def compare(levels, picks, *shown):
         words = list(shown or map(str, picks))
-        ended = run([yarib, "replay", "--levels", str(levels), *words])
+        ended = yarib("replay", "--levels", str(levels), *words)
         expect(f"a replay of {levels} levels: {' '.join(words)[:60]}", ended, (0, Tree(levels).text(picks), ""))
 
     for levels in range(1, 7):
@@ -333,7 +332,8 @@ def replays(yarib):
         compare(levels, [0] * 3 + [last] * 3 + [0])
         compare(levels, [])
         compare(levels, [7 % 2**levels] * 13)
-        expect(f"no place of {levels} levels", run([yarib, "replay", "--levels", str(levels), "0", str(last + 1)]), (3, "", "yarib: fault P1\n"))
+        ended = yarib("replay", "--levels", str(levels), "0", str(last + 1))
+        expect(f"no place of {levels} levels", ended, (3, "", "yarib: fault P1\n"))
         choice = random.Random(levels)
         compare(levels, [choice.randrange(2**levels) for _ in range(300)])
         compare(levels, [choice.choice((0, last)) for _ in range(300)])
@@ -343,17 +343,17 @@ def replays(yarib):
     compare(6, [choice.randrange(64) for _ in range(1000)])
     compare(2, [choice.randrange(4) for _ in range(1000)])
     for pick in ("64", "99", "100", "200", "255"):
-        expect(f"the pick {pick}", run([yarib, "replay", "--levels", "6", "63", pick]), (3, "", "yarib: fault P1\n"))
+        expect(f"the pick {pick}", yarib("replay", "--levels", "6", "63", pick), (3, "", "yarib: fault P1\n"))
     for pick in ("256", "1000", "-1", "x", "", "1.5", "18446744073709551616"):
-        misused(f"the pick {pick!r}", run([yarib, "replay", "--levels", "6", "--", "63", pick]), f"'{pick}'")
+        misused(f"the pick {pick!r}", yarib("replay", "--levels", "6", "--", "63", pick), f"'{pick}'")
     for levels in ("0", "7", "8", "64", "255"):
         for picks in ([], ["0"], ["200"]):
-            expect(f"{levels} levels, {picks}", run([yarib, "replay", "--levels", levels, *picks]), (3, "", "yarib: fault P2\n"))
+            expect(f"{levels} levels, {picks}", yarib("replay", "--levels", levels, *picks), (3, "", "yarib: fault P2\n"))
     for levels in ("256", "-1", "x", "", "4294967297"):
-        misused(f"{levels!r} levels", run([yarib, "replay", f"--levels={levels}", "0"]), f"'{levels}'" if levels else "", "--levels")
-    misused("no levels", run([yarib, "replay", "0"]), "--levels")
-    misused("no levels and no picks", run([yarib, "replay"]), "--levels")
-    misused("the pick -1 without --", run([yarib, "replay", "--levels", "1", "-1"]), "'-1'")
+        misused(f"{levels!r} levels", yarib("replay", f"--levels={levels}", "0"), f"'{levels}'" if levels else "", "--levels")
+    misused("no levels", yarib("replay", "0"), "--levels")
+    misused("no levels and no picks", yarib("replay"), "--levels")
+    misused("the pick -1 without --", yarib("replay", "--levels", "1", "-1"), "'-1'")
 
 
 # Help, version and what is no command
@@ -363,17 +363,19 @@ def replays(yarib):
 def pages(yarib):
     page = lambda name: (TOP / "tests" / "help" / f"{name}.txt").read_text()
     for words in (["--help"], ["-h"], ["help"]):
-        expect(f"{words}", run([yarib, *words]), (0, page("yarib"), ""))
+        expect(f"{words}", yarib(*words), (0, page("yarib"), ""))
     for name in ("run", "lookup", "table", "diff", "replay"):
         for words in ([name, "--help"], [name, "-h"], ["help", name], [name, "--help", "row.feed"]):
-            expect(f"{words}", run([yarib, *words]), (0, page(name), ""))
+            expect(f"{words}", yarib(*words), (0, page(name), ""))
     for words in (["--version"], ["-V"]):
-        expect(f"{words}", run([yarib, *words]), (0, "yarib 0.1.0\n", ""))
-    expect("no word", run([yarib]), (3, "", page("yarib")))
-    for words, part in ((["walk"], "'walk'"), (["help", "walk"], "'walk'"), (["row.feed"], "'row.feed'"), (["run"], "<FILE>"),
-                        (["run", "--frob", "row.feed"], "'--frob'"), (["replay", "--limit", "1"], "'--limit'"), ([""], "''"),
-                        (["RUN", "row.feed"], "'RUN'"), (["--frob"], "'--frob'"), (["run", "--levels", "1", "row.feed"], "'--levels'")):
-        misused(f"{words}", run([yarib, *words]), part)
+        expect(f"{words}", yarib(*words), (0, "yarib 0.1.0\n", ""))
+    expect("no word", yarib(), (3, "", page("yarib")))
+    for words, part in (
+        (["walk"], "'walk'"), (["help", "walk"], "'walk'"), (["row.feed"], "'row.feed'"), (["run"], "<FILE>"), ([""], "''"),
+        (["run", "--frob", "row.feed"], "'--frob'"), (["replay", "--limit", "1"], "'--limit'"), (["RUN", "row.feed"], "'RUN'"),
+        (["--frob"], "'--frob'"), (["run", "--levels", "1", "row.feed"], "'--levels'"),
+    ):
+        misused(f"{words}", yarib(*words), part)
 
 
 # Fails where the help's replay shows another value.
@@ -382,7 +384,7 @@ def examples_of_the_help(yarib):
     new = ROW + "add 10.1.0.0/16 100 192.0.2.2\n"
     texts, listed = {"one.feed": ROW, "two.feed": "add 10.0.0.0/8 50 192.0.2.2\n", "new.feed": new}, []
     for name in ("lookup", "table", "run", "replay", "diff"):
-        help_text = run([yarib, name, "--help"])[1]
+        help_text = yarib(name, "--help")[1]
         for words, shown in re.findall(r"^  \$ yarib (.*)\n((?:  [^$].*\n)*)", help_text, re.M):
             listed.append(calls.call(words, textwrap.dedent(shown), 1 if name == "diff" else 0))
     expect("how many examples the help has", len(listed), 8)
@@ -394,7 +396,8 @@ FAULTS = [
     ("E1 no command", "frob"), ("E2 number of fields", "dump x"), ("E3 prefix or address", "lookup 256.0.0.1"),
     ("E3 prefix or address", "withdraw 10.0.0/8"), ("E4 prefix length", "withdraw 10.0.0.0/33"),
     ("E5 bits past the length", "withdraw 10.0.0.1/8"), ("E6 preference", "add 10.0.0.0/8 4294967296 192.0.2.1"),
-    ("E7 next hop", "add 10.0.0.0/8 1 192.0.2.256"), ("E7 next hop", "add 10.0.0.0/8 1 discard"), ("E8 over 128 bytes", "#" * 129),
+    ("E7 next hop", "add 10.0.0.0/8 1 192.0.2.256"), ("E7 next hop", "add 10.0.0.0/8 1 discard"),
+    ("E8 over 128 bytes", "#" * 129),
 ]
 STATUSES = [
     ("0 done", ["row.feed"]), ("2 faulty line", ["faulty.feed"]), ("3 command line", ["--frob"]),
@@ -404,81 +407,60 @@ STATUSES = [
 
 # Fails where a fault has another meaning in the help: `the help says E6 preference`.
 def help_is_true(yarib):
-    help_text = run([yarib, "run", "--help"])[1]
+    help_text = yarib("run", "--help")[1]
     for said, line in FAULTS:
         pathlib.Path("text.feed").write_text(line + "\n")
-        expect(f"the fault of {line[:40]!r}", run([yarib, "run", "text.feed"]), (2, f"1:1 fault {said[:2]}\ntable 0\n", ""))
+        expect(f"the fault of {line[:40]!r}", yarib("run", "text.feed"), (2, f"1:1 fault {said[:2]}\ntable 0\n", ""))
         expect(f"the help says {said}", f" {said}" in help_text, True)
     for said, words in STATUSES:
         with open("/dev/full" if said[0] == "6" else "/dev/null", "w") as output:
-            expect(f"the status of {said}", run([yarib, "run", *words], stdout=output)[0], int(said[0]))
+            expect(f"the status of {said}", yarib("run", *words, stdout=output)[0], int(said[0]))
         expect(f"the help says {said}", f" {said}" in help_text, True)
     pathlib.Path("text.feed").write_text("#" * 128 + "\nversion 2\nadd 10.0.0.0/8 1 discard\npurge\n")
-    expect("version 2 on a later line", run([yarib, "run", "text.feed"]), (2, "1:2 fault E1\n1:3 fault E7\n1:4 fault E1\ntable 0\n", ""))
+    expect("version 2 on a later line", yarib("run", "text.feed"), (2, "1:2 fault E1\n1:3 fault E7\n1:4 fault E1\ntable 0\n", ""))
     pathlib.Path("text.feed").write_text("version 2\nadd 10.0.0.0/8 1 discard\nreplace 10.0.0.0/8 2 discard\npurge\n" + ROW)
     out = "1:2 added\n1:3 replaced\n1:4 purged 1\n1:5 added\n" + table(route(1))
-    expect("version 2", run([yarib, "run", "text.feed"]), (0, out, ""))
+    expect("version 2", yarib("run", "text.feed"), (0, out, ""))
 
 
 # What the finished table says
 
 
-def best_of(routes, address):
-    """The route of the longest prefix that covers the address; of these that of the least preference, and then feed."""
-    covering = [r for r in routes if (address ^ r[0]) >> 32 - r[1] == 0] if routes else []
-    return min(covering, key=lambda r: (-r[1], r[2], r[3]), default=None)
-
-
-def all_of(routes, address):
-    """The lines of all routes that cover the address: the best, and the others in order, with what each was left behind by."""
-    place = lambda r: (-r[1], r[2], r[3])
-    covering = sorted((r for r in routes if (address ^ r[0]) >> 32 - r[1] == 0), key=place)
-    if not covering:
-        return [f"{dotted(address)} no route\n"]
-    first, *others = covering
-    reason = lambda r: "shorter" if r[1] < first[1] else "preference" if r[2] > first[2] else "feed"
-    return [f"{dotted(address)} route {shown(first)}"] + [f"{dotted(address)} also {shown(r)[:-1]} {reason(r)}\n" for r in others]
-
-
-def shown(route):
-    base, length, pref, feed, hop = route
-    return f"{dotted(base)}/{length} feed {feed} pref {pref} via {hop}\n"
-
-
 def finished_tables(yarib):
-    """Look-ups and lists of random feeds, beside a plain list; the same with any batch, and with the files' faults told."""
+    """Look-ups and lists of random feeds, beside the model; the same with any batch, and with the files' faults told."""
     choice = random.Random(27)
-    routes, names = [], []
+    model, names = Table(1_000_000), []
     for feed in range(1, 7):
-        name, had, text = f"shown{feed}.feed", set(), ""
-        for line in range(300):
+        names.append(f"shown{feed}.feed")
+        text = ""
+        for _ in range(300):
             length = choice.choice((0, 8, 12, 16, 20, 24, 31, 32))
-            base = choice.choice((10 << 24, 172 << 24)) + choice.randrange(1 << 16) >> 32 - length << 32 - length if length else 0
-            pref = choice.randrange(4)
-            if (base, length) in had:
-                continue
-            had.add((base, length))
-            routes.append((base, length, pref, feed, f"192.0.2.{feed}"))
-            text += f"add {dotted(base)}/{length} {pref} 192.0.2.{feed}\nlookup 10.0.0.1\n"
-        pathlib.Path(name).write_text(text)
-        names.append(name)
-    addresses = [choice.choice((10 << 24, 172 << 24, 192 << 24)) + choice.randrange(1 << 16) for _ in range(2_000)]
-    pathlib.Path("asked.txt").write_text("# asked\n\n" + "".join(dotted(address) + "\n" for address in addresses))
-    answers = "".join(f"{dotted(address)} " + (f"route {shown(found)}" if (found := best_of(routes, address)) else "no route\n") for address in addresses)
-    every = "".join(line for address in addresses for line in all_of(routes, address))
-    in_order = sorted(routes, key=lambda r: (r[0], r[1], r[2], r[3]))
-    best = [r for place, r in enumerate(in_order) if place == 0 or in_order[place - 1][:2] != r[:2]]
+            base = cut(choice.choice((10 << 24, 172 << 24)) + choice.randrange(1 << 16), length)
+            line = f"add {dotted(base)}/{length} {choice.randrange(4)} 192.0.2.{feed}"
+            if model.apply(feed, line.split()) == "added":
+                text += f"{line}\nlookup 10.0.0.1\n"
+        pathlib.Path(names[-1]).write_text(text)
+    addresses = [dotted(choice.choice((10 << 24, 172 << 24, 192 << 24)) + choice.randrange(1 << 16)) for _ in range(2_000)]
+    pathlib.Path("asked.txt").write_text("# asked\n\n" + "".join(f"{address}\n" for address in addresses))
+    answers = [f"{address} {model.best(address)}\n" for address in addresses]
+    every = "".join(line for address in addresses for line in model.all(address))
+    listed, best = ("".join(row + "\n" for row in model.listed(best)) for best in (False, True))
+    asked = ["--addresses", "asked.txt", *names]
     for words in ([], ["--batch", "1"], ["--batch", "1024"], ["--limit", "1000000"]):
-        expect(f"2,000 addresses {words}", run([yarib, "lookup", *words, "--addresses", "asked.txt", *names]), (0, answers, ""))
-        expect(f"all that covers 2,000 addresses {words}", run([yarib, "lookup", *words, "--all", "--addresses", "asked.txt", *names]), (0, every, ""))
-        expect(f"the routes {words}", run([yarib, "table", *words, *names]), (0, "".join(map(shown, in_order)), ""))
-        expect(f"the best routes {words}", run([yarib, "table", *words, "--best", *names]), (0, "".join(map(shown, best)), ""))
+        compare(f"2,000 addresses {words}", yarib("lookup", *words, *asked), 0, "".join(answers))
+        compare(f"all that covers 2,000 addresses {words}", yarib("lookup", *words, "--all", *asked), 0, every)
+        compare(f"the routes {words}", yarib("table", *words, *names), 0, listed)
+        compare(f"the best routes {words}", yarib("table", *words, "--best", *names), 0, best)
     for count in (1, 255, 256, 257, 513):
-        many = [word for address in addresses[:count] for word in ("--address", dotted(address))]
-        first = "".join(answers.splitlines(keepends=True)[:count])
-        expect(f"{count} addresses", run([yarib, "lookup", *many, *names]), (0, first, ""))
-    ended = run([yarib, "lookup", "--addresses", "/dev/stdin", *names], input=pathlib.Path("asked.txt").read_bytes())
-    expect("addresses from a pipe", ended, (0, answers, ""))
+        many = [word for address in addresses[:count] for word in ("--address", address)]
+        compare(f"{count} addresses", yarib("lookup", *many, *names), 0, "".join(answers[:count]))
+    ended = yarib("lookup", "--addresses", "/dev/stdin", *names, input=pathlib.Path("asked.txt").read_bytes())
+    compare("addresses from a pipe", ended, 0, "".join(answers))
+
+
+def cut(number, length):
+    """The number without its bits past so many."""
+    return number >> 32 - length << 32 - length
 
 
 # Fails where `--addresses -` is taken for an empty text: `- is no standard input of addresses`.
@@ -491,97 +473,85 @@ def not_taken(yarib):
     pathlib.Path("three.feed").write_text(ROW + "frob\nadd 11.0.0.0/8 1 192.0.2.1\nadd 12.0.0.0/8 1 192.0.2.1\nlookup 1\n")
     pathlib.Path("asked.txt").write_text("10.0.0.1\n" + "#" * 129 + "\nx\n10.0.0.2\n")
     answer = "10.0.0.1 route " + route(1)
-    faulty = "yarib: three.feed: faulty lines: 2, the first is line 2: E1: the first field is no command of this version\n"
+    faulty = f"yarib: three.feed: faulty lines: 2, the first is line 2: {E1}\n"
     over = "yarib: three.feed: adds over the limit: 2\n"
-    asked = "yarib: asked.txt: faulty lines: 2, the first is line 2: E8: the line has over 128 bytes\n"
-    one = ["--limit", "1"]
-    expect("faulty lines", run([yarib, "lookup", "--address", "10.0.0.1", "three.feed"]), (2, answer, faulty))
-    expect("faulty lines and adds over the limit", run([yarib, "lookup", *one, "--address", "10.0.0.1", "three.feed"]), (2, answer, faulty + over))
-    expect("the same of a table", run([yarib, "table", *one, "three.feed", "row.feed"]), (2, route(1) + route(2), faulty + over))
+    asked = f"yarib: asked.txt: faulty lines: 2, the first is line 2: {E8}\n"
+    one, by_file = ["--limit", "1"], ["--addresses", "asked.txt"]
+    expect("faulty lines", yarib("lookup", "--address", "10.0.0.1", "three.feed"), (2, answer, faulty))
+    ended = yarib("lookup", *one, "--address", "10.0.0.1", "three.feed")
+    expect("faulty lines and adds over the limit", ended, (2, answer, faulty + over))
+    expect("the same of a table", yarib("table", *one, "three.feed", "row.feed"), (2, route(1) + route(2), faulty + over))
     both = answer + "10.0.0.2" + answer[8:]
-    expect("faulty addresses", run([yarib, "lookup", "--addresses", "asked.txt", "row.feed"]), (2, both, asked))
-    expect("faults of all files", run([yarib, "lookup", *one, "--addresses", "asked.txt", "three.feed"]), (2, both, asked + faulty + over))
-    files_told(yarib)
-    addresses_told(yarib)
+    expect("faulty addresses", yarib("lookup", *by_file, "row.feed"), (2, both, asked))
+    expect("faults of all files", yarib("lookup", *one, *by_file, "three.feed"), (2, both, asked + faulty + over))
     for word in ("10.0.0.256", "", "10.0.0.1/32", "10.0.0.01", " 10.0.0.1", "x"):
-        ended = run([yarib, "lookup", "--address", "10.0.0.1", f"--address={word}", "missing"])
+        ended = yarib("lookup", "--address", "10.0.0.1", f"--address={word}", "missing")
         expect(f"the address {word!r}", ended, (3, "", f"yarib: not an address: {word}\n"))
-    expect("no address", run([yarib, "lookup", "row.feed"]), (3, "", "yarib: no address is asked for: give --address or --addresses\n"))
+    expect("no address", yarib("lookup", "row.feed"), (3, "", "yarib: no address is asked for: give --address or --addresses\n"))
     for command in (["lookup", "--address", "10.0.0.1"], ["table"]):
-        expect(f"{command} of a missing file", run([yarib, *command, "row.feed", "missing"]), (4, "", "yarib: cannot read missing\n"))
-        expect(f"{command} of 65 files", run([yarib, *command, *["missing"] * 65]), (3, "", "yarib: more than 64 files\n"))
-        missing = run([yarib, *command, "row.feed", "nor", "missing"])
+        expect(f"{command} of a missing file", yarib(*command, "row.feed", "missing"), (4, "", "yarib: cannot read missing\n"))
+        expect(f"{command} of 65 files", yarib(*command, *["missing"] * 65), (3, "", "yarib: more than 64 files\n"))
+        missing = yarib(*command, "row.feed", "nor", "missing")
         expect(f"{command}: the first missing file is named", missing, (4, "", "yarib: cannot read nor\n"))
-        misused(f"{command} of no file", run([yarib, *command]), "<FILE>")
-        misused(f"{command} with --limit 0", run([yarib, *command, "--limit", "0", "row.feed"]), "--limit")
-    expect("a missing text of addresses", run([yarib, "lookup", "--addresses", "missing", "row.feed"]), (4, "", "yarib: cannot read missing\n"))
-    missing = run([yarib, "lookup", "--addresses", "missing", "row.feed", "nor"])
+        misused(f"{command} of no file", yarib(*command), "<FILE>")
+        misused(f"{command} with --limit 0", yarib(*command, "--limit", "0", "row.feed"), "--limit")
+    missing = yarib("lookup", "--addresses", "missing", "row.feed")
+    expect("a missing text of addresses", missing, (4, "", "yarib: cannot read missing\n"))
+    missing = yarib("lookup", "--addresses", "missing", "row.feed", "nor")
     expect("a feed file is named before the text of addresses", missing, (4, "", "yarib: cannot read nor\n"))
     pathlib.Path("-").unlink(missing_ok=True)
-    ended = run([yarib, "lookup", "--addresses", "-", "row.feed"], input=b"10.0.0.1\n")
+    ended = yarib("lookup", "--addresses", "-", "row.feed", input=b"10.0.0.1\n")
     expect("- is no standard input of addresses", ended, (4, "", "yarib: cannot read -\n"))
     pathlib.Path("-").write_text("10.0.0.1\n")
-    expect("- is a file of addresses", run([yarib, "lookup", "--addresses", "-", "row.feed"]), (0, answer, ""))
+    expect("- is a file of addresses", yarib("lookup", "--addresses", "-", "row.feed"), (0, answer, ""))
     os.remove("-")
-    misused("--addresses twice", run([yarib, "lookup", "--addresses", "asked.txt", "--addresses", "asked.txt", "row.feed"]), "--addresses")
-    misused("--all of a table", run([yarib, "table", "--all", "row.feed"]), "--all")
-    misused("--all twice", run([yarib, "lookup", "--all", "--all", "--address", "10.0.0.1", "row.feed"]), "--all")
-    misused("--best of a look-up", run([yarib, "lookup", "--best", "--address", "10.0.0.1", "row.feed"]), "--best")
-    misused("--address of a table", run([yarib, "table", "--address", "10.0.0.1", "row.feed"]), "--address")
-    misused("--best of a run", run([yarib, "run", "--best", "row.feed"]), "--best")
+    misused("--addresses twice", yarib("lookup", *by_file, *by_file, "row.feed"), "--addresses")
+    misused("--all of a table", yarib("table", "--all", "row.feed"), "--all")
+    misused("--all twice", yarib("lookup", "--all", "--all", "--address", "10.0.0.1", "row.feed"), "--all")
+    misused("--best of a look-up", yarib("lookup", "--best", "--address", "10.0.0.1", "row.feed"), "--best")
+    misused("--address of a table", yarib("table", "--address", "10.0.0.1", "row.feed"), "--address")
+    misused("--best of a run", yarib("run", "--best", "row.feed"), "--best")
 
 
 # What two tables answer otherwise
 
 
-def ranges(old, new, said):
-    """The lines for two lists of routes: their borders in order, and what is said of the best route of each address there."""
-    borders = sorted({0, *(border for routes in (old, new) for base, length, *_ in routes for border in (base, base + (1 << 32 - length)))} - {1 << 32})
-    found = []
-    for border in borders:
-        answers = [said(best_of(routes, border)) for routes in (old, new)]
-        if not found or found[-1][1] != answers:
-            found.append((border, answers))
-    ends = [first - 1 for first, _ in found[1:]] + [(1 << 32) - 1]
-    return "".join(f"{dotted(first)}-{dotted(last)} {answers[0]} -> {answers[1]}\n" for (first, answers), last in zip(found, ends) if answers[0] != answers[1])
-
-
-# Fails where a border at the last address of a prefix is forgotten, ranges are split or merged wrongly, or routes are compared where hops were asked: `by hop 0`.
+# Fails where a border at the last address of a prefix is forgotten, ranges are split or merged wrongly, or routes are compared
+# where hops were asked: `by hop 0`.
 def compared_tables(yarib):
     """Ranges of random feeds, beside all borders asked one by one; what is misused, and what is told of both sides."""
     choice = random.Random(40)
-    by_hop = lambda route: f"via {route[4]}" if route else "no route"
-    by_route = lambda route: shown(route)[:-1] if route else "no route"
     for number in range(20):
-        sides = []
-        for side in ("old", "new"):
-            routes, names = [], []
-            for feed in (1, 2):
-                had, name = set(), f"{side}{feed}.feed"
-                for _ in range(number):
-                    length = choice.choice((0, 1, 8, 9, 24, 31, 32))
-                    base = choice.choice((0, 10 << 24, 255 << 24)) + choice.choice((0, 1, 255, 256, (1 << 24) - 1)) >> 32 - length << 32 - length if length else 0
-                    if (base, length) not in had:
-                        had.add((base, length))
-                        routes.append((base, length, choice.randrange(2), feed, f"192.0.2.{choice.randrange(3)}"))
-                pathlib.Path(name).write_text("".join(f"add {dotted(r[0])}/{r[1]} {r[2]} {r[4]}\n" for r in routes if r[3] == feed))
-                names.append(name)
-            sides.append((routes, names))
-        (old, old_names), (new, new_names) = sides
-        for what, said in (("hop", by_hop), ("route", by_route)):
-            wanted = ranges(old, new, said)
-            expect(f"by {what} {number}", run([yarib, "diff", "--by", what, *old_names, "--", *new_names]), (1 if wanted else 0, wanted, ""))
-        expect(f"with itself {number}", run([yarib, "diff", "--by", "route", *old_names, "--", *old_names]), (0, "", ""))
+        (old, old_names), (new, new_names) = (random_table(choice, side, number) for side in ("old", "new"))
+        for by in ("hop", "route"):
+            wanted = differences_text(old, new, by)
+            ended = yarib("diff", "--by", by, *old_names, "--", *new_names)
+            expect(f"by {by} {number}", ended, (1 if wanted else 0, wanted, ""))
+        expect(f"with itself {number}", yarib("diff", "--by", "route", *old_names, "--", *old_names), (0, "", ""))
     pathlib.Path("odd.feed").write_text("frob\n" + ROW)
-    told = "yarib: odd.feed: faulty lines: 1, the first is line 1: E1: the first field is no command of this version\n"
-    expect("what was not taken of both", run([yarib, "diff", "odd.feed", "--", "row.feed", "odd.feed"]), (2, "", told * 2))
-    old_first(yarib)
-    expect("more than 64 new files", run([yarib, "diff", "row.feed", "--", *["row.feed"] * 65]), (3, "", "yarib: more than 64 files\n"))
-    expect("an old file that is missing", run([yarib, "diff", "missing", "--", "row.feed"]), (4, "", "yarib: cannot read missing\n"))
-    misused("no new file", run([yarib, "diff", "row.feed"]), "<NEW>")
-    misused("no file behind --", run([yarib, "diff", "row.feed", "--"]), "<NEW>")
-    misused("no old file", run([yarib, "diff", "--", "row.feed"]), "<OLD>")
-    misused("what can't be compared", run([yarib, "diff", "--by", "feed", "row.feed", "--", "row.feed"]), "'feed'")
+    told = f"yarib: odd.feed: faulty lines: 1, the first is line 1: {E1}\n"
+    expect("what was not taken of both", yarib("diff", "odd.feed", "--", "row.feed", "odd.feed"), (2, "", told * 2))
+    expect("more than 64 new files", yarib("diff", "row.feed", "--", *["row.feed"] * 65), (3, "", "yarib: more than 64 files\n"))
+    expect("an old file that is missing", yarib("diff", "missing", "--", "row.feed"), (4, "", "yarib: cannot read missing\n"))
+    misused("no new file", yarib("diff", "row.feed"), "<NEW>")
+    misused("no file behind --", yarib("diff", "row.feed", "--"), "<NEW>")
+    misused("no old file", yarib("diff", "--", "row.feed"), "<OLD>")
+    misused("what can't be compared", yarib("diff", "--by", "feed", "row.feed", "--", "row.feed"), "'feed'")
+
+
+def random_table(choice, side, count):
+    """Two random feeds of up to so many routes: their table, and the names of their files."""
+    model, names = Table(1_000_000), [f"{side}{feed}.feed" for feed in (1, 2)]
+    for feed, name in enumerate(names, 1):
+        text = ""
+        for _ in range(count):
+            length = choice.choice((0, 1, 8, 9, 24, 31, 32))
+            base = cut(choice.choice((0, 10 << 24, 255 << 24)) + choice.choice((0, 1, 255, 256, (1 << 24) - 1)), length)
+            line = f"add {dotted(base)}/{length} {choice.randrange(2)} 192.0.2.{choice.randrange(3)}"
+            if model.apply(feed, line.split()) == "added":
+                text += line + "\n"
+        pathlib.Path(name).write_text(text)
+    return model, names
 
 
 # Fails where the new files are read first: `both are missing`.
@@ -589,12 +559,12 @@ def compared_tables(yarib):
 def old_first(yarib):
     pathlib.Path("gone.feed").write_text("withdraw 10.0.0.0/8\n")
     told = ["yarib: gone.feed: replaces and withdraws of a prefix not there: 1\n",
-            "yarib: faulty.feed: faulty lines: 1, the first is line 1: E1: the first field is no command of this version\n"]
+            f"yarib: faulty.feed: faulty lines: 1, the first is line 1: {E1}\n"]
     for sides, lines in ((("gone", "faulty"), told), (("faulty", "gone"), told[::-1])):
         old, new = (f"{side}.feed" for side in sides)
-        expect("what was not taken of the old files comes first", run([yarib, "diff", old, "--", new]), (2, "", "".join(lines)))
-    expect("both are missing", run([yarib, "diff", "missing", "--", "nor"]), (4, "", "yarib: cannot read missing\n"))
-    expect("both are missing, the other way round", run([yarib, "diff", "nor", "--", "missing"]), (4, "", "yarib: cannot read nor\n"))
+        expect("what was not taken of the old files comes first", yarib("diff", old, "--", new), (2, "", "".join(lines)))
+    expect("both are missing", yarib("diff", "missing", "--", "nor"), (4, "", "yarib: cannot read missing\n"))
+    expect("both are missing, the other way round", yarib("diff", "nor", "--", "missing"), (4, "", "yarib: cannot read nor\n"))
 
 
 # Fails where nothing is told from the third file on, of a file that is named twice, or of it the second time: `a third
@@ -611,23 +581,26 @@ def files_told(yarib):
                                   "withdraw 12.0.0.0/8\nadd 13.0.0.0/8 1 192.0.2.1\nfrob\ndump 1\n")
     pathlib.Path("again.feed").write_text(ROW + ROW)
     pathlib.Path("gone.feed").write_text("withdraw 10.0.0.0/8\n")
-    kinds = "".join(f"yarib: {long}: {what}\n" for what in ("faulty lines: 2, the first is line 9: E1: the first field is no command of this version",
-                    "adds over the limit: 1", "adds of a prefix already there: 1", "replaces and withdraws of a prefix not there: 3"))
+    kinds = "".join(f"yarib: {long}: {what}\n" for what in (
+        f"faulty lines: 2, the first is line 9: {E1}", "adds over the limit: 1", "adds of a prefix already there: 1",
+        "replaces and withdraws of a prefix not there: 3"))
     again = "yarib: again.feed: adds of a prefix already there: 1\n"
     gone = "yarib: gone.feed: replaces and withdraws of a prefix not there: 1\n"
-    table = lambda *names: run([yarib, "table", "--best", "--limit", "1", *names])
+    table = lambda *names: yarib("table", "--best", "--limit", "1", *names)
     expect("all kinds of one file", table(long), (2, route(1), kinds))
     expect("an add of what is there", table("again.feed"), (0, route(1), again))
     expect("a withdrawal of what isn't there", table("gone.feed"), (0, "", gone))
-    expect("a third file and one that is named again", table("row.feed", "gone.feed", long, "again.feed", long, "gone.feed"), (2, route(1), gone + kinds + again + kinds + gone))
+    ended = table("row.feed", "gone.feed", long, "again.feed", long, "gone.feed")
+    expect("a third file and one that is named again", ended, (2, route(1), gone + kinds + again + kinds + gone))
     pathlib.Path("over.feed").write_text(ROW + "add 11.0.0.0/8 1 192.0.2.1\n")
-    expect("adds over the limit alone", run([yarib, "table", "--limit", "1", "over.feed"]), (2, route(1), "yarib: over.feed: adds over the limit: 1\n"))
+    over = yarib("table", "--limit", "1", "over.feed")
+    expect("adds over the limit alone", over, (2, route(1), "yarib: over.feed: adds over the limit: 1\n"))
     many = [f"{name}.feed" for name in ("again", "gone", "row")] * 21 + ["again.feed"]
     expect("64 files, most of them told of", table(*many), (0, route(1), (again + gone) * 21 + again))
     counts = {"frob\n": 70_001, "add 11.0.0.0/8 1 192.0.2.1\n": 70_002, ROW: 70_003, "withdraw 12.0.0.0/8\n": 70_004}
     pathlib.Path("many.feed").write_text(ROW + "".join(line * count for line, count in counts.items()))
     told = "".join(f"yarib: many.feed: {what}\n" for what in (
-        "faulty lines: 70001, the first is line 2: E1: the first field is no command of this version", "adds over the limit: 70002",
+        f"faulty lines: 70001, the first is line 2: {E1}", "adds over the limit: 70002",
         "adds of a prefix already there: 70003", "replaces and withdraws of a prefix not there: 70004"))
     expect("tens of thousands of each kind", table("many.feed"), (2, route(1), told))
 
@@ -644,40 +617,48 @@ def addresses_told(yarib):
     skipped = "# note\n\n" * 3_000
     pathlib.Path("asked.txt").write_text(skipped + "10.0.0.1\n" + skipped * 2 + "frob\n10.0.0.1\nfrob\n")
     line = 3 * 6_000 + 2
-    told = f"yarib: asked.txt: faulty lines: 2, the first is line {line}: E3: the field is no prefix or address (the CR of CRLF is part of it)\n"
-    asked = [yarib, "lookup", "--addresses", "asked.txt"]
+    told = f"yarib: asked.txt: faulty lines: 2, the first is line {line}: {E3}\n"
+    asked = ["lookup", "--addresses", "asked.txt"]
     answer = "10.0.0.1 route " + route(1)
-    expect("a long text of addresses", run([*asked, "row.feed"]), (2, answer * 2, told))
+    expect("a long text of addresses", yarib(*asked, "row.feed"), (2, answer * 2, told))
     for count in (255, 256, 70_001):
         pathlib.Path("asked.txt").write_text("frob\n" * count + "10.0.0.1\n")
         told = f"yarib: asked.txt: faulty lines: {count}, the first is line 1: E3: " \
             "the field is no prefix or address (the CR of CRLF is part of it)\n"
-        expect(f"{count} faulty addresses", run([*asked, "row.feed"]), (2, answer, told))
+        expect(f"{count} faulty addresses", yarib(*asked, "row.feed"), (2, answer, told))
     for count in (999, 1_000, 1_001, 1_024, 1_025, 30_000):
-        compare(f"--address {count} times", run([yarib, "lookup", *["--address=10.0.0.1"] * count, "row.feed"]), 0, answer * count)
+        compare(f"--address {count} times", yarib("lookup", *["--address=10.0.0.1"] * count, "row.feed"), 0, answer * count)
     pathlib.Path("asked.txt").write_text("10.0.0.1\n" * 20_000)
-    expect("20,000 addresses", run([*asked, "row.feed"]), (0, answer * 20_000, ""))
+    expect("20,000 addresses", yarib(*asked, "row.feed"), (0, answer * 20_000, ""))
     pathlib.Path("asked.txt").write_text("frob\n10.0.0.1\n")
-    for words in (asked, [*asked, "--all"], [yarib, "table"]):
+    for words in (asked, [*asked, "--all"], ["table"]):
         with open("/dev/full", "w") as full:
-            expect(f"nothing is told where the output is full: {words[1:]}", run([*words, "faulty.feed", "row.feed"], stdout=full), CANNOT_WRITE)
+            ended = yarib(*words, "faulty.feed", "row.feed", stdout=full)
+        expect(f"nothing is told where the output is full: {words}", ended, CANNOT_WRITE)
 
 
 # Fails where status 0 is given though help or version can't be written: `['--help'] to a closed output`.
 # Fails where status 0 is given to an output that takes nothing: the status is not 6.
 def closed_outputs(yarib):
-    tried = (["lookup", "--help"], ["table", "--help"], ["lookup", "--address", "10.0.0.1", "row.feed"], ["table", "row.feed"],
-             ["--help"], ["help", "run"], ["run", "--help"], ["replay", "--help"], ["--version"], ["-V"], ["replay", "--levels", "6"],
-             ["replay", "--levels", "2", *["3"] * 12], ["run", "row.feed"], ["run", "empty.feed"], ["run", "faulty.feed"])
+    tried = (
+        ["lookup", "--help"], ["table", "--help"], ["lookup", "--address", "10.0.0.1", "row.feed"], ["table", "row.feed"],
+        ["--help"], ["help", "run"], ["run", "--help"], ["replay", "--help"], ["--version"], ["-V"],
+        ["replay", "--levels", "6"], ["replay", "--levels", "2", *["3"] * 12],
+        ["run", "row.feed"], ["run", "empty.feed"], ["run", "faulty.feed"],
+    )
     for words in tried:
-        closed = run([yarib, *words], stdout=None, preexec_fn=lambda: os.close(1))
+        closed = yarib(*words, stdout=None, preexec_fn=lambda: os.close(1))
         expect(f"{words} to a closed output", closed, CANNOT_WRITE)
         with open("/dev/full", "w") as full:
-            expect(f"{words} to a full output", run([yarib, *words], stdout=full), CANNOT_WRITE)
-        expect(f"{words} where nothing is open", run([yarib, *words], stdout=None, stderr=None, preexec_fn=close_all), (6, "", ""))
+            expect(f"{words} to a full output", yarib(*words, stdout=full), CANNOT_WRITE)
+        expect(f"{words} where nothing is open", yarib(*words, stdout=None, stderr=None, preexec_fn=close_all), (6, "", ""))
     # What has nothing for standard output doesn't meet it.
-    for words, wanted in ((["table", "empty.feed"], (0, "", "")), (["run", "missing"], (4, "", "yarib: cannot read missing\n")), (["replay", "--levels", "7"], (3, "", "yarib: fault P2\n"))):
-        expect(f"{words} to a closed output", run([yarib, *words], stdout=None, preexec_fn=lambda: os.close(1)), wanted)
+    for words, wanted in (
+        (["table", "empty.feed"], (0, "", "")),
+        (["run", "missing"], (4, "", "yarib: cannot read missing\n")),
+        (["replay", "--levels", "7"], (3, "", "yarib: fault P2\n")),
+    ):
+        expect(f"{words} to a closed output", yarib(*words, stdout=None, preexec_fn=lambda: os.close(1)), wanted)
 
 
 # The line on a terminal, which is first written after a second
@@ -708,8 +689,10 @@ def on_terminal(words, told=None, go_on=lambda: None, out_too=False, is_short=Fa
     return child.returncode, out.decode(), rest if is_told and OTHERS.issuperset(lines) else f"{lines}, and then {rest}"
 
 
-OTHERS = {"yarib: files read: 0 of 1", "yarib: files read: 1 of 2", "yarib: feeds running: 1", "yarib: feeds running: 2", "yarib: feeds running: 64", "yarib: writing",
-          *(f"yarib: files read: {read} of 64" for read in range(64))}
+OTHERS = {
+    "yarib: files read: 0 of 1", "yarib: files read: 1 of 2", *(f"yarib: files read: {read} of 64" for read in range(64)),
+    "yarib: feeds running: 1", "yarib: feeds running: 2", "yarib: feeds running: 64", "yarib: writing",
+}
 
 
 def sent_to(screen):
@@ -733,13 +716,16 @@ def seconds_on_terminal(words):
 def progress(yarib):
     os.mkfifo("slow.feed")
     goes_on = lambda text: lambda: pathlib.Path("slow.feed").write_text(text)
-    fault = "yarib: slow.feed: faulty lines: 1, the first is line 1: E1: the first field is no command of this version\n"
-    expect("a short run on a terminal", on_terminal([yarib, "run", "row.feed"], is_short=True), (0, ROW_OUT, ""))
-    expect("a short run on a terminal alone", on_terminal([yarib, "run", "row.feed"], out_too=True, is_short=True), (0, "", ROW_OUT))
-    expect("a missing file on a terminal", on_terminal([yarib, "run", "missing"], is_short=True), (4, "", "yarib: cannot read missing\n"))
+    fault = f"yarib: slow.feed: faulty lines: 1, the first is line 1: {E1}\n"
+    short = [yarib, "run", "row.feed"]
+    expect("a short run on a terminal", on_terminal(short, is_short=True), (0, ROW_OUT, ""))
+    expect("a short run on a terminal alone", on_terminal(short, out_too=True, is_short=True), (0, "", ROW_OUT))
+    missing = on_terminal([yarib, "run", "missing"], is_short=True)
+    expect("a missing file on a terminal", missing, (4, "", "yarib: cannot read missing\n"))
     differs = on_terminal([yarib, "diff", "row.feed", "--", "empty.feed"], is_short=True)
     expect("a difference on a terminal", differs, (1, "10.0.0.0-10.255.255.255 via 192.0.2.1 -> no route\n", ""))
-    expect("some call on a terminal is over in half a second", any(seconds_on_terminal([yarib, "run", "row.feed"]) < 0.5 for _ in range(10)), True)
+    is_soon_over = any(seconds_on_terminal(short) < 0.5 for _ in range(10))
+    expect("some call on a terminal is over in half a second", is_soon_over, True)
     slow, none_read = [yarib, "run", "slow.feed"], "yarib: files read: 0 of 1"
     expect("a slow file", on_terminal(slow, none_read, goes_on(ROW)), (0, ROW_OUT, ""))
     expect("a slow file, on a terminal alone", on_terminal(slow, none_read, goes_on(ROW), True), (0, "", ROW_OUT))
@@ -756,6 +742,7 @@ def progress(yarib):
 # Fails where the line is written each 200 ms, or every other second: `the second line comes after ..`.
 def line_each_second(yarib):
     """A held up run says a second time after two seconds how far it has come, or somewhat later beside other work."""
+    os.mkfifo("slow.feed")
     began, told = time.monotonic(), b"yarib: files read: 0 of 1"
     screen, terminal = pty.openpty()
     tty.setraw(terminal)
@@ -795,21 +782,20 @@ def progress_of_long_runs(yarib):
     expect("32 busy feeds compared with 32", on_terminal(both, "yarib: feeds running: 64"), (0, "", ""))
 
 
+CASES = (
+    runs, what_the_table_says, what_two_tables_answer_otherwise, file_order, many_files, unreadable, names, texts, limits,
+    batches, twice, replays, finished_tables, compared_tables, old_first, not_taken, files_told, addresses_told, pages,
+    examples_of_the_help, help_is_true, closed_outputs, progress, line_each_second, progress_of_long_runs,
+)
+
+
 def main():
-    program = built(sys.argv[1:])
-    with tempfile.TemporaryDirectory() as apart, tempfile.TemporaryDirectory() as folder:
+    words = chosen(__doc__, CASES)
+    with tempfile.TemporaryDirectory() as apart:
         # The help says by which name the program was called.
-        yarib = pathlib.Path(apart) / "yarib"
-        yarib.symlink_to(program)
-        os.chdir(folder)
-        for name, text in (("row", ROW), ("empty", ""), ("faulty", "frob\n")):
-            pathlib.Path(f"{name}.feed").write_text(text)
-        run_each((
-            runs, what_the_table_says, what_two_tables_answer_otherwise, file_order, many_files, unreadable, names,
-            texts, limits, batches, twice, replays, finished_tables, compared_tables, not_taken, pages,
-            examples_of_the_help, help_is_true, closed_outputs, progress, line_each_second, progress_of_long_runs,
-        ), yarib)
-        os.chdir("/")
+        yarib = Program(pathlib.Path(apart) / "yarib")
+        yarib.path.symlink_to(words.program)
+        run_each(words.cases, yarib, files={"row.feed": ROW, "empty.feed": "", "faulty.feed": "frob\n"})
     end()
 
 

@@ -1,26 +1,23 @@
 #!/usr/bin/env python3
 """What a run costs: how its feeds wait for one another, and its processor time beside a peer's in the same run.
 
-Usage: tests/costs.py [YARIB]. Builds ./yarib first unless a built program is named. Needs gcc and glibc.
+tests/costs.py [PROGRAM [CASE..]], or --list for the names of the cases. Needs gcc and glibc.
 
 No clause says how long anything takes. Waits are counted (tests/waits.c), which other work on the machine changes little.
 Processor time has a peer in the same run, which other work makes as much dearer: passages of a mutex in C, or what the same call
 has used before its first output. Each bound is one and a half to three times what was found. With --tell it prints what it finds.
 """
-import os
 import pathlib
 import random
 import struct
 import subprocess
-import sys
 import tempfile
 from typing import NamedTuple
 
-from checks import TOP, built, end, expect, run, run_each
+from checks import chosen, compiled, end, expect, run, run_each
 from table_model import dotted
 
 WORDS = 1000
-TELLS = "--tell" in sys.argv[1:]
 
 
 class Waits(NamedTuple):
@@ -40,12 +37,12 @@ class Ended(NamedTuple):
 
 
 class Called:
-    """Calls of the program, with what counts its waits."""
+    """Calls of the program, with what counts its waits; what is found may be told."""
 
-    def __init__(self, yarib, folder):
-        self.yarib, self.counter, self.mutex = yarib, folder / "waits.so", folder / "mutex"
-        subprocess.run(["gcc", "-O2", "-shared", "-fPIC", "-o", self.counter, TOP / "tests" / "waits.c"], check=True)
-        subprocess.run(["gcc", "-O2", "-pthread", "-o", self.mutex, TOP / "tests" / "mutex.c"], check=True)
+    def __init__(self, yarib, folder, tells):
+        self.yarib, self.tells = yarib, tells
+        self.counter = compiled(folder, "tests/waits.c", "-shared", "-fPIC")
+        self.mutex = compiled(folder, "tests/mutex.c", "-pthread")
 
     def call(self, *words, status=0, **more):
         with tempfile.TemporaryFile() as kept:
@@ -64,10 +61,13 @@ class Called:
         pathlib.Path("dumps.feed").write_text("dump\n" * lines)
         return self.call("run", "--batch", "1", *["dumps.feed"] * files)
 
+    def tell(self, what, found):
+        if self.tells:
+            print(f"  {what}: {found}", flush=True)
 
-def tell(what, found):
-    if TELLS:
-        print(f"  {what}: {found}", flush=True)
+    def at_most(self, what, found, bound):
+        self.tell(what, f"{found:.2f}, at most {bound}")
+        expect(f"{what}: {found:.2f}, at most {bound}", found <= bound, True)
 
 
 # Waits
@@ -82,7 +82,7 @@ def one_file(called):
 def crowd(called):
     """Eight files that ask all the time. Who has napped finds the door free for as long as others nap."""
     naps = sum(place.naps for place in called.dumps(8, 4_000).waits)
-    tell("naps of 32,000 entries of 8 files", naps)
+    called.tell("naps of 32,000 entries of 8 files", naps)
     expect(f"at most one of 20 entries of 8 files naps: {naps} of 32,000", naps <= 32_000 / 20, True)
 
 
@@ -94,7 +94,7 @@ def door(called):
         naps, rounds = 0, 0
         while naps == 0 and rounds < 30:
             naps, rounds = met(called, file, *names).naps, rounds + 1
-        tell(f"naps of file {file}", f"{naps}, in round {rounds}")
+        called.tell(f"naps of file {file}", f"{naps}, in round {rounds}")
         expect(f"file {file} naps", naps > 0, True)
 
 
@@ -104,7 +104,7 @@ def forgotten(called):
     write_meeting(dumps=3_000_000, seldom=70)
     for _ in range(3):
         waits = met(called, 1, "dumps.feed", "adds.feed")
-        tell("waits of the file of dumps", waits)
+        called.tell("waits of the file of dumps", waits)
         expect(f"file 1 has forgotten the crowd: {waits.naps} naps", waits.naps < 40, True)
         expect("how often it met the other one", waits.sleeps >= 60, True)
 
@@ -126,11 +126,6 @@ def met(called, file, *names):
 # Processor time
 
 
-def at_most(what, found, bound):
-    tell(what, f"{found:.2f}, at most {bound}")
-    expect(f"{what}: {found:.2f}, at most {bound}", found <= bound, True)
-
-
 # Fails where each entry takes microseconds more, asleep or not: `a passage alone, to one of a mutex`.
 def passage_alone(called):
     """The passages of one file are what its commands one at a time take beyond the same in batches of 1,024."""
@@ -141,8 +136,8 @@ def passage_alone(called):
         mutex = float(run([called.mutex, "1000000"])[1])
         passages.append((one - batched) / mutex)
         batches.append(batched / mutex)
-    at_most("a passage alone, to one of a mutex", min(passages), 20)
-    at_most("a line in a batch, to a passage of a mutex", min(batches), 25)
+    called.at_most("a passage alone, to one of a mutex", min(passages), 20)
+    called.at_most("a line in a batch, to a passage of a mutex", min(batches), 25)
 
 
 # Fails where the cursors of a comparison begin anew at each answer: `the answers of a comparison, to its runs`.
@@ -164,17 +159,16 @@ def outputs(called):
         ("what a run prints, to the run", 0, ["run", "--batch", "256", "side1.feed"], 0.2),
     ):
         ended = [called.call(words[0], "--limit", "200000", *words[1:], status=status) for _ in range(3)]
-        at_most(what, min(one.of_output / one.before_output for one in ended), bound)
+        called.at_most(what, min(one.of_output / one.before_output for one in ended), bound)
+
+
+CASES = (one_file, crowd, door, forgotten, passage_alone, outputs)
 
 
 def main():
-    yarib = built([word for word in sys.argv[1:] if word != "--tell"])
+    words = chosen(__doc__, CASES, flags=("--tell",))
     with tempfile.TemporaryDirectory() as made:
-        folder = pathlib.Path(made)
-        called = Called(yarib, folder)
-        os.chdir(folder)
-        run_each((one_file, crowd, door, forgotten, passage_alone, outputs), called)
-        os.chdir("/")
+        run_each(words.cases, Called(words.program, pathlib.Path(made), words.tell))
     end()
 
 

@@ -1,13 +1,12 @@
 #!/usr/bin/env python3
 """Runs the program in hostile surroundings: little memory, files that are none, outputs that take nothing.
 
-Usage: tests/hostile.py [YARIB]. Builds ./yarib first unless a built program is named. Linux, python3, gcc
-and glibc.
+tests/hostile.py [PROGRAM [CASE..]], or --list for the names of the cases. Linux, python3, gcc and glibc.
 
-Little memory: the program is run under rising limits of its address space, with the memory that the C library gives by itself, and
-as the launchers set it. It must end as with ample memory, or with status 5 and nothing on standard output, or with status 5 and
-what the model prints without the commands that it says were refused; never by a signal. Limits under which it
-can't be loaded at all are left out. Then each request of a look-up and of a list is refused in turn, as refused_growth.py does it
+Little memory: the program is run under rising limits of its address space, with the memory that the C library gives by itself,
+and as the launchers set it. It must end as with ample memory, or with status 5 and nothing on standard output, or with status 5
+and what the model prints without the commands that it says were refused; never by a signal. Limits under which it can't be loaded
+at all are left out. Then each request of a look-up and of a list is refused in turn, as refused_growth.py does it
 for all kinds of runs.
 """
 import os
@@ -16,10 +15,8 @@ import re
 import resource
 import signal
 import subprocess
-import sys
-import tempfile
 
-from checks import LAUNCHED, built, end, expect, run, run_each
+from checks import LAUNCHED, chosen, end, expect, run, run_each
 from refused_growth import Wrong, answered_addresses, check_shown, files as text_files, own_text, refuse_each, refuser
 from table_model import run_text
 
@@ -68,16 +65,17 @@ def judge(what, ended, ample, texts, words):
     return "with commands refused"
 
 
-def little_memory(yarib, folder):
+def little_memory(yarib):
     row, long, many = [ROW], [AGAIN * 20_000], [own_text(feed) for feed in range(1, 65)]
+    small, own = text_files("small", row), text_files("own", many)
     cases = [
-        ("one small file", ["run", *text_files(folder, "small", row)], row, 4_096, 0),
-        ("one long file", ["run", "--batch", "100", *text_files(folder, "long", long)], long, 65_536, 0.005),
-        ("64 files", ["run", *text_files(folder, "own", many)], many, 65_536, 0.02),
-        ("a look-up in 64 files", ["lookup", "--address", "9.2.3.4", *text_files(folder, "own", many)], None, 65_536, 0.1),
-        ("all that covers, in 64 files", ["lookup", "--all", "--address", "9.2.3.4", *text_files(folder, "own", many)], None, 65_536, 0.1),
-        ("the table of 64 files", ["table", *text_files(folder, "own", many)], None, 65_536, 0.1),
-        ("a comparison of 64 files with one", ["diff", *text_files(folder, "own", many), "--", *text_files(folder, "small", row)], None, 65_536, 0.1),
+        ("one small file", ["run", *small], row, 4_096, 0),
+        ("one long file", ["run", "--batch", "100", *text_files("long", long)], long, 65_536, 0.005),
+        ("64 files", ["run", *own], many, 65_536, 0.02),
+        ("a look-up in 64 files", ["lookup", "--address", "9.2.3.4", *own], None, 65_536, 0.1),
+        ("all that covers, in 64 files", ["lookup", "--all", "--address", "9.2.3.4", *own], None, 65_536, 0.1),
+        ("the table of 64 files", ["table", *own], None, 65_536, 0.1),
+        ("a comparison of 64 files with one", ["diff", *own, "--", *small], None, 65_536, 0.1),
         ("a replay", ["replay", "--levels", "6", *["5", "63"] * 100], None, 4_096, 0),
         ("the help", ["run", "--help"], None, 4_096, 0),
     ]
@@ -99,20 +97,23 @@ def rising_limits(name, words, texts, step, part, memory):
         size += max(step, int(size * part)) // 4096 * 4096
     expect(f"{name}: the last runs have all they want", in_turn, 40)
     expect(f"{name}: some run was short of memory", len(kinds) > 1, True)
-    print(f"{name} under rising limits: " + ", ".join(f"{count} ended {kind}" for kind, count in kinds.items()), flush=True)
+    ended = ", ".join(f"{count} ended {kind}" for kind, count in kinds.items())
+    print(f"{name} under rising limits: {ended}", flush=True)
 
 
 # Fails where status 2 stands in place of 5, or another text tells of refused commands: `['lookup', '--address'] in two
 # files`, `['table'] in two files`.
 # Fails where status 2 stands in place of 5 only beside a faulty address: `['lookup', '--addresses'] in two files`.
-def refused_commands(yarib, folder):
+def refused_commands(yarib):
     """Each request for memory of a look-up and of a list is refused in turn, those for its commands among them."""
-    refuse = refuser(folder)
-    paths = text_files(folder, "refused", [AGAIN, ROW])
-    asked = folder / "faulty.txt"
+    refuse = refuser(pathlib.Path.cwd())
+    paths = text_files("refused", [AGAIN, ROW])
+    asked = pathlib.Path("faulty.txt")
     asked.write_text("10.0.0.1\nfrob\n")
-    for words in (["lookup", "--addresses", asked], ["lookup", "--address", "10.0.0.1"], ["lookup", "--all", "--addresses", asked], ["table"],
-                  ["diff", "--by=route", paths[1], "--"]):
+    for words in (
+        ["lookup", "--addresses", asked], ["lookup", "--address", "10.0.0.1"], ["lookup", "--all", "--addresses", asked],
+        ["table"], ["diff", "--by=route", paths[1], "--"],
+    ):
         name, kinds = f"{words[:2]} in two files", set()
         try:
             refuse_each([yarib, *words, *paths], check_shown, refuse, False, kinds)
@@ -129,59 +130,63 @@ def refused_commands(yarib, folder):
 # of 7 files`.
 # Fails where F3 is answered to more than 33 texts, or 64 files are too many for `lookup`: `addresses from a pipe and 64
 # files`.
-def files(yarib, folder):
+def files(yarib):
+    folder = pathlib.Path.cwd()
     row, empty, missing = folder / "row.feed", folder / "empty.feed", folder / "missing.feed"
     row.write_text(ROW)
     empty.write_text("")
     sixty = [row] * 61
     unreadable = lambda path: (4, "", f"yarib: cannot read {path}\n")
-    expect("64 files, one missing, one a folder, one empty", run([yarib, "run", *sixty, empty, missing, folder]), unreadable(missing))
-    expect("the folder before the missing one", run([yarib, "run", *sixty, folder, empty, missing]), unreadable(folder))
-    expect("the missing one first", run([yarib, "run", missing, *sixty, folder, empty]), unreadable(missing))
-    status, out, err = run([yarib, "run", *sixty, empty, row, row])
+    ended = yarib("run", *sixty, empty, missing, folder)
+    expect("64 files, one missing, one a folder, one empty", ended, unreadable(missing))
+    expect("the folder before the missing one", yarib("run", *sixty, folder, empty, missing), unreadable(folder))
+    expect("the missing one first", yarib("run", missing, *sixty, folder, empty), unreadable(missing))
+    status, out, err = yarib("run", *sixty, empty, row, row)
     expect("one empty file of 64", (status, out.count(" added\n"), "table 63\n" in out, err), (0, 63, True, ""))
     both = "1:1 added\n2:1 added\ntable 2\n" + "".join(f"10.0.0.0/8 feed {k} pref 100 via 192.0.2.1\n" for k in (1, 2))
-    expect("the same file twice", run([yarib, "run", row, row]), (0, both, ""))
-    expect("look-ups in one of 64 files that is missing", run([yarib, "lookup", "--address", "10.0.0.1", *sixty, empty, missing, folder]), unreadable(missing))
+    expect("the same file twice", yarib("run", row, row), (0, both, ""))
+    ended = yarib("lookup", "--address", "10.0.0.1", *sixty, empty, missing, folder)
+    expect("look-ups in one of 64 files that is missing", ended, unreadable(missing))
     for count in (1, 7, 64):
         listed = "".join(f"10.0.0.0/8 feed {k} pref 100 via 192.0.2.1\n" for k in range(1, count + 1))
-        expect(f"the table of {count} files", run([yarib, "table", *[row] * count]), (0, listed, ""))
-        found = run([yarib, "lookup", "--addresses", "/dev/stdin", *[row] * count], input=b"10.0.0.1\n")
+        expect(f"the table of {count} files", yarib("table", *[row] * count), (0, listed, ""))
+        found = yarib("lookup", "--addresses", "/dev/stdin", *[row] * count, input=b"10.0.0.1\n")
         expect(f"addresses from a pipe and {count} files", found, (0, "10.0.0.1 route " + listed.splitlines(True)[0], ""))
         first, *others = listed.splitlines()
         every = f"10.0.0.1 route {first}\n" + "".join(f"10.0.0.1 also {line} feed\n" for line in others)
-        found = run([yarib, "lookup", "--all", "--address", "10.0.0.1", *[row] * count])
+        found = yarib("lookup", "--all", "--address", "10.0.0.1", *[row] * count)
         expect(f"all that covers, in {count} files", found, (0, every, ""))
-    expect("a pipe as /dev/stdin", run([yarib, "run", "/dev/stdin"], input=ROW.encode()), (0, ROW_OUT, ""))
+    expect("a pipe as /dev/stdin", yarib("run", "/dev/stdin", input=ROW.encode()), (0, ROW_OUT, ""))
     with open(row) as text:
-        expect("a file as /dev/stdin", run([yarib, "run", "/dev/stdin"], stdin=text), (0, ROW_OUT, ""))
+        expect("a file as /dev/stdin", yarib("run", "/dev/stdin", stdin=text), (0, ROW_OUT, ""))
     with open("/dev/zero") as text:
-        expect("standard input is not read unasked", run([yarib, "run", row], stdin=text), (0, ROW_OUT, ""))
-    expect("/dev/null", run([yarib, "run", "/dev/null"]), (0, "table 0\n", ""))
+        expect("standard input is not read unasked", yarib("run", row, stdin=text), (0, ROW_OUT, ""))
+    expect("/dev/null", yarib("run", "/dev/null"), (0, "table 0\n", ""))
     pipe = folder / "pipe"
     os.mkfifo(pipe)
     feeder = subprocess.Popen(["sh", "-c", f'printf "{ROW[:10]}" > "$0"; ', str(pipe)])
-    expect("a named pipe that ends in a line", run([yarib, "run", pipe]), (2, "1:1 fault E2\ntable 0\n", ""))
+    expect("a named pipe that ends in a line", yarib("run", pipe), (2, "1:1 fault E2\ntable 0\n", ""))
     feeder.terminate()
     feeder.wait()
     locked = folder / "locked.feed"
     locked.write_text(ROW)
     locked.chmod(0)
     if os.geteuid() != 0:
-        expect("a file without leave", run([yarib, "run", locked]), unreadable(locked))
+        expect("a file without leave", yarib("run", locked), unreadable(locked))
     odd = folder / "a name\nof two lines"
     odd.write_text(ROW)
-    expect("a name with a space and an LF", run([yarib, "run", odd]), (0, ROW_OUT, ""))
-    expect("a name that is missing, with an LF", run([yarib, "run", str(odd) + "x"]), unreadable(str(odd) + "x"))
-    status, out, err = run([yarib, "run", b"\xff.feed"])
+    expect("a name with a space and an LF", yarib("run", odd), (0, ROW_OUT, ""))
+    expect("a name that is missing, with an LF", yarib("run", str(odd) + "x"), unreadable(str(odd) + "x"))
+    status, out, err = yarib("run", b"\xff.feed")
     expect("a name that is no text", (status, out, err), (3, "", "yarib: arguments are not UTF-8\n"))
-    expect("a name of 5,000 bytes", run([yarib, "run", "x" * 5_000]), unreadable("x" * 5_000))
+    expect("a name of 5,000 bytes", yarib("run", "x" * 5_000), unreadable("x" * 5_000))
 
 
 # Outputs
 
 
-def outputs(yarib, folder):
+def outputs(yarib):
+    folder = pathlib.Path.cwd()
     large, row, none = folder / "large.feed", folder / "row.feed", folder / "none.feed"
     large.write_text(AGAIN * 2_500)
     row.write_text(ROW)
@@ -189,23 +194,26 @@ def outputs(yarib, folder):
     cannot = (6, "", "yarib: cannot write\n")
     asked = folder / "asked.txt"
     asked.write_text("10.0.0.1\n" * 5_000)
-    for words in (["run", row], ["run", large], ["lookup", "--addresses", asked, row],
-                  ["lookup", "--all", "--addresses", asked, row], ["table", row], ["diff", row, "--", none], ["replay", "--levels", "1", "0"], ["run", "--help"], ["--version"]):
+    for words in (
+        ["run", row], ["run", large], ["lookup", "--addresses", asked, row], ["lookup", "--all", "--addresses", asked, row],
+        ["table", row], ["diff", row, "--", none], ["replay", "--levels", "1", "0"], ["run", "--help"], ["--version"],
+    ):
         name = " ".join(str(word) for word in words if not isinstance(word, pathlib.Path))
         with open("/dev/full", "w") as full:
-            expect(f"{name}: a full output", run([yarib, *words], stdout=full), cannot)
-        expect(f"{name}: a closed output", run([yarib, *words], stdout=None, preexec_fn=lambda: os.close(1)), cannot)
+            expect(f"{name}: a full output", yarib(*words, stdout=full), cannot)
+        expect(f"{name}: a closed output", yarib(*words, stdout=None, preexec_fn=lambda: os.close(1)), cannot)
         heard, told = os.pipe()
         os.close(heard)
-        expect(f"{name}: a pipe without a reader", run([yarib, *words], stdout=told), cannot)
+        expect(f"{name}: a pipe without a reader", yarib(*words, stdout=told), cannot)
         os.close(told)
         with open("/dev/full", "w") as full:
-            expect(f"{name}: both outputs full", run([yarib, *words], stdout=full, stderr=full), (6, "", ""))
-        expect(f"{name}: nothing is open", run([yarib, *words], stdout=None, stderr=None, preexec_fn=close_all), (6, "", ""))
+            expect(f"{name}: both outputs full", yarib(*words, stdout=full, stderr=full), (6, "", ""))
+        closed = yarib(*words, stdout=None, stderr=None, preexec_fn=close_all)
+        expect(f"{name}: nothing is open", closed, (6, "", ""))
     expect("the file that was read is as it was", row.read_text(), ROW)
     reader_leaves(yarib, large)
     disc_fills(yarib, large, folder)
-    status, _, _ = run([yarib, "run", row], stderr=None, preexec_fn=lambda: os.close(2))
+    status, _, _ = yarib("run", row, stderr=None, preexec_fn=lambda: os.close(2))
     expect("standard error closed", status, 0)
 
 
@@ -230,20 +238,21 @@ def disc_fills(yarib, large, folder):
         signal.signal(signal.SIGXFSZ, signal.SIG_IGN)
         resource.setrlimit(resource.RLIMIT_FSIZE, (size, size))
 
-    whole = run([yarib, "run", large])[1]
+    whole = yarib("run", large)[1]
     for size in (0, 1, 4_096, 65_535, 65_536, 65_537, 131_072, len(whole) - 1):
         target = folder / "target"
         with open(target, "w") as output:
-            ended = run([yarib, "run", large], stdout=output, preexec_fn=limit)
+            ended = yarib("run", large, stdout=output, preexec_fn=limit)
         expect(f"an output of at most {size} bytes", ended, (6, "", "yarib: cannot write\n"))
         expect(f"what stands in {size} bytes", target.read_text() == whole[:size], True)
 
 
+CASES = (files, outputs, little_memory, refused_commands)
+
+
 def main():
-    yarib = built(sys.argv[1:])
-    with tempfile.TemporaryDirectory() as made:
-        folder = pathlib.Path(made)
-        run_each((files, outputs, little_memory, refused_commands), yarib, folder)
+    words = chosen(__doc__, CASES)
+    run_each(words.cases, words.program)
     end()
 
 

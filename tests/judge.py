@@ -13,9 +13,7 @@ commands have left the same table.
 The judge is for texts of good lines and of lines whose fault is E1, and for runs with ample memory: it takes no refusal for an
 answer.
 """
-import functools
-
-from table_model import number
+from table_model import Table, table_text
 
 TAKES = {"add": 3, "replace": 3, "withdraw": 1, "lookup": 1, "dump": 0}
 
@@ -51,7 +49,7 @@ def explains(feeds, limit, batch, output):
 def search(feeds, limit, batch, printed):
     """Whether some way leads to the end of all feeds, and this is the text of the table that it leaves."""
     start = tuple(map(len, feeds))
-    seen, unvisited = {start}, [(start, {})]
+    seen, unvisited = {start}, [(start, Table(limit))]
     while unvisited:
         unasked, table = unvisited.pop()
         if not any(unasked):
@@ -60,67 +58,13 @@ def search(feeds, limit, batch, printed):
             first = len(feeds[at]) - left
             visit = feeds[at][first : first + batch]
             after = unasked[:at] + (left - len(visit),) + unasked[at + 1 :]
-            if after not in seen and (changed := after_visit(table, at + 1, visit, limit)) is not None:
+            if after not in seen and (changed := after_visit(table, at + 1, visit)) is not None:
                 seen.add(after)
                 unvisited.append((after, changed))
     return False
 
 
-def after_visit(table, feed, visit, limit):
+def after_visit(table, feed, visit):
     """The table after the feed's commands, if they are answered as was printed."""
-    table = dict(table)
-    return table if all(answer(table, limit, feed, *command) == printed for command, printed in visit) else None
-
-
-def answer(table, limit, feed, name, *fields):
-    """The answer to the feed's command, which changes the table as it says."""
-    own = [place for place in table if place[0] == feed]
-    place = (feed, fields[0]) if fields else None
-    if name == "lookup":
-        found = best(table, number(fields[0]))
-        return f"route {found}" if found else "no route"
-    if name == "dump":
-        return f"dumped {len(table)}"
-    if name == "purge":
-        for place in own:
-            del table[place]
-        return f"purged {len(own)}"
-    if name == "add" and place in table:
-        return "exists"
-    if name == "add" and len(own) >= limit:
-        return "full"
-    if name != "add" and place not in table:
-        return "missing"
-    if name == "withdraw":
-        del table[place]
-        return "withdrawn"
-    table[place] = (int(fields[1]), fields[2])
-    return "added" if name == "add" else "replaced"
-
-
-def best(table, sought):
-    """The route for the address: it covers the address, of those the longest, of those the least preference, of those the least
-    feed."""
-    found = [
-        (-length, pref, feed, row(feed, prefix, pref, hop))
-        for (feed, prefix), (pref, hop) in table.items()
-        for base, length in [block(prefix)]
-        if sought >> 32 - length == base >> 32 - length
-    ]
-    return min(found)[3] if found else None
-
-
-def row(feed, prefix, pref, hop):
-    return f"{prefix} feed {feed} pref {pref} via {hop}"
-
-
-def table_text(table):
-    rows = sorted((*block(prefix), pref, feed, row(feed, prefix, pref, hop)) for (feed, prefix), (pref, hop) in table.items())
-    return f"table {len(rows)}\n" + "".join(text + "\n" for *_, text in rows)
-
-
-@functools.cache
-def block(prefix):
-    """Base and length of a prefix."""
-    base, length = prefix.split("/")
-    return number(base), int(length)
+    table = table.copy()
+    return table if all(table.apply(feed, command) == printed for command, printed in visit) else None

@@ -1,9 +1,9 @@
 #!/usr/bin/env python3
 """Starts ./yarib in copies of the repository where a stand-in for the toolchain builds it, and asks bash for completions.
 
-Usage: tests/launcher.py. Needs bash, gcc and python3, but no toolchain: the stand-in `rt` notes when it begins and ends with
-which crate, and what it builds is tests/started.c, which tells how it was started. So this takes seconds, and says nothing of
-proofs.
+tests/launcher.py [CASE..], or --list for the names of the cases. Needs bash, gcc and python3, but no toolchain: the stand-in `rt`
+notes when it begins and ends with which crate, and what it builds is tests/started.c, which tells how it was started. So this
+takes seconds, and says nothing of proofs.
 """
 import concurrent.futures
 import os
@@ -14,7 +14,7 @@ import subprocess
 import tempfile
 import time
 
-from checks import TOP, end, expect, run, text_of
+from checks import TOP, chosen, compiled, end, expect, run, run_case, text_of
 
 # Notes the beginning and the end of each call in $NOTES, in whose order they happened.
 STANDIN = """#!/bin/sh
@@ -43,7 +43,8 @@ class Copy:
     def __init__(self, made, tools, name):
         self.top, self.notes, self.tools = made / name, made / f"{name}.notes", tools
         for crate in NEEDS:
-            for file in ("src/main.rt" if crate == "rt_app" else "src/lib.rt", "specs/S.antt", "proofs/P.antt", "must-fail/m.edit"):
+            root = "src/main.rt" if crate == "rt_app" else "src/lib.rt"
+            for file in (root, "specs/S.antt", "proofs/P.antt", "must-fail/m.edit"):
                 path = self.top / "crates" / crate / file
                 path.parent.mkdir(parents=True)
                 path.write_text("//\n")
@@ -66,6 +67,11 @@ class Copy:
         self.notes.write_text("")
         return noted
 
+    def built_by_call(self):
+        """What the stand-in notes of a call, which has to start the program."""
+        expect("the program is started", self.start("x")[:2], (0, told(["x"], self.top)))
+        return self.built()
+
     def touch(self, name):
         path = self.top / name
         path.parent.mkdir(parents=True, exist_ok=True)
@@ -85,13 +91,16 @@ def with_own(tunables):
 # Each of these has a copy of its own, and they run at the same time.
 
 
-# Fails where words beyond the third are lost, where they are split or joined, or where the status is lost: `the words`, `the status`.
+# Fails where words beyond the third are lost, where they are split or joined, or where the status is lost: `the words`, `the
+# status`.
 # Fails where the program is started in the repository's folder, or by another name: `from elsewhere`, `the words []`.
 # Fails where a user's own tunables are lost: `a user's own tunables`.
 def what_it_is_given(copy):
     copy.start()
-    for words in ([], ["run"], ["run", "--limit", "3", "--batch", "4", "one.feed", "two.feed"], [str(count) for count in range(300)],
-                  ["a b", "", "*", "$HOME", "it's", '"', "\\", "two\nlines", "--", "-n", "-h"]):
+    for words in (
+        [], ["run"], ["run", "--limit", "3", "--batch", "4", "one.feed", "two.feed"], [str(count) for count in range(300)],
+        ["a b", "", "*", "$HOME", "it's", '"', "\\", "two\nlines", "--", "-n", "-h"],
+    ):
         expect(f"the words {words[:12]}", copy.start(*words), (0, told(words, copy.top), ""))
     status, out, _ = copy.start(b"\xff", "--")
     expect("a word that is no text", (status, out.split("\0")[:4]), (0, ["3", "yarib", "\\xff", "--"]))
@@ -99,7 +108,8 @@ def what_it_is_given(copy):
         expect(f"the status {status}", copy.start("x", names={"STARTED_STATUS": str(status)})[::2], (status, ""))
     expect("standard input", copy.start("x", stdin=None, input=b"10.0.0.1\n"), (0, told(["x"], copy.top, given="10.0.0.1\n"), ""))
     own = "glibc.malloc.arena_max=2"
-    expect("a user's own tunables", copy.start("x", names={"GLIBC_TUNABLES": own}), (0, told(["x"], copy.top, tunables=with_own(own)), ""))
+    ended = copy.start("x", names={"GLIBC_TUNABLES": own})
+    expect("a user's own tunables", ended, (0, told(["x"], copy.top, tunables=with_own(own)), ""))
     link = copy.top.parent / "called"
     link.symlink_to(copy.top / "yarib")
     expect("from elsewhere", copy.start("x", by=link, cwd=link.parent), (0, told(["x"], link.parent), ""))
@@ -110,23 +120,18 @@ def what_it_is_given(copy):
 # Fails where an edit that the prover has to refuse, or a crate on which the program doesn't stand, has it built anew: `not built
 # where crates/walkthrough/src/lib.rt is newer`.
 def what_is_built_anew(copy):
-    whole = len(built_by(copy))
-    for name in ("crates/rt_trie/src/lib.rt", "crates/rt_trie/specs/S.antt", "crates/ya_core/specs/inside/new.antt", "crates.txt"):
+    whole = len(copy.built_by_call())
+    specs = ("crates/rt_trie/specs/S.antt", "crates/ya_core/specs/inside/new.antt")
+    for name in ("crates/rt_trie/src/lib.rt", *specs, "crates.txt"):
         copy.touch(name)
-        expect(f"built where {name} is newer", len(built_by(copy)), whole)
-        expect(f"not built again where {name} was newer", built_by(copy), [])
+        expect(f"built where {name} is newer", len(copy.built_by_call()), whole)
+        expect(f"not built again where {name} was newer", copy.built_by_call(), [])
     others = [f"crates/{crate}/src/lib.rt" for crate in sorted(set(NEEDS) - needed("rt_app"))]
     for name in ("crates/rt_trie/must-fail/m.edit", *others, "crates/rt_trie/out/rlib", "README.md", "tests/rows.py"):
         copy.touch(name)
-        expect(f"not built where {name} is newer", built_by(copy), [])
+        expect(f"not built where {name} is newer", copy.built_by_call(), [])
     (copy.top / "out/yarib").unlink()
-    expect("built where there is no program", len(built_by(copy)), whole)
-
-
-def built_by(copy):
-    """What the stand-in notes of a call, which has to start the program."""
-    expect("the program is started", copy.start("x")[:2], (0, told(["x"], copy.top)))
-    return copy.built()
+    expect("built where there is no program", len(copy.built_by_call()), whole)
 
 
 # Fails where a crate is proved before one that it needs: `rt_trie begins when rt_cidr has ended`.
@@ -158,9 +163,10 @@ def failed_builds(copy):
         copy.built()
         status, out, err = copy.start("x", names={"FAILS": crate})
         log = (copy.top / "out/build.log").read_text()
-        expect(f"{crate} fails", (status, out, "build" in err or crate in err, f"no proof of {crate}" in log), (126, "", True, True))
+        is_told = "build" in err or crate in err, f"no proof of {crate}" in log
+        expect(f"{crate} fails", (status, out, *is_told), (126, "", True, True))
         expect(f"rt_app is not built where {crate} fails", "end rt_app" in copy.built(), False)
-    expect("built when nothing fails any more", built_by(copy).count("end rt_app"), 1)
+    expect("built when nothing fails any more", copy.built_by_call().count("end rt_app"), 1)
 
 
 # Fails where a source that was changed during the build counts as built: `a source was changed while ..`.
@@ -169,8 +175,8 @@ def changed_meanwhile(copy):
         copy.touch("crates.txt")
         copy.start(names={"CHANGES": crate})
         copy.built()
-        expect(f"a source was changed while {crate} was built", built_by(copy).count("end rt_app"), 1)
-    expect("nothing was changed since", built_by(copy), [])
+        expect(f"a source was changed while {crate} was built", copy.built_by_call().count("end rt_app"), 1)
+    expect("nothing was changed since", copy.built_by_call(), [])
 
 
 # Fails where the toolchain is asked for though nothing is to be built, or its want has another status: `without rt`.
@@ -193,14 +199,17 @@ def nothing_to_build_with(copy):
 
 def offered(*words):
     """What the completion offers for the last of the words, and whether it may be a file."""
-    script = 'source completions/yarib.bash; compopt() { echo "files"; }; COMP_WORDS=("$@"); COMP_CWORD=$(($# - 1)); _yarib; printf "%s\\n" "${COMPREPLY[@]}"'
+    script = (
+        'source completions/yarib.bash; compopt() { echo "files"; }; COMP_WORDS=("$@"); COMP_CWORD=$(($# - 1)); _yarib; '
+        'printf "%s\\n" "${COMPREPLY[@]}"'
+    )
     ended = subprocess.run(["bash", "-c", script, "bash", "yarib", *words], cwd=TOP, stdout=subprocess.PIPE, timeout=120)
     lines = text_of(ended.stdout).split()
     return "files" if "files" in lines else sorted(lines)
 
 
 # Fails where a wrong word stands in the completions, or one of the help is missing: `--limit of run`, `the options of run`.
-def completions(_copy):
+def completions(copy):
     page = lambda name: (TOP / "tests/help" / f"{name}.txt").read_text()
     commands = re.findall(r"^  (\w+)  ", page("yarib").partition("Options:")[0], re.M)
     options = re.findall(r"(--\w+)", page("yarib"))
@@ -235,18 +244,22 @@ def put_tools(folder):
                     (folder / name / command.name).symlink_to(command)
     (folder / "with/rt").write_text(STANDIN)
     (folder / "with/rt").chmod(0o755)
-    subprocess.run(["gcc", "-O1", "-o", folder / "started", TOP / "tests/started.c"], check=True)
+    compiled(folder, "tests/started.c")
+
+
+CASES = (
+    what_it_is_given, what_is_built_anew, in_order, one_at_a_time, failed_builds, changed_meanwhile, nothing_to_build_with,
+    completions,
+)
 
 
 def main():
-    groups = (what_it_is_given, what_is_built_anew, in_order, one_at_a_time, failed_builds, changed_meanwhile, nothing_to_build_with, completions)
-    with tempfile.TemporaryDirectory() as made, concurrent.futures.ThreadPoolExecutor(len(groups)) as pool:
+    cases = chosen(__doc__, CASES, takes=()).cases
+    with tempfile.TemporaryDirectory() as made, concurrent.futures.ThreadPoolExecutor(len(cases)) as pool:
         folder = pathlib.Path(made).resolve()
         put_tools(folder / "tools")
-        copies = [Copy(folder, folder / "tools", group.__name__) for group in groups]
-        for group, done in [(group, pool.submit(group, copy)) for group, copy in zip(groups, copies)]:
+        for done in [pool.submit(run_case, case, Copy(folder, folder / "tools", case.__name__)) for case in cases]:
             done.result()
-            print(f"{group.__name__.replace('_', ' ')}: done", flush=True)
     end()
 
 

@@ -1,14 +1,14 @@
 #!/usr/bin/env python3
 """Refuses each request for memory in turn, and compares what comes out with a plain model.
 
-Usage: tests/refused_growth.py [YARIB LIBRARIES]. Needs rt, gcc and glibc; takes some minutes once all is built. The two
-words name a built yarib and a built crates/benches, which are else built first.
+tests/refused_growth.py [PROGRAM BENCHES [CASE..]], or --list for the names of the cases. BENCHES is a built crates/benches. Needs
+gcc and glibc, and rt where something is to be built; takes some minutes once all is built.
 
 Each case is run with its first request refused, then with its second, and so on until a run meets no refusal; and once more
 so that all requests after the refused one are refused as well. The cases are those of crates/benches/src/growth.rt (the lock, the
 shared table, feeds on gates) and runs and replays of the program. After each run the answers, the journal, the routes and
-what was printed are compared whole with a model that leaves out what was refused, and no run may end by a signal. At the end
-each kind of refusal must have been met. The requests are refused before the C library sees them, so what the launchers set
+what was printed are compared whole with a model that leaves out what was refused, and no run may end by a signal. All cases
+together must have met each kind of refusal. The requests are refused before the C library sees them, so what the launchers set
 changes nothing here, and all is run once.
 """
 import collections
@@ -16,34 +16,17 @@ import os
 import pathlib
 import re
 import subprocess
-import sys
 import tempfile
 
 import checks
 from table_model import Table, dotted, run_text
-
-TOP = pathlib.Path(__file__).resolve().parent.parent
 
 Ending = collections.namedtuple("Ending", "status out err refused")
 
 
 def refuser(folder):
     """The path of what refuses."""
-    refuse = folder / "refuse.so"
-    subprocess.run(["gcc", "-O2", "-shared", "-fPIC", "-o", refuse, TOP / "tests" / "refuse.c"], check=True)
-    return refuse
-
-
-def build(folder):
-    """The paths of the program, of the crate's program and of what refuses."""
-    refuse = refuser(folder)
-    if len(sys.argv) > 2:
-        return pathlib.Path(sys.argv[1]).resolve(), pathlib.Path(sys.argv[2]).resolve(), refuse
-    yarib, crate = checks.built([]), TOP / "crates" / "benches"
-    built = subprocess.run(["rt", "run", "--", "growth"], cwd=crate, capture_output=True, text=True)
-    if built.returncode != 0:
-        sys.exit("tests/refused_growth.py: the crate was not built\n" + built.stdout[-2000:] + built.stderr[-2000:])
-    return yarib, crate / "out" / "benches", refuse
+    return checks.compiled(folder, "tests/refuse.c", "-shared", "-fPIC")
 
 
 def run(words, refuse, at, rest):
@@ -83,7 +66,8 @@ def reply_of(reply):
 
 def routes_of(text):
     """A list of routes as the program's table has them."""
-    return [reply_of("Found(" + route + ")").removeprefix("route ") for route in re.findall(r"Route \{[^{}]*(?:\{[^{}]*\}[^{}]*)*\}", text)]
+    routes = re.findall(r"Route \{[^{}]*(?:\{[^{}]*\}[^{}]*)*\}", text)
+    return [reply_of("Found(" + route + ")").removeprefix("route ") for route in routes]
 
 
 class Wrong(Exception):
@@ -284,8 +268,8 @@ def check_shown(ending, ample, kinds):
         agree(ending[:3], ample[:3], "all of it")
         return
     agree(answered_addresses(ending.out), answered_addresses(ample.out), "the addresses that are answered")
-    told = [line for line in ending.err.splitlines() if re.fullmatch(r"yarib: .*: commands refused for want of memory: [1-9]\d*", line)]
-    agree(len(told) > 0, True, "that refused commands are told")
+    told = re.search(r"^yarib: .*: commands refused for want of memory: [1-9]\d*$", ending.err, re.M)
+    agree(told is not None, True, "that refused commands are told")
     kinds.add("a command of a look-up or list")
 
 
@@ -320,37 +304,12 @@ add {feed}.2.0.0/16 1 192.0.2.3
 """
 
 
-def files(folder, name, texts):
-    """The paths of files with these texts."""
-    paths = []
-    for place, text in enumerate(texts, 1):
-        paths.append(folder / f"{name}{place}.feed")
-        paths[-1].write_text(text)
+def files(name, texts):
+    """The names of files with these texts."""
+    paths = [pathlib.Path(f"{name}{place}.feed") for place in range(1, len(texts) + 1)]
+    for path, text in zip(paths, texts):
+        path.write_text(text)
     return paths
-
-
-def cases(folder, yarib, libraries):
-    """Each case: its name, its words, and what compares its endings."""
-    row, three, many = [ROW], [own_text(feed) for feed in range(1, 4)], [own_text(feed) for feed in range(1, 65)]
-    yield "the lock", [libraries, "growth", "lock"], check_crate(check_lock)
-    yield "the shared table", [libraries, "growth", "table"], check_crate(check_table)
-    yield "a feed", [libraries, "growth", "feed"], check_crate(check_feeds)
-    yield "three feeds", [libraries, "growth", "feeds"], check_crate(check_feeds)
-    for name, texts in (("one file", row), ("three files", three), ("64 files", many)):
-        paths = files(folder, name.replace(" ", ""), texts)
-        for batch in ("1", "3"):
-            yield f"{name}, --batch {batch}", [yarib, "run", "--batch", batch, *paths], check_run(texts)
-    (folder / "asked.txt").write_text("10.0.0.1\nfrob\n" + "".join(f"{feed}.2.3.4\n" for feed in range(1, 65)))
-    for name, texts in (("one file", row), ("three files", three), ("64 files", many)):
-        paths = files(folder, name.replace(" ", ""), texts)
-        yield f"a look-up in {name}", [yarib, "lookup", "--addresses", folder / "asked.txt", *paths], check_shown
-        yield f"all that covers, of {name}", [yarib, "lookup", "--all", "--addresses", folder / "asked.txt", *paths], check_shown
-        yield f"the table of {name}", [yarib, "table", "--best", *paths], check_shown
-        yield f"a comparison of {name} with one", [yarib, "diff", *paths, "--", *files(folder, "other", row)], check_shown
-    yield "a replay", [yarib, "replay", "--levels", "1", "0", "0", "0", "0"], check_same
-    yield "a replay of 6 levels", [yarib, "replay", "--levels", "6"] + ["5", "63"] * 30, check_same
-    yield "the help", [yarib, "run", "--help"], check_same
-    yield "a refused command line", [yarib, "walk"], check_refused_words
 
 
 def check_refused_words(ending, ample, kinds):
@@ -359,9 +318,73 @@ def check_refused_words(ending, ample, kinds):
         agree(ending[:3], ample[:3], "all of it")
 
 
+class Called(collections.namedtuple("Called", "yarib benches refuse kinds")):
+    """The program, the crate's program, what refuses, and the kinds of refusal that were met."""
+
+
+class Case:
+    """A call whose requests are refused: what makes its words, and the files that they name, and what compares its endings."""
+
+    def __init__(self, name, words, compare):
+        self.__name__, self.words, self.compare = name.replace(" ", "_"), words, compare
+
+    def __call__(self, called):
+        words = self.words(called)
+        try:
+            counts = [refuse_each(words, self.compare, called.refuse, rest, called.kinds) for rest in (False, True)]
+        except Wrong as wrong:
+            checks.expect("what comes out", str(wrong), "as foreseen")
+            return
+        print(f"{counts[0]} requests refused in turn, and {counts[1]} with all later ones", flush=True)
+
+
+def of_benches(name, word, check):
+    return Case(name, lambda called: [called.benches, "growth", word], check_crate(check))
+
+
+def of_yarib(name, words, compare):
+    """A case of the program, whose words are made where its files may be."""
+    return Case(name, lambda called: [called.yarib, *words()], compare)
+
+
+def asked():
+    """The name of a text of addresses, one of its lines faulty."""
+    path = pathlib.Path("asked.txt")
+    path.write_text("10.0.0.1\nfrob\n" + "".join(f"{feed}.2.3.4\n" for feed in range(1, 65)))
+    return path
+
+
+def cases_of(name, texts):
+    """The cases of runs over these texts, and of what is asked of their table."""
+    own = lambda: files("own", texts)
+    for batch in ("1", "3"):
+        words = lambda batch=batch: ["run", "--batch", batch, *own()]
+        yield of_yarib(f"{name} in batches of {batch}", words, check_run(texts))
+    yield of_yarib(f"a look-up in {name}", lambda: ["lookup", "--addresses", asked(), *own()], check_shown)
+    yield of_yarib(f"all that covers in {name}", lambda: ["lookup", "--all", "--addresses", asked(), *own()], check_shown)
+    yield of_yarib(f"the table of {name}", lambda: ["table", "--best", *own()], check_shown)
+    compared = lambda: ["diff", *own(), "--", *files("other", [ROW])]
+    yield of_yarib(f"a comparison of {name} with one", compared, check_shown)
+
+
+CASES = [
+    of_benches("the lock", "lock", check_lock),
+    of_benches("the shared table", "table", check_table),
+    of_benches("a feed", "feed", check_feeds),
+    of_benches("three feeds", "feeds", check_feeds),
+    *cases_of("one file", [ROW]),
+    *cases_of("three files", [own_text(feed) for feed in range(1, 4)]),
+    *cases_of("64 files", [own_text(feed) for feed in range(1, 65)]),
+    of_yarib("a replay", lambda: ["replay", "--levels", "1", "0", "0", "0", "0"], check_same),
+    of_yarib("a replay of 6 levels", lambda: ["replay", "--levels", "6", *["5", "63"] * 30], check_same),
+    of_yarib("the help", lambda: ["run", "--help"], check_same),
+    of_yarib("a refused command line", lambda: ["walk"], check_refused_words),
+]
+
 KINDS = {
-    "TreeLock::new", "SharedRib::new", "SharedRib::apply_batch", "SharedRib::routes", "a command of a batch", "Book::reserve", "Book::routes",
-    "lookup or table", "a command of a look-up or list", "run_feed", "run_feeds", "a command of a feed", "run_texts", "a line of a run", "fault F3", "fault P3",
+    "TreeLock::new", "SharedRib::new", "SharedRib::apply_batch", "SharedRib::routes", "a command of a batch", "Book::reserve",
+    "Book::routes", "lookup or table", "a command of a look-up or list", "run_feed", "run_feeds", "a command of a feed",
+    "run_texts", "a line of a run", "fault F3", "fault P3",
 } | {"SharedRib::apply " + name for name in ("Add", "Replace", "Withdraw", "Lookup", "Dump", "Purge")}
 
 
@@ -380,19 +403,13 @@ def refuse_each(words, compare, refuse, rest, kinds):
 
 
 def main():
-    kinds = set()
+    words = checks.chosen(__doc__, CASES, ("program", "benches"))
     with tempfile.TemporaryDirectory() as made:
-        folder = pathlib.Path(made)
-        yarib, libraries, refuse = build(folder)
-        for name, words, compare in cases(folder, yarib, libraries):
-            try:
-                counts = [refuse_each(words, compare, refuse, rest, kinds) for rest in (False, True)]
-            except Wrong as wrong:
-                sys.exit(f"{name}: {wrong}")
-            print(f"{name}: {counts[0]} requests refused in turn, and {counts[1]} with all later ones", flush=True)
-    if kinds != KINDS:
-        sys.exit(f"kinds of refusal that were not met, or not foreseen: {sorted(kinds ^ KINDS)}")
-    print("each kind of refusal was met")
+        called = Called(words.program, words.benches or checks.built_benches("growth"), refuser(pathlib.Path(made)), set())
+        checks.run_each(words.cases, called)
+    if len(words.cases) == len(CASES):
+        checks.expect("the kinds of refusal that were met", sorted(called.kinds), sorted(KINDS))
+    checks.end()
 
 
 if __name__ == "__main__":

@@ -1,7 +1,7 @@
 #!/usr/bin/env python3
 """Counts the program's requests for memory, and wants none where the pages say that a call takes none.
 
-Usage: tests/requests.py [YARIB]. Builds ./yarib first unless a built program is named. Needs gcc and glibc.
+tests/requests.py [PROGRAM [CASE..]], or --list for the names of the cases. Needs gcc and glibc.
 
 A list that grows doubles its room. So twice as many commands of a kind that takes no memory may cost no more than some
 requests for the text, the reports and the journal, and one more for each is seen; a run writes with not one request between
@@ -9,14 +9,11 @@ two writes; what a run holds at its end, when all routes are withdrawn or purged
 table that has routes is left to the system. What the launchers set changes no request, only where the C library finds what it
 grants, so all is run once.
 """
-import os
 import pathlib
 import struct
-import subprocess
-import sys
 import tempfile
 
-from checks import TOP, built, end, expect, run, run_each
+from checks import chosen, compiled, end, expect, run, run_each
 from table_model import dotted
 
 # How many requests more a text of twice the length may make: for its bytes, the reports' lists, the batch and the journal.
@@ -38,6 +35,11 @@ def counted(words, count):
     return requests, (blocks, size), struct.unpack_from(f"{min(writes, WRITES)}Q", data, 32)
 
 
+def prefix(at):
+    return f"{dotted(0x0A00_0000 + (at << 8))}/24"
+
+
+ADDS = "".join(f"add {prefix(at)} 1 192.0.2.1\n" for at in range(10_000))
 OWN = "version 2\nadd 10.0.0.0/8 1 192.0.2.1\n"
 # Lines of which none takes memory, each kind by itself. The feed may have one route, and has it.
 KINDS = {
@@ -72,12 +74,13 @@ def counted_text(yarib, count, text, batch, *words):
 
 
 def shown(yarib, count):
-    """Twice as many answers and rows cost no request for each, but one each of all that covers, nor any while they are written."""
-    adds = "".join(f"add {dotted(0x0A00_0000 + (at << 8))}/24 1 192.0.2.1\n" for at in range(10_000))
-    pathlib.Path("text.feed").write_text(adds)
-    few, many = (counted_shown(yarib, count, ["lookup", "--addresses", "asked.txt"], lines) for lines in (20_000, 40_000))
+    """Twice as many answers and rows cost no request for each, but one each of all that covers, nor any while they are
+    written."""
+    pathlib.Path("text.feed").write_text(ADDS)
+    asked = ["--addresses", "asked.txt"]
+    few, many = (counted_shown(yarib, count, ["lookup", *asked], lines) for lines in (20_000, 40_000))
     expect(f"answers: {many - few} requests more", many - few <= DOUBLING, True)
-    few, many = (counted_shown(yarib, count, ["lookup", "--all", "--addresses", "asked.txt"], lines) for lines in (20_000, 40_000))
+    few, many = (counted_shown(yarib, count, ["lookup", "--all", *asked], lines) for lines in (20_000, 40_000))
     # The routes that cover an address lie in a list of their own.
     expect(f"all that covers: {many - few} requests more", 0 <= many - few - 20_000 <= DOUBLING, True)
     listed = counted_shown(yarib, count, ["table"], 1)
@@ -94,18 +97,17 @@ def counted_shown(yarib, count, words, lines):
 
 def routes(yarib, count):
     """A route costs two boxes at most, and one that comes and goes a box; and all is given back."""
-    prefix = lambda at: f"{dotted(0x0A00_0000 + (at << 8))}/24"
-    adds = "".join(f"add {prefix(at)} 1 192.0.2.1\n" for at in range(10_000))
     withdraws = "".join(f"withdraw {prefix(at * 7919 % 10_000)}\n" for at in range(10_000))
     dumps, purge = "version 2\n" + "dump\n" * 20_000, "purge\n" * 10_000
     for batch in BATCHES:
         idle = counted_text(yarib, count, dumps, batch)
         for name, last in (("withdrawn", withdraws), ("purged", purge)):
-            requests, held = counted_text(yarib, count, "version 2\n" + adds + last, batch)
+            requests, held = counted_text(yarib, count, "version 2\n" + ADDS + last, batch)
             expect(f"{name}, in batches of {batch}: held", held, idle[1])
             expect(f"{name}, in batches of {batch}: {requests - idle[0]} requests", requests - idle[0] <= 20_000 + DOUBLING, True)
-    come_and_go = [counted_text(yarib, count, "add 10.0.0.0/8 1 192.0.2.1\nwithdraw 10.0.0.0/8\n" * times, "64") for times in (10_000, 20_000)]
-    more = come_and_go[1][0] - come_and_go[0][0] - 10_000
+    comes_and_goes = "add 10.0.0.0/8 1 192.0.2.1\nwithdraw 10.0.0.0/8\n"
+    few, many = (counted_text(yarib, count, comes_and_goes * times, "64")[0] for times in (10_000, 20_000))
+    more = many - few - 10_000
     expect(f"a route that comes and goes: {more} requests more", 0 <= more <= DOUBLING, True)
 
 
@@ -113,21 +115,21 @@ def routes(yarib, count):
 def left(yarib, count):
     """The routes of a table are still held at the end: the system takes their pages back at once."""
     pathlib.Path("none.feed").write_text("")
-    pathlib.Path("text.feed").write_text("".join(f"add {dotted(0x0A00_0000 + (at << 8))}/24 1 192.0.2.1\n" for at in range(10_000)))
+    pathlib.Path("text.feed").write_text(ADDS)
     for name, words, tables in (("run", [], 1), ("table", [], 1), ("lookup", ["--address", "10.0.0.1"], 1), ("diff", [], 2)):
         files = lambda file: [file] if tables == 1 else [file, "--", file]
         none, routes = (counted([yarib, name, *words, *files(file)], count)[1][0] for file in ("none.feed", "text.feed"))
         expect(f"{name}: 10,000 routes are left", routes - none >= tables * 10_000, True)
 
 
+CASES = (commands, routes, shown, left)
+
+
 def main():
-    yarib = built(sys.argv[1:])
+    words = chosen(__doc__, CASES)
     with tempfile.TemporaryDirectory() as folder:
-        count = pathlib.Path(folder) / "count.so"
-        subprocess.run(["gcc", "-O2", "-shared", "-fPIC", "-o", count, TOP / "tests" / "count.c"], check=True)
-        os.chdir(folder)
-        run_each((commands, routes, shown, left), yarib, count)
-        os.chdir("/")
+        count = compiled(pathlib.Path(folder), "tests/count.c", "-shared", "-fPIC")
+        run_each(words.cases, words.program, count)
     end()
 
 

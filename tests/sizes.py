@@ -1,20 +1,19 @@
 #!/usr/bin/env python3
 """Runs of sizes at which a needless refusal would show: the whole output of each is compared with a plain model.
 
-Usage: tests/sizes.py [YARIB]. Builds ./yarib first unless a built program is named. Linux, python3, 2 GB of memory.
+tests/sizes.py [PROGRAM [CASE..]], or --list for the names of the cases. Linux, python3, 2 GB of memory.
 
 That a call which wants memory gets it where there is some, no clause can say. So: a million routes of one feed and more than a
 million lines, entries and answers; each number of files from 1 to 64, with as many offers of one prefix; feeds with other
 texts of their own; batches about the sizes at which lists grow; the greatest numbers and the last address. `lookup` and
-`table` are called on each number of files, on 300,000 routes and with 100,000 addresses. All is run with the memory that the C
-library gives by itself, and once more as the launchers set it.
+`table` are called on each number of files, on 300,000 routes and with 100,000 addresses. All is run with memory as the launchers
+set it. What has 64 threads, which by the C library's default share several arenas, and what fills large pages is about that
+memory, and is run once more by that default (`OF_MEMORY`). The others are about numbers in the code, and are run once.
 """
 import os
 import pathlib
-import sys
-import tempfile
 
-from checks import LAUNCHED, built, compare, end, run, run_each
+from checks import LAUNCHED, chosen, compare, end, run_each
 from table_model import all_answers_text, answers_text, dotted, ran, run_text, told_text
 
 MOST = 1_000_000
@@ -45,12 +44,14 @@ def million(yarib):
     report = "".join(f"1:{at} {answer}\n" for at, answer in enumerate(answers, 2))
     order = sorted(range(MOST), key=bases.__getitem__)
     pathlib.Path("million.feed").write_text(text)
-    words = [yarib, "run", "--limit", str(MOST), "--batch", "1024", "million.feed"]
-    compare("a million routes", run(words), 0, report + f"table {MOST}\n" + "".join(shown(at) + "\n" for at in order))
+    words = ["run", "--limit", str(MOST), "--batch", "1024", "million.feed"]
+    table = f"table {MOST}\n" + "".join(shown(at) + "\n" for at in order)
+    compare("a million routes", yarib(*words), 0, report + table)
     at = len(answers) + 2
     pathlib.Path("million.feed").write_text(text + "purge\npurge\ndump\nadd 0.0.0.0/0 0 discard\n")
-    left = f"1:{at} purged {MOST}\n1:{at + 1} purged 0\n1:{at + 2} dumped 0\n1:{at + 3} added\ntable 1\n0.0.0.0/0 feed 1 pref 0 via discard\n"
-    compare("a purge of a million routes", run(words), 0, report + left)
+    left = f"1:{at} purged {MOST}\n1:{at + 1} purged 0\n1:{at + 2} dumped 0\n1:{at + 3} added\n"
+    left += "table 1\n0.0.0.0/0 feed 1 pref 0 via discard\n"
+    compare("a purge of a million routes", yarib(*words), 0, report + left)
 
 
 def of_one_feed(count):
@@ -68,14 +69,15 @@ def batches(yarib):
     text = of_one_feed(2_100)
     out = run_text([text], set())
     pathlib.Path("batch.feed").write_text(text)
-    for batch in [*range(1, 10), 15, 16, 17, 31, 32, 33, 63, 64, 65, 127, 128, 129, 255, 256, 257, 511, 512, 513, 700, 1023, 1024]:
-        compare(f"in batches of {batch}", run([yarib, "run", "--batch", str(batch), "batch.feed"]), 0, out)
+    about_powers = [power + more for power in (16, 32, 64, 128, 256, 512) for more in (-1, 0, 1)]
+    for batch in [*range(1, 10), *about_powers, 700, 1023, 1024]:
+        compare(f"in batches of {batch}", yarib("run", "--batch", str(batch), "batch.feed"), 0, out)
     # A batch of just so many commands, and one of a command less and more than the text has.
     for count in [*range(1, 10), 255, 256, 257, 1023, 1024]:
         pathlib.Path("count.feed").write_text("dump\n" * count)
         out = "".join(f"1:{line} dumped 0\n" for line in range(1, count + 1)) + "table 0\n"
         for batch in {max(count - 1, 1), count, min(count + 1, 1024)}:
-            compare(f"{count} commands in batches of {batch}", run([yarib, "run", "--batch", str(batch), "count.feed"]), 0, out)
+            compare(f"{count} commands in batches of {batch}", yarib("run", "--batch", str(batch), "count.feed"), 0, out)
 
 
 # Fails where a `purge` of more than 1,024 routes is refused where the journal has no room: `a purge of 65536`.
@@ -85,7 +87,7 @@ def purges(yarib):
         pathlib.Path("purge.feed").write_text("version 2\n" + "".join(adds) + "purge\ndump\n")
         report = "".join(f"1:{line} added\n" for line in range(2, count + 2))
         out = report + f"1:{count + 2} purged {count}\n1:{count + 3} dumped 0\ntable 0\n"
-        compare(f"a purge of {count}", run([yarib, "run", "--batch", "64", "purge.feed"]), 0, out)
+        compare(f"a purge of {count}", yarib("run", "--batch", "64", "purge.feed"), 0, out)
 
 
 # Fails where F3 is answered to 40 texts, or the ninth or the 64th offer of a prefix is refused: `40 feeds in batches of
@@ -110,21 +112,24 @@ add {feed + 10}.128.0.0/9 0 discard
     names = [f"{feed}.feed" for feed in range(1, 65)]
     for count in range(1, 65):
         for batch in ("1", "3", "1024") if count in (1, 2, 5, 9, 17, 40, 64) else ("2",):
-            ended = run([yarib, "run", "--batch", batch, *names[:count]])
+            ended = yarib("run", "--batch", batch, *names[:count])
             compare(f"{count} feeds in batches of {batch}", ended, 0, run_text(texts[:count], set()))
         shown(yarib, texts[:count], names[:count])
     pathlib.Path("empty.feed").write_text("")
-    pathlib.Path("last.feed").write_text("dump\n" + texts[-1].replace("version 2\n", "").replace("discard", "192.0.2.9") + "dump\n")
-    answers = ["dumped 0", "added", "added", "added", "route 74.0.0.0/8 feed 64 pref 64 via 192.0.2.1", "replaced", "withdrawn", "added", "dumped 3"]
+    last = texts[-1].replace("version 2\n", "").replace("discard", "192.0.2.9")
+    pathlib.Path("last.feed").write_text("dump\n" + last + "dump\n")
+    answers = ["dumped 0", "added", "added", "added", "route 74.0.0.0/8 feed 64 pref 64 via 192.0.2.1",
+               "replaced", "withdrawn", "added", "dumped 3"]
     report = "".join(f"64:{line} {answer}\n" for line, answer in enumerate(answers, 1))
     routes = ["10.0.0.0/8 feed 64 pref 0 via 192.0.2.64", "74.128.0.0/9 feed 64 pref 0 via 192.0.2.9",
               "255.255.255.255/32 feed 64 pref 4294967294 via 192.0.2.64"]
     wanted = report + "table 3\n" + "".join(line + "\n" for line in routes)
-    compare("feed 64 alone asks", run([yarib, "run", *["empty.feed"] * 63, "last.feed"]), 0, wanted)
+    compare("feed 64 alone asks", yarib("run", *["empty.feed"] * 63, "last.feed"), 0, wanted)
 
 
 def shown(yarib, texts, names):
-    """What `lookup`, `table` and `diff` print and tell of these files; each has a line that isn't taken, by turns of another kind."""
+    """What `lookup`, `table` and `diff` print and tell of these files; each has a line that isn't taken, in turn of another
+    kind."""
     turns = ("frob", "add 10.0.0.0/8 1 192.0.2.1", "withdraw 9.0.0.0/8", "add 99.0.0.0/8 1 192.0.2.1")
     texts = [text + turns[feed % 4] + "\n" for feed, text in enumerate(texts)]
     names = [f"shown-{name}" for name in names]
@@ -134,13 +139,14 @@ def shown(yarib, texts, names):
     asked += ["10.9.8.7", "255.255.255.255", "9.9.9.9"]
     words = [word for addr in asked for word in ("--address", addr)]
     told, status = told_text(texts, names, 3), 2
-    compare(f"a look-up in {len(names)} files", run([yarib, "lookup", "--limit", "3", *words, *names]), status, answers_text(texts, asked, 3), told)
-    ended = run([yarib, "lookup", "--all", "--limit", "3", *words, *names])
+    ended = yarib("lookup", "--limit", "3", *words, *names)
+    compare(f"a look-up in {len(names)} files", ended, status, answers_text(texts, asked, 3), told)
+    ended = yarib("lookup", "--all", "--limit", "3", *words, *names)
     compare(f"all that covers, in {len(names)} files", ended, status, all_answers_text(texts, asked, 3), told)
     listed = ran(texts, set(), 3)[1].listed()
     out = "".join(line + "\n" for line in listed)
-    compare(f"the table of {len(names)} files", run([yarib, "table", "--limit", "3", *names]), status, out, told)
-    ended = run([yarib, "diff", "--limit", "3", *names, "--", *names])
+    compare(f"the table of {len(names)} files", yarib("table", "--limit", "3", *names), status, out, told)
+    ended = yarib("diff", "--limit", "3", *names, "--", *names)
     compare(f"{len(names)} files compared with themselves", ended, status, "", told + told)
 
 
@@ -155,20 +161,20 @@ def many_offers(yarib):
     report = "".join(f"{feed}:{line} added\n" for feed in range(1, 4) for line in range(1, 100_001))
     offers = lambda base: "".join(f"{base}/24 feed {feed} pref {9 - feed} via 192.0.2.{feed}\n" for feed in (3, 2, 1))
     sorted_bases = [dotted(0x0100_0000 + (at << 8)) for at in range(100_000)]
-    ended = run([yarib, "run", "--limit", "100000", "--batch", "256", "1.feed", "2.feed", "3.feed"])
+    ended = yarib("run", "--limit", "100000", "--batch", "256", "1.feed", "2.feed", "3.feed")
     routes = "".join(map(offers, sorted_bases))
     compare("300,000 routes of three feeds", ended, 0, report + "table 300000\n" + routes)
     best = "".join(f"{base}/24 feed 3 pref 6 via 192.0.2.3\n" for base in sorted_bases)
     words = ["--limit", "100000", "1.feed", "2.feed", "3.feed"]
-    compare("the table of 300,000 routes", run([yarib, "table", *words]), 0, routes)
-    compare("the best of 300,000 routes", run([yarib, "table", "--best", *words]), 0, best)
+    compare("the table of 300,000 routes", yarib("table", *words), 0, routes)
+    compare("the best of 300,000 routes", yarib("table", "--best", *words), 0, best)
     pathlib.Path("asked.txt").write_text("".join(f"{base}\n" for base in bases))
     answers = "".join(f"{base} route {base}/24 feed 3 pref 6 via 192.0.2.3\n" for base in bases)
-    compare("100,000 addresses", run([yarib, "lookup", "--addresses", "asked.txt", *words]), 0, answers)
-    also = lambda base: "".join(f"{base} also {base}/24 feed {feed} pref {9 - feed} via 192.0.2.{feed} preference\n" for feed in (2, 1))
+    compare("100,000 addresses", yarib("lookup", "--addresses", "asked.txt", *words), 0, answers)
+    also = lambda base: "".join(
+        f"{base} also {base}/24 feed {feed} pref {9 - feed} via 192.0.2.{feed} preference\n" for feed in (2, 1))
     answers = "".join(f"{base} route {base}/24 feed 3 pref 6 via 192.0.2.3\n" + also(base) for base in bases)
-    compare("all that covers 100,000 addresses", run([yarib, "lookup", "--all", "--addresses", "asked.txt", *words]), 0, answers)
-    at_limit(yarib)
+    compare("all that covers 100,000 addresses", yarib("lookup", "--all", "--addresses", "asked.txt", *words), 0, answers)
 
 
 # Fails where a feed may have another number of routes where no limit is asked, or `--limit 1000000` isn't taken.
@@ -181,15 +187,16 @@ def at_limit(yarib):
     for more, status, err in ((0, 0, ""), (1, 2, "yarib: full.feed: adds over the limit: 1\n")):
         adds = [f"add {prefix} 1 192.0.2.1\n" for prefix in routes + ["11.0.0.0/24"] * more]
         pathlib.Path("full.feed").write_text("".join(adds))
-        compare(f"the table of a full feed and {more} more", run([yarib, "table", "full.feed"]), status, "".join(listed), err)
-        ended = run([yarib, "lookup", "--address", "10.255.255.1", "--address", "11.0.0.1", "full.feed"])
-        compare(f"look-ups in a full feed and {more} more", ended, status, f"10.255.255.1 route {listed[-1]}11.0.0.1 no route\n", err)
+        compare(f"the table of a full feed and {more} more", yarib("table", "full.feed"), status, "".join(listed), err)
+        ended = yarib("lookup", "--address", "10.255.255.1", "--address", "11.0.0.1", "full.feed")
+        out = f"10.255.255.1 route {listed[-1]}11.0.0.1 no route\n"
+        compare(f"look-ups in a full feed and {more} more", ended, status, out, err)
     over = "11.0.0.0/24 feed 1 pref 1 via 192.0.2.1\n"
     report = "".join(f"1:{line} added\n" for line in range(1, 65_537))
-    batched = [yarib, "run", "--batch", "1024", "full.feed"]
-    compare("a run of a full feed and 1 more", run(batched), 0, report + "1:65537 full\ntable 65536\n" + "".join(listed))
+    batched = ["run", "--batch", "1024", "full.feed"]
+    compare("a run of a full feed and 1 more", yarib(*batched), 0, report + "1:65537 full\ntable 65536\n" + "".join(listed))
     whole = report + "1:65537 added\ntable 65537\n" + "".join(listed) + over
-    compare("a run of 65,537 routes", run([*batched, "--limit", "1000000"]), 0, whole)
+    compare("a run of 65,537 routes", yarib(*batched, "--limit", "1000000"), 0, whole)
 
 
 # Fails where F3 is answered where over 128 routes cover an address, or over 2,000: `addresses that 64 to 2112 routes cover`.
@@ -202,16 +209,17 @@ def covered(yarib):
     # Each address leaves the others' way behind another bit.
     asked = [dotted(base ^ (1 << 31 - length if length < 32 else 0)) for length in range(33)]
     for name, counts in (("some", offers), ("all", [64] * 33)):
-        texts = ["".join(f"add {prefix(length)} {feed} 192.0.2.{feed}\n" for length, count in enumerate(counts) if feed <= count) for feed in range(1, 65)]
+        add = lambda feed, length: f"add {prefix(length)} {feed} 192.0.2.{feed}\n"
+        texts = ["".join(add(feed, length) for length, count in enumerate(counts) if feed <= count) for feed in range(1, 65)]
         names = [f"{name}{feed}.feed" for feed in range(1, 65)]
         for file, text in zip(names, texts):
             pathlib.Path(file).write_text(text)
-        ended = run([yarib, "lookup", "--all", *[f"--address={addr}" for addr in asked], *names])
+        ended = yarib("lookup", "--all", *[f"--address={addr}" for addr in asked], *names)
         compare(f"addresses that {counts[0]} to {sum(counts)} routes cover", ended, 0, all_answers_text(texts, asked))
 
 
-# Fails where F3 is answered to a comparison of more than 8,192 or 262,144 nodes, or after 1,000 ranges: `8193 routes that differ`,
-# `300000 routes that differ`, `1001 routes that differ`.
+# Fails where F3 is answered to a comparison of more than 8,192 or 262,144 nodes, or after 1,000 ranges: `8193 routes that
+# differ`, `300000 routes that differ`, `1001 routes that differ`.
 def compared(yarib):
     """Single addresses, no two of them neighbours, all of which differ or none, or the last alone."""
     for count in (1, 999, 1_000, 1_001, 8_192, 8_193, 65_536, 300_000):
@@ -219,12 +227,12 @@ def compared(yarib):
         for side in (1, 2):
             pathlib.Path(f"side{side}.feed").write_text("".join(f"add {place}/32 1 192.0.2.{side}\n" for place in places))
         pathlib.Path("last.feed").write_text("".join(f"add {place}/32 1 192.0.2.1\n" for place in places[:-1]))
-        words = [yarib, "diff", "--limit", str(MOST)]
+        words = ["diff", "--limit", str(MOST)]
         out = "".join(f"{place}-{place} via 192.0.2.1 -> via 192.0.2.2\n" for place in places)
-        compare(f"{count} routes that differ", run([*words, "side1.feed", "--", "side2.feed"]), 1, out)
-        compare(f"{count} routes of which none differs", run([*words, "side1.feed", "--", "side1.feed"]), 0, "")
+        compare(f"{count} routes that differ", yarib(*words, "side1.feed", "--", "side2.feed"), 1, out)
+        compare(f"{count} routes of which none differs", yarib(*words, "side1.feed", "--", "side1.feed"), 0, "")
         out = f"{places[-1]}-{places[-1]} no route -> via 192.0.2.1\n"
-        compare(f"{count} routes of which one differs", run([*words, "last.feed", "--", "side1.feed"]), 1, out)
+        compare(f"{count} routes of which one differs", yarib(*words, "last.feed", "--", "side1.feed"), 1, out)
 
 
 # Fails where F3 is answered to more than 100,000 or 1,000,000 addresses: `100001 addresses`, `1000001 addresses`.
@@ -234,7 +242,8 @@ def addresses(yarib):
     for count in (100_001, MOST + 1, 2_500_000):
         pathlib.Path("asked.txt").write_text("10.0.0.1\n" * count)
         for words in ([], ["--all"]):
-            compare(f"{count} addresses {words}", run([yarib, "lookup", *words, "--addresses", "asked.txt", "row.feed"]), 0, answer * count)
+            ended = yarib("lookup", *words, "--addresses", "asked.txt", "row.feed")
+            compare(f"{count} addresses {words}", ended, 0, answer * count)
 
 
 # Fails where F3 is answered to more than 1,000,000 routes in all: `the table of 1000001 routes in all`.
@@ -242,32 +251,35 @@ def in_all(yarib):
     """More routes in all than one feed may have: a few more in every command, and far more where little of them is printed."""
     places = [f"10.{at >> 8}.{at & 255}.0/24" for at in range(65_536)]
     adds = [f"add {place} 1 192.0.2.1\n" for place in places]
+    left = MOST + 1 - 15 * 65_536  # what the sixteenth feed has
     pathlib.Path("whole.feed").write_text("".join(adds))
-    pathlib.Path("rest.feed").write_text("".join(adds[: MOST + 1 - 15 * 65_536]))
+    pathlib.Path("rest.feed").write_text("".join(adds[:left]))
     names = ["whole.feed"] * 15 + ["rest.feed"]
-    feeds = [15 + (at < MOST + 1 - 15 * 65_536) for at in range(65_536)]
-    listed = "".join(f"{place} feed {feed} pref 1 via 192.0.2.1\n" for place, count in zip(places, feeds) for feed in range(1, count + 1))
-    compare("the table of 1000001 routes in all", run([yarib, "table", *names]), 0, listed)
-    report = "".join(f"{feed}:{line} added\n" for feed in range(1, 17) for line in range(1, 65_537 if feed < 16 else MOST + 2 - 15 * 65_536))
-    compare("a run of 1000001 routes in all", run([yarib, "run", "--batch", "256", *names]), 0, report + "table 1000001\n" + listed)
-    best = [f"{place} feed 1 pref 1 via 192.0.2.1\n" for place in places]
+    row = lambda place, feed: f"{place} feed {feed} pref 1 via 192.0.2.1\n"
+    listed = "".join(row(place, feed) for at, place in enumerate(places) for feed in range(1, 17 if at < left else 16))
+    compare("the table of 1000001 routes in all", yarib("table", *names), 0, listed)
+    report = "".join(f"{feed}:{line} added\n" for feed in range(1, 17) for line in range(1, 65_537 if feed < 16 else left + 1))
+    compare("a run of 1000001 routes in all", yarib("run", "--batch", "256", *names), 0, report + "table 1000001\n" + listed)
+    best = [row(place, 1) for place in places]
     last = ["--address", "10.255.255.1"]
     for count, more in ((16, names), (64, ["whole.feed"] * 64)):
-        compare(f"the best routes of {count} feeds", run([yarib, "table", "--best", *more]), 0, "".join(best))
-        compare(f"a look-up in {count} feeds", run([yarib, "lookup", *last, *more]), 0, "10.255.255.1 route " + best[-1])
-    compare("16 feeds compared with 16", run([yarib, "diff", *names, "--", *names]), 0, "")
+        compare(f"the best routes of {count} feeds", yarib("table", "--best", *more), 0, "".join(best))
+        compare(f"a look-up in {count} feeds", yarib("lookup", *last, *more), 0, "10.255.255.1 route " + best[-1])
+    compare("16 feeds compared with 16", yarib("diff", *names, "--", *names), 0, "")
+
+
+CASES = (batches, purges, feeds, many_offers, at_limit, covered, compared, addresses, in_all, million)
+OF_MEMORY = (feeds, many_offers, in_all, million)
 
 
 def main():
-    yarib = built(sys.argv[1:])
-    with tempfile.TemporaryDirectory() as folder:
-        os.chdir(folder)
-        os.environ.pop("GLIBC_TUNABLES", None)
-        for setting, memory in (("by itself", {}), ("as the launchers set it", LAUNCHED)):
-            print(f"memory {setting}:", flush=True)
-            os.environ |= memory
-            run_each((batches, purges, feeds, many_offers, covered, compared, addresses, in_all, million), yarib)
-        os.chdir("/")
+    words = chosen(__doc__, CASES)
+    os.environ |= LAUNCHED
+    print("memory as the launchers set it:", flush=True)
+    run_each(words.cases, words.program)
+    del os.environ["GLIBC_TUNABLES"]
+    print("memory as the C library gives it:", flush=True)
+    run_each([case for case in words.cases if case in OF_MEMORY], words.program)
     end()
 
 

@@ -1,4 +1,4 @@
-"""The model of a table: addresses, the sequential table, and what a run, a look-up and a list of it print."""
+"""The model of a table: addresses, the sequential table, and what a run, a look-up, a list and a comparison of it print."""
 import functools
 
 
@@ -13,76 +13,109 @@ def number(text):
     return int.from_bytes(bytes(map(int, text.split("."))), "big")
 
 
-def covers(prefix, addr):
+@functools.cache
+def block(prefix):
+    """Base and length of a prefix."""
     base, length = prefix.split("/")
-    return number(base) >> 32 - int(length) == number(addr) >> 32 - int(length)
+    return number(base), int(length)
 
 
 class Table:
-    """The sequential table, from its definition, over the words of a feed's line."""
+    """The sequential table, from its definition, over the words of a feed's line. A route is (prefix, feed, preference, hop)."""
 
     def __init__(self, limit):
         self.limit = limit
-        self.routes = {}
+        self.offered = {}  # of each prefix preference and hop of each feed
+
+    def copy(self):
+        made = Table(self.limit)
+        made.offered = {prefix: dict(offers) for prefix, offers in self.offered.items()}
+        return made
 
     def apply(self, feed, words):
+        """The answer to the feed's command, which changes the table as it says."""
         name, *rest = words
-        mine = [key for key in self.routes if key[1] == feed]
-        key = (rest[0], feed) if rest else None
-        if name == "add":
-            if key in self.routes:
-                return "exists"
-            if len(mine) == self.limit:
-                return "full"
-            self.routes[key] = rest[1:]
-            return "added"
-        if name in ("replace", "withdraw") and key not in self.routes:
+        prefix, *offer = rest or [None]
+        own = [each for each, offers in self.offered.items() if feed in offers]
+        if name == "add" and prefix in own:
+            return "exists"
+        if name == "add" and len(own) >= self.limit:
+            return "full"
+        if name in ("replace", "withdraw") and prefix not in own:
             return "missing"
-        if name == "replace":
-            self.routes[key] = rest[1:]
-            return "replaced"
-        if name == "withdraw":
-            del self.routes[key]
-            return "withdrawn"
+        if name in ("add", "replace"):
+            self.offered.setdefault(prefix, {})[feed] = tuple(offer)
+            return "added" if name == "add" else "replaced"
         if name == "lookup":
             return self.best(rest[0])
-        if name == "purge":
-            for key in mine:
-                del self.routes[key]
-            return f"purged {len(mine)}"
-        return f"dumped {len(self.routes)}"
+        if name == "dump":
+            return f"dumped {len(self.routes())}"
+        for gone in [prefix] if name == "withdraw" else own:
+            del self.offered[gone][feed]
+        return "withdrawn" if name == "withdraw" else f"purged {len(own)}"
+
+    def of_prefix(self, prefix):
+        """The routes of a prefix: by preference, and of equal ones by feed."""
+        found = [(prefix, feed, pref, hop) for feed, (pref, hop) in self.offered.get(prefix, {}).items()]
+        return sorted(found, key=lambda route: (int(route[2]), route[1]))
+
+    def routes(self):
+        """All routes in the order of a list: by base, length, preference and feed."""
+        return [route for prefix in sorted(self.offered, key=block) for route in self.of_prefix(prefix)]
+
+    def covering(self, addr):
+        """The routes whose prefixes are the address's first bits, the best first: the longest, and of these in their order."""
+        cut = lambda length: f"{dotted(number(addr) >> 32 - length << 32 - length)}/{length}"
+        return [route for length in range(32, -1, -1) for route in self.of_prefix(cut(length))]
 
     def best(self, addr):
-        covering = [key for key in self.routes if covers(key[0], addr)]
-        if not covering:
-            return "no route"
-        longest = max(int(prefix.split("/")[1]) for prefix, _ in covering)
-        of_longest = [key for key in covering if int(key[0].split("/")[1]) == longest]
-        return "route " + self.shown(min(of_longest, key=lambda key: (int(self.routes[key][0]), key[1])))
+        """What a look-up says of the address."""
+        found = self.covering(addr)
+        return f"route {shown(found[0])}" if found else "no route"
 
     def all(self, addr):
         """The lines of all that covers the address, the best first, with the step at which each was left behind it."""
-        place = lambda key: (-int(key[0].split("/")[1]), int(self.routes[key][0]), key[1])
-        covering = sorted((key for key in self.routes if covers(key[0], addr)), key=place)
-        if not covering:
+        first, *others = self.covering(addr) or [None]
+        if first is None:
             return [f"{addr} no route\n"]
-        reason = lambda key: next(word for word, a, b in zip(("shorter", "preference", "feed"), place(key), place(covering[0])) if a != b)
-        return [f"{addr} route {self.shown(covering[0])}\n"] + [f"{addr} also {self.shown(key)} {reason(key)}\n" for key in covering[1:]]
+        step = lambda route: "shorter" if route[0] != first[0] else "preference" if int(route[2]) > int(first[2]) else "feed"
+        return [f"{addr} route {shown(first)}\n"] + [f"{addr} also {shown(route)} {step(route)}\n" for route in others]
 
-    def shown(self, key):
-        pref, hop = self.routes[key]
-        return f"{key[0]} feed {key[1]} pref {pref} via {hop}"
+    def listed(self, best=False):
+        """The rows of a list, or of the best route of each prefix."""
+        if best:
+            return [shown(self.of_prefix(prefix)[0]) for prefix in sorted(self.offered, key=block) if self.offered[prefix]]
+        return list(map(shown, self.routes()))
 
-    def listed(self):
-        def place(key):
-            base, length = key[0].split("/")
-            return (number(base), int(length), int(self.routes[key][0]), key[1])
 
-        return [self.shown(key) for key in sorted(self.routes, key=place)]
+def shown(route):
+    prefix, feed, pref, hop = route
+    return f"{prefix} feed {feed} pref {pref} via {hop}"
+
+
+def differences_text(old, new, by):
+    """What a comparison of two tables prints: from each border of their prefixes to the next both say one thing."""
+
+    def said(table, border):
+        best = table.covering(dotted(border))[:1]
+        if by == "route" or not best:
+            return shown(best[0]) if best else "no route"
+        return "discard" if best[0][3] == "discard" else f"via {best[0][3]}"
+
+    ends = {base + size for table in (old, new) for base, length in map(block, table.offered) for size in (0, 1 << 32 - length)}
+    ranges = []
+    for border in sorted({0, *ends} - {1 << 32}):
+        answers = said(old, border), said(new, border)
+        if not ranges or ranges[-1][1] != answers:
+            ranges.append((border, answers))
+    lasts = [first - 1 for first, _ in ranges[1:]] + [(1 << 32) - 1]
+    rows = [(first, last, *answers) for (first, answers), last in zip(ranges, lasts) if answers[0] != answers[1]]
+    return "".join(f"{dotted(first)}-{dotted(last)} {was} -> {now}\n" for first, last, was, now in rows)
 
 
 def ran(texts, refused, limit=65_536):
-    """The lines of the reports that a run of these texts prints if these lines, by feed and number, are refused, and its table."""
+    """The lines of the reports that a run of these texts prints if these lines, by feed and number, are refused, and its
+    table."""
     table, printed = Table(limit), []
     for feed, text in enumerate(texts, 1):
         for at, line in enumerate(text.splitlines(), 1):
@@ -98,14 +131,26 @@ def ran(texts, refused, limit=65_536):
     return printed, table
 
 
+def table_text(table):
+    """What a run prints of the table that it leaves."""
+    rows = table.listed()
+    return "".join(line + "\n" for line in [f"table {len(rows)}", *rows])
+
+
 def run_text(texts, refused):
     """What a run of these texts prints if these lines, by feed and number, are refused."""
     printed, table = ran(texts, refused)
-    return "".join(line + "\n" for line in printed + [f"table {len(table.routes)}"] + table.listed())
+    return "".join(line + "\n" for line in printed) + table_text(table)
 
 
-NOT_TAKEN = {"full": "adds over the limit", "exists": "adds of a prefix already there",
-             "missing": "replaces and withdraws of a prefix not there", "refused": "commands refused for want of memory"}
+# What standard error says of faults.
+E1 = "E1: the first field is no command of this version"
+E3 = "E3: the field is no prefix or address (the CR of CRLF is part of it)"
+E8 = "E8: the line has over 128 bytes"
+NOT_TAKEN = {
+    "full": "adds over the limit", "exists": "adds of a prefix already there",
+    "missing": "replaces and withdraws of a prefix not there", "refused": "commands refused for want of memory",
+}
 
 
 def told_text(texts, names, limit=65_536):
@@ -116,7 +161,7 @@ def told_text(texts, names, limit=65_536):
         answers = [line.split(" ", 1) for line in printed if line.startswith(f"{feed}:")]
         faulty = [place.split(":")[1] for place, answer in answers if answer == "fault E1"]
         if faulty:
-            told += f"yarib: {name}: faulty lines: {len(faulty)}, the first is line {faulty[0]}: E1: the first field is no command of this version\n"
+            told += f"yarib: {name}: faulty lines: {len(faulty)}, the first is line {faulty[0]}: {E1}\n"
         for answer, what in NOT_TAKEN.items():
             if count := sum(found == answer for _, found in answers):
                 told += f"yarib: {name}: {what}: {count}\n"
