@@ -1,12 +1,10 @@
 #!/usr/bin/env python3
 """Times `yarib run` beside other work: with several files, with one file of the same lines, and the plain program, in turn.
 
-Usage: bench/busy.py [--store] [ROUNDS [LINES]]. Needs a built program (./yarib --version builds it), rustc and python3. It starts
-twice as many busy processes as there are processors, in the ordinary scheduling class, and ends them by their ids. For each
-number of files and batch all run ROUNDS times in turn (5 if left out) with so many lines in all (160,000 if left out). Prints
-the middle time on the clock and of the processors, in milliseconds, the least and the greatest on the clock, and the ratios to
-one file and to the plain program; the last rows are of the quiet machine. --store keeps the figures in bench/figures/, and
---default-memory has the C library's own memory measured.
+Needs rustc. It starts twice as many busy processes as there are processors, in the ordinary scheduling class, and ends
+them by their ids. For each number of files and batch all run so many rounds in turn, with so many lines in all. Prints
+the middle time on the clock and of the processors, in milliseconds, the least and the greatest on the clock, and the
+ratios to one file and to the plain program; the last rows are of the quiet machine.
 """
 import os
 import pathlib
@@ -73,17 +71,15 @@ def rows(folder, programs, others, rounds, lines):
 
 
 def main():
-    words = figures.words()
-    rounds = int(words[0]) if words else 5
-    lines = int(words[1]) if len(words) > 1 else 160_000
-    checks.built([])
+    words = figures.begin(figures.reader(__doc__, rounds=5, lines=160_000))
+    rounds, yarib = words.rounds, checks.built()
     with tempfile.TemporaryDirectory() as made:
         folder = pathlib.Path(made)
-        table = run.changing_table(lines * 10 // 16)
+        table = run.changing_table(words.lines * 10 // 16)
         for files in (1, *FILES):
             (folder / str(files)).mkdir()
             run.write(folder / str(files), lambda: run.deal(table, files))
-        programs = (run.TOP / "out" / "yarib", run.build_peer(folder))
+        programs = (yarib, figures.built_peer(folder, "peer.rs"))
         print("                      several files on the clock  one file    plain     ratios of the clock  of processors")
         print("beside files batch    middle   least    most   middle   middle to one  to plain     to one")
         measured = [found for others in (2 * os.cpu_count(), 0) for found in rows(folder, programs, others, rounds, len(table))]

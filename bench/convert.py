@@ -1,11 +1,12 @@
 #!/usr/bin/env python3
 """Times the converters of examples/convert on tables that it makes.
 
-Usage: bench/convert.py [--peers] [ROUTES [ROUNDS]]. Needs python3 alone. The inputs have ROUTES prefixes (1,000,000 if left out)
-with the lengths of a real table, and 100,000 different paths; each is read from a file ROUNDS times (1 if left out). With --peers
-there is one input, a dump of 20 peers with so many routes each, which for 1,000,000 is a file of 2 GB. Prints for each converter
-the least time on the clock and of the processors (user and system), and the peak memory.
+Needs python3 alone. The inputs have so many prefixes with the lengths of a real table, and 100,000 different paths;
+each is read from a file so many rounds. With --peers there is one input, a dump of 20 peers with so many routes each,
+which for 1,000,000 is a file of 2 GB. Prints for each converter the least time on the clock and of the processors (user
+and system), and the peak memory.
 """
+import argparse
 import json
 import os
 import pathlib
@@ -15,9 +16,10 @@ import sys
 import tempfile
 import time
 
+import figures
 import run
 
-CONVERTERS = run.TOP / "examples" / "convert"
+CONVERTERS = figures.TOP / "examples" / "convert"
 PEERS = 20
 PATHS = 100_000
 
@@ -108,7 +110,8 @@ OF_PEERS = (("bgpdump-to-feeds", f"{PEERS} peers", lambda count: dumped(count, P
 
 
 def write(path, lines):
-    """Writes an input, in a process of its own, so that this one stays small: a child's peak memory counts what its parent had."""
+    """Writes an input, in a process of its own, so that this one stays small: a child's peak memory counts what its parent
+    had."""
     child = os.fork()
     if child == 0:
         with open(path, "w") as file:
@@ -134,15 +137,17 @@ def measure(words, path):
 
 
 def main():
-    numbers = [int(word) for word in sys.argv[1:] if word != "--peers"]
-    count = numbers[0] if numbers else 1_000_000
-    rounds = numbers[1] if len(numbers) > 1 else 1
-    for name, about, lines in OF_PEERS if "--peers" in sys.argv else INPUTS:
+    reader = argparse.ArgumentParser(description=__doc__, formatter_class=argparse.RawDescriptionHelpFormatter)
+    reader.add_argument("--peers", action="store_true")
+    reader.add_argument("routes", nargs="?", type=int, default=1_000_000, help="1,000,000 if left out")
+    reader.add_argument("rounds", nargs="?", type=int, default=1, help="1 if left out")
+    words = reader.parse_args()
+    for name, about, lines in OF_PEERS if words.peers else INPUTS:
         with tempfile.TemporaryDirectory() as made:
             path, folder = pathlib.Path(made) / "input", pathlib.Path(made) / "feeds"
-            write(path, lines(count))
-            words = [CONVERTERS / name, *([folder] if name.endswith("feeds") else [])]
-            seconds, processors, peak = (min(column) for column in zip(*(measure(words, path) for _ in range(rounds))))
+            write(path, lines(words.routes))
+            call = [CONVERTERS / name, *([folder] if name.endswith("feeds") else [])]
+            seconds, processors, peak = (min(column) for column in zip(*(measure(call, path) for _ in range(words.rounds))))
         row = f"clock {seconds:6.1f} s | processors {processors:6.1f} s | memory {peak / 1e6:4.0f} MB"
         print(f"{name:16} {about:14} | {row}", flush=True)
 

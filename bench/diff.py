@@ -1,16 +1,12 @@
 #!/usr/bin/env python3
-"""Compares what `yarib diff` prints with a plain model, line by line, and times it beside the loading of its files.
+"""Compares what `yarib diff` prints with what a plain program does, and times it beside the loading of its files.
 
-Usage: bench/diff.py [YARIB [PREFIXES [CHANGES]]]. Builds ./yarib first unless a built program is named; 500,000 prefixes and 1,000
-changes if left out. Linux, python3, rustc.
-
-The old table has that many prefixes, of lengths as in a full table of the Internet; the new one is without some of them, has others
-beside, or has them by another hop, so many changes in all. The model goes over the borders of both tables in order, and knows at each
-which prefixes are open. Told is the time of `diff` beside that of two runs that look one address up, the old files' and the new
-ones': what a comparison takes beyond them, as a part of what they take, on the clock and of the processor; the least of five.
-In turn with these runs a program in plain Rust does the same (bench/diff_peer.rs), and where the system's python3 has py-radix
-(Debian's python3-radix) that is loaded with both tables and asked at each border. --default-memory has the C library's own memory
-measured.
+Needs rustc. The old table has so many prefixes, of lengths as in a full table of the Internet; the new one is without
+some of them, has others beside, or has them by another hop, so many changes in all. Told is the time of `diff` beside
+that of two runs that look one address up, the old files' and the new ones': what a comparison takes beyond them, as a
+part of what they take, on the clock and of the processor; the least of five. In turn with these runs a program in plain
+Rust does the same (bench/diff_peer.rs), and where the system's python3 has py-radix (Debian's python3-radix) that is
+loaded with both tables and asked at each border.
 """
 import pathlib
 import random
@@ -57,46 +53,6 @@ def write(path, table):
     path.write_text("".join(f"add {dotted(base)}/{length} 100 192.0.2.{hop}\n" for (base, length), hop in table.items()))
 
 
-def pieces(table):
-    """From which address on the table gives which hop: `[(first, hop)]`, in order, with no hop where no prefix covers."""
-    found, opened = [(0, None)], []
-
-    def close(until):
-        """Ends the prefixes that end before the address; behind each the one around it goes on."""
-        while opened and opened[-1][0] <= until:
-            end, _ = opened.pop()
-            found.append((end, opened[-1][1] if opened else None))
-
-    for (base, length), hop in sorted(table.items()):
-        close(base)
-        opened.append((base + (1 << 32 - length), hop))
-        found.append((base, hop))
-    close(1 << 32)
-    return [(first, hop) for place, (first, hop) in enumerate(found) if place + 1 == len(found) or found[place + 1][0] > first]
-
-
-def said(hop):
-    return "no route" if hop is None else f"via 192.0.2.{hop}"
-
-
-def ranges(old, new):
-    """The lines that are to be printed."""
-    borders = sorted([(first, 0, hop) for first, hop in pieces(old)] + [(first, 1, hop) for first, hop in pieces(new)], key=lambda border: border[:2])
-    answers, begun, lines, first = [None, None], (None, None), [], 0
-    for place, (here, which, hop) in enumerate(borders):
-        answers[which] = hop
-        if place + 1 < len(borders) and borders[place + 1][0] == here or tuple(answers) == begun:
-            continue
-        if begun[0] != begun[1]:
-            lines.append(f"{dotted(first)}-{dotted(here - 1)} {said(begun[0])} -> {said(begun[1])}\n")
-        first, begun = here, tuple(answers)
-    if begun[0] != begun[1]:
-        lines.append(f"{dotted(first)}-255.255.255.255 {said(begun[0])} -> {said(begun[1])}\n")
-    return "".join(lines)
-
-
-ROOT = pathlib.Path(__file__).resolve().parent
-
 # Asks py-radix at each border of both tables; prints the seconds of loading and of asking, and how many answers differ.
 RADIX = """
 import sys, time
@@ -124,13 +80,6 @@ print(asked - start, time.monotonic() - asked, differ)
 """
 
 
-def plain_program(folder):
-    """The path of the program in plain Rust, which is built in the folder."""
-    plain = pathlib.Path(folder, "plain")
-    subprocess.run(["rustc", "--edition", "2024", "-C", "opt-level=3", "-o", plain, ROOT / "diff_peer.rs"], check=True)
-    return plain
-
-
 def tell_radix(old, new):
     """Tells what py-radix takes, where it is there."""
     asked = subprocess.run(["/usr/bin/python3", "-c", RADIX, old, new], capture_output=True, text=True)
@@ -146,28 +95,27 @@ def timed(words):
     before, start = resource.getrusage(resource.RUSAGE_CHILDREN), time.monotonic()
     ended = subprocess.run(words, capture_output=True, text=True)
     clock, after = time.monotonic() - start, resource.getrusage(resource.RUSAGE_CHILDREN)
-    return clock, after.ru_utime + after.ru_stime - before.ru_utime - before.ru_stime, (ended.returncode, ended.stdout, ended.stderr)
+    processor = after.ru_utime + after.ru_stime - before.ru_utime - before.ru_stime
+    return clock, processor, (ended.returncode, ended.stdout, ended.stderr)
 
 
 def main():
-    words = figures.words()
-    yarib = checks.built(words[:1])
-    prefixes, changes = (int(word) for word in (words[1:] + ["500000", "1000"][len(words[1:]):]))
-    with tempfile.TemporaryDirectory() as folder:
-        old, new = pathlib.Path(folder, "old.feed"), pathlib.Path(folder, "new.feed")
-        table = drawn(prefixes)
-        after = changed(table, changes)
+    words = figures.begin(figures.reader(__doc__, prefixes=500_000, changes=1_000))
+    yarib = checks.built()
+    with tempfile.TemporaryDirectory() as made:
+        folder = pathlib.Path(made)
+        old, new = folder / "old.feed", folder / "new.feed"
+        table = drawn(words.prefixes)
         write(old, table)
-        write(new, after)
-        wanted = ranges(table, after)
+        write(new, changed(table, words.changes))
         limit = ["--limit", "1000000"]
-        least, plain, of_plain = {}, plain_program(folder), []
+        least, plain, of_plain = {}, figures.built_peer(folder, "diff_peer.rs"), []
         for _ in range(ROUNDS):
             calls = {name: timed([yarib, "lookup", *limit, "--address", "0.0.0.0", name]) for name in (old, new)}
             calls["diff"] = timed([yarib, "diff", *limit, old, "--", new])
+            _, _, (status, wanted, err) = timed([plain, old, new])
+            checks.expect("the plain program's status", status, 0)
             checks.expect("the ranges", calls["diff"][2], (1 if wanted else 0, wanted, ""))
-            _, _, (status, out, err) = timed([plain, old, new])
-            checks.expect("the plain program's ranges", (status, out), (0, wanted))
             of_plain.append([int(word) / 1e9 for word in err.split()])
             for name, (clock, processor, _) in calls.items():
                 best = least.setdefault(name, [clock, processor])

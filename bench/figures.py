@@ -3,13 +3,16 @@
 A bench that is called with `--store` writes its file there. `tools/figures` makes the tables of docs/PERFORMANCE.md out of these
 files, and `tools/draw_figures.py` the pictures. It measures in the ordinary scheduling class, and doesn't begin to measure
 for a file while the machine has other work: half a processor's or more. It measures with the memory that ./yarib and what is
-installed start the program with, or, with `--default-memory`, with the C library's own; the plain programs have the same."""
+installed start the program with, or, with `--default-memory`, with the C library's own; the plain programs have the same.
+What benches build besides the program is built here too."""
+import argparse
 import datetime
 import json
 import os
 import pathlib
 import platform
 import re
+import subprocess
 import sys
 import time
 
@@ -17,19 +20,28 @@ import time
 sys.path.append(str(pathlib.Path(__file__).resolve().parent.parent / "tests"))
 import checks  # noqa: E402
 
-FOLDER = pathlib.Path(__file__).resolve().parent / "figures"
-OPTIONS = ("--store", "--default-memory")
+TOP = checks.TOP
+FOLDER = TOP / "bench" / "figures"
+# What the command line says, and the machine's clock and the time that its host kept from it when the measuring began.
+asked, began = argparse.Namespace(store=False, default_memory=False), None
 
 
-# The machine's clock and the time that its host kept from it, when the measuring began.
-began = None
+def reader(about, **numbers):
+    """What reads a bench's command line: these numbers in this order, each with what it is where it is left out, and flags."""
+    found = argparse.ArgumentParser(description=about, formatter_class=argparse.RawDescriptionHelpFormatter)
+    found.add_argument("--store", action="store_true", help="keep the figures in bench/figures/; the machine has to be quiet")
+    found.add_argument("--default-memory", action="store_true", help="measure with the C library's own memory")
+    for name, default in numbers.items():
+        found.add_argument(name, nargs="?", type=int, default=default, help=f"{default} if left out")
+    return found
 
 
-def words():
-    """The words of the command line but `--store`, with which the machine has to be quiet, and `--default-memory`. All programs
-    that are started from then on have the memory that is measured, and the bench says which."""
-    global began
-    if "--store" in sys.argv and (others := working_processors()) > 0.5:
+def begin(reader):
+    """Reads the command line. All programs that are started from then on have the memory that is measured, and the bench says
+    which."""
+    global asked, began
+    asked = reader.parse_args()
+    if asked.store and (others := working_processors()) > 0.5:
         sys.exit(f"{sys.argv[0]}: {others:.1f} processors work for others; figures are kept of a quiet machine alone")
     for name, value in checks.LAUNCHED.items():
         os.environ.pop(name, None)
@@ -37,12 +49,18 @@ def words():
             os.environ[name] = value
     print(f"memory: {'as the launcher sets it' if memory() == 'launcher' else 'as the C library has it'}", flush=True)
     began = time.monotonic(), stolen_seconds()
-    return [word for word in sys.argv[1:] if word not in OPTIONS]
+    return asked
+
+
+def built_peer(folder, source):
+    """The path of a program in plain Rust, of which bench/ has the source, built in the folder."""
+    subprocess.run(["rustc", "--edition", "2024", "-C", "opt-level=3", "-o", folder / "peer", TOP / "bench" / source], check=True)
+    return folder / "peer"
 
 
 def memory():
     """Whose setting of memory is measured: the launcher's, or the default of the C library."""
-    return "default" if "--default-memory" in sys.argv else "launcher"
+    return "default" if asked.default_memory else "launcher"
 
 
 def working_processors():
@@ -81,7 +99,7 @@ def machine():
 def keep(name, rounds, rows):
     """Writes the file of this name where the command line has `--store`. A row is a dict: what was measured, and each measure as
     a list, the proved program's first."""
-    if "--store" not in sys.argv:
+    if not asked.store:
         return
     FOLDER.mkdir(exist_ok=True)
     head = {"machine": machine(), "made": datetime.date.today().isoformat(), "rounds": rounds}

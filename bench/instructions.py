@@ -1,10 +1,9 @@
 #!/usr/bin/env python3
 """Counts where the instructions of `yarib run` go, which other work on the machine doesn't change.
 
-Usage: bench/instructions.py [--store]. Needs a built program (./yarib --version builds it) and valgrind. Two texts of one file
-are run in batches of 256: additions and look-ups of one prefix, and a table of 70,000 prefixes with the lengths of a real one.
-Prints the instructions a line of each part, told by the functions that the compiler kept: what it put into its caller counts
-there, as reading ahead does in asking. --store keeps the figures in bench/figures/.
+Needs valgrind. Two texts of one file are run in batches of 256: additions and look-ups of one prefix, and a table of
+70,000 prefixes with the lengths of a real one. Prints the instructions a line of each part, told by the functions that
+the compiler kept: what it put into its caller counts there, as reading ahead does in asking.
 """
 import pathlib
 import re
@@ -44,10 +43,11 @@ def counted(program, lines, folder):
 
 
 def main():
-    checks.built([])
+    figures.asked = figures.reader(__doc__).parse_args()
+    yarib = checks.built()
     with tempfile.TemporaryDirectory() as made:
         one, real = (
-            counted(run.TOP / "out" / "yarib", lines, pathlib.Path(made))
+            counted(yarib, lines, pathlib.Path(made))
             for lines in (run.one_prefix(50_000), run.real_table(70_000, False))
         )
     rows = [{"part": part, "one_prefix": one[part], "real_lengths": real[part]} for part, _ in PARTS]

@@ -1,9 +1,8 @@
 #!/usr/bin/env python3
 """Times `yarib run` on very long texts, and fails where it doesn't run them to their end.
 
-Usage: bench/large.py [--store] [YARIB]. Builds ./yarib first unless a built program is named. Takes some minutes, and up to 8 GB
-of memory. Texts of 1 to 10 million lines and lines of 100 MB to 1 GB are run, and time and memory for a line or a byte are
-printed. --store keeps the figures in bench/figures/, and --default-memory has the C library's own memory measured.
+Takes some minutes, and up to 8 GB of memory. Texts of 1 to 10 million lines and lines of 100 MB to 1 GB are run, and
+time and memory for a line or a byte are printed.
 """
 import os
 import pathlib
@@ -65,9 +64,11 @@ def large_texts(yarib, folder):
 
 
 def main():
-    yarib = checks.built(figures.words())
+    reader = figures.reader(__doc__)
+    reader.add_argument("program", nargs="?", type=checks.program, help="a built program, which is else built first")
+    words = figures.begin(reader)
     with tempfile.TemporaryDirectory() as made:
-        large_texts(yarib, pathlib.Path(made))
+        large_texts(words.program or checks.built(), pathlib.Path(made))
     checks.end()
 
 

@@ -1,11 +1,9 @@
 #!/usr/bin/env python3
 """Times passages of the lock, of the same algorithm in C and of std's mutex, in turn.
 
-Usage: bench/lock.py [--store] [ROUNDS [PASSAGES]]. Needs rt, gcc and pthreads. Each case runs the program crates/benches, bench/lock.c
-and the mutex one after another, ROUNDS times (9 if left out), each with so many passages (200,000 if left out). For each case
-the least time of a passage is printed, in nanoseconds, and its ratio to C: time on the clock, and time of the processors (user
-and system). --store keeps the figures in bench/figures/, and
---default-memory has the C library's own memory measured.
+Needs rt, gcc and pthreads. Each case runs the program crates/benches, bench/lock.c and the mutex one after another, so
+many rounds, each with so many passages. For each case the least time of a passage is printed, in nanoseconds, and its
+ratio to C: time on the clock, and time of the processors (user and system).
 """
 import os
 import pathlib
@@ -15,22 +13,15 @@ import sys
 import tempfile
 
 import figures
+from figures import checks
 
-ROOT = pathlib.Path(__file__).resolve().parent.parent
-CRATE = ROOT / "crates" / "benches"
 ALONE = [(levels, 1) for levels in range(1, 7)]
 TOGETHER = [(1, 2), *((levels, threads) for levels in range(2, 7) for threads in (2, 4)), (6, 16), (6, 64)]
 
 
 def build(folder):
     """The words that call both programs; the one in C is built in the folder."""
-    built = subprocess.run(["rt", "run", "--", "lock", "3000"], cwd=CRATE, capture_output=True, text=True)
-    tree = CRATE / "out" / "benches"
-    if built.returncode != 0 or not tree.exists():
-        sys.exit("bench/lock.py: the program was not built\n" + built.stdout[-2000:] + built.stderr[-2000:])
-    plain = folder / "plain"
-    subprocess.run(["gcc", "-O2", "-pthread", "-o", plain, ROOT / "bench" / "lock.c"], check=True)
-    return [tree, "lock"], [plain]
+    return [checks.built_benches("lock", "3000"), "lock"], [checks.compiled(folder, "bench/lock.c", "-pthread")]
 
 
 def timed(program, passages, levels, threads):
@@ -55,9 +46,8 @@ def times(rounds, passages, programs, levels, threads):
 
 
 def main():
-    words = figures.words()
-    rounds = int(words[0]) if words else 9
-    passages = int(words[1]) if len(words) > 1 else 200_000
+    words = figures.begin(figures.reader(__doc__, rounds=9, passages=200_000))
+    rounds, passages = words.rounds, words.passages
     rows = []
     with tempfile.TemporaryDirectory() as folder:
         programs = build(pathlib.Path(folder))

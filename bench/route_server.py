@@ -1,14 +1,11 @@
 #!/usr/bin/env python3
 """Times `yarib run` under a route server's load beside the same program in plain Rust.
 
-Usage: bench/route_server.py [--store] [ROUNDS [PREFIXES]], or bench/route_server.py --batches [--store] [ROUNDS]. Needs a built
-program (./yarib --version builds it), rustc and python3. Each of 1, 4, 16 and 64 files announces the same PREFIXES prefixes
-(100,000 if left out) in an order and with preferences of its own, then withdraws a tenth and replaces a tenth of them; the last
-file takes back all it has by `purge`. Both programs run in turn, ROUNDS times (3 if left out), on one processor, on two and on
-all, in batches of 256; with --batches of 20,000 prefixes, in batches of 1, 16 and 256. Prints for each the least time on the
-clock and of the processors (user and system) and the peak memory, with the ratios, and fails where the outputs differ: no answer
-here depends on how the threads ran. --store keeps the figures in bench/figures/, and
---default-memory has the C library's own memory measured.
+Needs rustc. Each of 1, 4, 16 and 64 files announces the same prefixes in an order and with preferences of its own, then
+withdraws a tenth and replaces a tenth of them; the last file takes back all it has by `purge`. Both programs run in
+turn, so many rounds, on one processor, on two and on all, in batches of 256; with --batches of 20,000 prefixes, in
+batches of 1, 16 and 256. Prints for each the least time on the clock and of the processors (user and system) and the
+peak memory, with the ratios, and fails where the outputs differ: no answer here depends on how the threads ran.
 """
 import os
 import pathlib
@@ -78,17 +75,17 @@ def compare_files(folder, count, batches, programs, rounds):
 
 
 def main():
-    words = [word for word in figures.words() if word != "--batches"]
-    rounds = int(words[0]) if words else 3
-    count = int(words[1]) if len(words) > 1 else 100_000
-    checks.built([])
+    reader = figures.reader(__doc__, rounds=3, prefixes=100_000)
+    reader.add_argument("--batches", action="store_true")
+    words = figures.begin(reader)
+    rounds, yarib = words.rounds, checks.built()
     with tempfile.TemporaryDirectory() as made:
         folder = pathlib.Path(made)
-        programs = run.TOP / "out" / "yarib", run.build_peer(folder)
-        if "--batches" in sys.argv:
+        programs = yarib, figures.built_peer(folder, "peer.rs")
+        if words.batches:
             figures.keep("batches", rounds, compare_files(folder, 20_000, (1, 16, 256), programs, rounds))
         else:
-            figures.keep("route_server", rounds, compare_files(folder, count, (256,), programs, rounds))
+            figures.keep("route_server", rounds, compare_files(folder, words.prefixes, (256,), programs, rounds))
 
 
 if __name__ == "__main__":

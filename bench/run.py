@@ -1,14 +1,11 @@
 #!/usr/bin/env python3
 """Times `yarib run` beside the same program in plain Rust, on inputs that it makes.
 
-Usage: bench/run.py [--store] [ROUNDS [PREFIXES]], or bench/run.py --sizes [--store] [ROUNDS]. Needs a built program
-(./yarib --version builds it), rustc and python3. Both programs run in turn, ROUNDS times (5 if left out) over each input; the
-big ones have PREFIXES prefixes (500,000 if left out) with the lengths of a real table. With --sizes one table that changes is
-run alone, at 10,000 to 1,000,000 prefixes. The plain program has one thread and takes the files in turn. Prints for each input
-the least time on the clock, the least time of the processors (user and system) and the peak memory of both, with the ratios, and
-fails where their outputs differ: whole for one file, the table for several, whose look-ups depend on how the threads ran.
---store keeps the figures in bench/figures/, and
---default-memory has the C library's own memory measured.
+Needs rustc. Both programs run in turn, so many rounds over each input; the big ones have so many prefixes with the
+lengths of a real table. With --sizes one table that changes is run alone, at 10,000 to 1,000,000 prefixes. The plain
+program has one thread and takes the files in turn. Prints for each input the least time on the clock, the least time of
+the processors (user and system) and the peak memory of both, with the ratios, and fails where their outputs differ:
+whole for one file, the table for several, whose look-ups depend on how the threads ran.
 """
 import hashlib
 import os
@@ -23,7 +20,6 @@ import figures
 from figures import checks
 from table_model import dotted
 
-TOP = pathlib.Path(__file__).resolve().parent.parent
 SIZES = (10_000, 30_000, 100_000, 300_000, 1_000_000)
 
 
@@ -167,13 +163,6 @@ def compare(name, paths, batch, programs, rounds):
     return measures
 
 
-def build_peer(folder):
-    """The path of the program in plain Rust, built in the folder."""
-    peer = folder / "peer"
-    subprocess.run(["rustc", "--edition", "2021", "-O", "-o", peer, TOP / "bench" / "peer.rs"], check=True)
-    return peer
-
-
 def compare_inputs(folder, inputs, programs, rounds):
     """A row for each input and each of its batches."""
     rows = []
@@ -189,10 +178,10 @@ def compare_inputs(folder, inputs, programs, rounds):
 
 
 def main():
-    words = [word for word in figures.words() if word != "--sizes"]
-    rounds = int(words[0]) if words else 5
-    count = int(words[1]) if len(words) > 1 else 500_000
-    checks.built([])
+    reader = figures.reader(__doc__, rounds=5, prefixes=500_000)
+    reader.add_argument("--sizes", action="store_true")
+    words = figures.begin(reader)
+    count, yarib = words.prefixes, checks.built()
     inputs = [
         ("one prefix, then look-ups of it", lambda: [one_prefix(200_000)]),
         ("a table in random order", lambda: [real_table(count, False)]),
@@ -201,7 +190,7 @@ def main():
         ("the same dealt to 4 files", lambda: deal(changing_table(count), 4)),
         ("the same dealt to 64 files", lambda: deal(changing_table(count), 64)),
     ]
-    if "--sizes" in sys.argv:
+    if words.sizes:
         inputs = [
             (f"a table that changes, {size:,}", {"prefixes": size}, lambda size=size: [changing_table(size)], [1, 16, 256])
             for size in SIZES
@@ -210,8 +199,8 @@ def main():
         inputs = [(name, {"input": name}, files, [1, 256]) for name, files in inputs]
     with tempfile.TemporaryDirectory() as made:
         folder = pathlib.Path(made)
-        rows = compare_inputs(folder, inputs, (TOP / "out" / "yarib", build_peer(folder)), rounds)
-    figures.keep("sizes" if "--sizes" in sys.argv else "run", rounds, rows)
+        rows = compare_inputs(folder, inputs, (yarib, figures.built_peer(folder, "peer.rs")), words.rounds)
+    figures.keep("sizes" if words.sizes else "run", words.rounds, rows)
 
 
 if __name__ == "__main__":

@@ -1,34 +1,21 @@
 #!/usr/bin/env python3
 """Times commands of the shared table of 64 feeds beside those of a book under std's mutex, in turn.
 
-Usage: bench/shared.py [--store] [ROUNDS [COMMANDS]]. Needs rt. Each case runs the program crates/benches for the table and for the
-mutex one after the other, ROUNDS times (9 if left out), each with so many commands in all (200,000 if left out). For each case
-the nanoseconds of a command are printed, on the clock and of the processors (user and system), and their ratios to the mutex:
-the least of one thread, whom other work can only slow down, and the middle one of several, of which single rounds differ much.
-The last rows are of two processors alone. --store keeps the figures in bench/figures/, and
---default-memory has the C library's own memory measured.
+Needs rt. Each case runs the program crates/benches for the table and for the mutex one after the other, so many rounds,
+each with so many commands in all. For each case the nanoseconds of a command are printed, on the clock and of the
+processors (user and system), and their ratios to the mutex: the least of one thread, whom other work can only slow
+down, and the middle one of several, of which single rounds differ much. The last rows are of two processors alone.
 """
 import os
-import pathlib
 import statistics
 import subprocess
 import sys
 
 import figures
+from figures import checks
 
-ROOT = pathlib.Path(__file__).resolve().parent.parent
-CRATE = ROOT / "crates" / "benches"
 CASES = [(threads, batch) for threads in (1, 4, 16, 64) for batch in (1, 16, 256)]
 ON_TWO = [(threads, batch) for threads in (2, 64) for batch in (1, 256)]
-
-
-def build():
-    """The path of the program."""
-    built = subprocess.run(["rt", "run", "--", "shared", "20000"], cwd=CRATE, capture_output=True, text=True)
-    program = CRATE / "out" / "benches"
-    if built.returncode != 0 or not program.exists():
-        sys.exit("bench/shared.py: the program was not built\n" + built.stdout[-2000:] + built.stderr[-2000:])
-    return program
 
 
 def timed(program, commands, is_table, threads, batch, processors):
@@ -58,10 +45,9 @@ def compare(program, rounds, commands, threads, batch, processors):
 
 
 def main():
-    words = figures.words()
-    rounds = int(words[0]) if words else 9
-    commands = int(words[1]) if len(words) > 1 else 200_000
-    program = build()
+    words = figures.begin(figures.reader(__doc__, rounds=9, commands=200_000))
+    rounds, commands = words.rounds, words.commands
+    program = checks.built_benches("shared", "20000")
     every = os.sched_getaffinity(0)
     two = set(sorted(every)[:2])
     print("                            on the clock              of the processors")

@@ -1,13 +1,12 @@
 #!/usr/bin/env python3
 """Times the trie beside one in plain Rust, over the same prefixes, in one run.
 
-Usage: bench/trie.py [--store] [ROUNDS [PREFIXES..]]. Needs rt and rustc. The program crates/benches and bench/trie_peer.rs run in
-turn, ROUNDS times (5 if left out) over each number of prefixes (3,000, 30,000 and 500,000 if left out; a small number is
-run more often). The table has a row for each call, with the least of the times in nanoseconds and the ratio: on the clock,
-and of the processor, for the user and the system. `together` is a look-up where 64 are asked for at once, beside the plain
-trie's single one; `retain` is a walk that takes out one of a thousand, for each prefix. Then how many nodes the trie has, and how many bytes a prefix the plain one asked for.
---store keeps the figures in bench/figures/, and
---default-memory has the C library's own memory measured.
+Needs rt and rustc. The program crates/benches and bench/trie_peer.rs run in turn, so many rounds over each number of
+prefixes (3,000, 30,000 and 500,000 if left out; a small number is run more often). The table has a row for each call,
+with the least of the times in nanoseconds and the ratio: on the clock, and of the processor, for the user and the
+system. `together` is a look-up where 64 are asked for at once, beside the plain trie's single one; `retain` is a walk
+that takes out one of a thousand, for each prefix. Then how many nodes the trie has, and how many bytes a prefix the
+plain one asked for.
 """
 import pathlib
 import subprocess
@@ -15,21 +14,7 @@ import sys
 import tempfile
 
 import figures
-
-ROOT = pathlib.Path(__file__).resolve().parent.parent
-CRATE = ROOT / "crates" / "benches"
-
-
-def build(folder):
-    """The words that call both programs; the one in plain Rust is built in the folder."""
-    built = subprocess.run(["rt", "run", "--", "trie", "2000"], cwd=CRATE, capture_output=True, text=True)
-    proved = CRATE / "out" / "benches"
-    if built.returncode != 0 or not proved.exists():
-        sys.exit("bench/trie.py: the program was not built\n" + built.stdout[-2000:] + built.stderr[-2000:])
-    plain = folder / "plain"
-    source = ROOT / "bench" / "trie_peer.rs"
-    subprocess.run(["rustc", "--edition", "2024", "-C", "opt-level=3", "-o", plain, source], check=True)
-    return [proved, "trie"], [plain]
+from figures import checks
 
 
 def timed(program, prefixes):
@@ -63,20 +48,21 @@ def compare(programs, prefixes, rounds):
             row[measure] = [min(run[0][call + kind] for run in runs), min(run[1][beside + kind] for run in runs)]
         rows.append(row)
         pairs = (row["clock"], row["processors"])
-        print(f"{prefixes:8} {call:8}" + "".join(f" {ours:8} {theirs:8} {ours / theirs:6.2f}" for ours, theirs in pairs), flush=True)
+        shown = "".join(f" {ours:8} {theirs:8} {ours / theirs:6.2f}" for ours, theirs in pairs)
+        print(f"{prefixes:8} {call:8}{shown}", flush=True)
     print(f"{prefixes:8} {proved['nodes']} nodes; plain Rust asked for {plain['asked'] / plain['prefixes']:.1f} bytes a prefix")
     return rows
 
 
 def main():
-    words = figures.words()
-    rounds = int(words[0]) if words else 5
-    sizes = [int(word) for word in words[1:]] or [3_000, 30_000, 500_000]
-    rows = []
+    reader = figures.reader(__doc__, rounds=5)
+    reader.add_argument("prefixes", nargs="*", type=int, default=[3_000, 30_000, 500_000])
+    words = figures.begin(reader)
+    rounds, rows = words.rounds, []
     with tempfile.TemporaryDirectory() as folder:
-        programs = build(pathlib.Path(folder))
+        programs = [checks.built_benches("trie", "2000"), "trie"], [figures.built_peer(pathlib.Path(folder), "trie_peer.rs")]
         print(f"{'prefixes':8} {'call':8} {'clock':>8} {'plain':>8} {'ratio':>6} {'cpu':>8} {'plain':>8} {'ratio':>6}")
-        for prefixes in sizes:
+        for prefixes in words.prefixes:
             rows += compare(programs, prefixes, rounds * max(1, 100_000 // prefixes))
     figures.keep("trie", rounds, rows)
 
