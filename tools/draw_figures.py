@@ -9,7 +9,7 @@ import pathlib
 import statistics
 import sys
 
-from common.picture import BLUE, GREEN, INK, QUIET, Picture, settle
+from common.picture import BLUE, GREEN, QUIET, Picture, settle
 
 sys.path.insert(0, str(pathlib.Path(__file__).resolve().parent.parent / "bench"))
 import figures  # noqa: E402

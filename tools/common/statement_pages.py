@@ -5,7 +5,7 @@ import sys
 import textwrap
 
 from .definition_reader import (
-    CRATES, LIBRARY_CRATES, TOP, Definition, all_definitions, crate_of, example_files, imports, parse_module, resolved, rests_on,
+    CRATES, LIBRARY_CRATES, TOP, Definition, all_definitions, example_files, imports, parse_module, resolved, rests_on,
     rust_file, rust_named, sources, uncommented, unique, words_of,
 )
 from .public_clauses import judged_crates, public_clauses, words
@@ -608,7 +608,8 @@ def libraries_page(written):
         sys.exit("tools/statement: on no page: " + ", ".join(missing))
     head = [f"# {LIBRARIES.title}", "", *wrapped(LIBRARIES.said), "", *wrapped(
         f"These are {written.definitions} definitions and types of {written.lines} lines, comments not counted, beside "
-        f"those of [{RUN.title}]({LIBRARIES.link(RUN)}) and [{LOCK.title}]({LIBRARIES.link(LOCK)}), where a legend says how to read them. "
+        f"those of [{RUN.title}]({LIBRARIES.link(RUN)}) and [{LOCK.title}]({LIBRARIES.link(LOCK)}), where a legend says how "
+        "to read them. "
         "`tools/statement --write` writes this page out of the sources."), "",
         "| Library | New definitions | Their lines |", "|---|---|---|", *table, ""]
     used = folded("Names that the examples use", named_in_examples(set(written.home) - before)[:-1])
