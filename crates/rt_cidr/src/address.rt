@@ -1,7 +1,6 @@
 //! IPv4 addresses: their text read, and put in front of a short text.
-ghost use Rattle.std.specs.Prelude.{◌≡◌, ◌++◌, OnOk, OnErr};
-ghost use Rattle.std.specs.Io.KnownBytes.{Appends};
-ghost use Rattle.rt_cidr.specs.Output.{AppendsBeginning};
+ghost use Rattle.std.specs.Prelude.{◌≡◌, ◌++◌};
+ghost use Rattle.rt_cidr.specs.Output.{WritesText};
 ghost use Rattle.rt_cidr.specs.ShortText.{FitsInShortText};
 ghost use Rattle.rt_cidr.specs.Text.{IsAddressText, IsOctetText, address_text};
 ghost use Rattle.rt_cidr.specs.inside.Front.{ReadsFront, ReadsMark, IsHalfText};
@@ -54,10 +53,7 @@ impl Addr {
     /// was written is then a beginning of the text.
     #[tactic(auto, using(crate::proofs::ShortTexts::lengths))]
     pub fn write_to<W: Write>(&self, w: &mut W) -> Result<(), io::Error>
-        ensures ok { OnOk result
-            (Appends (W.contents w.old) (W.contents w.new) (address_text self.now.0)) }
-        ensures err { OnErr result
-            (AppendsBeginning (W.contents w.old) (W.contents w.new) (address_text self.now.0)) }
+        ensures { WritesText (W.contents w.old) (W.contents w.new) (address_text self.now.0) result }
     {
         let mut text = ShortText::new();
         self.prepend_to(&mut text);

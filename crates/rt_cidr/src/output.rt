@@ -1,7 +1,7 @@
 //! The one way in which text goes to a writer.
-ghost use Rattle.std.specs.Prelude.{◌≡◌, ◌<◌, length, take, IsOk, OnOk, OnErr};
+ghost use Rattle.std.specs.Prelude.{◌≡◌, ◌<◌, length, take, OnOk, OnErr};
 ghost use Rattle.std.specs.Io.KnownBytes.{Appends};
-ghost use Rattle.rt_cidr.specs.Output.{AppendsBeginning};
+ghost use Rattle.rt_cidr.specs.Output.{WritesText};
 
 use std::io::{self, ErrorKind, Write};
 
@@ -10,9 +10,7 @@ use std::io::{self, ErrorKind, Write};
 /// `WriteZero`. After a fault what was written is a beginning of the bytes, and never all of them; so where nothing is
 /// to be written, nothing fails. The writer is not flushed. Takes no memory.
 pub fn put<W: Write>(w: &mut W, bytes: &[u8]) -> Result<(), io::Error>
-    ensures ok { OnOk result (Appends (W.contents w.old) (W.contents w.new) bytes.now) }
-    ensures err { OnErr result
-        (AppendsBeginning (W.contents w.old) (W.contents w.new) bytes.now) }
+    ensures { WritesText (W.contents w.old) (W.contents w.new) bytes.now result }
 {
     put_counted(w, bytes).1
 }

@@ -1,7 +1,6 @@
 //! IPv4 prefixes: what they cover and contain, their text read, and put in front of a short text.
-ghost use Rattle.std.specs.Prelude.{◌≡◌, ◌++◌, OnOk, OnErr};
-ghost use Rattle.std.specs.Io.KnownBytes.{Appends};
-ghost use Rattle.rt_cidr.specs.Output.{AppendsBeginning};
+ghost use Rattle.std.specs.Prelude.{◌≡◌, ◌++◌};
+ghost use Rattle.rt_cidr.specs.Output.{WritesText};
 ghost use Rattle.rt_cidr.specs.ShortText.{FitsInShortText};
 ghost use Rattle.rt_cidr.specs.Text.{prefix_text};
 ghost use Rattle.rt_cidr.specs.Cidr.{size_of, IsPrefix};
@@ -120,10 +119,7 @@ impl Prefix {
     /// was written is then a beginning of the text.
     #[tactic(auto, using(crate::proofs::ShortTexts::lengths))]
     pub fn write_to<W: Write>(&self, w: &mut W) -> Result<(), io::Error>
-        ensures ok { OnOk result (Appends (W.contents w.old) (W.contents w.new)
-            (prefix_text self.now.base self.now.len)) }
-        ensures err { OnErr result (AppendsBeginning (W.contents w.old) (W.contents w.new)
-            (prefix_text self.now.base self.now.len)) }
+        ensures { WritesText (W.contents w.old) (W.contents w.new) (prefix_text self.now.base self.now.len) result }
     {
         let mut text = ShortText::new();
         self.prepend_to(&mut text);
