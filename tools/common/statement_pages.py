@@ -45,17 +45,18 @@ RUN = Page("STATEMENT-RUN.md", "What a run prints", (
     Chapter("The same table for every interleaving", (
         "A run ends in the table of the union of what each text's commands leave by themselves, which is one for the same "
         "texts and limit, and a command that is about its feed's own routes is answered as if there were no other feed. So "
-        "two runs of the same texts and limit end in one table, whatever their batches and however their threads ran: "
-        "`ends_in_union` and `end_in_one_table` say so of the bytes of two runs."), (
+        "two runs of the same texts and limit take as much of each text and end in one table, whatever their batches and "
+        "however their threads ran: `same_tallies` says so of their reports, and `ends_in_union` and `end_in_one_table` of the "
+        "bytes and the status of two runs."), (
         "no command was refused for want of memory, in any of the runs: no status is 5."),
-        ["rt_run::laws::leaves_union", "rt_run::laws::answers_alone", "rt_run::laws::one_union", "rt_run::laws::ends_in_union",
-         "rt_run::laws::end_in_one_table"]),
+        ["rt_run::laws::leaves_union", "rt_run::laws::answers_alone", "rt_run::laws::same_tallies", "rt_run::laws::one_union",
+         "rt_run::laws::ends_in_union", "rt_run::laws::end_in_one_table"]),
     Chapter("What the finished table says", (
         "A look-up writes, for each address in order, the best route of the longest prefix that covers it, in the table "
         "that such a run leaves; or every route that covers it, the best first, with the step at which it was left behind that "
         "one. A list writes the routes of that table, or the best of each prefix. By the laws above, where "
-        "no command was refused for want of memory, that table is the union, so that the bytes are a function of the texts, "
-        "the limit and what is asked: `shows_union` and `show_one_table` say so of the bytes of two runs."), (
+        "no command was refused for want of memory, that table is the union, so that the bytes, the status and the tallies are "
+        "a function of the texts, the limit and what is asked: `shows_union` and `show_one_table` say so of two runs."), (
         "those of the first chapter; for the last sentence that no status is 5."),
         ["rt_run::shown::lookup_texts", "rt_run::shown::table_texts", "rt_run::laws::shows_union", "rt_run::laws::show_one_table"]),
     Chapter("Why a route won and what a change changes", (
@@ -64,8 +65,8 @@ RUN = Page("STATEMENT-RUN.md", "What a run prints", (
         "of its own, and writes all the ranges of addresses that the two tables answer otherwise: an address lies in one "
         "exactly where its two answers differ, and has the answers of its line. So where nothing is written, all 2^32 "
         "addresses are answered alike. Two tables have one list of such ranges (`one_list`). Where no command was refused for "
-        "want of memory, it is the list of both unions, so that two comparisons of the same texts and limit write the same "
-        "bytes: `diffs_unions` and `diff_once`."), (
+        "want of memory, it is the list of both unions, so that two comparisons of the same texts and limits write the same "
+        "bytes, with the same statuses and tallies: `diffs_unions` and `diff_once`."), (
         "those of the first chapter, and for a comparison those of two runs."),
         ["rt_run::shown::lookup_all_texts", "rt_run::differences::diff_texts", "rt_diff::laws::one_list",
          "rt_run::laws::diffs_unions", "rt_run::laws::diff_once"]),
@@ -197,8 +198,6 @@ KIT = {
     "codes \"..\"": "the bytes of a text",
     "count_by p xs, filter p xs, find p xs": "how many elements pass the test; those, in order; the first of them",
     "decimal n": "what `{}` writes for n, a number of at most 64 digits",
-    "first_chunks n count xs":
-        "`count` pieces of xs: its first n elements, the next n, and so on; past the end of xs fewer, or none",
     "digits_value radix text": "the number that the digits write",
     "fold f a xs": "`xs.fold(a, f)`",
     "flat_map f xs, map f xs": "what f gives for each element, the lists one behind another; the same without that",

@@ -1,9 +1,8 @@
 -- Examples by which the definitions of rt_run are tested, each under a line with the definition's name. Both sides are
 -- computed, but for the texts that are written for numbers, which have one spelling each.
-use Rattle.std.proofs.Common.{◌≡◌, ◌≢◌, ℕ, ◌+◌, ◌≤◌, ◌==◌, ◌&&◌, nat_le, ◌*◌, zero, suc, Bool, true, false, if◌then◌else◌, Some, None, Ok, Err}
-use Rattle.std.proofs.Common.{List, [], ◌∷◌, ◌++◌, length, map, filter, take, drop, inl, inr, codes, refl, sym, ap, ◌∙◌, subst, arith}
+use Rattle.std.proofs.Common.{◌≡◌, ◌≢◌, ℕ, ◌+◌, ◌≤◌, ◌==◌, ◌&&◌, nat_le, Bool, true, false, if◌then◌else◌, Some, None, Ok, Err}
+use Rattle.std.proofs.Common.{List, [], ◌∷◌, ◌++◌, length, map, filter, take, drop, inl, inr, codes, refl, sym, ap, ◌∙◌, subst, arith, append-nil}
 use Rattle.std.specs.List.{All, list_any, list_all, flat_map, slice_get, Contains}
-use Rattle.std.specs.Option.{option_map_or}
 use Rattle.std.proofs.lemmas.Bool.{and_parts, eqb-true, eqb-false, leb-true}
 use Rattle.std.proofs.lemmas.List.Elements.{All-nil, All-cons}
 use Rattle.std.specs.Fmt.{digits}
@@ -16,7 +15,7 @@ use Rattle.ya_core.specs.Worlds.{TellsInside}
 use Rattle.rt_rib.specs.declared.routes.Hop.TheVariants.{Discard}
 use Rattle.rt_rib.specs.declared.routes.Route.{Route}
 use Rattle.rt_rib.specs.declared.commands.Cmd.{Cmd}
-use Rattle.rt_rib.specs.declared.commands.Cmd.TheVariants.{Add, Withdraw, Dump, Purge}
+use Rattle.rt_rib.specs.declared.commands.Cmd.TheVariants.{Add, Withdraw, Dump}
 use Rattle.rt_rib.specs.declared.commands.Reply.TheVariants.{Added, Exists, Full, Withdrawn, Missing, Dumped}
 use Rattle.rt_rib.specs.declared.commands.Entry.{Entry}
 use Rattle.rt_rib.specs.Sequential.{reply_of, table_after, table_of_journal, IsAnswered, IsLawfulJournal}
@@ -26,18 +25,23 @@ use Rattle.rt_rib.specs.Laws.{is_own}
 use Rattle.table_examples.proofs.Rib.{entry, at_10_1_2_3, at_10_9_0_1, ten_1_16, ten_9_16, via_192_0_2, route_via}
 use Rattle.table_examples.proofs.Cidr.{ten_8}
 use Rattle.table_examples.proofs.Rib.{tutorial, the_journal_of_the_tutorial, the_table_of_the_tutorial}
-use Rattle.rt_shared.specs.Visits.{Uncut}
+use Rattle.rt_shared.specs.Visits.{Uncut, visit_of, entries}
 use Rattle.rt_shared.specs.declared.outcome.Outcome.{Outcome}
 use Rattle.rt_shared.specs.declared.outcome.Outcome.TheVariants.{Did, Refused}
 use Rattle.rt_feed.specs.declared.parse.LineFault.TheVariants as fault
 use Rattle.rt_feed.specs.declared.versions.Version.TheVariants.{One}
-use Rattle.rt_feed.specs.Lines.{TellsTwo, CutsLine, skipped, faulty, asked, LineOutcome, Becomes, asked_of}
-use Rattle.std.specs.Simd.{first_chunks}
-use Rattle.rt_feed.specs.Printed.{reply_text, fault_text, route_text, row_text, count_text, table_text, found_text, all_found_text, also_text, reason_text}
+use Rattle.rt_feed.specs.declared.parse.LineFault.{LineFault}
+use Rattle.rt_feed.specs.declared.report.Line.{Line}
+use Rattle.rt_feed.specs.declared.report.Answer.{Answer}
+use Rattle.rt_feed.specs.declared.report.Answer.TheVariants as answer
+use Rattle.rt_feed.specs.Lines.{TellsTwo, CutsLine, skipped, faulty, asked, LineOutcome, Becomes, asked_of, report_lines}
+use Rattle.rt_feed.specs.Reports.{is_refusal, is_fault, has_refusal, has_fault}
+use Rattle.rt_feed.specs.Visits.{IsCut, concatenated}
+use Rattle.rt_feed.specs.Printed.{reply_text, answer_text, line_text, route_text, row_text, count_text, table_text, found_text, all_found_text, also_text, reason_text}
 use Rattle.rt_feed.specs.declared.faults.RunFault.{RunFault}
 use Rattle.rt_feed.specs.declared.faults.RunFault.TheVariants as run
 use Rattle.feed_examples.proofs.Feed.{north, north_read, south, south_read, east, east_read, what_north_becomes, what_south_becomes, what_east_becomes}
-use Rattle.std.specs.Prelude.{◌↔◌, max, decimal, bytes_eq, Option}
+use Rattle.std.specs.Prelude.{◌↔◌, max, Option, find, count_by}
 use Rattle.rt_cidr.specs.declared.address.Addr.{Addr}
 use Rattle.std.specs.Io.KnownBytes.{Appends}
 use Rattle.rt_cidr.specs.Output.{AppendsBeginning}
@@ -45,23 +49,21 @@ use Rattle.rt_diff.specs.declared.differences.Difference.{Difference}
 use Rattle.rt_diff.specs.Differences.{AreDifferences}
 use Rattle.rt_feed.specs.DifferenceText.{differences_text}
 use Rattle.rt_run.specs.declared.differences.DiffSummary.{DiffSummary}
-use Rattle.rt_run.specs.DiffText.{LeavesTable, differ_status, IsDiffText}
+use Rattle.rt_run.specs.DiffText.{differ_status, IsDiffText}
 use Rattle.rt_run.specs.SameDiff.{TellsUnions, DiffsUnions, DiffOnce}
 use Rattle.rt_run.specs.declared.faults.AppFault.TheVariants.{Run, Replay, Write}
-use Rattle.rt_run.specs.RunText.{entries_of, Explains, ExplainsFrom, told_of, told_text, lines_text, feeds_text}
-use Rattle.rt_run.specs.RunText.{was_faulty, was_told, some_refused, status_of, IsHistory, IsRunText, Leaves}
+use Rattle.rt_run.specs.AskedRun.{AskedRun}
+use Rattle.rt_run.specs.RunText.{Explains, ExplainsFrom, IsHistory, reports_of, reports_text, some_refused, status_where, reports_status, IsRunText, Leaves}
+use Rattle.rt_run.proofs.Lists.{cut-joined}
 use Rattle.ya_replay.specs.ReplayText.{inside_text, replay_text_of}
 use Rattle.rt_run.specs.Replayed.{IsReplayText, LeavesReplay}
+use Rattle.rt_run.specs.declared.tallies.Tally.{Tally}
 use Rattle.rt_run.specs.declared.tallies.RunSummary.{RunSummary}
-use Rattle.rt_run.specs.TableText.{answers_text, all_answers_text, routes_text, first_fault, tally_of, was_left_out, IsShown}
-use Rattle.rt_run.specs.SameTable.{table_alone, LeavesAlone, IsUnion, IsAnsweredAlone}
-use Rattle.rt_run.specs.SameTable.{LeavesUnion, AnswersAlone, HaveOneUnion, EndsInUnion, EndInOneTable, ShowsUnion, ShowOneTable}
+use Rattle.rt_run.specs.TableText.{answers_text, all_answers_text, routes_text, was_full, was_existing, was_missing, fault_at, fault_of, tally_of}
+use Rattle.rt_run.specs.TableText.{has_refused, has_left_out, tallies_status, IsSummary, LeavesTable, IsShown}
+use Rattle.rt_run.specs.SameTable.{table_alone, LeavesAlone, IsUnion, IsAnsweredAlone, AskTheSame, SayTheSame}
+use Rattle.rt_run.specs.SameTable.{LeavesUnion, AnswersAlone, HaveSameTallies, HaveOneUnion, EndsInUnion, EndInOneTable, ShowsUnion, ShowOneTable}
 use Rattle.rt_diff.specs.declared.answers.By.{By}
-
--- entries_of
-what_was_refused_has_no_entry :
-    entries_of 2 ((Dump, Did (Dumped 0)) ∷ (Purge, Refused) ∷ (Dump, Did (Dumped 1)) ∷ []) ≡ entry 2 Dump (Dumped 0) ∷ entry 2 Dump (Dumped 1) ∷ []
-what_was_refused_has_no_entry = refl
 
 -- table_alone
 what_south_leaves : table_alone 65536 2 (asked_of south_read) ≡ route_via ten_8 2 30 (via_192_0_2 2) ∷ []
@@ -141,70 +143,38 @@ unfolding table_alone table_after reply_of
 nor_its_withdrawal h =
     let same = h ((Add ten_8 5 Discard, Did Added) ∷ (Add ten_9_16 5 Discard, Did Full) ∷ []) [] (Withdraw ten_9_16) (Did Withdrawn) refl refl in cc
 
--- told_of
-what_is_told_of_each :
-    map told_of (skipped ∷ faulty fault.Hop ∷ asked Dump Refused ∷ asked Dump (Did Added) ∷ [])
-    ≡ None ∷ Some (codes "fault E7") ∷ Some (codes "refused") ∷ Some (codes "added") ∷ []
-unfolding fault_text reply_text
-what_is_told_of_each = refl
+-- reports_of
+each_from_line_1 : reports_of ((skipped ∷ asked Dump Refused ∷ []) ∷ [] ∷ []) ≡ (record { number = 2; answer = answer.Refused } ∷ []) ∷ [] ∷ []
+each_from_line_1 = refl
 
--- told_text
-a_line_of_feed_2 : told_text 2 3 (asked Dump Refused) ≡ codes "2:3 refused\n"
-unfolding digits
-a_line_of_feed_2 = refl
+the_reports_of_any_texts : (outcomes : List (List LineOutcome)) → reports_of outcomes ≡ map (report_lines 1) outcomes
+the_reports_of_any_texts outcomes = refl
 
-nothing_is_told_of_a_comment : told_text 2 3 skipped ≡ []
-nothing_is_told_of_a_comment = refl
-
-a_line_of_any_feed :
-    (feed number : ℕ) (outcome : LineOutcome) → told_text feed number outcome
-    ≡ option_map_or (λ told. decimal feed ++ (codes ":" ++ (decimal number ++ (codes " " ++ (told ++ codes "\n"))))) (told_of outcome) []
-a_line_of_any_feed feed number outcome = refl
-
--- lines_text
-a_comment_has_its_number : lines_text 1 1 (skipped ∷ asked Dump Refused ∷ asked Dump Refused ∷ []) ≡ codes "1:2 refused\n1:3 refused\n"
-unfolding digits
-a_comment_has_its_number = refl
-
--- feeds_text
-the_second_is_of_feed_2 : feeds_text 1 ((asked Dump Refused ∷ []) ∷ (skipped ∷ asked Dump (Did (Dumped 0)) ∷ []) ∷ []) ≡ codes "1:1 refused\n2:2 dumped 0\n"
-unfolding digits reply_text
+-- reports_text
+the_second_is_of_feed_2 :
+    reports_text 1 (reports_of ((asked Dump Refused ∷ []) ∷ (skipped ∷ asked Dump (Did (Dumped 0)) ∷ []) ∷ [])) ≡ codes "1:1 refused\n2:2 dumped 0\n"
+unfolding digits line_text answer_text reply_text
 the_second_is_of_feed_2 = refl
-
--- was_faulty
-a_fault_alone : map was_faulty (skipped ∷ faulty fault.Hop ∷ asked Dump Refused ∷ asked Dump (Did (Dumped 0)) ∷ []) ≡ false ∷ true ∷ false ∷ false ∷ []
-a_fault_alone = refl
-
--- was_told
-full_alone :
-    map (was_told (codes "full")) (skipped ∷ faulty fault.Hop ∷ asked Dump Refused ∷ asked Dump (Did Full) ∷ asked Dump (Did Exists) ∷ [])
-    ≡ false ∷ false ∷ false ∷ true ∷ false ∷ []
-unfolding fault_text reply_text
-full_alone = refl
-
-any_text_alone : (told : List ℕ) (outcome : LineOutcome) → was_told told outcome ≡ option_map_or (bytes_eq told) (told_of outcome) false
-any_text_alone told outcome = refl
 
 -- some_refused
 one_of_the_second_was : some_refused ((skipped ∷ []) ∷ (faulty fault.Hop ∷ asked Dump Refused ∷ []) ∷ []) ≡ true
-unfolding fault_text
 one_of_the_second_was = refl
 
 none_was : some_refused ((skipped ∷ faulty fault.Hop ∷ asked Dump (Did (Dumped 0)) ∷ []) ∷ [] ∷ []) ≡ false
-unfolding fault_text reply_text
 none_was = refl
 
--- status_of
-all_was_done : status_of was_faulty ((skipped ∷ asked Dump (Did (Dumped 0)) ∷ []) ∷ [] ∷ []) ≡ 0
-unfolding reply_text
+-- status_where
+each_status : (status_where true true ≡ 5) × (status_where true false ≡ 5) × (status_where false true ≡ 2) × (status_where false false ≡ 0)
+each_status = (refl, refl, refl, refl)
+
+-- reports_status
+all_was_done : reports_status (reports_of ((skipped ∷ asked Dump (Did (Dumped 0)) ∷ asked Dump (Did Full) ∷ []) ∷ [] ∷ [])) ≡ 0
 all_was_done = refl
 
-some_line_was_faulty : status_of was_faulty ([] ∷ (faulty fault.Hop ∷ []) ∷ []) ≡ 2
-unfolding fault_text
+some_line_was_faulty : reports_status (reports_of ([] ∷ (faulty fault.Hop ∷ []) ∷ [])) ≡ 2
 some_line_was_faulty = refl
 
-a_refusal_before_a_fault : status_of was_faulty ((faulty fault.Hop ∷ []) ∷ (asked Dump Refused ∷ []) ∷ []) ≡ 5
-unfolding fault_text
+a_refusal_before_a_fault : reports_status (reports_of ((faulty fault.Hop ∷ []) ∷ (asked Dump Refused ∷ []) ∷ [])) ≡ 5
 a_refusal_before_a_fault = refl
 
 -- two routes to one prefix, the better one first
@@ -245,46 +215,100 @@ all_that_each_address_finds :
     → all_answers_text addresses table ≡ flat_map (λ addr. all_found_text addr (look_up_all addr table)) addresses
 all_that_each_address_finds addresses table = refl
 
--- first_fault
-the_second_line_has_the_first : first_fault 3 (asked Dump Refused ∷ faulty fault.Hop ∷ faulty fault.Text ∷ []) ≡ Some (4, fault.Hop)
-the_second_line_has_the_first = refl
+-- an answer of each kind that a tally tells apart
+abbrev each_kind : List Answer
+each_kind = answer.Did Full ∷ answer.Did Exists ∷ answer.Did Missing ∷ answer.Did Added ∷ answer.Refused ∷ answer.Fault fault.Hop ∷ []
 
-no_line_has_one : first_fault 1 (skipped ∷ asked Dump Refused ∷ []) ≡ None
-no_line_has_one = refl
+-- was_full
+full_alone : map was_full each_kind ≡ true ∷ false ∷ false ∷ false ∷ false ∷ false ∷ []
+full_alone = refl
+
+-- was_existing
+existing_alone : map was_existing each_kind ≡ false ∷ true ∷ false ∷ false ∷ false ∷ false ∷ []
+existing_alone = refl
+
+-- was_missing
+missing_alone : map was_missing each_kind ≡ false ∷ false ∷ true ∷ false ∷ false ∷ false ∷ []
+missing_alone = refl
+
+-- fault_at
+a_fault_with_its_line :
+    (number : ℕ) (its : LineFault) → (fault_at number (answer.Fault its) ≡ Some (number, its)) × (fault_at number answer.Refused ≡ None)
+    × (fault_at number (answer.Did Full) ≡ None)
+a_fault_with_its_line number its = (refl, refl, refl)
+
+-- fault_of
+of_the_line_if_there_is_one : (line : Line) → (fault_of None ≡ None) × (fault_of (Some line) ≡ fault_at line.number line.answer)
+of_the_line_if_there_is_one line = (refl, refl)
 
 -- tally_of
+what_a_tally_tells :
+    (report : List Line) → tally_of report
+    ≡ record {
+      faulty = count_by (λ (line : Line). is_fault line.answer) report;
+      first_faulty = fault_of (find (λ (line : Line). is_fault line.answer) report);
+      full = count_by (λ (line : Line). was_full line.answer) report;
+      existing = count_by (λ (line : Line). was_existing line.answer) report;
+      missing = count_by (λ (line : Line). was_missing line.answer) report;
+      refused = count_by (λ (line : Line). is_refusal line.answer) report;
+    }
+what_a_tally_tells report = refl
+
+the_second_line_has_the_first_fault :
+    (tally_of (report_lines 3 (asked Dump Refused ∷ faulty fault.Hop ∷ faulty fault.Text ∷ []))).first_faulty ≡ Some (4, fault.Hop)
+the_second_line_has_the_first_fault = refl
+
 faults_and_an_add_over_the_limit :
-    tally_of (faulty fault.Hop ∷ asked Dump (Did Full) ∷ skipped ∷ faulty fault.Text ∷ [])
+    tally_of (report_lines 1 (faulty fault.Hop ∷ asked Dump (Did Full) ∷ skipped ∷ faulty fault.Text ∷ []))
     ≡ record { faulty = 2; first_faulty = Some (1, fault.Hop); full = 1; existing = 0; missing = 0; refused = 0 }
-unfolding fault_text reply_text
 faults_and_an_add_over_the_limit = refl
 
 -- an add of a prefix that is there, and two commands about one that is not
 found_otherwise :
-    tally_of (asked Dump (Did Exists) ∷ asked Dump (Did Missing) ∷ skipped ∷ asked Dump (Did Missing) ∷ [])
+    tally_of (report_lines 1 (asked Dump (Did Exists) ∷ asked Dump (Did Missing) ∷ skipped ∷ asked Dump (Did Missing) ∷ []))
     ≡ record { faulty = 0; first_faulty = None; full = 0; existing = 1; missing = 2; refused = 0 }
-unfolding reply_text
 found_otherwise = refl
 
 -- tally_of
-refused_alone : tally_of (asked Dump Refused ∷ []) ≡ record { faulty = 0; first_faulty = None; full = 0; existing = 0; missing = 0; refused = 1 }
+refused_alone :
+    tally_of (report_lines 1 (asked Dump Refused ∷ []))
+    ≡ record { faulty = 0; first_faulty = None; full = 0; existing = 0; missing = 0; refused = 1 }
 refused_alone = refl
 
-all_was_taken : tally_of (asked Dump (Did (Dumped 0)) ∷ []) ≡ record { faulty = 0; first_faulty = None; full = 0; existing = 0; missing = 0; refused = 0 }
-unfolding reply_text
+all_was_taken :
+    tally_of (report_lines 1 (asked Dump (Did (Dumped 0)) ∷ []))
+    ≡ record { faulty = 0; first_faulty = None; full = 0; existing = 0; missing = 0; refused = 0 }
 all_was_taken = refl
 
--- was_left_out
-a_faulty_line_is_left_out : was_left_out (faulty fault.Hop) ≡ true
+-- has_refused
+a_refusal_alone :
+    (has_refused (tally_of (report_lines 1 (skipped ∷ asked Dump Refused ∷ []))) ≡ true)
+    × (has_refused (tally_of (report_lines 1 (faulty fault.Hop ∷ asked Dump (Did Full) ∷ []))) ≡ false)
+a_refusal_alone = (refl, refl)
+
+-- has_left_out
+a_faulty_line_is_left_out : has_left_out (tally_of (report_lines 1 (faulty fault.Hop ∷ []))) ≡ true
 a_faulty_line_is_left_out = refl
 
-an_add_over_the_limit_is_left_out : was_left_out (asked Dump (Did Full)) ≡ true
-unfolding reply_text
+an_add_over_the_limit_is_left_out : has_left_out (tally_of (report_lines 1 (asked Dump (Did Full) ∷ []))) ≡ true
 an_add_over_the_limit_is_left_out = refl
 
-all_else_is_not : map was_left_out (skipped ∷ asked Dump Refused ∷ asked Dump (Did Exists) ∷ asked Dump (Did Missing) ∷ []) ≡ false ∷ false ∷ false ∷ false ∷ []
-unfolding reply_text
+all_else_is_not : has_left_out (tally_of (report_lines 1 (skipped ∷ asked Dump Refused ∷ asked Dump (Did Exists) ∷ asked Dump (Did Missing) ∷ []))) ≡ false
 all_else_is_not = refl
+
+-- tallies_status
+what_makes_the_status :
+    (tallies : List Tally) → tallies_status tallies ≡ status_where (list_any has_refused tallies) (list_any has_left_out tallies)
+what_makes_the_status tallies = refl
+
+an_add_over_the_limit_makes_it_2 : tallies_status (map tally_of (reports_of ((skipped ∷ []) ∷ (asked Dump (Did Full) ∷ []) ∷ []))) ≡ 2
+an_add_over_the_limit_makes_it_2 = refl
+
+-- IsSummary
+what_a_summary_says :
+    (reports : List (List Line)) (summary : RunSummary) → IsSummary reports summary
+    ↔ ((summary.tallies.items ≡ map tally_of reports) × (summary.status ≡ tallies_status summary.tallies.items))
+what_a_summary_says reports summary = (λ h. (h.tallied, h.is_status), λ (tallied, is_status). record { tallied = tallied; is_status = is_status })
 
 -- a text of one line, and its entry
 abbrev text : List ℕ
@@ -364,6 +388,28 @@ by_range last (e ∷ entries) all =
     let both = and_parts (nat_le 1 e.feed) (nat_le e.feed last) parts.0 in
     All-cons (λ (e : Entry). (1 ≤ e.feed) × (e.feed ≤ last)) e entries (leb-true 1 e.feed both.0, leb-true e.feed last both.1) (by_range last entries parts.1)
 
+-- a list cut into pieces of one
+abbrev singles : {X : Type 0} → List X → List (List X)
+singles xs = map (λ x. x ∷ []) xs
+
+each_is_one : {X : Type 0} (xs : List X) → All (λ piece. length piece ≡ 1) (singles xs)
+each_is_one [] = All-nil (λ piece. length piece ≡ 1)
+each_is_one (x ∷ xs) = All-cons (λ piece. length piece ≡ 1) (x ∷ []) (singles xs) refl (each_is_one xs)
+
+singles_joined : {X : Type 0} (xs : List X) → xs ≡ concatenated (singles xs) ++ []
+singles_joined [] = refl
+singles_joined (x ∷ xs) = ap (λ rest. x ∷ rest) (singles_joined xs)
+
+cut_in_ones : {X : Type 0} (xs : List X) → IsCut 1 xs (singles xs)
+cut_in_ones xs = record {
+  whole = singles xs;
+  last = [];
+  full = each_is_one xs;
+  fewer = omega arith;
+  is_joined = singles_joined xs;
+  is_cut = sym (append-nil (singles xs));
+}
+
 -- IsHistory
 what_a_history_is :
     (texts : List (List ℕ)) (limit batch : ℕ) (journal : List Entry) (outcomes : List (List LineOutcome)) → IsHistory texts limit batch journal outcomes
@@ -386,8 +432,8 @@ the_history_of_a_dump = record {
         become = (codes "dump", [], cut_after_dump, (tt, refl), refl);
         joined = refl;
       };
-      count = 1;
-      hold = omega arith;
+      pieces = asked_of lines ∷ [];
+      cut = cut_in_ones (asked_of lines);
       uncut = each_alone 1 (dumped ∷ []);
     },
     tt,
@@ -398,12 +444,13 @@ the_history_of_a_dump = record {
 -- IsRunText
 what_the_text_of_a_run_is :
     (texts : List (List ℕ)) (limit batch : ℕ) (bytes : List ℕ) (status : ℕ) (h : IsRunText texts limit batch bytes status)
-    → IsHistory texts limit batch h.journal h.outcomes × (bytes ≡ feeds_text 1 h.outcomes ++ table_text (table_of_journal limit h.journal))
-    × (status ≡ status_of was_faulty h.outcomes)
+    → IsHistory texts limit batch h.journal h.outcomes
+    × (bytes ≡ reports_text 1 (reports_of h.outcomes) ++ table_text (table_of_journal limit h.journal))
+    × (status ≡ reports_status (reports_of h.outcomes))
 what_the_text_of_a_run_is texts limit batch bytes status h = (h.history, h.printed, h.is_status)
 
 the_run_of_a_dump : IsRunText (text ∷ []) 1 1 (codes "1:1 dumped 0\ntable 0\n") 0
-unfolding digits table_of_journal table_after reply_of reply_text count_text
+unfolding digits table_of_journal table_after reply_of line_text answer_text reply_text count_text
 the_run_of_a_dump = record {
   journal = dumped ∷ [];
   outcomes = lines ∷ [];
@@ -414,12 +461,12 @@ the_run_of_a_dump = record {
 
 -- the lines of a text are explained, one command at a time, where their entries are the feed's in the tutorial
 one_by_one : (feed : ℕ) (text : List ℕ) (lines : List LineOutcome) → Becomes text lines []
-    → map (entries_of feed) (first_chunks 1 (length (asked_of lines)) (asked_of lines)) ≡ alone (filter (λ e. e.feed == feed) tutorial)
+    → map (entries feed) (map visit_of (singles (asked_of lines))) ≡ alone (filter (λ e. e.feed == feed) tutorial)
     → Explains 1 feed tutorial text lines
 one_by_one feed text lines becomes same = record {
   becomes = becomes;
-  count = length (asked_of lines);
-  hold = omega arith;
+  pieces = singles (asked_of lines);
+  cut = cut_in_ones (asked_of lines);
   uncut = subst (λ visits. Uncut feed visits tutorial) (sym same) (each_alone feed tutorial);
 }
 
@@ -436,8 +483,15 @@ the_lines_of_east = one_by_one 3 east (skipped ∷ east_read) what_east_becomes 
 the_same_lines_in_pieces_of_two : Explains 2 1 tutorial north north_read
 the_same_lines_in_pieces_of_two = record {
   becomes = what_north_becomes;
-  count = 2;
-  hold = omega arith;
+  pieces = take 2 (asked_of north_read) ∷ drop 2 (asked_of north_read) ∷ [];
+  cut = record {
+    whole = take 2 (asked_of north_read) ∷ [];
+    last = drop 2 (asked_of north_read);
+    full = All-cons (λ piece. length piece ≡ 2) (take 2 (asked_of north_read)) [] refl (All-nil (λ piece. length piece ≡ 2));
+    fewer = omega arith;
+    is_joined = refl;
+    is_cut = refl;
+  };
   uncut = (
     [],
     drop 2 tutorial,
@@ -449,23 +503,36 @@ the_same_lines_in_pieces_of_two = record {
   );
 }
 
+-- what was cut is its pieces, one after another
+joined_again : {X : Type 0} (size : ℕ) (xs : List X) (pieces : List (List X)) → IsCut size xs pieces → concatenated pieces ≡ xs
+joined_again size xs pieces cut = ap concatenated cut.is_cut ∙ (cut-joined cut.whole cut.last ∙ sym cut.is_joined)
+
 -- a command that was answered in a piece has its entry
-no_entry : (count : ℕ) → 1 ≤ count * 1 → ¬ Uncut 1 (map (entries_of 1) (first_chunks 1 count (asked_of lines))) []
-no_entry zero hold uncut = absurd (omega (arith, hold))
-no_entry (suc count) hold (before, rest, same, none, own, more) = nothing_else before dumped rest same
+rest_is_none : (before rest : List Entry) → [] ≡ before ++ rest → [] ≡ rest
+rest_is_none [] rest same = same
+rest_is_none (x ∷ before) rest same = cc
+
+no_entry : (pieces : List (List (Cmd × Outcome))) → concatenated pieces ≡ asked_of lines → ¬ Uncut 1 (map (entries 1) (map visit_of pieces)) []
+no_entry [] all uncut = cc
+no_entry ([] ∷ pieces) all (before, rest, same, none, own, more) =
+    no_entry pieces all (subst (Uncut 1 (map (entries 1) (map visit_of pieces))) (sym (rest_is_none before rest same)) more)
+no_entry ((one ∷ piece) ∷ pieces) all (before, rest, same, none, own, more) =
+    let first : one ≡ (Dump, Did (Dumped 0)) = cc in
+    let is = subst (λ (o : Cmd × Outcome). [] ≡ before ++ (entries 1 (visit_of (o ∷ piece)) ++ rest)) first same in
+    nothing_else before dumped (entries 1 (visit_of piece) ++ rest) is
 
 -- Explains
 not_by_an_empty_journal : ¬ Explains 1 1 [] text lines
-not_by_an_empty_journal h = no_entry h.count h.hold h.uncut
+not_by_an_empty_journal h = no_entry h.pieces (joined_again 1 (asked_of lines) h.pieces h.cut) h.uncut
 
-not_in_fewer_pieces_than_hold_all : ¬ ((h : Explains 1 1 (dumped ∷ []) text lines) × (h.count ≡ 0))
-not_in_fewer_pieces_than_hold_all (h, none) = let hold : 1 ≤ h.count * 1 = h.hold in omega (arith, hold, none)
+not_in_fewer_pieces_than_hold_all : ¬ ((h : Explains 1 1 (dumped ∷ []) text lines) × (h.pieces ≡ []))
+not_in_fewer_pieces_than_hold_all (h, none) =
+    let all : [] ≡ asked_of lines = subst (λ pieces. concatenated pieces ≡ asked_of lines) none (joined_again 1 (asked_of lines) h.pieces h.cut) in cc
 
 what_explains_a_text :
     (batch feed : ℕ) (journal : List Entry) (text : List ℕ) (lines : List LineOutcome) → (h : Explains batch feed journal text lines)
-    → Becomes text lines [] × (length (asked_of lines) ≤ h.count * batch)
-    × Uncut feed (map (entries_of feed) (first_chunks batch h.count (asked_of lines))) journal
-what_explains_a_text batch feed journal its_text its_lines h = (h.becomes, h.hold, h.uncut)
+    → Becomes text lines [] × IsCut batch (asked_of lines) h.pieces × Uncut feed (map (entries feed) (map visit_of h.pieces)) journal
+what_explains_a_text batch feed journal its_text its_lines h = (h.becomes, h.cut, h.uncut)
 
 -- ExplainsFrom
 each_by_its_feed : ExplainsFrom 1 1 tutorial (north ∷ south ∷ east ∷ []) (north_read ∷ (skipped ∷ south_read) ∷ (skipped ∷ east_read) ∷ [])
@@ -496,7 +563,7 @@ the_history_of_the_tutorial = record {
 
 -- IsRunText
 the_run_of_the_tutorial : IsRunText (north ∷ south ∷ east ∷ []) 65536 1 the_tutorials_page 0
-unfolding digits address_text prefix_text reply_text count_text row_text route_text
+unfolding digits address_text prefix_text line_text answer_text reply_text count_text row_text route_text
 the_run_of_the_tutorial = record {
   journal = tutorial;
   outcomes = north_read ∷ (skipped ∷ south_read) ∷ (skipped ∷ east_read) ∷ [];
@@ -507,7 +574,7 @@ the_run_of_the_tutorial = record {
 
 nothing_printed_is_no_run : (texts : List (List ℕ)) (limit batch status : ℕ) → ¬ IsRunText texts limit batch [] status
 unfolding count_text
-nothing_printed_is_no_run texts limit batch status h = ends (feeds_text 1 h.outcomes) h.printed
+nothing_printed_is_no_run texts limit batch status h = ends (reports_text 1 (reports_of h.outcomes)) h.printed
   where
     ends : (reports : List ℕ) → [] ≢ reports ++ table_text (table_of_journal limit h.journal)
     ends [] same = cc
@@ -521,7 +588,8 @@ none_is_1 false false same = cc
 
 -- IsRunText
 no_run_has_status_1 : (texts : List (List ℕ)) (limit batch : ℕ) (bytes : List ℕ) → ¬ IsRunText texts limit batch bytes 1
-no_run_has_status_1 texts limit batch bytes h = none_is_1 (some_refused h.outcomes) (list_any (list_any was_faulty) h.outcomes) h.is_status
+no_run_has_status_1 texts limit batch bytes h =
+    none_is_1 (list_any has_refusal (reports_of h.outcomes)) (list_any has_fault (reports_of h.outcomes)) h.is_status
 
 -- Leaves
 what_a_run_leaves_in_its_writer :
@@ -581,36 +649,58 @@ never_without_a_text (bytes, is, same) =
 abbrev the_tutorials_outcomes : List (List LineOutcome)
 the_tutorials_outcomes = north_read ∷ (skipped ∷ south_read) ∷ (skipped ∷ east_read) ∷ []
 
--- IsShown
-what_is_told_of_a_run :
-    (texts : List (List ℕ)) (limit batch : ℕ) (text_of : List Route → List ℕ) (bytes : List ℕ) (summary : RunSummary)
-    (h : IsShown texts limit batch text_of bytes summary)
-    → IsHistory texts limit batch h.journal h.outcomes × (bytes ≡ text_of (table_of_journal limit h.journal))
-    × (summary.tallies.items ≡ map tally_of h.outcomes) × (summary.status ≡ status_of was_left_out h.outcomes)
-what_is_told_of_a_run texts limit batch text_of bytes summary h = (h.history, h.shown, h.tallied, h.is_status)
+-- runs of these texts, with a limit and a batch of 1, and that of the tutorial
+abbrev one_by_one_of : List (List ℕ) → AskedRun
+one_by_one_of texts = record { texts = texts; limit = 1; batch = 1 }
 
-what_is_told_of_the_tutorial :
-    (text_of : List Route → List ℕ) (summary : RunSummary) → summary.tallies.items ≡ map tally_of the_tutorials_outcomes → summary.status ≡ 0
-    → IsShown (north ∷ south ∷ east ∷ []) 65536 1 text_of (text_of (table_of_journal 65536 tutorial)) summary
-unfolding reply_text
-what_is_told_of_the_tutorial text_of summary tallied status = record {
+abbrev the_tutorials_run : AskedRun
+the_tutorials_run = record { texts = north ∷ south ∷ east ∷ []; limit = 65536; batch = 1 }
+
+-- LeavesTable
+what_a_run_leaves :
+    (request : AskedRun) (table : List Route) (summary : RunSummary) (h : LeavesTable request table summary)
+    → IsHistory request.texts request.limit request.batch h.journal h.outcomes × (table ≡ table_of_journal request.limit h.journal)
+    × IsSummary (reports_of h.outcomes) summary
+what_a_run_leaves request table summary h = (h.history, h.left, h.summed)
+
+what_the_tutorial_leaves :
+    (summary : RunSummary) → summary.tallies.items ≡ map tally_of (reports_of the_tutorials_outcomes) → summary.status ≡ 0
+    → LeavesTable the_tutorials_run (table_of_journal 65536 tutorial) summary
+what_the_tutorial_leaves summary tallied status = record {
   journal = tutorial;
   outcomes = the_tutorials_outcomes;
   history = the_history_of_the_tutorial;
-  shown = refl;
-  tallied = tallied;
-  is_status = status;
+  left = refl;
+  summed = record { tallied = tallied; is_status = status ∙ ap tallies_status (sym tallied) };
 }
 
-its_status_is_told : (bytes : List ℕ) (summary : RunSummary) → summary.status ≡ 1 → ¬ IsShown (text ∷ []) 1 1 table_text bytes summary
-its_status_is_told bytes summary one h = none_is_1 (some_refused h.outcomes) (list_any (list_any was_left_out) h.outcomes) (sym one ∙ h.is_status)
+-- IsShown
+what_is_told_of_a_run :
+    (request : AskedRun) (text_of : List Route → List ℕ) (bytes : List ℕ) (summary : RunSummary) (h : IsShown request text_of bytes summary)
+    → LeavesTable request h.table summary × (bytes ≡ text_of h.table)
+what_is_told_of_a_run request text_of bytes summary h = (h.leaves, h.shown)
 
-no_table_untold : (bytes : List ℕ) (summary : RunSummary) → summary.tallies.items ≡ [] → ¬ IsShown (text ∷ []) 1 1 table_text bytes summary
-no_table_untold bytes summary none h = by h.outcomes h.history.explained h.tallied
+what_is_told_of_the_tutorial :
+    (text_of : List Route → List ℕ) (summary : RunSummary) → summary.tallies.items ≡ map tally_of (reports_of the_tutorials_outcomes)
+    → summary.status ≡ 0 → IsShown the_tutorials_run text_of (text_of (table_of_journal 65536 tutorial)) summary
+what_is_told_of_the_tutorial text_of summary tallied status = record {
+  table = table_of_journal 65536 tutorial;
+  leaves = what_the_tutorial_leaves summary tallied status;
+  shown = refl;
+}
+
+its_status_is_told : (bytes : List ℕ) (summary : RunSummary) → summary.status ≡ 1 → ¬ IsShown (one_by_one_of (text ∷ [])) table_text bytes summary
+its_status_is_told bytes summary one h =
+    let tallies = summary.tallies.items in
+    none_is_1 (list_any has_refused tallies) (list_any has_left_out tallies) (sym one ∙ h.leaves.summed.is_status)
+
+no_table_untold : (bytes : List ℕ) (summary : RunSummary) → summary.tallies.items ≡ [] → ¬ IsShown (one_by_one_of (text ∷ [])) table_text bytes summary
+no_table_untold bytes summary none h = by h.leaves.outcomes h.leaves.history.explained h.leaves.summed.tallied
   where
-    by : (outcomes : List (List LineOutcome)) → ExplainsFrom 1 1 h.journal (text ∷ []) outcomes → summary.tallies.items ≢ map tally_of outcomes
+    by : (outcomes : List (List LineOutcome)) → ExplainsFrom 1 1 h.leaves.journal (text ∷ []) outcomes
+        → summary.tallies.items ≢ map tally_of (reports_of outcomes)
     by [] explained same = explained
-    by (one ∷ others) explained same = let some : [] ≡ tally_of one ∷ map tally_of others = sym none ∙ same in cc
+    by (one ∷ others) explained same = let some : [] ≡ tally_of (report_lines 1 one) ∷ map tally_of (reports_of others) = sym none ∙ same in cc
 
 -- where there is no text there is no feed, and no entry
 nobody_asks : (journal : List Entry) → All (λ (e : Entry). (1 ≤ e.feed) × (e.feed ≤ 0)) journal → journal ≡ []
@@ -622,50 +712,51 @@ abbrev length_text : List Route → List ℕ
 length_text table = length table ∷ []
 
 -- IsShown
-no_route_of_no_text : (summary : RunSummary) → ¬ IsShown [] 1 1 length_text (1 ∷ []) summary
+no_route_of_no_text : (summary : RunSummary) → ¬ IsShown (one_by_one_of []) length_text (1 ∷ []) summary
 unfolding table_of_journal
 no_route_of_no_text summary h =
-    let shown = subst (λ (journal : List Entry). 1 ∷ [] ≡ length_text (table_of_journal 1 journal)) (nobody_asks h.journal h.history.no_other) h.shown in
-    let none : ◌≡◌ {A = List ℕ} (1 ∷ []) (0 ∷ []) = shown in cc
+    let no_entries = nobody_asks h.leaves.journal h.leaves.history.no_other in
+    let none : ◌≡◌ {A = List ℕ} (1 ∷ []) (0 ∷ []) = h.shown ∙ ap length_text (h.leaves.left ∙ ap (table_of_journal 1) no_entries) in cc
 
 -- Leaves
 whatever_was_told :
-    (texts : List (List ℕ)) (limit batch : ℕ) (text_of : List Route → List ℕ) (old bytes : List ℕ) (summary : RunSummary)
-    → IsShown texts limit batch text_of bytes summary → Leaves (IsShown texts limit batch text_of) (Some old) (Some (old ++ bytes)) (Ok summary)
-whatever_was_told texts limit batch text_of old bytes summary is = (bytes, is, refl)
+    (request : AskedRun) (text_of : List Route → List ℕ) (old bytes : List ℕ) (summary : RunSummary)
+    → IsShown request text_of bytes summary → Leaves (IsShown request text_of) (Some old) (Some (old ++ bytes)) (Ok summary)
+whatever_was_told request text_of old bytes summary is = (bytes, is, refl)
 
 nothing_but_what_is_told :
-    (texts : List (List ℕ)) (limit batch : ℕ) (text_of : List Route → List ℕ) (new : List ℕ) (summary : RunSummary)
-    → Leaves (IsShown texts limit batch text_of) (Some []) (Some new) (Ok summary) → IsShown texts limit batch text_of new summary
-nothing_but_what_is_told texts limit batch text_of new summary (bytes, is, same) =
-    let all : bytes ≡ new = sym same in subst (λ b. IsShown texts limit batch text_of b summary) all is
+    (request : AskedRun) (text_of : List Route → List ℕ) (new : List ℕ) (summary : RunSummary)
+    → Leaves (IsShown request text_of) (Some []) (Some new) (Ok summary) → IsShown request text_of new summary
+nothing_but_what_is_told request text_of new summary (bytes, is, same) =
+    let all : bytes ≡ new = sym same in subst (λ b. IsShown request text_of b summary) all is
 
-no_table_in_place_of_what_the_writer_had : (summary : RunSummary) → ¬ Leaves (IsShown (text ∷ []) 1 1 table_text) (Some (codes "x")) (Some []) (Ok summary)
+no_table_in_place_of_what_the_writer_had :
+    (summary : RunSummary) → ¬ Leaves (IsShown (one_by_one_of (text ∷ [])) table_text) (Some (codes "x")) (Some []) (Ok summary)
 no_table_in_place_of_what_the_writer_had summary (bytes, is, same) = let lost : [] ≡ 120 ∷ bytes = same in cc
 
-no_table_where_it_was_refused : Leaves (IsShown [] 1 1 table_text) (Some (codes "x")) (Some (codes "x")) (Err (Run run.NoText))
+no_table_where_it_was_refused : Leaves (IsShown (one_by_one_of []) table_text) (Some (codes "x")) (Some (codes "x")) (Err (Run run.NoText))
 no_table_where_it_was_refused = ((λ same. cc), refl)
 
-no_other_bytes_as_F1 : ¬ Leaves (IsShown [] 1 1 table_text) (Some []) (Some (codes "x")) (Err (Run run.NoText))
+no_other_bytes_as_F1 : ¬ Leaves (IsShown (one_by_one_of []) table_text) (Some []) (Some (codes "x")) (Err (Run run.NoText))
 no_other_bytes_as_F1 h = let same = h.1 in cc
 
-no_other_bytes_as_F3 : ¬ Leaves (IsShown (text ∷ []) 1 1 table_text) (Some []) (Some (codes "x")) (Err (Run run.Memory))
+no_other_bytes_as_F3 : ¬ Leaves (IsShown (one_by_one_of (text ∷ [])) table_text) (Some []) (Some (codes "x")) (Err (Run run.Memory))
 no_other_bytes_as_F3 h = let same = h.1 in cc
 
-a_table_is_never_refused_as_F2 : ¬ Leaves (IsShown (text ∷ []) 1 1 table_text) (Some []) (Some []) (Err (Run run.FeedCount))
+a_table_is_never_refused_as_F2 : ¬ Leaves (IsShown (one_by_one_of (text ∷ [])) table_text) (Some []) (Some []) (Err (Run run.FeedCount))
 a_table_is_never_refused_as_F2 h = h.0 refl
 
-nor_as_a_replay : ¬ Leaves (IsShown (text ∷ []) 1 1 table_text) (Some []) (Some []) (Err (Replay replay.Place))
+nor_as_a_replay : ¬ Leaves (IsShown (one_by_one_of (text ∷ [])) table_text) (Some []) (Some []) (Err (Replay replay.Place))
 nor_as_a_replay h = h
 
 a_beginning_of_it_where_it_could_not_be_written :
-    (texts : List (List ℕ)) (limit batch : ℕ) (text_of : List Route → List ℕ) (summary : RunSummary)
-    → IsShown texts limit batch text_of (codes "table 0\n") summary
-    → Leaves (IsShown texts limit batch text_of) (Some (codes "x")) (Some (codes "xtab")) (Err Write)
-a_beginning_of_it_where_it_could_not_be_written texts limit batch text_of summary is =
+    (request : AskedRun) (text_of : List Route → List ℕ) (summary : RunSummary) → IsShown request text_of (codes "table 0\n") summary
+    → Leaves (IsShown request text_of) (Some (codes "x")) (Some (codes "xtab")) (Err Write)
+a_beginning_of_it_where_it_could_not_be_written request text_of summary is =
     (codes "table 0\n", summary, is, record { count = 3; within = omega arith; appended = refl })
 
-no_bytes_lost_where_the_table_could_not_be_written : ¬ Leaves (IsShown (text ∷ []) 1 1 table_text) (Some (codes "x")) (Some []) (Err Write)
+no_bytes_lost_where_the_table_could_not_be_written :
+    ¬ Leaves (IsShown (one_by_one_of (text ∷ [])) table_text) (Some (codes "x")) (Some []) (Err Write)
 no_bytes_lost_where_the_table_could_not_be_written (bytes, summary, is, begins) = let lost : [] ≡ 120 ∷ take begins.count bytes = begins.appended in cc
 
 -- LeavesUnion
@@ -681,6 +772,13 @@ its_replies_are_as_if_alone :
     → slice_get outcomes k ≡ Some lines → IsAnsweredAlone limit (k + 1) (asked_of lines)
 its_replies_are_as_if_alone law = law
 
+-- HaveSameTallies
+as_much_is_taken_of_the_same_texts :
+    HaveSameTallies → (texts : List (List ℕ)) (limit batch batch' : ℕ) (journal journal' : List Entry) (outcomes outcomes' : List (List LineOutcome))
+    → IsHistory texts limit batch journal outcomes → IsHistory texts limit batch' journal' outcomes' → some_refused outcomes ≡ false
+    → some_refused outcomes' ≡ false → map tally_of (reports_of outcomes) ≡ map tally_of (reports_of outcomes')
+as_much_is_taken_of_the_same_texts law = law
+
 -- HaveOneUnion
 texts_have_one_union :
     HaveOneUnion → (texts : List (List ℕ)) (limit : ℕ) (one other : List Route) → IsUnion texts limit one → IsUnion texts limit other → one ≡ other
@@ -689,27 +787,37 @@ texts_have_one_union law = law
 -- EndsInUnion
 a_run_ends_in_the_union :
     EndsInUnion → (texts : List (List ℕ)) (limit batch : ℕ) (bytes : List ℕ) (status : ℕ) (run : IsRunText texts limit batch bytes status) → status ≢ 5
-    → (union : List Route) × IsUnion texts limit union × (bytes ≡ feeds_text 1 run.outcomes ++ table_text union)
+    → (union : List Route) × IsUnion texts limit union × (bytes ≡ reports_text 1 (reports_of run.outcomes) ++ table_text union)
 a_run_ends_in_the_union law = law
 
 -- EndInOneTable
 two_runs_end_in_one_table :
     EndInOneTable → (texts : List (List ℕ)) (limit batch batch' : ℕ) (bytes bytes' : List ℕ) (status status' : ℕ)
     (run : IsRunText texts limit batch bytes status) (run' : IsRunText texts limit batch' bytes' status') → status ≢ 5 → status' ≢ 5
-    → (table : List Route) × (bytes ≡ feeds_text 1 run.outcomes ++ table_text table) × (bytes' ≡ feeds_text 1 run'.outcomes ++ table_text table)
+    → (status ≡ status') × (table : List Route) × (bytes ≡ reports_text 1 (reports_of run.outcomes) ++ table_text table)
+    × (bytes' ≡ reports_text 1 (reports_of run'.outcomes) ++ table_text table)
 two_runs_end_in_one_table law = law
+
+-- AskTheSame
+the_same_texts_and_limit : (one other : AskedRun) → AskTheSame one other ↔ ((one.texts ≡ other.texts) × (one.limit ≡ other.limit))
+the_same_texts_and_limit one other = (λ h. h, λ h. h)
+
+-- SayTheSame
+the_same_status_and_tallies : (one other : RunSummary) → SayTheSame one other ↔ ((one.status ≡ other.status) × (one.tallies.items ≡ other.tallies.items))
+the_same_status_and_tallies one other = (λ h. h, λ h. h)
 
 -- ShowsUnion
 what_is_told_is_told_of_the_union :
-    ShowsUnion → (texts : List (List ℕ)) (limit batch : ℕ) (text_of : List Route → List ℕ) (bytes : List ℕ) (summary : RunSummary)
-    → IsShown texts limit batch text_of bytes summary → summary.status ≢ 5 → (union : List Route) × IsUnion texts limit union × (bytes ≡ text_of union)
+    ShowsUnion → (request : AskedRun) (text_of : List Route → List ℕ) (bytes : List ℕ) (summary : RunSummary)
+    → IsShown request text_of bytes summary → summary.status ≢ 5
+    → (union : List Route) × IsUnion request.texts request.limit union × (bytes ≡ text_of union)
 what_is_told_is_told_of_the_union law = law
 
 -- ShowOneTable
 two_runs_show_one_table :
-    ShowOneTable → (texts : List (List ℕ)) (limit batch batch' : ℕ) (text_of : List Route → List ℕ) (bytes bytes' : List ℕ) (summary summary' : RunSummary)
-    → IsShown texts limit batch text_of bytes summary → IsShown texts limit batch' text_of bytes' summary' → summary.status ≢ 5 → summary'.status ≢ 5
-    → bytes ≡ bytes'
+    ShowOneTable → (request request' : AskedRun) (text_of : List Route → List ℕ) (bytes bytes' : List ℕ) (summary summary' : RunSummary)
+    → AskTheSame request request' → IsShown request text_of bytes summary → IsShown request' text_of bytes' summary' → summary.status ≢ 5
+    → summary'.status ≢ 5 → (bytes ≡ bytes') × SayTheSame summary summary'
 two_runs_show_one_table law = law
 
 -- IsReplayText
@@ -755,37 +863,30 @@ no_byte_lost_where_its_text_could_not_be_written (its_text, is, begins) = let lo
 some_range_or_none : (d : Difference) → (differ_status [] ≡ 0) × (differ_status (d ∷ []) ≡ 1) × (differ_status (d ∷ d ∷ []) ≡ 1)
 some_range_or_none d = (refl, refl, refl)
 
--- LeavesTable
-what_a_run_leaves :
-    (texts : List (List ℕ)) (limit batch : ℕ) (table : List Route) (summary : RunSummary) (h : LeavesTable texts limit batch table summary)
-    → IsHistory texts limit batch h.journal h.outcomes × (table ≡ table_of_journal limit h.journal)
-    × (summary.tallies.items ≡ map tally_of h.outcomes) × (summary.status ≡ status_of was_left_out h.outcomes)
-what_a_run_leaves texts limit batch table summary h = (h.history, h.left, h.tallied, h.is_status)
-
 -- IsDiffText
 what_two_runs_differ_in :
-    (by : By) (old_texts new_texts : List (List ℕ)) (limit batch : ℕ) (bytes : List ℕ) (given : DiffSummary)
-    (h : IsDiffText by old_texts new_texts limit batch bytes given)
-    → LeavesTable old_texts limit batch h.old given.old × LeavesTable new_texts limit batch h.new given.new × AreDifferences by h.old h.new h.list
+    (by : By) (old new : AskedRun) (bytes : List ℕ) (given : DiffSummary) (h : IsDiffText by old new bytes given)
+    → LeavesTable old h.old_table given.old × LeavesTable new h.new_table given.new × AreDifferences by h.old_table h.new_table h.list
     × (bytes ≡ differences_text h.list) × (given.status ≡ max (differ_status h.list) (max given.old.status given.new.status))
-what_two_runs_differ_in by old_texts new_texts limit batch bytes given h = (h.old_left, h.new_left, h.differences, h.printed, h.is_status)
+what_two_runs_differ_in by old new bytes given h = (h.old_left, h.new_left, h.differences, h.printed, h.is_status)
 
 -- TellsUnions
 what_two_unions_differ_in :
-    (by : By) (old_texts new_texts : List (List ℕ)) (limit : ℕ) (bytes : List ℕ) (h : TellsUnions by old_texts new_texts limit bytes)
-    → IsUnion old_texts limit h.old × IsUnion new_texts limit h.new × AreDifferences by h.old h.new h.list × (bytes ≡ differences_text h.list)
-what_two_unions_differ_in by old_texts new_texts limit bytes h = (h.old_union, h.new_union, h.differences, h.printed)
+    (by : By) (old new : AskedRun) (bytes : List ℕ) (h : TellsUnions by old new bytes)
+    → IsUnion old.texts old.limit h.old_union × IsUnion new.texts new.limit h.new_union × AreDifferences by h.old_union h.new_union h.list
+    × (bytes ≡ differences_text h.list)
+what_two_unions_differ_in by old new bytes h = (h.of_old, h.of_new, h.differences, h.printed)
 
 -- DiffsUnions
 a_comparison_is_of_the_unions :
-    DiffsUnions → (by : By) (old_texts new_texts : List (List ℕ)) (limit batch : ℕ) (bytes : List ℕ) (given : DiffSummary)
-    → IsDiffText by old_texts new_texts limit batch bytes given → given.old.status ≢ 5 → given.new.status ≢ 5
-    → TellsUnions by old_texts new_texts limit bytes
+    DiffsUnions → (by : By) (old new : AskedRun) (bytes : List ℕ) (given : DiffSummary) → IsDiffText by old new bytes given
+    → given.old.status ≢ 5 → given.new.status ≢ 5 → TellsUnions by old new bytes
 a_comparison_is_of_the_unions law = law
 
 -- DiffOnce
 two_comparisons_differ_in_the_same :
-    DiffOnce → (by : By) (old_texts new_texts : List (List ℕ)) (limit batch batch' : ℕ) (bytes bytes' : List ℕ) (given given' : DiffSummary)
-    → IsDiffText by old_texts new_texts limit batch bytes given → IsDiffText by old_texts new_texts limit batch' bytes' given' → given.old.status ≢ 5
-    → given.new.status ≢ 5 → given'.old.status ≢ 5 → given'.new.status ≢ 5 → bytes ≡ bytes'
+    DiffOnce → (by : By) (old old' new new' : AskedRun) (bytes bytes' : List ℕ) (given given' : DiffSummary) → AskTheSame old old' → AskTheSame new new'
+    → IsDiffText by old new bytes given → IsDiffText by old' new' bytes' given' → given.old.status ≢ 5 → given.new.status ≢ 5
+    → given'.old.status ≢ 5 → given'.new.status ≢ 5
+    → (bytes ≡ bytes') × (given.status ≡ given'.status) × SayTheSame given.old given'.old × SayTheSame given.new given'.new
 two_comparisons_differ_in_the_same law = law

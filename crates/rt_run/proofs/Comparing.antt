@@ -14,10 +14,11 @@ use Rattle.rt_diff.proofs.Promised.{at, rest_none, rest_next, rest_there, whole,
 use Rattle.rt_feed.specs.declared.report.Line.{Line}
 use Rattle.rt_feed.specs.DifferenceText.{difference_text, differences_text}
 use Rattle.rt_run.specs.declared.differences.DiffSummary.{DiffSummary}
+use Rattle.rt_run.specs.AskedRun.{AskedRun}
+use Rattle.rt_run.specs.TableText.{IsSummary}
 use Rattle.rt_run.specs.DiffText.{differ_status, IsDiffText}
 use Rattle.rt_run.specs.inside.Comparisons.{IsFirstOf, lines_of, compared_status, IsSoFar}
 use Rattle.rt_run.specs.inside.RunResults.{RunOverBook}
-use Rattle.rt_run.specs.inside.Tallies.{IsSummary}
 use Rattle.rt_run.proofs.Outputs.{left_table}
 
 -- what is no difference is none
@@ -111,18 +112,16 @@ module _ (by : By) (old new : List Route) where
       ap (λ list. max (differ_status list) (max m n)) all
 
 -- what was written of two runs tells of both tables
-pub is_diff : (by : By) (old_texts new_texts : List (List ℕ)) (limit batch : ℕ) (old_reports new_reports : List (List Line)) (old new : BookContents)
-    (given : DiffSummary) (first : Option Difference)
-    → RunOverBook (record { texts = old_texts; limit = limit; batch = batch }) old_reports old
-    → RunOverBook (record { texts = new_texts; limit = limit; batch = batch }) new_reports new
+pub is_diff : (by : By) (old_asked new_asked : AskedRun) (old_reports new_reports : List (List Line)) (old new : BookContents)
+    (given : DiffSummary) (first : Option Difference) → RunOverBook old_asked old_reports old → RunOverBook new_asked new_reports new
     → IsSummary old_reports given.old → IsSummary new_reports given.new → IsFirstOf by (table_of old) (table_of new) first
     → given.status ≡ compared_status given.old.status given.new.status first
-    → IsDiffText by old_texts new_texts limit batch (lines_of by (table_of old) (table_of new)) given
-is_diff by old_texts new_texts limit batch old_reports new_reports old new given first old_ran new_ran of_old of_new is status = record {
-  old = table_of old;
-  new = table_of new;
-  old_left = left_table (record { texts = old_texts; limit = limit; batch = batch }) old_reports old given.old old_ran of_old;
-  new_left = left_table (record { texts = new_texts; limit = limit; batch = batch }) new_reports new given.new new_ran of_new;
+    → IsDiffText by old_asked new_asked (lines_of by (table_of old) (table_of new)) given
+is_diff by old_asked new_asked old_reports new_reports old new given first old_ran new_ran of_old of_new is status = record {
+  old_table = table_of old;
+  new_table = table_of new;
+  old_left = left_table old_asked old_reports old given.old old_ran of_old;
+  new_left = left_table new_asked new_reports new given.new new_ran of_new;
   list = differences_of by (table_of old) (table_of new);
   differences = differences_are by (table_of old) (table_of new);
   printed = refl;

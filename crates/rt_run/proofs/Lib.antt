@@ -1,11 +1,10 @@
 pub mod Lists
 pub mod Buffered
 pub mod Answering
-pub mod Telling
-pub mod Pieces
 pub mod Outputs
 pub mod Comparing
 pub mod SeveralFeeds
 pub mod SameTables
+pub mod SameTallies
 pub mod SameDiffs
 pub mod Replayed

@@ -1,22 +1,18 @@
--- What holds of any lists: how they are mapped and counted, what is found in them, and what a slice has written in a vector.
+-- What holds of any lists: how they are mapped, counted and cut, and what a slice has written in a vector.
 use Rattle.std.proofs.Common.{◌≡◌, ℕ, ◌+◌, true, false, Bool, List, [], ◌∷◌, ◌++◌, map, length, take, drop}
-use Rattle.std.proofs.Common.{refl, sym, ap, ◌∙◌, arith, zero-add, append-nil}
+use Rattle.std.proofs.Common.{refl, sym, ap, ◌∙◌, arith, zero-add, append-nil, append_assoc}
 use Rattle.std.specs.Prelude.{nat_lt, count_by, cond, ◌||◌}
 use Rattle.std.specs.List.{list_any}
 use Rattle.std.proofs.lemmas.Bool.Decides.{nat_tests}
 use Rattle.std.proofs.lemmas.List.{map-append, drop_all, take_all}
 use Rattle.std.proofs.lemmas.List.Sums.{sum_by-cons}
+use Rattle.rt_feed.specs.Visits.{concatenated, piece_of}
 
 -- a list that grows as another is mapped: one element more of both
 pub map_more : {X Y : Type 0} (f : X → Y) (ys ys' : List Y) (xs : List X) (x : X) (y : Y)
     → ys ≡ map f xs → ys' ≡ ys ++ y ∷ [] → y ≡ f x → ys' ≡ map f (xs ++ x ∷ [])
 map_more f ys ys' xs x y so_far pushed is =
     pushed ∙ (ap (λ t. t ++ y ∷ []) so_far ∙ (ap (λ z. map f xs ++ z ∷ []) is ∙ sym (map-append f xs (x ∷ []))))
-
--- two maps, one after the other, are one
-pub map-both : {A B C : Type 0} (g : B → C) (f : A → B) (xs : List A) → map g (map f xs) ≡ map (λ x. g (f x)) xs
-map-both g f [] = refl
-map-both g f (x ∷ xs) = ap (λ ys. g (f x) ∷ ys) (map-both g f xs)
 
 -- a count is above 0 where something passes the test
 one_is_some : (n : ℕ) → nat_lt 0 (1 + n) ≡ true
@@ -31,17 +27,11 @@ counts_some test [] = refl
 counts_some test (x ∷ xs) = ap (λ m. nat_lt 0 m) (sum_by-cons (λ y. cond (test y) 1 0) x xs)
     ∙ counts_more (test x) (list_any test xs) (count_by test xs) (counts_some test xs)
 
--- what either test finds
-either_way : (a b c d : Bool) → ((a || c) || (b || d)) ≡ ((a || b) || (c || d))
-either_way true b c d = refl
-either_way false true true d = refl
-either_way false true false d = refl
-either_way false false c d = refl
-
-pub some_of_either : {X : Type 0} (one two : X → Bool) (xs : List X) → (list_any one xs || list_any two xs) ≡ list_any (λ x. one x || two x) xs
-some_of_either one two [] = refl
-some_of_either one two (x ∷ xs) =
-    either_way (one x) (two x) (list_any one xs) (list_any two xs) ∙ ap (λ rest. (one x || two x) || rest) (some_of_either one two xs)
+-- the pieces of a list that is cut, one after another
+pub cut-joined : {X : Type 0} (whole : List (List X)) (last : List X) → concatenated (whole ++ piece_of last) ≡ concatenated whole ++ last
+cut-joined [] [] = refl
+cut-joined [] (x ∷ xs) = append-nil (x ∷ xs)
+cut-joined (piece ∷ whole) last = ap (λ xs. piece ++ xs) (cut-joined whole last) ∙ sym (append_assoc piece (concatenated whole) last)
 
 -- a vector that was written through a slice of all its elements holds what was written
 pub all_written : {X : Type 0} (len : ℕ) (new items : List X) → len ≡ length items → length new ≡ length items → take len (new ++ drop (length new) items) ≡ new

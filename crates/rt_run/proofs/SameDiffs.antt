@@ -1,42 +1,44 @@
 -- That what is written of two compared runs is the same however the visits of their feeds fell.
-use Rattle.std.proofs.Common.{◌≡◌, ◌≢◌, ℕ, List, ap, sym, subst, ◌∙◌}
+use Rattle.std.proofs.Common.{◌≡◌, max, List, ap, sym, subst, ◌∙◌}
 use Rattle.rt_rib.specs.declared.routes.Route.{Route}
 use Rattle.rt_diff.specs.Differences.{AreDifferences}
 use Rattle.rt_diff.specs.Laws.{HaveOneList}
 use Rattle.rt_feed.specs.DifferenceText.{differences_text}
-use Rattle.rt_run.specs.declared.tallies.RunSummary.{RunSummary}
-use Rattle.rt_run.specs.TableText.{was_left_out}
-use Rattle.rt_run.specs.SameTable.{IsUnion, LeavesUnion, HaveOneUnion}
-use Rattle.rt_run.specs.DiffText.{LeavesTable}
+use Rattle.rt_run.specs.SameTable.{LeavesUnion, HaveOneUnion, HaveSameTallies}
+use Rattle.rt_run.specs.DiffText.{differ_status}
 use Rattle.rt_run.specs.SameDiff.{DiffsUnions, DiffOnce}
-use Rattle.rt_run.proofs.SameTables.{by_status}
-
--- a run leaves the union
-leaves_one : LeavesUnion → (texts : List (List ℕ)) (limit batch : ℕ) (table : List Route) (summary : RunSummary)
-    → LeavesTable texts limit batch table summary → summary.status ≢ 5 → IsUnion texts limit table
-leaves_one leaves texts limit batch table summary left not =
-    subst (IsUnion texts limit) (sym left.left)
-    (leaves texts limit batch left.journal left.outcomes left.history (by_status was_left_out left.outcomes summary.status left.is_status not))
+use Rattle.rt_run.proofs.SameTables.{left_union, union_of_same, say_the_same}
 
 pub diffs_unions : LeavesUnion → DiffsUnions
-diffs_unions leaves by old_texts new_texts limit batch bytes given is old_not new_not = record {
-  old = is.old;
-  new = is.new;
-  old_union = leaves_one leaves old_texts limit batch is.old given.old is.old_left old_not;
-  new_union = leaves_one leaves new_texts limit batch is.new given.new is.new_left new_not;
+diffs_unions leaves by old new bytes given is old_not new_not = record {
+  old_union = is.old_table;
+  new_union = is.new_table;
+  of_old = left_union leaves old is.old_table given.old is.old_left old_not;
+  of_new = left_union leaves new is.new_table given.new is.new_left new_not;
   list = is.list;
   differences = is.differences;
   printed = is.printed;
 }
 
-pub diff_once : DiffsUnions → HaveOneUnion → HaveOneList → DiffOnce
-diff_once diffs one one_list by old_texts new_texts limit batch batch' bytes bytes' given given' is is' old_not new_not old_not' new_not' =
-    let here = diffs by old_texts new_texts limit batch bytes given is old_not new_not in
-    let there = diffs by old_texts new_texts limit batch' bytes' given' is' old_not' new_not' in
-    let old : there.old ≡ here.old = one old_texts limit there.old here.old there.old_union here.old_union in
-    let new : there.new ≡ here.new = one new_texts limit there.new here.new there.new_union here.new_union in
-    let also : AreDifferences by here.old here.new there.list =
-    subst (λ (t : List Route). AreDifferences by here.old t there.list) new
-    (subst (λ (t : List Route). AreDifferences by t there.new there.list) old there.differences) in
-    let same : here.list ≡ there.list = one_list by here.old here.new here.list there.list here.differences also in
-    here.printed ∙ (ap differences_text same ∙ sym there.printed)
+pub diff_once : LeavesUnion → HaveOneUnion → HaveOneList → HaveSameTallies → DiffOnce
+diff_once leaves one one_list tallies by old old' new new' bytes bytes' given given' same_old same_new is is' old_not new_not old_not' new_not' =
+    let old_tables : is'.old_table ≡ is.old_table = one old.texts old.limit is'.old_table is.old_table
+    (union_of_same old old' is'.old_table same_old (left_union leaves old' is'.old_table given'.old is'.old_left old_not'))
+    (left_union leaves old is.old_table given.old is.old_left old_not) in
+    let new_tables : is'.new_table ≡ is.new_table = one new.texts new.limit is'.new_table is.new_table
+    (union_of_same new new' is'.new_table same_new (left_union leaves new' is'.new_table given'.new is'.new_left new_not'))
+    (left_union leaves new is.new_table given.new is.new_left new_not) in
+    let also : AreDifferences by is.old_table is.new_table is'.list =
+    subst (λ (t : List Route). AreDifferences by is.old_table t is'.list) new_tables
+    (subst (λ (t : List Route). AreDifferences by t is'.new_table is'.list) old_tables is'.differences) in
+    let same : is.list ≡ is'.list = one_list by is.old_table is.new_table is.list is'.list is.differences also in
+    let said_old = say_the_same tallies old old' is.old_table is'.old_table given.old given'.old same_old is.old_left is'.old_left old_not old_not' in
+    let said_new = say_the_same tallies new new' is.new_table is'.new_table given.new given'.new same_new is.new_left is'.new_left new_not new_not' in (
+      is.printed ∙ (ap differences_text same ∙ sym is'.printed),
+      is.is_status
+          ∙ (ap (λ list. max (differ_status list) (max given.old.status given.new.status)) same
+          ∙ (ap (λ n. max (differ_status is'.list) (max n given.new.status)) said_old.0
+          ∙ (ap (λ n. max (differ_status is'.list) (max given'.old.status n)) said_new.0 ∙ sym is'.is_status))),
+      said_old,
+      said_new,
+    )

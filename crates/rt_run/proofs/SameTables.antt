@@ -1,8 +1,8 @@
 -- Why the table of a run, and the replies on a feed's own routes, are what each feed's commands give by themselves.
 use Rattle.std.proofs.Common.{◌≡◌, ◌≢◌, ℕ, zero, suc, ◌+◌, ◌-◌, ◌<◌, ◌≤◌, ◌⊎◌, inl, inr, true, false}
 use Rattle.std.proofs.Common.{Option, Some, None, Ok, Err, List, [], ◌∷◌, ◌++◌, Bool, All, length}
-use Rattle.std.proofs.Common.{map, take, drop, refl, sym, ap, subst, ◌∙◌, arith, codes, eqb-true}
-use Rattle.std.specs.Prelude.{fold, if◌then◌else◌, ◌||◌}
+use Rattle.std.proofs.Common.{map, take, drop, refl, sym, ap, subst, ◌∙◌, arith, append_assoc, eqb-true}
+use Rattle.std.specs.Prelude.{fold, nat_lt, ◌||◌}
 use Rattle.std.specs.declared.result.Result.{Result}
 use Rattle.std.specs.List.{slice_get, list_any, flat_map, filter, Contains}
 use Rattle.std.proofs.lemmas.Bool.{cases_Bool, eq-eqb, cond-true, cond-false, false≢true, or_parts}
@@ -17,20 +17,26 @@ use Rattle.rt_rib.specs.declared.commands.Cmd.TheVariants.{Dump}
 use Rattle.rt_rib.specs.declared.commands.Reply.{Reply}
 use Rattle.rt_rib.specs.declared.commands.Entry.{Entry}
 use Rattle.rt_rib.specs.Sequential.{reply_of, table_after, IsLawfulJournal, table_of_journal}
-use Rattle.rt_rib.specs.Laws.{FeedsStandAlone, TableByEntry, OneTableOfSet, feed_entries, feed_routes}
+use Rattle.rt_rib.specs.Laws.{FeedsStandAlone, TableByEntry, OneTableOfSet, is_own, feed_entries, feed_routes}
 use Rattle.rt_shared.specs.declared.outcome.Outcome.{Outcome}
 use Rattle.rt_shared.specs.declared.outcome.Outcome.TheVariants as outcome
 use Rattle.rt_shared.specs.Laws.{EntriesOfVisits}
 use Rattle.rt_feed.specs.declared.parse.LineFault.{LineFault}
 use Rattle.rt_feed.specs.Laws.{TextHasOneReading}
-use Rattle.rt_feed.specs.Lines.{LineOutcome, skipped, faulty, asked, reading, Becomes, asked_of}
-use Rattle.rt_shared.specs.Visits.{Visit, visit_of, entries}
+use Rattle.rt_feed.specs.declared.report.Line.{Line}
+use Rattle.rt_feed.specs.Lines.{LineOutcome, skipped, faulty, asked, reading, Becomes, asked_of, report_lines}
+use Rattle.rt_feed.specs.Reports.{is_refusal, is_fault, has_refusal, has_fault}
+use Rattle.rt_shared.specs.Visits.{Visit, reply_to, visit_of, entries}
+use Rattle.rt_feed.specs.Visits.{concatenated}
 use Rattle.rt_feed.specs.Printed.{table_text}
-use Rattle.rt_run.specs.RunText.{Explains, ExplainsFrom, feeds_text, was_told, some_refused, was_faulty, status_of}
-use Rattle.rt_run.proofs.Pieces.{entries-visit, entries-chunks}
-use Rattle.rt_run.specs.TableText.{was_left_out}
-use Rattle.rt_run.proofs.Telling.{agree-refused}
-use Rattle.rt_run.specs.SameTable.{table_alone, IsAnsweredAlone, LeavesUnion, AnswersAlone, HaveOneUnion, EndsInUnion, EndInOneTable, ShowsUnion, ShowOneTable}
+use Rattle.rt_run.specs.declared.tallies.Tally.{Tally}
+use Rattle.rt_run.specs.declared.tallies.RunSummary.{RunSummary}
+use Rattle.rt_run.specs.AskedRun.{AskedRun}
+use Rattle.rt_run.specs.RunText.{Explains, ExplainsFrom, IsHistory, reports_of, reports_text, some_refused, status_where, reports_status}
+use Rattle.rt_run.specs.TableText.{tally_of, has_refused, has_left_out, tallies_status, IsSummary, LeavesTable}
+use Rattle.rt_run.specs.SameTable.{table_alone, IsUnion, IsAnsweredAlone, AskTheSame, SayTheSame}
+use Rattle.rt_run.specs.SameTable.{LeavesUnion, AnswersAlone, HaveSameTallies, HaveOneUnion, EndsInUnion, EndInOneTable, ShowsUnion, ShowOneTable}
+use Rattle.rt_run.proofs.Lists.{counts_some, cut-joined}
 
 -- what a line asks shows in what it says
 abbrev asked_in : Result (Option Cmd) LineFault → List Cmd
@@ -39,7 +45,7 @@ asked_in (Ok None) = []
 asked_in (Err fault) = []
 
 -- the commands, whatever became of them
-abbrev commands : List (Cmd × Outcome) → List Cmd
+abbrev pub commands : List (Cmd × Outcome) → List Cmd
 commands all = map (λ one. one.0) all
 
 commands-reading : (lines : List LineOutcome) → commands (asked_of lines) ≡ flat_map asked_in (map reading lines)
@@ -60,19 +66,35 @@ alone-commands_from : (limit feed : ℕ) (table : List Route) (all : List (Cmd �
 alone-commands_from limit feed table [] = refl
 alone-commands_from limit feed table (one ∷ all) = alone-commands_from limit feed (table_after limit table feed one.0) all
 
-alone-commands : (limit feed : ℕ) (all others : List (Cmd × Outcome))
+pub alone-commands : (limit feed : ℕ) (all others : List (Cmd × Outcome))
     → commands all ≡ commands others → table_alone limit feed all ≡ table_alone limit feed others
 unfolding table_alone
 alone-commands limit feed all others same =
     alone-commands_from limit feed [] all
     ∙ (ap (λ cmds. fold (λ table cmd. table_after limit table feed cmd) [] cmds) same ∙ sym (alone-commands_from limit feed [] others))
 
+-- what was answered in pieces has the entries of all, one after another
+visit_of-append : (xs ys : List (Cmd × Outcome)) → visit_of (xs ++ ys) ≡ visit_of xs ++ visit_of ys
+visit_of-append [] ys = refl
+visit_of-append (one ∷ xs) ys =
+    ap (λ visit. reply_to one.0 one.1 ++ visit) (visit_of-append xs ys) ∙ sym (append_assoc (reply_to one.0 one.1) (visit_of xs) (visit_of ys))
+
+entries-pieces : (feed : ℕ) (pieces : List (List (Cmd × Outcome)))
+    → flat_map (λ visit. visit) (map (entries feed) (map visit_of pieces)) ≡ entries feed (visit_of (concatenated pieces))
+entries-pieces feed [] = refl
+entries-pieces feed (piece ∷ pieces) =
+    ap (λ es. entries feed (visit_of piece) ++ es) (entries-pieces feed pieces)
+    ∙ (sym (map-append (λ p. record { feed = feed; cmd = p.0; reply = p.1 }) (visit_of piece) (visit_of (concatenated pieces)))
+    ∙ ap (entries feed) (sym (visit_of-append piece (concatenated pieces))))
+
 -- so the journal's entries of a feed are those of its answered commands
 entries_explained : EntriesOfVisits → (batch feed : ℕ) (journal : List Entry) (text : List ℕ) (lines : List LineOutcome)
     → Explains batch feed journal text lines
     → feed_entries feed journal ≡ entries feed (visit_of (asked_of lines))
 entries_explained law batch feed journal text lines explains =
-    law feed _ journal explains.uncut ∙ (entries-chunks feed batch explains.count (asked_of lines) explains.hold ∙ entries-visit feed (asked_of lines))
+    let cut = explains.cut in
+    let all : concatenated explains.pieces ≡ asked_of lines = ap concatenated cut.is_cut ∙ (cut-joined cut.whole cut.last ∙ sym cut.is_joined) in
+    law feed _ journal explains.uncut ∙ (entries-pieces feed explains.pieces ∙ ap (λ cmds. entries feed (visit_of cmds)) all)
 
 -- a command that has its reply
 abbrev did : Cmd × Reply → Cmd × Outcome
@@ -89,30 +111,13 @@ table-entries : (limit feed : ℕ) (visit : Visit) → table_of_journal limit (e
 unfolding table_of_journal table_alone
 table-entries limit feed visit = table-entries_from limit feed [] visit
 
--- the line's command was refused
-abbrev was_refused : LineOutcome → Bool
-was_refused (asked cmd outcome.Refused) = true
-was_refused _ = false
-
-refused-told : (line : LineOutcome) → was_told (codes "refused") line ≡ was_refused line
-refused-told skipped = refl
-refused-told (faulty fault) = agree-refused (faulty fault)
-refused-told (asked cmd outcome.Refused) = refl
-refused-told (asked cmd (outcome.Did reply)) = agree-refused (asked cmd (outcome.Did reply))
-
-none_refused : (lines : List LineOutcome) → list_any (was_told (codes "refused")) lines ≡ false → list_any was_refused lines ≡ false
-none_refused [] none = refl
-none_refused (line ∷ lines) none =
-    let parts = or_parts (was_told (codes "refused") line) (list_any (was_told (codes "refused")) lines) none in
-    ap (λ b. b || list_any was_refused lines) (sym (refused-told line) ∙ parts.0) ∙ none_refused lines parts.1
-
 -- where none was refused, all have
-all_did : (lines : List LineOutcome) → list_any was_refused lines ≡ false → asked_of lines ≡ map did (visit_of (asked_of lines))
-all_did [] none = refl
-all_did (skipped ∷ lines) none = all_did lines none
-all_did (faulty fault ∷ lines) none = all_did lines none
-all_did (asked cmd (outcome.Did reply) ∷ lines) none = ap (λ rest. (cmd, outcome.Did reply) ∷ rest) (all_did lines none)
-all_did (asked cmd outcome.Refused ∷ lines) none = absurd (false≢true (sym none))
+all_did : (number : ℕ) (lines : List LineOutcome) → has_refusal (report_lines number lines) ≡ false → asked_of lines ≡ map did (visit_of (asked_of lines))
+all_did number [] none = refl
+all_did number (skipped ∷ lines) none = all_did (number + 1) lines none
+all_did number (faulty fault ∷ lines) none = all_did (number + 1) lines none
+all_did number (asked cmd (outcome.Did reply) ∷ lines) none = ap (λ rest. (cmd, outcome.Did reply) ∷ rest) (all_did (number + 1) lines none)
+all_did number (asked cmd outcome.Refused ∷ lines) none = absurd (false≢true (sym none))
 
 -- one command among those that have their replies
 record IsAmong (visit : Visit) (earlier : List (Cmd × Outcome)) (cmd : Cmd) (is : Outcome) : Type 0 where
@@ -193,13 +198,24 @@ stands_in (x ∷ journal) feed front back e is = elim (cases_Bool (x.feed == fee
       }
 ]
 
--- a reply on a feed's own routes is what its earlier commands give by themselves
-answered_alone : FeedsStandAlone → EntriesOfVisits → (limit batch feed : ℕ) (journal : List Entry) (text : List ℕ) (lines : List LineOutcome)
+-- a command was answered from some table, and where it speaks of its feed's own routes as from what the feed's earlier commands
+-- leave by themselves
+pub record IsAnsweredFrom (limit feed : ℕ) (earlier : List (Cmd × Outcome)) (cmd : Cmd) (is : Outcome) : Type 0 where
+  pub table : List Route
+  pub reply : is ≡ outcome.Did (reply_of limit table feed cmd)
+  pub alone : is_own cmd ≡ true → reply_of limit table feed cmd ≡ reply_of limit (table_alone limit feed earlier) feed cmd
+
+-- so each command of the feed was
+abbrev pub AreAnsweredFrom : ℕ → ℕ → List (Cmd × Outcome) → Type 0
+AreAnsweredFrom limit feed all =
+    (earlier later : List (Cmd × Outcome)) (cmd : Cmd) (is : Outcome) → all ≡ earlier ++ (cmd, is) ∷ later → IsAnsweredFrom limit feed earlier cmd is
+
+pub answered_from : FeedsStandAlone → EntriesOfVisits → (limit batch feed : ℕ) (journal : List Entry) (text : List ℕ) (lines : List LineOutcome)
     → IsLawfulJournal limit journal
-    → Explains batch feed journal text lines → list_any was_refused lines ≡ false → IsAnsweredAlone limit feed (asked_of lines)
-answered_alone alone law limit batch feed journal text lines lawful explains none earlier later cmd is split own =
+    → Explains batch feed journal text lines → has_refusal (report_lines 1 lines) ≡ false → AreAnsweredFrom limit feed (asked_of lines)
+answered_from alone law limit batch feed journal text lines lawful explains none earlier later cmd is split =
     let visit = visit_of (asked_of lines) in
-    let one = among visit earlier later cmd is (sym (all_did lines none) ∙ split) in
+    let one = among visit earlier later cmd is (sym (all_did 1 lines none) ∙ split) in
     let e : Entry = record { feed = feed; cmd = cmd; reply = one.reply } in
     let parts : feed_entries feed journal ≡ entries feed one.front ++ e ∷ entries feed one.back =
     entries_explained law batch feed journal text lines explains
@@ -207,17 +223,27 @@ answered_alone alone law limit batch feed journal text lines lawful explains non
     let here = stands_in journal feed (entries feed one.front) (entries feed one.back) e parts in
     let same_table : table_of_journal limit (feed_entries feed here.earlier) ≡ table_alone limit feed earlier =
     ap (table_of_journal limit) here.before ∙ (table-entries limit feed one.front ∙ ap (table_alone limit feed) (sym one.before)) in
-    one.had ∙ ap outcome.Did
-    (lawful.answered here.earlier e here.later here.split
-    ∙ ((alone limit feed here.earlier cmd).1 own ∙ ap (λ table. reply_of limit table feed cmd) same_table))
+    record {
+      table = table_of_journal limit here.earlier;
+      reply = one.had ∙ ap outcome.Did (lawful.answered here.earlier e here.later here.split);
+      alone = λ own. (alone limit feed here.earlier cmd).1 own ∙ ap (λ table. reply_of limit table feed cmd) same_table;
+    }
+
+-- a reply on a feed's own routes is what its earlier commands give by themselves
+answered_alone : FeedsStandAlone → EntriesOfVisits → (limit batch feed : ℕ) (journal : List Entry) (text : List ℕ) (lines : List LineOutcome)
+    → IsLawfulJournal limit journal
+    → Explains batch feed journal text lines → has_refusal (report_lines 1 lines) ≡ false → IsAnsweredAlone limit feed (asked_of lines)
+answered_alone alone law limit batch feed journal text lines lawful explains none earlier later cmd is split own =
+    let from = answered_from alone law limit batch feed journal text lines lawful explains none earlier later cmd is split in
+    from.reply ∙ ap outcome.Did (from.alone own)
 
 -- what a feed has in the table is what its commands leave by themselves
 routes_alone : FeedsStandAlone → EntriesOfVisits → (limit batch feed : ℕ) (journal : List Entry) (text : List ℕ) (lines : List LineOutcome) (cmd : Cmd)
-    → Explains batch feed journal text lines → list_any was_refused lines ≡ false
+    → Explains batch feed journal text lines → has_refusal (report_lines 1 lines) ≡ false
     → feed_routes feed (table_of_journal limit journal) ≡ table_alone limit feed (asked_of lines)
 routes_alone alone law limit batch feed journal text lines cmd explains none =
     (alone limit feed journal cmd).0 ∙ (ap (table_of_journal limit) (entries_explained law batch feed journal text lines explains)
-    ∙ (table-entries limit feed (visit_of (asked_of lines)) ∙ ap (table_alone limit feed) (sym (all_did lines none))))
+    ∙ (table-entries limit feed (visit_of (asked_of lines)) ∙ ap (table_alone limit feed) (sym (all_did 1 lines none))))
 
 -- what the k-th text's lines became, and that the journal explains it as this feed's
 record IsOfFeed (batch feed k : ℕ) (journal : List Entry) (outcomes : List (List LineOutcome)) (text : List ℕ) : Type 0 where
@@ -259,23 +285,48 @@ at_place (x ∷ xs) (suc k) within = at_place xs k (omega (arith, within))
 
 -- where no command was refused at all, none of one feed's was
 none_of_one : (outcomes : List (List LineOutcome)) (k : ℕ) (lines : List LineOutcome)
-    → some_refused outcomes ≡ false → slice_get outcomes k ≡ Some lines → list_any was_refused lines ≡ false
+    → some_refused outcomes ≡ false → slice_get outcomes k ≡ Some lines → has_refusal (report_lines 1 lines) ≡ false
 none_of_one [] k lines none is = absurd (cc)
 none_of_one (first ∷ outcomes) zero lines none is =
     let same : first ≡ lines = cc in
-    ap (list_any was_refused) (sym same) ∙ none_refused first ((or_parts (list_any (was_told (codes "refused")) first) (some_refused outcomes) none).0)
+    ap (λ ls. has_refusal (report_lines 1 ls)) (sym same) ∙ (or_parts (has_refusal (report_lines 1 first)) (some_refused outcomes) none).0
 none_of_one (first ∷ outcomes) (suc k) lines none is =
-    none_of_one outcomes k lines ((or_parts (list_any (was_told (codes "refused")) first) (some_refused outcomes) none).1) is
+    none_of_one outcomes k lines ((or_parts (has_refusal (report_lines 1 first)) (some_refused outcomes) none).1) is
 
--- a status that is 5 where something is so tells that it is not
-not_5 : (is : Bool) (other status : ℕ) → status ≡ (if is then 5 else other) → status ≢ 5 → is ≡ false
-not_5 true other status e not = absurd (not e)
-not_5 false other status e not = refl
+-- a status that is not 5 tells that none was
+by_status : (refused left_out : Bool) (status : ℕ) → status ≡ status_where refused left_out → status ≢ 5 → refused ≡ false
+by_status true left_out status e not = absurd (not e)
+by_status false left_out status e not = refl
 
--- so the status of a run tells that none was
-pub by_status : (is_so : LineOutcome → Bool) (outcomes : List (List LineOutcome)) (status : ℕ)
-    → status ≡ status_of is_so outcomes → status ≢ 5 → some_refused outcomes ≡ false
-by_status is_so outcomes status = not_5 (some_refused outcomes) (if list_any (list_any is_so) outcomes then 2 else 0) status
+-- what some report tells, its tally counts
+module _ (tells : List Line → Bool) (counts : Tally → Bool) (same : (report : List Line) → tells report ≡ counts (tally_of report)) where
+  some-tallies : (reports : List (List Line)) → list_any tells reports ≡ list_any counts (map tally_of reports)
+  some-tallies [] = refl
+  some-tallies (report ∷ reports) =
+      ap (λ b. b || list_any tells reports) (same report) ∙ ap (λ b. counts (tally_of report) || b) (some-tallies reports)
+
+refused-tallies : (reports : List (List Line)) → list_any has_refusal reports ≡ list_any has_refused (map tally_of reports)
+refused-tallies = some-tallies has_refusal has_refused (λ report. sym (counts_some (λ (line : Line). is_refusal line.answer) report))
+
+abbrev has_faulty : Tally → Bool
+has_faulty tally = nat_lt 0 tally.faulty
+
+faulty-tallies : (reports : List (List Line)) → list_any has_fault reports ≡ list_any has_faulty (map tally_of reports)
+faulty-tallies = some-tallies has_fault has_faulty (λ report. sym (counts_some (λ (line : Line). is_fault line.answer) report))
+
+-- so the status of reports is told by their tallies
+status-tallies : (reports : List (List Line))
+    → reports_status reports ≡ status_where (list_any has_refused (map tally_of reports)) (list_any has_faulty (map tally_of reports))
+status-tallies reports = rw (refused-tallies reports, faulty-tallies reports) refl
+
+-- and where that of a summary is not 5, none was refused
+none_refused : (outcomes : List (List LineOutcome)) (summary : RunSummary) → IsSummary (reports_of outcomes) summary → summary.status ≢ 5
+    → some_refused outcomes ≡ false
+none_refused outcomes summary is not =
+    let tallies = summary.tallies.items in
+    refused-tallies (reports_of outcomes)
+    ∙ (ap (list_any has_refused) (sym is.tallied)
+    ∙ by_status (list_any has_refused tallies) (list_any has_left_out tallies) summary.status is.is_status not)
 
 -- a feed that has an entry has a text
 has_text : (journal : List Entry) (n feed : ℕ) → All (λ e. (1 ≤ e.feed) × (e.feed ≤ n)) journal → (own : List Entry) → feed_entries feed journal ≡ own
@@ -352,10 +403,14 @@ leaves_union alone by_entry law once texts limit batch journal outcomes history 
       );
     }
 
+-- a run that ended without a refusal
+run_refused_none : (outcomes : List (List LineOutcome)) (status : ℕ) → status ≡ reports_status (reports_of outcomes) → status ≢ 5 → some_refused outcomes ≡ false
+run_refused_none outcomes status = by_status (some_refused outcomes) (list_any has_fault (reports_of outcomes)) status
+
 pub ends_in_union : LeavesUnion → EndsInUnion
 ends_in_union leaves texts limit batch bytes status run not = (
   table_of_journal limit run.journal,
-  leaves texts limit batch run.journal run.outcomes run.history (by_status was_faulty run.outcomes status run.is_status not),
+  leaves texts limit batch run.journal run.outcomes run.history (run_refused_none run.outcomes status run.is_status not),
   run.printed,
 )
 
@@ -376,22 +431,60 @@ answers_alone alone law texts limit batch journal outcomes history none k lines 
     subst (λ l. IsAnsweredAlone limit (k + 1) (asked_of l)) same
     (answered_alone alone law limit batch (k + 1) journal text.0 here.lines history.lawful here.explains (none_of_one outcomes k here.lines none here.stands))
 
-pub end_in_one_table : EndsInUnion → HaveOneUnion → EndInOneTable
-end_in_one_table ends one texts limit batch batch' bytes bytes' status status' run run' not not' =
+pub end_in_one_table : EndsInUnion → HaveOneUnion → HaveSameTallies → EndInOneTable
+end_in_one_table ends one tallies texts limit batch batch' bytes bytes' status status' run run' not not' =
     let here = ends texts limit batch bytes status run not in
     let there = ends texts limit batch' bytes' status' run' not' in
     let same : there.0 ≡ here.0 = one texts limit there.0 here.0 there.1 here.1 in
-    (here.0, here.2, there.2 ∙ ap (λ t. feeds_text 1 run'.outcomes ++ table_text t) same)
+    let tallied = tallies texts limit batch batch' run.journal run'.journal run.outcomes run'.outcomes run.history run'.history
+    (run_refused_none run.outcomes status run.is_status not) (run_refused_none run'.outcomes status' run'.is_status not') in
+    let by_tallies : List Tally → ℕ = λ ts. status_where (list_any has_refused ts) (list_any has_faulty ts) in (
+      run.is_status
+          ∙ (status-tallies (reports_of run.outcomes)
+          ∙ (ap by_tallies tallied ∙ (sym (status-tallies (reports_of run'.outcomes)) ∙ sym run'.is_status))),
+      here.0,
+      here.2,
+      there.2 ∙ ap (λ t. reports_text 1 (reports_of run'.outcomes) ++ table_text t) same,
+    )
+
+-- a run that left a table left the union
+pub left_union : LeavesUnion → (one : AskedRun) (table : List Route) (summary : RunSummary) → LeavesTable one table summary → summary.status ≢ 5
+    → IsUnion one.texts one.limit table
+left_union leaves one table summary left not =
+    subst (IsUnion one.texts one.limit) (sym left.left)
+    (leaves one.texts one.limit one.batch left.journal left.outcomes left.history (none_refused left.outcomes summary left.summed not))
+
+-- and one that was asked the same is of the same texts and limit
+pub union_of_same : (one one' : AskedRun) (union : List Route) → AskTheSame one one' → IsUnion one'.texts one'.limit union
+    → IsUnion one.texts one.limit union
+union_of_same one one' union (texts, limit) is =
+    subst (λ ts. IsUnion ts one.limit union) (sym texts) (subst (λ l. IsUnion one'.texts l union) (sym limit) is)
+
+history_of_same : (one one' : AskedRun) (journal : List Entry) (outcomes : List (List LineOutcome)) → AskTheSame one one'
+    → IsHistory one'.texts one'.limit one'.batch journal outcomes → IsHistory one.texts one.limit one'.batch journal outcomes
+history_of_same one one' journal outcomes (texts, limit) is =
+    subst (λ ts. IsHistory ts one.limit one'.batch journal outcomes) (sym texts)
+    (subst (λ l. IsHistory one'.texts l one'.batch journal outcomes) (sym limit) is)
+
+-- so the summaries of both say the same
+pub say_the_same : HaveSameTallies → (one one' : AskedRun) (table table' : List Route) (summary summary' : RunSummary) → AskTheSame one one'
+    → LeavesTable one table summary → LeavesTable one' table' summary' → summary.status ≢ 5 → summary'.status ≢ 5 → SayTheSame summary summary'
+say_the_same tallies one one' table table' summary summary' same left left' not not' =
+    let tallied : summary.tallies.items ≡ summary'.tallies.items =
+    left.summed.tallied
+    ∙ (tallies one.texts one.limit one.batch one'.batch left.journal left'.journal left.outcomes left'.outcomes left.history
+    (history_of_same one one' left'.journal left'.outcomes same left'.history)
+    (none_refused left.outcomes summary left.summed not) (none_refused left'.outcomes summary' left'.summed not') ∙ sym left'.summed.tallied) in
+    (left.summed.is_status ∙ (ap tallies_status tallied ∙ sym left'.summed.is_status), tallied)
 
 pub shows_union : LeavesUnion → ShowsUnion
-shows_union leaves texts limit batch text_of bytes summary is not = (
-  table_of_journal limit is.journal,
-  leaves texts limit batch is.journal is.outcomes is.history (by_status was_left_out is.outcomes summary.status is.is_status not),
-  is.shown,
-)
+shows_union leaves one text_of bytes summary is not = (is.table, left_union leaves one is.table summary is.leaves not, is.shown)
 
-pub show_one_table : ShowsUnion → HaveOneUnion → ShowOneTable
-show_one_table shows one texts limit batch batch' text_of bytes bytes' summary summary' is is' not not' =
-    let here = shows texts limit batch text_of bytes summary is not in
-    let there = shows texts limit batch' text_of bytes' summary' is' not' in
-    here.2 ∙ (ap text_of (one texts limit here.0 there.0 here.1 there.1) ∙ sym there.2)
+pub show_one_table : ShowsUnion → HaveOneUnion → HaveSameTallies → ShowOneTable
+show_one_table shows only tallies one one' text_of bytes bytes' summary summary' same is is' not not' =
+    let here = shows one text_of bytes summary is not in
+    let there = shows one' text_of bytes' summary' is' not' in
+    let union = only one.texts one.limit here.0 there.0 here.1 (union_of_same one one' there.0 same there.1) in (
+      here.2 ∙ (ap text_of union ∙ sym there.2),
+      say_the_same tallies one one' is.table is'.table summary summary' same is.leaves is'.leaves not not',
+    )

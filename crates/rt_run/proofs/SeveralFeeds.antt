@@ -13,18 +13,13 @@ use Rattle.rt_shared.specs.Table.{SharedId, HeldPass, ArePassesOf, Settles}
 use Rattle.rt_shared.specs.Visits.{Since, Uncut, Visit, visit_of, entries}
 use Rattle.rt_feed.specs.declared.report.Line.{Line}
 use Rattle.rt_feed.specs.declared.feeds.Feed.{Feed}
-use Rattle.rt_feed.specs.Lines.{LineOutcome, report_lines, asked_of}
+use Rattle.rt_feed.specs.Lines.{LineOutcome, report_lines}
 use Rattle.rt_feed.specs.FeedRuns.{RunsFeed, StopsWithin, RunsOne}
 use Rattle.rt_feed.specs.Printed.{table_text}
 use Rattle.rt_shared.proofs.Promised.{uncut_since}
-use Rattle.std.specs.Simd.{first_chunks}
-use Rattle.rt_run.specs.RunText.{Explains, ExplainsFrom, entries_of, IsRunText}
-use Rattle.rt_run.specs.inside.Outputs.{reports_text}
-use Rattle.rt_run.proofs.Lists.{map-both}
-use Rattle.rt_run.proofs.Pieces.{entries-visits, chunks-cut, cut-holds}
-use Rattle.rt_run.proofs.Telling.{feeds-text, reports_status-lines}
-use Rattle.rt_run.specs.inside.AskedRun.{AskedRun}
-use Rattle.rt_run.specs.inside.RunResults.{RunOverBook, reports_status}
+use Rattle.rt_run.specs.AskedRun.{AskedRun}
+use Rattle.rt_run.specs.RunText.{Explains, ExplainsFrom, reports_of, reports_text, reports_status, IsRunText}
+use Rattle.rt_run.specs.inside.RunResults.{RunOverBook}
 
 -- what a gate to the table holds, and its name
 abbrev pub holds : HeldPass → List Visit → Type 0
@@ -49,16 +44,13 @@ explained batch feed journal text old new report runs fresh same since =
     let held : Uncut new.feed (map (entries new.feed) (map visit_of pieces)) new.seen = runs.asks.gained [] none in
     let mine : Uncut feed (map (entries feed) (map visit_of pieces)) new.seen =
     subst (λ (n : ℕ). Uncut n (map (entries n) (map visit_of pieces)) new.seen) same held in
-    let same_visits : map (entries feed) (map visit_of pieces) ≡ map (entries_of feed) (first_chunks batch (length pieces) (asked_of runs.outcomes)) =
-    map-both (entries feed) visit_of pieces
-    ∙ (entries-visits feed pieces ∙ ap (map (entries_of feed)) (sym (chunks-cut batch (asked_of runs.outcomes) pieces runs.asks.cut))) in
     record {
       lines = runs.outcomes;
       explains = record {
         becomes = runs.asks.becomes;
-        count = length pieces;
-        hold = cut-holds batch (asked_of runs.outcomes) pieces runs.asks.cut;
-        uncut = subst (λ (visits : List (List Entry)). Uncut feed visits journal) same_visits (uncut_since feed _ new.seen journal mine since);
+        pieces = pieces;
+        cut = runs.asks.cut;
+        uncut = uncut_since feed _ new.seen journal mine since;
       };
       reported = runs.reported;
     }
@@ -67,7 +59,7 @@ explained batch feed journal text old new report runs fresh same since =
 record AreExplained (batch feed : ℕ) (journal : List Entry) (texts : List (List ℕ)) (reports : List (List Line)) : Type 0 where
   outcomes : List (List LineOutcome)
   explained : ExplainsFrom batch feed journal texts outcomes
-  reported : reports ≡ map (report_lines 1) outcomes
+  reported : reports ≡ reports_of outcomes
 
 all_explained : {V : Type 0} (items : V → List ℕ) (batch feed : ℕ) (journal : List Entry) (texts : List V) (reports : List (List Line))
     → length reports ≡ length texts
@@ -281,6 +273,6 @@ run_text asked reports book ran = record {
   journal = book.journal;
   outcomes = ran.outcomes;
   history = ran.history;
-  printed = rw (ran.reported, ran.limited, feeds-text 1 ran.outcomes) refl;
-  is_status = rw ran.reported (reports_status-lines ran.outcomes);
+  printed = rw (ran.reported, ran.limited) refl;
+  is_status = rw ran.reported refl;
 }

@@ -1,3 +1,4 @@
+pub mod AskedRun
 pub mod RunText
 pub mod SameTable
 pub mod TableText

@@ -1,6 +1,6 @@
--- What of a run is the same however the visits of its feeds fell: the table at its end, and the replies to those commands
--- that speak of their feed's own routes alone.
-use Rattle.std.specs.Prelude.{◌≡◌, ◌≢◌, ◌↔◌, ℕ, ◌+◌, true, false, List, [], ◌∷◌, ◌++◌, fold, Some}
+-- What of a run is the same however the visits of its feeds fell: the table at its end, the replies to those commands that
+-- speak of their feed's own routes alone, and how much of each text was taken.
+use Rattle.std.specs.Prelude.{◌≡◌, ◌≢◌, ◌↔◌, ℕ, ◌+◌, true, false, List, [], ◌∷◌, ◌++◌, fold, map, Some}
 use Rattle.std.specs.List.{slice_get, Contains}
 use Rattle.rt_rib.specs.declared.routes.Route.{Route}
 use Rattle.rt_rib.specs.declared.commands.Cmd.{Cmd}
@@ -13,8 +13,9 @@ use Rattle.rt_shared.specs.declared.outcome.Outcome.TheVariants.{Did}
 use Rattle.rt_feed.specs.Lines.{LineOutcome, Becomes, asked_of}
 use Rattle.rt_feed.specs.Printed.{table_text}
 use Rattle.rt_run.specs.declared.tallies.RunSummary.{RunSummary}
-use Rattle.rt_run.specs.RunText.{IsHistory, IsRunText, feeds_text, some_refused}
-use Rattle.rt_run.specs.TableText.{IsShown}
+use Rattle.rt_run.specs.AskedRun.{AskedRun}
+use Rattle.rt_run.specs.RunText.{IsHistory, IsRunText, reports_of, reports_text, some_refused}
+use Rattle.rt_run.specs.TableText.{tally_of, IsShown}
 
 -- the set that the feed's commands leave by themselves, whatever became of them, where a feed may have so many routes
 unfoldable pub table_alone : ℕ → ℕ → List (Cmd × Outcome) → List Route
@@ -50,7 +51,16 @@ AnswersAlone =
     (texts : List (List ℕ)) (limit batch : ℕ) (journal : List Entry) (outcomes : List (List LineOutcome)) → IsHistory texts limit batch journal outcomes
     → some_refused outcomes ≡ false → (k : ℕ) (lines : List LineOutcome) → slice_get outcomes k ≡ Some lines → IsAnsweredAlone limit (k + 1) (asked_of lines)
 
--- and of the same texts and limit there is one such table
+-- so of two runs of the same texts and limit the reports have the same tallies, whatever their batches and however their threads
+-- ran
+abbrev pub HaveSameTallies : Type 0
+HaveSameTallies =
+    (texts : List (List ℕ)) (limit batch batch' : ℕ) (journal journal' : List Entry) (outcomes outcomes' : List (List LineOutcome))
+    → IsHistory texts limit batch journal outcomes → IsHistory texts limit batch' journal' outcomes'
+    → some_refused outcomes ≡ false → some_refused outcomes' ≡ false
+    → map tally_of (reports_of outcomes) ≡ map tally_of (reports_of outcomes')
+
+-- of the same texts and limit there is one union
 abbrev pub HaveOneUnion : Type 0
 HaveOneUnion = (texts : List (List ℕ)) (limit : ℕ) (one other : List Route) → IsUnion texts limit one → IsUnion texts limit other → one ≡ other
 
@@ -58,25 +68,35 @@ HaveOneUnion = (texts : List (List ℕ)) (limit : ℕ) (one other : List Route) 
 abbrev pub EndsInUnion : Type 0
 EndsInUnion =
     (texts : List (List ℕ)) (limit batch : ℕ) (bytes : List ℕ) (status : ℕ) (run : IsRunText texts limit batch bytes status) → status ≢ 5
-    → (union : List Route) × IsUnion texts limit union × (bytes ≡ feeds_text 1 run.outcomes ++ table_text union)
+    → (union : List Route) × IsUnion texts limit union × (bytes ≡ reports_text 1 (reports_of run.outcomes) ++ table_text union)
 
--- so two such runs of the same texts and limit end in one table, whatever their batches and however their threads ran
+-- so two such runs of the same texts and limit end in one table, with one status, whatever their batches and however their threads
+-- ran
 abbrev pub EndInOneTable : Type 0
 EndInOneTable =
     (texts : List (List ℕ)) (limit batch batch' : ℕ) (bytes bytes' : List ℕ) (status status' : ℕ)
     (run : IsRunText texts limit batch bytes status) (run' : IsRunText texts limit batch' bytes' status') → status ≢ 5 → status' ≢ 5
-    → (table : List Route) × (bytes ≡ feeds_text 1 run.outcomes ++ table_text table) × (bytes' ≡ feeds_text 1 run'.outcomes ++ table_text table)
+    → (status ≡ status') × (table : List Route) × (bytes ≡ reports_text 1 (reports_of run.outcomes) ++ table_text table) × (bytes' ≡ reports_text 1 (reports_of run'.outcomes) ++ table_text table)
+
+-- the runs are asked the same texts with the same limit: only their batches may differ
+abbrev pub AskTheSame : AskedRun → AskedRun → Type 0
+AskTheSame one other = (one.texts ≡ other.texts) × (one.limit ≡ other.limit)
+
+-- the summaries say the same
+abbrev pub SayTheSame : RunSummary → RunSummary → Type 0
+SayTheSame one other = (one.status ≡ other.status) × (one.tallies.items ≡ other.tallies.items)
 
 -- where no command was refused for want of memory, what is told of a run's table is told of the union
 abbrev pub ShowsUnion : Type 0
 ShowsUnion =
-    (texts : List (List ℕ)) (limit batch : ℕ) (text_of : List Route → List ℕ) (bytes : List ℕ) (summary : RunSummary)
-    → IsShown texts limit batch text_of bytes summary → summary.status ≢ 5
-    → (union : List Route) × IsUnion texts limit union × (bytes ≡ text_of union)
+    (asked : AskedRun) (text_of : List Route → List ℕ) (bytes : List ℕ) (summary : RunSummary)
+    → IsShown asked text_of bytes summary → summary.status ≢ 5
+    → (union : List Route) × IsUnion asked.texts asked.limit union × (bytes ≡ text_of union)
 
--- so two runs of the same texts and limit tell the same bytes in one way, whatever their batches and however their threads ran
+-- so two runs of the same texts and limit tell the same bytes in one way, with the same status and tallies, whatever their batches
+-- and however their threads ran
 abbrev pub ShowOneTable : Type 0
 ShowOneTable =
-    (texts : List (List ℕ)) (limit batch batch' : ℕ) (text_of : List Route → List ℕ) (bytes bytes' : List ℕ) (summary summary' : RunSummary)
-    → IsShown texts limit batch text_of bytes summary → IsShown texts limit batch' text_of bytes' summary' → summary.status ≢ 5 → summary'.status ≢ 5
-    → bytes ≡ bytes'
+    (asked asked' : AskedRun) (text_of : List Route → List ℕ) (bytes bytes' : List ℕ) (summary summary' : RunSummary)
+    → AskTheSame asked asked' → IsShown asked text_of bytes summary → IsShown asked' text_of bytes' summary'
+    → summary.status ≢ 5 → summary'.status ≢ 5 → (bytes ≡ bytes') × SayTheSame summary summary'

@@ -1,17 +1,23 @@
 -- What a run writes that tells of its finished table alone, and how much of its texts was taken.
-use Rattle.std.specs.Prelude.{◌≡◌, ℕ, ◌+◌, Bool, ◌||◌, if◌then◌else◌, List, [], ◌∷◌, map, count_by, codes, Option, Some, None}
-use Rattle.std.specs.List.{flat_map}
+use Rattle.std.specs.Prelude.{◌≡◌, ℕ, Bool, true, false, ◌||◌, nat_lt, if◌then◌else◌, List, map, count_by, find, Option, Some, None}
+use Rattle.std.specs.List.{flat_map, list_any}
 use Rattle.rt_cidr.specs.declared.address.Addr.{Addr}
 use Rattle.rt_rib.specs.declared.routes.Route.{Route}
+use Rattle.rt_rib.specs.declared.commands.Reply.TheVariants.{Full, Exists, Missing}
 use Rattle.rt_rib.specs.declared.commands.Entry.{Entry}
 use Rattle.rt_rib.specs.LookUp.{look_up, look_up_all, best_routes}
 use Rattle.rt_rib.specs.Sequential.{table_of_journal}
 use Rattle.rt_feed.specs.declared.parse.LineFault.{LineFault}
-use Rattle.rt_feed.specs.Lines.{LineOutcome, faulty}
+use Rattle.rt_feed.specs.declared.report.Line.{Line}
+use Rattle.rt_feed.specs.declared.report.Answer.{Answer}
+use Rattle.rt_feed.specs.declared.report.Answer.TheVariants.{Did, Refused, Fault}
+use Rattle.rt_feed.specs.Lines.{LineOutcome}
+use Rattle.rt_feed.specs.Reports.{is_fault, is_refusal}
 use Rattle.rt_feed.specs.Printed.{rows_text, found_text, all_found_text}
 use Rattle.rt_run.specs.declared.tallies.Tally.{Tally}
 use Rattle.rt_run.specs.declared.tallies.RunSummary.{RunSummary}
-use Rattle.rt_run.specs.RunText.{IsHistory, was_faulty, was_told, status_of}
+use Rattle.rt_run.specs.AskedRun.{AskedRun}
+use Rattle.rt_run.specs.RunText.{IsHistory, reports_of, status_where}
 
 -- for each address, in order, what a look-up of it finds in the table
 abbrev pub answers_text : List Addr → List Route → List ℕ
@@ -25,32 +31,70 @@ all_answers_text addresses table = flat_map (λ addr. all_found_text addr (look_
 abbrev pub routes_text : Bool → List Route → List ℕ
 routes_text only_best table = rows_text (if only_best then best_routes table else table)
 
--- the first faulty line's number and its fault, where the first of the lines has this number
-abbrev pub first_fault : ℕ → List LineOutcome → Option (ℕ × LineFault)
-first_fault number [] = None
-first_fault number (faulty fault ∷ lines) = Some (number, fault)
-first_fault number (line ∷ lines) = first_fault (number + 1) lines
+-- an `add` was over the limit
+abbrev pub was_full : Answer → Bool
+was_full (Did Full) = true
+was_full _ = false
 
--- what of a text was not taken, where its lines became these
-abbrev pub tally_of : List LineOutcome → Tally
-tally_of lines = record {
-  faulty = count_by was_faulty lines;
-  first_faulty = first_fault 1 lines;
-  full = count_by (was_told (codes "full")) lines;
-  existing = count_by (was_told (codes "exists")) lines;
-  missing = count_by (was_told (codes "missing")) lines;
-  refused = count_by (was_told (codes "refused")) lines;
+-- an `add` found its prefix there already
+abbrev pub was_existing : Answer → Bool
+was_existing (Did Exists) = true
+was_existing _ = false
+
+-- a `replace` or `withdraw` found no route of its prefix
+abbrev pub was_missing : Answer → Bool
+was_missing (Did Missing) = true
+was_missing _ = false
+
+-- the number and the fault of a faulty line, if it is one
+abbrev pub fault_at : ℕ → Answer → Option (ℕ × LineFault)
+fault_at number (Did reply) = None
+fault_at number Refused = None
+fault_at number (Fault fault) = Some (number, fault)
+
+-- and of the line that was found, if one was
+abbrev pub fault_of : Option Line → Option (ℕ × LineFault)
+fault_of None = None
+fault_of (Some line) = fault_at line.number line.answer
+
+-- what of a text was not taken, by its report
+abbrev pub tally_of : List Line → Tally
+tally_of report = record {
+  faulty = count_by (λ (line : Line). is_fault line.answer) report;
+  first_faulty = fault_of (find (λ (line : Line). is_fault line.answer) report);
+  full = count_by (λ (line : Line). was_full line.answer) report;
+  existing = count_by (λ (line : Line). was_existing line.answer) report;
+  missing = count_by (λ (line : Line). was_missing line.answer) report;
+  refused = count_by (λ (line : Line). is_refusal line.answer) report;
 }
 
--- the line was faulty, or an `add` over the limit
-abbrev pub was_left_out : LineOutcome → Bool
-was_left_out line = was_faulty line || was_told (codes "full") line
+-- a command was refused for want of memory
+abbrev pub has_refused : Tally → Bool
+has_refused tally = nat_lt 0 tally.refused
 
--- the bytes tell, in this way, of the table that a run of these texts left, and so much of the texts was taken
-pub record IsShown (texts : List (List ℕ)) (limit batch : ℕ) (text_of : List Route → List ℕ) (bytes : List ℕ) (summary : RunSummary) : Type 0 where
+-- a line was faulty, or an `add` over the limit
+abbrev pub has_left_out : Tally → Bool
+has_left_out tally = nat_lt 0 tally.faulty || nat_lt 0 tally.full
+
+-- the status of a run that tells of its table alone: not taken is a faulty line, or an `add` over the limit
+abbrev pub tallies_status : List Tally → ℕ
+tallies_status tallies = status_where (list_any has_refused tallies) (list_any has_left_out tallies)
+
+-- the reports are tallied, and the status is that of the tallies
+pub record IsSummary (reports : List (List Line)) (summary : RunSummary) : Type 0 where
+  pub tallied : summary.tallies.items ≡ map tally_of reports
+  pub is_status : summary.status ≡ tallies_status summary.tallies.items
+
+-- a run that was asked this left this table, and so much of its texts was taken
+pub record LeavesTable (asked : AskedRun) (table : List Route) (summary : RunSummary) : Type 0 where
   pub journal : List Entry
   pub outcomes : List (List LineOutcome)
-  pub history : IsHistory texts limit batch journal outcomes
-  pub shown : bytes ≡ text_of (table_of_journal limit journal)
-  pub tallied : summary.tallies.items ≡ map tally_of outcomes
-  pub is_status : summary.status ≡ status_of was_left_out outcomes
+  pub history : IsHistory asked.texts asked.limit asked.batch journal outcomes
+  pub left : table ≡ table_of_journal asked.limit journal
+  pub summed : IsSummary (reports_of outcomes) summary
+
+-- the bytes tell, in this way, of the table that such a run left, and so much of its texts was taken
+pub record IsShown (asked : AskedRun) (text_of : List Route → List ℕ) (bytes : List ℕ) (summary : RunSummary) : Type 0 where
+  pub table : List Route
+  pub leaves : LeavesTable asked table summary
+  pub shown : bytes ≡ text_of table

@@ -1,6 +1,4 @@
 -- What no public clause speaks of: the words of private contracts, of invariants and of proofs.
-pub mod AskedRun
 pub mod Outputs
 pub mod Comparisons
 pub mod RunResults
-pub mod Tallies

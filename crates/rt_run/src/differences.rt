@@ -1,11 +1,9 @@
 //! What two runs leave, compared: the addresses that their finished tables answer otherwise.
-ghost use Rattle.std.specs.Prelude.{◌≡◌, ◌≢◌, ◌↔◌, ◌⊎◌, ℕ, List, ◌≤◌, [], map, length, max, OnOk, OnErr, Option};
+ghost use Rattle.std.specs.Prelude.{◌≡◌, ◌≢◌, ◌↔◌, ◌⊎◌, [], OnOk, OnErr};
 ghost use Rattle.std.specs.Io.KnownBytes.{Appends};
 ghost use Rattle.rt_cidr.specs.Output.{AppendsBeginning};
-ghost use Rattle.rt_rib.specs.declared.limits.TheConstants.{MOST_FEEDS};
-ghost use Rattle.rt_rib.specs.Book.{IsLimit, table_of};
-ghost use Rattle.rt_diff.specs.Differences.{IsFirstDifference};
-ghost use Rattle.rt_feed.specs.DifferenceText.{differences_text};
+ghost use Rattle.rt_rib.specs.Book.{table_of};
+ghost use Rattle.rt_run.specs.AskedRun.{AskedRun};
 ghost use Rattle.rt_run.specs.RunText.{Leaves};
 ghost use Rattle.rt_run.specs.DiffText.{IsDiffText};
 ghost use Rattle.rt_run.specs.inside.RunResults.{RunOverBook};
@@ -47,28 +45,19 @@ pub struct DiffSummary {
 pub fn diff_texts<R: Threads + Wait + Sync, W: Write>(
     rt: &R,
     alloc: Global,
-    old_texts: &[Vec<u8>],
-    new_texts: &[Vec<u8>],
-    limit: u32,
-    batch: usize,
+    old_asked: &FeedTexts<'_>,
+    new_asked: &FeedTexts<'_>,
     by: By,
     w: &mut W,
 ) -> Result<DiffSummary, AppFault>
-    requires limited { IsLimit limit }
-    requires few_old { length old_texts.now ≤ MOST_FEEDS }
-    requires few_new { length new_texts.now ≤ MOST_FEEDS }
-    requires batched { 1 ≤ batch }
-    ensures text { Leaves (IsDiffText by (map (λ text. text.items) old_texts.now) (map (λ text. text.items) new_texts.now) limit batch)
-        (W.contents w.old) (W.contents w.new) result }
-    ensures no_text { (result ≡ Err (AppFault.Run RunFault.NoText)) ↔ ((old_texts.now ≡ []) ⊎ (new_texts.now ≡ [])) }
+    ensures text { Leaves (IsDiffText by old_asked.now new_asked.now) (W.contents w.old) (W.contents w.new) result }
+    ensures no_text { (result ≡ Err (AppFault.Run RunFault.NoText)) ↔ ((old_asked.now.texts ≡ []) ⊎ (new_asked.now.texts ≡ [])) }
 {
-    if new_texts.is_empty() {
+    if new_asked.count() == 0 {
         return Err(AppFault::Run(RunFault::NoText));
     }
-    let asked_old = FeedTexts::new(old_texts, limit, batch);
-    let asked_new = FeedTexts::new(new_texts, limit, batch);
-    let old = run_all(rt, alloc, &asked_old)?;
-    let new = run_all(rt, alloc, &asked_new)?;
+    let old = run_all(rt, alloc, old_asked)?;
+    let new = run_all(rt, alloc, new_asked)?;
     let compared = compare_runs(alloc, &old, &new, by, w);
     old.leave_table();
     new.leave_table();
@@ -83,10 +72,9 @@ fn compare_runs<W: Write>(
     by: By,
     w: &mut W,
 ) -> Result<DiffSummary, AppFault>
-    ensures text { (old_texts new_texts : List (List ℕ)) (limit batch : ℕ)
-        → RunOverBook (record { texts = old_texts; limit = limit; batch = batch }) old.now.reports.items old.now.book
-        → RunOverBook (record { texts = new_texts; limit = limit; batch = batch }) new.now.reports.items new.now.book
-        → Leaves (IsDiffText by old_texts new_texts limit batch) (W.contents w.old) (W.contents w.new) result }
+    ensures text { (old_asked new_asked : AskedRun) → RunOverBook old_asked old.now.reports.items old.now.book
+        → RunOverBook new_asked new.now.reports.items new.now.book
+        → Leaves (IsDiffText by old_asked new_asked) (W.contents w.old) (W.contents w.new) result }
     ensures ran { result ≢ Err (AppFault.Run RunFault.NoText) }
 {
     let of_old = old.summary(alloc)?;

@@ -8,7 +8,7 @@ use std::marker::Model;
 /// The texts of a run's feeds, the k-th as feed k's, how many routes each feed may have, and how many of its commands
 /// it asks at once.
 #[derive(Drop)]
-pub(crate) struct FeedTexts<'a> {
+pub struct FeedTexts<'a> {
     pub(crate) texts: &'a [Vec<u8>],
     pub(crate) limit: u32,
     pub(crate) batch: usize,
@@ -18,7 +18,7 @@ impl<'a> Model for FeedTexts<'a> {
     ghost use Rattle.std.specs.Prelude.{◌≤◌, length, map};
     ghost use Rattle.rt_rib.specs.declared.limits.TheConstants.{MOST_FEEDS};
     ghost use Rattle.rt_rib.specs.Book.{IsLimit};
-    ghost use Rattle.rt_run.specs.inside.AskedRun.{AskedRun};
+    ghost use Rattle.rt_run.specs.AskedRun.{AskedRun};
 
     ghost Value = { AskedRun };
 
@@ -29,7 +29,7 @@ impl<'a> Model for FeedTexts<'a> {
 
 impl<'a> FeedTexts<'a> {
     /// These texts, within these limits.
-    pub(crate) fn new(texts: &'a [Vec<u8>], limit: u32, batch: usize) -> FeedTexts<'a>
+    pub fn new(texts: &'a [Vec<u8>], limit: u32, batch: usize) -> FeedTexts<'a>
         requires limited { IsLimit limit }
         requires few { length texts.now ≤ MOST_FEEDS }
         requires batched { 1 ≤ batch }
@@ -43,7 +43,7 @@ impl<'a> FeedTexts<'a> {
     }
 
     /// How many texts there are.
-    pub(crate) fn count(&self) -> usize
+    pub fn count(&self) -> usize
         ensures count { result ≡ length self.now.texts }
         ensures few { result ≤ MOST_FEEDS }
     {

@@ -1,7 +1,7 @@
 //! What holds of every run of feeds, however its threads ran. Each function is a theorem: calling it makes its clause
 //! known, and it does nothing.
 ghost use Rattle.rt_run.specs.SameDiff.{DiffsUnions, DiffOnce};
-ghost use Rattle.rt_run.specs.SameTable.{LeavesUnion, AnswersAlone, HaveOneUnion, EndsInUnion, EndInOneTable, ShowsUnion, ShowOneTable};
+ghost use Rattle.rt_run.specs.SameTable.{LeavesUnion, AnswersAlone, HaveSameTallies, HaveOneUnion, EndsInUnion, EndInOneTable, ShowsUnion, ShowOneTable};
 
 use rt_diff::laws::one_list;
 use rt_feed::laws::one_reading;
@@ -27,6 +27,16 @@ pub fn answers_alone()
     visits();
 }
 
+/// So two runs of the same texts and limit take as much of each text, whatever their batches and however their threads ran: their
+/// reports have the same tallies.
+pub fn same_tallies()
+    ensures { HaveSameTallies }
+{
+    feeds_stand_alone();
+    visits();
+    one_reading();
+}
+
 /// The same texts have one union for each limit.
 pub fn one_union()
     ensures { HaveOneUnion }
@@ -41,12 +51,14 @@ pub fn ends_in_union()
     leaves_union();
 }
 
-/// So two runs of the same texts and limit end in one table, whatever their batches and however their threads ran.
+/// So two runs of the same texts and limit end in one table, with one status, whatever their batches and however their threads
+/// ran.
 pub fn end_in_one_table()
     ensures { EndInOneTable }
 {
     ends_in_union();
     one_union();
+    same_tallies();
 }
 
 /// Where no command was refused for want of memory, `lookup_texts`, `lookup_all_texts` and `table_texts` tell of the union: so
@@ -57,13 +69,14 @@ pub fn shows_union()
     leaves_union();
 }
 
-/// So two runs of the same texts and limit write the same bytes where the same is asked, whatever their batches and however
-/// their threads ran.
+/// So two runs of the same texts and limit write the same bytes where the same is asked, and give the same status and tallies,
+/// whatever their batches and however their threads ran.
 pub fn show_one_table()
     ensures { ShowOneTable }
 {
     shows_union();
     one_union();
+    same_tallies();
 }
 
 /// Where no command was refused for want of memory, `diff_texts` tells which addresses the union of the old texts and that of
@@ -74,12 +87,13 @@ pub fn diffs_unions()
     leaves_union();
 }
 
-/// So two comparisons of the same texts and limit write the same bytes there, whatever their batches and however their threads
-/// ran.
+/// So two comparisons of the same texts and limits write the same bytes there, and give the same statuses and tallies, whatever
+/// their batches and however their threads ran.
 pub fn diff_once()
     ensures { DiffOnce }
 {
-    diffs_unions();
+    leaves_union();
     one_union();
     one_list();
+    same_tallies();
 }

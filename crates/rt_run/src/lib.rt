@@ -29,6 +29,7 @@ mod tallies;
 
 pub use differences::{DiffSummary, diff_texts};
 pub use faults::AppFault;
+pub use feed_texts::FeedTexts;
 pub use replays::replay_text;
 pub use runs::{MOST_TEXTS, run_texts};
 pub use shown::{lookup_all_texts, lookup_texts, table_texts};

@@ -6,8 +6,9 @@ ghost use Rattle.rt_cidr.specs.Output.{AppendsBeginning};
 ghost use Rattle.rt_rib.specs.declared.limits.TheConstants.{MOST_FEEDS};
 ghost use Rattle.rt_rib.specs.Book.{table_of};
 ghost use Rattle.rt_feed.specs.Printed.{table_text};
+ghost use Rattle.rt_run.specs.RunText.{reports_text};
 ghost use Rattle.rt_run.specs.TableText.{answers_text};
-ghost use Rattle.rt_run.specs.inside.Outputs.{IsOutput, reports_text, matches_text, output_text, Writes};
+ghost use Rattle.rt_run.specs.inside.Outputs.{IsOutput, matches_text, output_text, Writes};
 
 use crate::differences::write_differences;
 use crate::faults::AppFault;

@@ -4,10 +4,10 @@ ghost use Rattle.rt_rib.specs.declared.limits.TheConstants.{MOST_FEEDS};
 ghost use Rattle.rt_rib.specs.Book.{IsLimit};
 ghost use Rattle.std.specs.List.{list_any};
 ghost use Rattle.rt_feed.specs.Reports.{has_refusal, has_fault};
-ghost use Rattle.rt_run.specs.RunText.{IsRunText, Leaves};
-ghost use Rattle.rt_run.specs.inside.AskedRun.{AskedRun};
-ghost use Rattle.rt_run.specs.inside.RunResults.{RunOverBook, RunBeforeSettle, reports_status};
-ghost use Rattle.rt_run.specs.inside.Tallies.{IsSummary};
+ghost use Rattle.rt_run.specs.AskedRun.{AskedRun};
+ghost use Rattle.rt_run.specs.RunText.{IsRunText, Leaves, reports_status};
+ghost use Rattle.rt_run.specs.TableText.{IsSummary};
+ghost use Rattle.rt_run.specs.inside.RunResults.{RunOverBook, RunBeforeSettle};
 ghost use Rattle.rt_shared.specs.Table.{ArePassesOf};
 
 use crate::faults::AppFault;

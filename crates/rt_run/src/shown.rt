@@ -1,13 +1,13 @@
 //! What the finished table says: the answers of look-ups, or its routes, once all feeds have ended.
-ghost use Rattle.std.specs.Prelude.{◌≡◌, ◌≢◌, ◌↔◌, ◌≤◌, [], map, length, if◌then◌else◌, IfOk};
-ghost use Rattle.rt_rib.specs.declared.limits.TheConstants.{MOST_FEEDS};
-ghost use Rattle.rt_rib.specs.Book.{IsLimit, table_of};
-ghost use Rattle.rt_run.specs.inside.AskedRun.{AskedRun};
-ghost use Rattle.rt_run.specs.inside.RunResults.{RunOverBook};
+ghost use Rattle.std.specs.Prelude.{◌≡◌, ◌≢◌, ◌↔◌, ℕ, List, [], if◌then◌else◌, IfOk};
+ghost use Rattle.rt_rib.specs.declared.routes.Route.{Route};
+ghost use Rattle.rt_rib.specs.Book.{table_of};
+ghost use Rattle.rt_rib.specs.LookUp.{best_routes};
+ghost use Rattle.rt_run.specs.AskedRun.{AskedRun};
 ghost use Rattle.rt_run.specs.RunText.{Leaves};
 ghost use Rattle.rt_run.specs.TableText.{answers_text, all_answers_text, routes_text, IsShown};
-ghost use Rattle.rt_rib.specs.LookUp.{best_routes};
-ghost use Rattle.rt_run.specs.inside.Outputs.{matches_text, shown_text, Writes};
+ghost use Rattle.rt_run.specs.inside.RunResults.{RunOverBook};
+ghost use Rattle.rt_run.specs.inside.Outputs.{IsOutput, matches_text, output_text};
 
 use crate::faults::AppFault;
 use crate::feed_texts::FeedTexts;
@@ -30,20 +30,17 @@ use std::thread::Threads;
 pub fn lookup_texts<R: Threads + Wait + Sync, W: Write>(
     rt: &R,
     alloc: Global,
-    texts: &[Vec<u8>],
-    limit: u32,
-    batch: usize,
+    asked: &FeedTexts<'_>,
     addresses: &[Addr],
     w: &mut W,
 ) -> Result<RunSummary, AppFault>
-    requires limited { IsLimit limit }
-    requires few { length texts.now ≤ MOST_FEEDS }
-    requires batched { 1 ≤ batch }
-    ensures text { Leaves (IsShown (map (λ text. text.items) texts.now) limit batch (answers_text addresses.now)) (W.contents w.old) (W.contents w.new) result }
-    ensures no_text { (result ≡ Err (AppFault.Run RunFault.NoText)) ↔ (texts.now ≡ []) }
+    ensures text { Leaves (IsShown asked.now (answers_text addresses.now)) (W.contents w.old) (W.contents w.new) result }
+    ensures no_text { (result ≡ Err (AppFault.Run RunFault.NoText)) ↔ (asked.now.texts ≡ []) }
 {
-    let asked = FeedTexts::new(texts, limit, batch);
-    show_texts(rt, alloc, &asked, Query::Answers(addresses), w)
+    let run = run_all(rt, alloc, asked)?;
+    let told = tell_run(alloc, &run, Output::Answers(&run.book, addresses), w);
+    run.leave_table();
+    told
 }
 
 /// Runs the texts as `run_texts` does, and when all have ended writes to `w`, for each address in order, every route that
@@ -54,21 +51,17 @@ pub fn lookup_texts<R: Threads + Wait + Sync, W: Write>(
 pub fn lookup_all_texts<R: Threads + Wait + Sync, W: Write>(
     rt: &R,
     alloc: Global,
-    texts: &[Vec<u8>],
-    limit: u32,
-    batch: usize,
+    asked: &FeedTexts<'_>,
     addresses: &[Addr],
     w: &mut W,
 ) -> Result<RunSummary, AppFault>
-    requires limited { IsLimit limit }
-    requires few { length texts.now ≤ MOST_FEEDS }
-    requires batched { 1 ≤ batch }
-    ensures text { Leaves (IsShown (map (λ text. text.items) texts.now) limit batch (all_answers_text addresses.now))
-        (W.contents w.old) (W.contents w.new) result }
-    ensures no_text { (result ≡ Err (AppFault.Run RunFault.NoText)) ↔ (texts.now ≡ []) }
+    ensures text { Leaves (IsShown asked.now (all_answers_text addresses.now)) (W.contents w.old) (W.contents w.new) result }
+    ensures no_text { (result ≡ Err (AppFault.Run RunFault.NoText)) ↔ (asked.now.texts ≡ []) }
 {
-    let asked = FeedTexts::new(texts, limit, batch);
-    show_texts(rt, alloc, &asked, Query::AllAnswers(addresses), w)
+    let run = run_all(rt, alloc, asked)?;
+    let told = tell_all_answers(alloc, &run, addresses, w);
+    run.leave_table();
+    told
 }
 
 /// Runs the texts as `run_texts` does, and when all have ended writes to `w` the table's routes in order, without its first
@@ -77,86 +70,65 @@ pub fn lookup_all_texts<R: Threads + Wait + Sync, W: Write>(
 pub fn table_texts<R: Threads + Wait + Sync, W: Write>(
     rt: &R,
     alloc: Global,
-    texts: &[Vec<u8>],
-    limit: u32,
-    batch: usize,
+    asked: &FeedTexts<'_>,
     only_best: bool,
     w: &mut W,
 ) -> Result<RunSummary, AppFault>
-    requires limited { IsLimit limit }
-    requires few { length texts.now ≤ MOST_FEEDS }
-    requires batched { 1 ≤ batch }
-    ensures text { Leaves (IsShown (map (λ text. text.items) texts.now) limit batch (routes_text only_best)) (W.contents w.old) (W.contents w.new) result }
-    ensures no_text { (result ≡ Err (AppFault.Run RunFault.NoText)) ↔ (texts.now ≡ []) }
-{
-    let asked = FeedTexts::new(texts, limit, batch);
-    show_texts(rt, alloc, &asked, Query::Routes(only_best), w)
-}
-
-/// What is asked of the finished table.
-#[derive(Clone, Copy)]
-enum Query<'a> {
-    /// What a look-up of each address finds.
-    Answers(&'a [Addr]),
-    /// All routes that cover each address.
-    AllAnswers(&'a [Addr]),
-    /// Its routes, or only the best of each prefix.
-    Routes(bool),
-}
-
-/// Runs the texts, and writes what is asked of their table.
-fn show_texts<R: Threads + Wait + Sync, W: Write>(
-    rt: &R,
-    alloc: Global,
-    asked: &FeedTexts<'_>,
-    query: Query<'_>,
-    w: &mut W,
-) -> Result<RunSummary, AppFault>
-    ensures text { Leaves (IsShown asked.now.texts asked.now.limit asked.now.batch (shown_text query.entry)) (W.contents w.old) (W.contents w.new) result }
+    ensures text { Leaves (IsShown asked.now (routes_text only_best)) (W.contents w.old) (W.contents w.new) result }
     ensures no_text { (result ≡ Err (AppFault.Run RunFault.NoText)) ↔ (asked.now.texts ≡ []) }
 {
     let run = run_all(rt, alloc, asked)?;
-    let written = show_run(alloc, &run, query, w);
+    let told = tell_routes(alloc, &run, only_best, w);
     run.leave_table();
-    written
+    told
 }
 
-/// Writes what is asked of a run's table, and tells how much of the texts was taken.
-fn show_run<W: Write>(
+/// Writes for each address all routes of a run's table that cover it, and tells how much of the texts was taken.
+fn tell_all_answers<W: Write>(
     alloc: Global,
     run: &FinishedRun,
-    query: Query<'_>,
+    addresses: &[Addr],
     w: &mut W,
 ) -> Result<RunSummary, AppFault>
     ensures text { (asked : AskedRun) → RunOverBook asked run.now.reports.items run.now.book
-        → Leaves (IsShown asked.texts asked.limit asked.batch (shown_text query.entry)) (W.contents w.old) (W.contents w.new) result }
+        → Leaves (IsShown asked (all_answers_text addresses.now)) (W.contents w.old) (W.contents w.new) result }
+    ensures ran { result ≢ Err (AppFault.Run RunFault.NoText) }
+{
+    let all = matches_of(alloc, &run.book, addresses)?;
+    tell_run(alloc, run, Output::Matches(all.as_slice()), w)
+}
+
+/// Writes the routes of a run's table, or only the best of each prefix, and tells how much of the texts was taken.
+fn tell_routes<W: Write>(
+    alloc: Global,
+    run: &FinishedRun,
+    only_best: bool,
+    w: &mut W,
+) -> Result<RunSummary, AppFault>
+    ensures text { (asked : AskedRun) → RunOverBook asked run.now.reports.items run.now.book
+        → Leaves (IsShown asked (routes_text only_best)) (W.contents w.old) (W.contents w.new) result }
+    ensures ran { result ≢ Err (AppFault.Run RunFault.NoText) }
+{
+    let routes = routes_of(alloc, &run.book, only_best)?;
+    tell_run(alloc, run, Output::Routes(routes.as_slice()), w)
+}
+
+/// Writes what tells of a run's table, and tells how much of the texts was taken.
+fn tell_run<W: Write>(
+    alloc: Global,
+    run: &FinishedRun,
+    output: Output<'_>,
+    w: &mut W,
+) -> Result<RunSummary, AppFault>
+    requires { IsOutput output }
+    ensures text { (asked : AskedRun) (text_of : List Route → List ℕ) → RunOverBook asked run.now.reports.items run.now.book
+        → output_text output.entry ≡ text_of (table_of run.now.book)
+        → Leaves (IsShown asked text_of) (W.contents w.old) (W.contents w.new) result }
     ensures ran { result ≢ Err (AppFault.Run RunFault.NoText) }
 {
     let summary = run.summary(alloc)?;
-    write_shown(alloc, &run.book, query, w)?;
+    write_output(alloc, output, w)?;
     Ok(summary)
-}
-
-/// Writes what is asked of the book's table.
-fn write_shown<W: Write>(
-    alloc: Global,
-    book: &Book<Global>,
-    query: Query<'_>,
-    w: &mut W,
-) -> Result<(), AppFault>
-    ensures { Writes (shown_text query.entry (table_of book.now)) (W.contents w.old) (W.contents w.new) result }
-{
-    match query {
-        Query::Answers(addresses) => write_output(alloc, Output::Answers(book, addresses), w),
-        Query::AllAnswers(addresses) => {
-            let all = matches_of(alloc, book, addresses)?;
-            write_output(alloc, Output::Matches(all.as_slice()), w)
-        }
-        Query::Routes(only_best) => {
-            let routes = routes_of(alloc, book, only_best)?;
-            write_output(alloc, Output::Routes(routes.as_slice()), w)
-        }
-    }
 }
 
 /// For each address, in order, all routes of the book that cover it.

@@ -3,8 +3,8 @@ ghost use Rattle.std.specs.Prelude.{◌≡◌, find, map, IfOk};
 ghost use Rattle.std.specs.List.{list_any};
 ghost use Rattle.rt_feed.specs.declared.report.Line.{Line};
 ghost use Rattle.rt_feed.specs.Reports.{is_fault};
-ghost use Rattle.rt_run.specs.inside.Tallies.{was_full, was_existing, was_missing, fault_of, report_tally};
-ghost use Rattle.rt_run.specs.inside.Tallies.{has_refused, has_left_out, status_where, tallies_status, IsSummary};
+ghost use Rattle.rt_run.specs.RunText.{status_where};
+ghost use Rattle.rt_run.specs.TableText.{was_full, was_existing, was_missing, fault_of, tally_of, has_refused, has_left_out, tallies_status, IsSummary};
 
 use rt_feed::{Answer, Line, LineFault, Report};
 use rt_rib::Reply;
@@ -69,14 +69,14 @@ pub(crate) fn summary_of(alloc: Global, reports: &[Report]) -> Result<RunSummary
 }
 
 fn tallies_of(alloc: Global, reports: &[Report]) -> Result<Vec<Tally>, AllocError>
-    ensures { IfOk result (λ tallies. tallies.items ≡ map report_tally reports.now) }
+    ensures { IfOk result (λ tallies. tallies.items ≡ map tally_of reports.now) }
 {
     reports.iter().map(|report| tally_of(report)).collect(alloc)
 }
 
 /// What of a text was not taken, by its report.
 fn tally_of(report: &Report) -> Tally
-    ensures { result ≡ report_tally report.now }
+    ensures { result ≡ tally_of report.now }
 {
     let lines = report.lines();
     let mut tally = Tally {

@@ -4,7 +4,7 @@ use super::showing::tell_summary;
 use super::{Program, Stop};
 use command_line::DiffRequest;
 use rt_diff::By;
-use rt_run::{DiffSummary, diff_texts};
+use rt_run::{DiffSummary, FeedTexts, diff_texts};
 use std::io::Write;
 use std::rt::Files;
 use std::sync::Wait;
@@ -21,23 +21,18 @@ where
         let (old_names, new_names) = (request.run.files.as_slice(), request.new_files.as_slice());
         let old_texts = self.read_feeds(old_names)?;
         let new_texts = self.read_feeds(new_names)?;
-        let (old_texts, new_texts) = (old_texts.as_slice(), new_texts.as_slice());
+        let (limit, batch) = (request.run.limit, request.run.batch as usize);
+        let old_asked = FeedTexts::new(old_texts.as_slice(), limit, batch);
+        let new_asked = FeedTexts::new(new_texts.as_slice(), limit, batch);
         let by = if request.whole_routes {
             By::Route
         } else {
             By::Hop
         };
+        let feeds = old_asked.count() + new_asked.count();
+        let mut out = self.screen.beside(feeds, self.out);
         let DiffSummary { status, old, new } = diff_texts(
-            self.rt,
-            self.alloc,
-            old_texts,
-            new_texts,
-            request.run.limit,
-            request.run.batch as usize,
-            by,
-            &mut self
-                .screen
-                .beside(old_texts.len() + new_texts.len(), self.out),
+            self.rt, self.alloc, &old_asked, &new_asked, by, &mut out,
         )?;
         tell_summary(&mut self.screen, old_names, &old);
         tell_summary(&mut self.screen, new_names, &new);

@@ -1,14 +1,13 @@
 //! `lookup` and `table`: what the table says that feed files leave, and what of the files was not taken.
 
-ghost use Rattle.std.specs.Prelude.{◌≤◌, length};
-ghost use Rattle.rt_rib.specs.declared.limits.TheConstants.{MOST_FEEDS};
-
 use super::telling::{FaultyLines, tell_faulty, tell_tally};
 use super::{Program, Stop};
 use command_line::{LookupRequest, TableRequest};
 use rt_cidr::Addr;
 use rt_feed::{next_line, parse_address_line};
-use rt_run::{AppFault, NOT_TAKEN, RunSummary, lookup_all_texts, lookup_texts, table_texts};
+use rt_run::{
+    AppFault, FeedTexts, NOT_TAKEN, RunSummary, lookup_all_texts, lookup_texts, table_texts,
+};
 use std::alloc::{AllocError, Global};
 use std::io::Write;
 use std::rt::Files;
@@ -37,7 +36,8 @@ where
             let text = self.read_file(name)?;
             add_addresses(text.as_slice(), &mut addresses)?;
         }
-        let summary = self.answer(request, texts.as_slice(), addresses.asked.as_slice())?;
+        let asked = FeedTexts::new(texts.as_slice(), run.limit, run.batch as usize);
+        let summary = self.answer(request, &asked, addresses.asked.as_slice())?;
         if let Some(name) = request.more {
             tell_faulty(&mut self.screen, name, addresses.faulty);
         }
@@ -53,15 +53,9 @@ where
     pub(super) fn show_routes<'w>(&mut self, request: &TableRequest<'w>) -> Result<u8, Stop<'w>> {
         let run = &request.run;
         let texts = self.read_feeds(run.files.as_slice())?;
-        let summary = table_texts(
-            self.rt,
-            self.alloc,
-            texts.as_slice(),
-            run.limit,
-            run.batch as usize,
-            request.only_best,
-            &mut self.screen.beside(texts.len(), self.out),
-        )?;
+        let asked = FeedTexts::new(texts.as_slice(), run.limit, run.batch as usize);
+        let mut out = self.screen.beside(asked.count(), self.out);
+        let summary = table_texts(self.rt, self.alloc, &asked, request.only_best, &mut out)?;
         Ok(tell_summary(&mut self.screen, run.files.as_slice(), &summary))
     }
 }
@@ -71,18 +65,15 @@ impl<R: Threads + Wait + Sync, O: Write, E: Write> Program<'_, R, O, E> {
     fn answer(
         &mut self,
         request: &LookupRequest<'_>,
-        texts: &[Vec<u8>],
+        asked: &FeedTexts<'_>,
         addresses: &[Addr],
-    ) -> Result<RunSummary, AppFault>
-        requires { length texts.now ≤ MOST_FEEDS }
-    {
+    ) -> Result<RunSummary, AppFault> {
         let (rt, alloc) = (self.rt, self.alloc);
-        let (limit, batch) = (request.run.limit, request.run.batch as usize);
-        let mut out = self.screen.beside(texts.len(), self.out);
+        let mut out = self.screen.beside(asked.count(), self.out);
         if request.all {
-            lookup_all_texts(rt, alloc, texts, limit, batch, addresses, &mut out)
+            lookup_all_texts(rt, alloc, asked, addresses, &mut out)
         } else {
-            lookup_texts(rt, alloc, texts, limit, batch, addresses, &mut out)
+            lookup_texts(rt, alloc, asked, addresses, &mut out)
         }
     }
 }

@@ -1,29 +1,21 @@
 -- What is written, as the text of one value.
-use Rattle.std.specs.Prelude.{◌≡◌, ℕ, ◌+◌, ◌<◌, ◌≤◌, ◌^◌, List, [], ◌∷◌, ◌++◌, length, Option, Result, Ok, Err}
+use Rattle.std.specs.Prelude.{◌≡◌, ℕ, ◌<◌, ◌≤◌, ◌^◌, List, ◌++◌, length, Option, Result, Ok, Err}
 use Rattle.std.specs.List.{flat_map}
 use Rattle.std.specs.Io.KnownBytes.{Appends}
 use Rattle.rt_cidr.specs.Output.{AppendsBeginning}
 use Rattle.rt_rib.specs.declared.limits.TheConstants.{MOST_FEEDS}
-use Rattle.rt_rib.specs.declared.routes.Route.{Route}
 use Rattle.rt_rib.specs.Book.{table_of}
 use Rattle.rt_feed.specs.declared.faults.RunFault.TheVariants as fault
-use Rattle.rt_feed.specs.declared.report.Line.{Line}
-use Rattle.rt_feed.specs.Printed.{report_text, rows_text, table_text, all_found_text}
+use Rattle.rt_feed.specs.Printed.{rows_text, table_text, all_found_text}
 use Rattle.rt_run.specs.declared.faults.AppFault.{AppFault}
 use Rattle.rt_run.specs.declared.faults.AppFault.TheVariants.{Run, Replay, Write}
 use Rattle.rt_run.specs.declared.output.Matches.{Matches}
 use Rattle.rt_run.specs.declared.output.Output.{Output}
 use Rattle.rt_run.specs.declared.output.Output.TheVariants as output
-use Rattle.rt_run.specs.declared.shown.Query.{Query}
-use Rattle.rt_run.specs.declared.shown.Query.TheVariants as query
 use Rattle.ya_replay.specs.ReplayText.{replay_text_of}
 use Rattle.rt_run.specs.inside.Comparisons.{IsFirstOf, lines_of}
-use Rattle.rt_run.specs.TableText.{answers_text, all_answers_text, routes_text}
-
--- the reports of all feeds, one after another, the first of them this feed's
-abbrev pub reports_text : ℕ → List (List Line) → List ℕ
-reports_text feed [] = []
-reports_text feed (report ∷ reports) = report_text feed report ++ reports_text (feed + 1) reports
+use Rattle.rt_run.specs.RunText.{reports_text}
+use Rattle.rt_run.specs.TableText.{answers_text}
 
 -- for each address, in order, all that was found for it
 abbrev pub matches_text : List Matches → List ℕ
@@ -54,9 +46,3 @@ Writes text old new (Ok done) = Appends old new text
 Writes text old new (Err (Run refusal)) = (refusal ≡ fault.Memory) × (new ≡ old)
 Writes text old new (Err (Replay fault)) = ⊥
 Writes text old new (Err Write) = AppendsBeginning old new text
-
--- the text of what is asked of a table
-abbrev pub shown_text : Query → List Route → List ℕ
-shown_text (query.Answers addresses) table = answers_text addresses.now table
-shown_text (query.AllAnswers addresses) table = all_answers_text addresses.now table
-shown_text (query.Routes only_best) table = routes_text only_best table

@@ -1,21 +1,18 @@
 -- What a run of feeds has done before its text is written.
-use Rattle.std.specs.Prelude.{◌≡◌, ℕ, List, length, map}
-use Rattle.std.specs.List.{list_any}
+use Rattle.std.specs.Prelude.{◌≡◌, ℕ, List, length}
 use Rattle.rt_rib.specs.Book.{BookContents}
 use Rattle.rt_shared.specs.Table.{SharedId, HeldPass, ArePassesOf, Settles}
 use Rattle.rt_feed.specs.declared.report.Line.{Line}
-use Rattle.rt_feed.specs.Reports.{has_refusal, has_fault}
-use Rattle.rt_feed.specs.Lines.{LineOutcome, report_lines}
-use Rattle.rt_run.specs.RunText.{IsHistory}
-use Rattle.rt_run.specs.inside.AskedRun.{AskedRun}
-use Rattle.rt_run.specs.inside.Tallies.{status_where}
+use Rattle.rt_feed.specs.Lines.{LineOutcome}
+use Rattle.rt_run.specs.AskedRun.{AskedRun}
+use Rattle.rt_run.specs.RunText.{IsHistory, reports_of}
 
 -- the texts were run to their ends, and these are the reports and the book
 pub record RunOverBook (asked : AskedRun) (reports : List (List Line)) (book : BookContents) : Type 0 where
   pub limited : book.limit ≡ asked.limit
   pub outcomes : List (List LineOutcome)
   pub history : IsHistory asked.texts asked.limit asked.batch book.journal outcomes
-  pub reported : reports ≡ map (report_lines 1) outcomes
+  pub reported : reports ≡ reports_of outcomes
   pub counted : length reports ≡ length asked.texts
 
 -- the texts were run by passes of the table, which are all back, and these are the reports: whatever the
@@ -24,7 +21,3 @@ pub record RunBeforeSettle (texts : List (List ℕ)) (batch : ℕ) (table : Shar
   pub back : ArePassesOf table passes
   pub settled : (book : BookContents) → book.limit ≡ table.limit → Settles table passes book.journal
       → RunOverBook (record { texts = texts; limit = table.limit; batch = batch }) reports book
-
--- the status of these reports, of which a faulty line is what was not taken
-abbrev pub reports_status : List (List Line) → ℕ
-reports_status reports = status_where (list_any has_refusal reports) (list_any has_fault reports)

@@ -1,6 +1,6 @@
 use Rattle.std.proofs.Common.{take}
 use Rattle.std.specs.Io.KnownBytes.{Appends}
-use Rattle.rt_run.specs.inside.Outputs.{reports_text}
+use Rattle.rt_run.specs.RunText.{reports_text}
 use Rattle.rt_run.proofs.output.write_reports.Given as goal
 
 -- the reports so far were written

@@ -2,9 +2,8 @@ use Rattle.std.proofs.Common.{◌≡◌, ◌++◌, List, ℕ, Err, refl, ap, sub
 use Rattle.std.proofs.lemmas.Result.{err_from_is_err_and}
 use Rattle.rt_feed.specs.Printed.{table_text}
 use Rattle.rt_rib.specs.Book.{table_of}
-use Rattle.rt_run.specs.RunText.{IsRunText}
-use Rattle.rt_run.specs.inside.RunResults.{reports_status}
-use Rattle.rt_run.specs.inside.Outputs.{reports_text, Writes}
+use Rattle.rt_run.specs.RunText.{IsRunText, reports_text, reports_status}
+use Rattle.rt_run.specs.inside.Outputs.{Writes}
 use Rattle.rt_run.proofs.SeveralFeeds.{run_text}
 use Rattle.rt_run.proofs.Outputs.{leaves_fault}
 use Rattle.rt_run.proofs.runs.report_run.Goals as goal

@@ -2,7 +2,7 @@ use Rattle.std.proofs.Common.{◌≡◌, take, find}
 use Rattle.std.specs.Prelude.{count_by}
 use Rattle.rt_feed.specs.declared.report.Line.{Line}
 use Rattle.rt_feed.specs.Reports.{is_fault, is_refusal}
-use Rattle.rt_run.specs.inside.Tallies.{was_full, was_existing, was_missing, fault_of}
+use Rattle.rt_run.specs.TableText.{was_full, was_existing, was_missing, fault_of}
 use Rattle.rt_run.proofs.tallies.tally_of.Given as goal
 
 -- the lines so far are counted

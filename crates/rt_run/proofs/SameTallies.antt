@@ -1,0 +1,158 @@
+-- That two runs of the same texts and limit take as much of each: what a tally counts hangs on the feed's own commands alone.
+use Rattle.std.proofs.Common.{◌≡◌, ℕ, ◌+◌, false, inl, inr, Option, Some, None, List, [], ◌∷◌, ◌++◌, Bool, map}
+use Rattle.std.proofs.Common.{refl, sym, ap, subst, ◌∙◌, append_assoc}
+use Rattle.std.specs.Prelude.{count_by, cond, find}
+use Rattle.std.specs.Option.{option_map_or}
+use Rattle.std.proofs.lemmas.Bool.{cases_Bool, or_parts}
+use Rattle.std.proofs.lemmas.List.{map-append}
+use Rattle.std.proofs.lemmas.List.Sums.{sum_by-cons}
+use Rattle.rt_rib.specs.declared.routes.Route.{Route}
+use Rattle.rt_rib.specs.declared.commands.Cmd.{Cmd}
+use Rattle.rt_rib.specs.declared.commands.Cmd.TheVariants.{Lookup, Dump}
+use Rattle.rt_rib.specs.declared.commands.Reply.TheVariants.{Found, NoRoute}
+use Rattle.rt_rib.specs.declared.commands.Entry.{Entry}
+use Rattle.rt_rib.specs.LookUp.{look_up}
+use Rattle.rt_rib.specs.Sequential.{reply_of, IsLawfulJournal}
+use Rattle.rt_rib.specs.Laws.{FeedsStandAlone, is_own}
+use Rattle.rt_shared.specs.declared.outcome.Outcome.{Outcome}
+use Rattle.rt_shared.specs.declared.outcome.Outcome.TheVariants as outcome
+use Rattle.rt_shared.specs.Laws.{EntriesOfVisits}
+use Rattle.rt_feed.specs.declared.parse.LineFault.{LineFault}
+use Rattle.rt_feed.specs.declared.report.Line.{Line}
+use Rattle.rt_feed.specs.declared.report.Answer.{Answer}
+use Rattle.rt_feed.specs.declared.report.Answer.TheVariants.{Did, Refused, Fault}
+use Rattle.rt_feed.specs.Laws.{TextHasOneReading}
+use Rattle.rt_feed.specs.Lines.{LineOutcome, skipped, faulty, asked, reading, command_answer, report_lines, asked_of}
+use Rattle.rt_feed.specs.Reports.{is_refusal, is_fault, has_refusal}
+use Rattle.rt_run.specs.declared.tallies.Tally.{Tally}
+use Rattle.rt_run.specs.RunText.{ExplainsFrom, reports_of, some_refused}
+use Rattle.rt_run.specs.TableText.{was_full, was_existing, was_missing, fault_at, fault_of, tally_of}
+use Rattle.rt_run.specs.SameTable.{HaveSameTallies}
+use Rattle.rt_run.proofs.SameTables.{commands, alone-commands, IsAnsweredFrom, AreAnsweredFrom, answered_from}
+
+-- the first of two, if there is one
+abbrev or_else : Option (ℕ × LineFault) → Option (ℕ × LineFault) → Option (ℕ × LineFault)
+or_else None later = later
+or_else (Some first) later = Some first
+
+-- a tally with one line more in front
+abbrev with_line : ℕ → Answer → Tally → Tally
+with_line number answer tally = record {
+  faulty = cond (is_fault answer) 1 0 + tally.faulty;
+  first_faulty = or_else (fault_at number answer) tally.first_faulty;
+  full = cond (was_full answer) 1 0 + tally.full;
+  existing = cond (was_existing answer) 1 0 + tally.existing;
+  missing = cond (was_missing answer) 1 0 + tally.missing;
+  refused = cond (is_refusal answer) 1 0 + tally.refused;
+}
+
+module _ (number : ℕ) (answer : Answer) (report : List Line) where
+  count-line : (test : Answer → Bool) → count_by (λ (line : Line). test line.answer) (record { number = number; answer = answer } ∷ report)
+      ≡ cond (test answer) 1 0 + count_by (λ (line : Line). test line.answer) report
+  count-line test = sum_by-cons (λ (line : Line). cond (test line.answer) 1 0) (record { number = number; answer = answer }) report
+
+first-line : (number : ℕ) (answer : Answer) (report : List Line)
+    → fault_of (find (λ (line : Line). is_fault line.answer) (record { number = number; answer = answer } ∷ report))
+    ≡ or_else (fault_at number answer) (fault_of (find (λ (line : Line). is_fault line.answer) report))
+first-line number (Did reply) report = refl
+first-line number Refused report = refl
+first-line number (Fault fault) report = refl
+
+tally-line : (number : ℕ) (answer : Answer) (report : List Line)
+    → tally_of (record { number = number; answer = answer } ∷ report) ≡ with_line number answer (tally_of report)
+tally-line number answer report =
+    let count = count-line number answer report in
+    rw (count is_fault, first-line number answer report, count was_full, count was_existing, count was_missing, count is_refusal) refl
+
+-- what a look-up found, and how many routes there are, is not counted
+found_or_not : (number : ℕ) (tally : Tally) (found : Option Route)
+    → with_line number (Did (option_map_or Found found NoRoute)) tally ≡ with_line number (Did NoRoute) tally
+found_or_not number tally None = refl
+found_or_not number tally (Some route) = refl
+
+uncounted : (limit feed number : ℕ) (tally : Tally) (table : List Route) (cmd : Cmd) → is_own cmd ≡ false
+    → with_line number (Did (reply_of limit table feed cmd)) tally ≡ with_line number (Did NoRoute) tally
+unfolding reply_of
+uncounted limit feed number tally table (Lookup addr) other = found_or_not number tally (look_up addr table)
+uncounted limit feed number tally table Dump other = refl
+uncounted limit feed number tally table cmd other = absurd (cc)
+
+-- so a command counts the same wherever the feed's earlier commands are the same
+counts_alike : (limit feed number : ℕ) (tally : Tally) (before before' : List (Cmd × Outcome)) (cmd : Cmd) (is is' : Outcome)
+    → commands before ≡ commands before' → IsAnsweredFrom limit feed before cmd is → IsAnsweredFrom limit feed before' cmd is'
+    → with_line number (command_answer is) tally ≡ with_line number (command_answer is') tally
+counts_alike limit feed number tally before before' cmd is is' same from from' =
+    let counted : Outcome → Tally = λ o. with_line number (command_answer o) tally in
+    elim (cases_Bool (is_own cmd)) [
+      | inl own ↦
+          let tables = alone-commands limit feed before before' same in
+          let replies = from.alone own ∙ (ap (λ table. reply_of limit table feed cmd) tables ∙ sym (from'.alone own)) in
+          ap counted (from.reply ∙ (ap outcome.Did replies ∙ sym from'.reply))
+      | inr other ↦
+          ap counted from.reply
+          ∙ (uncounted limit feed number tally from.table cmd other
+          ∙ (sym (uncounted limit feed number tally from'.table cmd other) ∙ ap counted (sym from'.reply)))
+    ]
+
+-- one command more
+commands-more : (before before' : List (Cmd × Outcome)) (cmd cmd' : Cmd) (is is' : Outcome) → commands before ≡ commands before' → cmd ≡ cmd'
+    → commands (before ++ (cmd, is) ∷ []) ≡ commands (before' ++ (cmd', is') ∷ [])
+commands-more before before' cmd cmd' is is' same one =
+    map-append (λ (p : Cmd × Outcome). p.0) before ((cmd, is) ∷ [])
+    ∙ (ap (λ cmds. cmds ++ cmd ∷ []) same
+    ∙ (ap (λ c. commands before' ++ c ∷ []) one ∙ sym (map-append (λ (p : Cmd × Outcome). p.0) before' ((cmd', is') ∷ []))))
+
+-- the rest of a text's lines, in two runs
+module _ (limit feed : ℕ) (all all' : List (Cmd × Outcome)) (from : AreAnsweredFrom limit feed all) (from' : AreAnsweredFrom limit feed all') where
+  same_tally : (number : ℕ) (before before' : List (Cmd × Outcome)) (lines lines' : List LineOutcome)
+      → all ≡ before ++ asked_of lines → all' ≡ before' ++ asked_of lines' → commands before ≡ commands before' → map reading lines ≡ map reading lines'
+      → tally_of (report_lines number lines) ≡ tally_of (report_lines number lines')
+  same_tally number before before' [] [] is is' same read = refl
+  same_tally number before before' (skipped ∷ lines) (skipped ∷ lines') is is' same read =
+      let rest : map reading lines ≡ map reading lines' = cc in
+      same_tally (number + 1) before before' lines lines' is is' same rest
+  same_tally number before before' (faulty fault ∷ lines) (faulty other ∷ lines') is is' same read =
+      let rest : map reading lines ≡ map reading lines' = cc in
+      let one : fault ≡ other = cc in
+      tally-line number (Fault fault) (report_lines (number + 1) lines)
+      ∙ (ap (with_line number (Fault fault)) (same_tally (number + 1) before before' lines lines' is is' same rest)
+      ∙ (ap (λ f. with_line number (Fault f) (tally_of (report_lines (number + 1) lines'))) one
+      ∙ sym (tally-line number (Fault other) (report_lines (number + 1) lines'))))
+  same_tally number before before' (asked cmd o ∷ lines) (asked cmd' o' ∷ lines') is is' same read =
+      let rest : map reading lines ≡ map reading lines' = cc in
+      let one : cmd ≡ cmd' = cc in
+      let here = from before (asked_of lines) cmd o is in
+      let there = subst (λ c. IsAnsweredFrom limit feed before' c o') (sym one) (from' before' (asked_of lines') cmd' o' is') in
+      tally-line number (command_answer o) (report_lines (number + 1) lines)
+      ∙ (ap (with_line number (command_answer o))
+      (same_tally (number + 1) (before ++ (cmd, o) ∷ []) (before' ++ (cmd', o') ∷ []) lines lines'
+      (is ∙ sym (append_assoc before ((cmd, o) ∷ []) (asked_of lines))) (is' ∙ sym (append_assoc before' ((cmd', o') ∷ []) (asked_of lines')))
+      (commands-more before before' cmd cmd' o o' same one) rest)
+      ∙ (counts_alike limit feed number (tally_of (report_lines (number + 1) lines')) before before' cmd o o' same here there
+      ∙ sym (tally-line number (command_answer o') (report_lines (number + 1) lines'))))
+  same_tally number before before' lines lines' is is' same read = absurd (cc)
+
+-- and those of all texts
+module _ (alone : FeedsStandAlone) (law : EntriesOfVisits) (once : TextHasOneReading) (limit batch batch' : ℕ) (journal journal' : List Entry)
+    (lawful : IsLawfulJournal limit journal) (lawful' : IsLawfulJournal limit journal') where
+  all_same : (feed : ℕ) (texts : List (List ℕ)) (outcomes outcomes' : List (List LineOutcome))
+      → ExplainsFrom batch feed journal texts outcomes → ExplainsFrom batch' feed journal' texts outcomes'
+      → some_refused outcomes ≡ false → some_refused outcomes' ≡ false → map tally_of (reports_of outcomes) ≡ map tally_of (reports_of outcomes')
+  all_same feed [] [] [] is is' none none' = refl
+  all_same feed [] (lines ∷ outcomes) outcomes' is is' none none' = absurd is
+  all_same feed [] [] (lines' ∷ outcomes') is is' none none' = absurd is'
+  all_same feed (text ∷ texts) [] outcomes' is is' none none' = absurd is
+  all_same feed (text ∷ texts) (lines ∷ outcomes) [] is is' none none' = absurd is'
+  all_same feed (text ∷ texts) (lines ∷ outcomes) (lines' ∷ outcomes') is is' none none' =
+      let parts = or_parts (has_refusal (report_lines 1 lines)) (some_refused outcomes) none in
+      let parts' = or_parts (has_refusal (report_lines 1 lines')) (some_refused outcomes') none' in
+      let first : tally_of (report_lines 1 lines) ≡ tally_of (report_lines 1 lines') =
+      same_tally limit feed (asked_of lines) (asked_of lines') (answered_from alone law limit batch feed journal text lines lawful is.0 parts.0)
+      (answered_from alone law limit batch' feed journal' text lines' lawful' is'.0 parts'.0) 1 [] [] lines lines' refl refl refl
+      (once text lines lines' is.0.becomes is'.0.becomes) in
+      ap (λ tally. tally ∷ map tally_of (reports_of outcomes)) first
+      ∙ ap (λ tallies. tally_of (report_lines 1 lines') ∷ tallies) (all_same (feed + 1) texts outcomes outcomes' is.1 is'.1 parts.1 parts'.1)
+
+pub same_tallies : FeedsStandAlone → EntriesOfVisits → TextHasOneReading → HaveSameTallies
+same_tallies alone law once texts limit batch batch' journal journal' outcomes outcomes' history history' =
+    all_same alone law once limit batch batch' journal journal' history.lawful history'.lawful 1 texts outcomes outcomes' history.explained history'.explained
