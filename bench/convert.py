@@ -1,9 +1,9 @@
 #!/usr/bin/env python3
-"""Times the converters of examples/convert on tables that it makes.
+"""Times the converters of examples/convert, and the scripts of examples/map, on tables that it makes.
 
 Needs python3 alone. The inputs have so many prefixes with the lengths of a real table, and 100,000 different paths;
 each is read from a file so many rounds. With --peers there is one input, a dump of 20 peers with so many routes each,
-which for 1,000,000 is a file of 2 GB. Prints for each converter the least time on the clock and of the processors (user
+which for 1,000,000 is a file of 2 GB. Prints for each script the least time on the clock and of the processors (user
 and system), and the peak memory.
 """
 import argparse
@@ -19,7 +19,7 @@ import time
 import figures
 import run
 
-CONVERTERS = figures.TOP / "examples" / "convert"
+EXAMPLES = figures.TOP / "examples"
 PEERS = 20
 PATHS = 100_000
 
@@ -95,6 +95,22 @@ def of_table(count):
         yield f"{prefix} feed 1 pref 1 via 192.0.2.1\n"
 
 
+def of_best_routes(count):
+    """What `yarib table --best` prints of 20 feeds and 40 next hops, of which some have far more routes than others."""
+    draw, hops = random.Random(3), range(1, 41)
+    for prefix in prefixes(count):
+        hop, = draw.choices(hops, [1 / number for number in hops])
+        yield f"{prefix} feed {hop % 20 + 1} pref {draw.choice((1, 1, 1, 2, 3, 100))} via 192.0.2.{hop}\n"
+
+
+def of_comparison(count):
+    """What `yarib diff` prints: a /24 in each of so many parts of the address space."""
+    draw, hops = random.Random(3), [f"via 192.0.2.{number}" for number in range(1, 41)]
+    for number in range(count):
+        base, (old, new) = number * (1 << 32) // count & ~255, draw.sample(hops, 2)
+        yield f"{run.dotted(base)}-{run.dotted(base + 255)} {old} -> {new}\n"
+
+
 INPUTS = (
     ("bgpdump-to-feeds", "a dump", dumped),
     ("bgpdump-to-feeds", "updates", updates),
@@ -105,6 +121,8 @@ INPUTS = (
     ("table-to-bird", "a table", of_table),
     ("table-to-frr", "a table", of_table),
     ("table-to-ip", "a table", of_table),
+    ("table-to-map", "best routes", of_best_routes),
+    ("diff-to-map", "a comparison", of_comparison),
 )
 OF_PEERS = (("bgpdump-to-feeds", f"{PEERS} peers", lambda count: dumped(count, PEERS)),)
 
@@ -146,7 +164,8 @@ def main():
         with tempfile.TemporaryDirectory() as made:
             path, folder = pathlib.Path(made) / "input", pathlib.Path(made) / "feeds"
             write(path, lines(words.routes))
-            call = [CONVERTERS / name, *([folder] if name.endswith("feeds") else [])]
+            script = EXAMPLES / ("map" if name.endswith("map") else "convert") / name
+            call = [script, *([folder] if name.endswith("feeds") else [])]
             seconds, processors, peak = (min(column) for column in zip(*(measure(call, path) for _ in range(words.rounds))))
         row = f"clock {seconds:6.1f} s | processors {processors:6.1f} s | memory {peak / 1e6:4.0f} MB"
         print(f"{name:16} {about:14} | {row}", flush=True)

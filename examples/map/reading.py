@@ -23,8 +23,8 @@ MOST_KNOWN = 65536
 NUMBER = struct.Struct(">I").unpack
 # the bits past a prefix of that length
 HOST_BITS = {str(length): (1 << 32 - length) - 1 for length in range(33)}
+MIXED = "some answers are next hops and some are routes: that is more than one output"
 ROUTE = re.compile(r"feed ([1-9][0-9]?) pref (0|[1-9][0-9]{0,9}) via (\S+)")
-RANGE = re.compile(r"([0-9.]+)-([0-9.]+) (.+) -> (.+)")
 
 
 class Refused(Exception):
@@ -219,53 +219,66 @@ def hop_address(text):
     return text
 
 
+def change_reader(hops):
+    """What reads both answers of a row: these, the ranges of their prefixes, and whether they are routes."""
+    answer = answer_reader(hops)
+
+    @functools.lru_cache(MOST_KNOWN)
+    def read(text):
+        old, arrow, new = text.partition(" -> ")
+        if not arrow:
+            raise ValueError
+        both = answer(old), answer(new)
+        if both[0] == both[1]:
+            raise Wrong("both answers are the same")
+        # `no route` may stand beside a next hop and beside a route
+        forms = {prefix is not None for found, prefix in both if found[0] != NO_ROUTE}
+        if len(forms) > 1:
+            raise Wrong(MIXED)
+        return both[0][0], both[1][0], [prefix for _, prefix in both if prefix], forms.pop()
+
+    return read
+
+
 def read_diff(stream):
     """The ranges of `yarib diff`, and those between them, which are answered as before."""
-    hops, firsts, answers = Hops(), array.array("I"), ([], [])
-    answer = answer_reader(hops)
-    same, at, form = (UNCHANGED, SAME_LENGTH, SAME_FEED, 0), 0, None
+    hops, firsts, olds, news = Hops(), array.array("I"), [], []
+    change = change_reader(hops)
+    same, at, are_routes = (UNCHANGED, SAME_LENGTH, SAME_FEED, 0), 0, None
 
     def append(first, old, new):
         firsts.append(first)
-        answers[0].append(old)
-        answers[1].append(new)
-
-    def check_form(found, prefix):
-        """All answers are next hops, or all are routes; `no route` may stand in both."""
-        nonlocal form
-        if found[0] != NO_ROUTE:
-            if form not in (None, prefix is not None):
-                raise Wrong("some answers are next hops and some are routes: that is more than one output")
-            form = prefix is not None
+        olds.append(old)
+        news.append(new)
 
     def take(line):
-        nonlocal at
-        found = RANGE.fullmatch(line)
-        if not found:
+        nonlocal at, are_routes
+        span, _, said = line.partition(" ")
+        first, dash, last = span.partition("-")
+        if not dash:
             raise ValueError
-        first, last = address_number(found[1]), address_number(found[2])
-        old, new = answer(found[3]), answer(found[4])
-        check_form(*old)
-        check_form(*new)
-        check_range(first, last, at, old, new)
+        first, last = address_number(first), address_number(last)
+        old, new, prefixes, form = change(said)
+        if are_routes not in (None, form):
+            raise Wrong(MIXED)
+        check_range(first, last, at, prefixes)
         if at < first:
             append(at, same, same)
-        append(first, old[0], new[0])
-        at = last + 1
+        append(first, old, new)
+        at, are_routes = last + 1, form
 
     rows = each(stream, take, "yarib diff")
     if at < END:
         append(at, same, same)
-    return Ranges(firsts, {"old ": Answers(answers[0]), "new ": Answers(answers[1])}, hops, form is True, rows)
+    return Ranges(firsts, {"old ": Answers(olds), "new ": Answers(news)}, hops, are_routes is True, rows)
 
 
-def check_range(first, last, at, old, new):
+def check_range(first, last, at, prefixes):
+    """The range begins at `at` or later, and lies in the prefixes of its answers."""
     if last < first:
         raise Wrong(f"the range ends at {address_text(last)}, before it begins")
     if first < at:
         raise Wrong(f"the range begins at {address_text(first)}, before the end of the range before")
-    if old == new:
-        raise Wrong("both answers are the same")
-    for _, prefix in (old, new):
-        if prefix and not prefix[0] <= first <= last <= prefix[1]:
+    for base, end in prefixes:
+        if not base <= first <= last <= end:
             raise Wrong("the range isn't within the prefix of its answer")

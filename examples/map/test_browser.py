@@ -8,55 +8,114 @@ import random
 import re
 import subprocess
 
-from readback import END, Failed, Page, expect, number_of, text_of
+import chart
+from readback import END, Failed, Page, expect, run, text_of
 from test_answers import cases, check_comparison, check_table
 from test_colours import schemes
 
 # of each view so many cells are asked for
 CELLS_ASKED = 150
 MOST_NAMED = 12
-# In each view, by each colouring: the colour of each of the asked dots, and what is said of the cell of each. Labels and lines
-# would lie over the dots.
+# In each view, by each colouring: the colour of each of the asked dots, what is said of the cell of each where the pointer is on
+# it, and where a click on it goes. Labels and lines would lie over the dots.
 ASKING = """
 <pre id="found"></pre>
 <script>
 begun.then(async () => {
   element("labels").checked = false;
-  const found = [], paper = element("paper").getContext("2d"), goes = go;
+  const found = [], paper = element("paper").getContext("2d"), goes = go, box = element("paper").getBoundingClientRect();
   // a browser goes to so many places at once no more
   let asked = "";
   go = (place) => (asked = place);
-  for (const { base, length, dots } of ASKED) {
+  for (const { base, length, side, places } of ASKED) {
     Object.assign(shown, { base, length });
-    const order = Math.min(about.order, (32 - length) / 2), side = 2 ** order, width = PIXELS / side;
-    const at = places(order, wayOf(base, length));
     const colours = about.colourings.map((_, colouring) => {
       shown.colouring = colouring;
       draw();
-      return dots.map((dot) => {
-        const [x, y] = [at[dot] % side, Math.floor(at[dot] / side)].map((part) => (part + 0.5) * width);
+      return places.map((place) => {
+        const [x, y] = place.map((part) => ((part + 0.5) * PIXELS) / side);
         const [red, green, blue] = paper.getImageData(x, y, 1, 1).data;
         return "#" + (2 ** 24 + red * 65536 + green * 256 + blue).toString(16).slice(1);
       });
     });
-    const said = dots.map((dot) => {
-      point(Math.floor(dot / 4 ** (order - CELLS)));
-      return [element("range").textContent, [...element("answers").children].map((one) => one.textContent)];
-    });
-    const box = element("paper").getBoundingClientRect(), cells = places(CELLS, wayOf(base, length));
-    const clicked = dots.map((dot) => {
-      const place = cells[Math.floor(dot / 4 ** (order - CELLS))];
-      const [x, y] = [place % SIDE, Math.floor(place / SIDE)].map((part) => ((part + 0.5) * box.width) / SIDE);
-      element("paper").dispatchEvent(new MouseEvent("click", { clientX: box.left + x, clientY: box.top + y }));
-      return asked;
+    const pointed = places.map((place) => {
+      // the middle of the cell
+      const [x, y] = place.map((part) => ((Math.floor((part * SIDE) / side) + 0.5) * box.width) / SIDE);
+      const where = { clientX: box.left + x, clientY: box.top + y, pointerType: "mouse" };
+      element("paper").dispatchEvent(new PointerEvent("pointermove", where));
+      element("paper").dispatchEvent(new PointerEvent("click", where));
+      return [element("range").textContent, [...element("answers").children].map((one) => one.textContent), asked];
     });
     goes(asked);
-    found.push({ colours, said, clicked, hash: location.hash });
+    found.push({ colours, pointed, hash: location.hash });
   }
   element("found").textContent = JSON.stringify(found);
 });
 </script>
 """
+# Does one thing after another on a page, each when what the one before began is done: where it is then, what is named, and
+# which colours are used.
+DOING = """
+<pre id="found"></pre>
+<script>
+function press(key) {
+  element("paper").dispatchEvent(new KeyboardEvent("keydown", { key }));
+}
+function ask(text) {
+  element("wanted").value = text;
+  element("find").requestSubmit();
+}
+function alone(one) {
+  element("legend").children[one].firstChild.click();
+}
+function by(number) {
+  element("colourings").querySelectorAll("input")[number].click();
+}
+begun.then(async () => {
+  const found = [];
+  for (const step of STEPS) {
+    step();
+    await new Promise((done) => setTimeout(done, 100));
+    found.push([location.hash, element("range").textContent, new Set(colours()).size]);
+  }
+  element("found").textContent = JSON.stringify(found);
+});
+</script>
+"""
+STEPS_OF = b"""10.0.0.0-10.0.255.255 via 192.0.2.1 -> via 192.0.2.2
+10.2.0.0-10.8.255.255 no route -> via 192.0.2.2
+10.10.0.0-10.255.255.255 via 192.0.2.1 -> no route
+"""
+# What is done on the page of that, with what is found then.
+STEPS = [
+    ('element("back").click()', "", "", 4),
+    ('element("on").click()', "#10.0.0.0", "10.0.0.0", 4),
+    ('element("on").click()', "#10.2.0.0", "10.2.0.0", 4),
+    ('element("on").click()', "#10.10.0.0", "10.10.0.0", 4),
+    ('element("on").click()', "#10.10.0.0", "10.10.0.0", 4),
+    ('element("back").click()', "#10.2.0.0", "10.2.0.0", 4),
+    ('press("ArrowRight")', "#10.2.0.0", "10.2.0.3", 4),
+    ('press("ArrowLeft")', "#10.2.0.0", "10.2.0.0", 4),
+    ('press("ArrowLeft")', "#10.2.0.0", "10.2.0.0", 4),
+    ('press("ArrowDown")', "#10.2.0.0", "10.2.0.1", 4),
+    ('press("Enter")', "#10.2.0.1", "10.2.0.1", 4),
+    ('press("Escape")', "#10.0.0.0/8", "", 4),
+    ('press("Escape")', "#0.0.0.0/0", "", 4),
+    ('press("Escape")', "#0.0.0.0/0", "", 4),
+    ('ask("10.1.2.3")', "#10.1.2.3", "10.1.2.3", 4),
+    ('ask("10.1.2.256")', "#10.1.2.3", "10.1.2.3", 4),
+    ('ask("10.1.2.3/33")', "#10.1.2.3", "10.1.2.3", 4),
+    ('ask(" 10.16.0.0/12 ")', "#10.16.0.0/12", "10.16.0.0/24", 4),
+    ('press("Enter")', "#10.16.0.0/24", "10.16.0.0", 4),
+    ('location.hash = "nowhere"', "#nowhere", "", 4),
+    ("alone(1)", "#nowhere", "", 2),
+    ("alone(2)", "#nowhere", "", 2),
+    ("alone(2)", "#nowhere", "", 4),
+    ("alone(3)", "#nowhere", "", 2),
+    ("by(1)", "#nowhere", "", 3),
+    ("alone(1)", "#nowhere", "", 2),
+    ("by(2)", "#nowhere", "", 3),
+]
 
 
 def views(page, said):
@@ -70,7 +129,10 @@ def views(page, said):
         within = [(address - base) // size for address in begins if base <= address < base + (1 << 32 - length)]
         dots = set(draw.sample(within, min(len(within), CELLS_ASKED)))
         dots |= {draw.randrange(4**order) for _ in range(CELLS_ASKED)}
-        yield {"base": base, "length": length, "size": size, "order": order, "dots": sorted(dots)}
+        # where the dots lie in the view, from where they lie among all addresses
+        side, whole = 2**order, length // 2 + order
+        places = [[part % side for part in chart.place((base + dot * size) // size, whole)] for dot in sorted(dots)]
+        yield {"base": base, "length": length, "size": size, "side": side, "dots": sorted(dots), "places": places}
 
 
 class Said:
@@ -112,10 +174,9 @@ def expected_words(said, first, size, length):
     return [f"{text_of(first)}/{length}" if size > 1 else text_of(first), lines]
 
 
-def asked(browser, made, page, asking, dark):
-    """What the page's own script says of the views."""
+def found_by(browser, made, page, script, dark):
+    """What a script at the end of the page finds."""
     file = made / "asked.html"
-    script = ASKING.replace("ASKED", json.dumps(asking))
     file.write_text(page.text.replace("</body>", script + "</body>"))
     command = [browser, "--headless", "--no-sandbox", "--disable-gpu", f"--blink-settings=preferredColorScheme={0 if dark else 1}",
                "--virtual-time-budget=60000", "--window-size=1600,1200", "--dump-dom", file.as_uri()]
@@ -126,10 +187,20 @@ def asked(browser, made, page, asking, dark):
     return json.loads(html.unescape(found[1]))
 
 
+def check_steps(browser, made):
+    """Buttons, keys and what is asked for lead where they should."""
+    page = Page(run("diff-to-map", data=STEPS_OF)[1])
+    steps = ", ".join(f"() => {{ {step}; }}" for step, *_ in STEPS)
+    done = found_by(browser, made, page, DOING.replace("STEPS", f"[{steps}]"), False)
+    for (step, *wanted), found in zip(STEPS, done, strict=True):
+        expect(f"what is found after {step}", found, wanted)
+
+
 def check_shown(browser, made, page, said, dark):
     asking, said = list(views(page, said)), Said(said)
     scheme = schemes(page)[dark]
-    for view, found in zip(asking, asked(browser, made, page, asking, dark), strict=True):
+    script = ASKING.replace("ASKED", json.dumps(asking))
+    for view, found in zip(asking, found_by(browser, made, page, script, dark), strict=True):
         base, length, size = view["base"], view["length"], view["size"]
         cell = 1 << 16 - length
         for number, dot in enumerate(view["dots"]):
@@ -139,14 +210,15 @@ def check_shown(browser, made, page, said, dark):
                 expect(f"the colour of {where} by {colouring['name']}", colours[number],
                        expected_colour(scheme, colouring, said, first, first + size - 1))
             begin = first - first % cell
-            expect(f"what is said of {where}", found["said"][number], expected_words(said, begin, cell, length + 16))
-            name = text_of(begin) + (f"/{length + 16}" if length < 16 else "")
-            expect(f"where a click on {where} goes", found["clicked"][number], name)
-        expect("where the page goes", found["hash"], f"#{found['clicked'][-1]}")
+            goes = text_of(begin) + (f"/{length + 16}" if length < 16 else "")
+            expect(f"what is said of {where}, and where a click goes", found["pointed"][number],
+                   [*expected_words(said, begin, cell, length + 16), goes])
+        expect("where the page goes", found["hash"], f"#{found['pointed'][-1][-1]}")
 
 
 def check(program, made, browser):
     tables, comparisons = cases(made)
+    check_steps(browser, made)
     for dark in (False, True):
         for files in (tables[0], tables[-1]):
             check_shown(browser, made, *check_table(program, made, files), dark)

@@ -3,6 +3,7 @@ import itertools
 import math
 import re
 
+import chart
 from readback import Failed, expect
 
 # the numbers of the /8s in the top row of the well-known maps
@@ -33,6 +34,7 @@ def check_curve(page):
 
     cells = list(through(0, 0, 256, 0))
     expect("how many cells the curve comes to", len(set(cells)), CELLS)
+    expect("the cells that chart.py finds", [chart.place(number, 8) for number in range(CELLS)], cells)
     for (column, row), (other, below) in itertools.pairwise(cells):
         expect(f"the way from column {column} and row {row}", abs(column - other) + abs(row - below), 1)
     for length in (2, 4, 6, 8, 10, 12, 14):
