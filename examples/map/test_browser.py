@@ -178,7 +178,8 @@ def found_by(browser, made, page, script, dark):
     """What a script at the end of the page finds."""
     file = made / "asked.html"
     file.write_text(page.text.replace("</body>", script + "</body>"))
-    command = [browser, "--headless", "--no-sandbox", "--disable-gpu", f"--blink-settings=preferredColorScheme={0 if dark else 1}",
+    scheme = f"--blink-settings=preferredColorScheme={0 if dark else 1}"
+    command = [browser, "--headless", "--no-sandbox", "--disable-gpu", scheme,
                "--virtual-time-budget=60000", "--window-size=1600,1200", "--dump-dom", file.as_uri()]
     shown = subprocess.run(command, capture_output=True, text=True, timeout=300).stdout
     found = re.search(r'<pre id="found">(.*?)</pre>', shown, re.S)
