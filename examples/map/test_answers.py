@@ -12,6 +12,8 @@ from readback import END, HERE, Failed, Page, expect, number_of, run, text_of
 
 EXAMPLES = HERE.parent
 RANDOM_ADDRESSES, RANDOM_ROUTES, FEEDS = 2000, 20000, 9
+# the base of a /16 with so many routes
+DENSE, DENSE_ROUTES = 10 << 24 | 7 << 16, 100
 COLOURS = 6
 LENGTHS = ((0, 8), (9, 15), (16, 19), (20, 22), (23, 24), (25, 32))
 TABLES = [("north", "south", "east"), ("north",), ("first",), ("fault",), ("north", "north")]
@@ -194,6 +196,7 @@ def random_feeds(made):
     """Files of random routes with a default route, and of a table in which some of them are others, or gone."""
     draw = random.Random(61)
     prefixes = {random_prefix(draw) for _ in range(RANDOM_ROUTES)} | {"0.0.0.0/0", "0.0.0.0/32", "255.255.255.255/32"}
+    prefixes |= {f"{text_of(DENSE + draw.randrange(256) * 256)}/24" for _ in range(DENSE_ROUTES)}
     lines = {prefix: random_line(draw, prefix) for prefix in sorted(prefixes)}
     numbers = {prefix: draw.randrange(FEEDS) for prefix in lines}
     changed = {prefix: random_line(draw, prefix) if draw.randrange(30) == 0 else line for prefix, line in lines.items()

@@ -10,14 +10,14 @@ import subprocess
 
 import chart
 from readback import END, Failed, Page, expect, run, text_of
-from test_answers import cases, check_comparison, check_table
+from test_answers import DENSE, cases, check_comparison, check_table
 from test_colours import schemes
 
 # of each view so many cells are asked for
 CELLS_ASKED = 150
 MOST_NAMED = 12
-# In each view, by each colouring: the colour of each of the asked dots, what is said of the cell of each where the pointer is on
-# it, and where a click on it goes. Labels and lines would lie over the dots.
+# In each view, by each colouring: the colour of each of the asked dots, also where the legend's last line is shown alone; what
+# is said of the cell of each where the pointer is on it, and where a click on it goes. Labels and lines would lie over the dots.
 ASKING = """
 <pre id="found"></pre>
 <script>
@@ -31,13 +31,17 @@ begun.then(async () => {
     Object.assign(shown, { base, length });
     const colours = about.colourings.map((_, colouring) => {
       shown.colouring = colouring;
-      draw();
-      return places.map((place) => {
-        const [x, y] = place.map((part) => ((part + 0.5) * PIXELS) / side);
-        const [red, green, blue] = paper.getImageData(x, y, 1, 1).data;
-        return "#" + (2 ** 24 + red * 65536 + green * 256 + blue).toString(16).slice(1);
+      return [-1, about.colourings[colouring].legend.length - 1].map((only) => {
+        shown.only = only;
+        draw();
+        return places.map((place) => {
+          const [x, y] = place.map((part) => ((part + 0.5) * PIXELS) / side);
+          const [red, green, blue] = paper.getImageData(x, y, 1, 1).data;
+          return "#" + (2 ** 24 + red * 65536 + green * 256 + blue).toString(16).slice(1);
+        });
       });
     });
+    shown.only = -1;
     const pointed = places.map((place) => {
       // the middle of the cell
       const [x, y] = place.map((part) => ((Math.floor((part * SIDE) / side) + 0.5) * box.width) / SIDE);
@@ -129,6 +133,8 @@ def views(page, said):
         within = [(address - base) // size for address in begins if base <= address < base + (1 << 32 - length)]
         dots = set(draw.sample(within, min(len(within), CELLS_ASKED)))
         dots |= {draw.randrange(4**order) for _ in range(CELLS_ASKED)}
+        if base <= DENSE < base + (1 << 32 - length):
+            dots.add((DENSE - base) // size)
         # where the dots lie in the view, from where they lie among all addresses
         side, whole = 2**order, length // 2 + order
         places = [[part % side for part in chart.place((base + dot * size) // size, whole)] for dot in sorted(dots)]
@@ -151,14 +157,17 @@ class Said:
             first, at = behind, at + 1
 
 
-def expected_colour(scheme, colouring, said, first, last):
-    """The colour that most addresses have which don't have the ground's; of as many the one that the legend has first."""
-    texts = {text: number for number, (text, *_) in enumerate(colouring["legend"])}
+def expected_colours(scheme, colouring, said, first, last):
+    """The colour that most addresses have which don't have the ground's; of as many the one that the legend has first. Then
+    the colour where the legend's last line is shown alone: that, if any address has it."""
+    legend = colouring["legend"]
+    texts = {text: number for number, (text, *_) in enumerate(legend)}
     counts = [0] * (len(texts) + 1)
     for begin, end, (_, colours) in said.parts(first, last):
         counts[texts.get(colours[colouring["name"]], len(texts) - 1)] += end + 1 - begin
     most = max(range(1, len(counts)), key=lambda number: counts[number])
-    return scheme[colouring["legend"][most if counts[most] else 0][1]]
+    alone = len(legend) - 1
+    return [scheme[legend[number if counts[number] else 0][1]] for number in (most, alone)]
 
 
 def expected_words(said, first, size, length):
@@ -208,8 +217,8 @@ def check_shown(browser, made, page, said, dark):
             first = base + dot * size
             where = f"dot {dot} of {text_of(base)}/{length}"
             for colouring, colours in zip(page.about["colourings"], found["colours"], strict=True):
-                expect(f"the colour of {where} by {colouring['name']}", colours[number],
-                       expected_colour(scheme, colouring, said, first, first + size - 1))
+                expect(f"the colours of {where} by {colouring['name']}", [shown[number] for shown in colours],
+                       expected_colours(scheme, colouring, said, first, first + size - 1))
             begin = first - first % cell
             goes = text_of(begin) + (f"/{length + 16}" if length < 16 else "")
             expect(f"what is said of {where}, and where a click goes", found["pointed"][number],
