@@ -1,6 +1,6 @@
 -- Examples by which the definitions of rt_shared are tested, each under a line with the definition's name. Both sides
 -- are computed.
-use Rattle.std.proofs.Common.{◌≡◌, ◌≢◌, ℕ, zero, suc, ◌+◌, ◌<◌, ◌≤◌, None, Some, List, [], ◌∷◌, ◌++◌, refl, sym, ap, subst, arith}
+use Rattle.std.proofs.Common.{◌≡◌, ◌≢◌, ℕ, zero, suc, ◌+◌, ◌<◌, ◌≤◌, ◌⊎◌, inl, inr, ⊎_elim, None, Some, List, [], ◌∷◌, ◌++◌, refl, sym, ap, subst, arith}
 use Rattle.std.specs.Prelude as std
 use Rattle.std.specs.Prelude.{◌↔◌, All, length, map, zip, slice_get, slice_index_or}
 use Rattle.std.specs.List.{flat_map}
@@ -13,8 +13,8 @@ use Rattle.ya_core.specs.Steps.{opening}
 use Rattle.ya_core.specs.Worlds.{Marked, World, Event, Steps, Appends, IsReached, IsInside, opening_world}
 use Rattle.lock_examples.proofs.Core.{follow, runs}
 use Rattle.ya_lock.specs.Lock.{LockId}
-use Rattle.ya_lock.specs.declared.rule.View.TheVariants.{Seated}
-use Rattle.ya_lock.specs.LockState.{IsOf, HasProcess, IsAway, NoneInside, OneInside}
+use Rattle.ya_lock.specs.declared.rule.View.TheVariants.{HandingOut, Seated}
+use Rattle.ya_lock.specs.LockState.{IsOf, HasProcess, IsAway, IsToMake, IsGiven, NoneInside, OneInside}
 use Rattle.rt_rib.specs.declared.routes.Hop.TheVariants.{Discard}
 use Rattle.rt_rib.specs.declared.routes.Route.{Route}
 use Rattle.rt_rib.specs.declared.commands.Cmd.TheVariants.{Add, Lookup, Dump, Purge}
@@ -37,7 +37,7 @@ use Rattle.rt_shared.specs.Visits.{AllBy, NoneBy, Since, Visit, reply_to, visit_
 use Rattle.rt_shared.specs.Table.{SharedId, HeldPass, ArePassesOf, Settles, feed_of, HasSameBounds, GrowsByOthers, GrowsByFeed}
 use Rattle.rt_shared.specs.Laws.{SinceAgain, AnsweredInPieces, UncutAtFirst, UncutSince, UncutByVisit, EntriesOfVisits, EntriesSince, PassesKept}
 use Rattle.rt_shared.specs.Headline.{Act, entry_of, journal_of, IsSequential, IsRunTo, NoTwoInside, HasAllMade, FindsBest}
-use Rattle.rt_shared.specs.Moments.{Moment, HasPass, BookInSlot, IsAtRest, MeetsHeadline}
+use Rattle.rt_shared.specs.Moments.{Moment, BookInSlot, IsAtRest, MeetsHeadline}
 
 -- entries of feed 1 and of feed 2
 abbrev dump : ℕ → Entry
@@ -468,19 +468,9 @@ moment homes = record { words = []; homes = homes; views = Seated 0 Idle new 0 �
 abbrev at_rest : Moment
 at_rest = moment (some (Some dumped) ∷ [])
 
--- HasPass
-the_first_has_one : HasPass at_rest
-the_first_has_one = (0, 0, (Idle, (new, (Seated 0 Idle new 0, refl, (refl, refl, refl)))))
-
-one_that_is_inside_has_one : HasPass (record { words = []; homes = none ∷ []; views = Seated 1 Inside new 0 ∷ [] })
-one_that_is_inside_has_one = (0, 1, (Inside, (new, (Seated 1 Inside new 0, refl, (refl, refl, refl)))))
-
-none_before_they_are_made : ¬ HasPass (record { words = []; homes = some None ∷ []; views = [] })
-none_before_they_are_made (seat, place, (process, (seen, has))) = some-ne-none has.0 (sym has.1)
-
-any_seats_process_has_one :
-    (s : Moment) (seat place : ℕ) (process : Process) (seen : Lent) → HasProcess s seat place process seen → HasPass s
-any_seats_process_has_one s seat place process seen has = (seat, place, (process, (seen, has)))
+-- seat 0 has given the book and made the pass of the first place, and is still to make the second's
+abbrev half_made : List (Option (std.Option Lent)) → Lent → Moment
+half_made homes given = record { words = []; homes = homes; views = HandingOut 1 given ∷ Seated 0 Idle given 0 ∷ [] }
 
 -- BookInSlot
 what_lies_in_its_slot : (s : Moment) (lent : Lent) → BookInSlot s lent ↔ (s.homes ≡ some (Some lent) ∷ [])
@@ -491,6 +481,14 @@ it_lies_there = refl
 
 not_where_it_was_taken : ¬ BookInSlot (moment (none ∷ [])) dumped
 not_where_it_was_taken h = cc
+
+-- both passes were made
+none_to_make : (homes : List (Option (std.Option Lent))) (seat place : ℕ) (given : Lent) → ¬ IsToMake (moment homes) seat place given
+none_to_make homes zero place given (first, at, far) =
+    let same : Seated 0 Idle new 0 ≡ HandingOut first given = some-injective _ _ at in cc
+none_to_make homes (suc zero) place given (first, at, far) =
+    let same : Seated 1 Idle dumped 3 ≡ HandingOut first given = some-injective _ _ at in cc
+none_to_make homes (suc (suc seat)) place given (first, at, far) = some-ne-none (HandingOut first given) (sym at)
 
 -- what each seat shows
 seen_by : (homes : List (Option (std.Option Lent))) (seat place : ℕ) (process : Process) (seen : Lent) → HasProcess (moment homes) seat place process seen
@@ -513,7 +511,8 @@ the_dump_was_seen_by_its_feed = record {
   in_slot = refl;
   holds = holds_no_route (dump 2 ∷ []) no_route_by_a_dump;
   lawful = lawful_dump;
-  since = λ seat place seen away. (seen_by (some (Some dumped) ∷ []) seat place away.0 seen away.2).1;
+  since = λ seat place seen known. ⊎_elim (λ away. (seen_by (some (Some dumped) ∷ []) seat place away.0 seen away.2).1)
+      (λ made. absurd (none_to_make (some (Some dumped) ∷ []) seat place seen made)) known;
 }
 
 not_with_the_book_out : ¬ IsAtRest (moment (none ∷ []))
@@ -523,7 +522,14 @@ not_with_the_book_out h = let in_slot = h.in_slot in cc
 not_where_its_own_entry_is_unseen : ¬ IsAtRest (record { words = []; homes = some (Some dumped) ∷ []; views = Seated 1 Idle new 0 ∷ [] })
 not_where_its_own_entry_is_unseen h =
     let same : dumped ≡ h.lent = cc in
-    let since = h.since 0 1 new (Idle, (λ inside. cc), (Seated 1 Idle new 0, refl, (refl, refl, refl))) in
+    let since = h.since 0 1 new (inl (Idle, (λ inside. cc), (Seated 1 Idle new 0, refl, (refl, refl, refl)))) in
+    not_its_own 2 (subst (λ (lent : Lent). Since 2 [] lent.book.journal) (sym same) since)
+
+-- nor an entry of feed 2 behind what was given while the pass of feed 2 is still to be made
+nor_behind_what_was_given : ¬ IsAtRest (half_made (some (Some dumped) ∷ []) new)
+nor_behind_what_was_given h =
+    let same : dumped ≡ h.lent = cc in
+    let since = h.since 0 1 new (inr (1, refl, omega arith)) in
     not_its_own 2 (subst (λ (lent : Lent). Since 2 [] lent.book.journal) (sym same) since)
 
 the_trie_holds_what_the_journal_leaves : (s : Moment) (rest : IsAtRest s) → HoldsTable rest.lent.book
@@ -534,20 +540,21 @@ the_journal_is_lawful s rest = rest.lawful
 
 what_a_pass_away_has_seen :
     (s : Moment) (rest : IsAtRest s) → BookInSlot s rest.lent
-    × ((seat place : ℕ) (seen : Lent) → IsAway s seat place seen → Since (feed_of place) seen.book.journal rest.lent.book.journal)
+    × ((seat place : ℕ) (seen : Lent) → IsAway s seat place seen ⊎ IsToMake s seat place seen
+    → Since (feed_of place) seen.book.journal rest.lent.book.journal)
 what_a_pass_away_has_seen s rest = (rest.in_slot, rest.since)
 
 -- MeetsHeadline
-what_a_moment_meets : (s : Moment) → MeetsHeadline s ↔ (OneInside s × (HasPass s → NoneInside s → IsAtRest s))
+what_a_moment_meets : (s : Moment) → MeetsHeadline s ↔ (OneInside s × (IsGiven s → NoneInside s → IsAtRest s))
 what_a_moment_meets s = (λ h. (h.exclusion, h.at_rest), λ (exclusion, at_rest). record { exclusion = exclusion; at_rest = at_rest })
 
 both_away : MeetsHeadline at_rest
 both_away = record {
   exclusion = λ one other p q v w a b. let idle = (seen_by (some (Some dumped) ∷ []) one p Inside v a).0 in cc;
-  at_rest = λ pass nobody. the_dump_was_seen_by_its_feed;
+  at_rest = λ given nobody. the_dump_was_seen_by_its_feed;
 }
 
 not_with_the_book_out_where_nobody_is_inside : ¬ MeetsHeadline (moment (none ∷ []))
 not_with_the_book_out_where_nobody_is_inside h =
-    not_with_the_book_out (h.at_rest (0, 0, (Idle, (new, (Seated 0 Idle new 0, refl, (refl, refl, refl)))))
+    not_with_the_book_out (h.at_rest (0, 0, (new, inl (Idle, (Seated 0 Idle new 0, refl, (refl, refl, refl)))))
     (λ seat place value has. let idle = (seen_by (none ∷ []) seat place Inside value has).0 in cc))

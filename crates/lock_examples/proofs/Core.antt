@@ -14,7 +14,7 @@ use Rattle.ya_core.specs.declared.process.Process.{Process}
 use Rattle.ya_core.specs.declared.process.Process.TheVariants.{Idle, Entering, Inside, Leaving}
 use Rattle.ya_core.specs.ArbitrationTree.{node_of, side_of, nodes_below, number_of, count_of_words, HasShape, Rivals, AreRivals, IsWord}
 use Rattle.ya_core.specs.FlatRow.{is_word, words_of, row_state}
-use Rattle.ya_core.specs.Steps.{State, StepsTo, LeadTo, Accesses, opening, entry_access, exit_access, access_of, won, after_exit, entry_next, exit_next}
+use Rattle.ya_core.specs.Steps.{State, StepsTo, LeadTo, Accesses, opening, entry_access, exit_access, access_of, after_entry, after_exit, entry_next, exit_next}
 use Rattle.ya_core.specs.Steps.{next_of, value_of}
 use Rattle.ya_core.specs.WalkerModel.{walk, due_of, due, CanStand, cost_of_word, cost_of, walk_after, MayFind, MayBeTold, WalkLeadsTo, BeginsEntry}
 use Rattle.ya_core.specs.WalkerModel.{BeginsExit, Walk, FitsAccess, FitsDue, IsStore, op_of_access, op_at_rest, op_of_due, op_of, entry_ahead}
@@ -28,7 +28,7 @@ use Rattle.ya_core.specs.Worlds.{Marked, World, Event, Steps, Appends, WorldStep
 use Rattle.ya_core.specs.Worlds.{opening_world, entries_of, TellsInside, places_of, FollowsFrom, EachMayFollow}
 use Rattle.ya_core.specs.RealTime.{KeepsRealTimeOrder}
 use Rattle.ya_core.proofs.Content.{entries_of-marked_other}
-use Rattle.std.specs.Prelude.{IsTrue, ◌⊎◌, ◌||◌, ◌↔◌, ◌-◌, ◌*◌, ◌/◌, ◌%◌, not, length}
+use Rattle.std.specs.Prelude.{IsTrue, ◌⊎◌, ◌||◌, ◌↔◌, ◌-◌, ◌*◌, ◌/◌, ◌%◌, not, length, slice_index}
 use Rattle.ya_core.specs.declared.process.EntryPoint.{EntryPoint}
 use Rattle.ya_core.specs.declared.process.ExitPoint.{ExitPoint}
 use Rattle.ya_core.specs.declared.walker.Op.TheVariants as op
@@ -254,14 +254,14 @@ by_its_own_identifier :
     ≡ Entering 2 (E5 5) ∷ Entering 2 (E6 7) ∷ Entering 2 E8 ∷ Entering 2 E9 ∷ Entering 2 E10 ∷ Entering 2 E10 ∷ []
 by_its_own_identifier = refl
 
--- won
-from_the_leaf_on_to_the_root : won 2 1 ≡ Entering 2 E1
+-- after_entry
+from_the_leaf_on_to_the_root : after_entry 2 1 ≡ Entering 2 E1
 from_the_leaf_on_to_the_root = refl
 
-from_the_root_inside : won 2 2 ≡ Inside
+from_the_root_inside : after_entry 2 2 ≡ Inside
 from_the_root_inside = refl
 
-at_three_levels : map (won 3) (1 ∷ 2 ∷ 3 ∷ []) ≡ Entering 2 E1 ∷ Entering 3 E1 ∷ Inside ∷ []
+at_three_levels : map (after_entry 3) (1 ∷ 2 ∷ 3 ∷ []) ≡ Entering 2 E1 ∷ Entering 3 E1 ∷ Inside ∷ []
 at_three_levels = refl
 
 -- exit_next
@@ -2145,13 +2145,13 @@ where_each_point_of_any_way_in_leads :
     (levels level place rival value : ℕ)
     → (entry_next levels level place E1 value ≡ Entering level E2) × (entry_next levels level place E2 value ≡ Entering level E3)
     × (entry_next levels level place E3 value ≡ Entering level E4)
-    × (entry_next levels level place E4 value ≡ (if value == 0 then won levels level else Entering level (E5 (value - 1))))
-    × (entry_next levels level place (E5 rival) value ≡ (if value == place + 1 then Entering level (E6 rival) else won levels level))
+    × (entry_next levels level place E4 value ≡ (if value == 0 then after_entry levels level else Entering level (E5 (value - 1))))
+    × (entry_next levels level place (E5 rival) value ≡ (if value == place + 1 then Entering level (E6 rival) else after_entry levels level))
     × (entry_next levels level place (E6 rival) value ≡ (if value == 0 then Entering level (E7 rival) else Entering level E8))
     × (entry_next levels level place (E7 rival) value ≡ Entering level E8)
     × (entry_next levels level place E8 value ≡ (if value == 0 then Entering level E8 else Entering level E9))
-    × (entry_next levels level place E9 value ≡ (if value == place + 1 then Entering level E10 else won levels level))
-    × (entry_next levels level place E10 value ≡ (if value == 2 then won levels level else Entering level E10))
+    × (entry_next levels level place E9 value ≡ (if value == place + 1 then Entering level E10 else after_entry levels level))
+    × (entry_next levels level place E10 value ≡ (if value == 2 then after_entry levels level else Entering level E10))
 where_each_point_of_any_way_in_leads levels level place rival value = (refl, refl, refl, refl, refl, refl, refl, refl, refl, refl)
 
 -- exit_next
@@ -2592,10 +2592,32 @@ any_two_places_at_any_level :
     → is_rival level place other ≡ ((node_of level other == node_of level place) && not (side_of level other == side_of level place))
 any_two_places_at_any_level level place other = refl
 
--- won
-on_from_any_level : (levels level : ℕ) → won levels level ≡ (if ltb level levels then Entering (level + 1) E1 else Inside)
+-- after_entry
+on_from_any_level : (levels level : ℕ) → after_entry levels level ≡ (if ltb level levels then Entering (level + 1) E1 else Inside)
 on_from_any_level levels level = refl
 
 -- after_exit
 down_from_any_level : (level : ℕ) → after_exit level ≡ (if ltb 1 level then Leaving (level - 1) X1 else Idle)
 down_from_any_level level = refl
+
+-- words_of
+what_any_row_of_any_tree_holds :
+    (levels : ℕ) (row : List ℕ) (word : Word)
+    → words_of levels row word ≡ (if is_word levels word then slice_index row (number_of levels word) else 0)
+unfolding words_of
+what_any_row_of_any_tree_holds levels row word = refl
+
+-- is_entering
+on_its_way_in_at_any_level :
+    (level stands : ℕ) (entry : EntryPoint) (exit : ExitPoint)
+    → (is_entering level Idle ≡ false) × (is_entering level (Entering stands entry) ≡ (level == stands))
+    × (is_entering level Inside ≡ false) × (is_entering level (Leaving stands exit) ≡ false)
+on_its_way_in_at_any_level level stands entry exit = (refl, refl, refl, refl)
+
+-- entry_points
+the_points_of_any_point : (point : EntryPoint) → entry_points point ≡ (entry_ahead point).0
+the_points_of_any_point point = refl
+
+-- entry_cost
+what_any_point_can_cost : (point : EntryPoint) → entry_cost point ≡ (entry_ahead point).1
+what_any_point_can_cost point = refl

@@ -1,9 +1,9 @@
 -- Examples by which the definitions of ya_lock are tested, each under a line with the definition's name. Both sides are
 -- computed, and what a relation says is spelled out for some values. The value that the lock lends is a number here,
 -- which others can only raise.
-use Rattle.std.proofs.Common.{◌≡◌, ◌≢◌, ℕ, zero, suc, ◌+◌, ◌≤◌, List, [], ◌∷◌, ◌++◌, ◌∙◌, refl, sym, subst, arith, None, Some, replicate, set}
+use Rattle.std.proofs.Common.{◌≡◌, ◌≢◌, ℕ, zero, suc, ◌+◌, ◌≤◌, ◌⊎◌, inl, inr, List, [], ◌∷◌, ◌++◌, ◌∙◌, refl, sym, subst, arith, None, Some, replicate, set}
 use Rattle.std.specs.Prelude as std
-use Rattle.std.specs.Prelude.{IsTrue, ◌↔◌, ◌<◌, ◌^◌, ◌*◌, ◌-◌, if◌then◌else◌, true, false, length, slice_get, slice_index}
+use Rattle.std.specs.Prelude.{IsTrue, ◌↔◌, ◌<◌, ◌^◌, ◌*◌, ◌-◌, if◌then◌else◌, Bool, true, false, length, slice_get, slice_index}
 use mathlib.Core.Option.{Option, none, some, some-injective, some-ne-none}
 use lib.ListN.{get_elem?}
 use Rattle.atomic_table.specs.Table.{State}
@@ -26,12 +26,12 @@ use Rattle.ya_lock.specs.declared.rule.View.TheVariants.{Unused, Making, Filling
 use Rattle.ya_lock.specs.Rule.{index_of, making_index, words_in, row_length, place_of_view, least_at, least_count, count_from, count_after}
 use Rattle.ya_lock.specs.Rule.{GlobalView, IsBegun, ViewFits, Rule, KnowsValue, ValueInSlot, Obeys, Slots}
 use Rattle.ya_lock.specs.LockState.{IsOf, IsFilling, IsMaking, HasProcess, IsAway, NoneInside, ShowsCore, GoesOn, SomeSeatGoesOn}
-use Rattle.ya_lock.specs.LockState.{OneSeatAPlace, OneInside, IsInSlot, IsFresh, IsMadeByOne, IsLockState}
+use Rattle.ya_lock.specs.LockState.{OneSeatAPlace, OneInside, IsToMake, IsGiven, IsInSlot, IsFresh, IsMadeByOne, IsLockState}
 use Rattle.ya_lock.specs.Lock.{LockId, IdlePass, OpenGuard, new_pass, guard_of, pass_of}
 use Rattle.ya_lock.specs.GuardLends.{guard_with_value}
-use Rattle.ya_lock.specs.DueStep.{IsReady, process_after, TakesStep, EachMayStep}
+use Rattle.ya_lock.specs.DueStep.{IsReady, process_after, MovesValue, TakesStep, EachMayStep}
 use Rattle.ya_lock.proofs.DueSteps.{each_may_step}
-use Rattle.ya_lock.proofs.Words.{words_zero, words_behind}
+use Rattle.ya_lock.proofs.WordsInRow.{words_zero, words_behind}
 use Rattle.atomic_table.specs.Seated.{TableId}
 use Rattle.ya_core.specs.Worlds.{is_inside}
 use Rattle.ya_lock.specs.Lock.{LockId, IdlePass, OpenGuard, guard_of, pass_of, new_pass, ArePassesInOrder}
@@ -225,19 +225,70 @@ not_two_that_found_two_values : ¬ OneInside (moment (none ∷ []) (Seated 0 Ins
 not_two_that_found_two_values h =
     let same = h 0 1 0 1 7 8 (Seated 0 Inside 7 3, refl, (refl, refl, refl)) (Seated 1 Inside 8 4, refl, (refl, refl, refl)) in omega (arith, same)
 
+-- no seat makes passes where both are away
+no_maker : (seat : ℕ) (view : View ℕ) → get_elem? both_away.views seat ≡ some view → ¬ IsMaking view
+no_maker zero view at making = subst IsMaking (sym (some-injective (Seated 0 Idle 7 0) view at)) making
+no_maker (suc zero) view at making = subst IsMaking (sym (some-injective (Seated 1 Idle 5 0) view at)) making
+no_maker (suc (suc seat)) view at making = some-ne-none view (sym at)
+
+-- seat 0 has given 7 and made the pass of place 0, and is still to make that of place 1
+abbrev half_made : List (Option (std.Option ℕ)) → State (std.Option ℕ) (View ℕ)
+half_made homes = moment homes (HandingOut 1 7 ∷ Seated 0 Idle 7 0 ∷ [])
+
+-- no pass was made yet
+abbrev just_given : List (Option (std.Option ℕ)) → State (std.Option ℕ) (View ℕ)
+just_given homes = moment homes (HandingOut 0 7 ∷ [])
+
+-- IsToMake
+the_pass_of_place_1 : IsToMake (half_made (none ∷ [])) 0 1 7
+the_pass_of_place_1 = (1, refl, omega arith)
+
+-- the seat's view says so
+to_make_by : (s : State (std.Option ℕ) (View ℕ)) (seat place given first value : ℕ) → get_elem? s.views seat ≡ some (HandingOut first value)
+    → IsToMake s seat place given → first ≤ place
+to_make_by s seat place given first value at (other, there, far) =
+    let same : HandingOut other given ≡ HandingOut first value = some-injective _ _ (sym there ∙ at) in
+    let one : other ≡ first = cc in omega (arith, one, far)
+
+not_that_of_place_0_once_it_was_made : ¬ IsToMake (half_made (none ∷ [])) 0 0 7
+not_that_of_place_0_once_it_was_made h =
+    let far : 1 ≤ 0 = to_make_by (half_made (none ∷ [])) 0 0 7 1 7 refl h in omega (arith, far)
+
+none_where_both_were_made : (seat place given : ℕ) → ¬ IsToMake both_away seat place given
+none_where_both_were_made seat place given (first, at, far) = no_maker seat (HandingOut first given) at tt
+
+-- IsGiven
+once_it_was_given : IsGiven (just_given (none ∷ []))
+once_it_was_given = (0, 0, (7, inr (0, refl, omega arith)))
+
+once_one_is_inside : IsGiven one_inside
+once_one_is_inside = (0, 0, (7, inl (Inside, (Seated 0 Inside 7 3, refl, (refl, refl, refl)))))
+
+once_a_pass_was_made : IsGiven first_seat_away
+once_a_pass_was_made = (0, 1, (7, inl (Idle, (Seated 1 Idle 7 0, refl, (refl, refl, refl)))))
+
+not_while_it_is_being_put_there : ¬ IsGiven (moment (none ∷ []) (Filling ∷ []))
+not_while_it_is_being_put_there (zero, place, (value, inl (process, has))) =
+    is_view (moment (none ∷ []) (Filling ∷ [])) 0 Filling place process value has refl
+not_while_it_is_being_put_there (suc seat, place, (value, inl (process, has))) = some-ne-none has.0 (sym has.1)
+not_while_it_is_being_put_there (zero, place, (value, inr (first, at, far))) =
+    let same : Filling ≡ HandingOut first value = some-injective _ _ at in cc
+not_while_it_is_being_put_there (suc seat, place, (value, inr (first, at, far))) = some-ne-none (HandingOut first value) (sym at)
+
 -- IsInSlot
 in_slot_where_both_are_away : IsInSlot both_away
-in_slot_where_both_are_away = (λ seat place value has. absurd (none_where_both_are_away seat place value has), λ seat place process value has away. (7, refl))
+in_slot_where_both_are_away = (λ seat place value has. absurd (none_where_both_are_away seat place value has), λ given away. (7, refl))
 
 out_where_one_is_inside : IsInSlot one_inside
-out_where_one_is_inside = (λ seat place value has. refl, λ seat place process value has away. absurd (one_is away))
+out_where_one_is_inside = (λ seat place value has. refl, λ given away. absurd (one_is away))
 
 not_in_slot_where_one_is : ¬ IsInSlot (moment (some (Some 7) ∷ []) one_inside.views)
 not_in_slot_where_one_is h = let out = h.0 0 0 7 (Seated 0 Inside 7 3, refl, (refl, refl, refl)) in cc
 
 not_out_where_none_is : ¬ IsInSlot (moment (none ∷ []) both_away.views)
 not_out_where_none_is h =
-    let home = h.1 0 0 Idle 7 (Seated 0 Idle 7 0, refl, (refl, refl, refl)) none_where_both_are_away in let out = home.1 in cc
+    let home = h.1 (0, 0, (7, inl (Idle, (Seated 0 Idle 7 0, refl, (refl, refl, refl))))) none_where_both_are_away in
+    let out = home.1 in cc
 
 nobody_inside_there : NoneInside first_seat_away
 nobody_inside_there zero place value has =
@@ -246,7 +297,14 @@ nobody_inside_there (suc seat) place value has = some-ne-none has.0 (sym has.1)
 
 not_out_where_only_place_1_has_a_seat : ¬ IsInSlot first_seat_away
 not_out_where_only_place_1_has_a_seat h =
-    let home = h.1 0 1 Idle 7 (Seated 1 Idle 7 0, refl, (refl, refl, refl)) nobody_inside_there in let out = home.1 in cc
+    let home = h.1 once_a_pass_was_made nobody_inside_there in let out = home.1 in cc
+
+nobody_inside_before_a_pass : NoneInside (just_given (none ∷ []))
+nobody_inside_before_a_pass zero place value has = is_view (just_given (none ∷ [])) 0 (HandingOut 0 7) place Inside value has refl
+nobody_inside_before_a_pass (suc seat) place value has = some-ne-none has.0 (sym has.1)
+
+not_out_before_any_pass_was_made : ¬ IsInSlot (just_given (none ∷ []))
+not_out_before_any_pass_was_made h = let home = h.1 once_it_was_given nobody_inside_before_a_pass in let out = home.1 in cc
 
 -- what others may have made of a number while a place was away
 abbrev raised : ℕ → ℕ → ℕ → Type 0
@@ -254,18 +312,23 @@ raised place seen now = seen ≤ now
 
 -- IsFresh
 raised_since_it_was_seen : IsFresh both_away raised
-raised_since_it_was_seen seat place seen now away = (
+raised_since_it_was_seen seat place seen now (inl away) = (
   λ home. let same : 7 ≡ now = cc in let seen_of = (away_both seat place away.0 seen away.2).2 in omega (arith, same, seen_of),
   λ one other has. absurd (none_where_both_are_away one other now has),
 )
+raised_since_it_was_seen seat place seen now (inr made) = absurd (none_where_both_were_made seat place seen made)
 
 not_lowered : ¬ IsFresh (moment (some (Some 4) ∷ []) both_away.views) raised
 not_lowered h =
-    let fresh = (h 1 1 5 4 (Idle, λ same. cc, (Seated 1 Idle 5 0, refl, (refl, refl, refl)))).0 refl in omega (arith, fresh)
+    let fresh = (h 1 1 5 4 (inl (Idle, λ same. cc, (Seated 1 Idle 5 0, refl, (refl, refl, refl))))).0 refl in omega (arith, fresh)
+
+not_below_what_was_given_where_no_pass_was_made : ¬ IsFresh (just_given (some (Some 4) ∷ [])) raised
+not_below_what_was_given_where_no_pass_was_made h =
+    let fresh = (h 0 0 7 4 (inr (0, refl, omega arith))).0 refl in omega (arith, fresh)
 
 not_below_what_one_inside_found : ¬ IsFresh (moment (none ∷ []) (Seated 0 Inside 4 3 ∷ Seated 1 Idle 5 0 ∷ [])) raised
 not_below_what_one_inside_found h =
-    let away = h 1 1 5 4 (Idle, λ same. cc, (Seated 1 Idle 5 0, refl, (refl, refl, refl))) in
+    let away = h 1 1 5 4 (inl (Idle, λ same. cc, (Seated 1 Idle 5 0, refl, (refl, refl, refl)))) in
     let fresh = away.1 0 0 (Seated 0 Inside 4 3, refl, (refl, refl, refl)) in omega (arith, fresh)
 
 -- what others may have made of it while place 1 was away
@@ -274,18 +337,12 @@ raised_without_1 place seen now = place ≡ 1 → seen ≤ now
 
 not_lowered_for_place_1_in_seat_0 : ¬ IsFresh (moment (some (Some 4) ∷ []) (Seated 1 Idle 5 0 ∷ [])) raised_without_1
 not_lowered_for_place_1_in_seat_0 h =
-    let fresh = (h 0 1 5 4 (Idle, λ same. cc, (Seated 1 Idle 5 0, refl, (refl, refl, refl)))).0 refl refl in omega (arith, fresh)
+    let fresh = (h 0 1 5 4 (inl (Idle, λ same. cc, (Seated 1 Idle 5 0, refl, (refl, refl, refl))))).0 refl refl in omega (arith, fresh)
 
 nor_below_what_one_in_seat_1_found : ¬ IsFresh (moment (none ∷ []) (Seated 1 Idle 5 0 ∷ Seated 0 Inside 4 3 ∷ [])) raised_without_1
 nor_below_what_one_in_seat_1_found h =
-    let away = h 0 1 5 4 (Idle, λ same. cc, (Seated 1 Idle 5 0, refl, (refl, refl, refl))) in
+    let away = h 0 1 5 4 (inl (Idle, λ same. cc, (Seated 1 Idle 5 0, refl, (refl, refl, refl)))) in
     let fresh = away.1 1 0 (Seated 0 Inside 4 3, refl, (refl, refl, refl)) refl in omega (arith, fresh)
-
--- no seat makes passes where both are away
-no_maker : (seat : ℕ) (view : View ℕ) → get_elem? both_away.views seat ≡ some view → ¬ IsMaking view
-no_maker zero view at making = subst IsMaking (sym (some-injective (Seated 0 Idle 7 0) view at)) making
-no_maker (suc zero) view at making = subst IsMaking (sym (some-injective (Seated 1 Idle 5 0) view at)) making
-no_maker (suc (suc seat)) view at making = some-ne-none view (sym at)
 
 filling_is_making : (view : View ℕ) → IsFilling view → IsMaking view
 filling_is_making Making filling = tt
@@ -471,17 +528,29 @@ two_views_inside_are_of_one_seat :
     → HasProcess s one p Inside v → HasProcess s other q Inside w → one ≡ other
 two_views_inside_are_of_one_seat s h = h
 
+-- IsToMake
+a_pass_that_is_still_to_be_made :
+    (s : State (std.Option ℕ) (View ℕ)) (seat place given : ℕ) → IsToMake s seat place given
+    ↔ ((first : ℕ) × (get_elem? s.views seat ≡ some (HandingOut first given)) × (first ≤ place))
+a_pass_that_is_still_to_be_made s seat place given = (λ h. h, λ h. h)
+
+-- IsGiven
+some_seat_knows_of_it :
+    (s : State (std.Option ℕ) (View ℕ)) → IsGiven s
+    ↔ ((seat place : ℕ) × ((value : ℕ) × (((process : Process) × HasProcess s seat place process value) ⊎ IsToMake s seat place value)))
+some_seat_knows_of_it s = (λ h. h, λ h. h)
+
 -- IsInSlot
 where_the_value_is :
     (s : State (std.Option ℕ) (View ℕ)) → IsInSlot s
     → ((seat place value : ℕ) → HasProcess s seat place Inside value → s.homes ≡ none ∷ [])
-    × ((seat place : ℕ) (process : Process) (value : ℕ) → HasProcess s seat place process value → NoneInside s
-    → (now : ℕ) × (s.homes ≡ some (Some now) ∷ []))
+    × (IsGiven s → NoneInside s → (now : ℕ) × (s.homes ≡ some (Some now) ∷ []))
 where_the_value_is s h = h
 
 -- IsFresh
 what_has_become_of_what_was_seen :
-    (since : ℕ → ℕ → ℕ → Type 0) (s : State (std.Option ℕ) (View ℕ)) → IsFresh s since → (seat place seen now : ℕ) → IsAway s seat place seen
+    (since : ℕ → ℕ → ℕ → Type 0) (s : State (std.Option ℕ) (View ℕ)) → IsFresh s since → (seat place seen now : ℕ)
+    → IsAway s seat place seen ⊎ IsToMake s seat place seen
     → ((s.homes ≡ some (Some now) ∷ [] → since place seen now)
     × ((one other : ℕ) → HasProcess s one other Inside now → since place seen now))
 what_has_become_of_what_was_seen since s h = h
@@ -903,19 +972,38 @@ abbrev once_claimed : View ℕ → State (std.Option ℕ) (View ℕ)
 once_claimed other = record { words = set both_made.words 0 1; homes = both_made.homes; views = Seated 0 (Entering 1 E2) 7 1 ∷ other ∷ [] }
 
 -- TakesStep
-the_claim_is_counted : (t : State (std.Option ℕ) (View ℕ)) → TakesStep raised 1 0 0 Idle 0 both_made t
+the_claim_is_counted : (t : State (std.Option ℕ) (View ℕ)) → TakesStep raised 1 0 0 Idle 7 0 [] both_made t
     → (value : ℕ) × (get_elem? t.views 0 ≡ some (Seated 0 (Entering 1 E2) value 1))
 the_claim_is_counted t step = (step.value, step.own)
 
-it_does_not_stay : ¬ TakesStep raised 1 0 0 Idle 0 both_made both_made
+it_does_not_stay : ¬ TakesStep raised 1 0 0 Idle 7 0 [] both_made both_made
 it_does_not_stay step =
     let own : some (Seated 0 Idle 7 0) ≡ some (Seated 0 (Entering 1 E2) step.value 1) = step.own in
     let same = some-injective (Seated 0 Idle 7 0) (Seated 0 (Entering 1 E2) step.value 1) own in cc
 
-no_other_view_changes : ¬ TakesStep raised 1 0 0 Idle 0 both_made (once_claimed (Seated 1 Idle 6 0))
+no_other_view_changes : ¬ TakesStep raised 1 0 0 Idle 7 0 [] both_made (once_claimed (Seated 1 Idle 6 0))
 no_other_view_changes step =
     let other : ◌≡◌ {A = Option (View ℕ)} (some (Seated 1 Idle 6 0)) (some (Seated 1 Idle 5 0)) = step.others 1 (λ same. cc) in
     let same = some-injective (Seated 1 Idle 6 0) (Seated 1 Idle 5 0) other in cc
+
+-- MovesValue
+what_the_step_out_gives_back : MovesValue raised true false 0 7 9 ((0, Some 9) ∷ []) (none ∷ []) (some (Some 9) ∷ [])
+what_the_step_out_gives_back = (refl, refl)
+
+not_what_it_has_not_seen : ¬ MovesValue raised true false 0 7 8 ((0, Some 9) ∷ []) (none ∷ []) (some (Some 9) ∷ [])
+not_what_it_has_not_seen h = let slots = h.0 in cc
+
+what_the_step_in_takes : MovesValue raised false true 0 7 9 [] (some (Some 9) ∷ []) (none ∷ [])
+what_the_step_in_takes = (omega arith, refl, refl)
+
+-- MovesValue
+what_becomes_of_the_value :
+    (since : ℕ → ℕ → ℕ → Type 0) (after : Bool) (place seen next : ℕ) (slots : Slots ℕ) (homes homes' : List (Option (std.Option ℕ)))
+    → (MovesValue since true after place seen next slots homes homes' ↔ ((slots ≡ (0, Some next) ∷ []) × (homes' ≡ some (Some next) ∷ [])))
+    × (MovesValue since false true place seen next slots homes homes'
+    ↔ (since place seen next × (homes ≡ some (Some next) ∷ []) × (homes' ≡ none ∷ [])))
+    × (MovesValue since false false place seen next slots homes homes' ↔ ((next ≡ seen) × (homes' ≡ homes)))
+what_becomes_of_the_value since after place seen next slots homes homes' = ((λ h. h, λ h. h), (λ h. h, λ h. h), (λ h. h, λ h. h))
 
 -- Slots
 each_slot_with_its_value : Slots ℕ → List (ℕ × std.Option ℕ)
@@ -942,13 +1030,15 @@ what_each_place_has_made levels place process count = refl
 
 -- TakesStep
 what_a_step_of_each_place_and_seat_is :
-    (since : ℕ → ℕ → ℕ → Type 0) (levels seat place : ℕ) (process : Process) (count : ℕ) (s t : State (std.Option ℕ) (View ℕ))
-    → TakesStep since levels seat place process count s t
+    (since : ℕ → ℕ → ℕ → Type 0) (levels seat place : ℕ) (process : Process) (seen count : ℕ) (slots : Slots ℕ) (s t : State (std.Option ℕ) (View ℕ))
+    → TakesStep since levels seat place process seen count slots s t
     → Accesses (access_of levels place process) (words_in levels s.words) (words_in levels t.words)
-    × ((value : ℕ) × (get_elem? t.views seat ≡ some (Seated place (process_after levels s place process) value (count_after levels place process count))))
+    × ((value : ℕ) × (get_elem? t.views seat ≡ some (Seated place (process_after levels s place process) value (count_after levels place process count)))
+    × MovesValue since (is_inside process) (is_inside (process_after levels s place process)) place seen value slots s.homes t.homes)
     × ((other : ℕ) → other ≢ seat → get_elem? t.views other ≡ get_elem? s.views other)
     × Rule since levels t
-what_a_step_of_each_place_and_seat_is since levels seat place process count s t h = (h.access, (h.value, h.own), h.others, h.rule)
+what_a_step_of_each_place_and_seat_is since levels seat place process seen count slots s t h =
+    (h.access, (h.value, h.own, h.moves), h.others, h.rule)
 
 -- EachMayStep
 which_step_each_seat_may_take :
@@ -956,7 +1046,7 @@ which_step_each_seat_may_take :
     → (seat place : ℕ) (process : Process) (value : V) (count : ℕ) (slots : Slots V)
     → get_elem? s.views seat ≡ some (Seated place process value count) → place < 2 ^ levels
     → IsReady done (is_inside process) place value slots
-    → (t : State (std.Option V) (View V)) × TakesStep since levels seat place process count s t
+    → (t : State (std.Option V) (View V)) × TakesStep since levels seat place process value count slots s t
 which_step_each_seat_may_take since done levels s h = h
 
 each_of_both_may_step : EachMayStep raised raised 1 both_made

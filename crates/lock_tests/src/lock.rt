@@ -81,7 +81,7 @@ fn hands_back_what_it_refuses(rt: HostRuntime) {
     }
 }
 
-/// Fails where a flag or a mutex beside the tree, which `docs/accesses` finds, is one for all locks.
+/// Fails where a flag or a mutex beside the tree, which `tools/accesses` finds, is one for all locks.
 #[test]
 fn two_locks_are_open_at_once(rt: HostRuntime) {
     let (one, _, pass) = ends::<_, _, 2>(&rt, rt.alloc(), Number(7));

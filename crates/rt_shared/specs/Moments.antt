@@ -1,11 +1,10 @@
 -- The sentence that everything serves, said of the running lock at any moment between two atomic steps.
-use Rattle.std.specs.Prelude.{◌≡◌, ℕ, List, [], ◌∷◌, Some}
+use Rattle.std.specs.Prelude.{◌≡◌, ℕ, ◌⊎◌, List, [], ◌∷◌, Some}
 use Rattle.std.specs.Prelude as std
 use mathlib.Core.Option.{some}
 use Rattle.atomic_table.specs.Table.{State}
-use Rattle.ya_core.specs.declared.process.Process.{Process}
 use Rattle.ya_lock.specs.declared.rule.View.{View}
-use Rattle.ya_lock.specs.LockState.{HasProcess, IsAway, NoneInside, OneInside}
+use Rattle.ya_lock.specs.LockState.{IsAway, IsToMake, IsGiven, NoneInside, OneInside}
 use Rattle.rt_rib.specs.Book.{HoldsTable}
 use Rattle.rt_rib.specs.Sequential.{IsLawfulJournal}
 use Rattle.rt_shared.specs.declared.lent.Lent.{Lent}
@@ -20,20 +19,18 @@ Moment = State (std.Option Lent) (View Lent)
 abbrev pub BookInSlot : Moment → Lent → Type 0
 BookInSlot s lent = s.homes ≡ some (Some lent) ∷ []
 
--- some seat has the process of a place, so a pass was made
-abbrev pub HasPass : Moment → Type 0
-HasPass s = (seat place : ℕ) × ((process : Process) × ((seen : Lent) × HasProcess s seat place process seen))
-
 -- a book lies in its slot; its trie is lawful and holds exactly the routes left by its journal; the journal is lawful; and
--- what each pass away has seen begins the journal, with no entry of that pass's feed behind
+-- what each pass away has seen begins the journal, with no entry of that pass's feed behind, as does what was given where a
+-- pass is still to be made
 pub record IsAtRest (s : Moment) : Type 0 where
   pub lent : Lent
   pub in_slot : BookInSlot s lent
   pub holds : HoldsTable lent.book
   pub lawful : IsLawfulJournal lent.book.limit lent.book.journal
-  pub since : (seat place : ℕ) (seen : Lent) → IsAway s seat place seen → Since (feed_of place) seen.book.journal lent.book.journal
+  pub since : (seat place : ℕ) (seen : Lent) → IsAway s seat place seen ⊎ IsToMake s seat place seen
+      → Since (feed_of place) seen.book.journal lent.book.journal
 
--- no two are inside; and once a pass was made, whenever none is inside, by the views of all seats, the book is at rest
+-- no two are inside; and once the book was given, whenever none is inside, by the views of all seats, it is at rest
 pub record MeetsHeadline (s : Moment) : Type 0 where
   pub exclusion : OneInside s
-  pub at_rest : HasPass s → NoneInside s → IsAtRest s
+  pub at_rest : IsGiven s → NoneInside s → IsAtRest s

@@ -72,9 +72,9 @@ pub fn headline<const LIMIT: u32>()
 }
 
 /// The same sentence of the running table, between any two atomic steps of its feeds. No two are inside. And whenever
-/// none is inside, by the views of all seats, once a pass was made: the lent book lies in its slot; its trie is lawful and
-/// holds exactly the routes left by its journal; the journal is lawful; and what each pass away has seen begins it, with no
-/// entry of that pass's feed behind.
+/// none is inside, by the views of all seats, once the book was given: it lies in its slot; its trie is lawful and holds
+/// exactly the routes left by its journal; the journal is lawful; and what each pass away has seen begins it, with no entry
+/// of that pass's feed behind, as does what was given where a pass is still to be made.
 ///
 /// Of these clauses `exclusion`, `in_slot` and `since` are the lock's, of such a moment alone; `holds` and `lawful` are true
 /// of every lent book, whose type keeps them.

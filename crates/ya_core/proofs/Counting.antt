@@ -11,7 +11,7 @@ use Rattle.ya_core.specs.declared.process.ExitPoint.{ExitPoint}
 use Rattle.ya_core.specs.declared.process.ExitPoint.TheVariants.{X1, X2, X3}
 use Rattle.ya_core.specs.declared.process.Process.{Process}
 use Rattle.ya_core.specs.declared.process.Process.TheVariants.{Idle, Entering, Inside, Leaving}
-use Rattle.ya_core.specs.Steps.{access_of, entry_access, exit_access, next_of, entry_next, exit_next, won, after_exit}
+use Rattle.ya_core.specs.Steps.{access_of, entry_access, exit_access, next_of, entry_next, exit_next, after_entry, after_exit}
 use Rattle.ya_core.specs.Soundness.{IsProper}
 use Rattle.ya_core.proofs.Properness.{either, proper_next, within_access}
 use Rattle.ya_core.proofs.DueAccess.{due_is}
@@ -21,8 +21,8 @@ use Rattle.ya_core.specs.inside.WalkerModel.{DueIsWithin}
 
 -- what is still ahead of a process that won a level, and what remote accesses can still cost it
 ahead_won : (levels level : ℕ) → level ≤ levels
-    → (points_of levels (won levels level) false ≤ 10 * (levels - level))
-    × (budget_of levels (won levels level) false ≤ 7 * (levels - level))
+    → (points_of levels (after_entry levels level) false ≤ 10 * (levels - level))
+    × (budget_of levels (after_entry levels level) false ≤ 7 * (levels - level))
 ahead_won levels level most =
     either (λ x. (points_of levels x false ≤ 10 * (levels - level)) × (budget_of levels x false ≤ 7 * (levels - level)))
     (nat_lt level levels) _ _ (λ less. (grind (arith, nat_tests), grind (arith, nat_tests)))

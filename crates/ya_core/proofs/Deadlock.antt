@@ -10,7 +10,7 @@ use Rattle.ya_core.specs.declared.process.ExitPoint.TheVariants.{X1, X2, X3}
 use Rattle.ya_core.specs.declared.process.Process.{Process}
 use Rattle.ya_core.specs.declared.process.Process.TheVariants.{Idle, Entering, Inside, Leaving}
 use Rattle.ya_core.specs.ArbitrationTree.{node_of, side_of}
-use Rattle.ya_core.specs.Steps.{State, value_of, access_of, next_of, won, after_exit}
+use Rattle.ya_core.specs.Steps.{State, value_of, access_of, next_of, after_entry, after_exit}
 use Rattle.ya_core.specs.Soundness.{Away, Holding, waits, awaits_wake, saw_itself_last, was_woken, awaits_release}
 use Rattle.ya_core.specs.Soundness.{is_to_wake, phase_at, phase_of, entry_phase, IsProper, IsSoundState, IsOwed, SomeRival}
 use Rattle.ya_core.specs.Progress.{SomeoneGoesOn}
@@ -21,7 +21,7 @@ use Rattle.ya_core.proofs.Phases.{phase_here, competes_at}
 use Rattle.ya_core.proofs.Outcomes.{may_step}
 
 -- a process that won a level is not on its way in there, and one that left it not on its way out at a later point
-pub won_elsewhere : (levels level : ℕ) (point : EntryPoint) → won levels level ≢ Entering level point
+pub won_elsewhere : (levels level : ℕ) (point : EntryPoint) → after_entry levels level ≢ Entering level point
 won_elsewhere levels level point =
     either (λ x. x ≢ Entering level point) (nat_lt level levels) _ _
     (λ _ e. (let same : level + 1 ≡ level = cc in absurd (omega (arith, same)))) (λ _ e. cc)

@@ -12,7 +12,7 @@ use Rattle.ya_core.specs.declared.process.Process.{Process}
 use Rattle.ya_core.specs.declared.process.Process.TheVariants.{Idle, Entering, Inside, Leaving}
 use Rattle.ya_core.specs.ArbitrationTree.{node_of, side_of}
 use Rattle.ya_core.specs.Steps.{State, StepsTo, Accesses, opening, value_of, access_of, entry_access, exit_access}
-use Rattle.ya_core.specs.Steps.{next_of, entry_next, exit_next, won, after_exit}
+use Rattle.ya_core.specs.Steps.{next_of, entry_next, exit_next, after_entry, after_exit}
 use Rattle.ya_core.specs.Soundness.{Phase, Away, Named, Holding, Releasing, LettingIn, has_announced, holds, is_releasing, phase_of}
 use Rattle.ya_core.specs.Soundness.{phase_at, entry_phase, exit_phase, IsProper, IsSoundAt, IsOwedAt, IsSoundState}
 use Rattle.ya_core.specs.WalkerModel.{MayFind, CanStand}
@@ -142,8 +142,8 @@ module _ (levels place level : ℕ) (old new : State) (is : IsSoundState levels 
   abbrev IsKept : Type 0
   IsKept = IsSoundAt levels new level × IsOwedAt levels new level
 
-  wins_it : new.processes place ≡ won levels level → phase_of levels level (new.processes place) ≡ Holding
-  wins_it now = stands (won levels level) Holding now (phase_won levels level level most ∙ phase_here level Holding)
+  wins_it : new.processes place ≡ after_entry levels level → phase_of levels level (new.processes place) ≡ Holding
+  wins_it now = stands (after_entry levels level) Holding now (phase_won levels level level most ∙ phase_here level Holding)
 
   leaves_it : new.processes place ≡ after_exit level → phase_of levels level (new.processes place) ≡ Away
   leaves_it now = stands (after_exit level) Away now (phase_after_exit levels level level least least ∙ phase_here level Away)
@@ -184,7 +184,7 @@ module _ (levels place level : ℕ) (old new : State) (is : IsSoundState levels 
       act_clear levels place level old new here owed others (entry_phase_here levels level place old E3 e)
       (comes E4 now) done
   acts_entry E4 e done now =
-      by_choice IsKept (new.processes place) (won levels level)
+      by_choice IsKept (new.processes place) (after_entry levels level)
       (Entering level (E5 (old.words (C level (node_of level place) (1 - side_of level place)) - 1))) _ now
       (λ nil won_now. act_win_unclaimed levels place level old new here owed others done
       (entry_phase_here levels level place old E4 e) (wins_it won_now) (grind (arith, nat_tests)))
@@ -197,7 +197,7 @@ module _ (levels place level : ℕ) (old new : State) (is : IsSoundState levels 
           act_found levels place level old new here owed others done rival
           (entry_phase_here levels level place old E4 e) (comes (E5 rival) goes) word
   acts_entry (E5 rival) e done now =
-      by_choice IsKept (new.processes place) (Entering level (E6 rival)) (won levels level) _ now
+      by_choice IsKept (new.processes place) (Entering level (E6 rival)) (after_entry levels level) _ now
       (λ own goes. act_last levels place level old new here owed others done rival
       (entry_phase_here levels level place old (E5 rival) e) (comes (E6 rival) goes) (grind (arith, nat_tests)))
       (λ other won_now. act_win_other levels place level old new here owed others done (E5 rival)
@@ -220,13 +220,13 @@ module _ (levels place level : ℕ) (old new : State) (is : IsSoundState levels 
       (λ some goes. act_woken levels place level old new here owed others done
       (entry_phase_here levels level place old E8 e) (comes E9 goes) (grind (arith, nat_tests)))
   acts_entry E9 e done now =
-      by_choice IsKept (new.processes place) (Entering level E10) (won levels level) _ now
+      by_choice IsKept (new.processes place) (Entering level E10) (after_entry levels level) _ now
       (λ own goes. act_waits levels place level old new here owed others done
       (entry_phase_here levels level place old E9 e) (comes E10 goes) (grind (arith, nat_tests)))
       (λ other won_now. act_win_other levels place level old new here owed others done E9
       (entry_phase_here levels level place old E9 e) (wins_it won_now) (grind (arith, nat_tests)))
   acts_entry E10 e done now =
-      by_choice IsKept (new.processes place) (won levels level) (Entering level E10) _ now
+      by_choice IsKept (new.processes place) (after_entry levels level) (Entering level E10) _ now
       (λ two won_now. act_win_let_in levels place level old new here owed others done
       (entry_phase_here levels level place old E10 e) (wins_it won_now) (grind (arith, nat_tests)))
       (λ other goes. act_stay levels place level old new here owed others done

@@ -7,7 +7,7 @@ use Rattle.ya_core.specs.declared.process.EntryPoint.TheVariants.{E1, E2, E3, E4
 use Rattle.ya_core.specs.declared.process.Process.{Process}
 use Rattle.ya_core.specs.declared.process.Process.TheVariants.{Idle, Entering, Inside, Leaving}
 use Rattle.ya_core.specs.ArbitrationTree.{node_of, side_of, AreRivals}
-use Rattle.ya_core.specs.Steps.{next_of, won, entry_next}
+use Rattle.ya_core.specs.Steps.{next_of, after_entry, entry_next}
 use Rattle.ya_core.specs.Soundness.{has_announced, holds, entry_phase}
 use Rattle.ya_core.specs.Progress.{Announces, Wins, Neither, is_rival, is_win, is_entering, is_to_announce, deed_of}
 use Rattle.ya_core.proofs.Cases.{each_point}
@@ -17,7 +17,7 @@ use Rattle.ya_core.proofs.Properness.{either}
 pub data GoesIn (levels level : ℕ) (next : Process) : Type 0 where
   StaysIn : (point : EntryPoint) → next ≡ Entering level point → IsTrue (has_announced (entry_phase point))
       → GoesIn levels level next
-  WinsIt : next ≡ won levels level → GoesIn levels level next
+  WinsIt : next ≡ after_entry levels level → GoesIn levels level next
 
 pub goes_in : (levels level place : ℕ) (point : EntryPoint) (value : ℕ) → IsTrue (has_announced (entry_phase point))
     → GoesIn levels level (entry_next levels level place point value)
@@ -39,7 +39,7 @@ goes_in levels level place E10 value h =
     either (GoesIn levels level) (value == 2) _ _ (λ _. WinsIt refl) (λ _. StaysIn E10 refl refl)
 
 -- who won a level is not on its way in there
-pub won_is_out : (levels level : ℕ) → is_entering level (won levels level) ≡ false
+pub won_is_out : (levels level : ℕ) → is_entering level (after_entry levels level) ≡ false
 won_is_out levels level =
     either (λ x. is_entering level x ≡ false) (nat_lt level levels) _ _ (λ _. grind (arith, nat_tests)) (λ _. refl)
 
@@ -52,7 +52,7 @@ pub record HasWon (levels level : ℕ) (x next : Process) : Type 0 where
   pub was : x ≡ Entering level point
   pub past : IsTrue (has_announced (entry_phase point))
   pub waited : holds (entry_phase point) ≡ false
-  pub now : next ≡ won levels level
+  pub now : next ≡ after_entry levels level
 
 -- only what waits can have waited
 not_held : (point : EntryPoint) → holds (entry_phase point) ≡ false
@@ -84,7 +84,7 @@ wins_by levels level q (Entering stands point) value h = by_level (level == stan
         → IsTrue (is_win
         (if is_to_announce level (Entering stands point) then Announces
         else (if is_entering level (Entering stands point) && not (is_entering level next) then Wins else Neither)))
-        → next ≡ won levels stands
+        → next ≡ after_entry levels stands
     stays next e (WinsIt now) k = now
     stays next e (StaysIn later now past) k =
         absurd (no_win (is_to_announce level (Entering stands point))
@@ -133,7 +133,7 @@ wins_by levels level q (Entering stands point) value h = by_level (level == stan
           past = past;
           waited = not_held point;
           now = stays (next_of levels q (Entering stands point) value) e (goes_in levels stands q point value past) h
-              ∙ ap (won levels) same;
+              ∙ ap (after_entry levels) same;
         }
 
 -- whether two places are rivals, by the test

@@ -6,7 +6,7 @@ use Rattle.ya_core.specs.declared.process.EntryPoint.TheVariants.{E1, E2, E3, E4
 use Rattle.ya_core.specs.declared.process.ExitPoint.TheVariants.{X1, X2, X3}
 use Rattle.ya_core.specs.declared.process.Process.{Process}
 use Rattle.ya_core.specs.declared.process.Process.TheVariants.{Idle, Entering, Inside, Leaving}
-use Rattle.ya_core.specs.Steps.{next_of, entry_next, won, after_exit}
+use Rattle.ya_core.specs.Steps.{next_of, entry_next, after_entry, after_exit}
 use Rattle.ya_core.specs.WalkerModel.{points_of, entry_points}
 use Rattle.ya_core.specs.Fairness.{is_on_way_out}
 use Rattle.ya_core.proofs.Properness.{either}
@@ -35,7 +35,7 @@ same_points levels (Leaving level point) way = refl
 abbrev pub Onward : ℕ → Process → Type 0
 Onward level x = ((point : EntryPoint) × (x ≡ Entering level point)) ⊎ ((x ≡ Entering (level + 1) E1) ⊎ (x ≡ Inside))
 
-won_onward : (levels level : ℕ) → Onward level (won levels level)
+won_onward : (levels level : ℕ) → Onward level (after_entry levels level)
 won_onward levels level =
     either (Onward level) (nat_lt level levels) _ _ (λ _. inr (inl refl)) (λ _. inr (inr refl))
 

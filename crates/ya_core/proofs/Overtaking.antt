@@ -9,7 +9,7 @@ use Rattle.ya_core.specs.declared.process.EntryPoint.TheVariants.{E1, E2, E3, E4
 use Rattle.ya_core.specs.declared.process.Process.{Process}
 use Rattle.ya_core.specs.declared.process.Process.TheVariants.{Idle, Entering, Inside, Leaving}
 use Rattle.ya_core.specs.ArbitrationTree.{node_of, side_of, AreRivals}
-use Rattle.ya_core.specs.Steps.{State, StepsTo, value_of, access_of, next_of, won, entry_next}
+use Rattle.ya_core.specs.Steps.{State, StepsTo, value_of, access_of, next_of, after_entry, entry_next}
 use Rattle.ya_core.specs.Soundness.{Holding, has_announced, holds, phase_of, entry_phase, IsSoundState}
 use Rattle.ya_core.specs.Progress.{Deed, announces, Announces, Wins, Neither, LevelStep, LevelSees, HasNotWon}
 use Rattle.ya_core.specs.Progress.{times_overtaken, is_rival, is_win, is_entering, is_to_announce, deed_of}
@@ -141,10 +141,10 @@ module _ (levels level place : ℕ) (some : 1 ≤ levels) (least : 1 ≤ level) 
             chosen false false c x y z = absurd cc
             chosen false true true x y z = absurd cc
 
-            wins : deed_of level (Entering level w.point) (won levels level) ≡ Wins
+            wins : deed_of level (Entering level w.point) (after_entry levels level) ≡ Wins
             wins =
                 chosen (is_to_announce level (Entering level w.point)) (is_entering level (Entering level w.point))
-                (is_entering level (won levels level)) (past_announces level w.point w.past).1
+                (is_entering level (after_entry levels level)) (past_announces level w.point w.past).1
                 (entering_here level w.point)
                 (won_is_out levels level)
 

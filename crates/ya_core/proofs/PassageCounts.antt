@@ -7,7 +7,7 @@ use Rattle.ya_core.specs.declared.process.EntryPoint.{EntryPoint}
 use Rattle.ya_core.specs.declared.process.EntryPoint.TheVariants.{E1, E2, E3, E4, E5, E6, E7, E8, E9, E10}
 use Rattle.ya_core.specs.declared.process.Process.{Process}
 use Rattle.ya_core.specs.declared.process.Process.TheVariants.{Idle, Entering, Inside, Leaving}
-use Rattle.ya_core.specs.Steps.{State, StepsTo, access_of, next_of, value_of, entry_access, exit_access, entry_next, exit_next, won}
+use Rattle.ya_core.specs.Steps.{State, StepsTo, access_of, next_of, value_of, entry_access, exit_access, entry_next, exit_next, after_entry}
 use Rattle.ya_core.specs.WalkerModel.{cost_of, budget_of, entry_cost, exit_points}
 use Rattle.ya_core.specs.Fairness.{PickLeadsTo, IsRunOfSchedule}
 use Rattle.ya_core.specs.PassageCounts.{cost_of_pick, remote_accesses}
@@ -23,7 +23,7 @@ GoesIn levels (Entering level point) = level ≤ levels
 GoesIn levels Inside = Unit {0}
 GoesIn levels _ = ⊥
 
-won_goes_in : (levels level : ℕ) → GoesIn levels (won levels level)
+won_goes_in : (levels level : ℕ) → GoesIn levels (after_entry levels level)
 won_goes_in levels level =
     either (GoesIn levels) (nat_lt level levels) _ _ (λ less. grind (arith, nat_tests)) (λ _. tt)
 

@@ -11,7 +11,7 @@ use Rattle.ya_core.specs.declared.process.ExitPoint.{ExitPoint}
 use Rattle.ya_core.specs.declared.process.ExitPoint.TheVariants.{X1, X2, X3}
 use Rattle.ya_core.specs.declared.process.Process.{Process}
 use Rattle.ya_core.specs.declared.process.Process.TheVariants.{Idle, Entering, Inside, Leaving}
-use Rattle.ya_core.specs.Steps.{Accesses, access_of, next_of, entry_next, exit_next, won, after_exit}
+use Rattle.ya_core.specs.Steps.{Accesses, access_of, next_of, entry_next, exit_next, after_entry, after_exit}
 use Rattle.ya_core.specs.Soundness.{Phase, Away, Waiting, Holding, Releasing, holds, phase_at, phase_of, entry_phase}
 use Rattle.ya_core.specs.Soundness.{exit_phase, IsProper}
 use Rattle.ya_core.specs.Machines.{word_of}
@@ -49,7 +49,7 @@ phase_up level stands = grind (arith, nat_tests)
 
 -- what a process that won a level, or left it, does at any level
 pub phase_won : (levels stands level : ℕ) → stands ≤ levels
-    → phase_of levels level (won levels stands) ≡ phase_at level stands Holding
+    → phase_of levels level (after_entry levels stands) ≡ phase_at level stands Holding
 phase_won levels stands level most =
     either (λ x. phase_of levels level x ≡ phase_at level stands Holding) (nat_lt stands levels) _ _
     (λ _. phase_up level stands)

@@ -9,7 +9,7 @@ use Rattle.ya_core.specs.declared.process.ExitPoint.TheVariants.{X1, X2, X3}
 use Rattle.ya_core.specs.declared.process.Process.{Process}
 use Rattle.ya_core.specs.declared.process.Process.TheVariants.{Idle, Entering, Inside, Leaving}
 use Rattle.ya_core.specs.ArbitrationTree.{node_of, side_of, AreRivals}
-use Rattle.ya_core.specs.Steps.{access_of, entry_access, exit_access, next_of, entry_next, exit_next, won, after_exit}
+use Rattle.ya_core.specs.Steps.{access_of, entry_access, exit_access, next_of, entry_next, exit_next, after_entry, after_exit}
 use Rattle.ya_core.specs.Soundness.{IsOnItsWay, IsProper, EntryIsProper, ExitIsProper}
 use Rattle.ya_core.proofs.TreeSides.{side_below, node_within, node_holds}
 use Rattle.ya_core.specs.WalkerModel.{MayFind, AccessIsWithin}
@@ -26,7 +26,7 @@ on_its_way : {levels place level : ℕ} {Knows : Type 0} → place < 2 ^ levels 
 on_its_way room least most knows = record { in_tree = room; least = least; most = most; knows = knows }
 
 -- a process that won a level, or left it, is proper
-proper_won : (levels level place : ℕ) → place < 2 ^ levels → level ≤ levels → IsProper levels place (won levels level)
+proper_won : (levels level place : ℕ) → place < 2 ^ levels → level ≤ levels → IsProper levels place (after_entry levels level)
 proper_won levels level place room most =
     either (IsProper levels place) (nat_lt level levels) _ _
     (λ less. on_its_way room (omega arith) (grind (arith, nat_tests)) tt) (λ _. room)

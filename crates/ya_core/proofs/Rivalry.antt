@@ -11,7 +11,7 @@ use Rattle.ya_core.specs.declared.process.ExitPoint.TheVariants.{X1, X2, X3}
 use Rattle.ya_core.specs.declared.process.Process.{Process}
 use Rattle.ya_core.specs.declared.process.Process.TheVariants.{Idle, Entering, Inside, Leaving}
 use Rattle.ya_core.specs.ArbitrationTree.{node_of, side_of, AreRivals}
-use Rattle.ya_core.specs.Steps.{State, StepsTo, Accesses, value_of, access_of, next_of, won}
+use Rattle.ya_core.specs.Steps.{State, StepsTo, Accesses, value_of, access_of, next_of, after_entry}
 use Rattle.ya_core.specs.Soundness.{Phase, claims, has_announced, waits, holds, awaits_release, saw_itself_last, is_to_wake}
 use Rattle.ya_core.specs.Soundness.{wakes_next, phase_of, entry_phase, IsProper, IsSoundState, SomeRival}
 use Rattle.ya_core.specs.WalkerModel.{points_of, is_waiting, MayFind, due_of, MayBeTold}
@@ -123,7 +123,7 @@ module _ (levels : ℕ) (some : 1 ≤ levels) (s : State) (is : IsSoundState lev
       (let asleep : (s.words (P level p) == 0) ≡ true = grind (arith, nat_tests, none) in asleep))
   stays p level (Outside e apart) =
       subst (λ x. next_of levels p x (value_of s.words (access_of levels p x)) ≡ x) (sym e)
-      (ap (λ b. if b then won levels level else Entering level E10)
+      (ap (λ b. if b then after_entry levels level else Entering level E10)
       (let out : (s.words (P level p) == 2) ≡ false = grind (arith, nat_tests, apart) in out))
 
   -- a place is stuck, or its step comes nearer to its goal
@@ -158,7 +158,7 @@ module _ (levels : ℕ) (some : 1 ≤ levels) (s : State) (is : IsSoundState lev
             (let let_in : (s.words (P level p) == 2) ≡ true = grind (arith, nat_tests, two) in let_in) same),
       )
         where
-          out : (b : Bool) → b ≡ true → (if b then won levels level else Entering level E10) ≡ Entering level E10 → ⊥
+          out : (b : Bool) → b ≡ true → (if b then after_entry levels level else Entering level E10) ≡ Entering level E10 → ⊥
           out true e same = won_elsewhere levels level E10 same
           out false e same = cc
 

@@ -39,8 +39,8 @@ access_of levels place Inside = exit_access levels place X1
 access_of levels place (Leaving level point) = exit_access level place point
 
 -- a process that won the level goes on to the next one; from the root it goes inside
-abbrev pub won : ℕ → ℕ → Process
-won levels level = if nat_lt level levels then Entering (level + 1) E1 else Inside
+abbrev pub after_entry : ℕ → ℕ → Process
+after_entry levels level = if nat_lt level levels then Entering (level + 1) E1 else Inside
 
 -- a process that left the level goes on to the one below; from the leaves it goes idle
 abbrev pub after_exit : ℕ → Process
@@ -51,14 +51,14 @@ abbrev pub entry_next : ℕ → ℕ → ℕ → EntryPoint → ℕ → Process
 entry_next levels level place E1 value = Entering level E2
 entry_next levels level place E2 value = Entering level E3
 entry_next levels level place E3 value = Entering level E4
-entry_next levels level place E4 value = if value == 0 then won levels level else Entering level (E5 (value - 1))
+entry_next levels level place E4 value = if value == 0 then after_entry levels level else Entering level (E5 (value - 1))
 entry_next levels level place (E5 rival) value =
-    if value == place + 1 then Entering level (E6 rival) else won levels level
+    if value == place + 1 then Entering level (E6 rival) else after_entry levels level
 entry_next levels level place (E6 rival) value = if value == 0 then Entering level (E7 rival) else Entering level E8
 entry_next levels level place (E7 rival) value = Entering level E8
 entry_next levels level place E8 value = if value == 0 then Entering level E8 else Entering level E9
-entry_next levels level place E9 value = if value == place + 1 then Entering level E10 else won levels level
-entry_next levels level place E10 value = if value == 2 then won levels level else Entering level E10
+entry_next levels level place E9 value = if value == place + 1 then Entering level E10 else after_entry levels level
+entry_next levels level place E10 value = if value == 2 then after_entry levels level else Entering level E10
 
 -- where each point of the way out leads; at x2 the word T names a place, since by the invariant it isn't nil there
 -- (`releasing` of `IsSoundLevel`), so no state that has it comes to the row of 0 - 1

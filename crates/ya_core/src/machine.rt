@@ -111,7 +111,7 @@ fn take_step(shape: &Shape, place: usize, words: &mut [u64], processes: &mut [Pr
     let value = perform(shape, words, access);
     let next = process.next(levels, place, value);
     processes[place] = next;
-    tell(place, access, value, next)
+    step_by(place, access, value, next)
 }
 
 /// Makes the access in the row of words, and gives the value that it loaded or stored.
@@ -131,7 +131,7 @@ fn perform(shape: &Shape, words: &mut [u64], access: Access) -> u64
 }
 
 /// The step by which a place made the access and went on to the process.
-fn tell(place: usize, access: Access, value: u64, next: Process) -> Step
+fn step_by(place: usize, access: Access, value: u64, next: Process) -> Step
     ensures { result ≡ step_by place access value next }
 {
     let (word, store) = match access {

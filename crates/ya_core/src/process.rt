@@ -1,7 +1,7 @@
 //! Where one process stands, which access is due to it, and where that leads.
 ghost use Rattle.std.specs.Prelude.{◌≡◌, ◌+◌, ◌-◌, ◌^◌, ◌<◌, ◌≤◌};
 ghost use Rattle.ya_core.specs.ArbitrationTree.{node_of, side_of};
-ghost use Rattle.ya_core.specs.Steps.{entry_access, exit_access, entry_next, exit_next, won, after_exit};
+ghost use Rattle.ya_core.specs.Steps.{entry_access, exit_access, entry_next, exit_next, after_entry, after_exit};
 ghost use Rattle.ya_core.specs.Steps.{access_of, next_of};
 ghost use Rattle.ya_core.specs.Soundness.{IsProper};
 
@@ -188,7 +188,7 @@ fn entry_next(levels: u32, level: u32, place: usize, point: EntryPoint, value: u
         EntryPoint::E1 => EntryPoint::E2,
         EntryPoint::E2 => EntryPoint::E3,
         EntryPoint::E3 => EntryPoint::E4,
-        EntryPoint::E4 if value == 0 => return won(levels, level),
+        EntryPoint::E4 if value == 0 => return after_entry(levels, level),
         EntryPoint::E4 => EntryPoint::E5(identified_place(value)),
         EntryPoint::E5(rival) if value == identifier => EntryPoint::E6(rival),
         EntryPoint::E6(rival) if value == 0 => EntryPoint::E7(rival),
@@ -197,7 +197,7 @@ fn entry_next(levels: u32, level: u32, place: usize, point: EntryPoint, value: u
         EntryPoint::E8 => EntryPoint::E9,
         EntryPoint::E9 if value == identifier => EntryPoint::E10,
         EntryPoint::E10 if value != 2 => EntryPoint::E10,
-        EntryPoint::E5(_) | EntryPoint::E9 | EntryPoint::E10 => return won(levels, level),
+        EntryPoint::E5(_) | EntryPoint::E9 | EntryPoint::E10 => return after_entry(levels, level),
     };
     Process::Entering(level, next)
 }
@@ -218,9 +218,9 @@ fn exit_next(level: u32, place: usize, point: ExitPoint, value: u64) -> Process
 
 /// The process that won the level: it goes on to the next one, and from the root it goes inside.
 #[inline(always)]
-fn won(levels: u32, level: u32) -> Process
+fn after_entry(levels: u32, level: u32) -> Process
     requires { level ≤ 6 }
-    ensures { result ≡ won levels level }
+    ensures { result ≡ after_entry levels level }
 {
     if level < levels {
         Process::Entering(level + 1, EntryPoint::E1)

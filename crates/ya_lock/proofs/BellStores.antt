@@ -8,7 +8,7 @@ use Rattle.ya_core.specs.declared.word.Word.{Word}
 use Rattle.ya_core.specs.Soundness.{IsSoundState}
 use Rattle.ya_lock.specs.declared.rule.View.{View}
 use Rattle.ya_lock.specs.Rule.{making_index, GlobalView, Rule}
-use Rattle.ya_lock.proofs.Words.{words_behind}
+use Rattle.ya_lock.proofs.WordsInRow.{words_behind}
 use Rattle.ya_lock.proofs.Frames.{refits}
 
 module _ {V : Type 0} (since : ℕ → V → V → Type 0) (levels : ℕ) where

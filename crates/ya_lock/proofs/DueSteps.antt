@@ -3,7 +3,7 @@ use Rattle.std.proofs.Common.{◌≡◌, ◌≢◌, ℕ, ◌+◌, ◌*◌, ◌^�
 use Rattle.std.specs.Prelude as std
 use mathlib.Core.Option.{some}
 use lib.ListN.{get_elem?}
-use Rattle.atomic_table.specs.Table.{State, stepped}
+use Rattle.atomic_table.specs.Table.{State, stepped, homes_after}
 use Rattle.atomic_table.proofs.Lists.{set_else}
 use Rattle.ya_core.specs.declared.word.Access.{Access}
 use Rattle.ya_core.specs.declared.word.Access.TheVariants.{Load, Store}
@@ -17,11 +17,11 @@ use Rattle.ya_core.proofs.Promised.{within_access}
 use Rattle.ya_lock.specs.declared.rule.View.{View}
 use Rattle.ya_lock.specs.declared.rule.View.TheVariants.{Seated}
 use Rattle.ya_lock.specs.Rule.{index_of, making_index, words_in, Rule, Slots, count_after}
-use Rattle.ya_lock.specs.DueStep.{IsReady, TakesStep, EachMayStep}
+use Rattle.ya_lock.specs.DueStep.{IsReady, MovesValue, TakesStep, EachMayStep}
 use Rattle.ya_lock.specs.inside.StepEffects.{value_after}
-use Rattle.ya_lock.proofs.Words.{index_below}
+use Rattle.ya_lock.proofs.WordsInRow.{index_below}
 use Rattle.ya_lock.proofs.Frames.{set_at}
-use Rattle.ya_lock.proofs.ProcessSteps.{value_is, accesses, answers}
+use Rattle.ya_lock.proofs.ProcessSteps.{value_is, accesses, moves_value}
 
 -- an access that is within the tree is of a word of the tree
 word_within : (levels : ℕ) (a : Access) → AccessIsWithin levels a → IsWord levels (word_of a)
@@ -39,7 +39,7 @@ module _ {V : Type 0} (since done : ℕ → V → V → Type 0) (since_same : (p
   takes : (s : St) (r : Rule since levels s) (seat place : ℕ) (value : V) (count : ℕ) (slots : Slots V)
       → get_elem? s.views seat ≡ some (Seated place (r.0.processes place) value count) → place < 2 ^ levels
       → IsReady done (is_inside (r.0.processes place)) place value slots
-      → (t : St) × TakesStep since levels seat place (r.0.processes place) count s t
+      → (t : St) × TakesStep since levels seat place (r.0.processes place) value count slots s t
   takes s r seat place value count slots at room ready =
       let x : Process = r.0.processes place in
       let a : Access = access_of levels place x in
@@ -52,16 +52,19 @@ module _ {V : Type 0} (since done : ℕ → V → V → Type 0) (since_same : (p
       let wide : long ≡ m + 8 * (1 + places) = r.1.wide in
       let below : i + 8 ≤ m = index_below levels (word_of a) word in
       let n : ℕ = value_after a (slice_index s.words i) in
-      let step = answers since done since_same since_done levels least s r.0 r.1 seat place i value count slots at room
+      let whole = moves_value since done since_same since_done levels least s r.0 r.1 seat place i value count slots at room
       word refl ready in
+      let step = whole.0 in let moved = whole.1 in
       let found : value_of (words_in levels s.words) a ≡ n = value_is levels i s.words a word refl in (
         stepped s i n seat slots step.0 step.1,
         record {
           access = accesses levels i s.words a word refl (let l : i < long = omega arith in l);
-          value = step.4.1.0;
+          value = moved.0;
           own = set_at s.views seat (Seated place x value count) step.0 at
-              ∙ ap some (step.4.1.1 ∙ ap (λ (k : ℕ). Seated place (next_of levels place x k) step.4.1.0
+              ∙ ap some (moved.1 ∙ ap (λ (k : ℕ). Seated place (next_of levels place x k) moved.0
               (count_after levels place x count)) (sym found));
+          moves = subst (λ (k : ℕ). MovesValue since (is_inside x) (is_inside (next_of levels place x k)) place value moved.0 slots
+              s.homes (homes_after s.homes slots step.1)) (sym found) moved.2;
           others = λ other apart. set_else s.views seat other step.0 apart;
           rule = step.3;
         },
@@ -71,6 +74,6 @@ module _ {V : Type 0} (since done : ℕ → V → V → Type 0) (since_same : (p
   pub each_may_step : (s : St) → Rule since levels s → EachMayStep since done levels s
   each_may_step s r seat place process value count slots at room ready =
       let f : r.0.processes place ≡ process = (r.1.fits seat (Seated place process value count) at).2 in
-      subst (λ (x : Process). (t : St) × TakesStep since levels seat place x count s t) f
+      subst (λ (x : Process). (t : St) × TakesStep since levels seat place x value count slots s t) f
       (takes s r seat place value count slots (at ∙ ap (λ (x : Process). some (Seated place x value count)) (sym f)) room
       (subst (λ (x : Process). IsReady done (is_inside x) place value slots) (sym f) ready))

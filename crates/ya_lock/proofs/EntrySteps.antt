@@ -13,7 +13,7 @@ use Rattle.ya_core.specs.declared.process.EntryPoint.TheVariants.{E1, E2, E5, E6
 use Rattle.ya_core.specs.declared.process.ExitPoint.{ExitPoint}
 use Rattle.ya_core.specs.declared.walker.Op.{Op}
 use Rattle.ya_core.specs.declared.walker.Op.TheVariants as op
-use Rattle.ya_core.specs.Steps.{entry_access, exit_access, entry_next, next_of, won}
+use Rattle.ya_core.specs.Steps.{entry_access, exit_access, entry_next, next_of, after_entry}
 use Rattle.ya_core.specs.WalkerModel.{Walk, walk, walk_after, op_of, op_of_access, points_of, points_ahead, is_waiting, MovesOn}
 use Rattle.ya_lock.specs.declared.rule.View.{View}
 use Rattle.ya_lock.specs.inside.Lock.{HasWon, HasPassed, HasLooked, IsAtFoot, OnWay, SeatOf}
@@ -72,13 +72,13 @@ has_won_at : (more : Bool) (level : ℕ) → HasWon (if more then Entering (leve
 has_won_at true level = tt
 has_won_at false level = tt
 
-pub has_won : (levels level : ℕ) → HasWon (won levels level)
+pub has_won : (levels level : ℕ) → HasWon (after_entry levels level)
 has_won levels level = has_won_at (nat_lt level levels) level
 
 -- one that did not win goes on where it may lose
 lost_at : (lost : Bool) (levels level : ℕ) (point : EntryPoint)
-    → (HasWon (if lost then Entering level point else won levels level) → ⊥)
-    → (if lost then Entering level point else won levels level) ≡ Entering level point
+    → (HasWon (if lost then Entering level point else after_entry levels level) → ⊥)
+    → (if lost then Entering level point else after_entry levels level) ≡ Entering level point
 lost_at true levels level point not_won = refl
 lost_at false levels level point not_won = absurd (not_won (has_won levels level))
 
@@ -136,7 +136,7 @@ looked_e8 levels level found w new at goes =
 
 -- and at e10: it waits on, or has won
 looked_at_e10 : (passed : Bool) (levels level : ℕ) (new : Walk)
-    → new.process ≡ (if passed then won levels level else Entering level E10) → new.begun ≡ false
+    → new.process ≡ (if passed then after_entry levels level else Entering level E10) → new.begun ≡ false
     → HasLooked levels (Entering level E10) new
 looked_at_e10 true levels level new is begun = inr (is, begun)
 looked_at_e10 false levels level new is begun = inl is

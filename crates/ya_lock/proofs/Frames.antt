@@ -12,7 +12,7 @@ use Rattle.ya_core.specs.Soundness.{IsSoundState}
 use Rattle.ya_lock.specs.declared.rule.View.{View}
 use Rattle.ya_lock.specs.declared.rule.View.TheVariants.{Unused, Making, Filling, HandingOut, Seated, Joining, Spent}
 use Rattle.ya_lock.specs.Rule.{Slots, making_index, words_in, place_of_view, GlobalView, KnowsValue, ValueInSlot, least_count, ViewFits, Obeys, Rule}
-use Rattle.ya_lock.proofs.Words.{word_kept}
+use Rattle.ya_lock.proofs.WordsInRow.{word_kept}
 use Rattle.ya_core.specs.Worlds.{is_inside}
 
 -- what a seat has once its view was set

@@ -5,7 +5,7 @@ use Rattle.ya_core.specs.declared.process.EntryPoint.TheVariants.{E1, E2, E3, E4
 use Rattle.ya_core.specs.declared.process.ExitPoint.TheVariants.{X1, X2, X3}
 use Rattle.ya_core.specs.declared.process.Process.{Process}
 use Rattle.ya_core.specs.declared.process.Process.TheVariants.{Idle, Entering, Inside, Leaving}
-use Rattle.ya_core.specs.Steps.{next_of, won, after_exit}
+use Rattle.ya_core.specs.Steps.{next_of, after_entry, after_exit}
 use Rattle.ya_lock.specs.Rule.{least_count, count_after}
 
 -- a bound holds of what a test decides where it holds either way
@@ -22,7 +22,7 @@ one_more : (a b c : ℕ) → c ≡ a + 1 → a ≤ b → c ≤ b + 1
 one_more a b c is less = omega (arith, is, less)
 
 -- who won a level made three accesses there at least
-by_win : (levels level m : ℕ) → 3 * (level - 1) + 3 ≤ m → least_count levels (won levels level) ≤ m
+by_win : (levels level m : ℕ) → 3 * (level - 1) + 3 ≤ m → least_count levels (after_entry levels level) ≤ m
 by_win levels level m least =
     by_test levels m (nat_lt level levels) (Entering (level + 1) E1) Inside
     (λ below. (let up : 3 * (level + 1 - 1) + 0 ≤ m = omega (arith, least) in up))

@@ -1,4 +1,4 @@
-pub mod Words
+pub mod WordsInRow
 pub mod LeastCounts
 pub mod Frames
 pub mod ProcessSteps

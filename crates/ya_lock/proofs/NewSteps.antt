@@ -20,7 +20,7 @@ use Rattle.ya_lock.specs.Rule.{making_index, row_length, GlobalView, ValueInSlot
 use Rattle.ya_core.specs.Worlds.{is_inside}
 use Rattle.ya_lock.specs.inside.StepEffects.{BeginsMaking, TakesSlot, GivesValue, HandsOutLast}
 use Rattle.ya_core.proofs.Promised.{opens as opens_sound}
-use Rattle.ya_lock.proofs.Words.{words_zero, words_behind}
+use Rattle.ya_lock.proofs.WordsInRow.{words_zero, words_behind}
 use Rattle.ya_lock.proofs.Frames.{refits, looks, sees, Sits, sits_still, sits_else, sits_longer, set_at}
 
 -- the view that came last, or one that was there

@@ -23,9 +23,9 @@ use Rattle.ya_lock.specs.declared.rule.View.TheVariants.{Seated}
 use Rattle.ya_lock.specs.Rule.{index_of, making_index, words_in, GlobalView, KnowsValue, ValueInSlot, ViewFits, Obeys, Rule, Slots, count_after}
 use Rattle.ya_core.specs.Worlds.{is_inside}
 use Rattle.ya_lock.specs.inside.StepEffects.{value_after, CarriesValue, ProcessSteps, HasMade}
-use Rattle.ya_lock.specs.DueStep.{IsReady}
+use Rattle.ya_lock.specs.DueStep.{IsReady, MovesValue}
 use Rattle.ya_core.proofs.Promised.{keeps as kept_by_step, finds, is_inside_is, excludes}
-use Rattle.ya_lock.proofs.Words.{index_below, word_in, word_set, word_set_other, word_kept}
+use Rattle.ya_lock.proofs.WordsInRow.{index_below, word_in, word_set, word_set_other, word_kept}
 use Rattle.ya_lock.proofs.Frames.{moved, moved_here, moved_else, Same, Changed, gone_on, goes_on}
 use Rattle.ya_lock.proofs.LeastCounts.{least_kept}
 
@@ -142,6 +142,18 @@ module _ {V : Type 0} (since done : ℕ → V → V → Type 0) (since_same : (p
       (w : View V) × (a : Act (std.Option V)) × Valid s.homes slots a × Rule since levels (stepped s i n id slots w a)
       × ProcessSteps since levels n (Seated place (x.processes place) value count) slots (w, carried_after slots a)
 
+  -- and what it leaves in its view and in the slot
+  abbrev Moved : St → GlobalView V → ℕ → V → ℕ → ℕ → Slots V → View V → Act (std.Option V) → Type 0
+  Moved s x place value count n slots w a =
+      let p' : Process = next_of levels place (x.processes place) n in
+      (next : V) × (w ≡ Seated place p' next (total x place count))
+      × MovesValue since (is_inside (x.processes place)) (is_inside p') place value next slots s.homes (homes_after s.homes slots a)
+
+  -- both together
+  abbrev Whole : St → GlobalView V → ℕ → ℕ → V → ℕ → ℕ → ℕ → Slots V → Type 0
+  Whole s x id place value count i n slots =
+      (answer : Answer s x id place value count i n slots) × Moved s x place value count n slots answer.0 answer.1
+
   -- the access that is due to a seat's process, which found or stored n: what is known of the table before it, and that
   -- the core goes on by it
   record IsDueAt (s : St) (x : GlobalView V) (id place i n : ℕ) (value : V) (count : ℕ) : Type 0 where
@@ -157,7 +169,7 @@ module _ {V : Type 0} (since done : ℕ → V → V → Type 0) (since_same : (p
   wins : (s : St) (x : GlobalView V) (id place i n : ℕ) (value : V) (count : ℕ) (slots : Slots V)
       → IsDueAt s x id place i n value count
       → is_inside (x.processes place) ≡ false → is_inside (next_of levels place (x.processes place) n) ≡ true
-      → KnowsValue since x.content place false value → slots ≡ [] → Answer s x id place value count i n slots
+      → KnowsValue since x.content place false value → slots ≡ [] → Whole s x id place value count i n slots
   wins s x id place i n value count slots step was is knows ready =
       let o = step.obeys in let f = step.fits in
       let p' : Process = next_of levels place (x.processes place) n in
@@ -175,7 +187,8 @@ module _ {V : Type 0} (since done : ℕ → V → V → Type 0) (since_same : (p
       let out : set s.homes 0 none ≡ none ∷ [] = ap (λ (h : List (Option (std.Option V))). set h 0 none) home in
       let after : ValueInSlot since (moved x.processes place p') (set s.homes 0 none) x.content =
       subst (λ (c : Option V). ValueInSlot since (moved x.processes place p') (set s.homes 0 none) c) (sym knows.1)
-      ((λ away. let both : true ≡ false = sym there ∙ away place in cc), λ k e. out) in (
+      ((λ away. let both : true ≡ false = sym there ∙ away place in cc), λ k e. out) in
+      let answer : Answer s x id place value count i n slots = (
         Seated place p' now (total x place count),
         takes 0 (Some now),
         ap (λ (h : List (Option (std.Option V))). get_elem? h 0) home,
@@ -196,6 +209,15 @@ module _ {V : Type 0} (since done : ℕ → V → V → Type 0) (since_same : (p
                 (knows.2, ap (λ (l : Slots V). (0, Some now) ∷ l) ready)),
           ),
         ),
+      ) in (
+        answer,
+        (
+          now,
+          refl,
+          subst (λ (b : Bool). MovesValue since b (is_inside p') place value now slots s.homes (set s.homes 0 none)) (sym was)
+              (subst (λ (b : Bool). MovesValue since false b place value now slots s.homes (set s.homes 0 none)) (sym is)
+              (knows.2, home, out)),
+        ),
       )
 
   -- so the value lies where it lay
@@ -212,10 +234,11 @@ module _ {V : Type 0} (since done : ℕ → V → V → Type 0) (since_same : (p
   passes : (s : St) (x : GlobalView V) (id place i n : ℕ) (value : V) (count : ℕ) (slots : Slots V)
       → IsDueAt s x id place i n value count
       → is_inside (x.processes place) ≡ false → is_inside (next_of levels place (x.processes place) n) ≡ false
-      → KnowsValue since x.content place false value → Answer s x id place value count i n slots
+      → KnowsValue since x.content place false value → Whole s x id place value count i n slots
   passes s x id place i n value count slots step was is knows =
       let o = step.obeys in let f = step.fits in
-      let p' : Process = next_of levels place (x.processes place) n in (
+      let p' : Process = next_of levels place (x.processes place) n in
+      let answer : Answer s x id place value count i n slots = (
         Seated place p' value (total x place count),
         keeps,
         tt,
@@ -236,6 +259,14 @@ module _ {V : Type 0} (since done : ℕ → V → V → Type 0) (since_same : (p
                 (subst (λ (b : Bool). CarriesValue since false b place value slots value slots) (sym is) (refl, refl)),
           ),
         ),
+      ) in (
+        answer,
+        (
+          value,
+          refl,
+          subst (λ (b : Bool). MovesValue since b (is_inside p') place value value slots s.homes s.homes) (sym was)
+              (subst (λ (b : Bool). MovesValue since false b place value value slots s.homes s.homes) (sym is) (refl, refl)),
+        ),
       )
 
   -- the process leaves the inside: it gives the value home
@@ -243,7 +274,7 @@ module _ {V : Type 0} (since done : ℕ → V → V → Type 0) (since_same : (p
       → IsDueAt s x id place i n value count
       → is_inside (x.processes place) ≡ true
       → KnowsValue since x.content place true value → IsReady done true place value slots
-      → Answer s x id place value count i n slots
+      → Whole s x id place value count i n slots
   releases s x id place i n value count slots step was knows ready =
       let o = step.obeys in let f = step.fits in
       let p' : Process = next_of levels place (x.processes place) n in
@@ -258,7 +289,8 @@ module _ {V : Type 0} (since done : ℕ → V → V → Type 0) (since_same : (p
       let after : ValueInSlot since (moved x.processes place p') homes (some next) = (
         (λ away. back),
         (λ k e. absurd (alone k (stays_inside x place p' k is e) (inside x place p' k is e))),
-      ) in (
+      ) in
+      let answer : Answer s x id place value count i n slots = (
         Seated place p' next (total x place count),
         gives,
         tt,
@@ -286,6 +318,13 @@ module _ {V : Type 0} (since done : ℕ → V → V → Type 0) (since_same : (p
                 (ready.1, ap (λ (l : Slots V). carried_after l gives) ready.1),
           ),
         ),
+      ) in (
+        answer,
+        (
+          next,
+          refl,
+          subst (λ (b : Bool). MovesValue since b (is_inside p') place value next slots s.homes homes) (sym was) (ready.1, back),
+        ),
       )
 
   -- by whether the process is inside before and after
@@ -294,7 +333,7 @@ module _ {V : Type 0} (since done : ℕ → V → V → Type 0) (since_same : (p
       → (before after : Bool) → is_inside (x.processes place) ≡ before
       → is_inside (next_of levels place (x.processes place) n) ≡ after
       → KnowsValue since x.content place before value → IsReady done before place value slots
-      → Answer s x id place value count i n slots
+      → Whole s x id place value count i n slots
   by_case s x id place i n value count slots step true after e h knows ready =
       releases s x id place i n value count slots step e knows ready
   by_case s x id place i n value count slots step false true e h knows ready =
@@ -302,13 +341,13 @@ module _ {V : Type 0} (since done : ℕ → V → V → Type 0) (since_same : (p
   by_case s x id place i n value count slots step false false e h knows ready =
       passes s x id place i n value count slots step e h knows
 
-  -- the step that is due keeps the rule
-  pub answers : (s : St) (x : GlobalView V) → Obeys since levels s x → (id place i : ℕ) (value : V) (count : ℕ) (slots : Slots V)
+  -- the step that is due keeps the rule, and moves the value
+  pub moves_value : (s : St) (x : GlobalView V) → Obeys since levels s x → (id place i : ℕ) (value : V) (count : ℕ) (slots : Slots V)
       → get_elem? s.views id ≡ some (Seated place (x.processes place) value count)
       → place < 2 ^ levels → IsWord levels (word_of (due x place)) → i ≡ index_of levels (word_of (due x place))
       → IsReady done (is_inside (x.processes place)) place value slots
-      → Answer s x id place value count i (value_after (due x place) (slice_index s.words i)) slots
-  answers s x o id place i value count slots at room word index ready =
+      → Whole s x id place value count i (value_after (due x place) (slice_index s.words i)) slots
+  moves_value s x o id place i value count slots at room word index ready =
       let f = o.fits id (Seated place (x.processes place) value count) at in
       let n : ℕ = value_after (due x place) (slice_index s.words i) in
       let m : ℕ = making_index levels in
@@ -347,7 +386,7 @@ module _ {V : Type 0} (since done : ℕ → V → V → Type 0) (since_same : (p
       × Rule since levels (stepped s i (value_after b n) id me.1 w t)
       × ProcessSteps since levels (value_after b n) v me.1 (w, carried_after me.1 t) in
       subst (λ (v : View V). G v a) (sym e') (subst (λ (b : Access). G (Seated place (x.processes place) value count) b) is'
-      (answers s x rule.1 id place i value count me.1 (at ∙ ap some e') room
+      (moves_value s x rule.1 id place i value count me.1 (at ∙ ap some e') room
       (subst (λ (b : Access). IsWord levels (word_of b)) (sym is') word)
       (index ∙ ap (λ (b : Access). index_of levels (word_of b)) (sym is'))
-      (subst (λ (p : Process). IsReady done (is_inside p) place value me.1) (sym f) ready)))
+      (subst (λ (p : Process). IsReady done (is_inside p) place value me.1) (sym f) ready)).0)

@@ -1,5 +1,5 @@
 -- What follows from the rule.
-use Rattle.std.proofs.Common.{◌≡◌, ◌≢◌, ℕ, ◌≤◌, Bool, true, false, List, [], ◌∷◌, sym, refl, ap, ◌∙◌, subst}
+use Rattle.std.proofs.Common.{◌≡◌, ◌≢◌, ℕ, ◌≤◌, ◌⊎◌, inl, inr, Bool, true, false, List, [], ◌∷◌, sym, refl, ap, ◌∙◌, subst}
 use Rattle.std.proofs.Common.{slice_index, Some}
 use Rattle.std.specs.Prelude as std
 use mathlib.Core.Option.{Option, none, some, some-injective, some-ne-none}
@@ -11,8 +11,8 @@ use Rattle.ya_lock.specs.declared.rule.View.{View}
 use Rattle.ya_lock.specs.declared.rule.View.TheVariants.{Unused, Making, Filling, HandingOut, Seated, Joining, Spent}
 use Rattle.ya_lock.specs.Rule.{making_index, words_in, place_of_view, GlobalView, KnowsValue, ValueInSlot, ViewFits, Rule}
 use Rattle.ya_core.specs.Worlds.{is_inside}
-use Rattle.ya_lock.specs.LockState.{IsOf, IsFilling, IsMaking, HasProcess, NoneInside, ShowsCore, GoesOn, SomeSeatGoesOn}
-use Rattle.ya_lock.specs.LockState.{OneSeatAPlace, OneInside, IsInSlot, IsFresh, IsMadeByOne}
+use Rattle.ya_lock.specs.LockState.{IsOf, IsFilling, IsMaking, HasProcess, IsAway, NoneInside, ShowsCore, GoesOn}
+use Rattle.ya_lock.specs.LockState.{SomeSeatGoesOn, OneSeatAPlace, OneInside, IsToMake, IsGiven, IsInSlot, IsFresh, IsMadeByOne}
 use Rattle.ya_lock.proofs.ProcessSteps.{none_true}
 
 module _ {V : Type 0} (since : ℕ → V → V → Type 0) (levels : ℕ) where
@@ -132,14 +132,20 @@ module _ {V : Type 0} (since : ℕ → V → V → Type 0) (levels : ℕ) where
       let a = shown s r seat place x v (sits.0, sits.1, view.1.1) in
       away seat place v (sits.0, sits.1, subst (λ (y : Process). IsOf sits.0 place y v) (sym a.is ∙ is) view.1.1)
 
+  -- once the value was given, the global view has it
+  given_is : (s : St) (r : Rule since levels s) → IsGiven s → (now : V) × (r.0.content ≡ some now)
+  given_is s r (seat, place, (value, inl (process, has))) =
+      content_of r.0.content place value (is_inside process) (shown s r seat place process value has).knows
+  given_is s r (seat, place, (value, inr (first, at, far))) =
+      let k = ((r.1.fits seat (HandingOut first value) at).3 place far).1 in (k.0, k.1)
+
   -- the value is in its slot exactly where no view is inside
   pub in_slot : (s : St) → Rule since levels s → IsInSlot s
   in_slot s r = (
     (λ seat place value h. let a = shown s r seat place Inside value h in
         (subst (λ (c : Option V). ValueInSlot since r.0.processes s.homes c) a.knows r.1.lies).1 place (ap is_inside a.is)),
-    (λ seat place process value h away.
-        let a = shown s r seat place process value h in let c =
-        content_of r.0.content place value (is_inside process) a.knows in (
+    (λ given away.
+        let c = given_is s r given in (
           c.0,
           (subst (λ (c : Option V). ValueInSlot since r.0.processes s.homes c) c.1 r.1.lies).0
               (λ k. none_true (is_inside (r.0.processes k))
@@ -162,12 +168,19 @@ module _ {V : Type 0} (since : ℕ → V → V → Type 0) (levels : ℕ) where
   unfolding first_home
   home_not a e = some-ne-none (Some a) (sym (ap first_home e))
 
-  -- what a place away has seen may have become the value as it is
+  -- what a place away, or one whose pass is still to be made, knows of the content
+  known : (s : St) (r : Rule since levels s) (seat place : ℕ) (seen : V) → IsAway s seat place seen ⊎ IsToMake s seat place seen
+      → KnowsValue since r.0.content place false seen
+  known s r seat place seen (inl (process, apart, has)) =
+      let a = shown s r seat place process seen has in
+      let out : is_inside process ≡ false = none_true (is_inside process) (λ e. apart (is_inside_is process e)) in
+      subst (λ (b : Bool). KnowsValue since r.0.content place b seen) out a.knows
+  known s r seat place seen (inr (first, at, far)) = ((r.1.fits seat (HandingOut first seen) at).3 place far).1
+
+  -- what it has seen may have become the value as it is
   pub is_fresh : (s : St) → Rule since levels s → IsFresh s since
   is_fresh s r seat place seen now h =
-      let a = shown s r seat place h.0 seen h.2 in
-      let out : is_inside h.0 ≡ false = none_true (is_inside h.0) (λ e. h.1 (is_inside_is h.0 e)) in
-      let k = subst (λ (b : Bool). KnowsValue since r.0.content place b seen) out a.knows in
+      let k = known s r seat place seen h in
       let lies = subst (λ (c : Option V). ValueInSlot since r.0.processes s.homes c) k.1 r.1.lies in (
         (λ home.
             let same : s.homes ≡ some (Some k.0) ∷ [] =

@@ -5,7 +5,7 @@ use Rattle.ya_lock.specs.Lock.{LockId}
 use Rattle.ya_lock.specs.inside.Lock.{HasTree, HasPlace}
 use Rattle.ya_lock.specs.inside.Rule.{bell_index}
 use Rattle.ya_lock.specs.Rule.{making_index, row_length}
-use Rattle.ya_lock.proofs.Words.{same_height, bell_within, making_is, making_small}
+use Rattle.ya_lock.proofs.WordsInRow.{same_height, bell_within, making_is, making_small}
 
 -- two trees that have the words of one lock are of one height
 pub one_tree : (x y : LockId) (a b : ℕ) → x ≡ y → HasTree x a → HasTree y b → a ≡ b

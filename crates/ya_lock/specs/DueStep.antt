@@ -1,7 +1,7 @@
 -- The step that is due to a process, as its seat takes it.
 use Rattle.std.specs.Prelude.{◌≡◌, ◌≢◌, ℕ, ◌+◌, ◌^◌, ◌<◌, Bool, true, false, List, [], ◌∷◌, Some}
 use Rattle.std.specs.Prelude as std
-use mathlib.Core.Option.{some}
+use mathlib.Core.Option.{Option, none, some}
 use lib.ListN.{get_elem?}
 use Rattle.atomic_table.specs.Table.{State}
 use Rattle.ya_core.specs.declared.process.Process.{Process}
@@ -23,14 +23,28 @@ module _ {V : Type 0} where
   process_after levels s place process =
       next_of levels place process (value_of (words_in levels s.words) (access_of levels place process))
 
-  -- from the one moment to the next a seat takes the step that is due to its process: the access happens, its view goes on
-  -- as the core's row says and counts the access, no other seat's view changes, and the rule holds
-  pub record TakesStep (since : ℕ → V → V → Type 0) (levels seat place : ℕ) (process : Process) (count : ℕ)
-      (s t : State (std.Option V) (View V)) : Type 0 where
+  -- what becomes of the value by a step, by whether its process was inside before it and is inside after it, where it lies
+  -- before and after: the step out gives it back as it was put in the slot, and the place has then seen that; the step in takes
+  -- what lies there, which may have come of what the place had seen; every other one leaves all of this as it is
+  abbrev pub MovesValue : (since : ℕ → V → V → Type 0) → (before after : Bool) → ℕ → (seen next : V) → Slots V
+      → (homes homes' : List (Option (std.Option V))) → Type 0
+  MovesValue since true after place seen next slots homes homes' =
+      (slots ≡ (0, Some next) ∷ []) × (homes' ≡ some (Some next) ∷ [])
+  MovesValue since false true place seen next slots homes homes' =
+      since place seen next × (homes ≡ some (Some next) ∷ []) × (homes' ≡ none ∷ [])
+  MovesValue since false false place seen next slots homes homes' = (next ≡ seen) × (homes' ≡ homes)
+
+  -- from the one moment to the next a seat takes the step that is due to its process, which has seen this value, made so many
+  -- remote accesses and has these slots: the access happens, its view goes on as the core's row says and counts the access,
+  -- the value moves, no other seat's view changes, and the rule holds
+  pub record TakesStep (since : ℕ → V → V → Type 0) (levels seat place : ℕ) (process : Process) (seen : V) (count : ℕ)
+      (slots : Slots V) (s t : State (std.Option V) (View V)) : Type 0 where
     pub access : Accesses (access_of levels place process) (words_in levels s.words) (words_in levels t.words)
     pub value : V
     pub own : get_elem? t.views seat
         ≡ some (Seated place (process_after levels s place process) value (count_after levels place process count))
+    pub moves : MovesValue since (is_inside process) (is_inside (process_after levels s place process)) place seen value slots
+        s.homes t.homes
     pub others : (other : ℕ) → other ≢ seat → get_elem? t.views other ≡ get_elem? s.views other
     pub rule : Rule since levels t
 
@@ -40,4 +54,4 @@ module _ {V : Type 0} where
       (seat place : ℕ) (process : Process) (value : V) (count : ℕ) (slots : Slots V)
       → get_elem? s.views seat ≡ some (Seated place process value count) → place < 2 ^ levels
       → IsReady done (is_inside process) place value slots
-      → (t : State (std.Option V) (View V)) × TakesStep since levels seat place process count s t
+      → (t : State (std.Option V) (View V)) × TakesStep since levels seat place process value count slots s t

@@ -1,5 +1,5 @@
 -- What the rule says of the words, the lent value and the views of all seats, at every moment between two atomic steps.
-use Rattle.std.specs.Prelude.{◌≡◌, ◌≢◌, ◌≤◌, ℕ, List, [], ◌∷◌, slice_index, Some, None}
+use Rattle.std.specs.Prelude.{◌≡◌, ◌≢◌, ◌≤◌, ℕ, ◌⊎◌, List, [], ◌∷◌, slice_index, Some, None}
 use Rattle.std.specs.Prelude as std
 use mathlib.Core.Option.{none, some}
 use lib.ListN.{get_elem?}
@@ -74,17 +74,28 @@ module _ {V : Type 0} where
     abbrev pub OneInside : Type 0
     OneInside = (one other p q : ℕ) (v w : V) → HasProcess one p Inside v → HasProcess other q Inside w → one ≡ other
 
-    -- once there are processes, the value is in its slot exactly where none is inside
+    -- the seat has given this value, and is still to make the place's pass
+    abbrev pub IsToMake : ℕ → ℕ → V → Type 0
+    IsToMake seat place given =
+        (first : ℕ) × (get_elem? s.views seat ≡ some (HandingOut first given)) × (first ≤ place)
+
+    -- the value was given: some seat has a process, or is still to make a pass
+    abbrev pub IsGiven : Type 0
+    IsGiven =
+        (seat place : ℕ)
+        × ((value : V) × (((process : Process) × HasProcess seat place process value) ⊎ IsToMake seat place value))
+
+    -- once it was given, the value is in its slot exactly where none is inside
     abbrev pub IsInSlot : Type 0
     IsInSlot =
         ((seat place : ℕ) (value : V) → HasProcess seat place Inside value → s.homes ≡ none ∷ [])
-        × ((seat place : ℕ) (process : Process) (value : V) → HasProcess seat place process value → NoneInside
-        → (now : V) × (s.homes ≡ some (Some now) ∷ []))
+        × (IsGiven → NoneInside → (now : V) × (s.homes ≡ some (Some now) ∷ []))
 
-    -- what a place away has seen may have become, by others, the value in the slot or that the one inside found
+    -- what a place away has seen, or one whose pass is still to be made was given, may have become, by others, the value in
+    -- the slot or that the one inside found
     abbrev pub IsFresh : (ℕ → V → V → Type 0) → Type 0
     IsFresh since =
-        (seat place : ℕ) (seen now : V) → IsAway seat place seen
+        (seat place : ℕ) (seen now : V) → IsAway seat place seen ⊎ IsToMake seat place seen
         → ((s.homes ≡ some (Some now) ∷ [] → since place seen now)
         × ((one other : ℕ) → HasProcess one other Inside now → since place seen now))
 

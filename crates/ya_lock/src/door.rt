@@ -25,22 +25,52 @@ const SPINS: u32 = 7;
 /// A place's share of a turn, in microseconds. A nap lasts as long as the shares of all places.
 const SHARE: u64 = 200;
 
-impl<V: Kept + Drop, const L: u32> TreeLock<V, L> {
-    /// Naps once where the lock is crowded. `crowded` is what the place remembers, and the result what it then does: below
-    /// `CROWDED` how many entries in a row found somebody at the root, and from there on how many since its nap found
-    /// nobody. Who remembers a crowd naps as soon as it finds somebody, so that one of the two goes on alone.
+/// What a place remembers of its last entries.
+#[derive(Clone, Copy)]
+pub(crate) enum Crowd {
+    /// No crowd: so many entries in a row, fewer than `CROWDED`, found somebody at the root.
+    Met(u32),
+    /// A crowd, since which so many entries found nobody.
+    Remembered(u32),
+}
+
+impl Crowd {
+    /// No entry found anybody.
+    pub(crate) const NONE: Crowd = Crowd::Met(0);
+
+    /// What is remembered after an entry that found nobody at the root.
     #[inline(always)]
-    pub(crate) fn come_to_door<R: Wait>(&self, rt: &R, place: usize, crowded: u32) -> u32
+    fn after_nobody(self) -> Crowd {
+        match self {
+            Crowd::Remembered(missed) if missed < FORGOTTEN => Crowd::Remembered(missed + 1),
+            Crowd::Met(_) | Crowd::Remembered(_) => Crowd::NONE,
+        }
+    }
+}
+
+impl<V: Kept + Drop, const L: u32> TreeLock<V, L> {
+    /// Naps once where the lock is crowded. `crowd` is what the place remembers, and the result what it then does. Who
+    /// remembers a crowd naps as soon as it finds somebody, so that one of the two goes on alone.
+    #[inline(always)]
+    pub(crate) fn come_to_door<R: Wait>(&self, rt: &R, place: usize, crowd: Crowd) -> Crowd
         requires { place < 2 ^ L }
     {
         if !self.is_taken() {
-            return found_nobody(crowded);
+            return crowd.after_nobody();
         }
-        if crowded < CROWDED {
-            return crowded + 1;
+        if let Crowd::Met(times) = crowd {
+            return if times < CROWDED - 1 {
+                Crowd::Met(times + 1)
+            } else {
+                Crowd::Remembered(0)
+            };
         }
         self.nap(rt, place);
-        if self.is_taken_again() { CROWDED } else { 0 }
+        if self.is_taken_again() {
+            Crowd::Remembered(0)
+        } else {
+            Crowd::NONE
+        }
     }
 
     /// Whether somebody is at the root at one of the next few looks.
@@ -80,16 +110,6 @@ impl<V: Kept + Drop, const L: u32> TreeLock<V, L> {
         let shared = &self.table.shared;
         let share_of_all = Duration::from_micros(SHARE << L);
         shared.park_timeout(rt, Self::bell(place), 0, share_of_all);
-    }
-}
-
-/// What a place remembers after an entry that found nobody at the root.
-#[inline(always)]
-fn found_nobody(crowded: u32) -> u32 {
-    if CROWDED <= crowded && crowded < CROWDED + FORGOTTEN {
-        crowded + 1
-    } else {
-        0
     }
 }
 

@@ -4,8 +4,10 @@ ghost use Rattle.std.specs.Borrow.{Lends, sem};
 ghost use Rattle.ya_lock.specs.contracts.guard.Guard.{the_row};
 ghost use Rattle.ya_lock.specs.GuardLends.{guard_with_value};
 
+use crate::door::Crowd;
 use crate::ghost_value::GhostValue;
 use crate::rule::LockSeat;
+use std::fmt;
 use std::marker::Model;
 
 /// The lent value, while the place of a pass is inside. Spend it by `leave` or `close`. Contracts see its lock, its
@@ -17,7 +19,7 @@ pub struct Guard<V> {
     pub(crate) remote: u64,
     pub(crate) value: V,
     pub(crate) found: GhostValue<V>,
-    pub(crate) crowded: u32,
+    pub(crate) crowd: Crowd,
 }
 
 impl<V> Model for Guard<V> {
@@ -59,5 +61,13 @@ impl<V> Guard<V> {
         ensures { result ≡ self.now.place }
     {
         self.place
+    }
+}
+
+impl<V> fmt::Debug for Guard<V> {
+    fn fmt<F: fmt::Write>(&self, f: &mut fmt::Formatter<F>) -> fmt::Result {
+        f.debug_struct("Guard")
+            .field("place", &self.place)
+            .finish_non_exhaustive()
     }
 }

@@ -9,9 +9,9 @@ use crate::rule::{LockTable, Ruled, View};
 /// Wherever the rule of a lock's table holds, and so at every moment between two atomic steps of its seats: the
 /// invariant of the core holds of the words and of the processes that the seats show, so whoever waits is owed a word;
 /// where some process takes part, one that does goes on by the words as they are; each place has one seat, and one seat
-/// at most is inside; once there are processes, the value is in its slot exactly where none is inside; what each place away
-/// has seen may have become, by other places, the value as it is; and the passes are made by one seat, before which nobody
-/// knows anything.
+/// at most is inside; once the value was given, it is in its slot exactly where none is inside; what each place away has
+/// seen, or was given where its pass is still to be made, may have become, by other places, the value as it is; and the
+/// passes are made by one seat, before which nobody knows anything.
 pub fn rule<V: Kept, const L: u32>()
     requires { 1 ≤ L }
     ensures { (s : _) → ⟦<LockTable<V> as Ruled<Option<V>, View<V>, u32>>⟧.rule L s
@@ -20,8 +20,9 @@ pub fn rule<V: Kept, const L: u32>()
 
 /// At each such moment each seat of a process may take the step that is due, whatever the words and all other views are:
 /// one load or store, by which that seat's view goes on as the core says, no other view changes, and the rule is kept. One
-/// inside needs a value to leave that `done` allows of what it found. Nothing is said of a seat that joins another (it
-/// still is inside) nor of the one that makes the passes.
+/// inside needs a value to leave that `done` allows of what it found: this then lies in the slot, and its place has seen it.
+/// One that comes inside takes what lay there. Nothing is said of a seat that joins another (it still is inside) nor of the
+/// one that makes the passes.
 pub fn steps<V: Kept, const L: u32>()
     requires { 1 ≤ L }
     ensures { (s : _) → ⟦<LockTable<V> as Ruled<Option<V>, View<V>, u32>>⟧.rule L s

@@ -5,6 +5,7 @@ ghost use Rattle.ya_lock.specs.Rule.{making_index};
 ghost use Rattle.ya_lock.specs.inside.Lock.{IsLockTable};
 ghost use Rattle.ya_lock.specs.Lock.{ArePassesInOrder};
 
+use crate::door::Crowd;
 use crate::ghost_value::GhostValue;
 use crate::kept::Kept;
 use crate::pass::Pass;
@@ -77,7 +78,7 @@ impl<V: Kept + Drop, const L: u32> TreeLock<V, L> {
                 place,
                 remote: 0,
                 seen: seen.again(),
-                crowded: 0,
+                crowd: Crowd::NONE,
             });
         }
         shared.load::<HandOutLast>(&mut maker, 0);
@@ -86,7 +87,7 @@ impl<V: Kept + Drop, const L: u32> TreeLock<V, L> {
             place: last,
             remote: 0,
             seen,
-            crowded: 0,
+            crowd: Crowd::NONE,
         });
         passes
     }

@@ -1,8 +1,10 @@
 //! The right to enter a lock.
 ghost use Rattle.std.specs.Prelude.{◌≡◌, ℕ};
 
+use crate::door::Crowd;
 use crate::ghost_value::GhostValue;
 use crate::rule::LockSeat;
+use std::fmt;
 use std::marker::Model;
 
 /// The right to enter one lock from one place, while the place is away. Contracts see its lock, its place, the lent
@@ -13,8 +15,7 @@ pub struct Pass<V> {
     pub(crate) place: usize,
     pub(crate) remote: u64,
     pub(crate) seen: GhostValue<V>,
-    /// What the place remembers of its last entries, as the door counts them.
-    pub(crate) crowded: u32,
+    pub(crate) crowd: Crowd,
 }
 
 impl<V> Model for Pass<V> {
@@ -40,5 +41,13 @@ impl<V> Pass<V> {
         ensures { result ≡ self.now.place }
     {
         self.place
+    }
+}
+
+impl<V> fmt::Debug for Pass<V> {
+    fn fmt<F: fmt::Write>(&self, f: &mut fmt::Formatter<F>) -> fmt::Result {
+        f.debug_struct("Pass")
+            .field("place", &self.place)
+            .finish_non_exhaustive()
     }
 }

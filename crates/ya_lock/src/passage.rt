@@ -61,6 +61,7 @@ impl<'a, V: Kept + Drop, const L: u32> Passage<'a, V, L> {
         ensures of { result.of ≡ way_of pass }
         ensures begins { BeginsEntry result.walk }
     {
+        // What holds of the lock is known once a field of it is looked at: that it has 1 to 6 levels.
         let _ = &lock.table;
         let Pass {
             seat,
@@ -195,20 +196,21 @@ impl<'a, V: Kept + Drop, const L: u32> Passage<'a, V, L> {
 
     /// Makes the accesses of an exit until its place is idle. As on the way in, those of a level are written out.
     #[inline(always)]
-    pub(crate) fn release(&mut self)
-        requires { BeginsExit self.old.walk }
-        ensures of { self.new.of ≡ self.old.of }
-        ensures idle { op_of self.new.walk ≡ Op.Idle }
-        ensures least { self.old.walk.remote ≤ self.new.walk.remote }
-        ensures most { self.new.walk.remote ≤ self.old.walk.remote + budget self.old.walk }
+    pub(crate) fn release(self) -> Self
+        requires { BeginsExit self.walk }
+        ensures of { result.of ≡ self.entry.of }
+        ensures idle { op_of result.walk ≡ Op.Idle }
+        ensures least { self.entry.walk.remote ≤ result.walk.remote }
+        ensures most { result.walk.remote ≤ self.entry.walk.remote + budget self.entry.walk }
     {
-        self.step();
+        let mut passage = self;
+        passage.step();
         loop {
-            self.let_in();
-            if let Process::Idle = self.walker.process() {
-                return;
+            passage.let_in();
+            if let Process::Idle = passage.walker.process() {
+                return passage;
             }
-            self.step();
+            passage.step();
         }
     }
 

@@ -4,6 +4,7 @@ ghost use Rattle.ya_core.specs.WalkerModel.{op_of};
 ghost use Rattle.ya_lock.specs.Lock.{ArePassesInOrder, guard_of, pass_of};
 ghost use Rattle.ya_lock.specs.inside.Lock.{guard_at};
 
+use crate::door::Crowd;
 use crate::ghost_value::GhostValue;
 use crate::guard::Guard;
 use crate::kept::Kept;
@@ -12,6 +13,7 @@ use crate::passage::Passage;
 use crate::rule::{LockTable, SLOT, SPACING};
 use crate::step_effects::{GiveValue, JoinPass, LearnSince, TakeSlot};
 use std::alloc::Global;
+use std::fmt;
 use std::marker::Model;
 use std::sync::Wait;
 use ya_core::{NoMemory, Op, Walker};
@@ -67,9 +69,10 @@ impl<V: Kept + Drop, const L: u32> TreeLock<V, L> {
         ensures fresh { V.since pass.place pass.seen result.found }
         ensures count { result.remote ≤ 7 * L }
     {
+        // What holds of the lock is known once a field of it is looked at: that it has 1 to 6 levels.
         let _ = &self.table;
-        let crowded = self.come_to_door(rt, pass.place, pass.crowded);
-        Self::take_value(Passage::begin(self, pass).acquire(rt), crowded)
+        let crowd = self.come_to_door(rt, pass.place, pass.crowd);
+        Self::take_value(Passage::begin(self, pass).acquire(rt), crowd)
     }
 
     /// Gives the value back as it is now, and lets the next one in. The place may have changed it as `done` says. It
@@ -87,7 +90,7 @@ impl<V: Kept + Drop, const L: u32> TreeLock<V, L> {
             remote,
             value,
             found: _,
-            crowded,
+            crowd,
         } = guard;
         let seen = GhostValue::of(&value);
         let None = self.table.shared.exchange(&mut seat, SLOT, Some(value)) else {
@@ -95,14 +98,14 @@ impl<V: Kept + Drop, const L: u32> TreeLock<V, L> {
         };
         let mut walker = Walker::inside(Self::shape(), place, remote);
         walker.begin_exit();
-        let mut passage = Passage {
+        let passage = Passage {
             lock: self,
             seat,
             place,
             walker,
             seen,
         };
-        passage.release();
+        let passage = passage.release();
         let Passage {
             seat,
             place,
@@ -115,7 +118,7 @@ impl<V: Kept + Drop, const L: u32> TreeLock<V, L> {
             place,
             remote: walker.remote(),
             seen,
-            crowded,
+            crowd,
         }
     }
 
@@ -147,7 +150,7 @@ impl<V: Kept + Drop, const L: u32> TreeLock<V, L> {
             remote: _,
             value,
             found: _,
-            crowded: _,
+            crowd: _,
         } = guard;
         let mut closed = table.close_with(seat);
         let _empty = closed.take(SLOT);
@@ -157,7 +160,7 @@ impl<V: Kept + Drop, const L: u32> TreeLock<V, L> {
 
     /// The guard of a place that has come inside, with the value that it finds in the slot.
     #[inline(always)]
-    pub(crate) fn take_value(passage: Passage<V, L>, crowded: u32) -> Guard<V>
+    pub(crate) fn take_value(passage: Passage<V, L>, crowd: Crowd) -> Guard<V>
         requires { op_of passage.walk ≡ Op.Inside }
         ensures guard { result ≡ guard_at passage.entry.of result.found result.remote }
         ensures fresh { V.since passage.entry.of.place passage.entry.of.seen result.found }
@@ -181,7 +184,15 @@ impl<V: Kept + Drop, const L: u32> TreeLock<V, L> {
             remote,
             value,
             found,
-            crowded,
+            crowd,
         }
+    }
+}
+
+impl<V: Kept + Drop, const L: u32> fmt::Debug for TreeLock<V, L> {
+    fn fmt<F: fmt::Write>(&self, f: &mut fmt::Formatter<F>) -> fmt::Result {
+        f.debug_struct("TreeLock")
+            .field("levels", &L)
+            .finish_non_exhaustive()
     }
 }

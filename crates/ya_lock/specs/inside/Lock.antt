@@ -11,7 +11,7 @@ use Rattle.ya_lock.specs.Rule.{row_length}
 use Rattle.ya_lock.specs.Lock.{LockId, IdlePass, OpenGuard}
 use Rattle.ya_core.specs.declared.process.EntryPoint.TheVariants.{E1, E7, E8, E9, E10}
 use Rattle.ya_core.specs.declared.process.ExitPoint.TheVariants.{X1, X3}
-use Rattle.ya_core.specs.Steps.{won, next_of}
+use Rattle.ya_core.specs.Steps.{after_entry, next_of}
 
 -- the table has the words of a tree of this many levels, the making word, and the bells
 abbrev pub HasTree : LockId → ℕ → Type 0
@@ -108,7 +108,7 @@ HasWon _ = ⊥
 -- the wait of a process is over: from e8 it has come to e9, and from e10 it has won the level
 abbrev pub HasPassed : ℕ → Process → Walk → Type 0
 HasPassed levels (Entering level E8) after = (after.process ≡ Entering level E9) × (after.begun ≡ false)
-HasPassed levels (Entering level E10) after = (after.process ≡ won levels level) × (after.begun ≡ false)
+HasPassed levels (Entering level E10) after = (after.process ≡ after_entry levels level) × (after.begun ≡ false)
 HasPassed levels _ after = ⊥
 
 -- one look at its spin word: it still waits, or its wait is over

@@ -1,6 +1,7 @@
 //! Places that are led in by hand, an access at a time.
 ghost use Rattle.std.specs.Prelude.{◌≡◌, ◌^◌, ◌<◌, IfSome};
 
+use crate::door::Crowd;
 use crate::passage::Passage;
 use crate::{Guard, Kept, Pass, TreeLock};
 use std::marker::Model;
@@ -92,6 +93,6 @@ impl<'a, V: Kept + Drop, const L: u32> LedPlace<'a, V, L> {
         let Op::Inside = passage.walker.op() else {
             return None;
         };
-        Some(TreeLock::take_value(passage, 0))
+        Some(TreeLock::take_value(passage, Crowd::NONE))
     }
 }

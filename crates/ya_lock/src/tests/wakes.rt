@@ -1,6 +1,7 @@
 //! Wakes just when the one to be woken falls asleep.
 ghost use Rattle.std.specs.Prelude.{◌≡◌, ◌<◌};
 
+use crate::door::Crowd;
 use crate::rule::SPACING;
 use crate::tests::led::sleeps;
 use crate::tests::{Number, ends};
@@ -108,7 +109,7 @@ fn wake_once<R: Wait>(
     ensures { result.1.lock ≡ lock.now }
 {
     let mut pass = pass;
-    pass.crowded = 0;
+    pass.crowd = Crowd::NONE;
     let guard = lock.enter(rt, pass);
     let other = if guard.place() == 0 { 1 } else { 0 };
     let (sign, pauses) = sign_of(round);

@@ -5,13 +5,13 @@ returns g c = λ s holds.
     let lock = c.rule.ensures s holds in
     record {
       exclusion = lock.exclusion;
-      at_rest = λ pass none.
-          let slot = lock.value.1 pass.0 pass.1 pass.2.0 pass.2.1.0 pass.2.1.1 none in
+      at_rest = λ given none.
+          let slot = lock.value.1 given none in
           record {
             lent = slot.0;
             in_slot = slot.1;
             holds = slot.0.holds;
             lawful = slot.0.lawful;
-            since = λ seat place seen away. ((lock.fresh seat place seen slot.0 away).0 slot.1).since;
+            since = λ seat place seen known. ((lock.fresh seat place seen slot.0 known).0 slot.1).since;
           };
     }

@@ -45,5 +45,5 @@ returns c =
           c.next-next.result done goes c.perform-value.auto.words;
       step = machine_steps levels place words list c.requires.room c.requires.machine c.perform-value.new.words
           c.next-next.result done goes;
-      told = c.tell.ensures ∙ cc;
+      told = c.step_by.ensures ∙ cc;
     }

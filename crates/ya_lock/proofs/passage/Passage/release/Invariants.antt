@@ -4,13 +4,13 @@ use Rattle.ya_core.specs.declared.process.ExitPoint.TheVariants.{X2}
 use Rattle.ya_core.specs.WalkerModel.{budget, points_ahead}
 use Rattle.ya_lock.proofs.passage.Passage.release.Given as goal
 
-abbrev pub invariant-loop-self : goal.invariant-loop-self
-invariant-loop-self g l = record {
-  of : l.self.of ≡ l.initial.self.of;
-  freed : (level : ℕ) × (l.self.walk.process ≡ Leaving level X2);
-  least : l.initial.self.walk.remote ≤ l.self.walk.remote;
-  most : l.self.walk.remote + budget l.self.walk ≤ l.initial.self.walk.remote + budget l.initial.self.walk;
+abbrev pub invariant-loop-passage : goal.invariant-loop-passage
+invariant-loop-passage g l = record {
+  of : l.passage.of ≡ l.initial.passage.of;
+  freed : (level : ℕ) × (l.passage.walk.process ≡ Leaving level X2);
+  least : l.initial.passage.walk.remote ≤ l.passage.walk.remote;
+  most : l.passage.walk.remote + budget l.passage.walk ≤ l.initial.passage.walk.remote + budget l.initial.passage.walk;
 }
 
-abbrev pub decreases-loop-self : goal.decreases-loop-self
-decreases-loop-self g l = points_ahead l.self.walk
+abbrev pub decreases-loop-passage : goal.decreases-loop-passage
+decreases-loop-passage g l = points_ahead l.passage.walk

@@ -2,7 +2,7 @@ use Rattle.std.proofs.Common.{arith, ◌≡◌, ℕ, ◌+◌, ◌*◌, ◌^◌, 
 use Rattle.ya_core.specs.ArbitrationTree.{count_of_words}
 use Rattle.ya_core.proofs.Promised.{at_most_64}
 use Rattle.ya_lock.specs.Rule.{making_index}
-use Rattle.ya_lock.proofs.Words.{making_small, making_is, bell_is}
+use Rattle.ya_lock.proofs.WordsInRow.{making_small, making_is, bell_is}
 use Rattle.ya_lock.proofs.tree_lock.TreeLock.bell.Goals as goal
 
 -- the tree has few words, and few places

@@ -1,7 +1,7 @@
 use Rattle.std.proofs.Common.{◌≡◌, ℕ, ◌<◌, sym, ◌∙◌, subst}
 use Rattle.atomic_table.specs.Table.{Allows}
 use Rattle.ya_lock.specs.Rule.{making_index, Rule}
-use Rattle.ya_lock.proofs.Words.{bell_behind}
+use Rattle.ya_lock.proofs.WordsInRow.{bell_behind}
 use Rattle.ya_lock.proofs.TreeSize.{bell_in}
 use Rattle.ya_lock.proofs.BellStores.{rings}
 use Rattle.ya_lock.proofs.tree_lock.TreeLock.set_bell.Goals as goal
