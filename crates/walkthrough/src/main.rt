@@ -5,6 +5,7 @@
 mod book;
 mod cover;
 mod diff;
+mod fib;
 mod gate;
 mod lock;
 mod replay;
@@ -82,6 +83,21 @@ fn tell_difference<W: Write>(alloc: Global, out: &mut W) -> Result<()> {
     Ok(())
 }
 
+fn tell_forwarding<W: Write>(alloc: Global, out: &mut W) -> Result<()> {
+    let mut book = book_of_one(alloc)?;
+    let narrower = add(b"10.1.0.0/16", 100, b"192.0.2.2")?;
+    let addr = Addr::parse(b"10.1.2.3")?;
+    let routes = fib::routes_to(alloc, &mut book, narrower, addr)?;
+    if let (Some(before), Some(after)) = routes {
+        write!(out, "10.1.2.3 is forwarded by ")?;
+        before.prefix.write_to(out)?;
+        write!(out, ", and then by ")?;
+        after.prefix.write_to(out)?;
+        writeln!(out)?;
+    }
+    Ok(())
+}
+
 fn tell_schedules<W: Write>(alloc: Global, out: &mut W) -> Result<()> {
     let alone = replay::somebody_inside(alloc, 1, &[0, 0, 0, 0])?;
     let between = replay::somebody_inside(alloc, 1, &[0, 1, 0, 1])?;
@@ -129,6 +145,7 @@ fn main(rt: HostRuntime) -> Result<()> {
     tell_port(alloc, &mut out)?;
     tell_feeds(alloc, &mut out)?;
     tell_difference(alloc, &mut out)?;
+    tell_forwarding(alloc, &mut out)?;
     tell_schedules(alloc, &mut out)?;
     tell_counts(&rt, alloc, &mut out)?;
     tell_shared(&rt, alloc, &mut out)?;

@@ -1,0 +1,3 @@
+//! Proved examples of the definitions of `rt_fib`. They are a crate of their own, since nobody who builds the program needs
+//! them.
+#![tactic(auto)]

@@ -1,0 +1,5 @@
+pub mod Reading
+pub mod Growing
+pub mod Renewing
+pub mod Outside
+pub mod Equality

@@ -1,0 +1,23 @@
+-- What holds of every book.
+use Rattle.std.specs.Prelude.{◌≡◌, ℕ, List}
+use Rattle.rt_rib.specs.declared.routes.Route.{Route}
+use Rattle.rt_rib.specs.declared.commands.Cmd.{Cmd}
+use Rattle.rt_rib.specs.declared.commands.Cmd.TheVariants.{Add, Replace, Withdraw, Lookup, Dump, Purge}
+use Rattle.rt_rib.specs.declared.commands.Reply.{Reply}
+use Rattle.rt_rib.specs.Book.{BookContents, table_of, Applies}
+use Rattle.rt_fib.specs.Tables.{IsKeptOutside}
+
+-- a command that puts a route in, replaces one or takes one out keeps what lies outside of its prefix, one that only asks keeps
+-- all, and of a purge nothing is said
+abbrev pub KeepsOutside : Cmd → List Route → List Route → Type 0
+KeepsOutside (Add prefix pref hop) old new = IsKeptOutside prefix old new
+KeepsOutside (Replace prefix pref hop) old new = IsKeptOutside prefix old new
+KeepsOutside (Withdraw prefix) old new = IsKeptOutside prefix old new
+KeepsOutside (Lookup addr) old new = old ≡ new
+KeepsOutside Dump old new = old ≡ new
+KeepsOutside Purge old new = Unit {0}
+
+-- so it is with each command that a book answers, between the tables before and after it
+abbrev pub CommandsKeepOutside : Type 0
+CommandsKeepOutside =
+    (old new : BookContents) (feed : ℕ) (cmd : Cmd) (reply : Reply) → Applies old new feed cmd reply → KeepsOutside cmd (table_of old) (table_of new)

@@ -1,0 +1,27 @@
+-- Entries of one prefix, and what a change of these leaves of the others.
+use Rattle.std.specs.Prelude.{◌≡◌, ℕ, ◌+◌, ◌*◌, ◌^◌, ◌<◌, ◌≤◌, ◌⊎◌, false, List, length, get_or, Option}
+use Rattle.rt_cidr.specs.declared.prefixes.Prefix.{Prefix}
+use Rattle.rt_cidr.specs.Prefix.{covers}
+use Rattle.rt_rib.specs.declared.routes.Route.{Route}
+use Rattle.rt_fib.specs.declared.spans.Span.{Span}
+use Rattle.rt_fib.specs.inside.Entries.{at, IsEntry}
+
+-- no address of another entry is the prefix's
+pub record AreEntriesOf (prefix : Prefix) (span : Span) : Type 0 where
+  pub ordered : span.first < span.end
+  pub fits : span.end ≤ 2 ^ 24
+  pub outside : (i k : ℕ) → i < 2 ^ 24 → k < 256 → (i < span.first) ⊎ (span.end ≤ i) → covers prefix (at (i * 256 + k)) ≡ false
+
+-- so many entries were put from this place on, and the others stayed
+pub record ArePut (old new fresh : List ℕ) (first count : ℕ) : Type 0 where
+  pub size : length new ≡ length old
+  pub there : (k : ℕ) → k < count → get_or new (first + k) 0 ≡ get_or fresh k 0
+  pub before : (i : ℕ) → i < first → get_or new i 0 ≡ get_or old i 0
+  pub behind : (i : ℕ) → first + count ≤ i → get_or new i 0 ≡ get_or old i 0
+
+-- the span's entries are those of the table, and the others stayed
+pub record AreRenewed (old new : List ℕ) (blocks : List (List ℕ)) (answers : List (Option Route)) (table : List Route) (span : Span) : Type 0 where
+  pub size : length new ≡ length old
+  pub there : (i : ℕ) → span.first ≤ i → i < span.end → IsEntry table blocks answers i (get_or new i 0)
+  pub before : (i : ℕ) → i < span.first → get_or new i 0 ≡ get_or old i 0
+  pub behind : (i : ℕ) → span.end ≤ i → get_or new i 0 ≡ get_or old i 0

@@ -1,0 +1,26 @@
+//! Which entries a prefix's addresses have.
+ghost use Rattle.rt_fib.specs.inside.Spans.{AreEntriesOf};
+
+use rt_cidr::Prefix;
+
+/// How many entries there are.
+pub(crate) const ENTRIES: u32 = 1 << 24;
+
+/// The entries from the first on, up to the end, which is no longer one of them.
+#[derive(Clone, Copy)]
+pub(crate) struct Span {
+    pub(crate) first: u32,
+    pub(crate) end: u32,
+}
+
+/// The entries of the prefix's addresses.
+pub(crate) fn span_of(prefix: &Prefix) -> Span
+    ensures { AreEntriesOf prefix.now result }
+{
+    let base = u64::from(prefix.base());
+    let size = 1u64 << (32 - prefix.len());
+    Span {
+        first: (base / 256) as u32,
+        end: ((base + size + 255) / 256).min(ENTRIES as u64) as u32,
+    }
+}

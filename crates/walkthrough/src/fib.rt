@@ -1,0 +1,37 @@
+//! `rt_fib`: a forwarding table that follows a book, command by command.
+ghost use Rattle.std.specs.Prelude.{◌≡◌, IfOk};
+ghost use Rattle.rt_rib.specs.Book.{table_of};
+ghost use Rattle.rt_rib.specs.LookUp.{look_up};
+
+use rt_cidr::Addr;
+use rt_fib::Fib;
+use rt_fib::laws::commands_keep_outside;
+use rt_rib::{Book, Cmd, Refused, Route};
+use std::alloc::Global;
+
+/// Has the book answer a command of feed 1, and its forwarding table follow it. An error where memory is refused.
+pub fn follow(book: &mut Book<Global>, fib: &mut Fib<Global>, cmd: Cmd) -> Result<(), Refused>
+    requires { fib.old ≡ table_of book.old }
+    ensures { IfOk result (λ _. fib.new ≡ table_of book.new) }
+{
+    // What each command leaves as it was: known from here on.
+    commands_keep_outside();
+    book.apply(1, cmd)?;
+    fib.follow(book, &cmd)
+}
+
+/// The route to an address before a command of feed 1 and after it, by a forwarding table. An error where memory is refused.
+pub fn routes_to(
+    alloc: Global,
+    book: &mut Book<Global>,
+    cmd: Cmd,
+    addr: Addr,
+) -> Result<(Option<Route>, Option<Route>), Refused>
+    ensures before { IfOk result (λ routes. routes.0 ≡ look_up addr (table_of book.old)) }
+    ensures after { IfOk result (λ routes. routes.1 ≡ look_up addr (table_of book.new)) }
+{
+    let mut fib = Fib::new(alloc, book)?;
+    let before = fib.look_up(addr);
+    follow(book, &mut fib, cmd)?;
+    Ok((before, fib.look_up(addr)))
+}
