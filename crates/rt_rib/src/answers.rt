@@ -8,14 +8,16 @@ use crate::map::Map;
 use crate::offers::Offers;
 use crate::routes::Route;
 use rt_cidr::Addr;
+use rt_trie::Matches;
 use std::alloc::Allocator;
+use std::fmt;
 use std::marker::Model;
 
 /// What a table answers to one address after another. Contracts see the table's routes. It keeps the way down of the last
 /// answer, and takes no memory.
 #[derive(Drop)]
 pub struct Answers<'a, A: Allocator + Copy> {
-    map: rt_trie::Answers<'a, Offers<A>, A>,
+    map: Matches<'a, Offers<A>, A>,
 }
 
 impl<'a, A: Allocator + Copy> Model for Answers<'a, A> {
@@ -30,6 +32,15 @@ impl<'a, A: Allocator + Copy> Model for Answers<'a, A> {
     ghost invariant = { λ w. IsMap w.map };
 }
 
+/// Shows the address that was last asked about, and no route.
+impl<'a, A: Allocator + Copy> fmt::Debug for Answers<'a, A> {
+    fn fmt<W: fmt::Write>(&self, f: &mut fmt::Formatter<W>) -> fmt::Result {
+        f.debug_struct("Answers")
+            .field("map", &self.map)
+            .finish_non_exhaustive()
+    }
+}
+
 impl<'a, A: Allocator + Copy> Answers<'a, A> {
     ghost use Rattle.rt_rib.specs.LookUp.{look_up};
 
@@ -37,11 +48,13 @@ impl<'a, A: Allocator + Copy> Answers<'a, A> {
         requires { IsMap map.now.pairs }
         ensures { result ≡ routes_of map.now.pairs }
     {
-        Answers { map: map.answers() }
+        Answers { map: map.matches() }
     }
 
-    /// The answer to a look-up of the address, and how far it goes, as `Book::look_up_until` gives them. Of an address that is
-    /// no lesser than the one before, the way down goes on from where theirs part; of a lesser one it begins anew.
+    /// The answer to a look-up of the address, and how far it goes: up to this last address each from the given one on has the
+    /// very same. It is as far as the trie's nodes show, so a caller who goes on past it goes over all addresses in some two
+    /// calls a node (which no clause says). Of an address that is no lesser than the one before, the way down goes on from
+    /// where theirs part; of a lesser one it begins anew.
     pub fn until(&mut self, addr: Addr) -> (Option<Route>, Addr)
         ensures kept { self.new ≡ self.old }
         ensures onward { addr.0 ≤ result.1.0 }

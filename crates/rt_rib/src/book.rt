@@ -1,7 +1,6 @@
 //! The book: a table with the journal of all that it answered, and nothing but what keeps the two in step.
-ghost use Rattle.std.specs.Prelude.{◌≡◌, ◌<◌, ◌≤◌, [], length, map, IfOk, OnOk, OnErr};
+ghost use Rattle.std.specs.Prelude.{◌≡◌, ◌<◌, [], length, map, IfOk, OnOk, OnErr};
 ghost use Rattle.std.specs.List.{All};
-ghost use Rattle.rt_cidr.specs.declared.address.Addr.{Addr};
 ghost use Rattle.rt_rib.specs.Book.{IsLimit, IsFeed};
 
 use crate::answers::Answers;
@@ -9,8 +8,10 @@ use crate::commands::{Cmd, Entry, Reply};
 use crate::refused::Refused;
 use crate::routes::Route;
 use crate::table::Table;
+use crate::{ahead, lookups};
 use rt_cidr::Addr;
 use std::alloc::Allocator;
+use std::fmt;
 use std::marker::Model;
 
 /// A routing table with the journal of every command that it answered. Contracts see a book as its limit, its journal,
@@ -43,6 +44,16 @@ impl<A: Allocator + Copy> Model for Book<A> {
     } };
 
     ghost invariant = { λ b. IsJournalOf (table_state b.table) b.journal.items };
+}
+
+/// Shows how many entries its journal has and how many nodes its trie takes, and none of them.
+impl<A: Allocator + Copy> fmt::Debug for Book<A> {
+    fn fmt<W: fmt::Write>(&self, f: &mut fmt::Formatter<W>) -> fmt::Result {
+        f.debug_struct("Book")
+            .field("entries", &self.journal.len())
+            .field("nodes", &self.table.map().nodes())
+            .finish_non_exhaustive()
+    }
 }
 
 impl<A: Allocator + Copy> Book<A> {
@@ -108,7 +119,7 @@ impl<A: Allocator + Copy> Book<A> {
     /// in cache. In a table that doesn't lie in cache this makes a batch faster. It answers nothing and changes nothing, and
     /// takes no memory.
     pub fn read_ahead(&self, cmds: &[Cmd]) {
-        self.table.read_ahead(cmds);
+        ahead::read_ahead(self.table.map(), cmds);
     }
 
     /// For each address, in order, the best route of the longest prefix that covers it, as `Cmd::Lookup` would answer it, or
@@ -119,25 +130,15 @@ impl<A: Allocator + Copy> Book<A> {
         requires { length answers.old ≡ length addresses.now }
         ensures { answers.new ≡ map (λ addr. look_up addr (table_of self.now)) addresses.now }
     {
-        self.table.look_up(addresses, answers);
+        lookups::best_of_each(self.table.map(), addresses, answers);
     }
 
-    /// The answer to a look-up of the address, and how far it goes: up to this last address each from the given one on has the
-    /// very same. It is as far as the trie's nodes show, so a caller who goes on past it goes over all addresses in some two
-    /// calls a node (which no clause says). It takes no memory and changes nothing.
-    pub fn look_up_until(&self, addr: Addr) -> (Option<Route>, Addr)
-        ensures onward { addr.0 ≤ result.1.0 }
-        ensures same { (b : Addr) → addr.0 ≤ b.0 → b.0 ≤ result.1.0 → look_up b (table_of self.now) ≡ result.0 }
-    {
-        self.table.look_up_until(addr)
-    }
-
-    /// `look_up_until` of one address after another: of rising ones each goes on from the way down of the last, in place of
-    /// from the trie's root. It takes no memory and changes nothing.
+    /// The answers to look-ups of one address after another, each with how far it goes: of rising ones each goes on from the
+    /// way down of the last, in place of from the trie's root. It takes no memory and changes nothing.
     pub fn answers(&self) -> Answers<'_, A>
         ensures { result ≡ table_of self.now }
     {
-        self.table.answers()
+        Answers::new(self.table.map())
     }
 
     /// Every route whose prefix covers the address, in memory of the allocator: by greatest length, then least preference,
@@ -146,7 +147,7 @@ impl<A: Allocator + Copy> Book<A> {
     pub fn look_up_all(&self, alloc: A, addr: Addr) -> Result<Vec<Route, A>, Refused>
         ensures { IfOk result (λ routes. routes.items ≡ look_up_all addr (table_of self.now)) }
     {
-        self.table.look_up_all(alloc, addr)
+        lookups::all_of(self.table.map(), alloc, addr)
     }
 
     /// The routes in dump order, by base, then length, then preference, then feed, in memory of the allocator. M1:
@@ -163,7 +164,7 @@ impl<A: Allocator + Copy> Book<A> {
     pub fn nodes(&self) -> usize
         ensures { result ≡ self.now.trie.nodes }
     {
-        self.table.nodes()
+        self.table.map().nodes()
     }
 
     /// Every answered command with its reply, in the order in which they were answered.

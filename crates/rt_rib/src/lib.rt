@@ -21,8 +21,9 @@
 //! commands at hand lets the trie wait for the memory of all of them at once by [`Book::read_ahead`] (`src/ahead.rt`).
 //!
 //! A book is also asked beside its journal: [`Book::look_up`] answers many addresses at once, [`Book::look_up_all`] gives every
-//! route whose prefix covers an address, the best first, and [`Book::look_up_until`] tells how far an answer goes. By
-//! [`Book::answers`] one such look-up after another goes on from the way down of the last.
+//! route whose prefix covers an address, the best first, and [`Book::answers`] answers one address after another, each with how
+//! far its answer goes. Such a look-up goes from the book, which knows that the routes are the journal's, to the map
+//! (`src/lookups.rt`), where a prefix's first offer is its best one, and there to the trie, whose type keeps it lawful.
 //!
 //! Only tested, since no clause says it: that a command succeeds where there is memory, whose memory a list takes, and that
 //! an answer is said to go as far as it does.

@@ -4,7 +4,7 @@ ghost use Rattle.rt_cidr.specs.declared.address.Addr.{Addr};
 ghost use Rattle.rt_trie.specs.Map.{pair_copied, address_at, IsLongest};
 ghost use Rattle.rt_rib.specs.LookUp.{look_up, look_up_all};
 ghost use Rattle.rt_rib.specs.Maps.{Map, route_by, routes_of, IsMap};
-ghost use Rattle.rt_rib.specs.inside.Maps.{route_at};
+ghost use Rattle.rt_rib.specs.inside.Maps.{route_at, look_up_each};
 
 use crate::ahead::AHEAD;
 use crate::map::{Map, map_laws, route_by};
@@ -32,16 +32,6 @@ pub(crate) fn best_of<A: Allocator + Copy>(map: &Map<A>, addr: Addr) -> Option<R
     ensures { result ≡ look_up addr (routes_of map.now.pairs) }
 {
     best_at(map.longest(addr))
-}
-
-/// `best_of` of the address, and a last address: each one up to it has the same.
-pub(crate) fn best_until<A: Allocator + Copy>(map: &Map<A>, addr: Addr) -> (Option<Route>, Addr)
-    requires { IsMap map.now.pairs }
-    ensures onward { addr.0 ≤ result.1.0 }
-    ensures same { (b : Addr) → addr.0 ≤ b.0 → b.0 ≤ result.1.0 → look_up b (routes_of map.now.pairs) ≡ result.0 }
-{
-    let (longest, last) = map.longest_until(addr);
-    (best_at(longest), last)
 }
 
 /// The routes of all prefixes that cover the address, the best first.
@@ -79,40 +69,40 @@ fn append_backward<A: Allocator + Copy>(
 
 /// `best_of` of each address: the answers take the place of what stood in the list.
 pub(crate) fn best_of_each<A: Allocator + Copy>(
-    trie: &Map<A>,
+    map: &Map<A>,
     addresses: &[Addr],
     answers: &mut [Option<Route>],
 )
-    requires map { IsMap trie.now.pairs }
+    requires map { IsMap map.now.pairs }
     requires size { length answers.old ≡ length addresses.now }
-    ensures { answers.new ≡ map (λ addr. look_up addr (routes_of trie.now.pairs)) addresses.now }
+    ensures { answers.new ≡ look_up_each addresses.now (routes_of map.now.pairs) }
 {
     let mut start = 0;
     while start < addresses.len() {
         let size = (addresses.len() - start).min(AHEAD);
-        best_of_chunk(trie, addresses, answers, start, size);
+        best_of_chunk(map, addresses, answers, start, size);
         start += size;
     }
 }
 
 /// The answers to so many addresses from an index on, whose ways down are taken together.
 fn best_of_chunk<A: Allocator + Copy>(
-    trie: &Map<A>,
+    map: &Map<A>,
     addresses: &[Addr],
     answers: &mut [Option<Route>],
     start: usize,
     size: usize,
 )
-    requires map { IsMap trie.now.pairs }
+    requires map { IsMap map.now.pairs }
     requires chunk { size ≤ AHEAD }
     requires within { start + size ≤ length addresses.now }
     requires size { length answers.old ≡ length addresses.now }
     ensures each { (j : ℕ) → j < size
-        → route_at answers.new (start + j) ≡ look_up (address_at addresses.now (start + j)) (routes_of trie.now.pairs) }
+        → route_at answers.new (start + j) ≡ look_up (address_at addresses.now (start + j)) (routes_of map.now.pairs) }
     ensures rest { (k : ℕ) → k < start → route_at answers.new k ≡ route_at answers.old k }
 {
     let mut longest = [None; AHEAD];
-    trie.longest_many(&addresses[start..start + size], &mut longest[..size]);
+    map.longest_many(&addresses[start..start + size], &mut longest[..size]);
     for k in 0..size {
         answers[start + k] = best_at(longest[k]);
     }

@@ -1,22 +1,20 @@
 //! The sequential table: its routes as offers in a map, how many each feed has, and the answers to commands.
-ghost use Rattle.std.specs.Prelude.{◌≡◌, ◌^◌, ◌<◌, ◌≤◌, [], length, map, sum, IfOk, OnErr};
-ghost use Rattle.rt_cidr.specs.declared.address.Addr.{Addr};
+ghost use Rattle.std.specs.Prelude.{◌≡◌, ◌^◌, ◌<◌, [], length, map, sum, IfOk, OnErr};
 ghost use Rattle.rt_rib.specs.declared.commands.Cmd.TheVariants.{Add, Replace, Withdraw, Purge};
 ghost use Rattle.rt_rib.specs.declared.commands.Reply.TheVariants.{Added};
 ghost use Rattle.rt_rib.specs.Sequential.{reply_of};
 ghost use Rattle.rt_rib.specs.Table.{IsTable};
-ghost use Rattle.rt_rib.specs.LookUp.{look_up, look_up_all};
 ghost use Rattle.rt_rib.specs.Book.{IsLimit, IsFeed, HoldsRoutes};
+ghost use Rattle.rt_rib.specs.Maps.{routes_of, IsMap};
 ghost use Rattle.rt_rib.specs.inside.TableState.{table_state, Serves};
 
-use crate::answers::Answers;
 use crate::commands::{Cmd, Reply};
 use crate::limits::MOST_FEEDS;
 use crate::map::{self, Map};
 use crate::refused::Refused;
 use crate::routes::Route;
-use crate::{ahead, lookups, purge};
-use rt_cidr::{Addr, Prefix};
+use crate::{lookups, purge};
+use rt_cidr::Prefix;
 use rt_trie::Trie;
 use std::alloc::Allocator;
 use std::marker::Model;
@@ -86,46 +84,13 @@ impl<A: Allocator + Copy> Table<A> {
         map::routes(&self.map, alloc, count as usize)
     }
 
-    /// The best route of the longest prefix that covers each address.
-    pub(crate) fn look_up(&self, addresses: &[Addr], answers: &mut [Option<Route>])
-        requires { length answers.old ≡ length addresses.now }
-        ensures { answers.new ≡ map (λ addr. look_up addr self.now.routes) addresses.now }
+    /// The map of its routes, for what only reads them.
+    pub(crate) fn map(&self) -> &Map<A>
+        ensures trie { result.now ≡ self.now.trie }
+        ensures map { IsMap result.now.pairs }
+        ensures routes { routes_of result.now.pairs ≡ self.now.routes }
     {
-        lookups::best_of_each(&self.map, addresses, answers);
-    }
-
-    /// The best route of the longest prefix that covers the address, and a last address: each one up to it has the same.
-    pub(crate) fn look_up_until(&self, addr: Addr) -> (Option<Route>, Addr)
-        ensures onward { addr.0 ≤ result.1.0 }
-        ensures same { (b : Addr) → addr.0 ≤ b.0 → b.0 ≤ result.1.0 → look_up b self.now.routes ≡ result.0 }
-    {
-        lookups::best_until(&self.map, addr)
-    }
-
-    /// What it answers to one address after another.
-    pub(crate) fn answers(&self) -> Answers<'_, A>
-        ensures { result ≡ self.now.routes }
-    {
-        Answers::new(&self.map)
-    }
-
-    /// The routes of all prefixes that cover the address, the best first.
-    pub(crate) fn look_up_all(&self, alloc: A, addr: Addr) -> Result<Vec<Route, A>, Refused>
-        ensures { IfOk result (λ routes. routes.items ≡ look_up_all addr self.now.routes) }
-    {
-        lookups::all_of(&self.map, alloc, addr)
-    }
-
-    /// Reads what the first few of the commands will go down to.
-    pub(crate) fn read_ahead(&self, cmds: &[Cmd]) {
-        ahead::read_ahead(&self.map, cmds);
-    }
-
-    /// How many nodes the map takes.
-    pub(crate) fn nodes(&self) -> usize
-        ensures { result ≡ self.now.trie.nodes }
-    {
-        self.map.nodes()
+        &self.map
     }
 
     /// Answers a command of the feed. Only a route that is put in wants memory, and where it is refused the table stays as

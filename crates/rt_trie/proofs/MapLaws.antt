@@ -2,9 +2,9 @@
 use Rattle.std.proofs.Common.{◌≡◌, true, cond, [], ◌∷◌, Some, None, inl, inr, refl, sym, ◌∙◌, arith}
 use Rattle.rt_cidr.specs.declared.prefixes.Prefix.{Prefix}
 use Rattle.rt_trie.specs.Map.{Pairs, same_prefix, before, get, put, erase, IsBeforeAll, IsOrdered}
-use Rattle.rt_trie.proofs.OrderLemmas.{same_tells, before_tells, same_rank, other_rank, lower_rank, rank_of_before}
-use Rattle.rt_trie.proofs.PairLemmas.{AllKeys-map, IsOther, IsOther-higher, IsHigher, get-none}
-use Rattle.rt_trie.proofs.CountLemmas.{AllKeys-higher}
+use Rattle.rt_trie.proofs.PrefixOrder.{same_tells, before_tells, same_rank, other_rank, lower_rank, rank_of_before}
+use Rattle.rt_trie.proofs.JoinedPairs.{AllKeys-map, IsOther, IsOther-higher, IsHigher, get-none}
+use Rattle.rt_trie.proofs.Counts.{AllKeys-higher}
 
 -- what is one with a prefix is one with the same others
 same_as : (x p q : Prefix) → x.base ≡ p.base → x.len ≡ p.len → same_prefix x q ≡ same_prefix p q

@@ -4,4 +4,4 @@
 -- which of its types a thread may be given
 pub use Rattle.rt_trie.proofs.Crossing.{trie_send}
 -- of two prefixes that cover one address, the later one is the longer
-pub use Rattle.rt_trie.proofs.LongestLemmas.{later_is_longer}
+pub use Rattle.rt_trie.proofs.LongestMatches.{later_is_longer}

@@ -1,10 +1,9 @@
 -- What the words for a map mean: what is found, what a change makes, which prefix is first and which comes next.
-use Rattle.std.specs.Prelude.{◌≡◌, ◌↔◌, ◌<◌, ◌/◌, ◌%◌, Bool, true, false, IsTrue, [], Option, Some, None, IfSome, IfNone, Contains, if◌then◌else◌}
+use Rattle.std.specs.Prelude.{◌≡◌, ◌↔◌, ◌<◌, ◌/◌, ◌%◌, Bool, true, false, IsTrue, [], Some, None, Contains, if◌then◌else◌}
 use Rattle.rt_cidr.specs.declared.prefixes.Prefix.{Prefix}
 use Rattle.rt_cidr.specs.Cidr.{size_of}
 use Rattle.rt_cidr.specs.Prefix.{contains}
-use Rattle.rt_trie.specs.Links.{IsChild, IsKeyOf, root, IsFilled, IsLawfulTrie}
-use Rattle.rt_trie.specs.declared.nodes.Link.{Link, Empty, Leaf, Fork', Full'}
+use Rattle.rt_trie.specs.Halves.{IsChild}
 use Rattle.rt_trie.specs.Map.{Pairs, same_prefix, before, get, put, erase, first, next_after, IsStored, IsOrdered}
 
 -- after v was put in at p, v stands at p, and at every other prefix what stood there
@@ -59,23 +58,6 @@ pub record IsChildByBit (parent : Prefix) (upper : Bool) (c : Prefix) : Type 0 w
   pub contained : IsTrue (contains parent c)
   pub next_bit : (c.base / (size_of parent.len / 2)) % 2 ≡ (if upper then 1 else 0)
 
--- so a child of a lawful trie, by blocks of addresses, is one by bits, and the other way round
+-- what lies in a half of a prefix's addresses, and is longer, is a child by bits on that side, and the other way round
 abbrev pub ChildByNextBit : Type 0
 ChildByNextBit = (parent c : Prefix) (upper : Bool) → IsChild parent upper c ↔ IsChildByBit parent upper c
-
--- a node of a lawful trie: without a value it has two children, and each child is one by bits
-pub record IsLawfulNode {V A : Type 0} (q : Prefix) (v : Option V) (left right : Link V A) : Type 0 where
-  pub needed : IfNone v (IsFilled left × IsFilled right)
-  pub lower : IfSome (root left) (IsChildByBit q false)
-  pub upper : IfSome (root right) (IsChildByBit q true)
-
--- every node is that of a lawful trie, and every link keeps its node's key; a leaf has a value and no child
-abbrev pub IsLawfulByBits : {V A : Type 0} → Link V A → Type 0
-IsLawfulByBits Empty = Unit {0}
-IsLawfulByBits (Leaf len base b) = IsKeyOf len base b.value.prefix
-IsLawfulByBits (Fork' len base p left right q) = IsLawfulNode q None left right × IsLawfulByBits left × IsLawfulByBits right × IsKeyOf len base q
-IsLawfulByBits (Full' len base p left right q v) = IsLawfulNode q v left right × IsLawfulByBits left × IsLawfulByBits right × IsKeyOf len base q
-
--- and so a trie is lawful by blocks of addresses exactly where it is lawful by bits
-abbrev pub LawfulByBits : Type 0 → Type 0 → Type 0
-LawfulByBits V A = (link : Link V A) → IsLawfulTrie link ↔ IsLawfulByBits link

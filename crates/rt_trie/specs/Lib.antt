@@ -1,9 +1,9 @@
 pub use Rattle.rt_cidr.specs.Cidr
 pub use Rattle.rt_cidr.specs.Prefix
 pub mod TrieContents
+pub mod Halves
 pub mod Lawful
 pub mod Laws
-pub mod Links
 pub mod Map
 pub mod Nodes
 pub mod Sifted

@@ -2,7 +2,7 @@
 use Rattle.std.specs.Prelude.{◌≡◌, ◌↔◌, ◌⊎◌, ℕ, length}
 use Rattle.rt_cidr.specs.declared.prefixes.Prefix.{Prefix}
 use Rattle.rt_trie.specs.Map.{Pairs, IsStored, IsOrdered}
-use Rattle.rt_trie.specs.Links.{PartsAt}
+use Rattle.rt_trie.specs.Halves.{PartsAt}
 
 -- two stored prefixes part at c: one lies in the lower half of its addresses, the other in the upper half
 pub record PartAt {V : Type 0} (m : Pairs V) (c : Prefix) : Type 0 where

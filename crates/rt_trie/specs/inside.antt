@@ -5,6 +5,7 @@ pub mod Blocks
 pub mod Changes
 pub mod Descent
 pub mod Lends
+pub mod Lawful
 pub mod Links
 pub mod OneProof
 pub mod Sifted

@@ -1,13 +1,15 @@
 //! Going over the pairs whose prefix covers an address.
 
 ghost use Rattle.std.specs.Prelude.{◌≡◌, ◌<◌, ◌≤◌};
-ghost use Rattle.rt_trie.specs.Links.{middle, IsLawfulTrie};
+ghost use Rattle.rt_trie.specs.Halves.{middle};
+ghost use Rattle.rt_trie.specs.inside.Lawful.{IsLawfulTrie};
 ghost use Rattle.rt_trie.specs.Map.{Pairs, covering};
 ghost use Rattle.rt_trie.specs.inside.Links.{pairs, covering_below, IsLawfulOn};
 
 use crate::nodes::{Link, NodeView, middle};
 use rt_cidr::{Addr, Prefix};
 use std::alloc::Allocator;
+use std::fmt;
 use std::marker::Model;
 
 /// An iterator over the pairs of a trie whose prefix covers an address, the shortest first. It takes no memory, and
@@ -36,6 +38,15 @@ impl<'a, V, A: Allocator> Covering<'a, V, A> {
             below: Some(root),
             address,
         }
+    }
+}
+
+/// Shows the address, and no node.
+impl<'a, V, A: Allocator> fmt::Debug for Covering<'a, V, A> {
+    fn fmt<W: fmt::Write>(&self, f: &mut fmt::Formatter<W>) -> fmt::Result {
+        f.debug_struct("Covering")
+            .field("address", &self.address)
+            .finish_non_exhaustive()
     }
 }
 

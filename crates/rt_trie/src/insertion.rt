@@ -8,7 +8,8 @@ ghost use Rattle.std.specs.Prelude.{◌≡◌, ◌≢◌, ◌+◌, ◌/◌, ◌<
 ghost use Rattle.rt_cidr.specs.declared.prefixes.Prefix.{Prefix};
 ghost use Rattle.rt_trie.specs.declared.nodes.Link.TheVariants.{Empty};
 ghost use Rattle.rt_trie.specs.declared.nodes.Position.TheVariants.{Above, Apart};
-ghost use Rattle.rt_trie.specs.Links.{middle, IsChild, PartsAt, IsLawfulTrie};
+ghost use Rattle.rt_trie.specs.Halves.{middle, IsChild, PartsAt};
+ghost use Rattle.rt_trie.specs.inside.Lawful.{IsLawfulTrie};
 ghost use Rattle.rt_trie.specs.inside.Blocks.{StandsAt};
 ghost use Rattle.std.specs.Box.{with_value};
 ghost use Rattle.rt_trie.specs.inside.Links.{full_link, IsLeafOf, IsForkOf, IsSeenFrom};

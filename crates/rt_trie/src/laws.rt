@@ -1,11 +1,10 @@
-//! Laws of the map that the contracts speak of, and of a lawful trie. Each function does nothing: its contract is the
-//! law.
+//! Laws of the map that the contracts speak of, and of the halves of a prefix. Each function does nothing: its contract is
+//! the law.
 
 ghost use Rattle.rt_trie.specs.Laws.{PutIsSeen, EraseIsSeen, PutKeepsOrder, EraseKeepsOrder, PairsAreFound, MapHasOneList};
-ghost use Rattle.rt_trie.specs.Laws.{FirstIsLeast, NoneIsFirst, AfterIsNext, NoneIsAfter, ChildByNextBit, LawfulByBits};
+ghost use Rattle.rt_trie.specs.Laws.{FirstIsLeast, NoneIsFirst, AfterIsNext, NoneIsAfter, ChildByNextBit};
 
 use rt_cidr::laws::same_prefix;
-use std::alloc::Allocator;
 
 /// An insertion and a removal are seen at their own prefix alone, and keep the pairs in order.
 pub fn changes<V>()
@@ -34,9 +33,8 @@ pub fn least<V>()
     same_prefix();
 }
 
-/// The trie that the type keeps, in terms of bits: each child is longer than its parent, contained in it, and on the
-/// side of the first bit after the parent's length, and a node without a value has two children.
-pub fn lawful<V, A: Allocator>()
-    ensures child { ChildByNextBit }
-    ensures trie { LawfulByBits V A }
+/// What is longer than a prefix and lies in the lower or the upper half of its addresses is what is longer, contained in it
+/// and on that side of the first bit after its length: its child, where it is a node's.
+pub fn halves()
+    ensures { ChildByNextBit }
 {}

@@ -16,25 +16,25 @@
 //! and to be safe; an insertion that is refused memory leaves list and nodes as they were.
 //!
 //! Only tested, since no clause says it: that an insertion succeeds where there is memory, that no other call needs
-//! any, that what an insertion made is given back where it is refused a later box, in how few calls `longest_until`
-//! goes over all addresses, and that [`Answers::until`] goes as far.
+//! any, that what an insertion made is given back where it is refused a later box, and in how few calls
+//! [`Matches::until`] goes over all addresses.
 #![tactic(auto)]
 
-mod answers;
 mod covering;
 mod descent;
 mod insertion;
 pub mod laws;
+mod matches;
 mod nodes;
-mod pieces;
+mod places;
 mod removal;
 mod search;
 mod sifting;
 mod tries;
 mod walks;
 
-pub use answers::Answers;
 pub use covering::Covering;
+pub use matches::Matches;
 pub use sifting::Sieve;
 pub use tries::Trie;
 pub use walks::Walk;

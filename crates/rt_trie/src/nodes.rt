@@ -5,7 +5,8 @@
 ghost use Rattle.std.specs.Prelude.{◌≡◌, ◌^◌, ◌<◌, ◌≤◌, ◌↔◌, nat_lt, if◌then◌else◌, false, IsTrue};
 ghost use Rattle.rt_cidr.specs.declared.prefixes.Prefix.{Prefix};
 ghost use Rattle.rt_cidr.specs.Prefix.{covers, same_prefix};
-ghost use Rattle.rt_trie.specs.Links.{middle, middle_at, IsKeyOf};
+ghost use Rattle.rt_trie.specs.Halves.{middle, middle_at};
+ghost use Rattle.rt_trie.specs.inside.Lawful.{IsKeyOf};
 ghost use Rattle.rt_trie.specs.inside.Blocks.{is_key, StandsAt};
 ghost use Rattle.rt_trie.specs.inside.Links.{leaf_link, fork_link, full_link, IsVacant, IsNodeView};
 

@@ -5,7 +5,7 @@ ghost use Rattle.rt_cidr.specs.declared.prefixes.Prefix.{Prefix};
 ghost use Rattle.rt_trie.specs.declared.nodes.Link.TheVariants.{Empty};
 ghost use Rattle.rt_trie.specs.Map.{get};
 ghost use Rattle.rt_trie.specs.inside.Links.{pairs, count, IsLone, IsVacant, IsLeafOf};
-ghost use Rattle.rt_trie.specs.Links.{IsLawfulTrie, IsLawfulBelow, IsNeeded, IsFilled};
+ghost use Rattle.rt_trie.specs.inside.Lawful.{IsLawfulTrie, IsLawfulBelow, IsNeeded, IsFilled};
 ghost use Rattle.rt_trie.specs.inside.Changes.{IsErased, IsSpliced, AreSidesOf};
 
 use crate::nodes::{ForkNode, FullNode, LeafNode, Link, Position, position_of};

@@ -5,7 +5,7 @@ ghost use Rattle.std.specs.Prelude.{◌≡◌, ℕ, ◌+◌, ◌<◌, ◌≤◌,
 ghost use Rattle.std.specs.Option.{option_copied};
 ghost use Rattle.rt_trie.specs.Map.{get, first, next_after, pair_copied, IsLongest, AreLongest, address_at, answer_at};
 ghost use Rattle.rt_trie.specs.inside.Links.{pairs, count, or_else, last_cover, no_longer, pairs_below, IsNoLonger};
-ghost use Rattle.rt_trie.specs.Links.{root, IsLawfulBelow, IsLawfulTrie};
+ghost use Rattle.rt_trie.specs.inside.Lawful.{root, IsLawfulBelow, IsLawfulTrie};
 ghost use Rattle.rt_trie.specs.declared.search.TheConstants.{LANES};
 
 use crate::nodes::{END, Link, NodeView, Position, offset, position_of, side};

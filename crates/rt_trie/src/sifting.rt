@@ -3,7 +3,7 @@
 ghost use Rattle.std.specs.Prelude.{◌≡◌, Bool, ◌+◌, ◌≤◌, false, length};
 ghost use Rattle.rt_cidr.specs.declared.prefixes.Prefix.{Prefix};
 ghost use Rattle.rt_trie.specs.inside.Links.{own_pair, pairs, count, IsLeafOf};
-ghost use Rattle.rt_trie.specs.Links.{IsLawfulTrie};
+ghost use Rattle.rt_trie.specs.inside.Lawful.{IsLawfulTrie};
 ghost use Rattle.rt_trie.specs.Sifted.{IsSifted};
 ghost use Rattle.rt_trie.specs.inside.Sifted.{IsSiftedLink};
 

@@ -2,23 +2,23 @@
 
 ghost use Rattle.std.specs.Prelude.{◌≡◌, ◌↔◌, IsTrue, ◌+◌, ◌-◌, ◌*◌, ◌≤◌, [], length, IsSome, IsOk, IfOk, IfErr, OnOk};
 ghost use Rattle.std.specs.Borrow.{sem};
-ghost use Rattle.rt_cidr.specs.declared.address.Addr.{Addr};
 ghost use Rattle.std.specs.Option.{option_copied, option_copied_mut};
 ghost use Rattle.rt_trie.specs.Map.{get, put, erase, first, next_after, covering, pair_copied, IsOrdered, IsLongest, AreLongest};
 ghost use Rattle.rt_trie.specs.Nodes.{CountsNodes};
 ghost use Rattle.rt_trie.specs.Lawful.{IsLawful};
 ghost use Rattle.rt_trie.specs.Sifted.{IsSifted};
 
-use crate::answers::Answers;
 use crate::covering::Covering;
 use crate::descent::{Descent, WayDown};
 use crate::insertion::NewValue;
+use crate::matches::Matches;
 use crate::nodes::Link;
 use crate::sifting::{self, Sieve};
 use crate::walks::Walk;
-use crate::{insertion, pieces, removal, search};
+use crate::{insertion, removal, search};
 use rt_cidr::{Addr, Prefix};
 use std::alloc::Allocator;
+use std::fmt;
 use std::marker::Model;
 
 /// A finite map from IPv4 prefixes to values, in any allocator that is `Copy`, which the map keeps.
@@ -48,6 +48,16 @@ impl<V, A: Allocator> Model for Trie<V, A> {
     ghost view = { contents_of };
 
     ghost invariant = { IsSoundTrie };
+}
+
+/// Shows how many prefixes are stored, and how many nodes they take, but none of them.
+impl<V, A: Allocator> fmt::Debug for Trie<V, A> {
+    fn fmt<W: fmt::Write>(&self, f: &mut fmt::Formatter<W>) -> fmt::Result {
+        f.debug_struct("Trie")
+            .field("len", &self.len)
+            .field("nodes", &self.nodes)
+            .finish_non_exhaustive()
+    }
 }
 
 impl<V: Drop, A: Allocator + Copy> Trie<V, A> {
@@ -177,22 +187,12 @@ impl<V: Drop, A: Allocator + Copy> Trie<V, A> {
         search::longest_many(&self.root, addresses, answers);
     }
 
-    /// `longest` of the address, and how far it goes: up to this last address each from the given one on has the very
-    /// same. It is as far as the nodes show, so a caller who goes on past it goes over all addresses in some two calls a
-    /// node (which no clause says). It takes no memory.
-    pub fn longest_until(&self, a: Addr) -> (Option<(Prefix, &V)>, Addr)
-        ensures onward { a.0 ≤ result.1.0 }
-        ensures same { (b : Addr) → a.0 ≤ b.0 → b.0 ≤ result.1.0 → IsLongest self.now.pairs b (pair_copied result.0) }
-    {
-        pieces::longest_until(&self.root, a)
-    }
-
-    /// `longest_until` of one address after another: of rising ones each goes on from the way down of the last, in
-    /// place of from the root. It takes no memory.
-    pub fn answers(&self) -> Answers<'_, V, A>
+    /// `longest` of one address after another, each with how far it goes: of rising ones each goes on from the way down
+    /// of the last, in place of from the root. It takes no memory.
+    pub fn matches(&self) -> Matches<'_, V, A>
         ensures { result ≡ self.now.pairs }
     {
-        Answers::new(&self.root)
+        Matches::new(&self.root)
     }
 
     /// The pairs whose prefix covers the address (RFC 1812, section 5.2.4.3, Basic Match), the shortest first: the last

@@ -2,7 +2,7 @@
 
 ghost use Rattle.std.specs.Prelude.{◌≡◌, ℕ, ◌+◌, ◌<◌, Some, length};
 ghost use Rattle.rt_trie.specs.Map.{Pairs};
-ghost use Rattle.rt_trie.specs.Links.{IsLawfulTrie};
+ghost use Rattle.rt_trie.specs.inside.Lawful.{IsLawfulTrie};
 ghost use Rattle.rt_trie.specs.inside.Links.{pairs};
 ghost use Rattle.rt_trie.specs.inside.References.{link_at};
 ghost use Rattle.rt_trie.specs.inside.WalkStack.{stack_pairs, IsWalkStack};
@@ -10,6 +10,7 @@ ghost use Rattle.rt_trie.specs.inside.WalkStack.{stack_pairs, IsWalkStack};
 use crate::nodes::{Link, NodeView};
 use rt_cidr::Prefix;
 use std::alloc::Allocator;
+use std::fmt;
 use std::marker::Model;
 
 /// An iterator over the pairs of a trie, by base and then by length. It takes no memory, and a whole walk goes to each
@@ -38,6 +39,15 @@ impl<'a, V, A: Allocator> Walk<'a, V, A> {
             stack: [root; 34],
             len: 1,
         }
+    }
+}
+
+/// Shows how many links are on the stack, and none of them.
+impl<'a, V, A: Allocator> fmt::Debug for Walk<'a, V, A> {
+    fn fmt<W: fmt::Write>(&self, f: &mut fmt::Formatter<W>) -> fmt::Result {
+        f.debug_struct("Walk")
+            .field("len", &self.len)
+            .finish_non_exhaustive()
     }
 }
 

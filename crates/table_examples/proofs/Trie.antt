@@ -9,7 +9,6 @@ use Rattle.rt_trie.specs.Map.{next_after, IsLongest, covering, address_at, answe
 use Rattle.rt_trie.specs.Tree.{Tree, Vacant, Node, top, size, stored}
 use Rattle.rt_trie.specs.Laws.{IsChildByBit, PutIsSeen, EraseIsSeen, PutKeepsOrder, EraseKeepsOrder, PairsAreFound}
 use Rattle.rt_trie.specs.Laws.{MapHasOneList, FirstIsLeast, NoneIsFirst, AfterIsNext, NoneIsAfter, ChildByNextBit}
-use Rattle.rt_trie.specs.Laws.{IsLawfulNode, IsLawfulByBits, LawfulByBits}
 use Rattle.rt_trie.specs.Lawful.{IsLawfulAt, IsLawfulTree, IsLawful}
 use Rattle.std.specs.Prelude.{◌↔◌, ◌⊎◌, ◌+◌, ◌<◌, ◌≤◌, ◌++◌, ◌/◌, ◌%◌, Bool, List, Option, IsTrue, IsSome, IfSome}
 use Rattle.std.specs.Prelude.{IfNone, All, Contains, Box, is_some, length, map, slice_index_or, if◌then◌else◌}
@@ -17,8 +16,9 @@ use Rattle.rt_cidr.specs.declared.address.Addr.{Addr}
 use Rattle.rt_cidr.specs.Prefix.{covers, contains}
 use Rattle.rt_trie.specs.declared.nodes.Link.{Link, Empty, Leaf, Fork', Full'}
 use Rattle.rt_trie.specs.declared.nodes.LeafNode.{LeafNode}
-use Rattle.rt_trie.specs.Links.{middle_at, middle, past, IsKeyOf, IsInBlock, IsChild, PartsAt}
-use Rattle.rt_trie.specs.Links.{root, IsFilled, IsChildLink, AreHalves, IsNeeded, IsLawfulBelow, IsLawfulTrie}
+use Rattle.rt_trie.specs.Halves.{middle_at, middle, past, IsInBlock, IsChild, PartsAt}
+use Rattle.rt_trie.specs.inside.Lawful.{IsKeyOf}
+use Rattle.rt_trie.specs.inside.Lawful.{root, IsFilled, IsChildLink, AreHalves, IsNeeded, IsLawfulBelow, IsLawfulTrie}
 use Rattle.rt_trie.specs.Nodes.{PartAt, IsNodeAt, CountsNodes}
 use Rattle.rt_trie.specs.Sifted.{with_pair, IsJudged, IsSifted}
 use Rattle.rt_trie.specs.TrieContents.{TrieContents}
@@ -491,32 +491,6 @@ none_comes_behind_the_last law = law
 -- ChildByNextBit
 by_blocks_and_by_bits : ChildByNextBit → (parent c : Prefix) (upper : Bool) → IsChild parent upper c ↔ IsChildByBit parent upper c
 by_blocks_and_by_bits law = law
-
--- IsLawfulNode
-what_a_lawful_node_has :
-    {V A : Type 0} (q : Prefix) (v : Option V) (left right : Link V A) → IsLawfulNode q v left right
-    → IfNone v (IsFilled left × IsFilled right) × IfSome (root left) (IsChildByBit q false) × IfSome (root right) (IsChildByBit q true)
-what_a_lawful_node_has q v left right h = (h.needed, h.lower, h.upper)
-
--- IsLawfulByBits
-nothing_is_and_a_leaf_with_its_key :
-    {V A : Type 0} (len base : ℕ) (b : Box (LeafNode V) A)
-    → IsLawfulByBits {V = V} {A = A} Empty × (IsLawfulByBits (Leaf len base b) → IsKeyOf len base b.value.prefix)
-nothing_is_and_a_leaf_with_its_key len base b = (tt, λ h. h)
-
-a_fork_is_a_node_without_a_value :
-    {V A : Type 0} (q : Prefix) (len base : ℕ) (p : _) (left right : Link V A) → IsLawfulByBits (Fork' len base p left right q)
-    → IsLawfulNode q None left right × IsLawfulByBits left × IsLawfulByBits right × IsKeyOf len base q
-a_fork_is_a_node_without_a_value q len base p left right h = h
-
-a_full_node_has_its_value :
-    {V A : Type 0} (q : Prefix) (len base : ℕ) (o : _) (left right : Link V A) (v : Option V) → IsLawfulByBits (Full' len base o left right q v)
-    → IsLawfulNode q v left right × IsLawfulByBits left × IsLawfulByBits right × IsKeyOf len base q
-a_full_node_has_its_value q len base o left right v h = h
-
--- LawfulByBits
-lawful_by_blocks_and_by_bits : {V A : Type 0} → LawfulByBits V A → (link : Link V A) → IsLawfulTrie link ↔ IsLawfulByBits link
-lawful_by_blocks_and_by_bits law = law
 
 -- pair_copied
 with_the_value_that_is_pointed_to :

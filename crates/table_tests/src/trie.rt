@@ -1,7 +1,7 @@
 //! What the clauses leave open: worked examples, and below, in modules of their own, refusals of memory and long runs
 //! beside a plain list.
 
-mod answers;
+mod matches;
 mod memory;
 mod random;
 mod refusals;

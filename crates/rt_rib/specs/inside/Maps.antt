@@ -1,12 +1,14 @@
 -- The offers at a prefix, and the laws of a map that proofs use.
 use Rattle.std.specs.Prelude.{ℕ, List, [], ◌∷◌, ◌++◌, Option, Some, None, map, slice_index_or}
 use Rattle.std.specs.List.{Contains}
+use Rattle.rt_cidr.specs.declared.address.Addr.{Addr}
 use Rattle.rt_cidr.specs.declared.prefixes.Prefix.{Prefix}
 use Rattle.rt_cidr.specs.Laws.{SamePrefix}
 use Rattle.rt_trie.specs.Map.{get}
 use Rattle.rt_trie.specs.Laws.{PutIsSeen, EraseIsSeen, PutKeepsOrder, EraseKeepsOrder, PairsAreFound, MapHasOneList}
 use Rattle.rt_rib.specs.declared.routes.Route.{Route}
 use Rattle.rt_rib.specs.declared.offers.Offer.{Offer}
+use Rattle.rt_rib.specs.LookUp.{look_up}
 use Rattle.rt_rib.specs.Maps.{Map, route_by}
 
 -- what a route offers for its prefix
@@ -25,6 +27,10 @@ offers_at m p = offers_in (get m p)
 -- the route at an index of the answers to look-ups, if there is one
 abbrev pub route_at : List (Option Route) → ℕ → Option Route
 route_at answers k = slice_index_or answers k None
+
+-- what a look-up of each address finds
+abbrev pub look_up_each : List Addr → List Route → List (Option Route)
+look_up_each addresses routes = map (λ addr. look_up addr routes) addresses
 
 -- the routes of the map, those of its last prefix first, and each prefix's as they stand
 abbrev pub routes_backward : Map → List Route

@@ -3,7 +3,7 @@ use Rattle.std.specs.Prelude.{◌≡◌, ℕ, Bool, true, false, ◌+◌, ◌≤
 use Rattle.rt_cidr.specs.declared.prefixes.Prefix.{Prefix}
 use Rattle.rt_trie.specs.declared.nodes.Position.{Position}
 use Rattle.rt_trie.specs.declared.nodes.Position.TheVariants.{Here, Left, Right, Above, Apart}
-use Rattle.rt_trie.specs.Links.{past, IsInBlock, IsChild}
+use Rattle.rt_trie.specs.Halves.{past, IsInBlock, IsChild}
 
 -- whether that length and base are p's
 abbrev pub is_key : ℕ → ℕ → Prefix → Bool

@@ -4,7 +4,8 @@ use Rattle.rt_cidr.specs.declared.prefixes.Prefix.{Prefix}
 use Rattle.rt_trie.specs.declared.nodes.Link.{Link}
 use Rattle.rt_trie.specs.declared.insertion.NewValue.{NewValue}
 use Rattle.rt_trie.specs.Map.{get, put, erase}
-use Rattle.rt_trie.specs.Links.{IsChild, IsFilled, IsLawfulTrie, IsChildLink}
+use Rattle.rt_trie.specs.Halves.{IsChild}
+use Rattle.rt_trie.specs.inside.Lawful.{IsFilled, IsLawfulTrie, IsChildLink}
 use Rattle.rt_trie.specs.inside.Links.{pairs, count, IsVacant}
 
 -- the new link is a child wherever the old one was, on any side of any parent

@@ -3,7 +3,7 @@ use Rattle.std.specs.Prelude.{ℕ, zero, suc, nat_lt, nat_le, Option, Some, None
 use Rattle.rt_cidr.specs.declared.prefixes.Prefix.{Prefix}
 use Rattle.rt_trie.specs.declared.nodes.Link.{Link, Empty, Leaf, Fork', Full'}
 use Rattle.rt_trie.specs.inside.Blocks.{is_key}
-use Rattle.rt_trie.specs.Links.{middle_at}
+use Rattle.rt_trie.specs.Halves.{middle_at}
 
 -- the value at p, at most so many nodes down, by the numbers that the links keep
 abbrev pub found : {V A : Type 0} → ℕ → Link V A → Prefix → Option V

@@ -13,7 +13,7 @@ use Rattle.rt_trie.specs.declared.nodes.NodeView.TheVariants.{Vacant, Single, Br
 use Rattle.rt_trie.specs.Map.{Pairs, covering}
 use Rattle.rt_trie.specs.declared.nodes.Position.{Position}
 use Rattle.rt_trie.specs.inside.Blocks.{StandsAt}
-use Rattle.rt_trie.specs.Links.{root, IsFilled, AreHalves, IsNeeded, IsLawfulBelow, IsLawfulTrie}
+use Rattle.rt_trie.specs.inside.Lawful.{root, IsFilled, AreHalves, IsNeeded, IsLawfulBelow, IsLawfulTrie}
 use Rattle.std.specs.Borrow.{Bor}
 use Rattle.rt_cidr.specs.declared.address.Addr.{Addr}
 use Rattle.rt_cidr.specs.Prefix.{covers}

@@ -3,11 +3,11 @@ use Rattle.std.specs.Prelude.{◌≡◌, ℕ, ◌+◌, ◌≤◌, Option, None, 
 use Rattle.std.specs.Borrow.{Bor}
 use Rattle.rt_cidr.specs.declared.address.Addr.{Addr}
 use Rattle.rt_trie.specs.declared.nodes.Link.{Link}
-use Rattle.rt_trie.specs.declared.pieces.Place.{Place}
-use Rattle.rt_trie.specs.declared.answers.Way.{Way}
-use Rattle.rt_trie.specs.declared.answers.TheConstants.{PLACES}
+use Rattle.rt_trie.specs.declared.places.Place.{Place}
+use Rattle.rt_trie.specs.declared.matches.Way.{Way}
+use Rattle.rt_trie.specs.declared.matches.TheConstants.{PLACES}
 use Rattle.rt_trie.specs.Map.{Pairs, pair_copied}
-use Rattle.rt_trie.specs.Links.{IsLawfulTrie}
+use Rattle.rt_trie.specs.inside.Lawful.{IsLawfulTrie}
 use Rattle.rt_trie.specs.inside.Links.{pairs, count, or_else, last_cover, sought, IsLawfulOn}
 
 -- how many links there are from the place on
@@ -31,7 +31,7 @@ pub record IsNextPlace {V A : Type 0} (link : Link V A) (place : Place V A) (fro
       → or_else (last_cover (pairs link) b) (pair_copied place.best) ≡ sought next.below b (pair_copied next.best)
 
 -- all places of the way are of this trie, from this address on
-pub record AreAnswers {V A : Type 0} (root : Link V A) (from : Addr) (way : Way V A) : Type 0 where
+pub record AreMatches {V A : Type 0} (root : Link V A) (from : Addr) (way : Way V A) : Type 0 where
   pub lawful : IsLawfulTrie root
   pub few : way.len ≤ PLACES
   pub places : All (IsPlace (pairs root) from) way.places

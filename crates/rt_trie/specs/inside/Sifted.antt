@@ -3,7 +3,7 @@ use Rattle.std.specs.Prelude.{Bool}
 use Rattle.rt_cidr.specs.declared.prefixes.Prefix.{Prefix}
 use Rattle.rt_trie.specs.declared.nodes.Link.{Link}
 use Rattle.rt_trie.specs.inside.Links.{pairs}
-use Rattle.rt_trie.specs.Links.{IsLawfulTrie}
+use Rattle.rt_trie.specs.inside.Lawful.{IsLawfulTrie}
 use Rattle.rt_trie.specs.inside.Changes.{StaysChild}
 use Rattle.rt_trie.specs.Sifted.{IsSifted}
 

@@ -2,7 +2,7 @@
 use Rattle.std.specs.Prelude.{◌≡◌, length}
 use Rattle.rt_trie.specs.declared.tries.Trie.TheInside.{Inside}
 use Rattle.rt_trie.specs.inside.Links.{pairs, count}
-use Rattle.rt_trie.specs.Links.{IsLawfulTrie}
+use Rattle.rt_trie.specs.inside.Lawful.{IsLawfulTrie}
 use Rattle.rt_trie.specs.TrieContents.{TrieContents}
 use Rattle.rt_trie.specs.inside.Tree.{tree_of}
 

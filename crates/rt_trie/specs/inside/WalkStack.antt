@@ -5,7 +5,7 @@ use Rattle.rt_trie.specs.declared.nodes.Link.{Link}
 use Rattle.rt_trie.specs.Map.{Pairs}
 use Rattle.rt_trie.specs.inside.References.{link_at}
 use Rattle.rt_trie.specs.inside.Links.{pairs}
-use Rattle.rt_trie.specs.Links.{root, IsLawfulTrie}
+use Rattle.rt_trie.specs.inside.Lawful.{root, IsLawfulTrie}
 
 -- the pairs of a link, if there is one
 abbrev pub pairs_of : {V A : Type 0} → Option (Link V A) → Pairs V

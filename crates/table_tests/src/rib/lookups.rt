@@ -143,7 +143,7 @@ fn nothing_covers_an_address_of_an_empty_book(rt: HostRuntime) {
         .look_up_all(rt.alloc(), addr(10, 1, 2, 3))
         .expect(&rt, "memory");
     assert!(rt; matches.is_empty());
-    assert_eq!(rt; book.look_up_until(Addr(0)), (None, Addr(u32::MAX)));
+    assert_eq!(rt; book.answers().until(Addr(0)), (None, Addr(u32::MAX)));
 }
 
 #[test]

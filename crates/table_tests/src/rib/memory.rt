@@ -83,7 +83,7 @@ fn look_up_and_replace<A: Allocator + Copy>(
         let addr = Addr(k.wrapping_mul(0x0123_4567));
         book.read_ahead(&[Cmd::Lookup { addr }]);
         book.look_up(&[addr; 20], &mut [None; 20]);
-        let _ = book.look_up_until(addr);
+        let _ = book.answers().until(addr);
         book.holds();
         let prefix = nth(rt, k % PREFIXES);
         let (pref, hop) = (k, via(1));

@@ -152,7 +152,7 @@ fn compare_until(
     plain: &Plain,
     addr: Addr,
 ) -> Addr {
-    let (found, last) = book.look_up_until(addr);
+    let (found, last) = book.answers().until(addr);
     for end in [addr, last] {
         let wanted = plain.look_up(alloc, end).expect(rt, "memory");
         assert_eq!(rt; found, wanted, "{end:?}");
@@ -234,7 +234,7 @@ fn sixty_adds(
     }
 }
 
-/// Fails where `Book::look_up_until` answers the address itself as the last one.
+/// Fails where `until` of `Book::answers` answers the address itself as the last one.
 #[test]
 fn purges_among_many_prefixes(rt: HostRuntime) {
     let mut dice = Dice(11);

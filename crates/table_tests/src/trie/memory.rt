@@ -59,12 +59,10 @@ fn look_up_at(rt: &impl Abort, memory: &Counted<Global>, trie: &CountedTrie<'_>,
     assert_asked(rt, memory, asked, "longest", text);
     look_up_two(trie, p);
     assert_asked(rt, memory, asked, "longest_many", text);
-    assert!(rt; trie.longest_until(a).0.is_some());
-    assert_asked(rt, memory, asked, "longest_until", text);
     go_over_covering(rt, trie, a);
     assert_asked(rt, memory, asked, "covering", text);
-    assert!(rt; trie.answers().until(a).0.is_some());
-    assert_asked(rt, memory, asked, "answers", text);
+    assert!(rt; trie.matches().until(a).0.is_some());
+    assert_asked(rt, memory, asked, "matches", text);
 }
 
 /// Each call at a prefix that changes no more than a value.
@@ -128,8 +126,8 @@ fn the_longest_way_down_asks_for_no_memory(rt: HostRuntime) {
     look_up_at(&rt, &memory, &trie, "0.0.0.0/32");
 }
 
-/// Fails where `Trie::new`, `get`, `longest`, `longest_many`, `longest_until`, `covering`, `answers`, `remove` or an
-/// `insert` of a stored prefix asks for memory, even if it gives it back at once.
+/// Fails where `Trie::new`, `get`, `longest`, `longest_many`, `covering`, `matches`, `remove` or an `insert` of a stored
+/// prefix asks for memory, even if it gives it back at once.
 #[test]
 fn nothing_but_a_new_prefix_asks_for_memory(rt: HostRuntime) {
     let memory = Counted::new(rt.alloc());

@@ -16,7 +16,7 @@ const LAST: u32 = 0x0a00_00ff;
 
 /// The answer for an address and the last address that it goes up to.
 fn until<A: Allocator + Copy>(trie: &Trie<u32, A>, address: u32) -> (Option<(Prefix, u32)>, u32) {
-    let (pair, last) = trie.longest_until(Addr(address));
+    let (pair, last) = trie.matches().until(Addr(address));
     (pair.map(|x| (x.0, *x.1)), last.0)
 }
 
@@ -77,7 +77,7 @@ fn any_prefix(rt: &impl Abort, seed: u64) -> Prefix {
 }
 
 /// Random prefixes of each length from 24 on, at times with a shorter one, by which all addresses are asked.
-/// Fails where `longest_until` goes no further than its argument, or is one address off at either end of a prefix.
+/// Fails where `until` goes no further than its argument, or is one address off at either end of a prefix.
 #[test]
 fn each_address_of_a_small_universe(rt: HostRuntime) {
     let mut seed = 11u64;

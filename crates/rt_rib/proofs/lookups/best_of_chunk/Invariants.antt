@@ -8,7 +8,7 @@ use Rattle.rt_rib.proofs.lookups.best_of_chunk.Given as goal
 -- the first of these addresses are answered
 abbrev pub invariant-loop-k : goal.invariant-loop-k
 invariant-loop-k g l = record {
-  each : (j : ℕ) → j < l.k → route_at l.answers (l.start + j) ≡ look_up (address_at l.addresses (l.start + j)) (routes_of l.trie.pairs);
+  each : (j : ℕ) → j < l.k → route_at l.answers (l.start + j) ≡ look_up (address_at l.addresses (l.start + j)) (routes_of l.map.pairs);
   rest : (k : ℕ) → k < l.start → route_at l.answers k ≡ route_at l.fn.answers k;
   long : length l.answers ≡ length l.addresses;
 }

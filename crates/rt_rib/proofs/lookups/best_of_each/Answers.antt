@@ -19,7 +19,7 @@ loop-start-preserved g c =
         | inl lt ↦ c.best_of_chunk.ensures.rest k lt ∙ i.each k lt
         | inr ge ↦
             let e : start + (k - start) ≡ k = omega arith in
-            subst (λ n. route_at answers n ≡ look_up (address_at addresses n) (routes_of c.args.trie.now.pairs)) e
+            subst (λ n. route_at answers n ≡ look_up (address_at addresses n) (routes_of c.args.map.now.pairs)) e
             (c.best_of_chunk.ensures.each (k - start) (omega arith))
       ];
       within = omega arith;
@@ -30,6 +30,6 @@ pub returns : goal.returns
 returns g c =
     let i = c.loop-start.invariant in
     let addresses = c.args.addresses.now in
-    let answer = λ (addr : Addr). look_up addr (routes_of c.args.trie.now.pairs) in
+    let answer = λ (addr : Addr). look_up addr (routes_of c.args.map.now.pairs) in
     ext_get_or None c.loop-start.answers (map answer addresses) (i.long ∙ sym (length-map addresses answer))
     (λ k l. i.each k (omega (arith, i.long)) ∙ sym (get_or-map answer addresses k (record { 0 = 0 }) None (omega (arith, i.long))))

@@ -1,6 +1,6 @@
 use Rattle.std.proofs.Common.{arith}
-use Rattle.rt_trie.specs.Links.{IsKeyOf}
-use Rattle.rt_trie.proofs.BlockLemmas.{middle_of_key}
+use Rattle.rt_trie.specs.inside.Lawful.{IsKeyOf}
+use Rattle.rt_trie.proofs.Blocks.{middle_of_key}
 use Rattle.rt_trie.proofs.covering.half.Goals as goal
 
 pub returns-then-from-middle-clause-upper : goal.returns-then-from-middle-clause-upper

@@ -1,7 +1,7 @@
 use Rattle.std.proofs.Common.{refl, sym}
 use Rattle.rt_trie.specs.declared.nodes.Position.TheVariants.{Above, Apart}
-use Rattle.rt_trie.proofs.InsertLemmas.{insert_left_of_fork, insert_right_of_fork, insert_left_of_full, insert_right_of_full, insert_here}
-use Rattle.rt_trie.proofs.LinkLemmas.{key_of_fork, key_of_full, seen_from, short_fork, short_full}
+use Rattle.rt_trie.proofs.Insertions.{insert_left_of_fork, insert_right_of_fork, insert_left_of_full, insert_right_of_full, insert_here}
+use Rattle.rt_trie.proofs.LinkOrder.{key_of_fork, key_of_full, seen_from, short_fork, short_full}
 use Rattle.rt_trie.proofs.insertion.+insert.Goals as goal
 
 pub returns-in-Left : goal.returns-in-Left

@@ -3,7 +3,7 @@ use Rattle.std.specs.Prelude.{Err}
 use Rattle.std.proofs.lemmas.Bool.{cases_lt}
 use Rattle.rt_cidr.proofs.Promised.{size_pos}
 use Rattle.rt_cidr.specs.Reading.{AnswersPair}
-use Rattle.rt_trie.proofs.PartLemmas.{parts_at, is_prefix, not_refused, shifted_back}
+use Rattle.rt_trie.proofs.Partings.{parts_at, is_prefix, not_refused, shifted_back}
 use Rattle.rt_trie.proofs.insertion.common_prefix.Goals as goal
 
 pub highest_difference-bit-requires : goal.highest_difference-bit-requires

@@ -1,4 +1,4 @@
-use Rattle.rt_trie.proofs.PartLemmas.{few_zeros, highest_by_zeros}
+use Rattle.rt_trie.proofs.Partings.{few_zeros, highest_by_zeros}
 use Rattle.rt_trie.proofs.insertion.highest_difference.Goals as goal
 
 pub overflow_sub-result : goal.overflow_sub-result

@@ -1,4 +1,4 @@
-use Rattle.rt_trie.proofs.StoredLemmas.{first-is-least, first-is-none, after-is-next, next-is-none}
+use Rattle.rt_trie.proofs.StoredPairs.{first-is-least, first-is-none, after-is-next, next-is-none}
 use Rattle.rt_trie.proofs.laws.least.Goals as goal
 
 pub returns : goal.returns

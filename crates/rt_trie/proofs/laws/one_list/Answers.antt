@@ -1,4 +1,4 @@
-use Rattle.rt_trie.proofs.StoredLemmas.{pairs-found, one-list}
+use Rattle.rt_trie.proofs.StoredPairs.{pairs-found, one-list}
 use Rattle.rt_trie.proofs.laws.one_list.Goals as goal
 
 pub returns : goal.returns

@@ -1,4 +1,4 @@
-use Rattle.rt_trie.proofs.BlockLemmas.{offset_covered, offset_half}
+use Rattle.rt_trie.proofs.Blocks.{offset_covered, offset_half}
 use Rattle.rt_trie.proofs.nodes.offset.Goals as goal
 
 pub returns-clause-covered : goal.returns-clause-covered

@@ -1,10 +1,11 @@
 use Rattle.std.proofs.Common.{◌≡◌, ◌<◌, ◌≤◌, true, sym, ◌∙◌, inl, inr, arith}
-use Rattle.rt_trie.proofs.BlockLemmas.{longer_of, range_of_covers, outside_of_covers, not_covered, lower_half, upper_half, ends_before}
-use Rattle.rt_trie.proofs.OrderLemmas.{same_tells}
+use Rattle.rt_trie.proofs.Blocks.{longer_of, range_of_covers, outside_of_covers, not_covered, lower_half, upper_half, ends_before}
+use Rattle.rt_trie.proofs.PrefixOrder.{same_tells}
 use Rattle.std.proofs.lemmas.Bool.{cases_lt, false≢true}
 use Rattle.rt_cidr.specs.declared.prefixes.Prefix.{Prefix}
 use Rattle.rt_cidr.specs.Prefix.{covers}
-use Rattle.rt_trie.specs.Links.{IsKeyOf, middle, past}
+use Rattle.rt_trie.specs.Halves.{middle, past}
+use Rattle.rt_trie.specs.inside.Lawful.{IsKeyOf}
 use Rattle.rt_trie.proofs.nodes.position_of.Goals as goal
 use Rattle.rt_trie.proofs.nodes.position_of.Goals.{Then-offset-lt-END, else-len-via-then-len+else-offset-lt-END}
 use Rattle.rt_trie.proofs.nodes.position_of.Goals.{else-len-via-else-len, else-len-2-via-then-len-2+else-covers}

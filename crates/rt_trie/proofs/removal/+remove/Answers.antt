@@ -4,9 +4,9 @@ use Rattle.rt_trie.specs.declared.nodes.Link.{Link}
 use Rattle.rt_trie.specs.declared.nodes.Position.TheVariants.{Left, Right}
 use Rattle.rt_trie.specs.Map.{get}
 use Rattle.rt_trie.specs.inside.Links.{pairs, count}
-use Rattle.rt_trie.proofs.RemoveLemmas.{IsHalfway, taken_left_of_fork, taken_right_of_fork, taken_left_of_full, taken_right_of_full, halfway_full_here}
-use Rattle.rt_trie.proofs.RemoveLemmas.{erased_of, erased_same, erased_leaf, fork_none, full_none}
-use Rattle.rt_trie.proofs.LinkLemmas.{short_fork, short_full, key_of_fork, key_of_full, of_full, get_own}
+use Rattle.rt_trie.proofs.Removals.{IsHalfway, taken_left_of_fork, taken_right_of_fork, taken_left_of_full, taken_right_of_full, halfway_full_here}
+use Rattle.rt_trie.proofs.Removals.{erased_of, erased_same, erased_leaf, fork_none, full_none}
+use Rattle.rt_trie.proofs.LinkOrder.{short_fork, short_full, key_of_fork, key_of_full, of_full, get_own}
 use Rattle.rt_trie.proofs.removal.+remove.Given.{Over}
 use Rattle.rt_trie.proofs.removal.+remove.Goals as goal
 use Rattle.rt_trie.proofs.removal.+remove.Goals.{Joined-link, in-Fork+in-Left, in-Fork+in-Right}

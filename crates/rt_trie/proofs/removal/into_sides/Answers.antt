@@ -1,4 +1,4 @@
-use Rattle.rt_trie.proofs.RemoveLemmas.{fork_apart, full_apart}
+use Rattle.rt_trie.proofs.Removals.{fork_apart, full_apart}
 use Rattle.rt_trie.proofs.removal.into_sides.Goals as goal
 
 pub returns-in-Fork : goal.returns-in-Fork

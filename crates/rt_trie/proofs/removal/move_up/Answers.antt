@@ -1,6 +1,6 @@
 use Rattle.std.proofs.Common.{sym, ◌∙◌, arith}
 use Rattle.std.proofs.lemmas.Bool.{false≢true}
-use Rattle.rt_trie.proofs.RemoveLemmas.{right_moves_up, left_moves_up}
+use Rattle.rt_trie.proofs.Removals.{right_moves_up, left_moves_up}
 use Rattle.rt_trie.proofs.removal.move_up.Goals.{then-is_empty, else-is_empty}
 use Rattle.rt_trie.proofs.removal.move_up.Goals as goal
 

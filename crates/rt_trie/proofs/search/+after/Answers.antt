@@ -3,8 +3,8 @@ use Rattle.rt_cidr.specs.declared.prefixes.Prefix.{Prefix}
 use Rattle.rt_trie.specs.inside.Links.{or_else, pairs}
 use Rattle.std.specs.Prelude.{Bool, true, false, [], ◌∷◌, if◌then◌else◌}
 use Rattle.rt_trie.specs.Map.{Pairs, before, first, next_after}
-use Rattle.rt_trie.proofs.OrderLemmas.{lt_before}
-use Rattle.rt_trie.proofs.LinkLemmas.{node_after-lower, node_after-upper, node_after-all, node_after-none, below_left, below_right}
+use Rattle.rt_trie.proofs.PrefixOrder.{lt_before}
+use Rattle.rt_trie.proofs.LinkOrder.{node_after-lower, node_after-upper, node_after-all, node_after-none, below_left, below_right}
 use Rattle.rt_trie.proofs.search.+after.Goals as goal
 
 -- the answer on the left stands, where there is one

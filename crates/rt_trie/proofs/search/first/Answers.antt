@@ -1,7 +1,7 @@
 use Rattle.std.proofs.Common.{sym, ap, ◌∙◌}
 use Rattle.std.specs.Option.{option_copied}
 use Rattle.rt_trie.specs.Map.{first}
-use Rattle.rt_trie.proofs.LinkLemmas.{first_own, first_left, none_of, below_left}
+use Rattle.rt_trie.proofs.LinkOrder.{first_own, first_left, none_of, below_left}
 use Rattle.rt_trie.proofs.search.first.Goals as goal
 
 pub returns-in-Vacant : goal.returns-in-Vacant

@@ -1,7 +1,7 @@
 use Rattle.std.proofs.Common.{◌≡◌}
 use Rattle.rt_trie.specs.Map.{first}
 use Rattle.rt_trie.specs.inside.Links.{pairs, count}
-use Rattle.rt_trie.specs.Links.{IsLawfulTrie}
+use Rattle.rt_trie.specs.inside.Lawful.{IsLawfulTrie}
 use Rattle.rt_trie.proofs.search.first.Given as goal
 
 -- the link is lawful, and its first prefix is the root's

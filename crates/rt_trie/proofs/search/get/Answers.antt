@@ -1,8 +1,8 @@
 use Rattle.std.proofs.Common.{◌≡◌, Some, None, cond, sym, ap, ◌∙◌}
 use Rattle.rt_trie.specs.Map.{get, pair_copied}
 use Rattle.rt_trie.specs.inside.Links.{pairs}
-use Rattle.rt_trie.proofs.LinkLemmas.{pairs_ordered}
-use Rattle.rt_trie.proofs.LongestLemmas.{value_at, get_of_found}
+use Rattle.rt_trie.proofs.LinkOrder.{pairs_ordered}
+use Rattle.rt_trie.proofs.LongestMatches.{value_at, get_of_found}
 use Rattle.rt_trie.proofs.search.get.Given.{Over}
 use Rattle.rt_trie.proofs.search.get.Goals.{After-longest_to}
 use Rattle.rt_trie.proofs.search.get.Goals as goal

@@ -1,8 +1,8 @@
 use Rattle.std.proofs.Common.{sym, ap, ◌∙◌}
 use Rattle.rt_trie.specs.Map.{pair_copied}
 use Rattle.rt_trie.specs.inside.Links.{last_cover, pairs}
-use Rattle.rt_trie.proofs.NodeLemmas.{all_no_longer}
-use Rattle.rt_trie.proofs.LinkLemmas.{longest_of}
+use Rattle.rt_trie.proofs.NodePairs.{all_no_longer}
+use Rattle.rt_trie.proofs.LinkOrder.{longest_of}
 use Rattle.rt_trie.proofs.search.longest.Goals as goal
 
 pub returns : goal.returns

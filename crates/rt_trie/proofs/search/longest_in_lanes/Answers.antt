@@ -5,10 +5,10 @@ use Rattle.rt_trie.specs.declared.nodes.Link.{Link}
 use Rattle.rt_trie.specs.inside.Links.{or_else, last_cover, pairs_below, pairs, count}
 use Rattle.rt_trie.specs.declared.search.TheConstants.{LANES}
 use Rattle.rt_trie.specs.Map.{pair_copied, address_at}
-use Rattle.rt_trie.specs.Links.{root, IsLawfulBelow}
-use Rattle.rt_trie.proofs.LinkLemmas.{longest_of}
-use Rattle.rt_trie.proofs.NodeLemmas.{no_root_longer, found_of_all}
-use Rattle.rt_trie.proofs.LaneLemmas.{set_out, link_read, as_read, in_lanes, in_answers, gone_on, gone_less, ended_here}
+use Rattle.rt_trie.specs.inside.Lawful.{root, IsLawfulBelow}
+use Rattle.rt_trie.proofs.LinkOrder.{longest_of}
+use Rattle.rt_trie.proofs.NodePairs.{no_root_longer, found_of_all}
+use Rattle.rt_trie.proofs.Lanes.{set_out, link_read, as_read, in_lanes, in_answers, gone_on, gone_less, ended_here}
 use Rattle.rt_trie.proofs.search.longest_in_lanes.Goals as goal
 use Rattle.rt_trie.proofs.search.longest_in_lanes.Goals.{in-Some, in-None}
 

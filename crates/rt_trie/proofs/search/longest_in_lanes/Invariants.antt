@@ -1,6 +1,6 @@
 use Rattle.std.proofs.Common.{◌≡◌, ℕ, ◌+◌, ◌<◌, ◌≤◌, None, get_or, length}
 use Rattle.rt_trie.specs.Map.{answer_at}
-use Rattle.rt_trie.proofs.LaneLemmas.{AreOnTheWay, work_of}
+use Rattle.rt_trie.proofs.Lanes.{AreOnTheWay, work_of}
 use Rattle.rt_trie.proofs.search.longest_in_lanes.Given as goal
 
 -- the first lanes are listed, and have no answer yet

@@ -1,7 +1,7 @@
 use Rattle.std.proofs.Common.{ap, ◌∙◌}
 use Rattle.rt_trie.specs.inside.Links.{or_else, last_cover}
 use Rattle.rt_trie.specs.Map.{pair_copied}
-use Rattle.rt_trie.proofs.LinkLemmas.{none_no_longer}
+use Rattle.rt_trie.proofs.LinkOrder.{none_no_longer}
 use Rattle.rt_trie.proofs.search.longest_to.Goals as goal
 
 pub returns : goal.returns

@@ -1,7 +1,7 @@
 use Rattle.std.proofs.Common.{◌≡◌}
 use Rattle.rt_trie.specs.inside.Links.{or_else, last_cover, no_longer, pairs, count}
 use Rattle.rt_trie.specs.Map.{pair_copied}
-use Rattle.rt_trie.specs.Links.{IsLawfulBelow}
+use Rattle.rt_trie.specs.inside.Lawful.{IsLawfulBelow}
 use Rattle.rt_trie.proofs.search.longest_to.Given as goal
 
 -- the link is lawful, and the answer is found below it, or else it is the best so far

@@ -2,10 +2,10 @@ use Rattle.std.proofs.Common.{Some, refl, sym, subst, ap, ◌∙◌, inl, inr}
 use Rattle.rt_trie.specs.declared.nodes.LeafNode.{LeafNode}
 use Rattle.rt_trie.specs.inside.Links.{IsNoLonger}
 use Rattle.rt_trie.specs.Map.{pair_copied}
-use Rattle.rt_trie.proofs.NodeLemmas.{best_stored, best_unstored, step_single}
-use Rattle.rt_trie.proofs.LinkLemmas.{none_unless, of_leaf, of_fork, of_full, short_fork, short_full, short_leaf, key_of_leaf, key_of_fork}
-use Rattle.rt_trie.proofs.LinkLemmas.{key_of_full, side_below, step_side, step_ends}
-use Rattle.rt_trie.proofs.BlockLemmas.{not_covered}
+use Rattle.rt_trie.proofs.NodePairs.{best_stored, best_unstored, step_single}
+use Rattle.rt_trie.proofs.LinkOrder.{none_unless, of_leaf, of_fork, of_full, short_fork, short_full, short_leaf, key_of_leaf, key_of_fork}
+use Rattle.rt_trie.proofs.LinkOrder.{key_of_full, side_below, step_side, step_ends}
+use Rattle.rt_trie.proofs.Blocks.{not_covered}
 use Rattle.rt_trie.proofs.search.step.Goals as goal
 use Rattle.rt_trie.proofs.search.step.Goals.{in-Some, in_default, then-offset-lt-END, else-offset-lt-END}
 

@@ -1,7 +1,7 @@
 use Rattle.std.proofs.Common.{◌≡◌, ℕ, ◌+◌, ◌++◌, None, length, refl, sym, ap, ◌∙◌, arith, length-append}
 use Rattle.rt_trie.specs.inside.Links.{pairs, count, own_pair}
-use Rattle.rt_trie.proofs.SiftLemmas.{IsHalfSifted, sifted_none, sifted_done, link_same, half_fork, half_full, sifted_of, node_length}
-use Rattle.rt_trie.proofs.LinkLemmas.{of_fork, of_full, view_fork}
+use Rattle.rt_trie.proofs.Sieves.{IsHalfSifted, sifted_none, sifted_done, link_same, half_fork, half_full, sifted_of, node_length}
+use Rattle.rt_trie.proofs.LinkOrder.{of_fork, of_full, view_fork}
 use Rattle.rt_trie.proofs.sifting.+retain.Given.{Over}
 use Rattle.rt_trie.proofs.sifting.+retain.Goals as goal
 use Rattle.rt_trie.proofs.sifting.+retain.Goals.{Joined-link, in-Fork, in-Full}

@@ -1,5 +1,5 @@
 use Rattle.std.proofs.Common.{rules}
-use Rattle.rt_trie.proofs.SiftLemmas.{leaf_goes, leaf_stays}
+use Rattle.rt_trie.proofs.Sieves.{leaf_goes, leaf_stays}
 use Rattle.rt_trie.proofs.sifting.retain_leaf.Goals as goal
 
 pub returns-then-not-keeps-clause-sifted : goal.returns-then-not-keeps-clause-sifted

@@ -1,5 +1,5 @@
 use Rattle.std.proofs.Common.{true, false}
-use Rattle.rt_trie.proofs.SiftLemmas.{sifted_none, sifted_one}
+use Rattle.rt_trie.proofs.Sieves.{sifted_none, sifted_one}
 use Rattle.rt_trie.proofs.sifting.retain_own.Goals as goal
 
 pub returns-then-not-keeps-clause-sifted : goal.returns-then-not-keeps-clause-sifted

@@ -1,4 +1,4 @@
-use Rattle.rt_trie.proofs.WalkLemmas.{link_at-read}
+use Rattle.rt_trie.proofs.WalkStacks.{link_at-read}
 use Rattle.rt_trie.proofs.walks.link_at.Goals as goal
 
 pub returns : goal.returns

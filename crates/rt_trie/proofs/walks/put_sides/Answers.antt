@@ -1,5 +1,5 @@
 use Rattle.std.proofs.Common.{◌+◌, set, ◌∙◌, arith, length-set}
-use Rattle.rt_trie.proofs.WalkLemmas.{link_at-set_same, link_at-set_other}
+use Rattle.rt_trie.proofs.WalkStacks.{link_at-set_same, link_at-set_other}
 use Rattle.rt_trie.proofs.walks.put_sides.Goals as goal
 
 pub returns-clause-right : goal.returns-clause-right

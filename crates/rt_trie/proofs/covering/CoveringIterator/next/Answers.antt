@@ -1,9 +1,9 @@
 use Rattle.std.proofs.Common.{◌≡◌, ◌<◌, ◌++◌, length, sym, ap, ◌∙◌, arith}
 use Rattle.std.specs.Option.{option_copied}
 use Rattle.rt_trie.specs.Map.{covering}
-use Rattle.rt_trie.specs.Links.{IsLawfulBelow}
+use Rattle.rt_trie.specs.inside.Lawful.{IsLawfulBelow}
 use Rattle.rt_trie.specs.inside.Links.{own_pair, pairs, count}
-use Rattle.rt_trie.proofs.CoveringLemmas.{nodes_below, covering_step, covering_none, covering_single}
+use Rattle.rt_trie.proofs.CoveringPairs.{nodes_below, covering_step, covering_none, covering_single}
 use Rattle.rt_trie.proofs.covering.CoveringIterator.next.Given.{Over}
 use Rattle.rt_trie.proofs.covering.CoveringIterator.next.Goals.{After-half}
 use Rattle.rt_trie.proofs.covering.CoveringIterator.next.Goals.{in_default-view-via-in-Branch+else-covers, in_default-view-via-in-Single+else-covers-2}

@@ -1,6 +1,6 @@
 use Rattle.std.proofs.Common.{◌≡◌}
 use Rattle.rt_trie.specs.inside.Links.{covering_below, IsLawfulOn}
-use Rattle.rt_trie.proofs.CoveringLemmas.{nodes_below}
+use Rattle.rt_trie.proofs.CoveringPairs.{nodes_below}
 use Rattle.rt_trie.proofs.covering.CoveringIterator.next.Given as goal
 
 -- the link is lawful, and what covers the address below it is what is still to come

@@ -1,8 +1,8 @@
 use Rattle.std.proofs.Common.{refl, ap, ◌∙◌, ◌<◌, ◌≤◌, arith}
 use Rattle.std.specs.Box.{with_value}
 use Rattle.rt_trie.specs.declared.nodes.Link.{Link, Empty}
-use Rattle.rt_trie.specs.Links.{middle}
-use Rattle.rt_trie.proofs.InsertLemmas.{above_insert, get_above, refused}
+use Rattle.rt_trie.specs.Halves.{middle}
+use Rattle.rt_trie.proofs.Insertions.{above_insert, get_above, refused}
 use Rattle.rt_trie.proofs.insertion.NewValue.insert_above.Goals as goal
 
 pub returns : goal.returns

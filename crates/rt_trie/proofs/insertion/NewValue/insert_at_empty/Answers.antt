@@ -1,4 +1,4 @@
-use Rattle.rt_trie.proofs.InsertLemmas.{empty_insert}
+use Rattle.rt_trie.proofs.Insertions.{empty_insert}
 use Rattle.std.proofs.Common.{refl}
 use Rattle.rt_trie.proofs.insertion.NewValue.insert_at_empty.Goals as goal
 

@@ -1,7 +1,7 @@
 use Rattle.std.proofs.Common.{refl, sym}
 use Rattle.std.specs.Box.{with_value}
-use Rattle.rt_trie.proofs.InsertLemmas.{at_fork_insert, refused}
-use Rattle.rt_trie.proofs.LinkLemmas.{fork_prefix, fork_absent}
+use Rattle.rt_trie.proofs.Insertions.{at_fork_insert, refused}
+use Rattle.rt_trie.proofs.LinkOrder.{fork_prefix, fork_absent}
 use Rattle.rt_trie.proofs.insertion.NewValue.insert_at_fork.Goals as goal
 
 pub returns : goal.returns

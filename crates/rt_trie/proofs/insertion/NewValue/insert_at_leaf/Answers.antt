@@ -3,8 +3,8 @@ use Rattle.rt_trie.specs.declared.nodes.LeafNode.{LeafNode}
 use Rattle.rt_trie.specs.declared.nodes.Position.TheVariants.{Above, Apart}
 use Rattle.rt_trie.specs.inside.Blocks.{StandsAt}
 use Rattle.rt_trie.specs.inside.Changes.{Inserts}
-use Rattle.rt_trie.proofs.InsertLemmas.{insert_leaf}
-use Rattle.rt_trie.proofs.LinkLemmas.{key_of_leaf, seen_from, short_leaf}
+use Rattle.rt_trie.proofs.Insertions.{insert_leaf}
+use Rattle.rt_trie.proofs.LinkOrder.{key_of_leaf, seen_from, short_leaf}
 use Rattle.rt_trie.proofs.insertion.NewValue.insert_at_leaf.Goals as goal
 
 pub returns-in-Here : goal.returns-in-Here

@@ -2,9 +2,9 @@ use Rattle.std.proofs.Common.{Some, refl, sym, subst, ap, ◌∙◌, ◌<◌, �
 use Rattle.std.specs.Box.{with_value}
 use Rattle.rt_trie.specs.declared.nodes.LeafNode.{LeafNode}
 use Rattle.rt_trie.specs.declared.nodes.Link.{Link, Empty}
-use Rattle.rt_trie.specs.Links.{middle}
+use Rattle.rt_trie.specs.Halves.{middle}
 use Rattle.rt_trie.specs.inside.Links.{IsLeafOf}
-use Rattle.rt_trie.proofs.InsertLemmas.{below_insert}
+use Rattle.rt_trie.proofs.Insertions.{below_insert}
 use Rattle.rt_trie.proofs.insertion.NewValue.insert_below_leaf.Goals as goal
 
 pub returns : goal.returns

@@ -1,7 +1,7 @@
 use Rattle.std.proofs.Common.{inl, inr, refl, ap, ◌∙◌, arith}
 use Rattle.std.specs.Box.{with_value}
 use Rattle.rt_trie.specs.declared.nodes.Link.{Link}
-use Rattle.rt_trie.proofs.InsertLemmas.{beside_insert, get_apart, refused}
+use Rattle.rt_trie.proofs.Insertions.{beside_insert, get_apart, refused}
 use Rattle.rt_trie.proofs.insertion.NewValue.insert_beside.Goals as goal
 use Rattle.rt_trie.proofs.insertion.NewValue.insert_beside.Goals.{then-base, else-base}
 

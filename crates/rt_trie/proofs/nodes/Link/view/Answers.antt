@@ -1,6 +1,6 @@
 use Rattle.std.proofs.Common.{sym, subst, ◌∙◌}
 use Rattle.rt_trie.specs.inside.Links.{IsNode}
-use Rattle.rt_trie.proofs.LinkLemmas.{of_empty, of_leaf, of_fork, of_full, fork_filled, full_filled}
+use Rattle.rt_trie.proofs.LinkOrder.{of_empty, of_leaf, of_fork, of_full, fork_filled, full_filled}
 use Rattle.rt_trie.proofs.nodes.Link.view.Goals as goal
 
 pub returns-in-Empty : goal.returns-in-Empty

@@ -1,7 +1,7 @@
 use Rattle.std.proofs.Common.{refl, sym, ap, ◌∙◌}
 use Rattle.rt_trie.specs.TrieContents.{TrieContents}
 use Rattle.rt_trie.specs.Map.{get}
-use Rattle.rt_trie.proofs.DescentLemmas.{found_is, written_kept, lent}
+use Rattle.rt_trie.proofs.Descents.{found_is, written_kept, lent}
 use Rattle.rt_trie.proofs.tries.Trie.get_mut.Goals as goal
 
 pub invariant_of-self-lent : goal.invariant_of-self-lent

@@ -4,8 +4,8 @@ use Rattle.rt_trie.specs.Map.{get}
 use Rattle.rt_trie.specs.declared.insertion.NewValue.{NewValue}
 use Rattle.rt_trie.specs.inside.Changes.{IsPut, IsInserted, Inserts}
 use Rattle.rt_trie.specs.inside.Links.{pairs}
-use Rattle.rt_trie.proofs.LinkLemmas.{pairs_ordered}
-use Rattle.rt_trie.proofs.CountLemmas.{count_small, pairs_few, length-put_absent, length-put_known, none_is}
+use Rattle.rt_trie.proofs.LinkOrder.{pairs_ordered}
+use Rattle.rt_trie.proofs.Counts.{count_small, pairs_few, length-put_absent, length-put_known, none_is}
 use Rattle.rt_trie.proofs.tries.Trie.insert.Given.{Over}
 use Rattle.rt_trie.proofs.tries.Trie.insert.Goals.{Then-insert}
 use Rattle.rt_trie.proofs.tries.Trie.insert.Goals as goal

@@ -1,7 +1,7 @@
 use Rattle.std.proofs.Common.{length, subst, ap, ◌∙◌}
 use Rattle.rt_trie.specs.TrieContents.{TrieContents}
 use Rattle.rt_trie.specs.Map.{IsOrdered}
-use Rattle.rt_trie.proofs.LinkLemmas.{pairs_ordered}
+use Rattle.rt_trie.proofs.LinkOrder.{pairs_ordered}
 use Rattle.rt_trie.proofs.tries.Trie.len.Goals as goal
 
 pub returns-clause-len : goal.returns-clause-len

@@ -2,10 +2,10 @@ use Rattle.std.proofs.Common.{length, sym, subst, ap, arith}
 use Rattle.rt_trie.specs.TrieContents.{TrieContents}
 use Rattle.rt_trie.specs.inside.Links.{count}
 use Rattle.rt_trie.specs.Nodes.{CountsNodes}
-use Rattle.rt_trie.proofs.CountLemmas.{nodes_few}
-use Rattle.rt_trie.proofs.NodeCountLemmas.{counts_nodes}
+use Rattle.rt_trie.proofs.Counts.{nodes_few}
+use Rattle.rt_trie.proofs.NodeCounts.{counts_nodes}
 use Rattle.rt_trie.specs.Lawful.{IsLawful}
-use Rattle.rt_trie.proofs.TreeLemmas.{held_is_lawful}
+use Rattle.rt_trie.proofs.LawfulTrees.{held_is_lawful}
 use Rattle.rt_trie.proofs.tries.Trie.nodes.Goals as goal
 
 pub returns-clause-counted : goal.returns-clause-counted

@@ -2,9 +2,9 @@ use Rattle.std.proofs.Common.{length, sym, ap, ◌∙◌, arith}
 use Rattle.rt_trie.specs.TrieContents.{TrieContents}
 use Rattle.rt_trie.specs.Map.{get, erase}
 use Rattle.rt_trie.specs.inside.Links.{pairs}
-use Rattle.rt_trie.proofs.RemoveLemmas.{erase-absent}
-use Rattle.rt_trie.proofs.LinkLemmas.{none_of}
-use Rattle.rt_trie.proofs.CountLemmas.{length-erase_known}
+use Rattle.rt_trie.proofs.Removals.{erase-absent}
+use Rattle.rt_trie.proofs.LinkOrder.{none_of}
+use Rattle.rt_trie.proofs.Counts.{length-erase_known}
 use Rattle.rt_trie.proofs.tries.Trie.remove.Goals as goal
 
 pub invariant_of-self : goal.invariant_of-self

@@ -1,5 +1,5 @@
 use Rattle.std.proofs.Common.{arith}
-use Rattle.rt_trie.proofs.LinkLemmas.{pairs_ordered}
+use Rattle.rt_trie.proofs.LinkOrder.{pairs_ordered}
 use Rattle.rt_trie.proofs.tries.Trie.retain.Goals as goal
 
 pub invariant_of-self : goal.invariant_of-self

@@ -1,6 +1,6 @@
 use Rattle.std.proofs.Common.{sym, subst}
 use Rattle.rt_trie.specs.Map.{Pairs, IsOrdered}
-use Rattle.rt_trie.proofs.LinkLemmas.{pairs_ordered}
+use Rattle.rt_trie.proofs.LinkOrder.{pairs_ordered}
 use Rattle.rt_trie.proofs.tries.Trie.walk.Goals as goal
 
 pub returns-clause-ordered : goal.returns-clause-ordered

@@ -1,6 +1,6 @@
 use Rattle.std.proofs.Common.{◌≡◌, suc, ◌-◌, length, sym, ap, ◌∙◌, arith}
 use Rattle.std.specs.Option.{option_copied}
-use Rattle.rt_trie.proofs.WalkLemmas.{GivesWay, IsPassed, walk_at, empty_at, leaf_step}
+use Rattle.rt_trie.proofs.WalkStacks.{GivesWay, IsPassed, walk_at, empty_at, leaf_step}
 use Rattle.rt_trie.proofs.walks.WalkIterator.next.Given.{Over}
 use Rattle.rt_trie.proofs.walks.WalkIterator.next.Goals.{In-Vacant, After-put_sides}
 use Rattle.rt_trie.proofs.walks.WalkIterator.next.Goals as goal

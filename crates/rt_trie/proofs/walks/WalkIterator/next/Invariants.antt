@@ -1,6 +1,6 @@
 use Rattle.std.proofs.Common.{◌≡◌}
 use Rattle.rt_trie.specs.inside.WalkStack.{stack_pairs, IsWalkStack}
-use Rattle.rt_trie.proofs.WalkLemmas.{weight_of}
+use Rattle.rt_trie.proofs.WalkStacks.{weight_of}
 use Rattle.rt_trie.proofs.walks.WalkIterator.next.Given as goal
 
 -- the stack is lawful, and has the pairs that are still to come

@@ -1,5 +1,0 @@
-use Rattle.std.proofs.Common.{refl}
-use Rattle.rt_trie.proofs.pieces.Place.top.Goals as goal
-
-pub returns-clause-last : goal.returns-clause-last
-returns-clause-last g c = refl
