@@ -1,12 +1,11 @@
 //! Runs and replays over writers that stumble, take little or count their calls, and what the program's work is refused for.
-use rt_cidr::OUTPUT_BYTES;
+use rt_cidr::{OUTPUT_BYTES, put};
 use rt_feed::RunFault;
 use rt_run::{AppFault, replay_text, run_texts};
 use std::alloc::Global;
 use std::io::{self, ErrorKind};
 use std::process::Abort;
 use std::sync::Wait;
-use std::test::Fail;
 use std::thread::Threads;
 use std::time::{Clock, Duration, Instant};
 use test_support::{StumblingWriter, each_fault, misshown};
@@ -38,9 +37,8 @@ static FAULTS: [(AppFault, &str, &str); 7] = [
 /// Fails where `Display` or `Debug` shows another text for an `AppFault`.
 /// Fails where `Write` shows `not written`.
 #[test]
-fn faults_have_their_texts(rt: HostRuntime) -> Result<(), Fail> {
-    assert_eq!(rt; misshown(rt.alloc(), &FAULTS)?, None);
-    Ok(())
+fn faults_have_their_texts(rt: HostRuntime) {
+    assert!(rt; misshown(rt.alloc(), &FAULTS) == Ok(None));
 }
 
 #[test]
@@ -58,18 +56,32 @@ struct WorkedRun {
 }
 
 /// One route and so many look-ups of it, which are answered in 70 bytes and more each.
-fn looked_up(alloc: Global, look_ups: usize) -> Result<WorkedRun, Fail> {
-    let mut text = Vec::from_slice(alloc, b"add 100.100.100.0/24 4294967295 100.100.100.100\n")?;
-    let mut output = Vec::from_slice(alloc, b"1:1 added\n")?;
-    for number in (2usize..).take(look_ups) {
-        text.extend_from_slice(b"lookup 100.100.100.1\n")?;
-        output.extend_from_slice(format!(in alloc; "1:{number} route {ROUTE}")?.as_bytes())?;
-    }
-    output.extend_from_slice(format!(in alloc; "table 1\n{ROUTE}")?.as_bytes())?;
-    Ok(WorkedRun {
+fn looked_up(rt: &impl Abort, alloc: Global, look_ups: usize) -> WorkedRun {
+    let mut text = Vec::new(alloc);
+    let mut output = Vec::new(alloc);
+    assert!(rt; write_run(alloc, &mut text, &mut output, look_ups).is_ok());
+    WorkedRun {
         texts: [text],
         output,
-    })
+    }
+}
+
+/// Writes the text and what is printed.
+fn write_run(
+    alloc: Global,
+    text: &mut Vec<u8>,
+    output: &mut Vec<u8>,
+    look_ups: usize,
+) -> io::Result<()> {
+    put(text, b"add 100.100.100.0/24 4294967295 100.100.100.100\n")?;
+    put(output, b"1:1 added\n")?;
+    for number in (2usize..).take(look_ups) {
+        put(text, b"lookup 100.100.100.1\n")?;
+        let answer = format!(in alloc; "1:{number} route {ROUTE}")?;
+        put(output, answer.as_bytes())?;
+    }
+    put(output, b"table 1\n")?;
+    put(output, ROUTE.as_bytes())
 }
 
 const ROUTE: &str = "100.100.100.0/24 feed 1 pref 4294967295 via 100.100.100.100\n";
@@ -105,16 +117,16 @@ const WITHIN: usize = OUTPUT_BYTES / 2;
 /// Fails where the buffer is flushed again after `WouldBlock`.
 /// Fails where what it still holds is written after `StorageFull`.
 #[test]
-fn a_fault_of_any_kind_ends_the_output(rt: HostRuntime) -> Result<(), Fail> {
+fn a_fault_of_any_kind_ends_the_output(rt: HostRuntime) {
     let alloc = rt.alloc();
-    let short = looked_up(alloc, 0)?;
-    let long = looked_up(alloc, 1_000)?;
-    for fault in &each_fault(alloc)? {
+    let short = looked_up(&rt, alloc, 0);
+    let long = looked_up(&rt, alloc, 1_000);
+    let faults = each_fault(alloc).expect(&rt, "memory");
+    for fault in &faults {
         run_stops(&rt, alloc, &short, 5, usize::MAX, *fault);
         run_stops(&rt, alloc, &long, WITHIN, usize::MAX, *fault);
         replay_stops(&rt, alloc, 5, *fault);
     }
-    Ok(())
 }
 
 /// The first bytes, of three lines, those about the end of a buffer, and some others.
@@ -148,17 +160,6 @@ static WAYS: [(usize, ErrorKind); 5] = [
     (usize::MAX, ErrorKind::BrokenPipe),
 ];
 
-/// Fails where `run_texts` gives another fault than `Write` where the writer fails.
-/// Fails where a byte more is written after the fault: `after 0 bytes`.
-#[test]
-fn a_fault_within_a_small_output_leaves_a_beginning(rt: HostRuntime) -> Result<(), Fail> {
-    let worked = looked_up(rt.alloc(), 1)?;
-    for (at_once, kind) in WAYS.iter() {
-        stops_everywhere(&rt, rt.alloc(), &worked, *at_once, *kind);
-    }
-    Ok(())
-}
-
 /// How many look-ups fill more than three buffers.
 const THREE_BUFFERS: usize = 4_000;
 
@@ -166,12 +167,13 @@ const THREE_BUFFERS: usize = 4_000;
 /// Fails where a byte more is written after the fault: `after 0 bytes`.
 /// Fails where `put`, and so `run_texts`, tries again after `Interrupted`, as std's `write_all` does.
 #[test]
-fn a_fault_in_any_buffer_leaves_a_beginning(rt: HostRuntime) -> Result<(), Fail> {
-    let worked = looked_up(rt.alloc(), THREE_BUFFERS)?;
-    for (at_once, kind) in WAYS.iter() {
-        stops_everywhere(&rt, rt.alloc(), &worked, *at_once, *kind);
+fn a_fault_in_any_buffer_leaves_a_beginning(rt: HostRuntime) {
+    for look_ups in [1, THREE_BUFFERS] {
+        let worked = looked_up(&rt, rt.alloc(), look_ups);
+        for (at_once, kind) in WAYS.iter() {
+            stops_everywhere(&rt, rt.alloc(), &worked, *at_once, *kind);
+        }
     }
-    Ok(())
 }
 
 /// Greater than the length of the output below, and prime: multiples of it leave each remainder once, now here, now there.
@@ -192,11 +194,11 @@ fn is_early<R: Clock>(rt: &R, start: Instant) -> bool {
 /// Fails where `run_texts` gives another fault than `Write` where the writer fails.
 /// Fails where a byte more is written after the fault: `after 0 bytes`.
 #[test]
-fn a_fault_after_any_number_of_bytes_leaves_a_beginning(rt: HostRuntime) -> Result<(), Fail> {
-    let worked = looked_up(rt.alloc(), ONE_BUFFER)?;
+fn a_fault_after_any_number_of_bytes_leaves_a_beginning(rt: HostRuntime) {
+    let worked = looked_up(&rt, rt.alloc(), ONE_BUFFER);
     let len = worked.output.len();
     assert!(rt; OUTPUT_BYTES < len && len < STRIDE);
-    let start = Instant::now(&rt)?;
+    let start = Instant::now(&rt).expect(&rt, "a clock");
     let mut tried = 0;
     for multiple in 0..len {
         if is_early(&rt, start) {
@@ -207,7 +209,6 @@ fn a_fault_after_any_number_of_bytes_leaves_a_beginning(rt: HostRuntime) -> Resu
         }
     }
     assert!(rt; tried > 100, "{tried} of {len}");
-    Ok(())
 }
 
 /// Runs the text over a writer that takes so many bytes a call, and tells how often it was called.
@@ -229,13 +230,12 @@ fn calls_of<R: Threads + Wait + Sync + Abort>(
 /// Fails where `run_texts` passes on each line by itself, or flushes the writer.
 /// Fails where the buffer is passed on between the reports and the table.
 #[test]
-fn all_is_written_in_as_few_calls_as_take_it(rt: HostRuntime) -> Result<(), Fail> {
-    let worked = looked_up(rt.alloc(), THREE_BUFFERS)?;
+fn all_is_written_in_as_few_calls_as_take_it(rt: HostRuntime) {
+    let worked = looked_up(&rt, rt.alloc(), THREE_BUFFERS);
     for at_once in [1, 7, OUTPUT_BYTES + 1] {
         calls_of(&rt, rt.alloc(), &worked, at_once);
     }
     let buffers = worked.output.as_slice().chunks(OUTPUT_BYTES).count();
-    assert!(rt; buffers > 3);
-    assert_eq!(rt; calls_of(&rt, rt.alloc(), &worked, usize::MAX), buffers);
-    Ok(())
+    let calls = calls_of(&rt, rt.alloc(), &worked, usize::MAX);
+    assert!(rt; buffers > 3 && calls == buffers, "{calls} calls");
 }

@@ -10,4 +10,4 @@ mod writers;
 pub use dice::{Dice, next_number};
 pub use memory::take_the_rest;
 pub use names::misshown;
-pub use writers::{StumblingWriter, each_fault};
+pub use writers::{StumblingWriter, each_fault, is_told};

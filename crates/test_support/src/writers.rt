@@ -77,3 +77,18 @@ pub fn each_fault(alloc: Global) -> Result<Vec<io::Error>, AllocError> {
     faults.push(io::Error::other("the writer's own words"))?;
     Ok(faults)
 }
+
+/// Whether it was answered this very fault: its kind, the system's number or what its maker said.
+pub fn is_told(
+    alloc: Global,
+    written: io::Result<()>,
+    fault: io::Error,
+) -> Result<bool, AllocError> {
+    match written {
+        Ok(()) => Ok(false),
+        Err(told) => {
+            let told = format!(in alloc; "{told:?}")?;
+            Ok(told.as_str() == format!(in alloc; "{fault:?}")?.as_str())
+        }
+    }
+}

@@ -5,8 +5,7 @@ use rt_rib::{Hop, Reply, Route};
 use std::alloc::{AllocError, Global};
 use std::io::{self, Write};
 use std::process::Abort;
-use std::test::Fail;
-use test_support::{StumblingWriter, each_fault};
+use test_support::{StumblingWriter, each_fault, is_told};
 
 /// A report with an answer for each line from the first on.
 fn report_of(alloc: Global, answers: &[Answer]) -> Result<Report, AllocError> {
@@ -20,25 +19,35 @@ fn report_of(alloc: Global, answers: &[Answer]) -> Result<Report, AllocError> {
     Ok(report)
 }
 
+const ADDED: Answer = Answer::Did(Reply::Added);
+
+const FAULT: Answer = Answer::Fault(LineFault::Hop);
+
+/// Whether the lines have these answers.
+fn have_answers(lines: &[Line], answers: &[Answer]) -> bool {
+    for (line, answer) in lines.iter().zip(answers) {
+        if line.answer != *answer {
+            return false;
+        }
+    }
+    lines.len() == answers.len()
+}
+
 #[test]
-fn reports_keep_lines_and_tell_refusals_and_faults(rt: HostRuntime) -> Result<(), Fail> {
-    let did = Answer::Did(Reply::Added);
-    let fault = Answer::Fault(LineFault::Hop);
+fn reports_keep_lines_and_tell_refusals_and_faults(rt: HostRuntime) {
     let reports: [(&[Answer], bool, bool); 5] = [
         (&[], false, false),
-        (&[did], false, false),
-        (&[did, fault], false, true),
-        (&[did, Answer::Refused], true, false),
-        (&[Answer::Refused, did, fault], true, true),
+        (&[ADDED], false, false),
+        (&[ADDED, FAULT], false, true),
+        (&[ADDED, Answer::Refused], true, false),
+        (&[Answer::Refused, ADDED, FAULT], true, true),
     ];
     for (answers, refusal, faulty) in reports {
-        let report = report_of(rt.alloc(), answers)?;
-        let kept = report.lines().iter().map(|line| &line.answer);
-        assert!(rt; kept.eq(answers.iter()), "of {answers:?}");
-        assert!(rt; report.has_refusal() == refusal, "of {answers:?}");
-        assert!(rt; report.has_fault() == faulty, "of {answers:?}");
+        let report = report_of(rt.alloc(), answers).expect(&rt, "memory");
+        assert!(rt; have_answers(report.lines(), answers), "of {answers:?}");
+        let told = (report.has_refusal(), report.has_fault());
+        assert!(rt; told == (refusal, faulty), "of {answers:?}");
     }
-    Ok(())
 }
 
 /// What the report of feed 64 says that has every answer without a route.
@@ -62,42 +71,35 @@ const PRINTED_ANSWERS: &[u8] = b"64:1 added
 64:18 fault E8
 ";
 
+/// Every answer without a route.
+const ANSWERS: [Answer; 18] = [
+    Answer::Did(Reply::Added),
+    Answer::Did(Reply::Withdrawn),
+    Answer::Did(Reply::Exists),
+    Answer::Did(Reply::Full),
+    Answer::Did(Reply::Replaced),
+    Answer::Did(Reply::Missing),
+    Answer::Did(Reply::NoRoute),
+    Answer::Did(Reply::Dumped(u32::MAX)),
+    Answer::Did(Reply::Purged(1_000_000)),
+    Answer::Refused,
+    Answer::Fault(LineFault::Command),
+    Answer::Fault(LineFault::FieldCount),
+    Answer::Fault(LineFault::Text),
+    Answer::Fault(LineFault::PrefixLength),
+    Answer::Fault(LineFault::PrefixBits),
+    Answer::Fault(LineFault::Preference),
+    Answer::Fault(LineFault::Hop),
+    Answer::Fault(LineFault::LineLength),
+];
+
 /// Fails where `write_report` gives up at once.
 #[test]
-fn prints_every_answer_without_a_route(rt: HostRuntime) -> Result<(), Fail> {
-    let replies = [
-        Reply::Added,
-        Reply::Withdrawn,
-        Reply::Exists,
-        Reply::Full,
-        Reply::Replaced,
-        Reply::Missing,
-        Reply::NoRoute,
-        Reply::Dumped(u32::MAX),
-        Reply::Purged(1_000_000),
-    ];
-    let faults = [
-        LineFault::Command,
-        LineFault::FieldCount,
-        LineFault::Text,
-        LineFault::PrefixLength,
-        LineFault::PrefixBits,
-        LineFault::Preference,
-        LineFault::Hop,
-        LineFault::LineLength,
-    ];
-    let mut answers = Vec::new(rt.alloc());
-    for reply in replies {
-        answers.push(Answer::Did(reply))?;
-    }
-    answers.push(Answer::Refused)?;
-    for fault in faults {
-        answers.push(Answer::Fault(fault))?;
-    }
+fn prints_every_answer_without_a_route(rt: HostRuntime) {
     let mut out = Vec::new(rt.alloc());
-    write_report(&mut out, 64, &report_of(rt.alloc(), &answers)?)?;
+    let report = report_of(rt.alloc(), &ANSWERS).expect(&rt, "memory");
+    assert!(rt; write_report(&mut out, 64, &report).is_ok());
     assert!(rt; out.as_slice() == PRINTED_ANSWERS);
-    Ok(())
 }
 
 /// A report of three lines, and two routes.
@@ -116,18 +118,14 @@ fn route(base: u32, len: u8, hop: u32) -> Result<Route, TextFault> {
     })
 }
 
-fn new_sample(alloc: Global) -> Result<Sample, Fail> {
-    let ten = route(0x0a00_0000, 8, 0xc000_0201)?;
-    let other = route(0x0a02_0000, 16, 0xc000_0203)?;
-    let answers = [
-        Answer::Did(Reply::Added),
-        Answer::Did(Reply::Found(ten)),
-        Answer::Fault(LineFault::Hop),
-    ];
-    Ok(Sample {
-        report: report_of(alloc, &answers)?,
+fn new_sample(rt: &impl Abort, alloc: Global) -> Sample {
+    let ten = route(0x0a00_0000, 8, 0xc000_0201).expect(rt, "a route");
+    let other = route(0x0a02_0000, 16, 0xc000_0203).expect(rt, "a route");
+    let answers = [ADDED, Answer::Did(Reply::Found(ten)), FAULT];
+    Sample {
+        report: report_of(alloc, &answers).expect(rt, "memory"),
         routes: [ten, other],
-    })
+    }
 }
 
 /// Writes a text of each kind, one after another.
@@ -158,68 +156,56 @@ table 2
 /// Fails where `put` takes each write for a whole one: `1` is all that is written.
 /// Fails where `write_report`, `write_table`, `write_rows`, `write_found` or `write_all_found` gives up at once.
 #[test]
-fn writes_a_byte_a_call(rt: HostRuntime) -> Result<(), Fail> {
+fn writes_a_byte_a_call(rt: HostRuntime) {
+    let sample = new_sample(&rt, rt.alloc());
     let mut out = StumblingWriter::new(rt.alloc(), 1, usize::MAX, None);
-    write_each(&mut out, &new_sample(rt.alloc())?)?;
+    assert!(rt; write_each(&mut out, &sample).is_ok());
     assert!(rt; out.taken.as_slice() == EACH);
-    Ok(())
+}
+
+/// Writes a report without a line, and no row.
+fn write_none(w: &mut StumblingWriter, alloc: Global) -> io::Result<()> {
+    write_report(w, 1, &Report::new(alloc))?;
+    write_rows(w, &[])
 }
 
 /// No clause can tell: neither an empty write nor a flush changes what the writer holds.
 /// Fails where the writer is flushed after each row, or each line of the report.
 /// Fails where it is flushed, or asked to write nothing, where there is no line.
 #[test]
-fn makes_one_write_for_each_line_and_no_other_call(rt: HostRuntime) -> Result<(), Fail> {
+fn makes_one_write_for_each_line_and_no_other_call(rt: HostRuntime) {
+    let sample = new_sample(&rt, rt.alloc());
     let mut out = StumblingWriter::new(rt.alloc(), usize::MAX, usize::MAX, None);
-    write_report(&mut out, 1, &Report::new(rt.alloc()))?;
-    write_rows(&mut out, &[])?;
-    assert!(rt; out.calls == 0);
-    write_each(&mut out, &new_sample(rt.alloc())?)?;
-    assert!(rt; out.calls == 12);
-    Ok(())
+    assert!(rt; write_none(&mut out, rt.alloc()).is_ok() && out.calls == 0);
+    assert!(rt; write_each(&mut out, &sample).is_ok() && out.calls == 12);
 }
 
-/// After so many bytes the writer's own fault is what every text answers, and nothing more was written.
-fn assert_stops(rt: &impl Abort, alloc: Global, sample: &Sample, room: usize, fault: io::Error) {
+/// Whether the writer's own fault, after so many bytes, is what every text answers, and nothing more was written.
+fn stops(alloc: Global, sample: &Sample, room: usize, fault: io::Error) -> bool {
     let mut out = StumblingWriter::new(alloc, 7, room, Some(fault));
-    let is_told = match write_each(&mut out, sample) {
-        Ok(()) => false,
-        Err(met) => met.raw_os_error() == fault.raw_os_error() && met.kind() == fault.kind(),
-    };
-    assert!(rt; is_told, "after {room} bytes, in place of {fault:?}");
+    let written = write_each(&mut out, sample);
     let has_begun = out.taken.len() == room && EACH.starts_with(out.taken.as_slice());
-    assert!(rt; has_begun, "after {room} bytes");
+    is_told(alloc, written, fault) == Ok(true) && has_begun
 }
 
-/// The numbers are those of an interrupted call, a full disk and a broken pipe.
+/// After each byte the numbers are those of an interrupted call, a full disk and a broken pipe.
 /// Fails where a line of the report, a row, the count or what was found loses the number of the writer's fault: `after 0
 /// bytes`, `81`, `73`, `243`.
 /// Fails where the lines after the first answer another fault, if only another number of its kind: `after 10 bytes`.
-#[test]
-fn stops_with_the_writers_own_fault_after_each_byte(rt: HostRuntime) -> Result<(), Fail> {
-    let sample = new_sample(rt.alloc())?;
-    for code in [4, 28, 32] {
-        for room in 0..EACH.len() {
-            assert_stops(
-                &rt,
-                rt.alloc(),
-                &sample,
-                room,
-                io::Error::from_raw_os_error(code),
-            );
-        }
-    }
-    Ok(())
-}
-
 /// Fails where what was found answers `Other` in place of the system's `TimedOut`: `after 250 bytes`.
 #[test]
-fn stops_with_a_fault_of_any_kind(rt: HostRuntime) -> Result<(), Fail> {
-    let sample = new_sample(rt.alloc())?;
-    for fault in &each_fault(rt.alloc())? {
-        for room in (0..EACH.len()).step_by(10) {
-            assert_stops(&rt, rt.alloc(), &sample, room, *fault);
+fn stops_with_the_writers_own_fault(rt: HostRuntime) {
+    let sample = new_sample(&rt, rt.alloc());
+    let faults = each_fault(rt.alloc()).expect(&rt, "memory");
+    for fault in &faults {
+        let is_common = matches!(fault.raw_os_error(), Some(4 | 28 | 32));
+        for room in 0..EACH.len() {
+            if is_common || room % 10 == 0 {
+                assert!(rt;
+                    stops(rt.alloc(), &sample, room, *fault),
+                    "after {room} bytes: {fault:?}"
+                );
+            }
         }
     }
-    Ok(())
 }

@@ -3,28 +3,26 @@ ghost use Rattle.std.specs.Prelude.{◌≡◌, IfOk};
 ghost use Rattle.rt_rib.specs.Book.{IsLimit};
 ghost use Rattle.rt_shared.specs.tests.Testing.{AreBoth};
 
-use rt_cidr::{Addr, Prefix, TextFault};
+use rt_cidr::{Addr, Prefix};
 use rt_feed::*;
-use rt_rib::{Cmd, Entry, Hop, Reply};
+use rt_rib::{Book, Cmd, Entry, Hop, Reply, Route};
 use rt_shared::{FeedPass, Outcome, SharedRib};
 use std::alloc::Global;
 use std::process::Abort;
 use std::sync::Wait;
 use std::test::Fail;
 
-const DISCARD: Hop = Hop::Discard;
-
 /// The k-th of prefixes that don't meet.
-fn nth(k: u32) -> Result<Prefix, TextFault> {
-    Prefix::new(k.wrapping_mul(256), 24)
+fn nth(rt: &impl Abort, k: u32) -> Prefix {
+    Prefix::new(k.wrapping_mul(256), 24).expect(rt, "a prefix")
 }
 
-fn add(k: u32) -> Result<Cmd, TextFault> {
-    Ok(Cmd::Add {
-        prefix: nth(k)?,
+fn add(rt: &impl Abort, k: u32) -> Cmd {
+    Cmd::Add {
+        prefix: nth(rt, k),
         pref: k,
-        hop: DISCARD,
-    })
+        hop: Hop::Discard,
+    }
 }
 
 /// A table of two feeds and their passes.
@@ -38,51 +36,94 @@ fn pair(alloc: Global, limit: u32) -> Result<(SharedRib<1>, FeedPass, FeedPass),
     Ok((table, first, second))
 }
 
-/// Asks a command and then a batch of three of two gates, and compares what they are answered.
-fn ask_both<R: Wait + Abort>(
+/// Asks a command of feed 1, and five at once, and none, of feed 2: whether they are answered so.
+fn are_answered<R: Wait>(
     rt: &R,
     alloc: Global,
-    cmd: Cmd,
     first: &mut TableGate<'_, 1>,
     second: &mut TableGate<'_, 1>,
-)
+    cmds: &[Cmd; 5],
+    outcomes: &[Outcome; 5],
+) -> bool
     ensures first { (first.new.table ≡ first.old.table) × (first.new.feed ≡ first.old.feed) }
     ensures second { (second.new.table ≡ second.old.table) × (second.new.feed ≡ second.old.feed) }
 {
-    let told = [
-        Outcome::Did(Reply::Added),
-        Outcome::Did(Reply::Dumped(2)),
-        Outcome::Did(Reply::Purged(1)),
-    ];
     let mut out = Vec::new(alloc);
-    assert!(rt; first.apply(rt, cmd) == Ok(Reply::Added));
-    assert!(rt; second.apply_batch(rt, &[cmd, Cmd::Dump, Cmd::Purge], &mut out) == Ok(()));
-    assert!(rt; out.as_slice() == told.as_slice());
+    let one = first.apply(rt, cmds[0]);
+    let five = second.apply_batch(rt, cmds, &mut out);
+    let none = second.apply_batch(rt, &[], &mut out);
+    let is_told = out.as_slice() == outcomes.as_slice();
+    one == Ok(Reply::Added) && five == Ok(()) && none == Ok(()) && is_told
 }
 
-/// Fails where `TableGate::apply` or `apply_batch` asks and answers `Refused`.
-#[test]
-fn gates_answer_by_their_table(rt: HostRuntime) -> Result<(), Fail> {
-    let alloc = rt.alloc();
-    let cmd = add(1)?;
+/// The entry of this number: of a command of feed 1, and behind it of those of feed 2.
+fn entry(at: usize, cmds: &[Cmd; 5], outcomes: &[Outcome; 5]) -> Option<Entry> {
+    if at == 0 {
+        let (feed, cmd, reply) = (1, cmds[0], Reply::Added);
+        return Some(Entry { feed, cmd, reply });
+    }
+    match outcomes.get(at - 1) {
+        Some(Outcome::Did(reply)) if at <= 5 => Some(Entry {
+            feed: 2,
+            cmd: cmds[at - 1],
+            reply: *reply,
+        }),
+        _ => None,
+    }
+}
+
+/// Whether the journal has these entries.
+fn are_entries(entries: &[Entry], cmds: &[Cmd; 5], outcomes: &[Outcome; 5]) -> bool {
+    for (at, found) in entries.iter().enumerate() {
+        if entry(at, cmds, outcomes) != Some(*found) {
+            return false;
+        }
+    }
+    entries.len() == 6
+}
+
+/// The book of a table with two feeds that were asked so, and the routes that it had before it was settled.
+fn asked<R: Wait + Abort>(
+    rt: &R,
+    alloc: Global,
+    cmds: &[Cmd; 5],
+    outcomes: &[Outcome; 5],
+) -> Result<(Book<Global>, Vec<Route>), Fail> {
     let (table, first, second) = pair(alloc, 5)?;
     let mut one = TableGate::new(&table, first);
     let mut two = TableGate::new(&table, second);
-    ask_both(&rt, alloc, cmd, &mut one, &mut two);
+    assert!(rt; are_answered(rt, alloc, &mut one, &mut two, cmds, outcomes));
     let mut first = one.into_pass();
     let second = two.into_pass();
     assert!(rt; (first.feed(), second.feed()) == (1, 2));
-    let routes = table.routes(&rt, alloc, &mut first).expect(&rt, "memory");
-    assert!(rt; routes.len() == 1 && routes[0].feed == 1);
-    let book = table.settle(&rt, vec![in alloc; first, second]?);
-    let asked = [
-        (1, cmd, Reply::Added),
-        (2, cmd, Reply::Added),
-        (2, Cmd::Dump, Reply::Dumped(2)),
-        (2, Cmd::Purge, Reply::Purged(1)),
+    let routes = table.routes(rt, alloc, &mut first).expect(rt, "memory");
+    let passes = vec![in alloc; first, second].expect(rt, "memory");
+    Ok((table.settle(rt, passes), routes))
+}
+
+/// Fails where `SharedRib::new` always returns `Refused`, or `apply`, `apply_batch` or `routes` of a `SharedRib`.
+/// Fails where `TableGate::apply` or `apply_batch` asks and answers `Refused`.
+#[test]
+fn gates_answer_by_their_table(rt: HostRuntime) -> Result<(), Fail> {
+    let cmd = add(&rt, 1);
+    let addr = Addr(0x101);
+    let route = Route {
+        prefix: nth(&rt, 1),
+        feed: 1,
+        pref: 1,
+        hop: Hop::Discard,
+    };
+    let cmds = [cmd, cmd, Cmd::Lookup { addr }, Cmd::Dump, Cmd::Purge];
+    let outcomes = [
+        Outcome::Did(Reply::Added),
+        Outcome::Did(Reply::Exists),
+        Outcome::Did(Reply::Found(route)),
+        Outcome::Did(Reply::Dumped(2)),
+        Outcome::Did(Reply::Purged(1)),
     ];
-    let entries = asked.map(|(feed, cmd, reply)| Entry { feed, cmd, reply });
-    assert!(rt; book.journal() == entries.as_slice());
+    let (book, routes) = asked(&rt, rt.alloc(), &cmds, &outcomes)?;
+    assert!(rt; routes.as_slice() == [route].as_slice());
+    assert!(rt; are_entries(book.journal(), &cmds, &outcomes));
     Ok(())
 }
 
@@ -96,23 +137,25 @@ static SIZES: [usize; 27] = [
 const ROUTES: u32 = 66_000;
 
 /// So many commands that each add a route.
-fn adds(alloc: Global, count: u32) -> Result<Vec<Cmd>, Fail> {
+fn adds(rt: &impl Abort, alloc: Global, count: u32) -> Vec<Cmd> {
     let mut cmds = Vec::new(alloc);
     for k in 0..count {
-        cmds.push(add(k)?)?;
+        cmds.push(add(rt, k)).expect(rt, "memory");
     }
-    Ok(cmds)
+    cmds
 }
 
-/// Asks so many commands at once: none is refused.
-fn ask_many<R: Wait + Abort>(rt: &R, alloc: Global, gate: &mut TableGate<'_, 1>, cmds: &[Cmd])
+/// Asks batches of each size, and a command by itself: none is refused.
+fn ask_each<R: Wait + Abort>(rt: &R, alloc: Global, gate: &mut TableGate<'_, 1>, cmds: &[Cmd])
     ensures { (gate.new.table ≡ gate.old.table) × (gate.new.feed ≡ gate.old.feed) }
 {
-    let count = cmds.len();
-    let mut out = Vec::new(alloc);
-    let asked = gate.apply_batch(rt, cmds, &mut out);
-    assert!(rt; asked == Ok(()), "{count} at once");
-    assert!(rt; !out.contains(&Outcome::Refused), "of {count} commands");
+    for count in SIZES {
+        let mut out = Vec::new(alloc);
+        let asked = gate.apply_batch(rt, &cmds[..count.min(cmds.len())], &mut out);
+        let is_done = asked == Ok(()) && !out.contains(&Outcome::Refused);
+        assert!(rt; is_done, "{count} at once");
+    }
+    assert!(rt; gate.apply(rt, Cmd::Dump) == Ok(Reply::Dumped(ROUTES)));
 }
 
 /// Fails where `TableGate::apply_batch` refuses a batch of 8, or of more than 1,024: `8 at once`, `1025 at once`.
@@ -122,19 +165,15 @@ fn ask_many<R: Wait + Abort>(rt: &R, alloc: Global, gate: &mut TableGate<'_, 1>,
 #[test]
 fn gates_take_batches_of_each_size(rt: HostRuntime) -> Result<(), Fail> {
     let alloc = rt.alloc();
-    let cmds = adds(alloc, ROUTES)?;
-    let (table, first, second) = pair(alloc, 1_000_000)?;
+    let (table, first, mut second) = pair(alloc, 1_000_000)?;
     let mut gate = TableGate::new(&table, first);
-    for count in SIZES {
-        ask_many(&rt, alloc, &mut gate, &cmds[..count.min(cmds.len())]);
-    }
-    assert!(rt; gate.apply(&rt, Cmd::Dump) == Ok(Reply::Dumped(ROUTES)));
+    ask_each(&rt, alloc, &mut gate, &adds(&rt, alloc, ROUTES));
     // A feed that has asked nothing finds what the other one left.
-    let mut idle = TableGate::new(&table, second).into_pass();
-    let routes = table.routes(&rt, alloc, &mut idle).expect(&rt, "memory");
-    assert!(rt; routes.len() == cmds.len());
-    let passes = vec![in alloc; gate.into_pass(), idle]?;
+    let routes = table.routes(&rt, alloc, &mut second).expect(&rt, "memory");
+    assert!(rt; routes.len() == ROUTES as usize);
+    let passes = vec![in alloc; gate.into_pass(), second].expect(&rt, "memory");
     let book = table.settle(&rt, passes);
-    assert!(rt; book.routes(alloc)?.as_slice() == routes.as_slice());
+    let listed = book.routes(alloc).expect(&rt, "memory");
+    assert!(rt; listed.as_slice() == routes.as_slice());
     Ok(())
 }

@@ -1,5 +1,5 @@
 use Rattle.std.proofs.Common.{◌≡◌}
-use Rattle.feed_tests.proofs.feed.table_gate.gates_take_batches_of_each_size.Given as goal
+use Rattle.feed_tests.proofs.feed.table_gate.ask_each.Given as goal
 
 abbrev pub invariant-loop-count : goal.invariant-loop-count
 invariant-loop-count g l = record {
