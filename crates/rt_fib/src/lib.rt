@@ -2,7 +2,6 @@
 //!
 //! ```
 //! let mut fib = Fib::new(alloc, &book)?;
-//! fib.look_up_each(&addresses, &mut answers);
 //! book.apply(1, cmd)?;
 //! fib.follow(&book, &cmd)?; // it answers as the book does again
 //! ```
@@ -16,7 +15,7 @@
 //! table does (`look_up` in `rt_rib`'s `specs/LookUp.antt`). That no place is read which isn't there is proved, so none is tested.
 //! [`laws`] says which commands of a book [`Fib::renew`] follows by their prefix.
 //!
-//! No clause says how much memory it takes.
+//! Only tested, since no clause says it: how much memory it takes, and that many threads may ask one.
 #![tactic(auto)]
 
 mod cells;

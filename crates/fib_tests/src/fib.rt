@@ -1,0 +1,92 @@
+//! A forwarding table beside a plain list of its book's routes, by each address of small universes.
+mod plain;
+mod renewals;
+mod threads;
+mod universe;
+
+use plain::best_of;
+use rt_cidr::{Addr, Prefix};
+use rt_fib::Fib;
+use rt_rib::{Book, Cmd, Hop, Route};
+use std::alloc::{Allocator, Global};
+use std::process::Abort;
+use test_support::Dice;
+
+/// The first addresses of the universes: at the beginning of all addresses, somewhere among them, and at their end.
+static UNIVERSES: [u32; 3] = [0, 0x0a00_0000, 0xffff_fc00];
+
+/// How many addresses each of them has, in four blocks.
+const SIZE: u32 = 1024;
+
+/// The prefix of that length that covers the address.
+fn around(rt: &impl Abort, addr: u32, len: u8) -> Prefix {
+    let past = 32u8.saturating_sub(len);
+    let base = (u64::from(addr) >> past) << past;
+    Prefix::new(base as u32, len).expect(rt, "no prefix")
+}
+
+/// A length from 22 on, seldom one from 12 on, and very seldom any.
+fn any_len(dice: &mut Dice) -> u8 {
+    match dice.roll(1_000) {
+        0 => dice.roll(33) as u8,
+        1..=99 => 12 + dice.roll(10) as u8,
+        _ => 22 + dice.roll(11) as u8,
+    }
+}
+
+/// A prefix around an address of one of the universes.
+fn any_prefix(rt: &impl Abort, dice: &mut Dice) -> Prefix {
+    let first = UNIVERSES[dice.roll(3)];
+    let addr = first.wrapping_add(dice.roll(1024) as u32);
+    let len = any_len(dice);
+    around(rt, addr, len)
+}
+
+/// Three of ten withdraw, and one asks.
+fn any_cmd(rt: &impl Abort, dice: &mut Dice) -> Cmd {
+    let prefix = any_prefix(rt, dice);
+    let pref = dice.roll(3) as u32;
+    let hop = Hop::Via(Addr(dice.roll(4) as u32));
+    match dice.roll(10) {
+        0..=3 => Cmd::Add { prefix, pref, hop },
+        4..=5 => Cmd::Replace { prefix, pref, hop },
+        6..=8 => Cmd::Withdraw { prefix },
+        _ => Cmd::Lookup {
+            addr: Addr(prefix.base()),
+        },
+    }
+}
+
+/// Compares what the table answers the address with the best of the routes.
+fn assert_answer<A: Allocator + Copy, B: Allocator + Copy>(
+    rt: &impl Abort,
+    fib: &Fib<A, B>,
+    routes: &[Route],
+    addr: Addr,
+) {
+    assert_eq!(rt; fib.look_up(addr), best_of(routes, addr), "{addr:?}");
+}
+
+/// Compares what the table answers all addresses of the universes with the best of the routes.
+fn assert_answers<A: Allocator + Copy, B: Allocator + Copy>(
+    rt: &impl Abort,
+    fib: &Fib<A, B>,
+    routes: &[Route],
+) {
+    for first in UNIVERSES.iter() {
+        for k in 0..SIZE {
+            assert_answer(rt, fib, routes, Addr(first.wrapping_add(k)));
+        }
+    }
+}
+
+/// Compares what the table answers all addresses of the universes with the best of the book's routes.
+fn assert_of_book<A: Allocator + Copy>(
+    rt: &impl Abort,
+    alloc: Global,
+    fib: &Fib<A, Global>,
+    book: &Book<Global>,
+) {
+    let routes = book.routes(alloc).expect(rt, "memory");
+    assert_answers(rt, fib, &routes);
+}

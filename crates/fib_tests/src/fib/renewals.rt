@@ -1,0 +1,71 @@
+//! A book that changes, and a forwarding table that follows it.
+ghost use Rattle.std.specs.Prelude.{◌≡◌};
+ghost use Rattle.rt_rib.specs.Book.{table_of, IsFeed};
+
+use super::{any_cmd, assert_of_book};
+use rt_fib::Fib;
+use rt_fib::laws::commands_keep_outside;
+use rt_rib::{Book, Cmd};
+use std::alloc::Global;
+use std::process::Abort;
+use test_support::Dice;
+
+/// Has the book answer the command, and the forwarding table follow it.
+pub(super) fn follow(
+    rt: &impl Abort,
+    book: &mut Book<Global>,
+    fib: &mut Fib<Global>,
+    feed: u32,
+    cmd: Cmd,
+)
+    requires feed { IsFeed feed }
+    requires same { fib.old ≡ table_of book.old }
+    ensures { fib.new ≡ table_of book.new }
+{
+    commands_keep_outside();
+    book.apply(feed, cmd).expect(rt, "memory");
+    fib.follow(book, &cmd).expect(rt, "memory");
+}
+
+/// So many commands drawn by lot, each followed.
+fn follow_many(
+    rt: &impl Abort,
+    dice: &mut Dice,
+    book: &mut Book<Global>,
+    fib: &mut Fib<Global>,
+    count: u32,
+)
+    requires same { fib.old ≡ table_of book.old }
+    ensures { fib.new ≡ table_of book.new }
+{
+    'commands: for _command in 0..count {
+        let feed = 1 + dice.roll(3) as u32;
+        let cmd = any_cmd(rt, dice);
+        follow(rt, book, fib, feed, cmd);
+    }
+}
+
+/// It takes at most twice the memory of a new one.
+fn assert_small(rt: &impl Abort, alloc: Global, book: &Book<Global>, fib: &Fib<Global>) {
+    let new: Fib<Global> = Fib::new(alloc, book).expect(rt, "memory");
+    assert!(rt; fib.memory() <= new.memory().saturating_mul(2));
+}
+
+/// Changes a book, and after each five thousand commands compares the table that followed them with the book's routes, and
+/// its memory with that of a new one.
+fn change(rt: &impl Abort, alloc: Global, count: u32) {
+    let mut dice = Dice(3);
+    let mut book = Book::new(alloc, 1_000_000);
+    let mut fib = Fib::new(alloc, &book).expect(rt, "memory");
+    'rounds: for _round in 0..count {
+        follow_many(rt, &mut dice, &mut book, &mut fib, 5_000);
+        assert_of_book(rt, alloc, &fib, &book);
+        assert_small(rt, alloc, &book, &fib);
+    }
+}
+
+/// Fails where a table that follows its book is never built anew.
+#[test]
+fn follows_a_hundred_thousand_commands(rt: HostRuntime) {
+    change(&rt, rt.alloc(), 20);
+}
