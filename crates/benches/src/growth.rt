@@ -1,5 +1,5 @@
 //! Makes each call of the libraries that wants memory of the machine, and prints what it was answered and what it left
-//! behind. `bench/refused_growth.py` runs it over and over, each time with another of its requests refused, and
+//! behind. `tests/refused_growth.py` runs it over and over, each time with another of its requests refused, and
 //! compares.
 
 mod feeds;

@@ -1,4 +1,4 @@
-//! A forwarding table (FIB): what a routing table answers each address, found by reading one to three places of memory.
+//! A forwarding table (FIB): what a routing table answers each address, found by two reads of memory, or three.
 //!
 //! ```
 //! let mut fib = Fib::new(alloc, &book)?;
