@@ -893,23 +893,25 @@ what_its_lines_say =
       codes "192.0.2.1\n10\n\n10.1.2.3",
       cut (codes "# Two are asked.") (codes "192.0.2.1\n10\n\n10.1.2.3") refl,
       (omega arith, refl),
-      codes "192.0.2.1",
-      codes "10\n\n10.1.2.3",
-      cut (codes "192.0.2.1") (codes "10\n\n10.1.2.3") refl,
-      (omega arith, refl),
-      codes "10",
-      codes "\n10.1.2.3",
-      cut (codes "10") (codes "\n10.1.2.3") refl,
-      what_is_no_address_is_E3,
-      [],
-      codes "10.1.2.3",
-      cut [] (codes "10.1.2.3") refl,
-      (omega arith, refl),
-      codes "10.1.2.3",
-      [],
-      last,
-      (omega arith, refl),
-      refl,
+      (
+        codes "192.0.2.1",
+        codes "10\n\n10.1.2.3",
+        cut (codes "192.0.2.1") (codes "10\n\n10.1.2.3") refl,
+        (omega arith, refl),
+        (
+          codes "10",
+          codes "\n10.1.2.3",
+          cut (codes "10") (codes "\n10.1.2.3") refl,
+          what_is_no_address_is_E3,
+          (
+            [],
+            codes "10.1.2.3",
+            cut [] (codes "10.1.2.3") refl,
+            (omega arith, refl),
+            (codes "10.1.2.3", [], last, (omega arith, refl), refl),
+          ),
+        ),
+      ),
     )
 
 -- addresses_said
@@ -947,9 +949,9 @@ two_are_asked_and_a_line_is_faulty :
 two_are_asked_and_a_line_is_faulty = record { says = asked_read; lines = what_its_lines_say; said = refl; faults = refl }
 
 what_every_line_of_it_says :
-    (text : List ℕ) (addresses : List Addr) (faulty : FaultyLines) (h : SaysAddresses text addresses faulty)
-    → LinesSay AnswersAddressLine text h.says [] × (addresses ≡ addresses_said h.says) × (faulty ≡ faulty_lines (faults_said 1 h.says))
-what_every_line_of_it_says text addresses faulty h = (h.lines, h.said, h.faults)
+    (text : List ℕ) (addresses : List Addr) (told : FaultyLines) (h : SaysAddresses text addresses told)
+    → LinesSay AnswersAddressLine text h.says [] × (addresses ≡ addresses_said h.says) × (told ≡ faulty_lines (faults_said 1 h.says))
+what_every_line_of_it_says text addresses told h = (h.lines, h.said, h.faults)
 
 -- found_text
 a_route_was_found : found_text at_192_0_2_1 (Some route_10) ≡ codes "192.0.2.1 route 10.0.0.0/8 feed 1 pref 100 via 192.0.2.1\n"
