@@ -77,7 +77,8 @@ def built():
 
 
 def compiled(folder, source, *options):
-    """What gcc makes of a source in C, of this repository, in the folder: a program, or with -shared what is loaded before one."""
+    """What gcc makes of a source in C, of this repository, in the folder: a program, or with -shared what is loaded before
+    one."""
     made = folder / pathlib.Path(source).stem
     subprocess.run(["gcc", "-O2", *options, "-o", made, TOP / source], check=True)
     return made

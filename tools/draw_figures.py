@@ -103,7 +103,8 @@ def time_by_feeds():
     kept = figures.kept("batches")
     on = sorted({row["on"] for row in kept["rows"]})
     panels = [
-        (f"{some} processor{'s' if some > 1 else ''}", program_lines([row for row in kept["rows"] if row["on"] == some], "files", "clock"))
+        (f"{some} processor{'s' if some > 1 else ''}",
+         program_lines([row for row in kept["rows"] if row["on"] == some], "files", "clock"))
         for some in on
     ]
     return charts("Feeds that announce the same 20,000 prefixes, on the clock", "µs a line", "feeds", PROGRAM, panels, kept)

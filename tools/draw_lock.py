@@ -75,7 +75,8 @@ def tree():
             wide = 190 if on_way else 74
             parts.append(f"<rect x='{x - wide / 2}' y='{y - 18}' width='{wide}' height='{tall}' rx='8' fill='white' "
                          f"stroke='{COLOURS[0] if on_way else '#888'}'/>")
-            parts.append(text(x, y, f"level {level}, node {node}" if on_way else f"{level}.{node}", weight="bold" if on_way else "normal"))
+            said = f"level {level}, node {node}" if on_way else f"{level}.{node}"
+            parts.append(text(x, y, said, weight="bold" if on_way else "normal"))
             if on_way:
                 done = [step for step in steps if step["level"] == level]
                 for row, step in enumerate(done):
@@ -116,7 +117,8 @@ def handshake():
         if step["mark"]:
             parts.append(text(x, y - 29, step["mark"], 12, colour=COLOURS[step["place"]], weight="bold"))
     parts.append(text(16, 222, "step", 11, "start", "#666"))
-    parts.append(text(16, 242, "filled: a store; the word and what it holds then. White: a load, and what it finds.", 11, "start", "#666"))
+    filled = "filled: a store; the word and what it holds then. White: a load, and what it finds."
+    parts.append(text(16, 242, filled, 11, "start", "#666"))
     picture("handshake.svg", width, height, "Two places at one node, step by step", parts)
 
 

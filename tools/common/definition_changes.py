@@ -1,12 +1,12 @@
-"""The changes of a definition that tools/hollow makes: one sign, case, premise, number, bound, name or text of it at a time, or one
-variable fixed at what the examples have in its place."""
+"""The changes of a definition that tools/hollow makes: one sign, case, premise, number, bound, name or text of it at a time,
+or one variable fixed at what the examples have in its place."""
 import re
 
 from .definition_copies import WORD
 
 SIGNS = [("≡", "≢"), ("≢", "≡"), ("≤", "<"), ("<", "≤"), ("&&", "||"), ("||", "&&"), ("↔", "→"), ("+", "-"), ("-", "+")]
-NAMES = [("true", "false"), ("false", "true"), ("nat_lt", "nat_le"), ("nat_le", "nat_lt"), ("list_any", "list_all"), ("list_all", "list_any"),
-         ("⊥", "Unit {0}"), ("Unit {0}", "⊥"), ("not", ""), ("¬", "")]
+NAMES = [("true", "false"), ("false", "true"), ("nat_lt", "nat_le"), ("nat_le", "nat_lt"),
+         ("list_any", "list_all"), ("list_all", "list_any"), ("⊥", "Unit {0}"), ("Unit {0}", "⊥"), ("not", ""), ("¬", "")]
 PARTS = [(" × ", "Unit {0}"), (" ⊎ ", "⊥"), (" ++ ", "[]"), (" && ", "true"), (" || ", "false")]
 
 
@@ -76,7 +76,8 @@ def by_part(text):
                     yield put(text, start, end, nothing)
     for parts in spans_of(text, "→ "):
         for start, end in parts[:-1]:
-            start += behind_last(text[start:end], (" × ",)) or len(re.match(r"\s*(?:[({](?:[^\W\d][\w']* )+: [^(){}]*[)}] ?)*", text[start:end])[0])
+            variables = re.match(r"\s*(?:[({](?:[^\W\d][\w']* )+: [^(){}]*[)}] ?)*", text[start:end])
+            start += behind_last(text[start:end], (" × ",)) or len(variables[0])
             if text[start:end].strip():
                 yield text[:start] + text[end + 2:]
         yield put(text, *parts[-1], "Unit {0}")
@@ -85,7 +86,8 @@ def by_part(text):
 def by_field(text):
     """Two neighbouring fields of a record's value are exchanged."""
     for parts in spans_of(text, ";"):
-        fields = [match.span(1) for start, end in parts if (match := re.compile(r"\s*[^\W\d]\w* = (.*\S)\s*", re.S).fullmatch(text, start, end))]
+        field = re.compile(r"\s*[^\W\d]\w* = (.*\S)\s*", re.S)
+        fields = [match.span(1) for start, end in parts if (match := field.fullmatch(text, start, end))]
         for (start, end), (begin, stop) in zip(fields, fields[1:]):
             yield text[:start] + text[begin:stop] + text[end:begin] + text[start:end] + text[stop:]
 
@@ -160,7 +162,8 @@ def constants(kind, examples):
         return [("true", None), ("false", None)]
     if kind.startswith(("List ", "Option ")):
         found = [("[]" if kind.startswith("List") else "None", None)]
-        return found + [(f"({one})", ("Rattle.std.specs.Prelude", "codes", None)) for one in sorted(set(re.findall(r'codes "[^"]*"', text))) if kind == "List ℕ"]
+        texts = sorted(set(re.findall(r'codes "[^"]*"', text))) if kind == "List ℕ" else []
+        return found + [(f"({one})", ("Rattle.std.specs.Prelude", "codes", None)) for one in texts]
     words, found = set(WORD.findall(text)), []
     for module, items, alias in file.uses:
         if module.endswith(f".{kind}.TheVariants"):
@@ -180,13 +183,14 @@ def fixed(text, name, constant):
 
 
 def by_variable(signature, pieces, examples):
-    """The whole definition with one variable fixed at a constant, or with one list cut to its first element: the new pieces, what is
-    said of it, and what is imported for it."""
+    """The whole definition with one variable fixed at a constant, or with one list cut to its first element: the new pieces,
+    what is said of it, and what is imported for it."""
     found = {}
     for _, _, head, body in pieces:
         found.update(variables(signature, head, body))
     for name, kind in found.items():
-        made = constants(kind, examples) + [(f"(take 1 {name})", ("Rattle.std.specs.Prelude", "take", None))] * kind.startswith("List ")
+        cut = [(f"(take 1 {name})", ("Rattle.std.specs.Prelude", "take", None))] * kind.startswith("List ")
+        made = constants(kind, examples) + cut
         for constant, used in made:
             bodies = [fixed(body, name, constant) for *_, body in pieces]
             if bodies != [body for *_, body in pieces]:
@@ -214,7 +218,8 @@ def pieces_of(definition):
 def changes(definition, examples=()):
     """The changed texts of a definition, each once, with the piece that is new and what is imported for it."""
     lines, is_record = definition.lines, re.match(r" *(pub )?record ", definition.lines[0]) is not None
-    variants = [[item.strip() for item in items.split(",")] for module, items, _ in definition.block.file.uses if items and module.endswith("TheVariants")]
+    variants = [[item.strip() for item in items.split(",")] for module, items, _ in definition.block.file.uses
+                if items and module.endswith("TheVariants")]
     pieces, seen = list(pieces_of(definition)), {"\n".join(lines)}
     signature = "\n".join(line for line in lines[: pieces[0][0] if pieces else 0] if not line.lstrip().startswith("unfolding "))
     is_claim = is_record or signature.endswith("Type 0")
@@ -249,4 +254,5 @@ def brought(file, text):
 
     prelude = [name for sign, name in BROUGHT.items() if lacks(name, sign)]
     lists = [name for name in ("list_any", "list_all") if lacks(name, name)]
-    return [(f"Rattle.std.specs.{module}", ", ".join(names), None) for module, names in (("Prelude", prelude), ("List", lists)) if names]
+    found = (("Prelude", prelude), ("List", lists))
+    return [(f"Rattle.std.specs.{module}", ", ".join(names), None) for module, names in found if names]

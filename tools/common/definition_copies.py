@@ -1,7 +1,8 @@
 """Definitions of specs/, the examples that test them, and copies of both, by which one check tries many changes of definitions.
 
-tools/hollow makes such changes by itself, and tools/definitions tries those that a crate lists. For each change three things are
-copied into files of a crate above the crates of examples: the changed definition, examples that name it, and what lies between."""
+tools/hollow makes such changes by itself, and tools/definitions tries those that a crate lists. For each change three things
+are copied into files of a crate above the crates of examples: the changed definition, examples that name it, and what lies
+between."""
 import collections
 import os
 import pathlib
@@ -21,8 +22,8 @@ ERROR = re.compile(r"^(?:note: )?\S*\bproofs/((H\d+_)\w+)\.antt: ?(\d+):\d+: (?!
 # -- files and what is declared in them
 
 class Block:
-    """A declaration of a file, or a whole `module _` with all that it declares: its lines and their numbers, its names, and the name
-    in the comment line above it, if that is one name alone."""
+    """A declaration of a file, or a whole `module _` with all that it declares: its lines and their numbers, its names, and the
+    name in the comment line above it, if that is one name alone."""
 
     def __init__(self, file, heading):
         self.file, self.heading = file, heading
@@ -100,7 +101,8 @@ class File:
                 current = None
             elif re.match(r"(pub )?mod ", line) or not line.strip():
                 continue
-            elif current and (line[0] in " })]" or line.startswith("unfolding ") or declared_name(line) == declared_name(current.lines[0])):
+            elif current and (line[0] in " })]" or line.startswith("unfolding ")
+                              or declared_name(line) == declared_name(current.lines[0])):
                 current.add(number, line)
             else:
                 current = Block(self, heading)
@@ -147,9 +149,11 @@ class Crate:
         return self.known[block]
 
     def near(self, definition):
-        """The examples under a line with the definition's name, and those that name it, but for those that cite a lemma about it."""
+        """The examples under a line with the definition's name, and those that name it, but for those that cite a lemma about
+        it."""
         resting = self.resting_on(definition.block)
-        named = [block for block in self.examples.blocks if block.is_example() and (block.heading == definition.name or definition.names & block.words())]
+        named = [block for block in self.examples.blocks
+                 if block.is_example() and (block.heading == definition.name or definition.names & block.words())]
         return [block for block in named if not any(other.file.path.parent.name == "proofs" and other.file is not self.examples
                                                     for other in self.speaks[block] & resting)]
 
@@ -255,8 +259,8 @@ class Scratch:
         (self.folder / "src/lib.rt").write_text(ROOT)
 
     def tried(self, copies, check):
-        """Of each copy the blocks that the prover refuses, None for an error at another place. check: what has the crate of copies
-        proved, and gives what that printed."""
+        """Of each copy the blocks that the prover refuses, None for an error at another place. check: what has the crate of
+        copies proved, and gives what that printed."""
         written = {}
         for copy in copies:
             for name, text, blocks in copy.files():
@@ -303,7 +307,8 @@ def by_check(jobs):
 
 
 def by_gate(scratch):
-    """The proof that `rt ci` makes, over what it kept on this machine of the crates below. What it refuses to read is left out of it."""
+    """The proof that `rt ci` makes, over what it kept on this machine of the crates below. What it refuses to read is left out
+    of it."""
     printed, unread = "", True
     while unread:
         said = said_by(["rt", "fmt"], scratch.folder)
@@ -327,5 +332,5 @@ def linked(one, other):
 
 
 def said_by(words, folder):
-    return subprocess.run(words, cwd=folder, stdin=subprocess.DEVNULL, stdout=subprocess.PIPE, stderr=subprocess.STDOUT, text=True,
-                          errors="replace").stdout
+    return subprocess.run(words, cwd=folder, stdin=subprocess.DEVNULL, stdout=subprocess.PIPE, stderr=subprocess.STDOUT,
+                          text=True, errors="replace").stdout

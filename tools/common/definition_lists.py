@@ -8,7 +8,8 @@ FORM = re.compile(r"([\w-]+)\n\n```\nfile: (specs/\S+)\n((?:old: .+\nnew:.*\n)+)
 
 
 class Change:
-    """A change of a list: its crate and name, and, where it is written as one, its file, its pairs of old and new, its example."""
+    """A change of a list: its crate and name, and, where it is written as one, its file, its pairs of old and new, its
+    example."""
 
     def __init__(self, crate, section):
         self.crate, self.name = crate, section.partition("\n")[0]

@@ -84,7 +84,8 @@ def parse_module(module, file, text=None):
         if not stripped:
             if comment and current is None:
                 comment = []
-            current = None if current and (number >= len(lines) or not lines[number].startswith(" " * (levels[-1][0] + 1))) else current
+            if current and (number >= len(lines) or not lines[number].startswith(" " * (levels[-1][0] + 1))):
+                current = None
             continue
         if current and indent > levels[-1][0]:
             current.lines.append(line)
@@ -315,5 +316,6 @@ def example_files():
     found = {f"Rattle.{crate_of(file)}.proofs.Examples": (file, crate_of(file)) for file in CRATES.glob("*/proofs/Examples.antt")}
     for crate in LIBRARY_CRATES:
         name = crate.partition("_")[2].capitalize()
-        found.update((f"Rattle.{crate_of(file)}.proofs.{name}", (file, crate)) for file in CRATES.glob(f"*_examples/proofs/{name}.antt"))
+        files = CRATES.glob(f"*_examples/proofs/{name}.antt")
+        found.update((f"Rattle.{crate_of(file)}.proofs.{name}", (file, crate)) for file in files)
     return dict(sorted(found.items(), key=lambda one: one[1][1]))

@@ -10,7 +10,8 @@ from .definition_reader import CRATES, TOP, Definition, all_crates, imports, rus
 # of them, and proofs.
 UNSEEN = {"view", "invariant", "inverse", "also_owns", "coded", "since_same", "done_same", "since_done", "holds_some"}
 
-ITEM = re.compile(r"(pub(?:\([^)]*\))? )?(?:unsafe |const |async )*(fn|struct|enum|trait|impl|type|const|static|mod|use)\b[ <]*([\w]*)")
+ITEM = re.compile(r"(pub(?:\([^)]*\))? )?(?:unsafe |const |async )*"
+                  r"(fn|struct|enum|trait|impl|type|const|static|mod|use)\b[ <]*([\w]*)")
 
 
 class Item:
@@ -211,4 +212,5 @@ def impl_clauses(item, trait, owner):
 def judged_crates():
     """The crates whose definitions have classes: those with specs/, but for programs, of which nothing can be named, and for the
     callers to be copied, which nothing stands on."""
-    return [crate for crate in all_crates() if crate != "walkthrough" and (CRATES / crate / "specs").is_dir() and exported(crate)[1]]
+    return [crate for crate in all_crates()
+            if crate != "walkthrough" and (CRATES / crate / "specs").is_dir() and exported(crate)[1]]

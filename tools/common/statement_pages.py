@@ -262,7 +262,8 @@ class Clause:
                     within = match[1]
                 elif line.startswith("}"):
                     within = None
-                if re.match(r"\s*pub (?:const )?fn " + self.function + r"\b", line) and owner in (within, None if within else file.stem):
+                is_named = re.match(r"\s*pub (?:const )?fn " + self.function + r"\b", line)
+                if is_named and owner in (within, None if within else file.stem):
                     self.read(file, number, lines, label)
                     return
         sys.exit(f"tools/statement: no public function {said}")
@@ -358,7 +359,8 @@ def example_name(module, word):
 
 def named_in_examples(tested):
     """The abbreviations that the examples of these definitions are written with, by crate."""
-    texts = [(example.key.rpartition(".")[0], "\n".join(statement)) for key in tested for example, statement in examples().get(key, ())]
+    texts = [(example.key.rpartition(".")[0], "\n".join(statement))
+             for key in tested for example, statement in examples().get(key, ())]
     named, out = set(), []
     while texts:
         module, text = texts.pop()
