@@ -7,12 +7,10 @@ use Rattle.rt_fib.specs.inside.Entries.{at, AreAll, Leads, HasNumber, IsNumber}
 
 -- an address's entry leads to its answer
 pub entry_leads : (entries : List ℕ) (blocks : List (List ℕ)) (answers : List (Option Route)) (table : List Route) (n entry : ℕ)
-    → AreAll entries blocks answers table → n < 2 ^ 32 → entry ≡ get_or entries (n / 256) entry
+    → AreAll entries blocks answers table → n < 2 ^ 32 → entry ≡ get_or entries (n / 256) 0
     → Leads blocks answers entry (n % 256) (look_up (at n) table)
-entry_leads entries blocks answers table n entry all fits read =
+entry_leads entries blocks answers table n entry all fits is =
     let whole : n / 256 * 256 + n % 256 ≡ n = omega arith in
-    let within : n / 256 < length entries = omega (arith, all.size) in
-    let is : entry ≡ get_or entries (n / 256) 0 = get_or_read entries (n / 256) entry within read 0 in
     let leads : Leads blocks answers (get_or entries (n / 256) 0) (n % 256) (look_up (at (n / 256 * 256 + n % 256)) table) =
     all.each (n / 256) (omega arith) (n % 256) (omega arith) in
     subst (λ (m : ℕ). Leads blocks answers entry (n % 256) (look_up (at m) table)) whole

@@ -1,20 +1,32 @@
 //! Where the answers lie: an entry for each first 24 bits of an address, blocks for the last 8, and a list of answers.
+ghost use Rattle.std.specs.Prelude.{◌≡◌, ℕ, ◌+◌, ◌<◌, ◌≤◌, ◌^◌, get_or, length, map, take};
+ghost use Rattle.rt_rib.specs.Book.{table_of};
+ghost use Rattle.rt_rib.specs.LookUp.{look_up};
+ghost use Rattle.rt_fib.specs.inside.Entries.{at, entry_at, AreAll};
+
 use crate::spans::Span;
-use rt_rib::Route;
+use rt_cidr::Addr;
+use rt_rib::{Book, Route};
 use std::alloc::Allocator;
+use std::snapshot::Snapshot;
 
 /// From this number on an entry names a block, below it an answer.
 pub(crate) const LONG: u32 = 1 << 31;
 
 /// The entries, and what they lead to. A block has the number of an answer for each of an entry's 256 addresses.
 #[derive(Drop)]
-pub(crate) struct Cells<A: Allocator + Copy> {
+pub(crate) struct Cells<A: Allocator + Copy, B: Allocator + Copy> {
     pub(crate) entries: Vec<u32, A>,
     pub(crate) blocks: Vec<[u32; 256], A>,
     pub(crate) answers: Vec<Option<Route>, A>,
     /// How many bytes the blocks and the answers of new cells would take, at least.
     pub(crate) needed: usize,
+    /// The book by whose table they answer. It has no bytes: clauses alone read it.
+    pub(crate) book: Snapshot<Book<B>>,
 }
+
+/// So many addresses have their entries read before the first of their answers.
+const AT_ONCE: usize = 16;
 
 /// How many bytes a block takes.
 pub(crate) const BLOCK_BYTES: usize = 1024;
@@ -48,7 +60,82 @@ impl Runs {
     }
 }
 
-impl<A: Allocator + Copy> Cells<A> {
+impl<A: Allocator + Copy, B: Allocator + Copy> Cells<A, B> {
+    /// The answer to a look-up of the address.
+    pub(crate) fn look_up(&self, addr: Addr) -> Option<Route>
+        requires { AreAll self.now.entries.items self.now.blocks.items self.now.answers.items (table_of self.now.book.value) }
+        ensures { result ≡ look_up addr (table_of self.now.book.value) }
+    {
+        self.answer_by(self.entries[(addr.0 / 256) as usize], addr)
+    }
+
+    /// The answer to a look-up of the address, by its entry.
+    fn answer_by(&self, entry: u32, addr: Addr) -> Option<Route>
+        requires right { AreAll self.now.entries.items self.now.blocks.items self.now.answers.items (table_of self.now.book.value) }
+        requires entry { entry ≡ entry_at self.now.entries.items addr }
+        ensures { result ≡ look_up addr (table_of self.now.book.value) }
+    {
+        if entry < LONG {
+            return self.answers[entry as usize];
+        }
+        let block = &self.blocks[(entry - LONG) as usize];
+        let number = block[(addr.0 % 256) as usize];
+        self.answers[number as usize]
+    }
+
+    /// The answer to a look-up of each address, in order.
+    pub(crate) fn look_up_each(&self, addresses: &[Addr], answers: &mut [Option<Route>])
+        requires right { AreAll self.now.entries.items self.now.blocks.items self.now.answers.items (table_of self.now.book.value) }
+        requires size { length answers.old ≡ length addresses.now }
+        ensures { answers.new ≡ map (λ addr. look_up addr (table_of self.now.book.value)) addresses.now }
+    {
+        let mut start = 0usize;
+        'each: while start < addresses.len() {
+            let size = (addresses.len() - start).min(AT_ONCE);
+            self.look_up_some(addresses, answers, start, size);
+            start += size;
+        }
+    }
+
+    /// The answers to so many of the addresses from this place on. Their entries are read first: no read of one waits for
+    /// another, so the memory has all of them under way at once.
+    fn look_up_some(
+        &self,
+        addresses: &[Addr],
+        answers: &mut [Option<Route>],
+        start: usize,
+        size: usize,
+    )
+        requires right { AreAll self.now.entries.items self.now.blocks.items self.now.answers.items (table_of self.now.book.value) }
+        requires few { size ≤ AT_ONCE }
+        requires within { start + size ≤ length addresses.now }
+        requires size { length answers.old ≡ length addresses.now }
+        requires before { take start answers.old ≡ map (λ addr. look_up addr (table_of self.now.book.value)) (take start addresses.now) }
+        ensures size { length answers.new ≡ length answers.old }
+        ensures each { take (start + size) answers.new
+            ≡ map (λ addr. look_up addr (table_of self.now.book.value)) (take (start + size) addresses.now) }
+    {
+        let entries = self.entries_at(addresses, start, size);
+        'answers: for k in 0..size {
+            answers[start + k] = self.answer_by(entries[k], addresses[start + k]);
+        }
+    }
+
+    /// The entries of so many of the addresses from this place on.
+    fn entries_at(&self, addresses: &[Addr], start: usize, size: usize) -> [u32; AT_ONCE]
+        requires all { length self.now.entries.items ≡ 2 ^ 24 }
+        requires few { size ≤ AT_ONCE }
+        requires within { start + size ≤ length addresses.now }
+        ensures { (k : ℕ) → k < size
+            → get_or result k 0 ≡ entry_at self.now.entries.items (get_or addresses.now (start + k) (at 0)) }
+    {
+        let mut entries = [0u32; AT_ONCE];
+        'entries: for k in 0..size {
+            entries[k] = self.entries[(addresses[start + k].0 / 256) as usize];
+        }
+        entries
+    }
+
     /// How many bytes the blocks and the answers take.
     pub(crate) fn bytes(&self) -> usize {
         bytes_of(self.blocks.len(), self.answers.len())

@@ -5,7 +5,7 @@ ghost use Rattle.rt_rib.specs.LookUp.{look_up};
 ghost use Rattle.rt_fib.specs.Tables.{IsKeptOutside};
 ghost use Rattle.rt_fib.specs.Laws.{KeepsOutside};
 
-use crate::cells::{ANSWER_BYTES, BLOCK_BYTES, Cells, LONG};
+use crate::cells::{ANSWER_BYTES, BLOCK_BYTES, Cells};
 use crate::filling::{all_cells, renew_cells};
 use crate::spans::span_of;
 use rt_cidr::{Addr, Prefix};
@@ -19,9 +19,7 @@ use std::snapshot::Snapshot;
 /// addresses of one entry that have more than one answer, and 28 bytes for each answer.
 #[derive(Drop)]
 pub struct Fib<A: Allocator + Copy, B: Allocator + Copy = A> {
-    cells: Cells<A>,
-    /// The book whose table it is. It has no bytes: clauses alone read it.
-    book: Snapshot<Book<B>>,
+    cells: Cells<A, B>,
 }
 
 impl<A: Allocator + Copy, B: Allocator + Copy> Model for Fib<A, B> {
@@ -32,9 +30,9 @@ impl<A: Allocator + Copy, B: Allocator + Copy> Model for Fib<A, B> {
 
     ghost Value = { List Route };
 
-    ghost view = { λ f. table_of f.book.value };
+    ghost view = { λ f. table_of f.cells.book.value };
 
-    ghost invariant = { λ f. AreAll f.cells.entries.items f.cells.blocks.items f.cells.answers.items (table_of f.book.value) };
+    ghost invariant = { λ f. AreAll f.cells.entries.items f.cells.blocks.items f.cells.answers.items (table_of f.cells.book.value) };
 }
 
 impl<A: Allocator + Copy, B: Allocator + Copy> Fib<A, B> {
@@ -42,9 +40,9 @@ impl<A: Allocator + Copy, B: Allocator + Copy> Fib<A, B> {
     pub fn new(alloc: A, book: &Book<B>) -> Result<Fib<A, B>, Refused>
         ensures { IfOk result (λ fib. fib ≡ table_of book.now) }
     {
-        let cells = all_cells(alloc, &mut book.answers())?;
-        let book = Snapshot::of(book);
-        Ok(Fib { cells, book })
+        Ok(Fib {
+            cells: all_cells(alloc, book)?,
+        })
     }
 
     /// The answer to a look-up of the address: the best route of the longest prefix that covers it, or `None` where no prefix
@@ -52,25 +50,16 @@ impl<A: Allocator + Copy, B: Allocator + Copy> Fib<A, B> {
     pub fn look_up(&self, addr: Addr) -> Option<Route>
         ensures { result ≡ look_up addr self.now }
     {
-        let cells = &self.cells;
-        let entry = cells.entries[(addr.0 / 256) as usize];
-        if entry < LONG {
-            return cells.answers[entry as usize];
-        }
-        let block = &cells.blocks[(entry - LONG) as usize];
-        let number = block[(addr.0 % 256) as usize];
-        cells.answers[number as usize]
+        self.cells.look_up(addr)
     }
 
     /// The answer to a look-up of each address, in order: the answers take the place of what stood in their list, which is as
-    /// long as that of the addresses.
+    /// long as that of the addresses. The memory has several reads under way at once, so it is faster than one by one.
     pub fn look_up_each(&self, addresses: &[Addr], answers: &mut [Option<Route>])
         requires { length answers.old ≡ length addresses.now }
         ensures { answers.new ≡ map (λ addr. look_up addr self.now) addresses.now }
     {
-        'each: for k in 0..addresses.len() {
-            answers[k] = self.look_up(addresses[k]);
-        }
+        self.cells.look_up_each(addresses, answers);
     }
 
     /// Goes over the prefix's addresses, where the book's table answers all others as this one does: then it answers by the
@@ -90,7 +79,7 @@ impl<A: Allocator + Copy, B: Allocator + Copy> Fib<A, B> {
         let before = self.cells.bytes();
         renew_cells(&mut book.answers(), &mut self.cells, span)?;
         self.cells.needed = self.cells.needed_now(before, gone);
-        self.book = Snapshot::of(book);
+        self.cells.book = Snapshot::of(book);
         Ok(())
     }
 

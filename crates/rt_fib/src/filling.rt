@@ -1,6 +1,7 @@
 //! How the cells are filled: entry by entry, each from the piece of the table that its addresses lie in. A piece is a range of
 //! addresses with one answer, as far as the book's `answers` tell it.
 ghost use Rattle.std.specs.Prelude.{◌≡◌, ◌↔◌, IsTrue, ◌≤◌, ◌<◌, ◌+◌, ◌*◌, ◌-◌, ◌^◌, IfOk, OnOk, OnErr, length};
+ghost use Rattle.rt_rib.specs.Book.{table_of};
 ghost use Rattle.rt_fib.specs.inside.Entries.{AreAll, AreFrom, Grows, IsEntry, IsNumber};
 ghost use Rattle.rt_fib.specs.inside.Pieces.{IsPieceFrom, IsPieceAt, AreNumbers};
 ghost use Rattle.rt_fib.specs.inside.Spans.{ArePut, AreRenewed};
@@ -9,8 +10,9 @@ use crate::cells::{Cells, LONG, bytes_of};
 use crate::spans::{ENTRIES, Span};
 use rt_cidr::Addr;
 use rt_cidr::laws::same_prefix;
-use rt_rib::{Answers, Refused, Route};
+use rt_rib::{Answers, Book, Refused, Route};
 use std::alloc::Allocator;
+use std::snapshot::Snapshot;
 
 /// The number of an answer, and the last address up to which it is known to be the answer.
 #[derive(Clone, Copy)]
@@ -190,13 +192,13 @@ fn entries_of<A: Allocator + Copy, B: Allocator + Copy>(
     Ok(entries)
 }
 
-/// The cells of what the table answers all addresses.
+/// The cells of what the book's table answers all addresses.
 pub(crate) fn all_cells<A: Allocator + Copy, B: Allocator + Copy>(
     alloc: A,
-    table: &mut Answers<'_, B>,
-) -> Result<Cells<A>, Refused>
-    ensures kept { table.new ≡ table.old }
-    ensures cells { IfOk result (λ c. AreAll c.entries.items c.blocks.items c.answers.items table.old) }
+    book: &Book<B>,
+) -> Result<Cells<A, B>, Refused>
+    ensures cells { IfOk result (λ c. AreAll c.entries.items c.blocks.items c.answers.items (table_of book.now)) }
+    ensures book { IfOk result (λ c. c.book.value ≡ book.now) }
 {
     let mut blocks = Vec::new(alloc);
     let mut answers = Vec::new(alloc);
@@ -204,13 +206,14 @@ pub(crate) fn all_cells<A: Allocator + Copy, B: Allocator + Copy>(
         first: 0,
         end: ENTRIES,
     };
-    let entries = entries_of(alloc, table, &mut blocks, &mut answers, all)?;
+    let entries = entries_of(alloc, &mut book.answers(), &mut blocks, &mut answers, all)?;
     let needed = bytes_of(blocks.len(), answers.len());
     Ok(Cells {
         entries,
         blocks,
         answers,
         needed,
+        book: Snapshot::of(book),
     })
 }
 
@@ -228,7 +231,7 @@ fn put_entries(entries: &mut [u32], fresh: &[u32], first: usize)
 /// the entries stay where memory is refused.
 pub(crate) fn renew_cells<A: Allocator + Copy, B: Allocator + Copy>(
     table: &mut Answers<'_, B>,
-    cells: &mut Cells<A>,
+    cells: &mut Cells<A, B>,
     span: Span,
 ) -> Result<(), Refused>
     requires ordered { span.first < span.end }
@@ -240,6 +243,7 @@ pub(crate) fn renew_cells<A: Allocator + Copy, B: Allocator + Copy>(
     ensures put { OnOk result (AreRenewed cells.old.entries.items cells.new.entries.items cells.new.blocks.items
         cells.new.answers.items table.old span) }
     ensures stay { OnErr result (cells.new.entries.items ≡ cells.old.entries.items) }
+    ensures book { cells.new.book.value ≡ cells.old.book.value }
 {
     let alloc = *cells.entries.allocator();
     let fresh = entries_of(alloc, table, &mut cells.blocks, &mut cells.answers, span)?;

@@ -1,5 +1,5 @@
 -- How entries, blocks and answers say what a table answers each address.
-use Rattle.std.specs.Prelude.{◌≡◌, ℕ, ◌+◌, ◌*◌, ◌^◌, ◌<◌, ◌≤◌, ◌⊎◌, List, [], length, get_or, Option, None}
+use Rattle.std.specs.Prelude.{◌≡◌, ℕ, ◌+◌, ◌*◌, ◌/◌, ◌^◌, ◌<◌, ◌≤◌, ◌⊎◌, List, [], length, get_or, Option, None}
 use Rattle.rt_cidr.specs.declared.address.Addr.{Addr}
 use Rattle.rt_rib.specs.declared.routes.Route.{Route}
 use Rattle.rt_rib.specs.LookUp.{look_up}
@@ -7,6 +7,10 @@ use Rattle.rt_rib.specs.LookUp.{look_up}
 -- the address of this number
 abbrev pub at : ℕ → Addr
 at n = record { 0 = n }
+
+-- the entry of the address's first 24 bits
+abbrev pub entry_at : List ℕ → Addr → ℕ
+entry_at entries addr = get_or entries (addr.0 / 256) 0
 
 -- the longer list begins as the other
 pub record Grows {T : Type 0} (old new : List T) : Type 0 where

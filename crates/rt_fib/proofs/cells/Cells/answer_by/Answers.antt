@@ -1,30 +1,30 @@
 use Rattle.std.proofs.Common.{arith}
 use Rattle.rt_fib.proofs.Reading.{entry_leads, short_number, long_within, long_block, answer_read}
-use Rattle.rt_fib.proofs.fib.Fib.look_up.Goals as goal
+use Rattle.rt_fib.proofs.cells.Cells.answer_by.Goals as goal
 
 pub index-requires : goal.index-requires
 index-requires g c =
-    let leads = entry_leads _ _ _ _ c.args.addr.0 c.index-entry.result.now c.self.invariant (omega arith) c.index-entry.ensures in
+    let leads = entry_leads _ _ _ _ c.args.addr.0 c.args.entry c.requires.right (omega arith) c.requires.entry in
     let is = short_number _ _ _ _ _ leads c.if-entry-lt-LONG.true in omega (arith, is.within)
 
 pub returns-then-entry-lt-LONG : goal.returns-then-entry-lt-LONG
 returns-then-entry-lt-LONG g c =
-    let leads = entry_leads _ _ _ _ c.args.addr.0 c.index-entry.result.now c.self.invariant (omega arith) c.index-entry.ensures in
-    rw (← c.self.view_is) (answer_read _ _ _ _ (short_number _ _ _ _ _ leads c.if-entry-lt-LONG.true) c.index.ensures)
+    let leads = entry_leads _ _ _ _ c.args.addr.0 c.args.entry c.requires.right (omega arith) c.requires.entry in
+    (answer_read _ _ _ _ (short_number _ _ _ _ _ leads c.if-entry-lt-LONG.true) c.index.ensures)
 
 pub index-block-requires : goal.index-block-requires
 index-block-requires g c =
-    let leads = entry_leads _ _ _ _ c.args.addr.0 c.index-entry.result.now c.self.invariant (omega arith) c.index-entry.ensures in
+    let leads = entry_leads _ _ _ _ c.args.addr.0 c.args.entry c.requires.right (omega arith) c.requires.entry in
     let within = long_within _ _ _ _ _ leads c.if-entry-lt-LONG.false in omega (arith, within)
 
 pub index-requires-2 : goal.index-requires-2
 index-requires-2 g c =
-    let leads = entry_leads _ _ _ _ c.args.addr.0 c.index-entry.result.now c.self.invariant (omega arith) c.index-entry.ensures in
+    let leads = entry_leads _ _ _ _ c.args.addr.0 c.args.entry c.requires.right (omega arith) c.requires.entry in
     let there = long_block _ _ _ _ _ c.index-block.result.now leads c.if-entry-lt-LONG.false c.index-block.ensures in
     omega (arith, there.number.within)
 
 pub returns : goal.returns
 returns g c =
-    let leads = entry_leads _ _ _ _ c.args.addr.0 c.index-entry.result.now c.self.invariant (omega arith) c.index-entry.ensures in
+    let leads = entry_leads _ _ _ _ c.args.addr.0 c.args.entry c.requires.right (omega arith) c.requires.entry in
     let there = long_block _ _ _ _ _ c.index-block.result.now leads c.if-entry-lt-LONG.false c.index-block.ensures in
-    rw (← c.self.view_is) (answer_read _ _ _ _ there.number c.index-2.ensures)
+    (answer_read _ _ _ _ there.number c.index-2.ensures)
