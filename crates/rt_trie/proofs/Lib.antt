@@ -21,3 +21,4 @@ pub mod Sieves
 pub mod StoredPairs
 pub mod WalkStacks
 pub mod WaysDown
+pub mod WithinPairs

@@ -4,7 +4,7 @@ use Rattle.std.specs.Prelude.{length, slice_index_or, filter, List, [], ◌∷�
 use Rattle.std.specs.Borrow.{Bor}
 use Rattle.rt_cidr.specs.declared.address.Addr.{Addr}
 use Rattle.rt_cidr.specs.declared.prefixes.Prefix.{Prefix}
-use Rattle.rt_cidr.specs.Prefix.{covers}
+use Rattle.rt_cidr.specs.Prefix.{covers, contains}
 pub use Rattle.rt_cidr.specs.Prefix.{same_prefix}
 
 -- pairs of a prefix and its value
@@ -71,6 +71,14 @@ IsLongest m a (Some x) =
 -- comes first
 abbrev pub covering : {V : Type 0} → Pairs V → Addr → Pairs V
 covering m a = filter (λ x. covers x.0 a) m
+
+-- the pairs of p and of the longer prefixes in it, in the order of the list
+abbrev pub within : {V : Type 0} → Pairs V → Prefix → Pairs V
+within m p = filter (λ x. contains p x.0) m
+
+-- the pairs of p and of the shorter prefixes that p lies in, in the order of the list: the shortest comes first
+abbrev pub containing : {V : Type 0} → Pairs V → Prefix → Pairs V
+containing m p = filter (λ x. contains x.0 p) m
 
 -- the address at an index
 abbrev pub address_at : List Addr → ℕ → Addr

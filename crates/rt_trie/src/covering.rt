@@ -1,10 +1,10 @@
-//! Going over the pairs whose prefix covers an address.
+//! Going over the pairs whose prefix covers an address, or contains a prefix.
 
 ghost use Rattle.std.specs.Prelude.{◌≡◌, ◌<◌, ◌≤◌};
 ghost use Rattle.rt_trie.specs.Halves.{middle};
 ghost use Rattle.rt_trie.specs.inside.Lawful.{IsLawfulTrie};
-ghost use Rattle.rt_trie.specs.Map.{Pairs, covering};
-ghost use Rattle.rt_trie.specs.inside.Links.{pairs, covering_below, IsLawfulOn};
+ghost use Rattle.rt_trie.specs.Map.{Pairs};
+ghost use Rattle.rt_trie.specs.inside.Links.{pairs, covers_to, covering_to, covering_below, IsLawfulOn};
 
 use crate::nodes::{Link, NodeView, middle};
 use rt_cidr::{Addr, Prefix};
@@ -12,31 +12,35 @@ use std::alloc::Allocator;
 use std::fmt;
 use std::marker::Model;
 
-/// An iterator over the pairs of a trie whose prefix covers an address, the shortest first. It takes no memory, and
-/// goes down once.
+/// An iterator over the pairs of a trie whose prefix covers an address, or contains a prefix, the shortest first. It
+/// takes no memory, and goes down once.
 #[derive(Drop)]
 pub struct Covering<'a, V, A: Allocator> {
     // The link below which the pairs are that are still to come.
     below: Option<&'a Link<V, A>>,
     address: Addr,
+    /// How long a prefix may be.
+    most: u8,
 }
 
 impl<'a, V, A: Allocator> Model for Covering<'a, V, A> {
     ghost Value = { Pairs V };
 
-    ghost view = { λ c. covering_below c.below c.address };
+    ghost view = { λ c. covering_below c.below c.most c.address };
 
     ghost invariant = { λ c. IsLawfulOn c.below };
 }
 
 impl<'a, V, A: Allocator> Covering<'a, V, A> {
-    pub(crate) fn new(root: &'a Link<V, A>, address: Addr) -> Covering<'a, V, A>
+    /// Over the pairs whose prefix is no longer than that and covers the address.
+    pub(crate) fn new(root: &'a Link<V, A>, address: Addr, most: u8) -> Covering<'a, V, A>
         requires { IsLawfulTrie root.now }
-        ensures { result ≡ covering (pairs root.now) address }
+        ensures { result ≡ covering_to most (pairs root.now) address }
     {
         Covering {
             below: Some(root),
             address,
+            most,
         }
     }
 }
@@ -62,13 +66,14 @@ impl<'a, V, A: Allocator> Iterator for Covering<'a, V, A> {
     fn next(&mut self) -> Option<(Prefix, &'a V)> {
         while let Some(link) = self.below {
             match link.view() {
-                NodeView::Branch(prefix, value, left, right) if prefix.covers(self.address) => {
+                NodeView::Branch(prefix, value, left, right)
+                    if covers_to(&prefix, self.address, self.most) => {
                     self.below = Some(half(&prefix, self.address, left, right));
                     if let Some(value) = value {
                         return Some((prefix, value));
                     }
                 }
-                NodeView::Single(prefix, value) if prefix.covers(self.address) => {
+                NodeView::Single(prefix, value) if covers_to(&prefix, self.address, self.most) => {
                     self.below = None;
                     return Some((prefix, value));
                 }
@@ -77,6 +82,13 @@ impl<'a, V, A: Allocator> Iterator for Covering<'a, V, A> {
         }
         None
     }
+}
+
+/// Whether the prefix is no longer than that, and covers the address.
+fn covers_to(prefix: &Prefix, address: Addr, most: u8) -> bool
+    ensures { result ≡ covers_to most prefix.now address }
+{
+    prefix.len() <= most && prefix.covers(address)
 }
 
 /// Of what lies on the two sides of the prefix's node, that on the side of the address.

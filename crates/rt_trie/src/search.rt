@@ -1,9 +1,10 @@
 //! The look-ups, which go down from the root by a loop and take no memory. That of a prefix and that of an address are
-//! one descent; no `&mut` comes out of a loop, so the value for writing has its own (`descent`).
+//! one descent; no `&mut` comes out of a loop, so the value for writing has its own (`descent`). All that lies in a prefix
+//! is one branch.
 
 ghost use Rattle.std.specs.Prelude.{◌≡◌, ℕ, ◌+◌, ◌<◌, ◌≤◌, false, Option, None, IfSome, IsTrue, length};
 ghost use Rattle.std.specs.Option.{option_copied};
-ghost use Rattle.rt_trie.specs.Map.{get, first, next_after, pair_copied, IsLongest, AreLongest, address_at, answer_at};
+ghost use Rattle.rt_trie.specs.Map.{get, first, next_after, within, pair_copied, IsLongest, AreLongest, address_at, answer_at};
 ghost use Rattle.rt_trie.specs.inside.Links.{pairs, count, or_else, last_cover, no_longer, pairs_below, IsNoLonger};
 ghost use Rattle.rt_trie.specs.inside.Lawful.{root, IsLawfulBelow, IsLawfulTrie};
 ghost use Rattle.rt_trie.specs.declared.search.TheConstants.{LANES};
@@ -183,6 +184,35 @@ fn turn(k: usize, going: usize) -> usize
     ensures { 0 < going → result < going }
 {
     if k < going { k } else { 0 }
+}
+
+/// The branch that has all pairs whose prefix is p or lies in it and no others, if there are any.
+pub(crate) fn branch_within<V, A: Allocator>(root: &Link<V, A>, p: Prefix) -> Option<&Link<V, A>>
+    requires { IsLawfulTrie root.now }
+    ensures pairs { within (pairs root.now) p ≡ pairs_below result }
+    ensures lawful { IfSome result (λ branch. IsLawfulTrie branch.now) }
+{
+    let mut link = root;
+    loop {
+        match link.view() {
+            NodeView::Vacant => return None,
+            NodeView::Single(prefix, _) => {
+                return if p.contains(&prefix) {
+                    Some(link)
+                } else {
+                    None
+                };
+            }
+            NodeView::Branch(prefix, _, left, right) => {
+                match position_of(prefix.len(), prefix.base(), &p) {
+                    Position::Here | Position::Above => return Some(link),
+                    Position::Left => link = left,
+                    Position::Right => link = right,
+                    Position::Apart => return None,
+                }
+            }
+        }
+    }
 }
 
 /// The least prefix that is stored below the link, by base and then by length.

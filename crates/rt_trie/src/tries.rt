@@ -3,7 +3,7 @@
 ghost use Rattle.std.specs.Prelude.{◌≡◌, ◌↔◌, IsTrue, ◌+◌, ◌-◌, ◌*◌, ◌≤◌, [], length, IsSome, IsOk, IfOk, IfErr, OnOk};
 ghost use Rattle.std.specs.Borrow.{sem};
 ghost use Rattle.std.specs.Option.{option_copied, option_copied_mut};
-ghost use Rattle.rt_trie.specs.Map.{get, put, erase, first, next_after, covering, pair_copied, IsOrdered, IsLongest, AreLongest};
+ghost use Rattle.rt_trie.specs.Map.{get, put, erase, first, next_after, covering, within, containing, pair_copied, IsOrdered, IsLongest, AreLongest};
 ghost use Rattle.rt_trie.specs.Nodes.{CountsNodes};
 ghost use Rattle.rt_trie.specs.Lawful.{IsLawful};
 ghost use Rattle.rt_trie.specs.Sifted.{IsSifted};
@@ -200,7 +200,24 @@ impl<V: Drop, A: Allocator + Copy> Trie<V, A> {
     pub fn covering(&self, a: Addr) -> Covering<'_, V, A>
         ensures { result ≡ covering self.now.pairs a }
     {
-        Covering::new(&self.root, a)
+        Covering::new(&self.root, a, 32)
+    }
+
+    /// The pairs of the prefix and of the shorter ones that it lies in, the shortest first; p need not be stored. It
+    /// takes no memory, and goes down once.
+    pub fn containing(&self, p: Prefix) -> Covering<'_, V, A>
+        ensures { result ≡ containing self.now.pairs p }
+    {
+        Covering::new(&self.root, Addr(p.base()), p.len())
+    }
+
+    /// The pairs of the prefix and of the longer ones in it, each once, by base and then by length; p need not be
+    /// stored. It takes no memory, goes down once, and then to each node of that branch once.
+    pub fn within(&self, p: Prefix) -> Walk<'_, V, A>
+        ensures pairs { result ≡ within self.now.pairs p }
+        ensures ordered { IsOrdered result }
+    {
+        Walk::within(&self.root, p)
     }
 
     /// All pairs, each once, by base and then by length. It takes no memory.

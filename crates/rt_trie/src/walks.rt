@@ -1,13 +1,14 @@
 //! Going over all pairs, in order.
 
 ghost use Rattle.std.specs.Prelude.{◌≡◌, ℕ, ◌+◌, ◌<◌, Some, length};
-ghost use Rattle.rt_trie.specs.Map.{Pairs};
+ghost use Rattle.rt_trie.specs.Map.{Pairs, within};
 ghost use Rattle.rt_trie.specs.inside.Lawful.{IsLawfulTrie};
 ghost use Rattle.rt_trie.specs.inside.Links.{pairs};
 ghost use Rattle.rt_trie.specs.inside.References.{link_at};
 ghost use Rattle.rt_trie.specs.inside.WalkStack.{stack_pairs, IsWalkStack};
 
 use crate::nodes::{Link, NodeView};
+use crate::search::branch_within;
 use rt_cidr::Prefix;
 use std::alloc::Allocator;
 use std::fmt;
@@ -38,6 +39,20 @@ impl<'a, V, A: Allocator> Walk<'a, V, A> {
         Walk {
             stack: [root; 34],
             len: 1,
+        }
+    }
+
+    /// Over the pairs whose prefix is p or lies in it.
+    pub(crate) fn within(root: &'a Link<V, A>, p: Prefix) -> Walk<'a, V, A>
+        requires { IsLawfulTrie root.now }
+        ensures { result ≡ within (pairs root.now) p }
+    {
+        match branch_within(root, p) {
+            Some(branch) => Walk::new(branch),
+            None => Walk {
+                stack: [root; 34],
+                len: 0,
+            },
         }
     }
 }

@@ -5,13 +5,13 @@ use Rattle.rt_cidr.specs.declared.prefixes.Prefix.{Prefix}
 use Rattle.rt_cidr.specs.Cidr.{size_of}
 use Rattle.table_examples.proofs.Cidr.{ten_8, ten_0_16}
 use Rattle.rt_trie.specs.Map.{Pairs, before, IsBeforeAll, IsOrdered, get, same_prefix, IsStored, put, erase, first}
-use Rattle.rt_trie.specs.Map.{next_after, IsLongest, covering, address_at, answer_at, pair_copied, AreLongest}
+use Rattle.rt_trie.specs.Map.{next_after, IsLongest, covering, within, containing, address_at, answer_at, pair_copied, AreLongest}
 use Rattle.rt_trie.specs.Tree.{Tree, Vacant, Node, top, size, stored}
 use Rattle.rt_trie.specs.Laws.{IsChildByBit, PutIsSeen, EraseIsSeen, PutKeepsOrder, EraseKeepsOrder, PairsAreFound}
 use Rattle.rt_trie.specs.Laws.{MapHasOneList, FirstIsLeast, NoneIsFirst, AfterIsNext, NoneIsAfter, ChildByNextBit}
 use Rattle.rt_trie.specs.Lawful.{IsLawfulAt, IsLawfulTree, IsLawful}
 use Rattle.std.specs.Prelude.{◌↔◌, ◌⊎◌, ◌+◌, ◌<◌, ◌≤◌, ◌++◌, ◌/◌, ◌%◌, Bool, List, Option, IsTrue, IsSome, IfSome}
-use Rattle.std.specs.Prelude.{IfNone, All, Contains, Box, is_some, length, map, slice_index_or, if◌then◌else◌}
+use Rattle.std.specs.Prelude.{IfNone, All, Contains, Box, is_some, length, map, filter, slice_index_or, if◌then◌else◌}
 use Rattle.rt_cidr.specs.declared.address.Addr.{Addr}
 use Rattle.rt_cidr.specs.Prefix.{covers, contains}
 use Rattle.rt_trie.specs.declared.nodes.Link.{Link, Empty, Leaf, Fork', Full'}
@@ -230,6 +230,26 @@ each_that_covers_it_the_shortest_first = refl
 
 none_that_does_not_cover_it : (covering two (record { 0 = 167772160 }) ≡ []) × (covering {V = ℕ} [] (record { 0 = 0 }) ≡ [])
 none_that_does_not_cover_it = (refl, refl)
+
+-- within
+itself_and_the_longer_ones_in_it : (within ((ten_8, 4) ∷ two) ten_8 ≡ (ten_8, 4) ∷ two) × (within ((ten_8, 4) ∷ two) ten_1_16 ≡ (ten_1_16, 5) ∷ [])
+itself_and_the_longer_ones_in_it = (refl, refl)
+
+neither_a_shorter_one_nor_one_beside_it : (within ((ten_8, 4) ∷ two) ten_128_9 ≡ (ten_128_9, 7) ∷ []) × (within two ten_0_16 ≡ [])
+neither_a_shorter_one_nor_one_beside_it = (refl, refl)
+
+those_that_it_contains : {V : Type 0} (m : Pairs V) (p : Prefix) → within m p ≡ filter (λ x. contains p x.0) m
+those_that_it_contains m p = refl
+
+-- containing
+itself_and_the_shorter_ones_around_it : containing ((ten_8, 4) ∷ two) ten_1_16 ≡ (ten_8, 4) ∷ (ten_1_16, 5) ∷ []
+itself_and_the_shorter_ones_around_it = refl
+
+neither_a_longer_one_nor_one_beside_it : (containing ((ten_8, 4) ∷ two) ten_8 ≡ (ten_8, 4) ∷ []) × (containing two ten_0_16 ≡ [])
+neither_a_longer_one_nor_one_beside_it = (refl, refl)
+
+those_that_contain_it : {V : Type 0} (m : Pairs V) (p : Prefix) → containing m p ≡ filter (λ x. contains x.0 p) m
+those_that_contain_it m p = refl
 
 -- address_at
 the_second_of_two : address_at (record { 0 = 7 } ∷ record { 0 = 9 } ∷ []) 1 ≡ record { 0 = 9 }

@@ -1,6 +1,7 @@
 -- What a link holds: its pairs in order, how many nodes, and of which kind its node is; and what a look-up has still to
 -- find there. In a list in order the last pair that covers an address is the longest that does.
 use Rattle.std.specs.Prelude.{◌≡◌, ℕ, Box, ◌+◌, ◌++◌, [], ◌∷◌, Option, Some, None, IsNone, ◌⊎◌, ◌≤◌, nat_le, filter, IfSome, if◌then◌else◌}
+use Rattle.std.specs.Prelude.{Bool, ◌&&◌}
 use Rattle.std.specs.Option.{option_copied}
 use Rattle.rt_cidr.specs.declared.prefixes.Prefix.{Prefix}
 use Rattle.rt_trie.specs.declared.nodes.Link.{Link, Empty, Leaf, Fork', Full'}
@@ -10,7 +11,7 @@ use Rattle.rt_trie.specs.declared.nodes.ForkNode.{ForkNode}
 use Rattle.rt_trie.specs.declared.nodes.FullNode.{FullNode}
 use Rattle.rt_trie.specs.declared.nodes.NodeView.{NodeView}
 use Rattle.rt_trie.specs.declared.nodes.NodeView.TheVariants.{Vacant, Single, Branch}
-use Rattle.rt_trie.specs.Map.{Pairs, covering}
+use Rattle.rt_trie.specs.Map.{Pairs}
 use Rattle.rt_trie.specs.declared.nodes.Position.{Position}
 use Rattle.rt_trie.specs.inside.Blocks.{StandsAt}
 use Rattle.rt_trie.specs.inside.Lawful.{root, IsFilled, AreHalves, IsNeeded, IsLawfulBelow, IsLawfulTrie}
@@ -123,9 +124,17 @@ pairs_below (Some link) = pairs link.now
 abbrev pub sought : {V A : Type 0} → Option (Bor (Link V A)) → Addr → Option (Prefix × V) → Option (Prefix × V)
 sought next a best = or_else (last_cover (pairs_below next) a) best
 
--- the pairs that cover the address below the link where the walk over them goes on
-abbrev pub covering_below : {V A : Type 0} → Option (Bor (Link V A)) → Addr → Pairs V
-covering_below next a = covering (pairs_below next) a
+-- whether the prefix is no longer than that, and covers the address
+abbrev pub covers_to : ℕ → Prefix → Addr → Bool
+covers_to most q a = nat_le q.len most && covers q a
+
+-- the pairs whose prefix is and does so
+abbrev pub covering_to : {V : Type 0} → ℕ → Pairs V → Addr → Pairs V
+covering_to most m a = filter (λ x. covers_to most x.0 a) m
+
+-- the pairs whose prefix is and does so below the link where the walk over them goes on
+abbrev pub covering_below : {V A : Type 0} → Option (Bor (Link V A)) → ℕ → Addr → Pairs V
+covering_below next most a = covering_to most (pairs_below next) a
 
 -- the link where it goes on is lawful
 abbrev pub IsLawfulOn : {V A : Type 0} → Option (Bor (Link V A)) → Type 0

@@ -7,7 +7,7 @@ use Rattle.rt_trie.proofs.covering.CoveringIterator.next.Given as goal
 abbrev pub invariant-loop-self : goal.invariant-loop-self
 invariant-loop-self g l = record {
   lawful : IsLawfulOn l.self-inside.below;
-  same : covering_below l.self-inside.below l.self-inside.address ≡ l.fn.self;
+  same : covering_below l.self-inside.below l.self-inside.most l.self-inside.address ≡ l.fn.self;
 }
 
 abbrev pub decreases-loop-self : goal.decreases-loop-self
