@@ -10,7 +10,7 @@ CRATES = TOP / "crates"
 
 # The libraries that have definitions, in the order of crates.txt: each behind those that it stands on.
 LIBRARY_CRATES = tuple(
-    crate for crate in re.findall(r"^([a-z]\w*):", (TOP / "crates.txt").read_text(), re.M)
+    crate for crate in re.findall(r"^([a-z]\w*)(?: staticlib)?:", (TOP / "crates.txt").read_text(), re.M)
     if (CRATES / crate / "specs").is_dir() and (CRATES / crate / "src/lib.rt").exists() and not crate.endswith("_tests"))
 
 WORD = re.compile(r"(\.?)([^\W\d][\w'?]*(?:-[^\W\d][\w']*)*|\d+)|(\"[^\"]*\")|([^\s\w(){}\[\],;.\"'\\]+)")
@@ -200,11 +200,11 @@ def parse_rust_item(key, file, number, lines):
 
 
 def rust_words(definition):
-    """The words of a Rust type that are types of ours, and those of its ghost parts."""
+    """The words of a Rust type that are types of ours, and those of its ghost parts, but for what proves or stores a field."""
     text, used = rust_file(definition.file)
     ghosts = imports(text)
     code = "\n".join(re.sub(r"//(?! contracts see it as).*", "", line) for line in definition.lines)
-    for word in re.findall(r"[A-Za-z_]\w*", code):
+    for word in re.findall(r"[A-Za-z_]\w*", re.sub(r"\} by \{[^}]*\}", "}", code)):
         if word in ghosts:
             yield from resolved(*ghosts[word])
         elif word[0].isupper() and word != definition.name:

@@ -10,8 +10,10 @@ from .definition_reader import CRATES, TOP, Definition, all_crates, imports, rus
 # of them, and proofs.
 UNSEEN = {"view", "invariant", "inverse", "also_owns", "coded", "since_same", "done_same", "since_done", "holds_some"}
 
-ITEM = re.compile(r"(pub(?:\([^)]*\))? )?(?:unsafe |const |async )*"
+ITEM = re.compile(r"(pub(?:\([^)]*\))? )?(?:unsafe |const |async |extern \"C\" )*"
                   r"(fn|struct|enum|trait|impl|type|const|static|mod|use)\b[ <]*([\w]*)")
+# What C calls by its bare name, in whichever module it stands.
+EXPORT = re.compile(r"pub extern \"C\" fn\b")
 
 
 class Item:
@@ -154,7 +156,8 @@ def words(file, text):
 
 def is_named(item, root, names):
     """Whether the item can be named from outside of its crate."""
-    return item.is_pub and (item.file == root or (item.file.stem, item.name) in names or (item.file.stem, None) in names)
+    return item.is_pub and (item.file == root or (item.file.stem, item.name) in names or (item.file.stem, None) in names
+                            or bool(EXPORT.match(item.lines[0])))
 
 
 def of_impl(item):
@@ -176,7 +179,12 @@ def of_impl(item):
 def field_terms(item):
     """A type's or a trait's text, but for ghost fields that are private, and for what proves a field."""
     body = [line for line in item.lines if not re.match(r"\s*ghost \w+: ", line) or item.kind == "trait"]
-    return re.sub(r"\} by \{[^}]*\}", "}", "\n".join(body))
+    return unproved("\n".join(body))
+
+
+def unproved(text):
+    """A field's text without what proves or stores it."""
+    return re.sub(r"\} by \{[^}]*\}", "}", text)
 
 
 def public_clauses(crate):
@@ -191,7 +199,7 @@ def public_clauses(crate):
             yield item.file, item.name, "\n".join(head_of(item, 0))
         elif item.kind in ("struct", "enum", "type", "const", "static", "trait") and is_named(item, root, names):
             if item.name in modelled:
-                yield item.file, item.name, "\n".join(line for line in item.lines if re.match(r"\s*pub (?!\()", line))
+                yield item.file, item.name, unproved("\n".join(line for line in item.lines if re.match(r"\s*pub (?!\()", line)))
             else:
                 yield item.file, item.name, field_terms(item)
         elif item.kind == "impl":

@@ -262,8 +262,8 @@ class Clause:
                     within = match[1]
                 elif line.startswith("}"):
                     within = None
-                is_named = re.match(r"\s*pub (?:const )?fn " + self.function + r"\b", line)
-                if is_named and owner in (within, None if within else file.stem):
+                named = re.match(r"\s*pub (?:const |extern \"C\" )?fn " + self.function + r"\b", line)
+                if named and owner in (within, None if within else file.stem):
                     self.read(file, number, lines, label)
                     return
         sys.exit(f"tools/statement: no public function {said}")
@@ -309,7 +309,7 @@ class Clause:
 
 def has_function(said):
     crate, *_, function = said.split("::")
-    return any(re.search(rf"\bpub fn {function}\b", file.read_text()) for file in sources(crate))
+    return any(re.search(rf"\bpub (?:extern \"C\" )?fn {function}\b", file.read_text()) for file in sources(crate))
 
 
 def in_order(speakers, known, brief=()):
@@ -565,7 +565,8 @@ def line_of(file, name):
             inside = True
         elif line.startswith("}"):
             inside = not owner
-        if inside and re.match(rf"\s*(?:pub(?:\([^)]*\))? )?(?:(?:const|ghost|fn|struct|enum|trait|type) )*{item}\b", line):
+        words = r"(?:const|ghost|extern \"C\"|fn|struct|enum|trait|type)"
+        if inside and re.match(rf"\s*(?:pub(?:\([^)]*\))? )?(?:{words} )*{item}\b", line):
             return number
     return 1
 

@@ -42,14 +42,21 @@ impl<'a, A: Allocator + Copy> Model for Comparison<'a, A> {
 }
 
 impl<'a, A: Allocator + Copy> Comparison<'a, A> {
-    /// It takes no memory.
+    /// Of the tables of two books. It takes no memory.
     pub fn new(old: &'a Book<A>, new: &'a Book<A>, by: By) -> Comparison<'a, A>
         ensures { result ≡ record { by = by; old_table = table_of old.now; new_table = table_of new.now } }
     {
+        Comparison::of(old.answers(), new.answers(), by)
+    }
+
+    /// Of what two tables answer, whether or not a journal explains them. It takes no memory.
+    pub fn of(old: Answers<'a, A>, new: Answers<'a, A>, by: By) -> Comparison<'a, A>
+        ensures { result ≡ record { by = by; old_table = old.entry; new_table = new.entry } }
+    {
         Comparison {
             by,
-            old_table: old.answers(),
-            new_table: new.answers(),
+            old_table: old,
+            new_table: new,
         }
     }
 

@@ -1,12 +1,11 @@
 //! Where the answers lie: an entry for each first 24 bits of an address, blocks for the last 8, and a list of answers.
 ghost use Rattle.std.specs.Prelude.{◌≡◌, ℕ, ◌+◌, ◌<◌, ◌≤◌, ◌^◌, get_or, length, map, take};
-ghost use Rattle.rt_rib.specs.Book.{table_of};
 ghost use Rattle.rt_rib.specs.LookUp.{look_up};
 ghost use Rattle.rt_fib.specs.inside.Entries.{at, entry_at, AreAll};
 
 use crate::spans::Span;
 use rt_cidr::Addr;
-use rt_rib::{Book, Route};
+use rt_rib::{Route, Table};
 use std::alloc::Allocator;
 use std::snapshot::Snapshot;
 
@@ -21,8 +20,8 @@ pub(crate) struct Cells<A: Allocator + Copy, B: Allocator + Copy> {
     pub(crate) answers: Vec<Option<Route>, A>,
     /// How many bytes the blocks and the answers of new cells would take, at least.
     pub(crate) needed: usize,
-    /// The book by whose table they answer. It has no bytes: clauses alone read it.
-    pub(crate) book: Snapshot<Book<B>>,
+    /// The table by which they answer. It has no bytes: clauses alone read it.
+    pub(crate) table: Snapshot<Table<B>>,
 }
 
 /// So many addresses have their entries read before the first of their answers.
@@ -63,17 +62,17 @@ impl Runs {
 impl<A: Allocator + Copy, B: Allocator + Copy> Cells<A, B> {
     /// The answer to a look-up of the address.
     pub(crate) fn look_up(&self, addr: Addr) -> Option<Route>
-        requires { AreAll self.now.entries.items self.now.blocks.items self.now.answers.items (table_of self.now.book.value) }
-        ensures { result ≡ look_up addr (table_of self.now.book.value) }
+        requires { AreAll self.now.entries.items self.now.blocks.items self.now.answers.items self.now.table.value.routes }
+        ensures { result ≡ look_up addr self.now.table.value.routes }
     {
         self.answer_by(self.entries[(addr.0 / 256) as usize], addr)
     }
 
     /// The answer to a look-up of the address, by its entry.
     fn answer_by(&self, entry: u32, addr: Addr) -> Option<Route>
-        requires right { AreAll self.now.entries.items self.now.blocks.items self.now.answers.items (table_of self.now.book.value) }
+        requires right { AreAll self.now.entries.items self.now.blocks.items self.now.answers.items self.now.table.value.routes }
         requires entry { entry ≡ entry_at self.now.entries.items addr }
-        ensures { result ≡ look_up addr (table_of self.now.book.value) }
+        ensures { result ≡ look_up addr self.now.table.value.routes }
     {
         if entry < LONG {
             return self.answers[entry as usize];
@@ -85,9 +84,9 @@ impl<A: Allocator + Copy, B: Allocator + Copy> Cells<A, B> {
 
     /// The answer to a look-up of each address, in order.
     pub(crate) fn look_up_each(&self, addresses: &[Addr], answers: &mut [Option<Route>])
-        requires right { AreAll self.now.entries.items self.now.blocks.items self.now.answers.items (table_of self.now.book.value) }
+        requires right { AreAll self.now.entries.items self.now.blocks.items self.now.answers.items self.now.table.value.routes }
         requires size { length answers.old ≡ length addresses.now }
-        ensures { answers.new ≡ map (λ addr. look_up addr (table_of self.now.book.value)) addresses.now }
+        ensures { answers.new ≡ map (λ addr. look_up addr self.now.table.value.routes) addresses.now }
     {
         let mut start = 0usize;
         'each: while start < addresses.len() {
@@ -106,14 +105,14 @@ impl<A: Allocator + Copy, B: Allocator + Copy> Cells<A, B> {
         start: usize,
         size: usize,
     )
-        requires right { AreAll self.now.entries.items self.now.blocks.items self.now.answers.items (table_of self.now.book.value) }
+        requires right { AreAll self.now.entries.items self.now.blocks.items self.now.answers.items self.now.table.value.routes }
         requires few { size ≤ AT_ONCE }
         requires within { start + size ≤ length addresses.now }
         requires size { length answers.old ≡ length addresses.now }
-        requires before { take start answers.old ≡ map (λ addr. look_up addr (table_of self.now.book.value)) (take start addresses.now) }
+        requires before { take start answers.old ≡ map (λ addr. look_up addr self.now.table.value.routes) (take start addresses.now) }
         ensures size { length answers.new ≡ length answers.old }
         ensures each { take (start + size) answers.new
-            ≡ map (λ addr. look_up addr (table_of self.now.book.value)) (take (start + size) addresses.now) }
+            ≡ map (λ addr. look_up addr self.now.table.value.routes) (take (start + size) addresses.now) }
     {
         let entries = self.entries_at(addresses, start, size);
         'answers: for k in 0..size {

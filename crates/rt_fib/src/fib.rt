@@ -9,7 +9,7 @@ use crate::cells::{ANSWER_BYTES, BLOCK_BYTES, Cells};
 use crate::filling::{all_cells, renew_cells};
 use crate::spans::span_of;
 use rt_cidr::{Addr, Prefix};
-use rt_rib::{Book, Cmd, Refused, Route};
+use rt_rib::{Book, Cmd, Refused, Route, Table};
 use std::alloc::Allocator;
 use std::marker::Model;
 use std::snapshot::Snapshot;
@@ -25,14 +25,13 @@ pub struct Fib<A: Allocator + Copy, B: Allocator + Copy = A> {
 impl<A: Allocator + Copy, B: Allocator + Copy> Model for Fib<A, B> {
     ghost use Rattle.std.specs.Prelude.{List};
     ghost use Rattle.rt_rib.specs.declared.routes.Route.{Route};
-    ghost use Rattle.rt_rib.specs.Book.{table_of};
     ghost use Rattle.rt_fib.specs.inside.Entries.{AreAll};
 
     ghost Value = { List Route };
 
-    ghost view = { λ f. table_of f.cells.book.value };
+    ghost view = { λ f. f.cells.table.value.routes };
 
-    ghost invariant = { λ f. AreAll f.cells.entries.items f.cells.blocks.items f.cells.answers.items (table_of f.cells.book.value) };
+    ghost invariant = { λ f. AreAll f.cells.entries.items f.cells.blocks.items f.cells.answers.items f.cells.table.value.routes };
 }
 
 impl<A: Allocator + Copy, B: Allocator + Copy> Fib<A, B> {
@@ -40,8 +39,16 @@ impl<A: Allocator + Copy, B: Allocator + Copy> Fib<A, B> {
     pub fn new(alloc: A, book: &Book<B>) -> Result<Fib<A, B>, Refused>
         ensures { IfOk result (λ fib. fib ≡ table_of book.now) }
     {
+        Fib::of(alloc, book.table())
+    }
+
+    /// What the table answers each address, whether or not a journal explains it, in memory of the allocator. M1: `Refused`
+    /// where that memory was refused.
+    pub fn of(alloc: A, table: &Table<B>) -> Result<Fib<A, B>, Refused>
+        ensures { IfOk result (λ fib. fib ≡ table.now.routes) }
+    {
         Ok(Fib {
-            cells: all_cells(alloc, book)?,
+            cells: all_cells(alloc, table)?,
         })
     }
 
@@ -79,7 +86,7 @@ impl<A: Allocator + Copy, B: Allocator + Copy> Fib<A, B> {
         let before = self.cells.bytes();
         renew_cells(&mut book.answers(), &mut self.cells, span)?;
         self.cells.needed = self.cells.needed_now(before, gone);
-        self.cells.book = Snapshot::of(book);
+        self.cells.table = Snapshot::of(book.table());
         Ok(())
     }
 

@@ -1,7 +1,6 @@
 //! How the cells are filled: entry by entry, each from the piece of the table that its addresses lie in. A piece is a range of
 //! addresses with one answer, as far as the book's `answers` tell it.
 ghost use Rattle.std.specs.Prelude.{◌≡◌, ◌↔◌, IsTrue, ◌≤◌, ◌<◌, ◌+◌, ◌*◌, ◌-◌, ◌^◌, IfOk, OnOk, OnErr, length};
-ghost use Rattle.rt_rib.specs.Book.{table_of};
 ghost use Rattle.rt_fib.specs.inside.Entries.{AreAll, AreFrom, Grows, IsEntry, IsNumber};
 ghost use Rattle.rt_fib.specs.inside.Pieces.{IsPieceFrom, IsPieceAt, AreNumbers};
 ghost use Rattle.rt_fib.specs.inside.Spans.{ArePut, AreRenewed};
@@ -10,7 +9,7 @@ use crate::cells::{Cells, LONG, bytes_of};
 use crate::spans::{ENTRIES, Span};
 use rt_cidr::Addr;
 use rt_cidr::laws::same_prefix;
-use rt_rib::{Answers, Book, Refused, Route};
+use rt_rib::{Answers, Refused, Route, Table};
 use std::alloc::Allocator;
 use std::snapshot::Snapshot;
 
@@ -192,13 +191,13 @@ fn entries_of<A: Allocator + Copy, B: Allocator + Copy>(
     Ok(entries)
 }
 
-/// The cells of what the book's table answers all addresses.
+/// The cells of what the table answers all addresses.
 pub(crate) fn all_cells<A: Allocator + Copy, B: Allocator + Copy>(
     alloc: A,
-    book: &Book<B>,
+    table: &Table<B>,
 ) -> Result<Cells<A, B>, Refused>
-    ensures cells { IfOk result (λ c. AreAll c.entries.items c.blocks.items c.answers.items (table_of book.now)) }
-    ensures book { IfOk result (λ c. c.book.value ≡ book.now) }
+    ensures cells { IfOk result (λ c. AreAll c.entries.items c.blocks.items c.answers.items table.now.routes) }
+    ensures table { IfOk result (λ c. c.table.value ≡ table.now) }
 {
     let mut blocks = Vec::new(alloc);
     let mut answers = Vec::new(alloc);
@@ -206,14 +205,14 @@ pub(crate) fn all_cells<A: Allocator + Copy, B: Allocator + Copy>(
         first: 0,
         end: ENTRIES,
     };
-    let entries = entries_of(alloc, &mut book.answers(), &mut blocks, &mut answers, all)?;
+    let entries = entries_of(alloc, &mut table.answers(), &mut blocks, &mut answers, all)?;
     let needed = bytes_of(blocks.len(), answers.len());
     Ok(Cells {
         entries,
         blocks,
         answers,
         needed,
-        book: Snapshot::of(book),
+        table: Snapshot::of(table),
     })
 }
 
@@ -243,7 +242,7 @@ pub(crate) fn renew_cells<A: Allocator + Copy, B: Allocator + Copy>(
     ensures put { OnOk result (AreRenewed cells.old.entries.items cells.new.entries.items cells.new.blocks.items
         cells.new.answers.items table.old span) }
     ensures stay { OnErr result (cells.new.entries.items ≡ cells.old.entries.items) }
-    ensures book { cells.new.book.value ≡ cells.old.book.value }
+    ensures table { cells.new.table.value ≡ cells.old.table.value }
 {
     let alloc = *cells.entries.allocator();
     let fresh = entries_of(alloc, table, &mut cells.blocks, &mut cells.answers, span)?;

@@ -9,7 +9,7 @@ use Rattle.rt_rib.specs.declared.commands.Reply.TheVariants.{Added, Exists, Full
 use Rattle.rt_rib.specs.Table.{has, count_of, put_in, take_out, purge}
 use Rattle.rt_rib.specs.LookUp.{look_up}
 use Rattle.rt_rib.specs.Sequential.{reply_of, table_after}
-use Rattle.rt_rib.specs.inside.TableState.{TableState, Serves}
+use Rattle.rt_rib.specs.Book.{TableState, Serves}
 
 -- a limit and routes
 abbrev pub state : ℕ → List Route → TableState

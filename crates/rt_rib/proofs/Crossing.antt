@@ -1,4 +1,4 @@
--- A book may go to another thread where its allocator may.
+-- A table and a book may go to another thread where their allocator may.
 use denote.RattleType.{RattleType}
 use denote.Param.Send.{IsSend, Frees, sendable}
 use Rattle.std.specs.declared.alloc.Allocator.{Ghosts}
@@ -14,7 +14,7 @@ module _ (A : RattleType) (g : Ghosts A.Denot) (sa : IsSend A) (f : Frees g g.de
   offers_send : IsSend (Offers.the_row A g)
   offers_send = search (one_or_many.the_field_send, sendable) depth 60
 
-  table_send : IsSend (Table.the_row A g)
+  pub table_send : IsSend (Table.the_row A g)
   table_send = search (offers_send, trie_send, sendable) depth 60
 
   pub book_send : IsSend (Book.the_row A g)

@@ -2,6 +2,8 @@
 -- cite. No other file of this folder is part of the promise.
 
 -- which of its types a thread may be given
-pub use Rattle.rt_rib.proofs.Crossing.{book_send}
+pub use Rattle.rt_rib.proofs.Crossing.{table_send, book_send}
+-- what a journal with an entry more leaves
+pub use Rattle.rt_rib.proofs.Journals.{table_of_journal-push}
 -- journals that are lawful
 pub use Rattle.rt_rib.proofs.Journals.{IsLawfulJournal-nil, IsLawfulJournal-push}

@@ -9,8 +9,8 @@ use Rattle.rt_rib.specs.declared.commands.Reply.TheVariants.{Added, Purged}
 use Rattle.rt_rib.specs.declared.limits.TheConstants.{MOST_FEEDS}
 use Rattle.rt_rib.specs.Table.{has, put_in, take_out, purge, IsTable}
 use Rattle.rt_rib.specs.Maps.{Map, routes_of, IsMap}
-use Rattle.rt_rib.specs.Book.{IsFeed, HoldsRoutes}
-use Rattle.rt_rib.specs.inside.TableState.{TableState, StoredTable, table_state, IsCounted, IsJournalOf, Serves}
+use Rattle.rt_rib.specs.Book.{IsFeed, TableState, TableContents, table_state, Serves, HoldsRoutes}
+use Rattle.rt_rib.specs.inside.TableState.{IsCounted, IsJournalOf}
 use Rattle.rt_rib.specs.declared.commands.Cmd.{Cmd}
 use Rattle.rt_rib.specs.declared.commands.Reply.{Reply}
 use Rattle.rt_rib.specs.declared.commands.Entry.{Entry}
@@ -136,6 +136,6 @@ IsJournalOf-push old new journal more feed cmd reply is_feed h serves is =
     rw (serves.changed, is) next
 
 -- a trie that holds the table's routes holds those that the journal leaves
-pub holds_table : (t : StoredTable) (journal : List Entry) → HoldsRoutes t.trie t.routes → IsJournalOf (table_state t) journal
+pub holds_table : (t : TableContents) (journal : List Entry) → HoldsRoutes t.trie t.routes → IsJournalOf (table_state t) journal
     → HoldsRoutes t.trie (table_of_journal t.limit journal)
 holds_table t journal holds h = subst (HoldsRoutes t.trie) h.routes holds

@@ -1,4 +1,4 @@
--- What contracts see of a book.
+-- What contracts see of a table, and of a book.
 use Rattle.std.specs.Prelude.{◌≡◌, ℕ, ◌+◌, ◌≤◌, ◌⊎◌, List, [], ◌∷◌, ◌++◌}
 use Rattle.rt_trie.specs.TrieContents as rt_trie
 use Rattle.rt_trie.specs.Lawful.{IsLawful}
@@ -9,7 +9,7 @@ use Rattle.rt_rib.specs.declared.commands.Reply.{Reply}
 use Rattle.rt_rib.specs.declared.commands.Reply.TheVariants.{Added}
 use Rattle.rt_rib.specs.declared.commands.Entry.{Entry}
 use Rattle.rt_rib.specs.declared.limits.TheConstants.{MOST_FEEDS, MOST_ROUTES}
-use Rattle.rt_rib.specs.Sequential.{reply_of, table_of_journal}
+use Rattle.rt_rib.specs.Sequential.{reply_of, table_after, table_of_journal}
 use Rattle.rt_rib.specs.Table.{IsTable}
 use Rattle.rt_rib.specs.Maps.{routes_of, IsMap}
 
@@ -24,6 +24,26 @@ IsFeed feed = (1 ≤ feed) × (feed ≤ MOST_FEEDS)
 -- what a trie of offers shows: each prefix with its offers, and the nodes
 abbrev pub OfferTrie : Type 0
 OfferTrie = rt_trie.TrieContents (List Offer)
+
+-- what a command reads and may change: how many routes a feed may have, and the routes
+pub record TableState : Type 0 where
+  pub limit : ℕ
+  pub routes : List Route
+
+-- what contracts see of a table: that, and the trie that holds the routes
+pub record TableContents : Type 0 where
+  pub limit : ℕ
+  pub routes : List Route
+  pub trie : OfferTrie
+
+-- the part of it that a command reads and may change
+abbrev pub table_state : TableContents → TableState
+table_state t = record { limit = t.limit; routes = t.routes }
+
+-- the command was answered as the sequential table answers it, and the routes are what it leaves there
+pub record Serves (old new : TableState) (feed : ℕ) (cmd : Cmd) (reply : Reply) : Type 0 where
+  pub replied : reply ≡ reply_of old.limit old.routes feed cmd
+  pub changed : new ≡ record old { routes = table_after old.limit old.routes feed cmd }
 
 -- what contracts see of a book: how many routes a feed may have, every answered command, the trie of the routes, and for how many
 -- entries more the journal has room

@@ -34,7 +34,8 @@ impl<A: Allocator + Copy> Model for Book<A> {
 
     ghost coded = { Prim.hlevel (codes, tree_code) };
 
-    ghost use Rattle.rt_rib.specs.inside.TableState.{table_state, IsJournalOf};
+    ghost use Rattle.rt_rib.specs.Book.{table_state};
+    ghost use Rattle.rt_rib.specs.inside.TableState.{IsJournalOf};
 
     ghost view = { λ b. record {
       limit = b.table.limit;
@@ -113,6 +114,15 @@ impl<A: Allocator + Copy> Book<A> {
         ensures { HoldsTable self.now }
     {
         self.table.holds();
+    }
+
+    /// Its table, to be asked like any other.
+    pub fn table(&self) -> &Table<A>
+        ensures limit { result.now.limit ≡ self.now.limit }
+        ensures routes { result.now.routes ≡ table_of self.now }
+        ensures trie { result.now.trie ≡ self.now.trie }
+    {
+        &self.table
     }
 
     /// Reads what the first [`AHEAD`](crate::AHEAD) of these commands will go down to, all at once, so that `apply` finds it

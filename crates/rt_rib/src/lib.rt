@@ -20,6 +20,9 @@
 //! makes beforehand, and a `Purge` goes over the map once, up to the last route of its feed (`src/purge.rt`). Who has several
 //! commands at hand lets the trie wait for the memory of all of them at once by [`Book::read_ahead`] (`src/ahead.rt`).
 //!
+//! A book is a [`Table`] and its journal. A program that runs for months and asks for no history keeps the table alone: it
+//! answers commands by the same `reply_of` and `table_after`, and contracts see of it the limit, the routes and their trie.
+//!
 //! A book is also asked beside its journal: [`Book::look_up`] answers many addresses at once, [`Book::look_up_all`] gives every
 //! route whose prefix covers an address, the best first, and [`Book::answers`] answers one address after another, each with how
 //! far its answer goes. Such a look-up goes from the book, which knows that the routes are the journal's, to the map
@@ -50,3 +53,4 @@ pub use commands::{Cmd, Entry, Reply};
 pub use limits::{MOST_FEEDS, MOST_ROUTES, feed_ok, limit_ok};
 pub use refused::Refused;
 pub use routes::{Hop, Route, keep_best};
+pub use table::Table;

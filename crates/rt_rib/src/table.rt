@@ -1,28 +1,31 @@
 //! The sequential table: its routes as offers in a map, how many each feed has, and the answers to commands.
-ghost use Rattle.std.specs.Prelude.{◌≡◌, ◌^◌, ◌<◌, [], length, map, sum, IfOk, OnErr};
+ghost use Rattle.std.specs.Prelude.{◌≡◌, ◌^◌, ◌<◌, ◌↔◌, IsTrue, [], length, map, sum, IfOk, OnErr};
 ghost use Rattle.rt_rib.specs.declared.commands.Cmd.TheVariants.{Add, Replace, Withdraw, Purge};
 ghost use Rattle.rt_rib.specs.declared.commands.Reply.TheVariants.{Added};
 ghost use Rattle.rt_rib.specs.Sequential.{reply_of};
 ghost use Rattle.rt_rib.specs.Table.{IsTable};
-ghost use Rattle.rt_rib.specs.Book.{IsLimit, IsFeed, HoldsRoutes};
+ghost use Rattle.rt_rib.specs.LookUp.{look_up, look_up_all};
+ghost use Rattle.rt_rib.specs.Book.{IsLimit, IsFeed, table_state, Serves, HoldsRoutes};
 ghost use Rattle.rt_rib.specs.Maps.{routes_of, IsMap};
-ghost use Rattle.rt_rib.specs.inside.TableState.{table_state, Serves};
 
+use crate::answers::Answers;
 use crate::commands::{Cmd, Reply};
 use crate::limits::MOST_FEEDS;
 use crate::map::{self, Map};
 use crate::refused::Refused;
 use crate::routes::Route;
 use crate::{lookups, purge};
-use rt_cidr::Prefix;
+use rt_cidr::{Addr, Prefix};
 use rt_trie::Trie;
 use std::alloc::Allocator;
+use std::fmt;
 use std::marker::Model;
 
 /// The sequential table: a set of routes, at most one for each pair of prefix and feed, and no more for each feed
-/// than the limit. Contracts see its limit, its routes in dump order, and the trie that holds them.
+/// than the limit. Contracts see its limit, its routes in dump order, and the trie that holds them. It keeps no journal,
+/// so what it takes is bounded by its routes, however long it is used.
 #[derive(Drop)]
-pub(crate) struct Table<A: Allocator + Copy> {
+pub struct Table<A: Allocator + Copy> {
     limit: u32,
     /// How many routes each feed has, that of feed 1 first.
     counts: [u32; MOST_FEEDS],
@@ -34,10 +37,11 @@ pub(crate) struct Table<A: Allocator + Copy> {
 impl<A: Allocator + Copy> Model for Table<A> {
     ghost use Rattle.std.specs.Coded.{codes};
     ghost use Rattle.rt_trie.specs.inside.TreeCode.{tree_code};
-    ghost use Rattle.rt_rib.specs.inside.TableState.{StoredTable, IsCounted};
+    ghost use Rattle.rt_rib.specs.Book.{TableContents};
+    ghost use Rattle.rt_rib.specs.inside.TableState.{IsCounted};
     ghost use Rattle.rt_rib.specs.Maps.{routes_of};
 
-    ghost Value = { StoredTable };
+    ghost Value = { TableContents };
 
     ghost coded = { Prim.hlevel (codes, tree_code) };
 
@@ -46,9 +50,18 @@ impl<A: Allocator + Copy> Model for Table<A> {
     ghost invariant = { λ t. IsCounted t.limit t.counts t.map.pairs };
 }
 
+/// Shows how many nodes its trie takes, and no route.
+impl<A: Allocator + Copy> fmt::Debug for Table<A> {
+    fn fmt<W: fmt::Write>(&self, f: &mut fmt::Formatter<W>) -> fmt::Result {
+        f.debug_struct("Table")
+            .field("nodes", &self.map.nodes())
+            .finish_non_exhaustive()
+    }
+}
+
 impl<A: Allocator + Copy> Table<A> {
-    /// The empty table. It takes no memory.
-    pub(crate) fn new(alloc: A, limit: u32) -> Table<A>
+    /// The empty table, in which each feed may have so many routes. It takes no memory.
+    pub fn new(alloc: A, limit: u32) -> Table<A>
         requires { IsLimit limit }
         ensures { table_state result ≡ record { limit = limit; routes = [] } }
     {
@@ -61,27 +74,68 @@ impl<A: Allocator + Copy> Table<A> {
         }
     }
 
-    /// The trie is lawful and holds the table's routes. This makes it known, and does nothing.
-    pub(crate) fn holds(&self)
+    /// The trie is lawful and holds exactly the table's routes, none of them twice. Calling this makes it known, and it does
+    /// nothing.
+    pub fn holds(&self)
         ensures { HoldsRoutes self.now.trie self.now.routes }
     {
         let _ = self.map.nodes();
     }
 
     /// How many routes there are.
-    fn len(&self) -> u32
+    pub fn len(&self) -> u32
         ensures { result ≡ length self.now.routes }
     {
         total(&self.counts)
     }
 
-    /// The routes in dump order.
-    pub(crate) fn routes(&self, alloc: A) -> Result<Vec<Route, A>, Refused>
+    /// Whether there is no route.
+    pub fn is_empty(&self) -> bool
+        ensures { IsTrue result ↔ (self.now.routes ≡ []) }
+    {
+        self.len() == 0
+    }
+
+    /// The routes in dump order, by base, then length, then preference, then feed, in memory of the allocator. M1:
+    /// `Refused` where that memory was refused.
+    pub fn routes(&self, alloc: A) -> Result<Vec<Route, A>, Refused>
         ensures routes { IfOk result (λ routes. routes.items ≡ self.now.routes) }
         ensures table { IsTable self.now.routes }
     {
         let count = self.len();
         map::routes(&self.map, alloc, count as usize)
+    }
+
+    /// For each address, in order, the best route of the longest prefix that covers it, or `None` where no prefix covers it:
+    /// the answers take the place of what stood in their list, which is as long as that of the addresses. The look-ups go on
+    /// eight at a time, so that one waits for memory while the others do. It takes no memory.
+    pub fn look_up(&self, addresses: &[Addr], answers: &mut [Option<Route>])
+        requires { length answers.old ≡ length addresses.now }
+        ensures { answers.new ≡ map (λ addr. look_up addr self.now.routes) addresses.now }
+    {
+        lookups::best_of_each(&self.map, addresses, answers);
+    }
+
+    /// The answers to look-ups of one address after another, each with how far it goes. It takes no memory.
+    pub fn answers(&self) -> Answers<'_, A>
+        ensures { result ≡ self.now.routes }
+    {
+        Answers::new(&self.map)
+    }
+
+    /// Every route whose prefix covers the address, in memory of the allocator: by greatest length, then least preference,
+    /// then least feed, so the first is the answer to a look-up. M1: `Refused` where that memory was refused.
+    pub fn look_up_all(&self, alloc: A, addr: Addr) -> Result<Vec<Route, A>, Refused>
+        ensures { IfOk result (λ routes. routes.items ≡ look_up_all addr self.now.routes) }
+    {
+        lookups::all_of(&self.map, alloc, addr)
+    }
+
+    /// How many nodes the trie of the routes takes.
+    pub fn nodes(&self) -> usize
+        ensures { result ≡ self.now.trie.nodes }
+    {
+        self.map.nodes()
     }
 
     /// The map of its routes, for what only reads them.
@@ -93,9 +147,9 @@ impl<A: Allocator + Copy> Table<A> {
         &self.map
     }
 
-    /// Answers a command of the feed. Only a route that is put in wants memory, and where it is refused the table stays as
-    /// it was.
-    pub(crate) fn apply(&mut self, feed: u32, cmd: Cmd) -> Result<Reply, Refused>
+    /// Answers a command of the feed. Only a route that is put in wants memory: M1 is `Refused`, and then the table is as it
+    /// was.
+    pub fn apply(&mut self, feed: u32, cmd: Cmd) -> Result<Reply, Refused>
         requires { IsFeed feed }
         ensures ok { IfOk result (λ reply. Serves (table_state self.old) (table_state self.new) feed cmd reply) }
         ensures err { OnErr result (self.new ≡ self.old) }

@@ -22,7 +22,7 @@ use Rattle.rt_rib.specs.Maps.{outranks, is_from, IsRanked, IsOffers, Map, route_
 use Rattle.rt_rib.specs.Table.{below_then, is_of, has, count_of, is_better, precedes, put_in, take_out, purge, IsTable}
 use Rattle.rt_rib.specs.LookUp.{matching, longest_of, best, look_up, beats, ranking, look_up_all, best_routes}
 use Rattle.rt_rib.specs.Sequential.{reply_of, table_after, table_of_journal, IsAnswered, IsLawfulJournal}
-use Rattle.rt_rib.specs.Book.{IsLimit, BookContents, OfferTrie, table_of, HoldsRoutes, HoldsTable, IsFeed, Applies, Refuses, Reserves}
+use Rattle.rt_rib.specs.Book.{IsLimit, TableState, TableContents, table_state, Serves, BookContents, OfferTrie, table_of, HoldsRoutes, HoldsTable, IsFeed, Applies, Refuses, Reserves}
 use Rattle.rt_rib.specs.Laws.{IsBestMatch, is_own, feed_entries, PutInAdds, TakeOutLeavesOthers, OneTableOfSet, LookUpFindsBest, AreMatches}
 use Rattle.rt_rib.specs.Laws.{LookUpAllFindsMatches, BestRoutesSuffice, TableByEntry, LawfulByEntry, LawfulIsDetermined, asked, feed_routes, FeedsStandAlone}
 use Rattle.rt_rib.proofs.Tables.{IsTable-nil, IsTable-put_in}
@@ -820,6 +820,27 @@ each_feed_stands_alone :
     FeedsStandAlone → (limit feed : ℕ) (journal : List Entry) (cmd : Cmd)
     → (feed_routes feed (table_of_journal limit journal) ≡ table_of_journal limit (feed_entries feed journal)) × (is_own cmd ≡ true → reply_of limit (table_of_journal limit journal) feed cmd ≡ reply_of limit (table_of_journal limit (feed_entries feed journal)) feed cmd)
 each_feed_stands_alone law = law
+
+-- TableContents
+abbrev table_of_one_route : TableContents
+table_of_one_route = record { limit = 2; routes = route ten_8 1 5 ∷ []; trie = one_offer }
+
+-- TableState
+abbrev state_of_one_route : TableState
+state_of_one_route = record { limit = 2; routes = route ten_8 1 5 ∷ [] }
+
+-- table_state
+state_of_the_table : table_state table_of_one_route ≡ state_of_one_route
+state_of_the_table = refl
+
+-- Serves
+what_a_served_command_does :
+    (old new : TableState) (feed : ℕ) (cmd : Cmd) (reply : Reply) → Serves old new feed cmd reply
+    ↔ ((reply ≡ reply_of old.limit old.routes feed cmd) × (new ≡ record { limit = old.limit; routes = table_after old.limit old.routes feed cmd }))
+what_a_served_command_does old new feed cmd reply = (
+  λ h. (h.replied, h.changed),
+  λ (replied, changed). record { replied = replied; changed = changed },
+)
 
 -- Applies
 what_an_answered_command_does :

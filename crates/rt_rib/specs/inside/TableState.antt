@@ -1,35 +1,13 @@
--- A table as its clauses see it, and what the types `Table` and `Book` keep of what is in them.
+-- What the types `Table` and `Book` keep of what is in them.
 use Rattle.std.specs.Prelude.{◌≡◌, ℕ, ◌+◌, ◌<◌, ◌≤◌, List, length, sum, slice_index}
 use Rattle.std.specs.List.{All}
 use Rattle.rt_rib.specs.declared.routes.Route.{Route}
-use Rattle.rt_rib.specs.declared.commands.Cmd.{Cmd}
-use Rattle.rt_rib.specs.declared.commands.Reply.{Reply}
 use Rattle.rt_rib.specs.declared.commands.Entry.{Entry}
 use Rattle.rt_rib.specs.declared.limits.TheConstants.{MOST_FEEDS}
 use Rattle.rt_rib.specs.Table.{count_of, IsTable}
 use Rattle.rt_rib.specs.Maps.{Map, routes_of, IsMap}
-use Rattle.rt_rib.specs.Sequential.{reply_of, table_after, table_of_journal, IsLawfulJournal}
-use Rattle.rt_rib.specs.Book.{IsLimit, IsFeed, OfferTrie}
-
--- what a command reads and may change: how many routes a feed may have, and the routes
-pub record TableState : Type 0 where
-  pub limit : ℕ
-  pub routes : List Route
-
--- what contracts see of a `Table`: that, and the trie that holds the routes
-pub record StoredTable : Type 0 where
-  pub limit : ℕ
-  pub routes : List Route
-  pub trie : OfferTrie
-
--- the part of it that a command reads and may change
-abbrev pub table_state : StoredTable → TableState
-table_state t = record { limit = t.limit; routes = t.routes }
-
--- the command was answered as the sequential table answers it, and the routes are what it leaves there
-pub record Serves (old new : TableState) (feed : ℕ) (cmd : Cmd) (reply : Reply) : Type 0 where
-  pub replied : reply ≡ reply_of old.limit old.routes feed cmd
-  pub changed : new ≡ record old { routes = table_after old.limit old.routes feed cmd }
+use Rattle.rt_rib.specs.Sequential.{table_of_journal, IsLawfulJournal}
+use Rattle.rt_rib.specs.Book.{IsLimit, IsFeed, TableState}
 
 -- for each feed, how many of the routes are its own: no more than the limit, and there are no others
 pub record AreCounts (limit : ℕ) (counts : List ℕ) (routes : List Route) : Type 0 where

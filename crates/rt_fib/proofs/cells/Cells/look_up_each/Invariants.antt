@@ -1,5 +1,4 @@
 use Rattle.std.proofs.Common.{◌≡◌, ◌-◌, ◌≤◌, length, map, take}
-use Rattle.rt_rib.specs.Book.{table_of}
 use Rattle.rt_rib.specs.LookUp.{look_up}
 use Rattle.rt_fib.proofs.cells.Cells.look_up_each.Given as goal
 
@@ -8,7 +7,7 @@ abbrev pub invariant-each : goal.invariant-each
 invariant-each g l = record {
   within : l.start ≤ length l.addresses;
   size : length l.answers ≡ length l.addresses;
-  each : take l.start l.answers ≡ map (λ addr. look_up addr (table_of l.self.book.value)) (take l.start l.addresses);
+  each : take l.start l.answers ≡ map (λ addr. look_up addr l.self.table.value.routes) (take l.start l.addresses);
 }
 
 abbrev pub decreases-each : goal.decreases-each

@@ -1,5 +1,4 @@
 use Rattle.std.proofs.Common.{◌≡◌, ◌+◌, length, map, take}
-use Rattle.rt_rib.specs.Book.{table_of}
 use Rattle.rt_rib.specs.LookUp.{look_up}
 use Rattle.rt_fib.proofs.cells.Cells.look_up_some.Given as goal
 
@@ -7,5 +6,5 @@ use Rattle.rt_fib.proofs.cells.Cells.look_up_some.Given as goal
 abbrev pub invariant-answers : goal.invariant-answers
 invariant-answers g l = record {
   size : length l.answers ≡ length l.addresses;
-  each : take (l.start + l.k) l.answers ≡ map (λ addr. look_up addr (table_of l.self.book.value)) (take (l.start + l.k) l.addresses);
+  each : take (l.start + l.k) l.answers ≡ map (λ addr. look_up addr l.self.table.value.routes) (take (l.start + l.k) l.addresses);
 }

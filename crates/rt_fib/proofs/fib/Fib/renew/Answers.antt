@@ -5,7 +5,7 @@ use Rattle.rt_fib.proofs.fib.Fib.renew.Goals as goal
 
 pub invariant_of-self-2 : goal.invariant_of-self-2
 invariant_of-self-2 g c =
-    let kept : IsKeptOutside c.args.prefix (table_of c.self.inside.cells.book.value) (table_of c.args.book.now) = rw c.self.view_is c.requires in
+    let kept : IsKeptOutside c.args.prefix c.self.inside.cells.table.value.routes (table_of c.args.book.now) = rw c.self.view_is c.requires in
     let done = c.in_ok-renew_cells.ensures in
     let renewed = rw c.answers.ensures at done.put in
-    rw c.of.ensures (renewed_all c.args.prefix c.span_of-span.result _ _ _ _ _ _ _ _ c.span_of-span.ensures c.self.invariant done.blocks done.grows renewed kept)
+    rw (c.of.ensures, c.table.ensures.routes) (renewed_all c.args.prefix c.span_of-span.result _ _ _ _ _ _ _ _ c.span_of-span.ensures c.self.invariant done.blocks done.grows renewed kept)

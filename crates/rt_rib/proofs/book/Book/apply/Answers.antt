@@ -1,5 +1,5 @@
 use Rattle.rt_rib.specs.Sequential.{reply_of}
-use Rattle.rt_rib.specs.inside.TableState.{TableState, table_state}
+use Rattle.rt_rib.specs.Book.{TableState, table_state}
 use Rattle.rt_rib.proofs.TableChanges.{IsJournalOf-push, holds_table}
 use Rattle.std.proofs.Common.{rules, sym, ap, ◌∙◌, arith}
 use Rattle.rt_rib.proofs.book.Book.apply.Goals as goal

@@ -1,6 +1,5 @@
 use Rattle.std.proofs.Common.{sym, ap, ◌∙◌}
-use Rattle.rt_rib.specs.Book.{OfferTrie}
-use Rattle.rt_rib.specs.inside.TableState.{StoredTable}
+use Rattle.rt_rib.specs.Book.{OfferTrie, TableContents}
 use Rattle.rt_rib.specs.Maps.{routes_of}
 use Rattle.rt_rib.proofs.Counts.{AreCounts-own}
 use Rattle.rt_rib.proofs.TableChanges.{kept_counted, kept_serves, added_counted, added_serves, to_be_added}
@@ -36,7 +35,7 @@ invariant_of-self g c =
 pub returns-in_err-put_in-clause-err : goal.returns-in_err-put_in-clause-err
 returns-in_err-put_in-clause-err g c =
     let limit = c.self.inside.limit in
-    let shown : OfferTrie → StoredTable = λ m. record { limit = limit; routes = routes_of m.pairs; trie = m } in
+    let shown : OfferTrie → TableContents = λ m. record { limit = limit; routes = routes_of m.pairs; trie = m } in
     err_from c.from_residual.result (ap shown c.in_err-put_in.ensures.refused ∙ c.self.view_is)
 
 pub returns-in_err-put_in-clause-wanted : goal.returns-in_err-put_in-clause-wanted
