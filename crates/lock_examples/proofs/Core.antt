@@ -17,9 +17,9 @@ use Rattle.ya_core.specs.FlatRow.{is_word, words_of, row_state}
 use Rattle.ya_core.specs.Steps.{State, StepsTo, LeadTo, Accesses, opening, entry_access, exit_access, access_of, after_entry, after_exit, entry_next, exit_next}
 use Rattle.ya_core.specs.Steps.{next_of, value_of}
 use Rattle.ya_core.specs.WalkerModel.{walk, due_of, due, CanStand, cost_of_word, cost_of, walk_after, MayFind, MayBeTold, WalkLeadsTo, BeginsEntry}
-use Rattle.ya_core.specs.WalkerModel.{BeginsExit, Walk, FitsAccess, FitsDue, IsStore, op_of_access, op_at_rest, op_of_due, op_of, entry_ahead}
-use Rattle.ya_core.specs.WalkerModel.{entry_points, entry_cost, exit_points, budget_of, budget, points_of, points_ahead, is_waiting, MovesOn, allowance}
-use Rattle.ya_core.specs.WalkerModel.{CountIsKept, IsWalk, OpIsWithin, AccessIsWithin}
+use Rattle.ya_core.specs.WalkerModel.{BeginsExit, Walk, FitsAccess, FitsDue, IsStore, op_of_access, op_at_rest, op_of_due, op_of, entry_behind}
+use Rattle.ya_core.specs.WalkerModel.{exit_behind, most_of, most_remote, is_waiting, ComesBefore, ComesFurther, MovesOn}
+use Rattle.ya_core.specs.WalkerModel.{IsWalk, OpIsWithin, AccessIsWithin}
 use Rattle.ya_core.specs.Progress.{SomeoneGoesOn, CanLeadTo, SomeoneGoesOnIn, Announces, Wins, Neither, is_entering, is_to_announce, deed_of, announces}
 use Rattle.ya_core.specs.Progress.{LevelStep, LevelSees, HasNotWon, is_rival, is_win, times_overtaken}
 use Rattle.ya_core.specs.Fairness.{PickLeadsTo, IsRunOfSchedule, IsFair, PicksEachAgain, Eventually, is_on_way_in, is_on_way_out}
@@ -1480,45 +1480,27 @@ until_it_is_told_to_go_on : op_of (walk 2 1 Idle true 0) ≡ op.Store 1 2
 unfolding node_of side_of number_of
 until_it_is_told_to_go_on = refl
 
--- entry_ahead
-the_points_and_the_remote_accesses_ahead :
-    map entry_ahead (E1 ∷ E2 ∷ E3 ∷ E4 ∷ E5 1 ∷ E6 1 ∷ E7 1 ∷ E8 ∷ E9 ∷ E10 ∷ [])
-    ≡ (10, 7) ∷ (9, 6) ∷ (8, 5) ∷ (7, 5) ∷ (6, 4) ∷ (5, 3) ∷ (4, 2) ∷ (3, 1) ∷ (2, 1) ∷ (1, 0) ∷ []
-the_points_and_the_remote_accesses_ahead = refl
+-- entry_behind
+the_points_and_the_remote_accesses_behind :
+    map entry_behind (E1 ∷ E2 ∷ E3 ∷ E4 ∷ E5 1 ∷ E6 1 ∷ E7 1 ∷ E8 ∷ E9 ∷ E10 ∷ [])
+    ≡ (0, 0) ∷ (1, 1) ∷ (2, 2) ∷ (3, 2) ∷ (4, 3) ∷ (5, 4) ∷ (6, 5) ∷ (7, 6) ∷ (8, 6) ∷ (9, 7) ∷ []
+the_points_and_the_remote_accesses_behind = refl
 
--- entry_points
-seven_from_e4_on : entry_points E4 ≡ 7
-seven_from_e4_on = refl
-
--- entry_cost
-of_which_five_can_be_remote : entry_cost E4 ≡ 5
-of_which_five_can_be_remote = refl
-
--- exit_points
-three_on_the_way_out : map exit_points (X1 ∷ X2 ∷ X3 1 ∷ []) ≡ 3 ∷ 2 ∷ 1 ∷ []
+-- exit_behind
+three_on_the_way_out : map exit_behind (X1 ∷ X2 ∷ X3 1 ∷ []) ≡ 0 ∷ 1 ∷ 2 ∷ []
 three_on_the_way_out = refl
 
--- budget_of
-where_it_was_told_to_go_on : map (λ (process : Process). budget_of 3 process true) (Idle ∷ Entering 2 E4 ∷ Inside ∷ Leaving 2 X2 ∷ []) ≡ 21 ∷ 12 ∷ 9 ∷ 5 ∷ []
-where_it_was_told_to_go_on = refl
+-- most_of
+none_before_an_entry : map (λ (levels : ℕ). most_of levels Idle true) (1 ∷ 3 ∷ []) ≡ 0 ∷ 0 ∷ []
+none_before_an_entry = refl
 
-where_it_was_not : map (λ (process : Process). budget_of 3 process false) (Idle ∷ Entering 2 E4 ∷ Inside ∷ Leaving 2 X2 ∷ []) ≡ 0 ∷ 12 ∷ 0 ∷ 5 ∷ []
-where_it_was_not = refl
+seven_a_level_in_and_three_out :
+    map (λ (process : Process). most_of 3 process false) (Entering 2 E4 ∷ Inside ∷ Leaving 2 X2 ∷ Idle ∷ []) ≡ 9 ∷ 21 ∷ 25 ∷ 30 ∷ []
+seven_a_level_in_and_three_out = refl
 
--- budget
-twelve_at_the_second_level_of_three : budget (walk 3 7 (Entering 2 E4) false 4) ≡ 12
-twelve_at_the_second_level_of_three = refl
-
--- points_of
-where_it_is_to_go_on : map (λ (process : Process). points_of 3 process true) (Idle ∷ Entering 2 E4 ∷ Inside ∷ Leaving 2 X2 ∷ []) ≡ 30 ∷ 17 ∷ 9 ∷ 5 ∷ []
-where_it_is_to_go_on = refl
-
-where_it_is_to_stay : map (λ (process : Process). points_of 3 process false) (Idle ∷ Entering 2 E4 ∷ Inside ∷ Leaving 2 X2 ∷ []) ≡ 0 ∷ 17 ∷ 0 ∷ 5 ∷ []
-where_it_is_to_stay = refl
-
--- points_ahead
-seventeen_at_the_second_level_of_three : points_ahead (walk 3 7 (Entering 2 E4) false 4) ≡ 17
-seventeen_at_the_second_level_of_three = refl
+-- most_remote
+nine_at_the_second_level_of_three : most_remote (walk 3 7 (Entering 2 E4) false 4) ≡ 9
+nine_at_the_second_level_of_three = refl
 
 -- is_waiting
 at_e8_and_e10_alone :
@@ -1526,38 +1508,76 @@ at_e8_and_e10_alone :
     ≡ false ∷ false ∷ true ∷ false ∷ true ∷ false ∷ false ∷ []
 at_e8_and_e10_alone = refl
 
+-- ComesBefore
+by_levels_and_then_by_points : ComesBefore 0 9 1 0 × ComesBefore 1 3 1 4
+by_levels_and_then_by_points = (inl (omega arith), inr (refl, omega arith))
+
+not_the_same_and_none_of_a_lower_level : (¬ ComesBefore 1 3 1 3) × (¬ ComesBefore 1 3 0 9)
+not_the_same_and_none_of_a_lower_level = (λ h. neither_way 1 3 1 3 h (omega arith) (λ _. omega arith), λ h. neither_way 1 3 0 9 h (omega arith) (λ e. absurd cc))
+  where
+    neither_way :
+        (levels points more next : ℕ) → ComesBefore levels points more next → more ≤ levels
+        → (levels ≡ more → next ≤ points) → ⊥
+    neither_way levels points more next (inl fewer) least none = omega (arith, fewer, least)
+    neither_way levels points more next (inr h) least none = omega (arith, h.1, none h.0)
+
+what_comes_before_is :
+    (levels points more next : ℕ) → ComesBefore levels points more next ↔ ((levels < more) ⊎ ((levels ≡ more) × (points < next)))
+what_comes_before_is levels points more next = (λ h. h, λ h. h)
+
+-- ComesFurther
+up_to_the_root_and_inside :
+    (levels level other : ℕ) (point next : EntryPoint)
+    → (ComesFurther levels Idle (Entering level point) ↔ ComesBefore 0 0 (level - 1) (entry_behind point).0)
+    × (ComesFurther levels (Entering level point) (Entering other next)
+    ↔ ComesBefore (level - 1) (entry_behind point).0 (other - 1) (entry_behind next).0)
+    × ComesFurther levels (Entering level point) Inside
+up_to_the_root_and_inside levels level other point next = ((λ h. h, λ h. h), (λ h. h, λ h. h), tt)
+
+down_to_the_leaves_and_idle :
+    (levels level other : ℕ) (point next : ExitPoint)
+    → (ComesFurther levels Inside (Leaving level point) ↔ ComesBefore 0 0 (levels - level) (exit_behind point))
+    × (ComesFurther levels (Leaving level point) (Leaving other next)
+    ↔ ComesBefore (levels - level) (exit_behind point) (levels - other) (exit_behind next))
+    × ComesFurther levels (Leaving level point) Idle
+down_to_the_leaves_and_idle levels level other point next = ((λ h. h, λ h. h), (λ h. h, λ h. h), tt)
+
+from_the_way_in_to_no_way_out_nor_back :
+    (levels level other : ℕ) (point : EntryPoint) (exit : ExitPoint)
+    → (¬ ComesFurther levels (Entering level point) Idle) × (¬ ComesFurther levels (Entering level point) (Leaving other exit))
+    × (¬ ComesFurther levels Idle Inside) × (¬ ComesFurther levels Idle (Leaving level exit)) × (¬ ComesFurther levels Idle Idle)
+    × (¬ ComesFurther levels Inside Idle) × (¬ ComesFurther levels Inside (Entering level point)) × (¬ ComesFurther levels Inside Inside)
+    × (¬ ComesFurther levels (Leaving level exit) Inside) × (¬ ComesFurther levels (Leaving level exit) (Entering other point))
+from_the_way_in_to_no_way_out_nor_back levels level other point exit =
+    (λ h. h, λ h. h, λ h. h, λ h. h, λ h. h, λ h. h, λ h. h, λ h. h, λ h. h, λ h. h)
+
 -- MovesOn
 to_the_next_point : MovesOn (walk 1 0 (Entering 1 E2) false 1) (walk 1 0 (Entering 1 E3) false 2)
-to_the_next_point = inl (omega arith)
+to_the_next_point = inl (inr (refl, omega arith))
+
+to_the_next_level : MovesOn (walk 2 0 (Entering 1 E4) false 2) (walk 2 0 (Entering 2 E1) false 3)
+to_the_next_level = inl (inl (omega arith))
+
+and_on_the_way_out_to_the_one_below : MovesOn (walk 2 0 (Leaving 2 X2) false 6) (walk 2 0 (Leaving 1 X1) false 7)
+and_on_the_way_out_to_the_one_below = inl (inl (omega arith))
 
 or_it_waits : MovesOn (walk 1 0 (Entering 1 E8) false 6) (walk 1 0 (Entering 1 E8) false 6)
 or_it_waits = inr (refl, refl)
 
 no_point_twice_without_waiting : ¬ MovesOn (walk 1 0 (Entering 1 E9) false 6) (walk 1 0 (Entering 1 E9) false 7)
-no_point_twice_without_waiting (inl fewer) = omega (arith, fewer)
+no_point_twice_without_waiting (inl (inl fewer)) = omega (arith, fewer)
+no_point_twice_without_waiting (inl (inr h)) = omega (arith, h.1)
 no_point_twice_without_waiting (inr h) = let waits_there = h.0 in cc
 
 not_back_from_where_it_waits : ¬ MovesOn (walk 1 0 (Entering 1 E10) false 6) (walk 1 0 (Entering 1 E8) false 6)
-not_back_from_where_it_waits (inl fewer) = omega (arith, fewer)
+not_back_from_where_it_waits (inl (inl fewer)) = omega (arith, fewer)
+not_back_from_where_it_waits (inl (inr h)) = omega (arith, h.1)
 not_back_from_where_it_waits (inr h) = let same = h.1 in cc
 
 what_moving_on_is :
     (old new : Walk) → MovesOn old new
-    → (points_ahead new < points_ahead old) ⊎ (IsTrue (is_waiting old.process) × (new.process ≡ old.process))
-what_moving_on_is old new h = h
-
--- allowance
-while_it_enters_or_has_left :
-    (map (λ (process : Process). allowance 3 process true) (Idle ∷ Entering 2 E4 ∷ Inside ∷ Leaving 2 X2 ∷ []) ≡ 21 ∷ 21 ∷ 30 ∷ 30 ∷ [])
-    × (map (λ (process : Process). allowance 3 process false) (Idle ∷ Entering 2 E4 ∷ Inside ∷ Leaving 2 X2 ∷ []) ≡ 30 ∷ 21 ∷ 21 ∷ 30 ∷ [])
-while_it_enters_or_has_left = (refl, refl)
-
--- CountIsKept
-nine_before_e4_of_the_second_level : CountIsKept 3 9 (Entering 2 E4) false
-nine_before_e4_of_the_second_level = omega arith
-
-not_ten : ¬ CountIsKept 3 10 (Entering 2 E4) false
-not_ten h = omega (arith, h)
+    ↔ (ComesFurther old.levels old.process new.process ⊎ (IsTrue (is_waiting old.process) × (new.process ≡ old.process)))
+what_moving_on_is old new = (λ h. h, λ h. h)
 
 -- IsWalk
 one_of_six_levels : IsWalk (walk 6 63 Idle true 0)
@@ -2201,16 +2221,10 @@ of_any_word :
     × (cost_of_word place (P level owner) ≡ (if owner == place then 0 else 1))
 of_any_word place level node side owner = (refl, refl, refl)
 
--- CountIsKept
-made_and_ahead_within_the_allowance :
-    (levels remote : ℕ) (process : Process) (begun : Bool)
-    → CountIsKept levels remote process begun ↔ (remote + budget_of levels process begun ≤ allowance levels process begun)
-made_and_ahead_within_the_allowance levels remote process begun = (λ h. h, λ h. h)
-
 -- IsWalk
 what_any_walk_is :
     (w : Walk) → IsWalk w ↔ ((1 ≤ w.levels) × (w.levels ≤ 6) × (w.place < 2 ^ w.levels) × IsProper w.levels w.place w.process
-    × CountIsKept w.levels w.remote w.process w.begun)
+    × (w.remote ≤ most_remote w))
 what_any_walk_is w = (
   λ h. (h.least, h.most, h.in_tree, h.proper, h.counted),
   λ (least, most, in_tree, proper, counted). record { least = least; most = most; in_tree = in_tree; proper = proper; counted = counted },
@@ -2519,30 +2533,18 @@ the_access_due_to_any_process :
     × (due_of levels place (Leaving level exit) begun ≡ Some (access_of levels place (Leaving level exit)))
 the_access_due_to_any_process levels place level begun entry exit = (refl, refl, refl, refl)
 
--- budget_of
-at_any_level_of_any_tree_it_has_left :
+-- most_of
+at_any_level_of_any_tree_it_has_made_at_most :
     (levels level : ℕ) (begun : Bool) (entry : EntryPoint) (exit : ExitPoint)
-    → (budget_of levels Idle begun ≡ (if begun then 7 * levels else 0))
-    × (budget_of levels (Entering level entry) begun ≡ 7 * (levels - level) + entry_cost entry)
-    × (budget_of levels Inside begun ≡ (if begun then 3 * levels else 0))
-    × (budget_of levels (Leaving level exit) begun ≡ 3 * (level - 1) + exit_points exit)
-at_any_level_of_any_tree_it_has_left levels level begun entry exit = (refl, refl, refl, refl)
+    → (most_of levels Idle begun ≡ (if begun then 0 else 10 * levels))
+    × (most_of levels (Entering level entry) begun ≡ 7 * (level - 1) + (entry_behind entry).1)
+    × (most_of levels Inside begun ≡ 7 * levels)
+    × (most_of levels (Leaving level exit) begun ≡ 7 * levels + 3 * (levels - level) + exit_behind exit)
+at_any_level_of_any_tree_it_has_made_at_most levels level begun entry exit = (refl, refl, refl, refl)
 
--- points_of
-at_any_level_of_any_tree_are_ahead :
-    (levels level : ℕ) (begun : Bool) (entry : EntryPoint) (exit : ExitPoint)
-    → (points_of levels Idle begun ≡ (if begun then 10 * levels else 0))
-    × (points_of levels (Entering level entry) begun ≡ 10 * (levels - level) + entry_points entry)
-    × (points_of levels Inside begun ≡ (if begun then 3 * levels else 0))
-    × (points_of levels (Leaving level exit) begun ≡ 3 * (level - 1) + exit_points exit)
-at_any_level_of_any_tree_are_ahead levels level begun entry exit = (refl, refl, refl, refl)
-
--- allowance
-at_any_level_of_any_tree_may_be_made :
-    (levels level : ℕ) (begun : Bool) (entry : EntryPoint) (exit : ExitPoint)
-    → (allowance levels Idle begun ≡ (if begun then 7 * levels else 10 * levels)) × (allowance levels (Entering level entry) begun ≡ 7 * levels)
-    × (allowance levels Inside begun ≡ (if begun then 10 * levels else 7 * levels)) × (allowance levels (Leaving level exit) begun ≡ 10 * levels)
-at_any_level_of_any_tree_may_be_made levels level begun entry exit = (refl, refl, refl, refl)
+-- most_remote
+of_any_walk : (w : Walk) → most_remote w ≡ most_of w.levels w.process w.begun
+of_any_walk w = refl
 
 -- op_of_access
 any_word_by_its_number :
@@ -2613,11 +2615,3 @@ on_its_way_in_at_any_level :
     → (is_entering level Idle ≡ false) × (is_entering level (Entering stands entry) ≡ (level == stands))
     × (is_entering level Inside ≡ false) × (is_entering level (Leaving stands exit) ≡ false)
 on_its_way_in_at_any_level level stands entry exit = (refl, refl, refl, refl)
-
--- entry_points
-the_points_of_any_point : (point : EntryPoint) → entry_points point ≡ (entry_ahead point).0
-the_points_of_any_point point = refl
-
--- entry_cost
-what_any_point_can_cost : (point : EntryPoint) → entry_cost point ≡ (entry_ahead point).1
-what_any_point_can_cost point = refl

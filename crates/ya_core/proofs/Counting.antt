@@ -15,27 +15,23 @@ use Rattle.ya_core.specs.Steps.{access_of, entry_access, exit_access, next_of, e
 use Rattle.ya_core.specs.Soundness.{IsProper}
 use Rattle.ya_core.proofs.Properness.{either, proper_next, within_access}
 use Rattle.ya_core.proofs.DueAccess.{due_is}
-use Rattle.ya_core.specs.WalkerModel.{MayFind, WalkLeadsTo, AccessIsWithin, Walk, IsWalk, walk, walk_after, MovesOn, budget, due, CountIsKept, due_of}
-use Rattle.ya_core.specs.WalkerModel.{MayBeTold, budget_of, points_of, cost_of, cost_of_word, is_waiting, entry_points, exit_points, entry_cost}
+use Rattle.ya_core.specs.WalkerModel.{MayFind, WalkLeadsTo, AccessIsWithin, Walk, IsWalk, walk, walk_after, MovesOn, due, due_of}
+use Rattle.ya_core.specs.WalkerModel.{MayBeTold, cost_of, cost_of_word, is_waiting, entry_behind, exit_behind, most_of, most_remote}
+use Rattle.ya_core.specs.WalkerModel.{ComesFurther}
+use Rattle.ya_core.specs.inside.Ahead.{points_of, entry_points, exit_points, ComesNearer}
 use Rattle.ya_core.specs.inside.WalkerModel.{DueIsWithin}
 
--- what is still ahead of a process that won a level, and what remote accesses can still cost it
-ahead_won : (levels level : ℕ) → level ≤ levels
-    → (points_of levels (after_entry levels level) false ≤ 10 * (levels - level))
-    × (budget_of levels (after_entry levels level) false ≤ 7 * (levels - level))
+-- how many points are still ahead of a process that won a level
+ahead_won : (levels level : ℕ) → level ≤ levels → points_of levels (after_entry levels level) false ≤ 10 * (levels - level)
 ahead_won levels level most =
-    either (λ x. (points_of levels x false ≤ 10 * (levels - level)) × (budget_of levels x false ≤ 7 * (levels - level)))
-    (nat_lt level levels) _ _ (λ less. (grind (arith, nat_tests), grind (arith, nat_tests)))
-    (λ _. (omega arith, omega arith))
+    either (λ x. points_of levels x false ≤ 10 * (levels - level)) (nat_lt level levels) _ _
+    (λ less. grind (arith, nat_tests)) (λ _. omega arith)
 
 -- the same of one that left it
-ahead_after_exit : (levels level : ℕ)
-    → (points_of levels (after_exit level) false ≤ 3 * (level - 1))
-    × (budget_of levels (after_exit level) false ≤ 3 * (level - 1))
+ahead_after_exit : (levels level : ℕ) → points_of levels (after_exit level) false ≤ 3 * (level - 1)
 ahead_after_exit levels level =
-    either (λ x. (points_of levels x false ≤ 3 * (level - 1)) × (budget_of levels x false ≤ 3 * (level - 1)))
-    (nat_lt 1 level) _ _ (λ more. (grind (arith, nat_tests), grind (arith, nat_tests)))
-    (λ _. (omega arith, omega arith))
+    either (λ x. points_of levels x false ≤ 3 * (level - 1)) (nat_lt 1 level) _ _ (λ more. grind (arith, nat_tests))
+    (λ _. omega arith)
 
 -- a step on the way in comes nearer, or waits
 nearer_entry : (levels level place : ℕ) (point : EntryPoint) (value : ℕ) → level ≤ levels
@@ -47,10 +43,10 @@ nearer_entry levels level place E2 value most = inl (omega arith)
 nearer_entry levels level place E3 value most = inl (omega arith)
 nearer_entry levels level place E4 value most =
     inl (either (λ x. points_of levels x false < 10 * (levels - level) + 7) (value == 0) _ _
-    (λ _. omega (arith, (ahead_won levels level most).0)) (λ _. omega arith))
+    (λ _. omega (arith, ahead_won levels level most)) (λ _. omega arith))
 nearer_entry levels level place (E5 rival) value most =
     inl (either (λ x. points_of levels x false < 10 * (levels - level) + 6) (value == place + 1) _ _ (λ _. omega arith)
-    (λ _. omega (arith, (ahead_won levels level most).0)))
+    (λ _. omega (arith, ahead_won levels level most)))
 nearer_entry levels level place (E6 rival) value most =
     inl (either (λ x. points_of levels x false < 10 * (levels - level) + 5) (value == 0) _ _ (λ _. omega arith)
     (λ _. omega arith))
@@ -60,10 +56,10 @@ nearer_entry levels level place E8 value most =
     (value == 0) _ _ (λ _. inr (refl, refl)) (λ _. inl (omega arith))
 nearer_entry levels level place E9 value most =
     inl (either (λ x. points_of levels x false < 10 * (levels - level) + 2) (value == place + 1) _ _ (λ _. omega arith)
-    (λ _. omega (arith, (ahead_won levels level most).0)))
+    (λ _. omega (arith, ahead_won levels level most)))
 nearer_entry levels level place E10 value most =
     either (λ x. (points_of levels x false < 10 * (levels - level) + 1) ⊎ (IsTrue true × (x ≡ Entering level E10)))
-    (value == 2) _ _ (λ _. inl (omega (arith, (ahead_won levels level most).0))) (λ _. inr (refl, refl))
+    (value == 2) _ _ (λ _. inl (omega (arith, ahead_won levels level most))) (λ _. inr (refl, refl))
 
 -- a step on the way out comes nearer
 nearer_exit : (levels level place : ℕ) (point : ExitPoint) (value : ℕ)
@@ -71,8 +67,8 @@ nearer_exit : (levels level place : ℕ) (point : ExitPoint) (value : ℕ)
 nearer_exit levels level place X1 value = omega arith
 nearer_exit levels level place X2 value =
     either (λ x. points_of levels x false < 3 * (level - 1) + 2) (value == place + 1) _ _
-    (λ _. omega (arith, (ahead_after_exit levels level).0)) (λ _. omega arith)
-nearer_exit levels level place (X3 rival) value = omega (arith, (ahead_after_exit levels level).0)
+    (λ _. omega (arith, ahead_after_exit levels level)) (λ _. omega arith)
+nearer_exit levels level place (X3 rival) value = omega (arith, ahead_after_exit levels level)
 
 -- a step takes a process to a later point or level, but for a load that found a waiting process its own spin word
 -- unchanged
@@ -89,6 +85,66 @@ nearer levels place Inside false value some proper told = absurd told
 nearer levels place (Leaving level point) begun value some proper told =
     inl (nearer_exit levels level place point value)
 
+-- where a process that won a level, or left it, stands is further
+further_won : (levels level : ℕ) (point : EntryPoint) → 1 ≤ level
+    → ComesFurther levels (Entering level point) (after_entry levels level)
+further_won levels level point least =
+    either (ComesFurther levels (Entering level point)) (nat_lt level levels) _ _ (λ _. inl (omega (arith, least))) (λ _. tt)
+
+further_after_exit : (levels level : ℕ) (point : ExitPoint) → level ≤ levels
+    → ComesFurther levels (Leaving level point) (after_exit level)
+further_after_exit levels level point most =
+    either (ComesFurther levels (Leaving level point)) (nat_lt 1 level) _ _ (λ more. inl (grind (arith, nat_tests))) (λ _. tt)
+
+-- so a step on the way in comes further, or waits
+further_entry : (levels level place : ℕ) (point : EntryPoint) (value : ℕ) → 1 ≤ level
+    → ComesFurther levels (Entering level point) (entry_next levels level place point value)
+    ⊎ (IsTrue (is_waiting (Entering level point))
+    × (entry_next levels level place point value ≡ Entering level point))
+further_entry levels level place E1 value least = inl (inr (refl, omega arith))
+further_entry levels level place E2 value least = inl (inr (refl, omega arith))
+further_entry levels level place E3 value least = inl (inr (refl, omega arith))
+further_entry levels level place E4 value least =
+    inl (either (ComesFurther levels (Entering level E4)) (value == 0) _ _ (λ _. further_won levels level E4 least)
+    (λ _. inr (refl, omega arith)))
+further_entry levels level place (E5 rival) value least =
+    inl (either (ComesFurther levels (Entering level (E5 rival))) (value == place + 1) _ _ (λ _. inr (refl, omega arith))
+    (λ _. further_won levels level (E5 rival) least))
+further_entry levels level place (E6 rival) value least =
+    inl (either (ComesFurther levels (Entering level (E6 rival))) (value == 0) _ _ (λ _. inr (refl, omega arith))
+    (λ _. inr (refl, omega arith)))
+further_entry levels level place (E7 rival) value least = inl (inr (refl, omega arith))
+further_entry levels level place E8 value least =
+    either (λ x. ComesFurther levels (Entering level E8) x ⊎ (IsTrue true × (x ≡ Entering level E8))) (value == 0) _ _
+    (λ _. inr (refl, refl)) (λ _. inl (inr (refl, omega arith)))
+further_entry levels level place E9 value least =
+    inl (either (ComesFurther levels (Entering level E9)) (value == place + 1) _ _ (λ _. inr (refl, omega arith))
+    (λ _. further_won levels level E9 least))
+further_entry levels level place E10 value least =
+    either (λ x. ComesFurther levels (Entering level E10) x ⊎ (IsTrue true × (x ≡ Entering level E10))) (value == 2) _ _
+    (λ _. inl (further_won levels level E10 least)) (λ _. inr (refl, refl))
+
+-- and a step on the way out comes further
+further_exit : (levels level place : ℕ) (point : ExitPoint) (value : ℕ) → level ≤ levels
+    → ComesFurther levels (Leaving level point) (exit_next level place point value)
+further_exit levels level place X1 value most = inr (refl, omega arith)
+further_exit levels level place X2 value most =
+    either (ComesFurther levels (Leaving level X2)) (value == place + 1) _ _ (λ _. further_after_exit levels level X2 most)
+    (λ _. inr (refl, omega arith))
+further_exit levels level place (X3 rival) value most = further_after_exit levels level (X3 rival) most
+
+further : (levels place : ℕ) (x : Process) (begun : Bool) (value : ℕ) → IsProper levels place x
+    → MayBeTold (due_of levels place x begun) value
+    → ComesFurther levels x (next_of levels place x value) ⊎ (IsTrue (is_waiting x) × (next_of levels place x value ≡ x))
+further levels place Idle true value proper told = inl (inr (refl, omega arith))
+further levels place Idle false value proper told = absurd told
+further levels place (Entering level point) begun value proper told =
+    further_entry levels level place point value proper.least
+further levels place Inside true value proper told = inl (inr (omega arith, omega arith))
+further levels place Inside false value proper told = absurd told
+further levels place (Leaving level point) begun value proper told =
+    inl (further_exit levels level place point value proper.most)
+
 -- an access costs one at most, and one of an own word P nothing
 cost_at_most : (place : ℕ) (word : Word) → cost_of_word place word ≤ 1
 cost_at_most place (C level node side) = omega arith
@@ -98,98 +154,68 @@ cost_at_most place (P level owner) = grind (arith, nat_tests)
 cost_of_own : (level place : ℕ) → cost_of_word place (P level place) ≡ 0
 cost_of_own level place = grind (arith, nat_tests)
 
--- a step on the way in, or out, costs what the budget loses
-pub cheaper_entry : (levels level place : ℕ) (point : EntryPoint) (value : ℕ) → level ≤ levels
-    → cost_of place (entry_access level place point) + budget_of levels
-    (entry_next levels level place point value) false ≤ 7 * (levels - level) + entry_cost point
-cheaper_entry levels level place E1 value most = omega arith
-cheaper_entry levels level place E2 value most = omega arith
-cheaper_entry levels level place E3 value most = omega (arith, cost_of_own level place)
-cheaper_entry levels level place E4 value most =
-    either (λ x. 1 + budget_of levels x false ≤ 7 * (levels - level) + 5) (value == 0) _ _
-    (λ _. omega (arith, (ahead_won levels level most).1)) (λ _. omega arith)
-cheaper_entry levels level place (E5 rival) value most =
-    either (λ x. 1 + budget_of levels x false ≤ 7 * (levels - level) + 4) (value == place + 1) _ _ (λ _. omega arith)
-    (λ _. omega (arith, (ahead_won levels level most).1))
-cheaper_entry levels level place (E6 rival) value most =
-    either (λ x. cost_of_word place (P level rival) + budget_of levels x false ≤ 7 * (levels - level) + 3)
-    (value == 0) _ _ (λ _. omega (arith, cost_at_most place (P level rival)))
-    (λ _. omega (arith, cost_at_most place (P level rival)))
-cheaper_entry levels level place (E7 rival) value most = omega (arith, cost_at_most place (P level rival))
-cheaper_entry levels level place E8 value most =
-    either (λ x. cost_of_word place (P level place) + budget_of levels x false ≤ 7 * (levels - level) + 1)
-    (value == 0) _ _ (λ _. omega (arith, cost_of_own level place)) (λ _. omega (arith, cost_of_own level place))
-cheaper_entry levels level place E9 value most =
-    either (λ x. 1 + budget_of levels x false ≤ 7 * (levels - level) + 1) (value == place + 1) _ _ (λ _. omega arith)
-    (λ _. omega (arith, (ahead_won levels level most).1))
-cheaper_entry levels level place E10 value most =
-    either (λ x. cost_of_word place (P level place) + budget_of levels x false ≤ 7 * (levels - level) + 0)
-    (value == 2) _ _ (λ _. omega (arith, cost_of_own level place, (ahead_won levels level most).1))
+-- what a process that won a level has made at most
+most_won : (levels level : ℕ) → 1 ≤ level → level ≤ levels → 7 * (level - 1) + 7 ≤ most_of levels (after_entry levels level) false
+most_won levels level least most =
+    either (λ x. 7 * (level - 1) + 7 ≤ most_of levels x false) (nat_lt level levels) _ _ (λ _. omega (arith, least))
+    (λ _. omega (arith, least, most))
+
+-- and one that left it
+most_after_exit : (levels level : ℕ) → 1 ≤ level → level ≤ levels
+    → 7 * levels + 3 * (levels - level) + 3 ≤ most_of levels (after_exit level) false
+most_after_exit levels level least most =
+    either (λ x. 7 * levels + 3 * (levels - level) + 3 ≤ most_of levels x false) (nat_lt 1 level) _ _
+    (λ more. grind (arith, nat_tests)) (λ last. grind (arith, nat_tests))
+
+-- a step on the way in, or out, costs no more than the bound rises by
+pub rises_entry : (levels level place : ℕ) (point : EntryPoint) (value : ℕ) → 1 ≤ level → level ≤ levels
+    → cost_of place (entry_access level place point) + (7 * (level - 1) + (entry_behind point).1)
+    ≤ most_of levels (entry_next levels level place point value) false
+rises_entry levels level place E1 value least most = omega arith
+rises_entry levels level place E2 value least most = omega arith
+rises_entry levels level place E3 value least most = omega (arith, cost_of_own level place)
+rises_entry levels level place E4 value least most =
+    either (λ x. 1 + (7 * (level - 1) + 2) ≤ most_of levels x false) (value == 0) _ _
+    (λ _. omega (arith, most_won levels level least most)) (λ _. omega arith)
+rises_entry levels level place (E5 rival) value least most =
+    either (λ x. 1 + (7 * (level - 1) + 3) ≤ most_of levels x false) (value == place + 1) _ _ (λ _. omega arith)
+    (λ _. omega (arith, most_won levels level least most))
+rises_entry levels level place (E6 rival) value least most =
+    either (λ x. cost_of_word place (P level rival) + (7 * (level - 1) + 4) ≤ most_of levels x false) (value == 0) _ _
+    (λ _. omega (arith, cost_at_most place (P level rival))) (λ _. omega (arith, cost_at_most place (P level rival)))
+rises_entry levels level place (E7 rival) value least most = omega (arith, cost_at_most place (P level rival))
+rises_entry levels level place E8 value least most =
+    either (λ x. cost_of_word place (P level place) + (7 * (level - 1) + 6) ≤ most_of levels x false) (value == 0) _ _
+    (λ _. omega (arith, cost_of_own level place)) (λ _. omega (arith, cost_of_own level place))
+rises_entry levels level place E9 value least most =
+    either (λ x. 1 + (7 * (level - 1) + 6) ≤ most_of levels x false) (value == place + 1) _ _ (λ _. omega arith)
+    (λ _. omega (arith, most_won levels level least most))
+rises_entry levels level place E10 value least most =
+    either (λ x. cost_of_word place (P level place) + (7 * (level - 1) + 7) ≤ most_of levels x false) (value == 2) _ _
+    (λ _. omega (arith, cost_of_own level place, most_won levels level least most))
     (λ _. omega (arith, cost_of_own level place))
 
-pub cheaper_exit : (levels level place : ℕ) (point : ExitPoint) (value : ℕ)
-    → cost_of place (exit_access level place point) + budget_of levels
-    (exit_next level place point value) false ≤ 3 * (level - 1) + exit_points point
-cheaper_exit levels level place X1 value = omega arith
-cheaper_exit levels level place X2 value =
-    either (λ x. 1 + budget_of levels x false ≤ 3 * (level - 1) + 2) (value == place + 1) _ _
-    (λ _. omega (arith, (ahead_after_exit levels level).1)) (λ _. omega arith)
-cheaper_exit levels level place (X3 rival) value =
-    omega (arith, (ahead_after_exit levels level).1, cost_at_most place (P level rival))
+pub rises_exit : (levels level place : ℕ) (point : ExitPoint) (value : ℕ) → 1 ≤ level → level ≤ levels
+    → cost_of place (exit_access level place point) + (7 * levels + 3 * (levels - level) + exit_behind point)
+    ≤ most_of levels (exit_next level place point value) false
+rises_exit levels level place X1 value least most = omega arith
+rises_exit levels level place X2 value least most =
+    either (λ x. 1 + (7 * levels + 3 * (levels - level) + 1) ≤ most_of levels x false) (value == place + 1) _ _
+    (λ _. omega (arith, most_after_exit levels level least most)) (λ _. omega arith)
+rises_exit levels level place (X3 rival) value least most =
+    omega (arith, most_after_exit levels level least most, cost_at_most place (P level rival))
 
-cheaper : (levels place : ℕ) (x : Process) (begun : Bool) (value : ℕ) → 1 ≤ levels → IsProper levels place x
+rises : (levels place : ℕ) (x : Process) (begun : Bool) (value : ℕ) → IsProper levels place x
     → MayBeTold (due_of levels place x begun) value
-    → cost_of place (access_of levels place x) + budget_of levels
-    (next_of levels place x value) false ≤ budget_of levels x begun
-cheaper levels place Idle true value some proper told = omega arith
-cheaper levels place Idle false value some proper told = absurd told
-cheaper levels place (Entering level point) begun value some proper told =
-    cheaper_entry levels level place point value proper.most
-cheaper levels place Inside true value some proper told = omega arith
-cheaper levels place Inside false value some proper told = absurd told
-cheaper levels place (Leaving level point) begun value some proper told = cheaper_exit levels level place point value
-
--- the count is kept where what was spent and what can still be spent are at most seven a level
-counted_in : (levels remote : ℕ) (x : Process) → remote + budget_of levels x false ≤ 7 * levels
-    → CountIsKept levels remote x false
-counted_in levels remote Idle most = omega arith
-counted_in levels remote (Entering level point) most = most
-counted_in levels remote Inside most = omega arith
-counted_in levels remote (Leaving level point) most = omega arith
-
--- on the way out, where they are at most ten a level
-counted_after_exit : (levels level remote : ℕ) → remote + 3 * (level - 1) ≤ 10 * levels
-    → CountIsKept levels remote (after_exit level) false
-counted_after_exit levels level remote most =
-    either (λ x. CountIsKept levels remote x false) (nat_lt 1 level) _ _ (λ more. grind (arith, nat_tests))
-    (λ _. omega arith)
-
-counted_exit : (levels level place remote : ℕ) (point : ExitPoint) (value : ℕ)
-    → remote + (3 * (level - 1) + exit_points point) ≤ 10 * levels
-    → CountIsKept levels (remote + cost_of place (exit_access level place point))
-    (exit_next level place point value) false
-counted_exit levels level place remote X1 value most = omega arith
-counted_exit levels level place remote X2 value most =
-    either (λ x. CountIsKept levels (remote + 1) x false) (value == place + 1) _ _
-    (λ _. counted_after_exit levels level (remote + 1) (omega arith)) (λ _. omega arith)
-counted_exit levels level place remote (X3 rival) value most =
-    let cost = cost_of_word place (P level rival) in
-    counted_after_exit levels level (remote + cost) (omega (arith, cost_at_most place (P level rival)))
-
--- the count of a process after its access
-counted_next : (levels place remote : ℕ) (x : Process) (begun : Bool) (value : ℕ) → 1 ≤ levels → IsProper levels place x
-    → MayBeTold (due_of levels place x begun) value → CountIsKept levels remote x begun
-    → CountIsKept levels (remote + cost_of place (access_of levels place x)) (next_of levels place x value) false
-counted_next levels place remote Idle true value some proper told counted = omega arith
-counted_next levels place remote Idle false value some proper told counted = absurd told
-counted_next levels place remote (Entering level point) begun value some proper told counted =
-    counted_in levels (remote + cost_of place (entry_access level place point))
-    (entry_next levels level place point value)
-    (omega (arith, cheaper_entry levels level place point value proper.most))
-counted_next levels place remote Inside true value some proper told counted = omega arith
-counted_next levels place remote Inside false value some proper told counted = absurd told
-counted_next levels place remote (Leaving level point) begun value some proper told counted =
-    counted_exit levels level place remote point value counted
+    → cost_of place (access_of levels place x) + most_of levels x begun ≤ most_of levels (next_of levels place x value) false
+rises levels place Idle true value proper told = omega arith
+rises levels place Idle false value proper told = absurd told
+rises levels place (Entering level point) begun value proper told =
+    rises_entry levels level place point value proper.least proper.most
+rises levels place Inside true value proper told = omega arith
+rises levels place Inside false value proper told = absurd told
+rises levels place (Leaving level point) begun value proper told =
+    rises_exit levels level place point value proper.least proper.most
 
 -- what is told of the access that is due may be found by it
 found_of : (levels place : ℕ) (x : Process) (begun : Bool) (value : ℕ) → MayBeTold (due_of levels place x begun) value
@@ -201,7 +227,7 @@ found_of levels place x begun value told = by_due (due_of levels place x begun) 
     by_due None is told = absurd told
     by_due (Some a) is told = subst (λ b. MayFind b value) (sym (due_is levels place x begun a is)) told
 
--- a walk that is told a value stays a walk, moves on, and spends what its budget loses
+-- a walk that is told a value stays a walk, and comes further and nearer; its count rises by no more than its bound
 pub goes_on : (w : Walk) (value : ℕ) → IsWalk w → MayBeTold (due w) value → IsWalk (walk_after w value)
 goes_on w value is told =
     record {
@@ -210,15 +236,23 @@ goes_on w value is told =
       in_tree = is.in_tree;
       proper = proper_next w.levels w.place w.process value is.least is.in_tree is.proper
           (found_of w.levels w.place w.process w.begun value told);
-      counted = counted_next w.levels w.place w.remote w.process w.begun value is.least is.proper told is.counted;
+      counted = omega (arith, is.counted, rises w.levels w.place w.process w.begun value is.proper told);
     }
 
-pub moves_on : (w : Walk) (value : ℕ) → IsWalk w → MayBeTold (due w) value → MovesOn w (walk_after w value)
-moves_on w value is told = nearer w.levels w.place w.process w.begun value is.least is.proper told
+moves_on : (w : Walk) (value : ℕ) → IsWalk w → MayBeTold (due w) value → MovesOn w (walk_after w value)
+moves_on w value is told = further w.levels w.place w.process w.begun value is.proper told
 
-pub spends : (w : Walk) (value : ℕ) → IsWalk w → MayBeTold (due w) value
-    → (walk_after w value).remote + budget (walk_after w value) ≤ w.remote + budget w
-spends w value is told = omega (arith, cheaper w.levels w.place w.process w.begun value is.least is.proper told)
+pub told_nearer : (w new : Walk) (value : ℕ) → IsWalk w → MayBeTold (due w) value → new ≡ walk_after w value
+    → ComesNearer w new
+told_nearer w new value is told goes =
+    subst (λ (v : Walk). ComesNearer w v) (sym goes)
+    (nearer w.levels w.place w.process w.begun value is.least is.proper told)
+
+pub told_counted : (w new : Walk) (value : ℕ) → IsWalk w → MayBeTold (due w) value → new ≡ walk_after w value
+    → new.remote + most_remote w ≤ w.remote + most_remote new
+told_counted w new value is told goes =
+    subst (λ (v : Walk). v.remote + most_remote w ≤ w.remote + most_remote v) (sym goes)
+    (omega (arith, rises w.levels w.place w.process w.begun value is.proper told))
 
 -- so the walk that a walker shows goes on to the one with the process and the cost that it comes to
 pub told_on : {w shown : Walk} (value : ℕ) (process : Process) (cost : ℕ)
@@ -226,11 +260,9 @@ pub told_on : {w shown : Walk} (value : ℕ) (process : Process) (cost : ℕ)
     → cost ≡ cost_of w.place (access_of w.levels w.place w.process) → w ≡ shown → IsWalk w → MayBeTold (due shown) value
     → IsWalk (walk w.levels w.place process false (w.remote + cost))
     × MovesOn shown (walk w.levels w.place process false (w.remote + cost))
-    × (w.remote + cost + budget_of w.levels process false ≤ shown.remote + budget shown)
 told_on {w} value process cost goes costs same walks told =
-    subst (λ (v : Walk). IsWalk after × MovesOn v after × (after.remote + budget after ≤ v.remote + budget v)) same
-    (subst (λ (u : Walk). IsWalk u × MovesOn w u × (u.remote + budget u ≤ w.remote + budget w)) (sym is)
-    (goes_on w value walks here, moves_on w value walks here, spends w value walks here))
+    subst (λ (v : Walk). IsWalk after × MovesOn v after) same
+    (subst (λ (u : Walk). IsWalk u × MovesOn w u) (sym is) (goes_on w value walks here, moves_on w value walks here))
   where
     after : Walk
     after = walk w.levels w.place process false (w.remote + cost)
@@ -250,14 +282,3 @@ due_within w is = by_due (due w) refl
     by_due (Some a) is_due =
         subst (AccessIsWithin w.levels) (due_is w.levels w.place w.process w.begun a is_due)
         (within_access w.levels w.place w.process is.least is.in_tree is.proper)
-
--- along any way what was spent and what can still be spent don't rise
-pub spends_along : (w v : Walk) (values : List ℕ) → IsWalk w → WalkLeadsTo w values v
-    → v.remote + budget v ≤ w.remote + budget w
-spends_along w v [] is goes = omega (arith, ap (λ (u : Walk). u.remote + budget u) goes)
-spends_along w v (value ∷ values) is goes =
-    omega (
-      arith,
-      spends w value is goes.0,
-      spends_along (walk_after w value) v values (goes_on w value is goes.0) goes.1,
-    )

@@ -7,7 +7,7 @@ use Rattle.ya_core.specs.declared.process.ExitPoint.TheVariants.{X1, X2, X3}
 use Rattle.ya_core.specs.declared.process.Process.{Process}
 use Rattle.ya_core.specs.declared.process.Process.TheVariants.{Idle, Entering, Inside, Leaving}
 use Rattle.ya_core.specs.Steps.{next_of, entry_next, after_entry, after_exit}
-use Rattle.ya_core.specs.WalkerModel.{points_of, entry_points}
+use Rattle.ya_core.specs.inside.Ahead.{points_of, entry_points}
 use Rattle.ya_core.specs.Fairness.{is_on_way_out}
 use Rattle.ya_core.proofs.Properness.{either}
 

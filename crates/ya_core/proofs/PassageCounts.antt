@@ -1,119 +1,148 @@
--- In a run a passage makes no more remote accesses than the points that it has ahead can cost.
+-- In a run a passage makes no more remote accesses than the points that it has come past can cost, and so does a walk.
 use Rattle.std.proofs.Common.{◌≡◌, ◌≢◌, ℕ, zero, suc, ◌+◌, ◌-◌, ◌*◌, ◌<◌, ◌≤◌, ◌==◌, Bool, true, false, nat_lt, refl, arith}
-use Rattle.std.proofs.Common.{ap, sym, ◌∙◌, subst, inl, inr, if◌then◌else◌}
+use Rattle.std.proofs.Common.{ap, sym, ◌∙◌, subst, if◌then◌else◌, IsTrue, List, [], ◌∷◌}
 use Rattle.std.proofs.lemmas.Bool.Decides.{nat_tests}
 use Rattle.std.specs.Prelude.{Option, Some, None}
 use Rattle.ya_core.specs.declared.process.EntryPoint.{EntryPoint}
 use Rattle.ya_core.specs.declared.process.EntryPoint.TheVariants.{E1, E2, E3, E4, E5, E6, E7, E8, E9, E10}
+use Rattle.ya_core.specs.declared.process.ExitPoint.{ExitPoint}
+use Rattle.ya_core.specs.declared.process.ExitPoint.TheVariants.{X1, X2, X3}
 use Rattle.ya_core.specs.declared.process.Process.{Process}
 use Rattle.ya_core.specs.declared.process.Process.TheVariants.{Idle, Entering, Inside, Leaving}
-use Rattle.ya_core.specs.Steps.{State, StepsTo, access_of, next_of, value_of, entry_access, exit_access, entry_next, exit_next, after_entry}
-use Rattle.ya_core.specs.WalkerModel.{cost_of, budget_of, entry_cost, exit_points}
+use Rattle.ya_core.specs.Steps.{State, StepsTo, access_of, next_of, value_of, entry_access, exit_access, entry_next, exit_next, after_entry, after_exit}
+use Rattle.ya_core.specs.Soundness.{IsProper}
+use Rattle.ya_core.specs.WalkerModel.{cost_of, entry_behind, exit_behind, most_of, most_remote, due_of, MayBeTold}
+use Rattle.ya_core.specs.WalkerModel.{Walk, IsWalk, walk_after, WalkLeadsTo, BeginsEntry, BeginsExit}
 use Rattle.ya_core.specs.Fairness.{PickLeadsTo, IsRunOfSchedule}
 use Rattle.ya_core.specs.PassageCounts.{cost_of_pick, remote_accesses}
 use Rattle.ya_core.specs.Worlds.{IsInside, is_inside}
 use Rattle.ya_core.proofs.Invariant.{is_inside_is}
 use Rattle.ya_core.proofs.Properness.{either}
-use Rattle.ya_core.proofs.Counting.{cheaper_entry, cheaper_exit}
-use Rattle.ya_core.proofs.NextPoints.{Outward, outward}
+use Rattle.ya_core.proofs.Cases.{each_point}
+use Rattle.ya_core.proofs.Counting.{rises_entry, rises_exit, goes_on, told_counted}
 
 -- a process on its way in stands at a level of the tree, or it is inside
 abbrev GoesIn : ℕ → Process → Type 0
-GoesIn levels (Entering level point) = level ≤ levels
+GoesIn levels (Entering level point) = (1 ≤ level) × (level ≤ levels)
 GoesIn levels Inside = Unit {0}
 GoesIn levels _ = ⊥
 
 won_goes_in : (levels level : ℕ) → GoesIn levels (after_entry levels level)
 won_goes_in levels level =
-    either (GoesIn levels) (nat_lt level levels) _ _ (λ less. grind (arith, nat_tests)) (λ _. tt)
+    either (GoesIn levels) (nat_lt level levels) _ _ (λ less. (omega arith, grind (arith, nat_tests))) (λ _. tt)
 
-next_goes_in : (levels level place : ℕ) (point : EntryPoint) (value : ℕ) → level ≤ levels
+next_goes_in : (levels level place : ℕ) (point : EntryPoint) (value : ℕ) → (1 ≤ level) × (level ≤ levels)
     → GoesIn levels (entry_next levels level place point value)
-next_goes_in levels level place E1 value most = most
-next_goes_in levels level place E2 value most = most
-next_goes_in levels level place E3 value most = most
-next_goes_in levels level place E4 value most =
-    either (GoesIn levels) (value == 0) _ _ (λ _. won_goes_in levels level) (λ _. most)
-next_goes_in levels level place (E5 rival) value most =
-    either (GoesIn levels) (value == place + 1) _ _ (λ _. most) (λ _. won_goes_in levels level)
-next_goes_in levels level place (E6 rival) value most =
-    either (GoesIn levels) (value == 0) _ _ (λ _. most) (λ _. most)
-next_goes_in levels level place (E7 rival) value most = most
-next_goes_in levels level place E8 value most =
-    either (GoesIn levels) (value == 0) _ _ (λ _. most) (λ _. most)
-next_goes_in levels level place E9 value most =
-    either (GoesIn levels) (value == place + 1) _ _ (λ _. most) (λ _. won_goes_in levels level)
-next_goes_in levels level place E10 value most =
-    either (GoesIn levels) (value == 2) _ _ (λ _. won_goes_in levels level) (λ _. most)
+next_goes_in levels level place E1 value here = here
+next_goes_in levels level place E2 value here = here
+next_goes_in levels level place E3 value here = here
+next_goes_in levels level place E4 value here =
+    either (GoesIn levels) (value == 0) _ _ (λ _. won_goes_in levels level) (λ _. here)
+next_goes_in levels level place (E5 rival) value here =
+    either (GoesIn levels) (value == place + 1) _ _ (λ _. here) (λ _. won_goes_in levels level)
+next_goes_in levels level place (E6 rival) value here =
+    either (GoesIn levels) (value == 0) _ _ (λ _. here) (λ _. here)
+next_goes_in levels level place (E7 rival) value here = here
+next_goes_in levels level place E8 value here =
+    either (GoesIn levels) (value == 0) _ _ (λ _. here) (λ _. here)
+next_goes_in levels level place E9 value here =
+    either (GoesIn levels) (value == place + 1) _ _ (λ _. here) (λ _. won_goes_in levels level)
+next_goes_in levels level place E10 value here =
+    either (GoesIn levels) (value == 2) _ _ (λ _. won_goes_in levels level) (λ _. here)
 
--- on the way in: what a process made and what it can still make are at most seven a level
+-- at a level it has made seven at most
+few_behind : (point : EntryPoint) → (entry_behind point).1 ≤ 7
+few_behind =
+    each_point (λ point. (entry_behind point).1 ≤ 7) (omega arith) (omega arith) (omega arith) (omega arith)
+    (λ rival. omega arith) (λ rival. omega arith) (λ rival. omega arith) (omega arith) (omega arith) (omega arith)
+
+most_in : (levels : ℕ) (x : Process) → GoesIn levels x → most_of levels x false ≤ 7 * levels
+most_in levels Idle goes = absurd goes
+most_in levels (Entering level point) goes = omega (arith, few_behind point, goes.0, goes.1)
+most_in levels Inside goes = omega arith
+most_in levels (Leaving level point) goes = absurd goes
+
+-- on the way in a process has made no more than the bound where it stands
 abbrev CountedIn : ℕ → ℕ → Process → Type 0
 CountedIn levels made Idle = made ≡ 0
-CountedIn levels made (Entering level point) =
-    (level ≤ levels) × (made + (7 * (levels - level) + entry_cost point) ≤ 7 * levels)
-CountedIn levels made Inside = made ≤ 7 * levels
-CountedIn levels made (Leaving level point) = ⊥
+CountedIn levels made x = GoesIn levels x × (made ≤ most_of levels x false)
 
-counted_in : (levels made : ℕ) (x : Process) → GoesIn levels x → made + budget_of levels x false ≤ 7 * levels
-    → CountedIn levels made x
+counted_in : (levels made : ℕ) (x : Process) → GoesIn levels x → made ≤ most_of levels x false → CountedIn levels made x
 counted_in levels made Idle goes most = absurd goes
 counted_in levels made (Entering level point) goes most = (goes, most)
-counted_in levels made Inside goes most = omega (arith, most)
+counted_in levels made Inside goes most = (goes, most)
 counted_in levels made (Leaving level point) goes most = absurd goes
 
 step_in : (levels place made : ℕ) (x : Process) (value : ℕ) → 1 ≤ levels → (x ≡ Inside → ⊥) → CountedIn levels made x
     → CountedIn levels (made + cost_of place (access_of levels place x)) (next_of levels place x value)
-step_in levels place made Idle value some out counted = (some, omega (arith, some, counted))
+step_in levels place made Idle value some out counted = ((omega arith, some), omega (arith, counted))
 step_in levels place made (Entering level point) value some out counted =
     counted_in levels (made + cost_of place (entry_access level place point))
     (entry_next levels level place point value) (next_goes_in levels level place point value counted.0)
-    (omega (arith, cheaper_entry levels level place point value counted.0, counted.1))
+    (omega (arith, rises_entry levels level place point value counted.0.0 counted.0.1, counted.1))
 step_in levels place made Inside value some out counted = absurd (out refl)
-step_in levels place made (Leaving level point) value some out counted = absurd counted
+step_in levels place made (Leaving level point) value some out counted = absurd counted.0
 
 few_in : (levels made : ℕ) (x : Process) → CountedIn levels made x → made ≤ 7 * levels
 few_in levels made Idle counted = omega (arith, counted)
-few_in levels made (Entering level point) counted = omega (arith, counted.1)
-few_in levels made Inside counted = counted
-few_in levels made (Leaving level point) counted = absurd counted
+few_in levels made (Entering level point) counted =
+    omega (arith, counted.1, most_in levels (Entering level point) counted.0)
+few_in levels made Inside counted = counted.1
+few_in levels made (Leaving level point) counted = absurd counted.0
 
--- on the way out: at most three a level
+-- a process on its way out stands at a level of the tree, or it is idle
+abbrev GoesOut : ℕ → Process → Type 0
+GoesOut levels (Leaving level point) = (1 ≤ level) × (level ≤ levels)
+GoesOut levels Idle = Unit {0}
+GoesOut levels _ = ⊥
+
+left_goes_out : (levels level : ℕ) → level ≤ levels → GoesOut levels (after_exit level)
+left_goes_out levels level most =
+    either (GoesOut levels) (nat_lt 1 level) _ _ (λ more. (grind (arith, nat_tests), omega (arith, most))) (λ _. tt)
+
+next_goes_out : (levels level place : ℕ) (point : ExitPoint) (value : ℕ) → (1 ≤ level) × (level ≤ levels)
+    → GoesOut levels (exit_next level place point value)
+next_goes_out levels level place X1 value here = here
+next_goes_out levels level place X2 value here =
+    either (GoesOut levels) (value == place + 1) _ _ (λ _. left_goes_out levels level here.1) (λ _. here)
+next_goes_out levels level place (X3 rival) value here = left_goes_out levels level here.1
+
+most_out : (levels : ℕ) (x : Process) → GoesOut levels x → most_of levels x false ≤ 10 * levels
+most_out levels Idle goes = omega arith
+most_out levels (Entering level point) goes = absurd goes
+most_out levels Inside goes = absurd goes
+most_out levels (Leaving level X1) goes = omega (arith, goes.0, goes.1)
+most_out levels (Leaving level X2) goes = omega (arith, goes.0, goes.1)
+most_out levels (Leaving level (X3 rival)) goes = omega (arith, goes.0, goes.1)
+
+-- on the way out it has made no more than the bound has risen by since it was inside
 abbrev CountedOut : ℕ → ℕ → Process → Type 0
-CountedOut levels made Idle = made ≤ 3 * levels
-CountedOut levels made (Entering level point) = ⊥
 CountedOut levels made Inside = made ≡ 0
-CountedOut levels made (Leaving level point) = made + (3 * (level - 1) + exit_points point) ≤ 3 * levels
+CountedOut levels made x = GoesOut levels x × (made + 7 * levels ≤ most_of levels x false)
 
-counted_out : (levels made : ℕ) (x : Process) → Outward x → made + budget_of levels x false ≤ 3 * levels
+counted_out : (levels made : ℕ) (x : Process) → GoesOut levels x → made + 7 * levels ≤ most_of levels x false
     → CountedOut levels made x
-counted_out levels made Idle goes most = omega (arith, most)
-counted_out levels made (Leaving level point) goes most = most
-counted_out levels made (Entering level point) goes most = absurd (not_out goes)
-  where
-    not_out : Outward (Entering level point) → ⊥
-    not_out (inl same) = cc
-    not_out (inr out) = cc
-counted_out levels made Inside goes most = absurd (not_out goes)
-  where
-    not_out : Outward Inside → ⊥
-    not_out (inl same) = cc
-    not_out (inr out) = cc
+counted_out levels made Idle goes most = (goes, most)
+counted_out levels made (Entering level point) goes most = absurd goes
+counted_out levels made Inside goes most = absurd goes
+counted_out levels made (Leaving level point) goes most = (goes, most)
 
 step_out : (levels place made : ℕ) (x : Process) (value : ℕ) → 1 ≤ levels → (x ≡ Idle → ⊥) → CountedOut levels made x
     → CountedOut levels (made + cost_of place (access_of levels place x)) (next_of levels place x value)
 step_out levels place made Idle value some busy counted = absurd (busy refl)
-step_out levels place made (Entering level point) value some busy counted = absurd counted
-step_out levels place made Inside value some busy counted = omega (arith, some, counted)
+step_out levels place made (Entering level point) value some busy counted = absurd counted.0
+step_out levels place made Inside value some busy counted = ((some, omega arith), omega (arith, counted))
 step_out levels place made (Leaving level point) value some busy counted =
     counted_out levels (made + cost_of place (exit_access level place point)) (exit_next level place point value)
-    (outward levels place (Leaving level point) value refl)
-    (omega (arith, cheaper_exit levels level place point value, counted))
+    (next_goes_out levels level place point value counted.0)
+    (omega (arith, rises_exit levels level place point value counted.0.0 counted.0.1, counted.1))
 
 few_out : (levels made : ℕ) (x : Process) → CountedOut levels made x → made ≤ 3 * levels
-few_out levels made Idle counted = counted
-few_out levels made (Entering level point) counted = absurd counted
+few_out levels made Idle counted = omega (arith, counted.1)
+few_out levels made (Entering level point) counted = absurd counted.0
 few_out levels made Inside counted = omega (arith, counted)
-few_out levels made (Leaving level point) counted = omega (arith, counted)
+few_out levels made (Leaving level point) counted =
+    omega (arith, counted.1, most_out levels (Leaving level point) counted.0)
 
 -- what each step of a place keeps along with its count is kept by a run until the place stands where it is to stop
 module _ (levels place : ℕ) (Kept : ℕ → Process → Type 0) (Stop : Process → Type 0)
@@ -173,3 +202,80 @@ out_few levels place end schedule first states some run inside on =
     (λ made x value busy counted. step_out levels place made x value some busy counted) schedule states run.picks
     (subst (CountedOut levels 0)
     (sym (ap (λ (s : State). s.processes place) run.start ∙ is_inside_is (first.processes place) inside)) refl) end on)
+
+-- a walk stays one of its tree along its way, and its count rises by no more than its bound
+pub along_way : (w v : Walk) (values : List ℕ) → IsWalk w → WalkLeadsTo w values v
+    → IsWalk v × (v.levels ≡ w.levels) × (v.remote + most_remote w ≤ w.remote + most_remote v)
+along_way w v [] is goes = (
+  subst IsWalk (sym goes) is,
+  ap (λ (u : Walk). u.levels) goes,
+  subst (λ (u : Walk). u.remote + most_remote w ≤ w.remote + most_remote u) (sym goes) (omega arith),
+)
+along_way w v (value ∷ values) is goes =
+    let next = walk_after w value in
+    let rest = along_way next v values (goes_on w value is goes.0) goes.1 in
+    (rest.0, rest.1, omega (arith, rest.2, told_counted w next value is goes.0 refl))
+
+-- one that is told to enter is on its way in until it is inside
+abbrev StaysIn : ℕ → Process → Bool → Type 0
+StaysIn levels Idle begun = IsTrue begun
+StaysIn levels Inside begun = begun ≡ false
+StaysIn levels x begun = GoesIn levels x
+
+stays_in : (levels : ℕ) (x : Process) → GoesIn levels x → StaysIn levels x false
+stays_in levels Idle goes = absurd goes
+stays_in levels (Entering level point) goes = goes
+stays_in levels Inside goes = refl
+stays_in levels (Leaving level point) goes = absurd goes
+
+in_next : (levels place : ℕ) (x : Process) (begun : Bool) (value : ℕ) → 1 ≤ levels → StaysIn levels x begun
+    → MayBeTold (due_of levels place x begun) value → StaysIn levels (next_of levels place x value) false
+in_next levels place Idle true value some stays told = (omega arith, some)
+in_next levels place Idle false value some stays told = absurd told
+in_next levels place (Entering level point) begun value some stays told =
+    stays_in levels (entry_next levels level place point value) (next_goes_in levels level place point value stays)
+in_next levels place Inside true value some stays told = absurd cc
+in_next levels place Inside false value some stays told = absurd told
+in_next levels place (Leaving level point) begun value some stays told = absurd stays
+
+in_along : (w v : Walk) (values : List ℕ) → IsWalk w → StaysIn w.levels w.process w.begun → WalkLeadsTo w values v
+    → StaysIn v.levels v.process v.begun
+in_along w v [] is stays goes = subst (λ (u : Walk). StaysIn u.levels u.process u.begun) (sym goes) stays
+in_along w v (value ∷ values) is stays goes =
+    in_along (walk_after w value) v values (goes_on w value is goes.0)
+    (in_next w.levels w.place w.process w.begun value is.least stays goes.0) goes.1
+
+few_stay : (levels : ℕ) (x : Process) (begun : Bool) → StaysIn levels x begun → most_of levels x begun ≤ 7 * levels
+few_stay levels Idle true stays = omega arith
+few_stay levels Idle false stays = absurd cc
+few_stay levels (Entering level point) begun stays = most_in levels (Entering level point) stays
+few_stay levels Inside begun stays = omega arith
+few_stay levels (Leaving level point) begun stays = absurd stays
+
+few_ever : (levels place : ℕ) (x : Process) (begun : Bool) → IsProper levels place x → most_of levels x begun ≤ 10 * levels
+few_ever levels place Idle true proper = omega arith
+few_ever levels place Idle false proper = omega arith
+few_ever levels place (Entering level point) begun proper =
+    omega (arith, most_in levels (Entering level point) (proper.least, proper.most))
+few_ever levels place Inside begun proper = omega arith
+few_ever levels place (Leaving level point) begun proper =
+    most_out levels (Leaving level point) (proper.least, proper.most)
+
+-- so it makes at most seven a level on its way in, and three on its way out
+pub walk_in_few : (start end : Walk) (values : List ℕ) → IsWalk start → BeginsEntry start → WalkLeadsTo start values end
+    → end.remote ≤ 7 * start.levels
+walk_in_few start end values is enters goes =
+    let along = along_way start end values is goes in
+    let begins : StaysIn start.levels start.process start.begun =
+    subst (λ (x : Process). StaysIn start.levels x start.begun) (sym enters.process) enters.begun in
+    let few = few_stay end.levels end.process end.begun (in_along start end values is begins goes) in
+    omega (arith, along.0.counted, along.1, few)
+
+pub walk_out_few : (start end : Walk) (values : List ℕ) → IsWalk start → BeginsExit start → WalkLeadsTo start values end
+    → end.remote ≤ start.remote + 3 * start.levels
+walk_out_few start end values is leaves goes =
+    let along = along_way start end values is goes in
+    let inside : most_remote start ≡ 7 * start.levels =
+    ap (λ (x : Process). most_of start.levels x start.begun) leaves.process in
+    let few = few_ever end.levels end.place end.process end.begun along.0.proper in
+    omega (arith, along.1, along.2, inside, few)

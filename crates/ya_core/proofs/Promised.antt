@@ -8,6 +8,8 @@ pub use Rattle.ya_core.proofs.NamedWords.{is_word_true, word_is}
 -- the access that is due where a walker asks for a load or a store, and its word is one of the tree
 pub use Rattle.ya_core.proofs.DueAccess.{load_due, store_due}
 pub use Rattle.ya_core.proofs.Properness.{within_access}
+-- a walk that is told a value comes nearer, unless it waits, and its count rises by no more than its bound
+pub use Rattle.ya_core.proofs.Counting.{told_nearer, told_counted}
 -- the invariant holds at the start, each step keeps it, a load finds what can stand in its word, a process that is
 -- inside is at one point, and two places that are inside are one
 pub use Rattle.ya_core.proofs.Invariant.{opens, keeps, finds, is_inside_is, excludes}

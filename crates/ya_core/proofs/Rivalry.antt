@@ -14,7 +14,8 @@ use Rattle.ya_core.specs.ArbitrationTree.{node_of, side_of, AreRivals}
 use Rattle.ya_core.specs.Steps.{State, StepsTo, Accesses, value_of, access_of, next_of, after_entry}
 use Rattle.ya_core.specs.Soundness.{Phase, claims, has_announced, waits, holds, awaits_release, saw_itself_last, is_to_wake}
 use Rattle.ya_core.specs.Soundness.{wakes_next, phase_of, entry_phase, IsProper, IsSoundState, SomeRival}
-use Rattle.ya_core.specs.WalkerModel.{points_of, is_waiting, MayFind, due_of, MayBeTold}
+use Rattle.ya_core.specs.WalkerModel.{is_waiting, MayFind, due_of, MayBeTold}
+use Rattle.ya_core.specs.inside.Ahead.{points_of}
 use Rattle.ya_core.proofs.TreeSides.{side_below}
 use Rattle.ya_core.proofs.PhaseKinds.{by_phases, competes}
 use Rattle.ya_core.proofs.LevelClauses.{one_a_side}

@@ -11,7 +11,7 @@ use Rattle.ya_core.specs.declared.process.Process.TheVariants.{Idle, Entering, I
 use Rattle.ya_core.specs.ArbitrationTree.{AreRivals}
 use Rattle.ya_core.specs.Steps.{State, value_of, access_of, next_of, entry_next}
 use Rattle.ya_core.specs.Soundness.{phase_of, entry_phase, IsProper, IsSoundState}
-use Rattle.ya_core.specs.WalkerModel.{points_of}
+use Rattle.ya_core.specs.inside.Ahead.{points_of}
 use Rattle.ya_core.specs.Fairness.{PickLeadsTo, Eventually, is_on_way_in, is_on_way_out}
 use Rattle.ya_core.proofs.PhaseKinds.{competes}
 use Rattle.ya_core.proofs.Phases.{competes_at}

@@ -102,54 +102,36 @@ op_of_due levels process (Some access) = op_of_access levels access
 abbrev pub op_of : Walk → Op
 op_of w = op_of_due w.levels w.process (due w)
 
--- what is still ahead at each point of the way in at a level, this one included: points, and remote accesses at most
-abbrev pub entry_ahead : EntryPoint → ℕ × ℕ
-entry_ahead E1 = (10, 7)
-entry_ahead E2 = (9, 6)
-entry_ahead E3 = (8, 5)
-entry_ahead E4 = (7, 5)
-entry_ahead (E5 rival) = (6, 4)
-entry_ahead (E6 rival) = (5, 3)
-entry_ahead (E7 rival) = (4, 2)
-entry_ahead E8 = (3, 1)
-entry_ahead E9 = (2, 1)
-entry_ahead E10 = (1, 0)
+-- what lies behind each point of the way in at a level: points, and remote accesses at most
+abbrev pub entry_behind : EntryPoint → ℕ × ℕ
+entry_behind E1 = (0, 0)
+entry_behind E2 = (1, 1)
+entry_behind E3 = (2, 2)
+entry_behind E4 = (3, 2)
+entry_behind (E5 rival) = (4, 3)
+entry_behind (E6 rival) = (5, 4)
+entry_behind (E7 rival) = (6, 5)
+entry_behind E8 = (7, 6)
+entry_behind E9 = (8, 6)
+entry_behind E10 = (9, 7)
 
--- how many points are ahead there
-abbrev pub entry_points : EntryPoint → ℕ
-entry_points point = (entry_ahead point).0
+-- and of the way out, where each point is one remote access
+abbrev pub exit_behind : ExitPoint → ℕ
+exit_behind X1 = 0
+exit_behind X2 = 1
+exit_behind (X3 rival) = 2
 
--- how many remote accesses the level can still cost
-abbrev pub entry_cost : EntryPoint → ℕ
-entry_cost point = (entry_ahead point).1
+-- how many remote accesses a passage has made at most where its process stands: seven a level on the way in, three on the
+-- way out
+abbrev pub most_of : ℕ → Process → Bool → ℕ
+most_of levels Idle begun = if begun then 0 else 10 * levels
+most_of levels (Entering level point) begun = 7 * (level - 1) + (entry_behind point).1
+most_of levels Inside begun = 7 * levels
+most_of levels (Leaving level point) begun = 7 * levels + 3 * (levels - level) + exit_behind point
 
--- how many points of a level are still ahead on the way out, this one included; each is a remote access
-abbrev pub exit_points : ExitPoint → ℕ
-exit_points X1 = 3
-exit_points X2 = 2
-exit_points (X3 rival) = 1
-
--- how many remote accesses the walk can still make before it is inside, or idle again
-abbrev pub budget_of : ℕ → Process → Bool → ℕ
-budget_of levels Idle begun = if begun then 7 * levels else 0
-budget_of levels (Entering level point) begun = 7 * (levels - level) + entry_cost point
-budget_of levels Inside begun = if begun then 3 * levels else 0
-budget_of levels (Leaving level point) begun = 3 * (level - 1) + exit_points point
-
--- the budget of a walk
-abbrev pub budget : Walk → ℕ
-budget w = budget_of w.levels w.process w.begun
-
--- how many points are still ahead before the walk is inside, or idle again
-abbrev pub points_of : ℕ → Process → Bool → ℕ
-points_of levels Idle begun = if begun then 10 * levels else 0
-points_of levels (Entering level point) begun = 10 * (levels - level) + entry_points point
-points_of levels Inside begun = if begun then 3 * levels else 0
-points_of levels (Leaving level point) begun = 3 * (level - 1) + exit_points point
-
--- how many points are ahead of a walk
-abbrev pub points_ahead : Walk → ℕ
-points_ahead w = points_of w.levels w.process w.begun
+-- how many a walk has made at most
+abbrev pub most_remote : Walk → ℕ
+most_remote w = most_of w.levels w.process w.begun
 
 -- at these points a process waits: it loads its own spin word, and does so again until another process writes it
 abbrev pub is_waiting : Process → Bool
@@ -157,21 +139,27 @@ is_waiting (Entering level E8) = true
 is_waiting (Entering level E10) = true
 is_waiting _ = false
 
+-- one point comes before another: fewer levels lie behind it, or as many levels and fewer points
+abbrev pub ComesBefore : (levels points more next : ℕ) → Type 0
+ComesBefore levels points more next = (levels < more) ⊎ ((levels ≡ more) × (points < next))
+
+-- a process comes further, to a later point or level: on its way in from level 1 up to the root, and inside, on its way
+-- out from the root down to level 1, and idle
+abbrev pub ComesFurther : ℕ → Process → Process → Type 0
+ComesFurther levels Idle (Entering new next) = ComesBefore 0 0 (new - 1) (entry_behind next).0
+ComesFurther levels (Entering old point) (Entering new next) =
+    ComesBefore (old - 1) (entry_behind point).0 (new - 1) (entry_behind next).0
+ComesFurther levels (Entering old point) Inside = Unit {0}
+ComesFurther levels Inside (Leaving new next) = ComesBefore 0 0 (levels - new) (exit_behind next)
+ComesFurther levels (Leaving old point) (Leaving new next) =
+    ComesBefore (levels - old) (exit_behind point) (levels - new) (exit_behind next)
+ComesFurther levels (Leaving old point) Idle = Unit {0}
+ComesFurther levels _ _ = ⊥
+
 -- a step takes the walk to a later point or level, unless it waits and its load found its own spin word unchanged
 abbrev pub MovesOn : Walk → Walk → Type 0
 MovesOn old new =
-    (points_ahead new < points_ahead old) ⊎ (IsTrue (is_waiting old.process) × (new.process ≡ old.process))
-
--- how many remote accesses a passage may have made when the budget is used up: seven a level in, ten a level in all
-abbrev pub allowance : ℕ → Process → Bool → ℕ
-allowance levels Idle begun = if begun then 7 * levels else 10 * levels
-allowance levels (Entering level point) begun = 7 * levels
-allowance levels Inside begun = if begun then 10 * levels else 7 * levels
-allowance levels (Leaving level point) begun = 10 * levels
-
--- the remote accesses that were made and the budget that remains are together at most seven a level in, ten in all
-abbrev pub CountIsKept : ℕ → ℕ → Process → Bool → Type 0
-CountIsKept levels remote process begun = remote + budget_of levels process begun ≤ allowance levels process begun
+    ComesFurther old.levels old.process new.process ⊎ (IsTrue (is_waiting old.process) × (new.process ≡ old.process))
 
 -- what holds of every walk
 pub record IsWalk (w : Walk) : Type 0 where
@@ -179,7 +167,7 @@ pub record IsWalk (w : Walk) : Type 0 where
   pub most : w.levels ≤ 6
   pub in_tree : w.place < 2 ^ w.levels
   pub proper : IsProper w.levels w.place w.process
-  pub counted : CountIsKept w.levels w.remote w.process w.begun
+  pub counted : w.remote ≤ most_remote w
 
 -- a word that the operation names by its number is one of the tree's words
 abbrev pub OpIsWithin : ℕ → Op → Type 0

@@ -12,6 +12,7 @@ ghost use Rattle.ya_core.specs.Progress.{LevelSees, HasNotWon, times_overtaken};
 ghost use Rattle.ya_core.specs.Fairness.{IsRunOfSchedule, IsFair, PicksEachAgain, Eventually, is_on_way_in, is_on_way_out};
 ghost use Rattle.ya_core.specs.PassageCounts.{remote_accesses};
 ghost use Rattle.ya_core.specs.WalkerModel.{Walk, IsWalk, BeginsEntry, BeginsExit, WalkLeadsTo, AccessIsWithin, MayFind};
+ghost use Rattle.ya_core.specs.WalkerModel.{most_remote};
 ghost use Rattle.ya_core.specs.Worlds.{Marked, World, Event, WorldSteps, WorldAppends};
 ghost use Rattle.ya_core.specs.Worlds.{IsReached, Runs, IsInside, EachMayFollow, any_entry, entries_of, places_of};
 ghost use Rattle.ya_core.specs.RealTime.{KeepsRealTimeOrder};
@@ -133,13 +134,17 @@ pub fn passage_count()
 {}
 
 /// The same of a walker, whatever it loads: at most seven remote accesses a level from `begin_entry` until it is inside,
-/// and at most three a level from `begin_exit` until it is idle again.
+/// and at most three a level from `begin_exit` until it is idle again. Between any two points of a way they are no more
+/// than the bound of the one point is above that of the other.
 pub fn access_count()
     ensures way_in { (start end : Walk) (values : List ℕ)
         → IsWalk start → BeginsEntry start → WalkLeadsTo start values end → end.remote ≤ 7 * start.levels }
     ensures way_out { (start end : Walk) (values : List ℕ)
         → IsWalk start → BeginsExit start → WalkLeadsTo start values end
         → end.remote ≤ start.remote + 3 * start.levels }
+    ensures between { (start end : Walk) (values : List ℕ)
+        → IsWalk start → WalkLeadsTo start values end
+        → end.remote + most_remote start ≤ start.remote + most_remote end }
 {}
 
 /// Which entry may follow which, for the law of the content.

@@ -3,7 +3,7 @@ ghost use Rattle.std.specs.Prelude.{◌≡◌, ◌↔◌, ℕ, ◌+◌, ◌-◌,
 ghost use Rattle.ya_core.specs.declared.process.Process.TheVariants.{Idle, Inside, Entering};
 ghost use Rattle.ya_core.specs.ArbitrationTree.{node_of, side_of};
 ghost use Rattle.ya_core.specs.Steps.{access_of};
-ghost use Rattle.ya_core.specs.WalkerModel.{IsWalk, walk, walk_after, op_of, due, due_of, cost_of, budget};
+ghost use Rattle.ya_core.specs.WalkerModel.{IsWalk, walk, walk_after, op_of, due, due_of, cost_of};
 ghost use Rattle.ya_core.specs.WalkerModel.{FitsDue, IsStore, CanStand, MovesOn, OpIsWithin, MayBeTold};
 ghost use Rattle.ya_core.specs.inside.WalkerModel.{DueIsWithin, LevelIsSmall};
 
@@ -161,8 +161,6 @@ impl Walker {
 
         // It comes to a later point or level, unless it waits and found its own spin word unchanged.
         ensures onward { MovesOn self.old self.new }
-        // What it has spent and what it can still spend on this way don't rise.
-        ensures budget { self.new.remote + budget self.new ≤ self.old.remote + budget self.old }
     {
         self.go_on(value)
     }
@@ -175,7 +173,6 @@ impl Walker {
 
         // As for `saw`.
         ensures onward { MovesOn self.old self.new }
-        ensures budget { self.new.remote + budget self.new ≤ self.old.remote + budget self.old }
     {
         self.go_on(0)
     }
@@ -184,8 +181,7 @@ impl Walker {
     #[inline(always)]
     pub fn begin_entry(&mut self)
         requires { op_of self.old ≡ Op.Idle }
-        ensures begun { self.new ≡ record self.old { begun = true; remote = 0 } }
-        ensures budget { budget self.new ≡ 7 * self.new.levels }
+        ensures { self.new ≡ record self.old { begun = true; remote = 0 } }
     {
         (self.begun, self.remote) = (true, 0);
     }
@@ -194,8 +190,7 @@ impl Walker {
     #[inline(always)]
     pub fn begin_exit(&mut self)
         requires { op_of self.old ≡ Op.Inside }
-        ensures begun { self.new ≡ record self.old { begun = true } }
-        ensures budget { budget self.new ≡ 3 * self.new.levels }
+        ensures { self.new ≡ record self.old { begun = true } }
     {
         self.begun = true;
     }
@@ -242,7 +237,6 @@ impl Walker {
         requires { MayBeTold (due self.old) value }
         ensures after { self.new ≡ walk_after self.old value }
         ensures onward { MovesOn self.old self.new }
-        ensures budget { self.new.remote + budget self.new ≤ self.old.remote + budget self.old }
     {
         let levels = self.shape.levels();
         self.remote += cost(self.process.access(levels, self.place), self.place);

@@ -14,7 +14,8 @@ use Rattle.ya_core.specs.declared.process.ExitPoint.{ExitPoint}
 use Rattle.ya_core.specs.declared.walker.Op.{Op}
 use Rattle.ya_core.specs.declared.walker.Op.TheVariants as op
 use Rattle.ya_core.specs.Steps.{entry_access, exit_access, entry_next, next_of, after_entry}
-use Rattle.ya_core.specs.WalkerModel.{Walk, walk, walk_after, op_of, op_of_access, points_of, points_ahead, is_waiting, MovesOn}
+use Rattle.ya_core.specs.WalkerModel.{Walk, walk, walk_after, op_of, op_of_access, is_waiting}
+use Rattle.ya_core.specs.inside.Ahead.{points_of, points_ahead, ComesNearer}
 use Rattle.ya_lock.specs.declared.rule.View.{View}
 use Rattle.ya_lock.specs.inside.Lock.{HasWon, HasPassed, HasLooked, IsAtFoot, OnWay, SeatOf}
 
@@ -97,7 +98,7 @@ lost_e9 w new level found at goes not_won =
     is ∙ lost_at (found == w.place + 1) w.levels level E10 (subst (λ (p : Process). HasWon p → ⊥) is not_won)
 
 -- a process that doesn't wait comes nearer
-pub comes_nearer : (old new : Walk) → is_waiting old.process ≡ false → MovesOn old new → points_ahead new < points_ahead old
+pub comes_nearer : (old new : Walk) → is_waiting old.process ≡ false → ComesNearer old new → points_ahead new < points_ahead old
 comes_nearer old new still (inl nearer) = nearer
 comes_nearer old new still (inr waits) = absurd (false≢true (sym still ∙ waits.0))
 

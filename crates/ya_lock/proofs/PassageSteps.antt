@@ -6,7 +6,7 @@ use Rattle.ya_core.specs.declared.process.Process.{Process}
 use Rattle.ya_core.specs.declared.process.Process.TheVariants.{Idle, Entering, Inside, Leaving}
 use Rattle.ya_core.specs.declared.walker.Op.TheVariants as op
 use Rattle.ya_core.specs.Steps.{next_of}
-use Rattle.ya_core.specs.WalkerModel.{Walk, walk, walk_after, op_of}
+use Rattle.ya_core.specs.WalkerModel.{Walk, walk, walk_after, op_of, due, MayBeTold}
 use Rattle.ya_core.specs.Worlds.{is_inside}
 use Rattle.ya_lock.specs.declared.rule.View.{View}
 use Rattle.ya_lock.specs.declared.rule.View.TheVariants.{Seated}
@@ -92,3 +92,24 @@ module _ {V : Type 0} (since done : ℕ → V → V → Type 0) where
       subst (λ (v : Walk). SeatOf since done seen v after) (sym is)
       (stays_at w.levels w.place found w.process w.begun w.remote seen me after d s
       (subst (λ (l : ℕ). ProcessSteps since l found me.0 me.1 after) (sym tree) steps))
+
+  -- and the walk may be told what the access found
+  told_at : (levels place found : ℕ) (process : Process) (begun : Bool) (remote : ℕ) (seen : V) (me after : M)
+      → IsDue (walk levels place process begun remote) → SeatOf since done seen (walk levels place process begun remote) me
+      → ProcessSteps since levels found me.0 me.1 after → MayBeTold (due (walk levels place process begun remote)) found
+  told_at levels place found Idle true remote seen me after d s steps =
+      (subst (λ (m : M). ProcessSteps since levels found m.0 m.1 after) s.1.1 steps).0
+  told_at levels place found Idle false remote seen me after d s steps = absurd (d.0 refl)
+  told_at levels place found Inside true remote seen me after d s steps =
+      (subst (λ (m : M). ProcessSteps since levels found m.0 m.1 after) s.2 steps).0
+  told_at levels place found Inside false remote seen me after d s steps = absurd (d.1 refl)
+  told_at levels place found (Entering level point) begun remote seen me after d s steps =
+      (subst (λ (m : M). ProcessSteps since levels found m.0 m.1 after) s.1 steps).0
+  told_at levels place found (Leaving level point) begun remote seen me after d s steps =
+      (subst (λ (m : M). ProcessSteps since levels found m.0 m.1 after) s.1 steps).0
+
+  pub told_due : (w : Walk) (levels found : ℕ) (seen : V) (me after : M) → IsDue w → SeatOf since done seen w me
+      → w.levels ≡ levels → ProcessSteps since levels found me.0 me.1 after → MayBeTold (due w) found
+  told_due w levels found seen me after d s tree steps =
+      told_at w.levels w.place found w.process w.begun w.remote seen me after d s
+      (subst (λ (l : ℕ). ProcessSteps since l found me.0 me.1 after) (sym tree) steps)

@@ -1,9 +1,10 @@
 //! The way in and the way out: each access is one step of a walker of the core, by the seat of its place.
-ghost use Rattle.std.specs.Prelude.{◌≡◌, ◌≢◌, ℕ, true, false, ◌+◌, ◌<◌, ◌≤◌, ◌↔◌, IsTrue};
+ghost use Rattle.std.specs.Prelude.{◌≡◌, ◌≢◌, ℕ, true, false, ◌+◌, ◌*◌, ◌<◌, ◌≤◌, ◌↔◌, IsTrue};
 ghost use Rattle.ya_core.specs.declared.process.Process.TheVariants.{Entering, Leaving};
 ghost use Rattle.ya_core.specs.declared.process.EntryPoint.TheVariants.{E5};
 ghost use Rattle.ya_core.specs.declared.process.ExitPoint.TheVariants.{X2};
-ghost use Rattle.ya_core.specs.WalkerModel.{BeginsEntry, BeginsExit, op_of, walk, walk_after, MovesOn, budget, points_ahead, is_waiting};
+ghost use Rattle.ya_core.specs.WalkerModel.{BeginsEntry, BeginsExit, op_of, walk, walk_after, most_remote, is_waiting};
+ghost use Rattle.ya_core.specs.inside.Ahead.{points_ahead, ComesNearer};
 ghost use Rattle.ya_lock.specs.inside.Lock.{way_of, HasWon, HasPassed, HasLooked, HasReleased};
 
 use crate::bell::PATIENCE;
@@ -201,7 +202,7 @@ impl<'a, V: Kept + Drop, const L: u32> Passage<'a, V, L> {
         ensures of { result.of ≡ self.entry.of }
         ensures idle { op_of result.walk ≡ Op.Idle }
         ensures least { self.entry.walk.remote ≤ result.walk.remote }
-        ensures most { result.walk.remote ≤ self.entry.walk.remote + budget self.entry.walk }
+        ensures most { result.walk.remote ≤ self.entry.walk.remote + 3 * L }
     {
         let mut passage = self;
         passage.step();
@@ -222,8 +223,8 @@ impl<'a, V: Kept + Drop, const L: u32> Passage<'a, V, L> {
         ensures released { HasReleased self.new.walk }
         ensures onward { points_ahead self.new.walk < points_ahead self.old.walk }
         ensures least { self.old.walk.remote ≤ self.new.walk.remote }
-        ensures budget { self.new.walk.remote + budget self.new.walk
-            ≤ self.old.walk.remote + budget self.old.walk }
+        ensures count { self.new.walk.remote + most_remote self.old.walk
+            ≤ self.old.walk.remote + most_remote self.new.walk }
     {
         self.step();
         if let Process::Leaving(_, ExitPoint::X3(rival)) = self.walker.process() {
@@ -253,9 +254,9 @@ impl<'a, V: Kept + Drop, const L: u32> Passage<'a, V, L> {
         requires { (op_of self.old.walk ≢ Op.Idle) × (op_of self.old.walk ≢ Op.Inside) }
         ensures of { self.new.of ≡ self.old.of }
         ensures goes { (found : ℕ) × (self.new.walk ≡ walk_after self.old.walk found) }
-        ensures onward { MovesOn self.old.walk self.new.walk }
-        ensures budget { self.new.walk.remote + budget self.new.walk
-            ≤ self.old.walk.remote + budget self.old.walk }
+        ensures onward { ComesNearer self.old.walk self.new.walk }
+        ensures count { self.new.walk.remote + most_remote self.old.walk
+            ≤ self.old.walk.remote + most_remote self.new.walk }
     {
         let lock = self.lock;
         let shared = &lock.table.shared;

@@ -4,5 +4,5 @@ use Rattle.ya_core.proofs.walker.Walker.begin_entry.Goals as goal
 pub invariant_of-self : goal.invariant_of-self
 invariant_of-self c = search rules
 
-pub returns-clause-begun : goal.returns-clause-begun
-returns-clause-begun c = search rules
+pub returns : goal.returns
+returns c = search rules

@@ -7,7 +7,3 @@ invariant_of-self c = (told_on c.args.value _ _ (cc) (cc) c.self.view_is c.self.
 pub returns-clause-onward : goal.returns-clause-onward
 returns-clause-onward c =
     (told_on c.args.value c.next-self-inside.result c.cost.result (cc) (cc) c.self.view_is c.self.invariant c.requires).1
-
-pub returns-clause-budget : goal.returns-clause-budget
-returns-clause-budget c =
-    (told_on c.args.value c.next-self-inside.result c.cost.result (cc) (cc) c.self.view_is c.self.invariant c.requires).2

@@ -1,5 +1,5 @@
 use Rattle.std.proofs.Common.{◌≡◌}
-use Rattle.ya_core.specs.WalkerModel.{points_ahead}
+use Rattle.ya_core.specs.inside.Ahead.{points_ahead}
 use Rattle.ya_lock.specs.inside.Lock.{IsAtFoot}
 use Rattle.ya_lock.proofs.passage.Passage.acquire.Given as goal
 

@@ -4,7 +4,8 @@ use Rattle.ya_core.specs.declared.process.Process.{Process}
 use Rattle.ya_core.specs.declared.process.Process.TheVariants.{Entering}
 use Rattle.ya_core.specs.Steps.{next_of}
 use Rattle.ya_core.specs.declared.process.EntryPoint.TheVariants.{E5, E6, E7, E9}
-use Rattle.ya_core.specs.WalkerModel.{Walk, is_waiting, points_ahead}
+use Rattle.ya_core.specs.WalkerModel.{Walk, is_waiting}
+use Rattle.ya_core.specs.inside.Ahead.{points_ahead}
 use Rattle.ya_lock.specs.inside.Lock.{OnWay, WayOf}
 use Rattle.ya_lock.proofs.EntryAccesses.{woken_in_tree}
 use Rattle.ya_lock.proofs.EntrySteps.{due_entering, found_at, found_entering, leads, lost_e5, lost_e9, comes_nearer, waits_behind}

@@ -1,7 +1,8 @@
 use Rattle.std.proofs.Common.{◌≡◌, ℕ, ◌+◌, ◌≤◌}
 use Rattle.ya_core.specs.declared.process.Process.TheVariants.{Leaving}
 use Rattle.ya_core.specs.declared.process.ExitPoint.TheVariants.{X2}
-use Rattle.ya_core.specs.WalkerModel.{budget, points_ahead}
+use Rattle.ya_core.specs.WalkerModel.{most_remote}
+use Rattle.ya_core.specs.inside.Ahead.{points_ahead}
 use Rattle.ya_lock.proofs.passage.Passage.release.Given as goal
 
 abbrev pub invariant-loop-passage : goal.invariant-loop-passage
@@ -9,7 +10,7 @@ invariant-loop-passage g l = record {
   of : l.passage.of ≡ l.initial.passage.of;
   freed : (level : ℕ) × (l.passage.walk.process ≡ Leaving level X2);
   least : l.initial.passage.walk.remote ≤ l.passage.walk.remote;
-  most : l.passage.walk.remote + budget l.passage.walk ≤ l.initial.passage.walk.remote + budget l.initial.passage.walk;
+  count : l.passage.walk.remote + most_remote l.initial.passage.walk ≤ l.initial.passage.walk.remote + most_remote l.passage.walk;
 }
 
 abbrev pub decreases-loop-passage : goal.decreases-loop-passage

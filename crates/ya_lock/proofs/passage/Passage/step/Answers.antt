@@ -7,8 +7,9 @@ use Rattle.ya_core.specs.declared.walker.Op.TheVariants as op
 use Rattle.ya_core.specs.ArbitrationTree.{IsWord, number_of}
 use Rattle.ya_core.specs.Steps.{access_of}
 use Rattle.ya_core.specs.Machines.{word_of}
-use Rattle.ya_core.specs.WalkerModel.{Walk, IsWalk, op_of, AccessIsWithin}
-use Rattle.ya_core.proofs.Promised.{within_access, load_due, store_due}
+use Rattle.ya_core.specs.WalkerModel.{Walk, IsWalk, walk_after, op_of, due, MayBeTold, most_remote, AccessIsWithin}
+use Rattle.ya_core.specs.inside.Ahead.{ComesNearer}
+use Rattle.ya_core.proofs.Promised.{within_access, load_due, store_due, told_nearer, told_counted}
 use Rattle.ya_lock.specs.declared.rule.View.{View}
 use Rattle.ya_lock.specs.Rule.{index_of, making_index, row_length, Rule}
 use Rattle.ya_lock.specs.Lock.{LockId}
@@ -16,7 +17,7 @@ use Rattle.ya_lock.specs.inside.Lock.{IsLockTable, OnWay, SeatOf}
 use Rattle.ya_lock.specs.inside.StepEffects.{ProcessSteps, value_after}
 use Rattle.ya_lock.proofs.WordsInRow.{making_small, index_below, index_is}
 use Rattle.ya_lock.proofs.ProcessSteps.{counted, allows}
-use Rattle.ya_lock.proofs.PassageSteps.{ready_by, stays}
+use Rattle.ya_lock.proofs.PassageSteps.{ready_by, stays, told_due}
 use Rattle.ya_lock.proofs.passage.Passage.step.Goals as goal
 
 -- the access that is due is of a word of the tree
@@ -117,3 +118,39 @@ invariant_of-self g c =
       seat = stays g.V.Kept.since g.V.Kept.done s.walker c.saw.new.self g.row.L c.load-value.result s.seen.value s.seat.me
           c.load-value.new.seat.me (due_to _ c.args.self.now c.self.view_is c.requires) i.seat i.tree h.2 is;
     }
+
+-- so the place comes nearer, and its count rises by no more than its bound, by what its walk is told
+goes_by : {V : Type 0} (inside seen : OnWay V) (new : Walk) (value : ℕ) → inside ≡ seen → IsWalk inside.walk
+    → MayBeTold (due inside.walk) value → new ≡ walk_after inside.walk value
+    → ComesNearer seen.walk new × (new.remote + most_remote seen.walk ≤ seen.walk.remote + most_remote new)
+goes_by {V} inside seen new value is walks told goes =
+    subst (λ (p : OnWay V). ComesNearer p.walk new × (new.remote + most_remote p.walk ≤ p.walk.remote + most_remote new)) is
+    (told_nearer inside.walk new value walks told goes, told_counted inside.walk new value walks told goes)
+
+pub returns-in-Store-clause-onward : goal.returns-in-Store-clause-onward
+returns-in-Store-clause-onward g c =
+    let w = c.self.inside.walker in let value = c.in-Store.value in
+    let a = store_due w c.in-Store.number value (sym c.op.ensures.value ∙ c.in-Store.is) in
+    (goes_by _ c.args.self.now c.done.new.self value c.self.view_is c.op.ensures.proper
+    (subst (λ d. MayBeTold d value) (sym a.3) tt) (c.done.ensures.after value)).0
+
+pub returns-in-Store-clause-count : goal.returns-in-Store-clause-count
+returns-in-Store-clause-count g c =
+    let w = c.self.inside.walker in let value = c.in-Store.value in
+    let a = store_due w c.in-Store.number value (sym c.op.ensures.value ∙ c.in-Store.is) in
+    (goes_by _ c.args.self.now c.done.new.self value c.self.view_is c.op.ensures.proper
+    (subst (λ d. MayBeTold d value) (sym a.3) tt) (c.done.ensures.after value)).1
+
+pub returns-in-Load-clause-onward : goal.returns-in-Load-clause-onward
+returns-in-Load-clause-onward g c =
+    let s = c.self.inside in let i = c.self.invariant in let due = due_to _ c.args.self.now c.self.view_is c.requires in
+    (goes_by _ c.args.self.now c.saw.new.self c.load-value.result c.self.view_is c.op.ensures.proper
+    (told_due g.V.Kept.since g.V.Kept.done s.walker g.row.L c.load-value.result s.seen.value s.seat.me c.load-value.new.seat.me due
+    i.seat i.tree c.load-value.ensures.2) c.saw.ensures.after).0
+
+pub returns-in-Load-clause-count : goal.returns-in-Load-clause-count
+returns-in-Load-clause-count g c =
+    let s = c.self.inside in let i = c.self.invariant in let due = due_to _ c.args.self.now c.self.view_is c.requires in
+    (goes_by _ c.args.self.now c.saw.new.self c.load-value.result c.self.view_is c.op.ensures.proper
+    (told_due g.V.Kept.since g.V.Kept.done s.walker g.row.L c.load-value.result s.seen.value s.seat.me c.load-value.new.seat.me due
+    i.seat i.tree c.load-value.ensures.2) c.saw.ensures.after).1

@@ -17,7 +17,7 @@ pub invariant_of-passage : goal.invariant_of-passage
 invariant_of-passage g c =
     let s = c.guard.inside in let x = c.exchange.ensures in let V = g.row.V.Denot in let shape = c.shape.result in
     let is : c.begin_exit.new.self ≡ walk shape s.place Inside true s.remote =
-    c.begin_exit.ensures.begun
+    c.begin_exit.ensures
     ∙ ap (λ (w : Walk). walk w.levels w.place w.process true w.remote) c.inside-walker.ensures in
     record {
       own = x.0 ∙ (ap (λ (q : OpenGuard V). q.lock) c.guard.view_is ∙ c.requires.lock);
