@@ -12,6 +12,7 @@ import subprocess
 import sys
 
 from .definition_reader import CRATES, TOP, constructors, crate_of, example_files, parse_module, uncommented
+from .prover import below, needs, said_of
 
 DECLARED = re.compile(r" *(?:(?:pub|abbrev|unfoldable|record|data) )*([^\s:(){}\[\],;]+)")
 WORD = re.compile(r"(?<![\w.'])[^\W\d][\w']*(?:-[\w']+)*")
@@ -223,23 +224,6 @@ COPIES = "changed_definitions"
 ROOT = "//! Copies of definitions, changed, and of the examples that try them.\n#![tactic(auto)]\n"
 
 
-def needs():
-    """The crates of crates.txt, each with what its line names."""
-    lines = [line.partition("#")[0] for line in (TOP / "crates.txt").read_text().splitlines()]
-    return {name.split()[0]: rest.split() for name, _, rest in (line.partition(":") for line in lines) if name.strip()}
-
-
-def below(crates):
-    """These crates and all on which they rest."""
-    known, found, waiting = needs(), set(), list(crates)
-    while waiting:
-        crate = waiting.pop()
-        if crate in known and crate not in found:
-            found.add(crate)
-            waiting += known[crate]
-    return found
-
-
 class Scratch:
     """A tree of the crates that some crates of examples rest on, and of others, with a crate of copies above those examples."""
 
@@ -251,8 +235,8 @@ class Scratch:
                 if (CRATES / crate / part).exists():
                     shutil.copytree(CRATES / crate / part, self.crates / crate / part)
         lines = [f"{crate}: {' '.join(rest)}" for crate, rest in needs().items() if (self.crates / crate).exists()]
-        named = sorted(used | {name for crate in used for name in needs()[crate]})
-        (self.crates.parent / "crates.txt").write_text("\n".join([*lines, f"{COPIES}: {' '.join(named)}", ""]))
+        self.named = sorted(used | {name for crate in used for name in needs()[crate]})
+        (self.crates.parent / "crates.txt").write_text("\n".join([*lines, f"{COPIES}: {' '.join(self.named)}", ""]))
         shutil.copy(TOP / "HANDLES", room)
         for part in ("src", "proofs"):
             (self.folder / part).mkdir(parents=True)
@@ -307,20 +291,11 @@ def by_check(jobs):
 
 
 def by_gate(scratch):
-    """The proof that `rt ci` makes, over what it kept on this machine of the crates below. What it refuses to read is left out
-    of it."""
-    printed, unread = "", True
-    while unread:
-        said = said_by(["rt", "fmt"], scratch.folder)
-        unread = {file for _, number, _ in ERROR.findall(said) for file in scratch.folder.glob(f"proofs/{number}*.antt")}
-        for file in unread:
-            file.unlink()
-        scratch.list_files()
-        printed += said
-    said = said_by(["rt", "ci"], scratch.crates.parent)
-    if not re.search(r"^logic=", said.partition(f"== {COPIES}\n")[2], re.M):
-        sys.exit(f"the prover gave no verdict\n{said[-3000:]}")
-    return printed + said
+    """The check of the gate: of the crate of copies alone, over the libraries that `rt ci` has just built."""
+    printed = said_of(COPIES, scratch.named, scratch.folder)
+    if not re.search(r"^(?:logic|holes)=", printed, re.M):
+        sys.exit(f"the prover gave no verdict\n{printed[-3000:]}")
+    return printed
 
 
 def linked(one, other):

@@ -1,0 +1,70 @@
+#!/usr/bin/env python3
+"""Has tools/bodies try wrong bodies of a small crate, and looks whether it tells of each what is so.
+
+tests/bodies.py, with the toolchain on PATH. Among the bodies are a right one, one that can't be read and is in a round with
+another, and one whose function calls another that is refused in the same round.
+"""
+import pathlib
+import subprocess
+import sys
+import tempfile
+
+from checks import TOP
+
+SOURCE = """\
+//! A number twice, and four times.
+#![tactic(auto)]
+
+ghost use Rattle.std.specs.Prelude.{◌≡◌, ◌+◌, ◌*◌, ◌<◌};
+
+/// Twice the number.
+pub fn twice(n: u64) -> u64
+    requires { n < 1000 }
+    ensures { result ≡ n + n }
+{
+    n + n
+}
+
+/// Four times the number.
+pub fn four_times(n: u64) -> u64
+    requires { n < 100 }
+    ensures { result ≡ (n + n) + (n + n) }
+{
+    twice(twice(n))
+}
+"""
+# Of each body its old and new text, where it is to be refused, and how the line that tells of it begins.
+BODIES = {
+    "answers-the-number": ("    n + n", "    n", "twice", "refused, as it must be: "),
+    "changes-another-function": ("twice(twice(n))", "twice(n)", "twice", "BAD BODY: it changes more than the text of twice"),
+    "four-times-given-up": ("twice(twice(n))", "twice(n)", "four_times", "refused, as it must be: "),
+    "right": ("twice(twice(n))", "twice(n) + twice(n)", "four_times", "NOT REFUSED in four_times"),
+    "standing-twice": ("n + n", "n", "twice", "BAD BODY: an 'old:' text is in src/lib.rt 4 times"),
+    "unreadable": ("    n + n", "    n +", "twice", "BAD BODY: it didn't reach the prover"),
+}
+
+
+def listed(name, old, new, function):
+    return f"## {name}\n\n```\nfile: src/lib.rt\nold: {old}\nnew: {new}\nrefused in: {function}\n```\n"
+
+
+def main():
+    with tempfile.TemporaryDirectory(prefix="small-") as room:
+        folder = pathlib.Path(room) / "small"
+        for part in ("src", "must-fail"):
+            (folder / part).mkdir(parents=True)
+        (folder / "src/lib.rt").write_text(SOURCE)
+        sections = [listed(name, *body[:3]) for name, body in sorted(BODIES.items())]
+        (folder / "must-fail/bodies.md").write_text("\n".join(["# Wrong bodies\n", *sections]))
+        ran = subprocess.run([TOP / "tools/bodies", "--of", room], stdout=subprocess.PIPE, text=True)
+    lines = dict(line.removeprefix("body small/").split(": ", 1) for line in ran.stdout.splitlines() if line.startswith("body "))
+    wrong = [name for name, body in BODIES.items() if not lines.get(name, "").startswith(body[3])]
+    refused = sum(body[3].startswith("refused") for body in BODIES.values())
+    if wrong or ran.returncode != 1 or not ran.stdout.endswith(f"\n{refused} passed, {len(BODIES) - refused} failed\n"):
+        said = ", ".join(wrong) or "their number"
+        sys.exit(f"tests/bodies.py: tools/bodies tells of {said} something else than is so\n{ran.stdout}")
+    print(f"tests/bodies.py: tools/bodies tells what is so of {len(BODIES)} bodies")
+
+
+if __name__ == "__main__":
+    main()

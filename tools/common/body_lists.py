@@ -1,0 +1,74 @@
+"""The wrong bodies that crates list in must-fail/bodies.md, each with the function in which the prover refuses it."""
+import pathlib
+import re
+
+CRATES = pathlib.Path(__file__).resolve().parent.parent.parent / "crates"
+FORM = re.compile(r"([\w-]+)\n\n```\nfile: (src/\S+\.rt)\n((?:old: .+\nnew:.*\n)+)refused in: ([\w:]+?)(?:: ([\w-]+))?\n```\n+")
+FUNCTION = re.compile(r"( *)(?:pub(?:\([^)]*\))? )?(?:const )?(?:unsafe )?fn (\w+)")
+
+
+class BadBody(Exception):
+    """Why a body can't be tried."""
+
+
+class Body:
+    """A body of a list: its crate and name, and, where it is written as one, its file, its pairs of old and new, the function that
+    the prover refuses, as the prover names it, and perhaps a goal of that function."""
+
+    def __init__(self, crate, section):
+        self.crate, self.name = crate, section.partition("\n")[0]
+        self.form = FORM.fullmatch(section)
+        _, self.file, pairs, self.function, self.goal = self.form.groups() if self.form else ("", "", "", "", None)
+        self.pairs = re.findall(r"^old: (.+)\nnew: ?(.*)$", pairs, re.M)
+
+    def changed(self, text):
+        """The file's text with each pair made, one after another."""
+        for old, new in self.pairs:
+            if text.count(old) != 1:
+                raise BadBody(f"an 'old:' text is in {self.file} {text.count(old)} times, and not once: {old}")
+            text = text.replace(old, new)
+        return text
+
+    def places(self, text):
+        """The lines at which the functions begin whose text it changes, each with the function's name."""
+        found = set()
+        for old, new in self.pairs:
+            if text.count(old) == 1:
+                found.add(function_at(text.split("\n"), text[: text.index(old)].count("\n")))
+                text = text.replace(old, new)
+        return found
+
+    def fault(self, folder):
+        """Why it can't be tried on the crate as it is, or None."""
+        if not self.form:
+            return "it isn't written as a body is"
+        if not (folder / self.file).exists():
+            return f"there is no file {self.file}"
+        text = (folder / self.file).read_text()
+        try:
+            self.changed(text)
+        except BadBody as fault:
+            return str(fault)
+        if {name for _, name in self.places(text)} != {self.function.rpartition("::")[2]}:
+            return f"it changes more than the text of {self.function}, or other text"
+        return None
+
+
+def function_at(lines, at):
+    """Where the function begins within whose text a line stands, and its name, or the line itself where it is in none."""
+    for start in range(at, -1, -1):
+        head = FUNCTION.match(lines[start])
+        if head:
+            ends = [line for line in range(start, at) if lines[line] == head[1] + "}" and lines[line + 1].strip() in ("", "}")]
+            return (at, None) if ends else (start, head[2])
+    return at, None
+
+
+def listing_crates(crates=CRATES):
+    return sorted(file.parent.parent.name for file in crates.glob("*/must-fail/bodies.md"))
+
+
+def bodies_of(crate, crates=CRATES):
+    """The bodies that a crate lists, in their order."""
+    file = crates / crate / "must-fail/bodies.md"
+    return [Body(crate, section) for section in re.split(r"^## ", file.read_text(), flags=re.M)[1:]] if file.exists() else []

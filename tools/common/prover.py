@@ -1,0 +1,59 @@
+"""The prover's own command over a crate whose libraries are built, as `rt must-fail` calls it: what `rt check` would say of the
+crate, but with what is built below it taken as it is. So it goes over the libraries that `rt ci` leaves, which `rt check` would
+build anew."""
+import functools
+import pathlib
+import subprocess
+
+from .definition_reader import CRATES, TOP
+
+
+@functools.cache
+def kit():
+    """The folder of the toolchain whose `rt` is on PATH, where the page lies that it names."""
+    return pathlib.Path(subprocess.run(["rt", "doc"], stdout=subprocess.PIPE, text=True, check=True).stdout.strip()).parent
+
+
+def needs():
+    """The crates of crates.txt, each with what its line names."""
+    lines = [line.partition("#")[0] for line in (TOP / "crates.txt").read_text().splitlines()]
+    return {name.split()[0]: rest.split() for name, _, rest in (line.partition(":") for line in lines) if name.strip()}
+
+
+def below(crates):
+    """These crates and all on which they rest."""
+    known, found, waiting = needs(), set(), list(crates)
+    while waiting:
+        crate = waiting.pop()
+        if crate in known and crate not in found:
+            found.add(crate)
+            waiting += known[crate]
+    return found
+
+
+def library(crate):
+    return CRATES / crate / f"out/rlib/{crate}.rlib"
+
+
+def words_for(name, named, folder):
+    """What the prover is told of a crate in this folder: its name, and what its line of crates.txt names."""
+    own = [one for one in named if one in needs()]
+    root = "src/main.rt" if (folder / "src/main.rt").exists() else "src/lib.rt"
+    words = ["--crate-name", name, root]
+    for one in dict.fromkeys(["std", *(one for one in named if one not in own)]):
+        words += ["--extern", f"{one}={kit()}/rlibs/{one}.rlib"]
+    words += ["-L", f"dependency={kit()}/rlibs"]
+    for one in own:
+        words += ["--extern", f"{one}={library(one)}"]
+    for one in sorted(below(own)):
+        words += ["-L", f"dependency={library(one).parent}"]
+    return [*words, "--antt-project", f"{kit()}/rattle/logic/antt-project.json", "--logic-built", f"{kit()}/logic_built",
+            "--links", f"{name}="]
+
+
+def said_of(name, named, folder, more=()):
+    """What the prover prints of the crate in this folder, past open goals, over what it keeps there of earlier runs."""
+    words = [kit() / "bin/rattle", "check", *words_for(name, named, folder), "--jobs", "1", "--allow-holes", *more]
+    words += ["--incremental", "out/incremental"]
+    return subprocess.run(words, cwd=folder, stdin=subprocess.DEVNULL, stdout=subprocess.PIPE, stderr=subprocess.STDOUT, text=True,
+                          errors="replace").stdout
