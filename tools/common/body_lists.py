@@ -4,7 +4,7 @@ import re
 
 CRATES = pathlib.Path(__file__).resolve().parent.parent.parent / "crates"
 FORM = re.compile(r"([\w-]+)\n\n```\nfile: (src/\S+\.rt)\n((?:old: .+\nnew:.*\n)+)refused in: ([\w:]+?)(?:: ([\w-]+))?\n```\n+")
-FUNCTION = re.compile(r"( *)(?:pub(?:\([^)]*\))? )?(?:const )?(?:unsafe )?fn (\w+)")
+FUNCTION = re.compile(r"( *)(?:pub(?:\([^)]*\))? )?(?:const )?(?:unsafe )?(?:extern \"C\" )?fn (\w+)")
 
 
 class BadBody(Exception):

@@ -1,0 +1,111 @@
+/* Times the library for C over the prefixes and addresses of a file of 32-bit numbers: how many there are of each, then base and
+ * length of each prefix, then the addresses. It prints names and nanoseconds of processor time, each for one prefix or address. */
+#define _POSIX_C_SOURCE 200809L
+#include <stdio.h>
+#include <stdlib.h>
+#include <time.h>
+#include <yarib.h>
+
+enum { CHUNK = 4096 };
+
+static uint32_t *numbers, prefixes, addresses;
+static const uint32_t *asked;
+static yarib_route *answers;
+
+static void need(int holds)
+{
+    if (!holds) {
+        fputs("bench/library.c: a call failed\n", stderr);
+        exit(1);
+    }
+}
+
+static double seconds(void)
+{
+    struct timespec now;
+    clock_gettime(CLOCK_PROCESS_CPUTIME_ID, &now);
+    return (double)now.tv_sec + (double)now.tv_nsec / 1e9;
+}
+
+static void say(const char *name, double from, uint32_t count)
+{
+    printf("%s %.0f\n", name, (seconds() - from) / count * 1e9);
+}
+
+static yarib_command command(uint32_t k)
+{
+    return (yarib_command){.operation = YARIB_ADD, .feed = 1, .base = numbers[2 + 2 * k], .len = (uint8_t)numbers[3 + 2 * k],
+                           .pref = k, .hop = YARIB_VIA, .via = k};
+}
+
+static void apply(const char *name, uint32_t kind)
+{
+    yarib table = YARIB_EMPTY;
+    yarib_reply reply;
+    need(yarib_new(&table, 1000000, kind) == YARIB_DONE && yarib_reserve(&table, prefixes) == YARIB_DONE);
+    double from = seconds();
+    for (uint32_t k = 0; k < prefixes; k++) {
+        yarib_command one = command(k);
+        need(yarib_apply(&table, &one, &reply) == YARIB_DONE);
+    }
+    say(name, from, prefixes);
+    yarib_free(&table);
+}
+
+static void fill(yarib *table)
+{
+    yarib_command commands[CHUNK];
+    yarib_reply replies[CHUNK];
+    need(yarib_new(table, 1000000, YARIB_PLAIN) == YARIB_DONE);
+    double from = seconds();
+    for (uint32_t start = 0; start < prefixes; start += CHUNK) {
+        uint32_t size = prefixes - start < CHUNK ? prefixes - start : CHUNK;
+        for (uint32_t k = 0; k < size; k++) commands[k] = command(start + k);
+        need(yarib_apply_each(table, commands, size, replies, size) == YARIB_DONE);
+    }
+    say("apply_each", from, prefixes);
+}
+
+static void look_up(const char *name, yarib *table, uint32_t size)
+{
+    double from = seconds();
+    for (uint32_t k = 0; k + size <= addresses; k += size) {
+        need(yarib_look_up(table, asked + k, size, answers + k, size) == YARIB_DONE);
+    }
+    say(name, from, addresses);
+}
+
+int main(int count, char **words)
+{
+    yarib table = YARIB_EMPTY, forwarding = YARIB_EMPTY;
+    need(count == 2);
+    FILE *file = fopen(words[1], "rb");
+    uint32_t sizes[2];
+    need(file && fread(sizes, sizeof *sizes, 2, file) == 2);
+    prefixes = sizes[0];
+    addresses = sizes[1];
+    size_t rest = 2 * (size_t)prefixes + addresses;
+    numbers = malloc((rest + 2) * sizeof *numbers);
+    answers = malloc(((size_t)addresses + 1) * sizeof *answers);
+    need(numbers && answers && fread(numbers + 2, sizeof *numbers, rest, file) == rest);
+    fclose(file);
+    asked = numbers + 2 + 2 * (size_t)prefixes;
+    apply("apply", YARIB_PLAIN);
+    apply("apply_journaled", YARIB_JOURNALED);
+    fill(&table);
+    look_up("look_up_1", &table, 1);
+    look_up("look_up_32", &table, 32);
+    look_up("look_up_4096", &table, CHUNK);
+    double from = seconds();
+    need(yarib_forward(&table, &forwarding) == YARIB_DONE);
+    say("forward", from, prefixes);
+    look_up("forwarding_1", &forwarding, 1);
+    look_up("forwarding_32", &forwarding, 32);
+    look_up("forwarding_4096", &forwarding, CHUNK);
+    unsigned long sum = 0;
+    for (uint32_t k = 0; k < addresses; k++) sum += answers[k].pref;
+    printf("sum %lu\n", sum);
+    yarib_free(&table);
+    yarib_free(&forwarding);
+    return 0;
+}

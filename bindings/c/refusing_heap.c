@@ -1,0 +1,41 @@
+/* In the place of the heap's object: the call of this number finds no memory, and those behind it do. */
+#include "refusing_heap.h"
+
+#include <stdbool.h>
+#include <stdlib.h>
+
+struct tried {
+    bool ok;
+    void *block;
+};
+
+long refused_call;
+static char nothing;
+
+static struct tried tried(void *block)
+{
+    return (struct tried){block != NULL, block != NULL ? block : &nothing};
+}
+
+static bool is_refused(void)
+{
+    return refused_call > 0 && --refused_call == 0;
+}
+
+struct tried rattle_alloc(size_t size, size_t alignment)
+{
+    (void)alignment;
+    return tried(is_refused() ? NULL : malloc(size ? size : 1));
+}
+
+struct tried rattle_realloc(void *block, size_t kept, size_t size, size_t alignment)
+{
+    (void)kept;
+    (void)alignment;
+    return tried(is_refused() ? NULL : realloc(block, size ? size : 1));
+}
+
+void rattle_dealloc(void *block)
+{
+    free(block);
+}

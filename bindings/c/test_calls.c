@@ -1,0 +1,187 @@
+/* Each status of each call, and that after it nothing has changed and nothing was written. */
+#include <stdio.h>
+#include <stdlib.h>
+#include <string.h>
+#include <yarib.h>
+
+#define CHECK(holds) ((holds) ? (void)0 : (fprintf(stderr, "%s:%d: %s\n", __FILE__, __LINE__, #holds), exit(1)))
+
+static const yarib_command add_eight = {
+    .operation = YARIB_ADD, .feed = 1, .base = 10u << 24, .len = 8, .pref = 5, .hop = YARIB_VIA, .via = 7};
+
+/* What is to stay is filled with this byte, and compared. */
+enum { MARK = 0x5a };
+
+static int is_marked(const void *place, size_t size)
+{
+    const unsigned char *bytes = place;
+    for (size_t k = 0; k < size; k++) {
+        if (bytes[k] != MARK) return 0;
+    }
+    return 1;
+}
+
+static size_t count_of(yarib *table)
+{
+    size_t total;
+    CHECK(yarib_count(table, &total) == YARIB_DONE);
+    return total;
+}
+
+/* A handle that holds nothing answers each call so. */
+static void nothing(yarib *empty)
+{
+    uint32_t address = 1;
+    yarib other = YARIB_EMPTY;
+    yarib_route route;
+    yarib_entry entry;
+    yarib_difference range;
+    yarib_reply reply;
+    size_t total;
+    memset(&route, MARK, sizeof route);
+    memset(&reply, MARK, sizeof reply);
+    memset(&total, MARK, sizeof total);
+    CHECK(yarib_apply(empty, &add_eight, &reply) == YARIB_NOTHING && is_marked(&reply, sizeof reply));
+    CHECK(yarib_apply_each(empty, &add_eight, 1, &reply, 1) == YARIB_NOTHING && is_marked(&reply, sizeof reply));
+    CHECK(yarib_reserve(empty, 1) == YARIB_NOTHING);
+    CHECK(yarib_look_up(empty, &address, 1, &route, 1) == YARIB_NOTHING && is_marked(&route, sizeof route));
+    CHECK(yarib_look_up_all(empty, 1, 0, &route, 1, &total) == YARIB_NOTHING && is_marked(&route, sizeof route));
+    CHECK(yarib_routes(empty, 0, &route, 1, &total) == YARIB_NOTHING && is_marked(&route, sizeof route));
+    CHECK(yarib_count(empty, &total) == YARIB_NOTHING);
+    CHECK(yarib_journal(empty, 0, &entry, 1, &total) == YARIB_NOTHING);
+    CHECK(yarib_first_difference(empty, &other, 0, 0, &range) == YARIB_NOTHING);
+    CHECK(yarib_forward(empty, &other) == YARIB_NOTHING && yarib_share(empty, &other) == YARIB_NOTHING);
+    CHECK(yarib_memory(empty, &total) == YARIB_NOTHING && is_marked(&total, sizeof total));
+    yarib_free(empty);
+    yarib_free(empty);
+}
+
+/* Numbers and commands that there are not. */
+static void faults(void)
+{
+    yarib table = YARIB_EMPTY;
+    yarib_reply reply, replies[3];
+    CHECK(yarib_new(&table, 0, YARIB_PLAIN) == YARIB_BAD_NUMBER && yarib_new(&table, 1000001, YARIB_PLAIN) == YARIB_BAD_NUMBER);
+    CHECK(yarib_new(&table, 1, 2) == YARIB_BAD_NUMBER && table.inside == NULL);
+    CHECK(yarib_new(&table, 1, YARIB_PLAIN) == YARIB_DONE && yarib_apply(&table, &add_eight, &reply) == YARIB_DONE);
+    CHECK(yarib_new(&table, 0, YARIB_PLAIN) == YARIB_BAD_NUMBER && count_of(&table) == 1);
+    yarib_command commands[] = {add_eight, add_eight, add_eight};
+    commands[0].feed = 0;
+    commands[1].feed = 65;
+    memset(&reply, MARK, sizeof reply);
+    CHECK(yarib_apply(&table, &commands[0], &reply) == YARIB_BAD_NUMBER);
+    CHECK(yarib_apply(&table, &commands[1], &reply) == YARIB_BAD_NUMBER);
+    commands[2].operation = 0;
+    CHECK(yarib_apply(&table, &commands[2], &reply) == YARIB_BAD_COMMAND);
+    commands[2].operation = YARIB_PURGE + 1;
+    CHECK(yarib_apply(&table, &commands[2], &reply) == YARIB_BAD_COMMAND);
+    commands[2] = add_eight;
+    commands[2].len = 33;
+    CHECK(yarib_apply(&table, &commands[2], &reply) == YARIB_BAD_COMMAND);
+    commands[2].len = 7;
+    CHECK(yarib_apply(&table, &commands[2], &reply) == YARIB_DONE && reply.code == YARIB_FULL);
+    commands[2].len = 6;
+    memset(&reply, MARK, sizeof reply);
+    CHECK(yarib_apply(&table, &commands[2], &reply) == YARIB_BAD_COMMAND);
+    commands[2] = add_eight;
+    commands[2].hop = 3;
+    CHECK(yarib_apply(&table, &commands[2], &reply) == YARIB_BAD_COMMAND && is_marked(&reply, sizeof reply));
+    CHECK(yarib_apply_each(&table, commands, 3, replies, 2) == YARIB_BAD_SIZE);
+    commands[1] = (yarib_command){.operation = YARIB_DUMP, .feed = 64};
+    CHECK(yarib_apply_each(&table, commands, 3, replies, 3) == YARIB_DONE && count_of(&table) == 1);
+    CHECK(replies[0].code == YARIB_UNANSWERED && replies[0].count == YARIB_BAD_NUMBER);
+    CHECK(replies[1].code == YARIB_DUMPED && replies[1].count == 1);
+    CHECK(replies[2].code == YARIB_UNANSWERED && replies[2].count == YARIB_BAD_COMMAND);
+    yarib_free(&table);
+}
+
+/* What a table, one without a journal, and a forwarding table can't be asked. */
+static void kinds(void)
+{
+    yarib table = YARIB_EMPTY, forwarding = YARIB_EMPTY, other = YARIB_EMPTY;
+    yarib_reply reply;
+    yarib_route route, routes[2];
+    yarib_entry entry;
+    yarib_difference range;
+    uint32_t address = add_eight.base;
+    size_t total;
+    CHECK(yarib_new(&table, 9, YARIB_JOURNALED) == YARIB_DONE && yarib_apply(&table, &add_eight, &reply) == YARIB_DONE);
+    CHECK(yarib_reserve(&table, 1000) == YARIB_DONE && yarib_reserve(&table, (size_t)-1) == YARIB_NO_MEMORY);
+    CHECK(yarib_journal(&table, 0, &entry, 1, &total) == YARIB_DONE && total == 1);
+    CHECK(memcmp(&entry.command, &add_eight, sizeof(uint32_t) * 5 + 2) == 0 && entry.reply.code == YARIB_ADDED);
+    CHECK(yarib_forward(&table, &forwarding) == YARIB_DONE && yarib_share(&forwarding, &other) == YARIB_DONE);
+    CHECK(yarib_share(&table, &other) == YARIB_WRONG_KIND && yarib_memory(&table, &total) == YARIB_WRONG_KIND);
+    CHECK(yarib_memory(&forwarding, &total) == YARIB_DONE && total >= (size_t)1 << 26);
+    CHECK(yarib_apply(&forwarding, &add_eight, &reply) == YARIB_WRONG_KIND);
+    CHECK(yarib_count(&forwarding, &total) == YARIB_WRONG_KIND);
+    CHECK(yarib_apply_each(&forwarding, &add_eight, 1, &reply, 1) == YARIB_DONE);
+    CHECK(reply.code == YARIB_UNANSWERED && reply.count == YARIB_WRONG_KIND && yarib_reserve(&forwarding, 1) == YARIB_DONE);
+    CHECK(yarib_routes(&forwarding, 0, &route, 1, &total) == YARIB_WRONG_KIND);
+    CHECK(yarib_look_up_all(&forwarding, address, 0, &route, 1, &total) == YARIB_WRONG_KIND);
+    CHECK(yarib_journal(&forwarding, 0, &entry, 1, &total) == YARIB_WRONG_KIND);
+    CHECK(yarib_forward(&forwarding, &other) == YARIB_WRONG_KIND);
+    CHECK(yarib_first_difference(&table, &forwarding, 0, 0, &range) == YARIB_WRONG_KIND);
+    yarib_free(&table);
+    CHECK(yarib_look_up(&other, &address, 1, &route, 1) == YARIB_DONE && route.via == 7 && route.len == 8);
+    CHECK(yarib_look_up(&other, &address, 1, routes, 2) == YARIB_BAD_SIZE);
+    yarib_free(&forwarding);
+    CHECK(yarib_look_up(&other, &address, 1, &route, 1) == YARIB_DONE && route.feed == 1);
+    CHECK(yarib_new(&other, 1, YARIB_PLAIN) == YARIB_DONE && yarib_look_up(&other, &address, 1, &route, 1) == YARIB_DONE);
+    CHECK(route.hop == YARIB_NO_ROUTE && yarib_journal(&other, 0, &entry, 1, &total) == YARIB_WRONG_KIND);
+    yarib_free(&other);
+}
+
+/* Two tables, from each address on. */
+static void differences(void)
+{
+    yarib old = YARIB_EMPTY, new = YARIB_EMPTY;
+    yarib_reply reply;
+    yarib_difference range;
+    CHECK(yarib_new(&old, 9, YARIB_PLAIN) == YARIB_DONE && yarib_new(&new, 9, YARIB_JOURNALED) == YARIB_DONE);
+    CHECK(yarib_first_difference(&old, &new, 0, 0, &range) == YARIB_NONE_LEFT);
+    CHECK(yarib_first_difference(&old, &new, 2, 0, &range) == YARIB_BAD_NUMBER);
+    CHECK(yarib_apply(&new, &add_eight, &reply) == YARIB_DONE);
+    CHECK(yarib_first_difference(&old, &new, 0, 0, &range) == YARIB_DONE);
+    CHECK(range.first == 10u << 24 && range.last == (11u << 24) - 1 && range.before.hop == YARIB_NO_ROUTE);
+    CHECK(range.after.hop == YARIB_VIA && range.after.via == 7 && range.after.len == 0 && range.after.feed == 0);
+    CHECK(yarib_first_difference(&new, &old, 1, (10u << 24) + 5, &range) == YARIB_DONE);
+    CHECK(range.first == (10u << 24) + 5 && range.before.len == 8 && range.before.pref == 5 && range.after.hop == YARIB_NO_ROUTE);
+    CHECK(yarib_first_difference(&old, &new, 1, 11u << 24, &range) == YARIB_NONE_LEFT);
+    yarib_free(&old);
+    yarib_free(&new);
+}
+
+/* Texts, and room for them. */
+static void texts(void)
+{
+    yarib_prefix prefix = {3, 4}, bad = {1, 8}, longer = {0, 33};
+    uint32_t address = 9;
+    char text[20];
+    size_t used = 77;
+    CHECK(yarib_prefix_parse("10.0.0.0/8x", 10, &prefix) == YARIB_DONE && prefix.base == 10u << 24 && prefix.len == 8);
+    CHECK(yarib_prefix_parse("10.0.0.0/08", 11, &prefix) == YARIB_BAD_TEXT);
+    CHECK(yarib_prefix_parse("", 0, &prefix) == YARIB_BAD_TEXT);
+    CHECK(yarib_prefix_parse("10.0.0.0/33", 11, &prefix) == YARIB_BAD_LENGTH);
+    CHECK(yarib_prefix_parse("10.0.0.1/8", 10, &prefix) == YARIB_BAD_BITS && prefix.base == 10u << 24 && prefix.len == 8);
+    CHECK(yarib_address_parse("255.255.255.255", 15, &address) == YARIB_DONE && address == 0xffffffffu);
+    CHECK(yarib_address_parse("256.0.0.0", 9, &address) == YARIB_BAD_TEXT && address == 0xffffffffu);
+    memset(text, MARK, sizeof text);
+    CHECK(yarib_prefix_print(&prefix, text, 9, &used) == YARIB_BAD_SIZE);
+    CHECK(yarib_address_print(address, text, 14, &used) == YARIB_BAD_SIZE);
+    CHECK(yarib_prefix_print(&bad, text, 20, &used) == YARIB_BAD_BITS);
+    CHECK(yarib_prefix_print(&longer, text, 20, &used) == YARIB_BAD_LENGTH);
+    CHECK(used == 77 && is_marked(text, sizeof text));
+    CHECK(yarib_prefix_print(&prefix, text, 10, &used) == YARIB_DONE && used == 10 && memcmp(text, "10.0.0.0/8\x5a", 11) == 0);
+    CHECK(yarib_address_print(address, text, 15, &used) == YARIB_DONE && used == 15 && memcmp(text, "255.255.255.255", 15) == 0);
+}
+
+int main(void)
+{
+    yarib empty = YARIB_EMPTY;
+    nothing(&empty);
+    faults();
+    kinds();
+    differences();
+    texts();
+    return 0;
+}

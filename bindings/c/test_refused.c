@@ -1,0 +1,120 @@
+/* Each call for memory is refused in turn: the status says so, all is as it was, and the same call then succeeds. */
+#include "refusing_heap.h"
+
+#include <stdio.h>
+#include <stdlib.h>
+#include <yarib.h>
+
+#define CHECK(holds) ((holds) ? (void)0 : (fprintf(stderr, "%s:%d: %s\n", __FILE__, __LINE__, #holds), exit(1)))
+
+enum { ROUTES = 60 };
+
+static int refused;
+
+/* How many routes and entries there are, asked without memory. */
+static size_t sizes_of(yarib *table, uint32_t kind)
+{
+    size_t routes, entries = 0;
+    yarib_entry entry;
+    CHECK(yarib_count(table, &routes) == YARIB_DONE);
+    if (kind == YARIB_JOURNALED) CHECK(yarib_journal(table, 0, &entry, 0, &entries) == YARIB_DONE);
+    return routes * 1000 + entries;
+}
+
+/* Fills a table of 20 prefixes with the routes of three feeds. */
+static void fill(yarib *table, uint32_t kind)
+{
+    for (uint32_t k = 0; k < ROUTES; k++) {
+        yarib_command command = {.operation = YARIB_ADD, .feed = 1 + k / 20, .base = k % 20 << 24, .len = 8, .pref = k,
+                                 .hop = YARIB_VIA, .via = k};
+        yarib_reply reply = {.code = 99};
+        size_t before = sizes_of(table, kind);
+        uint32_t status = yarib_apply(table, &command, &reply);
+        if (status != YARIB_DONE) {
+            CHECK(status == YARIB_NO_MEMORY && reply.code == 99 && sizes_of(table, kind) == before);
+            refused++;
+            CHECK(yarib_apply(table, &command, &reply) == YARIB_DONE);
+        }
+        CHECK(reply.code == YARIB_ADDED);
+    }
+}
+
+/* Asks what takes memory, and each again where it was refused. */
+static void ask(yarib *table)
+{
+    yarib_route all[ROUTES] = {{0}};
+    uint32_t address = 5u << 24, status;
+    size_t total = 99;
+    while ((status = yarib_routes(table, 0, all, ROUTES, &total)) != YARIB_DONE) {
+        CHECK(status == YARIB_NO_MEMORY && total == 99 && all[0].feed == 0);
+        refused++;
+    }
+    CHECK(total == ROUTES && all[ROUTES - 1].base == 19u << 24);
+    while ((status = yarib_look_up_all(table, address, 0, all, ROUTES, &total)) != YARIB_DONE) {
+        CHECK(status == YARIB_NO_MEMORY && total == ROUTES);
+        refused++;
+    }
+    CHECK(total == 3 && all[0].pref == 5);
+}
+
+/* Makes two handles on a forwarding table. */
+static void forward(yarib *table)
+{
+    yarib forwarding = YARIB_EMPTY, other = YARIB_EMPTY;
+    uint32_t address = 5u << 24, status;
+    yarib_route answer;
+    while ((status = yarib_forward(table, &forwarding)) != YARIB_DONE) {
+        CHECK(status == YARIB_NO_MEMORY && forwarding.inside == NULL);
+        refused++;
+    }
+    while ((status = yarib_share(&forwarding, &other)) != YARIB_DONE) {
+        CHECK(status == YARIB_NO_MEMORY && other.inside == NULL);
+        refused++;
+    }
+    CHECK(yarib_look_up(&other, &address, 1, &answer, 1) == YARIB_DONE && answer.pref == 5);
+    yarib_free(&forwarding);
+    yarib_free(&other);
+}
+
+/* A table of this kind from its making on, with one refusal: whether there was a call for memory left to be refused. */
+static int refuse_table(long number, uint32_t kind)
+{
+    yarib table = YARIB_EMPTY;
+    uint32_t status;
+    refused_call = number;
+    while ((status = yarib_new(&table, 100, kind)) != YARIB_DONE) {
+        CHECK(status == YARIB_NO_MEMORY && table.inside == NULL);
+        refused++;
+    }
+    fill(&table, kind);
+    ask(&table);
+    yarib_free(&table);
+    return refused_call == 0;
+}
+
+/* The same of a forwarding table. */
+static int refuse_forwarding(long number, uint32_t kind)
+{
+    yarib table = YARIB_EMPTY;
+    refused_call = 0;
+    CHECK(yarib_new(&table, 100, kind) == YARIB_DONE);
+    fill(&table, kind);
+    refused_call = number;
+    forward(&table);
+    yarib_free(&table);
+    return refused_call == 0;
+}
+
+int main(void)
+{
+    for (uint32_t kind = YARIB_PLAIN; kind <= YARIB_JOURNALED; kind++) {
+        long number = 1;
+        while (refuse_table(number, kind)) number++;
+        CHECK(number > ROUTES / 2);
+        number = 1;
+        while (refuse_forwarding(number, kind)) number++;
+        CHECK(number > 4);
+    }
+    printf("refused %d\n", refused);
+    return 0;
+}

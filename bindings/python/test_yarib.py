@@ -1,0 +1,232 @@
+"""What Python's binding does beside the library's own calls: its types, exceptions, buffers and threads.
+
+    YARIB_LIBRARY=bindings/out/libyarib.so.0 python3 bindings/python/test_yarib.py
+"""
+import array
+import gc
+import ipaddress
+import pathlib
+import random
+import sys
+import threading
+import unittest
+
+sys.path.insert(0, str(pathlib.Path(__file__).resolve().parent))
+sys.path.insert(0, str(pathlib.Path(__file__).resolve().parents[2] / "tests"))
+import table_model
+import yarib
+
+NETWORK, ADDRESS = ipaddress.IPv4Network, ipaddress.IPv4Address
+
+
+def route(prefix, feed, pref, via):
+    base, length = yarib.prefix_of(prefix)
+    return yarib.Route(base, length, feed, pref, None if via is None else int(ADDRESS(via)))
+
+
+class Tables(unittest.TestCase):
+    def test_a_route_is_found_by_every_kind_of_address(self):
+        with yarib.Table() as table:
+            table.add(NETWORK("10.0.0.0/8"), via="192.0.2.1", pref=10)
+            table.add((0x0A010000, 16), via=None, feed=2)
+            wide, narrow = route("10.0.0.0/8", 1, 10, "192.0.2.1"), route("10.1.0.0/16", 2, 0, None)
+            for address in ("10.1.2.3", 0x0A010203, ADDRESS("10.1.2.3")):
+                self.assertEqual(table.look_up(address), narrow)
+                self.assertEqual(table.look_up_all(address), [narrow, wide])
+            self.assertIsNone(table.look_up("192.0.2.1"))
+            self.assertEqual(str(wide), "10.0.0.0/8 feed 1 pref 10 via 192.0.2.1")
+            self.assertEqual((narrow.prefix, narrow.next_hop), (NETWORK("10.1.0.0/16"), None))
+            self.assertEqual(list(table), [wide, narrow])
+            self.assertEqual(len(table), 2)
+            self.assertIn("10.1.0.0/16", table)
+            self.assertNotIn("10.1.0.0/17", table)
+
+    def test_what_changes_nothing_is_an_exception(self):
+        table = yarib.Table(limit=1)
+        table.add("10.0.0.0/8", via="192.0.2.1")
+        with self.assertRaises(yarib.Exists):
+            table.add("10.0.0.0/8", via="192.0.2.2")
+        with self.assertRaises(yarib.Full):
+            table.add("11.0.0.0/8", via="192.0.2.2")
+        with self.assertRaises(yarib.Missing):
+            table.withdraw("11.0.0.0/8")
+        with self.assertRaises(yarib.Missing):
+            table.replace("10.0.0.0/8", via=None, feed=2)
+        table.replace("10.0.0.0/8", via=None, pref=7)
+        self.assertEqual(table.routes(), [route("10.0.0.0/8", 1, 7, None)])
+        self.assertEqual(table.purge(), 1)
+        table.add("10.0.0.0/8", via=None)
+        table.withdraw("10.0.0.0/8")
+        self.assertEqual(len(table), 0)
+
+    def test_what_is_no_number_or_text_is_refused(self):
+        for limit in (0, 1_000_001, -1, 1 << 32):
+            self.assertRaises(ValueError, yarib.Table, limit)
+        table = yarib.Table()
+        for feed in (0, 65, -1, 1 << 32, (1 << 32) + 1):
+            self.assertRaises(ValueError, table.add, "10.0.0.0/8", None, 0, feed)
+        for pref in (-1, 1 << 32):
+            self.assertRaises(ValueError, table.add, "10.0.0.0/8", None, pref)
+        pairs = (1, 8), (0, 33), (0, 256), (1 << 32, 0), (0, -1)
+        for prefix in ("10.0.0.0", "10.0.0.0/33", "10.0.0.1/8", "10.0.0.0/8\0", "", *pairs):
+            self.assertRaises(ValueError, table.add, prefix, None)
+        for address in ("10.0.0.0.", "256.0.0.0", "\udcff", -1, 1 << 32):
+            self.assertRaises(ValueError, table.look_up, address)
+            self.assertRaises(ValueError, table.look_up_each, [address])
+        self.assertRaises(KeyError, table.apply, 1, "remove", "10.0.0.0/8")
+        self.assertEqual(len(table), 0)
+
+    def test_a_closed_table_says_so(self):
+        table = yarib.Table()
+        table.close()
+        table.close()
+        for call in (len, list, yarib.Forwarding):
+            self.assertRaises(yarib.Refused, call, table)
+        self.assertRaises(yarib.Refused, table.add, "10.0.0.0/8", None)
+        self.assertRaises(yarib.Refused, table.look_up, 1)
+
+    def test_outcomes_and_the_journal(self):
+        table = yarib.Table(limit=1, journal=True)
+        table.reserve(10)
+        commands = [(1, "add", "10.0.0.0/8", 5, "192.0.2.1"), (0, "dump"), (2, "lookup", "10.1.1.1"), (1, "purge"), (1, "dump")]
+        outcomes = table.apply_each(commands)
+        self.assertEqual([one.said for one in outcomes], ["added", "unanswered", "found", "purged", "dumped"])
+        self.assertEqual((outcomes[1].status, outcomes[2].route.pref, outcomes[3].count), ("bad number", 5, 1))
+        self.assertEqual(table.apply_each([]), [])
+        entries = table.journal()
+        self.assertEqual([entry.command for entry in entries], [
+            (1, "add", NETWORK("10.0.0.0/8"), 5, ADDRESS("192.0.2.1")), (2, "lookup", ADDRESS("10.1.1.1")), (1, "purge"),
+            (1, "dump")])
+        self.assertEqual([entry.outcome for entry in entries], outcomes[:1] + outcomes[2:])
+        self.assertRaises(yarib.Refused, yarib.Table().journal)
+        self.assertRaises(MemoryError, table.reserve, (1 << 64) - 1)
+
+    def test_differences(self):
+        old, new = yarib.Table(), yarib.Table()
+        new.add("10.0.0.0/8", via="192.0.2.1")
+        new.add("255.255.255.255/32", via=None)
+        first, last = 10 << 24, (11 << 24) - 1
+        self.assertEqual(list(old.differences(new)), [
+            (first, last, False, ADDRESS("192.0.2.1")), (0xFFFFFFFF, 0xFFFFFFFF, False, None)])
+        self.assertEqual(list(new.differences(old, by="route"))[0], (first, last, route("10.0.0.0/8", 1, 0, "192.0.2.1"), None))
+        self.assertEqual(list(new.differences(new)), [])
+
+
+class Buffers(unittest.TestCase):
+    def setUp(self):
+        self.table = yarib.Table()
+        self.table.add("10.0.0.0/8", via="192.0.2.1", pref=10)
+        self.asked = [0x0A000000, 0x0B000000, 0x0AFFFFFF]
+        self.wanted = [route("10.0.0.0/8", 1, 10, "192.0.2.1"), None, route("10.0.0.0/8", 1, 10, "192.0.2.1")]
+
+    def test_lists_arrays_and_bytes(self):
+        block = array.array("I", self.asked)
+        for addresses in (self.asked, map(int, self.asked), block, memoryview(block), memoryview(bytes(block)).cast("I")):
+            answers = self.table.look_up_each(addresses)
+            self.assertEqual((list(answers), answers[1:], answers[-1]), (self.wanted, self.wanted[1:], self.wanted[2]))
+            self.assertEqual(len(answers), 3)
+        for addresses in ([], array.array("I")):
+            self.assertEqual(list(self.table.look_up_each(addresses)), [])
+
+    def test_other_buffers_are_refused(self):
+        for block in (array.array("i", [1]), array.array("Q", [1]), b"1234", memoryview(array.array("I", range(4)))[::2]):
+            self.assertRaises(ValueError, self.table.look_up_each, block)
+
+    def test_answers_are_read_where_they_lie(self):
+        answers = self.table.look_up_each(self.asked)
+        block = answers.memory()
+        self.assertEqual((len(block), block[0:4].cast("I")[0], block[17]), (60, 0x0A000000, 1))
+        self.assertTrue(block.readonly)
+        del answers
+        gc.collect()
+        self.assertEqual(block[57], 1)
+
+    def test_numpy_shares_memory(self):
+        try:
+            import numpy
+        except ImportError:
+            self.skipTest("numpy is not here")
+        answers = self.table.look_up_each(numpy.array(self.asked, dtype=numpy.uint32))
+        shown = numpy.frombuffer(answers.memory(), answers.dtype)
+        self.assertEqual(shown["via"].tolist(), [0xC0000201, 0, 0xC0000201])
+
+
+class Forwarding(unittest.TestCase):
+    def test_it_stays_as_it_was_made(self):
+        table = yarib.Table()
+        table.add("10.0.0.0/8", via="192.0.2.1")
+        forwarding = table.forward()
+        table.purge()
+        self.assertEqual(forwarding.look_up("10.1.2.3"), route("10.0.0.0/8", 1, 0, "192.0.2.1"))
+        self.assertGreaterEqual(forwarding.memory(), 1 << 26)
+
+    def test_threads_ask_it_at_once(self):
+        table = yarib.Table()
+        for k in range(256):
+            table.add((k << 24, 8), via=k, pref=k)
+        forwarding, wrong = table.forward(), []
+        asked = array.array("I", (k % 256 << 24 | k for k in range(50_000)))
+
+        def look_up():
+            for _ in range(5):
+                answers = forwarding.look_up_each(asked)
+                wrong.extend(k for k in range(0, 50_000, 997) if answers[k].pref != k % 256)
+            wrong.extend([-1] * (forwarding.look_up(asked[1]).pref != 1))
+
+        threads = [threading.Thread(target=look_up) for _ in range(8)]
+        for thread in threads:
+            thread.start()
+        for thread in threads:
+            thread.join()
+        self.assertEqual(wrong, [])
+
+    def test_threads_change_one_table(self):
+        table = yarib.Table()
+
+        def change(feed):
+            for k in range(500):
+                table.add((k << 12, 20), via=k, feed=feed)
+            for k in range(0, 500, 2):
+                table.withdraw((k << 12, 20), feed=feed)
+
+        threads = [threading.Thread(target=change, args=(feed,)) for feed in range(1, 9)]
+        for thread in threads:
+            thread.start()
+        for thread in threads:
+            thread.join()
+        self.assertEqual(len(table), 8 * 250)
+
+
+class Model(unittest.TestCase):
+    """Random commands of several feeds, beside the model of the program's tests."""
+
+    def test_replies_and_routes_are_the_model_s(self):
+        for seed in range(20):
+            draw = random.Random(seed)
+            limit = draw.choice((3, 8, 1000))
+            table, model = yarib.Table(limit, journal=seed % 2 == 1), table_model.Table(limit)
+            for _ in range(400):
+                feed, words = draw.randrange(1, 65) if seed % 4 else draw.randrange(1, 4), self.words(draw)
+                self.assertEqual(self.said(table.apply(feed, *self.typed(words))), model.apply(feed, words), (seed, words))
+
+    def words(self, draw):
+        length = draw.choice((0, 1, 2, 3, 30, 31, 32))
+        base = draw.choice((0, 1 << 31, 10 << 24, 0xFFFFFFF8)) + draw.randrange(8)
+        prefix = f"{ADDRESS(base >> 32 - length << 32 - length)}/{length}"
+        put = [prefix, str(draw.randrange(3)), str(ADDRESS(draw.randrange(4)))]
+        kinds = {"add": put, "replace": put, "withdraw": [prefix], "lookup": [str(ADDRESS(base))], "dump": [], "purge": []}
+        name = draw.choices(list(kinds), (12, 4, 4, 4, 1, 1))[0]
+        return [name, *kinds[name]]
+
+    def typed(self, words):
+        name, *rest = words
+        return (name, rest[0], int(rest[1]), rest[2]) if name in ("add", "replace") else words
+
+    def said(self, outcome):
+        if outcome.said == "found":
+            return f"route {outcome.route}"
+        return f"{outcome.said} {outcome.count}" if outcome.said in ("dumped", "purged") else outcome.said
+
+
+if __name__ == "__main__":
+    unittest.main()

@@ -1,0 +1,104 @@
+"""The shared library and what its header declares."""
+import ctypes
+import ctypes.util
+import os
+import pathlib
+
+VERSION = "0.1"
+NAME = "libyarib.so.0"
+
+# Of the header: what a call returns, by its number.
+STATUS = ("done", "nothing", "bad number", "bad command", "no memory", "bad size", "none left", "bad text", "bad length",
+          "bad bits", "wrong kind")
+(DONE, NOTHING, BAD_NUMBER, BAD_COMMAND, NO_MEMORY, BAD_SIZE, NONE_LEFT, BAD_TEXT, BAD_LENGTH, BAD_BITS,
+ WRONG_KIND) = range(len(STATUS))
+ADD, REPLACE, WITHDRAW, LOOKUP, DUMP, PURGE = range(1, 7)
+NO_ROUTE, VIA, DISCARD = range(3)
+(UNANSWERED, ADDED, EXISTS, FULL, REPLACED, WITHDRAWN, MISSING, FOUND, NOT_FOUND, DUMPED, PURGED) = range(11)
+CODES = ("unanswered", "added", "exists", "full", "replaced", "withdrawn", "missing", "found", "no route", "dumped", "purged")
+
+
+class RawRoute(ctypes.Structure):
+    _fields_ = [("base", ctypes.c_uint32), ("pref", ctypes.c_uint32), ("via", ctypes.c_uint32), ("feed", ctypes.c_uint32),
+                ("len", ctypes.c_uint8), ("hop", ctypes.c_uint8)]
+
+
+class RawCommand(ctypes.Structure):
+    _fields_ = [("operation", ctypes.c_uint32), ("feed", ctypes.c_uint32), ("base", ctypes.c_uint32),
+                ("pref", ctypes.c_uint32), ("via", ctypes.c_uint32), ("len", ctypes.c_uint8), ("hop", ctypes.c_uint8)]
+
+
+class RawReply(ctypes.Structure):
+    _fields_ = [("code", ctypes.c_uint32), ("count", ctypes.c_uint32), ("route", RawRoute)]
+
+
+class RawEntry(ctypes.Structure):
+    _fields_ = [("command", RawCommand), ("reply", RawReply)]
+
+
+class RawPrefix(ctypes.Structure):
+    _fields_ = [("base", ctypes.c_uint32), ("len", ctypes.c_uint8)]
+
+
+class RawDifference(ctypes.Structure):
+    _fields_ = [("first", ctypes.c_uint32), ("last", ctypes.c_uint32), ("before", RawRoute), ("after", RawRoute)]
+
+
+NUMBER, SIZE, POINTER = ctypes.c_uint32, ctypes.c_size_t, ctypes.c_void_p
+CALLS = {
+    "yarib_new": (POINTER, NUMBER, NUMBER),
+    "yarib_free": (POINTER,),
+    "yarib_apply": (POINTER, POINTER, POINTER),
+    "yarib_apply_each": (POINTER, POINTER, SIZE, POINTER, SIZE),
+    "yarib_reserve": (POINTER, SIZE),
+    "yarib_look_up": (POINTER, POINTER, SIZE, POINTER, SIZE),
+    "yarib_look_up_all": (POINTER, NUMBER, SIZE, POINTER, SIZE, POINTER),
+    "yarib_routes": (POINTER, SIZE, POINTER, SIZE, POINTER),
+    "yarib_count": (POINTER, POINTER),
+    "yarib_journal": (POINTER, SIZE, POINTER, SIZE, POINTER),
+    "yarib_first_difference": (POINTER, POINTER, NUMBER, NUMBER, POINTER),
+    "yarib_forward": (POINTER, POINTER),
+    "yarib_share": (POINTER, POINTER),
+    "yarib_memory": (POINTER, POINTER),
+    "yarib_prefix_parse": (ctypes.c_char_p, SIZE, POINTER),
+    "yarib_prefix_print": (POINTER, POINTER, SIZE, POINTER),
+    "yarib_address_parse": (ctypes.c_char_p, SIZE, POINTER),
+    "yarib_address_print": (NUMBER, POINTER, SIZE, POINTER),
+}
+
+
+def file_of_library():
+    """Where the shared library lies: as YARIB_LIBRARY says, beside this package, or where the system finds it."""
+    if named := os.environ.get("YARIB_LIBRARY"):
+        return named
+    beside = pathlib.Path(__file__).with_name(NAME)
+    return str(beside) if beside.exists() else ctypes.util.find_library("yarib") or NAME
+
+
+def load(kind):
+    library = kind(file_of_library())
+    for name, types in CALLS.items():
+        call = getattr(library, name)
+        call.argtypes = types
+        call.restype = None if name == "yarib_free" else NUMBER
+    return library
+
+
+# `held` keeps Python's lock, so that no two threads are inside one handle; `freed` lets other threads run, and is for handles
+# that one thread alone has.
+held, freed = load(ctypes.PyDLL), load(ctypes.CDLL)
+
+
+class Refused(RuntimeError):
+    """A call that what the handle holds can't be asked, or a table that was closed."""
+
+
+def check(status):
+    """Raises what a status stands for."""
+    if status == DONE:
+        return
+    if status == NO_MEMORY:
+        raise MemoryError("yarib: memory was refused")
+    if status in (NOTHING, WRONG_KIND):
+        raise Refused("the table is closed" if status == NOTHING else "what the handle holds can't be asked this")
+    raise ValueError(f"yarib: {STATUS[status]}")

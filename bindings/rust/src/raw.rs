@@ -1,0 +1,242 @@
+//! What the header of the C library declares, and one safe call over each of its calls. No other module is unsafe.
+//!
+//! A `Handle` is made here alone, from the null pointer, and is never copied; every call takes it by `&mut`, so one call at
+//! a time is on it. References and slices are never null.
+#![allow(unsafe_code)]
+
+use std::ffi::c_void;
+use std::ptr::null_mut;
+
+pub const DONE: u32 = 0;
+pub const NO_MEMORY: u32 = 4;
+
+#[repr(C)]
+#[derive(Clone, Copy, Debug, Default, PartialEq, Eq)]
+pub struct Route {
+    pub base: u32,
+    pub pref: u32,
+    pub via: u32,
+    pub feed: u32,
+    pub len: u8,
+    pub hop: u8,
+}
+
+#[repr(C)]
+#[derive(Clone, Copy, Debug, Default, PartialEq, Eq)]
+pub struct Command {
+    pub operation: u32,
+    pub feed: u32,
+    pub base: u32,
+    pub pref: u32,
+    pub via: u32,
+    pub len: u8,
+    pub hop: u8,
+}
+
+#[repr(C)]
+#[derive(Clone, Copy, Debug, Default, PartialEq, Eq)]
+pub struct Reply {
+    pub code: u32,
+    pub count: u32,
+    pub route: Route,
+}
+
+#[repr(C)]
+#[derive(Clone, Copy, Debug, Default, PartialEq, Eq)]
+pub struct Entry {
+    pub command: Command,
+    pub reply: Reply,
+}
+
+#[repr(C)]
+#[derive(Clone, Copy, Debug, Default, PartialEq, Eq)]
+pub struct Prefix {
+    pub base: u32,
+    pub len: u8,
+}
+
+#[repr(C)]
+#[derive(Clone, Copy, Debug, Default, PartialEq, Eq)]
+pub struct Difference {
+    pub first: u32,
+    pub last: u32,
+    pub before: Route,
+    pub after: Route,
+}
+
+/// What C calls a handle: it owns what it holds, and is the one pointer to it.
+#[repr(C)]
+#[derive(Debug)]
+pub struct Handle {
+    inside: *mut c_void,
+}
+
+extern "C" {
+    fn yarib_new(table: *mut Handle, limit: u32, kind: u32) -> u32;
+    fn yarib_free(table: *mut Handle);
+    fn yarib_apply(table: *mut Handle, command: *const Command, reply: *mut Reply) -> u32;
+    fn yarib_apply_each(
+        table: *mut Handle,
+        commands: *const Command,
+        size: usize,
+        replies: *mut Reply,
+        room: usize,
+    ) -> u32;
+    fn yarib_reserve(table: *mut Handle, entries: usize) -> u32;
+    fn yarib_look_up(
+        table: *mut Handle,
+        addresses: *const u32,
+        size: usize,
+        answers: *mut Route,
+        room: usize,
+    ) -> u32;
+    fn yarib_look_up_all(
+        table: *mut Handle,
+        address: u32,
+        skip: usize,
+        routes: *mut Route,
+        room: usize,
+        total: *mut usize,
+    ) -> u32;
+    fn yarib_routes(
+        table: *mut Handle,
+        skip: usize,
+        routes: *mut Route,
+        room: usize,
+        total: *mut usize,
+    ) -> u32;
+    fn yarib_count(table: *mut Handle, total: *mut usize) -> u32;
+    fn yarib_journal(
+        table: *mut Handle,
+        skip: usize,
+        entries: *mut Entry,
+        room: usize,
+        total: *mut usize,
+    ) -> u32;
+    fn yarib_first_difference(
+        old: *mut Handle,
+        new: *mut Handle,
+        by: u32,
+        from: u32,
+        difference: *mut Difference,
+    ) -> u32;
+    fn yarib_forward(table: *mut Handle, forwarding: *mut Handle) -> u32;
+    fn yarib_share(forwarding: *mut Handle, other: *mut Handle) -> u32;
+    fn yarib_memory(forwarding: *mut Handle, bytes: *mut usize) -> u32;
+    fn yarib_prefix_parse(text: *const u8, size: usize, prefix: *mut Prefix) -> u32;
+}
+
+// SAFETY: the library promises that what a handle holds may go to another thread; what several handles hold together is only
+// read, but for the count of the handles, which is atomic.
+unsafe impl Send for Handle {}
+
+impl Drop for Handle {
+    fn drop(&mut self) {
+        // SAFETY: as for every call below: `self` is a handle that `empty` made, and `&mut` says that this call alone is on it.
+        unsafe { yarib_free(self) }
+    }
+}
+
+/// A call's status as a result.
+fn told(status: u32) -> Result<(), u32> {
+    match status {
+        DONE => Ok(()),
+        status => Err(status),
+    }
+}
+
+// SAFETY, of each call: `self` is a handle that `empty` made, `&mut` says that this call alone is on it, and references and slices
+// point to what their lengths say.
+impl Handle {
+    pub fn empty() -> Handle {
+        Handle { inside: null_mut() }
+    }
+
+    pub fn new(limit: u32, kind: u32) -> Result<Handle, u32> {
+        let mut handle = Handle::empty();
+        told(unsafe { yarib_new(&mut handle, limit, kind) })?;
+        Ok(handle)
+    }
+
+    pub fn apply(&mut self, command: &Command) -> Result<Reply, u32> {
+        let mut reply = Reply::default();
+        told(unsafe { yarib_apply(self, command, &mut reply) })?;
+        Ok(reply)
+    }
+
+    pub fn apply_each(&mut self, commands: &[Command], replies: &mut [Reply]) -> Result<(), u32> {
+        let (size, room) = (commands.len(), replies.len());
+        told(unsafe { yarib_apply_each(self, commands.as_ptr(), size, replies.as_mut_ptr(), room) })
+    }
+
+    pub fn reserve(&mut self, entries: usize) -> Result<(), u32> {
+        told(unsafe { yarib_reserve(self, entries) })
+    }
+
+    pub fn look_up(&mut self, addresses: &[u32], answers: &mut [Route]) -> Result<(), u32> {
+        let (size, room) = (addresses.len(), answers.len());
+        told(unsafe { yarib_look_up(self, addresses.as_ptr(), size, answers.as_mut_ptr(), room) })
+    }
+
+    pub fn look_up_all(&mut self, address: u32, routes: &mut [Route]) -> Result<usize, u32> {
+        let (mut total, room) = (0, routes.len());
+        told(unsafe {
+            yarib_look_up_all(self, address, 0, routes.as_mut_ptr(), room, &mut total)
+        })?;
+        Ok(total)
+    }
+
+    pub fn routes(&mut self, routes: &mut [Route]) -> Result<usize, u32> {
+        let (mut total, room) = (0, routes.len());
+        told(unsafe { yarib_routes(self, 0, routes.as_mut_ptr(), room, &mut total) })?;
+        Ok(total)
+    }
+
+    pub fn count(&mut self) -> Result<usize, u32> {
+        let mut total = 0;
+        told(unsafe { yarib_count(self, &mut total) })?;
+        Ok(total)
+    }
+
+    pub fn journal(&mut self, entries: &mut [Entry]) -> Result<usize, u32> {
+        let (mut total, room) = (0, entries.len());
+        told(unsafe { yarib_journal(self, 0, entries.as_mut_ptr(), room, &mut total) })?;
+        Ok(total)
+    }
+
+    pub fn first_difference(
+        &mut self,
+        new: &mut Handle,
+        by: u32,
+        from: u32,
+    ) -> Result<Difference, u32> {
+        let mut difference = Difference::default();
+        told(unsafe { yarib_first_difference(self, new, by, from, &mut difference) })?;
+        Ok(difference)
+    }
+
+    pub fn forward(&mut self) -> Result<Handle, u32> {
+        let mut forwarding = Handle::empty();
+        told(unsafe { yarib_forward(self, &mut forwarding) })?;
+        Ok(forwarding)
+    }
+
+    pub fn share(&mut self) -> Result<Handle, u32> {
+        let mut other = Handle::empty();
+        told(unsafe { yarib_share(self, &mut other) })?;
+        Ok(other)
+    }
+
+    pub fn memory(&mut self) -> Result<usize, u32> {
+        let mut bytes = 0;
+        told(unsafe { yarib_memory(self, &mut bytes) })?;
+        Ok(bytes)
+    }
+}
+
+/// Reads a prefix.
+pub fn prefix_parse(text: &[u8]) -> Result<Prefix, u32> {
+    let mut prefix = Prefix::default();
+    told(unsafe { yarib_prefix_parse(text.as_ptr(), text.len(), &mut prefix) })?;
+    Ok(prefix)
+}

@@ -1,0 +1,7 @@
+pub mod AnsweredCommands
+pub mod AsBox
+pub mod Crossing
+mod Examples
+pub mod Outcomes
+pub mod ParsedAddresses
+pub mod TextLengths

@@ -1,0 +1,110 @@
+-- What a call does to what a handle holds, and why it did nothing.
+use Rattle.std.specs.Prelude.{◌≡◌, ℕ, suc, ◌≤◌, ◌⊎◌, List, Option, Some, None, [], ◌∷◌, length, map, take}
+use Rattle.rt_cidr.specs.declared.address.Addr.{Addr}
+use Rattle.rt_rib.specs.declared.routes.Route.{Route}
+use Rattle.rt_rib.specs.declared.commands.Cmd.{Cmd}
+use Rattle.rt_rib.specs.declared.commands.Reply.{Reply}
+use Rattle.rt_rib.specs.declared.commands.Entry.{Entry}
+use Rattle.rt_rib.specs.LookUp.{look_up}
+use Rattle.rt_rib.specs.Book.{IsLimit, IsFeed}
+use Rattle.yarib_c.specs.declared.held.Held.{Held}
+use Rattle.yarib_c.specs.declared.handle.Yarib.{Yarib}
+use Rattle.yarib_c.specs.declared.routes.YaribRoute.{YaribRoute}
+use Rattle.yarib_c.specs.declared.commands.YaribCommand.{YaribCommand}
+use Rattle.yarib_c.specs.declared.commands.YaribReply.{YaribReply}
+use Rattle.yarib_c.specs.Handle.{held_at}
+use Rattle.yarib_c.specs.Kinds.{limit_of, routes_in, journal_in, IsForwarding, IsSame, Applied, NotApplied}
+use Rattle.yarib_c.specs.Forms.{IsCommand, reply_as, answer_as, unanswered}
+
+-- what the handle holds
+abbrev pub held_in : Yarib → Option Held
+held_in y = held_at y.at y.held
+
+-- something is held, and this is so of it
+abbrev pub IsOf : Option Held → (Held → Type 0) → Type 0
+IsOf None Is = ⊥
+IsOf (Some held) Is = Is held
+
+-- the handle holds something, and this is so of it
+abbrev pub Holds : Yarib → (Held → Type 0) → Type 0
+Holds y Is = IsOf (held_in y) Is
+
+-- something was held and is held, and this is so of the two
+pub record GoesOn (old new : Option Held) (Is : Held → Held → Type 0) : Type 0 where
+  pub before : Held
+  pub after : Held
+  pub old_is : old ≡ Some before
+  pub new_is : new ≡ Some after
+  pub is : Is before after
+
+-- the handle held something and holds something, and this is so of the two
+abbrev pub Goes : Yarib → Yarib → (Held → Held → Type 0) → Type 0
+Goes old new Is = GoesOn (held_in old) (held_in new) Is
+
+-- where something was held, that is there with its limit, routes and journal; where nothing was held, nothing is
+abbrev pub StaysSame : Option Held → Option Held → Type 0
+StaysSame None new = new ≡ None
+StaysSame (Some old) new = IsOf new (λ held. IsSame old held)
+
+-- the handle holds what it held, with its limit, routes and journal
+abbrev pub IsKept : Yarib → Yarib → Type 0
+IsKept old new = StaysSame (held_in old) (held_in new)
+
+-- a forwarding table that answers by these routes
+pub record Forwards (routes : List Route) (held : Held) : Type 0 where
+  pub kind : IsForwarding held
+  pub answers : routes_in held ≡ routes
+
+-- the numbers stand for a command of a feed, which was answered so
+pub record Answers (old new : Held) (c : YaribCommand) (r : YaribReply) : Type 0 where
+  pub cmd : Cmd
+  pub reply : Reply
+  pub is_command : IsCommand c cmd
+  pub is_feed : IsFeed c.feed
+  pub applied : Applied old new c.feed cmd reply
+  pub answered : r ≡ reply_as reply
+
+-- the numbers stand for a command of a feed, which was refused for memory
+pub record Refused (old new : Held) (c : YaribCommand) : Type 0 where
+  pub cmd : Cmd
+  pub is_command : IsCommand c cmd
+  pub is_feed : IsFeed c.feed
+  pub refused : NotApplied old new c.feed cmd
+
+-- why a command has no answer, by the status that says so: its feed has a number that there is not, its numbers stand for no
+-- command, memory was refused, or the table changes no more
+abbrev pub IsReason : ℕ → Held → Held → YaribCommand → Type 0
+IsReason status old new c =
+    ((status ≡ 2) × ¬ IsFeed c.feed) ⊎ (((status ≡ 3) × ((cmd : Cmd) → ¬ IsCommand c cmd))
+    ⊎ (((status ≡ 4) × Refused old new c) ⊎ ((status ≡ 10) × IsForwarding old)))
+
+-- a command has no answer, for the reason that the status says, and all is as it was
+pub record IsUnanswered (old new : Held) (c : YaribCommand) (r : YaribReply) : Type 0 where
+  pub status : ℕ
+  pub reason : IsReason status old new c
+  pub same : IsSame old new
+  pub told : r ≡ unanswered status
+
+-- what became of one command: its reply, or the reason why there is none
+abbrev pub HasOutcome : Held → Held → YaribCommand → YaribReply → Type 0
+HasOutcome old new c r = Answers old new c r ⊎ IsUnanswered old new c r
+
+-- what became of each command, one after another
+abbrev pub HaveOutcomes : Held → Held → List YaribCommand → List YaribReply → Type 0
+HaveOutcomes old new [] [] = new ≡ old
+HaveOutcomes old new (c ∷ cs) (r ∷ rs) = (next : Held) × HasOutcome old next c r × HaveOutcomes next new cs rs
+HaveOutcomes old new [] (r ∷ rs) = ⊥
+HaveOutcomes old new (c ∷ cs) [] = ⊥
+
+-- the number of an address as the address
+abbrev pub addr : ℕ → Addr
+addr a = record { 0 = a }
+
+-- the answers to look-ups of all addresses
+abbrev pub answers_in : List Route → List ℕ → List YaribRoute
+answers_in routes addresses = map (λ a. answer_as (look_up (addr a) routes)) addresses
+
+-- these bytes stand at the front of the text, and it is told how many they are
+pub record PutsText (bytes text : List ℕ) (used : ℕ) : Type 0 where
+  pub within : used ≤ length text
+  pub put : take used text ≡ bytes

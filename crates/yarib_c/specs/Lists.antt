@@ -1,0 +1,23 @@
+-- A part of a list, as C is shown it.
+use Rattle.std.specs.Prelude.{◌≡◌, ℕ, ◌+◌, ◌<◌, List, length, Option, None, Some, slice_get}
+use Rattle.std.specs.Option.{option_map}
+use Rattle.rt_rib.specs.declared.routes.Route.{Route}
+use Rattle.rt_rib.specs.declared.commands.Entry.{Entry}
+use Rattle.yarib_c.specs.declared.routes.YaribRoute.{YaribRoute}
+use Rattle.yarib_c.specs.declared.commands.YaribEntry.{YaribEntry}
+use Rattle.yarib_c.specs.Forms.{route_as, entry_as}
+
+-- it is told how many there are, and each place that the list reaches from the index on has its own
+pub record ShowsRoutes (all : List Route) (skip : ℕ) (shown : List YaribRoute) (total : ℕ) : Type 0 where
+  pub counted : total ≡ length all
+  pub each : (j : ℕ) → j < length shown → skip + j < length all → slice_get shown j ≡ option_map route_as (slice_get all (skip + j))
+
+-- the same of entries
+pub record ShowsEntries (all : List Entry) (skip : ℕ) (shown : List YaribEntry) (total : ℕ) : Type 0 where
+  pub counted : total ≡ length all
+  pub each : (j : ℕ) → j < length shown → skip + j < length all → slice_get shown j ≡ option_map entry_as (slice_get all (skip + j))
+
+-- there is a journal, and its entries are shown so
+abbrev pub ShowsJournal : Option (List Entry) → ℕ → List YaribEntry → ℕ → Type 0
+ShowsJournal None skip shown total = ⊥
+ShowsJournal (Some journal) skip shown total = ShowsEntries journal skip shown total

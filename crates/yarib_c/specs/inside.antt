@@ -1,0 +1,4 @@
+-- What no public clause speaks of: the words of private contracts, of invariants and of proofs.
+pub mod Places
+pub mod Owned
+pub mod Tables

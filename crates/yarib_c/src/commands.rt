@@ -1,0 +1,191 @@
+//! Commands, replies and entries of the journal as C has them.
+use crate::routes::{YaribRoute, numbers_of};
+use rt_cidr::{Addr, Prefix};
+use rt_rib::{Cmd, Entry, Hop, Reply};
+
+/// A command of a feed, 1 to 64. `operation` is 1 for an add, 2 replace, 3 withdraw, 4 look-up, 5 dump and 6 purge. `base` is
+/// the prefix's, or the address of a look-up, and `hop` is 1 for a router, whose address is `via`, and 2 where packets are to
+/// be discarded. What an operation doesn't speak of is not read.
+#[repr(C)]
+#[derive(Clone, Copy, PartialEq, Eq, Debug)]
+pub struct YaribCommand {
+    pub operation: u32,
+    pub feed: u32,
+    pub base: u32,
+    pub pref: u32,
+    pub via: u32,
+    pub len: u8,
+    pub hop: u8,
+}
+
+impl YaribCommand {
+    ghost use Rattle.std.specs.Prelude.{◌≡◌, MatchOption};
+    ghost use Rattle.rt_rib.specs.declared.commands.Cmd.{Cmd as Command};
+    ghost use Rattle.rt_rib.specs.declared.routes.Hop.{Hop as NextHop};
+    ghost use Rattle.yarib_c.specs.Forms.{IsCommand, IsHop, command_of, put_of};
+
+    fn hop(&self) -> Option<Hop>
+        ensures { MatchOption result ((hop : NextHop) → ¬ IsHop self.now hop) (λ hop. IsHop self.now hop) }
+    {
+        match self.hop {
+            1 => Some(Hop::Via(Addr(self.via))),
+            2 => Some(Hop::Discard),
+            _ => None,
+        }
+    }
+
+    /// The command that these numbers stand for, if they stand for one.
+    pub(crate) fn read(&self) -> Option<Cmd>
+        ensures { MatchOption result ((cmd : Command) → ¬ IsCommand self.now cmd) (λ cmd. IsCommand self.now cmd) }
+    {
+        match self.operation {
+            1 => {
+                let prefix = Prefix::new(self.base, self.len).ok()?;
+                let hop = self.hop()?;
+                Some(Cmd::Add {
+                    prefix,
+                    pref: self.pref,
+                    hop,
+                })
+            }
+            2 => {
+                let prefix = Prefix::new(self.base, self.len).ok()?;
+                let hop = self.hop()?;
+                Some(Cmd::Replace {
+                    prefix,
+                    pref: self.pref,
+                    hop,
+                })
+            }
+            3 => {
+                let prefix = Prefix::new(self.base, self.len).ok()?;
+                Some(Cmd::Withdraw { prefix })
+            }
+            4 => Some(Cmd::Lookup {
+                addr: Addr(self.base),
+            }),
+            5 => Some(Cmd::Dump),
+            6 => Some(Cmd::Purge),
+            _ => None,
+        }
+    }
+
+    /// The numbers of a feed's command. Those that it doesn't speak of are 0.
+    pub(crate) fn of(feed: u32, cmd: Cmd) -> YaribCommand
+        ensures { result ≡ command_of feed cmd }
+    {
+        let none = YaribCommand {
+            operation: 0,
+            feed,
+            base: 0,
+            pref: 0,
+            via: 0,
+            len: 0,
+            hop: 0,
+        };
+        match cmd {
+            Cmd::Add { prefix, pref, hop } => YaribCommand::put(1, feed, prefix, pref, hop),
+            Cmd::Replace { prefix, pref, hop } => YaribCommand::put(2, feed, prefix, pref, hop),
+            Cmd::Withdraw { prefix } => YaribCommand {
+                operation: 3,
+                base: prefix.base(),
+                len: prefix.len(),
+                ..none
+            },
+            Cmd::Lookup { addr } => YaribCommand {
+                operation: 4,
+                base: addr.0,
+                ..none
+            },
+            Cmd::Dump => YaribCommand {
+                operation: 5,
+                ..none
+            },
+            Cmd::Purge => YaribCommand {
+                operation: 6,
+                ..none
+            },
+        }
+    }
+
+    fn put(operation: u32, feed: u32, prefix: Prefix, pref: u32, hop: Hop) -> YaribCommand
+        ensures { result ≡ put_of operation feed prefix pref hop }
+    {
+        let (hop, via) = numbers_of(hop);
+        YaribCommand {
+            operation,
+            feed,
+            base: prefix.base(),
+            pref,
+            via,
+            len: prefix.len(),
+            hop,
+        }
+    }
+}
+
+/// A reply: `code` is 1 added, 2 exists, 3 full, 4 replaced, 5 withdrawn, 6 missing, 7 found, with the route, 8 no route, 9
+/// dumped and 10 purged, with the count. Of many commands one that was not answered has the code 0, and as count its status.
+#[repr(C)]
+#[derive(Clone, Copy, PartialEq, Eq, Debug)]
+pub struct YaribReply {
+    pub code: u32,
+    pub count: u32,
+    pub route: YaribRoute,
+}
+
+impl YaribReply {
+    ghost use Rattle.std.specs.Prelude.{◌≡◌};
+    ghost use Rattle.yarib_c.specs.Forms.{reply_as, unanswered};
+
+    pub(crate) fn of(reply: Reply) -> YaribReply
+        ensures { result ≡ reply_as reply }
+    {
+        let (code, count, route) = match reply {
+            Reply::Added => (1, 0, YaribRoute::NONE),
+            Reply::Exists => (2, 0, YaribRoute::NONE),
+            Reply::Full => (3, 0, YaribRoute::NONE),
+            Reply::Replaced => (4, 0, YaribRoute::NONE),
+            Reply::Withdrawn => (5, 0, YaribRoute::NONE),
+            Reply::Missing => (6, 0, YaribRoute::NONE),
+            Reply::Found(route) => (7, 0, YaribRoute::of(route)),
+            Reply::NoRoute => (8, 0, YaribRoute::NONE),
+            Reply::Dumped(count) => (9, count, YaribRoute::NONE),
+            Reply::Purged(count) => (10, count, YaribRoute::NONE),
+        };
+        YaribReply { code, count, route }
+    }
+
+    /// What stands in the place of a reply where there is none, for this reason.
+    pub(crate) fn unanswered(status: u32) -> YaribReply
+        ensures { result ≡ unanswered status }
+    {
+        YaribReply {
+            code: 0,
+            count: status,
+            route: YaribRoute::NONE,
+        }
+    }
+}
+
+/// An entry of the journal.
+#[repr(C)]
+#[derive(Clone, Copy, PartialEq, Eq, Debug)]
+pub struct YaribEntry {
+    pub command: YaribCommand,
+    pub reply: YaribReply,
+}
+
+impl YaribEntry {
+    ghost use Rattle.std.specs.Prelude.{◌≡◌};
+    ghost use Rattle.yarib_c.specs.Forms.{entry_as};
+
+    pub(crate) fn of(entry: Entry) -> YaribEntry
+        ensures { result ≡ entry_as entry }
+    {
+        YaribEntry {
+            command: YaribCommand::of(entry.feed, entry.cmd),
+            reply: YaribReply::of(entry.reply),
+        }
+    }
+}

@@ -1,0 +1,101 @@
+//! Where two tables answer otherwise.
+ghost use Rattle.std.specs.Prelude.{◌≡◌, ◌≢◌, ◌≤◌, ◌⊎◌, None};
+ghost use Rattle.yarib_c.specs.Kinds.{routes_in, IsForwarding};
+ghost use Rattle.yarib_c.specs.Calls.{held_in, Holds};
+ghost use Rattle.yarib_c.specs.Differences.{TellsDifference, IsAlikeFrom};
+
+use crate::handle::Yarib;
+use crate::held::Held;
+use crate::routes::YaribRoute;
+use crate::status::{BAD_NUMBER, DONE, NONE_LEFT, NOTHING, WRONG_KIND};
+use rt_cidr::Addr;
+use rt_diff::{Answer, By, Comparison};
+use std::alloc::Global;
+
+/// A range of addresses that two tables answer otherwise, and their answers. By hops each has a hop and no more.
+#[repr(C)]
+#[derive(Clone, Copy, PartialEq, Eq, Debug)]
+pub struct YaribDifference {
+    pub first: u32,
+    pub last: u32,
+    pub before: YaribRoute,
+    pub after: YaribRoute,
+}
+
+impl YaribRoute {
+    ghost use Rattle.yarib_c.specs.Differences.{told_as};
+
+    fn told(answer: Answer) -> YaribRoute
+        ensures { result ≡ told_as answer }
+    {
+        match answer {
+            Answer::NoRoute => YaribRoute::NONE,
+            Answer::Hop(hop) => YaribRoute::of_hop(hop),
+            Answer::Route(route) => YaribRoute::of(route),
+        }
+    }
+}
+
+/// The first range from the address on that the two tables answer otherwise, by next hop where `by` is 0 and by whole route
+/// where it is 1. The handles are two.
+#[unsafe(no_mangle)]
+pub extern "C" fn yarib_first_difference(
+    alloc: Global,
+    old: &mut Yarib,
+    new: &mut Yarib,
+    by: u32,
+    from: u32,
+    difference: &mut YaribDifference,
+) -> u32
+    ensures done { result ≡ 0 → Holds old.old (λ b. Holds new.old (λ c. TellsDifference by (routes_in b) (routes_in c) from difference.new)) }
+    ensures alike { result ≡ 6 → Holds old.old (λ b. Holds new.old (λ c. IsAlikeFrom by (routes_in b) (routes_in c) from)) }
+    ensures absent { result ≡ 1 → (held_in old.old ≡ None) ⊎ (held_in new.old ≡ None) }
+    ensures number { result ≡ 2 → 2 ≤ by }
+    ensures kind { result ≡ 10 → Holds old.old IsForwarding ⊎ Holds new.old IsForwarding }
+    ensures silent { result ≢ 0 → difference.new ≡ difference.old }
+    ensures old { held_in old.new ≡ held_in old.old }
+    ensures new { held_in new.new ≡ held_in new.old }
+    ensures known { (result ≡ 0) ⊎ ((result ≡ 1) ⊎ ((result ≡ 2) ⊎ ((result ≡ 6) ⊎ (result ≡ 10)))) }
+{
+    let Some(old_held) = old.take(alloc) else {
+        return NOTHING;
+    };
+    let Some(new_held) = new.take(alloc) else {
+        *old = Yarib::of(old_held);
+        return NOTHING;
+    };
+    let status = compare(&old_held, &new_held, by, from, difference);
+    *old = Yarib::of(old_held);
+    *new = Yarib::of(new_held);
+    status
+}
+
+fn compare(old: &Held, new: &Held, by: u32, from: u32, difference: &mut YaribDifference) -> u32
+    ensures done { result ≡ 0 → TellsDifference by (routes_in old.now) (routes_in new.now) from difference.new }
+    ensures alike { result ≡ 6 → IsAlikeFrom by (routes_in old.now) (routes_in new.now) from }
+    ensures number { result ≡ 2 → 2 ≤ by }
+    ensures kind { result ≡ 10 → IsForwarding old.now ⊎ IsForwarding new.now }
+    ensures silent { result ≢ 0 → difference.new ≡ difference.old }
+    ensures known { (result ≡ 0) ⊎ ((result ≡ 2) ⊎ ((result ≡ 6) ⊎ (result ≡ 10))) }
+{
+    let by = match by {
+        0 => By::Hop,
+        1 => By::Route,
+        _ => return BAD_NUMBER,
+    };
+    let (Some(old), Some(new)) = (old.table(), new.table()) else {
+        return WRONG_KIND;
+    };
+    match Comparison::of(old.answers(), new.answers(), by).first_difference(Addr(from)) {
+        None => NONE_LEFT,
+        Some(found) => {
+            *difference = YaribDifference {
+                first: found.first.0,
+                last: found.last.0,
+                before: YaribRoute::told(found.old),
+                after: YaribRoute::told(found.new),
+            };
+            DONE
+        }
+    }
+}

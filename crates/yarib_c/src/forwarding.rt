@@ -1,0 +1,122 @@
+//! Forwarding tables: made of a table, asked like one, and held by as many handles as there are threads that ask.
+ghost use Rattle.std.specs.Prelude.{◌≡◌, ◌≢◌, ◌≤◌, ◌^◌, ◌⊎◌, None};
+ghost use Rattle.yarib_c.specs.Kinds.{routes_in, IsForwarding};
+ghost use Rattle.yarib_c.specs.Calls.{held_in, Holds, Forwards};
+
+use crate::handle::Yarib;
+use crate::held::Held;
+use crate::status::{DONE, NO_MEMORY, NOTHING, WRONG_KIND};
+use rt_fib::Fib;
+use std::alloc::Global;
+use std::sync::Arc;
+
+/// A forwarding table of what the table answers now. What its handle held before is freed, but where the call does nothing.
+#[unsafe(no_mangle)]
+pub extern "C" fn yarib_forward(alloc: Global, table: &mut Yarib, forwarding: &mut Yarib) -> u32
+    ensures done { result ≡ 0 → Holds table.old (λ held. Holds forwarding.new (Forwards (routes_in held))) }
+    ensures kept { result ≢ 0 → held_in forwarding.new ≡ held_in forwarding.old }
+    ensures same { held_in table.new ≡ held_in table.old }
+    ensures absent { result ≡ 1 → held_in table.old ≡ None }
+    ensures kind { result ≡ 10 → Holds table.old IsForwarding }
+    ensures known { (result ≡ 0) ⊎ ((result ≡ 1) ⊎ ((result ≡ 4) ⊎ (result ≡ 10))) }
+{
+    let Some(held) = table.take(alloc) else {
+        return NOTHING;
+    };
+    let status = forward(alloc, &held, forwarding);
+    *table = Yarib::of(held);
+    status
+}
+
+fn forward(alloc: Global, held: &Held, forwarding: &mut Yarib) -> u32
+    ensures done { result ≡ 0 → Holds forwarding.new (Forwards (routes_in held.now)) }
+    ensures kept { result ≢ 0 → held_in forwarding.new ≡ held_in forwarding.old }
+    ensures kind { result ≡ 10 → IsForwarding held.now }
+    ensures known { (result ≡ 0) ⊎ ((result ≡ 4) ⊎ (result ≡ 10)) }
+{
+    let Some(table) = held.table() else {
+        return WRONG_KIND;
+    };
+    let Ok(fib) = Fib::of(alloc, table) else {
+        return NO_MEMORY;
+    };
+    let Ok(fib) = Arc::new(alloc, fib) else {
+        return NO_MEMORY;
+    };
+    let Ok(made) = Box::new(alloc, Held::Forwarding(fib)) else {
+        return NO_MEMORY;
+    };
+    *forwarding = Yarib::of(made);
+    DONE
+}
+
+/// Another handle on the same forwarding table, for another thread. What it held before is freed, but where the call does
+/// nothing. The handles are two.
+#[unsafe(no_mangle)]
+pub extern "C" fn yarib_share(alloc: Global, forwarding: &mut Yarib, other: &mut Yarib) -> u32
+    ensures done { result ≡ 0 → Holds forwarding.old (λ held. Holds other.new (Forwards (routes_in held))) }
+    ensures kept { result ≢ 0 → held_in other.new ≡ held_in other.old }
+    ensures same { held_in forwarding.new ≡ held_in forwarding.old }
+    ensures absent { result ≡ 1 → held_in forwarding.old ≡ None }
+    ensures kind { result ≡ 10 → Holds forwarding.old (λ held. ¬ IsForwarding held) }
+    ensures known { (result ≡ 0) ⊎ ((result ≡ 1) ⊎ ((result ≡ 4) ⊎ (result ≡ 10))) }
+{
+    let Some(held) = forwarding.take(alloc) else {
+        return NOTHING;
+    };
+    let status = share(alloc, &held, other);
+    *forwarding = Yarib::of(held);
+    status
+}
+
+fn share(alloc: Global, held: &Held, other: &mut Yarib) -> u32
+    ensures done { result ≡ 0 → Holds other.new (Forwards (routes_in held.now)) }
+    ensures kept { result ≢ 0 → held_in other.new ≡ held_in other.old }
+    ensures kind { result ≡ 10 → ¬ IsForwarding held.now }
+    ensures known { (result ≡ 0) ⊎ ((result ≡ 4) ⊎ (result ≡ 10)) }
+{
+    let Held::Forwarding(fib) = held else {
+        return WRONG_KIND;
+    };
+    let Ok(fib) = Arc::try_clone(fib) else {
+        return NO_MEMORY;
+    };
+    let Ok(made) = Box::new(alloc, Held::Forwarding(fib)) else {
+        return NO_MEMORY;
+    };
+    *other = Yarib::of(made);
+    DONE
+}
+
+/// How many bytes a forwarding table takes, all its handles together.
+#[unsafe(no_mangle)]
+pub extern "C" fn yarib_memory(alloc: Global, forwarding: &mut Yarib, bytes: &mut usize) -> u32
+    ensures done { result ≡ 0 → 2 ^ 26 ≤ bytes.new }
+    ensures same { held_in forwarding.new ≡ held_in forwarding.old }
+    ensures absent { result ≡ 1 → held_in forwarding.old ≡ None }
+    ensures kind { result ≡ 10 → Holds forwarding.old (λ held. ¬ IsForwarding held) }
+    ensures silent { result ≢ 0 → bytes.new ≡ bytes.old }
+    ensures known { (result ≡ 0) ⊎ ((result ≡ 1) ⊎ (result ≡ 10)) }
+{
+    let Some(held) = forwarding.take(alloc) else {
+        return NOTHING;
+    };
+    let status = memory(&held, bytes);
+    *forwarding = Yarib::of(held);
+    status
+}
+
+fn memory(held: &Held, bytes: &mut usize) -> u32
+    ensures done { result ≡ 0 → 2 ^ 26 ≤ bytes.new }
+    ensures kind { result ≡ 10 → ¬ IsForwarding held.now }
+    ensures silent { result ≢ 0 → bytes.new ≡ bytes.old }
+    ensures known { (result ≡ 0) ⊎ (result ≡ 10) }
+{
+    match held {
+        Held::Forwarding(fib) => {
+            *bytes = fib.memory();
+            DONE
+        }
+        Held::Plain(_) | Held::Journaled(_) => WRONG_KIND,
+    }
+}

@@ -1,0 +1,92 @@
+//! A table as C holds it.
+ghost use Rattle.std.specs.Prelude.{◌≡◌, Some, None, MatchOption};
+ghost use Rattle.yarib_c.specs.declared.held.Held.{Held};
+ghost use Rattle.yarib_c.specs.Handle.{held_at};
+ghost use Rattle.yarib_c.specs.inside.Owned.{owns_held, held_coded};
+
+use crate::held::Held;
+use crate::loose::Loose;
+use std::alloc::Global;
+use std::marker::Model;
+use std::mem;
+use std::ptr::null_mut;
+
+/// What C keeps: a pointer that is null where the handle holds nothing. Contracts see what it holds.
+#[repr(C)]
+pub struct Yarib {
+    at: *mut (),
+    alloc: Global,
+    pub ghost held: { Held } by { held_coded },
+}
+
+impl Model for Yarib {
+    ghost also_owns = { λ y. owns_held y.alloc y.at y.held };
+}
+
+impl Yarib {
+    fn none(alloc: Global) -> Yarib
+        ensures { held_at result.at result.held ≡ None }
+    {
+        Yarib {
+            at: null_mut(),
+            alloc,
+        }
+    }
+
+    fn close(loose: Loose<Held, Global>) -> Yarib
+        ensures { held_at result.at result.held ≡ Some loose.value }
+    {
+        let Loose { ptr, alloc } = loose;
+        Yarib {
+            at: ptr as *mut (),
+            alloc,
+        }
+    }
+
+    fn open(self) -> Option<Loose<Held, Global>>
+        ensures { MatchOption result (held_at self.at self.held ≡ None) (λ l. held_at self.at self.held ≡ Some l.value) }
+    {
+        let Yarib { at, alloc } = self;
+        if at.is_null() {
+            None
+        } else {
+            Some(Loose {
+                ptr: at as *mut Held,
+                alloc,
+            })
+        }
+    }
+
+    /// A handle that holds this.
+    pub(crate) fn of(held: Box<Held>) -> Yarib
+        ensures { held_at result.at result.held ≡ Some held.value }
+    {
+        Yarib::close(Loose::of(held))
+    }
+
+    fn into_held(self) -> Option<Box<Held>>
+        ensures { MatchOption result (held_at self.at self.held ≡ None) (λ b. held_at self.at self.held ≡ Some b.value) }
+    {
+        match self.open() {
+            None => None,
+            Some(loose) => Some(loose.into_box()),
+        }
+    }
+
+    /// What it holds, if anything. Nothing stays behind.
+    pub(crate) fn take(&mut self, alloc: Global) -> Option<Box<Held>>
+        ensures left { held_at self.new.at self.new.held ≡ None }
+        ensures taken { MatchOption result (held_at self.old.at self.old.held ≡ None)
+            (λ b. held_at self.old.at self.old.held ≡ Some b.value) }
+    {
+        mem::replace(self, Yarib::none(alloc)).into_held()
+    }
+}
+
+impl Drop for Yarib {
+    fn drop(self) {
+        drop(self.into_held());
+    }
+}
+
+unsafe impl Send for Yarib {}

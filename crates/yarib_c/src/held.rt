@@ -1,0 +1,84 @@
+//! What a handle holds.
+ghost use Rattle.std.specs.Prelude.{◌≡◌, ◌<◌, ◌≤◌, MatchOption, MatchResult, OnOk};
+ghost use Rattle.rt_rib.specs.Book.{IsLimit, IsFeed};
+ghost use Rattle.yarib_c.specs.Kinds.{IsForwarding, IsNew, IsSame, HasRoom, Applied, NotApplied};
+ghost use Rattle.yarib_c.specs.inside.Tables.{IsTableOf};
+
+use rt_fib::Fib;
+use rt_rib::{Book, Cmd, Refused, Reply, Table};
+use std::alloc::Global;
+use std::sync::Arc;
+
+/// What a handle holds.
+#[derive(Drop)]
+pub enum Held {
+    /// A table that keeps no journal.
+    Plain(Table<Global>),
+    /// A table that keeps a journal of all that it answered.
+    Journaled(Book<Global>),
+    /// What a table answered each address when this was made. It changes no more, and several handles may hold it.
+    Forwarding(Arc<Fib<Global>>),
+}
+
+impl Held {
+    /// An empty table in which each feed may have so many routes: without a journal for 0, with one for 1.
+    pub(crate) fn new(alloc: Global, limit: u32, journal: u32) -> Option<Held>
+        requires { IsLimit limit }
+        ensures { MatchOption result (1 < journal) (λ held. (journal ≤ 1) × IsNew limit journal held) }
+    {
+        match journal {
+            0 => Some(Held::plain(alloc, limit)),
+            1 => Some(Held::journaled(alloc, limit)),
+            _ => None,
+        }
+    }
+
+    fn plain(alloc: Global, limit: u32) -> Held
+        requires { IsLimit limit }
+        ensures { IsNew limit 0 result }
+    {
+        Held::Plain(Table::new(alloc, limit))
+    }
+
+    fn journaled(alloc: Global, limit: u32) -> Held
+        requires { IsLimit limit }
+        ensures { IsNew limit 1 result }
+    {
+        Held::Journaled(Book::new(alloc, limit))
+    }
+
+    /// Its table, where it holds one that changes.
+    pub(crate) fn table(&self) -> Option<&Table<Global>>
+        ensures { MatchOption result (IsForwarding self.now) (λ table. IsTableOf self.now table.now) }
+    {
+        match self {
+            Held::Plain(table) => Some(table),
+            Held::Journaled(book) => Some(book.table()),
+            Held::Forwarding(_) => None,
+        }
+    }
+
+    /// Answers a command of the feed, where it holds a table that changes.
+    pub(crate) fn answer(&mut self, feed: u32, cmd: Cmd) -> Option<Result<Reply, Refused>>
+        requires { IsFeed feed }
+        ensures { MatchOption result (IsForwarding self.old × (self.new ≡ self.old)) (λ answered. MatchResult answered
+            (λ reply. Applied self.old self.new feed cmd reply) (λ _. NotApplied self.old self.new feed cmd)) }
+    {
+        match self {
+            Held::Plain(table) => Some(table.apply(feed, cmd)),
+            Held::Journaled(book) => Some(book.apply(feed, cmd)),
+            Held::Forwarding(_) => None,
+        }
+    }
+
+    /// Makes room for so many entries in the journal, where it keeps one. M1: `Refused` where memory was refused.
+    pub(crate) fn reserve(&mut self, entries: usize) -> Result<(), Refused>
+        ensures ok { OnOk result (HasRoom entries self.old self.new) }
+        ensures same { IsSame self.old self.new }
+    {
+        match self {
+            Held::Journaled(book) => book.reserve(entries),
+            Held::Plain(_) | Held::Forwarding(_) => Ok(()),
+        }
+    }
+}

@@ -1,0 +1,76 @@
+//! Many look-ups at once: their addresses taken from C, and the answers put where C wants them, a few dozen at a time.
+ghost use Rattle.std.specs.Prelude.{◌≡◌, ℕ, ◌+◌, ◌<◌, ◌≤◌, length, map};
+ghost use Rattle.rt_trie.specs.Map.{address_at};
+ghost use Rattle.rt_rib.specs.LookUp.{look_up};
+ghost use Rattle.yarib_c.specs.Kinds.{routes_in};
+ghost use Rattle.yarib_c.specs.Forms.{answer_as};
+ghost use Rattle.yarib_c.specs.Calls.{addr, answers_in};
+ghost use Rattle.yarib_c.specs.inside.Places.{number_at, route_at};
+
+use crate::held::Held;
+use crate::routes::YaribRoute;
+use rt_cidr::Addr;
+use rt_rib::Route;
+
+/// How many addresses are asked at once.
+const CHUNK: usize = 32;
+
+/// The answers to all addresses, in the place of what stood in their list.
+pub(crate) fn answer_each(held: &Held, addresses: &[u32], answers: &mut [YaribRoute])
+    requires { length answers.old ≡ length addresses.now }
+    ensures { answers.new ≡ answers_in (routes_in held.now) addresses.now }
+{
+    let mut start = 0;
+    while start < addresses.len() {
+        let size = (addresses.len() - start).min(CHUNK);
+        answer_chunk(held, addresses, answers, start, size);
+        start += size;
+    }
+}
+
+/// The answers to so many addresses from an index on.
+fn answer_chunk(
+    held: &Held,
+    addresses: &[u32],
+    answers: &mut [YaribRoute],
+    start: usize,
+    size: usize,
+)
+    requires chunk { size ≤ CHUNK }
+    requires within { start + size ≤ length addresses.now }
+    requires size { length answers.old ≡ length addresses.now }
+    ensures each { (j : ℕ) → j < size
+        → route_at answers.new (start + j) ≡ answer_as (look_up (addr (number_at addresses.now (start + j))) (routes_in held.now)) }
+    ensures rest { (k : ℕ) → k < start → route_at answers.new k ≡ route_at answers.old k }
+{
+    let mut asked = [Addr(0); CHUNK];
+    copy_chunk(addresses, &mut asked, start, size);
+    let mut found = [None; CHUNK];
+    look_up(held, &asked[..size], &mut found[..size]);
+    for k in 0..size {
+        answers[start + k] = YaribRoute::answer(found[k]);
+    }
+}
+
+/// Copies so many addresses from an index on.
+fn copy_chunk(addresses: &[u32], asked: &mut [Addr], start: usize, size: usize)
+    requires chunk { size ≤ length asked.old }
+    requires within { start + size ≤ length addresses.now }
+    ensures { (j : ℕ) → j < size → address_at asked.new j ≡ addr (number_at addresses.now (start + j)) }
+{
+    for k in 0..size {
+        asked[k] = Addr(addresses[start + k]);
+    }
+}
+
+/// Asks what the handle holds.
+fn look_up(held: &Held, addresses: &[Addr], answers: &mut [Option<Route>])
+    requires { length answers.old ≡ length addresses.now }
+    ensures { answers.new ≡ map (λ addr. look_up addr (routes_in held.now)) addresses.now }
+{
+    match held {
+        Held::Plain(table) => table.look_up(addresses, answers),
+        Held::Journaled(book) => book.look_up(addresses, answers),
+        Held::Forwarding(fib) => fib.look_up_each(addresses, answers),
+    }
+}

@@ -1,0 +1,209 @@
+//! Calls that ask a table and change nothing in it.
+ghost use Rattle.std.specs.Prelude.{◌≡◌, ◌≢◌, ◌⊎◌, None, Some, length};
+ghost use Rattle.rt_rib.specs.LookUp.{look_up_all};
+ghost use Rattle.yarib_c.specs.Kinds.{routes_in, journal_in, IsForwarding};
+ghost use Rattle.yarib_c.specs.Calls.{held_in, Holds, addr, answers_in};
+ghost use Rattle.yarib_c.specs.Lists.{ShowsRoutes, ShowsEntries, ShowsJournal};
+
+use crate::commands::YaribEntry;
+use crate::handle::Yarib;
+use crate::held::Held;
+use crate::lists::{put_entries, put_routes};
+use crate::lookups::answer_each;
+use crate::routes::YaribRoute;
+use crate::status::{BAD_SIZE, DONE, NO_MEMORY, NOTHING, WRONG_KIND};
+use rt_cidr::Addr;
+use std::alloc::Global;
+
+/// The best route of the longest prefix that covers each of the addresses. Both lists are as long.
+#[unsafe(no_mangle)]
+pub extern "C" fn yarib_look_up(
+    alloc: Global,
+    table: &mut Yarib,
+    addresses: &[u32],
+    answers: &mut [YaribRoute],
+) -> u32
+    ensures done { result ≡ 0 → Holds table.old (λ held. answers.new ≡ answers_in (routes_in held) addresses.now) }
+    ensures silent { result ≢ 0 → answers.new ≡ answers.old }
+    ensures same { held_in table.new ≡ held_in table.old }
+    ensures absent { result ≡ 1 → held_in table.old ≡ None }
+    ensures size { result ≡ 5 → length answers.old ≢ length addresses.now }
+    ensures known { (result ≡ 0) ⊎ ((result ≡ 1) ⊎ (result ≡ 5)) }
+{
+    if answers.len() != addresses.len() {
+        return BAD_SIZE;
+    }
+    let Some(held) = table.take(alloc) else {
+        return NOTHING;
+    };
+    answer_each(&held, addresses, answers);
+    *table = Yarib::of(held);
+    DONE
+}
+
+/// The routes whose prefix covers the address, the best first, from the index `skip` on, and how many there are in all.
+#[unsafe(no_mangle)]
+pub extern "C" fn yarib_look_up_all(
+    alloc: Global,
+    table: &mut Yarib,
+    address: u32,
+    skip: usize,
+    routes: &mut [YaribRoute],
+    total: &mut usize,
+) -> u32
+    ensures done { result ≡ 0 → Holds table.old
+        (λ held. ShowsRoutes (look_up_all (addr address) (routes_in held)) skip routes.new total.new) }
+    ensures same { held_in table.new ≡ held_in table.old }
+    ensures absent { result ≡ 1 → held_in table.old ≡ None }
+    ensures kind { result ≡ 10 → Holds table.old IsForwarding }
+    ensures silent { result ≢ 0 → (routes.new ≡ routes.old) × (total.new ≡ total.old) }
+    ensures known { (result ≡ 0) ⊎ ((result ≡ 1) ⊎ ((result ≡ 4) ⊎ (result ≡ 10))) }
+{
+    let Some(held) = table.take(alloc) else {
+        return NOTHING;
+    };
+    let status = show_covering(alloc, &held, address, skip, routes, total);
+    *table = Yarib::of(held);
+    status
+}
+
+fn show_covering(
+    alloc: Global,
+    held: &Held,
+    address: u32,
+    skip: usize,
+    routes: &mut [YaribRoute],
+    total: &mut usize,
+) -> u32
+    ensures done { result ≡ 0 → ShowsRoutes (look_up_all (addr address) (routes_in held.now)) skip routes.new total.new }
+    ensures kind { result ≡ 10 → IsForwarding held.now }
+    ensures silent { result ≢ 0 → (routes.new ≡ routes.old) × (total.new ≡ total.old) }
+    ensures known { (result ≡ 0) ⊎ ((result ≡ 4) ⊎ (result ≡ 10)) }
+{
+    let Some(table) = held.table() else {
+        return WRONG_KIND;
+    };
+    let Ok(found) = table.look_up_all(alloc, Addr(address)) else {
+        return NO_MEMORY;
+    };
+    *total = put_routes(found.as_slice(), skip, routes);
+    DONE
+}
+
+/// The routes in dump order, from the index `skip` on, and how many there are in all.
+#[unsafe(no_mangle)]
+pub extern "C" fn yarib_routes(
+    alloc: Global,
+    table: &mut Yarib,
+    skip: usize,
+    routes: &mut [YaribRoute],
+    total: &mut usize,
+) -> u32
+    ensures done { result ≡ 0 → Holds table.old (λ held. ShowsRoutes (routes_in held) skip routes.new total.new) }
+    ensures same { held_in table.new ≡ held_in table.old }
+    ensures absent { result ≡ 1 → held_in table.old ≡ None }
+    ensures kind { result ≡ 10 → Holds table.old IsForwarding }
+    ensures silent { result ≢ 0 → (routes.new ≡ routes.old) × (total.new ≡ total.old) }
+    ensures known { (result ≡ 0) ⊎ ((result ≡ 1) ⊎ ((result ≡ 4) ⊎ (result ≡ 10))) }
+{
+    let Some(held) = table.take(alloc) else {
+        return NOTHING;
+    };
+    let status = show_routes(alloc, &held, skip, routes, total);
+    *table = Yarib::of(held);
+    status
+}
+
+fn show_routes(
+    alloc: Global,
+    held: &Held,
+    skip: usize,
+    routes: &mut [YaribRoute],
+    total: &mut usize,
+) -> u32
+    ensures done { result ≡ 0 → ShowsRoutes (routes_in held.now) skip routes.new total.new }
+    ensures kind { result ≡ 10 → IsForwarding held.now }
+    ensures silent { result ≢ 0 → (routes.new ≡ routes.old) × (total.new ≡ total.old) }
+    ensures known { (result ≡ 0) ⊎ ((result ≡ 4) ⊎ (result ≡ 10)) }
+{
+    let Some(table) = held.table() else {
+        return WRONG_KIND;
+    };
+    let Ok(all) = table.routes(alloc) else {
+        return NO_MEMORY;
+    };
+    *total = put_routes(all.as_slice(), skip, routes);
+    DONE
+}
+
+/// How many routes there are.
+#[unsafe(no_mangle)]
+pub extern "C" fn yarib_count(alloc: Global, table: &mut Yarib, total: &mut usize) -> u32
+    ensures done { result ≡ 0 → Holds table.old (λ held. total.new ≡ length (routes_in held)) }
+    ensures same { held_in table.new ≡ held_in table.old }
+    ensures absent { result ≡ 1 → held_in table.old ≡ None }
+    ensures kind { result ≡ 10 → Holds table.old IsForwarding }
+    ensures silent { result ≢ 0 → total.new ≡ total.old }
+    ensures known { (result ≡ 0) ⊎ ((result ≡ 1) ⊎ (result ≡ 10)) }
+{
+    let Some(held) = table.take(alloc) else {
+        return NOTHING;
+    };
+    let status = count(&held, total);
+    *table = Yarib::of(held);
+    status
+}
+
+fn count(held: &Held, total: &mut usize) -> u32
+    ensures done { result ≡ 0 → total.new ≡ length (routes_in held.now) }
+    ensures kind { result ≡ 10 → IsForwarding held.now }
+    ensures silent { result ≢ 0 → total.new ≡ total.old }
+    ensures known { (result ≡ 0) ⊎ (result ≡ 10) }
+{
+    match held.table() {
+        None => WRONG_KIND,
+        Some(table) => {
+            *total = table.len() as usize;
+            DONE
+        }
+    }
+}
+
+/// The entries of the journal from the index `skip` on, and how many there are in all.
+#[unsafe(no_mangle)]
+pub extern "C" fn yarib_journal(
+    alloc: Global,
+    table: &mut Yarib,
+    skip: usize,
+    entries: &mut [YaribEntry],
+    total: &mut usize,
+) -> u32
+    ensures done { result ≡ 0 → Holds table.old (λ held. ShowsJournal (journal_in held) skip entries.new total.new) }
+    ensures same { held_in table.new ≡ held_in table.old }
+    ensures absent { result ≡ 1 → held_in table.old ≡ None }
+    ensures kind { result ≡ 10 → Holds table.old (λ held. journal_in held ≡ None) }
+    ensures silent { result ≢ 0 → (entries.new ≡ entries.old) × (total.new ≡ total.old) }
+    ensures known { (result ≡ 0) ⊎ ((result ≡ 1) ⊎ (result ≡ 10)) }
+{
+    let Some(held) = table.take(alloc) else {
+        return NOTHING;
+    };
+    let status = show_journal(&held, skip, entries, total);
+    *table = Yarib::of(held);
+    status
+}
+
+fn show_journal(held: &Held, skip: usize, entries: &mut [YaribEntry], total: &mut usize) -> u32
+    ensures done { result ≡ 0 → ShowsJournal (journal_in held.now) skip entries.new total.new }
+    ensures kind { result ≡ 10 → journal_in held.now ≡ None }
+    ensures silent { result ≢ 0 → (entries.new ≡ entries.old) × (total.new ≡ total.old) }
+    ensures known { (result ≡ 0) ⊎ (result ≡ 10) }
+{
+    match held {
+        Held::Journaled(book) => {
+            *total = put_entries(book.journal(), skip, entries);
+            DONE
+        }
+        Held::Plain(_) | Held::Forwarding(_) => WRONG_KIND,
+    }
+}

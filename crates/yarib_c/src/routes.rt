@@ -1,0 +1,79 @@
+//! Routes as C has them.
+ghost use Rattle.std.specs.Prelude.{◌≡◌};
+ghost use Rattle.yarib_c.specs.Forms.{hop_number, via_number};
+
+use rt_rib::{Hop, Route};
+
+/// A route, or the answer that there is none: `hop` is 0 for no route, 1 for a router, whose address is `via`, and 2 where the
+/// packets are discarded.
+#[repr(C)]
+#[derive(Clone, Copy, PartialEq, Eq, Debug)]
+pub struct YaribRoute {
+    pub base: u32,
+    pub pref: u32,
+    pub via: u32,
+    pub feed: u32,
+    pub len: u8,
+    pub hop: u8,
+}
+
+/// A next hop as two numbers.
+pub(crate) fn numbers_of(hop: Hop) -> (u8, u32)
+    ensures kind { result.0 ≡ hop_number hop }
+    ensures via { result.1 ≡ via_number hop }
+{
+    match hop {
+        Hop::Via(addr) => (1, addr.0),
+        Hop::Discard => (2, 0),
+    }
+}
+
+impl YaribRoute {
+    ghost use Rattle.yarib_c.specs.Forms.{route_as, answer_as, hop_as};
+
+    /// The answer that there is no route.
+    pub(crate) const NONE: YaribRoute = YaribRoute {
+        base: 0,
+        pref: 0,
+        via: 0,
+        feed: 0,
+        len: 0,
+        hop: 0,
+    };
+
+    pub(crate) fn of(route: Route) -> YaribRoute
+        ensures { result ≡ route_as route }
+    {
+        let (hop, via) = numbers_of(route.hop);
+        YaribRoute {
+            base: route.prefix.base(),
+            pref: route.pref,
+            via,
+            feed: route.feed,
+            len: route.prefix.len(),
+            hop,
+        }
+    }
+
+    /// The answer to a look-up.
+    pub(crate) fn answer(found: Option<Route>) -> YaribRoute
+        ensures { result ≡ answer_as found }
+    {
+        match found {
+            None => YaribRoute::NONE,
+            Some(route) => YaribRoute::of(route),
+        }
+    }
+
+    /// A next hop and no more.
+    pub(crate) fn of_hop(hop: Hop) -> YaribRoute
+        ensures { result ≡ hop_as hop }
+    {
+        let (hop, via) = numbers_of(hop);
+        YaribRoute {
+            via,
+            hop,
+            ..YaribRoute::NONE
+        }
+    }
+}

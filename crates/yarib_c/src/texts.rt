@@ -1,0 +1,107 @@
+//! Prefixes and addresses as texts.
+ghost use Rattle.std.specs.Prelude.{◌≡◌, ◌≢◌, ◌⊎◌, ℕ, ◌<◌, ◌≤◌, length, take};
+ghost use Rattle.rt_cidr.specs.Cidr.{IsPrefix};
+ghost use Rattle.rt_cidr.specs.Text.{IsPrefixText, IsAddressText, prefix_text, address_text};
+ghost use Rattle.yarib_c.specs.Calls.{PutsText};
+
+use crate::status::{BAD_BITS, BAD_LENGTH, BAD_SIZE, BAD_TEXT, DONE};
+use rt_cidr::{Addr, Prefix, ShortText, TextFault};
+
+/// A prefix.
+#[repr(C)]
+#[derive(Clone, Copy, PartialEq, Eq, Debug)]
+pub struct YaribPrefix {
+    pub base: u32,
+    pub len: u8,
+}
+
+/// Reads a prefix.
+#[unsafe(no_mangle)]
+pub extern "C" fn yarib_prefix_parse(text: &[u8], prefix: &mut YaribPrefix) -> u32
+    ensures done { result ≡ 0 → IsPrefix prefix.new.base prefix.new.len × IsPrefixText text.now prefix.new.base prefix.new.len }
+    ensures text { result ≡ 7 → (base len : ℕ) → ¬ IsPrefixText text.now base len }
+    ensures length { result ≡ 8 → (base len : ℕ) × IsPrefixText text.now base len × (32 < len) }
+    ensures bits { result ≡ 9 → (base len : ℕ) × IsPrefixText text.now base len × (len ≤ 32) × ¬ IsPrefix base len }
+    ensures silent { result ≢ 0 → prefix.new ≡ prefix.old }
+    ensures known { (result ≡ 0) ⊎ ((7 ≤ result) × (result ≤ 9)) }
+{
+    match Prefix::parse(text) {
+        Ok(read) => {
+            *prefix = YaribPrefix {
+                base: read.base(),
+                len: read.len(),
+            };
+            DONE
+        }
+        Err(TextFault::Text) => BAD_TEXT,
+        Err(TextFault::Length) => BAD_LENGTH,
+        Err(TextFault::Bits) => BAD_BITS,
+    }
+}
+
+/// Writes a prefix: the text takes the first `used` of the bytes.
+#[tactic(auto, using(crate::proofs::TextLengths::lengths))]
+#[unsafe(no_mangle)]
+pub extern "C" fn yarib_prefix_print(prefix: &YaribPrefix, text: &mut [u8], used: &mut usize) -> u32
+    ensures done { result ≡ 0 → IsPrefix prefix.now.base prefix.now.len × PutsText (prefix_text prefix.now.base prefix.now.len) text.new used.new }
+    ensures size { result ≡ 5 → length text.old < length (prefix_text prefix.now.base prefix.now.len) }
+    ensures length { result ≡ 8 → 32 < prefix.now.len }
+    ensures bits { result ≡ 9 → (prefix.now.len ≤ 32) × ¬ IsPrefix prefix.now.base prefix.now.len }
+    ensures silent { result ≢ 0 → (text.new ≡ text.old) × (used.new ≡ used.old) }
+    ensures known { (result ≡ 0) ⊎ ((result ≡ 5) ⊎ ((result ≡ 8) ⊎ (result ≡ 9))) }
+{
+    let printed = match Prefix::new(prefix.base, prefix.len) {
+        Ok(printed) => printed,
+        Err(TextFault::Bits) => return BAD_BITS,
+        Err(_) => return BAD_LENGTH,
+    };
+    let mut short = ShortText::new();
+    printed.prepend_to(&mut short);
+    put_text(short.as_bytes(), text, used)
+}
+
+/// Reads an address.
+#[unsafe(no_mangle)]
+pub extern "C" fn yarib_address_parse(text: &[u8], address: &mut u32) -> u32
+    ensures done { result ≡ 0 → IsAddressText text.now address.new }
+    ensures text { result ≡ 7 → (a : ℕ) → ¬ IsAddressText text.now a }
+    ensures silent { result ≢ 0 → address.new ≡ address.old }
+    ensures known { (result ≡ 0) ⊎ (result ≡ 7) }
+{
+    match Addr::parse(text) {
+        Ok(read) => {
+            *address = read.0;
+            DONE
+        }
+        Err(_) => BAD_TEXT,
+    }
+}
+
+/// Writes an address: the text takes the first `used` of the bytes.
+#[tactic(auto, using(crate::proofs::TextLengths::lengths))]
+#[unsafe(no_mangle)]
+pub extern "C" fn yarib_address_print(address: u32, text: &mut [u8], used: &mut usize) -> u32
+    ensures done { result ≡ 0 → PutsText (address_text address) text.new used.new }
+    ensures size { result ≡ 5 → length text.old < length (address_text address) }
+    ensures silent { result ≢ 0 → (text.new ≡ text.old) × (used.new ≡ used.old) }
+    ensures known { (result ≡ 0) ⊎ (result ≡ 5) }
+{
+    let mut short = ShortText::new();
+    Addr(address).prepend_to(&mut short);
+    put_text(short.as_bytes(), text, used)
+}
+
+/// Puts the bytes at the front of the text, where it has room for them.
+fn put_text(bytes: &[u8], text: &mut [u8], used: &mut usize) -> u32
+    ensures done { result ≡ 0 → PutsText bytes.now text.new used.new }
+    ensures size { result ≡ 5 → length text.old < length bytes.now }
+    ensures silent { result ≢ 0 → (text.new ≡ text.old) × (used.new ≡ used.old) }
+    ensures known { (result ≡ 0) ⊎ (result ≡ 5) }
+{
+    if text.len() < bytes.len() {
+        return BAD_SIZE;
+    }
+    text[..bytes.len()].copy_from_slice(bytes);
+    *used = bytes.len();
+    DONE
+}
