@@ -14,10 +14,19 @@ def kit():
     return pathlib.Path(subprocess.run(["rt", "doc"], stdout=subprocess.PIPE, text=True, check=True).stdout.strip()).parent
 
 
+def heads():
+    """What stands before the colon of each line of crates.txt, a crate's name and perhaps its kind, and the words behind."""
+    lines = [line.partition("#")[0].partition(":") for line in (TOP / "crates.txt").read_text().splitlines()]
+    return [(head.split(), rest.split()) for head, _, rest in lines if head.strip()]
+
+
 def needs():
     """The crates of crates.txt, each with what its line names."""
-    lines = [line.partition("#")[0] for line in (TOP / "crates.txt").read_text().splitlines()]
-    return {name.split()[0]: rest.split() for name, _, rest in (line.partition(":") for line in lines) if name.strip()}
+    return {name: rest for (name, *_), rest in heads()}
+
+
+def is_static(crate):
+    return any(name == crate and "staticlib" in kind for (name, *kind), _ in heads())
 
 
 def below(crates):
@@ -47,6 +56,7 @@ def words_for(name, named, folder):
         words += ["--extern", f"{one}={library(one)}"]
     for one in sorted(below(own)):
         words += ["-L", f"dependency={library(one).parent}"]
+    words += ["--crate-type", "staticlib"] * is_static(name)
     return [*words, "--antt-project", f"{kit()}/rattle/logic/antt-project.json", "--logic-built", f"{kit()}/logic_built",
             "--links", f"{name}="]
 
