@@ -6,11 +6,12 @@ use Rattle.std.proofs.lemmas.Bool.{eqb-true, eq-eqb}
 use Rattle.std.proofs.lemmas.List.Elements.{All-head, All-tail, All-contains, Contains-get_or}
 use Rattle.std.proofs.lemmas.List.Filters.{All-dedup}
 use Rattle.std.proofs.lemmas.List.Kept.{AllPairs-cons, AllPairs-filter, Contains-from_dedup}
-use Rattle.std.specs.List.{AllPairs, Contains, dedup, list_all}
+use Rattle.std.specs.List.{AllPairs, Contains, dedup, filter, list_all}
 use Rattle.rt_cidr.specs.declared.address.Addr.{Addr}
 use Rattle.rt_cidr.specs.declared.prefixes.Prefix.{Prefix}
 use Rattle.rt_cidr.specs.Cidr.{size_of}
 use Rattle.rt_cidr.specs.Prefix.{covers, same_prefix}
+use Rattle.rt_cidr.specs.Laws.{SamePrefix}
 use Rattle.rt_rib.specs.declared.routes.Route.{Route}
 use Rattle.rt_rib.specs.Table.{below_then, is_better, is_of, precedes, IsTable}
 use Rattle.rt_rib.specs.LookUp.{look_up, best_routes}
@@ -214,6 +215,49 @@ IsTable-best : (t : List Route) → IsTable t → IsTable (best_routes t)
 IsTable-best t h =
     let is_best = λ (r : Route). list_all (λ (s : Route). not (surpasses s r)) t in
     record { ordered = AllPairs-filter Ordered is_best t h.ordered; single = AllPairs-filter Apart is_best t h.single }
+
+-- of the routes to those prefixes that pass a test, the best are the best of all that pass
+module _ (same : SamePrefix) (t : Prefix → Bool) where
+  -- a table's routes that pass
+  abbrev passing : List Route → List Route
+  passing table = filter (λ r. t r.prefix) table
+
+  pub IsTable-passing : (table : List Route) → IsTable table → IsTable (passing table)
+  IsTable-passing table h = record {
+    ordered = AllPairs-filter Ordered (λ r. t r.prefix) table h.ordered;
+    single = AllPairs-filter Apart (λ r. t r.prefix) table h.single;
+  }
+
+  -- what surpasses a route that passes does so too
+  passes_too : (s r : Route) → surpasses s r ≡ true → t r.prefix ≡ true → t s.prefix ≡ true
+  passes_too s r better e =
+      let parts = one-parts s r (and_parts (to_one s r) (is_better s r) better).0 in
+      ap t (same s.prefix r.prefix parts.0 parts.1) ∙ e
+
+  pub best_passing : (table : List Route) → IsTable table → best_routes (passing table) ≡ passing (best_routes table)
+  best_passing table h =
+      let beats_none = λ (xs : List Route) (r : Route). list_all (λ (s : Route). not (surpasses s r)) xs in
+      one_table_of_set (best_routes (passing table)) (passing (best_routes table)) (IsTable-best (passing table) (IsTable-passing table h))
+      (IsTable-passing (best_routes table) (IsTable-best table h))
+      (λ r. (
+        (λ c.
+            let best = filter-from (beats_none (passing table)) (passing table) r c in
+            let there = filter-from (λ r. t r.prefix) table r best.0 in
+            filter-keeps (λ r. t r.prefix) (best_routes table) r
+            (filter-keeps (beats_none table) table r there.0
+            (list_all-from_contained (λ (s : Route). not (surpasses s r)) table (λ s d.
+            not_from_false (surpasses s r) (false_from_ne_true (surpasses s r) (λ better.
+            let passes = filter-keeps (λ r. t r.prefix) table s d (passes_too s r better there.1) in
+            both_ways (surpasses s r)
+            (not-true (surpasses s r) (list_all-contained (λ (s : Route). not (surpasses s r)) (passing table) s best.1 passes)) better)))))
+            there.1),
+        (λ c.
+            let there = filter-from (λ r. t r.prefix) (best_routes table) r c in
+            let best = filter-from (beats_none table) table r there.0 in
+            filter-keeps (beats_none (passing table)) (passing table) r (filter-keeps (λ r. t r.prefix) table r best.0 there.1)
+            (list_all-from_contained (λ (s : Route). not (surpasses s r)) (passing table) (λ s d.
+            list_all-contained (λ (s : Route). not (surpasses s r)) table s best.1 (filter-from (λ r. t r.prefix) table s d).0))),
+      ))
 
 -- what a table's best routes contain it contains itself
 from_table : (t : List Route) (r : Route) → Contains (best_routes t) r → Contains t r

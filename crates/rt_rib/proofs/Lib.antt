@@ -20,3 +20,4 @@ pub mod MapChanges
 pub mod MapLookUps
 pub mod MapMatches
 pub mod BestRoutes
+pub mod Selections

@@ -1,6 +1,6 @@
 -- The routes that a map from prefixes to offers stands for: what they contain, and that they are a table.
 use Rattle.std.proofs.Common.{◌≡◌, ℕ, Bool, true, false, eqb, ltb, ◌⊎◌, ◌↔◌, inl, inr, List, [], ◌∷◌, ◌++◌, get_or, Option, Some, None, refl, ap, ◌∙◌, sym}
-use Rattle.std.proofs.Common.{subst, arith, map}
+use Rattle.std.proofs.Common.{subst, arith, map, append_assoc}
 use Rattle.std.specs.Prelude.{IsTrue}
 use Rattle.std.specs.List.{All, AllPairs, Contains, list_any}
 use Rattle.std.proofs.lemmas.Bool.{cases_Bool, both_ways, false_from_ne_true, and_parts, and_from, eqb-true, eq-eqb, ltb-true}
@@ -207,3 +207,10 @@ module _ (laws : MapLaws) (m : Map) (h : IsMap m) where
 -- nothing is a map
 pub IsMap-nil : IsMap []
 IsMap-nil = record { ordered = tt; each = λ p offers e. cc }
+
+-- the routes of one pair more of those that a walk goes over
+pub walked : (done more : List Route) (ahead rest m : Map) (p : Prefix) (offers same : List Offer) → done ++ routes_of ahead ≡ routes_of m
+    → ahead ≡ (p, offers) ∷ rest → same ≡ offers → more ≡ done ++ map (route_by p) same → more ++ routes_of rest ≡ routes_of m
+walked done more ahead rest m p offers same before first is appended =
+    ap (λ l. l ++ routes_of rest) appended ∙ append_assoc done (map (route_by p) same) (routes_of rest)
+    ∙ ap (λ o. done ++ (map (route_by p) o ++ routes_of rest)) is ∙ ap (λ n. done ++ routes_of n) (sym first) ∙ before

@@ -44,6 +44,7 @@ mod offers;
 mod purge;
 mod refused;
 mod routes;
+mod selection;
 mod table;
 
 pub use ahead::AHEAD;
@@ -53,4 +54,5 @@ pub use commands::{Cmd, Entry, Reply};
 pub use limits::{MOST_FEEDS, MOST_ROUTES, feed_ok, limit_ok};
 pub use refused::Refused;
 pub use routes::{Hop, Route, keep_best};
+pub use selection::{Part, Selection};
 pub use table::Table;

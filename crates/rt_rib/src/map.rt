@@ -132,7 +132,7 @@ pub(crate) fn take_out<A: Allocator + Copy>(map: &mut Map<A>, feed: u32, prefix:
 }
 
 /// Appends the routes that the offers make of a prefix.
-fn append<A: Allocator + Copy>(
+pub(crate) fn append<A: Allocator + Copy>(
     routes: &mut Vec<Route, A>,
     prefix: Prefix,
     offers: &[Offer],

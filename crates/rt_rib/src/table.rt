@@ -7,6 +7,7 @@ ghost use Rattle.rt_rib.specs.Table.{IsTable};
 ghost use Rattle.rt_rib.specs.LookUp.{look_up, look_up_all};
 ghost use Rattle.rt_rib.specs.Book.{IsLimit, IsFeed, table_state, Serves, HoldsRoutes};
 ghost use Rattle.rt_rib.specs.Maps.{routes_of, IsMap};
+ghost use Rattle.rt_rib.specs.Selection.{selected};
 
 use crate::answers::Answers;
 use crate::commands::{Cmd, Reply};
@@ -14,7 +15,9 @@ use crate::limits::MOST_FEEDS;
 use crate::map::{self, Map};
 use crate::refused::Refused;
 use crate::routes::Route;
+use crate::selection::{Selection, keep_asked, routes_in};
 use crate::{lookups, purge};
+use rt_cidr::laws::same_prefix;
 use rt_cidr::{Addr, Prefix};
 use rt_trie::Trie;
 use std::alloc::Allocator;
@@ -136,6 +139,19 @@ impl<A: Allocator + Copy> Table<A> {
         ensures { result ≡ self.now.trie.nodes }
     {
         self.map.nodes()
+    }
+
+    /// The routes that are asked for, in dump order, in memory of the allocator: of all, or with `only_best` of the best of
+    /// each prefix, those whose prefix lies in the part and that are of the feed. It goes down once, and then over the part
+    /// alone, for whose routes alone it takes memory. M1: `Refused` where that memory was refused.
+    pub fn select(&self, alloc: A, asked: &Selection) -> Result<Vec<Route, A>, Refused>
+        ensures { IfOk result (λ routes. routes.items ≡ selected asked.now self.now.routes) }
+    {
+        let count = self.len();
+        same_prefix();
+        let mut routes = routes_in(&self.map, alloc, count as usize, asked.part)?;
+        keep_asked(&mut routes, asked);
+        Ok(routes)
     }
 
     /// The map of its routes, for what only reads them.

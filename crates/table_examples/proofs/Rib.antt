@@ -21,6 +21,9 @@ use Rattle.rt_rib.specs.declared.offers.Offer.{Offer}
 use Rattle.rt_rib.specs.Maps.{outranks, is_from, IsRanked, IsOffers, Map, route_by, routes_of, IsMap}
 use Rattle.rt_rib.specs.Table.{below_then, is_of, has, count_of, is_better, precedes, put_in, take_out, purge, IsTable}
 use Rattle.rt_rib.specs.LookUp.{matching, longest_of, best, look_up, beats, ranking, look_up_all, best_routes}
+use Rattle.rt_rib.specs.declared.selection.Selection.{Selection}
+use Rattle.rt_rib.specs.declared.selection.Part.TheVariants as part
+use Rattle.rt_rib.specs.Selection.{is_in, is_by, selected}
 use Rattle.rt_rib.specs.Sequential.{reply_of, table_after, table_of_journal, IsAnswered, IsLawfulJournal}
 use Rattle.rt_rib.specs.Book.{IsLimit, TableState, TableContents, table_state, Serves, BookContents, OfferTrie, table_of, HoldsRoutes, HoldsTable, IsFeed, Applies, Refuses, Reserves}
 use Rattle.rt_rib.specs.Laws.{IsBestMatch, is_own, feed_entries, PutInAdds, TakeOutLeavesOthers, OneTableOfSet, LookUpFindsBest, AreMatches}
@@ -33,7 +36,7 @@ use Rattle.rt_rib.proofs.OfferLists.{IsRanked-one}
 use Rattle.rt_rib.proofs.Journals.{IsTable-of_journal, IsLawfulJournal-nil, IsLawfulJournal-push}
 use Rattle.std.specs.Prelude.{◌↔◌, ◌⊎◌, ◌≤◌, ◌<◌, ◌==◌, ◌&&◌, ◌||◌, not, nat_lt, length, map, filter, slice_get}
 use Rattle.std.specs.List.{list_any, AllPairs, Contains}
-use Rattle.rt_cidr.specs.Prefix.{covers}
+use Rattle.rt_cidr.specs.Prefix.{covers, contains}
 
 -- prefixes of the examples, beside those of rt_cidr: 128.0.0.0/1 and 10.1.0.0/16
 abbrev upper_half : Prefix
@@ -316,6 +319,40 @@ best_routes_of_a_tie_is_the_least_feed = refl
 
 best_routes_tells_prefixes_of_one_base_apart : best_routes (route ten_8 1 5 ∷ route ten_0_16 2 9 ∷ []) ≡ route ten_8 1 5 ∷ route ten_0_16 2 9 ∷ []
 best_routes_tells_prefixes_of_one_base_apart = refl
+
+-- is_in
+what_each_part_has :
+    (map (is_in part.All) (ten_8 ∷ ten_1_16 ∷ []) ≡ true ∷ true ∷ [])
+    × (map (is_in (part.Within ten_8)) (everything ∷ ten_8 ∷ ten_1_16 ∷ last_32 ∷ []) ≡ false ∷ true ∷ true ∷ false ∷ [])
+    × (map (is_in (part.Covering ten_8)) (everything ∷ ten_8 ∷ ten_1_16 ∷ last_32 ∷ []) ≡ true ∷ true ∷ false ∷ false ∷ [])
+    × (map (is_in (part.Exact ten_8)) (everything ∷ ten_8 ∷ ten_0_16 ∷ last_32 ∷ []) ≡ false ∷ true ∷ false ∷ false ∷ [])
+what_each_part_has = (refl, refl, refl, refl)
+
+what_each_part_asks :
+    (p q : Prefix)
+    → (is_in part.All q ≡ true) × (is_in (part.Within p) q ≡ contains p q) × (is_in (part.Covering p) q ≡ contains q p)
+    × (is_in (part.Exact p) q ≡ same_prefix q p)
+what_each_part_asks p q = (refl, refl, refl, refl)
+
+-- is_by
+of_any_feed_or_of_one : map (λ feed. is_by feed (route ten_8 2 30)) (None ∷ Some 2 ∷ Some 1 ∷ []) ≡ true ∷ true ∷ false ∷ []
+of_any_feed_or_of_one = refl
+
+-- selected
+abbrev three_prefixes : List Route
+three_prefixes = route everything 2 200 ∷ route ten_8 2 30 ∷ route ten_8 1 50 ∷ route ten_1_16 1 10 ∷ route ten_1_16 2 100 ∷ []
+
+of_a_part_what_is_a_feeds :
+    selected (record { part = part.Within ten_8; only_best = false; feed = Some 2 }) three_prefixes ≡ route ten_8 2 30 ∷ route ten_1_16 2 100 ∷ []
+of_a_part_what_is_a_feeds = refl
+
+of_the_best_what_is_a_feeds : selected (record { part = part.Within ten_8; only_best = true; feed = Some 2 }) three_prefixes ≡ route ten_8 2 30 ∷ []
+of_the_best_what_is_a_feeds = refl
+
+what_is_selected :
+    (asked : Selection) (table : List Route)
+    → selected asked table ≡ filter (λ r. is_in asked.part r.prefix && is_by asked.feed r) (if asked.only_best then best_routes table else table)
+what_is_selected asked table = refl
 
 -- reply_of
 add_goes_by_the_room_that_there_is :

@@ -1,17 +1,8 @@
-use Rattle.std.proofs.Common.{◌≡◌, List, ◌∷◌, ◌++◌, map, ap, sym, ◌∙◌, append_assoc}
+use Rattle.std.proofs.Common.{◌++◌, ap, sym, ◌∙◌}
 use Rattle.std.proofs.lemmas.List.{append-nil}
-use Rattle.rt_cidr.specs.declared.prefixes.Prefix.{Prefix}
-use Rattle.rt_rib.specs.declared.offers.Offer.{Offer}
-use Rattle.rt_rib.specs.declared.routes.Route.{Route}
-use Rattle.rt_rib.specs.Maps.{Map, route_by, routes_of}
+use Rattle.rt_rib.specs.Maps.{routes_of}
+use Rattle.rt_rib.proofs.MapRoutes.{walked}
 use Rattle.rt_rib.proofs.map.routes.Goals as goal
-
--- one prefix more
-walked : (done more : List Route) (ahead rest m : Map) (p : Prefix) (offers same : List Offer) → done ++ routes_of ahead ≡ routes_of m
-    → ahead ≡ (p, offers) ∷ rest → same ≡ offers → more ≡ done ++ map (route_by p) same → more ++ routes_of rest ≡ routes_of m
-walked done more ahead rest m p offers same before first is appended =
-    ap (λ l. l ++ routes_of rest) appended ∙ append_assoc done (map (route_by p) same) (routes_of rest)
-    ∙ ap (λ o. done ++ (map (route_by p) o ++ routes_of rest)) is ∙ ap (λ n. done ++ routes_of n) (sym first) ∙ before
 
 pub loop-prefix-init : goal.loop-prefix-init
 loop-prefix-init g c = ap (λ l. l ++ routes_of c.into_iter-prefix-iterator.result) c.in_ok-routes.ensures.items

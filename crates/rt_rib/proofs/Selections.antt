@@ -1,0 +1,111 @@
+-- The routes that are asked for: of a map those of the pairs that are asked for, and the best of these.
+use Rattle.std.proofs.Common.{◌≡◌, ℕ, sym, Bool, true, false, cond, eqb, ltb, inl, inr, List, [], ◌∷◌, ◌++◌, map, refl, ap, ◌∙◌, subst, arith}
+use Rattle.std.specs.Prelude.{◌&&◌, Option, Some, None, if◌then◌else◌}
+use Rattle.std.specs.List.{filter}
+use Rattle.std.proofs.lemmas.Bool.{cases_Bool, and_parts, eqb-true, ltb-true, false_from_ne_true}
+use Rattle.std.proofs.lemmas.List.Elements.{filter-append}
+use Rattle.std.proofs.lemmas.List.{append-nil}
+use Rattle.rt_cidr.specs.declared.prefixes.Prefix.{Prefix}
+use Rattle.rt_cidr.specs.Prefix.{same_prefix}
+use Rattle.rt_cidr.specs.Laws.{SamePrefix}
+use Rattle.rt_trie.specs.Map.{before, get, IsBeforeAll, IsOrdered}
+use Rattle.rt_rib.specs.declared.routes.Route.{Route}
+use Rattle.rt_rib.specs.declared.offers.Offer.{Offer}
+use Rattle.rt_rib.specs.declared.selection.Selection.{Selection}
+use Rattle.rt_rib.specs.declared.selection.Part.TheVariants.{All}
+use Rattle.rt_rib.specs.LookUp.{best_routes}
+use Rattle.rt_rib.specs.Maps.{Map, route_by, routes_of}
+use Rattle.rt_rib.specs.Selection.{is_in, is_by, selected}
+use Rattle.rt_rib.specs.Table.{IsTable}
+use Rattle.rt_rib.specs.inside.Maps.{offers_at}
+use Rattle.rt_rib.proofs.BestRoutes.{best_passing}
+use Rattle.rt_rib.proofs.Order.{below_then-true}
+
+-- two filters are one
+filter-filter : {X : Type 0} (f g : X → Bool) (xs : List X) → filter g (filter f xs) ≡ filter (λ x. f x && g x) xs
+filter-filter f g [] = refl
+filter-filter f g (x ∷ xs) = elim (cases_Bool (f x)) [
+  | inl passes ↦ elim (cases_Bool (g x)) [
+    | inl both ↦ rw (passes, both) (ap (λ l. x ∷ l) (filter-filter f g xs))
+    | inr one ↦ rw (passes, one) (filter-filter f g xs)
+  ]
+  | inr fails ↦ rw fails (filter-filter f g xs)
+]
+
+-- of any feed are all
+by_any : (xs : List Route) → filter (is_by None) xs ≡ xs
+by_any [] = refl
+by_any (r ∷ xs) = ap (λ l. r ∷ l) (by_any xs)
+
+pub by_none : (feed : Option ℕ) (xs : List Route) → ((n : ℕ) → feed ≡ Some n → ⊥) → xs ≡ filter (is_by feed) xs
+by_none None xs h = sym (by_any xs)
+by_none (Some n) xs h = absurd (h n refl)
+
+-- and all are in the whole table
+pub in_all : (xs : List Route) → filter (λ r. is_in All r.prefix) xs ≡ xs
+in_all [] = refl
+in_all (r ∷ xs) = ap (λ l. r ∷ l) (in_all xs)
+
+module _ (t : Prefix → Bool) where
+  -- the routes to a prefix pass a test of it, or none does
+  filter-made : (p : Prefix) (offers : List Offer) (passes : Bool) → t p ≡ passes
+      → filter (λ r. t r.prefix) (map (route_by p) offers) ≡ cond passes (map (route_by p) offers) []
+  filter-made p [] true e = refl
+  filter-made p [] false e = refl
+  filter-made p (o ∷ offers) true e = rw e (ap (λ l. route_by p o ∷ l) (filter-made p offers true e))
+  filter-made p (o ∷ offers) false e = rw e (filter-made p offers false e)
+
+  -- those that pass are the routes of the pairs that do
+  pub filter_routes : (m : Map) → filter (λ r. t r.prefix) (routes_of m) ≡ routes_of (filter (λ x. t x.0) m)
+  filter_routes [] = refl
+  filter_routes ((p, offers) ∷ rest) =
+      let here = map (route_by p) offers in
+      let apart = filter-append (λ r. t r.prefix) here (routes_of rest) in
+      elim (cases_Bool (t p)) [
+        | inl passes ↦ rw passes (apart ∙ ap (λ l. l ++ filter (λ r. t r.prefix) (routes_of rest)) (filter-made p offers true passes)
+            ∙ ap (λ l. here ++ l) (filter_routes rest))
+        | inr fails ↦ rw fails (apart ∙ ap (λ l. l ++ filter (λ r. t r.prefix) (routes_of rest)) (filter-made p offers false fails)
+            ∙ filter_routes rest)
+      ]
+
+-- what comes after a prefix is another
+another : (p q : Prefix) → before p q ≡ true → same_prefix q p ≡ false
+another p q e =
+    false_from_ne_true (same_prefix q p) (λ one.
+    let parts = and_parts (eqb q.base p.base) (eqb q.len p.len) one in
+    let base = eqb-true q.base p.base parts.0 in
+    let len = eqb-true q.len p.len parts.1 in
+    elim (below_then-true p.base q.base (ltb p.len q.len) e) [
+      | inl less ↦ omega arith
+      | inr equal ↦ let low = ltb-true p.len q.len equal.1 in omega arith
+    ])
+
+none_behind : (p : Prefix) (rest : Map) → IsBeforeAll p rest → filter (λ x. same_prefix x.0 p) rest ≡ []
+none_behind p [] h = refl
+none_behind p ((q, offers) ∷ rest) h = rw (another p q h.0) (none_behind p rest h.1)
+
+module _ (same : SamePrefix) where
+  -- the routes to a prefix are those of what stands there
+  pub routes_at : (p : Prefix) (m : Map) → IsOrdered m → filter (λ r. same_prefix r.prefix p) (routes_of m) ≡ map (route_by p) (offers_at m p)
+  routes_at p m order = filter_routes (λ q. same_prefix q p) m ∙ at m order where
+    at : (m : Map) → IsOrdered m → routes_of (filter (λ x. same_prefix x.0 p) m) ≡ map (route_by p) (offers_at m p)
+    at [] order = refl
+    at ((q, offers) ∷ rest) order = elim (cases_Bool (same_prefix q p)) [
+      | inl one ↦
+          let parts = and_parts (eqb q.base p.base) (eqb q.len p.len) one in
+          let is : q ≡ p = same q p (eqb-true q.base p.base parts.0) (eqb-true q.len p.len parts.1) in
+          let none : filter (λ x. same_prefix x.0 p) rest ≡ [] = none_behind p rest (subst (λ x. IsBeforeAll x rest) is order.0) in
+          rw one (rw none (append-nil (map (route_by q) offers) ∙ ap (λ x. map (route_by x) offers) is))
+      | inr other ↦ rw other (at rest order.1)
+    ]
+
+  -- of the part those that are asked for are those of all
+  pub selected_of_part : (asked : Selection) (table : List Route) → IsTable table
+      → filter (is_by asked.feed) (if asked.only_best then best_routes (filter (λ r. is_in asked.part r.prefix) table)
+      else filter (λ r. is_in asked.part r.prefix) table) ≡ selected asked table
+  selected_of_part asked table h = by_best asked.only_best where
+    by_best : (only_best : Bool) → filter (is_by asked.feed) (cond only_best (best_routes (filter (λ r. is_in asked.part r.prefix) table)) (filter (λ r. is_in asked.part r.prefix) table))
+        ≡ filter (λ r. is_in asked.part r.prefix && is_by asked.feed r) (cond only_best (best_routes table) table)
+    by_best true = ap (filter (is_by asked.feed)) (best_passing same (is_in asked.part) table h)
+        ∙ filter-filter (λ r. is_in asked.part r.prefix) (is_by asked.feed) (best_routes table)
+    by_best false = filter-filter (λ r. is_in asked.part r.prefix) (is_by asked.feed) table

@@ -1,0 +1,24 @@
+use Rattle.std.proofs.Common.{List, subst, sym, ap, ◌∙◌}
+use Rattle.std.specs.Prelude.{if◌then◌else◌}
+use Rattle.std.specs.List.{filter}
+use Rattle.rt_rib.specs.declared.routes.Route.{Route}
+use Rattle.rt_rib.specs.LookUp.{best_routes}
+use Rattle.rt_rib.specs.Maps.{routes_of}
+use Rattle.rt_rib.specs.Selection.{is_in, is_by, selected}
+use Rattle.rt_rib.specs.Table.{IsTable}
+use Rattle.rt_rib.proofs.BestRoutes.{IsTable-passing}
+use Rattle.rt_rib.proofs.Selections.{selected_of_part}
+use Rattle.rt_rib.proofs.table.Table.select.Goals as goal
+
+pub keep_asked-requires : goal.keep_asked-requires
+keep_asked-requires g c =
+    subst IsTable (sym c.in_ok-routes.ensures)
+    (IsTable-passing c.same_prefix.ensures (is_in c.args.asked.now.part) (routes_of c.self.inside.map.pairs) c.self.invariant.table)
+
+pub returns : goal.returns
+returns g c =
+    let asked = c.args.asked.now in
+    let kept : List Route → List Route = λ routes. filter (is_by asked.feed) (if asked.only_best then best_routes routes else routes) in
+    rw (← c.self.view_is)
+    (c.keep_asked.ensures ∙ ap kept c.in_ok-routes.ensures
+    ∙ selected_of_part c.same_prefix.ensures asked (routes_of c.self.inside.map.pairs) c.self.invariant.table)
