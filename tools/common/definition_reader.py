@@ -13,7 +13,7 @@ LIBRARY_CRATES = tuple(
     crate for crate in re.findall(r"^([a-z]\w*)(?: staticlib)?:", (TOP / "crates.txt").read_text(), re.M)
     if (CRATES / crate / "specs").is_dir() and (CRATES / crate / "src/lib.rt").exists() and not crate.endswith("_tests"))
 
-WORD = re.compile(r"(\.?)([^\W\d][\w'?]*(?:-[^\W\d][\w']*)*|\d+)|(\"[^\"]*\")|([^\s\w(){}\[\],;.\"'\\]+)")
+WORD = re.compile(r"(\.?)([^\W\d][\w'?]*(?:-[^\W\d][\w']*)*|\d+)|(\"(?:[^\"\\]|\\.)*\")|([^\s\w(){}\[\],;.\"'\\]+)")
 DECLARED = re.compile(r"(?:abbrev |unfoldable )?(?:pub )?(?:abbrev |unfoldable )?(?:(record|data|ruleset) )?([^\s:(){}]+)")
 RUST_ITEM = r"^(?:pub(?:\([^)]*\))? )?(?:struct|enum|trait|type|const) {name}\b"
 

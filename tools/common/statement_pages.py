@@ -187,7 +187,7 @@ KIT = {
         "the contents were `old` and are `new`, which is `old` and then the bytes; where `old` is `None`, of a writer that "
         "doesn't tell its bytes, it says nothing",
     "Contains xs x": "x is an element of xs",
-    "IfSome o P": "P holds of the value, if there is one",
+    "IfSome o P, IfOk r P": "P holds of the value, if there is one",
     "IsNumeral radix text": "one digit or more, and nothing else",
     "IsSome o, IsTrue b": "it is a `Some`; it is `true`",
     "State":
@@ -198,12 +198,14 @@ KIT = {
     "codes \"..\"": "the bytes of a text",
     "count_by p xs, filter p xs, find p xs": "how many elements pass the test; those, in order; the first of them",
     "decimal n": "what `{}` writes for n, a number of at most 64 digits",
+    "digit_char d": "the character of a digit below 36: `0` to `9`, then `a` to `z`",
     "digits_value radix text": "the number that the digits write",
     "fold f a xs": "`xs.fold(a, f)`",
     "flat_map f xs, map f xs": "what f gives for each element, the lists one behind another; the same without that",
     "get_elem? xs i": "the i-th element from 0, `some` or `none`, which are the logic's own `Some` and `None`",
+    "join_by f s xs": "what f gives for each element, the lists one behind another with s between each two",
     "join_with_byte c texts": "the texts in a row, with the byte between each two",
-    "length xs, take n xs": "how many elements; the first n of them",
+    "length xs, take n xs, drop n xs": "how many elements; the first n of them; those behind",
     "list_all p xs, list_any p xs": "whether each element passes the test; whether some does",
     "max m n": "the greater of the two",
     "nat_le m n, nat_lt m n, not b": "`m <= n`, `m < n` and `!b`",
@@ -211,6 +213,7 @@ KIT = {
     "slice_get xs i, slice_index xs i": "the i-th element from 0, if there is one; the i-th number, and 0 past the end",
     "slice_split p xs":
         "xs cut at each element that passes the test, which is left out: one part more than there are such",
+    "unwrap_or o d": "the value, and d where there is none",
     "zero, suc n": "0, and n + 1, as cases of a number",
     "m - n, m / n, m % n, m ^ n": "0 where n is greater; rounded down; the rest; m to the power of n",
 }

@@ -50,6 +50,18 @@ use Rattle.std.specs.declared.result.Result.{Result}
 use Rattle.rt_feed.specs.FeedRuns.{AsksLines, RunsFeed, IsTold, StopsWithin, RunsOne}
 use Rattle.rt_feed.specs.Laws.{LineHasOneAnswer, AddressLineHasOneAnswer, AddressTextHasOneReading, CommandIsReadAgain, OnlyItsTextIsRead}
 use Rattle.rt_feed.specs.Laws.{OlderTextsStay, TextHasOneCut, TextHasOneReading}
+use Rattle.std.proofs.Common.{suc, ◌==◌, ◌||◌, ◌/◌, nat_lt, if◌then◌else◌, take, drop}
+use Rattle.std.specs.Prelude.{bytes_eq}
+use Rattle.std.specs.List.{join_by, slice_get}
+use Rattle.std.specs.Option.{unwrap_or}
+use Rattle.std.specs.Char.{digit_char}
+use Rattle.rt_feed.specs.declared.labels.Labelling.TheVariants.{Names, Files, NamesAndFiles}
+use Rattle.rt_feed.specs.declared.styles.Form.{Form}
+use Rattle.rt_feed.specs.declared.styles.Form.TheVariants.{Numbers, Labels, Json}
+use Rattle.rt_feed.specs.Printed.{route_line, also_line}
+use Rattle.rt_feed.specs.Json.{escaped, json_string, hop_members, route_object}
+use Rattle.rt_feed.specs.Labels.{base_name, without_feed, feed_name, label_by, labelled}
+use Rattle.rt_feed.specs.Styles.{label_of, row_as, rows_as, asked_of as asked_beginning, found_as, also_object, all_found_as}
 
 -- the address 192.0.2.1, and the command of the first line of examples/first.feed
 abbrev at_192_0_2_1 : Addr
@@ -1157,3 +1169,182 @@ one_line_for_each_range :
     ≡ codes "10.1.2.3-10.9.0.1 via 192.0.2.1 -> no route\n10.1.2.3-10.9.0.1 via 192.0.2.1 -> no route\n"
 unfolding digits address_text difference_text answered_text
 one_line_for_each_range = refl
+
+-- escaped
+what_stands_for_a_byte :
+    (escaped 34 ≡ codes "\\\"") × (escaped 92 ≡ codes "\\\\") × (escaped 10 ≡ codes "\\u000a") × (escaped 31 ≡ codes "\\u001f") × (escaped 32 ≡ codes " ")
+    × (escaped 127 ≡ 127 ∷ []) × (escaped 195 ≡ 195 ∷ [])
+what_stands_for_a_byte = (refl, refl, refl, refl, refl, refl, refl)
+
+what_stands_for_any_byte : (byte : ℕ) → escaped byte
+    ≡ (if byte == 34 || byte == 92 then codes "\\" ++ byte ∷ [] else if nat_lt byte 32 then codes "\\u00" ++ (digit_char (byte / 16) ∷ digit_char (byte % 16) ∷ []) else byte ∷ [])
+what_stands_for_any_byte byte = refl
+
+-- json_string
+a_string_with_quotation_marks : json_string (codes "a\"b\".feed\n") ≡ codes "\"a\\\"b\\\".feed\\u000a\""
+unfolding json_string
+a_string_with_quotation_marks = refl
+
+any_json_string : (bytes : List ℕ) → json_string bytes ≡ codes "\"" ++ (flat_map escaped bytes ++ codes "\"")
+unfolding json_string
+any_json_string bytes = refl
+
+-- hop_members
+a_next_hop_and_none : (hop_members (via_192_0_2 2) ≡ codes "\"via\":\"192.0.2.2\"") × (hop_members Discard ≡ codes "\"via\":null,\"discard\":true")
+unfolding digits address_text
+a_next_hop_and_none = (refl, refl)
+
+-- route_object
+a_route_as_an_object :
+    route_object (codes "2,\"file\":\"b.feed\"") (route_via ten_8 2 30 (via_192_0_2 2)) (codes ",\"reason\":\"shorter\"")
+    ≡ codes "{\"prefix\":\"10.0.0.0/8\",\"feed\":2,\"file\":\"b.feed\",\"pref\":30,\"via\":\"192.0.2.2\",\"reason\":\"shorter\"}"
+unfolding digits address_text prefix_text route_object
+a_route_as_an_object = refl
+
+any_route_as_an_object : (feed : List ℕ) (r : Route) (further : List ℕ) → route_object feed r further
+    ≡ codes "{\"prefix\":\"" ++ (prefix_text r.prefix.base r.prefix.len ++ (codes "\",\"feed\":" ++ (feed ++ (codes ",\"pref\":"
+    ++ (decimal r.pref ++ (codes "," ++ (hop_members r.hop ++ (further ++ codes "}"))))))))
+unfolding route_object
+any_route_as_an_object feed r further = refl
+
+-- base_name
+parts_behind_slashes :
+    (base_name (codes "a/b/c.feed") ≡ codes "c.feed") × (base_name (codes "c.feed") ≡ codes "c.feed") × (base_name (codes "/c") ≡ codes "c")
+    × (base_name (codes "c/") ≡ []) × (base_name [] ≡ [])
+parts_behind_slashes = (refl, refl, refl, refl, refl)
+
+any_part_behind_slashes : (byte : ℕ) (path : List ℕ) → base_name (byte ∷ path)
+    ≡ (if list_any (λ b. b == slash) path then base_name path else if byte == slash then path else byte ∷ path)
+any_part_behind_slashes byte path = refl
+
+-- without_feed
+the_ending_is_left_out :
+    (without_feed (codes "c.feed") ≡ codes "c") × (without_feed (codes "c.feeds") ≡ codes "c.feeds") × (without_feed (codes ".feed") ≡ [])
+    × (without_feed (codes "feed") ≡ codes "feed") × (without_feed (codes "c.feed.feed") ≡ codes "c.feed")
+the_ending_is_left_out = (refl, refl, refl, refl, refl)
+
+any_ending : (name : List ℕ) → without_feed name ≡ (if bytes_eq (drop (length name - 5) name) (codes ".feed") then take (length name - 5) name else name)
+any_ending name = refl
+
+-- feed_name
+a_feed_by_its_file : feed_name (codes "feeds/east.feed") ≡ codes "east"
+unfolding feed_name
+a_feed_by_its_file = refl
+
+any_feed_by_its_file : (path : List ℕ) → feed_name path ≡ without_feed (base_name path)
+unfolding feed_name
+any_feed_by_its_file path = refl
+
+-- label_by
+a_feed_by_each_label :
+    (label_by Names 2 (codes "feeds/east.feed") ≡ codes "east") × (label_by Files 2 (codes "feeds/east.feed") ≡ codes "2,\"file\":\"feeds/east.feed\"")
+    × (label_by NamesAndFiles 2 (codes "feeds/east.feed") ≡ codes "2,\"name\":\"east\",\"file\":\"feeds/east.feed\"")
+unfolding digits json_string feed_name label_by
+a_feed_by_each_label = (refl, refl, refl)
+
+any_feed_by_each_label :
+    (feed : ℕ) (path : List ℕ) → (label_by Names feed path ≡ feed_name path)
+    × (label_by Files feed path ≡ decimal feed ++ (codes ",\"file\":" ++ json_string path))
+    × (label_by NamesAndFiles feed path ≡ decimal feed ++ (codes ",\"name\":" ++ (json_string (feed_name path) ++ (codes ",\"file\":" ++ json_string path))))
+unfolding label_by
+any_feed_by_each_label feed path = (refl, refl, refl)
+
+-- labelled
+each_path_by_its_number : (tell : ℕ → List ℕ → List ℕ) (one two : List ℕ) → labelled tell 1 (one ∷ two ∷ []) ≡ tell 1 one ∷ tell 2 two ∷ []
+each_path_by_its_number tell one two = refl
+
+any_paths_by_their_numbers :
+    (tell : ℕ → List ℕ → List ℕ) (feed : ℕ) (path : List ℕ) (paths : List (List ℕ)) → (labelled tell feed [] ≡ [])
+    × (labelled tell feed (path ∷ paths) ≡ tell feed path ∷ labelled tell (suc feed) paths)
+any_paths_by_their_numbers tell feed path paths = (refl, refl)
+
+-- label_of
+feeds_have_their_labels :
+    (one two : List ℕ) → (label_of (one ∷ two ∷ []) 1 ≡ one) × (label_of (one ∷ two ∷ []) 2 ≡ two) × (label_of (one ∷ two ∷ []) 3 ≡ [])
+feeds_have_their_labels one two = (refl, refl, refl)
+
+any_label : (labels : List (List ℕ)) (feed : ℕ) → label_of labels feed ≡ unwrap_or (slice_get labels (feed - 1)) []
+any_label labels feed = refl
+
+-- route_line
+any_route_line : (feed : List ℕ) (route : Route) → route_line feed route
+    ≡ prefix_text route.prefix.base route.prefix.len ++ (codes " feed " ++ (feed ++ (codes " pref " ++ (decimal route.pref ++ (codes " via " ++ hop_text route.hop)))))
+any_route_line feed route = refl
+
+-- also_line
+any_also_line : (tell : Route → List ℕ) (addr : Addr) (first r : Route) → also_line tell addr first r
+    ≡ address_text addr.0 ++ (codes " also " ++ (tell r ++ (codes " " ++ (reason_text first r ++ codes "\n"))))
+any_also_line tell addr first r = refl
+
+-- the label of each feed that the examples have
+abbrev east_and_west : ℕ → List ℕ
+east_and_west = label_of (codes "east" ∷ codes "west" ∷ [])
+
+-- row_as
+a_row_in_each_form :
+    (row_as Labels east_and_west (route_via ten_8 2 30 Discard) ≡ codes "10.0.0.0/8 feed west pref 30 via discard\n")
+    × (row_as Json (λ feed. decimal feed) (route_via ten_8 2 30 Discard) ≡ codes "{\"prefix\":\"10.0.0.0/8\",\"feed\":2,\"pref\":30,\"via\":null,\"discard\":true}\n")
+unfolding digits address_text prefix_text route_object row_as
+a_row_in_each_form = (refl, refl)
+
+any_row_in_each_form :
+    (label : ℕ → List ℕ) (r : Route) → (row_as Numbers label r ≡ row_text r) × (row_as Labels label r ≡ route_line (label r.feed) r ++ codes "\n")
+    × (row_as Json label r ≡ route_object (label r.feed) r [] ++ codes "\n")
+unfolding row_as
+any_row_in_each_form label r = (refl, refl, refl)
+
+-- rows_as
+any_rows_in_a_form : (form : Form) (label : ℕ → List ℕ) (routes : List Route) → rows_as form label routes ≡ flat_map (row_as form label) routes
+any_rows_in_a_form form label routes = refl
+
+-- asked_of
+an_address_that_was_asked : asked_beginning at_10_1_2_3 ≡ codes "{\"address\":\"10.1.2.3\",\"route\":"
+unfolding digits address_text asked_beginning
+an_address_that_was_asked = refl
+
+any_address_that_was_asked : (addr : Addr) → asked_beginning addr ≡ codes "{\"address\":\"" ++ (address_text addr.0 ++ codes "\",\"route\":")
+unfolding asked_beginning
+any_address_that_was_asked addr = refl
+
+-- found_as
+what_was_found_in_each_form :
+    (found_as Labels east_and_west at_10_1_2_3 (Some (route_via ten_8 1 30 Discard)) ≡ codes "10.1.2.3 route 10.0.0.0/8 feed east pref 30 via discard\n")
+    × (found_as Json (λ feed. decimal feed) at_10_1_2_3 (Some (route_via ten_8 1 30 (via_192_0_2 2)))
+    ≡ codes "{\"address\":\"10.1.2.3\",\"route\":{\"prefix\":\"10.0.0.0/8\",\"feed\":1,\"pref\":30,\"via\":\"192.0.2.2\"}}\n")
+    × (found_as Json (λ feed. decimal feed) at_10_1_2_3 None ≡ codes "{\"address\":\"10.1.2.3\",\"route\":null}\n")
+unfolding digits address_text prefix_text route_object asked_beginning found_as
+what_was_found_in_each_form = (refl, refl, refl)
+
+whatever_was_found_in_each_form :
+    (label : ℕ → List ℕ) (addr : Addr) (found : Option Route) (r : Route) → (found_as Numbers label addr found ≡ found_text addr found)
+    × (found_as Labels label addr None ≡ found_text addr None)
+    × (found_as Labels label addr (Some r) ≡ address_text addr.0 ++ (codes " route " ++ (route_line (label r.feed) r ++ codes "\n")))
+    × (found_as Json label addr None ≡ asked_beginning addr ++ codes "null}\n")
+    × (found_as Json label addr (Some r) ≡ asked_beginning addr ++ (route_object (label r.feed) r [] ++ codes "}\n"))
+unfolding found_as
+whatever_was_found_in_each_form label addr found r = (refl, refl, refl, refl, refl)
+
+-- also_object
+any_also_object : (label : ℕ → List ℕ) (first r : Route) → also_object label first r
+    ≡ route_object (label r.feed) r (codes ",\"reason\":\"" ++ (reason_text first r ++ codes "\""))
+any_also_object label first r = refl
+
+-- all_found_as
+all_that_was_found_as_an_object :
+    all_found_as Json (λ feed. decimal feed) at_10_1_2_3 (route_via ten_1_16 1 10 Discard ∷ route_via ten_8 2 30 Discard ∷ route_via ten_8 1 50 Discard ∷ [])
+    ≡ codes "{\"address\":\"10.1.2.3\",\"route\":{\"prefix\":\"10.1.0.0/16\",\"feed\":1,\"pref\":10,\"via\":null,\"discard\":true},\"also\":["
+    ++ codes "{\"prefix\":\"10.0.0.0/8\",\"feed\":2,\"pref\":30,\"via\":null,\"discard\":true,\"reason\":\"shorter\"},"
+    ++ codes "{\"prefix\":\"10.0.0.0/8\",\"feed\":1,\"pref\":50,\"via\":null,\"discard\":true,\"reason\":\"shorter\"}]}\n"
+unfolding digits address_text prefix_text reason_text route_object asked_beginning all_found_as
+all_that_was_found_as_an_object = refl
+
+whatever_number_was_found :
+    (label : ℕ → List ℕ) (addr : Addr) (found : List Route) (first : Route) (others : List Route) → (all_found_as Numbers label addr found ≡ all_found_text addr found)
+    × (all_found_as Labels label addr [] ≡ found_text addr None)
+    × (all_found_as Labels label addr (first ∷ others)
+    ≡ found_as Labels label addr (Some first) ++ flat_map (also_line (λ r. route_line (label r.feed) r) addr first) others)
+    × (all_found_as Json label addr [] ≡ asked_beginning addr ++ codes "null,\"also\":[]}\n")
+    × (all_found_as Json label addr (first ∷ others) ≡ asked_beginning addr ++ (route_object (label first.feed) first []
+    ++ (codes ",\"also\":[" ++ (join_by (also_object label first) (codes ",") others ++ codes "]}\n"))))
+unfolding all_found_as
+whatever_number_was_found label addr found first others = (refl, refl, refl, refl, refl)

@@ -7,6 +7,8 @@ pub mod RunSteps
 pub mod UncutVisits
 pub mod Printing
 pub mod DifferenceLines
+pub mod LineParts
+pub mod FeedLabels
 pub mod PrefixFaults
 pub mod OneAnswer
 pub mod OneAddress

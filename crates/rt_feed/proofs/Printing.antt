@@ -90,7 +90,7 @@ found_fits addr found =
     let answer = reply_fits (option_map_or Found found NoRoute) in
     simp length-append (omega arith)
 
-reason_fits : (first r : Route) → length (reason_text first r) ≤ 10
+pub reason_fits : (first r : Route) → length (reason_text first r) ≤ 10
 unfolding reason_text
 reason_fits first r = grind (arith, nat_tests)
 

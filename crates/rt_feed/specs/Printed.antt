@@ -20,11 +20,15 @@ abbrev pub hop_text : Hop → List ℕ
 hop_text (Via address) = address_text address.0
 hop_text Discard = codes "discard"
 
--- `PREFIX feed F pref P via HOP`
-unfoldable pub route_text : Route → List ℕ
-route_text route =
-    prefix_text route.prefix.base route.prefix.len ++ (codes " feed " ++ (decimal route.feed ++
+-- `PREFIX feed FEED pref P via HOP`, where this stands for the feed
+abbrev pub route_line : List ℕ → Route → List ℕ
+route_line feed route =
+    prefix_text route.prefix.base route.prefix.len ++ (codes " feed " ++ (feed ++
     (codes " pref " ++ (decimal route.pref ++ (codes " via " ++ hop_text route.hop)))))
+
+-- a route, its feed by its number
+unfoldable pub route_text : Route → List ℕ
+route_text route = route_line (decimal route.feed) route
 
 -- the reply to a command
 unfoldable pub reply_text : Reply → List ℕ
@@ -92,10 +96,14 @@ reason_text first r =
     if nat_lt r.prefix.len first.prefix.len then codes "shorter"
     else if nat_lt first.pref r.pref then codes "preference" else codes "feed"
 
--- the address that was looked up, `also`, and a route that covers it behind the first one, with the reason
+-- the address that was looked up, `also`, and a route that covers it behind the first one, with the reason; this tells the route
+abbrev pub also_line : (Route → List ℕ) → Addr → Route → Route → List ℕ
+also_line tell addr first r =
+    address_text addr.0 ++ (codes " also " ++ (tell r ++ (codes " " ++ (reason_text first r ++ codes "\n"))))
+
+-- it where the route's feed is told by its number
 unfoldable pub also_text : Addr → Route → Route → List ℕ
-also_text addr first r =
-    address_text addr.0 ++ (codes " also " ++ (route_text r ++ (codes " " ++ (reason_text first r ++ codes "\n"))))
+also_text addr first r = also_line route_text addr first r
 
 -- all routes that were found, the best first: it as by a look-up, and then the others in order
 abbrev pub all_found_text : Addr → List Route → List ℕ

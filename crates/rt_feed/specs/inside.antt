@@ -5,3 +5,4 @@ pub mod Lines
 pub mod ReadAddresses
 pub mod FeedRuns
 pub mod HeldVisits
+pub mod Styles

@@ -275,7 +275,7 @@ pub(crate) fn prepend_route(text: &mut ShortText, route: &Route)
 }
 
 /// The next hop's address, or `discard`.
-fn prepend_hop(text: &mut ShortText, hop: Hop)
+pub(crate) fn prepend_hop(text: &mut ShortText, hop: Hop)
     requires room { FitsInShortText (hop_text hop) text.old }
     ensures { text.new ≡ hop_text hop ++ text.old }
 {
@@ -287,7 +287,7 @@ fn prepend_hop(text: &mut ShortText, hop: Hop)
 
 /// At which step the route was left behind the first one.
 #[tactic(auto, unfolding(crate::specs::Printed::reason_text))]
-fn reason_word(first: &Route, route: &Route) -> &'static [u8]
+pub(crate) fn reason_word(first: &Route, route: &Route) -> &'static [u8]
     ensures { result.now ≡ reason_text first.now route.now }
 {
     if route.prefix.len() < first.prefix.len() {

@@ -1,0 +1,19 @@
+use Rattle.std.proofs.Common.{[]}
+use Rattle.std.proofs.lemmas.Result.{err_from_is_err_and}
+use Rattle.rt_feed.specs.Printed.{route_line, also_line}
+use Rattle.rt_feed.specs.Styles.{label_of}
+use Rattle.rt_feed.proofs.Printing.{appends_next}
+use Rattle.rt_feed.proofs.LineParts.{stops_in_one}
+use Rattle.rt_feed.proofs.styles.lines.write_others.Goals as goal
+
+pub returns-in_err-put_other : goal.returns-in_err-put_other
+returns-in_err-put_other g c =
+    let fault = err_from_is_err_and c.from_residual.result c.from_residual.ensures.1 in
+    rw fault.1
+    (stops_in_one _ _ _ (also_line (λ r. route_line (label_of c.args.style.now.labels r.feed) r) c.args.addr c.args.first.now) _ c.loop-route.route-index c.route-item.result _ c.loop-route-test.true c.route-item.is
+    c.loop-route.invariant c.in_err-put_other.ensures.err)
+
+pub loop-route-preserved : goal.loop-route-preserved
+loop-route-preserved g c =
+    appends_next _ _ _ [] (also_line (λ r. route_line (label_of c.args.style.now.labels r.feed) r) c.args.addr c.args.first.now) _ c.loop-route.route-index c.route-item.result c.loop-route-test.true c.route-item.is
+    c.loop-route.invariant c.in_ok-put_other.ensures.ok

@@ -1,0 +1,33 @@
+-- What stands for a feed: its name, or what JSON tells of it.
+use Rattle.std.specs.Prelude.{ℕ, suc, ◌-◌, ◌==◌, if◌then◌else◌, List, [], ◌∷◌, ◌++◌, length, take, drop, codes, decimal, bytes_eq}
+use Rattle.std.specs.List.{list_any}
+use Rattle.rt_cidr.specs.Text.{slash}
+use Rattle.rt_feed.specs.declared.labels.Labelling.{Labelling}
+use Rattle.rt_feed.specs.declared.labels.Labelling.TheVariants.{Names, Files, NamesAndFiles}
+use Rattle.rt_feed.specs.Json.{json_string}
+
+-- a path's part behind its last slash, or all of it
+abbrev pub base_name : List ℕ → List ℕ
+base_name [] = []
+base_name (byte ∷ path) =
+    if list_any (λ b. b == slash) path then base_name path else if byte == slash then path else byte ∷ path
+
+-- a name without `.feed` at its end
+abbrev pub without_feed : List ℕ → List ℕ
+without_feed name = if bytes_eq (drop (length name - 5) name) (codes ".feed") then take (length name - 5) name else name
+
+-- the name of the feed that is read from the file of this path
+unfoldable pub feed_name : List ℕ → List ℕ
+feed_name path = without_feed (base_name path)
+
+-- what stands for the feed of this number and path: `NAME`, `FEED,"file":"PATH"`, or `FEED,"name":"NAME","file":"PATH"`
+unfoldable pub label_by : Labelling → ℕ → List ℕ → List ℕ
+label_by Names feed path = feed_name path
+label_by Files feed path = decimal feed ++ (codes ",\"file\":" ++ json_string path)
+label_by NamesAndFiles feed path =
+    decimal feed ++ (codes ",\"name\":" ++ (json_string (feed_name path) ++ (codes ",\"file\":" ++ json_string path)))
+
+-- for each path, in order, what is told of it by its number, of which this is the first
+abbrev pub labelled : (ℕ → List ℕ → List ℕ) → ℕ → List (List ℕ) → List (List ℕ)
+labelled tell feed [] = []
+labelled tell feed (path ∷ paths) = tell feed path ∷ labelled tell (suc feed) paths

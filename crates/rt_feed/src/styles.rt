@@ -1,0 +1,116 @@
+//! Routes, what look-ups found and ranges in a style: as lines with the feeds' numbers, as lines with their labels, or as JSON
+//! objects, one a line. What is labelled goes to the writer in several parts, since a label may be longer than a short text.
+ghost use Rattle.std.specs.Prelude.{◌≡◌, map};
+ghost use Rattle.rt_cidr.specs.Output.{WritesText};
+ghost use Rattle.rt_feed.specs.Styles.{label_of, rows_as, found_as, all_found_as};
+
+mod lines;
+mod objects;
+
+use crate::print::{write_all_found, write_found, write_rows};
+use rt_cidr::Addr;
+use rt_rib::Route;
+use std::io::{self, Write};
+use std::marker::Model;
+
+/// In which form routes are told.
+#[derive(Clone, Copy, PartialEq, Eq, Debug)]
+pub enum Form {
+    /// As lines, each feed by its number.
+    Numbers,
+    /// As lines, each feed by its label.
+    Labels,
+    /// As JSON objects, one a line, in which what follows `"feed":` is the feed's label.
+    Json,
+}
+
+/// How routes are told: in which form, and with which labels of the feeds. Contracts see both.
+#[derive(Debug, Drop)]
+pub struct Style<'a> {
+    form: Form,
+    labels: &'a [Vec<u8>],
+}
+
+impl<'a> Model for Style<'a> {
+    ghost use Rattle.std.specs.Prelude.{map};
+    ghost use Rattle.rt_feed.specs.Styles.{StyleContents};
+
+    ghost Value = { StyleContents };
+
+    ghost view = { λ s. record { form = s.form; labels = map (λ label. label.items) s.labels.now } };
+}
+
+impl<'a> Style<'a> {
+    /// This form, with these labels, the k-th of feed k.
+    pub fn new(form: Form, labels: &'a [Vec<u8>]) -> Style<'a>
+        ensures { result ≡ record { form = form; labels = map (λ label. label.items) labels.now } }
+    {
+        Style { form, labels }
+    }
+
+    /// The form.
+    pub fn form(&self) -> Form
+        ensures { result ≡ self.now.form }
+    {
+        self.form
+    }
+
+    /// The label of the feed.
+    pub(crate) fn label(&self, feed: u32) -> &[u8]
+        ensures { result.now ≡ label_of self.now.labels feed }
+    {
+        match self.labels.get(feed.saturating_sub(1) as usize) {
+            Some(label) => label.as_slice(),
+            None => b"",
+        }
+    }
+}
+
+/// Writes the table's routes in the style, each on a line. A fault is the writer's, as `put` hands it on; what was written is
+/// then a beginning of that text. Takes no memory; a writer whose calls are dear goes into an `OutputBuffer`.
+pub fn write_rows_as<W: Write>(
+    w: &mut W,
+    style: &Style<'_>,
+    routes: &[Route],
+) -> Result<(), io::Error>
+    ensures { WritesText (W.contents w.old) (W.contents w.new) (rows_as style.now.form (label_of style.now.labels) routes.now) result }
+{
+    match style.form {
+        Form::Numbers => write_rows(w, routes),
+        Form::Labels => lines::write_rows(w, style, routes),
+        Form::Json => objects::write_rows(w, style, routes),
+    }
+}
+
+/// Writes what a look-up of the address found, in the style. A fault and memory are as of `write_rows_as`.
+pub fn write_found_as<W: Write>(
+    w: &mut W,
+    style: &Style<'_>,
+    addr: Addr,
+    found: Option<Route>,
+) -> Result<(), io::Error>
+    ensures { WritesText (W.contents w.old) (W.contents w.new) (found_as style.now.form (label_of style.now.labels) addr found) result }
+{
+    match style.form {
+        Form::Numbers => write_found(w, addr, found),
+        Form::Labels => lines::write_found(w, style, addr, found),
+        Form::Json => objects::write_found(w, style, addr, found),
+    }
+}
+
+/// Writes all routes that cover the address, which come best first, in the style. A fault and memory are as of
+/// `write_rows_as`.
+pub fn write_all_found_as<W: Write>(
+    w: &mut W,
+    style: &Style<'_>,
+    addr: Addr,
+    found: &[Route],
+) -> Result<(), io::Error>
+    ensures { WritesText (W.contents w.old) (W.contents w.new) (all_found_as style.now.form (label_of style.now.labels) addr found.now) result }
+{
+    match style.form {
+        Form::Numbers => write_all_found(w, addr, found),
+        Form::Labels => lines::write_all_found(w, style, addr, found),
+        Form::Json => objects::write_all_found(w, style, addr, found),
+    }
+}
