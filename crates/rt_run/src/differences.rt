@@ -1,13 +1,10 @@
 //! What two runs leave, compared: the addresses that their finished tables answer otherwise.
-ghost use Rattle.std.specs.Prelude.{◌≡◌, ◌≢◌, ◌↔◌, ◌⊎◌, [], OnOk, OnErr};
-ghost use Rattle.std.specs.Io.KnownBytes.{Appends};
-ghost use Rattle.rt_cidr.specs.Output.{AppendsBeginning};
-ghost use Rattle.rt_rib.specs.Book.{table_of};
+ghost use Rattle.std.specs.Prelude.{◌≡◌, ◌≢◌, ◌↔◌, ◌⊎◌, []};
 ghost use Rattle.rt_run.specs.AskedRun.{AskedRun};
 ghost use Rattle.rt_run.specs.RunText.{Leaves};
 ghost use Rattle.rt_run.specs.DiffText.{IsDiffText};
 ghost use Rattle.rt_run.specs.inside.RunResults.{RunOverBook};
-ghost use Rattle.rt_run.specs.inside.Comparisons.{IsFirstOf, lines_of, compared_status};
+ghost use Rattle.rt_run.specs.inside.Comparisons.{compared_status};
 
 use crate::faults::AppFault;
 use crate::feed_texts::FeedTexts;
@@ -15,11 +12,10 @@ use crate::output::{Output, write_output};
 use crate::runs::{FinishedRun, run_all};
 use crate::tallies::RunSummary;
 use rt_cidr::Addr;
-use rt_diff::{By, Comparison, Difference, first_difference};
-use rt_feed::{RunFault, write_difference};
-use rt_rib::Book;
+use rt_diff::{By, Difference, first_difference};
+use rt_feed::RunFault;
 use std::alloc::Global;
-use std::io::{self, Write};
+use std::io::Write;
 use std::sync::Wait;
 use std::thread::Threads;
 
@@ -99,25 +95,4 @@ fn status_of(old: &RunSummary, new: &RunSummary, first: Option<Difference>) -> u
 {
     let differ = if first.is_some() { DIFFER } else { 0 };
     differ.max(old.status.max(new.status))
-}
-
-/// Writes the ranges that two books' tables answer otherwise, of which this is the first.
-pub(crate) fn write_differences<W: Write>(
-    w: &mut W,
-    old: &Book<Global>,
-    new: &Book<Global>,
-    by: By,
-    first: Option<Difference>,
-) -> Result<(), io::Error>
-    requires { IsFirstOf by (table_of old.now) (table_of new.now) first }
-    ensures ok { OnOk result (Appends (W.contents w.old) (W.contents w.new) (lines_of by (table_of old.now) (table_of new.now))) }
-    ensures err { OnErr result (AppendsBeginning (W.contents w.old) (W.contents w.new) (lines_of by (table_of old.now) (table_of new.now))) }
-{
-    let mut tables = Comparison::new(old, new, by);
-    let mut next = first;
-    while let Some(difference) = next {
-        write_difference(w, &difference)?;
-        next = tables.difference_behind(difference.last);
-    }
-    Ok(())
 }

@@ -1,21 +1,21 @@
 //! What is written: a run's reports and table, what its finished table says, what two tables answer otherwise, or a
 //! replay. All goes through one buffer.
-ghost use Rattle.std.specs.Prelude.{◌≡◌, ◌++◌, [], ◌<◌, ◌≤◌, true, false, length, OnOk, OnErr};
-ghost use Rattle.std.specs.Io.KnownBytes.{Appends};
-ghost use Rattle.rt_cidr.specs.Output.{AppendsBeginning};
+ghost use Rattle.std.specs.Prelude.{◌≡◌, ◌++◌, [], ◌<◌, ◌≤◌, true, false, length};
+ghost use Rattle.rt_cidr.specs.Output.{WritesText};
 ghost use Rattle.rt_rib.specs.declared.limits.TheConstants.{MOST_FEEDS};
 ghost use Rattle.rt_rib.specs.Book.{table_of};
 ghost use Rattle.rt_feed.specs.Printed.{table_text};
 ghost use Rattle.rt_run.specs.RunText.{reports_text};
 ghost use Rattle.rt_run.specs.TableText.{answers_text};
 ghost use Rattle.rt_run.specs.inside.Outputs.{IsOutput, matches_text, output_text, Writes};
+ghost use Rattle.rt_run.specs.inside.Comparisons.{IsFirstOf, lines_of};
 
-use crate::differences::write_differences;
 use crate::faults::AppFault;
 use rt_cidr::{Addr, OutputBuffer, OutputRoom};
-use rt_diff::{By, Difference};
+use rt_diff::{By, Comparison, Difference};
 use rt_feed::{
-    Report, RunFault, write_all_found, write_found, write_report, write_rows, write_table,
+    Report, RunFault, write_all_found, write_difference, write_found, write_report, write_rows,
+    write_table,
 };
 use rt_rib::{Book, Route};
 use std::alloc::Global;
@@ -96,8 +96,7 @@ pub(crate) fn write_buffered<W: Write>(
     requires empty { room ≡ [] }
     requires output { IsOutput output }
     requires some { 0 < length (output_text output) }
-    ensures ok { OnOk result (Appends (W.contents w.old) (W.contents w.new) (output_text output.entry)) }
-    ensures err { OnErr result (AppendsBeginning (W.contents w.old) (W.contents w.new) (output_text output.entry)) }
+    ensures { WritesText (W.contents w.old) (W.contents w.new) (output_text output.entry) result }
 {
     let mut buffer = OutputBuffer::new(w, room);
     if let Err(fault) = write_parts(&mut buffer, output) {
@@ -112,8 +111,7 @@ pub(crate) fn write_buffered<W: Write>(
 /// Writes the output, one part after another.
 fn write_parts<W: Write>(w: &mut W, output: Output<'_>) -> Result<(), io::Error>
     requires { IsOutput output }
-    ensures ok { OnOk result (Appends (W.contents w.old) (W.contents w.new) (output_text output.entry)) }
-    ensures err { OnErr result (AppendsBeginning (W.contents w.old) (W.contents w.new) (output_text output.entry)) }
+    ensures { WritesText (W.contents w.old) (W.contents w.new) (output_text output.entry) result }
 {
     match output {
         Output::Run(reports, routes) => write_run(w, reports, routes),
@@ -128,8 +126,7 @@ fn write_parts<W: Write>(w: &mut W, output: Output<'_>) -> Result<(), io::Error>
 /// Writes the reports, the k-th as feed k's, and then the table.
 fn write_run<W: Write>(w: &mut W, reports: &[Report], routes: &[Route]) -> Result<(), io::Error>
     requires few { length reports.now ≤ MOST_FEEDS }
-    ensures ok { OnOk result (Appends (W.contents w.old) (W.contents w.new) (reports_text 1 reports.now ++ table_text routes.now)) }
-    ensures err { OnErr result (AppendsBeginning (W.contents w.old) (W.contents w.new) (reports_text 1 reports.now ++ table_text routes.now)) }
+    ensures { WritesText (W.contents w.old) (W.contents w.new) (reports_text 1 reports.now ++ table_text routes.now) result }
 {
     write_reports(w, reports)?;
     write_table(w, routes)
@@ -138,8 +135,7 @@ fn write_run<W: Write>(w: &mut W, reports: &[Report], routes: &[Route]) -> Resul
 /// Writes the reports, the k-th as feed k's.
 fn write_reports<W: Write>(w: &mut W, reports: &[Report]) -> Result<(), io::Error>
     requires few { length reports.now ≤ MOST_FEEDS }
-    ensures ok { OnOk result (Appends (W.contents w.old) (W.contents w.new) (reports_text 1 reports.now)) }
-    ensures err { OnErr result (AppendsBeginning (W.contents w.old) (W.contents w.new) (reports_text 1 reports.now)) }
+    ensures { WritesText (W.contents w.old) (W.contents w.new) (reports_text 1 reports.now) result }
 {
     for (index, report) in reports.iter().enumerate() {
         write_report(w, index as u32 + 1, report)?;
@@ -153,8 +149,7 @@ fn write_answers<W: Write>(
     book: &Book<Global>,
     addresses: &[Addr],
 ) -> Result<(), io::Error>
-    ensures ok { OnOk result (Appends (W.contents w.old) (W.contents w.new) (answers_text addresses.now (table_of book.now))) }
-    ensures err { OnErr result (AppendsBeginning (W.contents w.old) (W.contents w.new) (answers_text addresses.now (table_of book.now))) }
+    ensures { WritesText (W.contents w.old) (W.contents w.new) (answers_text addresses.now (table_of book.now)) result }
 {
     let mut rest = addresses;
     while !rest.is_empty() {
@@ -168,8 +163,7 @@ fn write_answers<W: Write>(
 /// Writes what a look-up of each of a few addresses finds in the book.
 fn write_piece<W: Write>(w: &mut W, book: &Book<Global>, piece: &[Addr]) -> Result<(), io::Error>
     requires few { length piece.now ≤ 256 }
-    ensures ok { OnOk result (Appends (W.contents w.old) (W.contents w.new) (answers_text piece.now (table_of book.now))) }
-    ensures err { OnErr result (AppendsBeginning (W.contents w.old) (W.contents w.new) (answers_text piece.now (table_of book.now))) }
+    ensures { WritesText (W.contents w.old) (W.contents w.new) (answers_text piece.now (table_of book.now)) result }
 {
     let mut places = [None; PIECE];
     let found = &mut places[..piece.len()];
@@ -182,11 +176,30 @@ fn write_piece<W: Write>(w: &mut W, book: &Book<Global>, piece: &[Addr]) -> Resu
 
 /// Writes for each address all routes that cover it.
 fn write_matches<W: Write>(w: &mut W, all: &[Matches]) -> Result<(), io::Error>
-    ensures ok { OnOk result (Appends (W.contents w.old) (W.contents w.new) (matches_text all.now)) }
-    ensures err { OnErr result (AppendsBeginning (W.contents w.old) (W.contents w.new) (matches_text all.now)) }
+    ensures { WritesText (W.contents w.old) (W.contents w.new) (matches_text all.now) result }
 {
     for one in all {
         write_all_found(w, one.addr, one.routes.as_slice())?;
+    }
+    Ok(())
+}
+
+/// Writes what the tables of two books answer otherwise, of which this is the first.
+fn write_differences<W: Write>(
+    w: &mut W,
+    old: &Book<Global>,
+    new: &Book<Global>,
+    by: By,
+    first: Option<Difference>,
+) -> Result<(), io::Error>
+    requires { IsFirstOf by (table_of old.now) (table_of new.now) first }
+    ensures { WritesText (W.contents w.old) (W.contents w.new) (lines_of by (table_of old.now) (table_of new.now)) result }
+{
+    let mut tables = Comparison::new(old, new, by);
+    let mut next = first;
+    while let Some(difference) = next {
+        write_difference(w, &difference)?;
+        next = tables.difference_behind(difference.last);
     }
     Ok(())
 }

@@ -7,15 +7,17 @@ use Rattle.rt_run.specs.TableText.{answers_text}
 use Rattle.rt_run.proofs.Answering.{answers_grow, answers_begin}
 use Rattle.rt_run.proofs.output.write_answers.Goals as goal
 
-pub returns-in_err-write_piece-clause-err : goal.returns-in_err-write_piece-clause-err
-returns-in_err-write_piece-clause-err g c =
+pub returns-in_err-write_piece : goal.returns-in_err-write_piece
+returns-in_err-write_piece g c =
     let fault = err_from_is_err_and c.from_residual.result c.from_residual.ensures.1 in
     let cut : c.loop-rest.rest.now ≡ c.split_at.result.0.now ++ c.split_at.result.1.now =
     rw (c.split_at.ensures.front, c.split_at.ensures.back) (sym (take-append-drop c.min.result c.loop-rest.rest.now)) in
-    rw fault.1
-    (answers_begin (table_of c.args.book.now) c.args.addresses.now
-    c.loop-rest.rest.now c.split_at.result.0.now c.split_at.result.1.now c.loop-rest.invariant.text c.loop-rest.invariant.whole
-    cut _ _ _ c.loop-rest.invariant.written c.in_err-write_piece.ensures.err)
+    rw fault.1 (record {
+      ok = tt;
+      err = answers_begin (table_of c.args.book.now) c.args.addresses.now
+          c.loop-rest.rest.now c.split_at.result.0.now c.split_at.result.1.now c.loop-rest.invariant.text c.loop-rest.invariant.whole
+          cut _ _ _ c.loop-rest.invariant.written c.in_err-write_piece.ensures.err;
+    })
 
 pub loop-rest-preserved : goal.loop-rest-preserved
 loop-rest-preserved g c =
@@ -30,5 +32,5 @@ loop-rest-preserved g c =
           c.split_at.result.0.now c.split_at.result.1.now c.loop-rest.invariant.text c.loop-rest.invariant.whole cut;
     }
 
-pub returns-clause-ok : goal.returns-clause-ok
-returns-clause-ok g c = grind (arith, common_steps)
+pub returns : goal.returns
+returns g c = record { ok = grind (arith, common_steps); err = tt }

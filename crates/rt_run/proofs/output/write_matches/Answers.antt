@@ -6,13 +6,16 @@ use Rattle.rt_run.specs.inside.Outputs.{matches_text}
 use Rattle.ya_replay.proofs.Promised.{begins_all, appends_next}
 use Rattle.rt_run.proofs.output.write_matches.Goals as goal
 
-pub returns-in_err-write_all_found-clause-err : goal.returns-in_err-write_all_found-clause-err
-returns-in_err-write_all_found-clause-err g c =
+pub returns-in_err-write_all_found : goal.returns-in_err-write_all_found
+returns-in_err-write_all_found g c =
     let fault = err_from_is_err_and c.from_residual.result c.from_residual.ensures.1 in
     let text : Matches → List ℕ = λ one. all_found_text one.addr one.routes.items in
-    rw fault.1 (begins_all (λ n. text) (λ n. matches_text) (λ n. refl)
-    (λ n x xs. refl) c.args.all.now c.loop-one.one-index c.one-item.result c.loop-one-test.true c.one-item.is _ _ _
-    c.loop-one.invariant (rw (← c.as_slice.ensures.value) c.in_err-write_all_found.ensures.err))
+    rw fault.1 (record {
+      ok = tt;
+      err = begins_all (λ n. text) (λ n. matches_text) (λ n. refl)
+          (λ n x xs. refl) c.args.all.now c.loop-one.one-index c.one-item.result c.loop-one-test.true c.one-item.is _ _ _
+          c.loop-one.invariant (rw (← c.as_slice.ensures.value) c.in_err-write_all_found.ensures.err);
+    })
 
 pub loop-one-preserved : goal.loop-one-preserved
 loop-one-preserved g c =

@@ -2,10 +2,8 @@ use Rattle.std.proofs.lemmas.Result.{on_ok_weaker, IfErr-weaker}
 use Rattle.rt_cidr.proofs.Promised.{appends_after, begins_after}
 use Rattle.rt_run.proofs.output.write_run.Goals as goal
 
-pub returns-clause-err : goal.returns-clause-err
-returns-clause-err g c =
-    IfErr-weaker c.write_table.result _ _ (λ _ begun. begins_after _ _ _ _ _ c.in_ok-write_reports.ensures.ok begun) c.write_table.ensures.err
-
-pub returns-clause-ok : goal.returns-clause-ok
-returns-clause-ok g c =
-    on_ok_weaker c.write_table.result (appends_after _ _ _ _ _ c.in_ok-write_reports.ensures.ok) c.write_table.ensures.ok
+pub returns : goal.returns
+returns g c = record {
+  ok = on_ok_weaker c.write_table.result (appends_after _ _ _ _ _ c.in_ok-write_reports.ensures.ok) c.write_table.ensures.ok;
+  err = IfErr-weaker c.write_table.result _ _ (λ _ begun. begins_after _ _ _ _ _ c.in_ok-write_reports.ensures.ok begun) c.write_table.ensures.err;
+}

@@ -10,10 +10,10 @@ use Rattle.rt_diff.specs.declared.answers.By.{By}
 use Rattle.rt_diff.specs.declared.differences.Difference.{Difference}
 use Rattle.rt_diff.specs.Differences.{IsFirstDifference}
 use Rattle.rt_run.specs.inside.Comparisons.{addresses_from}
-use Rattle.rt_run.proofs.differences.write_differences.Given.{Over}
-use Rattle.rt_run.proofs.differences.write_differences.Goals.{After-difference_behind-next}
+use Rattle.rt_run.proofs.output.write_differences.Given.{Over}
+use Rattle.rt_run.proofs.output.write_differences.Goals.{After-difference_behind-next}
 use Rattle.rt_run.proofs.Comparing.{none_so_far, none_left, one_more, all_so_far, stops_there}
-use Rattle.rt_run.proofs.differences.write_differences.Goals as goal
+use Rattle.rt_run.proofs.output.write_differences.Goals as goal
 
 pub loop-next-init : goal.loop-next-init
 loop-next-init g c = record {
@@ -23,13 +23,15 @@ loop-next-init g c = record {
   far = none_so_far c.args.by (table_of c.args.old.now) (table_of c.args.new.now) c.args.first c.requires;
 }
 
-pub returns-in_err-write_difference-clause-err : goal.returns-in_err-write_difference-clause-err
-returns-in_err-write_difference-clause-err g c =
+pub returns-in_err-write_difference : goal.returns-in_err-write_difference
+returns-in_err-write_difference g c =
     let fault = err_from_is_err_and c.from_residual.result c.from_residual.ensures.1 in
     let far = c.loop-next.invariant.far in
-    rw fault.1
-    (stops_there c.args.by (table_of c.args.old.now) (table_of c.args.new.now) _ _ _ c.loop-next.invariant.text c.in-Some.difference
-    (rw c.in-Some.is at far) c.loop-next.invariant.written c.in_err-write_difference.ensures.err)
+    rw fault.1 (record {
+      ok = tt;
+      err = stops_there c.args.by (table_of c.args.old.now) (table_of c.args.new.now) _ _ _ c.loop-next.invariant.text c.in-Some.difference
+          (rw c.in-Some.is at far) c.loop-next.invariant.written c.in_err-write_difference.ensures.err;
+    })
 
 -- what comes behind a range that was written, by the two tables
 first_behind : (g : Over) (c : After-difference_behind-next g)
@@ -65,10 +67,13 @@ loop-next-smaller g c =
     rw c.in-Some.is (fewer c.args.by (table_of c.args.old.now) (table_of c.args.new.now) c.in-Some.difference c.difference_behind-next.result
     d.some d.fits (first_behind g c))
 
-pub returns-clause-ok : goal.returns-clause-ok
-returns-clause-ok g c =
+pub returns : goal.returns
+returns g c =
     let far = c.loop-next.invariant.far in
     let none = none_left c.loop-next.next c.in_default.not-Some in
-    subst (Appends (g.W.Write.contents c.args.w.now) (g.W.Write.contents c.loop-next.w))
-    (all_so_far c.args.by (table_of c.args.old.now) (table_of c.args.new.now) c.loop-next.invariant.text (rw none at far))
-    c.loop-next.invariant.written
+    record {
+      ok = subst (Appends (g.W.Write.contents c.args.w.now) (g.W.Write.contents c.loop-next.w))
+          (all_so_far c.args.by (table_of c.args.old.now) (table_of c.args.new.now) c.loop-next.invariant.text (rw none at far))
+          c.loop-next.invariant.written;
+      err = tt;
+    }

@@ -2,7 +2,7 @@ use Rattle.std.proofs.Common.{◌≡◌, ℕ, List}
 use Rattle.std.specs.Io.KnownBytes.{Appends}
 use Rattle.rt_rib.specs.Book.{table_of}
 use Rattle.rt_run.specs.inside.Comparisons.{IsSoFar, addresses_from}
-use Rattle.rt_run.proofs.differences.write_differences.Given as goal
+use Rattle.rt_run.proofs.output.write_differences.Given as goal
 
 -- the tables stay, and the lines so far were written
 abbrev pub invariant-loop-next : goal.invariant-loop-next
