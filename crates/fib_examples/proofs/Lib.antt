@@ -1,1 +1,2 @@
 pub mod Fib
+pub mod Readers

@@ -1,5 +1,6 @@
 //! A forwarding table beside a plain list of its book's routes, by each address of small universes.
 mod plain;
+mod readers;
 mod renewals;
 mod threads;
 mod universe;
