@@ -20,7 +20,7 @@ use Rattle.rt_feed.specs.declared.versions.Version.{Version}
 use Rattle.rt_feed.specs.CommandText.{space, words, route_words, command_text, HasHop, HasCommand}
 use Rattle.rt_feed.specs.Printed.{hop_text}
 use Rattle.rt_feed.specs.Grammar.{hash, fields, is_skipped, kinds_after}
-use Rattle.rt_feed.proofs.Cutting.{is_unspaced}
+use Rattle.rt_feed.proofs.CutBytes.{is_unspaced}
 use Rattle.rt_feed.proofs.Printing.{hop_fits}
 
 -- a line whose fields are a command's words is the command's text

@@ -1,10 +1,10 @@
-pub mod Cutting
+pub mod CutBytes
 pub mod CommandWords
-pub mod Saying
-pub mod Becoming
-pub mod Filling
+pub mod LinesSay
+pub mod LinesBecome
+pub mod FilledReports
 pub mod RunSteps
-pub mod UncutVisits
+pub mod GateVisits
 pub mod Printing
 pub mod DifferenceLines
 pub mod LineParts

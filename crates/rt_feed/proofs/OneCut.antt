@@ -7,7 +7,7 @@ use Rattle.rt_feed.specs.Lines.{lf, CutsLine, TellsTwo, IsBody, LineOutcome, Lin
 use Rattle.rt_feed.specs.declared.versions.Version.{Version}
 use Rattle.rt_feed.specs.declared.versions.Version.TheVariants.{One, Two}
 use Rattle.rt_feed.specs.Laws.{LineHasOneAnswer, OlderTextsStay}
-use Rattle.rt_feed.proofs.Saying.{length-cut}
+use Rattle.rt_feed.proofs.LinesSay.{length-cut}
 
 -- the mark does not stand in what has none
 unmarked_ends : (mark : ℕ) (xs ys more : List ℕ) → All (λ byte. byte ≢ mark) xs → xs ≢ ys ++ mark ∷ more

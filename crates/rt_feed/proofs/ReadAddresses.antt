@@ -9,7 +9,7 @@ use Rattle.rt_feed.specs.Lines.{CutsLine, LinesSay}
 use Rattle.rt_feed.specs.Laws.{AddressLineHasOneAnswer, AddressTextHasOneReading}
 use Rattle.rt_feed.specs.Addresses.{AnswersAddressLine, SaysAddresses, addresses_said, faults_said, faulty_lines}
 use Rattle.rt_feed.specs.inside.ReadAddresses.{AreSaid, AreRead, PutsLine}
-use Rattle.rt_feed.proofs.Saying.{say-append, length-cut, length-said}
+use Rattle.rt_feed.proofs.LinesSay.{say-append, length-cut, length-said}
 use Rattle.rt_feed.proofs.OneCut.{say_alike}
 
 -- what a line says

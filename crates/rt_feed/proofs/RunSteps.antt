@@ -20,8 +20,8 @@ use Rattle.rt_feed.specs.Visits.{Gains, concatenated, piece_of, AnswersBatch}
 use Rattle.rt_feed.specs.inside.Filling.{filled}
 use Rattle.rt_feed.specs.FeedRuns.{RunsFeed, StopsWithin, IsTold}
 use Rattle.rt_feed.specs.inside.FeedRuns.{AnswersWaiting, Gathers, HasRead, RunSoFar}
-use Rattle.rt_feed.proofs.Becoming.{becomes-push, becomes-at, becomes-alike, becomes-first, report_lines-append, report_lines-push, asked_of-append}
-use Rattle.rt_feed.proofs.Filling.{filled-none, filled-fault, filled-given}
+use Rattle.rt_feed.proofs.LinesBecome.{becomes-push, becomes-at, becomes-alike, becomes-first, report_lines-append, report_lines-push, asked_of-append}
+use Rattle.rt_feed.proofs.FilledReports.{filled-none, filled-fault, filled-given}
 
 -- pieces one after another
 pub concatenated-append : {X : Type 0} (pieces more : List (List X)) → concatenated (pieces ++ more) ≡ concatenated pieces ++ concatenated more

@@ -1,8 +1,8 @@
 pub mod Promised
 pub mod Crossing
-pub mod Answered
+pub mod EntriesInPieces
 pub mod Passes
-pub mod Uncutting
-pub mod Runs
+pub mod UncutVisits
+pub mod RunJournals
 pub mod TwoPasses
-pub mod Testing
+pub mod PassesForTests

@@ -4,6 +4,6 @@
 -- which of its types a thread may be given
 pub use Rattle.rt_shared.proofs.Crossing.{pass_send, rib_sync}
 -- a feed's visits stay uncut while it is away, and as it adds one
-pub use Rattle.rt_shared.proofs.Uncutting.{uncut_since, uncut_visit, uncut_by_visit}
+pub use Rattle.rt_shared.proofs.UncutVisits.{uncut_since, uncut_visit, uncut_by_visit}
 -- the passes of a table of two feeds, taken from the end of their list
 pub use Rattle.rt_shared.proofs.TwoPasses.{both_popped}

@@ -1,6 +1,6 @@
 use Rattle.std.proofs.Common.{arith, eq-eqb, eqb-true}
 use Rattle.std.proofs.lemmas.List.{take_rest}
-use Rattle.rt_feed.proofs.Cutting.{cuts_at_first, cuts_nowhere}
+use Rattle.rt_feed.proofs.CutBytes.{cuts_at_first, cuts_nowhere}
 use Rattle.rt_feed.proofs.lines.cut_at.Goals as goal
 
 pub returns-in-Some : goal.returns-in-Some

@@ -1,4 +1,4 @@
-use Rattle.rt_feed.proofs.Cutting.{fields-cut}
+use Rattle.rt_feed.proofs.CutBytes.{fields-cut}
 use Rattle.rt_feed.proofs.parse.cut_field.Goals as goal
 
 pub returns : goal.returns

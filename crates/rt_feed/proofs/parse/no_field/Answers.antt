@@ -1,5 +1,5 @@
 use Rattle.std.proofs.Common.{inl, refl, arith}
-use Rattle.rt_feed.proofs.Cutting.{fields-nonempty}
+use Rattle.rt_feed.proofs.CutBytes.{fields-nonempty}
 use Rattle.rt_feed.proofs.parse.no_field.Goals as goal
 
 pub returns-in-Some : goal.returns-in-Some

@@ -1,6 +1,6 @@
 use Rattle.std.proofs.Common.{◌≡◌, Some, ◌∙◌, ap, refl}
 use Rattle.std.specs.Result.{result_ok}
-use Rattle.rt_feed.proofs.Cutting.{fields-more}
+use Rattle.rt_feed.proofs.CutBytes.{fields-more}
 use Rattle.rt_feed.proofs.parse.only_field.Goals as goal
 
 pub returns-in-Some : goal.returns-in-Some

@@ -4,7 +4,7 @@ use Rattle.rt_feed.specs.declared.report.Line.{Line}
 use Rattle.rt_feed.specs.declared.report.Answer.{Answer}
 use Rattle.rt_feed.specs.Reports.{is_fault}
 use Rattle.rt_feed.specs.inside.Filling.{filled}
-use Rattle.rt_feed.proofs.Filling.{fills_none, fills_fault, fills_line}
+use Rattle.rt_feed.proofs.FilledReports.{fills_none, fills_fault, fills_line}
 use Rattle.rt_feed.proofs.report.fill_lines.Goals.{then-next-outcomes+then-not-is_fault, else-next-outcomes}
 use Rattle.rt_feed.proofs.report.fill_lines.Goals.{else-next-outcomes-via-then-next-outcomes+else-not-is_fault, else-next-outcomes-via-else-next-outcomes}
 use Rattle.rt_feed.proofs.report.fill_lines.Goals as goal

@@ -1,4 +1,4 @@
-use Rattle.rt_shared.proofs.Uncutting.{since_again, entries_since}
+use Rattle.rt_shared.proofs.UncutVisits.{since_again, entries_since}
 use Rattle.rt_shared.proofs.laws.away.Goals as goal
 
 pub returns-clause-again : goal.returns-clause-again

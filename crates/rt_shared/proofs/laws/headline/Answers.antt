@@ -1,7 +1,7 @@
 use Rattle.std.proofs.Common.{ap, ◌∙◌, map}
 use Rattle.ya_core.specs.Worlds.{places_of}
 use Rattle.rt_shared.specs.Headline.{entry_of, journal_of}
-use Rattle.rt_shared.proofs.Runs.{entries_same, finds_best}
+use Rattle.rt_shared.proofs.RunJournals.{entries_same, finds_best}
 use Rattle.rt_shared.proofs.laws.headline.Goals as goal
 
 pub returns-clause-exclusion : goal.returns-clause-exclusion

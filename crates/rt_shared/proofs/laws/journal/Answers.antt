@@ -1,5 +1,5 @@
 use Rattle.std.proofs.Common.{[]}
-use Rattle.rt_shared.proofs.Runs.{lawful_from}
+use Rattle.rt_shared.proofs.RunJournals.{lawful_from}
 use Rattle.rt_shared.proofs.laws.journal.Goals as goal
 
 pub returns : goal.returns

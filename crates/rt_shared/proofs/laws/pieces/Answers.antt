@@ -1,4 +1,4 @@
-use Rattle.rt_shared.proofs.Answered.{answered_append, all_answered}
+use Rattle.rt_shared.proofs.EntriesInPieces.{answered_append, all_answered}
 use Rattle.rt_shared.proofs.laws.pieces.Goals as goal
 
 pub returns : goal.returns

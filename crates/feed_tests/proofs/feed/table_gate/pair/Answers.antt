@@ -1,6 +1,6 @@
 use Rattle.std.proofs.Common.{◌∙◌}
 use Rattle.rt_shared.proofs.Promised.{both_popped}
-use Rattle.rt_shared.proofs.Testing.{are_both}
+use Rattle.rt_shared.proofs.PassesForTests.{are_both}
 use Rattle.feed_tests.proofs.feed.table_gate.pair.Goals as goal
 
 pub returns : goal.returns

@@ -1,6 +1,6 @@
 use Rattle.std.proofs.Common.{[], ◌∷◌}
 use Rattle.rt_shared.specs.declared.outcome.Outcome.TheVariants.{Did, Refused}
-use Rattle.rt_feed.proofs.UncutVisits.{gate_visit, if_ok, on_err}
+use Rattle.rt_feed.proofs.GateVisits.{gate_visit, if_ok, on_err}
 use Rattle.rt_feed.proofs.gates.TableGateGate.apply.Goals as goal
 
 pub returns-clause-ok : goal.returns-clause-ok

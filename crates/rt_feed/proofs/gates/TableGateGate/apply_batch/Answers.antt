@@ -1,4 +1,4 @@
-use Rattle.rt_feed.proofs.UncutVisits.{gate_visit, gate_empty, on_ok, on_err}
+use Rattle.rt_feed.proofs.GateVisits.{gate_visit, gate_empty, on_ok, on_err}
 use Rattle.rt_feed.proofs.gates.TableGateGate.apply_batch.Goals as goal
 
 pub returns-clause-ok : goal.returns-clause-ok

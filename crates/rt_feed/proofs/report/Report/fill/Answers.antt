@@ -1,7 +1,7 @@
 use Rattle.std.proofs.Common.{◌≡◌, ◌++◌, [], take, drop, length, sym, ap, subst, ◌∙◌, arith, append-nil}
 use Rattle.std.proofs.lemmas.List.{drop_all, take_all}
 use Rattle.rt_feed.specs.Reports.{NumbersRise}
-use Rattle.rt_feed.proofs.Filling.{numbers_rise-refilled, length-refilled}
+use Rattle.rt_feed.proofs.FilledReports.{numbers_rise-refilled, length-refilled}
 use Rattle.rt_feed.proofs.report.Report.fill.Goals as goal
 
 pub invariant_of-self : goal.invariant_of-self

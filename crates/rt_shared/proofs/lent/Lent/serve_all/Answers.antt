@@ -3,7 +3,7 @@ use Rattle.std.proofs.Math.Seq.{take-suc}
 use Rattle.rt_rib.specs.declared.commands.Cmd.{Cmd}
 use Rattle.rt_shared.specs.inside.Visits.{AreServed}
 use Rattle.rt_shared.specs.declared.outcome.Outcome.{Outcome}
-use Rattle.rt_shared.proofs.Answered.{served_more}
+use Rattle.rt_shared.proofs.EntriesInPieces.{served_more}
 use Rattle.rt_shared.proofs.lent.Lent.serve_all.Goals as goal
 
 pub loop-index-preserved : goal.loop-index-preserved

@@ -7,7 +7,7 @@ use Rattle.rt_shared.specs.Visits.{AllBy, answered}
 use Rattle.rt_shared.specs.Table.{HeldPass, feed_of}
 use Rattle.rt_shared.specs.inside.PassModel.{HoldsLockPass}
 use Rattle.rt_shared.specs.inside.LentLaws.{since_same}
-use Rattle.rt_shared.proofs.Answered.{all_answered, nothing_answered}
+use Rattle.rt_shared.proofs.EntriesInPieces.{all_answered, nothing_answered}
 use Rattle.rt_shared.proofs.Passes.{lock_of, seen_is_lawful, spaced}
 use Rattle.rt_shared.proofs.shared_rib.SharedRib.apply_batch.Goals as goal
 

@@ -10,7 +10,7 @@ use Rattle.rt_feed.specs.declared.versions.Version.TheVariants.{One, Two}
 use Rattle.rt_feed.specs.Lines.{IsBody, CutsLine, LineOutcome, skipped, faulty, asked, LinesBecome, Becomes}
 use Rattle.rt_feed.specs.Lines.{heading, reading, line_answer, numbered, report_lines, asked_by, asked_of}
 use Rattle.rt_feed.specs.Grammar.{AnswersLine}
-use Rattle.rt_feed.proofs.Saying.{say-append, say-first, length-cut, length-said}
+use Rattle.rt_feed.proofs.LinesSay.{say-append, say-first, length-cut, length-said}
 
 -- what a line says that became this
 abbrev says : Version → List ℕ → LineOutcome → Type 0

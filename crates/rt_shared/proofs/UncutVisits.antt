@@ -11,7 +11,7 @@ use Rattle.rt_rib.specs.Laws.{feed_entries}
 use Rattle.rt_shared.specs.declared.outcome.Outcome.{Outcome}
 use Rattle.rt_shared.specs.Visits.{AllBy, NoneBy, Since, answered, MakesVisit, Uncut}
 use Rattle.rt_shared.specs.inside.LentLaws.{since_others}
-use Rattle.rt_shared.proofs.Answered.{all_answered}
+use Rattle.rt_shared.proofs.EntriesInPieces.{all_answered}
 
 -- what stands before and behind, with more behind it
 more_behind : (before visit rest more journal : List Entry) → journal ≡ before ++ (visit ++ rest) → journal ++ more ≡ before ++ (visit ++ (rest ++ more))
