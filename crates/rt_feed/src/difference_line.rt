@@ -1,7 +1,6 @@
 //! What two tables answer otherwise, as text: one line for each range of addresses.
-ghost use Rattle.std.specs.Prelude.{◌≡◌, ◌++◌, OnOk, OnErr};
-ghost use Rattle.std.specs.Io.KnownBytes.{Appends};
-ghost use Rattle.rt_cidr.specs.Output.{AppendsBeginning};
+ghost use Rattle.std.specs.Prelude.{◌≡◌, ◌++◌};
+ghost use Rattle.rt_cidr.specs.Output.{WritesText};
 ghost use Rattle.rt_cidr.specs.ShortText.{FitsInShortText};
 ghost use Rattle.rt_feed.specs.DifferenceText.{answered_text, difference_text};
 
@@ -16,8 +15,7 @@ use std::io::{self, Write};
 /// memory, and calls the writer as `write_report` does.
 #[tactic(auto, using(crate::proofs::DifferenceLines::difference_fits))]
 pub fn write_difference<W: Write>(w: &mut W, difference: &Difference) -> Result<(), io::Error>
-    ensures ok { OnOk result (Appends (W.contents w.old) (W.contents w.new) (difference_text difference.now)) }
-    ensures err { OnErr result (AppendsBeginning (W.contents w.old) (W.contents w.new) (difference_text difference.now)) }
+    ensures { WritesText (W.contents w.old) (W.contents w.new) (difference_text difference.now) result }
 {
     let mut text = ShortText::new();
     prepend_difference(&mut text, difference);

@@ -1,8 +1,7 @@
 //! Reports, the table and what look-ups found, as text. Each line is built in a short text, and goes to the writer at once.
-ghost use Rattle.std.specs.Prelude.{◌≡◌, ◌++◌, [], IsOk, OnOk, OnErr};
+ghost use Rattle.std.specs.Prelude.{◌≡◌, ◌++◌};
 ghost use Rattle.std.specs.List.{flat_map};
-ghost use Rattle.std.specs.Io.KnownBytes.{Appends};
-ghost use Rattle.rt_cidr.specs.Output.{AppendsBeginning};
+ghost use Rattle.rt_cidr.specs.Output.{WritesText};
 ghost use Rattle.rt_cidr.specs.ShortText.{FitsInShortText};
 ghost use Rattle.rt_feed.specs.Printed.{hop_text, route_text, reply_text, fault_text, answer_text, line_text, report_text};
 ghost use Rattle.rt_feed.specs.Printed.{row_text, rows_text, count_text, table_text, found_text, reason_text, also_text, all_found_text};
@@ -14,15 +13,11 @@ use rt_rib::{Hop, Reply, Route};
 use std::io::{self, Write};
 
 /// Writes the report of the feed of this number: for each line `FEED:LINE `, its answer and LF. A fault is the writer's, as
-/// `put` hands it on; what was written is then a beginning of the report. Takes no memory, and makes one `write` for each
-/// line, more where the writer takes less of it, and no other call: a writer whose calls are dear goes into an
-/// `OutputBuffer`.
+/// `put` hands it on; what was written is then a beginning of the report and never all of it, so where there is no line
+/// nothing fails. Takes no memory, and makes one `write` for each line, more where the writer takes less of it, and no
+/// other call: a writer whose calls are dear goes into an `OutputBuffer`.
 pub fn write_report<W: Write>(w: &mut W, feed: u32, report: &Report) -> Result<(), io::Error>
-    ensures ok { OnOk result (Appends (W.contents w.old) (W.contents w.new) (report_text feed report.now)) }
-    ensures err { OnErr result (AppendsBeginning (W.contents w.old) (W.contents w.new) (report_text feed report.now)) }
-
-    // Where there is no line to write, nothing fails.
-    ensures nothing { report.now ≡ [] → IsOk result }
+    ensures { WritesText (W.contents w.old) (W.contents w.new) (report_text feed report.now) result }
 {
     let mut text = ShortText::new();
     for line in report.lines() {
@@ -39,8 +34,7 @@ fn put_line<W: Write>(
     feed: u32,
     line: &Line,
 ) -> Result<(), io::Error>
-    ensures ok { OnOk result (Appends (W.contents w.old) (W.contents w.new) (line_text feed line.now)) }
-    ensures err { OnErr result (AppendsBeginning (W.contents w.old) (W.contents w.new) (line_text feed line.now)) }
+    ensures { WritesText (W.contents w.old) (W.contents w.new) (line_text feed line.now) result }
 {
     text.clear();
     prepend_line(text, feed, line);
@@ -51,8 +45,7 @@ fn put_line<W: Write>(
 /// it on; what was written is then a beginning of the table. Takes no memory, and calls the writer as `write_report` does.
 #[tactic(auto, using(crate::proofs::Printing::count_fits))]
 pub fn write_table<W: Write>(w: &mut W, routes: &[Route]) -> Result<(), io::Error>
-    ensures ok { OnOk result (Appends (W.contents w.old) (W.contents w.new) (table_text routes.now)) }
-    ensures err { OnErr result (AppendsBeginning (W.contents w.old) (W.contents w.new) (table_text routes.now)) }
+    ensures { WritesText (W.contents w.old) (W.contents w.new) (table_text routes.now) result }
 {
     let mut text = ShortText::new();
     prepend_count(&mut text, routes.len());
@@ -61,14 +54,10 @@ pub fn write_table<W: Write>(w: &mut W, routes: &[Route]) -> Result<(), io::Erro
 }
 
 /// Writes the table's routes alone, without its first line: each route of the list and LF. A fault is the writer's, as `put`
-/// hands it on; what was written is then a beginning of the routes. Takes no memory, and calls the writer as `write_report`
-/// does.
+/// hands it on; what was written is then a beginning of the routes and never all of them, so where there is no route nothing
+/// fails. Takes no memory, and calls the writer as `write_report` does.
 pub fn write_rows<W: Write>(w: &mut W, routes: &[Route]) -> Result<(), io::Error>
-    ensures ok { OnOk result (Appends (W.contents w.old) (W.contents w.new) (rows_text routes.now)) }
-    ensures err { OnErr result (AppendsBeginning (W.contents w.old) (W.contents w.new) (rows_text routes.now)) }
-
-    // Where there is no route to write, nothing fails.
-    ensures nothing { routes.now ≡ [] → IsOk result }
+    ensures { WritesText (W.contents w.old) (W.contents w.new) (rows_text routes.now) result }
 {
     let mut text = ShortText::new();
     for route in routes {
@@ -80,8 +69,7 @@ pub fn write_rows<W: Write>(w: &mut W, routes: &[Route]) -> Result<(), io::Error
 /// Writes one route of the table. `text` is where it is rendered.
 #[tactic(auto, using(crate::proofs::Printing::row_fits))]
 fn put_row<W: Write>(w: &mut W, text: &mut ShortText, route: &Route) -> Result<(), io::Error>
-    ensures ok { OnOk result (Appends (W.contents w.old) (W.contents w.new) (row_text route.now)) }
-    ensures err { OnErr result (AppendsBeginning (W.contents w.old) (W.contents w.new) (row_text route.now)) }
+    ensures { WritesText (W.contents w.old) (W.contents w.new) (row_text route.now) result }
 {
     text.clear();
     prepend_row(text, route);
@@ -93,8 +81,7 @@ fn put_row<W: Write>(w: &mut W, text: &mut ShortText, route: &Route) -> Result<(
 /// writer as `write_report` does.
 #[tactic(auto, using(crate::proofs::Printing::found_fits))]
 pub fn write_found<W: Write>(w: &mut W, addr: Addr, found: Option<Route>) -> Result<(), io::Error>
-    ensures ok { OnOk result (Appends (W.contents w.old) (W.contents w.new) (found_text addr found)) }
-    ensures err { OnErr result (AppendsBeginning (W.contents w.old) (W.contents w.new) (found_text addr found)) }
+    ensures { WritesText (W.contents w.old) (W.contents w.new) (found_text addr found) result }
 {
     let mut text = ShortText::new();
     prepend_found(&mut text, addr, found);
@@ -108,8 +95,7 @@ pub fn write_found<W: Write>(w: &mut W, addr: Addr, found: Option<Route>) -> Res
 /// `put` hands it on; what was written is then a beginning of that text. Takes no memory, and calls the writer as
 /// `write_report` does.
 pub fn write_all_found<W: Write>(w: &mut W, addr: Addr, found: &[Route]) -> Result<(), io::Error>
-    ensures ok { OnOk result (Appends (W.contents w.old) (W.contents w.new) (all_found_text addr found.now)) }
-    ensures err { OnErr result (AppendsBeginning (W.contents w.old) (W.contents w.new) (all_found_text addr found.now)) }
+    ensures { WritesText (W.contents w.old) (W.contents w.new) (all_found_text addr found.now) result }
 {
     let Some((first, others)) = found.split_first() else {
         return write_found(w, addr, None);
@@ -125,8 +111,7 @@ fn write_others<W: Write>(
     first: &Route,
     others: &[Route],
 ) -> Result<(), io::Error>
-    ensures ok { OnOk result (Appends (W.contents w.old) (W.contents w.new) (flat_map (also_text addr first.now) others.now)) }
-    ensures err { OnErr result (AppendsBeginning (W.contents w.old) (W.contents w.new) (flat_map (also_text addr first.now) others.now)) }
+    ensures { WritesText (W.contents w.old) (W.contents w.new) (flat_map (also_text addr first.now) others.now) result }
 {
     let mut text = ShortText::new();
     for route in others {
@@ -144,8 +129,7 @@ fn put_other<W: Write>(
     first: &Route,
     route: &Route,
 ) -> Result<(), io::Error>
-    ensures ok { OnOk result (Appends (W.contents w.old) (W.contents w.new) (also_text addr first.now route.now)) }
-    ensures err { OnErr result (AppendsBeginning (W.contents w.old) (W.contents w.new) (also_text addr first.now route.now)) }
+    ensures { WritesText (W.contents w.old) (W.contents w.new) (also_text addr first.now route.now) result }
 {
     text.clear();
     prepend_also(text, addr, first, route);

@@ -2,8 +2,5 @@ use Rattle.std.proofs.Common.{rules}
 use Rattle.rt_feed.proofs.Printing.{line_fits}
 use Rattle.rt_feed.proofs.print.put_line.Goals as goal
 
-pub returns-clause-ok : goal.returns-clause-ok
-returns-clause-ok g c = search (rules, line_fits)
-
-pub returns-clause-err : goal.returns-clause-err
-returns-clause-err g c = search (rules, line_fits)
+pub returns : goal.returns
+returns g c = search (rules, line_fits)

@@ -1,8 +1,6 @@
 use Rattle.std.proofs.Common.{rules}
+use Rattle.rt_feed.proofs.Printing.{also_fits}
 use Rattle.rt_feed.proofs.print.put_other.Goals as goal
 
-pub returns-clause-ok : goal.returns-clause-ok
-returns-clause-ok g c = search rules
-
-pub returns-clause-err : goal.returns-clause-err
-returns-clause-err g c = search rules
+pub returns : goal.returns
+returns g c = search (rules, also_fits)

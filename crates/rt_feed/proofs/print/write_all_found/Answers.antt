@@ -5,19 +5,16 @@ use Rattle.rt_cidr.proofs.Promised.{appends_after, begins_after}
 use Rattle.rt_feed.specs.Printed.{also_text}
 use Rattle.rt_feed.proofs.print.write_all_found.Goals as goal
 
-pub returns-clause-err : goal.returns-clause-err
-returns-clause-err g c =
+pub returns-in_default : goal.returns-in_default
+returns-in_default g c = search rules
+
+pub returns : goal.returns
+returns g c =
     let cut : c.args.found.now ≡ c.in-Some.first.now ∷ c.in-Some.others.now = search rules in
     let others = flat_map (also_text c.args.addr c.in-Some.first.now) c.in-Some.others.now in
+    let first = c.in_ok-write_found.ensures.ok in
     rw cut
-    (on_err_weaker c.write_others.result (begins_after _ _ _ _ others c.in_ok-write_found.ensures.ok) c.write_others.ensures.err)
-
-pub returns-in_default-clause-ok : goal.returns-in_default-clause-ok
-returns-in_default-clause-ok g c = search rules
-
-pub returns-clause-ok : goal.returns-clause-ok
-returns-clause-ok g c =
-    let cut : c.args.found.now ≡ c.in-Some.first.now ∷ c.in-Some.others.now = search rules in
-    let others = flat_map (also_text c.args.addr c.in-Some.first.now) c.in-Some.others.now in
-    rw cut
-    (on_ok_weaker c.write_others.result (appends_after _ _ _ _ others c.in_ok-write_found.ensures.ok) c.write_others.ensures.ok)
+    (record {
+      ok = on_ok_weaker c.write_others.result (appends_after _ _ _ _ others first) c.write_others.ensures.ok;
+      err = on_err_weaker c.write_others.result (begins_after _ _ _ _ others first) c.write_others.ensures.err;
+    })

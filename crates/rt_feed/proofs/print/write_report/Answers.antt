@@ -4,12 +4,15 @@ use Rattle.rt_feed.specs.Printed.{line_text}
 use Rattle.rt_feed.proofs.Printing.{begins_all, appends_next}
 use Rattle.rt_feed.proofs.print.write_report.Goals as goal
 
-pub returns-in_err-put_line-clause-err : goal.returns-in_err-put_line-clause-err
-returns-in_err-put_line-clause-err g c =
+pub returns-in_err-put_line : goal.returns-in_err-put_line
+returns-in_err-put_line g c =
     let fault = err_from_is_err_and c.from_residual.result c.from_residual.ensures.1 in
     rw (fault.1, ← c.lines-line-items.ensures.lines)
-    (begins_all _ _ _ [] (line_text c.args.feed) _ c.loop-line.line-index c.line-item.result c.loop-line-test.true c.line-item.is
-    c.loop-line.invariant c.in_err-put_line.ensures.err)
+    (record {
+      ok = tt;
+      err = begins_all _ _ _ [] (line_text c.args.feed) _ c.loop-line.line-index c.line-item.result c.loop-line-test.true c.line-item.is
+          c.loop-line.invariant c.in_err-put_line.ensures.err;
+    })
 
 pub loop-line-preserved : goal.loop-line-preserved
 loop-line-preserved g c =

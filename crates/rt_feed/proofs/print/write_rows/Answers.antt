@@ -4,12 +4,15 @@ use Rattle.rt_feed.specs.Printed.{row_text}
 use Rattle.rt_feed.proofs.Printing.{begins_all, appends_next}
 use Rattle.rt_feed.proofs.print.write_rows.Goals as goal
 
-pub returns-in_err-put_row-clause-err : goal.returns-in_err-put_row-clause-err
-returns-in_err-put_row-clause-err g c =
+pub returns-in_err-put_row : goal.returns-in_err-put_row
+returns-in_err-put_row g c =
     let fault = err_from_is_err_and c.from_residual.result c.from_residual.ensures.1 in
     rw fault.1
-    (begins_all _ _ _ [] row_text _ c.loop-route.route-index c.route-item.result c.loop-route-test.true c.route-item.is
-    c.loop-route.invariant c.in_err-put_row.ensures.err)
+    (record {
+      ok = tt;
+      err = begins_all _ _ _ [] row_text _ c.loop-route.route-index c.route-item.result c.loop-route-test.true c.route-item.is
+          c.loop-route.invariant c.in_err-put_row.ensures.err;
+    })
 
 pub loop-route-preserved : goal.loop-route-preserved
 loop-route-preserved g c =
