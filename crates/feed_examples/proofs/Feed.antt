@@ -37,7 +37,7 @@ use Rattle.rt_feed.specs.Lines.{lf, CutsLine, TellsTwo, IsBody, IsVersion, LineO
 use Rattle.rt_feed.specs.Lines.{reading, heading, LinesSay, LinesBecome, Becomes, line_answer, command_answer, numbered, report_lines, asked_by, asked_of}
 use Rattle.rt_feed.specs.Reports.{is_refusal, is_fault, NumbersRise, has_refusal, has_fault}
 use Rattle.rt_shared.specs.Visits.{Visit, visit_of}
-use Rattle.rt_feed.specs.Visits.{concatenated, piece_of, IsCut, Gains, AnswersBatch}
+use Rattle.rt_feed.specs.Visits.{concatenated, AreOneList, piece_of, IsCut, Gains, AnswersBatch}
 use Rattle.rt_feed.specs.Printed.{hop_text, route_text, reply_text, fault_text, answer_text, line_text, report_text, row_text, count_text, rows_text}
 use Rattle.rt_feed.specs.Printed.{table_text, found_text, reason_text, also_text, all_found_text}
 use Rattle.std.specs.Prelude.{◌↔◌, ◌⊎◌, ◌<◌, ◌≤◌, ◌-◌, ◌^◌, ◌%◌, Option, IsSome, MatchOption, AllPairs, decimal, zip}
@@ -1097,6 +1097,15 @@ what_a_gate_holds_besides :
     {G : Type 0} (holds : G → List Visit → Type 0) (old new : G) (more : List Visit) → Gains holds old new more
     → (visits : List Visit) → holds old visits → holds new (visits ++ more)
 what_a_gate_holds_besides holds old new more h = h
+
+-- AreOneList
+the_same_commands_and_replies_however_cut :
+    (held : List Visit → Type 0) → AreOneList held ↔ ((one two : List Visit) → held one → held two → concatenated one ≡ concatenated two)
+the_same_commands_and_replies_however_cut held = (λ h. h, λ h. h)
+
+-- a gate that holds whatever visits there are says nothing of what it has answered
+not_any_visits : ¬ AreOneList (λ visits. Unit {0})
+not_any_visits h = let none_is_one = h [] (((Dump, Dumped 0) ∷ []) ∷ []) tt tt in cc
 
 -- AnswersBatch
 one_visit_with_an_outcome_for_each :

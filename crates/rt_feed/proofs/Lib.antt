@@ -14,3 +14,4 @@ pub mod OneAnswer
 pub mod OneAddress
 pub mod OneCut
 pub mod ReadAddresses
+pub mod Remembered

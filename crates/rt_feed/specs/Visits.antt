@@ -13,6 +13,10 @@ abbrev pub concatenated : {X : Type 0} → List (List X) → List X
 concatenated [] = []
 concatenated (piece ∷ pieces) = piece ++ concatenated pieces
 
+-- all lists of visits that are so are one list of commands and replies, however it is cut into visits
+abbrev pub AreOneList : (List Visit → Type 0) → Type 0
+AreOneList held = (one two : List Visit) → held one → held two → concatenated one ≡ concatenated two
+
 -- a piece that is not empty, by itself
 abbrev pub piece_of : {X : Type 0} → List X → List (List X)
 piece_of [] = []

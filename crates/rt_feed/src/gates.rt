@@ -1,7 +1,7 @@
 //! What answers the commands of a feed: any gate, and the one to the shared table.
 ghost use Rattle.std.specs.Prelude.{◌≡◌, List, [], ◌∷◌, IfOk, OnOk, OnErr};
 ghost use Rattle.rt_shared.specs.Visits.{Visit};
-ghost use Rattle.rt_feed.specs.Visits.{Gains, AnswersBatch};
+ghost use Rattle.rt_feed.specs.Visits.{Gains, AnswersBatch, AreOneList};
 
 use rt_rib::{Cmd, Refused, Reply};
 use rt_shared::{FeedPass, Outcome, SharedRib};
@@ -10,8 +10,8 @@ use std::marker::Model;
 use std::sync::Wait;
 
 /// Answers the commands of one feed. A gate has a name, which no call changes, and holds visits: what each call
-/// answered, in order. A command that was refused is in no visit. Each gate holds some visits, so what it gains says
-/// something of it. A gate can go to a thread.
+/// answered, in order. A command that was refused is in no visit. Each gate holds some visits, and those are of one list,
+/// so what it gains says something of it. A gate can go to a thread.
 pub trait Gate: Send {
     /// What names a gate.
     ghost Name: { Type 0 };
@@ -42,6 +42,10 @@ pub trait Gate: Send {
 
     /// No gate holds nothing: there are visits that it holds.
     ghost holds_some: { (gate : Self) → (visits : List Visit) × holds gate visits };
+
+    /// And what it has answered is one list: any two lists of visits that it holds have the same commands and replies, in
+    /// order, however they are cut into visits.
+    ghost holds_one: { (gate : Self) → AreOneList (holds gate) };
 }
 
 /// Answers a feed's commands by a shared table, with the feed's pass. Its name is its table and its feed, and it holds
@@ -92,7 +96,7 @@ impl<'a, const L: u32> Gate for TableGate<'a, L> {
     ghost use Rattle.std.specs.Prelude.{◌≡◌, ℕ, map};
     ghost use Rattle.rt_shared.specs.Table.{SharedId};
     ghost use Rattle.rt_shared.specs.Visits.{Uncut, entries};
-    ghost use Rattle.rt_feed.specs.inside.HeldVisits.{visits_in};
+    ghost use Rattle.rt_feed.specs.inside.HeldVisits.{visits_in, one_list};
 
     ghost Name = { SharedId × ℕ };
 
@@ -101,6 +105,8 @@ impl<'a, const L: u32> Gate for TableGate<'a, L> {
     ghost holds = { λ gate visits. Uncut gate.feed (map (entries gate.feed) visits) gate.seen };
 
     ghost holds_some = { λ gate. visits_in gate.feed gate.seen };
+
+    ghost holds_one = { λ gate one two. one_list gate.feed gate.seen one two };
 
     fn apply<R: Wait>(&mut self, rt: &R, cmd: Cmd) -> Result<Reply, Refused> {
         self.table.apply(rt, &mut self.pass, cmd)

@@ -1,16 +1,14 @@
 -- Why a feed's visits stay uncut.
-use Rattle.std.proofs.Common.{◌≡◌, ◌≢◌, ℕ, List, [], ◌∷◌, ◌++◌, refl, sym, ap, ◌∙◌, subst, append_assoc, append-nil}
-use Rattle.std.specs.List.{flat_map}
+use Rattle.std.proofs.Common.{◌≡◌, ◌≢◌, ℕ, List, [], ◌∷◌, ◌++◌, sym, ap, ◌∙◌, subst, append_assoc, append-nil}
 use Rattle.std.specs.Bool.{◌==◌}
-use Rattle.std.specs.Prelude.{Bool, true, false}
-use Rattle.std.proofs.lemmas.List.Elements.{All-nil, All-append, All-head, All-tail, filter-append}
-use Rattle.std.proofs.lemmas.Bool.{eq-eqb, ne_eqb}
+use Rattle.std.proofs.lemmas.List.Elements.{All-nil, All-append, filter-append}
 use Rattle.rt_rib.specs.declared.commands.Cmd.{Cmd}
 use Rattle.rt_rib.specs.declared.commands.Entry.{Entry}
 use Rattle.rt_rib.specs.Laws.{feed_entries}
 use Rattle.rt_shared.specs.declared.outcome.Outcome.{Outcome}
 use Rattle.rt_shared.specs.Visits.{AllBy, NoneBy, Since, answered, MakesVisit, Uncut}
 use Rattle.rt_shared.specs.inside.LentLaws.{since_others}
+use Rattle.rt_shared.specs.inside.VisitEntries.{no_entries}
 use Rattle.rt_shared.proofs.EntriesInPieces.{all_answered}
 
 -- what stands before and behind, with more behind it
@@ -43,35 +41,11 @@ uncut_by_visit limit feed visits seen now cmds outcomes uncut visit =
     (uncut_visit feed visits visit.found (answered feed cmds outcomes)
     (uncut_since feed visits seen visit.found uncut visit.since) (all_answered feed cmds outcomes))
 
--- the entries of a feed, where there are none
-no_entries : (feed : ℕ) (journal : List Entry) → NoneBy feed journal → feed_entries feed journal ≡ []
-no_entries feed [] none = refl
-no_entries feed (e ∷ es) none =
-    let other : (e.feed == feed) ≡ false = ne_eqb e.feed feed (All-head (λ (x : Entry). x.feed ≢ feed) e es none) in
-    rw other (no_entries feed es (All-tail (λ (x : Entry). x.feed ≢ feed) e es none))
-
--- the entries of a feed, where there are no others
-own_entries : (feed : ℕ) (journal : List Entry) → AllBy feed journal → feed_entries feed journal ≡ journal
-own_entries feed [] all = refl
-own_entries feed (e ∷ es) all =
-    let own : (e.feed == feed) ≡ true = eq-eqb e.feed feed (All-head (λ (x : Entry). x.feed ≡ feed) e es all) in
-    rw own (ap (λ (l : List Entry). e ∷ l) (own_entries feed es (All-tail (λ (x : Entry). x.feed ≡ feed) e es all)))
-
 pub entries_since : (feed : ℕ) (a b : List Entry) → Since feed a b → feed_entries feed b ≡ feed_entries feed a
 entries_since feed a b since =
     ap (feed_entries feed) since.grown ∙ (filter-append (λ (e : Entry). e.feed == feed) a since.others
     ∙ (ap (λ (l : List Entry). feed_entries feed a ++ l) (no_entries feed since.others since.by_others)
     ∙ append-nil (feed_entries feed a)))
-
-pub entries_of_visits : (feed : ℕ) (visits : List (List Entry)) (journal : List Entry) → Uncut feed visits journal
-    → feed_entries feed journal ≡ flat_map (λ visit. visit) visits
-entries_of_visits feed [] journal none = no_entries feed journal none
-entries_of_visits feed (visit ∷ visits) journal (before, rest, is, none, all, uncut) =
-    let own : Entry → Bool = λ e. e.feed == feed in
-    ap (feed_entries feed) is ∙ (filter-append own before (visit ++ rest)
-    ∙ (ap (λ (l : List Entry). l ++ feed_entries feed (visit ++ rest)) (no_entries feed before none)
-    ∙ (filter-append own visit rest ∙ (ap (λ (l : List Entry). l ++ feed_entries feed rest) (own_entries feed visit all)
-    ∙ ap (λ (l : List Entry). visit ++ l) (entries_of_visits feed visits rest uncut)))))
 
 pub since_again : (feed : ℕ) (a b c : List Entry) → Since feed a b → Since feed b c → Since feed a c
 since_again feed a b c s t = subst (Since feed a) (sym t.grown) (since_others feed a b t.others s t.by_others)

@@ -3,3 +3,4 @@ pub mod LentLaws
 pub mod PassModel
 pub mod Table
 pub mod Visits
+pub mod VisitEntries

@@ -10,6 +10,7 @@ use Rattle.rt_rib.specs.Book.{BookContents, Applies, Refuses}
 use Rattle.rt_shared.specs.declared.outcome.Outcome.{Outcome}
 use Rattle.rt_shared.specs.Visits.{Visit, reply_to, visit_of, entries}
 use Rattle.rt_feed.specs.Visits.{concatenated}
+use Rattle.rt_feed.proofs.Remembered.{concatenated_more, visit_more}
 use Rattle.walkthrough.specs.Gate.{HasVisits}
 
 -- the commands had these outcomes, and the journal has the entries of those that were answered
@@ -24,15 +25,6 @@ entries-append : (v w : Visit) → entries 1 (v ++ w) ≡ entries 1 v ++ entries
 entries-append v w = map-append (λ (p : Cmd × Reply). let e : Entry = record { feed = 1; cmd = p.0; reply = p.1 } in e) v w
 
 -- one command more
-visit_more : (cmds : List Cmd) (cmd : Cmd) (outcomes : List Outcome) (o : Outcome) → length outcomes ≡ length cmds
-    → visit_of (zip (cmds ++ cmd ∷ []) (outcomes ++ o ∷ [])) ≡ visit_of (zip cmds outcomes) ++ reply_to cmd o
-visit_more [] cmd [] o same = append-nil (reply_to cmd o)
-visit_more [] cmd (p ∷ outcomes) o same = absurd (omega arith)
-visit_more (c ∷ cmds) cmd [] o same = absurd (omega arith)
-visit_more (c ∷ cmds) cmd (p ∷ outcomes) o same =
-    ap (λ (l : Visit). reply_to c p ++ l) (visit_more cmds cmd outcomes o (omega arith))
-    ∙ sym (append_assoc (reply_to c p) (visit_of (zip cmds outcomes)) (reply_to cmd o))
-
 pub served_more : (cmds : List Cmd) (cmd : Cmd) (old : List Entry) (before : List Outcome) (now next : List Entry) (after : List Outcome) (o : Outcome)
     → HasServed cmds old before now after → next ≡ now ++ entries 1 (reply_to cmd o) → HasServed (cmds ++ cmd ∷ []) old before next (after ++ o ∷ [])
 served_more cmds cmd old before now next after o served e =
@@ -44,11 +36,6 @@ served_more cmds cmd old before now next after o served e =
       added = e ∙ (ap (λ (l : List Entry). l ++ entries 1 w) served.added ∙ (append_assoc old (entries 1 v) (entries 1 w)
           ∙ ap (λ (l : List Entry). old ++ l) (sym (ap (entries 1) (visit_more cmds cmd served.outcomes o served.each) ∙ entries-append v w))));
     }
-
--- one visit more is joined behind the others
-concatenated_more : (visits : List Visit) (v : Visit) → concatenated (visits ++ v ∷ []) ≡ concatenated visits ++ v
-concatenated_more [] v = append-nil v
-concatenated_more (u ∷ visits) v = ap (λ (l : Visit). u ++ l) (concatenated_more visits v) ∙ sym (append_assoc u (concatenated visits) v)
 
 -- a gate whose journal gains the entries of a visit holds that visit besides
 pub holds_more : (old new : List Entry) (visits : List Visit) (v : Visit) → HasVisits old visits → new ≡ old ++ entries 1 v → HasVisits new (visits ++ v ∷ [])

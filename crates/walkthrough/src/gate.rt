@@ -33,7 +33,7 @@ impl OwnBook {
 
 impl Gate for OwnBook {
     ghost use Rattle.walkthrough.specs.Gate.{HasVisits};
-    ghost use Rattle.walkthrough.specs.inside.HeldVisits.{all_in_one};
+    ghost use Rattle.walkthrough.specs.inside.HeldVisits.{all_in_one, one_list};
 
     ghost Name = { Unit {0} };
 
@@ -42,6 +42,8 @@ impl Gate for OwnBook {
     ghost holds = { λ gate visits. HasVisits gate.book.journal visits };
 
     ghost holds_some = { λ gate. all_in_one gate.book.journal gate.by_feed_1 };
+
+    ghost holds_one = { λ gate one two. one_list gate.book.journal one two };
 
     fn apply<R: Wait>(&mut self, _rt: &R, cmd: Cmd) -> Result<Reply, Refused> {
         self.book.apply(1, cmd)

@@ -25,7 +25,7 @@ fn tell<R: Print>(rt: &R, feed: usize, report: Option<&Report>, gate: &Recorder)
             }
         }
     }
-    for cmd in gate.asked() {
+    for (cmd, _) in gate.answered() {
         println!(rt; "feed {feed} asked {cmd:?}")?;
     }
     Ok(())

@@ -1,44 +1,48 @@
 //! A gate that takes no memory.
-ghost use Rattle.std.specs.Prelude.{[]};
+ghost use Rattle.std.specs.Prelude.{◌≡◌, ◌++◌, ◌∷◌, [], take};
+ghost use Rattle.std.proofs.Common.{sym, ◌∙◌, append-nil};
+ghost use Rattle.rt_shared.specs.Visits.{reply_to};
+ghost use Rattle.rt_feed.specs.Visits.{concatenated};
 
 use rt_feed::{Gate, Outcome};
 use rt_rib::{Cmd, Refused, Reply};
 use std::sync::Wait;
 
-/// How many commands a gate remembers, and how many it answers at once.
+/// How many commands a gate answers.
 const ROOM: usize = 8;
 
 /// What each command is answered.
 const REPLY: Reply = Reply::Dumped(0);
 
-/// The outcomes of a batch.
-const OUTCOMES: [Outcome; ROOM] = [Outcome::Did(REPLY); ROOM];
-
-/// Answers each command alike, and remembers it. It takes no memory of its own.
+/// Answers each command alike, and remembers it; one that it has no room for is refused. It takes no memory of its own.
 #[derive(Drop)]
 pub struct Recorder {
-    asked: [Cmd; ROOM],
+    answered: [(Cmd, Reply); ROOM],
     count: usize,
 }
 
 impl Recorder {
     pub fn new() -> Recorder {
         Recorder {
-            asked: [Cmd::Dump; ROOM],
+            answered: [(Cmd::Dump, REPLY); ROOM],
             count: 0,
         }
     }
 
-    /// The commands that it has answered, in order.
-    pub fn asked(&self) -> &[Cmd] {
-        &self.asked[..self.count.min(ROOM)]
+    /// The commands that it has answered, in order, each with its reply.
+    pub fn answered(&self) -> &[(Cmd, Reply)] {
+        &self.answered[..self.count.min(ROOM)]
     }
 
-    fn remember(&mut self, cmd: Cmd) {
-        if let Some(place) = self.asked.get_mut(self.count) {
-            *place = cmd;
+    fn serve(&mut self, cmd: Cmd) -> Outcome
+        ensures { take self.new.count self.new.answered ≡ take self.old.count self.old.answered ++ reply_to cmd result }
+    {
+        if self.count >= ROOM {
+            return Outcome::Refused;
         }
-        self.count = self.count.saturating_add(1);
+        self.answered[self.count] = (cmd, REPLY);
+        self.count += 1;
+        Outcome::Did(REPLY)
     }
 }
 
@@ -47,13 +51,17 @@ impl Gate for Recorder {
 
     ghost name = { λ _. tt };
 
-    ghost holds = { λ _ _. Unit {0} };
+    ghost holds = { λ gate visits. take gate.count gate.answered ≡ concatenated visits };
 
-    ghost holds_some = { λ _. ([], tt) };
+    ghost holds_some = { λ gate. (take gate.count gate.answered ∷ [], sym (append-nil (take gate.count gate.answered))) };
+
+    ghost holds_one = { λ _ _ _ a b. sym a ∙ b };
 
     fn apply<R: Wait>(&mut self, _rt: &R, cmd: Cmd) -> Result<Reply, Refused> {
-        self.remember(cmd);
-        Ok(REPLY)
+        match self.serve(cmd) {
+            Outcome::Did(reply) => Ok(reply),
+            Outcome::Refused => Err(Refused),
+        }
     }
 
     fn apply_batch<R: Wait>(
@@ -62,12 +70,10 @@ impl Gate for Recorder {
         cmds: &[Cmd],
         out: &mut Vec<Outcome>,
     ) -> Result<(), Refused> {
-        if cmds.len() > ROOM {
-            return Err(Refused);
-        }
-        out.extend_from_slice(&OUTCOMES[..cmds.len()])?;
+        out.try_reserve(cmds.len())?;
         for cmd in cmds {
-            self.remember(*cmd);
+            let outcome = self.serve(*cmd);
+            out.push_reserved(outcome);
         }
         Ok(())
     }

@@ -1,5 +1,8 @@
 //! Feeds through gates that record, refuse and wait for one another.
-ghost use Rattle.std.specs.Prelude.{◌≤◌, []};
+ghost use Rattle.std.specs.Prelude.{◌≡◌, ◌≤◌, [], ◌∷◌, ◌++◌, IfOk, OnErr};
+ghost use Rattle.std.proofs.Common.{sym, ◌∙◌, append-nil};
+ghost use Rattle.rt_shared.specs.Visits.{reply_to};
+ghost use Rattle.rt_feed.specs.Visits.{concatenated};
 
 use rt_feed::*;
 use rt_rib::{Cmd, Refused, Reply};
@@ -14,15 +17,50 @@ use std::thread::{self, Threads};
 /// How many commands are asked at once.
 const BATCH: usize = 3;
 
-/// What such a batch is answered.
-const ANSWERS: [Outcome; BATCH] = [Outcome::Did(Reply::Dumped(0)); BATCH];
+/// Commands that were answered, each as a dump of no route, in order.
+#[derive(Drop)]
+struct Answered {
+    visit: Vec<(Cmd, Reply)>,
+}
 
-/// Answers each command alone but the second, which it refuses, as a dump of no route. Refuses every batch (M2), and
-/// records how many commands each had.
+impl Answered {
+    fn new(alloc: Global) -> Answered
+        ensures { result.visit.items ≡ [] }
+    {
+        Answered {
+            visit: Vec::new(alloc),
+        }
+    }
+
+    /// Answers a command more, or refuses it for want of memory.
+    fn serve(&mut self, cmd: Cmd) -> Outcome
+        ensures { self.new.visit.items ≡ self.old.visit.items ++ reply_to cmd result }
+    {
+        match self.visit.push((cmd, Reply::Dumped(0))) {
+            Ok(()) => Outcome::Did(Reply::Dumped(0)),
+            Err(_) => Outcome::Refused,
+        }
+    }
+
+    /// The same of a command that is asked alone.
+    fn serve_one(&mut self, cmd: Cmd) -> Result<Reply, Refused>
+        ensures ok { IfOk result (λ reply. self.new.visit.items ≡ self.old.visit.items ++ (cmd, reply) ∷ []) }
+        ensures err { OnErr result (self.new.visit.items ≡ self.old.visit.items) }
+    {
+        match self.serve(cmd) {
+            Outcome::Did(reply) => Ok(reply),
+            Outcome::Refused => Err(Refused),
+        }
+    }
+}
+
+/// Answers each command alone but the second, which it refuses. Refuses every batch (M2), and records how many commands
+/// each had.
 #[derive(Drop)]
 struct Recording {
     calls: u32,
     lengths: Vec<usize>,
+    answered: Answered,
 }
 
 impl Gate for Recording {
@@ -30,19 +68,22 @@ impl Gate for Recording {
 
     ghost name = { λ _. tt };
 
-    ghost holds = { λ _ _. Unit {0} };
+    ghost holds = { λ gate visits. gate.answered.visit.items ≡ concatenated visits };
 
-    ghost holds_some = { λ _. ([], tt) };
+    ghost holds_some = { λ gate. (gate.answered.visit.items ∷ [], sym (append-nil gate.answered.visit.items)) };
 
-    fn apply<R: Wait>(&mut self, _rt: &R, _cmd: Cmd) -> Result<Reply, Refused> {
+    ghost holds_one = { λ _ _ _ a b. sym a ∙ b };
+
+    #[tactic(auto, using(rt_feed::proofs::Remembered::gains_nothing))]
+    fn apply<R: Wait>(&mut self, _rt: &R, cmd: Cmd) -> Result<Reply, Refused> {
         self.calls = self.calls.wrapping_add(1);
         if self.calls == 2 {
-            Err(Refused)
-        } else {
-            Ok(Reply::Dumped(0))
+            return Err(Refused);
         }
+        self.answered.serve_one(cmd)
     }
 
+    #[tactic(auto, using(rt_feed::proofs::Remembered::gains_nothing))]
     fn apply_batch<R: Wait>(
         &mut self,
         _rt: &R,
@@ -85,6 +126,7 @@ impl Gathering {
 #[derive(Drop)]
 struct Meeting<'a> {
     gathering: &'a Gathering,
+    answered: Answered,
 }
 
 impl<'a> Gate for Meeting<'a> {
@@ -92,31 +134,35 @@ impl<'a> Gate for Meeting<'a> {
 
     ghost name = { λ _. tt };
 
-    ghost holds = { λ _ _. Unit {0} };
+    ghost holds = { λ gate visits. gate.answered.visit.items ≡ concatenated visits };
 
-    ghost holds_some = { λ _. ([], tt) };
+    ghost holds_some = { λ gate. (gate.answered.visit.items ∷ [], sym (append-nil gate.answered.visit.items)) };
 
-    fn apply<R: Wait>(&mut self, _rt: &R, _cmd: Cmd) -> Result<Reply, Refused> {
-        if self.gathering.have_met() {
-            Ok(Reply::Dumped(0))
-        } else {
-            Err(Refused)
+    ghost holds_one = { λ _ _ _ a b. sym a ∙ b };
+
+    #[tactic(auto, using(rt_feed::proofs::Remembered::gains_nothing))]
+    fn apply<R: Wait>(&mut self, _rt: &R, cmd: Cmd) -> Result<Reply, Refused> {
+        if !self.gathering.have_met() {
+            return Err(Refused);
         }
+        self.answered.serve_one(cmd)
     }
 
+    #[tactic(auto, using(rt_feed::proofs::Remembered::gains_nothing))]
     fn apply_batch<R: Wait>(
         &mut self,
         _rt: &R,
         cmds: &[Cmd],
         out: &mut Vec<Outcome>,
     ) -> Result<(), Refused> {
-        if cmds.len() > BATCH {
+        if cmds.len() > BATCH || !self.gathering.have_met() {
             return Err(Refused);
         }
-        if !self.gathering.have_met() {
-            return Err(Refused);
+        out.try_reserve(cmds.len())?;
+        for cmd in cmds {
+            let outcome = self.answered.serve(*cmd);
+            out.push_reserved(outcome);
         }
-        out.extend_from_slice(&ANSWERS[..cmds.len()])?;
         Ok(())
     }
 }
@@ -125,6 +171,7 @@ fn new_recording(alloc: Global) -> Recording {
     Recording {
         calls: 0,
         lengths: Vec::new(alloc),
+        answered: Answered::new(alloc),
     }
 }
 
@@ -227,7 +274,10 @@ fn gathered<'a>(
     let mut feeds = Vec::new(alloc);
     for _ in 0..gathering.gates {
         feeds.push(Feed {
-            gate: Meeting { gathering },
+            gate: Meeting {
+                gathering,
+                answered: Answered::new(alloc),
+            },
             report: None,
         })?;
     }

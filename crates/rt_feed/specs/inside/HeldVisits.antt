@@ -1,9 +1,17 @@
--- Why a gate to a shared table holds some visits: each entry of its feed that its pass has seen may be one.
-use Rattle.std.proofs.Common.{◌≡◌, ◌≢◌, ℕ, List, [], ◌∷◌, map, inl, inr, eqb, refl, sym, ap, subst}
+-- Why a gate to a shared table holds some visits: each entry of its feed that its pass has seen may be one. And why all
+-- that it holds are of one list: these entries, in order.
+use Rattle.std.proofs.Common.{◌≡◌, ◌≢◌, ℕ, List, [], ◌∷◌, ◌++◌, map, inl, inr, eqb, refl, sym, ap, ◌∙◌, subst}
+use Rattle.std.specs.List.{flat_map}
+use Rattle.std.proofs.lemmas.List.{map-append}
 use Rattle.std.proofs.lemmas.Bool.{cases_Bool, eqb-true, eqb-false}
 use Rattle.std.proofs.lemmas.List.Elements.{All-nil, All-cons}
+use Rattle.rt_rib.specs.declared.commands.Cmd.{Cmd}
+use Rattle.rt_rib.specs.declared.commands.Reply.{Reply}
 use Rattle.rt_rib.specs.declared.commands.Entry.{Entry}
+use Rattle.rt_rib.specs.Laws.{feed_entries}
 use Rattle.rt_shared.specs.Visits.{Uncut, Visit, entries}
+use Rattle.rt_shared.specs.inside.VisitEntries.{entries_of_visits}
+use Rattle.rt_feed.specs.Visits.{concatenated}
 
 -- an entry of another feed in front cuts nothing
 uncut_behind : (feed : ℕ) (visits : List (List Entry)) (e : Entry) (journal : List Entry) → e.feed ≢ feed → Uncut feed visits journal
@@ -37,3 +45,29 @@ visits_in feed (e ∷ journal) =
           )
       | inr other ↦ (rest.0, uncut_behind feed (map (entries feed) rest.0) e journal (eqb-false e.feed feed other) rest.1)
     ]
+
+-- the commands of entries, with their replies
+abbrev told : List Entry → Visit
+told part = map (λ e. (e.cmd, e.reply)) part
+
+-- the entries of a visit tell it
+told_visit : (feed : ℕ) (visit : Visit) → told (entries feed visit) ≡ visit
+told_visit feed [] = refl
+told_visit feed (p ∷ visit) = ap (λ (l : Visit). p ∷ l) (told_visit feed visit)
+
+-- those of visits one after another tell their list
+told_visits : (feed : ℕ) (visits : List Visit) → told (flat_map (λ part. part) (map (entries feed) visits)) ≡ concatenated visits
+told_visits feed [] = refl
+told_visits feed (visit ∷ visits) =
+    map-append (λ (e : Entry). let p : Cmd × Reply = (e.cmd, e.reply) in p) (entries feed visit) (flat_map (λ part. part) (map (entries feed) visits))
+    ∙ (ap (λ (l : Visit). l ++ told (flat_map (λ part. part) (map (entries feed) visits))) (told_visit feed visit)
+    ∙ ap (λ (l : Visit). visit ++ l) (told_visits feed visits))
+
+-- all visits that lie uncut in a journal are of the list of the feed's entries there
+told_journal : (feed : ℕ) (visits : List Visit) (journal : List Entry) → Uncut feed (map (entries feed) visits) journal
+    → told (feed_entries feed journal) ≡ concatenated visits
+told_journal feed visits journal uncut = ap told (entries_of_visits feed (map (entries feed) visits) journal uncut) ∙ told_visits feed visits
+
+pub one_list : (feed : ℕ) (journal : List Entry) (one two : List Visit) → Uncut feed (map (entries feed) one) journal
+    → Uncut feed (map (entries feed) two) journal → concatenated one ≡ concatenated two
+one_list feed journal one two a b = sym (told_journal feed one journal a) ∙ told_journal feed two journal b

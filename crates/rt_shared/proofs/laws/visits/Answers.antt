@@ -1,5 +1,6 @@
 use Rattle.std.proofs.lemmas.List.Elements.{All-nil}
-use Rattle.rt_shared.proofs.UncutVisits.{uncut_since, uncut_by_visit, entries_of_visits}
+use Rattle.rt_shared.specs.inside.VisitEntries.{entries_of_visits}
+use Rattle.rt_shared.proofs.UncutVisits.{uncut_since, uncut_by_visit}
 use Rattle.rt_shared.proofs.laws.visits.Goals as goal
 
 pub returns-clause-first : goal.returns-clause-first
