@@ -52,13 +52,16 @@ RUN = Page("STATEMENT-RUN.md", "What a run prints", (
         ["rt_run::laws::leaves_union", "rt_run::laws::answers_alone", "rt_run::laws::same_tallies", "rt_run::laws::one_union",
          "rt_run::laws::ends_in_union", "rt_run::laws::end_in_one_table"]),
     Chapter("What the finished table says", (
-        "A look-up writes, for each address in order, the best route of the longest prefix that covers it, in the table "
-        "that such a run leaves; or every route that covers it, the best first, with the step at which it was left behind that "
-        "one. A list writes the routes of that table, or the best of each prefix. By the laws above, where "
+        "A look-up writes, for each address in order, those that are named and then those that the lines of a text say, the "
+        "best route of the longest prefix that covers it, in the table that such a run leaves; or every route that covers it, "
+        "the best first, with the step at which it was left behind that one. A list writes the routes of that table, or the "
+        "best of each prefix. By the laws above, where "
         "no command was refused for want of memory, that table is the union, so that the bytes, the status and the tallies are "
-        "a function of the texts, the limit and what is asked: `shows_union` and `show_one_table` say so of two runs."), (
+        "a function of the texts, the limit and what is asked: `shows_union` and `show_one_table` say so of two runs, "
+        "`look_up_once` of two look-ups."), (
         "those of the first chapter; for the last sentence that no status is 5."),
-        ["rt_run::shown::lookup_texts", "rt_run::shown::table_texts", "rt_run::laws::shows_union", "rt_run::laws::show_one_table"]),
+        ["rt_run::shown::lookup_texts", "rt_run::shown::table_texts", "rt_run::laws::shows_union", "rt_run::laws::show_one_table",
+         "rt_run::laws::look_up_once"]),
     Chapter("Why a route won and what a change changes", (
         "A look-up of all writes, for each address in order, every route of that table that covers it, each before those "
         "that it beats, and with which step it was left behind the first. A comparison runs two sets of texts, each over a table "
@@ -68,7 +71,7 @@ RUN = Page("STATEMENT-RUN.md", "What a run prints", (
         "want of memory, it is the list of both unions, so that two comparisons of the same texts and limits write the same "
         "bytes, with the same statuses and tallies: `diffs_unions` and `diff_once`."), (
         "those of the first chapter, and for a comparison those of two runs."),
-        ["rt_run::shown::lookup_all_texts", "rt_run::differences::diff_texts", "rt_diff::laws::one_list",
+        ["rt_run::shown::lookup_all_texts", "rt_run::compared::diff_texts", "rt_diff::laws::one_list",
          "rt_run::laws::diffs_unions", "rt_run::laws::diff_once"]),
 ])
 
@@ -201,6 +204,7 @@ KIT = {
     "digit_char d": "the character of a digit below 36: `0` to `9`, then `a` to `z`",
     "digits_value radix text": "the number that the digits write",
     "fold f a xs": "`xs.fold(a, f)`",
+    "filter_map f xs": "what f gives for each element, without those for which it gives none",
     "flat_map f xs, map f xs": "what f gives for each element, the lists one behind another; the same without that",
     "get_elem? xs i": "the i-th element from 0, `some` or `none`, which are the logic's own `Some` and `None`",
     "join_by f s xs": "what f gives for each element, the lists one behind another with s between each two",

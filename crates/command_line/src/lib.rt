@@ -11,32 +11,24 @@
 //! ```
 #![tactic(auto)]
 
+mod limits;
 mod notes;
 
 ghost use Rattle.std.specs.Prelude.{◌≤◌};
+ghost use Rattle.command_line.specs.declared.limits.TheConstants.{MOST_ROUTES};
 
 use clap::builder::ValueParser;
 use clap::error::ErrorKind;
 use clap::{Arg, ArgAction, ArgMatches, Command, Error};
+use limits::{UNSEEN_BATCH, USUAL_BATCH, USUAL_ROUTES, limits};
+pub use limits::{MOST_AT_ONCE, MOST_FILES, MOST_ROUTES};
 use notes::{DIFF_NOTES, LOOKUP_NOTES, REPLAY_NOTES, RUN_NOTES, TABLE_NOTES};
 use std::alloc::{AllocError, AllocFailed, Global};
 
-/// The most routes that one feed may have. `notes` says it too.
-const MOST_ROUTES: u32 = 1_000_000;
-
-/// How many routes one feed may have, where the command line does not say. `notes` says it too.
-const DEFAULT_LIMIT: &str = "65536";
-
-/// How many commands of a feed `run` asks at once, where the command line does not say.
-const DEFAULT_BATCH: &str = "1";
-
-/// How many `lookup`, `table` and `diff` ask at once, where it does not say: no order shows in what they write.
-const UNSEEN_BATCH: &str = "256";
-
-/// What `diff` compares where it does not say: where packets go.
+/// The word for where packets go, which `diff` compares where the command line does not say.
 const HOP: &str = "hop";
 
-/// What it compares else: whole routes.
+/// The word for whole routes, which it may compare instead.
 const ROUTE: &str = "route";
 
 /// What it may compare.
@@ -60,14 +52,14 @@ pub enum Request<'a> {
 /// Which feed files to run.
 #[derive(Drop)]
 pub struct RunRequest<'a> {
-    /// How many routes a feed may have.
+    /// How many routes a feed may have, 1 to [`MOST_ROUTES`].
     pub limit: u32,
-    /// How many commands of a feed are asked at once.
+    /// How many commands of a feed are asked at once, 1 to [`MOST_AT_ONCE`].
     pub batch: u32,
-    /// The names of the feed files.
+    /// The names of the feed files, one or more.
     pub files: Vec<&'a str>,
     pub ghost some_routes: { 1 ≤ limit },
-    pub ghost few_routes: { limit ≤ 1000000 },
+    pub ghost few_routes: { limit ≤ MOST_ROUTES },
     pub ghost batched: { 1 ≤ batch },
 }
 
@@ -100,8 +92,17 @@ pub struct DiffRequest<'a> {
     pub run: RunRequest<'a>,
     /// The names of the new feed files.
     pub new_files: Vec<&'a str>,
-    /// Whether whole routes are compared, and not where packets go.
-    pub whole_routes: bool,
+    /// What of their answers is compared.
+    pub compared: Compared,
+}
+
+/// What `diff` compares of two answers.
+#[derive(Clone, Copy, PartialEq, Eq, Debug)]
+pub enum Compared {
+    /// Where packets go.
+    Hops,
+    /// The whole routes.
+    Routes,
 }
 
 /// Which schedule to show.
@@ -120,6 +121,9 @@ pub enum Refusal {
     Shown(String),
     /// The words are no command line: the fault's text.
     Misused(String),
+    /// `clap` took the words for something that is not known here. That is a fault of this crate, and no words are known
+    /// for which it is so.
+    Unknown,
     /// Memory was refused.
     Memory,
 }
@@ -150,9 +154,8 @@ fn request_of<'a>(alloc: Global, matches: &ArgMatches<'a>) -> Result<Request<'a>
         Some(("lookup", matches)) => lookup_request(alloc, matches),
         Some(("table", matches)) => table_request(alloc, matches),
         Some(("diff", matches)) => diff_request(alloc, matches),
-        Some((_, matches)) => Ok(Request::Run(run_request(alloc, matches)?)),
-        // A subcommand is required, so there is one.
-        None => Err(Refusal::Memory),
+        Some(("run", matches)) => Ok(Request::Run(run_request(alloc, matches)?)),
+        Some(_) | None => Err(Refusal::Unknown),
     }
 }
 
@@ -183,7 +186,7 @@ const SUBCOMMANDS: &[Subcommand] = &[
         notes: RUN_NOTES,
         parameters: &[
             Parameter::Limit,
-            Parameter::Batch(DEFAULT_BATCH),
+            Parameter::Batch(USUAL_BATCH),
             Parameter::Files,
         ],
     },
@@ -332,26 +335,29 @@ fn by<'a>(alloc: Global) -> Arg<'a> {
 }
 
 fn limit<'a>(alloc: Global) -> Arg<'a> {
-    let help = "How many routes a feed may have, 1 to 1000000";
-    number(alloc, "limit", "K", 1, u64::from(MOST_ROUTES), help).default_value(DEFAULT_LIMIT)
+    let help = limits!(text "How many routes a feed may have, 1 to " most_routes);
+    number(alloc, "limit", "K", 1, u64::from(MOST_ROUTES), help).default_value(USUAL_ROUTES)
 }
 
 fn batch<'a>(alloc: Global, unless_given: &'a str) -> Arg<'a> {
-    let help = "How many commands of a feed are asked at once, 1 to 1024";
-    number(alloc, "batch", "K", 1, 1024, help).default_value(unless_given)
+    let help = limits!(text "How many commands of a feed are asked at once, 1 to " most_at_once);
+    number(alloc, "batch", "K", 1, u64::from(MOST_AT_ONCE), help).default_value(unless_given)
 }
 
 fn files<'a>(alloc: Global) -> Arg<'a> {
-    let help = "Feed files, 1 to 64: one command a line; /dev/stdin may be one";
+    let help =
+        limits!(text "Feed files, 1 to " most_files ": one command a line; /dev/stdin may be one");
     file_names(alloc, "files", "FILE", help)
 }
 
 fn old_files<'a>(alloc: Global) -> Arg<'a> {
-    file_names(alloc, "files", "OLD", "The old feed files, 1 to 64")
+    let help = limits!(text "The old feed files, 1 to " most_files);
+    file_names(alloc, "files", "OLD", help)
 }
 
 fn new_files<'a>(alloc: Global) -> Arg<'a> {
-    file_names(alloc, "new", "NEW", "The new feed files, 1 to 64").last(true)
+    let help = limits!(text "The new feed files, 1 to " most_files);
+    file_names(alloc, "new", "NEW", help).last(true)
 }
 
 fn levels<'a>(alloc: Global) -> Arg<'a> {
@@ -412,11 +418,20 @@ fn table_request<'a>(alloc: Global, matches: &ArgMatches<'a>) -> Result<Request<
 }
 
 fn diff_request<'a>(alloc: Global, matches: &ArgMatches<'a>) -> Result<Request<'a>, Refusal> {
+    let compared = compared_by(matches)?;
     Ok(Request::Diff(DiffRequest {
         run: run_request(alloc, matches)?,
         new_files: texts_of(alloc, matches, "new")?,
-        whole_routes: matches.get_str("by") == Some(ROUTE),
+        compared,
     }))
+}
+
+fn compared_by(matches: &ArgMatches<'_>) -> Result<Compared, Refusal> {
+    match matches.get_str("by") {
+        Some(HOP) => Ok(Compared::Hops),
+        Some(ROUTE) => Ok(Compared::Routes),
+        Some(_) | None => Err(Refusal::Unknown),
+    }
 }
 
 /// The texts that were given for the argument, in order.
@@ -434,17 +449,14 @@ fn texts_of<'a>(
     Ok(texts)
 }
 
-/// The feed files, the limit and the batch. Both numbers have defaults, so that there is one, and have been bounded.
+/// The feed files, the limit and the batch, whose bounds `clap` has seen to.
 fn run_request<'a>(alloc: Global, matches: &ArgMatches<'a>) -> Result<RunRequest<'a>, Refusal> {
+    let limit = number_of(matches, "limit")?;
+    let batch = number_of(matches, "batch")?;
+    if limit < 1 || limit > MOST_ROUTES || batch < 1 {
+        return Err(Refusal::Unknown);
+    }
     let files = texts_of(alloc, matches, "files")?;
-    let limit = matches
-        .get_one::<u32>("limit")
-        .filter(|limit| *limit >= 1 && *limit <= MOST_ROUTES)
-        .unwrap_or(1);
-    let batch = matches
-        .get_one::<u32>("batch")
-        .filter(|batch| *batch >= 1)
-        .unwrap_or(1);
     Ok(RunRequest {
         limit,
         batch,
@@ -452,14 +464,27 @@ fn run_request<'a>(alloc: Global, matches: &ArgMatches<'a>) -> Result<RunRequest
     })
 }
 
+/// The number that was given for the argument, or its default.
+fn number_of(matches: &ArgMatches<'_>, name: &str) -> Result<u32, Refusal> {
+    matches.get_one::<u32>(name).ok_or(Refusal::Unknown)
+}
+
 fn replay_request<'a>(alloc: Global, matches: &ArgMatches<'_>) -> Result<Request<'a>, Refusal> {
-    let levels = matches.get_one::<u32>("levels").unwrap_or(0);
+    let levels = number_of(matches, "levels")?;
+    let picks = picked(alloc, matches)?;
+    Ok(Request::Replay(ReplayRequest { levels, picks }))
+}
+
+/// The places that were picked, in order; each text is a number, as `clap` has seen to.
+fn picked(alloc: Global, matches: &ArgMatches<'_>) -> Result<Vec<u32>, Refusal> {
     let mut picks = Vec::new(alloc);
     if let Some(texts) = matches.get_strs("picks") {
         for text in texts {
-            // The command line has made sure that it is a number.
-            picks.push(text.parse().unwrap_or(u32::MAX))?;
+            let Ok(pick) = text.parse() else {
+                return Err(Refusal::Unknown);
+            };
+            picks.push(pick)?;
         }
     }
-    Ok(Request::Replay(ReplayRequest { levels, picks }))
+    Ok(picks)
 }

@@ -1,12 +1,14 @@
 //! What the help of each command says behind its options.
 
+use crate::limits::limits;
+
 /// Notes on feed files: some texts, what is said of the limit, and further texts.
 macro_rules! feed_notes {
     ($($before:literal),*; $($after:literal),*) => {
-        concat!(
-            $($before,)*
-            "A feed has at most 65536 routes if --limit is left out, and at most 1000000 in\nany case. ",
-            $($after),*
+        limits!(text
+            $($before)*
+            "A feed has at most " usual_routes " routes if --limit is left out, and at most " most_routes " in\nany case. "
+            $($after)*
         )
     };
 }

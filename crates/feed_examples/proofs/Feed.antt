@@ -64,7 +64,7 @@ use Rattle.rt_feed.specs.Labels.{base_name, without_feed, feed_name, label_by, l
 use Rattle.rt_feed.specs.Styles.{label_of, row_as, rows_as, asked_of as asked_beginning, found_as, also_object, all_found_as}
 
 -- the address 192.0.2.1, and the command of the first line of examples/first.feed
-abbrev at_192_0_2_1 : Addr
+abbrev pub at_192_0_2_1 : Addr
 at_192_0_2_1 = record { 0 = 3221225985 }
 
 abbrev add_10 : Cmd
@@ -956,7 +956,7 @@ of_any_faulty_lines :
 of_any_faulty_lines one others = (refl, refl)
 
 -- SaysAddresses
-two_are_asked_and_a_line_is_faulty :
+pub two_are_asked_and_a_line_is_faulty :
     SaysAddresses asked_text (at_192_0_2_1 ∷ at_10_1_2_3 ∷ []) (record { count = 1; first = Some (3, fault.Text) })
 two_are_asked_and_a_line_is_faulty = record { says = asked_read; lines = what_its_lines_say; said = refl; faults = refl }
 

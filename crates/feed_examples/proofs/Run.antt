@@ -40,15 +40,16 @@ use Rattle.rt_feed.specs.Visits.{IsCut, concatenated}
 use Rattle.rt_feed.specs.Printed.{reply_text, answer_text, line_text, route_text, row_text, count_text, table_text, found_text, all_found_text, also_text, reason_text}
 use Rattle.rt_feed.specs.declared.faults.RunFault.{RunFault}
 use Rattle.rt_feed.specs.declared.faults.RunFault.TheVariants as run
+use Rattle.feed_examples.proofs.Feed.{at_192_0_2_1, asked_text, two_are_asked_and_a_line_is_faulty}
 use Rattle.feed_examples.proofs.Feed.{north, north_read, south, south_read, east, east_read, what_north_becomes, what_south_becomes, what_east_becomes}
-use Rattle.std.specs.Prelude.{◌↔◌, max, Option, find, count_by}
+use Rattle.std.specs.Prelude.{◌↔◌, max, nat_lt, Option, count_by}
 use Rattle.rt_cidr.specs.declared.address.Addr.{Addr}
 use Rattle.std.specs.Io.KnownBytes.{Appends}
 use Rattle.rt_cidr.specs.Output.{AppendsBeginning}
 use Rattle.rt_diff.specs.declared.differences.Difference.{Difference}
 use Rattle.rt_diff.specs.Differences.{AreDifferences}
 use Rattle.rt_feed.specs.DifferenceText.{differences_text}
-use Rattle.rt_run.specs.declared.differences.DiffSummary.{DiffSummary}
+use Rattle.rt_run.specs.declared.compared.DiffSummary.{DiffSummary}
 use Rattle.rt_run.specs.DiffText.{differ_status, IsDiffText}
 use Rattle.rt_run.specs.SameDiff.{TellsUnions, DiffsUnions, DiffOnce}
 use Rattle.rt_run.specs.declared.faults.AppFault.TheVariants.{Run, Replay, Write}
@@ -59,10 +60,13 @@ use Rattle.ya_replay.specs.ReplayText.{inside_text, replay_text_of}
 use Rattle.rt_run.specs.Replayed.{IsReplayText, LeavesReplay}
 use Rattle.rt_run.specs.declared.tallies.Tally.{Tally}
 use Rattle.rt_run.specs.declared.tallies.RunSummary.{RunSummary}
-use Rattle.rt_run.specs.TableText.{answers_text, all_answers_text, routes_text, was_full, was_existing, was_missing, fault_at, fault_of, tally_of}
-use Rattle.rt_run.specs.TableText.{has_refused, has_left_out, tallies_status, IsSummary, LeavesTable, IsShown}
+use Rattle.rt_run.specs.TableText.{answers_text, all_answers_text, routes_text, was_full, was_existing, was_missing, fault_at, faults_of, tally_of}
+use Rattle.rt_run.specs.TableText.{has_refused, has_left_out, tallies_status, IsSummary, LeavesTable, IsShown, IsLookup}
+use Rattle.rt_run.specs.declared.shown.LookupSummary.{LookupSummary}
+use Rattle.rt_feed.specs.declared.faulty.FaultyLines.{FaultyLines}
+use Rattle.rt_feed.specs.Addresses.{faulty_lines, SaysAddresses}
 use Rattle.rt_run.specs.SameTable.{table_alone, LeavesAlone, IsUnion, IsAnsweredAlone, AskTheSame, SayTheSame}
-use Rattle.rt_run.specs.SameTable.{LeavesUnion, AnswersAlone, HaveSameTallies, HaveOneUnion, EndsInUnion, EndInOneTable, ShowsUnion, ShowOneTable}
+use Rattle.rt_run.specs.SameTable.{LeavesUnion, AnswersAlone, HaveSameTallies, HaveOneUnion, EndsInUnion, EndInOneTable, ShowsUnion, ShowOneTable, LookUpOnce}
 use Rattle.rt_diff.specs.declared.answers.By.{By}
 
 -- table_alone
@@ -237,16 +241,16 @@ a_fault_with_its_line :
     × (fault_at number (answer.Did Full) ≡ None)
 a_fault_with_its_line number its = (refl, refl, refl)
 
--- fault_of
-of_the_line_if_there_is_one : (line : Line) → (fault_of None ≡ None) × (fault_of (Some line) ≡ fault_at line.number line.answer)
-of_the_line_if_there_is_one line = (refl, refl)
+-- faults_of
+the_second_and_the_third_line :
+    faults_of (report_lines 3 (asked Dump Refused ∷ faulty fault.Hop ∷ faulty fault.Text ∷ [])) ≡ (4, fault.Hop) ∷ (5, fault.Text) ∷ []
+the_second_and_the_third_line = refl
 
 -- tally_of
 what_a_tally_tells :
     (report : List Line) → tally_of report
     ≡ record {
-      faulty = count_by (λ (line : Line). is_fault line.answer) report;
-      first_faulty = fault_of (find (λ (line : Line). is_fault line.answer) report);
+      faulty = faulty_lines (faults_of report);
       full = count_by (λ (line : Line). was_full line.answer) report;
       existing = count_by (λ (line : Line). was_existing line.answer) report;
       missing = count_by (λ (line : Line). was_missing line.answer) report;
@@ -255,29 +259,29 @@ what_a_tally_tells :
 what_a_tally_tells report = refl
 
 the_second_line_has_the_first_fault :
-    (tally_of (report_lines 3 (asked Dump Refused ∷ faulty fault.Hop ∷ faulty fault.Text ∷ []))).first_faulty ≡ Some (4, fault.Hop)
+    (tally_of (report_lines 3 (asked Dump Refused ∷ faulty fault.Hop ∷ faulty fault.Text ∷ []))).faulty.first ≡ Some (4, fault.Hop)
 the_second_line_has_the_first_fault = refl
 
 faults_and_an_add_over_the_limit :
     tally_of (report_lines 1 (faulty fault.Hop ∷ asked Dump (Did Full) ∷ skipped ∷ faulty fault.Text ∷ []))
-    ≡ record { faulty = 2; first_faulty = Some (1, fault.Hop); full = 1; existing = 0; missing = 0; refused = 0 }
+    ≡ record { faulty = record { count = 2; first = Some (1, fault.Hop) }; full = 1; existing = 0; missing = 0; refused = 0 }
 faults_and_an_add_over_the_limit = refl
 
 -- an add of a prefix that is there, and two commands about one that is not
 found_otherwise :
     tally_of (report_lines 1 (asked Dump (Did Exists) ∷ asked Dump (Did Missing) ∷ skipped ∷ asked Dump (Did Missing) ∷ []))
-    ≡ record { faulty = 0; first_faulty = None; full = 0; existing = 1; missing = 2; refused = 0 }
+    ≡ record { faulty = record { count = 0; first = None }; full = 0; existing = 1; missing = 2; refused = 0 }
 found_otherwise = refl
 
 -- tally_of
 refused_alone :
     tally_of (report_lines 1 (asked Dump Refused ∷ []))
-    ≡ record { faulty = 0; first_faulty = None; full = 0; existing = 0; missing = 0; refused = 1 }
+    ≡ record { faulty = record { count = 0; first = None }; full = 0; existing = 0; missing = 0; refused = 1 }
 refused_alone = refl
 
 all_was_taken :
     tally_of (report_lines 1 (asked Dump (Did (Dumped 0)) ∷ []))
-    ≡ record { faulty = 0; first_faulty = None; full = 0; existing = 0; missing = 0; refused = 0 }
+    ≡ record { faulty = record { count = 0; first = None }; full = 0; existing = 0; missing = 0; refused = 0 }
 all_was_taken = refl
 
 -- has_refused
@@ -718,6 +722,29 @@ no_route_of_no_text summary h =
     let no_entries = nobody_asks h.leaves.journal h.leaves.history.no_other in
     let none : ◌≡◌ {A = List ℕ} (1 ∷ []) (0 ∷ []) = h.shown ∙ ap length_text (h.leaves.left ∙ ap (table_of_journal 1) no_entries) in cc
 
+-- IsLookup
+what_is_told_of_addresses :
+    (request : AskedRun) (named : List Addr) (said_by : List ℕ) (text_of : List Addr → List Route → List ℕ) (bytes : List ℕ) (given : LookupSummary)
+    → IsLookup request named said_by text_of bytes given
+    ↔ ((said : List Addr) × SaysAddresses said_by said given.faulty × IsShown request (text_of (named ++ said)) bytes given.run
+    × (given.status ≡ max (status_where false (nat_lt 0 given.faulty.count)) given.run.status))
+what_is_told_of_addresses request named said_by text_of bytes given = (
+  λ h. (h.said, h.says, h.shown, h.is_status),
+  λ (said, says, shown, is_status). record { said = said; says = says; shown = shown; is_status = is_status },
+)
+
+the_named_one_before_the_two_of_the_text :
+    (summary : RunSummary) → summary.tallies.items ≡ map tally_of (reports_of the_tutorials_outcomes) → summary.status ≡ 0
+    → IsLookup the_tutorials_run (at_10_9_0_1 ∷ []) asked_text answers_text
+    (answers_text (at_10_9_0_1 ∷ at_192_0_2_1 ∷ at_10_1_2_3 ∷ []) (table_of_journal 65536 tutorial))
+    (record { status = 2; run = summary; faulty = record { count = 1; first = Some (3, fault.Text) } })
+the_named_one_before_the_two_of_the_text summary tallied status = record {
+  said = at_192_0_2_1 ∷ at_10_1_2_3 ∷ [];
+  says = two_are_asked_and_a_line_is_faulty;
+  shown = what_is_told_of_the_tutorial (answers_text (at_10_9_0_1 ∷ at_192_0_2_1 ∷ at_10_1_2_3 ∷ [])) summary tallied status;
+  is_status = rw status refl;
+}
+
 -- Leaves
 whatever_was_told :
     (request : AskedRun) (text_of : List Route → List ℕ) (old bytes : List ℕ) (summary : RunSummary)
@@ -819,6 +846,14 @@ two_runs_show_one_table :
     → AskTheSame request request' → IsShown request text_of bytes summary → IsShown request' text_of bytes' summary' → summary.status ≢ 5
     → summary'.status ≢ 5 → (bytes ≡ bytes') × SayTheSame summary summary'
 two_runs_show_one_table law = law
+
+-- LookUpOnce
+two_look_ups_tell_the_same :
+    LookUpOnce → (request request' : AskedRun) (named : List Addr) (said_by : List ℕ) (text_of : List Addr → List Route → List ℕ) (bytes bytes' : List ℕ)
+    (given given' : LookupSummary) → AskTheSame request request' → IsLookup request named said_by text_of bytes given
+    → IsLookup request' named said_by text_of bytes' given' → given.run.status ≢ 5 → given'.run.status ≢ 5
+    → (bytes ≡ bytes') × (given.status ≡ given'.status) × (given.faulty ≡ given'.faulty) × SayTheSame given.run given'.run
+two_look_ups_tell_the_same law = law
 
 -- IsReplayText
 nothing_picked : IsReplayText 1 [] (codes "inside none\n")

@@ -2,21 +2,14 @@
 //! tables answer otherwise; or the steps of the lock for a schedule.
 //!
 //! [`run_words`] is the program over its words. It has the command line read by `command_line`, reads the files, calls
-//! `rt_run` for what is asked, and turns each outcome into an exit status and a text on standard error. Of these the
-//! prover knows those of a fault; all else here is only tested. What is written of runs and replays is proved in
-//! `rt_run`. Where standard error is a terminal, `main` also starts a thread that says there how far a run has come
-//! ([`Line`]).
+//! `rt_run` for what is asked, and turns each outcome into an exit status and a text on standard error: all here is only
+//! tested. What is written of the files' bytes, and of a replay, is proved in `rt_run`. Where standard error is a
+//! terminal, `main` also starts a thread that says there how far a run has come ([`ProgressLine`]).
 #![tactic(auto)]
 
 mod program;
 
-use program::Stop;
-pub use program::{run_words, run_words_beside};
-pub use rt_feed::RunFault;
-pub use rt_run::{
-    AppFault, DiffSummary, MOST_TEXTS, RunSummary, Tally, diff_texts, laws, lookup_all_texts,
-    lookup_texts, replay_text, run_texts, table_texts,
-};
+use program::{Stop, run_words, run_words_beside};
 use std::alloc::Global;
 use std::io::{self, IsTerminal, Write};
 use std::process::ExitCode;
@@ -24,7 +17,7 @@ use std::rt::Files;
 use std::sync::Wait;
 use std::thread::Threads;
 use std::{env, thread};
-pub use terminal_line::Line;
+use terminal_line::ProgressLine;
 
 fn main(rt: HostRuntime) -> ExitCode {
     let alloc = rt.alloc();
@@ -38,7 +31,7 @@ fn main(rt: HostRuntime) -> ExitCode {
     if !stderr.is_terminal() {
         return ExitCode::from(run_words(&rt, alloc, words, &mut out, &mut err));
     }
-    let line = Line::new(stdout.is_terminal());
+    let line = ProgressLine::new(stdout.is_terminal());
     let status = run_on_terminal(&rt, words, &line, &stderr, &mut out, &mut err);
     ExitCode::from(status)
 }
@@ -48,7 +41,7 @@ fn main(rt: HostRuntime) -> ExitCode {
 fn run_on_terminal<R, T, O, E>(
     rt: &R,
     words: &[String],
-    line: &Line,
+    line: &ProgressLine,
     terminal: &T,
     out: &mut O,
     err: &mut E,

@@ -10,7 +10,7 @@ ghost use Rattle.rt_rib.specs.declared.limits.TheConstants.{MOST_FEEDS};
 
 use command_line::{Refusal, ReplayRequest, Request, RunRequest};
 use rt_cidr::put;
-use rt_run::{AppFault, MOST_TEXTS, replay_text, run_texts};
+use rt_run::{AppFault, MOST_TEXTS, Status, replay_text, run_texts};
 use std::alloc::Global;
 use std::fs;
 use std::io::Write;
@@ -19,7 +19,7 @@ use std::sync::Wait;
 use std::thread::Threads;
 use stops::NO_MEMORY;
 pub(crate) use stops::Stop;
-use terminal_line::{Line, Screen, Stage};
+use terminal_line::{ProgressLine, Screen, Stage};
 
 /// The program over its words, its name first: does what they ask, writes results to `out` and the text of a fault
 /// to `err`, and gives the exit status. A fault of `err` itself is dropped.
@@ -30,15 +30,15 @@ pub fn run_words<R: Files + Threads + Wait + Sync + AllocGlobal, O: Write, E: Wr
     out: &mut O,
     err: &mut E,
 ) -> u8 {
-    run_words_beside(rt, alloc, words, &Line::new(false), out, err)
+    run_words_beside(rt, alloc, words, &ProgressLine::new(false), out, err)
 }
 
-/// Does what `run_words` does beside a line on `err`, which another thread may write (`Line::keep`).
+/// Does what `run_words` does beside a line on `err`, which another thread may write (`ProgressLine::keep`).
 pub fn run_words_beside<R, O, E>(
     rt: &R,
     alloc: Global,
     words: &[String],
-    line: &Line,
+    line: &ProgressLine,
     out: &mut O,
     err: &mut E,
 ) -> u8
@@ -69,7 +69,7 @@ impl<'a, R, O, E> Program<'a, R, O, E> {
     fn new(
         rt: &'a R,
         alloc: Global,
-        line: &'a Line,
+        line: &'a ProgressLine,
         out: &'a mut O,
         err: &'a mut E,
     ) -> Program<'a, R, O, E> {
@@ -98,6 +98,7 @@ where
             Ok(Request::Replay(request)) => show_replay(self.alloc, &request, self.out),
             Err(Refusal::Shown(text)) => show_text(text.as_bytes(), self.out),
             Err(Refusal::Misused(text)) => Err(Stop::Misused(text)),
+            Err(Refusal::Unknown) => Err(Stop::Unknown),
             Err(Refusal::Memory) => Err(NO_MEMORY),
         }
     }
@@ -150,7 +151,7 @@ fn show_replay<'w, O: Write>(
 
 fn show_text<'w, O: Write>(text: &[u8], out: &mut O) -> Result<u8, Stop<'w>> {
     match put(out, text) {
-        Ok(()) => Ok(0),
+        Ok(()) => Ok(Status::Done as u8),
         Err(_) => Err(Stop::Fault(AppFault::Write)),
     }
 }

@@ -13,7 +13,7 @@ use Rattle.rt_diff.specs.Differences.{IsFirstDifference, AreDifferences}
 use Rattle.rt_diff.proofs.Promised.{at, rest_none, rest_next, rest_there, whole, differences_of, differences_are, is_differences_of}
 use Rattle.rt_feed.specs.declared.report.Line.{Line}
 use Rattle.rt_feed.specs.DifferenceText.{difference_text, differences_text}
-use Rattle.rt_run.specs.declared.differences.DiffSummary.{DiffSummary}
+use Rattle.rt_run.specs.declared.compared.DiffSummary.{DiffSummary}
 use Rattle.rt_run.specs.AskedRun.{AskedRun}
 use Rattle.rt_run.specs.TableText.{IsSummary}
 use Rattle.rt_run.specs.DiffText.{differ_status, IsDiffText}

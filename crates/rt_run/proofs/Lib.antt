@@ -3,8 +3,10 @@ pub mod Buffered
 pub mod Answering
 pub mod Outputs
 pub mod Comparing
+pub mod FaultyLines
 pub mod SeveralFeeds
 pub mod SameTables
+pub mod SameLookups
 pub mod SameTallies
 pub mod SameDiffs
 pub mod Replayed

@@ -37,6 +37,7 @@ use Rattle.rt_run.specs.TableText.{tally_of, has_refused, has_left_out, tallies_
 use Rattle.rt_run.specs.SameTable.{table_alone, IsUnion, IsAnsweredAlone, AskTheSame, SayTheSame}
 use Rattle.rt_run.specs.SameTable.{LeavesUnion, AnswersAlone, HaveSameTallies, HaveOneUnion, EndsInUnion, EndInOneTable, ShowsUnion, ShowOneTable}
 use Rattle.rt_run.proofs.Lists.{counts_some, cut-joined}
+use Rattle.rt_run.proofs.FaultyLines.{some_faulty}
 
 -- what a line asks shows in what it says
 abbrev asked_in : Result (Option Cmd) LineFault → List Cmd
@@ -309,10 +310,10 @@ refused-tallies : (reports : List (List Line)) → list_any has_refusal reports 
 refused-tallies = some-tallies has_refusal has_refused (λ report. sym (counts_some (λ (line : Line). is_refusal line.answer) report))
 
 abbrev has_faulty : Tally → Bool
-has_faulty tally = nat_lt 0 tally.faulty
+has_faulty tally = nat_lt 0 tally.faulty.count
 
 faulty-tallies : (reports : List (List Line)) → list_any has_fault reports ≡ list_any has_faulty (map tally_of reports)
-faulty-tallies = some-tallies has_fault has_faulty (λ report. sym (counts_some (λ (line : Line). is_fault line.answer) report))
+faulty-tallies = some-tallies has_fault has_faulty some_faulty
 
 -- so the status of reports is told by their tallies
 status-tallies : (reports : List (List Line))

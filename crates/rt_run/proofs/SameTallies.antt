@@ -1,7 +1,7 @@
 -- That two runs of the same texts and limit take as much of each: what a tally counts hangs on the feed's own commands alone.
 use Rattle.std.proofs.Common.{◌≡◌, ℕ, ◌+◌, false, inl, inr, Option, Some, None, List, [], ◌∷◌, ◌++◌, Bool, map}
 use Rattle.std.proofs.Common.{refl, sym, ap, subst, ◌∙◌, append_assoc}
-use Rattle.std.specs.Prelude.{count_by, cond, find}
+use Rattle.std.specs.Prelude.{count_by, cond}
 use Rattle.std.specs.Option.{option_map_or}
 use Rattle.std.proofs.lemmas.Bool.{cases_Bool, or_parts}
 use Rattle.std.proofs.lemmas.List.{map-append}
@@ -23,23 +23,18 @@ use Rattle.rt_feed.specs.declared.report.Answer.{Answer}
 use Rattle.rt_feed.specs.declared.report.Answer.TheVariants.{Did, Refused, Fault}
 use Rattle.rt_feed.specs.Laws.{TextHasOneReading}
 use Rattle.rt_feed.specs.Lines.{LineOutcome, skipped, faulty, asked, reading, command_answer, report_lines, asked_of}
-use Rattle.rt_feed.specs.Reports.{is_refusal, is_fault, has_refusal}
+use Rattle.rt_feed.specs.Reports.{is_refusal, has_refusal}
 use Rattle.rt_run.specs.declared.tallies.Tally.{Tally}
 use Rattle.rt_run.specs.RunText.{ExplainsFrom, reports_of, some_refused}
-use Rattle.rt_run.specs.TableText.{was_full, was_existing, was_missing, fault_at, fault_of, tally_of}
+use Rattle.rt_run.specs.TableText.{was_full, was_existing, was_missing, fault_at, tally_of}
 use Rattle.rt_run.specs.SameTable.{HaveSameTallies}
+use Rattle.rt_run.proofs.FaultyLines.{with_fault, faults-line}
 use Rattle.rt_run.proofs.SameTables.{commands, alone-commands, IsAnsweredFrom, AreAnsweredFrom, answered_from}
-
--- the first of two, if there is one
-abbrev or_else : Option (ℕ × LineFault) → Option (ℕ × LineFault) → Option (ℕ × LineFault)
-or_else None later = later
-or_else (Some first) later = Some first
 
 -- a tally with one line more in front
 abbrev with_line : ℕ → Answer → Tally → Tally
 with_line number answer tally = record {
-  faulty = cond (is_fault answer) 1 0 + tally.faulty;
-  first_faulty = or_else (fault_at number answer) tally.first_faulty;
+  faulty = with_fault (fault_at number answer) tally.faulty;
   full = cond (was_full answer) 1 0 + tally.full;
   existing = cond (was_existing answer) 1 0 + tally.existing;
   missing = cond (was_missing answer) 1 0 + tally.missing;
@@ -51,18 +46,11 @@ module _ (number : ℕ) (answer : Answer) (report : List Line) where
       ≡ cond (test answer) 1 0 + count_by (λ (line : Line). test line.answer) report
   count-line test = sum_by-cons (λ (line : Line). cond (test line.answer) 1 0) (record { number = number; answer = answer }) report
 
-first-line : (number : ℕ) (answer : Answer) (report : List Line)
-    → fault_of (find (λ (line : Line). is_fault line.answer) (record { number = number; answer = answer } ∷ report))
-    ≡ or_else (fault_at number answer) (fault_of (find (λ (line : Line). is_fault line.answer) report))
-first-line number (Did reply) report = refl
-first-line number Refused report = refl
-first-line number (Fault fault) report = refl
-
 tally-line : (number : ℕ) (answer : Answer) (report : List Line)
     → tally_of (record { number = number; answer = answer } ∷ report) ≡ with_line number answer (tally_of report)
 tally-line number answer report =
     let count = count-line number answer report in
-    rw (count is_fault, first-line number answer report, count was_full, count was_existing, count was_missing, count is_refusal) refl
+    rw (faults-line number answer report, count was_full, count was_existing, count was_missing, count is_refusal) refl
 
 -- what a look-up found, and how many routes there are, is not counted
 found_or_not : (number : ℕ) (tally : Tally) (found : Option Route)

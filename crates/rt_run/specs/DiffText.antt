@@ -5,7 +5,7 @@ use Rattle.rt_diff.specs.declared.answers.By.{By}
 use Rattle.rt_diff.specs.declared.differences.Difference.{Difference}
 use Rattle.rt_diff.specs.Differences.{AreDifferences}
 use Rattle.rt_feed.specs.DifferenceText.{differences_text}
-use Rattle.rt_run.specs.declared.differences.DiffSummary.{DiffSummary}
+use Rattle.rt_run.specs.declared.compared.DiffSummary.{DiffSummary}
 use Rattle.rt_run.specs.AskedRun.{AskedRun}
 use Rattle.rt_run.specs.TableText.{LeavesTable}
 

@@ -2,6 +2,7 @@
 -- speak of their feed's own routes alone, and how much of each text was taken.
 use Rattle.std.specs.Prelude.{◌≡◌, ◌≢◌, ◌↔◌, ℕ, ◌+◌, true, false, List, [], ◌∷◌, ◌++◌, fold, map, Some}
 use Rattle.std.specs.List.{slice_get, Contains}
+use Rattle.rt_cidr.specs.declared.address.Addr.{Addr}
 use Rattle.rt_rib.specs.declared.routes.Route.{Route}
 use Rattle.rt_rib.specs.declared.commands.Cmd.{Cmd}
 use Rattle.rt_rib.specs.declared.commands.Entry.{Entry}
@@ -13,9 +14,10 @@ use Rattle.rt_shared.specs.declared.outcome.Outcome.TheVariants.{Did}
 use Rattle.rt_feed.specs.Lines.{LineOutcome, Becomes, asked_of}
 use Rattle.rt_feed.specs.Printed.{table_text}
 use Rattle.rt_run.specs.declared.tallies.RunSummary.{RunSummary}
+use Rattle.rt_run.specs.declared.shown.LookupSummary.{LookupSummary}
 use Rattle.rt_run.specs.AskedRun.{AskedRun}
 use Rattle.rt_run.specs.RunText.{IsHistory, IsRunText, reports_of, reports_text, some_refused}
-use Rattle.rt_run.specs.TableText.{tally_of, IsShown}
+use Rattle.rt_run.specs.TableText.{tally_of, IsShown, IsLookup}
 
 -- the set that the feed's commands leave by themselves, whatever became of them, where a feed may have so many routes
 unfoldable pub table_alone : ℕ → ℕ → List (Cmd × Outcome) → List Route
@@ -100,3 +102,11 @@ ShowOneTable =
     (asked asked' : AskedRun) (text_of : List Route → List ℕ) (bytes bytes' : List ℕ) (summary summary' : RunSummary)
     → AskTheSame asked asked' → IsShown asked text_of bytes summary → IsShown asked' text_of bytes' summary'
     → summary.status ≢ 5 → summary'.status ≢ 5 → (bytes ≡ bytes') × SayTheSame summary summary'
+
+-- so where addresses are looked up: of the same texts, limit and addresses, whether named or said by a text
+abbrev pub LookUpOnce : Type 0
+LookUpOnce =
+    (asked asked' : AskedRun) (named : List Addr) (text : List ℕ) (text_of : List Addr → List Route → List ℕ) (bytes bytes' : List ℕ) (given given' : LookupSummary)
+    → AskTheSame asked asked' → IsLookup asked named text text_of bytes given → IsLookup asked' named text text_of bytes' given'
+    → given.run.status ≢ 5 → given'.run.status ≢ 5
+    → (bytes ≡ bytes') × (given.status ≡ given'.status) × (given.faulty ≡ given'.faulty) × SayTheSame given.run given'.run

@@ -1,5 +1,5 @@
 -- What a run writes that tells of its finished table alone, and how much of its texts was taken.
-use Rattle.std.specs.Prelude.{◌≡◌, ℕ, Bool, true, false, ◌||◌, nat_lt, if◌then◌else◌, List, map, count_by, find, Option, Some, None}
+use Rattle.std.specs.Prelude.{◌≡◌, ℕ, max, Bool, true, false, ◌||◌, nat_lt, if◌then◌else◌, List, ◌++◌, map, count_by, filter_map, Option, Some, None}
 use Rattle.std.specs.List.{flat_map, list_any}
 use Rattle.rt_cidr.specs.declared.address.Addr.{Addr}
 use Rattle.rt_rib.specs.declared.routes.Route.{Route}
@@ -12,10 +12,12 @@ use Rattle.rt_feed.specs.declared.report.Line.{Line}
 use Rattle.rt_feed.specs.declared.report.Answer.{Answer}
 use Rattle.rt_feed.specs.declared.report.Answer.TheVariants.{Did, Refused, Fault}
 use Rattle.rt_feed.specs.Lines.{LineOutcome}
-use Rattle.rt_feed.specs.Reports.{is_fault, is_refusal}
+use Rattle.rt_feed.specs.Addresses.{faulty_lines, SaysAddresses}
+use Rattle.rt_feed.specs.Reports.{is_refusal}
 use Rattle.rt_feed.specs.Printed.{rows_text, found_text, all_found_text}
 use Rattle.rt_run.specs.declared.tallies.Tally.{Tally}
 use Rattle.rt_run.specs.declared.tallies.RunSummary.{RunSummary}
+use Rattle.rt_run.specs.declared.shown.LookupSummary.{LookupSummary}
 use Rattle.rt_run.specs.AskedRun.{AskedRun}
 use Rattle.rt_run.specs.RunText.{IsHistory, reports_of, status_where}
 
@@ -52,16 +54,14 @@ fault_at number (Did reply) = None
 fault_at number Refused = None
 fault_at number (Fault fault) = Some (number, fault)
 
--- and of the line that was found, if one was
-abbrev pub fault_of : Option Line → Option (ℕ × LineFault)
-fault_of None = None
-fault_of (Some line) = fault_at line.number line.answer
+-- the faulty lines of a report, each by its number and its fault
+abbrev pub faults_of : List Line → List (ℕ × LineFault)
+faults_of report = filter_map (λ (line : Line). fault_at line.number line.answer) report
 
 -- what of a text was not taken, by its report
 abbrev pub tally_of : List Line → Tally
 tally_of report = record {
-  faulty = count_by (λ (line : Line). is_fault line.answer) report;
-  first_faulty = fault_of (find (λ (line : Line). is_fault line.answer) report);
+  faulty = faulty_lines (faults_of report);
   full = count_by (λ (line : Line). was_full line.answer) report;
   existing = count_by (λ (line : Line). was_existing line.answer) report;
   missing = count_by (λ (line : Line). was_missing line.answer) report;
@@ -74,7 +74,7 @@ has_refused tally = nat_lt 0 tally.refused
 
 -- a line was faulty, or an `add` over the limit
 abbrev pub has_left_out : Tally → Bool
-has_left_out tally = nat_lt 0 tally.faulty || nat_lt 0 tally.full
+has_left_out tally = nat_lt 0 tally.faulty.count || nat_lt 0 tally.full
 
 -- the status of a run that tells of its table alone: not taken is a faulty line, or an `add` over the limit
 abbrev pub tallies_status : List Tally → ℕ
@@ -98,3 +98,11 @@ pub record IsShown (asked : AskedRun) (text_of : List Route → List ℕ) (bytes
   pub table : List Route
   pub leaves : LeavesTable asked table summary
   pub shown : bytes ≡ text_of table
+
+-- and where addresses were asked: the bytes tell so of those that were named and behind them of those that the lines of a text
+-- say. The status is the run's, but 2 where that is less and a line of this text is faulty
+pub record IsLookup (asked : AskedRun) (named : List Addr) (text : List ℕ) (text_of : List Addr → List Route → List ℕ) (bytes : List ℕ) (given : LookupSummary) : Type 0 where
+  pub said : List Addr
+  pub says : SaysAddresses text said given.faulty
+  pub shown : IsShown asked (text_of (named ++ said)) bytes given.run
+  pub is_status : given.status ≡ max (status_where false (nat_lt 0 given.faulty.count)) given.run.status

@@ -1,10 +1,10 @@
 //! What holds of every run of feeds, however its threads ran. Each function is a theorem: calling it makes its clause
 //! known, and it does nothing.
 ghost use Rattle.rt_run.specs.SameDiff.{DiffsUnions, DiffOnce};
-ghost use Rattle.rt_run.specs.SameTable.{LeavesUnion, AnswersAlone, HaveSameTallies, HaveOneUnion, EndsInUnion, EndInOneTable, ShowsUnion, ShowOneTable};
+ghost use Rattle.rt_run.specs.SameTable.{LeavesUnion, AnswersAlone, HaveSameTallies, HaveOneUnion, EndsInUnion, EndInOneTable, ShowsUnion, ShowOneTable, LookUpOnce};
 
 use rt_diff::laws::one_list;
-use rt_feed::laws::one_reading;
+use rt_feed::laws::{one_address_text, one_reading};
 use rt_rib::laws::{feeds_stand_alone, one_table_of_set, table_by_entry};
 use rt_shared::laws::visits;
 
@@ -77,6 +77,14 @@ pub fn show_one_table()
     shows_union();
     one_union();
     same_tallies();
+}
+
+/// So two look-ups of the same texts, limit and addresses write the same bytes there, and give the same.
+pub fn look_up_once()
+    ensures { LookUpOnce }
+{
+    show_one_table();
+    one_address_text();
 }
 
 /// Where no command was refused for want of memory, `diff_texts` tells which addresses the union of the old texts and that of

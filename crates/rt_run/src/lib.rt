@@ -17,7 +17,8 @@
 //! a beginning of the text was written; after any other refusal nothing was.
 #![tactic(auto)]
 
-mod differences;
+mod asked_addresses;
+mod compared;
 mod faults;
 mod feed_texts;
 pub mod laws;
@@ -25,12 +26,15 @@ mod output;
 mod replays;
 mod runs;
 mod shown;
+mod status;
 mod tallies;
 
-pub use differences::{DiffSummary, diff_texts};
+pub use asked_addresses::AskedAddresses;
+pub use compared::{DiffSummary, diff_texts};
 pub use faults::AppFault;
 pub use feed_texts::FeedTexts;
 pub use replays::replay_text;
 pub use runs::{MOST_TEXTS, run_texts};
-pub use shown::{lookup_all_texts, lookup_texts, table_texts};
-pub use tallies::{NOT_TAKEN, RunSummary, Tally};
+pub use shown::{LookupSummary, lookup_all_texts, lookup_texts, table_texts};
+pub use status::Status;
+pub use tallies::{RunSummary, Tally};

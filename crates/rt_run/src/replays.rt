@@ -5,6 +5,7 @@ ghost use Rattle.rt_run.specs.Replayed.{LeavesReplay};
 
 use crate::faults::AppFault;
 use crate::output::{Output, write_buffered};
+use crate::status::Status;
 use rt_cidr::OutputRoom;
 use std::alloc::Global;
 use std::io::Write;
@@ -35,7 +36,7 @@ pub fn replay_text<W: Write>(
     };
     let inside = inside_place(steps.as_slice());
     match write_buffered(w, room, Output::Replay(steps.as_slice(), inside)) {
-        Ok(()) => Ok(0),
+        Ok(()) => Ok(Status::Done as u8),
         Err(_) => Err(AppFault::Write),
     }
 }

@@ -1,44 +1,56 @@
 //! What the finished table says: the answers of look-ups, or its routes, once all feeds have ended.
-ghost use Rattle.std.specs.Prelude.{◌≡◌, ◌≢◌, ◌↔◌, ℕ, List, [], if◌then◌else◌, IfOk};
+ghost use Rattle.std.specs.Prelude.{◌≡◌, ◌≢◌, ◌↔◌, ℕ, max, nat_lt, false, List, [], if◌then◌else◌, IfOk};
 ghost use Rattle.rt_rib.specs.declared.routes.Route.{Route};
 ghost use Rattle.rt_rib.specs.Book.{table_of};
 ghost use Rattle.rt_rib.specs.LookUp.{best_routes};
 ghost use Rattle.rt_run.specs.AskedRun.{AskedRun};
-ghost use Rattle.rt_run.specs.RunText.{Leaves};
-ghost use Rattle.rt_run.specs.TableText.{answers_text, all_answers_text, routes_text, IsShown};
+ghost use Rattle.rt_run.specs.RunText.{Leaves, status_where};
+ghost use Rattle.rt_run.specs.TableText.{answers_text, all_answers_text, routes_text, IsShown, IsLookup};
 ghost use Rattle.rt_run.specs.inside.RunResults.{RunOverBook};
 ghost use Rattle.rt_run.specs.inside.Outputs.{IsOutput, matches_text, output_text};
 
+use crate::asked_addresses::{AskedAddresses, read_asked};
 use crate::faults::AppFault;
 use crate::feed_texts::FeedTexts;
 use crate::output::{Matches, Output, write_output};
 use crate::runs::{FinishedRun, run_all};
-use crate::tallies::RunSummary;
+use crate::tallies::{RunSummary, status_where};
 use rt_cidr::Addr;
-use rt_feed::RunFault;
+use rt_feed::{FaultyLines, RunFault};
 use rt_rib::{Book, Refused, Route, keep_best};
 use std::alloc::Global;
 use std::io::Write;
 use std::sync::Wait;
 use std::thread::Threads;
 
+/// What look-ups come to.
+#[derive(Debug, Drop)]
+pub struct LookupSummary {
+    /// The exit status: the run's, but 2 in place of 0 where a line of the text of addresses was faulty.
+    pub status: u8,
+    /// How much of the feeds' texts was taken.
+    pub run: RunSummary,
+    /// The faulty lines of the text of addresses.
+    pub faulty: FaultyLines,
+}
+
 /// Runs the texts as `run_texts` does, and when all have ended writes to `w`, for each address in order, the best route of
 /// the longest prefix that covers it: `ADDR route PREFIX feed F pref P via HOP`, or `ADDR no route`. Nothing else is
-/// written, so that where no command was refused for want of memory the bytes are a function of the texts, the limit and the
-/// addresses (`laws::shows_union`). Gives how much of the texts was taken, where all was written. Its faults are those of
-/// `run_texts`, and F3 also where there is no memory for what was taken.
+/// written, so that where no command was refused for want of memory the bytes are a function of the texts, the limit and
+/// what is asked (`laws::shows_union`, `laws::look_up_once`). Gives how much of the texts was taken, where all was written.
+/// Its faults are those of `run_texts`, and F3 also where there is no memory for the addresses or for what was taken.
 pub fn lookup_texts<R: Threads + Wait + Sync, W: Write>(
     rt: &R,
     alloc: Global,
     asked: &FeedTexts<'_>,
-    addresses: &[Addr],
+    addresses: &AskedAddresses<'_>,
     w: &mut W,
-) -> Result<RunSummary, AppFault>
-    ensures text { Leaves (IsShown asked.now (answers_text addresses.now)) (W.contents w.old) (W.contents w.new) result }
+) -> Result<LookupSummary, AppFault>
+    ensures text { Leaves (IsLookup asked.now addresses.now.named.now addresses.now.text.now answers_text) (W.contents w.old) (W.contents w.new) result }
     ensures no_text { (result ≡ Err (AppFault.Run RunFault.NoText)) ↔ (asked.now.texts ≡ []) }
 {
     let run = run_all(rt, alloc, asked)?;
-    let told = tell_run(alloc, &run, Output::Answers(&run.book, addresses), w);
+    let told = tell_answers(alloc, &run, addresses, w);
     run.leave_table();
     told
 }
@@ -52,10 +64,10 @@ pub fn lookup_all_texts<R: Threads + Wait + Sync, W: Write>(
     rt: &R,
     alloc: Global,
     asked: &FeedTexts<'_>,
-    addresses: &[Addr],
+    addresses: &AskedAddresses<'_>,
     w: &mut W,
-) -> Result<RunSummary, AppFault>
-    ensures text { Leaves (IsShown asked.now (all_answers_text addresses.now)) (W.contents w.old) (W.contents w.new) result }
+) -> Result<LookupSummary, AppFault>
+    ensures text { Leaves (IsLookup asked.now addresses.now.named.now addresses.now.text.now all_answers_text) (W.contents w.old) (W.contents w.new) result }
     ensures no_text { (result ≡ Err (AppFault.Run RunFault.NoText)) ↔ (asked.now.texts ≡ []) }
 {
     let run = run_all(rt, alloc, asked)?;
@@ -83,19 +95,51 @@ pub fn table_texts<R: Threads + Wait + Sync, W: Write>(
     told
 }
 
+/// Writes what a look-up of each address finds in a run's table, and tells how much of the texts was taken.
+fn tell_answers<W: Write>(
+    alloc: Global,
+    run: &FinishedRun,
+    addresses: &AskedAddresses<'_>,
+    w: &mut W,
+) -> Result<LookupSummary, AppFault>
+    ensures text { (asked : AskedRun) → RunOverBook asked run.now.reports.items run.now.book
+        → Leaves (IsLookup asked addresses.now.named.now addresses.now.text.now answers_text) (W.contents w.old) (W.contents w.new) result }
+    ensures ran { result ≢ Err (AppFault.Run RunFault.NoText) }
+{
+    let read = read_asked(alloc, addresses)?;
+    let all = read.addresses.as_slice();
+    let taken = tell_run(alloc, run, Output::Answers(&run.book, all), w)?;
+    Ok(lookup_summary(taken, read.faulty))
+}
+
 /// Writes for each address all routes of a run's table that cover it, and tells how much of the texts was taken.
 fn tell_all_answers<W: Write>(
     alloc: Global,
     run: &FinishedRun,
-    addresses: &[Addr],
+    addresses: &AskedAddresses<'_>,
     w: &mut W,
-) -> Result<RunSummary, AppFault>
+) -> Result<LookupSummary, AppFault>
     ensures text { (asked : AskedRun) → RunOverBook asked run.now.reports.items run.now.book
-        → Leaves (IsShown asked (all_answers_text addresses.now)) (W.contents w.old) (W.contents w.new) result }
+        → Leaves (IsLookup asked addresses.now.named.now addresses.now.text.now all_answers_text) (W.contents w.old) (W.contents w.new) result }
     ensures ran { result ≢ Err (AppFault.Run RunFault.NoText) }
 {
-    let all = matches_of(alloc, &run.book, addresses)?;
-    tell_run(alloc, run, Output::Matches(all.as_slice()), w)
+    let read = read_asked(alloc, addresses)?;
+    let all = read.addresses.as_slice();
+    let matches = matches_of(alloc, &run.book, all)?;
+    let taken = tell_run(alloc, run, Output::Matches(matches.as_slice()), w)?;
+    Ok(lookup_summary(taken, read.faulty))
+}
+
+/// What look-ups come to, by the run and the faulty lines of the text of addresses.
+fn lookup_summary(run: RunSummary, faulty: FaultyLines) -> LookupSummary
+    ensures { result ≡ record { status = max (status_where false (nat_lt 0 faulty.count)) run.status; run = run; faulty = faulty } }
+{
+    let not_taken = status_where(false, faulty.count > 0);
+    LookupSummary {
+        status: not_taken.max(run.status),
+        run,
+        faulty,
+    }
 }
 
 /// Writes the routes of a run's table, or only the best of each prefix, and tells how much of the texts was taken.

@@ -4,25 +4,19 @@ ghost use Rattle.std.specs.List.{list_any};
 ghost use Rattle.rt_feed.specs.declared.report.Line.{Line};
 ghost use Rattle.rt_feed.specs.Reports.{is_fault};
 ghost use Rattle.rt_run.specs.RunText.{status_where};
-ghost use Rattle.rt_run.specs.TableText.{was_full, was_existing, was_missing, fault_of, tally_of, has_refused, has_left_out, tallies_status, IsSummary};
+ghost use Rattle.rt_run.specs.TableText.{was_full, was_existing, was_missing, tally_of, has_refused, has_left_out, tallies_status, IsSummary};
+ghost use Rattle.rt_run.specs.inside.Tallies.{fault_of};
 
-use rt_feed::{Answer, Line, LineFault, Report};
+use crate::status::Status;
+use rt_feed::{Answer, FaultyLines, Line, LineFault, Report};
 use rt_rib::Reply;
 use std::alloc::{AllocError, Global};
-
-/// The status where some command was refused for want of memory.
-const REFUSED: u8 = 5;
-
-/// The status where something of a text was not taken: a faulty line, or an `add` over the limit where no report tells it.
-pub const NOT_TAKEN: u8 = 2;
 
 /// What of a feed's text was not taken.
 #[derive(Clone, Copy, Debug)]
 pub struct Tally {
-    /// How many lines were faulty.
-    pub faulty: usize,
-    /// The first of them: its number, from 1, and its fault.
-    pub first_faulty: Option<(usize, LineFault)>,
+    /// Its faulty lines.
+    pub faulty: FaultyLines,
     /// How many `add`s were over the limit.
     pub full: usize,
     /// How many `add`s found their prefix there already.
@@ -45,7 +39,7 @@ impl Tally {
     fn has_left_out(&self) -> bool
         ensures { result ≡ has_left_out self.now }
     {
-        self.faulty > 0 || self.full > 0
+        self.faulty.count > 0 || self.full > 0
     }
 }
 
@@ -80,15 +74,17 @@ fn tally_of(report: &Report) -> Tally
 {
     let lines = report.lines();
     let mut tally = Tally {
-        faulty: 0,
-        first_faulty: first_faulty(lines),
+        faulty: FaultyLines {
+            count: 0,
+            first: first_faulty(lines),
+        },
         full: 0,
         existing: 0,
         missing: 0,
         refused: 0,
     };
     for line in lines {
-        tally.faulty += usize::from(line.answer.is_fault());
+        tally.faulty.count += usize::from(line.answer.is_fault());
         tally.full += usize::from(was_full(line.answer));
         tally.existing += usize::from(was_existing(line.answer));
         tally.missing += usize::from(was_missing(line.answer));
@@ -166,11 +162,11 @@ pub(crate) fn status_where(refused: bool, left_out: bool) -> u8
     ensures { result ≡ status_where refused left_out }
 {
     if refused {
-        REFUSED
+        Status::Refused as u8
     } else if left_out {
-        NOT_TAKEN
+        Status::NotTaken as u8
     } else {
-        0
+        Status::Done as u8
     }
 }
 

@@ -1,5 +1,5 @@
 //! One line on a terminal that says how far a run has come. A thread of its own writes it each second
-//! ([`Line::keep`]), so that nothing is said of a run that takes less; it is erased, and not written again, before any
+//! ([`ProgressLine::keep`]), so that nothing is said of a run that takes less; it is erased, and not written again, before any
 //! other text comes to that terminal ([`Screen`]). All of this is only tested.
 //!
 //! ```
@@ -12,5 +12,5 @@
 mod line;
 mod screen;
 
-pub use line::{Line, Stage};
+pub use line::{ProgressLine, Stage};
 pub use screen::{Screen, ScreenOutput};

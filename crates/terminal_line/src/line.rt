@@ -82,17 +82,17 @@ impl LineState {
 
 /// The line, which the run changes and another thread writes.
 #[derive(Drop)]
-pub struct Line {
+pub struct ProgressLine {
     /// Whether standard output goes to a terminal, too.
     pub(crate) beside_output: bool,
     now: Mutex<LineState>,
     ended: Parker,
 }
 
-impl Line {
+impl ProgressLine {
     /// A line that says nothing yet; whether standard output goes to a terminal, too.
-    pub fn new(beside_output: bool) -> Line {
-        Line {
+    pub fn new(beside_output: bool) -> ProgressLine {
+        ProgressLine {
             beside_output,
             now: Mutex::new(LineState {
                 stage: None,

@@ -1,6 +1,6 @@
 //! Both outputs of a run beside the line.
 
-use crate::line::{Line, Stage};
+use crate::line::{ProgressLine, Stage};
 use std::io::{self, Write};
 use std::sync::Wait;
 
@@ -8,13 +8,13 @@ use std::sync::Wait;
 #[derive(Drop)]
 pub struct Screen<'a, R, E> {
     rt: &'a R,
-    line: &'a Line,
+    line: &'a ProgressLine,
     err: &'a mut E,
 }
 
 impl<'a, R, E> Screen<'a, R, E> {
     /// Standard error, with a line that another thread may write there.
-    pub fn new(rt: &'a R, line: &'a Line, err: &'a mut E) -> Screen<'a, R, E> {
+    pub fn new(rt: &'a R, line: &'a ProgressLine, err: &'a mut E) -> Screen<'a, R, E> {
         Screen { rt, line, err }
     }
 }

@@ -2,7 +2,7 @@
 
 use super::showing::tell_summary;
 use super::{Program, Stop};
-use command_line::DiffRequest;
+use command_line::{Compared, DiffRequest};
 use rt_diff::By;
 use rt_run::{DiffSummary, FeedTexts, diff_texts};
 use std::io::Write;
@@ -24,10 +24,9 @@ where
         let (limit, batch) = (request.run.limit, request.run.batch as usize);
         let old_asked = FeedTexts::new(old_texts.as_slice(), limit, batch);
         let new_asked = FeedTexts::new(new_texts.as_slice(), limit, batch);
-        let by = if request.whole_routes {
-            By::Route
-        } else {
-            By::Hop
+        let by = match request.compared {
+            Compared::Hops => By::Hop,
+            Compared::Routes => By::Route,
         };
         let feeds = old_asked.count() + new_asked.count();
         let mut out = self.screen.beside(feeds, self.out);

@@ -1,27 +1,12 @@
 //! Why the program ends without having done what was asked: each reason with its exit status and its text. The statuses of
 //! a program that has done it are given by `rt_run`.
 
-ghost use Rattle.std.specs.Prelude.{◌≡◌};
-ghost use Rattle.rt_app.specs.inside.Stops.{fault_ending};
-
 use rt_cidr::put;
 use rt_feed::RunFault;
-use rt_run::AppFault;
+use rt_run::{AppFault, MOST_TEXTS, Status};
 use std::alloc::{AllocError, AllocFailed};
 use std::io::{self, ErrorKind, Write};
 use ya_core::ReplayFault;
-
-/// The status where the command line can't be carried out.
-const MISUSED: u8 = 3;
-
-/// The status where a file could not be read.
-const UNREADABLE: u8 = 4;
-
-/// The status where memory was refused, and nothing was written.
-const REFUSED: u8 = 5;
-
-/// The status where standard output could not be written.
-const UNWRITTEN: u8 = 6;
 
 /// Why the program ends without having done what was asked.
 #[derive(Drop)]
@@ -30,6 +15,8 @@ pub(crate) enum Stop<'a> {
     NotUtf8,
     /// The command line was refused: the text to show.
     Misused(String),
+    /// The command line was taken for something that is not known.
+    Unknown,
     /// There are more files than a run takes. None of these was read; of `diff` the old ones may have been.
     TooMany,
     /// No address is asked for.
@@ -83,15 +70,15 @@ impl<'a> Stop<'a> {
     /// Writes the text to standard error, of which a fault is dropped, and gives the exit status.
     pub(crate) fn end<E: Write>(&self, err: &mut E) -> u8 {
         let _ = self.tell(err);
-        self.status()
+        self.status() as u8
     }
 
     /// The exit status.
-    fn status(&self) -> u8 {
+    fn status(&self) -> Status {
         match self {
-            Stop::NotUtf8 | Stop::Misused(_) | Stop::TooMany => MISUSED,
-            Stop::NothingAsked | Stop::NoAddress(_) => MISUSED,
-            Stop::Unreadable(_) => UNREADABLE,
+            Stop::NotUtf8 | Stop::Misused(_) | Stop::Unknown | Stop::TooMany => Status::Misused,
+            Stop::NothingAsked | Stop::NoAddress(_) => Status::Misused,
+            Stop::Unreadable(_) => Status::Unreadable,
             Stop::Fault(fault) => fault_ending(*fault).0,
         }
     }
@@ -101,7 +88,8 @@ impl<'a> Stop<'a> {
         match self {
             Stop::NotUtf8 => put(err, b"yarib: arguments are not UTF-8\n"),
             Stop::Misused(text) => put(err, text.as_bytes()),
-            Stop::TooMany => put(err, b"yarib: more than 64 files\n"),
+            Stop::Unknown => put(err, b"yarib: the command line is not understood\n"),
+            Stop::TooMany => writeln!(err, "yarib: more than {MOST_TEXTS} files"),
             Stop::NothingAsked => put(err, NOTHING_ASKED),
             Stop::NoAddress(word) => tell_of(err, b"not an address: ", word),
             Stop::Unreadable(name) => tell_of(err, b"cannot read ", name),
@@ -121,17 +109,14 @@ fn tell_of<E: Write>(err: &mut E, what: &[u8], word: &str) -> Result<(), io::Err
 }
 
 /// The exit status of a fault, and its text.
-fn fault_ending(fault: AppFault) -> (u8, &'static [u8])
-    ensures status { result.0 ≡ (fault_ending fault).0 }
-    ensures text { result.1.now ≡ (fault_ending fault).1 }
-{
+fn fault_ending(fault: AppFault) -> (Status, &'static [u8]) {
     match fault {
-        AppFault::Run(RunFault::NoText) => (MISUSED, b"yarib: fault F1\n"),
-        AppFault::Run(RunFault::FeedCount) => (MISUSED, b"yarib: fault F2\n"),
-        AppFault::Run(RunFault::Memory) => (REFUSED, b"yarib: fault F3\n"),
-        AppFault::Replay(ReplayFault::Place) => (MISUSED, b"yarib: fault P1\n"),
-        AppFault::Replay(ReplayFault::Levels) => (MISUSED, b"yarib: fault P2\n"),
-        AppFault::Replay(ReplayFault::Memory) => (REFUSED, b"yarib: fault P3\n"),
-        AppFault::Write => (UNWRITTEN, b"yarib: cannot write\n"),
+        AppFault::Run(RunFault::NoText) => (Status::Misused, b"yarib: fault F1\n"),
+        AppFault::Run(RunFault::FeedCount) => (Status::Misused, b"yarib: fault F2\n"),
+        AppFault::Run(RunFault::Memory) => (Status::Refused, b"yarib: fault F3\n"),
+        AppFault::Replay(ReplayFault::Place) => (Status::Misused, b"yarib: fault P1\n"),
+        AppFault::Replay(ReplayFault::Levels) => (Status::Misused, b"yarib: fault P2\n"),
+        AppFault::Replay(ReplayFault::Memory) => (Status::Refused, b"yarib: fault P3\n"),
+        AppFault::Write => (Status::Unwritten, b"yarib: cannot write\n"),
     }
 }

@@ -1,40 +1,8 @@
 //! What of a file was not taken, for standard error: one line a kind. A fault of standard error itself is dropped.
 
-use rt_feed::LineFault;
+use rt_feed::FaultyLines;
 use rt_run::Tally;
 use std::io::Write;
-
-/// The faulty lines of a file.
-#[derive(Clone, Copy)]
-pub(super) struct FaultyLines {
-    /// How many there are.
-    pub(super) count: usize,
-    /// The number of the first, from 1, and its fault.
-    first: Option<(usize, LineFault)>,
-}
-
-impl FaultyLines {
-    pub(super) fn none() -> FaultyLines {
-        FaultyLines {
-            count: 0,
-            first: None,
-        }
-    }
-
-    /// Counts a line more.
-    pub(super) fn put(&mut self, number: usize, fault: LineFault) {
-        self.count = self.count.saturating_add(1);
-        self.first = self.first.or(Some((number, fault)));
-    }
-
-    /// Those of a feed's text.
-    fn of(tally: &Tally) -> FaultyLines {
-        FaultyLines {
-            count: tally.faulty,
-            first: tally.first_faulty,
-        }
-    }
-}
 
 /// Tells how many lines of the file were faulty, and which was the first.
 pub(super) fn tell_faulty<E: Write>(err: &mut E, name: &str, faulty: FaultyLines) {
@@ -49,7 +17,7 @@ pub(super) fn tell_faulty<E: Write>(err: &mut E, name: &str, faulty: FaultyLines
 
 /// Tells what of a feed's file was not taken.
 pub(super) fn tell_tally<E: Write>(err: &mut E, name: &str, tally: &Tally) {
-    tell_faulty(err, name, FaultyLines::of(tally));
+    tell_faulty(err, name, tally.faulty);
     tell_count(err, name, "adds over the limit", tally.full);
     let existing = "adds of a prefix already there";
     tell_count(err, name, existing, tally.existing);

@@ -10,6 +10,7 @@ use crate::faults::AppFault;
 use crate::feed_texts::FeedTexts;
 use crate::output::{Output, write_output};
 use crate::runs::{FinishedRun, run_all};
+use crate::status::Status;
 use crate::tallies::RunSummary;
 use rt_cidr::Addr;
 use rt_diff::{By, Difference, first_difference};
@@ -18,9 +19,6 @@ use std::alloc::Global;
 use std::io::Write;
 use std::sync::Wait;
 use std::thread::Threads;
-
-/// The status where some address is answered otherwise.
-const DIFFER: u8 = 1;
 
 /// What a comparison of two runs gives.
 #[derive(Debug, Drop)]
@@ -93,6 +91,9 @@ fn compare_runs<W: Write>(
 fn status_of(old: &RunSummary, new: &RunSummary, first: Option<Difference>) -> u8
     ensures { result ≡ compared_status old.now.status new.now.status first }
 {
-    let differ = if first.is_some() { DIFFER } else { 0 };
+    let differ = match first {
+        Some(_) => Status::Differ as u8,
+        None => Status::Done as u8,
+    };
     differ.max(old.status.max(new.status))
 }

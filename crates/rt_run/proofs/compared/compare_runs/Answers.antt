@@ -2,11 +2,11 @@ use Rattle.std.proofs.Common.{rules}
 use Rattle.std.proofs.lemmas.Result.{err_from_is_err_and}
 use Rattle.rt_rib.specs.Book.{table_of}
 use Rattle.rt_run.specs.inside.Comparisons.{lines_of}
-use Rattle.rt_run.specs.declared.differences.DiffSummary.{DiffSummary}
+use Rattle.rt_run.specs.declared.compared.DiffSummary.{DiffSummary}
 use Rattle.rt_run.specs.DiffText.{IsDiffText}
 use Rattle.rt_run.proofs.Outputs.{leaves_fault}
 use Rattle.rt_run.proofs.Comparing.{is_diff}
-use Rattle.rt_run.proofs.differences.compare_runs.Goals as goal
+use Rattle.rt_run.proofs.compared.compare_runs.Goals as goal
 
 pub returns-clause-text : goal.returns-clause-text
 returns-clause-text g c old_asked new_asked old_ran new_ran =

@@ -1,5 +1,5 @@
 use Rattle.std.proofs.Common.{rules}
-use Rattle.rt_run.proofs.differences.status_of.Goals as goal
+use Rattle.rt_run.proofs.compared.status_of.Goals as goal
 
 pub returns : goal.returns
 returns c = search rules

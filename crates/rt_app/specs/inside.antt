@@ -1,2 +1,0 @@
--- What no public clause speaks of: the words of private contracts.
-pub mod Stops
