@@ -7,7 +7,7 @@ _yarib() {
     return
   fi
   case ${COMP_WORDS[1]}:$before in
-    run:--limit | run:--batch | lookup:--limit | lookup:--batch | lookup:--address | table:--limit | table:--batch | diff:--limit | diff:--batch | replay:--levels) return ;;
+    run:--limit | run:--batch | lookup:--limit | lookup:--batch | lookup:--address | table:--within | table:--covering | table:--exact | table:--feed | table:--limit | table:--batch | diff:--limit | diff:--batch | replay:--levels) return ;;
   esac
   if [ "${COMP_WORDS[1]}:$before" = diff:--by ]; then
     mapfile -t COMPREPLY < <(compgen -W "hop route" -- "$word")
@@ -16,7 +16,7 @@ _yarib() {
   case ${COMP_WORDS[1]} in
     run) options="--limit --batch --help" ;;
     lookup) options="--all --address --addresses --limit --batch --help" ;;
-    table) options="--best --limit --batch --help" ;;
+    table) options="--within --covering --exact --feed --best --limit --batch --help" ;;
     diff) options="--by --limit --batch --help" ;;
     replay) options="--levels --help" ;;
     help) options="run lookup table diff replay" ;;

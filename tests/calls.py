@@ -146,6 +146,15 @@ yarib: again.feed: replaces and withdraws of a prefix not there: 2
 10.1.0.0/16 feed 1 pref 10 via 192.0.2.1
 10.9.0.0/16 feed 3 pref 10 via discard
 """),
+    # Of a part the whole table's rows, in its order.
+    call("table --covering 10.1.2.0/24 north.feed south.feed east.feed", """\
+10.0.0.0/8 feed 2 pref 30 via 192.0.2.2
+10.0.0.0/8 feed 1 pref 50 via 192.0.2.1
+10.1.0.0/16 feed 1 pref 10 via 192.0.2.1
+"""),
+    call("table --within 10.0.0.0/8 --best --feed 1 north.feed south.feed east.feed", "10.1.0.0/16 feed 1 pref 10 via 192.0.2.1\n"),
+    call("table --within 255.255.255.255/32 zero.feed", "255.255.255.255/32 feed 1 pref 4294967295 via 192.0.2.6\n"),
+    call("table --exact 10.1.2.0/24 north.feed south.feed east.feed", ""),
     # Those of the command line in order, and then those of the file; one that is asked twice is answered twice.
     call("lookup --address 10.9.0.1 --addresses packets.txt --address 10.1.2.3 --address 10.9.0.1 north.feed", """\
 10.9.0.1 route 10.0.0.0/8 feed 1 pref 50 via 192.0.2.1

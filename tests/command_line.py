@@ -9,6 +9,7 @@ with those of tests/help. A replay is compared with a model of the tree, written
 at once is seen by another feed: its `dump`s change only where a batch of the one and a batch of the other end. In each case's
 folder stand row.feed, empty.feed and faulty.feed.
 """
+import ipaddress
 import math
 import os
 import pathlib
@@ -387,7 +388,7 @@ def examples_of_the_help(yarib):
         help_text = yarib(name, "--help")[1]
         for words, shown in re.findall(r"^  \$ yarib (.*)\n((?:  [^$].*\n)*)", help_text, re.M):
             listed.append(calls.call(words, textwrap.dedent(shown), 1 if name == "diff" else 0))
-    expect("how many examples the help has", len(listed), 8)
+    expect("how many examples the help has", len(listed), 9)
     make(yarib, texts, listed)
 
 
@@ -456,6 +457,43 @@ def finished_tables(yarib):
         compare(f"{count} addresses", yarib("lookup", *many, *names), 0, "".join(answers[:count]))
     ended = yarib("lookup", "--addresses", "/dev/stdin", *names, input=pathlib.Path("asked.txt").read_bytes())
     compare("addresses from a pipe", ended, 0, "".join(answers))
+
+
+# Fails where the prefix itself is left out, one beside it or a shorter one is told, a branch beside it is told, or the last block
+# of all addresses is left out: `--within`; where the feed is asked before the best: `--best --feed`.
+def parts_of_tables(yarib):
+    """The rows of each part of random tables, with any batch: those of the whole list, in its order, whose prefix meets the
+    option's words."""
+    choice = random.Random(61)
+    lies_in = ipaddress.IPv4Network.subnet_of
+    holds = {"--within": lies_in, "--covering": lambda row, asked: lies_in(asked, row), "--exact": lambda row, asked: row == asked}
+    for count in (0, 1, 12, 300):
+        model, names = random_table(choice, f"part{count}_", count)
+        stored = [ipaddress.IPv4Network(prefix) for prefix in model.offered]
+        asked = choice.sample(stored, min(8, len(stored)))
+        asked += [prefix.supernet() for prefix in asked if prefix.prefixlen > 0]
+        asked += [ipaddress.IPv4Network(prefix) for prefix in ("0.0.0.0/0", "10.0.0.0/8", "255.0.0.0/8", "255.255.255.255/32")]
+        for best in ([], ["--best"]):
+            for feed in ([], ["--feed", "2"]):
+                rows = [row for row in model.listed(bool(best)) if not feed or row.split()[2] == feed[1]]
+                networks = [ipaddress.IPv4Network(row.split()[0]) for row in rows]
+                compare(f"{best} {feed} of {count}", yarib("table", *best, *feed, *names), 0, "".join(row + "\n" for row in rows))
+                for option, meets in holds.items():
+                    for prefix in asked:
+                        part = "".join(row + "\n" for row, network in zip(rows, networks) if meets(network, prefix))
+                        words = [option, str(prefix), *best, *feed, "--batch", choice.choice(("1", "256"))]
+                        compare(f"{words} of {count}", yarib("table", *words, *names), 0, part)
+    for option in holds:
+        for word in ("10.0.0.0", "10.0.0.1/8", "10.0.0.0/33", "256.0.0.0/8", "", "x"):
+            ended = yarib("table", f"{option}={word}", "missing")
+            expect(f"{option} {word!r}", ended, (3, "", f"yarib: not a prefix: {word}\n"))
+        misused(f"{option} twice", yarib("table", option, "10.0.0.0/8", option, "10.0.0.0/8", "row.feed"), option)
+        misused(f"{option} of a look-up", yarib("lookup", option, "10.0.0.0/8", "--address", "10.0.0.1", "row.feed"), option)
+        other = next(each for each in holds if each != option)
+        ended = yarib("table", option, "10.0.0.0/8", other, "10.0.0.0/8", "row.feed")
+        expect(f"{option} and {other}", ended, (3, "", "yarib: only one of --within, --covering and --exact may be given\n"))
+    for word in ("0", "65", "x"):
+        misused(f"--feed {word}", yarib("table", "--feed", word, "row.feed"), "--feed")
 
 
 def cut(number, length):
@@ -784,7 +822,7 @@ def progress_of_long_runs(yarib):
 
 CASES = (
     runs, what_the_table_says, what_two_tables_answer_otherwise, file_order, many_files, unreadable, names, texts, limits,
-    batches, twice, replays, finished_tables, compared_tables, old_first, not_taken, files_told, addresses_told, pages,
+    batches, twice, replays, finished_tables, parts_of_tables, compared_tables, old_first, not_taken, files_told, addresses_told, pages,
     examples_of_the_help, help_is_true, closed_outputs, progress, line_each_second, progress_of_long_runs,
 )
 

@@ -12,8 +12,9 @@ memory, and is run once more by that default (`OF_MEMORY`). The others are about
 """
 import os
 import pathlib
+import subprocess
 
-from checks import LAUNCHED, chosen, compare, end, run_each
+from checks import LAUNCHED, chosen, compare, end, expect, run_each
 from table_model import all_answers_text, answers_text, dotted, ran, run_text, told_text
 
 MOST = 1_000_000
@@ -268,7 +269,28 @@ def in_all(yarib):
     compare("16 feeds compared with 16", yarib("diff", *names, "--", *names), 0, "")
 
 
-CASES = (batches, purges, feeds, many_offers, at_limit, covered, compared, addresses, in_all, million)
+# Fails where a part is cut out of a copy of the whole table: `--within a /16: bytes more than a look-up`.
+def part_of_a_million(yarib):
+    """Of a million routes those in a /16: beyond the loading they take no memory but for the rows."""
+    row = lambda at: f"{dotted(0x0A00_0000 + 64 * at)}/32 feed 1 pref 1 via 192.0.2.1\n"
+    pathlib.Path("million.feed").write_text("".join(f"add {row(at).split()[0]} 1 192.0.2.1\n" for at in range(MOST)))
+    few = "".join(map(row, range(1024, 2048)))
+    calls = {"a look-up": (["lookup", "--address", "10.255.0.0"], "10.255.0.0 route " + row(255 * 1024)),
+             "--within a /16": (["table", "--within", "10.1.0.0/16"], few)}
+    peaks = {}
+    for name, (words, wanted) in calls.items():
+        with open("printed", "w+b") as out:
+            process = subprocess.Popen([yarib, *words, "--limit", str(MOST), "million.feed"], stdout=out)
+            _, status, used = os.wait4(process.pid, 0)
+            out.seek(0)
+            compare(name, (status, out.read().decode(), ""), 0, wanted)
+        peaks[name] = used.ru_maxrss * 1024
+    more = peaks["--within a /16"] - peaks["a look-up"]
+    # A copy of the whole table is 24 MB and more.
+    expect(f"--within a /16: {more} bytes more than a look-up", more < 4_000_000, True)
+
+
+CASES = (batches, purges, feeds, many_offers, at_limit, covered, compared, addresses, in_all, million, part_of_a_million)
 OF_MEMORY = (feeds, many_offers, in_all, million)
 
 

@@ -83,6 +83,14 @@ pub struct TableRequest<'a> {
     pub run: RunRequest<'a>,
     /// Whether only the best route of each prefix is listed.
     pub only_best: bool,
+    /// The text of the prefix in which all are that are listed.
+    pub within: Option<&'a str>,
+    /// The text of the prefix that lies in all that are listed.
+    pub covering: Option<&'a str>,
+    /// The text of the only prefix that is listed.
+    pub exact: Option<&'a str>,
+    /// The number of the feed whose routes are listed, where not all are.
+    pub feed: Option<u32>,
 }
 
 /// Which tables to compare.
@@ -208,6 +216,10 @@ const SUBCOMMANDS: &[Subcommand] = &[
         about: "Run feed files, and print the routes of the table that they leave",
         notes: TABLE_NOTES,
         parameters: &[
+            Parameter::Within,
+            Parameter::Covering,
+            Parameter::Exact,
+            Parameter::Feed,
             Parameter::Best,
             Parameter::Limit,
             Parameter::Batch(UNSEEN_BATCH),
@@ -253,6 +265,10 @@ enum Parameter {
     All,
     Address,
     Addresses,
+    Within,
+    Covering,
+    Exact,
+    Feed,
     Best,
     By,
     Limit,
@@ -271,6 +287,18 @@ impl Parameter {
             Parameter::All => all(alloc),
             Parameter::Address => address(alloc),
             Parameter::Addresses => addresses(alloc),
+            Parameter::Within => part(
+                alloc,
+                "within",
+                "Print only the routes to this prefix and to longer ones in it",
+            ),
+            Parameter::Covering => part(
+                alloc,
+                "covering",
+                "Print only the routes to this prefix and to shorter ones that it lies in",
+            ),
+            Parameter::Exact => part(alloc, "exact", "Print only the routes to this prefix"),
+            Parameter::Feed => feed(alloc),
             Parameter::Best => best(alloc),
             Parameter::By => by(alloc),
             Parameter::Limit => limit(alloc),
@@ -319,6 +347,16 @@ fn address<'a>(alloc: Global) -> Arg<'a> {
 fn addresses<'a>(alloc: Global) -> Arg<'a> {
     let help = "A file of further addresses, one a line";
     option(alloc, "addresses", help).value_name("FILE")
+}
+
+/// An option that takes a prefix.
+fn part<'a>(alloc: Global, name: &'a str, help: &'a str) -> Arg<'a> {
+    option(alloc, name, help).value_name("PREFIX")
+}
+
+fn feed<'a>(alloc: Global) -> Arg<'a> {
+    let help = "Print only the routes of feed F, the F-th file";
+    number(alloc, "feed", "F", 1, MOST_FILES as u64, help)
 }
 
 fn best<'a>(alloc: Global) -> Arg<'a> {
@@ -414,6 +452,10 @@ fn table_request<'a>(alloc: Global, matches: &ArgMatches<'a>) -> Result<Request<
     Ok(Request::Table(TableRequest {
         run: run_request(alloc, matches)?,
         only_best: matches.get_flag("best"),
+        within: matches.get_str("within"),
+        covering: matches.get_str("covering"),
+        exact: matches.get_str("exact"),
+        feed: matches.get_one::<u32>("feed"),
     }))
 }
 

@@ -118,6 +118,10 @@ length, preference and feed; with --best only the best of each prefix, which
 has the least P, and of equal ones the least F:
   PREFIX feed F pref P via HOP
 
+One of --within, --covering and --exact prints the routes of a part of the
+table. Of these --feed F prints those of the F-th file, and with --best the best
+ones that are its own.
+
 ",
     "  0 done   2 faulty line, or add over the limit   3 command line\n",
     "Example, where one.feed says `add 10.0.0.0/8 100 192.0.2.1`, and two.feed
@@ -127,6 +131,8 @@ has the least P, and of equal ones the least F:
   10.0.0.0/8 feed 1 pref 100 via 192.0.2.1
   $ yarib table --best one.feed two.feed
   10.0.0.0/8 feed 2 pref 50 via 192.0.2.2
+  $ yarib table --covering 10.1.0.0/16 --feed 1 one.feed two.feed
+  10.0.0.0/8 feed 1 pref 100 via 192.0.2.1
 "
 );
 

@@ -37,7 +37,7 @@ use Rattle.rt_feed.specs.declared.report.Answer.TheVariants as answer
 use Rattle.rt_feed.specs.Lines.{TellsTwo, CutsLine, skipped, faulty, asked, LineOutcome, Becomes, asked_of, report_lines}
 use Rattle.rt_feed.specs.Reports.{is_refusal, is_fault, has_refusal, has_fault}
 use Rattle.rt_feed.specs.Visits.{IsCut, concatenated}
-use Rattle.rt_feed.specs.Printed.{reply_text, answer_text, line_text, route_text, row_text, count_text, table_text, found_text, all_found_text, also_text, reason_text}
+use Rattle.rt_feed.specs.Printed.{rows_text, reply_text, answer_text, line_text, route_text, row_text, count_text, table_text, found_text, all_found_text, also_text, reason_text}
 use Rattle.rt_feed.specs.declared.faults.RunFault.{RunFault}
 use Rattle.rt_feed.specs.declared.faults.RunFault.TheVariants as run
 use Rattle.feed_examples.proofs.Feed.{at_192_0_2_1, asked_text, two_are_asked_and_a_line_is_faulty}
@@ -68,6 +68,9 @@ use Rattle.rt_feed.specs.Addresses.{faulty_lines, SaysAddresses}
 use Rattle.rt_run.specs.SameTable.{table_alone, LeavesAlone, IsUnion, IsAnsweredAlone, AskTheSame, SayTheSame}
 use Rattle.rt_run.specs.SameTable.{LeavesUnion, AnswersAlone, HaveSameTallies, HaveOneUnion, EndsInUnion, EndInOneTable, ShowsUnion, ShowOneTable, LookUpOnce}
 use Rattle.rt_diff.specs.declared.answers.By.{By}
+use Rattle.rt_rib.specs.declared.selection.Selection.{Selection}
+use Rattle.rt_rib.specs.declared.selection.Part.TheVariants as part
+use Rattle.rt_rib.specs.Selection.{selected}
 
 -- table_alone
 what_south_leaves : table_alone 65536 2 (asked_of south_read) ≡ route_via ten_8 2 30 (via_192_0_2 2) ∷ []
@@ -186,13 +189,20 @@ abbrev two_to_ten_8 : List Route
 two_to_ten_8 = route_via ten_8 2 30 Discard ∷ route_via ten_8 1 50 Discard ∷ []
 
 -- routes_text
-all_of_them : routes_text false two_to_ten_8 ≡ codes "10.0.0.0/8 feed 2 pref 30 via discard\n10.0.0.0/8 feed 1 pref 50 via discard\n"
+all_of_them : routes_text (record { part = part.All; only_best = false; feed = None }) two_to_ten_8 ≡ codes "10.0.0.0/8 feed 2 pref 30 via discard\n10.0.0.0/8 feed 1 pref 50 via discard\n"
 unfolding digits address_text prefix_text row_text route_text
 all_of_them = refl
 
-only_the_best : routes_text true two_to_ten_8 ≡ codes "10.0.0.0/8 feed 2 pref 30 via discard\n"
+only_the_best : routes_text (record { part = part.All; only_best = true; feed = None }) two_to_ten_8 ≡ codes "10.0.0.0/8 feed 2 pref 30 via discard\n"
 unfolding digits address_text prefix_text row_text route_text
 only_the_best = refl
+
+only_a_feeds : routes_text (record { part = part.Exact ten_8; only_best = false; feed = Some 1 }) two_to_ten_8 ≡ codes "10.0.0.0/8 feed 1 pref 50 via discard\n"
+unfolding digits address_text prefix_text row_text route_text
+only_a_feeds = refl
+
+those_asked_for : (asked : Selection) (table : List Route) → routes_text asked table ≡ rows_text (selected asked table)
+those_asked_for asked table = refl
 
 -- answers_text
 one_is_covered_and_one_is_not :

@@ -1,11 +1,13 @@
 -- What a run writes that tells of its finished table alone, and how much of its texts was taken.
-use Rattle.std.specs.Prelude.{◌≡◌, ℕ, max, Bool, true, false, ◌||◌, nat_lt, if◌then◌else◌, List, ◌++◌, map, count_by, filter_map, Option, Some, None}
+use Rattle.std.specs.Prelude.{◌≡◌, ℕ, max, Bool, true, false, ◌||◌, nat_lt, List, ◌++◌, map, count_by, filter_map, Option, Some, None}
 use Rattle.std.specs.List.{flat_map, list_any}
 use Rattle.rt_cidr.specs.declared.address.Addr.{Addr}
 use Rattle.rt_rib.specs.declared.routes.Route.{Route}
 use Rattle.rt_rib.specs.declared.commands.Reply.TheVariants.{Full, Exists, Missing}
 use Rattle.rt_rib.specs.declared.commands.Entry.{Entry}
-use Rattle.rt_rib.specs.LookUp.{look_up, look_up_all, best_routes}
+use Rattle.rt_rib.specs.declared.selection.Selection.{Selection}
+use Rattle.rt_rib.specs.LookUp.{look_up, look_up_all}
+use Rattle.rt_rib.specs.Selection.{selected}
 use Rattle.rt_rib.specs.Sequential.{table_of_journal}
 use Rattle.rt_feed.specs.declared.parse.LineFault.{LineFault}
 use Rattle.rt_feed.specs.declared.report.Line.{Line}
@@ -29,9 +31,9 @@ answers_text addresses table = flat_map (λ addr. found_text addr (look_up addr 
 abbrev pub all_answers_text : List Addr → List Route → List ℕ
 all_answers_text addresses table = flat_map (λ addr. all_found_text addr (look_up_all addr table)) addresses
 
--- the routes of the table in order, or only the best of each prefix
-abbrev pub routes_text : Bool → List Route → List ℕ
-routes_text only_best table = rows_text (if only_best then best_routes table else table)
+-- the routes of the table that are asked for, in its order
+abbrev pub routes_text : Selection → List Route → List ℕ
+routes_text asked table = rows_text (selected asked table)
 
 -- an `add` was over the limit
 abbrev pub was_full : Answer → Bool

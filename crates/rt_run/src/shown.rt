@@ -1,8 +1,7 @@
 //! What the finished table says: the answers of look-ups, or its routes, once all feeds have ended.
-ghost use Rattle.std.specs.Prelude.{◌≡◌, ◌≢◌, ◌↔◌, ℕ, max, nat_lt, false, List, [], if◌then◌else◌, IfOk};
+ghost use Rattle.std.specs.Prelude.{◌≡◌, ◌≢◌, ◌↔◌, ℕ, max, nat_lt, false, List, [], IfOk};
 ghost use Rattle.rt_rib.specs.declared.routes.Route.{Route};
 ghost use Rattle.rt_rib.specs.Book.{table_of};
-ghost use Rattle.rt_rib.specs.LookUp.{best_routes};
 ghost use Rattle.rt_run.specs.AskedRun.{AskedRun};
 ghost use Rattle.rt_run.specs.RunText.{Leaves, status_where};
 ghost use Rattle.rt_run.specs.TableText.{answers_text, all_answers_text, routes_text, IsShown, IsLookup};
@@ -17,7 +16,7 @@ use crate::runs::{FinishedRun, run_all};
 use crate::tallies::{RunSummary, status_where};
 use rt_cidr::Addr;
 use rt_feed::{FaultyLines, RunFault};
-use rt_rib::{Book, Refused, Route, keep_best};
+use rt_rib::{Book, Refused, Selection};
 use std::alloc::Global;
 use std::io::Write;
 use std::sync::Wait;
@@ -76,21 +75,20 @@ pub fn lookup_all_texts<R: Threads + Wait + Sync, W: Write>(
     told
 }
 
-/// Runs the texts as `run_texts` does, and when all have ended writes to `w` the table's routes in order, without its first
-/// line, or with `only_best` the best of each prefix alone. What it gives, and its faults, are as for
-/// `lookup_texts`.
+/// Runs the texts as `run_texts` does, and when all have ended writes to `w` those of the table's routes that are asked for,
+/// in its order, without its first line. What it gives, and its faults, are as for `lookup_texts`.
 pub fn table_texts<R: Threads + Wait + Sync, W: Write>(
     rt: &R,
     alloc: Global,
     asked: &FeedTexts<'_>,
-    only_best: bool,
+    selection: &Selection,
     w: &mut W,
 ) -> Result<RunSummary, AppFault>
-    ensures text { Leaves (IsShown asked.now (routes_text only_best)) (W.contents w.old) (W.contents w.new) result }
+    ensures text { Leaves (IsShown asked.now (routes_text selection.now)) (W.contents w.old) (W.contents w.new) result }
     ensures no_text { (result ≡ Err (AppFault.Run RunFault.NoText)) ↔ (asked.now.texts ≡ []) }
 {
     let run = run_all(rt, alloc, asked)?;
-    let told = tell_routes(alloc, &run, only_best, w);
+    let told = tell_routes(alloc, &run, selection, w);
     run.leave_table();
     told
 }
@@ -142,18 +140,18 @@ fn lookup_summary(run: RunSummary, faulty: FaultyLines) -> LookupSummary
     }
 }
 
-/// Writes the routes of a run's table, or only the best of each prefix, and tells how much of the texts was taken.
+/// Writes those routes of a run's table that are asked for, and tells how much of the texts was taken.
 fn tell_routes<W: Write>(
     alloc: Global,
     run: &FinishedRun,
-    only_best: bool,
+    selection: &Selection,
     w: &mut W,
 ) -> Result<RunSummary, AppFault>
     ensures text { (asked : AskedRun) → RunOverBook asked run.now.reports.items run.now.book
-        → Leaves (IsShown asked (routes_text only_best)) (W.contents w.old) (W.contents w.new) result }
+        → Leaves (IsShown asked (routes_text selection.now)) (W.contents w.old) (W.contents w.new) result }
     ensures ran { result ≢ Err (AppFault.Run RunFault.NoText) }
 {
-    let routes = routes_of(alloc, &run.book, only_best)?;
+    let routes = run.book.table().select(alloc, selection)?;
     tell_run(alloc, run, Output::Routes(routes.as_slice()), w)
 }
 
@@ -192,15 +190,4 @@ fn matches_of(
         });
     }
     Ok(all)
-}
-
-/// The routes of the book, or only the best of each prefix.
-fn routes_of(alloc: Global, book: &Book<Global>, only_best: bool) -> Result<Vec<Route>, Refused>
-    ensures { IfOk result (λ routes. routes.items ≡ (if only_best then best_routes (table_of book.now) else table_of book.now)) }
-{
-    let mut routes = book.routes(alloc)?;
-    if only_best {
-        keep_best(&mut routes);
-    }
-    Ok(routes)
 }

@@ -3,7 +3,8 @@
 use super::telling::{tell_faulty, tell_tally};
 use super::{Program, Stop};
 use command_line::{LookupRequest, TableRequest};
-use rt_cidr::Addr;
+use rt_cidr::{Addr, Prefix};
+use rt_rib::{Part, Selection};
 use rt_run::{
     AppFault, AskedAddresses, FeedTexts, LookupSummary, RunSummary, lookup_all_texts, lookup_texts,
     table_texts,
@@ -42,13 +43,14 @@ where
         Ok(told.status)
     }
 
-    /// Lists the routes, or only the best of each prefix.
+    /// Lists the routes that are asked for.
     pub(super) fn show_routes<'w>(&mut self, request: &TableRequest<'w>) -> Result<u8, Stop<'w>> {
         let run = &request.run;
+        let selection = selection_of(request)?;
         let texts = self.read_feeds(run.files.as_slice())?;
         let asked = FeedTexts::new(texts.as_slice(), run.limit, run.batch as usize);
         let mut out = self.screen.beside(asked.count(), self.out);
-        let summary = table_texts(self.rt, self.alloc, &asked, request.only_best, &mut out)?;
+        let summary = table_texts(self.rt, self.alloc, &asked, &selection, &mut out)?;
         tell_summary(&mut self.screen, run.files.as_slice(), &summary);
         Ok(summary.status)
     }
@@ -76,6 +78,30 @@ impl<R: Threads + Wait + Sync, O: Write, E: Write> Program<'_, R, O, E> {
 pub(super) fn tell_summary<E: Write>(err: &mut E, names: &[&str], summary: &RunSummary) {
     for (name, tally) in names.iter().zip(summary.tallies.iter()) {
         tell_tally(err, name, tally);
+    }
+}
+
+/// Which routes the command line asks for. Stops where a word is no prefix, or two parts are asked for.
+fn selection_of<'a>(request: &TableRequest<'a>) -> Result<Selection, Stop<'a>> {
+    let part = match (request.within, request.covering, request.exact) {
+        (None, None, None) => Part::All,
+        (Some(word), None, None) => Part::Within(prefix_of(word)?),
+        (None, Some(word), None) => Part::Covering(prefix_of(word)?),
+        (None, None, Some(word)) => Part::Exact(prefix_of(word)?),
+        _ => return Err(Stop::TwoParts),
+    };
+    Ok(Selection {
+        part,
+        only_best: request.only_best,
+        feed: request.feed,
+    })
+}
+
+/// The prefix that a word of the command line is.
+fn prefix_of(word: &str) -> Result<Prefix, Stop<'_>> {
+    match Prefix::parse(word.as_bytes()) {
+        Ok(prefix) => Ok(prefix),
+        Err(_) => Err(Stop::NoPrefix(word)),
     }
 }
 

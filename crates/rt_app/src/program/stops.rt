@@ -23,6 +23,10 @@ pub(crate) enum Stop<'a> {
     NothingAsked,
     /// A word that should be an address is none.
     NoAddress(&'a str),
+    /// Two parts of the table are asked for.
+    TwoParts,
+    /// A word that should be a prefix is none.
+    NoPrefix(&'a str),
     /// A file could not be opened or read.
     Unreadable(&'a str),
     /// The work was refused or could not be written.
@@ -78,6 +82,7 @@ impl<'a> Stop<'a> {
         match self {
             Stop::NotUtf8 | Stop::Misused(_) | Stop::Unknown | Stop::TooMany => Status::Misused,
             Stop::NothingAsked | Stop::NoAddress(_) => Status::Misused,
+            Stop::TwoParts | Stop::NoPrefix(_) => Status::Misused,
             Stop::Unreadable(_) => Status::Unreadable,
             Stop::Fault(fault) => fault_ending(*fault).0,
         }
@@ -92,6 +97,8 @@ impl<'a> Stop<'a> {
             Stop::TooMany => writeln!(err, "yarib: more than {MOST_TEXTS} files"),
             Stop::NothingAsked => put(err, NOTHING_ASKED),
             Stop::NoAddress(word) => tell_of(err, b"not an address: ", word),
+            Stop::TwoParts => put(err, TWO_PARTS),
+            Stop::NoPrefix(word) => tell_of(err, b"not a prefix: ", word),
             Stop::Unreadable(name) => tell_of(err, b"cannot read ", name),
             Stop::Fault(fault) => put(err, fault_ending(*fault).1),
         }
@@ -99,6 +106,8 @@ impl<'a> Stop<'a> {
 }
 
 const NOTHING_ASKED: &[u8] = b"yarib: no address is asked for: give --address or --addresses\n";
+
+const TWO_PARTS: &[u8] = b"yarib: only one of --within, --covering and --exact may be given\n";
 
 /// Writes what is the matter, and with which word of the command line.
 fn tell_of<E: Write>(err: &mut E, what: &[u8], word: &str) -> Result<(), io::Error> {
