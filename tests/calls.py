@@ -108,6 +108,15 @@ SHOWN = [
 """),
     call("lookup --address 10.200.0.1 north.feed south.feed east.feed",
          "10.200.0.1 route 10.0.0.0/8 feed 2 pref 30 via 192.0.2.2\n"),
+    call("table --best --names north.feed south.feed east.feed", """\
+10.0.0.0/8 feed south pref 30 via 192.0.2.2
+10.1.0.0/16 feed north pref 10 via 192.0.2.1
+10.9.0.0/16 feed east pref 10 via discard
+"""),
+    call("lookup --json --address 10.200.0.1 --address 11.0.0.1 north.feed south.feed", """\
+{"address":"10.200.0.1","route":{"prefix":"10.0.0.0/8","feed":2,"file":"south.feed","pref":30,"via":"192.0.2.2"}}
+{"address":"11.0.0.1","route":null}
+"""),
     # All that covers each, with the step at which it was left behind the first.
     call("lookup --all --addresses packets.txt north.feed south.feed east.feed", """\
 10.1.2.3 route 10.1.0.0/16 feed 1 pref 10 via 192.0.2.1

@@ -7,6 +7,7 @@ Worked runs stand here line beside line, and replays whole. Hostile lines are re
 docs/FORMATS.md; around each that it takes for a command are others, whose answers show all that the program has read there. Runs
 of random feeds on threads are judged by tests/judge.py: some order of the feeds' visits has to explain each.
 """
+import json
 import os
 import pathlib
 import random
@@ -430,6 +431,122 @@ def answers_of_lookups(yarib):
     empty = yarib("lookup", "--all", "--address", "11.0.0.0", names[1])
     compare("an address that no prefix covers", empty, 0, "11.0.0.0 no route\n")
     compare("the rows of an empty table", yarib("table", names[2]), 0, "")
+
+
+# Answers with feeds' names, and as JSON
+
+# Paths of feeds' files, and their feeds' names. Bytes of 0 and `/` are in no file's name; what isn't UTF-8 is refused.
+NAMED = {
+    "east.feed": "east", "feeds/west.feed": "west", "./north": "north", "feeds/../twice.feed.feed": "twice.feed",
+    "quote\".feed": 'quote"', "back\\slash.feed": "back\\slash", "umläut.feed": "umläut", "\U0001f600.feed": "\U0001f600",
+    "feed": "feed", "7.feed": "7", "a,b:{}[].feed": "a,b:{}[]", "u0041.feed": "u0041",
+}
+# Those of which no line can tell the feed, and JSON can.
+NAMELESS = (
+    ".feed", "feeds/.feed", "a b.feed", "line\nfeed.feed", "\t.feed", "".join(map(chr, range(1, 32))) + ".feed", "\x7f.feed",
+)
+ONE_NAME = (("east.feed", "feeds/east.feed"), ("east.feed", "east"), ("./north", "north.feed"), ("east.feed", "east.feed"))
+OFFERED = "version 2\nadd 10.1.0.0/16 70 192.0.2.4\nadd 10.0.0.0/8 5 discard\nadd 0.0.0.0/0 0 192.0.2.3\n"
+
+
+def offered_by(paths):
+    """Files of these paths, which offer the same routes in rising order of the preferences."""
+    pathlib.Path("feeds").mkdir(exist_ok=True)
+    for path in paths:
+        pathlib.Path(path).write_text(OFFERED)
+    return list(paths)
+
+
+def object_of(route, reason=None):
+    """The JSON object that tells what this text of a route tells, of which feed k was read from the k-th path."""
+    prefix, _, feed, _, pref, _, hop = route
+    way = {"via": None, "discard": True} if hop == "discard" else {"via": hop}
+    return {"prefix": prefix, "feed": int(feed), "pref": int(pref), **way, **({"reason": reason} if reason else {})}
+
+
+def objects_of(command, out):
+    """What JSON has to say where the lines say this; `file` and `name` come by `with_files`."""
+    lines = [line.split(" ") for line in out.splitlines()]
+    if command[0] == "table":
+        return [object_of(line) for line in lines]
+    told = []
+    for address, word, *route in lines:
+        if word == "also":
+            told[-1]["also"].append(object_of(route[:-1], route[-1]))
+        else:
+            told.append({"address": address, "route": object_of(route) if word == "route" else None})
+            if "--all" in command:
+                told[-1]["also"] = []
+    return told
+
+
+def with_files(value, paths, names):
+    """The value with the file, and the name where names are told, of each route's feed."""
+    if isinstance(value, list):
+        return [with_files(one, paths, names) for one in value]
+    if not isinstance(value, dict):
+        return value
+    told = {key: with_files(one, paths, names) for key, one in value.items()}
+    if "feed" in told:
+        path = paths[told["feed"] - 1]
+        told |= {"file": path, **({"name": NAMED[path]} if names else {})}
+    return told
+
+
+def unlike_twice(pairs):
+    """An object whose members have names of their own, in order."""
+    found = dict(pairs)
+    assert len(found) == len(pairs), pairs
+    return found
+
+
+ASKED = ["--address", "10.1.2.3", "--address", "10.2.0.0", "--address", "255.255.255.255"]
+TOLD = (["lookup", *ASKED], ["lookup", "--all", *ASKED], ["table"], ["table", "--best"])
+
+
+# Fails where a quotation mark or a control character stands for itself, and where two feeds' labels are exchanged.
+def answers_as_json(yarib):
+    """Each line is one object, which says what the line of the same command says, and the file's path."""
+    for paths, flags in ((offered_by(NAMED), ["--names"]), (offered_by([*NAMED, *NAMELESS]), [])):
+        for command in TOLD:
+            _, lines, _ = yarib(*command, *paths)
+            status, out, err = yarib(*command, "--json", *flags, *paths)
+            told = [json.loads(line, object_pairs_hook=unlike_twice) for line in out.splitlines()]
+            wanted = with_files(objects_of(command, lines), paths, bool(flags))
+            expect(f"{command} {flags}: status, objects and standard error", (status, told, err), (0, wanted, ""))
+            expect(f"{command} {flags}: the last line ends", out[-1:], "\n")
+    empty = offered_by(["empty.feed"])
+    pathlib.Path("empty.feed").write_text("")
+    none = yarib("lookup", "--json", "--all", "--address", "10.1.2.3", *empty)
+    compare("no route as JSON", none, 0, '{"address":"10.1.2.3","route":null,"also":[]}\n')
+    none = yarib("lookup", "--json", "--address", "10.1.2.3", *empty)
+    compare("no route of a look-up as JSON", none, 0, '{"address":"10.1.2.3","route":null}\n')
+    compare("no row as JSON", yarib("table", "--json", *empty), 0, "")
+    rows = yarib("table", "--json", *offered_by(["east.feed"]))
+    compare("rows as JSON, to the byte", rows, 0, (
+        '{"prefix":"0.0.0.0/0","feed":1,"file":"east.feed","pref":0,"via":"192.0.2.3"}\n'
+        '{"prefix":"10.0.0.0/8","feed":1,"file":"east.feed","pref":5,"via":null,"discard":true}\n'
+        '{"prefix":"10.1.0.0/16","feed":1,"file":"east.feed","pref":70,"via":"192.0.2.4"}\n'
+    ))
+
+
+# Fails where the name of another feed stands for a feed's number.
+def answers_with_names(yarib):
+    """Each line is that of the same command without `--names`, but for the name in place of the number."""
+    paths = offered_by(NAMED)
+    for command in TOLD:
+        _, lines, _ = yarib(*command, *paths)
+        named = re.sub(r" feed (\d+) ", lambda told: f" feed {NAMED[paths[int(told[1]) - 1]]} ", lines)
+        compare(f"{command} with names", yarib(*command, "--names", *paths), 0, named)
+    for path in NAMELESS:
+        for command in (["table"], ["table", "--json"], ["lookup", *ASKED]):
+            ended = yarib(*command, "--names", *offered_by(["east.feed", path]))
+            compare(f"{command} with {path!r}", ended, 3, "", f"yarib: no name for a feed: {path}\n")
+    for first, second in ONE_NAME:
+        ended = yarib("table", "--names", *offered_by(["west.feed", first, "other.feed", second]))
+        compare(f"{first} and {second}", ended, 3, "", f"yarib: one name for two feeds: {first}, {second}\n")
+        expect(f"{first} and {second} by their numbers", yarib("table", *offered_by([first, second]))[0], 0)
+    expect("65 files, with names", yarib("table", "--names", *["east.feed"] * 65), (3, "", "yarib: more than 64 files\n"))
 
 
 # Hostile lines
@@ -960,7 +1077,7 @@ def replays(yarib):
 
 CASES = (
     worked_runs, every_batch_size, hundreds_of_thousands_of_lines, versions, texts_are_cut_into_lines, faulty_lines,
-    texts_of_one_byte, addresses, answers_of_lookups,
+    texts_of_one_byte, addresses, answers_of_lookups, answers_as_json, answers_with_names,
     every_byte_at_every_place, a_byte_more_or_less_at_every_place, lines_about_128_bytes, forty_thousand_hostile_lines,
     feeds_meet_in_one_table, a_place_for_each_of_64_feeds, tables_of_each_size,
     a_thousand_routes_of_two_feeds, feeds_run_at_the_same_time, some_order_explains_each_run,

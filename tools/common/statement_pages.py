@@ -54,14 +54,15 @@ RUN = Page("STATEMENT-RUN.md", "What a run prints", (
     Chapter("What the finished table says", (
         "A look-up writes, for each address in order, those that are named and then those that the lines of a text say, the "
         "best route of the longest prefix that covers it, in the table that such a run leaves; or every route that covers it, "
-        "the best first, with the step at which it was left behind that one. A list writes the routes of that table, or the "
-        "best of each prefix. By the laws above, where "
+        "the best first, with the step at which it was left behind that one. A list writes those routes of that table that are "
+        "asked for, in its order. Both are told in a style, as lines with the feeds' numbers or labels or as JSON objects, whose "
+        "labels `labels_of` makes of the files' paths. By the laws above, where "
         "no command was refused for want of memory, that table is the union, so that the bytes, the status and the tallies are "
         "a function of the texts, the limit and what is asked: `shows_union` and `show_one_table` say so of two runs, "
         "`look_up_once` of two look-ups."), (
         "those of the first chapter; for the last sentence that no status is 5."),
-        ["rt_run::shown::lookup_texts", "rt_run::shown::table_texts", "rt_run::laws::shows_union", "rt_run::laws::show_one_table",
-         "rt_run::laws::look_up_once"]),
+        ["rt_run::shown::lookup_texts", "rt_run::shown::table_texts", "rt_feed::labels::labels_of", "rt_run::laws::shows_union",
+         "rt_run::laws::show_one_table", "rt_run::laws::look_up_once"]),
     Chapter("Why a route won and what a change changes", (
         "A look-up of all writes, for each address in order, every route of that table that covers it, each before those "
         "that it beats, and with which step it was left behind the first. A comparison runs two sets of texts, each over a table "

@@ -63,6 +63,15 @@ pub struct RunRequest<'a> {
     pub ghost batched: { 1 ≤ batch },
 }
 
+/// How routes are told.
+#[derive(Clone, Copy)]
+pub struct Telling {
+    /// Whether a feed is told by its name, and not by its number.
+    pub names: bool,
+    /// Whether JSON objects are told, and not lines.
+    pub json: bool,
+}
+
 /// Which addresses to look up, after which feed files.
 #[derive(Drop)]
 pub struct LookupRequest<'a> {
@@ -74,6 +83,8 @@ pub struct LookupRequest<'a> {
     pub more: Option<&'a str>,
     /// Whether each is answered with every route that covers it.
     pub all: bool,
+    /// How the answers are told.
+    pub telling: Telling,
 }
 
 /// Which routes to list, after which feed files.
@@ -91,6 +102,8 @@ pub struct TableRequest<'a> {
     pub exact: Option<&'a str>,
     /// The number of the feed whose routes are listed, where not all are.
     pub feed: Option<u32>,
+    /// How the routes are told.
+    pub telling: Telling,
 }
 
 /// Which tables to compare.
@@ -204,6 +217,8 @@ const SUBCOMMANDS: &[Subcommand] = &[
         notes: LOOKUP_NOTES,
         parameters: &[
             Parameter::All,
+            Parameter::Names,
+            Parameter::Json,
             Parameter::Limit,
             Parameter::Batch(UNSEEN_BATCH),
             Parameter::Address,
@@ -221,6 +236,8 @@ const SUBCOMMANDS: &[Subcommand] = &[
             Parameter::Exact,
             Parameter::Feed,
             Parameter::Best,
+            Parameter::Names,
+            Parameter::Json,
             Parameter::Limit,
             Parameter::Batch(UNSEEN_BATCH),
             Parameter::Files,
@@ -271,6 +288,8 @@ enum Parameter {
     Feed,
     Best,
     By,
+    Names,
+    Json,
     Limit,
     /// And how many are asked at once where the command line does not say.
     Batch(&'static str),
@@ -301,6 +320,8 @@ impl Parameter {
             Parameter::Feed => feed(alloc),
             Parameter::Best => best(alloc),
             Parameter::By => by(alloc),
+            Parameter::Names => names(alloc),
+            Parameter::Json => json(alloc),
             Parameter::Limit => limit(alloc),
             Parameter::Batch(unless_given) => batch(alloc, unless_given),
             Parameter::Files => files(alloc),
@@ -362,6 +383,16 @@ fn feed<'a>(alloc: Global) -> Arg<'a> {
 fn best<'a>(alloc: Global) -> Arg<'a> {
     let help = "Print only the best route of each prefix";
     option(alloc, "best", help).action(ArgAction::SetTrue)
+}
+
+fn names<'a>(alloc: Global) -> Arg<'a> {
+    let help = "Tell feeds by name, a file's without folder and .feed, not by number";
+    option(alloc, "names", help).action(ArgAction::SetTrue)
+}
+
+fn json<'a>(alloc: Global) -> Arg<'a> {
+    let help = "Print JSON objects, one a line";
+    option(alloc, "json", help).action(ArgAction::SetTrue)
 }
 
 fn by<'a>(alloc: Global) -> Arg<'a> {
@@ -445,6 +476,7 @@ fn lookup_request<'a>(alloc: Global, matches: &ArgMatches<'a>) -> Result<Request
         addresses: texts_of(alloc, matches, "address")?,
         more: matches.get_str("addresses"),
         all: matches.get_flag("all"),
+        telling: telling_of(matches),
     }))
 }
 
@@ -456,7 +488,15 @@ fn table_request<'a>(alloc: Global, matches: &ArgMatches<'a>) -> Result<Request<
         covering: matches.get_str("covering"),
         exact: matches.get_str("exact"),
         feed: matches.get_one::<u32>("feed"),
+        telling: telling_of(matches),
     }))
+}
+
+fn telling_of(matches: &ArgMatches<'_>) -> Telling {
+    Telling {
+        names: matches.get_flag("names"),
+        json: matches.get_flag("json"),
+    }
 }
 
 fn diff_request<'a>(alloc: Global, matches: &ArgMatches<'a>) -> Result<Request<'a>, Refusal> {

@@ -97,6 +97,14 @@ best first, and why it was left behind: shorter (its prefix), else preference
 (a greater P), else feed (a greater F).
   ADDR also PREFIX feed F pref P via HOP REASON
 
+F is the place of the feed's FILE among the files, from 1. With --names the
+feed's name stands there, FILE without its folder and .feed; two feeds of one
+name, or one that a line can't tell, are refused.
+With --json each line is an object, and with --names its \"name\" is told too:
+  {\"address\":ADDR,\"route\":{\"prefix\":PREFIX,\"feed\":F,\"file\":FILE,\"pref\":P,
+  \"via\":HOP}}       via is null and discard true, or the route null
+With --all \"also\" is a list of the others, each with its \"reason\".
+
 ",
     "  0 done   2 faulty line, or add over the limit   3 command line\n",
     "Example, where one.feed says `add 10.0.0.0/8 100 192.0.2.1`, and two.feed
@@ -121,6 +129,13 @@ has the least P, and of equal ones the least F:
 One of --within, --covering and --exact prints the routes of a part of the
 table. Of these --feed F prints those of the F-th file, and with --best the best
 ones that are its own.
+
+F is the place of the feed's FILE among the files, from 1. With --names the
+feed's name stands there, FILE without its folder and .feed; two feeds of one
+name, or one that a line can't tell, are refused.
+With --json each line is an object, and with --names its \"name\" is told too:
+  {\"prefix\":PREFIX,\"feed\":F,\"file\":FILE,\"pref\":P,\"via\":HOP}
+                    or with \"via\":null,\"discard\":true
 
 ",
     "  0 done   2 faulty line, or add over the limit   3 command line\n",

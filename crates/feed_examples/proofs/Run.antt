@@ -60,6 +60,8 @@ use Rattle.ya_replay.specs.ReplayText.{inside_text, replay_text_of}
 use Rattle.rt_run.specs.Replayed.{IsReplayText, LeavesReplay}
 use Rattle.rt_run.specs.declared.tallies.Tally.{Tally}
 use Rattle.rt_run.specs.declared.tallies.RunSummary.{RunSummary}
+use Rattle.rt_feed.specs.declared.styles.Form.TheVariants.{Numbers}
+use Rattle.rt_feed.specs.Styles.{StyleContents, label_of, row_as, rows_as, found_as, all_found_as}
 use Rattle.rt_run.specs.TableText.{answers_text, all_answers_text, routes_text, was_full, was_existing, was_missing, fault_at, faults_of, tally_of}
 use Rattle.rt_run.specs.TableText.{has_refused, has_left_out, tallies_status, IsSummary, LeavesTable, IsShown, IsLookup}
 use Rattle.rt_run.specs.declared.shown.LookupSummary.{LookupSummary}
@@ -188,46 +190,52 @@ a_refusal_before_a_fault = refl
 abbrev two_to_ten_8 : List Route
 two_to_ten_8 = route_via ten_8 2 30 Discard ∷ route_via ten_8 1 50 Discard ∷ []
 
+-- routes as lines with their feeds' numbers
+abbrev plain : StyleContents
+plain = record { form = Numbers; labels = [] }
+
 -- routes_text
-all_of_them : routes_text (record { part = part.All; only_best = false; feed = None }) two_to_ten_8 ≡ codes "10.0.0.0/8 feed 2 pref 30 via discard\n10.0.0.0/8 feed 1 pref 50 via discard\n"
-unfolding digits address_text prefix_text row_text route_text
+all_of_them : routes_text plain (record { part = part.All; only_best = false; feed = None }) two_to_ten_8 ≡ codes "10.0.0.0/8 feed 2 pref 30 via discard\n10.0.0.0/8 feed 1 pref 50 via discard\n"
+unfolding digits address_text prefix_text row_text row_as route_text
 all_of_them = refl
 
-only_the_best : routes_text (record { part = part.All; only_best = true; feed = None }) two_to_ten_8 ≡ codes "10.0.0.0/8 feed 2 pref 30 via discard\n"
-unfolding digits address_text prefix_text row_text route_text
+only_the_best : routes_text plain (record { part = part.All; only_best = true; feed = None }) two_to_ten_8 ≡ codes "10.0.0.0/8 feed 2 pref 30 via discard\n"
+unfolding digits address_text prefix_text row_text row_as route_text
 only_the_best = refl
 
-only_a_feeds : routes_text (record { part = part.Exact ten_8; only_best = false; feed = Some 1 }) two_to_ten_8 ≡ codes "10.0.0.0/8 feed 1 pref 50 via discard\n"
-unfolding digits address_text prefix_text row_text route_text
+only_a_feeds : routes_text plain (record { part = part.Exact ten_8; only_best = false; feed = Some 1 }) two_to_ten_8 ≡ codes "10.0.0.0/8 feed 1 pref 50 via discard\n"
+unfolding digits address_text prefix_text row_text row_as route_text
 only_a_feeds = refl
 
-those_asked_for : (asked : Selection) (table : List Route) → routes_text asked table ≡ rows_text (selected asked table)
-those_asked_for asked table = refl
+any_of_them : (style : StyleContents) (selection : Selection) (table : List Route) → routes_text style selection table
+    ≡ rows_as style.form (label_of style.labels) (selected selection table)
+any_of_them style selection table = refl
 
 -- answers_text
 one_is_covered_and_one_is_not :
-    answers_text (at_10_1_2_3 ∷ at_10_9_0_1 ∷ []) (route_via ten_1_16 1 10 Discard ∷ [])
+    answers_text plain (at_10_1_2_3 ∷ at_10_9_0_1 ∷ []) (route_via ten_1_16 1 10 Discard ∷ [])
     ≡ codes "10.1.2.3 route 10.1.0.0/16 feed 1 pref 10 via discard\n10.9.0.1 no route\n"
-unfolding digits address_text prefix_text look_up found_text reply_text route_text
+unfolding digits address_text prefix_text look_up found_as found_text reply_text route_text
 one_is_covered_and_one_is_not = refl
 
 what_each_address_finds :
-    (addresses : List Addr) (table : List Route) → answers_text addresses table ≡ flat_map (λ addr. found_text addr (look_up addr table)) addresses
-what_each_address_finds addresses table = refl
+    (style : StyleContents) (addresses : List Addr) (table : List Route)
+    → answers_text style addresses table ≡ flat_map (λ addr. found_as style.form (label_of style.labels) addr (look_up addr table)) addresses
+what_each_address_finds style addresses table = refl
 
 -- all_answers_text
 all_that_cover_each :
-    all_answers_text (at_10_1_2_3 ∷ at_10_9_0_1 ∷ []) (two_to_ten_8 ++ route_via ten_1_16 1 10 Discard ∷ [])
+    all_answers_text plain (at_10_1_2_3 ∷ at_10_9_0_1 ∷ []) (two_to_ten_8 ++ route_via ten_1_16 1 10 Discard ∷ [])
     ≡ codes "10.1.2.3 route 10.1.0.0/16 feed 1 pref 10 via discard\n10.1.2.3 also 10.0.0.0/8 feed 2 pref 30 via discard shorter\n"
     ++ codes "10.1.2.3 also 10.0.0.0/8 feed 1 pref 50 via discard shorter\n10.9.0.1 route 10.0.0.0/8 feed 2 pref 30 via discard\n"
     ++ codes "10.9.0.1 also 10.0.0.0/8 feed 1 pref 50 via discard preference\n"
-unfolding digits address_text prefix_text look_up_all found_text also_text reason_text reply_text route_text
+unfolding digits address_text prefix_text look_up_all all_found_as found_text also_text reason_text reply_text route_text
 all_that_cover_each = refl
 
 all_that_each_address_finds :
-    (addresses : List Addr) (table : List Route)
-    → all_answers_text addresses table ≡ flat_map (λ addr. all_found_text addr (look_up_all addr table)) addresses
-all_that_each_address_finds addresses table = refl
+    (style : StyleContents) (addresses : List Addr) (table : List Route)
+    → all_answers_text style addresses table ≡ flat_map (λ addr. all_found_as style.form (label_of style.labels) addr (look_up_all addr table)) addresses
+all_that_each_address_finds style addresses table = refl
 
 -- an answer of each kind that a tally tells apart
 abbrev each_kind : List Answer
@@ -745,13 +753,13 @@ what_is_told_of_addresses request named said_by text_of bytes given = (
 
 the_named_one_before_the_two_of_the_text :
     (summary : RunSummary) → summary.tallies.items ≡ map tally_of (reports_of the_tutorials_outcomes) → summary.status ≡ 0
-    → IsLookup the_tutorials_run (at_10_9_0_1 ∷ []) asked_text answers_text
-    (answers_text (at_10_9_0_1 ∷ at_192_0_2_1 ∷ at_10_1_2_3 ∷ []) (table_of_journal 65536 tutorial))
+    → IsLookup the_tutorials_run (at_10_9_0_1 ∷ []) asked_text (answers_text plain)
+    (answers_text plain (at_10_9_0_1 ∷ at_192_0_2_1 ∷ at_10_1_2_3 ∷ []) (table_of_journal 65536 tutorial))
     (record { status = 2; run = summary; faulty = record { count = 1; first = Some (3, fault.Text) } })
 the_named_one_before_the_two_of_the_text summary tallied status = record {
   said = at_192_0_2_1 ∷ at_10_1_2_3 ∷ [];
   says = two_are_asked_and_a_line_is_faulty;
-  shown = what_is_told_of_the_tutorial (answers_text (at_10_9_0_1 ∷ at_192_0_2_1 ∷ at_10_1_2_3 ∷ [])) summary tallied status;
+  shown = what_is_told_of_the_tutorial (answers_text plain (at_10_9_0_1 ∷ at_192_0_2_1 ∷ at_10_1_2_3 ∷ [])) summary tallied status;
   is_status = rw status refl;
 }
 

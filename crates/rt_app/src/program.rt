@@ -3,6 +3,7 @@
 mod comparing;
 mod showing;
 mod stops;
+mod styles;
 mod telling;
 
 ghost use Rattle.std.specs.Prelude.{◌≡◌, ◌≤◌, length, vec_len, IfOk};

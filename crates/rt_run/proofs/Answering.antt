@@ -11,54 +11,54 @@ use Rattle.rt_cidr.specs.Output.{AppendsBeginning}
 use Rattle.rt_cidr.proofs.Promised.{begins_after, begins_longer}
 use Rattle.rt_rib.specs.declared.routes.Route.{Route}
 use Rattle.rt_rib.specs.LookUp.{look_up, look_up_all}
-use Rattle.rt_feed.specs.Printed.{found_text, all_found_text}
+use Rattle.rt_feed.specs.Styles.{StyleContents, label_of, found_as, all_found_as}
 use Rattle.rt_run.specs.declared.output.Matches.{Matches}
 use Rattle.rt_run.specs.TableText.{answers_text, all_answers_text}
 use Rattle.rt_run.specs.inside.Outputs.{matches_text}
 use Rattle.ya_replay.proofs.Promised.{begins_all}
 
-module _ (table : List Route) (all rest piece behind : List Addr) (text : List ℕ)
-    (whole : text ++ answers_text rest table ≡ answers_text all table) (cut : rest ≡ piece ++ behind) where
+module _ (style : StyleContents) (table : List Route) (all rest piece behind : List Addr) (text : List ℕ)
+    (whole : text ++ answers_text style rest table ≡ answers_text style all table) (cut : rest ≡ piece ++ behind) where
   -- the answers of a piece come behind the text so far
-  pub answers_grow : (text ++ answers_text piece table) ++ answers_text behind table ≡ answers_text all table
+  pub answers_grow : (text ++ answers_text style piece table) ++ answers_text style behind table ≡ answers_text style all table
   answers_grow =
-      append_assoc text (answers_text piece table) (answers_text behind table)
+      append_assoc text (answers_text style piece table) (answers_text style behind table)
       ∙ (ap (λ t. text ++ t)
-      (sym (ap (λ addresses. answers_text addresses table) cut ∙ flat_map-append (λ addr. found_text addr (look_up addr table)) piece behind)) ∙ whole)
+      (sym (ap (λ addresses. answers_text style addresses table) cut ∙ flat_map-append (λ addr. found_as style.form (label_of style.labels) addr (look_up addr table)) piece behind)) ∙ whole)
 
   -- and a fault within them leaves a beginning of all answers
   pub answers_begin : (a b c : Option (List ℕ)) → Appends a b text
-      → AppendsBeginning b c (answers_text piece table) → AppendsBeginning a c (answers_text all table)
+      → AppendsBeginning b c (answers_text style piece table) → AppendsBeginning a c (answers_text style all table)
   answers_begin a b c written begun =
-      rw (← answers_grow) (begins_longer a c (text ++ answers_text piece table)
-      (answers_text behind table) (begins_after a b c text (answers_text piece table) written begun))
+      rw (← answers_grow) (begins_longer a c (text ++ answers_text style piece table)
+      (answers_text style behind table) (begins_after a b c text (answers_text style piece table) written begun))
 
-module _ (table : List Route) (piece : List Addr) (answers : List (Option Route)) (k : ℕ) (none : Addr) (found : Option Route) (here : k < length piece)
+module _ (style : StyleContents) (table : List Route) (piece : List Addr) (answers : List (Option Route)) (k : ℕ) (none : Addr) (found : Option Route) (here : k < length piece)
     (is : found ≡ get_or answers k found) (answered : answers ≡ map (λ addr. look_up addr table) piece) where
   -- at each place stands what a look-up of its address finds
   found_at : found ≡ look_up (get_or piece k none) table
   found_at = is ∙ (ap (λ (all : List (Option Route)). get_or all k found) answered ∙ get_or-map (λ addr. look_up addr table) piece k none found here)
 
   -- a fault within its text leaves a beginning of those of the piece
-  pub answers_stop : (a b c : Option (List ℕ)) → Appends a b (answers_text (take k piece) table) → AppendsBeginning b c (found_text (get_or piece k none) found)
-      → AppendsBeginning a c (answers_text piece table)
+  pub answers_stop : (a b c : Option (List ℕ)) → Appends a b (answers_text style (take k piece) table) → AppendsBeginning b c (found_as style.form (label_of style.labels) (get_or piece k none) found)
+      → AppendsBeginning a c (answers_text style piece table)
   answers_stop a b c written begun =
-      let one : Addr → List ℕ = λ addr. found_text addr (look_up addr table) in
+      let one : Addr → List ℕ = λ addr. found_as style.form (label_of style.labels) addr (look_up addr table) in
       let addr = get_or piece k none in
       begins_all (λ n. one) (λ n. flat_map one) (λ n. refl) (λ n x xs. refl) piece k addr here (get_or_default piece k none addr here) a b c written
-      (subst (λ (f : Option Route). AppendsBeginning b c (found_text addr f)) found_at begun)
+      (subst (λ (f : Option Route). AppendsBeginning b c (found_as style.form (label_of style.labels) addr f)) found_at begun)
 
 -- all that was found for one address more
 pub matches_more :
-    (table : List Route) (addresses : List Addr) (k : ℕ) (none : Addr) (all all' : List Matches) (one : Matches) → k < length addresses
+    (style : StyleContents) (table : List Route) (addresses : List Addr) (k : ℕ) (none : Addr) (all all' : List Matches) (one : Matches) → k < length addresses
     → all' ≡ all ++ one ∷ [] → one.addr ≡ get_or addresses k none → one.routes.items ≡ look_up_all (get_or addresses k none) table
-    → matches_text all ≡ all_answers_text (take k addresses) table → matches_text all' ≡ all_answers_text (take (k + 1) addresses) table
-matches_more table addresses k none all all' one here pushed of_it found so_far =
-    let text : Matches → List ℕ = λ m. all_found_text m.addr m.routes.items in
-    let answer : Addr → List ℕ = λ a. all_found_text a (look_up_all a table) in
+    → matches_text style all ≡ all_answers_text style (take k addresses) table → matches_text style all' ≡ all_answers_text style (take (k + 1) addresses) table
+matches_more style table addresses k none all all' one here pushed of_it found so_far =
+    let text : Matches → List ℕ = λ m. all_found_as style.form (label_of style.labels) m.addr m.routes.items in
+    let answer : Addr → List ℕ = λ a. all_found_as style.form (label_of style.labels) a (look_up_all a table) in
     let addr = get_or addresses k none in
-    let same : text one ≡ answer addr = ap (λ a. all_found_text a one.routes.items) of_it ∙ ap (all_found_text addr) found in
+    let same : text one ≡ answer addr = ap (λ a. all_found_as style.form (label_of style.labels) a one.routes.items) of_it ∙ ap (all_found_as style.form (label_of style.labels) addr) found in
     let next : take (k + 1) addresses ≡ take k addresses ++ addr ∷ [] = ap (λ n. take n addresses) (add-one k) ∙ take-suc addresses k none here in
-    ap matches_text pushed ∙ (flat_map-append text all (one ∷ [])
-    ∙ (ap (λ t. t ++ (text one ++ [])) so_far ∙ (ap (λ t. all_answers_text (take k addresses) table ++ (t ++ [])) same
-    ∙ (sym (flat_map-append answer (take k addresses) (addr ∷ [])) ∙ ap (λ xs. all_answers_text xs table) (sym next)))))
+    ap (matches_text style) pushed ∙ (flat_map-append text all (one ∷ [])
+    ∙ (ap (λ t. t ++ (text one ++ [])) so_far ∙ (ap (λ t. all_answers_text style (take k addresses) table ++ (t ++ [])) same
+    ∙ (sym (flat_map-append answer (take k addresses) (addr ∷ [])) ∙ ap (λ xs. all_answers_text style xs table) (sym next)))))

@@ -8,7 +8,10 @@ use Rattle.rt_cidr.proofs.Promised.{stops, stops_held}
 use Rattle.rt_cidr.specs.declared.address.Addr.{Addr}
 use Rattle.rt_rib.specs.declared.routes.Route.{Route}
 use Rattle.rt_rib.specs.LookUp.{look_up}
-use Rattle.rt_feed.specs.Printed.{table_text, rows_text, count_text, row_text, found_text, all_found_text}
+use Rattle.rt_feed.specs.declared.styles.Form.{Form}
+use Rattle.rt_feed.specs.declared.styles.Form.TheVariants.{Numbers, Labels, Json}
+use Rattle.rt_feed.specs.Printed.{table_text, count_text, row_text, found_text, all_found_text}
+use Rattle.rt_feed.specs.Styles.{StyleContents, label_of, row_as, rows_as, asked_of, found_as, all_found_as}
 use Rattle.rt_run.specs.declared.output.Matches.{Matches}
 use Rattle.rt_run.specs.TableText.{answers_text}
 use Rattle.rt_run.specs.inside.Outputs.{matches_text}
@@ -50,24 +53,56 @@ found-some : (addr : Addr) (found : Option Route) → 0 < length (found_text add
 unfolding found_text
 found-some addr found = simp length-append (omega arith)
 
-all_found-some : (addr : Addr) (found : List Route) → 0 < length (all_found_text addr found)
-all_found-some addr [] = found-some addr None
-all_found-some addr (first ∷ others) = let line = found-some addr (Some first) in simp length-append (omega arith)
+plain_all_found-some : (addr : Addr) (found : List Route) → 0 < length (all_found_text addr found)
+plain_all_found-some addr [] = found-some addr None
+plain_all_found-some addr (first ∷ others) = let line = found-some addr (Some first) in simp length-append (omega arith)
 
-pub rows-none : (routes : List Route) → (length routes == 0) ≡ true → rows_text routes ≡ []
-rows-none = texts-none row_text row-some
+-- nor is it in any style
+row_as-some : (form : Form) (label : ℕ → List ℕ) (route : Route) → 0 < length (row_as form label route)
+unfolding row_as
+row_as-some Numbers label route = row-some route
+row_as-some Labels label route = simp length-append (omega arith)
+row_as-some Json label route = simp length-append (omega arith)
 
-pub rows-some : (routes : List Route) → (length routes == 0) ≡ false → 0 < length (rows_text routes)
-rows-some = texts-some row_text row-some
+found_as-some : (form : Form) (label : ℕ → List ℕ) (addr : Addr) (found : Option Route) → 0 < length (found_as form label addr found)
+unfolding found_as asked_of
+found_as-some Numbers label addr found = found-some addr found
+found_as-some Labels label addr None = found-some addr None
+found_as-some Labels label addr (Some r) = simp length-append (omega arith)
+found_as-some Json label addr None = simp length-append (omega arith)
+found_as-some Json label addr (Some r) = simp length-append (omega arith)
 
-pub answers-none : (addresses : List Addr) (table : List Route) → (length addresses == 0) ≡ true → answers_text addresses table ≡ []
-answers-none addresses table = texts-none (λ addr. found_text addr (look_up addr table)) (λ addr. found-some addr (look_up addr table)) addresses
+all_found_as-some : (form : Form) (label : ℕ → List ℕ) (addr : Addr) (found : List Route) → 0 < length (all_found_as form label addr found)
+unfolding all_found_as asked_of
+all_found_as-some Numbers label addr found = plain_all_found-some addr found
+all_found_as-some Labels label addr [] = found-some addr None
+all_found_as-some Labels label addr (first ∷ others) = let line = found_as-some Labels label addr (Some first) in simp length-append (omega arith)
+all_found_as-some Json label addr [] = simp length-append (omega arith)
+all_found_as-some Json label addr (first ∷ others) = simp length-append (omega arith)
 
-pub answers-some : (addresses : List Addr) (table : List Route) → (length addresses == 0) ≡ false → 0 < length (answers_text addresses table)
-answers-some addresses table = texts-some (λ addr. found_text addr (look_up addr table)) (λ addr. found-some addr (look_up addr table)) addresses
+module _ (style : StyleContents) where
+  pub rows-none : (routes : List Route) → (length routes == 0) ≡ true → rows_as style.form (label_of style.labels) routes ≡ []
+  rows-none = texts-none (row_as style.form (label_of style.labels)) (row_as-some style.form (label_of style.labels))
 
-pub matches-none : (all : List Matches) → (length all == 0) ≡ true → matches_text all ≡ []
-matches-none = texts-none (λ one. all_found_text one.addr one.routes.items) (λ one. all_found-some one.addr one.routes.items)
+  pub rows-some : (routes : List Route) → (length routes == 0) ≡ false → 0 < length (rows_as style.form (label_of style.labels) routes)
+  rows-some = texts-some (row_as style.form (label_of style.labels)) (row_as-some style.form (label_of style.labels))
 
-pub matches-some : (all : List Matches) → (length all == 0) ≡ false → 0 < length (matches_text all)
-matches-some = texts-some (λ one. all_found_text one.addr one.routes.items) (λ one. all_found-some one.addr one.routes.items)
+  pub answers-none : (addresses : List Addr) (table : List Route) → (length addresses == 0) ≡ true → answers_text style addresses table ≡ []
+  answers-none addresses table =
+      texts-none (λ addr. found_as style.form (label_of style.labels) addr (look_up addr table))
+      (λ addr. found_as-some style.form (label_of style.labels) addr (look_up addr table)) addresses
+
+  pub answers-some : (addresses : List Addr) (table : List Route) → (length addresses == 0) ≡ false → 0 < length (answers_text style addresses table)
+  answers-some addresses table =
+      texts-some (λ addr. found_as style.form (label_of style.labels) addr (look_up addr table))
+      (λ addr. found_as-some style.form (label_of style.labels) addr (look_up addr table)) addresses
+
+  pub matches-none : (all : List Matches) → (length all == 0) ≡ true → matches_text style all ≡ []
+  matches-none =
+      texts-none (λ one. all_found_as style.form (label_of style.labels) one.addr one.routes.items)
+      (λ one. all_found_as-some style.form (label_of style.labels) one.addr one.routes.items)
+
+  pub matches-some : (all : List Matches) → (length all == 0) ≡ false → 0 < length (matches_text style all)
+  matches-some =
+      texts-some (λ one. all_found_as style.form (label_of style.labels) one.addr one.routes.items)
+      (λ one. all_found_as-some style.form (label_of style.labels) one.addr one.routes.items)

@@ -16,24 +16,24 @@ use Rattle.rt_feed.specs.declared.report.Answer.TheVariants.{Did, Refused, Fault
 use Rattle.rt_feed.specs.Lines.{LineOutcome}
 use Rattle.rt_feed.specs.Addresses.{faulty_lines, SaysAddresses}
 use Rattle.rt_feed.specs.Reports.{is_refusal}
-use Rattle.rt_feed.specs.Printed.{rows_text, found_text, all_found_text}
+use Rattle.rt_feed.specs.Styles.{StyleContents, label_of, rows_as, found_as, all_found_as}
 use Rattle.rt_run.specs.declared.tallies.Tally.{Tally}
 use Rattle.rt_run.specs.declared.tallies.RunSummary.{RunSummary}
 use Rattle.rt_run.specs.declared.shown.LookupSummary.{LookupSummary}
 use Rattle.rt_run.specs.AskedRun.{AskedRun}
 use Rattle.rt_run.specs.RunText.{IsHistory, reports_of, status_where}
 
--- for each address, in order, what a look-up of it finds in the table
-abbrev pub answers_text : List Addr → List Route → List ℕ
-answers_text addresses table = flat_map (λ addr. found_text addr (look_up addr table)) addresses
+-- for each address, in order, what a look-up of it finds in the table, in the style
+abbrev pub answers_text : StyleContents → List Addr → List Route → List ℕ
+answers_text style addresses table = flat_map (λ addr. found_as style.form (label_of style.labels) addr (look_up addr table)) addresses
 
 -- for each address, in order, all routes of the table that cover it, the best first
-abbrev pub all_answers_text : List Addr → List Route → List ℕ
-all_answers_text addresses table = flat_map (λ addr. all_found_text addr (look_up_all addr table)) addresses
+abbrev pub all_answers_text : StyleContents → List Addr → List Route → List ℕ
+all_answers_text style addresses table = flat_map (λ addr. all_found_as style.form (label_of style.labels) addr (look_up_all addr table)) addresses
 
 -- the routes of the table that are asked for, in its order
-abbrev pub routes_text : Selection → List Route → List ℕ
-routes_text asked table = rows_text (selected asked table)
+abbrev pub routes_text : StyleContents → Selection → List Route → List ℕ
+routes_text style asked table = rows_as style.form (label_of style.labels) (selected asked table)
 
 -- an `add` was over the limit
 abbrev pub was_full : Answer → Bool

@@ -14,8 +14,8 @@ use crate::faults::AppFault;
 use rt_cidr::{Addr, OutputBuffer, OutputRoom};
 use rt_diff::{By, Comparison, Difference};
 use rt_feed::{
-    Report, RunFault, write_all_found, write_difference, write_found, write_report, write_rows,
-    write_table,
+    Report, RunFault, Style, write_all_found_as, write_difference, write_found_as, write_report,
+    write_rows_as, write_table,
 };
 use rt_rib::{Book, Route};
 use std::alloc::Global;
@@ -38,14 +38,14 @@ pub(crate) struct Matches {
 pub(crate) enum Output<'a> {
     /// The reports, the k-th as feed k's, and then the table of these routes.
     Run(&'a [Report], &'a [Route]),
-    /// What a look-up of each address finds in the book.
-    Answers(&'a Book<Global>, &'a [Addr]),
-    /// All routes that cover each address.
-    Matches(&'a [Matches]),
+    /// In which style, what a look-up of each address finds in the book.
+    Answers(&'a Style<'a>, &'a Book<Global>, &'a [Addr]),
+    /// In which style, all routes that cover each address.
+    Matches(&'a Style<'a>, &'a [Matches]),
     /// What the two books' tables answer otherwise, of which this is the first.
     Differences(&'a Book<Global>, &'a Book<Global>, By, Option<Difference>),
-    /// The routes alone.
-    Routes(&'a [Route]),
+    /// In which style, the routes alone.
+    Routes(&'a Style<'a>, &'a [Route]),
     /// The steps of a replay, and who is inside after them.
     Replay(&'a [Step], Option<usize>),
 }
@@ -59,10 +59,10 @@ impl Output<'_> {
     {
         match self {
             Output::Run(..) => false,
-            Output::Answers(_, addresses) => addresses.is_empty(),
-            Output::Matches(all) => all.is_empty(),
+            Output::Answers(_, _, addresses) => addresses.is_empty(),
+            Output::Matches(_, all) => all.is_empty(),
             Output::Differences(_, _, _, first) => first.is_none(),
-            Output::Routes(routes) => routes.is_empty(),
+            Output::Routes(_, routes) => routes.is_empty(),
             Output::Replay(..) => false,
         }
     }
@@ -115,10 +115,10 @@ fn write_parts<W: Write>(w: &mut W, output: Output<'_>) -> Result<(), io::Error>
 {
     match output {
         Output::Run(reports, routes) => write_run(w, reports, routes),
-        Output::Answers(book, addresses) => write_answers(w, book, addresses),
-        Output::Matches(all) => write_matches(w, all),
+        Output::Answers(style, book, addresses) => write_answers(w, style, book, addresses),
+        Output::Matches(style, all) => write_matches(w, style, all),
         Output::Differences(old, new, by, first) => write_differences(w, old, new, by, first),
-        Output::Routes(routes) => write_rows(w, routes),
+        Output::Routes(style, routes) => write_rows_as(w, style, routes),
         Output::Replay(steps, inside) => write_replay(w, steps, inside),
     }
 }
@@ -146,40 +146,50 @@ fn write_reports<W: Write>(w: &mut W, reports: &[Report]) -> Result<(), io::Erro
 /// Writes what a look-up of each address finds in the book.
 fn write_answers<W: Write>(
     w: &mut W,
+    style: &Style<'_>,
     book: &Book<Global>,
     addresses: &[Addr],
 ) -> Result<(), io::Error>
-    ensures { WritesText (W.contents w.old) (W.contents w.new) (answers_text addresses.now (table_of book.now)) result }
+    ensures { WritesText (W.contents w.old) (W.contents w.new) (answers_text style.now addresses.now (table_of book.now)) result }
 {
     let mut rest = addresses;
     while !rest.is_empty() {
         let (piece, behind) = rest.split_at(rest.len().min(PIECE));
-        write_piece(w, book, piece)?;
+        write_piece(w, style, book, piece)?;
         rest = behind;
     }
     Ok(())
 }
 
 /// Writes what a look-up of each of a few addresses finds in the book.
-fn write_piece<W: Write>(w: &mut W, book: &Book<Global>, piece: &[Addr]) -> Result<(), io::Error>
+fn write_piece<W: Write>(
+    w: &mut W,
+    style: &Style<'_>,
+    book: &Book<Global>,
+    piece: &[Addr],
+) -> Result<(), io::Error>
     requires few { length piece.now ≤ 256 }
-    ensures { WritesText (W.contents w.old) (W.contents w.new) (answers_text piece.now (table_of book.now)) result }
+    ensures { WritesText (W.contents w.old) (W.contents w.new) (answers_text style.now piece.now (table_of book.now)) result }
 {
     let mut places = [None; PIECE];
     let found = &mut places[..piece.len()];
     book.look_up(piece, found);
     for (index, address) in piece.iter().enumerate() {
-        write_found(w, *address, found[index])?;
+        write_found_as(w, style, *address, found[index])?;
     }
     Ok(())
 }
 
 /// Writes for each address all routes that cover it.
-fn write_matches<W: Write>(w: &mut W, all: &[Matches]) -> Result<(), io::Error>
-    ensures { WritesText (W.contents w.old) (W.contents w.new) (matches_text all.now) result }
+fn write_matches<W: Write>(
+    w: &mut W,
+    style: &Style<'_>,
+    all: &[Matches],
+) -> Result<(), io::Error>
+    ensures { WritesText (W.contents w.old) (W.contents w.new) (matches_text style.now all.now) result }
 {
     for one in all {
-        write_all_found(w, one.addr, one.routes.as_slice())?;
+        write_all_found_as(w, style, one.addr, one.routes.as_slice())?;
     }
     Ok(())
 }

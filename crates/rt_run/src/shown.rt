@@ -2,6 +2,7 @@
 ghost use Rattle.std.specs.Prelude.{◌≡◌, ◌≢◌, ◌↔◌, ℕ, max, nat_lt, false, List, [], IfOk};
 ghost use Rattle.rt_rib.specs.declared.routes.Route.{Route};
 ghost use Rattle.rt_rib.specs.Book.{table_of};
+ghost use Rattle.rt_feed.specs.Styles.{StyleContents};
 ghost use Rattle.rt_run.specs.AskedRun.{AskedRun};
 ghost use Rattle.rt_run.specs.RunText.{Leaves, status_where};
 ghost use Rattle.rt_run.specs.TableText.{answers_text, all_answers_text, routes_text, IsShown, IsLookup};
@@ -15,7 +16,7 @@ use crate::output::{Matches, Output, write_output};
 use crate::runs::{FinishedRun, run_all};
 use crate::tallies::{RunSummary, status_where};
 use rt_cidr::Addr;
-use rt_feed::{FaultyLines, RunFault};
+use rt_feed::{FaultyLines, RunFault, Style};
 use rt_rib::{Book, Refused, Selection};
 use std::alloc::Global;
 use std::io::Write;
@@ -34,61 +35,65 @@ pub struct LookupSummary {
 }
 
 /// Runs the texts as `run_texts` does, and when all have ended writes to `w`, for each address in order, the best route of
-/// the longest prefix that covers it: `ADDR route PREFIX feed F pref P via HOP`, or `ADDR no route`. Nothing else is
-/// written, so that where no command was refused for want of memory the bytes are a function of the texts, the limit and
-/// what is asked (`laws::shows_union`, `laws::look_up_once`). Gives how much of the texts was taken, where all was written.
-/// Its faults are those of `run_texts`, and F3 also where there is no memory for the addresses or for what was taken.
+/// the longest prefix that covers it, in the style: as a line `ADDR route PREFIX feed F pref P via HOP` or `ADDR no route`,
+/// with the feed's number or its label, or as a JSON object (`write_found_as`). Nothing else is written, so that where no
+/// command was refused for want of memory the bytes are a function of the texts, the limit and what is asked
+/// (`laws::shows_union`, `laws::look_up_once`). Gives how much of the texts was taken, where all was written. Its faults are
+/// those of `run_texts`, and F3 also where there is no memory for the addresses or for what was taken.
 pub fn lookup_texts<R: Threads + Wait + Sync, W: Write>(
     rt: &R,
     alloc: Global,
     asked: &FeedTexts<'_>,
+    style: &Style<'_>,
     addresses: &AskedAddresses<'_>,
     w: &mut W,
 ) -> Result<LookupSummary, AppFault>
-    ensures text { Leaves (IsLookup asked.now addresses.now.named.now addresses.now.text.now answers_text) (W.contents w.old) (W.contents w.new) result }
+    ensures text { Leaves (IsLookup asked.now addresses.now.named.now addresses.now.text.now (answers_text style.now)) (W.contents w.old) (W.contents w.new) result }
     ensures no_text { (result ≡ Err (AppFault.Run RunFault.NoText)) ↔ (asked.now.texts ≡ []) }
 {
     let run = run_all(rt, alloc, asked)?;
-    let told = tell_answers(alloc, &run, addresses, w);
+    let told = tell_answers(alloc, &run, style, addresses, w);
     run.leave_table();
     told
 }
 
 /// Runs the texts as `run_texts` does, and when all have ended writes to `w`, for each address in order, every route that
-/// covers it, the best first: a line as of `lookup_texts`, and for each further route `ADDR also PREFIX feed F pref P via HOP
-/// REASON`, where the reason tells at which step it was left behind the first: `shorter`, `preference` or `feed`. What it
-/// gives, and its faults, are as for `lookup_texts`; F3 is also want of memory for all these routes, which are held before
-/// any is written.
+/// covers it, the best first, in the style: a line as of `lookup_texts`, and for each further route `ADDR also PREFIX feed F
+/// pref P via HOP REASON`, where the reason tells at which step it was left behind the first: `shorter`, `preference` or
+/// `feed`; or one JSON object (`write_all_found_as`). What it gives, and its faults, are as for `lookup_texts`; F3 is also
+/// want of memory for all these routes, which are held before any is written.
 pub fn lookup_all_texts<R: Threads + Wait + Sync, W: Write>(
     rt: &R,
     alloc: Global,
     asked: &FeedTexts<'_>,
+    style: &Style<'_>,
     addresses: &AskedAddresses<'_>,
     w: &mut W,
 ) -> Result<LookupSummary, AppFault>
-    ensures text { Leaves (IsLookup asked.now addresses.now.named.now addresses.now.text.now all_answers_text) (W.contents w.old) (W.contents w.new) result }
+    ensures text { Leaves (IsLookup asked.now addresses.now.named.now addresses.now.text.now (all_answers_text style.now)) (W.contents w.old) (W.contents w.new) result }
     ensures no_text { (result ≡ Err (AppFault.Run RunFault.NoText)) ↔ (asked.now.texts ≡ []) }
 {
     let run = run_all(rt, alloc, asked)?;
-    let told = tell_all_answers(alloc, &run, addresses, w);
+    let told = tell_all_answers(alloc, &run, style, addresses, w);
     run.leave_table();
     told
 }
 
 /// Runs the texts as `run_texts` does, and when all have ended writes to `w` those of the table's routes that are asked for,
-/// in its order, without its first line. What it gives, and its faults, are as for `lookup_texts`.
+/// in its order and in the style, without its first line. What it gives, and its faults, are as for `lookup_texts`.
 pub fn table_texts<R: Threads + Wait + Sync, W: Write>(
     rt: &R,
     alloc: Global,
     asked: &FeedTexts<'_>,
+    style: &Style<'_>,
     selection: &Selection,
     w: &mut W,
 ) -> Result<RunSummary, AppFault>
-    ensures text { Leaves (IsShown asked.now (routes_text selection.now)) (W.contents w.old) (W.contents w.new) result }
+    ensures text { Leaves (IsShown asked.now (routes_text style.now selection.now)) (W.contents w.old) (W.contents w.new) result }
     ensures no_text { (result ≡ Err (AppFault.Run RunFault.NoText)) ↔ (asked.now.texts ≡ []) }
 {
     let run = run_all(rt, alloc, asked)?;
-    let told = tell_routes(alloc, &run, selection, w);
+    let told = tell_routes(alloc, &run, style, selection, w);
     run.leave_table();
     told
 }
@@ -97,16 +102,17 @@ pub fn table_texts<R: Threads + Wait + Sync, W: Write>(
 fn tell_answers<W: Write>(
     alloc: Global,
     run: &FinishedRun,
+    style: &Style<'_>,
     addresses: &AskedAddresses<'_>,
     w: &mut W,
 ) -> Result<LookupSummary, AppFault>
     ensures text { (asked : AskedRun) → RunOverBook asked run.now.reports.items run.now.book
-        → Leaves (IsLookup asked addresses.now.named.now addresses.now.text.now answers_text) (W.contents w.old) (W.contents w.new) result }
+        → Leaves (IsLookup asked addresses.now.named.now addresses.now.text.now (answers_text style.now)) (W.contents w.old) (W.contents w.new) result }
     ensures ran { result ≢ Err (AppFault.Run RunFault.NoText) }
 {
     let read = read_asked(alloc, addresses)?;
     let all = read.addresses.as_slice();
-    let taken = tell_run(alloc, run, Output::Answers(&run.book, all), w)?;
+    let taken = tell_run(alloc, run, Output::Answers(style, &run.book, all), w)?;
     Ok(lookup_summary(taken, read.faulty))
 }
 
@@ -114,17 +120,18 @@ fn tell_answers<W: Write>(
 fn tell_all_answers<W: Write>(
     alloc: Global,
     run: &FinishedRun,
+    style: &Style<'_>,
     addresses: &AskedAddresses<'_>,
     w: &mut W,
 ) -> Result<LookupSummary, AppFault>
     ensures text { (asked : AskedRun) → RunOverBook asked run.now.reports.items run.now.book
-        → Leaves (IsLookup asked addresses.now.named.now addresses.now.text.now all_answers_text) (W.contents w.old) (W.contents w.new) result }
+        → Leaves (IsLookup asked addresses.now.named.now addresses.now.text.now (all_answers_text style.now)) (W.contents w.old) (W.contents w.new) result }
     ensures ran { result ≢ Err (AppFault.Run RunFault.NoText) }
 {
     let read = read_asked(alloc, addresses)?;
     let all = read.addresses.as_slice();
     let matches = matches_of(alloc, &run.book, all)?;
-    let taken = tell_run(alloc, run, Output::Matches(matches.as_slice()), w)?;
+    let taken = tell_run(alloc, run, Output::Matches(style, matches.as_slice()), w)?;
     Ok(lookup_summary(taken, read.faulty))
 }
 
@@ -144,15 +151,16 @@ fn lookup_summary(run: RunSummary, faulty: FaultyLines) -> LookupSummary
 fn tell_routes<W: Write>(
     alloc: Global,
     run: &FinishedRun,
+    style: &Style<'_>,
     selection: &Selection,
     w: &mut W,
 ) -> Result<RunSummary, AppFault>
     ensures text { (asked : AskedRun) → RunOverBook asked run.now.reports.items run.now.book
-        → Leaves (IsShown asked (routes_text selection.now)) (W.contents w.old) (W.contents w.new) result }
+        → Leaves (IsShown asked (routes_text style.now selection.now)) (W.contents w.old) (W.contents w.new) result }
     ensures ran { result ≢ Err (AppFault.Run RunFault.NoText) }
 {
     let routes = run.book.table().select(alloc, selection)?;
-    tell_run(alloc, run, Output::Routes(routes.as_slice()), w)
+    tell_run(alloc, run, Output::Routes(style, routes.as_slice()), w)
 }
 
 /// Writes what tells of a run's table, and tells how much of the texts was taken.
@@ -179,7 +187,7 @@ fn matches_of(
     book: &Book<Global>,
     addresses: &[Addr],
 ) -> Result<Vec<Matches>, Refused>
-    ensures { IfOk result (λ all. matches_text all.items ≡ all_answers_text addresses.now (table_of book.now)) }
+    ensures { IfOk result (λ all. (style : StyleContents) → matches_text style all.items ≡ all_answers_text style addresses.now (table_of book.now)) }
 {
     let mut all = Vec::with_capacity(alloc, addresses.len())?;
     for addr in addresses {

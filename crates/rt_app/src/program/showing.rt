@@ -1,9 +1,11 @@
 //! `lookup` and `table`: what the table says that feed files leave, and what of the files was not taken.
 
+use super::styles::{form_of, labels_for};
 use super::telling::{tell_faulty, tell_tally};
 use super::{Program, Stop};
 use command_line::{LookupRequest, TableRequest};
 use rt_cidr::{Addr, Prefix};
+use rt_feed::Style;
 use rt_rib::{Part, Selection};
 use rt_run::{
     AppFault, AskedAddresses, FeedTexts, LookupSummary, RunSummary, lookup_all_texts, lookup_texts,
@@ -25,17 +27,19 @@ where
     pub(super) fn show_answers<'w>(&mut self, request: &LookupRequest<'w>) -> Result<u8, Stop<'w>> {
         let run = &request.run;
         let named = named_addresses(self.alloc, request)?;
+        let labels = labels_for(self.alloc, request.telling, run.files.as_slice())?;
         let texts = self.read_feeds(run.files.as_slice())?;
         let text = match request.more {
             Some(name) => self.read_file(name)?,
             None => Vec::new(self.alloc),
         };
         let asked = FeedTexts::new(texts.as_slice(), run.limit, run.batch as usize);
+        let style = Style::new(form_of(request.telling), labels.as_slice());
         let addresses = AskedAddresses {
             named: named.as_slice(),
             text: text.as_slice(),
         };
-        let told = self.answer(request, &asked, &addresses)?;
+        let told = self.answer(request, &asked, &style, &addresses)?;
         if let Some(name) = request.more {
             tell_faulty(&mut self.screen, name, told.faulty);
         }
@@ -47,10 +51,12 @@ where
     pub(super) fn show_routes<'w>(&mut self, request: &TableRequest<'w>) -> Result<u8, Stop<'w>> {
         let run = &request.run;
         let selection = selection_of(request)?;
+        let labels = labels_for(self.alloc, request.telling, run.files.as_slice())?;
         let texts = self.read_feeds(run.files.as_slice())?;
         let asked = FeedTexts::new(texts.as_slice(), run.limit, run.batch as usize);
+        let style = Style::new(form_of(request.telling), labels.as_slice());
         let mut out = self.screen.beside(asked.count(), self.out);
-        let summary = table_texts(self.rt, self.alloc, &asked, &selection, &mut out)?;
+        let summary = table_texts(self.rt, self.alloc, &asked, &style, &selection, &mut out)?;
         tell_summary(&mut self.screen, run.files.as_slice(), &summary);
         Ok(summary.status)
     }
@@ -62,14 +68,15 @@ impl<R: Threads + Wait + Sync, O: Write, E: Write> Program<'_, R, O, E> {
         &mut self,
         request: &LookupRequest<'_>,
         asked: &FeedTexts<'_>,
+        style: &Style<'_>,
         addresses: &AskedAddresses<'_>,
     ) -> Result<LookupSummary, AppFault> {
         let (rt, alloc) = (self.rt, self.alloc);
         let mut out = self.screen.beside(asked.count(), self.out);
         if request.all {
-            lookup_all_texts(rt, alloc, asked, addresses, &mut out)
+            lookup_all_texts(rt, alloc, asked, style, addresses, &mut out)
         } else {
-            lookup_texts(rt, alloc, asked, addresses, &mut out)
+            lookup_texts(rt, alloc, asked, style, addresses, &mut out)
         }
     }
 }

@@ -27,6 +27,10 @@ pub(crate) enum Stop<'a> {
     TwoParts,
     /// A word that should be a prefix is none.
     NoPrefix(&'a str),
+    /// Feeds are to be told by their names, and the file has none for its feed.
+    NoName(&'a str),
+    /// Feeds are to be told by their names, and the two files have one.
+    OneName(&'a str, &'a str),
     /// A file could not be opened or read.
     Unreadable(&'a str),
     /// The work was refused or could not be written.
@@ -83,6 +87,7 @@ impl<'a> Stop<'a> {
             Stop::NotUtf8 | Stop::Misused(_) | Stop::Unknown | Stop::TooMany => Status::Misused,
             Stop::NothingAsked | Stop::NoAddress(_) => Status::Misused,
             Stop::TwoParts | Stop::NoPrefix(_) => Status::Misused,
+            Stop::NoName(_) | Stop::OneName(..) => Status::Misused,
             Stop::Unreadable(_) => Status::Unreadable,
             Stop::Fault(fault) => fault_ending(*fault).0,
         }
@@ -99,6 +104,8 @@ impl<'a> Stop<'a> {
             Stop::NoAddress(word) => tell_of(err, b"not an address: ", word),
             Stop::TwoParts => put(err, TWO_PARTS),
             Stop::NoPrefix(word) => tell_of(err, b"not a prefix: ", word),
+            Stop::NoName(file) => tell_of(err, b"no name for a feed: ", file),
+            Stop::OneName(first, second) => tell_both(err, b"one name for two feeds: ", first, second),
             Stop::Unreadable(name) => tell_of(err, b"cannot read ", name),
             Stop::Fault(fault) => put(err, fault_ending(*fault).1),
         }
@@ -114,6 +121,21 @@ fn tell_of<E: Write>(err: &mut E, what: &[u8], word: &str) -> Result<(), io::Err
     put(err, b"yarib: ")?;
     put(err, what)?;
     put(err, word.as_bytes())?;
+    put(err, b"\n")
+}
+
+/// Writes what is the matter, and with which two words of the command line.
+fn tell_both<E: Write>(
+    err: &mut E,
+    what: &[u8],
+    first: &str,
+    second: &str,
+) -> Result<(), io::Error> {
+    put(err, b"yarib: ")?;
+    put(err, what)?;
+    put(err, first.as_bytes())?;
+    put(err, b", ")?;
+    put(err, second.as_bytes())?;
     put(err, b"\n")
 }
 

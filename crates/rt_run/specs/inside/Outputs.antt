@@ -6,7 +6,8 @@ use Rattle.rt_cidr.specs.Output.{AppendsBeginning}
 use Rattle.rt_rib.specs.declared.limits.TheConstants.{MOST_FEEDS}
 use Rattle.rt_rib.specs.Book.{table_of}
 use Rattle.rt_feed.specs.declared.faults.RunFault.TheVariants as fault
-use Rattle.rt_feed.specs.Printed.{rows_text, table_text, all_found_text}
+use Rattle.rt_feed.specs.Printed.{table_text}
+use Rattle.rt_feed.specs.Styles.{StyleContents, label_of, rows_as, all_found_as}
 use Rattle.rt_run.specs.declared.faults.AppFault.{AppFault}
 use Rattle.rt_run.specs.declared.faults.AppFault.TheVariants.{Run, Replay, Write}
 use Rattle.rt_run.specs.declared.output.Matches.{Matches}
@@ -18,26 +19,26 @@ use Rattle.rt_run.specs.RunText.{reports_text}
 use Rattle.rt_run.specs.TableText.{answers_text}
 
 -- for each address, in order, all that was found for it
-abbrev pub matches_text : List Matches → List ℕ
-matches_text all = flat_map (λ one. all_found_text one.addr one.routes.items) all
+abbrev pub matches_text : StyleContents → List Matches → List ℕ
+matches_text style all = flat_map (λ one. all_found_as style.form (label_of style.labels) one.addr one.routes.items) all
 
 -- the text of the reports and the table, of the answers, of all that was found, of the differences, of the routes, or of a replay
 abbrev pub output_text : Output → List ℕ
 output_text (output.Run reports routes) = reports_text 1 reports.now ++ table_text routes.now
-output_text (output.Answers book addresses) = answers_text addresses.now (table_of book.now)
-output_text (output.Matches all) = matches_text all.now
+output_text (output.Answers style book addresses) = answers_text style.now addresses.now (table_of book.now)
+output_text (output.Matches style all) = matches_text style.now all.now
 output_text (output.Differences old new by first) = lines_of by (table_of old.now) (table_of new.now)
-output_text (output.Routes routes) = rows_text routes.now
+output_text (output.Routes style routes) = rows_as style.now.form (label_of style.now.labels) routes.now
 output_text (output.Replay steps inside) = replay_text_of steps.now inside
 
 -- of reports there are at most as many as feeds, the difference is the first, and of steps there are so many that each
 -- has a number
 abbrev pub IsOutput : Output → Type 0
 IsOutput (output.Run reports routes) = length reports.now ≤ MOST_FEEDS
-IsOutput (output.Answers book addresses) = Unit {0}
-IsOutput (output.Matches all) = Unit {0}
+IsOutput (output.Answers style book addresses) = Unit {0}
+IsOutput (output.Matches style all) = Unit {0}
 IsOutput (output.Differences old new by first) = IsFirstOf by (table_of old.now) (table_of new.now) first
-IsOutput (output.Routes routes) = Unit {0}
+IsOutput (output.Routes style routes) = Unit {0}
 IsOutput (output.Replay steps inside) = length steps.now < 2 ^ 63
 
 -- the text was put behind what the writer had; nothing was, for want of memory; or a beginning of the text

@@ -14,7 +14,7 @@ returns-in_err-write_piece g c =
     rw (c.split_at.ensures.front, c.split_at.ensures.back) (sym (take-append-drop c.min.result c.loop-rest.rest.now)) in
     rw fault.1 (record {
       ok = tt;
-      err = answers_begin (table_of c.args.book.now) c.args.addresses.now
+      err = answers_begin c.args.style.now (table_of c.args.book.now) c.args.addresses.now
           c.loop-rest.rest.now c.split_at.result.0.now c.split_at.result.1.now c.loop-rest.invariant.text c.loop-rest.invariant.whole
           cut _ _ _ c.loop-rest.invariant.written c.in_err-write_piece.ensures.err;
     })
@@ -25,10 +25,10 @@ loop-rest-preserved g c =
     let cut : c.loop-rest.rest.now ≡ c.split_at.result.0.now ++ c.split_at.result.1.now =
     rw (c.split_at.ensures.front, c.split_at.ensures.back) (sym (take-append-drop c.min.result c.loop-rest.rest.now)) in
     record {
-      text = c.loop-rest.invariant.text ++ answers_text c.split_at.result.0.now table;
+      text = c.loop-rest.invariant.text ++ answers_text c.args.style.now c.split_at.result.0.now table;
       written = appends_after _ _ _ c.loop-rest.invariant.text
-          (answers_text c.split_at.result.0.now table) c.loop-rest.invariant.written c.in_ok-write_piece.ensures.ok;
-      whole = answers_grow table c.args.addresses.now c.loop-rest.rest.now
+          (answers_text c.args.style.now c.split_at.result.0.now table) c.loop-rest.invariant.written c.in_ok-write_piece.ensures.ok;
+      whole = answers_grow c.args.style.now table c.args.addresses.now c.loop-rest.rest.now
           c.split_at.result.0.now c.split_at.result.1.now c.loop-rest.invariant.text c.loop-rest.invariant.whole cut;
     }
 

@@ -9,7 +9,7 @@ abbrev pub invariant-loop-rest : goal.invariant-loop-rest
 invariant-loop-rest g l = record {
   text : List ℕ;
   written : Appends (g.W.Write.contents l.initial.w) (g.W.Write.contents l.w) text;
-  whole : text ++ answers_text l.rest (table_of l.book) ≡ answers_text l.fn.addresses (table_of l.book);
+  whole : text ++ answers_text l.style l.rest (table_of l.book) ≡ answers_text l.style l.fn.addresses (table_of l.book);
 }
 
 abbrev pub decreases-loop-rest : goal.decreases-loop-rest

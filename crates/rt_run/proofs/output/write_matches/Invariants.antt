@@ -5,4 +5,4 @@ use Rattle.rt_run.proofs.output.write_matches.Given as goal
 
 -- what was found so far was written
 abbrev pub invariant-loop-one : goal.invariant-loop-one
-invariant-loop-one g l = Appends (g.W.Write.contents l.initial.w) (g.W.Write.contents l.w) (matches_text (take l.one-index l.all))
+invariant-loop-one g l = Appends (g.W.Write.contents l.initial.w) (g.W.Write.contents l.w) (matches_text l.style (take l.one-index l.all))

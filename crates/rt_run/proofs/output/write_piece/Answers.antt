@@ -3,12 +3,12 @@ use Rattle.rt_rib.specs.Book.{table_of}
 use Rattle.rt_run.proofs.Answering.{answers_stop}
 use Rattle.rt_run.proofs.output.write_piece.Goals as goal
 
-pub returns-in_err-write_found : goal.returns-in_err-write_found
-returns-in_err-write_found g c =
+pub returns-in_err-write_found_as : goal.returns-in_err-write_found_as
+returns-in_err-write_found_as g c =
     let fault = err_from_is_err_and c.from_residual.result c.from_residual.ensures.1 in
     rw fault.1 (record {
       ok = tt;
-      err = answers_stop (table_of c.args.book.now) c.args.piece.now c.look_up.new.answers c.loop-index.index
+      err = answers_stop c.args.style.now (table_of c.args.book.now) c.args.piece.now c.look_up.new.answers c.loop-index.index
           (record { 0 = 0 }) c.index-found-index.result c.loop-index-test.true c.index-found-index.is c.look_up.ensures
-          _ _ _ c.loop-index.invariant c.in_err-write_found.ensures.err;
+          _ _ _ c.loop-index.invariant c.in_err-write_found_as.ensures.err;
     })

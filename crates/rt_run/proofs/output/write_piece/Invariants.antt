@@ -7,4 +7,4 @@ use Rattle.rt_run.proofs.output.write_piece.Given as goal
 -- the answers so far were written
 abbrev pub invariant-loop-index : goal.invariant-loop-index
 invariant-loop-index g l =
-    Appends (g.W.Write.contents l.initial.w) (g.W.Write.contents l.w) (answers_text (take l.index l.piece) (table_of l.book))
+    Appends (g.W.Write.contents l.initial.w) (g.W.Write.contents l.w) (answers_text l.style (take l.index l.piece) (table_of l.book))

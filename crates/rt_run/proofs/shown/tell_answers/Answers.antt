@@ -9,17 +9,17 @@ pub returns-clause-text : goal.returns-clause-text
 returns-clause-text g c asked ran =
     let asks = c.args.addresses.now in
     let addresses = c.in_ok-read.read.addresses.items in
-    let told = c.in_ok-taken.ensures.text asked (answers_text addresses) ran
-    (ap (λ these. answers_text these (table_of c.args.run.now.book)) c.as_slice-all.ensures.value) in
+    let told = c.in_ok-taken.ensures.text asked (answers_text c.args.style.now addresses) ran
+    (ap (λ these. answers_text c.args.style.now these (table_of c.args.run.now.book)) c.as_slice-all.ensures.value) in
     rw c.lookup_summary.ensures
-    (leaves_lookup asked asks.named.now asks.text.now answers_text addresses c.in_ok-read.read.faulty (c.in_ok-read.ensures {u = tt}) _ _ c.in_ok-taken.taken told)
+    (leaves_lookup asked asks.named.now asks.text.now (answers_text c.args.style.now) addresses c.in_ok-read.read.faulty (c.in_ok-read.ensures {u = tt}) _ _ c.in_ok-taken.taken told)
 
 pub returns-in_err-taken-clause-text : goal.returns-in_err-taken-clause-text
 returns-in_err-taken-clause-text g c asked ran =
     let asks = c.args.addresses.now in
     let addresses = c.in_ok-read.read.addresses.items in
-    let told = c.in_err-taken.ensures.text asked (answers_text addresses) ran
-    (ap (λ these. answers_text these (table_of c.args.run.now.book)) c.as_slice-all.ensures.value) in
+    let told = c.in_err-taken.ensures.text asked (answers_text c.args.style.now addresses) ran
+    (ap (λ these. answers_text c.args.style.now these (table_of c.args.run.now.book)) c.as_slice-all.ensures.value) in
     let fault = err_from_is_err_and c.from_residual-in_err-taken.result c.from_residual-in_err-taken.ensures.1 in
     rw (fault.1, fault.2)
-    (leaves_lookup_fault asked asks.named.now asks.text.now answers_text addresses c.in_ok-read.read.faulty (c.in_ok-read.ensures {u = tt}) _ _ _ told)
+    (leaves_lookup_fault asked asks.named.now asks.text.now (answers_text c.args.style.now) addresses c.in_ok-read.read.faulty (c.in_ok-read.ensures {u = tt}) _ _ _ told)

@@ -9,12 +9,12 @@ returns-in-Run c = rw c.in-Run.is (record { none = λ same. absurd cc; some = λ
 pub returns-in-Answers : goal.returns-in-Answers
 returns-in-Answers c =
     rw (c.in-Answers.is, c.is_empty.ensures)
-    (record { none = answers-none c.in-Answers.addresses.now _; some = answers-some c.in-Answers.addresses.now _ })
+    (record { none = answers-none _ c.in-Answers.addresses.now _; some = answers-some _ c.in-Answers.addresses.now _ })
 
 pub returns-in-Matches : goal.returns-in-Matches
 returns-in-Matches c =
     rw (c.in-Matches.is, c.is_empty-in-Matches.ensures)
-    (record { none = matches-none c.in-Matches.all.now; some = matches-some c.in-Matches.all.now })
+    (record { none = matches-none _ c.in-Matches.all.now; some = matches-some _ c.in-Matches.all.now })
 
 pub returns-in-Differences : goal.returns-in-Differences
 returns-in-Differences c =
@@ -24,7 +24,7 @@ returns-in-Differences c =
 pub returns-in-Routes : goal.returns-in-Routes
 returns-in-Routes c =
     rw (c.in-Routes.is, c.is_empty-in-Routes.ensures)
-    (record { none = rows-none c.in-Routes.routes.now; some = rows-some c.in-Routes.routes.now })
+    (record { none = rows-none _ c.in-Routes.routes.now; some = rows-some _ c.in-Routes.routes.now })
 
 pub returns-in-Replay : goal.returns-in-Replay
 returns-in-Replay c = rw c.in-Replay.is (record { none = λ same. absurd cc; some = λ same. replay_text-some _ _ })
