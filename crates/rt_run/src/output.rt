@@ -181,11 +181,7 @@ fn write_piece<W: Write>(
 }
 
 /// Writes for each address all routes that cover it.
-fn write_matches<W: Write>(
-    w: &mut W,
-    style: &Style<'_>,
-    all: &[Matches],
-) -> Result<(), io::Error>
+fn write_matches<W: Write>(w: &mut W, style: &Style<'_>, all: &[Matches]) -> Result<(), io::Error>
     ensures { WritesText (W.contents w.old) (W.contents w.new) (matches_text style.now all.now) result }
 {
     for one in all {

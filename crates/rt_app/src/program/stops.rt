@@ -105,7 +105,12 @@ impl<'a> Stop<'a> {
             Stop::TwoParts => put(err, TWO_PARTS),
             Stop::NoPrefix(word) => tell_of(err, b"not a prefix: ", word),
             Stop::NoName(file) => tell_of(err, b"no name for a feed: ", file),
-            Stop::OneName(first, second) => tell_both(err, b"one name for two feeds: ", first, second),
+            Stop::OneName(first, second) => tell_both(
+                err,
+                b"one name for two feeds: ",
+                first,
+                second,
+            ),
             Stop::Unreadable(name) => tell_of(err, b"cannot read ", name),
             Stop::Fault(fault) => put(err, fault_ending(*fault).1),
         }
