@@ -42,7 +42,7 @@ static void apply(const char *name, uint32_t kind)
 {
     yarib table = YARIB_EMPTY;
     yarib_reply reply;
-    need(yarib_new(&table, 1000000, kind) == YARIB_DONE && yarib_reserve(&table, prefixes) == YARIB_DONE);
+    need(yarib_new(&table, 1000000, kind) == YARIB_DONE);
     double from = seconds();
     for (uint32_t k = 0; k < prefixes; k++) {
         yarib_command one = command(k);
@@ -94,13 +94,13 @@ int main(int count, char **words)
     apply("apply_journaled", YARIB_JOURNALED);
     fill(&table);
     look_up("look_up_1", &table, 1);
-    look_up("look_up_32", &table, 32);
+    look_up("look_up_256", &table, 256);
     look_up("look_up_4096", &table, CHUNK);
     double from = seconds();
     need(yarib_forward(&table, &forwarding) == YARIB_DONE);
     say("forward", from, prefixes);
     look_up("forwarding_1", &forwarding, 1);
-    look_up("forwarding_32", &forwarding, 32);
+    look_up("forwarding_256", &forwarding, 256);
     look_up("forwarding_4096", &forwarding, CHUNK);
     unsigned long sum = 0;
     for (uint32_t k = 0; k < addresses; k++) sum += answers[k].pref;

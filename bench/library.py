@@ -1,15 +1,16 @@
 #!/usr/bin/env python3
-"""Times the library from C and from Python, beside py-radix and Net::Patricia where they are, over the same prefixes and
-addresses.
+"""Times the libraries for C, Rust and Python beside the same calls in Rattle, and beside py-radix, Net::Patricia and DPDK's
+rte_lpm where they are, over the same prefixes and addresses.
 
-Needs rt, gcc and what bindings/build needs. All run in turn, so many rounds (3 if left out) over so many prefixes (500,000) of a
-real table's lengths, asked for addresses each of which lies in one of them. A row has a call, and the least nanoseconds of
-processor time for one prefix or address.
+Needs rt, gcc, cargo and what bindings/build needs. All run in turn, so many rounds (3 if left out) over so many prefixes
+(500,000) of a real table's lengths, asked for addresses each of which lies in one of them; crates/benches draws the same, and
+is left out where it times no forwarding table. A row has a call, and for each who makes it the least nanoseconds of processor
+time for one prefix or address. `apply_journaled` is of a table with a journal, `forward` makes a forwarding table, and the
+number behind a look-up says how many one call asks for.
 """
 import array
 import os
 import pathlib
-import random
 import shutil
 import subprocess
 import sys
@@ -20,9 +21,14 @@ import figures
 from figures import checks
 from table_model import dotted
 
-LENGTHS = {24: 600, 22: 120, 23: 100, 21: 50, 20: 45, 19: 30, 16: 25, 18: 10, 17: 5, 28: 10, 12: 5}
+# What the benches in Rattle draw: a length by a number below 1000.
+LENGTHS = ((600, 24), (720, 22), (820, 23), (870, 21), (915, 20), (945, 19), (970, 16), (980, 18), (985, 17), (995, 28),
+           (1000, 12))
 ASKED = 1 << 17
 BINDINGS = checks.TOP / "bindings"
+WHO = ("Rattle", "C", "Rust", "Python", "py-radix", "Net::Patricia", "rte_lpm")
+CALLS = ("apply", "apply_each", "apply_journaled", "look_up_1", "look_up_text", "look_up_256", "look_up_4096", "look_up_array",
+         "forward", "forwarding_1", "forwarding_256", "forwarding_4096", "forwarding_array")
 PATRICIA = """
 use strict; use warnings; use Net::Patricia; use Time::HiRes qw(clock);
 open(my $file, '<:raw', $ARGV[0]); local $/; my ($n, $m, @rest) = unpack('L*', <$file>);
@@ -36,12 +42,24 @@ $at = clock(); $tree->match_string($_) for @texts; printf "look_up_text %.0f\\n"
 """
 
 
+def draws(seed):
+    """The numbers that crates/benches draws."""
+    while True:
+        seed = (seed * 6364136223846793005 + 1442695040888963407) % (1 << 64)
+        yield seed >> 32
+
+
 def drawn(prefixes):
-    """Prefixes as pairs, and addresses, the same in each run."""
-    draw = random.Random(1)
-    lengths = draw.choices(list(LENGTHS), LENGTHS.values(), k=prefixes)
-    pairs = [(draw.getrandbits(length) << 32 - length, length) for length in lengths]
-    asked = [base | draw.getrandbits(32 - length) for base, length in draw.choices(pairs, k=ASKED)]
+    """Prefixes as pairs, and addresses, as crates/benches draws them."""
+    draw, pairs, asked = draws(1), [], []
+    for _ in range(prefixes):
+        lot = next(draw) % 1000
+        length = next(length for below, length in LENGTHS if lot < below)
+        pairs.append((next(draw) >> 32 - length << 32 - length, length))
+    draw = draws(2)
+    for _ in range(ASKED):
+        base, length = pairs[next(draw) % prefixes]
+        asked.append(base | next(draw) & 0xFFFFFFFF >> length)
     return pairs, asked
 
 
@@ -79,39 +97,90 @@ def printed(words):
     return [(name, float(value)) for name, value in map(str.split, ended.stdout.splitlines()) if name != "sum"]
 
 
-def measured(folder, program, pairs, asked):
+def has_patricia():
+    """Whether perl has Net::Patricia."""
+    words = ["perl", "-MNet::Patricia", "-e", "1"]
+    return shutil.which("perl") and subprocess.run(words, stderr=subprocess.DEVNULL).returncode == 0
+
+
+def patricia_rows(folder):
+    """Its rows, by the input that was written into the folder."""
+    return printed(["perl", "-e", PATRICIA, folder / "input"])
+
+
+def write_input(folder, pairs, asked):
+    """Writes what the programs read: how many there are, the prefixes and the addresses."""
+    block = array.array("I", [len(pairs), len(asked), *(part for pair in pairs for part in pair), *asked])
+    (folder / "input").write_bytes(block.tobytes())
+
+
+def rattle_rows(benches, prefixes):
+    """The rows of the same calls in Rattle, by the program crates/benches, which draws the same."""
+    ended = subprocess.run([benches, "fib", str(prefixes), str(ASKED)], capture_output=True, text=True)
+    if ended.returncode != 0:
+        sys.exit(f"bench/library.py: crates/benches ended with status {ended.returncode}\n{ended.stderr}")
+    words = ended.stderr.split()
+    told = {name: int(value) for name, value in zip(words[::2], words[1::2])}
+    yield "apply_journaled", told["load"]
+    yield "forward", told["new"] / prefixes
+    look_ups = {"single": "look_up_1", "together": "look_up_256", "random": "forwarding_1", "each": "forwarding_256"}
+    for name, call in look_ups.items():
+        yield call, told[name] / 1000
+
+
+def built(folder):
+    """The programs of one round, by who asks: those in C and Rust, and in C over rte_lpm where it is."""
+    subprocess.run([BINDINGS / "build"], check=True)
+    library, program = BINDINGS / "out/libyarib.a", ["gcc", "-O2", "-o"]
+    subprocess.run([*program, folder / "c", "-I", BINDINGS / "c", checks.TOP / "bench/library.c", library], check=True)
+    environment = os.environ | {"YARIB_LIB": str(BINDINGS / "out"), "CARGO_TARGET_DIR": str(folder / "target")}
+    how = {"check": True, "cwd": BINDINGS / "rust", "env": environment}
+    subprocess.run(["cargo", "build", "--release", "--offline", "--quiet"], **how)
+    crate = f"yarib={folder / 'target/release/libyarib.rlib'}"
+    words = ["rustc", "--edition", "2021", "-O", "--extern", crate, "-L", BINDINGS / "out", "-o", folder / "rust"]
+    subprocess.run([*words, checks.TOP / "bench/library.rs"], check=True)
+    found = {"C": [folder / "c", folder / "input"], "Rust": [folder / "rust", folder / "input"]}
+    if shutil.which("pkg-config") and subprocess.run(["pkg-config", "--exists", "libdpdk"]).returncode == 0:
+        flags = subprocess.run(["pkg-config", "--cflags", "--libs", "libdpdk"], check=True, capture_output=True, text=True).stdout
+        source = checks.TOP / "bench/library_lpm.c"
+        subprocess.run([*program, folder / "lpm", "-march=native", source, *flags.split()], check=True)
+        found["rte_lpm"] = [folder / "lpm", folder / "input"]
+    return found
+
+
+def measured(folder, programs, benches, pairs, asked):
     """The rows of one round, by who asks and what."""
     import yarib
-    found = {("C", name): value for name, value in printed([program, folder / "input"])}
+    found = {(who, name): value for who, words in programs.items() for name, value in printed(words)}
+    if benches:
+        found |= {("Rattle", name): value for name, value in rattle_rows(benches, len(pairs))}
     found |= {("Python", name): value for name, value in python_rows(yarib, pairs, asked)}
     try:
         import radix
         found |= {("py-radix", name): value for name, value in radix_rows(radix, pairs, asked)}
     except ImportError:
         pass
-    if shutil.which("perl") and subprocess.run(["perl", "-MNet::Patricia", "-e", "1"], stderr=subprocess.DEVNULL).returncode == 0:
-        found |= {("Net::Patricia", name): value for name, value in printed(["perl", "-e", PATRICIA, folder / "input"])}
+    if has_patricia():
+        found |= {("Net::Patricia", name): value for name, value in patricia_rows(folder)}
     return found
 
 
 def main():
     words = figures.begin(figures.reader(__doc__, rounds=3, prefixes=500_000))
-    subprocess.run([BINDINGS / "build"], check=True)
     os.environ["YARIB_LIBRARY"] = str(BINDINGS / "out/libyarib.so.0")
     sys.path.insert(0, str(BINDINGS / "python"))
     pairs, asked = drawn(words.prefixes)
     with tempfile.TemporaryDirectory() as name:
         folder = pathlib.Path(name)
-        block = array.array("I", [len(pairs), len(asked), *(part for pair in pairs for part in pair), *asked])
-        (folder / "input").write_bytes(block.tobytes())
-        options = ["-O2", "-I", BINDINGS / "c"]
-        program = folder / "library"
-        source = [checks.TOP / "bench/library.c", BINDINGS / "out/libyarib.a"]
-        subprocess.run(["gcc", *options, "-o", program, *source], check=True)
-        rounds = [measured(folder, program, pairs, asked) for _ in range(words.rounds)]
-    rows = [{"from": who, "call": call, "nanoseconds": min(one[who, call] for one in rounds)} for who, call in rounds[0]]
+        write_input(folder, pairs, asked)
+        times_it = (checks.TOP / "crates/benches/src/fib.rt").exists()
+        programs, benches = built(folder), checks.built_benches("fib", "2000") if times_it else None
+        rounds = [measured(folder, programs, benches, pairs, asked) for _ in range(words.rounds)]
+    least = {key: min(one[key] for one in rounds) for key in rounds[0]}
+    rows = [{"call": call} | {who: least[who, call] for who in WHO if (who, call) in least} for call in CALLS]
+    print(f"{'':16}" + "".join(f"{who:>14}" for who in WHO))
     for row in rows:
-        print(f"{row['from']:14} {row['call']:18} {row['nanoseconds']:8.0f} ns", flush=True)
+        print(f"{row['call']:16}" + "".join(f"{row[who]:14.0f}" if who in row else " " * 14 for who in WHO), flush=True)
     figures.keep("library", words.rounds, rows)
 
 

@@ -3,9 +3,10 @@
 
 Needs rustc. Each of 1, 4, 16 and 64 files announces the same prefixes in an order and with preferences of its own, then
 withdraws a tenth and replaces a tenth of them; the last file takes back all it has by `purge`. Both programs run in
-turn, so many rounds, on one processor, on two and on all, in batches of 256; with --batches of 20,000 prefixes, in
-batches of 1, 16 and 256. Prints for each the least time on the clock and of the processors (user and system) and the
-peak memory, with the ratios, and fails where the outputs differ: no answer here depends on how the threads ran.
+turn, so many rounds, on one processor, on two and on all, in batches of 256, and on all in single commands; with
+--batches of 20,000 prefixes, in batches of 1, 16 and 256 everywhere. Prints for each the least time on the clock and of
+the processors (user and system) and the peak memory, with the ratios, and fails where the outputs differ: no answer here
+depends on how the threads ran.
 """
 import os
 import pathlib
@@ -57,8 +58,8 @@ def compare(paths, processors, batch, programs, rounds):
     return measures
 
 
-def compare_files(folder, count, batches, programs, rounds):
-    """A row for each number of files, of processors, and batch."""
+def compare_files(folder, count, batches, on_all, programs, rounds):
+    """A row for each number of files, of processors, and batch: of these batches, and on all processors of those."""
     every = sorted(os.sched_getaffinity(0))
     rows = []
     for files in FILES:
@@ -66,7 +67,7 @@ def compare_files(folder, count, batches, programs, rounds):
         paths = run.write(folder / str(files), lambda: feeds(files, run.real_prefixes(count, random.Random(1))))
         lines = run.count_lines(paths)
         for some in (1, 2, len(every)):
-            for batch in batches:
+            for batch in on_all if some == len(every) else batches:
                 about = {"files": files, "lines": lines, "on": some, "batch": batch}
                 rows.append({**about, **compare(paths, every[:some], batch, programs, rounds)})
         for path in paths:
@@ -83,9 +84,9 @@ def main():
         folder = pathlib.Path(made)
         programs = yarib, figures.built_peer(folder, "peer.rs")
         if words.batches:
-            figures.keep("batches", rounds, compare_files(folder, 20_000, (1, 16, 256), programs, rounds))
+            figures.keep("batches", rounds, compare_files(folder, 20_000, (1, 16, 256), (1, 16, 256), programs, rounds))
         else:
-            figures.keep("route_server", rounds, compare_files(folder, words.prefixes, (256,), programs, rounds))
+            figures.keep("route_server", rounds, compare_files(folder, words.prefixes, (256,), (1, 256), programs, rounds))
 
 
 if __name__ == "__main__":

@@ -16,8 +16,8 @@ _yarib() {
   case ${COMP_WORDS[1]} in
     run) options="--limit --batch --help" ;;
     lookup) options="--all --names --json --address --addresses --limit --batch --help" ;;
-    table) options="--within --covering --exact --feed --best --names --json --limit --batch --help" ;;
-    diff) options="--by --limit --batch --help" ;;
+    table) options="--within --covering --exact --feed --best --count --names --json --limit --batch --help" ;;
+    diff) options="--by --names --json --limit --batch --help" ;;
     replay) options="--levels --help" ;;
     help) options="run lookup table diff replay" ;;
     *) return ;;

@@ -2,9 +2,12 @@
 """Has tools/bodies try wrong bodies of a small crate, and looks whether it tells of each what is so.
 
 tests/bodies.py, with the toolchain on PATH. Among the bodies are a right one, one that can't be read and is in a round with
-another, and one whose function calls another that is refused in the same round.
+another, and one whose function calls another that is refused in the same round. And what is kept of a refused body has to be
+forgotten where any text changes that the verdict rests on.
 """
+import os
 import pathlib
+import shutil
 import subprocess
 import sys
 import tempfile
@@ -48,6 +51,45 @@ def listed(name, old, new, function):
     return f"## {name}\n\n```\nfile: src/lib.rt\nold: {old}\nnew: {new}\nrefused in: {function}\n```\n"
 
 
+# Tells what is kept of two bodies of a crate, and keeps that the first was refused.
+KEEPS = """
+import sys
+sys.path.insert(0, "tools")
+from common.body_lists import bodies_of
+from common.kept_verdicts import Kept
+kept, (one, other, *_) = Kept("rt_cidr"), bodies_of("rt_cidr")
+print(kept.said_of(one), kept.said_of(other))
+kept.keep(one, "kept")
+"""
+
+
+# Fails where a verdict is kept though a text changed, or serves another body: `.. is changed`, `what is kept`.
+def wrongly_kept():
+    """Each change after which something else is kept than is to be, in a copy of what a verdict on rt_cidr rests on."""
+    with tempfile.TemporaryDirectory(prefix="kept-") as room:
+        top, wrong = pathlib.Path(room) / "top", []
+        shutil.copytree(TOP / "tools", top / "tools")
+        shutil.copytree(TOP / "crates/rt_cidr", top / "crates/rt_cidr", ignore=shutil.ignore_patterns("out"))
+        shutil.copy(TOP / "crates.txt", top)
+        call = lambda: subprocess.run([sys.executable, "-c", KEEPS], cwd=top, env=os.environ | {"XDG_CACHE_HOME": room},
+                                      stdout=subprocess.PIPE, text=True).stdout.strip()
+        if (call(), call()) != ("None None", "kept None"):
+            wrong.append("what is kept")
+        cidr = top / "crates/rt_cidr"
+        some = [sorted((cidr / part).rglob("*.*t"))[0] for part in ("src", "specs", "proofs")]
+        for file in (*some, cidr / "must-fail/bodies.md", top / "tools/bodies", top / "crates.txt"):
+            text = file.read_text()
+            old, new = ("\nold: ", "\nold:  ") if file.name == "bodies.md" else ("rt_cidr:", "rt_cidr: std")
+            changed = text.replace(old, new, 1)
+            file.write_text(changed if changed != text else text + "\n")
+            if call() != "None None":
+                wrong.append(f"{file.relative_to(top)} is changed")
+            file.write_text(text)
+            if call() != "kept None":
+                wrong.append(f"{file.relative_to(top)} is as it was")
+    return wrong
+
+
 def main():
     with tempfile.TemporaryDirectory(prefix="small-") as room:
         folder = pathlib.Path(room) / "small"
@@ -58,7 +100,7 @@ def main():
         (folder / "must-fail/bodies.md").write_text("\n".join(["# Wrong bodies\n", *sections]))
         ran = subprocess.run([TOP / "tools/bodies", "--of", room], stdout=subprocess.PIPE, text=True)
     lines = dict(line.removeprefix("body small/").split(": ", 1) for line in ran.stdout.splitlines() if line.startswith("body "))
-    wrong = [name for name, body in BODIES.items() if not lines.get(name, "").startswith(body[3])]
+    wrong = [name for name, body in BODIES.items() if not lines.get(name, "").startswith(body[3])] + wrongly_kept()
     refused = sum(body[3].startswith("refused") for body in BODIES.values())
     if wrong or ran.returncode != 1 or not ran.stdout.endswith(f"\n{refused} passed, {len(BODIES) - refused} failed\n"):
         said = ", ".join(wrong) or "their number"

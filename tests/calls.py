@@ -113,6 +113,14 @@ SHOWN = [
 10.1.0.0/16 feed north pref 10 via 192.0.2.1
 10.9.0.0/16 feed east pref 10 via discard
 """),
+    call("table --count --names north.feed south.feed east.feed", """\
+routes 4 prefixes 3
+feed north routes 2
+feed south routes 1
+feed east routes 1
+length 8 routes 2
+length 16 routes 2
+"""),
     call("lookup --json --address 10.200.0.1 --address 11.0.0.1 north.feed south.feed", """\
 {"address":"10.200.0.1","route":{"prefix":"10.0.0.0/8","feed":2,"file":"south.feed","pref":30,"via":"192.0.2.2"}}
 {"address":"11.0.0.1","route":null}
@@ -161,7 +169,8 @@ yarib: again.feed: replaces and withdraws of a prefix not there: 2
 10.0.0.0/8 feed 1 pref 50 via 192.0.2.1
 10.1.0.0/16 feed 1 pref 10 via 192.0.2.1
 """),
-    call("table --within 10.0.0.0/8 --best --feed 1 north.feed south.feed east.feed", "10.1.0.0/16 feed 1 pref 10 via 192.0.2.1\n"),
+    call("table --within 10.0.0.0/8 --best --feed 1 north.feed south.feed east.feed",
+         "10.1.0.0/16 feed 1 pref 10 via 192.0.2.1\n"),
     call("table --within 255.255.255.255/32 zero.feed", "255.255.255.255/32 feed 1 pref 4294967295 via 192.0.2.6\n"),
     call("table --exact 10.1.2.0/24 north.feed south.feed east.feed", ""),
     # Those of the command line in order, and then those of the file; one that is asked twice is answered twice.
@@ -257,6 +266,14 @@ COMPARED = [
 10.0.0.0-10.0.255.255 via 192.0.2.1 -> via 192.0.2.2
 10.2.0.0-10.8.255.255 via 192.0.2.1 -> via 192.0.2.2
 10.10.0.0-10.255.255.255 via 192.0.2.1 -> via 192.0.2.2
+""", 1),
+    call("diff --by route --names north.feed east.feed -- south.feed north.feed east.feed", """\
+10.0.0.0-10.0.255.255 10.0.0.0/8 feed north pref 50 via 192.0.2.1 -> 10.0.0.0/8 feed south pref 30 via 192.0.2.2
+10.2.0.0-10.8.255.255 10.0.0.0/8 feed north pref 50 via 192.0.2.1 -> 10.0.0.0/8 feed south pref 30 via 192.0.2.2
+10.10.0.0-10.255.255.255 10.0.0.0/8 feed north pref 50 via 192.0.2.1 -> 10.0.0.0/8 feed south pref 30 via 192.0.2.2
+""", 1),
+    call("diff --json north.feed -- north.feed east.feed", """\
+{"first":"10.9.0.0","last":"10.9.255.255","old":{"via":"192.0.2.1"},"new":{"via":null,"discard":true}}
 """, 1),
     call("diff old.feed -- new.feed", """\
 10.1.0.0-10.1.255.255 via 192.0.2.1 -> via 192.0.2.2

@@ -9,7 +9,9 @@ with those of tests/help. A replay is compared with a model of the tree, written
 at once is seen by another feed: its `dump`s change only where a batch of the one and a batch of the other end. In each case's
 folder stand row.feed, empty.feed and faulty.feed.
 """
+import collections
 import ipaddress
+import json
 import math
 import os
 import pathlib
@@ -388,7 +390,7 @@ def examples_of_the_help(yarib):
         help_text = yarib(name, "--help")[1]
         for words, shown in re.findall(r"^  \$ yarib (.*)\n((?:  [^$].*\n)*)", help_text, re.M):
             listed.append(calls.call(words, textwrap.dedent(shown), 1 if name == "diff" else 0))
-    expect("how many examples the help has", len(listed), 9)
+    expect("how many examples the help has", len(listed), 10)
     make(yarib, texts, listed)
 
 
@@ -466,7 +468,8 @@ def parts_of_tables(yarib):
     option's words."""
     choice = random.Random(61)
     lies_in = ipaddress.IPv4Network.subnet_of
-    holds = {"--within": lies_in, "--covering": lambda row, asked: lies_in(asked, row), "--exact": lambda row, asked: row == asked}
+    holds = {"--within": lies_in, "--covering": lambda row, asked: lies_in(asked, row),
+             "--exact": lambda row, asked: row == asked}
     for count in (0, 1, 12, 300):
         model, names = random_table(choice, f"part{count}_", count)
         stored = [ipaddress.IPv4Network(prefix) for prefix in model.offered]
@@ -494,6 +497,56 @@ def parts_of_tables(yarib):
         expect(f"{option} and {other}", ended, (3, "", "yarib: only one of --within, --covering and --exact may be given\n"))
     for word in ("0", "65", "x"):
         misused(f"--feed {word}", yarib("table", "--feed", word, "row.feed"), "--feed")
+
+
+def counts_text(rows):
+    """What `--count` prints of these rows of a table, whose feeds are told by number or by name."""
+    words = [row.split() for row in rows]
+    lines = [f"routes {len(words)} prefixes {len({word[0] for word in words})}"]
+    of_feeds = collections.Counter(word[2] for word in words)
+    lines += [f"feed {feed} routes {of_feeds[feed]}" for feed in sorted(of_feeds)]
+    of_lengths = collections.Counter(int(word[0].split("/")[1]) for word in words)
+    lines += [f"length {length} routes {of_lengths[length]}" for length in sorted(of_lengths)]
+    return "".join(line + "\n" for line in lines)
+
+
+def counted(line, path_of):
+    """The object that `--count --json` prints for a line of `--count`; this gives a feed's path."""
+    words = line.split()
+    said = {key: int(value) for key, value in zip(words[::2], words[1::2])}
+    if "feed" in said:
+        said = {"feed": said["feed"], "file": path_of(said["feed"]), "routes": said["routes"]}
+    return said
+
+
+# Fails where a length, a feed or the last of either is forgotten, or routes are counted as prefixes: `--count of 300`.
+def counted_tables(yarib):
+    """How many routes are in each part of random tables, beside the rows that the same command prints; and all feeds and lengths."""
+    choice = random.Random(62)
+    for count in (0, 1, 12, 300):
+        _, names = random_table(choice, f"counted{count}_", count)
+        for part in ([], ["--within", "10.0.0.0/8"], ["--covering", "10.0.0.1/32"], ["--exact", "10.0.0.0/24"]):
+            for more in ([], ["--best"], ["--feed", "2"], ["--best", "--feed", "1"]):
+                for named in ([], ["--names"]):
+                    words = [*part, *more, *named, *names]
+                    _, rows, _ = yarib("table", *words)
+                    compare(f"--count of {count} {words}", yarib("table", "--count", *words), 0, counts_text(rows.splitlines()))
+                words = [*part, *more, *names]
+                _, lines, _ = yarib("table", "--count", *words)
+                status, out, err = yarib("table", "--count", "--json", *words)
+                wanted = [counted(line, lambda feed: names[feed - 1]) for line in lines.splitlines()]
+                expect(f"--count --json of {count} {words}", (status, [json.loads(line) for line in out.splitlines()], err), (0, wanted, ""))
+    text = "".join(f"add {dotted(cut(10 << 24, length))}/{length} 1 192.0.2.1\n" for length in range(33))
+    pathlib.Path("lengths.feed").write_text(text)
+    wanted = counts_text([f"{dotted(cut(10 << 24, length))}/{length} feed {feed:02}" for feed in range(1, 65) for length in range(33)])
+    wanted = re.sub("feed 0", "feed ", wanted)
+    compare("64 feeds and 33 lengths", yarib("table", "--count", *["lengths.feed"] * 64), 0, wanted)
+    ended = yarib("table", "--count", "--json", "--names", "--best", "a folder/lengths.feed", "lengths.feed")
+    expect("--count of two files of one name", ended[0], 3)
+    compare("one feed's as JSON, to the byte", yarib("table", "--count", "--json", "--names", "row.feed"), 0, (
+        '{"routes":1,"prefixes":1}\n{"feed":1,"name":"row","file":"row.feed","routes":1}\n{"length":8,"routes":1}\n'))
+    misused("--count of a look-up", yarib("lookup", "--count", "--address", "10.0.0.1", "row.feed"), "--count")
+    misused("--count twice", yarib("table", "--count", "--count", "row.feed"), "--count")
 
 
 def cut(number, length):
@@ -575,6 +628,97 @@ def compared_tables(yarib):
     misused("no file behind --", yarib("diff", "row.feed", "--"), "<NEW>")
     misused("no old file", yarib("diff", "--", "row.feed"), "<OLD>")
     misused("what can't be compared", yarib("diff", "--by", "feed", "row.feed", "--", "row.feed"), "'feed'")
+
+
+def answer_object(text, path_of):
+    """The JSON value that tells this text of an answer; this gives a feed's path."""
+    words = text.split()
+    if text == "no route":
+        return None
+    way = {"via": None, "discard": True} if words[-1] == "discard" else {"via": words[-1]}
+    if len(words) < 7:
+        return way
+    feed = int(words[2])
+    return {"prefix": words[0], "feed": feed, "file": path_of(feed), "pref": int(words[4]), **way}
+
+
+# Fails where old and new are exchanged, or a range's last address is another: `as JSON by`.
+def compared_as_json(yarib):
+    """Each range is one object, which says what the line of the same command says, and of a feed its file on that side."""
+    choice = random.Random(63)
+    for number in (1, 4, 9):
+        (_, old), (_, new) = (random_table(choice, side, number) for side in ("old", "new"))
+        pathlib.Path(new[0]).write_text(pathlib.Path(new[0]).read_text().replace("192.0.2.1", "discard"))
+        pathlib.Path(new[0]).write_text("version 2\n" + pathlib.Path(new[0]).read_text())
+        for by in ("hop", "route"):
+            status, lines, _ = yarib("diff", "--by", by, *old, "--", *new)
+            wanted = []
+            for line in lines.splitlines():
+                addresses, answers = line.split(" ", 1)
+                (first, last), (was, now) = addresses.split("-"), answers.split(" -> ")
+                wanted.append({"first": first, "last": last, "old": answer_object(was, lambda feed: old[feed - 1]),
+                               "new": answer_object(now, lambda feed: new[feed - 1])})
+            ended, out, err = yarib("diff", "--json", "--by", by, *old, "--", *new)
+            told = [json.loads(line) for line in out.splitlines()]
+            expect(f"as JSON by {by} {number}", (ended, told, err), (status, wanted, ""))
+    ended = yarib("diff", "--json", "row.feed", "--", "empty.feed")
+    compare("a range as JSON, to the byte", ended, 1, (
+        '{"first":"10.0.0.0","last":"10.255.255.255","old":{"via":"192.0.2.1"},"new":null}\n'))
+    compare("no range as JSON", yarib("diff", "--json", "row.feed", "--", "row.feed"), 0, "")
+    expect("65 new files, as JSON", yarib("diff", "--json", "row.feed", "--", *["row.feed"] * 65), (3, "", "yarib: more than 64 files\n"))
+
+
+# Fails where feeds are paired by their numbers and not by their names: `a file that one side lacks`.
+def compared_by_name(yarib):
+    """Ranges of random feeds, whose files stand in another order on the other side, or lack there: feeds of one name are one."""
+    choice = random.Random(64)
+    for side in ("older", "newer"):
+        pathlib.Path(side).mkdir(exist_ok=True)
+    for number in range(12):
+        sides = []
+        for side in ("older", "newer"):
+            names = choice.sample(("a", "b", "c", "d"), choice.randint(1, 4))
+            model, paths = random_feeds(choice, side, names, number)
+            sides.append((model, paths, dict(enumerate(names, 1))))
+        (old, old_paths, old_names), (new, new_paths, new_names) = sides
+        for by in ("hop", "route"):
+            wanted = differences_text(old, new, by, (old_names, new_names))
+            ended = yarib("diff", "--names", "--by", by, *old_paths, "--", *new_paths)
+            expect(f"by {by} and name {number}", ended, (1 if wanted else 0, wanted, ""))
+    text = {"one": "add 10.0.0.0/8 5 192.0.2.1\n", "two": "add 11.0.0.0/8 5 192.0.2.2\n", "three": "add 12.0.0.0/8 5 192.0.2.3\n"}
+    for side in ("older", "newer"):
+        for name, lines in text.items():
+            pathlib.Path(f"{side}/{name}.feed").write_text(lines)
+    both = ["older/one.feed", "older/two.feed", "older/three.feed", "--", "newer/two.feed", "newer/three.feed"]
+    gone = "10.0.0.0-10.255.255.255 10.0.0.0/8 feed one pref 5 via 192.0.2.1 -> no route\n"
+    compare("a file that one side lacks", yarib("diff", "--by", "route", "--names", *both), 1, gone)
+    expect("and by its number", yarib("diff", "--by", "route", *both)[1].count("\n"), 3)
+    compare("a file that one side lacks, as JSON", yarib("diff", "--by", "route", "--names", "--json", *both), 1, (
+        '{"first":"10.0.0.0","last":"10.255.255.255","old":{"prefix":"10.0.0.0/8","feed":1,"name":"one","file":"older/one.feed",'
+        '"pref":5,"via":"192.0.2.1"},"new":null}\n'))
+    moved = yarib("diff", "--by", "route", "--names", "--json", "older/one.feed", "older/two.feed", "--", "newer/three.feed", "newer/two.feed")
+    told = [json.loads(line) for line in moved[1].splitlines()]
+    expect("each side's own number and file", [(one["old"], one["new"]) for one in told], [
+        ({"prefix": "10.0.0.0/8", "feed": 1, "name": "one", "file": "older/one.feed", "pref": 5, "via": "192.0.2.1"}, None),
+        (None, {"prefix": "12.0.0.0/8", "feed": 1, "name": "three", "file": "newer/three.feed", "pref": 5, "via": "192.0.2.3"})])
+    for side in (["older/one.feed", "newer/one.feed", "--", "row.feed"], ["row.feed", "--", "older/one.feed", "newer/one.feed"]):
+        compare(f"one name twice in {side}", yarib("diff", "--names", *side), 3, "", "yarib: one name for two feeds: older/one.feed, newer/one.feed\n")
+    pathlib.Path("a b.feed").write_text(ROW)
+    compare("no name", yarib("diff", "--names", "row.feed", "--", "a b.feed"), 3, "", "yarib: no name for a feed: a b.feed\n")
+
+
+def random_feeds(choice, folder, names, count):
+    """Random feeds of these names, in a folder, of up to so many routes: their table, and their files."""
+    model, paths = Table(1_000_000), [f"{folder}/{name}.feed" for name in names]
+    for feed, path in enumerate(paths, 1):
+        lines = []
+        for _ in range(count):
+            length = choice.choice((0, 8, 24, 32))
+            line = f"add {dotted(cut(10 << 24, length))}/{length} {choice.randrange(2)} 192.0.2.{choice.randrange(2)}"
+            if model.apply(feed, line.split()) == "added":
+                lines.append(line + "\n")
+        pathlib.Path(path).write_text("".join(lines))
+    return model, paths
 
 
 def random_table(choice, side, count):
@@ -822,7 +966,8 @@ def progress_of_long_runs(yarib):
 
 CASES = (
     runs, what_the_table_says, what_two_tables_answer_otherwise, file_order, many_files, unreadable, names, texts, limits,
-    batches, twice, replays, finished_tables, parts_of_tables, compared_tables, old_first, not_taken, files_told, addresses_told, pages,
+    batches, twice, replays, finished_tables, parts_of_tables, counted_tables, compared_tables, compared_as_json,
+    compared_by_name, old_first, not_taken, files_told, addresses_told, pages,
     examples_of_the_help, help_is_true, closed_outputs, progress, line_each_second, progress_of_long_runs,
 )
 

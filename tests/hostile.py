@@ -7,7 +7,7 @@ Little memory: the program is run under rising limits of its address space, with
 and as the launchers set it. It must end as with ample memory, or with status 5 and nothing on standard output, or with status 5
 and what the model prints without the commands that it says were refused; never by a signal. Limits under which it can't be loaded
 at all are left out. Then each request of a look-up and of a list is refused in turn, as refused_growth.py does it
-for all kinds of runs.
+for all kinds of runs, and requests of a forwarding table.
 """
 import os
 import pathlib
@@ -18,6 +18,7 @@ import subprocess
 
 from checks import LAUNCHED, chosen, end, expect, run, run_each
 from refused_growth import Wrong, answered_addresses, check_shown, files as text_files, own_text, refuse_each, refuser
+from sizes import FORWARDED, many_routes
 from table_model import run_text
 
 ROW = "add 10.0.0.0/8 100 192.0.2.1\n"
@@ -121,6 +122,38 @@ def refused_commands(yarib):
             expect(name, str(wrong), "as foreseen")
             continue
         expect(f"{name}: what was refused", kinds, {"lookup or table", "a command of a look-up or list"})
+
+
+def refused_at(words, refuse, at):
+    """What a call prints whose request of this number is refused, and whether it made one."""
+    heard, told = os.pipe()
+    asked = {"LD_PRELOAD": str(refuse), "REFUSE_AT": str(at), "REFUSE_TELL": str(told)}
+    ended = run(words, env=asked, pass_fds=[told])
+    os.close(told)
+    was_refused = os.read(heard, 1) != b""
+    os.close(heard)
+    return ended, was_refused
+
+
+# Fails where a look-up of many addresses ends with F3 where the memory of a forwarding table is refused.
+def refused_forwarding(yarib):
+    """Look-ups of so many addresses that a forwarding table answers them, whose requests for memory are refused: of the last
+    ones, which are that table's and one for the output, only the output's keeps the answers from being printed."""
+    refuse = refuser(pathlib.Path.cwd())
+    text, asked, answers = many_routes(FORWARDED[1])
+    times = FORWARDED[0] // len(asked) + 1
+    pathlib.Path("many.feed").write_text(text)
+    pathlib.Path("many.txt").write_text("".join(asked) * times)
+    words = [yarib, "lookup", "--addresses", "many.txt", "many.feed"]
+    made, beyond = 1, 1 << 24
+    while beyond - made > 1:
+        middle = (made + beyond) // 2
+        made, beyond = (middle, beyond) if refused_at(words, refuse, middle)[1] else (made, middle)
+    whole = (0, "".join(answers) * times, "")
+    ends = [refused_at(words, refuse, made - back)[0] for back in (0, 1, 2, 5, 10, 20)]
+    refused = (5, "", "yarib: fault F3\n")
+    found = ["whole" if ended == whole else "refused" if ended == refused else "else" for ended in ends]
+    expect("look-ups where a forwarding table is refused", found, ["refused"] + ["whole"] * 5)
 
 
 # Files
@@ -247,7 +280,7 @@ def disc_fills(yarib, large, folder):
         expect(f"what stands in {size} bytes", target.read_text() == whole[:size], True)
 
 
-CASES = (files, outputs, little_memory, refused_commands)
+CASES = (files, outputs, little_memory, refused_commands, refused_forwarding)
 
 
 def main():

@@ -83,9 +83,11 @@ def shown(yarib, count):
     few, many = (counted_shown(yarib, count, ["lookup", "--all", *asked], lines) for lines in (20_000, 40_000))
     # The routes that cover an address lie in a list of their own.
     expect(f"all that covers: {many - few} requests more", 0 <= many - few - 20_000 <= DOUBLING, True)
-    listed = counted_shown(yarib, count, ["table"], 1)
-    run_of = counted([yarib, "run", "--batch", "256", "text.feed"], count)[0]
-    expect(f"a table: {listed - run_of} requests more than a run", listed - run_of <= DOUBLING, True)
+    counted_shown(yarib, count, ["table"], 1)
+    pathlib.Path("none.feed").write_text("")
+    more = [counted([yarib, "table", file], count)[0] - counted([yarib, "run", "--batch", "256", file], count)[0]
+            for file in ("none.feed", "text.feed")]
+    expect(f"a table: {more[1] - more[0]} requests more than a run, beside those for options", more[1] - more[0] <= DOUBLING, True)
 
 
 def counted_shown(yarib, count, words, lines):

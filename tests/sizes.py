@@ -6,9 +6,10 @@ tests/sizes.py [PROGRAM [CASE..]], or --list for the names of the cases. Linux, 
 That a call which wants memory gets it where there is some, no clause can say. So: a million routes of one feed and more than a
 million lines, entries and answers; each number of files from 1 to 64, with as many offers of one prefix; feeds with other
 texts of their own; batches about the sizes at which lists grow; the greatest numbers and the last address. `lookup` and
-`table` are called on each number of files, on 300,000 routes and with 100,000 addresses. All is run with memory as the launchers
-set it. What has 64 threads, which by the C library's default share several arenas, and what fills large pages is about that
-memory, and is run once more by that default (`OF_MEMORY`). The others are about numbers in the code, and are run once.
+`table` are called on each number of files, on 300,000 routes and with 100,000 addresses, and `lookup` on both sides of
+the numbers from which on a forwarding table answers. All is run with memory as the launchers set it. What has 64 threads, which
+by the C library's default share several arenas, and what fills large pages is about that memory, and is run once more by that
+default (`OF_MEMORY`). The others are about numbers in the code, and are run once.
 """
 import os
 import pathlib
@@ -247,6 +248,51 @@ def addresses(yarib):
             compare(f"{count} addresses {words}", ended, 0, answer * count)
 
 
+# From so many addresses and routes on a forwarding table answers (MANY_ADDRESSES, MANY_ROUTES of rt_run/src/forwarding.rt).
+FORWARDED = 1 << 19, 1 << 14
+
+
+def many_routes(count):
+    """A feed of so many routes, addresses in and between them, and what a look-up of each prints."""
+    lines, asked, answers = ["version 2\n", "add 10.0.0.0/8 9 discard\n"], [], []
+
+    def ask(addr, answer):
+        asked.append(f"{addr}\n")
+        answers.append(f"{addr} {answer}\n")
+
+    for at in range((count - 1) // 4):
+        base = 0x0A00_0000 + (at << 10)
+        whole, part, host = f"{dotted(base)}/23", f"{dotted(base + 256)}/28", f"{dotted(base + 511)}/32"
+        lines += [f"add {whole} 3 192.0.2.1\n", f"add {part} 2 192.0.2.2\n", f"add {host} 1 192.0.2.3\n"]
+        lines.append(f"add {dotted(base + 768)}/24 4 192.0.2.4\n")
+        for place in (0, 255, 272, 510):
+            ask(dotted(base + place), f"route {whole} feed 1 pref 3 via 192.0.2.1")
+        for place in (256, 271):
+            ask(dotted(base + place), f"route {part} feed 1 pref 2 via 192.0.2.2")
+        ask(dotted(base + 511), f"route {host} feed 1 pref 1 via 192.0.2.3")
+        ask(dotted(base + 512), "route 10.0.0.0/8 feed 1 pref 9 via discard")
+        ask(dotted(base + 1023), f"route {dotted(base + 768)}/24 feed 1 pref 4 via 192.0.2.4")
+    lines += [f"add 11.0.0.{place}/32 5 discard\n" for place in range((count - 1) % 4)]
+    ask("9.255.255.255", "no route")
+    ask("255.255.255.255", "no route")
+    return "".join(lines), asked, answers
+
+
+# Fails where F3 is answered to as many addresses as a forwarding table answers.
+def forwarded(yarib):
+    """Look-ups on both sides of the numbers from which on a forwarding table answers them, and far beyond."""
+    addresses, routes = FORWARDED
+    far = [(2_500_000, routes), (addresses, 65_001)]
+    for count, size in [(addresses - 1, routes), (addresses, routes), (addresses + 1, routes), (addresses, routes - 1), *far]:
+        text, asked, answers = many_routes(size)
+        times, rest = divmod(count, len(asked))
+        pathlib.Path("many.feed").write_text(text)
+        pathlib.Path("many.txt").write_text("".join(asked) * times + "".join(asked[:rest]))
+        out = "".join(answers) * times + "".join(answers[:rest])
+        ended = yarib("lookup", "--limit", str(MOST), "--addresses", "many.txt", "many.feed")
+        compare(f"{count} addresses in {size} routes", ended, 0, out)
+
+
 # Fails where F3 is answered to more than 1,000,000 routes in all: `the table of 1000001 routes in all`.
 def in_all(yarib):
     """More routes in all than one feed may have: a few more in every command, and far more where little of them is printed."""
@@ -271,12 +317,15 @@ def in_all(yarib):
 
 # Fails where a part is cut out of a copy of the whole table: `--within a /16: bytes more than a look-up`.
 def part_of_a_million(yarib):
-    """Of a million routes those in a /16: beyond the loading they take no memory but for the rows."""
+    """Of a million routes those in a /16, and how many there are: beyond the loading they take no memory but for the rows."""
     row = lambda at: f"{dotted(0x0A00_0000 + 64 * at)}/32 feed 1 pref 1 via 192.0.2.1\n"
     pathlib.Path("million.feed").write_text("".join(f"add {row(at).split()[0]} 1 192.0.2.1\n" for at in range(MOST)))
     few = "".join(map(row, range(1024, 2048)))
+    counts = lambda count: f"routes {count} prefixes {count}\nfeed 1 routes {count}\nlength 32 routes {count}\n"
     calls = {"a look-up": (["lookup", "--address", "10.255.0.0"], "10.255.0.0 route " + row(255 * 1024)),
-             "--within a /16": (["table", "--within", "10.1.0.0/16"], few)}
+             "--within a /16": (["table", "--within", "10.1.0.0/16"], few),
+             "--count within a /16": (["table", "--count", "--within", "10.1.0.0/16"], counts(1024)),
+             "--count of all": (["table", "--count"], counts(MOST))}
     peaks = {}
     for name, (words, wanted) in calls.items():
         with open("printed", "w+b") as out:
@@ -285,12 +334,13 @@ def part_of_a_million(yarib):
             out.seek(0)
             compare(name, (status, out.read().decode(), ""), 0, wanted)
         peaks[name] = used.ru_maxrss * 1024
-    more = peaks["--within a /16"] - peaks["a look-up"]
     # A copy of the whole table is 24 MB and more.
-    expect(f"--within a /16: {more} bytes more than a look-up", more < 4_000_000, True)
+    for name in ("--within a /16", "--count within a /16"):
+        more = peaks[name] - peaks["a look-up"]
+        expect(f"{name}: {more} bytes more than a look-up", more < 4_000_000, True)
 
 
-CASES = (batches, purges, feeds, many_offers, at_limit, covered, compared, addresses, in_all, million, part_of_a_million)
+CASES = (batches, purges, feeds, many_offers, at_limit, covered, compared, addresses, forwarded, in_all, million, part_of_a_million)
 OF_MEMORY = (feeds, many_offers, in_all, million)
 
 

@@ -93,19 +93,20 @@ def shown(route):
     return f"{prefix} feed {feed} pref {pref} via {hop}"
 
 
-def differences_text(old, new, by):
-    """What a comparison of two tables prints: from each border of their prefixes to the next both say one thing."""
+def differences_text(old, new, by, names=({}, {})):
+    """What a comparison of two tables prints: from each border of their prefixes to the next both say one thing. In place of a
+    feed's number stands its name, where its side has names."""
 
-    def said(table, border):
+    def said(table, border, named):
         best = table.covering(dotted(border))[:1]
         if by == "route" or not best:
-            return shown(best[0]) if best else "no route"
+            return shown((best[0][0], named.get(best[0][1], best[0][1]), *best[0][2:])) if best else "no route"
         return "discard" if best[0][3] == "discard" else f"via {best[0][3]}"
 
     ends = {base + size for table in (old, new) for base, length in map(block, table.offered) for size in (0, 1 << 32 - length)}
     ranges = []
     for border in sorted({0, *ends} - {1 << 32}):
-        answers = said(old, border), said(new, border)
+        answers = said(old, border, names[0]), said(new, border, names[1])
         if not ranges or ranges[-1][1] != answers:
             ranges.append((border, answers))
     lasts = [first - 1 for first, _ in ranges[1:]] + [(1 << 32) - 1]

@@ -12,6 +12,8 @@ static const yarib_command add_eight = {
 /* What is to stay is filled with this byte, and compared. */
 enum { MARK = 0x5a };
 
+static const yarib_selection all = {.part = YARIB_ALL};
+
 static int is_marked(const void *place, size_t size)
 {
     const unsigned char *bytes = place;
@@ -47,7 +49,8 @@ static void nothing(yarib *empty)
     CHECK(yarib_look_up(empty, &address, 1, &route, 1) == YARIB_NOTHING && is_marked(&route, sizeof route));
     CHECK(yarib_look_up_all(empty, 1, 0, &route, 1, &total) == YARIB_NOTHING && is_marked(&route, sizeof route));
     CHECK(yarib_routes(empty, 0, &route, 1, &total) == YARIB_NOTHING && is_marked(&route, sizeof route));
-    CHECK(yarib_count(empty, &total) == YARIB_NOTHING);
+    CHECK(yarib_select(empty, &all, 0, &route, 1, &total) == YARIB_NOTHING && is_marked(&route, sizeof route));
+    CHECK(yarib_count(empty, &total) == YARIB_NOTHING && yarib_follow(empty) == YARIB_NOTHING);
     CHECK(yarib_journal(empty, 0, &entry, 1, &total) == YARIB_NOTHING);
     CHECK(yarib_first_difference(empty, &other, 0, 0, &range) == YARIB_NOTHING);
     CHECK(yarib_forward(empty, &other) == YARIB_NOTHING && yarib_share(empty, &other) == YARIB_NOTHING);
@@ -110,13 +113,16 @@ static void kinds(void)
     CHECK(yarib_journal(&table, 0, &entry, 1, &total) == YARIB_DONE && total == 1);
     CHECK(memcmp(&entry.command, &add_eight, sizeof(uint32_t) * 5 + 2) == 0 && entry.reply.code == YARIB_ADDED);
     CHECK(yarib_forward(&table, &forwarding) == YARIB_DONE && yarib_share(&forwarding, &other) == YARIB_DONE);
-    CHECK(yarib_share(&table, &other) == YARIB_WRONG_KIND && yarib_memory(&table, &total) == YARIB_WRONG_KIND);
+    CHECK(yarib_share(&table, &other) == YARIB_WRONG_KIND);
+    CHECK(yarib_memory(&table, &total) == YARIB_DONE && total == 48 + 56);
+    CHECK(yarib_follow(&table) == YARIB_WRONG_KIND && yarib_follow(&forwarding) == YARIB_WRONG_KIND);
     CHECK(yarib_memory(&forwarding, &total) == YARIB_DONE && total >= (size_t)1 << 26);
     CHECK(yarib_apply(&forwarding, &add_eight, &reply) == YARIB_WRONG_KIND);
     CHECK(yarib_count(&forwarding, &total) == YARIB_WRONG_KIND);
     CHECK(yarib_apply_each(&forwarding, &add_eight, 1, &reply, 1) == YARIB_DONE);
     CHECK(reply.code == YARIB_UNANSWERED && reply.count == YARIB_WRONG_KIND && yarib_reserve(&forwarding, 1) == YARIB_DONE);
     CHECK(yarib_routes(&forwarding, 0, &route, 1, &total) == YARIB_WRONG_KIND);
+    CHECK(yarib_select(&forwarding, &all, 0, &route, 1, &total) == YARIB_WRONG_KIND);
     CHECK(yarib_look_up_all(&forwarding, address, 0, &route, 1, &total) == YARIB_WRONG_KIND);
     CHECK(yarib_journal(&forwarding, 0, &entry, 1, &total) == YARIB_WRONG_KIND);
     CHECK(yarib_forward(&forwarding, &other) == YARIB_WRONG_KIND);
@@ -128,6 +134,93 @@ static void kinds(void)
     CHECK(yarib_look_up(&other, &address, 1, &route, 1) == YARIB_DONE && route.feed == 1);
     CHECK(yarib_new(&other, 1, YARIB_PLAIN) == YARIB_DONE && yarib_look_up(&other, &address, 1, &route, 1) == YARIB_DONE);
     CHECK(route.hop == YARIB_NO_ROUTE && yarib_journal(&other, 0, &entry, 1, &total) == YARIB_WRONG_KIND);
+    yarib_free(&other);
+}
+
+static yarib_command add(uint32_t feed, uint32_t base, uint8_t len, uint32_t pref)
+{
+    return (yarib_command){.operation = YARIB_ADD, .feed = feed, .base = base, .len = len, .pref = pref, .hop = YARIB_VIA, .via = feed};
+}
+
+/* How many routes are asked for, and the first of them. */
+static size_t selected(yarib *table, uint32_t part, uint32_t base, uint8_t len, uint32_t feed, uint8_t best, yarib_route *first)
+{
+    yarib_selection asked = {.part = part, .feed = feed, .base = base, .len = len, .only_best = best};
+    size_t total;
+    CHECK(yarib_select(table, &asked, 0, first, 1, &total) == YARIB_DONE);
+    return total;
+}
+
+/* Routes by prefix: the prefix itself, longer and shorter ones, of a feed, and the best ones. */
+static void parts(void)
+{
+    const yarib_command commands[] = {add(1, 10u << 24, 8, 5), add(2, 10u << 24, 8, 4), add(1, 10u << 24, 16, 1), add(2, 11u << 24, 8, 1),
+                                      add(3, 0, 0, 9), add(3, 0x0a00ffff, 32, 2)};
+    yarib_selection faulty = {.part = 4};
+    yarib table = YARIB_EMPTY;
+    yarib_reply replies[6];
+    yarib_route first, rest[6];
+    size_t total = 99;
+    CHECK(yarib_new(&table, 9, YARIB_PLAIN) == YARIB_DONE && yarib_apply_each(&table, commands, 6, replies, 6) == YARIB_DONE);
+    CHECK(selected(&table, YARIB_ALL, 1, 99, 0, 0, &first) == 6 && first.len == 0);
+    CHECK(selected(&table, YARIB_ALL, 0, 0, 0, 1, &first) == 5 && selected(&table, YARIB_ALL, 0, 0, 1, 1, &first) == 1 && first.len == 16);
+    CHECK(selected(&table, YARIB_WITHIN, 10u << 24, 8, 0, 0, &first) == 4 && first.feed == 2);
+    CHECK(selected(&table, YARIB_WITHIN, 10u << 24, 8, 1, 0, &first) == 2 && first.len == 8);
+    CHECK(selected(&table, YARIB_WITHIN, 10u << 24, 9, 0, 0, &first) == 2 && first.len == 16);
+    CHECK(selected(&table, YARIB_WITHIN, 12u << 24, 8, 0, 0, &first) == 0);
+    CHECK(selected(&table, YARIB_COVERING, 0x0a00ffff, 32, 0, 0, &first) == 5 && first.len == 0);
+    CHECK(selected(&table, YARIB_COVERING, 11u << 24, 16, 0, 0, &first) == 2);
+    CHECK(selected(&table, YARIB_EXACT, 10u << 24, 8, 0, 0, &first) == 2 && first.pref == 4);
+    CHECK(selected(&table, YARIB_EXACT, 10u << 24, 9, 0, 0, &first) == 0);
+    CHECK(yarib_select(&table, &all, 4, rest, 6, &total) == YARIB_DONE && total == 6 && rest[0].base == 0x0a00ffff && rest[1].base == 11u << 24);
+    total = 99;
+    memset(rest, MARK, sizeof rest);
+    CHECK(yarib_select(&table, &faulty, 0, rest, 6, &total) == YARIB_BAD_NUMBER);
+    faulty = (yarib_selection){.feed = 65};
+    CHECK(yarib_select(&table, &faulty, 0, rest, 6, &total) == YARIB_BAD_NUMBER);
+    faulty = (yarib_selection){.only_best = 2};
+    CHECK(yarib_select(&table, &faulty, 0, rest, 6, &total) == YARIB_BAD_NUMBER);
+    faulty = (yarib_selection){.part = YARIB_EXACT, .len = 33};
+    CHECK(yarib_select(&table, &faulty, 0, rest, 6, &total) == YARIB_BAD_LENGTH);
+    faulty = (yarib_selection){.part = YARIB_WITHIN, .base = 1, .len = 31};
+    CHECK(yarib_select(&table, &faulty, 0, rest, 6, &total) == YARIB_BAD_BITS);
+    CHECK(total == 99 && is_marked(rest, sizeof rest));
+    yarib_free(&table);
+}
+
+/* A table beside which a forwarding table follows answers as one without, after each of many commands. */
+static void followed(void)
+{
+    yarib one = YARIB_EMPTY, other = YARIB_EMPTY;
+    yarib_difference range;
+    uint32_t draw = 1, asked[64];
+    size_t bytes;
+    CHECK(yarib_new(&one, 50, YARIB_PLAIN) == YARIB_DONE && yarib_new(&other, 50, YARIB_PLAIN) == YARIB_DONE);
+    CHECK(yarib_memory(&one, &bytes) == YARIB_DONE && bytes == 0);
+    CHECK(yarib_follow(&one) == YARIB_DONE && yarib_follow(&one) == YARIB_DONE);
+    CHECK(yarib_memory(&one, &bytes) == YARIB_DONE && bytes >= (size_t)1 << 26);
+    for (int k = 0; k < 2000; k++) {
+        yarib_reply replies[2];
+        yarib_route answers[2][64];
+        for (int j = 0; j < 64; j++) {
+            draw = draw * 1664525u + 1013904223u;
+            asked[j] = draw >> 31 << 31 | (draw >> 8 & 0x1ffu);
+        }
+        uint8_t len = (uint8_t)(k % 499 == 0 ? 1 : 20 + draw % 13u);
+        uint32_t base = asked[0] >> (32 - len) << (32 - len);
+        yarib_command command = add(1 + draw % 3u, base, len, draw % 5u);
+        command.operation = k % 501 == 500 ? YARIB_PURGE : 1 + (draw >> 16) % 4u;
+        CHECK(yarib_apply(&one, &command, &replies[0]) == YARIB_DONE && yarib_apply(&other, &command, &replies[1]) == YARIB_DONE);
+        CHECK(yarib_look_up(&one, asked, 64, answers[0], 64) == YARIB_DONE);
+        CHECK(yarib_look_up(&other, asked, 64, answers[1], 64) == YARIB_DONE);
+        for (int j = 0; j < 64; j++) {
+            CHECK(answers[0][j].base == answers[1][j].base && answers[0][j].len == answers[1][j].len);
+            CHECK(answers[0][j].feed == answers[1][j].feed && answers[0][j].pref == answers[1][j].pref);
+        }
+    }
+    CHECK(yarib_memory(&one, &bytes) == YARIB_DONE && bytes >= (size_t)1 << 26);
+    CHECK(yarib_first_difference(&one, &other, 1, 0, &range) == YARIB_NONE_LEFT && count_of(&one) == count_of(&other));
+    yarib_free(&one);
     yarib_free(&other);
 }
 
@@ -181,6 +274,8 @@ int main(void)
     nothing(&empty);
     faults();
     kinds();
+    parts();
+    followed();
     differences();
     texts();
     return 0;

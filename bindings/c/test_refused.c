@@ -55,6 +55,12 @@ static void ask(yarib *table)
         refused++;
     }
     CHECK(total == 3 && all[0].pref == 5);
+    const yarib_selection asked = {.part = YARIB_EXACT, .base = 6u << 24, .len = 8};
+    while ((status = yarib_select(table, &asked, 0, all, ROUTES, &total)) != YARIB_DONE) {
+        CHECK(status == YARIB_NO_MEMORY && total == 3 && all[0].pref == 5);
+        refused++;
+    }
+    CHECK(total == 3 && all[0].pref == 6);
 }
 
 /* Makes two handles on a forwarding table. */
@@ -92,6 +98,52 @@ static int refuse_table(long number, uint32_t kind)
     return refused_call == 0;
 }
 
+/* What a followed table answers is right whether or not its forwarding table is still there. */
+static void ask_followed(yarib *table, uint32_t routes)
+{
+    for (uint32_t k = 0; k < 20; k++) {
+        uint32_t address = k << 24 | 5;
+        yarib_route answer;
+        CHECK(yarib_look_up(table, &address, 1, &answer, 1) == YARIB_DONE);
+        CHECK(k < routes ? answer.base == k << 24 && answer.pref == k : answer.hop == YARIB_NO_ROUTE);
+    }
+}
+
+/* A table with a forwarding table beside it, from that one's making on: a command that finds no memory for it is answered all the
+ * same, and the next call makes it anew. */
+static int refuse_followed(long number)
+{
+    yarib table = YARIB_EMPTY;
+    uint32_t status;
+    size_t bytes;
+    refused_call = 0;
+    CHECK(yarib_new(&table, 100, YARIB_PLAIN) == YARIB_DONE);
+    refused_call = number;
+    while ((status = yarib_follow(&table)) != YARIB_DONE) {
+        CHECK(status == YARIB_NO_MEMORY && yarib_memory(&table, &bytes) == YARIB_DONE && bytes == 0);
+        refused++;
+    }
+    for (uint32_t k = 0; k < 20; k++) {
+        yarib_command command = {.operation = YARIB_ADD, .feed = 1, .base = k << 24, .len = 24, .pref = k, .hop = YARIB_VIA, .via = k};
+        yarib_reply reply = {.code = 99};
+        while ((status = yarib_apply(&table, &command, &reply)) != YARIB_DONE) {
+            CHECK(status == YARIB_NO_MEMORY && reply.code == 99);
+            ask_followed(&table, k);
+            refused++;
+        }
+        CHECK(reply.code == YARIB_ADDED && yarib_memory(&table, &bytes) == YARIB_DONE);
+        ask_followed(&table, k + 1);
+        if (bytes < (size_t)1 << 26) {
+            refused++;
+            while ((status = yarib_follow(&table)) != YARIB_DONE) CHECK(status == YARIB_NO_MEMORY);
+        }
+        ask_followed(&table, k + 1);
+    }
+    CHECK(yarib_memory(&table, &bytes) == YARIB_DONE && bytes >= (size_t)1 << 26);
+    yarib_free(&table);
+    return refused_call == 0;
+}
+
 /* The same of a forwarding table. */
 static int refuse_forwarding(long number, uint32_t kind)
 {
@@ -115,6 +167,9 @@ int main(void)
         while (refuse_forwarding(number, kind)) number++;
         CHECK(number > 4);
     }
+    long number = 1;
+    while (refuse_followed(number)) number++;
+    CHECK(number > 10);
     printf("refused %d\n", refused);
     return 0;
 }

@@ -135,6 +135,24 @@ typedef struct yarib_entry {
     yarib_reply reply;
 } yarib_entry;
 
+/* Of which prefixes routes are asked for. */
+enum yarib_part {
+    YARIB_ALL = 0,      /* any; `base` and `len` are not read */
+    YARIB_WITHIN = 1,   /* the prefix of `base` and `len`, and the longer ones in it */
+    YARIB_COVERING = 2, /* it, and the shorter ones that it lies in */
+    YARIB_EXACT = 3     /* it alone */
+};
+
+/* Which routes are asked for: to which prefixes, an enum yarib_part; of which feed, or with 0 of any; and with 1 for only_best
+ * only the best route to each prefix (of a feed then those of the best ones that are the feed's). */
+typedef struct yarib_selection {
+    uint32_t part;
+    uint32_t feed;
+    uint32_t base;
+    uint8_t len;
+    uint8_t only_best;
+} yarib_selection;
+
 typedef struct yarib_prefix {
     uint32_t base;
     uint8_t len;
@@ -181,6 +199,12 @@ uint32_t yarib_look_up_all(yarib *table, uint32_t address, size_t skip, yarib_ro
  * YARIB_NOTHING, YARIB_NO_MEMORY, YARIB_WRONG_KIND. */
 uint32_t yarib_routes(yarib *table, size_t skip, yarib_route *routes, size_t room, size_t *total);
 
+/* The routes that are asked for, in the same order, from the index `skip` on. It goes to their part of the table alone, and takes
+ * memory for them. YARIB_NOTHING, YARIB_BAD_NUMBER (the part, the feed or only_best), YARIB_BAD_LENGTH, YARIB_BAD_BITS,
+ * YARIB_NO_MEMORY, YARIB_WRONG_KIND. */
+uint32_t yarib_select(yarib *table, const yarib_selection *asked, size_t skip, yarib_route *routes, size_t room,
+    size_t *total);
+
 /* How many routes there are. YARIB_NOTHING, YARIB_WRONG_KIND. */
 uint32_t yarib_count(yarib *table, size_t *total);
 
@@ -201,8 +225,15 @@ uint32_t yarib_forward(yarib *table, yarib *forwarding);
  * held is freed. The handles are two. YARIB_NOTHING, YARIB_NO_MEMORY, YARIB_WRONG_KIND (the first holds no forwarding table). */
 uint32_t yarib_share(yarib *forwarding, yarib *other);
 
-/* How many bytes a forwarding table takes, for all its handles together. YARIB_NOTHING, YARIB_WRONG_KIND. */
-uint32_t yarib_memory(yarib *forwarding, size_t *bytes);
+/* Makes a forwarding table beside a plain table, if there is none yet. From then on it follows each command, and look-ups go by
+ * it: a command takes a little more time (a purge, which makes it anew, and a change of a prefix of length 8 or less some
+ * milliseconds more). Where a command finds no memory for that, the command is answered all the same, the forwarding table goes,
+ * and look-ups are by the table until this is called again. YARIB_NOTHING, YARIB_NO_MEMORY, YARIB_WRONG_KIND (no plain table). */
+uint32_t yarib_follow(yarib *table);
+
+/* How many bytes a forwarding table takes, for all its handles together. Of a table about how many: 48 for each node, of which a
+ * route has two at most, 56 for each entry of its journal, and those of a forwarding table beside it. YARIB_NOTHING. */
+uint32_t yarib_memory(yarib *table, size_t *bytes);
 
 /* Reads a prefix, as 10.0.0.0/8: no leading zeros, no bit set past the length. The text needs no end mark. YARIB_BAD_TEXT,
  * YARIB_BAD_LENGTH, YARIB_BAD_BITS, in this order. */
@@ -218,9 +249,17 @@ uint32_t yarib_address_parse(const char *text, size_t size, uint32_t *address);
 uint32_t yarib_address_print(uint32_t address, char *text, size_t room, size_t *used);
 
 
-/* With YARIB_CHECK each call first tests what its caller owes: no null pointer, and two handles that are two. */
+/* With YARIB_CHECK each call first tests what its caller owes: no null pointer, lists that don't overlap, and two handles that are
+ * two. */
 #ifdef YARIB_CHECK
 #include <assert.h>
+
+/* Whether two pieces of memory have no byte in common. */
+static inline int yarib_are_apart(const void *one, size_t size, const void *other, size_t other_size)
+{
+    uintptr_t first = (uintptr_t)one, second = (uintptr_t)other;
+    return size == 0 || other_size == 0 || first + size <= second || second + other_size <= first;
+}
 
 static inline uint32_t yarib_new_checked(yarib *table, uint32_t limit, uint32_t kind)
 {
@@ -239,6 +278,7 @@ static inline void yarib_free_checked(yarib *table)
 static inline uint32_t yarib_apply_checked(yarib *table, const yarib_command *command, yarib_reply *reply)
 {
     assert(table != NULL && command != NULL && reply != NULL);
+    assert(yarib_are_apart(command, sizeof *command, reply, sizeof *reply));
     return yarib_apply(table, command, reply);
 }
 #define yarib_apply yarib_apply_checked
@@ -247,6 +287,7 @@ static inline uint32_t yarib_apply_each_checked(yarib *table, const yarib_comman
     yarib_reply *replies, size_t room)
 {
     assert(table != NULL && commands != NULL && replies != NULL);
+    assert(yarib_are_apart(commands, size * sizeof *commands, replies, room * sizeof *replies));
     return yarib_apply_each(table, commands, size, replies, room);
 }
 #define yarib_apply_each yarib_apply_each_checked
@@ -262,6 +303,7 @@ static inline uint32_t yarib_look_up_checked(yarib *table, const uint32_t *addre
     yarib_route *answers, size_t room)
 {
     assert(table != NULL && addresses != NULL && answers != NULL);
+    assert(yarib_are_apart(addresses, size * sizeof *addresses, answers, room * sizeof *answers));
     return yarib_look_up(table, addresses, size, answers, room);
 }
 #define yarib_look_up yarib_look_up_checked
@@ -280,6 +322,15 @@ static inline uint32_t yarib_routes_checked(yarib *table, size_t skip, yarib_rou
     return yarib_routes(table, skip, routes, room, total);
 }
 #define yarib_routes yarib_routes_checked
+
+static inline uint32_t yarib_select_checked(yarib *table, const yarib_selection *asked, size_t skip, yarib_route *routes,
+    size_t room, size_t *total)
+{
+    assert(table != NULL && asked != NULL && routes != NULL && total != NULL);
+    assert(yarib_are_apart(asked, sizeof *asked, routes, room * sizeof *routes));
+    return yarib_select(table, asked, skip, routes, room, total);
+}
+#define yarib_select yarib_select_checked
 
 static inline uint32_t yarib_count_checked(yarib *table, size_t *total)
 {
@@ -318,10 +369,17 @@ static inline uint32_t yarib_share_checked(yarib *forwarding, yarib *other)
 }
 #define yarib_share yarib_share_checked
 
-static inline uint32_t yarib_memory_checked(yarib *forwarding, size_t *bytes)
+static inline uint32_t yarib_follow_checked(yarib *table)
 {
-    assert(forwarding != NULL && bytes != NULL);
-    return yarib_memory(forwarding, bytes);
+    assert(table != NULL);
+    return yarib_follow(table);
+}
+#define yarib_follow yarib_follow_checked
+
+static inline uint32_t yarib_memory_checked(yarib *table, size_t *bytes)
+{
+    assert(table != NULL && bytes != NULL);
+    return yarib_memory(table, bytes);
 }
 #define yarib_memory yarib_memory_checked
 

@@ -41,6 +41,41 @@ class Tables(unittest.TestCase):
             self.assertIn("10.1.0.0/16", table)
             self.assertNotIn("10.1.0.0/17", table)
 
+    def test_routes_by_prefix(self):
+        table = yarib.Table()
+        table.add("10.0.0.0/8", via=1, pref=5)
+        table.add("10.0.0.0/8", via=2, pref=4, feed=2)
+        table.add("10.0.0.0/16", via=3, pref=1)
+        table.add("11.0.0.0/8", via=4, feed=2)
+        for k in range(100):
+            table.add((0x0B000000 | k, 32), via=k, feed=3)
+        one, two, three = route("10.0.0.0/8", 1, 5, 1), route("10.0.0.0/8", 2, 4, 2), route("10.0.0.0/16", 1, 1, 3)
+        self.assertEqual(table.exact("10.0.0.0/8"), [two, one])
+        self.assertEqual(table.exact("10.0.0.0/8", best=True), [two])
+        self.assertEqual(table.exact("10.0.0.0/8", feed=1, best=True), [])
+        self.assertEqual(table.exact("10.0.0.0/9"), [])
+        self.assertEqual(table.within("10.0.0.0/7"), table.routes())
+        self.assertEqual(table.within("10.0.0.0/8", feed=1), [one, three])
+        self.assertEqual(table.covering("10.0.0.0/24"), [two, one, three])
+        self.assertEqual(table.routes(feed=3), table.within("11.0.0.0/24"))
+        self.assertEqual(len(table.routes(best=True)), 103)
+        for feed in (0, 65, -1):
+            self.assertRaises(ValueError, table.exact, "10.0.0.0/8", feed)
+        self.assertRaises(ValueError, table.within, "10.0.0.1/8")
+
+    def test_a_followed_table_answers_as_before(self):
+        table = yarib.Table()
+        table.add("10.0.0.0/8", via=1)
+        table.follow()
+        table.follow()
+        self.assertGreaterEqual(table.memory(), 1 << 26)
+        table.add("10.1.0.0/16", via=2)
+        table.replace("10.0.0.0/8", via=3)
+        self.assertEqual([table.look_up(text).via for text in ("10.1.2.3", "10.2.0.0")], [2, 3])
+        table.purge()
+        self.assertIsNone(table.look_up("10.1.2.3"))
+        self.assertRaises(yarib.Refused, yarib.Table(journal=True).follow)
+
     def test_what_changes_nothing_is_an_exception(self):
         table = yarib.Table(limit=1)
         table.add("10.0.0.0/8", via="192.0.2.1")

@@ -12,11 +12,11 @@ class BadBody(Exception):
 
 
 class Body:
-    """A body of a list: its crate and name, and, where it is written as one, its file, its pairs of old and new, the function that
-    the prover refuses, as the prover names it, and perhaps a goal of that function."""
+    """A body of a list: its crate, text and name, and, where it is written as one, its file, its pairs of old and new, the
+    function that the prover refuses, as the prover names it, and perhaps a goal of that function."""
 
     def __init__(self, crate, section):
-        self.crate, self.name = crate, section.partition("\n")[0]
+        self.crate, self.section, self.name = crate, section, section.partition("\n")[0]
         self.form = FORM.fullmatch(section)
         _, self.file, pairs, self.function, self.goal = self.form.groups() if self.form else ("", "", "", "", None)
         self.pairs = re.findall(r"^old: (.+)\nnew: ?(.*)$", pairs, re.M)

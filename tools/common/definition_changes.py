@@ -1,8 +1,10 @@
 """The changes of a definition that tools/hollow makes: one sign, case, premise, number, bound, name or text of it at a time,
 or one variable fixed at what the examples have in its place."""
+import itertools
 import re
 
 from .definition_copies import WORD
+from .definition_reader import rust_type, spec_module
 
 SIGNS = [("≡", "≢"), ("≢", "≡"), ("≤", "<"), ("<", "≤"), ("&&", "||"), ("||", "&&"), ("↔", "→"), ("+", "-"), ("-", "+")]
 NAMES = [("true", "false"), ("false", "true"), ("nat_lt", "nat_le"), ("nat_le", "nat_lt"),
@@ -142,15 +144,81 @@ def by_claim(text):
 BINDER = re.compile(r"[({]((?:[^\W\d][\w']* )+): ((?:[^(){}]|\([^()]*\))*)[)}]")
 
 
-def variables(signature, head, body):
+def variables(signature, head, body, file):
     """The variables of a piece with their types: those of its head, and those that are bound around or in it."""
     found = {name: kind.strip() for names, kind in BINDER.findall(f"{signature}\n{body}") for name in names.split()}
-    arguments = head.split()[1:-1]
-    if head.rstrip().endswith("=") and all(re.fullmatch(r"[^\W\d][\w']*", one) for one in arguments):
-        kinds = [kind.strip() for kind in re.split(r"→ ", signature.partition(" : ")[2])]
-        if "(" not in signature and "{" not in signature:
-            found.update((name, kind) for name, kind in zip(arguments, kinds) if name[0].islower())
+    if head.rstrip().endswith("="):
+        kinds = [one for kind in parted(signature.partition(" : ")[2], "→") for one in each_kind(kind)]
+        patterns = [part for part in parted(head.rstrip().removesuffix("="), " ")[1:] if not part.startswith("{")]
+        for pattern, kind in zip(patterns, kinds):
+            found.update(bound_in(pattern, kind, file))
     return found
+
+
+def each_kind(kind):
+    """The types of the arguments of a part of a signature, of which one part may name several, and which leaves out some."""
+    named = re.fullmatch(r"\(([^():]+) : (.*)\)", kind)
+    return [] if kind.startswith("{") else [named[2]] * len(named[1].split()) if named else [kind]
+
+
+def parted(text, sign):
+    """The parts of a text between the signs that stand in no bracket."""
+    found, depth = [""], 0
+    for char in " ".join(text.split()):
+        depth += (char in "([{") - (char in ")]}")
+        if char == sign and depth == 0:
+            found.append("")
+        else:
+            found[-1] += char
+    return [part.strip() for part in found if part.strip()]
+
+
+def bound_in(pattern, kind, file):
+    """The variables of a pattern with their types, as far as these can be told."""
+    pattern, kind = unbracketed(pattern), unbracketed(kind)
+    if re.fullmatch(r"[^\W\d_A-Z][\w']*", pattern) and pattern not in ("true", "false", "zero"):
+        return {pattern: kind}
+    parts, kinds = parted(pattern, ","), parted(kind, "×")
+    if len(parts) == 1:
+        parts = pattern.split(" ∷ ", 1) if len(parted(pattern, "∷")) > 1 else [pattern]
+        kinds = [kind.removeprefix("List "), kind]
+    if len(parts) == 1:
+        name, *parts = parted(pattern, " ")
+        kinds = kinds_in(name.rpartition(".")[2], kind, file)
+    found = {}
+    for part, of in zip(parts, kinds):
+        found.update(bound_in(part, of, file))
+    return found
+
+
+def unbracketed(text):
+    """A text without the brackets around the whole of it."""
+    depths = list(itertools.accumulate((char in "([{") - (char in ")]}") for char in text))
+    return unbracketed(text[1:-1].strip()) if text.startswith("(") and depths.index(0) == len(text) - 1 else text
+
+
+def kinds_in(constructor, kind, file):
+    """The types of what stands behind a constructor of this type."""
+    name, *of = parted(kind, " ")
+    known = {"Some": of, "Ok": of[:1], "Err": of[1:], "suc": ["ℕ"]}
+    if constructor in known:
+        return known[constructor]
+    for module, _, _ in file.uses:
+        if module.endswith(f".{name}.TheVariants"):
+            return fields_of(rust_type(module.split(".")[1], name), constructor)
+    module, name = file.imported.get(name, (file.module, name))
+    found = spec_module(module)
+    lines = found[0][name].lines if found and name in found[0] else []
+    kinds = [line.partition(" : ")[2] for line in lines if line.strip().startswith(f"{constructor} : ")]
+    return parted(kinds[0], "→")[:-1] if kinds else []
+
+
+def fields_of(enum, variant):
+    """The types of the fields of a variant, as definitions have them."""
+    text = "\n".join(line for line in enum.lines[1:] if not line.strip().startswith("//")) if enum else ""
+    found = re.search(rf"^\s*{variant}(?:\(([^)]*)\)| \{{([^}}]*)\}})", text, re.M)
+    fields = [field.rpartition(":")[2].strip() for field in ((found[1] or found[2]).split(",") if found else ()) if field.strip()]
+    return ["ℕ" if re.fullmatch(r"u\d+|usize", field) else "Bool" if field == "bool" else field for field in fields]
 
 
 def constants(kind, examples):
@@ -169,9 +237,13 @@ def constants(kind, examples):
         if module.endswith(f".{kind}.TheVariants"):
             named = {item.strip() for item in items.split(",")} & words if items else set(re.findall(rf"\b{alias}\.(\w+)", text))
             found += [(f"fixed.{name}", (module, None, "fixed")) for name in sorted(named)]
-    for block in file.blocks:
-        if re.match(rf"abbrev (?:pub )?\S+ : {re.escape(kind)}$", block.lines[0]) and block.first_name() in words:
-            found.append((block.first_name(), (file.module, block.first_name(), None)))
+    own = {block.first_name(): (file.module, block.first_name(), block.lines[0]) for block in file.blocks}
+    for word in sorted(words):
+        module, name, line = own.get(word) or (*file.imported.get(word, (None, None)), "")
+        brought = not line and module and ".proofs." in module and spec_module(module)
+        line = brought[0][name].lines[0] if brought and name in brought[0] else line
+        if re.match(rf"(?:pub )?abbrev (?:pub )?\S+ : {re.escape(kind)}$", line):
+            found.append((name, (module, name, None)))
     return found
 
 
@@ -182,13 +254,11 @@ def fixed(text, name, constant):
                   lambda found: name if any(start <= found.start() < end for start, end in bound) else constant, text)
 
 
-def by_variable(signature, pieces, examples):
+def by_variable(signature, pieces, examples, file):
     """The whole definition with one variable fixed at a constant, or with one list cut to its first element: the new pieces,
     what is said of it, and what is imported for it."""
-    found = {}
-    for _, _, head, body in pieces:
-        found.update(variables(signature, head, body))
-    for name, kind in found.items():
+    found = [one for _, _, head, body in pieces for one in variables(signature, head, body, file).items()]
+    for name, kind in dict.fromkeys(found):
         cut = [(f"(take 1 {name})", ("Rattle.std.specs.Prelude", "take", None))] * kind.startswith("List ")
         made = constants(kind, examples) + cut
         for constant, used in made:
@@ -235,7 +305,7 @@ def changes(definition, examples=()):
                 yield text, " ".join((head + new).split()), []
         if is_record and len(pieces) > 1:
             yield "\n".join(lines[:start] + lines[end:]), f"without {head.strip()}", []
-    for bodies, said, used in by_variable(signature, pieces, examples) if examples else ():
+    for bodies, said, used in by_variable(signature, pieces, examples, definition.block.file) if examples else ():
         whole = [line for (_, _, head, _), body in zip(pieces, bodies) for line in (head + body).split("\n")]
         text = "\n".join(lines[: pieces[0][0]] + whole + lines[pieces[-1][1]:])
         if text not in seen:

@@ -183,7 +183,8 @@ class Copy:
         return f"H{self.number}_" + file.module.removeprefix("Rattle.").replace(".", "_")
 
     def uses(self, file, kept):
-        """The `use` lines of the copy of a file: what is copied comes from the copies, all else from where it was."""
+        """The `use` lines of the copy of a file: what is copied comes from the copies, all else from where it was, but for types
+        that it doesn't speak of, which the crate may keep to itself."""
         out, words = [], set().union(*(WORD.findall(uncommented(self.text_of(block))) for block in kept))
         is_changed = self.new_uses is not None and any(block in self.texts for block in kept)
         for module, items, alias in self.new_uses if is_changed else file.uses:
@@ -192,6 +193,8 @@ class Copy:
                 continue
             lists = {False: [], True: []}
             for item in (one.strip() for one in items.split(",")):
+                if ".specs.declared." in module and item.rpartition(" as ")[2] not in words:
+                    continue
                 origin = self.crate.files.get(module)
                 lists[bool(origin) and origin.owner.get(item.partition(" as ")[0]) in self.needed].append(item)
             out += [f"use {module}.{{{', '.join(lists[False])}}}"] * bool(lists[False])

@@ -65,5 +65,13 @@ def said_of(name, named, folder, more=()):
     """What the prover prints of the crate in this folder, past open goals, over what it keeps there of earlier runs."""
     words = [kit() / "bin/rattle", "check", *words_for(name, named, folder), "--jobs", "1", "--allow-holes", *more]
     words += ["--incremental", "out/incremental"]
-    return subprocess.run(words, cwd=folder, stdin=subprocess.DEVNULL, stdout=subprocess.PIPE, stderr=subprocess.STDOUT, text=True,
-                          errors="replace").stdout
+    return subprocess.run(words, cwd=folder, stdin=subprocess.DEVNULL, stdout=subprocess.PIPE, stderr=subprocess.STDOUT,
+                          text=True, errors="replace").stdout
+
+
+def library_built(name):
+    """Proves a static library and builds its archive; the status of the prover's command, which keeps what it proves."""
+    words = [kit() / "bin/rattle", "build", *words_for(name, needs()[name], CRATES / name), "--jobs", "1"]
+    words += ["--toolchain", kit() / "toolchain", "--backend", "llvm", "--incremental", "out/incremental"]
+    words += ["-o", f"out/lib{name}.a"]
+    return subprocess.run(words, cwd=CRATES / name, stdin=subprocess.DEVNULL, stderr=subprocess.STDOUT).returncode

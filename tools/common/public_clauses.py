@@ -8,7 +8,8 @@ from .definition_reader import CRATES, TOP, Definition, all_crates, imports, rus
 
 # What a type gives as an instance of a trait and no caller reads: how its value is seen in its private fields and what it keeps
 # of them, and proofs.
-UNSEEN = {"view", "invariant", "inverse", "also_owns", "coded", "since_same", "done_same", "since_done", "holds_some", "holds_one"}
+UNSEEN = {"view", "invariant", "inverse", "also_owns", "coded", "since_same", "done_same", "since_done", "holds_some",
+          "holds_one"}
 
 ITEM = re.compile(r"(pub(?:\([^)]*\))? )?(?:unsafe |const |async |extern \"C\" )*"
                   r"(fn|struct|enum|trait|impl|type|const|static|mod|use)\b[ <]*([\w]*)")

@@ -55,25 +55,26 @@ RUN = Page("STATEMENT-RUN.md", "What a run prints", (
         "A look-up writes, for each address in order, those that are named and then those that the lines of a text say, the "
         "best route of the longest prefix that covers it, in the table that such a run leaves; or every route that covers it, "
         "the best first, with the step at which it was left behind that one. A list writes those routes of that table that are "
-        "asked for, in its order. Both are told in a style, as lines with the feeds' numbers or labels or as JSON objects, whose "
+        "asked for, in its order, or how many these are. All are told in a style, as lines with the feeds' numbers or labels or as JSON objects, whose "
         "labels `labels_of` makes of the files' paths. By the laws above, where "
         "no command was refused for want of memory, that table is the union, so that the bytes, the status and the tallies are "
         "a function of the texts, the limit and what is asked: `shows_union` and `show_one_table` say so of two runs, "
         "`look_up_once` of two look-ups."), (
         "those of the first chapter; for the last sentence that no status is 5."),
-        ["rt_run::shown::lookup_texts", "rt_run::shown::table_texts", "rt_feed::labels::labels_of", "rt_run::laws::shows_union",
-         "rt_run::laws::show_one_table", "rt_run::laws::look_up_once"]),
+        ["rt_run::shown::lookup_texts", "rt_run::shown::table_texts", "rt_run::shown::count_texts", "rt_feed::labels::labels_of",
+         "rt_run::laws::shows_union", "rt_run::laws::show_one_table", "rt_run::laws::look_up_once"]),
     Chapter("Why a route won and what a change changes", (
         "A look-up of all writes, for each address in order, every route of that table that covers it, each before those "
         "that it beats, and with which step it was left behind the first. A comparison runs two sets of texts, each over a table "
         "of its own, and writes all the ranges of addresses that the two tables answer otherwise: an address lies in one "
-        "exactly where its two answers differ, and has the answers of its line. So where nothing is written, all 2^32 "
+        "exactly where its two answers differ, and has the answers of its line. The feeds of the new table are told by the numbers "
+        "that are asked for, as by those that `numbers_beside` gives: then feeds of one name are one. So where nothing is written, all 2^32 "
         "addresses are answered alike. Two tables have one list of such ranges (`one_list`). Where no command was refused for "
         "want of memory, it is the list of both unions, so that two comparisons of the same texts and limits write the same "
         "bytes, with the same statuses and tallies: `diffs_unions` and `diff_once`."), (
         "those of the first chapter, and for a comparison those of two runs."),
-        ["rt_run::shown::lookup_all_texts", "rt_run::compared::diff_texts", "rt_diff::laws::one_list",
-         "rt_run::laws::diffs_unions", "rt_run::laws::diff_once"]),
+        ["rt_run::shown::lookup_all_texts", "rt_run::compared::diff_texts", "rt_feed::pairing::numbers_beside",
+         "rt_diff::laws::one_list", "rt_run::laws::diffs_unions", "rt_run::laws::diff_once"]),
 ])
 
 LOCK = Page("STATEMENT-LOCK.md", "The lock", (
@@ -201,6 +202,7 @@ KIT = {
     "bytes_eq xs ys": "whether the two texts are equal",
     "codes \"..\"": "the bytes of a text",
     "count_by p xs, filter p xs, find p xs": "how many elements pass the test; those, in order; the first of them",
+    "dedup same xs": "xs without each element that is the same as the last one before it that stays",
     "decimal n": "what `{}` writes for n, a number of at most 64 digits",
     "digit_char d": "the character of a digit below 36: `0` to `9`, then `a` to `z`",
     "digits_value radix text": "the number that the digits write",
@@ -214,6 +216,7 @@ KIT = {
     "list_all p xs, list_any p xs": "whether each element passes the test; whether some does",
     "max m n": "the greater of the two",
     "nat_le m n, nat_lt m n, not b": "`m <= n`, `m < n` and `!b`",
+    "option_map f o": "`Some` of f of the value, and `None` where there is none",
     "option_map_or f o d": "f of the value, and d where there is none",
     "slice_get xs i, slice_index xs i": "the i-th element from 0, if there is one; the i-th number, and 0 past the end",
     "slice_split p xs":

@@ -13,6 +13,7 @@ STATUS = ("done", "nothing", "bad number", "bad command", "no memory", "bad size
 (DONE, NOTHING, BAD_NUMBER, BAD_COMMAND, NO_MEMORY, BAD_SIZE, NONE_LEFT, BAD_TEXT, BAD_LENGTH, BAD_BITS,
  WRONG_KIND) = range(len(STATUS))
 ADD, REPLACE, WITHDRAW, LOOKUP, DUMP, PURGE = range(1, 7)
+ALL, WITHIN, COVERING, EXACT = range(4)
 NO_ROUTE, VIA, DISCARD = range(3)
 (UNANSWERED, ADDED, EXISTS, FULL, REPLACED, WITHDRAWN, MISSING, FOUND, NOT_FOUND, DUMPED, PURGED) = range(11)
 CODES = ("unanswered", "added", "exists", "full", "replaced", "withdrawn", "missing", "found", "no route", "dumped", "purged")
@@ -36,6 +37,11 @@ class RawEntry(ctypes.Structure):
     _fields_ = [("command", RawCommand), ("reply", RawReply)]
 
 
+class RawSelection(ctypes.Structure):
+    _fields_ = [("part", ctypes.c_uint32), ("feed", ctypes.c_uint32), ("base", ctypes.c_uint32), ("len", ctypes.c_uint8),
+                ("only_best", ctypes.c_uint8)]
+
+
 class RawPrefix(ctypes.Structure):
     _fields_ = [("base", ctypes.c_uint32), ("len", ctypes.c_uint8)]
 
@@ -54,11 +60,13 @@ CALLS = {
     "yarib_look_up": (POINTER, POINTER, SIZE, POINTER, SIZE),
     "yarib_look_up_all": (POINTER, NUMBER, SIZE, POINTER, SIZE, POINTER),
     "yarib_routes": (POINTER, SIZE, POINTER, SIZE, POINTER),
+    "yarib_select": (POINTER, POINTER, SIZE, POINTER, SIZE, POINTER),
     "yarib_count": (POINTER, POINTER),
     "yarib_journal": (POINTER, SIZE, POINTER, SIZE, POINTER),
     "yarib_first_difference": (POINTER, POINTER, NUMBER, NUMBER, POINTER),
     "yarib_forward": (POINTER, POINTER),
     "yarib_share": (POINTER, POINTER),
+    "yarib_follow": (POINTER,),
     "yarib_memory": (POINTER, POINTER),
     "yarib_prefix_parse": (ctypes.c_char_p, SIZE, POINTER),
     "yarib_prefix_print": (POINTER, POINTER, SIZE, POINTER),

@@ -205,6 +205,12 @@ def ask_one(library, handle, address):
     return route_of(found)
 
 
+def bytes_of(handle):
+    found = ctypes.c_size_t()
+    check(held.yarib_memory(handle, ctypes.byref(found)))
+    return found.value
+
+
 class Handle:
     """What C calls a handle, freed with this object."""
 
@@ -303,9 +309,32 @@ class Table(Handle):
         check(held.yarib_count(self._at, ctypes.byref(total)))
         return total.value
 
-    def routes(self):
-        """All routes by base, length, preference and feed."""
+    def routes(self, feed=None, best=False):
+        """The routes by base, length, preference and feed: all, or a feed's, or with `best` the best of each prefix (of a feed
+        then those of them that are the feed's)."""
+        if feed is not None or best:
+            return self._select(c.ALL, (0, 0), feed, best)
         found = self._pages(c.RawRoute, len(self) + 1, lambda *place: held.yarib_routes(self._at, *place))
+        return [route_of(raw) for raw in found]
+
+    def exact(self, prefix, feed=None, best=False):
+        """The routes to this prefix, the best first, as `routes` has them."""
+        return self._select(c.EXACT, prefix_of(prefix), feed, best)
+
+    def within(self, prefix, feed=None, best=False):
+        """The routes to this prefix and to the longer ones in it, as `routes` has them."""
+        return self._select(c.WITHIN, prefix_of(prefix), feed, best)
+
+    def covering(self, prefix, feed=None, best=False):
+        """The routes to this prefix and to the shorter ones that it lies in, as `routes` has them."""
+        return self._select(c.COVERING, prefix_of(prefix), feed, best)
+
+    def _select(self, part, prefix, feed, best):
+        if feed == 0:
+            raise ValueError("yarib: bad number")
+        base, length = prefix
+        asked = c.RawSelection(part, number(feed or 0, "a feed"), base, length, int(bool(best)))
+        found = self._pages(c.RawRoute, 64, lambda *place: held.yarib_select(self._at, ctypes.byref(asked), *place))
         return [route_of(raw) for raw in found]
 
     def __iter__(self):
@@ -314,8 +343,7 @@ class Table(Handle):
 
     def __contains__(self, prefix):
         """Whether some feed has a route to just this prefix."""
-        base, length = prefix_of(prefix)
-        return any(route.base == base and route.length == length for route in self.look_up_all(base))
+        return bool(self.exact(prefix))
 
     def journal(self):
         """Each command that was answered, with its outcome. Raises Refused where the table keeps none."""
@@ -343,6 +371,16 @@ class Table(Handle):
     def forward(self):
         """A forwarding table of what this table answers now."""
         return Forwarding(self)
+
+    def follow(self):
+        """Makes a forwarding table beside this one, 64 MiB and more, if there is none yet: it follows each command from then on,
+        and look-ups go by it. Where a command finds no memory for it, it goes until this is called again. A table with a journal
+        refuses."""
+        check(held.yarib_follow(self._at))
+
+    def memory(self):
+        """About how many bytes it takes, with what is beside it."""
+        return bytes_of(self._at)
 
 
 def hop_of(raw):
@@ -376,6 +414,4 @@ class Forwarding:
 
     def memory(self):
         """How many bytes it takes."""
-        found = ctypes.c_size_t()
-        check(held.yarib_memory(self._first._at, ctypes.byref(found)))
-        return found.value
+        return bytes_of(self._first._at)

@@ -39,7 +39,7 @@ pub enum Error {
     Bits,
     /// Two lists are not as long.
     Size,
-    /// The table keeps no journal.
+    /// The table keeps no journal, or one where none may be kept.
     Kind,
 }
 
@@ -66,7 +66,7 @@ impl fmt::Display for Error {
             Error::Length => "the length is over 32",
             Error::Bits => "a bit past the length is set",
             Error::Size => "two lists are not as long",
-            Error::Kind => "the table keeps no journal",
+            Error::Kind => "the table can't be asked this",
         })
     }
 }
@@ -364,6 +364,58 @@ pub struct Difference {
     pub new: Answer,
 }
 
+/// Which prefixes are asked for.
+#[derive(Clone, Copy, Debug, PartialEq, Eq)]
+pub enum Part {
+    /// All.
+    All,
+    /// This one and the longer ones in it.
+    Within(Prefix),
+    /// This one and the shorter ones that it lies in.
+    Covering(Prefix),
+    /// This one alone.
+    Exact(Prefix),
+}
+
+/// Which routes are asked for.
+#[derive(Clone, Copy, Debug, PartialEq, Eq)]
+pub struct Selection {
+    /// To which prefixes.
+    pub part: Part,
+    /// Of which feed, or of any.
+    pub feed: Option<u32>,
+    /// Whether only the best route to each prefix: with a feed, those of the best ones that are the feed's.
+    pub only_best: bool,
+}
+
+impl Selection {
+    /// All routes to these prefixes.
+    pub fn of(part: Part) -> Selection {
+        Selection {
+            part,
+            feed: None,
+            only_best: false,
+        }
+    }
+
+    /// The numbers; a feed 0, which C reads as any, is one that there is not.
+    fn numbers(self) -> raw::Selection {
+        let (part, prefix) = match self.part {
+            Part::All => (0, Prefix::of(0, 0)),
+            Part::Within(prefix) => (1, prefix),
+            Part::Covering(prefix) => (2, prefix),
+            Part::Exact(prefix) => (3, prefix),
+        };
+        raw::Selection {
+            part,
+            feed: self.feed.map_or(0, |feed| if feed == 0 { u32::MAX } else { feed }),
+            base: u32::from(prefix.base),
+            len: prefix.len,
+            only_best: u8::from(self.only_best),
+        }
+    }
+}
+
 /// A routing table.
 #[derive(Debug)]
 pub struct Table(raw::Handle);
@@ -434,6 +486,13 @@ impl Table {
         Ok(found.iter().filter_map(Route::of).collect())
     }
 
+    /// The routes that are asked for, in the order of `routes`.
+    pub fn select(&mut self, asked: Selection) -> Result<Vec<Route>> {
+        let asked = asked.numbers();
+        let found = whole(64, |part| self.0.select(&asked, part))?;
+        Ok(found.iter().filter_map(Route::of).collect())
+    }
+
     /// All that was answered, of a table that keeps a journal; `Error::Kind` of any other.
     pub fn journal(&mut self) -> Result<Vec<Entry>> {
         let found = whole(0, |part| self.0.journal(part))?;
@@ -453,6 +512,18 @@ impl Table {
             by,
             from: Some(0),
         }
+    }
+
+    /// Makes a forwarding table beside this one, 64 MiB and more, if there is none yet: it follows each command from then on, and
+    /// look-ups go by it. Where a command finds no memory for it, it goes until this is called again. `Error::Kind` where a journal
+    /// is kept.
+    pub fn follow(&mut self) -> Result<()> {
+        self.0.follow().map_err(Error::of)
+    }
+
+    /// About how many bytes it takes, with what is beside it.
+    pub fn memory(&mut self) -> Result<usize> {
+        self.0.memory().map_err(Error::of)
     }
 
     /// A forwarding table of what this table answers now.

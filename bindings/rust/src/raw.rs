@@ -50,6 +50,16 @@ pub struct Entry {
 
 #[repr(C)]
 #[derive(Clone, Copy, Debug, Default, PartialEq, Eq)]
+pub struct Selection {
+    pub part: u32,
+    pub feed: u32,
+    pub base: u32,
+    pub len: u8,
+    pub only_best: u8,
+}
+
+#[repr(C)]
+#[derive(Clone, Copy, Debug, Default, PartialEq, Eq)]
 pub struct Prefix {
     pub base: u32,
     pub len: u8,
@@ -105,6 +115,14 @@ extern "C" {
         room: usize,
         total: *mut usize,
     ) -> u32;
+    fn yarib_select(
+        table: *mut Handle,
+        asked: *const Selection,
+        skip: usize,
+        routes: *mut Route,
+        room: usize,
+        total: *mut usize,
+    ) -> u32;
     fn yarib_count(table: *mut Handle, total: *mut usize) -> u32;
     fn yarib_journal(
         table: *mut Handle,
@@ -122,7 +140,8 @@ extern "C" {
     ) -> u32;
     fn yarib_forward(table: *mut Handle, forwarding: *mut Handle) -> u32;
     fn yarib_share(forwarding: *mut Handle, other: *mut Handle) -> u32;
-    fn yarib_memory(forwarding: *mut Handle, bytes: *mut usize) -> u32;
+    fn yarib_follow(table: *mut Handle) -> u32;
+    fn yarib_memory(table: *mut Handle, bytes: *mut usize) -> u32;
     fn yarib_prefix_parse(text: *const u8, size: usize, prefix: *mut Prefix) -> u32;
 }
 
@@ -192,6 +211,12 @@ impl Handle {
         Ok(total)
     }
 
+    pub fn select(&mut self, asked: &Selection, routes: &mut [Route]) -> Result<usize, u32> {
+        let (mut total, room) = (0, routes.len());
+        told(unsafe { yarib_select(self, asked, 0, routes.as_mut_ptr(), room, &mut total) })?;
+        Ok(total)
+    }
+
     pub fn count(&mut self) -> Result<usize, u32> {
         let mut total = 0;
         told(unsafe { yarib_count(self, &mut total) })?;
@@ -225,6 +250,10 @@ impl Handle {
         let mut other = Handle::empty();
         told(unsafe { yarib_share(self, &mut other) })?;
         Ok(other)
+    }
+
+    pub fn follow(&mut self) -> Result<(), u32> {
+        told(unsafe { yarib_follow(self) })
     }
 
     pub fn memory(&mut self) -> Result<usize, u32> {

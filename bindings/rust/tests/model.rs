@@ -2,7 +2,9 @@
 use std::collections::BTreeMap;
 use std::net::Ipv4Addr;
 use std::thread;
-use yarib::{Answer, By, Command, Error, Forwarding, Hop, Prefix, Reply, Route, Table};
+use yarib::{
+    Answer, By, Command, Error, Forwarding, Hop, Part, Prefix, Reply, Route, Selection, Table,
+};
 
 /// Numbers that look drawn, the same in each run.
 struct Draw(u64);
@@ -154,6 +156,7 @@ fn replies_and_routes_are_the_models() {
         }
         assert_eq!(plain.routes().unwrap(), model.listed());
         assert_eq!(plain.count().unwrap(), model.routes.len());
+        check_parts(&mut plain, &model, &mut draw);
         assert_eq!(journaled.differences(&mut plain, By::Route).count(), 0);
         let addresses: Vec<u32> = (0..300)
             .map(|_| u32::from(draw.prefix().base()).wrapping_add(draw.below(2)))
@@ -169,6 +172,84 @@ fn replies_and_routes_are_the_models() {
                 best.as_ref()
             );
         }
+    }
+}
+
+fn contains(prefix: Prefix, other: Prefix) -> bool {
+    let past = 32 - u32::from(prefix.len());
+    let first = |one: Prefix| u64::from(u32::from(one.base())) >> past;
+    prefix.len() <= other.len() && first(prefix) == first(other)
+}
+
+/// Parts of the table are those of the model's list.
+fn check_parts(table: &mut Table, model: &Model, draw: &mut Draw) {
+    for _ in 0..20 {
+        let prefix = draw.prefix();
+        let feed = [None, Some(1 + draw.below(5))][draw.below(2) as usize];
+        let only_best = draw.below(2) == 1;
+        let mut listed = model.listed();
+        if only_best {
+            listed.dedup_by_key(|route| route.prefix);
+        }
+        listed.retain(|route| feed.map_or(true, |feed| route.feed == feed));
+        let parts: [(Part, &dyn Fn(Prefix) -> bool); 4] = [
+            (Part::All, &|_| true),
+            (Part::Within(prefix), &|one| contains(prefix, one)),
+            (Part::Covering(prefix), &|one| contains(one, prefix)),
+            (Part::Exact(prefix), &|one| one == prefix),
+        ];
+        for (part, is_in) in parts {
+            let wanted: Vec<Route> = listed
+                .iter()
+                .filter(|route| is_in(route.prefix))
+                .copied()
+                .collect();
+            let asked = Selection {
+                part,
+                feed,
+                only_best,
+            };
+            assert_eq!(table.select(asked).unwrap(), wanted, "{asked:?}");
+        }
+    }
+}
+
+#[test]
+fn a_followed_table_answers_as_before() {
+    let (mut draw, mut model) = (
+        Draw(5),
+        Model {
+            limit: 50,
+            routes: BTreeMap::new(),
+        },
+    );
+    let mut table = Table::new(50).unwrap();
+    assert_eq!(table.memory(), Ok(0));
+    table.follow().unwrap();
+    assert!(table.memory().unwrap() >= 1 << 26);
+    for _ in 0..300 {
+        let (feed, command) = (1 + draw.below(3), draw.command());
+        let wanted = model.apply(feed, command);
+        assert_eq!(table.apply(feed, command), Ok(wanted));
+        for _ in 0..10 {
+            let address = u32::from(draw.prefix().base()).wrapping_add(draw.below(2));
+            assert_eq!(
+                table.look_up(Ipv4Addr::from(address)).unwrap(),
+                model.best(address)
+            );
+        }
+    }
+    assert!(table.memory().unwrap() >= 1 << 26);
+    assert_eq!(
+        Table::with_journal(5).unwrap().follow(),
+        Err(Error::Kind)
+    );
+    for feed in [0, 65] {
+        let asked = Selection {
+            feed: Some(feed),
+            ..Selection::of(Part::All)
+        };
+        assert_eq!(table.select(asked), Err(Error::Number));
     }
 }
 

@@ -102,6 +102,8 @@ pub struct TableRequest<'a> {
     pub exact: Option<&'a str>,
     /// The number of the feed whose routes are listed, where not all are.
     pub feed: Option<u32>,
+    /// Whether it is told how many there are, in place of each.
+    pub count: bool,
     /// How the routes are told.
     pub telling: Telling,
 }
@@ -115,6 +117,8 @@ pub struct DiffRequest<'a> {
     pub new_files: Vec<&'a str>,
     /// What of their answers is compared.
     pub compared: Compared,
+    /// How the ranges are told. Feeds that are told by name are compared by it.
+    pub telling: Telling,
 }
 
 /// What `diff` compares of two answers.
@@ -236,6 +240,7 @@ const SUBCOMMANDS: &[Subcommand] = &[
             Parameter::Exact,
             Parameter::Feed,
             Parameter::Best,
+            Parameter::Count,
             Parameter::Names,
             Parameter::Json,
             Parameter::Limit,
@@ -249,6 +254,8 @@ const SUBCOMMANDS: &[Subcommand] = &[
         notes: DIFF_NOTES,
         parameters: &[
             Parameter::By,
+            Parameter::Names,
+            Parameter::Json,
             Parameter::Limit,
             Parameter::Batch(UNSEEN_BATCH),
             Parameter::OldFiles,
@@ -287,6 +294,7 @@ enum Parameter {
     Exact,
     Feed,
     Best,
+    Count,
     By,
     Names,
     Json,
@@ -319,6 +327,7 @@ impl Parameter {
             Parameter::Exact => part(alloc, "exact", "Print only the routes to this prefix"),
             Parameter::Feed => feed(alloc),
             Parameter::Best => best(alloc),
+            Parameter::Count => count(alloc),
             Parameter::By => by(alloc),
             Parameter::Names => names(alloc),
             Parameter::Json => json(alloc),
@@ -383,6 +392,11 @@ fn feed<'a>(alloc: Global) -> Arg<'a> {
 fn best<'a>(alloc: Global) -> Arg<'a> {
     let help = "Print only the best route of each prefix";
     option(alloc, "best", help).action(ArgAction::SetTrue)
+}
+
+fn count<'a>(alloc: Global) -> Arg<'a> {
+    let help = "Print how many routes there are, of each feed and each length";
+    option(alloc, "count", help).action(ArgAction::SetTrue)
 }
 
 fn names<'a>(alloc: Global) -> Arg<'a> {
@@ -488,6 +502,7 @@ fn table_request<'a>(alloc: Global, matches: &ArgMatches<'a>) -> Result<Request<
         covering: matches.get_str("covering"),
         exact: matches.get_str("exact"),
         feed: matches.get_one::<u32>("feed"),
+        count: matches.get_flag("count"),
         telling: telling_of(matches),
     }))
 }
@@ -505,6 +520,7 @@ fn diff_request<'a>(alloc: Global, matches: &ArgMatches<'a>) -> Result<Request<'
         run: run_request(alloc, matches)?,
         new_files: texts_of(alloc, matches, "new")?,
         compared,
+        telling: telling_of(matches),
     }))
 }
 

@@ -130,12 +130,20 @@ One of --within, --covering and --exact prints the routes of a part of the
 table. Of these --feed F prints those of the F-th file, and with --best the best
 ones that are its own.
 
+With --count it is told how many these are and to how many prefixes, and then
+how many of each feed and to prefixes of each length, where there are any:
+  routes N prefixes N
+  feed F routes N
+  length L routes N
+
 F is the place of the feed's FILE among the files, from 1. With --names the
 feed's name stands there, FILE without its folder and .feed; two feeds of one
 name, or one that a line can't tell, are refused.
 With --json each line is an object, and with --names its \"name\" is told too:
   {\"prefix\":PREFIX,\"feed\":F,\"file\":FILE,\"pref\":P,\"via\":HOP}
                     or with \"via\":null,\"discard\":true
+  {\"routes\":N,\"prefixes\":N}
+  {\"feed\":F,\"file\":FILE,\"routes\":N}   {\"length\":L,\"routes\":N}
 
 ",
     "  0 done   2 faulty line, or add over the limit   3 command line\n",
@@ -148,6 +156,11 @@ With --json each line is an object, and with --names its \"name\" is told too:
   10.0.0.0/8 feed 2 pref 50 via 192.0.2.2
   $ yarib table --covering 10.1.0.0/16 --feed 1 one.feed two.feed
   10.0.0.0/8 feed 1 pref 100 via 192.0.2.1
+  $ yarib table --count one.feed two.feed
+  routes 2 prefixes 1
+  feed 1 routes 1
+  feed 2 routes 1
+  length 8 routes 2
 "
 );
 
@@ -159,6 +172,16 @@ have ended, in rising order; where nothing is printed, every address is answered
 alike. An answer is that of a look-up: `via HOP`, `discard` or `no route`, and
 with --by route `PREFIX feed F pref P via HOP` or `no route`.
   FIRST-LAST OLDANSWER -> NEWANSWER
+
+F is the place of the feed's FILE among those of its side, from 1. With --names
+the feed's name stands there, FILE without its folder and .feed, and feeds of
+both sides that have one name are one feed; two of one side that do, or a name
+that a line can't tell, are refused.
+With --json each line is an object, and with --names a \"name\" is told too:
+  {\"first\":ADDR,\"last\":ADDR,\"old\":ANSWER,\"new\":ANSWER}
+ANSWER is null where there is no route, else {\"via\":HOP}, or
+{\"via\":null,\"discard\":true}, and with --by route
+  {\"prefix\":PREFIX,\"feed\":F,\"file\":FILE,\"pref\":P,\"via\":HOP}
 
 ",
     "  0 every address is answered alike   1 some address is not

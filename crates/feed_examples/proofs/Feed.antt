@@ -22,7 +22,13 @@ use Rattle.rt_rib.specs.declared.commands.Reply.TheVariants.{Added, Exists, Full
 use Rattle.rt_shared.specs.declared.outcome.Outcome.TheVariants as outcome
 use Rattle.rt_diff.specs.declared.answers.Answer.TheVariants as answered
 use Rattle.rt_diff.specs.declared.differences.Difference.{Difference}
-use Rattle.rt_feed.specs.DifferenceText.{way_text, answered_text, difference_text, differences_text}
+use Rattle.rt_diff.specs.declared.answers.Answer.{Answer as Answered}
+use Rattle.rt_rib.specs.Table.{IsTable, count_of}
+use Rattle.rt_rib.specs.LookUp.{best_routes}
+use Rattle.rt_rib.proofs.BestRoutes.{dedup-best}
+use Rattle.std.specs.Prelude.{count_by}
+use Rattle.rt_feed.specs.DifferenceText.{way_text, answered_text, difference_text, SideStylesContents, answered_as, range_as, difference_as, differences_as}
+use Rattle.rt_feed.specs.Counts.{prefix_count, length_count, totals_as, count_as, feed_as, each_below, counts_as}
 use Rattle.rt_feed.specs.declared.parse.LineFault.{LineFault}
 use Rattle.rt_feed.specs.declared.parse.LineFault.TheVariants as fault
 use Rattle.rt_feed.specs.declared.report.Answer.{Answer}
@@ -52,7 +58,7 @@ use Rattle.rt_feed.specs.Laws.{LineHasOneAnswer, AddressLineHasOneAnswer, Addres
 use Rattle.rt_feed.specs.Laws.{OlderTextsStay, TextHasOneCut, TextHasOneReading}
 use Rattle.std.proofs.Common.{suc, ◌==◌, ◌||◌, ◌/◌, nat_lt, if◌then◌else◌, take, drop}
 use Rattle.std.specs.Prelude.{bytes_eq}
-use Rattle.std.specs.List.{join_by, slice_get}
+use Rattle.std.specs.List.{join_by, slice_get, slice_split}
 use Rattle.std.specs.Option.{unwrap_or}
 use Rattle.std.specs.Char.{digit_char}
 use Rattle.rt_feed.specs.declared.labels.Labelling.TheVariants.{Names, Files, NamesAndFiles}
@@ -60,8 +66,8 @@ use Rattle.rt_feed.specs.declared.styles.Form.{Form}
 use Rattle.rt_feed.specs.declared.styles.Form.TheVariants.{Numbers, Labels, Json}
 use Rattle.rt_feed.specs.Printed.{route_line, also_line}
 use Rattle.rt_feed.specs.Json.{escaped, json_string, hop_members, route_object}
-use Rattle.rt_feed.specs.Labels.{base_name, without_feed, feed_name, label_by, labelled}
-use Rattle.rt_feed.specs.Styles.{label_of, row_as, rows_as, asked_of as asked_beginning, found_as, also_object, all_found_as}
+use Rattle.rt_feed.specs.Labels.{base_name, without_feed, feed_name, label_by, labelled, number_in, number_beside}
+use Rattle.rt_feed.specs.Styles.{StyleContents, label_of, row_as, rows_as, asked_of as asked_beginning, found_as, also_object, all_found_as}
 
 -- the address 192.0.2.1, and the command of the first line of examples/first.feed
 abbrev pub at_192_0_2_1 : Addr
@@ -169,9 +175,15 @@ a_comment_is_skipped = refl
 a_blank_is_not : is_skipped (codes " # dump") ≡ false
 a_blank_is_not = refl
 
+by_its_first_byte : (byte : ℕ) (line : List ℕ) → is_skipped (byte ∷ line) ≡ (byte == hash)
+by_its_first_byte byte line = refl
+
 -- fields
 cut_at_every_space : fields (codes "add  x") ≡ codes "add" ∷ [] ∷ codes "x" ∷ []
 cut_at_every_space = refl
+
+any_line_cut_at_every_space : (line : List ℕ) → fields line ≡ slice_split (λ byte. byte == space) line
+any_line_cut_at_every_space line = refl
 
 -- kinds_after
 a_route_has_three_fields : kinds_after One (codes "add") ≡ Some (prefix ∷ preference ∷ hop One ∷ [])
@@ -187,9 +199,11 @@ names_are_in_small_letters : kinds_after Two (codes "Dump") ≡ None
 names_are_in_small_letters = refl
 
 after_each_name :
-    map (kinds_after One) (codes "add" ∷ codes "replace" ∷ codes "withdraw" ∷ codes "lookup" ∷ codes "dump" ∷ codes "frob" ∷ [])
-    ≡ Some (prefix ∷ preference ∷ hop One ∷ []) ∷ Some (prefix ∷ preference ∷ hop One ∷ []) ∷ Some (prefix ∷ []) ∷ Some (address ∷ []) ∷ Some [] ∷ None ∷ []
-after_each_name = refl
+    (version : Version)
+    → map (kinds_after version) (codes "add" ∷ codes "replace" ∷ codes "withdraw" ∷ codes "lookup" ∷ codes "dump" ∷ codes "purge" ∷ codes "frob" ∷ [])
+    ≡ Some (prefix ∷ preference ∷ hop version ∷ []) ∷ Some (prefix ∷ preference ∷ hop version ∷ []) ∷ Some (prefix ∷ []) ∷ Some (address ∷ []) ∷ Some []
+    ∷ purge_kinds version ∷ None ∷ []
+after_each_name version = refl
 
 -- purge_kinds
 a_word_of_version_2 : purge_kinds Two ≡ Some []
@@ -295,15 +309,15 @@ an_address_is_not_E7 : ¬ IsFaultOf address (codes "10") fault.Hop
 an_address_is_not_E7 h = cc
 
 the_fault_of_each_kind :
-    (field : List ℕ) (answer : LineFault)
+    (version : Version) (field : List ℕ) (answer : LineFault)
     → (IsFaultOf prefix field fault.Text → (base len : ℕ) → ¬ IsPrefixText field base len)
     × (IsFaultOf prefix field fault.PrefixLength → (base len : ℕ) × IsPrefixText field base len × (32 < len))
     × (IsFaultOf prefix field fault.PrefixBits → (base len : ℕ) × IsPrefixText field base len × (len ≤ 32) × ¬ IsPrefix base len)
     × (¬ IsFaultOf prefix field fault.Command) × (¬ IsFaultOf prefix field fault.FieldCount) × (¬ IsFaultOf prefix field fault.Preference)
     × (¬ IsFaultOf prefix field fault.Hop) × (¬ IsFaultOf prefix field fault.LineLength)
-    × (IsFaultOf preference field answer → answer ≡ fault.Preference) × (IsFaultOf (hop One) field answer → answer ≡ fault.Hop)
+    × (IsFaultOf preference field answer → answer ≡ fault.Preference) × (IsFaultOf (hop version) field answer → answer ≡ fault.Hop)
     × (IsFaultOf address field answer → answer ≡ fault.Text)
-the_fault_of_each_kind field answer = (λ h. h, λ h. h, λ h. h, λ h. h, λ h. h, λ h. h, λ h. h, λ h. h, λ h. h, λ h. h, λ h. h)
+the_fault_of_each_kind version field answer = (λ h. h, λ h. h, λ h. h, λ h. h, λ h. h, λ h. h, λ h. h, λ h. h, λ h. h, λ h. h, λ h. h)
 
 -- IsFirstFault
 the_first_from_the_left : IsFirstFault (prefix ∷ preference ∷ []) (codes "192.0.2.1/50" ∷ codes "4294967296" ∷ []) fault.PrefixLength
@@ -511,6 +525,11 @@ what_a_line_asks_whatever_became_of_it :
     map reading (skipped ∷ faulty fault.Command ∷ asked Dump outcome.Refused ∷ []) ≡ Ok None ∷ Err fault.Command ∷ Ok (Some Dump) ∷ []
 what_a_line_asks_whatever_became_of_it = refl
 
+what_any_line_asks :
+    (its : LineFault) (cmd : Cmd) (became : Outcome)
+    → (reading skipped ≡ Ok None) × (reading (faulty its) ≡ Err its) × (reading (asked cmd became) ≡ Ok (Some cmd))
+what_any_line_asks its cmd became = (refl, refl, refl)
+
 -- heading
 the_line_that_tells_version_2_is_skipped : heading Two ≡ skipped ∷ []
 the_line_that_tells_version_2_is_skipped = refl
@@ -522,11 +541,19 @@ no_line_tells_version_1 = refl
 done_or_refused : map command_answer (outcome.Did Added ∷ outcome.Refused ∷ []) ≡ answer.Did Added ∷ answer.Refused ∷ []
 done_or_refused = refl
 
+with_any_reply : (reply : Reply) → command_answer (outcome.Did reply) ≡ answer.Did reply
+with_any_reply reply = refl
+
 -- line_answer
 a_comment_alone_has_none :
     map line_answer (skipped ∷ faulty fault.Hop ∷ asked Dump (outcome.Did (Dumped 0)) ∷ asked Dump outcome.Refused ∷ [])
     ≡ None ∷ Some (answer.Fault fault.Hop) ∷ Some (answer.Did (Dumped 0)) ∷ Some answer.Refused ∷ []
 a_comment_alone_has_none = refl
+
+any_fault_and_any_outcome :
+    (its : LineFault) (cmd : Cmd) (became : Outcome)
+    → (line_answer (faulty its) ≡ Some (answer.Fault its)) × (line_answer (asked cmd became) ≡ Some (command_answer became))
+any_fault_and_any_outcome its cmd became = (refl, refl)
 
 -- numbered
 with_its_number : numbered 7 (Some answer.Refused) ≡ record { number = 7; answer = answer.Refused } ∷ []
@@ -564,6 +591,9 @@ a_faulty_line_asked_nothing = refl
 the_commands_alone : asked_of (skipped ∷ faulty fault.Command ∷ asked Dump (outcome.Did (Dumped 0)) ∷ []) ≡ (Dump, outcome.Did (Dumped 0)) ∷ []
 the_commands_alone = refl
 
+of_any_lines : (one : LineOutcome) (outcomes : List LineOutcome) → asked_of (one ∷ outcomes) ≡ asked_by one ++ asked_of outcomes
+of_any_lines one outcomes = refl
+
 -- is_refusal
 a_refused_command : is_refusal answer.Refused ≡ true
 a_refused_command = refl
@@ -595,12 +625,18 @@ first_is_whole size piece other more (one ∷ whole) last full same = let first 
 one_after_another : concatenated {X = ℕ} ((1 ∷ 2 ∷ []) ∷ [] ∷ (3 ∷ []) ∷ []) ≡ 1 ∷ 2 ∷ 3 ∷ []
 one_after_another = refl
 
+any_pieces : {X : Type 0} (piece : List X) (pieces : List (List X)) → concatenated (piece ∷ pieces) ≡ piece ++ concatenated pieces
+any_pieces piece pieces = refl
+
 -- piece_of
 a_piece_by_itself : piece_of {X = ℕ} (3 ∷ []) ≡ (3 ∷ []) ∷ []
 a_piece_by_itself = refl
 
 no_piece_that_is_empty : piece_of {X = ℕ} [] ≡ []
 no_piece_that_is_empty = refl
+
+any_piece_by_itself : {X : Type 0} (x : X) (xs : List X) → piece_of (x ∷ xs) ≡ (x ∷ xs) ∷ []
+any_piece_by_itself x xs = refl
 
 -- IsCut
 three_in_pieces_of_two : IsCut {X = ℕ} 2 (1 ∷ 2 ∷ 3 ∷ []) ((1 ∷ 2 ∷ []) ∷ (3 ∷ []) ∷ [])
@@ -639,6 +675,9 @@ an_address_as_next_hop = refl
 discard_as_next_hop : hop_text Discard ≡ codes "discard"
 discard_as_next_hop = refl
 
+any_address_as_next_hop : (a : Addr) → hop_text (Via a) ≡ address_text a.0
+any_address_as_next_hop a = refl
+
 -- reply_text
 replies_of_one_word : map reply_text (Added ∷ Exists ∷ Full ∷ Replaced ∷ Withdrawn ∷ Missing ∷ [])
     ≡ codes "added" ∷ codes "exists" ∷ codes "full" ∷ codes "replaced" ∷ codes "withdrawn" ∷ codes "missing" ∷ []
@@ -676,6 +715,11 @@ a_reply_a_refusal_and_a_fault : map answer_text (answer.Did Added ∷ answer.Ref
     ≡ codes "added" ∷ codes "refused" ∷ codes "fault E3" ∷ []
 unfolding answer_text reply_text fault_text
 a_reply_a_refusal_and_a_fault = refl
+
+any_reply_and_any_fault :
+    (reply : Reply) (its : LineFault) → (answer_text (answer.Did reply) ≡ reply_text reply) × (answer_text (answer.Fault its) ≡ fault_text its)
+unfolding answer_text
+any_reply_and_any_fault reply its = (refl, refl)
 
 -- route_text
 a_route_that_discards : route_text (route_via ten_9_16 3 10 Discard) ≡ codes "10.9.0.0/16 feed 3 pref 10 via discard"
@@ -1156,12 +1200,20 @@ the_way_to_a_router = refl
 discard_as_way : way_text Discard ≡ codes "discard"
 discard_as_way = refl
 
+the_way_to_any_router : (a : Addr) → way_text (Via a) ≡ codes "via " ++ address_text a.0
+the_way_to_any_router a = refl
+
 -- answered_text
 an_answer_of_each_kind :
     (answered_text answered.NoRoute ≡ codes "no route") × (answered_text (answered.Hop Discard) ≡ codes "discard")
     × (answered_text (answered.Route route_10) ≡ codes "10.0.0.0/8 feed 1 pref 100 via 192.0.2.1")
 unfolding digits address_text prefix_text answered_text route_text
 an_answer_of_each_kind = (refl, refl, refl)
+
+any_answer_of_each_kind :
+    (next : Hop) (route : Route) → (answered_text (answered.Hop next) ≡ way_text next) × (answered_text (answered.Route route) ≡ route_text route)
+unfolding answered_text
+any_answer_of_each_kind next route = (refl, refl)
 
 -- the addresses from 10.1.2.3 to 10.9.0.1, which had a way and now have none
 abbrev range_without_way : Difference
@@ -1172,12 +1224,129 @@ a_range_and_both_answers : difference_text range_without_way ≡ codes "10.1.2.3
 unfolding digits address_text difference_text answered_text
 a_range_and_both_answers = refl
 
--- differences_text
+-- the routes of feed 1 of the old table and of feed 7 of the new one
+abbrev told_range : Difference
+told_range = record { first = at_10_1_2_3; last = at_10_9_0_1; old = answered.Route (route_via ten_8 1 5 Discard); new = answered.Route (route_via ten_8 7 5 Discard) }
+
+abbrev side_styles : Form → SideStylesContents
+side_styles form = record { form = form; old_labels = codes "a" ∷ []; new_labels = [] ∷ [] ∷ [] ∷ [] ∷ [] ∷ [] ∷ codes "b" ∷ [] }
+
+-- SideStylesContents
+a_form_and_the_labels_of_both : (form : Form) → ((side_styles form).form ≡ form) × ((side_styles form).old_labels ≡ codes "a" ∷ [])
+    × ((side_styles form).new_labels ≡ [] ∷ [] ∷ [] ∷ [] ∷ [] ∷ [] ∷ codes "b" ∷ [])
+a_form_and_the_labels_of_both form = (refl, refl, refl)
+
+-- answered_as
+an_answer_in_each_style :
+    (label : ℕ → List ℕ) (answer : Answered) (hop : Hop) (r : Route)
+    → (answered_as Numbers label answer ≡ answered_text answer) × (answered_as Labels label answered.NoRoute ≡ answered_text answered.NoRoute)
+    × (answered_as Labels label (answered.Hop hop) ≡ answered_text (answered.Hop hop)) × (answered_as Labels label (answered.Route r) ≡ route_line (label r.feed) r)
+    × (answered_as Json label answered.NoRoute ≡ codes "null") × (answered_as Json label (answered.Hop hop) ≡ codes "{" ++ (hop_members hop ++ codes "}"))
+    × (answered_as Json label (answered.Route r) ≡ route_object (label r.feed) r [])
+unfolding answered_as
+an_answer_in_each_style label answer way r = (refl, refl, refl, refl, refl, refl, refl)
+
+-- range_as
+a_range_in_each_style :
+    (d : Difference) (old new : List ℕ) → (range_as Numbers d old new ≡ range_as Labels d old new)
+    × (range_as Labels d old new ≡ address_text d.first.0 ++ (codes "-" ++ (address_text d.last.0 ++ (codes " " ++ (old ++ (codes " -> " ++ (new ++ codes "\n")))))))
+    × (range_as Json d old new ≡ codes "{\"first\":\"" ++ (address_text d.first.0 ++ (codes "\",\"last\":\"" ++ (address_text d.last.0 ++ (codes "\",\"old\":"
+    ++ (old ++ (codes ",\"new\":" ++ (new ++ codes "}\n"))))))))
+unfolding range_as
+a_range_in_each_style d old new = (refl, refl, refl)
+
+-- difference_as
+as_it_is_told_by_numbers : (old new : List (List ℕ)) (d : Difference)
+    → difference_as (record { form = Numbers; old_labels = old; new_labels = new }) d ≡ difference_text d
+unfolding range_as answered_as difference_text
+as_it_is_told_by_numbers old new d = refl
+
+each_answer_by_its_own_labels : difference_as (side_styles Labels) told_range
+    ≡ codes "10.1.2.3-10.9.0.1 10.0.0.0/8 feed a pref 5 via discard -> 10.0.0.0/8 feed b pref 5 via discard\n"
+unfolding digits address_text prefix_text range_as answered_as
+each_answer_by_its_own_labels = refl
+
+a_range_as_an_object : difference_as (side_styles Json) range_without_way
+    ≡ codes "{\"first\":\"10.1.2.3\",\"last\":\"10.9.0.1\",\"old\":{\"via\":\"192.0.2.1\"},\"new\":null}\n"
+unfolding digits address_text range_as answered_as
+a_range_as_an_object = refl
+
+any_range_in_a_style : (styles : SideStylesContents) (d : Difference) → difference_as styles d
+    ≡ range_as styles.form d (answered_as styles.form (label_of styles.old_labels) d.old) (answered_as styles.form (label_of styles.new_labels) d.new)
+any_range_in_a_style styles d = refl
+
+-- differences_as
 one_line_for_each_range :
-    differences_text (range_without_way ∷ range_without_way ∷ [])
+    differences_as (side_styles Numbers) (range_without_way ∷ range_without_way ∷ [])
     ≡ codes "10.1.2.3-10.9.0.1 via 192.0.2.1 -> no route\n10.1.2.3-10.9.0.1 via 192.0.2.1 -> no route\n"
-unfolding digits address_text difference_text answered_text
+unfolding digits address_text range_as answered_as answered_text
 one_line_for_each_range = refl
+
+-- two routes of feed 1 and one of feed 2, to two prefixes
+abbrev counted_routes : List Route
+counted_routes = route_via ten_8 1 5 Discard ∷ route_via ten_8 2 5 Discard ∷ route_via ten_1_16 1 5 Discard ∷ []
+
+-- prefix_count
+each_prefix_once : prefix_count counted_routes ≡ 2
+each_prefix_once = refl
+
+as_many_as_there_are_best_routes : (table : List Route) → IsTable table → prefix_count table ≡ length (best_routes table)
+as_many_as_there_are_best_routes table is = ap length (dedup-best table is)
+
+-- length_count
+those_of_the_length_alone : (length_count 8 counted_routes ≡ 2) × (length_count 16 counted_routes ≡ 1) × (length_count 32 counted_routes ≡ 0)
+those_of_the_length_alone = (refl, refl, refl)
+
+any_length_count : (len : ℕ) (routes : List Route) → length_count len routes ≡ count_by (λ (r : Route). r.prefix.len == len) routes
+any_length_count len routes = refl
+
+-- totals_as
+the_totals_in_each_style :
+    (totals_as Numbers 3 2 ≡ codes "routes 3 prefixes 2\n") × (totals_as Labels 3 2 ≡ codes "routes 3 prefixes 2\n")
+    × (totals_as Json 3 2 ≡ codes "{\"routes\":3,\"prefixes\":2}\n")
+unfolding totals_as digits
+the_totals_in_each_style = (refl, refl, refl)
+
+any_totals :
+    (m n : ℕ) → (totals_as Numbers m n ≡ codes "routes " ++ (decimal m ++ (codes " prefixes " ++ (decimal n ++ codes "\n"))))
+    × (totals_as Labels m n ≡ codes "routes " ++ (decimal m ++ (codes " prefixes " ++ (decimal n ++ codes "\n"))))
+    × (totals_as Json m n ≡ codes "{\"routes\":" ++ (decimal m ++ (codes ",\"prefixes\":" ++ (decimal n ++ codes "}\n"))))
+unfolding totals_as
+any_totals m n = (refl, refl, refl)
+
+-- count_as
+a_count_in_each_style :
+    (kind name : List ℕ) (count : ℕ)
+    → (count_as Numbers kind name count ≡ (if count == 0 then [] else kind ++ (codes " " ++ (name ++ (codes " routes " ++ (decimal count ++ codes "\n"))))))
+    × (count_as Labels kind name count ≡ (if count == 0 then [] else kind ++ (codes " " ++ (name ++ (codes " routes " ++ (decimal count ++ codes "\n"))))))
+    × (count_as Json kind name count
+    ≡ (if count == 0 then [] else codes "{\"" ++ (kind ++ (codes "\":" ++ (name ++ (codes ",\"routes\":" ++ (decimal count ++ codes "}\n")))))))
+unfolding count_as
+a_count_in_each_style kind name count = (refl, refl, refl)
+
+-- feed_as
+by_number_or_label : (label : ℕ → List ℕ) (feed : ℕ)
+    → (feed_as Numbers label feed ≡ decimal feed) × (feed_as Labels label feed ≡ label feed) × (feed_as Json label feed ≡ label feed)
+by_number_or_label label feed = (refl, refl, refl)
+
+-- each_below
+from_0_up_to_the_last_below : (tell : ℕ → List ℕ) → each_below tell 3 ≡ (([] ++ tell 0) ++ tell 1) ++ tell 2
+from_0_up_to_the_last_below tell = refl
+
+any_each_below : (tell : ℕ → List ℕ) (n : ℕ) → each_below tell (suc n) ≡ each_below tell n ++ tell n
+any_each_below tell n = refl
+
+-- counts_as
+all_counts : counts_as Numbers (λ feed. []) counted_routes
+    ≡ codes "routes 3 prefixes 2\nfeed 1 routes 2\nfeed 2 routes 1\nlength 8 routes 2\nlength 16 routes 1\n"
+unfolding totals_as count_as digits
+all_counts = refl
+
+any_counts : (form : Form) (label : ℕ → List ℕ) (routes : List Route) → counts_as form label routes
+    ≡ totals_as form (length routes) (prefix_count routes)
+    ++ (each_below (λ feed. count_as form (codes "feed") (feed_as form label feed) (count_of feed routes)) 65
+    ++ each_below (λ len. count_as form (codes "length") (decimal len) (length_count len routes)) 33)
+any_counts form label routes = refl
 
 -- escaped
 what_stands_for_a_byte :
@@ -1202,6 +1371,9 @@ any_json_string bytes = refl
 a_next_hop_and_none : (hop_members (via_192_0_2 2) ≡ codes "\"via\":\"192.0.2.2\"") × (hop_members Discard ≡ codes "\"via\":null,\"discard\":true")
 unfolding digits address_text
 a_next_hop_and_none = (refl, refl)
+
+any_next_hop : (a : Addr) → hop_members (Via a) ≡ codes "\"via\":\"" ++ (address_text a.0 ++ codes "\"")
+any_next_hop a = refl
 
 -- route_object
 a_route_as_an_object :
@@ -1267,6 +1439,27 @@ any_paths_by_their_numbers :
     × (labelled tell feed (path ∷ paths) ≡ tell feed path ∷ labelled tell (suc feed) paths)
 any_paths_by_their_numbers tell feed path paths = (refl, refl)
 
+-- number_in
+the_first_of_the_name_or_another :
+    (number_in 3 (codes "a.feed" ∷ codes "x/b.feed" ∷ codes "b" ∷ []) (codes "b") 9 ≡ 4) × (number_in 3 (codes "a.feed" ∷ []) (codes "b") 9 ≡ 9)
+    × (number_in 3 [] (codes "b") 9 ≡ 9)
+unfolding feed_name
+the_first_of_the_name_or_another = (refl, refl, refl)
+
+any_number_in : (number : ℕ) (path : List ℕ) (paths : List (List ℕ)) (name : List ℕ) (other : ℕ) → number_in number (path ∷ paths) name other
+    ≡ (if bytes_eq (feed_name path) name then number else number_in (suc number) paths name other)
+any_number_in number path paths name other = refl
+
+-- number_beside
+its_partners_or_behind_them_all :
+    (number_beside (codes "a.feed" ∷ codes "b.feed" ∷ []) 1 (codes "new/b.feed") ≡ 2)
+    × (number_beside (codes "a.feed" ∷ codes "b.feed" ∷ []) 3 (codes "c.feed") ≡ 5)
+unfolding feed_name
+its_partners_or_behind_them_all = (refl, refl)
+
+any_number_beside : (paths : List (List ℕ)) (feed : ℕ) (path : List ℕ) → number_beside paths feed path ≡ number_in 1 paths (feed_name path) (length paths + feed)
+any_number_beside paths feed path = refl
+
 -- label_of
 feeds_have_their_labels :
     (one two : List ℕ) → (label_of (one ∷ two ∷ []) 1 ≡ one) × (label_of (one ∷ two ∷ []) 2 ≡ two) × (label_of (one ∷ two ∷ []) 3 ≡ [])
@@ -1274,6 +1467,14 @@ feeds_have_their_labels one two = (refl, refl, refl)
 
 any_label : (labels : List (List ℕ)) (feed : ℕ) → label_of labels feed ≡ unwrap_or (slice_get labels (feed - 1)) []
 any_label labels feed = refl
+
+-- objects that tell two feeds by their numbers
+abbrev objects_of_two : StyleContents
+objects_of_two = record { form = Json; labels = codes "1" ∷ codes "2" ∷ [] }
+
+-- StyleContents
+what_a_style_has : (objects_of_two.form ≡ Json) × (label_of objects_of_two.labels 1 ≡ codes "1") × (label_of objects_of_two.labels 2 ≡ codes "2")
+what_a_style_has = (refl, refl, refl)
 
 -- route_line
 any_route_line : (feed : List ℕ) (route : Route) → route_line feed route

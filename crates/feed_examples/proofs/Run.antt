@@ -42,15 +42,17 @@ use Rattle.rt_feed.specs.declared.faults.RunFault.{RunFault}
 use Rattle.rt_feed.specs.declared.faults.RunFault.TheVariants as run
 use Rattle.feed_examples.proofs.Feed.{at_192_0_2_1, asked_text, two_are_asked_and_a_line_is_faulty}
 use Rattle.feed_examples.proofs.Feed.{north, north_read, south, south_read, east, east_read, what_north_becomes, what_south_becomes, what_east_becomes}
-use Rattle.std.specs.Prelude.{◌↔◌, max, nat_lt, Option, count_by}
+use Rattle.std.specs.Prelude.{◌↔◌, max, nat_lt, Option, count_by, fold}
+use Rattle.rt_feed.specs.Printed.{report_text}
 use Rattle.rt_cidr.specs.declared.address.Addr.{Addr}
 use Rattle.std.specs.Io.KnownBytes.{Appends}
 use Rattle.rt_cidr.specs.Output.{AppendsBeginning}
 use Rattle.rt_diff.specs.declared.differences.Difference.{Difference}
 use Rattle.rt_diff.specs.Differences.{AreDifferences}
-use Rattle.rt_feed.specs.DifferenceText.{differences_text}
+use Rattle.rt_diff.specs.Answers.{by_own}
+use Rattle.rt_feed.specs.DifferenceText.{SideStylesContents, differences_as}
 use Rattle.rt_run.specs.declared.compared.DiffSummary.{DiffSummary}
-use Rattle.rt_run.specs.DiffText.{differ_status, IsDiffText}
+use Rattle.rt_run.specs.DiffText.{AskedDiff, new_told, differ_status, IsDiffText}
 use Rattle.rt_run.specs.SameDiff.{TellsUnions, DiffsUnions, DiffOnce}
 use Rattle.rt_run.specs.declared.faults.AppFault.TheVariants.{Run, Replay, Write}
 use Rattle.rt_run.specs.AskedRun.{AskedRun}
@@ -62,7 +64,8 @@ use Rattle.rt_run.specs.declared.tallies.Tally.{Tally}
 use Rattle.rt_run.specs.declared.tallies.RunSummary.{RunSummary}
 use Rattle.rt_feed.specs.declared.styles.Form.TheVariants.{Numbers}
 use Rattle.rt_feed.specs.Styles.{StyleContents, label_of, row_as, rows_as, found_as, all_found_as}
-use Rattle.rt_run.specs.TableText.{answers_text, all_answers_text, routes_text, was_full, was_existing, was_missing, fault_at, faults_of, tally_of}
+use Rattle.rt_feed.specs.Counts.{totals_as, count_as, counts_as}
+use Rattle.rt_run.specs.TableText.{answers_text, all_answers_text, routes_text, counts_text, was_full, was_existing, was_missing, fault_at, faults_of, tally_of}
 use Rattle.rt_run.specs.TableText.{has_refused, has_left_out, tallies_status, IsSummary, LeavesTable, IsShown, IsLookup}
 use Rattle.rt_run.specs.declared.shown.LookupSummary.{LookupSummary}
 use Rattle.rt_feed.specs.declared.faulty.FaultyLines.{FaultyLines}
@@ -86,6 +89,11 @@ its_own_limit = refl
 one_route_at_most : table_alone 1 2 ((Add ten_8 5 Discard, Refused) ∷ (Add ten_9_16 5 Discard, Did Added) ∷ []) ≡ route_via ten_8 2 5 Discard ∷ []
 unfolding table_alone table_after
 one_route_at_most = refl
+
+what_any_commands_leave :
+    (limit feed : ℕ) (commands : List (Cmd × Outcome)) → table_alone limit feed commands ≡ fold (λ table one. table_after limit table feed one.0) [] commands
+unfolding table_alone
+what_any_commands_leave limit feed commands = refl
 
 -- LeavesAlone
 a_route_of_south : LeavesAlone (north ∷ south ∷ east ∷ []) 65536 1 (route_via ten_8 2 30 (via_192_0_2 2))
@@ -165,6 +173,11 @@ the_second_is_of_feed_2 :
 unfolding digits line_text answer_text reply_text
 the_second_is_of_feed_2 = refl
 
+from_any_feed_on :
+    (feed : ℕ) (report : List Line) (reports : List (List Line))
+    → reports_text feed (report ∷ reports) ≡ report_text feed report ++ reports_text (feed + 1) reports
+from_any_feed_on feed report reports = refl
+
 -- some_refused
 one_of_the_second_was : some_refused ((skipped ∷ []) ∷ (faulty fault.Hop ∷ asked Dump Refused ∷ []) ∷ []) ≡ true
 one_of_the_second_was = refl
@@ -210,6 +223,16 @@ only_a_feeds = refl
 any_of_them : (style : StyleContents) (selection : Selection) (table : List Route) → routes_text style selection table
     ≡ rows_as style.form (label_of style.labels) (selected selection table)
 any_of_them style selection table = refl
+
+-- counts_text
+all_in_numbers : counts_text plain (record { part = part.All; only_best = true; feed = None }) two_to_ten_8
+    ≡ codes "routes 1 prefixes 1\nfeed 2 routes 1\nlength 8 routes 1\n"
+unfolding totals_as count_as digits
+all_in_numbers = refl
+
+any_of_them_in_numbers : (style : StyleContents) (selection : Selection) (table : List Route) → counts_text style selection table
+    ≡ counts_as style.form (label_of style.labels) (selected selection table)
+any_of_them_in_numbers style selection table = refl
 
 -- answers_text
 one_is_covered_and_one_is_not :
@@ -566,6 +589,12 @@ no_lines_of_no_text h = h
 no_text_left_out : ¬ ExplainsFrom 1 1 tutorial (north ∷ []) []
 no_text_left_out h = h
 
+a_text_and_those_behind_it :
+    (batch feed : ℕ) (journal : List Entry) (text : List ℕ) (texts : List (List ℕ)) (lines : List LineOutcome) (outcomes : List (List LineOutcome))
+    → ExplainsFrom batch feed journal (text ∷ texts) (lines ∷ outcomes)
+    ↔ (Explains batch feed journal text lines × ExplainsFrom batch (feed + 1) journal texts outcomes)
+a_text_and_those_behind_it batch feed journal text texts lines outcomes = (λ h. h, λ h. h)
+
 -- what the tutorial shows of its run
 abbrev the_tutorials_page : List ℕ
 the_tutorials_page =
@@ -916,30 +945,39 @@ no_byte_lost_where_its_text_could_not_be_written (its_text, is, begins) = let lo
 some_range_or_none : (d : Difference) → (differ_status [] ≡ 0) × (differ_status (d ∷ []) ≡ 1) × (differ_status (d ∷ d ∷ []) ≡ 1)
 some_range_or_none d = (refl, refl, refl)
 
+-- AskedDiff
+what_a_comparison_is_asked : (way : By) (numbers : List ℕ) (told : SideStylesContents) (asked : AskedDiff) → asked ≡ record { by = way; numbers = numbers; styles = told }
+    → (asked.by ≡ way) × (asked.numbers ≡ numbers) × (asked.styles ≡ told)
+what_a_comparison_is_asked way numbers told terms is = (ap (λ (a : AskedDiff). a.by) is, ap (λ (a : AskedDiff). a.numbers) is, ap (λ (a : AskedDiff). a.styles) is)
+
+-- new_told
+told_by_the_numbers_that_are_asked : (asked : AskedDiff) (routes : List Route) → new_told asked routes ≡ record { routes = routes; numbers = asked.numbers }
+told_by_the_numbers_that_are_asked terms routes = refl
+
 -- IsDiffText
 what_two_runs_differ_in :
-    (by : By) (old new : AskedRun) (bytes : List ℕ) (given : DiffSummary) (h : IsDiffText by old new bytes given)
-    → LeavesTable old h.old_table given.old × LeavesTable new h.new_table given.new × AreDifferences by h.old_table h.new_table h.list
-    × (bytes ≡ differences_text h.list) × (given.status ≡ max (differ_status h.list) (max given.old.status given.new.status))
-what_two_runs_differ_in by old new bytes given h = (h.old_left, h.new_left, h.differences, h.printed, h.is_status)
+    (asked : AskedDiff) (old new : AskedRun) (bytes : List ℕ) (given : DiffSummary) (h : IsDiffText asked old new bytes given)
+    → LeavesTable old h.old_table given.old × LeavesTable new h.new_table given.new × AreDifferences asked.by (by_own h.old_table) (new_told asked h.new_table) h.list
+    × (bytes ≡ differences_as asked.styles h.list) × (given.status ≡ max (differ_status h.list) (max given.old.status given.new.status))
+what_two_runs_differ_in terms old new bytes given h = (h.old_left, h.new_left, h.differences, h.printed, h.is_status)
 
 -- TellsUnions
 what_two_unions_differ_in :
-    (by : By) (old new : AskedRun) (bytes : List ℕ) (h : TellsUnions by old new bytes)
-    → IsUnion old.texts old.limit h.old_union × IsUnion new.texts new.limit h.new_union × AreDifferences by h.old_union h.new_union h.list
-    × (bytes ≡ differences_text h.list)
-what_two_unions_differ_in by old new bytes h = (h.of_old, h.of_new, h.differences, h.printed)
+    (asked : AskedDiff) (old new : AskedRun) (bytes : List ℕ) (h : TellsUnions asked old new bytes)
+    → IsUnion old.texts old.limit h.old_union × IsUnion new.texts new.limit h.new_union × AreDifferences asked.by (by_own h.old_union) (new_told asked h.new_union) h.list
+    × (bytes ≡ differences_as asked.styles h.list)
+what_two_unions_differ_in terms old new bytes h = (h.of_old, h.of_new, h.differences, h.printed)
 
 -- DiffsUnions
 a_comparison_is_of_the_unions :
-    DiffsUnions → (by : By) (old new : AskedRun) (bytes : List ℕ) (given : DiffSummary) → IsDiffText by old new bytes given
-    → given.old.status ≢ 5 → given.new.status ≢ 5 → TellsUnions by old new bytes
+    DiffsUnions → (asked : AskedDiff) (old new : AskedRun) (bytes : List ℕ) (given : DiffSummary) → IsDiffText asked old new bytes given
+    → given.old.status ≢ 5 → given.new.status ≢ 5 → TellsUnions asked old new bytes
 a_comparison_is_of_the_unions law = law
 
 -- DiffOnce
 two_comparisons_differ_in_the_same :
-    DiffOnce → (by : By) (old old' new new' : AskedRun) (bytes bytes' : List ℕ) (given given' : DiffSummary) → AskTheSame old old' → AskTheSame new new'
-    → IsDiffText by old new bytes given → IsDiffText by old' new' bytes' given' → given.old.status ≢ 5 → given.new.status ≢ 5
+    DiffOnce → (asked : AskedDiff) (old old' new new' : AskedRun) (bytes bytes' : List ℕ) (given given' : DiffSummary) → AskTheSame old old' → AskTheSame new new'
+    → IsDiffText asked old new bytes given → IsDiffText asked old' new' bytes' given' → given.old.status ≢ 5 → given.new.status ≢ 5
     → given'.old.status ≢ 5 → given'.new.status ≢ 5
     → (bytes ≡ bytes') × (given.status ≡ given'.status) × SayTheSame given.old given'.old × SayTheSame given.new given'.new
 two_comparisons_differ_in_the_same law = law

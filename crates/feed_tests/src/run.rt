@@ -13,9 +13,13 @@ use ya_core::ReplayFault;
 
 /// Each fault, its text and its name.
 static FAULTS: [(AppFault, &str, &str); 7] = [
-    (AppFault::Run(RunFault::NoText), "F1", "Run(NoText)"),
-    (AppFault::Run(RunFault::FeedCount), "F2", "Run(FeedCount)"),
-    (AppFault::Run(RunFault::Memory), "F3", "Run(Memory)"),
+    (AppFault::Run(RunFault::NoText), "fault F1", "Run(NoText)"),
+    (
+        AppFault::Run(RunFault::FeedCount),
+        "fault F2",
+        "Run(FeedCount)",
+    ),
+    (AppFault::Run(RunFault::Memory), "fault F3", "Run(Memory)"),
     (
         AppFault::Replay(ReplayFault::Place),
         "fault P1",

@@ -10,11 +10,12 @@ use Rattle.rt_rib.specs.declared.commands.Cmd.{Cmd}
 use Rattle.rt_rib.specs.declared.commands.Cmd.TheVariants.{Add, Replace, Withdraw, Lookup, Dump, Purge}
 use Rattle.rt_rib.specs.declared.commands.Reply.{Reply}
 use Rattle.rt_rib.specs.LookUp.{look_up}
-use Rattle.rt_rib.specs.Book.{BookContents, table_of, Applies}
+use Rattle.rt_rib.specs.Table.{IsTable}
+use Rattle.rt_rib.specs.Book.{BookContents, TableState, table_of, Applies, Serves}
 use Rattle.table_examples.proofs.Cidr.{ten_8}
 use Rattle.table_examples.proofs.Rib.{ten_1_16, at_10_9_0_1, via_192_0_2, route_via}
 use Rattle.rt_fib.specs.Tables.{IsKeptOutside}
-use Rattle.rt_fib.specs.Laws.{KeepsOutside, CommandsKeepOutside}
+use Rattle.rt_fib.specs.Laws.{KeepsOutside, CommandsKeepOutside, TablesKeepOutside}
 
 -- 10.0.0.0/8 by 192.0.2.1
 abbrev by_1 : Route
@@ -48,3 +49,9 @@ each_command_of_a_book_keeps_it :
     CommandsKeepOutside → (old new : BookContents) (feed : ℕ) (cmd : Cmd) (reply : Reply) → Applies old new feed cmd reply
     → KeepsOutside cmd (table_of old) (table_of new)
 each_command_of_a_book_keeps_it law = law
+
+-- TablesKeepOutside
+each_command_of_a_table_keeps_it :
+    TablesKeepOutside → (old new : TableState) (feed : ℕ) (cmd : Cmd) (reply : Reply) → IsTable old.routes → IsTable new.routes
+    → Serves old new feed cmd reply → KeepsOutside cmd old.routes new.routes
+each_command_of_a_table_keeps_it law = law

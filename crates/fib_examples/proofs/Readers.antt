@@ -4,7 +4,7 @@ use Rattle.std.specs.Prelude.{◌↔◌, ◌++◌}
 use Rattle.rt_rib.specs.declared.routes.Route.{Route}
 use Rattle.table_examples.proofs.Cidr.{ten_8}
 use Rattle.table_examples.proofs.Rib.{via_192_0_2, route_via}
-use Rattle.fib_readers.specs.Readers.{BeginWith, EndIn}
+use Rattle.fib_readers.specs.Readers.{BeginWith, EndIn, Found}
 
 -- the table of 10.0.0.0/8 alone, by 192.0.2.1
 abbrev one_route : List Route
@@ -26,3 +26,11 @@ two_tables_end_in_the_second = ([] ∷ [], refl)
 
 what_it_is_to_end_in : (tables : List (List Route)) (table : List Route) → EndIn tables table ↔ ((before : List (List Route)) × (tables ≡ before ++ table ∷ []))
 what_it_is_to_end_in tables table = (λ h. h, λ h. h)
+
+-- what is found where that table was published behind an empty one
+abbrev found_one_route : Found
+found_one_route = record { table = one_route; published = [] ∷ one_route ∷ [] }
+
+-- Found
+the_last_that_was_published_is_found : EndIn found_one_route.published found_one_route.table
+the_last_that_was_published_is_found = ([] ∷ [], refl)

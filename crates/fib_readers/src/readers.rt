@@ -101,7 +101,8 @@ impl FibWriter {
     /// The writer of this forwarding table, with room for so many readers at once. M1: `Refused` where memory was refused.
     pub fn new(alloc: Global, fib: Fib<Global>, readers: usize) -> Result<FibWriter, Refused>
         requires { (0 < readers) × (readers < 2 ^ 32) }
-        ensures { IfOk result (λ writer. writer.table ≡ fib) }
+        ensures table { IfOk result (λ writer. writer.table ≡ fib) }
+        ensures unseen { IfOk result (λ writer. writer.published ≡ []) }
     {
         let first = Shown {
             fib: Arc::new(alloc, fib)?,
@@ -113,8 +114,10 @@ impl FibWriter {
         Ok(FibWriter { writer })
     }
 
-    /// Another reader. M1: `Refused` where each place for a reader is found in use.
-    pub fn reader(&self) -> Result<FibReader, Refused> {
+    /// Another reader, which has seen nothing yet. M1: `Refused` where each place for a reader is found in use.
+    pub fn reader(&self) -> Result<FibReader, Refused>
+        ensures { IfOk result (λ reader. reader ≡ []) }
+    {
         Ok(FibReader {
             reader: self.writer.factory().reader()?,
         })

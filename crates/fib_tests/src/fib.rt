@@ -1,6 +1,7 @@
 //! A forwarding table beside a plain list of its book's routes, by each address of small universes.
 mod plain;
 mod readers;
+mod refusals;
 mod renewals;
 mod threads;
 mod universe;
@@ -26,26 +27,45 @@ fn around(rt: &impl Abort, addr: u32, len: u8) -> Prefix {
     Prefix::new(base as u32, len).expect(rt, "no prefix")
 }
 
-/// A length from 22 on, seldom one from 12 on, and very seldom any.
+/// A length from 22 on.
+fn long_len(dice: &mut Dice) -> u8 {
+    22 + dice.roll(11) as u8
+}
+
+/// A length from 24 on, seldom one from 12 on, and very seldom any.
 fn any_len(dice: &mut Dice) -> u8 {
-    match dice.roll(1_000) {
+    match dice.roll(10_000) {
         0 => dice.roll(33) as u8,
-        1..=99 => 12 + dice.roll(10) as u8,
-        _ => 22 + dice.roll(11) as u8,
+        1..=99 => 12 + dice.roll(12) as u8,
+        _ => 24 + dice.roll(9) as u8,
     }
+}
+
+/// An address of one of the universes.
+fn any_addr(dice: &mut Dice) -> u32 {
+    let first = UNIVERSES[dice.roll(3)];
+    first.wrapping_add(dice.roll(1024) as u32)
+}
+
+/// An address at an edge of a block. So a block has few answers, and a change takes little time.
+fn edge_addr(dice: &mut Dice) -> u32 {
+    let first = UNIVERSES[dice.roll(3)];
+    let block = first.wrapping_add(dice.roll(4) as u32 * 256);
+    block.wrapping_add(dice.roll(2) as u32 * 255)
 }
 
 /// A prefix around an address of one of the universes.
 fn any_prefix(rt: &impl Abort, dice: &mut Dice) -> Prefix {
-    let first = UNIVERSES[dice.roll(3)];
-    let addr = first.wrapping_add(dice.roll(1024) as u32);
-    let len = any_len(dice);
+    let addr = any_addr(dice);
+    let len = match dice.roll(10) {
+        0 => any_len(dice),
+        _ => long_len(dice),
+    };
     around(rt, addr, len)
 }
 
-/// Three of ten withdraw, and one asks.
-fn any_cmd(rt: &impl Abort, dice: &mut Dice) -> Cmd {
-    let prefix = any_prefix(rt, dice);
+/// A command of this prefix: three of ten withdraw, and one asks.
+fn cmd_of(dice: &mut Dice, prefix: Prefix) -> Cmd {
     let pref = dice.roll(3) as u32;
     let hop = Hop::Via(Addr(dice.roll(4) as u32));
     match dice.roll(10) {
@@ -56,6 +76,13 @@ fn any_cmd(rt: &impl Abort, dice: &mut Dice) -> Cmd {
             addr: Addr(prefix.base()),
         },
     }
+}
+
+/// A command of a prefix around an edge of a block.
+fn any_cmd(rt: &impl Abort, dice: &mut Dice) -> Cmd {
+    let addr = edge_addr(dice);
+    let len = any_len(dice);
+    cmd_of(dice, around(rt, addr, len))
 }
 
 /// Compares what the table answers the address with the best of the routes.

@@ -28,7 +28,7 @@ use Rattle.ya_core.specs.Worlds.{Marked, World, Event, Steps, Appends, WorldStep
 use Rattle.ya_core.specs.Worlds.{opening_world, entries_of, TellsInside, places_of, FollowsFrom, EachMayFollow}
 use Rattle.ya_core.specs.RealTime.{KeepsRealTimeOrder}
 use Rattle.ya_core.proofs.Content.{entries_of-marked_other}
-use Rattle.std.specs.Prelude.{IsTrue, ◌⊎◌, ◌||◌, ◌↔◌, ◌-◌, ◌*◌, ◌/◌, ◌%◌, not, length, slice_index}
+use Rattle.std.specs.Prelude.{IsTrue, ◌⊎◌, ◌||◌, ◌↔◌, ◌-◌, ◌*◌, ◌/◌, ◌%◌, not, nat_le, nat_lt, length, slice_index}
 use Rattle.ya_core.specs.declared.process.EntryPoint.{EntryPoint}
 use Rattle.ya_core.specs.declared.process.ExitPoint.{ExitPoint}
 use Rattle.ya_core.specs.declared.walker.Op.TheVariants as op
@@ -365,12 +365,23 @@ it_has_no_others :
     ≡ false ∷ false ∷ false ∷ false ∷ false ∷ false ∷ false ∷ false ∷ false ∷ false ∷ false ∷ false ∷ []
 it_has_no_others = refl
 
+which_words_are_of_any_tree :
+    (levels level node side place : ℕ)
+    → (is_word levels (C level node side) ≡ (nat_le 1 level && nat_le level levels && nat_lt node (2 ^ (levels - level)) && nat_lt side 2))
+    × (is_word levels (T level node) ≡ (nat_le 1 level && nat_le level levels && nat_lt node (2 ^ (levels - level))))
+    × (is_word levels (P level place) ≡ (nat_le 1 level && nat_le level levels && nat_lt place (2 ^ levels)))
+which_words_are_of_any_tree levels level node side place = (refl, refl, refl)
+
 -- value_of
 a_load_tells_the_word : value_of (λ word. 9) (Load (T 1 0)) ≡ 9
 a_load_tells_the_word = refl
 
 a_store_what_it_stores : value_of (λ word. 9) (Store (T 1 0) 4) ≡ 4
 a_store_what_it_stores = refl
+
+what_any_access_tells :
+    (words : Word → ℕ) (word : Word) (value : ℕ) → (value_of words (Load word) ≡ words word) × (value_of words (Store word value) ≡ value)
+what_any_access_tells words word value = (refl, refl)
 
 -- cost_of
 a_load_of_its_own_spin_word : cost_of 3 (Load (P 1 3)) ≡ 0
@@ -381,6 +392,10 @@ a_store_in_anothers = refl
 
 a_claim_is_remote : cost_of 3 (Store (C 1 1 1) 4) ≡ 1
 a_claim_is_remote = refl
+
+the_cost_of_any_access :
+    (place value : ℕ) (word : Word) → (cost_of place (Load word) ≡ cost_of_word place word) × (cost_of place (Store word value) ≡ cost_of_word place word)
+the_cost_of_any_access place value word = (refl, refl)
 
 -- CanStand
 nil_in_a_claim : CanStand (C 1 1 0) 0
@@ -1421,6 +1436,10 @@ a_row_and_its_processes :
 unfolding words_of number_of
 a_row_and_its_processes = (refl, refl)
 
+any_row_and_its_processes :
+    (levels : ℕ) (row : List ℕ) (processes : ℕ → Process) → row_state levels row processes ≡ record { words = words_of levels row; processes = processes }
+any_row_and_its_processes levels row processes = refl
+
 -- FitsAccess
 a_load_is_told_what_can_stand : FitsAccess (Some (Load (P 1 2))) 2
 a_load_is_told_what_can_stand = omega arith
@@ -1626,6 +1645,9 @@ the_phases_of_the_way_in = refl
 the_phases_of_the_way_out : map exit_phase (X1 ∷ X2 ∷ X3 1 ∷ []) ≡ Holding ∷ Releasing ∷ LettingIn 1 ∷ []
 the_phases_of_the_way_out = refl
 
+letting_in_whichever_it_found : (rival : ℕ) → exit_phase (X3 rival) ≡ LettingIn rival
+letting_in_whichever_it_found rival = refl
+
 -- phase_at
 below_at_and_above_the_level : map (λ (level : ℕ). phase_at level 2 Named) (1 ∷ 2 ∷ 3 ∷ []) ≡ Holding ∷ Named ∷ Away ∷ []
 below_at_and_above_the_level = refl
@@ -1709,6 +1731,11 @@ while_it_looks_anyone :
     ≡ false ∷ false ∷ true ∷ true ∷ false ∷ false ∷ false ∷ false ∷ false ∷ false ∷ false ∷ false ∷ false ∷ []
 while_it_looks_anyone = refl
 
+whichever_rival_it_is_to_wake :
+    (place rival : ℕ) → (is_to_wake place (Waiting (E5 rival)) ≡ (rival == place)) × (is_to_wake place (Waiting (E6 rival)) ≡ (rival == place))
+    × (is_to_wake place (Waiting (E7 rival)) ≡ (rival == place))
+whichever_rival_it_is_to_wake place rival = (refl, refl, refl)
+
 -- wakes_next
 at_e7_its_rival :
     map (wakes_next 3) phases
@@ -1717,6 +1744,9 @@ at_e7_its_rival = refl
 
 nobody_else : wakes_next 4 (Waiting (E7 3)) ≡ false
 nobody_else = refl
+
+whichever_rival_it_wakes : (place rival : ℕ) → wakes_next place (Waiting (E7 rival)) ≡ (rival == place)
+whichever_rival_it_wakes place rival = refl
 
 -- is_to_let_in
 whom_the_word_T_names_or_it_has_found :
@@ -1728,6 +1758,10 @@ whom_it_has_found_alone :
     (map (is_to_let_in 0 3) (Releasing ∷ LettingIn 3 ∷ []) ≡ false ∷ true ∷ [])
     × (map (is_to_let_in 5 4) (Releasing ∷ LettingIn 3 ∷ []) ≡ true ∷ false ∷ [])
 whom_it_has_found_alone = (refl, refl)
+
+whomever_it_is_to_let_in :
+    (turn place rival : ℕ) → (is_to_let_in turn place Releasing ≡ (turn == place + 1)) × (is_to_let_in turn place (LettingIn rival) ≡ (rival == place))
+whomever_it_is_to_let_in turn place rival = (refl, refl)
 
 -- IsSoundLevel
 what_it_says_of_place_4_and_its_rival :
@@ -1992,6 +2026,11 @@ who_it_tells s h = h
 who_steps_in_order : places_of {X = ℕ} (Steps 3 ∷ Appends 0 7 ∷ Steps 1 ∷ []) ≡ 3 ∷ 1 ∷ []
 who_steps_in_order = refl
 
+any_event_and_those_behind_it :
+    {X : Type 0} (place : ℕ) (entry : X) (events : List (Event X))
+    → (places_of (Steps place ∷ events) ≡ place ∷ places_of events) × (places_of (Appends place entry ∷ events) ≡ places_of events)
+any_event_and_those_behind_it place entry events = (refl, refl)
+
 -- entries_of
 those_of_place_1 : entries_of {X = ℕ} 1 ((0, 7) ∷ (1, 8) ∷ (1, 9) ∷ []) ≡ 8 ∷ 9 ∷ []
 those_of_place_1 = refl
@@ -2030,6 +2069,9 @@ what_a_machine_shows = (refl, refl)
 -- word_of
 of_a_load_and_of_a_store : (word_of (Load (T 1 0)) ≡ T 1 0) × (word_of (Store (P 1 2) 1) ≡ P 1 2)
 of_a_load_and_of_a_store = (refl, refl)
+
+of_any_load_and_of_any_store : (word : Word) (value : ℕ) → (word_of (Load word) ≡ word) × (word_of (Store word value) ≡ word)
+of_any_load_and_of_any_store word value = (refl, refl)
 
 -- is_store
 a_store_is_one_a_load_is_not : (is_store (Store (P 1 2) 1) ≡ true) × (is_store (Load (P 1 2)) ≡ false)

@@ -1,7 +1,6 @@
 //! A writer that gathers text, so that it goes out in few large writes.
 ghost use Rattle.std.specs.Prelude.{◌≡◌, ℕ, ◌+◌, ◌<◌, ◌≤◌, List, [], ◌++◌, drop, length, vec_len, vec_capacity, IfOk, OnOk, OnErr};
-ghost use Rattle.std.specs.Io.{WritesAtMost};
-ghost use Rattle.std.specs.Io.KnownBytes.{Keeps, WriteAppends};
+ghost use Rattle.std.specs.Io.KnownBytes.{Keeps};
 ghost use Rattle.rt_cidr.specs.Output.{buffered};
 ghost use Rattle.rt_cidr.specs.declared.buffer.TheConstants.{OUTPUT_BYTES};
 

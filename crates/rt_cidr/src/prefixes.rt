@@ -3,7 +3,7 @@ ghost use Rattle.std.specs.Prelude.{◌≡◌, ◌++◌};
 ghost use Rattle.rt_cidr.specs.Output.{WritesText};
 ghost use Rattle.rt_cidr.specs.ShortText.{FitsInShortText};
 ghost use Rattle.rt_cidr.specs.Text.{prefix_text};
-ghost use Rattle.rt_cidr.specs.Cidr.{size_of, IsPrefix};
+ghost use Rattle.rt_cidr.specs.Cidr.{IsPrefix};
 ghost use Rattle.rt_cidr.specs.inside.Front.{ReadsPair};
 
 use crate::address::{Addr, after_mark, read_address};

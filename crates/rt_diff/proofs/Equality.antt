@@ -1,37 +1,11 @@
 -- That `==` of two answers says whether they are equal.
-use Rattle.std.proofs.Common.{◌≡◌, ap, refl, ◌==◌, Decides}
-use Rattle.std.proofs.lemmas.Bool.Decides.{Decides-eqb, Decides-and, Decides-like}
+use Rattle.std.proofs.Common.{◌≡◌, ap, refl, Decides}
+use Rattle.std.proofs.lemmas.Bool.Decides.{Decides-like}
 use Rattle.rt_cidr.specs.Laws.{SamePrefix}
-use Rattle.rt_cidr.specs.declared.prefixes.Prefix.{Prefix}
-use Rattle.rt_cidr.specs.contracts.prefixes.PrefixPartialEq.TheImpl as of_prefix
-use Rattle.rt_rib.specs.declared.routes.Route.{Route}
-use Rattle.rt_rib.specs.declared.routes.Hop.{Hop}
-use Rattle.rt_rib.specs.declared.routes.Hop.TheVariants.{Via, Discard}
-use Rattle.rt_rib.specs.contracts.routes.HopPartialEq.TheImpl as of_hop
-use Rattle.rt_rib.specs.contracts.routes.RoutePartialEq.TheImpl as of_route
+use Rattle.rt_rib.proofs.Promised.{decides_hop, decides_route}
 use Rattle.rt_diff.specs.declared.answers.Answer.{Answer}
 use Rattle.rt_diff.specs.declared.answers.Answer.TheVariants as answer
 use Rattle.rt_diff.specs.contracts.answers.AnswerPartialEq.TheImpl as of_answer
-
-prefixes : SamePrefix → (p q : Prefix) → Decides ((of_prefix.ghosts).eq p q) (p ≡ q)
-prefixes law p q =
-    Decides-like ((of_prefix.ghosts).eq p q) (λ h. law p q h.0 h.1) (λ e. (ap (λ (x : Prefix). x.base) e, ap (λ (x : Prefix). x.len) e))
-    (Decides-and (p.base == q.base) (p.len == q.len) (Decides-eqb p.base q.base) (Decides-eqb p.len q.len))
-
-hops : (h k : Hop) → Decides ((of_hop.ghosts).eq h k) (h ≡ k)
-hops (Via a) (Via b) =
-    Decides-like ((of_hop.ghosts).eq (Via a) (Via b)) (λ e. ap (λ n. Via (record { 0 = n })) e) (λ e. cc) (Decides-eqb a.0 b.0)
-hops (Via a) Discard = (λ e. cc, λ e. cc)
-hops Discard (Via b) = (λ e. cc, λ e. cc)
-hops Discard Discard = (λ e. refl, λ e. refl)
-
-routes : SamePrefix → (r s : Route) → Decides ((of_route.ghosts).eq r s) (r ≡ s)
-routes law r s =
-    Decides-like ((of_route.ghosts).eq r s)
-    (λ h i. record { prefix = h.0 i; feed = h.1.0 i; pref = h.1.1.0 i; hop = h.1.1.1 i })
-    (λ e. (ap (λ (x : Route). x.prefix) e, (ap (λ (x : Route). x.feed) e, (ap (λ (x : Route). x.pref) e, ap (λ (x : Route). x.hop) e))))
-    (Decides-and _ _ (prefixes law r.prefix s.prefix)
-    (Decides-and _ _ (Decides-eqb r.feed s.feed) (Decides-and _ _ (Decides-eqb r.pref s.pref) (hops r.hop s.hop))))
 
 pub answers : SamePrefix → (x y : Answer) → Decides ((of_answer.ghosts).eq x y) (x ≡ y)
 answers law answer.NoRoute answer.NoRoute = (λ e. refl, λ e. refl)
@@ -39,9 +13,9 @@ answers law answer.NoRoute (answer.Hop k) = (λ e. cc, λ e. cc)
 answers law answer.NoRoute (answer.Route s) = (λ e. cc, λ e. cc)
 answers law (answer.Hop h) answer.NoRoute = (λ e. cc, λ e. cc)
 answers law (answer.Hop h) (answer.Hop k) =
-    Decides-like ((of_answer.ghosts).eq (answer.Hop h) (answer.Hop k)) (λ e. ap answer.Hop e) (λ e. cc) (hops h k)
+    Decides-like ((of_answer.ghosts).eq (answer.Hop h) (answer.Hop k)) (λ e. ap answer.Hop e) (λ e. cc) (decides_hop h k)
 answers law (answer.Hop h) (answer.Route s) = (λ e. cc, λ e. cc)
 answers law (answer.Route r) answer.NoRoute = (λ e. cc, λ e. cc)
 answers law (answer.Route r) (answer.Hop k) = (λ e. cc, λ e. cc)
 answers law (answer.Route r) (answer.Route s) =
-    Decides-like ((of_answer.ghosts).eq (answer.Route r) (answer.Route s)) (λ e. ap answer.Route e) (λ e. cc) (routes law r s)
+    Decides-like ((of_answer.ghosts).eq (answer.Route r) (answer.Route s)) (λ e. ap answer.Route e) (λ e. cc) (decides_route law r s)

@@ -3,17 +3,16 @@ use Rattle.std.proofs.Common.{◌≡◌, ℕ, zero, suc, ◌+◌, ◌-◌, ◌^�
 use Rattle.std.proofs.lemmas.Bool.{cases_lt, cases_eq}
 use Rattle.std.proofs.lemmas.List.Elements.{All-weaker}
 use Rattle.rt_cidr.specs.declared.address.Addr.{Addr}
-use Rattle.rt_rib.specs.declared.routes.Route.{Route}
 use Rattle.rt_diff.specs.declared.answers.By.{By}
 use Rattle.rt_diff.specs.declared.differences.Difference.{Difference}
-use Rattle.rt_diff.specs.Answers.{answer_of}
+use Rattle.rt_diff.specs.Answers.{ToldTable, answer_of}
 use Rattle.rt_diff.specs.Differences.{HasAnswers, IsAlike, IsDifference, IsNextDifference, HaveSameAnswers, AreDifferences}
 use Rattle.rt_diff.specs.Laws.{HaveDifferences}
 use Rattle.rt_diff.specs.inside.Rest.{AreRest}
 use Rattle.rt_diff.proofs.Deciding.{answer_cases}
 use Rattle.rt_diff.proofs.Rest.{at, rest_none, rest_next, rest_behind, rest_first, rest_alike_all, whole}
 
-module _ (by : By) (old new : List Route) where
+module _ (by : By) (old new : ToldTable) where
   -- the list from the next address on is the list from this one on, where this one is alike
   rest_alike : (from : ℕ) (list : List Difference) → IsAlike by old new (at from) → AreRest by old new (from + 1) list → AreRest by old new from list
   rest_alike from list alike are = record {

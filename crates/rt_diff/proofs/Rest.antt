@@ -5,12 +5,11 @@ use Rattle.std.proofs.lemmas.List.Elements.{All-nil, All-cons, All-head, All-tai
 use Rattle.std.proofs.lemmas.List.Kept.{AllPairs-cons}
 use Rattle.std.specs.List.{All, Any, AllPairs}
 use Rattle.rt_cidr.specs.declared.address.Addr.{Addr}
-use Rattle.rt_rib.specs.declared.routes.Route.{Route}
 use Rattle.rt_diff.specs.declared.answers.By.{By}
 use Rattle.rt_diff.specs.declared.differences.Difference.{Difference}
 use Rattle.rt_diff.specs.Differences.{HasAnswers, IsAlike, IsWithin, IsDifference, IsNextDifference, HaveSameAnswers, AreDifferences}
 use Rattle.rt_diff.specs.inside.Rest.{AreRest}
-use Rattle.rt_diff.specs.Answers.{answer_of}
+use Rattle.rt_diff.specs.Answers.{ToldTable, answer_of}
 use Rattle.rt_diff.proofs.Deciding.{answer_cases}
 use Rattle.rt_diff.proofs.Lists.{Any-head, Any-tail, Any-cases, Any-none, All-any, AllPairs-head, AllPairs-tail, AllPairs-none}
 
@@ -24,7 +23,7 @@ Rises c d = c.last.0 < d.first.0
 abbrev IsApart : Difference → Difference → Type 0
 IsApart c d = c.last.0 + 1 ≡ d.first.0 → ¬ HaveSameAnswers c d
 
-module _ (by : By) (old new : List Route) where
+module _ (by : By) (old new : ToldTable) where
   -- there is no range where each address is alike
   pub rest_none : (from : ℕ) → ((addr : Addr) → from ≤ addr.0 → addr.0 < 2 ^ 32 → IsAlike by old new addr) → AreRest by old new from []
   rest_none from alike = record {

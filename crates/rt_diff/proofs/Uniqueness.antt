@@ -2,15 +2,15 @@
 use Rattle.std.proofs.Common.{◌≡◌, ℕ, ◌+◌, ◌^◌, ◌<◌, ◌≤◌, inl, inr, List, [], ◌∷◌, sym, refl, ap, ◌∙◌, subst, arith}
 use Rattle.std.proofs.lemmas.Bool.{cases_lt}
 use Rattle.rt_cidr.specs.declared.address.Addr.{Addr}
-use Rattle.rt_rib.specs.declared.routes.Route.{Route}
 use Rattle.rt_diff.specs.declared.answers.By.{By}
 use Rattle.rt_diff.specs.declared.differences.Difference.{Difference}
+use Rattle.rt_diff.specs.Answers.{ToldTable}
 use Rattle.rt_diff.specs.Differences.{HasAnswers, IsAlike, IsDifference, IsNextDifference, HaveSameAnswers, AreDifferences}
 use Rattle.rt_diff.specs.Laws.{HaveOneList}
 use Rattle.rt_diff.specs.inside.Rest.{AreRest}
 use Rattle.rt_diff.proofs.Rest.{at, rest_behind, rest_first, rest_alike_all, from_whole}
 
-module _ (by : By) (old new : List Route) where
+module _ (by : By) (old new : ToldTable) where
   -- there is one first range from an address on
   begins_no_later : (from : Addr) (d e : Difference) → IsNextDifference by old new from d → IsNextDifference by old new from e → e.first.0 ≤ d.first.0
   begins_no_later from d e is also = elim (cases_lt d.first.0 e.first.0) [

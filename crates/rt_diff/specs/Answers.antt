@@ -1,5 +1,7 @@
 -- What a table answers an address.
-use Rattle.std.specs.Prelude.{List, Option, None, Some}
+use Rattle.std.specs.Prelude.{ℕ, ◌-◌, List, [], Option, None, Some}
+use Rattle.std.specs.List.{slice_get}
+use Rattle.std.specs.Option.{option_map, unwrap_or}
 use Rattle.rt_cidr.specs.declared.address.Addr.{Addr}
 use Rattle.rt_rib.specs.declared.routes.Route.{Route}
 use Rattle.rt_rib.specs.LookUp.{look_up}
@@ -14,6 +16,27 @@ answer_by by None = answer.NoRoute
 answer_by by.Hop (Some route) = answer.Hop route.hop
 answer_by by.Route (Some route) = answer.Route route
 
+-- a table of these routes, and by which numbers its feeds are told: feed k by the k-th, and one beyond these by its own
+pub record ToldTable : Type 0 where
+  pub routes : List Route
+  pub numbers : List ℕ
+
+-- each feed told by its own number
+abbrev pub by_own : List Route → ToldTable
+by_own routes = record { routes = routes; numbers = [] }
+
+-- the number by which this feed is told
+abbrev pub number_of : List ℕ → ℕ → ℕ
+number_of numbers feed = unwrap_or (slice_get numbers (feed - 1)) feed
+
+-- the route, its feed told so
+abbrev pub told_route : List ℕ → Route → Route
+told_route numbers r = record { prefix = r.prefix; feed = number_of numbers r.feed; pref = r.pref; hop = r.hop }
+
+-- what a look-up of the address finds in the table, told so
+abbrev pub told_look_up : Addr → ToldTable → Option Route
+told_look_up addr table = option_map (told_route table.numbers) (look_up addr table.routes)
+
 -- what the table answers the address
-abbrev pub answer_of : By → Addr → List Route → Answer
-answer_of by addr table = answer_by by (look_up addr table)
+abbrev pub answer_of : By → Addr → ToldTable → Answer
+answer_of by addr table = answer_by by (told_look_up addr table)

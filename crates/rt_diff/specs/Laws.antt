@@ -1,16 +1,16 @@
 -- What holds of any two tables.
 use Rattle.std.specs.Prelude.{◌≡◌, ◌↔◌, ℕ, List, [], ◌∷◌}
 use Rattle.rt_cidr.specs.declared.address.Addr.{Addr}
-use Rattle.rt_rib.specs.declared.routes.Route.{Route}
 use Rattle.rt_diff.specs.declared.answers.By.{By}
 use Rattle.rt_diff.specs.declared.differences.Difference.{Difference}
+use Rattle.rt_diff.specs.Answers.{ToldTable}
 use Rattle.rt_diff.specs.Differences.{AreDifferences}
 
 -- two tables have a list of their differences
 abbrev pub HaveDifferences : Type 0
-HaveDifferences = (by : By) (old new : List Route) → (list : List Difference) × AreDifferences by old new list
+HaveDifferences = (by : By) (old new : ToldTable) → (list : List Difference) × AreDifferences by old new list
 
 -- and they have one
 abbrev pub HaveOneList : Type 0
 HaveOneList =
-    (by : By) (old new : List Route) (one other : List Difference) → AreDifferences by old new one → AreDifferences by old new other → one ≡ other
+    (by : By) (old new : ToldTable) (one other : List Difference) → AreDifferences by old new one → AreDifferences by old new other → one ≡ other

@@ -1,10 +1,12 @@
 //! Ranges of addresses that two tables answer otherwise.
 ghost use Rattle.std.specs.Prelude.{◌≡◌, ◌+◌};
 ghost use Rattle.rt_rib.specs.Book.{table_of};
+ghost use Rattle.rt_diff.specs.Answers.{by_own};
 ghost use Rattle.rt_diff.specs.Differences.{IsFirstDifference};
 
 use crate::answers::{Answer, By};
 use crate::pieces::{first_unlike, last_of};
+use crate::told::ToldAnswers;
 use rt_cidr::Addr;
 use rt_rib::{Answers, Book};
 use std::alloc::Allocator;
@@ -25,12 +27,12 @@ pub struct Difference {
 
 /// Two tables that are compared. It keeps the way down of the last look-up in each of them, so going over them in rising
 /// order takes less time than by the functions below, each of which begins anew. Contracts see by what the answers are told
-/// apart, and the routes of both.
+/// apart, and of both the routes, and the numbers by which feeds are told.
 #[derive(Drop)]
 pub struct Comparison<'a, A: Allocator + Copy> {
     by: By,
-    old_table: Answers<'a, A>,
-    new_table: Answers<'a, A>,
+    old_table: ToldAnswers<'a, A>,
+    new_table: ToldAnswers<'a, A>,
 }
 
 impl<'a, A: Allocator + Copy> Model for Comparison<'a, A> {
@@ -44,20 +46,31 @@ impl<'a, A: Allocator + Copy> Model for Comparison<'a, A> {
 impl<'a, A: Allocator + Copy> Comparison<'a, A> {
     /// Of the tables of two books. It takes no memory.
     pub fn new(old: &'a Book<A>, new: &'a Book<A>, by: By) -> Comparison<'a, A>
-        ensures { result ≡ record { by = by; old_table = table_of old.now; new_table = table_of new.now } }
+        ensures { result ≡ record { by = by; old_table = by_own (table_of old.now); new_table = by_own (table_of new.now) } }
     {
         Comparison::of(old.answers(), new.answers(), by)
     }
 
     /// Of what two tables answer, whether or not a journal explains them. It takes no memory.
     pub fn of(old: Answers<'a, A>, new: Answers<'a, A>, by: By) -> Comparison<'a, A>
-        ensures { result ≡ record { by = by; old_table = old.entry; new_table = new.entry } }
+        ensures { result ≡ record { by = by; old_table = by_own old.entry; new_table = by_own new.entry } }
     {
         Comparison {
             by,
-            old_table: old,
-            new_table: new,
+            old_table: ToldAnswers::new(old),
+            new_table: ToldAnswers::new(new),
         }
+    }
+
+    /// Tells the feeds of the new table by these numbers from now on: feed k by the k-th, and one beyond these by its own. So a
+    /// feed that is told by the number of one of the old table is that feed's partner: their routes are the same where all else
+    /// is. The best route stays the one that it is by the feeds' own numbers.
+    pub fn tell_new_by(&mut self, numbers: &'a [u32])
+        ensures by { self.new.by ≡ self.old.by }
+        ensures old_table { self.new.old_table ≡ self.old.old_table }
+        ensures new_table { self.new.new_table ≡ record { routes = self.old.new_table.routes; numbers = numbers.now } }
+    {
+        self.new_table.tell_by(numbers);
     }
 
     /// The first range from the address on that the two tables answer otherwise, as long as its two answers last, or `None`
@@ -95,7 +108,7 @@ pub fn first_difference<A: Allocator + Copy>(
     by: By,
     from: Addr,
 ) -> Option<Difference>
-    ensures { IsFirstDifference by (table_of old.now) (table_of new.now) from result }
+    ensures { IsFirstDifference by (by_own (table_of old.now)) (by_own (table_of new.now)) from result }
 {
     Comparison::new(old, new, by).first_difference(from)
 }
@@ -107,7 +120,7 @@ pub fn difference_behind<A: Allocator + Copy>(
     by: By,
     last: Addr,
 ) -> Option<Difference>
-    ensures { IsFirstDifference by (table_of old.now) (table_of new.now) (record { 0 = last.0 + 1 }) result }
+    ensures { IsFirstDifference by (by_own (table_of old.now)) (by_own (table_of new.now)) (record { 0 = last.0 + 1 }) result }
 {
     Comparison::new(old, new, by).difference_behind(last)
 }

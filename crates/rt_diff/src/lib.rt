@@ -10,7 +10,7 @@
 //! ```
 //!
 //! Contracts see of a book the routes that its journal leaves, and an answer is what a look-up finds there
-//! (`specs/Answers.antt`). These ranges are the one list in which the tables differ (`specs/Differences.antt`, [`laws`]). No call
+//! (`specs/Answers.antt`). Where the two tables number their feeds otherwise, [`Comparison::tell_new_by`] pairs them. These ranges are the one list in which the tables differ (`specs/Differences.antt`, [`laws`]). No call
 //! takes memory, and each takes time as the tables have borders in what it goes over, and no step for each address.
 #![tactic(auto)]
 
@@ -18,6 +18,7 @@ mod answers;
 mod differences;
 pub mod laws;
 mod pieces;
+mod told;
 
 pub use answers::{Answer, By};
 pub use differences::{Comparison, Difference, difference_behind, first_difference};

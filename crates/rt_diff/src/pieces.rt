@@ -3,8 +3,8 @@ ghost use Rattle.std.specs.Prelude.{◌≡◌, ◌≤◌, ◌↔◌, IsTrue};
 ghost use Rattle.rt_diff.specs.inside.Pieces.{IsPieceFrom, IsPieceAt, ArePieces, reach, AreBehind, FindsUnlike, IsEnd};
 
 use crate::answers::{Answer, By, answer_by, is_same};
+use crate::told::ToldAnswers;
 use rt_cidr::Addr;
-use rt_rib::Answers;
 use std::alloc::Allocator;
 
 /// What one table answers from some address on, up to a last one.
@@ -46,7 +46,7 @@ impl Pieces {
 }
 
 /// The piece of the table that begins at the address.
-fn piece_at<A: Allocator + Copy>(table: &mut Answers<'_, A>, by: By, addr: Addr) -> Piece
+fn piece_at<A: Allocator + Copy>(table: &mut ToldAnswers<'_, A>, by: By, addr: Addr) -> Piece
     ensures kept { table.new ≡ table.old }
     ensures piece { IsPieceAt by table.old addr result }
 {
@@ -59,7 +59,7 @@ fn piece_at<A: Allocator + Copy>(table: &mut Answers<'_, A>, by: By, addr: Addr)
 
 /// The table's piece at the address: this one, if it reaches so far.
 fn piece_on<A: Allocator + Copy>(
-    table: &mut Answers<'_, A>,
+    table: &mut ToldAnswers<'_, A>,
     by: By,
     piece: Piece,
     addr: Addr,
@@ -76,8 +76,8 @@ fn piece_on<A: Allocator + Copy>(
 
 /// The pieces of both tables at the address.
 fn pieces_at<A: Allocator + Copy>(
-    old: &mut Answers<'_, A>,
-    new: &mut Answers<'_, A>,
+    old: &mut ToldAnswers<'_, A>,
+    new: &mut ToldAnswers<'_, A>,
     by: By,
     from: Addr,
 ) -> Pieces
@@ -95,8 +95,8 @@ fn pieces_at<A: Allocator + Copy>(
 
 /// The pieces behind the address that both reach. A table is asked anew only where its piece has ended.
 fn pieces_behind<A: Allocator + Copy>(
-    old: &mut Answers<'_, A>,
-    new: &mut Answers<'_, A>,
+    old: &mut ToldAnswers<'_, A>,
+    new: &mut ToldAnswers<'_, A>,
     by: By,
     pieces: &Pieces,
 ) -> Option<Pieces>
@@ -115,8 +115,8 @@ fn pieces_behind<A: Allocator + Copy>(
 
 /// The first pieces from the address on whose answers differ.
 pub(crate) fn first_unlike<A: Allocator + Copy>(
-    old: &mut Answers<'_, A>,
-    new: &mut Answers<'_, A>,
+    old: &mut ToldAnswers<'_, A>,
+    new: &mut ToldAnswers<'_, A>,
     by: By,
     from: Addr,
 ) -> Option<Pieces>
@@ -133,8 +133,8 @@ pub(crate) fn first_unlike<A: Allocator + Copy>(
 
 /// The last address up to which both tables answer as these pieces do.
 pub(crate) fn last_of<A: Allocator + Copy>(
-    old: &mut Answers<'_, A>,
-    new: &mut Answers<'_, A>,
+    old: &mut ToldAnswers<'_, A>,
+    new: &mut ToldAnswers<'_, A>,
     by: By,
     first: &Pieces,
 ) -> Addr

@@ -36,7 +36,7 @@ way_fits : (hop : Hop) → length (way_text hop) ≤ 20
 way_fits (Via address) = let text = length-address_text address.0 in simp length-append (omega arith)
 way_fits Discard = omega arith
 
-answered_fits : (answer : Answer) → length (answered_text answer) ≤ 180
+pub answered_fits : (answer : Answer) → length (answered_text answer) ≤ 180
 unfolding answered_text
 answered_fits answered.NoRoute = omega arith
 answered_fits (answered.Hop hop) = omega (arith, way_fits hop)

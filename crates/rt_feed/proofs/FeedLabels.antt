@@ -20,23 +20,39 @@ pub starts : (path : List ℕ) → base_name path ≡ (if list_any (λ b. b == s
 starts path = starts_by path _ refl
 
 -- one path more has its label behind the others
-labelled-more : (tell : ℕ → List ℕ → List ℕ) (feed : ℕ) (paths : List (List ℕ)) (path : List ℕ)
+labelled-more : {X : Type 0} (tell : ℕ → List ℕ → X) (feed : ℕ) (paths : List (List ℕ)) (path : List ℕ)
     → labelled tell feed (paths ++ path ∷ []) ≡ labelled tell feed paths ++ tell (feed + length paths) path ∷ []
 labelled-more tell feed [] path = ap (λ n. tell n path ∷ []) (omega arith)
 labelled-more tell feed (first ∷ paths) path =
     ap (λ rest. tell feed first ∷ rest)
     (labelled-more tell (suc feed) paths path ∙ ap (λ n. labelled tell (suc feed) paths ++ tell n path ∷ []) (omega arith))
 
--- it is so of paths and labels in whatever they lie
-pub labels_more : {P V : Type 0} (path_of : P → List ℕ) (label_in : V → List ℕ) (tell : ℕ → List ℕ → List ℕ) (paths : List P) (i : ℕ) (none : P)
-    (labels labels' : List V) (label : V) → i < length paths → labels' ≡ labels ++ label ∷ []
-    → label_in label ≡ tell (i + 1) (path_of (get_or paths i none)) → map label_in labels ≡ labelled tell 1 (map path_of (take i paths))
-    → map label_in labels' ≡ labelled tell 1 (map path_of (take (i + 1) paths))
-labels_more {P} {V} path_of label_in tell paths i none labels labels' label here pushed told so_far =
+-- so the first paths of a list, in whatever they lie, have one label more than those before the last of them
+one_more : {P X : Type 0} (path_of : P → List ℕ) (tell : ℕ → List ℕ → X) (paths : List P) (i : ℕ) (none : P) → i < length paths
+    → labelled tell 1 (map path_of (take (i + 1) paths)) ≡ labelled tell 1 (map path_of (take i paths)) ++ tell (i + 1) (path_of (get_or paths i none)) ∷ []
+one_more path_of tell paths i none here =
     let path = get_or paths i none in
     let cut : map path_of (take (i + 1) paths) ≡ map path_of (take i paths) ++ path_of path ∷ [] =
     ap (map path_of) (ap (λ n. take n paths) (add-one i) ∙ take-suc paths i none here) ∙ map-append path_of (take i paths) (path ∷ []) in
     let counted : length (map path_of (take i paths)) ≡ i = length-map (take i paths) path_of ∙ length-take-le i paths (omega (arith, here)) in
+    ap (labelled tell 1) cut
+    ∙ (labelled-more tell 1 (map path_of (take i paths)) (path_of path)
+    ∙ ap (λ n. labelled tell 1 (map path_of (take i paths)) ++ tell n (path_of path) ∷ []) (omega (arith, counted)))
+
+-- it is so of labels in whatever they lie
+pub labels_more : {P V X : Type 0} (path_of : P → List ℕ) (label_in : V → X) (tell : ℕ → List ℕ → X) (paths : List P) (i : ℕ) (none : P)
+    (labels labels' : List V) (label : V) → i < length paths → labels' ≡ labels ++ label ∷ []
+    → label_in label ≡ tell (i + 1) (path_of (get_or paths i none)) → map label_in labels ≡ labelled tell 1 (map path_of (take i paths))
+    → map label_in labels' ≡ labelled tell 1 (map path_of (take (i + 1) paths))
+labels_more {P} {V} {X} path_of label_in tell paths i none labels labels' label here pushed told so_far =
     ap (map label_in) pushed ∙ (map-append label_in labels (label ∷ []) ∙ (ap (λ l. l ++ label_in label ∷ []) so_far
-    ∙ (ap (λ t. labelled tell 1 (map path_of (take i paths)) ++ t ∷ []) (told ∙ ap (λ n. tell n (path_of path)) (omega (arith, counted)))
-    ∙ sym (ap (labelled tell 1) cut ∙ labelled-more tell 1 (map path_of (take i paths)) (path_of path)))))
+    ∙ (ap (λ t. labelled tell 1 (map path_of (take i paths)) ++ t ∷ []) told ∙ sym (one_more path_of tell paths i none here))))
+
+-- and of what is told itself
+pub numbers_more : {P X : Type 0} (path_of : P → List ℕ) (tell : ℕ → List ℕ → X) (paths : List P) (i : ℕ) (none : P)
+    (numbers numbers' : List X) (number : X) → i < length paths → numbers' ≡ numbers ++ number ∷ []
+    → number ≡ tell (i + 1) (path_of (get_or paths i none)) → numbers ≡ labelled tell 1 (map path_of (take i paths))
+    → numbers' ≡ labelled tell 1 (map path_of (take (i + 1) paths))
+numbers_more path_of tell paths i none numbers numbers' number here pushed told so_far =
+    pushed ∙ (ap (λ l. l ++ number ∷ []) so_far
+    ∙ (ap (λ t. labelled tell 1 (map path_of (take i paths)) ++ t ∷ []) told ∙ sym (one_more path_of tell paths i none here)))

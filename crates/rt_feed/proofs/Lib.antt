@@ -8,6 +8,7 @@ pub mod GateVisits
 pub mod Printing
 pub mod DifferenceLines
 pub mod LineParts
+pub mod CountParts
 pub mod FeedLabels
 pub mod PrefixFaults
 pub mod OneAnswer

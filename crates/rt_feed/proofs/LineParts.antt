@@ -9,11 +9,17 @@ use Rattle.rt_cidr.proofs.Promised.{appends_after, begins_after, begins_longer, 
 use Rattle.rt_rib.specs.declared.routes.Hop.{Hop}
 use Rattle.rt_rib.specs.declared.routes.Hop.TheVariants.{Via, Discard}
 use Rattle.rt_rib.specs.declared.routes.Route.{Route}
-use Rattle.rt_feed.specs.declared.styles.Form.TheVariants.{Numbers}
+use Rattle.rt_diff.specs.declared.answers.Answer.{Answer}
+use Rattle.rt_diff.specs.declared.answers.Answer.TheVariants as answered
+use Rattle.rt_diff.specs.declared.differences.Difference.{Difference}
+use Rattle.rt_feed.specs.declared.styles.Form.{Form}
+use Rattle.rt_feed.specs.declared.styles.Form.TheVariants.{Numbers, Labels, Json}
+use Rattle.rt_feed.specs.DifferenceText.{answered_text, difference_text, answered_as, range_as}
 use Rattle.rt_feed.specs.Printed.{route_line, rows_text, found_text, also_line, all_found_text}
 use Rattle.rt_feed.specs.Json.{hop_members, route_object}
 use Rattle.rt_feed.specs.Styles.{asked_of, row_as, rows_as, found_as, also_object, all_found_as}
 use Rattle.rt_feed.specs.inside.Styles.{line_front, line_back, found_head, also_head, also_tail, object_front, object_back, reason_member}
+use Rattle.rt_feed.specs.inside.Styles.{range_front, range_middle, range_end, hop_object}
 use Rattle.rt_feed.proofs.Printing.{hop_fits, reason_fits, begins_all}
 
 module _ {T E : Type 0} (a b c : Option (List ℕ)) where
@@ -121,5 +127,38 @@ pub reason_member_fits : (first r : Route) → length (reason_member first r) �
 unfolding reason_member
 reason_member_fits first r = let reason = reason_fits first r in simp length-append (omega arith)
 
+pub range_front_fits : (form : Form) (d : Difference) → length (range_front form d) ≤ 300
+unfolding range_front
+range_front_fits Numbers d = let first = length-address_text d.first.0 in let last = length-address_text d.last.0 in simp length-append (omega arith)
+range_front_fits Labels d = let first = length-address_text d.first.0 in let last = length-address_text d.last.0 in simp length-append (omega arith)
+range_front_fits Json d = let first = length-address_text d.first.0 in let last = length-address_text d.last.0 in simp length-append (omega arith)
+
+pub hop_object_fits : (hop : Hop) → length (hop_object hop) ≤ 300
+unfolding hop_object
+hop_object_fits hop = let members = hop_members_fits hop in simp length-append (omega arith)
+
+-- a range and its two answers are their parts
+pub range_of : (form : Form) (d : Difference) (old new : List ℕ)
+    → (range_front form d ++ (old ++ range_middle form)) ++ (new ++ range_end form) ≡ range_as form d old new
+unfolding range_front range_as
+range_of Numbers d old new = simp append_assoc
+range_of Labels d old new = simp append_assoc
+range_of Json d old new = simp append_assoc
+
+-- where feeds are told by their numbers, an answer is the plain one
+pub answered_by_number : (label : ℕ → List ℕ) (answer : Answer) → answered_as Numbers label answer ≡ answered_text answer
+unfolding answered_as
+answered_by_number label answer = refl
+
+-- as JSON, a next hop is an object
+pub answered_by_hop : (label : ℕ → List ℕ) (hop : Hop) → answered_as Json label (answered.Hop hop) ≡ hop_object hop
+unfolding answered_as hop_object
+answered_by_hop label hop = refl
+
+-- where feeds are told by their numbers, a range is the plain one too
+pub difference_by_number : (d : Difference) (old new : ℕ → List ℕ) → range_as Numbers d (answered_as Numbers old d.old) (answered_as Numbers new d.new) ≡ difference_text d
+unfolding range_as answered_as difference_text
+difference_by_number d old new = refl
+
 -- each part has room in a short text
-pub ruleset fits = (line_front_fits, line_back_fits, found_head_fits, also_head_fits, also_tail_fits, asked_of_fits, object_front_fits, object_back_fits, reason_member_fits)
+pub ruleset fits = (range_front_fits, hop_object_fits, line_front_fits, line_back_fits, found_head_fits, also_head_fits, also_tail_fits, asked_of_fits, object_front_fits, object_back_fits, reason_member_fits)

@@ -1,6 +1,6 @@
 -- Lines of a text one after another: what they became, the report's lines for them and the commands among them.
-use Rattle.std.proofs.Common.{◌≡◌, ℕ, ◌+◌, ◌<◌, ◌≤◌, inl, inr, List, [], ◌∷◌, ◌++◌, ◌≢◌, suc, add-zero, length, map, All, Option, Some, None, Ok, sym, ◌∙◌}
-use Rattle.std.proofs.Common.{ap, refl, subst, arith, append_assoc, length-append}
+use Rattle.std.proofs.Common.{◌≡◌, ℕ, ◌+◌, ◌<◌, ◌≤◌, List, [], ◌∷◌, ◌++◌, suc, add-zero, length, map, All, Option, Some, None, Ok, sym, ◌∙◌}
+use Rattle.std.proofs.Common.{ap, refl, subst, arith, append_assoc}
 use Rattle.std.proofs.lemmas.List.{append-nil}
 use Rattle.std.proofs.lemmas.List.Elements.{All-nil, All-cons, All-append, All-weaker}
 use Rattle.rt_feed.specs.declared.report.Line.{Line}

@@ -1,5 +1,5 @@
 -- Lines of a text one after another, whatever it is that each of them says.
-use Rattle.std.proofs.Common.{◌≡◌, ℕ, ◌+◌, ◌<◌, ◌≤◌, inl, inr, List, [], ◌∷◌, ◌++◌, ◌≢◌, length, ap, refl, arith, length-append}
+use Rattle.std.proofs.Common.{ℕ, ◌+◌, ◌<◌, ◌≤◌, inl, inr, List, [], ◌∷◌, ◌++◌, ◌≢◌, length, ap, refl, arith, length-append}
 use Rattle.rt_feed.specs.Lines.{CutsLine, LinesSay}
 
 -- more lines after some

@@ -5,11 +5,11 @@ use Rattle.std.proofs.lemmas.List.{map-id}
 use Rattle.rt_cidr.specs.declared.address.Addr.{Addr}
 use Rattle.rt_feed.specs.declared.parse.LineFault.{LineFault}
 use Rattle.rt_feed.specs.declared.faulty.FaultyLines.{FaultyLines}
-use Rattle.rt_feed.specs.Lines.{CutsLine, LinesSay}
+use Rattle.rt_feed.specs.Lines.{CutsLine}
 use Rattle.rt_feed.specs.Laws.{AddressLineHasOneAnswer, AddressTextHasOneReading}
 use Rattle.rt_feed.specs.Addresses.{AnswersAddressLine, SaysAddresses, addresses_said, faults_said, faulty_lines}
 use Rattle.rt_feed.specs.inside.ReadAddresses.{AreSaid, AreRead, PutsLine}
-use Rattle.rt_feed.proofs.LinesSay.{say-append, length-cut, length-said}
+use Rattle.rt_feed.proofs.LinesSay.{say-append, length-said}
 use Rattle.rt_feed.proofs.OneCut.{say_alike}
 
 -- what a line says

@@ -1,5 +1,5 @@
 -- The text of what two tables answer otherwise.
-use Rattle.std.specs.Prelude.{ℕ, List, ◌++◌, codes}
+use Rattle.std.specs.Prelude.{ℕ, List, [], ◌++◌, codes}
 use Rattle.std.specs.List.{flat_map}
 use Rattle.rt_cidr.specs.Text.{address_text}
 use Rattle.rt_rib.specs.declared.routes.Hop.{Hop}
@@ -7,7 +7,11 @@ use Rattle.rt_rib.specs.declared.routes.Hop.TheVariants.{Via, Discard}
 use Rattle.rt_diff.specs.declared.answers.Answer.{Answer}
 use Rattle.rt_diff.specs.declared.answers.Answer.TheVariants as answered
 use Rattle.rt_diff.specs.declared.differences.Difference.{Difference}
-use Rattle.rt_feed.specs.Printed.{route_text}
+use Rattle.rt_feed.specs.declared.styles.Form.{Form}
+use Rattle.rt_feed.specs.declared.styles.Form.TheVariants.{Labels, Json}
+use Rattle.rt_feed.specs.Printed.{route_text, route_line}
+use Rattle.rt_feed.specs.Json.{hop_members, route_object}
+use Rattle.rt_feed.specs.Styles.{label_of}
 
 -- where packets go: `via ADDR`, or `discard`
 abbrev pub way_text : Hop → List ℕ
@@ -26,6 +30,33 @@ difference_text d =
     address_text d.first.0 ++ (codes "-" ++ (address_text d.last.0 ++ (codes " "
     ++ (answered_text d.old ++ (codes " -> " ++ (answered_text d.new ++ codes "\n"))))))
 
+-- in which form two tables are told, and the labels of the feeds of each, the k-th of the feed that is told by number k
+pub record SideStylesContents : Type 0 where
+  pub form : Form
+  pub old_labels : List (List ℕ)
+  pub new_labels : List (List ℕ)
+
+-- what an address is answered, where `label` is that of each feed of its table
+unfoldable pub answered_as : Form → (ℕ → List ℕ) → Answer → List ℕ
+answered_as Labels label (answered.Route r) = route_line (label r.feed) r
+answered_as Json label answered.NoRoute = codes "null"
+answered_as Json label (answered.Hop hop) = codes "{" ++ (hop_members hop ++ codes "}")
+answered_as Json label (answered.Route r) = route_object (label r.feed) r []
+answered_as form label answer = answered_text answer
+
+-- a range, and these texts of its two answers: `FIRST-LAST OLD -> NEW`, or an object
+unfoldable pub range_as : Form → Difference → List ℕ → List ℕ → List ℕ
+range_as Json d old new =
+    codes "{\"first\":\"" ++ (address_text d.first.0 ++ (codes "\",\"last\":\"" ++ (address_text d.last.0 ++ (codes "\",\"old\":"
+    ++ (old ++ (codes ",\"new\":" ++ (new ++ codes "}\n")))))))
+range_as form d old new =
+    address_text d.first.0 ++ (codes "-" ++ (address_text d.last.0 ++ (codes " " ++ (old ++ (codes " -> " ++ (new ++ codes "\n"))))))
+
+-- a range and its two answers, in the style
+abbrev pub difference_as : SideStylesContents → Difference → List ℕ
+difference_as styles d =
+    range_as styles.form d (answered_as styles.form (label_of styles.old_labels) d.old) (answered_as styles.form (label_of styles.new_labels) d.new)
+
 -- the ranges in order
-abbrev pub differences_text : List Difference → List ℕ
-differences_text list = flat_map difference_text list
+abbrev pub differences_as : SideStylesContents → List Difference → List ℕ
+differences_as styles list = flat_map (difference_as styles) list

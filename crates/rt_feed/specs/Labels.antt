@@ -1,5 +1,5 @@
 -- What stands for a feed: its name, or what JSON tells of it.
-use Rattle.std.specs.Prelude.{ℕ, suc, ◌-◌, ◌==◌, if◌then◌else◌, List, [], ◌∷◌, ◌++◌, length, take, drop, codes, decimal, bytes_eq}
+use Rattle.std.specs.Prelude.{ℕ, suc, ◌+◌, ◌-◌, ◌==◌, if◌then◌else◌, List, [], ◌∷◌, ◌++◌, length, take, drop, codes, decimal, bytes_eq}
 use Rattle.std.specs.List.{list_any}
 use Rattle.rt_cidr.specs.Text.{slash}
 use Rattle.rt_feed.specs.declared.labels.Labelling.{Labelling}
@@ -28,6 +28,16 @@ label_by NamesAndFiles feed path =
     decimal feed ++ (codes ",\"name\":" ++ (json_string (feed_name path) ++ (codes ",\"file\":" ++ json_string path)))
 
 -- for each path, in order, what is told of it by its number, of which this is the first
-abbrev pub labelled : (ℕ → List ℕ → List ℕ) → ℕ → List (List ℕ) → List (List ℕ)
+abbrev pub labelled : {X : Type 0} → (ℕ → List ℕ → X) → ℕ → List (List ℕ) → List X
 labelled tell feed [] = []
 labelled tell feed (path ∷ paths) = tell feed path ∷ labelled tell (suc feed) paths
+
+-- the number of the first of these paths whose feed has the name, where they are numbered from this one on; or else another number
+abbrev pub number_in : ℕ → List (List ℕ) → List ℕ → ℕ → ℕ
+number_in number [] name other = other
+number_in number (path ∷ paths) name other = if bytes_eq (feed_name path) name then number else number_in (suc number) paths name other
+
+-- by which number a feed of a second set of files is told, by its own and its path: by that of the feed of its name in the first
+-- set, or, where none has it, by one behind all of these
+abbrev pub number_beside : List (List ℕ) → ℕ → List ℕ → ℕ
+number_beside paths feed path = number_in 1 paths (feed_name path) (length paths + feed)

@@ -1,5 +1,6 @@
 pub mod Addresses
 pub mod CommandText
+pub mod Counts
 pub mod DifferenceText
 pub mod Grammar
 pub mod Json

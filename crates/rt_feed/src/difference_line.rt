@@ -42,7 +42,7 @@ fn prepend_difference(text: &mut ShortText, difference: &Difference)
 
 /// What an address is answered.
 #[tactic(auto, using(rt_cidr::proofs::Promised::prepending), unfolding(crate::specs::DifferenceText::answered_text))]
-fn prepend_answered(text: &mut ShortText, answer: &Answer)
+pub(crate) fn prepend_answered(text: &mut ShortText, answer: &Answer)
     requires room { FitsInShortText (answered_text answer.now) text.old }
     ensures { text.new ≡ answered_text answer.now ++ text.old }
 {

@@ -5,12 +5,12 @@ use thiserror::Error;
 #[derive(Clone, Copy, PartialEq, Eq, Debug, Error)]
 pub enum RunFault {
     /// F1: there is no text. Nothing was asked.
-    #[error("F1")]
+    #[error("fault F1")]
     NoText,
     /// F2: there are not as many feeds as texts. Nothing was asked.
-    #[error("F2")]
+    #[error("fault F2")]
     FeedCount,
     /// F3: memory was refused outside of a command.
-    #[error("F3")]
+    #[error("fault F3")]
     Memory,
 }

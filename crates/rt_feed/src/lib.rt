@@ -31,6 +31,7 @@ mod gates;
 mod labels;
 pub mod laws;
 mod lines;
+mod pairing;
 mod parse;
 mod parts;
 mod print;
@@ -47,10 +48,14 @@ pub use feeds::{Feed, run_feeds};
 pub use gates::{Gate, TableGate};
 pub use labels::{Labelling, feed_name, labels_of};
 pub use lines::next_line;
+pub use pairing::numbers_beside;
 pub use parse::{LINE_BYTES, LineFault, parse_line};
 pub use print::{write_all_found, write_found, write_report, write_rows, write_table};
 pub use report::{Answer, Line, Report};
 pub use rt_shared::Outcome;
 pub use running::run_feed;
-pub use styles::{Form, Style, write_all_found_as, write_found_as, write_rows_as};
+pub use styles::{
+    Form, SideStyles, Style, write_all_found_as, write_counts_as, write_difference_as,
+    write_found_as, write_rows_as,
+};
 pub use versions::{Version, text_body, text_version};

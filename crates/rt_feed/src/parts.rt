@@ -1,5 +1,5 @@
 //! A text in three parts.
-ghost use Rattle.std.specs.Prelude.{◌≡◌, ◌++◌};
+ghost use Rattle.std.specs.Prelude.{◌++◌};
 ghost use Rattle.rt_cidr.specs.Output.{WritesText};
 
 use rt_cidr::put;

@@ -1,5 +1,5 @@
 //! The answers to a feed's text, line by line.
-ghost use Rattle.std.specs.Prelude.{◌≡◌, ℕ, ◌<◌, ◌≤◌, List, [], ◌∷◌, ◌++◌, All, length, take, drop, OnOk, OnErr};
+ghost use Rattle.std.specs.Prelude.{◌≡◌, ◌<◌, ◌≤◌, List, [], ◌∷◌, ◌++◌, All, length, take, drop, OnOk, OnErr};
 ghost use Rattle.rt_feed.specs.Lines.{command_answer};
 ghost use Rattle.rt_feed.specs.inside.Filling.{filled};
 

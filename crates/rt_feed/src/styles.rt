@@ -2,13 +2,19 @@
 //! objects, one a line. What is labelled goes to the writer in several parts, since a label may be longer than a short text.
 ghost use Rattle.std.specs.Prelude.{◌≡◌, map};
 ghost use Rattle.rt_cidr.specs.Output.{WritesText};
+ghost use Rattle.rt_feed.specs.Counts.{counts_as};
+ghost use Rattle.rt_feed.specs.DifferenceText.{difference_as};
 ghost use Rattle.rt_feed.specs.Styles.{label_of, rows_as, found_as, all_found_as};
 
+mod counts;
 mod lines;
 mod objects;
+mod ranges;
 
+use crate::difference_line::write_difference;
 use crate::print::{write_all_found, write_found, write_rows};
 use rt_cidr::Addr;
+use rt_diff::Difference;
 use rt_rib::Route;
 use std::io::{self, Write};
 use std::marker::Model;
@@ -66,6 +72,66 @@ impl<'a> Style<'a> {
     }
 }
 
+/// How two tables are told: in which form, and with which labels of the feeds of each, the k-th of the feed that is told by the
+/// number k. Contracts see all three.
+#[derive(Debug, Drop)]
+pub struct SideStyles<'a> {
+    form: Form,
+    old_labels: &'a [Vec<u8>],
+    new_labels: &'a [Vec<u8>],
+}
+
+impl<'a> Model for SideStyles<'a> {
+    ghost use Rattle.std.specs.Prelude.{map};
+    ghost use Rattle.rt_feed.specs.DifferenceText.{SideStylesContents};
+
+    ghost Value = { SideStylesContents };
+
+    ghost view = { λ s. record {
+      form = s.form;
+      old_labels = map (λ label. label.items) s.old_labels.now;
+      new_labels = map (λ label. label.items) s.new_labels.now;
+    } };
+}
+
+impl<'a> SideStyles<'a> {
+    /// This form, with these labels of the old table's feeds and of the new one's.
+    pub fn new(form: Form, old_labels: &'a [Vec<u8>], new_labels: &'a [Vec<u8>]) -> SideStyles<'a>
+        ensures { result ≡ record {
+          form = form;
+          old_labels = map (λ label. label.items) old_labels.now;
+          new_labels = map (λ label. label.items) new_labels.now;
+        } }
+    {
+        SideStyles {
+            form,
+            old_labels,
+            new_labels,
+        }
+    }
+
+    /// The form.
+    fn form(&self) -> Form
+        ensures { result ≡ self.now.form }
+    {
+        self.form
+    }
+
+    /// The style of the old table.
+    fn of_old(&self) -> Style<'a>
+        ensures { result ≡ record { form = self.now.form; labels = self.now.old_labels } }
+    {
+        Style::new(self.form, self.old_labels)
+    }
+
+    /// The style of the new table.
+    fn of_new(&self) -> Style<'a>
+        ensures { result ≡ record { form = self.now.form; labels = self.now.new_labels } }
+    {
+        Style::new(self.form, self.new_labels)
+    }
+}
+
 /// Writes the table's routes in the style, each on a line. A fault is the writer's, as `put` hands it on; what was written is
 /// then a beginning of that text. Takes no memory; a writer whose calls are dear goes into an `OutputBuffer`.
 pub fn write_rows_as<W: Write>(
@@ -112,5 +178,35 @@ pub fn write_all_found_as<W: Write>(
         Form::Numbers => write_all_found(w, addr, found),
         Form::Labels => lines::write_all_found(w, style, addr, found),
         Form::Json => objects::write_all_found(w, style, addr, found),
+    }
+}
+
+/// Writes how many routes there are and to how many prefixes, and then how many of each feed and to prefixes of each length,
+/// in the style, each on a line, and where there are none no line. Those to one prefix stand together, as in a table. A fault and memory are as of
+/// `write_rows_as`.
+pub fn write_counts_as<W: Write>(
+    w: &mut W,
+    style: &Style<'_>,
+    routes: &[Route],
+) -> Result<(), io::Error>
+    ensures { WritesText (W.contents w.old) (W.contents w.new) (counts_as style.now.form (label_of style.now.labels) routes.now) result }
+{
+    let form = style.form();
+    counts::write_totals(w, form, routes)?;
+    counts::write_feeds(w, style, routes)?;
+    counts::write_lengths(w, form, routes)
+}
+
+/// Writes the range and its two answers in the style, on a line. A fault and memory are as of `write_rows_as`.
+pub fn write_difference_as<W: Write>(
+    w: &mut W,
+    styles: &SideStyles<'_>,
+    difference: &Difference,
+) -> Result<(), io::Error>
+    ensures { WritesText (W.contents w.old) (W.contents w.new) (difference_as styles.now difference.now) result }
+{
+    match styles.form {
+        Form::Numbers => write_difference(w, difference),
+        Form::Labels | Form::Json => ranges::write_difference(w, styles, difference),
     }
 }

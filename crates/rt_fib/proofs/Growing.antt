@@ -1,7 +1,8 @@
 -- Lists that grow, and what then stays so; what is put behind the others.
-use Rattle.std.proofs.Common.{ℕ, ◌+◌, ◌*◌, ◌^◌, ◌<◌, ◌≤◌, ◌≢◌, List, [], ◌∷◌, ◌++◌, length, get_or, get_or-set_other, get_or-set_same, Option, None, subst, sym, refl, ◌∙◌, below_more, zero-add, inl, inr, arith}
+use Rattle.std.proofs.Common.{◌≡◌, ℕ, ◌+◌, ◌*◌, ◌^◌, ◌<◌, ◌≤◌, ◌≢◌, List, [], length, get_or, get_or-set_other, get_or-set_same, Option, None, subst, sym, refl, ◌∙◌, below_more, zero-add, inl, inr, arith}
 use Rattle.std.proofs.Math.ListN.{set}
-use Rattle.std.proofs.lemmas.List.{get_or_append_left, length_push, get_or_push, length-set}
+use Rattle.std.proofs.lemmas.List.{length-set}
+use Rattle.std.proofs.lemmas.Bool.{cases_lt}
 use Rattle.rt_rib.specs.declared.routes.Route.{Route}
 use Rattle.rt_rib.specs.LookUp.{look_up}
 use Rattle.rt_fib.specs.declared.filling.Piece.{Piece}
@@ -72,18 +73,22 @@ pub entry_grows : (table : List Route) (blocks more : List (List ℕ)) (old new 
 entry_grows table blocks more old new i entry longer grows is k within =
     leads_grows blocks more old new entry k (look_up (at (i * 256 + k)) table) longer grows (is k within)
 
--- one more entry
-pub from_push : (first : ℕ) (entries : List ℕ) (blocks more : List (List ℕ)) (old new : List (Option Route)) (table : List Route) (count entry : ℕ)
-    → Grows blocks more → Grows old new → AreFrom first entries blocks old table count → IsEntry table more new (first + count) entry
-    → AreFrom first (entries ++ entry ∷ []) more new table (count + 1)
-from_push first entries blocks more old new table count entry longer grows are one = record {
-  size = omega (arith, length_push entries entry, are.size);
-  each = below_more (λ (i : ℕ). IsEntry table more new (first + i) (get_or (entries ++ entry ∷ []) i 0)) count
-      (λ i here.
-      let there : i < length entries = omega (arith, are.size, here) in
-      subst (λ (e : ℕ). IsEntry table more new (first + i) e) (sym (get_or_append_left entries (entry ∷ []) 0 i there))
-      (entry_grows table blocks more old new (first + i) (get_or entries i 0) longer grows (are.each i here)))
-      (subst (λ (e : ℕ). IsEntry table more new (first + count) e) (sym (get_or_push entries entry 0 count are.size)) one);
+-- more entries, which are the same
+pub from_run : (first : ℕ) (entries longer : List ℕ) (blocks more : List (List ℕ)) (old new : List (Option Route)) (table : List Route)
+    → (count upto entry : ℕ) → Grows blocks more → Grows old new → AreFrom first entries blocks old table count → length longer ≡ upto
+    → ((k d : ℕ) → k < upto → k < length entries → get_or longer k d ≡ get_or entries k d)
+    → ((k d : ℕ) → length entries ≤ k → k < upto → get_or longer k d ≡ entry)
+    → ((j : ℕ) → first + count ≤ j → j < first + upto → IsEntry table more new j entry) → AreFrom first longer more new table upto
+from_run first entries longer blocks more old new table count upto entry grow grows are size same filled each = record {
+  size = size;
+  each = λ i here. elim (cases_lt i count) [
+    | inl before ↦
+        subst (λ (e : ℕ). IsEntry table more new (first + i) e) (sym (same i 0 here (omega (arith, are.size, before))))
+        (entry_grows table blocks more old new (first + i) (get_or entries i 0) grow grows (are.each i before))
+    | inr behind ↦
+        subst (λ (e : ℕ). IsEntry table more new (first + i) e) (sym (filled i 0 (omega (arith, are.size, behind)) here))
+        (each (first + i) (omega (arith, behind)) (omega (arith, here)))
+  ];
 }
 
 -- all of them, from the first on

@@ -2,4 +2,3 @@ pub mod Reading
 pub mod Growing
 pub mod Renewing
 pub mod Outside
-pub mod Equality

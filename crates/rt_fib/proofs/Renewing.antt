@@ -1,6 +1,6 @@
 -- What entries are once those of a prefix are renewed.
-use Rattle.std.proofs.Common.{◌≡◌, ℕ, ◌+◌, ◌*◌, ◌-◌, ◌^◌, ◌<◌, ◌≤◌, ◌⊎◌, List, [], ◌++◌, length, take, drop, get_or, Option, subst, sym, ◌∙◌, inl, inr, arith}
-use Rattle.std.proofs.lemmas.List.{take_all, drop_all, append-nil}
+use Rattle.std.proofs.Common.{◌≡◌, ℕ, ◌+◌, ◌*◌, ◌-◌, ◌^◌, ◌<◌, ◌≤◌, ◌⊎◌, List, [], ◌∷◌, ◌++◌, length, take, drop, get_or, Option, subst, sym, refl, ◌∙◌, inl, inr, arith}
+use Rattle.std.proofs.lemmas.List.{take_all, drop_all, append-nil, length-take-le, get_or-take, ext_get_or}
 use Rattle.std.proofs.lemmas.Bool.{cases_lt}
 use Rattle.rt_cidr.specs.declared.prefixes.Prefix.{Prefix}
 use Rattle.rt_rib.specs.declared.routes.Route.{Route}
@@ -16,6 +16,15 @@ pub lent_whole : (old new : List ℕ) (n : ℕ) → n ≡ length old → length 
 lent_whole old new n size same =
     let none : drop (length new) old ≡ [] = drop_all (length new) old (omega (arith, same)) in
     rw (none, append-nil new) (take_all n new (omega (arith, size, same)))
+
+-- a list that grew and is cut back to its length before is the one before
+pub cut_back : {T : Type 0} (n : ℕ) (xs ys : List T) → n ≡ length xs → Grows xs ys → take n ys ≡ xs
+cut_back n [] ys size grows = rw size refl
+cut_back n (x ∷ xs) ys size grows =
+    let cut : length (take n ys) ≡ length (x ∷ xs) = length-take-le n ys (omega (arith, size, grows.longer)) ∙ size in
+    ext_get_or x (take n ys) (x ∷ xs) cut (λ i within.
+    let below : i < n = omega (arith, cut, size, within) in
+    get_or-take n ys i x below ∙ grows.same i x (omega (arith, size, below)))
 
 -- the span's entries, once they are put
 pub put_renewed : (old new fresh : List ℕ) (blocks : List (List ℕ)) (answers : List (Option Route)) (table : List Route) (span : Span)

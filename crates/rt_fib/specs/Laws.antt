@@ -1,10 +1,11 @@
--- What holds of every book.
+-- What holds of every book, and of every table.
 use Rattle.std.specs.Prelude.{◌≡◌, ℕ, List}
 use Rattle.rt_rib.specs.declared.routes.Route.{Route}
 use Rattle.rt_rib.specs.declared.commands.Cmd.{Cmd}
 use Rattle.rt_rib.specs.declared.commands.Cmd.TheVariants.{Add, Replace, Withdraw, Lookup, Dump, Purge}
 use Rattle.rt_rib.specs.declared.commands.Reply.{Reply}
-use Rattle.rt_rib.specs.Book.{BookContents, table_of, Applies}
+use Rattle.rt_rib.specs.Table.{IsTable}
+use Rattle.rt_rib.specs.Book.{BookContents, TableState, table_of, Applies, Serves}
 use Rattle.rt_fib.specs.Tables.{IsKeptOutside}
 
 -- a command that puts a route in, replaces one or takes one out keeps what lies outside of its prefix, one that only asks keeps
@@ -21,3 +22,9 @@ KeepsOutside Purge old new = Unit {0}
 abbrev pub CommandsKeepOutside : Type 0
 CommandsKeepOutside =
     (old new : BookContents) (feed : ℕ) (cmd : Cmd) (reply : Reply) → Applies old new feed cmd reply → KeepsOutside cmd (table_of old) (table_of new)
+
+-- and with each that a table answers, which has no route twice before and after it
+abbrev pub TablesKeepOutside : Type 0
+TablesKeepOutside =
+    (old new : TableState) (feed : ℕ) (cmd : Cmd) (reply : Reply) → IsTable old.routes → IsTable new.routes → Serves old new feed cmd reply
+    → KeepsOutside cmd old.routes new.routes

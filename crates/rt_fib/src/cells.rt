@@ -1,11 +1,11 @@
 //! Where the answers lie: an entry for each first 24 bits of an address, blocks for the last 8, and a list of answers.
-ghost use Rattle.std.specs.Prelude.{◌≡◌, ℕ, ◌+◌, ◌<◌, ◌≤◌, ◌^◌, get_or, length, map, take};
+ghost use Rattle.std.specs.Prelude.{◌≡◌, ℕ, ◌+◌, ◌<◌, ◌≤◌, ◌^◌, IfOk, get_or, length, map, take};
 ghost use Rattle.rt_rib.specs.LookUp.{look_up};
 ghost use Rattle.rt_fib.specs.inside.Entries.{at, entry_at, AreAll};
 
 use crate::spans::Span;
 use rt_cidr::Addr;
-use rt_rib::{Route, Table};
+use rt_rib::{Refused, Route, Table};
 use std::alloc::Allocator;
 use std::snapshot::Snapshot;
 
@@ -133,6 +133,22 @@ impl<A: Allocator + Copy, B: Allocator + Copy> Cells<A, B> {
             entries[k] = self.entries[(addresses[start + k].0 / 256) as usize];
         }
         entries
+    }
+
+    /// The same in other memory, of a table that it answers by.
+    pub(crate) fn copy(&self, alloc: A, table: &Table<B>) -> Result<Cells<A, B>, Refused>
+        ensures entries { IfOk result (λ c. c.entries.items ≡ self.now.entries.items) }
+        ensures blocks { IfOk result (λ c. c.blocks.items ≡ self.now.blocks.items) }
+        ensures answers { IfOk result (λ c. c.answers.items ≡ self.now.answers.items) }
+        ensures table { IfOk result (λ c. c.table.value ≡ table.now) }
+    {
+        Ok(Cells {
+            entries: Vec::from_slice(alloc, &self.entries)?,
+            blocks: Vec::from_slice(alloc, &self.blocks)?,
+            answers: Vec::from_slice(alloc, &self.answers)?,
+            needed: self.needed,
+            table: Snapshot::of(table),
+        })
     }
 
     /// How many bytes the blocks and the answers take.

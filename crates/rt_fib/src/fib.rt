@@ -52,6 +52,18 @@ impl<A: Allocator + Copy, B: Allocator + Copy> Fib<A, B> {
         })
     }
 
+    /// The same in memory of the allocator, while the book's table is the one that it answers by: one to publish, while this one
+    /// goes on following the book. It reads and writes as many bytes as it takes, and asks the book for nothing. M1: `Refused`
+    /// where that memory was refused.
+    pub fn copy(&self, alloc: A, book: &Book<B>) -> Result<Fib<A, B>, Refused>
+        requires { self.now ≡ table_of book.now }
+        ensures { IfOk result (λ copy. copy ≡ self.now) }
+    {
+        Ok(Fib {
+            cells: self.cells.copy(alloc, book.table())?,
+        })
+    }
+
     /// The answer to a look-up of the address: the best route of the longest prefix that covers it, or `None` where no prefix
     /// covers it. It reads the address's entry, in some places a block's number, and the answer.
     pub fn look_up(&self, addr: Addr) -> Option<Route>
@@ -72,31 +84,41 @@ impl<A: Allocator + Copy, B: Allocator + Copy> Fib<A, B> {
     /// Goes over the prefix's addresses, where the book's table answers all others as this one does: then it answers by the
     /// book's table. Of a single route's prefix it reads and writes few places, of a prefix of length 8 some 65,536 entries.
     /// What no address leads to any more stays until it may be half as much as the entries, and then all is built anew: that is to
-    /// keep it within twice the memory of a new one. M1: `Refused` where memory was refused, and then it answers as before.
+    /// keep it within twice the memory of a new one. M1: `Refused` where memory was refused, and then it answers as before, and
+    /// has no more blocks and answers than before: trying again takes no more than the first time.
     pub fn renew(&mut self, book: &Book<B>, prefix: Prefix) -> Result<(), Refused>
         requires { IsKeptOutside prefix self.old (table_of book.now) }
         ensures ok { OnOk result (self.new ≡ table_of book.now) }
         ensures err { OnErr result (self.new ≡ self.old) }
     {
+        self.renew_to(book.table(), prefix)
+    }
+
+    /// What [`renew`](Fib::renew) does, by a table, whether or not a journal explains it.
+    pub fn renew_to(&mut self, table: &Table<B>, prefix: Prefix) -> Result<(), Refused>
+        requires { IsKeptOutside prefix self.old table.now.routes }
+        ensures ok { OnOk result (self.new ≡ table.now.routes) }
+        ensures err { OnErr result (self.new ≡ self.old) }
+    {
         let span = span_of(&prefix);
         let gone = self.cells.bytes_of_span(span);
         if self.cells.is_wasteful(gone) {
-            return self.build_anew(book);
+            return self.build_anew(table);
         }
         let before = self.cells.bytes();
-        renew_cells(&mut book.answers(), &mut self.cells, span)?;
+        renew_cells(&mut table.answers(), &mut self.cells, span)?;
         self.cells.needed = self.cells.needed_now(before, gone);
-        self.cells.table = Snapshot::of(book.table());
+        self.cells.table = Snapshot::of(table);
         Ok(())
     }
 
     /// A new one in its place.
-    fn build_anew(&mut self, book: &Book<B>) -> Result<(), Refused>
-        ensures ok { OnOk result (self.new ≡ table_of book.now) }
+    fn build_anew(&mut self, table: &Table<B>) -> Result<(), Refused>
+        ensures ok { OnOk result (self.new ≡ table.now.routes) }
         ensures err { OnErr result (self.new ≡ self.old) }
     {
         let alloc = *self.cells.entries.allocator();
-        *self = Fib::new(alloc, book)?;
+        *self = Fib::of(alloc, table)?;
         Ok(())
     }
 
@@ -108,13 +130,23 @@ impl<A: Allocator + Copy, B: Allocator + Copy> Fib<A, B> {
         ensures ok { OnOk result (self.new ≡ table_of book.now) }
         ensures err { OnErr result (self.new ≡ self.old) }
     {
+        self.follow_to(book.table(), cmd)
+    }
+
+    /// What [`follow`](Fib::follow) does, by a table, whether or not a journal explains it. The law `tables_keep_outside` says
+    /// that each command of a table may be followed so.
+    pub fn follow_to(&mut self, table: &Table<B>, cmd: &Cmd) -> Result<(), Refused>
+        requires { KeepsOutside cmd.now self.old table.now.routes }
+        ensures ok { OnOk result (self.new ≡ table.now.routes) }
+        ensures err { OnErr result (self.new ≡ self.old) }
+    {
         match cmd {
-            Cmd::Add { prefix, .. } => self.renew(book, *prefix),
-            Cmd::Replace { prefix, .. } => self.renew(book, *prefix),
-            Cmd::Withdraw { prefix } => self.renew(book, *prefix),
+            Cmd::Add { prefix, .. } => self.renew_to(table, *prefix),
+            Cmd::Replace { prefix, .. } => self.renew_to(table, *prefix),
+            Cmd::Withdraw { prefix } => self.renew_to(table, *prefix),
             Cmd::Lookup { .. } => Ok(()),
             Cmd::Dump => Ok(()),
-            Cmd::Purge => self.build_anew(book),
+            Cmd::Purge => self.build_anew(table),
         }
     }
 

@@ -1,6 +1,6 @@
 //! How the cells are filled: entry by entry, each from the piece of the table that its addresses lie in. A piece is a range of
 //! addresses with one answer, as far as the book's `answers` tell it.
-ghost use Rattle.std.specs.Prelude.{◌≡◌, ◌↔◌, IsTrue, ◌≤◌, ◌<◌, ◌+◌, ◌*◌, ◌-◌, ◌^◌, IfOk, OnOk, OnErr, length};
+ghost use Rattle.std.specs.Prelude.{◌≡◌, ◌↔◌, ℕ, IsTrue, ◌≤◌, ◌<◌, ◌+◌, ◌*◌, ◌-◌, ◌^◌, IfOk, OnOk, OnErr, length};
 ghost use Rattle.rt_fib.specs.inside.Entries.{AreAll, AreFrom, Grows, IsEntry, IsNumber};
 ghost use Rattle.rt_fib.specs.inside.Pieces.{IsPieceFrom, IsPieceAt, AreNumbers};
 ghost use Rattle.rt_fib.specs.inside.Spans.{ArePut, AreRenewed};
@@ -122,34 +122,43 @@ fn numbers_from<A: Allocator + Copy, B: Allocator + Copy>(
     Ok(Numbered { numbers, piece })
 }
 
-/// An entry, and the piece that its last address lies in.
+/// Entries that are the same, up to the end, which is no longer one of them, and the piece that the last address lies in.
 #[derive(Clone, Copy)]
-pub(crate) struct Entry {
+pub(crate) struct Run {
     pub(crate) entry: u32,
+    pub(crate) end: u32,
     pub(crate) piece: Piece,
 }
 
-/// The entry of the addresses that begin with these 24 bits. Its block, where it has one, is put behind the others.
-fn entry_of<A: Allocator + Copy, B: Allocator + Copy>(
+/// The entry of the addresses that begin with these 24 bits, and how many behind it are the same: as far as the piece reaches,
+/// and not beyond the end. The entry's block, where it has one, is put behind the others.
+fn run_of<A: Allocator + Copy, B: Allocator + Copy>(
     table: &mut Answers<'_, B>,
     blocks: &mut Vec<[u32; 256], A>,
     answers: &mut Vec<Option<Route>, A>,
     piece: Piece,
     i: u32,
-) -> Result<Entry, Refused>
-    requires fits { i < 2 ^ 24 }
+    end: u32,
+) -> Result<Run, Refused>
+    requires before { i < end }
+    requires fits { end ≤ 2 ^ 24 }
     requires piece { IsPieceFrom table.old answers.old.items (i * 256) piece }
     ensures kept { table.new ≡ table.old }
     ensures blocks { Grows blocks.old.items blocks.new.items }
     ensures grows { Grows answers.old.items answers.new.items }
-    ensures entry { IfOk result (λ e. IsEntry table.old blocks.new.items answers.new.items i e.entry) }
-    ensures piece { IfOk result (λ e. IsPieceFrom table.old answers.new.items (i * 256 + 256) e.piece) }
+    ensures onward { IfOk result (λ run. i < run.end) }
+    ensures within { IfOk result (λ run. run.end ≤ end) }
+    ensures entry { IfOk result (λ run. (j : ℕ) → i ≤ j → j < run.end
+        → IsEntry table.old blocks.new.items answers.new.items j run.entry) }
+    ensures piece { IfOk result (λ run. IsPieceFrom table.old answers.new.items (run.end * 256) run.piece) }
 {
     let first = i * 256;
     let piece = piece_on(table, answers, piece, Addr(first))?;
     if first + 255 <= piece.last.0 {
-        return Ok(Entry {
+        let whole = (u64::from(piece.last.0) + 1) / 256;
+        return Ok(Run {
             entry: piece.number,
+            end: end.min(whole as u32),
             piece,
         });
     }
@@ -159,8 +168,9 @@ fn entry_of<A: Allocator + Copy, B: Allocator + Copy>(
     }
     let numbered = numbers_from(table, answers, piece, first)?;
     blocks.push(numbered.numbers)?;
-    Ok(Entry {
+    Ok(Run {
         entry: LONG + block as u32,
+        end: i + 1,
         piece: numbered.piece,
     })
 }
@@ -183,10 +193,12 @@ fn entries_of<A: Allocator + Copy, B: Allocator + Copy>(
 {
     let mut entries = Vec::with_capacity(alloc, (span.end - span.first) as usize)?;
     let mut piece = piece_at(table, answers, Addr(span.first * 256))?;
-    'entries: for i in span.first..span.end {
-        let entry = entry_of(table, blocks, answers, piece, i)?;
-        entries.push_reserved(entry.entry);
-        piece = entry.piece;
+    let mut i = span.first;
+    'entries: while i < span.end {
+        let run = run_of(table, blocks, answers, piece, i, span.end)?;
+        entries.resize((run.end - span.first) as usize, run.entry)?;
+        piece = run.piece;
+        i = run.end;
     }
     Ok(entries)
 }
@@ -226,8 +238,36 @@ fn put_entries(entries: &mut [u32], fresh: &[u32], first: usize)
     }
 }
 
+/// The span's entries. Where memory is refused, no block and no answer is left behind those that were there.
+fn fresh_entries<A: Allocator + Copy, B: Allocator + Copy>(
+    alloc: A,
+    table: &mut Answers<'_, B>,
+    blocks: &mut Vec<[u32; 256], A>,
+    answers: &mut Vec<Option<Route>, A>,
+    span: Span,
+) -> Result<Vec<u32, A>, Refused>
+    requires ordered { span.first < span.end }
+    requires fits { span.end ≤ 2 ^ 24 }
+    ensures kept { table.new ≡ table.old }
+    ensures blocks { Grows blocks.old.items blocks.new.items }
+    ensures grows { Grows answers.old.items answers.new.items }
+    ensures entries { IfOk result (λ fresh.
+        AreFrom span.first fresh.items blocks.new.items answers.new.items table.old (span.end - span.first)) }
+    ensures stay { OnErr result ((blocks.new.items ≡ blocks.old.items) × (answers.new.items ≡ answers.old.items)) }
+{
+    let (block_count, answer_count) = (blocks.len(), answers.len());
+    match entries_of(alloc, table, blocks, answers, span) {
+        Ok(entries) => Ok(entries),
+        Err(refused) => {
+            blocks.truncate(block_count);
+            answers.truncate(answer_count);
+            Err(refused)
+        }
+    }
+}
+
 /// Puts what the table answers the span's addresses into the cells. Blocks and answers are made before an entry changes, so
-/// the entries stay where memory is refused.
+/// all stays where memory is refused.
 pub(crate) fn renew_cells<A: Allocator + Copy, B: Allocator + Copy>(
     table: &mut Answers<'_, B>,
     cells: &mut Cells<A, B>,
@@ -242,10 +282,12 @@ pub(crate) fn renew_cells<A: Allocator + Copy, B: Allocator + Copy>(
     ensures put { OnOk result (AreRenewed cells.old.entries.items cells.new.entries.items cells.new.blocks.items
         cells.new.answers.items table.old span) }
     ensures stay { OnErr result (cells.new.entries.items ≡ cells.old.entries.items) }
+    ensures nothing_left { OnErr result ((cells.new.blocks.items ≡ cells.old.blocks.items)
+        × (cells.new.answers.items ≡ cells.old.answers.items)) }
     ensures table { cells.new.table.value ≡ cells.old.table.value }
 {
     let alloc = *cells.entries.allocator();
-    let fresh = entries_of(alloc, table, &mut cells.blocks, &mut cells.answers, span)?;
+    let fresh = fresh_entries(alloc, table, &mut cells.blocks, &mut cells.answers, span)?;
     put_entries(
         cells.entries.as_mut_slice(),
         fresh.as_slice(),

@@ -1,5 +1,5 @@
-//! What holds of every book. Each function is a theorem: calling it makes its clause known, and it does nothing.
-ghost use Rattle.rt_fib.specs.Laws.{CommandsKeepOutside};
+//! What holds of every book and of every table. Each function is a theorem: calling it makes its clause known, and it does nothing.
+ghost use Rattle.rt_fib.specs.Laws.{CommandsKeepOutside, TablesKeepOutside};
 
 use rt_rib::laws::{look_up_finds_best, put_in_adds, table_by_entry, take_out_leaves_others};
 
@@ -12,4 +12,13 @@ pub fn commands_keep_outside()
     take_out_leaves_others();
     look_up_finds_best();
     table_by_entry();
+}
+
+/// The same of the commands that a table answers.
+pub fn tables_keep_outside()
+    ensures { TablesKeepOutside }
+{
+    put_in_adds();
+    take_out_leaves_others();
+    look_up_finds_best();
 }

@@ -1,6 +1,7 @@
 pub mod Promised
 pub mod Crossing
 pub mod Order
+pub mod Equality
 pub mod Lists
 pub mod Tables
 pub mod Journals

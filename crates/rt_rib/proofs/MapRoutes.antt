@@ -209,8 +209,8 @@ pub IsMap-nil : IsMap []
 IsMap-nil = record { ordered = tt; each = λ p offers e. cc }
 
 -- the routes of one pair more of those that a walk goes over
-pub walked : (done more : List Route) (ahead rest m : Map) (p : Prefix) (offers same : List Offer) → done ++ routes_of ahead ≡ routes_of m
-    → ahead ≡ (p, offers) ∷ rest → same ≡ offers → more ≡ done ++ map (route_by p) same → more ++ routes_of rest ≡ routes_of m
-walked done more ahead rest m p offers same before first is appended =
+pub walked : (done more all : List Route) (ahead rest : Map) (p : Prefix) (offers same : List Offer) → done ++ routes_of ahead ≡ all
+    → ahead ≡ (p, offers) ∷ rest → same ≡ offers → more ≡ done ++ map (route_by p) same → more ++ routes_of rest ≡ all
+walked done more all ahead rest p offers same before first is appended =
     ap (λ l. l ++ routes_of rest) appended ∙ append_assoc done (map (route_by p) same) (routes_of rest)
     ∙ ap (λ o. done ++ (map (route_by p) o ++ routes_of rest)) is ∙ ap (λ n. done ++ routes_of n) (sym first) ∙ before

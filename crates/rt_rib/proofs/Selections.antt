@@ -8,7 +8,7 @@ use Rattle.std.proofs.lemmas.List.{append-nil}
 use Rattle.rt_cidr.specs.declared.prefixes.Prefix.{Prefix}
 use Rattle.rt_cidr.specs.Prefix.{same_prefix}
 use Rattle.rt_cidr.specs.Laws.{SamePrefix}
-use Rattle.rt_trie.specs.Map.{before, get, IsBeforeAll, IsOrdered}
+use Rattle.rt_trie.specs.Map.{before, IsBeforeAll, IsOrdered}
 use Rattle.rt_rib.specs.declared.routes.Route.{Route}
 use Rattle.rt_rib.specs.declared.offers.Offer.{Offer}
 use Rattle.rt_rib.specs.declared.selection.Selection.{Selection}

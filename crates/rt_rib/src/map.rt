@@ -2,15 +2,15 @@
 ghost use Rattle.std.specs.Prelude.{◌≡◌, ◌++◌, false, IsTrue, IfOk, OnOk, OnErr, map};
 ghost use Rattle.rt_rib.specs.Table.{has, put_in, take_out};
 ghost use Rattle.rt_rib.specs.Maps.{routes_of, route_by, IsMap};
-ghost use Rattle.rt_rib.specs.inside.Maps.{offers_at, offer_of, MapLaws};
+ghost use Rattle.rt_rib.specs.inside.Maps.{offer_of, MapLaws};
 
 use crate::offers::{Offer, Offers, Removal};
 use crate::refused::Refused;
 use crate::routes::Route;
 use rt_cidr::Prefix;
 use rt_cidr::laws::same_prefix;
-use rt_trie::Trie;
 use rt_trie::laws::{changes, one_list};
+use rt_trie::{Trie, Walk};
 use std::alloc::Allocator;
 
 /// A map from prefixes to what is offered for them.
@@ -145,6 +145,19 @@ pub(crate) fn append<A: Allocator + Copy>(
     Ok(())
 }
 
+/// Appends the routes of the pairs that the walk has still to give, in its order.
+pub(crate) fn append_walk<A: Allocator + Copy>(
+    routes: &mut Vec<Route, A>,
+    walk: Walk<'_, Offers<A>, A>,
+) -> Result<(), Refused>
+    ensures { OnOk result (routes.new.items ≡ routes.old.items ++ routes_of walk.entry) }
+{
+    for (prefix, offers) in walk {
+        append(routes, prefix, offers.as_slice())?;
+    }
+    Ok(())
+}
+
 /// The routes by base, then length, then preference, then feed, of which there are so many.
 pub(crate) fn routes<A: Allocator + Copy>(
     map: &Map<A>,
@@ -154,8 +167,6 @@ pub(crate) fn routes<A: Allocator + Copy>(
     ensures { IfOk result (λ routes. routes.items ≡ routes_of map.now.pairs) }
 {
     let mut routes = Vec::with_capacity(alloc, count)?;
-    for (prefix, offers) in map.walk() {
-        append(&mut routes, prefix, offers.as_slice())?;
-    }
+    append_walk(&mut routes, map.walk())?;
     Ok(routes)
 }

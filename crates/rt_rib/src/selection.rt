@@ -6,7 +6,7 @@ ghost use Rattle.rt_rib.specs.Selection.{is_in, is_by};
 ghost use Rattle.rt_rib.specs.Table.{IsTable};
 ghost use Rattle.rt_cidr.specs.Prefix.{contains, same_prefix};
 
-use crate::map::{self, Map, append, map_laws};
+use crate::map::{self, Map, append, append_walk, map_laws};
 use crate::refused::Refused;
 use crate::routes::{Route, keep_best};
 use rt_cidr::Prefix;
@@ -63,9 +63,7 @@ fn routes_within<A: Allocator + Copy>(
     ensures { IfOk result (λ routes. routes.items ≡ filter (λ r. contains prefix r.prefix) (routes_of map.now.pairs)) }
 {
     let mut routes = Vec::new(alloc);
-    for (stored, offers) in map.within(prefix) {
-        append(&mut routes, stored, offers.as_slice())?;
-    }
+    append_walk(&mut routes, map.within(prefix))?;
     Ok(routes)
 }
 

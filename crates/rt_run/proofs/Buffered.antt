@@ -11,6 +11,7 @@ use Rattle.rt_rib.specs.LookUp.{look_up}
 use Rattle.rt_feed.specs.declared.styles.Form.{Form}
 use Rattle.rt_feed.specs.declared.styles.Form.TheVariants.{Numbers, Labels, Json}
 use Rattle.rt_feed.specs.Printed.{table_text, count_text, row_text, found_text, all_found_text}
+use Rattle.rt_feed.specs.Counts.{prefix_count, totals_as, counts_as}
 use Rattle.rt_feed.specs.Styles.{StyleContents, label_of, row_as, rows_as, asked_of, found_as, all_found_as}
 use Rattle.rt_run.specs.declared.output.Matches.{Matches}
 use Rattle.rt_run.specs.TableText.{answers_text}
@@ -106,3 +107,13 @@ module _ (style : StyleContents) where
   matches-some =
       texts-some (λ one. all_found_as style.form (label_of style.labels) one.addr one.routes.items)
       (λ one. all_found_as-some style.form (label_of style.labels) one.addr one.routes.items)
+
+-- nor is what tells how many routes there are
+totals-some : (form : Form) (routes prefixes : ℕ) (rest : List ℕ) → 0 < length (totals_as form routes prefixes ++ rest)
+unfolding totals_as
+totals-some Numbers routes prefixes rest = simp length-append (omega arith)
+totals-some Labels routes prefixes rest = simp length-append (omega arith)
+totals-some Json routes prefixes rest = simp length-append (omega arith)
+
+pub counts-some : (form : Form) (label : ℕ → List ℕ) (routes : List Route) → 0 < length (counts_as form label routes)
+counts-some form label routes = totals-some form (length routes) (prefix_count routes) _

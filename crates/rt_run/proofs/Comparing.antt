@@ -7,17 +7,19 @@ use Rattle.rt_cidr.specs.Output.{AppendsBeginning}
 use Rattle.rt_cidr.proofs.Promised.{begins_after, begins_longer}
 use Rattle.rt_rib.specs.declared.routes.Route.{Route}
 use Rattle.rt_rib.specs.Book.{BookContents, table_of}
-use Rattle.rt_diff.specs.declared.answers.By.{By}
 use Rattle.rt_diff.specs.declared.differences.Difference.{Difference}
-use Rattle.rt_diff.specs.Differences.{IsFirstDifference, AreDifferences}
+use Rattle.rt_diff.specs.Answers.{by_own}
+use Rattle.rt_diff.specs.Differences.{AreDifferences}
 use Rattle.rt_diff.proofs.Promised.{at, rest_none, rest_next, rest_there, whole, differences_of, differences_are, is_differences_of}
 use Rattle.rt_feed.specs.declared.report.Line.{Line}
-use Rattle.rt_feed.specs.DifferenceText.{difference_text, differences_text}
+use Rattle.rt_feed.specs.declared.styles.Form.{Form}
+use Rattle.rt_feed.specs.declared.styles.Form.TheVariants.{Numbers, Labels, Json}
+use Rattle.rt_feed.specs.DifferenceText.{range_as, difference_as, differences_as}
 use Rattle.rt_run.specs.declared.compared.DiffSummary.{DiffSummary}
 use Rattle.rt_run.specs.AskedRun.{AskedRun}
 use Rattle.rt_run.specs.TableText.{IsSummary}
-use Rattle.rt_run.specs.DiffText.{differ_status, IsDiffText}
-use Rattle.rt_run.specs.inside.Comparisons.{IsFirstOf, lines_of, compared_status, IsSoFar}
+use Rattle.rt_run.specs.DiffText.{AskedDiff, new_told, differ_status, IsDiffText}
+use Rattle.rt_run.specs.inside.Comparisons.{IsFirstFrom, IsFirstOf, lines_of, compared_status, IsSoFar}
 use Rattle.rt_run.specs.inside.RunResults.{RunOverBook}
 use Rattle.rt_run.proofs.Outputs.{left_table}
 
@@ -26,104 +28,107 @@ pub none_left : (next : Option Difference) → ((d : Difference) → next ≡ So
 none_left None h = refl
 none_left (Some d) h = absurd (h d refl)
 
-module _ (by : By) (old new : List Route) where
+-- no range is told by nothing
+range-some : (form : Form) (d : Difference) (old new rest : List ℕ) → 0 < length (range_as form d old new ++ rest)
+unfolding range_as
+range-some Numbers d old new rest = simp length-append (omega arith)
+range-some Labels d old new rest = simp length-append (omega arith)
+range-some Json d old new rest = simp length-append (omega arith)
+
+module _ (asked : AskedDiff) (old new : List Route) where
   -- before the first line
-  pub none_so_far : (first : Option Difference) → IsFirstOf by old new first → IsSoFar by old new first []
-  none_so_far first is = record { done = []; printed = refl; from = at 0; first = is; whole = λ rest are. whole by old new rest are }
+  pub none_so_far : (first : Option Difference) → IsFirstOf asked old new first → IsSoFar asked old new first []
+  none_so_far first is = record { done = []; printed = refl; from = at 0; first = is; whole = λ rest are. whole asked.by (by_own old) (new_told asked new) rest are }
 
   -- a line more
-  pub one_more : (text : List ℕ) (d : Difference) (next : Option Difference) → IsSoFar by old new (Some d) text
-      → IsFirstDifference by old new (at (d.last.0 + 1)) next → IsSoFar by old new next (text ++ difference_text d)
+  pub one_more : (text : List ℕ) (d : Difference) (next : Option Difference) → IsSoFar asked old new (Some d) text
+      → IsFirstFrom asked old new (at (d.last.0 + 1)) next → IsSoFar asked old new next (text ++ difference_as asked.styles d)
   one_more text d next far is = record {
     done = far.done ++ d ∷ [];
     printed =
-        ap (λ t. t ++ difference_text d) far.printed
-        ∙ (ap (λ t. differences_text far.done ++ t) (sym (append-nil (difference_text d))) ∙ sym (flat_map-append difference_text far.done (d ∷ [])));
+        ap (λ t. t ++ difference_as asked.styles d) far.printed
+        ∙ (ap (λ t. differences_as asked.styles far.done ++ t) (sym (append-nil (difference_as asked.styles d))) ∙ sym (flat_map-append (difference_as asked.styles) far.done (d ∷ [])));
     from = at (d.last.0 + 1);
     first = is;
     whole = λ rest are.
-        subst (AreDifferences by old new) (sym (append_assoc far.done (d ∷ []) rest))
-        (far.whole (d ∷ rest) (rest_next by old new far.from d rest far.first are));
+        subst (AreDifferences asked.by (by_own old) (new_told asked new)) (sym (append_assoc far.done (d ∷ []) rest))
+        (far.whole (d ∷ rest) (rest_next asked.by (by_own old) (new_told asked new) far.from d rest far.first are));
   }
 
   -- the lines are all of them where no difference is left
-  pub all_so_far : (text : List ℕ) → IsSoFar by old new None text → text ≡ lines_of by old new
+  pub all_so_far : (text : List ℕ) → IsSoFar asked old new None text → text ≡ lines_of asked old new
   all_so_far text far =
-      let is : AreDifferences by old new (far.done ++ []) = far.whole [] (rest_none by old new far.from.0 far.first) in
-      far.printed ∙ ap differences_text (sym (append-nil far.done) ∙ is_differences_of by old new (far.done ++ []) is)
+      let is : AreDifferences asked.by (by_own old) (new_told asked new) (far.done ++ []) = far.whole [] (rest_none asked.by (by_own old) (new_told asked new) far.from.0 far.first) in
+      far.printed ∙ ap (differences_as asked.styles) (sym (append-nil far.done) ∙ is_differences_of asked.by (by_own old) (new_told asked new) (far.done ++ []) is)
 
   -- the list goes on with that difference, where one is left
-  list_so_far : (text : List ℕ) (d : Difference) (far : IsSoFar by old new (Some d) text)
-      → (rest : List Difference) × (differences_of by old new ≡ far.done ++ (d ∷ rest))
+  list_so_far : (text : List ℕ) (d : Difference) (far : IsSoFar asked old new (Some d) text)
+      → (rest : List Difference) × (differences_of asked.by (by_own old) (new_told asked new) ≡ far.done ++ (d ∷ rest))
   list_so_far text d far =
-      let (rest, are) = rest_there by old new (d.last.0 + 1) (omega (arith, far.first.difference.fits)) in
-      (rest, sym (is_differences_of by old new (far.done ++ (d ∷ rest)) (far.whole (d ∷ rest) (rest_next by old new far.from d rest far.first are))))
+      let (rest, are) = rest_there asked.by (by_own old) (new_told asked new) (d.last.0 + 1) (omega (arith, far.first.difference.fits)) in
+      (rest, sym (is_differences_of asked.by (by_own old) (new_told asked new) (far.done ++ (d ∷ rest)) (far.whole (d ∷ rest) (rest_next asked.by (by_own old) (new_told asked new) far.from d rest far.first are))))
 
   -- and its line comes behind the text so far
-  text_so_far : (text : List ℕ) (d : Difference) → IsSoFar by old new (Some d) text
-      → (rest : List ℕ) × (lines_of by old new ≡ (text ++ difference_text d) ++ rest)
+  text_so_far : (text : List ℕ) (d : Difference) → IsSoFar asked old new (Some d) text
+      → (rest : List ℕ) × (lines_of asked old new ≡ (text ++ difference_as asked.styles d) ++ rest)
   text_so_far text d far =
       let (rest, is) = list_so_far text d far in (
-        differences_text rest,
-        ap differences_text is
-            ∙ (flat_map-append difference_text far.done (d ∷ rest)
-            ∙ (ap (λ t. t ++ (difference_text d ++ differences_text rest)) (sym far.printed)
-            ∙ sym (append_assoc text (difference_text d) (differences_text rest)))),
+        differences_as asked.styles rest,
+        ap (differences_as asked.styles) is
+            ∙ (flat_map-append (difference_as asked.styles) far.done (d ∷ rest)
+            ∙ (ap (λ t. t ++ (difference_as asked.styles d ++ differences_as asked.styles rest)) (sym far.printed)
+            ∙ sym (append_assoc text (difference_as asked.styles d) (differences_as asked.styles rest)))),
       )
 
   -- so a fault within it leaves a beginning of all lines
-  pub stops_there : (a b c : Option (List ℕ)) (text : List ℕ) (d : Difference) → IsSoFar by old new (Some d) text
-      → Appends a b text → AppendsBeginning b c (difference_text d) → AppendsBeginning a c (lines_of by old new)
+  pub stops_there : (a b c : Option (List ℕ)) (text : List ℕ) (d : Difference) → IsSoFar asked old new (Some d) text
+      → Appends a b text → AppendsBeginning b c (difference_as asked.styles d) → AppendsBeginning a c (lines_of asked old new)
   stops_there a b c text d far written begun =
       let (rest, is) = text_so_far text d far in
-      subst (AppendsBeginning a c) (sym is) (begins_longer a c (text ++ difference_text d) rest (begins_after a b c text (difference_text d) written begun))
+      subst (AppendsBeginning a c) (sym is) (begins_longer a c (text ++ difference_as asked.styles d) rest (begins_after a b c text (difference_as asked.styles d) written begun))
 
   -- there is no line where there is no first difference
-  pub lines-none : IsFirstOf by old new None → lines_of by old new ≡ []
+  pub lines-none : IsFirstOf asked old new None → lines_of asked old new ≡ []
   lines-none is = sym (all_so_far [] (none_so_far None is))
 
-  difference-some : (d : Difference) (rest : List ℕ) → 0 < length (difference_text d ++ rest)
-  unfolding difference_text
-  difference-some d rest = simp length-append (omega arith)
-
   -- and else there is some
-  pub lines-some : (d : Difference) → IsFirstOf by old new (Some d) → 0 < length (lines_of by old new)
+  pub lines-some : (d : Difference) → IsFirstOf asked old new (Some d) → 0 < length (lines_of asked old new)
   lines-some d is =
       let (rest, same) = text_so_far [] d (none_so_far (Some d) is) in
-      subst (λ (t : List ℕ). 0 < length t) (sym same) (difference-some d rest)
+      subst (λ (t : List ℕ). 0 < length t) (sym same) (range-some asked.styles.form d _ _ rest)
 
   -- so whether there is a first difference is whether there is a line
-  pub empty_by_first : (first : Option Difference) (empty : Bool) → is_some first ≡ not empty → IsFirstOf by old new first
-      → (empty ≡ true → lines_of by old new ≡ []) × (empty ≡ false → 0 < length (lines_of by old new))
+  pub empty_by_first : (first : Option Difference) (empty : Bool) → is_some first ≡ not empty → IsFirstOf asked old new first
+      → (empty ≡ true → lines_of asked old new ≡ []) × (empty ≡ false → 0 < length (lines_of asked old new))
   empty_by_first None true e is = (λ same. lines-none is, λ same. absurd cc)
   empty_by_first None false e is = absurd cc
   empty_by_first (Some d) true e is = absurd cc
   empty_by_first (Some d) false e is = (λ same. absurd cc, λ same. lines-some d is)
 
   -- the status by the first difference is the status by the list
-  pub status_by_first : (first : Option Difference) (m n : ℕ) → IsFirstOf by old new first
-      → compared_status m n first ≡ max (differ_status (differences_of by old new)) (max m n)
+  pub status_by_first : (first : Option Difference) (m n : ℕ) → IsFirstOf asked old new first
+      → compared_status m n first ≡ max (differ_status (differences_of asked.by (by_own old) (new_told asked new))) (max m n)
   status_by_first None m n is =
-      let none = is_differences_of by old new [] (whole by old new [] (rest_none by old new 0 is)) in
+      let none = is_differences_of asked.by (by_own old) (new_told asked new) [] (whole asked.by (by_own old) (new_told asked new) [] (rest_none asked.by (by_own old) (new_told asked new) 0 is)) in
       ap (λ list. max (differ_status list) (max m n)) none
   status_by_first (Some d) m n is =
-      let (rest, are) = rest_there by old new (d.last.0 + 1) (omega (arith, is.difference.fits)) in
-      let all = is_differences_of by old new (d ∷ rest) (whole by old new (d ∷ rest) (rest_next by old new (at 0) d rest is are)) in
+      let (rest, are) = rest_there asked.by (by_own old) (new_told asked new) (d.last.0 + 1) (omega (arith, is.difference.fits)) in
+      let all = is_differences_of asked.by (by_own old) (new_told asked new) (d ∷ rest) (whole asked.by (by_own old) (new_told asked new) (d ∷ rest) (rest_next asked.by (by_own old) (new_told asked new) (at 0) d rest is are)) in
       ap (λ list. max (differ_status list) (max m n)) all
 
 -- what was written of two runs tells of both tables
-pub is_diff : (by : By) (old_asked new_asked : AskedRun) (old_reports new_reports : List (List Line)) (old new : BookContents)
+pub is_diff : (asked : AskedDiff) (old_asked new_asked : AskedRun) (old_reports new_reports : List (List Line)) (old new : BookContents)
     (given : DiffSummary) (first : Option Difference) → RunOverBook old_asked old_reports old → RunOverBook new_asked new_reports new
-    → IsSummary old_reports given.old → IsSummary new_reports given.new → IsFirstOf by (table_of old) (table_of new) first
+    → IsSummary old_reports given.old → IsSummary new_reports given.new → IsFirstOf asked (table_of old) (table_of new) first
     → given.status ≡ compared_status given.old.status given.new.status first
-    → IsDiffText by old_asked new_asked (lines_of by (table_of old) (table_of new)) given
-is_diff by old_asked new_asked old_reports new_reports old new given first old_ran new_ran of_old of_new is status = record {
+    → IsDiffText asked old_asked new_asked (lines_of asked (table_of old) (table_of new)) given
+is_diff asked old_asked new_asked old_reports new_reports old new given first old_ran new_ran of_old of_new is status = record {
   old_table = table_of old;
   new_table = table_of new;
   old_left = left_table old_asked old_reports old given.old old_ran of_old;
   new_left = left_table new_asked new_reports new given.new new_ran of_new;
-  list = differences_of by (table_of old) (table_of new);
-  differences = differences_are by (table_of old) (table_of new);
+  list = differences_of asked.by (by_own (table_of old)) (new_told asked (table_of new));
+  differences = differences_are asked.by (by_own (table_of old)) (new_told asked (table_of new));
   printed = refl;
-  is_status = status ∙ status_by_first by (table_of old) (table_of new) first given.old.status given.new.status is;
+  is_status = status ∙ status_by_first asked (table_of old) (table_of new) first given.old.status given.new.status is;
 }

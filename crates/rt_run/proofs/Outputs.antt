@@ -1,5 +1,5 @@
 -- What a run leaves in its writer, from what was written of it.
-use Rattle.std.proofs.Common.{◌≡◌, ℕ, max, false, List, ◌++◌, Option, Ok, Err, refl, sym, subst, ◌∙◌}
+use Rattle.std.proofs.Common.{◌≡◌, ℕ, max, false, List, Option, Ok, Err, refl, sym, subst, ◌∙◌}
 use Rattle.std.specs.Prelude.{nat_lt}
 use Rattle.rt_cidr.specs.declared.address.Addr.{Addr}
 use Rattle.rt_rib.specs.declared.routes.Route.{Route}

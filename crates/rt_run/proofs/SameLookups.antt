@@ -1,5 +1,5 @@
 -- That what is written of look-ups is the same however the visits of the feeds fell.
-use Rattle.std.proofs.Common.{◌≡◌, max, false, List, ◌++◌, ap, sym, subst, ◌∙◌}
+use Rattle.std.proofs.Common.{max, false, List, ◌++◌, ap, sym, subst, ◌∙◌}
 use Rattle.std.specs.Prelude.{nat_lt}
 use Rattle.rt_cidr.specs.declared.address.Addr.{Addr}
 use Rattle.rt_feed.specs.declared.faulty.FaultyLines.{FaultyLines}

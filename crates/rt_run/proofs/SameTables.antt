@@ -25,7 +25,7 @@ use Rattle.rt_feed.specs.declared.parse.LineFault.{LineFault}
 use Rattle.rt_feed.specs.Laws.{TextHasOneReading}
 use Rattle.rt_feed.specs.declared.report.Line.{Line}
 use Rattle.rt_feed.specs.Lines.{LineOutcome, skipped, faulty, asked, reading, Becomes, asked_of, report_lines}
-use Rattle.rt_feed.specs.Reports.{is_refusal, is_fault, has_refusal, has_fault}
+use Rattle.rt_feed.specs.Reports.{is_refusal, has_refusal, has_fault}
 use Rattle.rt_shared.specs.Visits.{Visit, reply_to, visit_of, entries}
 use Rattle.rt_feed.specs.Visits.{concatenated}
 use Rattle.rt_feed.specs.Printed.{table_text}

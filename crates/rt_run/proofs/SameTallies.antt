@@ -17,10 +17,9 @@ use Rattle.rt_rib.specs.Laws.{FeedsStandAlone, is_own}
 use Rattle.rt_shared.specs.declared.outcome.Outcome.{Outcome}
 use Rattle.rt_shared.specs.declared.outcome.Outcome.TheVariants as outcome
 use Rattle.rt_shared.specs.Laws.{EntriesOfVisits}
-use Rattle.rt_feed.specs.declared.parse.LineFault.{LineFault}
 use Rattle.rt_feed.specs.declared.report.Line.{Line}
 use Rattle.rt_feed.specs.declared.report.Answer.{Answer}
-use Rattle.rt_feed.specs.declared.report.Answer.TheVariants.{Did, Refused, Fault}
+use Rattle.rt_feed.specs.declared.report.Answer.TheVariants.{Did, Fault}
 use Rattle.rt_feed.specs.Laws.{TextHasOneReading}
 use Rattle.rt_feed.specs.Lines.{LineOutcome, skipped, faulty, asked, reading, command_answer, report_lines, asked_of}
 use Rattle.rt_feed.specs.Reports.{is_refusal, has_refusal}

@@ -16,6 +16,7 @@ use Rattle.rt_feed.specs.declared.report.Answer.TheVariants.{Did, Refused, Fault
 use Rattle.rt_feed.specs.Lines.{LineOutcome}
 use Rattle.rt_feed.specs.Addresses.{faulty_lines, SaysAddresses}
 use Rattle.rt_feed.specs.Reports.{is_refusal}
+use Rattle.rt_feed.specs.Counts.{counts_as}
 use Rattle.rt_feed.specs.Styles.{StyleContents, label_of, rows_as, found_as, all_found_as}
 use Rattle.rt_run.specs.declared.tallies.Tally.{Tally}
 use Rattle.rt_run.specs.declared.tallies.RunSummary.{RunSummary}
@@ -34,6 +35,10 @@ all_answers_text style addresses table = flat_map (λ addr. all_found_as style.f
 -- the routes of the table that are asked for, in its order
 abbrev pub routes_text : StyleContents → Selection → List Route → List ℕ
 routes_text style asked table = rows_as style.form (label_of style.labels) (selected asked table)
+
+-- how many of these there are
+abbrev pub counts_text : StyleContents → Selection → List Route → List ℕ
+counts_text style asked table = counts_as style.form (label_of style.labels) (selected asked table)
 
 -- an `add` was over the limit
 abbrev pub was_full : Answer → Bool

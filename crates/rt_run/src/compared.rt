@@ -2,9 +2,10 @@
 ghost use Rattle.std.specs.Prelude.{◌≡◌, ◌≢◌, ◌↔◌, ◌⊎◌, []};
 ghost use Rattle.rt_run.specs.AskedRun.{AskedRun};
 ghost use Rattle.rt_run.specs.RunText.{Leaves};
+ghost use Rattle.rt_rib.specs.Book.{table_of};
 ghost use Rattle.rt_run.specs.DiffText.{IsDiffText};
 ghost use Rattle.rt_run.specs.inside.RunResults.{RunOverBook};
-ghost use Rattle.rt_run.specs.inside.Comparisons.{compared_status};
+ghost use Rattle.rt_run.specs.inside.Comparisons.{compared_of, compared_status, IsFirstOf};
 
 use crate::faults::AppFault;
 use crate::feed_texts::FeedTexts;
@@ -13,12 +14,64 @@ use crate::runs::{FinishedRun, run_all};
 use crate::status::Status;
 use crate::tallies::RunSummary;
 use rt_cidr::Addr;
-use rt_diff::{By, Difference, first_difference};
-use rt_feed::RunFault;
+use rt_diff::{By, Comparison, Difference};
+use rt_feed::{RunFault, SideStyles};
+use rt_rib::Book;
 use std::alloc::Global;
 use std::io::Write;
+use std::marker::Model;
 use std::sync::Wait;
 use std::thread::Threads;
+
+/// How two tables are compared and told. Contracts see all of it.
+#[derive(Debug, Drop)]
+pub struct DiffTerms<'a> {
+    by: By,
+    numbers: &'a [u32],
+    styles: &'a SideStyles<'a>,
+}
+
+impl<'a> Model for DiffTerms<'a> {
+    ghost use Rattle.rt_run.specs.DiffText.{AskedDiff};
+
+    ghost Value = { AskedDiff };
+
+    ghost view = { λ t. record { by = t.by; numbers = t.numbers.now; styles = t.styles.now } };
+}
+
+impl<'a> DiffTerms<'a> {
+    /// By what answers are told apart; by which numbers the feeds of the new table are told, feed k by the k-th and one beyond
+    /// these by its own, as of `Comparison::tell_new_by`; and in which style, with labels by these numbers.
+    pub fn new(by: By, numbers: &'a [u32], styles: &'a SideStyles<'a>) -> DiffTerms<'a>
+        ensures { result ≡ record { by = by; numbers = numbers.now; styles = styles.now } }
+    {
+        DiffTerms {
+            by,
+            numbers,
+            styles,
+        }
+    }
+
+    /// The style.
+    pub(crate) fn styles(&self) -> &'a SideStyles<'a>
+        ensures { result.now ≡ self.now.styles }
+    {
+        self.styles
+    }
+
+    /// The tables of two books, compared so.
+    pub(crate) fn comparison(
+        &self,
+        old: &'a Book<Global>,
+        new: &'a Book<Global>,
+    ) -> Comparison<'a, Global>
+        ensures { result ≡ compared_of self.now (table_of old.now) (table_of new.now) }
+    {
+        let mut tables = Comparison::new(old, new, self.by);
+        tables.tell_new_by(self.numbers);
+        tables
+    }
+}
 
 /// What a comparison of two runs gives.
 #[derive(Debug, Drop)]
@@ -32,8 +85,9 @@ pub struct DiffSummary {
 }
 
 /// Runs the old texts and then the new ones as `run_texts` does, each over a table of its own, and when all have ended writes
-/// to `w` each range of addresses that the two tables answer otherwise, in rising order: `FIRST-LAST OLD -> NEW`. Nothing else
-/// is written, so where nothing is, every address is answered alike. Gives how much of the texts was taken, where all was
+/// to `w` each range of addresses that the two tables answer otherwise, in rising order and on these terms: as a line
+/// `FIRST-LAST OLD -> NEW`, or as a JSON object (`write_difference_as`). Nothing else is written, so where nothing is, every
+/// address is answered alike. Gives how much of the texts was taken, where all was
 /// written. Its faults are those of `run_texts`: F1 where there is no old text or no new one, and F3 also where there is no
 /// memory for what was taken.
 pub fn diff_texts<R: Threads + Wait + Sync, W: Write>(
@@ -41,10 +95,10 @@ pub fn diff_texts<R: Threads + Wait + Sync, W: Write>(
     alloc: Global,
     old_asked: &FeedTexts<'_>,
     new_asked: &FeedTexts<'_>,
-    by: By,
+    terms: &DiffTerms<'_>,
     w: &mut W,
 ) -> Result<DiffSummary, AppFault>
-    ensures text { Leaves (IsDiffText by old_asked.now new_asked.now) (W.contents w.old) (W.contents w.new) result }
+    ensures text { Leaves (IsDiffText terms.now old_asked.now new_asked.now) (W.contents w.old) (W.contents w.new) result }
     ensures no_text { (result ≡ Err (AppFault.Run RunFault.NoText)) ↔ ((old_asked.now.texts ≡ []) ⊎ (new_asked.now.texts ≡ [])) }
 {
     if new_asked.count() == 0 {
@@ -52,7 +106,7 @@ pub fn diff_texts<R: Threads + Wait + Sync, W: Write>(
     }
     let old = run_all(rt, alloc, old_asked)?;
     let new = run_all(rt, alloc, new_asked)?;
-    let compared = compare_runs(alloc, &old, &new, by, w);
+    let compared = compare_runs(alloc, &old, &new, terms, w);
     old.leave_table();
     new.leave_table();
     compared
@@ -63,21 +117,21 @@ fn compare_runs<W: Write>(
     alloc: Global,
     old: &FinishedRun,
     new: &FinishedRun,
-    by: By,
+    terms: &DiffTerms<'_>,
     w: &mut W,
 ) -> Result<DiffSummary, AppFault>
     ensures text { (old_asked new_asked : AskedRun) → RunOverBook old_asked old.now.reports.items old.now.book
         → RunOverBook new_asked new.now.reports.items new.now.book
-        → Leaves (IsDiffText by old_asked new_asked) (W.contents w.old) (W.contents w.new) result }
+        → Leaves (IsDiffText terms.now old_asked new_asked) (W.contents w.old) (W.contents w.new) result }
     ensures ran { result ≢ Err (AppFault.Run RunFault.NoText) }
 {
     let of_old = old.summary(alloc)?;
     let of_new = new.summary(alloc)?;
-    let first = first_difference(&old.book, &new.book, by, Addr(0));
+    let first = first_difference(&old.book, &new.book, terms);
     let status = status_of(&of_old, &of_new, first);
     write_output(
         alloc,
-        Output::Differences(&old.book, &new.book, by, first),
+        Output::Differences(terms, &old.book, &new.book, first),
         w,
     )?;
     Ok(DiffSummary {
@@ -85,6 +139,17 @@ fn compare_runs<W: Write>(
         old: of_old,
         new: of_new,
     })
+}
+
+/// What the tables of two books answer otherwise first.
+fn first_difference(
+    old: &Book<Global>,
+    new: &Book<Global>,
+    terms: &DiffTerms<'_>,
+) -> Option<Difference>
+    ensures { IsFirstOf terms.now (table_of old.now) (table_of new.now) result }
+{
+    terms.comparison(old, new).first_difference(Addr(0))
 }
 
 /// The status of two runs of which this was taken, and of what their tables answer otherwise first.

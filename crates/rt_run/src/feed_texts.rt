@@ -3,6 +3,7 @@ ghost use Rattle.std.specs.Prelude.{◌≡◌, ◌≤◌, length, map};
 ghost use Rattle.rt_rib.specs.declared.limits.TheConstants.{MOST_FEEDS};
 ghost use Rattle.rt_rib.specs.Book.{IsLimit};
 
+use std::fmt;
 use std::marker::Model;
 
 /// The texts of a run's feeds, the k-th as feed k's, how many routes each feed may have, and how many of its commands
@@ -25,6 +26,17 @@ impl<'a> Model for FeedTexts<'a> {
     ghost view = { λ t. record { texts = map (λ text. text.items) t.texts.now; limit = t.limit; batch = t.batch } };
 
     ghost invariant = { λ t. IsLimit t.limit × (length t.texts.now ≤ MOST_FEEDS) × (1 ≤ t.batch) };
+}
+
+/// Shows how many texts there are and their limits, and none of the texts.
+impl<'a> fmt::Debug for FeedTexts<'a> {
+    fn fmt<W: fmt::Write>(&self, f: &mut fmt::Formatter<W>) -> fmt::Result {
+        f.debug_struct("FeedTexts")
+            .field("count", &self.texts.len())
+            .field("limit", &self.limit)
+            .field("batch", &self.batch)
+            .finish_non_exhaustive()
+    }
 }
 
 impl<'a> FeedTexts<'a> {

@@ -3,7 +3,7 @@
 //! [`run_texts`] is a run over values: the texts of 1 to 64 feeds, each on a thread of its own, over one table behind the
 //! lock, and a writer. Its clause `text` is the theorem from bytes to bytes: what was written is a run's text.
 //! [`lookup_texts`], [`lookup_all_texts`] and [`table_texts`] run texts in the same way and tell of the finished table alone:
-//! what look-ups of addresses find in it, all that covers them, or its routes; and they give how much of each text was taken.
+//! what look-ups of addresses find in it, all that covers them, its routes, or how many there are ([`count_texts`]); and they give how much of each text was taken.
 //! [`diff_texts`] runs two sets of texts and tells which addresses their finished tables answer otherwise.
 //! [`replay_text`] does the same for a schedule of the lock: one line for each atomic step of the one run that it names.
 //! `laws` says what holds of every run, however its threads ran.
@@ -21,6 +21,7 @@ mod asked_addresses;
 mod compared;
 mod faults;
 mod feed_texts;
+mod forwarding;
 pub mod laws;
 mod output;
 mod replays;
@@ -30,11 +31,11 @@ mod status;
 mod tallies;
 
 pub use asked_addresses::AskedAddresses;
-pub use compared::{DiffSummary, diff_texts};
+pub use compared::{DiffSummary, DiffTerms, diff_texts};
 pub use faults::AppFault;
 pub use feed_texts::FeedTexts;
 pub use replays::replay_text;
 pub use runs::{MOST_TEXTS, run_texts};
-pub use shown::{LookupSummary, lookup_all_texts, lookup_texts, table_texts};
+pub use shown::{LookupSummary, count_texts, lookup_all_texts, lookup_texts, table_texts};
 pub use status::Status;
 pub use tallies::{RunSummary, Tally};

@@ -1,6 +1,6 @@
 //! What is written: a run's reports and table, what its finished table says, what two tables answer otherwise, or a
 //! replay. All goes through one buffer.
-ghost use Rattle.std.specs.Prelude.{◌≡◌, ◌++◌, [], ◌<◌, ◌≤◌, true, false, length};
+ghost use Rattle.std.specs.Prelude.{◌≡◌, ◌++◌, [], ◌<◌, ◌≤◌, true, false, length, IfSome};
 ghost use Rattle.rt_cidr.specs.Output.{WritesText};
 ghost use Rattle.rt_rib.specs.declared.limits.TheConstants.{MOST_FEEDS};
 ghost use Rattle.rt_rib.specs.Book.{table_of};
@@ -10,13 +10,16 @@ ghost use Rattle.rt_run.specs.TableText.{answers_text};
 ghost use Rattle.rt_run.specs.inside.Outputs.{IsOutput, matches_text, output_text, Writes};
 ghost use Rattle.rt_run.specs.inside.Comparisons.{IsFirstOf, lines_of};
 
+use crate::compared::DiffTerms;
 use crate::faults::AppFault;
+use crate::forwarding::look_up_by;
 use rt_cidr::{Addr, OutputBuffer, OutputRoom};
-use rt_diff::{By, Comparison, Difference};
+use rt_diff::Difference;
 use rt_feed::{
-    Report, RunFault, Style, write_all_found_as, write_difference, write_found_as, write_report,
-    write_rows_as, write_table,
+    Report, RunFault, Style, write_all_found_as, write_counts_as, write_difference_as,
+    write_found_as, write_report, write_rows_as, write_table,
 };
+use rt_fib::Fib;
 use rt_rib::{Book, Route};
 use std::alloc::Global;
 use std::io::{self, Write};
@@ -38,14 +41,16 @@ pub(crate) struct Matches {
 pub(crate) enum Output<'a> {
     /// The reports, the k-th as feed k's, and then the table of these routes.
     Run(&'a [Report], &'a [Route]),
-    /// In which style, what a look-up of each address finds in the book.
-    Answers(&'a Style<'a>, &'a Book<Global>, &'a [Addr]),
+    /// In which style, what a look-up of each address finds in the book, by its forwarding table where there is one.
+    Answers(&'a Style<'a>, &'a Book<Global>, &'a Option<Fib<Global>>, &'a [Addr]),
     /// In which style, all routes that cover each address.
     Matches(&'a Style<'a>, &'a [Matches]),
-    /// What the two books' tables answer otherwise, of which this is the first.
-    Differences(&'a Book<Global>, &'a Book<Global>, By, Option<Difference>),
+    /// On which terms, what the two books' tables answer otherwise, of which this is the first.
+    Differences(&'a DiffTerms<'a>, &'a Book<Global>, &'a Book<Global>, Option<Difference>),
     /// In which style, the routes alone.
     Routes(&'a Style<'a>, &'a [Route]),
+    /// In which style, how many routes there are.
+    Counts(&'a Style<'a>, &'a [Route]),
     /// The steps of a replay, and who is inside after them.
     Replay(&'a [Step], Option<usize>),
 }
@@ -59,10 +64,11 @@ impl Output<'_> {
     {
         match self {
             Output::Run(..) => false,
-            Output::Answers(_, _, addresses) => addresses.is_empty(),
+            Output::Answers(_, _, _, addresses) => addresses.is_empty(),
             Output::Matches(_, all) => all.is_empty(),
             Output::Differences(_, _, _, first) => first.is_none(),
             Output::Routes(_, routes) => routes.is_empty(),
+            Output::Counts(..) => false,
             Output::Replay(..) => false,
         }
     }
@@ -115,10 +121,13 @@ fn write_parts<W: Write>(w: &mut W, output: Output<'_>) -> Result<(), io::Error>
 {
     match output {
         Output::Run(reports, routes) => write_run(w, reports, routes),
-        Output::Answers(style, book, addresses) => write_answers(w, style, book, addresses),
+        Output::Answers(style, book, fib, addresses) => {
+            write_answers(w, style, book, fib, addresses)
+        }
         Output::Matches(style, all) => write_matches(w, style, all),
-        Output::Differences(old, new, by, first) => write_differences(w, old, new, by, first),
+        Output::Differences(terms, old, new, first) => write_differences(w, terms, old, new, first),
         Output::Routes(style, routes) => write_rows_as(w, style, routes),
+        Output::Counts(style, routes) => write_counts_as(w, style, routes),
         Output::Replay(steps, inside) => write_replay(w, steps, inside),
     }
 }
@@ -148,14 +157,16 @@ fn write_answers<W: Write>(
     w: &mut W,
     style: &Style<'_>,
     book: &Book<Global>,
+    fib: &Option<Fib<Global>>,
     addresses: &[Addr],
 ) -> Result<(), io::Error>
+    requires { IfSome fib.now (λ fib. fib ≡ table_of book.now) }
     ensures { WritesText (W.contents w.old) (W.contents w.new) (answers_text style.now addresses.now (table_of book.now)) result }
 {
     let mut rest = addresses;
     while !rest.is_empty() {
         let (piece, behind) = rest.split_at(rest.len().min(PIECE));
-        write_piece(w, style, book, piece)?;
+        write_piece(w, style, book, fib, piece)?;
         rest = behind;
     }
     Ok(())
@@ -166,14 +177,16 @@ fn write_piece<W: Write>(
     w: &mut W,
     style: &Style<'_>,
     book: &Book<Global>,
+    fib: &Option<Fib<Global>>,
     piece: &[Addr],
 ) -> Result<(), io::Error>
+    requires fib { IfSome fib.now (λ fib. fib ≡ table_of book.now) }
     requires few { length piece.now ≤ 256 }
     ensures { WritesText (W.contents w.old) (W.contents w.new) (answers_text style.now piece.now (table_of book.now)) result }
 {
     let mut places = [None; PIECE];
     let found = &mut places[..piece.len()];
-    book.look_up(piece, found);
+    look_up_by(book, fib, piece, found);
     for (index, address) in piece.iter().enumerate() {
         write_found_as(w, style, *address, found[index])?;
     }
@@ -191,20 +204,20 @@ fn write_matches<W: Write>(w: &mut W, style: &Style<'_>, all: &[Matches]) -> Res
 }
 
 /// Writes what the tables of two books answer otherwise, of which this is the first.
-fn write_differences<W: Write>(
+fn write_differences<'a, W: Write>(
     w: &mut W,
-    old: &Book<Global>,
-    new: &Book<Global>,
-    by: By,
+    terms: &DiffTerms<'a>,
+    old: &'a Book<Global>,
+    new: &'a Book<Global>,
     first: Option<Difference>,
 ) -> Result<(), io::Error>
-    requires { IsFirstOf by (table_of old.now) (table_of new.now) first }
-    ensures { WritesText (W.contents w.old) (W.contents w.new) (lines_of by (table_of old.now) (table_of new.now)) result }
+    requires { IsFirstOf terms.now (table_of old.now) (table_of new.now) first }
+    ensures { WritesText (W.contents w.old) (W.contents w.new) (lines_of terms.now (table_of old.now) (table_of new.now)) result }
 {
-    let mut tables = Comparison::new(old, new, by);
+    let mut tables = terms.comparison(old, new);
     let mut next = first;
     while let Some(difference) = next {
-        write_difference(w, &difference)?;
+        write_difference_as(w, terms.styles(), &difference)?;
         next = tables.difference_behind(difference.last);
     }
     Ok(())

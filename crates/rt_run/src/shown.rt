@@ -5,13 +5,14 @@ ghost use Rattle.rt_rib.specs.Book.{table_of};
 ghost use Rattle.rt_feed.specs.Styles.{StyleContents};
 ghost use Rattle.rt_run.specs.AskedRun.{AskedRun};
 ghost use Rattle.rt_run.specs.RunText.{Leaves, status_where};
-ghost use Rattle.rt_run.specs.TableText.{answers_text, all_answers_text, routes_text, IsShown, IsLookup};
+ghost use Rattle.rt_run.specs.TableText.{answers_text, all_answers_text, routes_text, counts_text, IsShown, IsLookup};
 ghost use Rattle.rt_run.specs.inside.RunResults.{RunOverBook};
 ghost use Rattle.rt_run.specs.inside.Outputs.{IsOutput, matches_text, output_text};
 
 use crate::asked_addresses::{AskedAddresses, read_asked};
 use crate::faults::AppFault;
 use crate::feed_texts::FeedTexts;
+use crate::forwarding::fib_for;
 use crate::output::{Matches, Output, write_output};
 use crate::runs::{FinishedRun, run_all};
 use crate::tallies::{RunSummary, status_where};
@@ -98,6 +99,26 @@ pub fn table_texts<R: Threads + Wait + Sync, W: Write>(
     told
 }
 
+/// Runs the texts as `run_texts` does, and when all have ended writes to `w` how many of the table's routes are asked for, and to
+/// how many prefixes, of each feed and to prefixes of each length, in the style. What it gives, and its faults, are as for
+/// `lookup_texts`.
+pub fn count_texts<R: Threads + Wait + Sync, W: Write>(
+    rt: &R,
+    alloc: Global,
+    asked: &FeedTexts<'_>,
+    style: &Style<'_>,
+    selection: &Selection,
+    w: &mut W,
+) -> Result<RunSummary, AppFault>
+    ensures text { Leaves (IsShown asked.now (counts_text style.now selection.now)) (W.contents w.old) (W.contents w.new) result }
+    ensures no_text { (result ≡ Err (AppFault.Run RunFault.NoText)) ↔ (asked.now.texts ≡ []) }
+{
+    let run = run_all(rt, alloc, asked)?;
+    let told = tell_counts(alloc, &run, style, selection, w);
+    run.leave_table();
+    told
+}
+
 /// Writes what a look-up of each address finds in a run's table, and tells how much of the texts was taken.
 fn tell_answers<W: Write>(
     alloc: Global,
@@ -112,7 +133,9 @@ fn tell_answers<W: Write>(
 {
     let read = read_asked(alloc, addresses)?;
     let all = read.addresses.as_slice();
-    let taken = tell_run(alloc, run, Output::Answers(style, &run.book, all), w)?;
+    let fib = fib_for(alloc, &run.book, all.len());
+    let answers = Output::Answers(style, &run.book, &fib, all);
+    let taken = tell_run(alloc, run, answers, w)?;
     Ok(lookup_summary(taken, read.faulty))
 }
 
@@ -161,6 +184,22 @@ fn tell_routes<W: Write>(
 {
     let routes = run.book.table().select(alloc, selection)?;
     tell_run(alloc, run, Output::Routes(style, routes.as_slice()), w)
+}
+
+/// Writes how many of a run's routes are asked for, and tells how much of the texts was taken.
+fn tell_counts<W: Write>(
+    alloc: Global,
+    run: &FinishedRun,
+    style: &Style<'_>,
+    selection: &Selection,
+    w: &mut W,
+) -> Result<RunSummary, AppFault>
+    ensures text { (asked : AskedRun) → RunOverBook asked run.now.reports.items run.now.book
+        → Leaves (IsShown asked (counts_text style.now selection.now)) (W.contents w.old) (W.contents w.new) result }
+    ensures ran { result ≢ Err (AppFault.Run RunFault.NoText) }
+{
+    let routes = run.book.table().select(alloc, selection)?;
+    tell_run(alloc, run, Output::Counts(style, routes.as_slice()), w)
 }
 
 /// Writes what tells of a run's table, and tells how much of the texts was taken.

@@ -2,6 +2,7 @@
 use denote.RattleType.{RattleType}
 use denote.Param.Send.{IsSend, IsSync, sendable}
 use Rattle.std.proofs.Crossing.{send, frees}
+use Rattle.std.proofs.boxed.Box.TheSendSync as box
 use Rattle.std.proofs.option.Option.TheSendSync as option
 use Rattle.ya_lock.proofs.pass.Pass.TheSendSync as pass
 use Rattle.ya_lock.proofs.tree_lock.TreeLock.TheSendSync as lock
@@ -11,7 +12,7 @@ use Rattle.rt_shared.specs.contracts.shared_rib.FeedPass as FeedPass
 use Rattle.rt_shared.specs.contracts.shared_rib.SharedRib as SharedRib
 
 lent_send : IsSend Lent.the_row
-lent_send = search (book_send, send, frees, sendable) depth 60
+lent_send = search (book_send, box.the_send, send, frees, sendable) depth 60
 
 pub pass_send : IsSend FeedPass.the_row
 pass_send = search (lent_send, pass.the_send, option.the_field_send, sendable) depth 60

@@ -5,6 +5,7 @@ ghost use Rattle.rt_rib.specs.Sequential.{IsLawfulJournal};
 ghost use Rattle.rt_rib.specs.Book.{HoldsTable};
 ghost use Rattle.rt_rib.specs.inside.OneProof.{HoldsTable-prop};
 
+use crate::boxed_book::BoxedBook;
 use crate::outcome::Outcome;
 use rt_rib::laws::lawful_by_entry;
 use rt_rib::{AHEAD, Book, Cmd, Refused, Reply};
@@ -16,7 +17,7 @@ use ya_lock::Kept;
 /// lawful and holds exactly the routes that the journal leaves.
 #[derive(Drop)]
 pub struct Lent {
-    pub(crate) book: Book<Global>,
+    pub(crate) book: BoxedBook,
     pub(crate) feeds: u32,
     ghost lawful: { IsLawfulJournal book.limit book.journal },
     ghost holds: { HoldsTable book } by { HoldsTable-prop book },
@@ -46,18 +47,16 @@ impl Lent {
     ghost use Rattle.rt_shared.specs.inside.Visits.{AreServed};
     ghost use Rattle.rt_shared.specs.Table.{HasSameBounds};
 
-    /// An empty book for so many feeds.
-    pub(crate) fn new(alloc: Global, limit: u32, feeds: u32) -> Lent
+    /// An empty book for so many feeds. M1: `Refused` where memory was refused.
+    pub(crate) fn new(alloc: Global, limit: u32, feeds: u32) -> Result<Lent, Refused>
         requires { IsLimit limit × (feeds ≤ MOST_FEEDS) }
-        ensures limit { result.book.limit ≡ limit }
-        ensures journal { result.book.journal ≡ [] }
-        ensures feeds { result.feeds ≡ feeds }
+        ensures limit { IfOk result (λ lent. lent.book.limit ≡ limit) }
+        ensures journal { IfOk result (λ lent. lent.book.journal ≡ []) }
+        ensures feeds { IfOk result (λ lent. lent.feeds ≡ feeds) }
     {
         lawful_by_entry();
-        Lent {
-            book: Book::new(alloc, limit),
-            feeds,
-        }
+        let book = BoxedBook::new(alloc, Book::new(alloc, limit))?;
+        Ok(Lent { book, feeds })
     }
 
     /// Answers a command of the feed, as the book does.
@@ -93,7 +92,7 @@ impl Lent {
     {
         for (index, cmd) in cmds.iter().enumerate() {
             if index % AHEAD == 0 {
-                self.book.read_ahead(&cmds[index..]);
+                self.book.get().read_ahead(&cmds[index..]);
             }
             let outcome = self.serve(feed, *cmd);
             out.push_reserved(outcome);

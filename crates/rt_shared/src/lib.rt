@@ -10,6 +10,7 @@
 //! ```
 #![tactic(auto)]
 
+mod boxed_book;
 pub mod laws;
 mod lent;
 mod outcome;

@@ -108,7 +108,8 @@ impl<const L: u32> SharedRib<L> {
     {
         let feeds = Self::feeds();
         let mut feed_passes = Vec::with_capacity(alloc, feeds as usize)?;
-        let Ok((lock, passes)) = TreeLock::new(alloc, Lent::new(alloc, limit, feeds)) else {
+        let lent = Lent::new(alloc, limit, feeds)?;
+        let Ok((lock, passes)) = TreeLock::new(alloc, lent) else {
             return Err(Refused);
         };
         for pass in passes {
@@ -197,7 +198,7 @@ impl<const L: u32> SharedRib<L> {
             unreachable!()
         };
         let guard = self.lock.enter(rt, idle);
-        let routes = guard.get().book.routes(alloc);
+        let routes = guard.get().book.get().routes(alloc);
         pass.pass = Some(self.lock.leave(guard));
         routes
     }
@@ -219,7 +220,7 @@ impl<const L: u32> SharedRib<L> {
             guard = lock.confirm(guard, pass.into_idle());
         }
         let Lent { book, feeds: _ } = lock.close(guard);
-        book
+        book.into_book()
     }
 }
 

@@ -15,7 +15,7 @@ use Rattle.rt_trie.specs.Map.{Pairs, covering}
 use Rattle.rt_trie.specs.Halves.{middle}
 use Rattle.rt_trie.specs.inside.Lawful.{IsLawfulBelow}
 use Rattle.rt_trie.specs.inside.Links.{own_pair, pairs, count, IsNode, covers_to, covering_to}
-use Rattle.rt_trie.proofs.JoinedPairs.{AllKeys, AllKeys-append, AllKeys-map}
+use Rattle.rt_trie.proofs.JoinedPairs.{AllKeys, AllKeys-map}
 use Rattle.rt_trie.proofs.NodePairs.{upper_clear, lower_clear, rest_clear, sides_longer}
 use Rattle.rt_trie.proofs.LinkOrder.{sides_of}
 

@@ -1,7 +1,7 @@
 //! Lending the value at a prefix. A `&mut` that goes down a trie in a loop can't be handed out, so each step down is a
 //! type of its own, and the way down has as many steps as a trie can have levels.
 
-ghost use Rattle.std.specs.Prelude.{◌≡◌, ℕ, zero, suc};
+ghost use Rattle.std.specs.Prelude.{◌≡◌, ℕ, suc};
 ghost use Rattle.std.specs.Borrow.{sem};
 ghost use Rattle.std.specs.Option.{option_copied_mut};
 ghost use Rattle.rt_trie.specs.inside.Descent.{found};

@@ -6,15 +6,12 @@ ghost use Rattle.rt_trie.specs.Map.{pair_copied, IsLongest};
 ghost use Rattle.rt_trie.specs.inside.Lawful.{IsLawfulTrie};
 ghost use Rattle.rt_trie.specs.inside.Links.{pairs};
 
-use crate::nodes::Link;
+use crate::nodes::{Link, PLACES};
 use crate::places::{Place, step};
 use rt_cidr::{Addr, Prefix};
 use std::alloc::Allocator;
 use std::fmt;
 use std::marker::Model;
-
-/// So many places are kept: a way down through a node of each length has one at its top, and one below each node.
-const PLACES: usize = 34;
 
 /// The longest matches that a map has of one address after another. It keeps the way down of the last look-up, and takes no
 /// memory.
@@ -88,7 +85,7 @@ struct Way<'a, V, A: Allocator> {
 
 impl<'a, V, A: Allocator> Way<'a, V, A> {
     ghost use Rattle.rt_trie.specs.inside.Lawful.{IsLawfulTrie};
-    ghost use Rattle.rt_trie.specs.declared.matches.TheConstants.{PLACES};
+    ghost use Rattle.rt_trie.specs.declared.nodes.TheConstants.{PLACES};
     ghost use Rattle.rt_trie.specs.inside.Links.{pairs};
     ghost use Rattle.rt_trie.specs.inside.Places.{IsPlace, AreMatches};
 

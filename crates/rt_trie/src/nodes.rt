@@ -2,7 +2,7 @@
 //!
 //! A node's sides stand first in its memory, so which of them a way down takes is a sum and no branch.
 
-ghost use Rattle.std.specs.Prelude.{◌≡◌, ◌^◌, ◌<◌, ◌≤◌, ◌↔◌, nat_lt, if◌then◌else◌, false, IsTrue};
+ghost use Rattle.std.specs.Prelude.{◌≡◌, ◌^◌, ◌<◌, ◌≤◌, ◌↔◌, nat_lt, if◌then◌else◌, IsTrue};
 ghost use Rattle.rt_cidr.specs.declared.prefixes.Prefix.{Prefix};
 ghost use Rattle.rt_cidr.specs.Prefix.{covers, same_prefix};
 ghost use Rattle.rt_trie.specs.Halves.{middle, middle_at};
@@ -12,6 +12,9 @@ ghost use Rattle.rt_trie.specs.inside.Links.{leaf_link, fork_link, full_link, Is
 
 use rt_cidr::{Addr, Prefix, laws};
 use std::alloc::Allocator;
+
+/// So many places a way down has at most: one at its top, and one below a node of each length.
+pub(crate) const PLACES: usize = 34;
 
 /// A stored prefix with nothing below it.
 #[derive(Drop)]

@@ -7,7 +7,7 @@ ghost use Rattle.rt_trie.specs.inside.Links.{pairs};
 ghost use Rattle.rt_trie.specs.inside.References.{link_at};
 ghost use Rattle.rt_trie.specs.inside.WalkStack.{stack_pairs, IsWalkStack};
 
-use crate::nodes::{Link, NodeView};
+use crate::nodes::{Link, NodeView, PLACES};
 use crate::search::branch_within;
 use rt_cidr::Prefix;
 use std::alloc::Allocator;
@@ -19,7 +19,7 @@ use std::marker::Model;
 #[derive(Drop)]
 pub struct Walk<'a, V, A: Allocator> {
     // The links whose pairs are still to come, the next one last. A node at index k has a length of at least k.
-    stack: [&'a Link<V, A>; 34],
+    stack: [&'a Link<V, A>; PLACES],
     len: usize,
 }
 
@@ -37,7 +37,7 @@ impl<'a, V, A: Allocator> Walk<'a, V, A> {
         ensures { result ≡ pairs root.now }
     {
         Walk {
-            stack: [root; 34],
+            stack: [root; PLACES],
             len: 1,
         }
     }
@@ -50,7 +50,7 @@ impl<'a, V, A: Allocator> Walk<'a, V, A> {
         match branch_within(root, p) {
             Some(branch) => Walk::new(branch),
             None => Walk {
-                stack: [root; 34],
+                stack: [root; PLACES],
                 len: 0,
             },
         }

@@ -27,7 +27,7 @@ use Rattle.rt_cidr.specs.Laws.{HasOneNumber, HasOneText, HasOnePair, PairHasOneT
 use Rattle.rt_cidr.specs.Laws.{PairHasOneAnswer, WritesDecimal, WritesAddress, WritesPrefix, ReadsDecimalAgain}
 use Rattle.rt_cidr.specs.Laws.{ReadsAddressAgain, ReadsPrefixAgain, SamePrefix, CoversItsRange, ContainsByRange}
 use Rattle.rt_cidr.specs.Laws.{ContainsWhatItCovers, CoveringAreNested, CoveringAreSame}
-use Rattle.std.specs.Prelude.{◌^◌}
+use Rattle.std.specs.Prelude.{◌^◌, if◌then◌else◌, nat_le}
 
 -- 0.0.0.0/0, 10.0.0.0/8, 255.255.255.255/32
 abbrev pub everything : Prefix
@@ -292,8 +292,8 @@ not_bits_before_length (address, len, is, short, none) =
 pub bit_past_the_length : ReadsPrefix (codes "10.0.0.1/8") (Err Bits)
 bit_past_the_length = (167772161, 8, pair_10_0_0_1_8, omega arith, a_bit_past_the_length_is_set)
 
-the_prefix_of_a_text : (text : List ℕ) → ReadsPrefix text (Ok ten_8) → IsPrefixText text 167772160 8
-the_prefix_of_a_text text h = h
+the_prefix_of_a_text : (text : List ℕ) (p : Prefix) → ReadsPrefix text (Ok p) ↔ IsPrefixText text p.base p.len
+the_prefix_of_a_text text p = (λ h. h, λ h. h)
 
 no_pair_has_it : (text : List ℕ) → ReadsPrefix text (Err Text) → (address len : ℕ) → ¬ IsPrefixText text address len
 no_pair_has_it text h = h
@@ -306,15 +306,15 @@ its_length_is_not_but_a_bit_is_past_it :
 its_length_is_not_but_a_bit_is_past_it text h = h
 
 -- ReadsDecimal
-the_number_of_a_text : (text : List ℕ) → ReadsDecimal text (Some 7) → IsDecimal text 7 × (7 < 4294967296)
-the_number_of_a_text text h = h
+the_number_of_a_text : (text : List ℕ) (n : ℕ) → ReadsDecimal text (Some n) ↔ (IsDecimal text n × (n < 4294967296))
+the_number_of_a_text text n = (λ h. h, λ h. h)
 
 none_of_its_numbers : (text : List ℕ) → ReadsDecimal text None → (n : ℕ) → n < 4294967296 → ¬ IsDecimal text n
 none_of_its_numbers text h = h
 
 -- ReadsAddress
-the_address_of_a_text : (text : List ℕ) → ReadsAddress text (Ok (at 7)) → IsAddressText text 7
-the_address_of_a_text text h = h
+the_address_of_a_text : (text : List ℕ) (a : Addr) → ReadsAddress text (Ok a) ↔ IsAddressText text a.0
+the_address_of_a_text text a = (λ h. h, λ h. h)
 
 no_address_has_it : (text : List ℕ) → ReadsAddress text (Err Text) → (address : ℕ) → ¬ IsAddressText text address
 no_address_has_it text h = h
@@ -323,8 +323,8 @@ no_other_fault_of_an_address : (text : List ℕ) → (¬ ReadsAddress text (Err 
 no_other_fault_of_an_address text = (λ h. h, λ h. h)
 
 -- AnswersPair
-the_prefix_of_a_pair : (base len : ℕ) → AnswersPair base len (Ok ten_8) → (167772160 ≡ base) × (8 ≡ len)
-the_prefix_of_a_pair base len h = h
+the_prefix_of_a_pair : (base len : ℕ) (p : Prefix) → AnswersPair base len (Ok p) ↔ ((p.base ≡ base) × (p.len ≡ len))
+the_prefix_of_a_pair base len p = (λ h. h, λ h. h)
 
 a_pair_is_no_text : (base len : ℕ) → ¬ AnswersPair base len (Err Text)
 a_pair_is_no_text base len h = h
@@ -347,6 +347,11 @@ not_where_less_is_below_than_at_first = refl
 
 nor_where_the_writer_tells_nothing : (buffered 9 (Some []) None [] ≡ None) × (buffered 9 None (Some []) [] ≡ None) × (buffered 9 None None [] ≡ None)
 nor_where_the_writer_tells_nothing = (refl, refl, refl)
+
+whatever_is_below_and_is_held :
+    (name : ℕ) (began below held : List ℕ) → buffered name (Some began) (Some below) held
+    ≡ (if nat_le (length began) (length below) then Some (name ∷ length began ∷ (below ++ held)) else None)
+whatever_is_below_and_is_held name began below held = refl
 
 -- FitsInShortText
 as_many_bytes_as_the_room_has : (text old : List ℕ) → FitsInShortText text old → length text + length old ≤ SHORT_TEXT_BYTES

@@ -34,7 +34,8 @@ use Rattle.rt_rib.proofs.Best.{look_up_finds_best}
 use Rattle.rt_rib.proofs.Ranking.{look_up_all_finds_matches}
 use Rattle.rt_rib.proofs.OfferLists.{IsRanked-one}
 use Rattle.rt_rib.proofs.Journals.{IsTable-of_journal, IsLawfulJournal-nil, IsLawfulJournal-push}
-use Rattle.std.specs.Prelude.{◌↔◌, ◌⊎◌, ◌≤◌, ◌<◌, ◌==◌, ◌&&◌, ◌||◌, not, nat_lt, length, map, filter, slice_get}
+use Rattle.std.specs.Prelude.{◌↔◌, ◌⊎◌, ◌≤◌, ◌<◌, ◌==◌, ◌&&◌, ◌||◌, not, nat_lt, nat_le, length, map, filter, slice_get}
+use Rattle.std.specs.Option.{option_map_or}
 use Rattle.std.specs.List.{list_any, AllPairs, Contains}
 use Rattle.rt_cidr.specs.Prefix.{covers, contains}
 
@@ -112,6 +113,9 @@ not_another_feeds = refl
 
 not_to_a_longer_prefix : is_of 1 ten_8 (route ten_1_16 1 5) ≡ false
 not_to_a_longer_prefix = refl
+
+whose_route_to_which_prefix : (feed : ℕ) (prefix : Prefix) (r : Route) → is_of feed prefix r ≡ (r.feed == feed && same_prefix r.prefix prefix)
+whose_route_to_which_prefix feed prefix r = refl
 
 -- has
 has_its_own : has 64 last_32 (route ten_8 1 5 ∷ route last_32 64 5 ∷ []) ≡ true
@@ -338,6 +342,9 @@ what_each_part_asks p q = (refl, refl, refl, refl)
 of_any_feed_or_of_one : map (λ feed. is_by feed (route ten_8 2 30)) (None ∷ Some 2 ∷ Some 1 ∷ []) ≡ true ∷ true ∷ false ∷ []
 of_any_feed_or_of_one = refl
 
+of_which_feed_it_is : (feed : ℕ) (r : Route) → (is_by None r ≡ true) × (is_by (Some feed) r ≡ (r.feed == feed))
+of_which_feed_it_is feed r = (refl, refl)
+
 -- selected
 abbrev three_prefixes : List Route
 three_prefixes = route everything 2 200 ∷ route ten_8 2 30 ∷ route ten_8 1 50 ∷ route ten_1_16 1 10 ∷ route ten_1_16 2 100 ∷ []
@@ -400,6 +407,16 @@ purge_counts_its_own : reply_of 9 (route ten_8 2 5 ∷ nested) 2 Purge ≡ Purge
 unfolding reply_of
 purge_counts_its_own = refl
 
+what_each_command_is_answered :
+    (limit feed : ℕ) (table : List Route) (p : Prefix) (pref : ℕ) (hop : Hop) (a : Addr)
+    → (reply_of limit table feed (Add p pref hop) ≡ (if has feed p table then Exists else if nat_le limit (count_of feed table) then Full else Added))
+    × (reply_of limit table feed (Replace p pref hop) ≡ (if has feed p table then Replaced else Missing))
+    × (reply_of limit table feed (Withdraw p) ≡ (if has feed p table then Withdrawn else Missing))
+    × (reply_of limit table feed (Lookup a) ≡ option_map_or Found (look_up a table) NoRoute)
+    × (reply_of limit table feed Dump ≡ Dumped (length table)) × (reply_of limit table feed Purge ≡ Purged (count_of feed table))
+unfolding reply_of
+what_each_command_is_answered limit feed table p pref hop a = (refl, refl, refl, refl, refl, refl)
+
 -- table_after
 added : table_after 2 (route ten_8 1 50 ∷ []) 2 (Add ten_8 30 Discard) ≡ route ten_8 2 30 ∷ route ten_8 1 50 ∷ []
 unfolding table_after
@@ -438,6 +455,18 @@ a_dump_leaves_all = refl
 a_purge_leaves_the_other_feeds : table_after 9 (route ten_8 2 30 ∷ nested) 1 Purge ≡ route ten_8 2 30 ∷ []
 unfolding table_after
 a_purge_leaves_the_other_feeds = refl
+
+what_each_command_leaves :
+    (limit feed : ℕ) (table : List Route) (p : Prefix) (pref : ℕ) (hop : Hop) (a : Addr)
+    → (table_after limit table feed (Add p pref hop) ≡ (if has feed p table then table else if nat_le limit (count_of feed table) then table
+    else put_in (record { prefix = p; feed = feed; pref = pref; hop = hop }) table))
+    × (table_after limit table feed (Replace p pref hop) ≡ (if has feed p table
+    then put_in (record { prefix = p; feed = feed; pref = pref; hop = hop }) (take_out feed p table) else table))
+    × (table_after limit table feed (Withdraw p) ≡ (if has feed p table then take_out feed p table else table))
+    × (table_after limit table feed (Lookup a) ≡ table) × (table_after limit table feed Dump ≡ table)
+    × (table_after limit table feed Purge ≡ purge feed table)
+unfolding table_after
+what_each_command_leaves limit feed table p pref hop a = (refl, refl, refl, refl, refl, refl)
 
 -- table_of_journal
 of_no_entry : table_of_journal 9 [] ≡ []
@@ -659,6 +688,9 @@ what_a_map_is m = (λ h. (h.ordered, h.each), λ (ordered, each). record { order
 the_route_of_an_offer : route_by ten_8 (offer 2 30) ≡ route ten_8 2 30
 the_route_of_an_offer = refl
 
+the_route_of_any_offer : (p : Prefix) (o : Offer) → route_by p o ≡ record { prefix = p; feed = o.feed; pref = o.pref; hop = o.hop }
+the_route_of_any_offer p o = refl
+
 -- routes_of
 routes_prefix_by_prefix : routes_of two_prefixes ≡ route ten_8 2 30 ∷ route ten_8 1 50 ∷ route ten_1_16 1 10 ∷ []
 routes_prefix_by_prefix = refl
@@ -858,9 +890,13 @@ each_feed_stands_alone :
     → (feed_routes feed (table_of_journal limit journal) ≡ table_of_journal limit (feed_entries feed journal)) × (is_own cmd ≡ true → reply_of limit (table_of_journal limit journal) feed cmd ≡ reply_of limit (table_of_journal limit (feed_entries feed journal)) feed cmd)
 each_feed_stands_alone law = law
 
--- TableContents
+-- what contracts see of a table of one route
 abbrev table_of_one_route : TableContents
 table_of_one_route = record { limit = 2; routes = route ten_8 1 5 ∷ []; trie = one_offer }
+
+-- TableContents
+what_a_table_has : (table_of_one_route.limit ≡ 2) × (table_of_one_route.routes ≡ route ten_8 1 5 ∷ []) × (table_of_one_route.trie ≡ one_offer)
+what_a_table_has = (refl, refl, refl)
 
 -- TableState
 abbrev state_of_one_route : TableState
@@ -869,6 +905,9 @@ state_of_one_route = record { limit = 2; routes = route ten_8 1 5 ∷ [] }
 -- table_state
 state_of_the_table : table_state table_of_one_route ≡ state_of_one_route
 state_of_the_table = refl
+
+state_of_any_table : (t : TableContents) → table_state t ≡ record { limit = t.limit; routes = t.routes }
+state_of_any_table t = refl
 
 -- Serves
 what_a_served_command_does :

@@ -100,6 +100,9 @@ the_topmost = refl
 no_node_no_top : top Vacant ≡ None
 no_node_no_top = refl
 
+that_of_any_node : (q : Prefix) (valued : Bool) (left right : Tree) → top (Node q valued left right) ≡ Some q
+that_of_any_node q valued left right = refl
+
 -- size
 three_nodes : size below_ten_8 ≡ 3
 three_nodes = refl
@@ -130,9 +133,13 @@ not_on_the_other_side h = let bit = h.next_bit in cc
 no_child_of_itself : ¬ IsChildByBit ten_8 false ten_8
 no_child_of_itself h = omega (arith, h.longer)
 
-what_a_child_on_the_upper_side_is :
-    (c : Prefix) → IsChildByBit ten_8 true c → (8 < c.len) × IsTrue (contains ten_8 c) × ((c.base / 8388608) % 2 ≡ 1)
-what_a_child_on_the_upper_side_is c h = (h.longer, h.contained, h.next_bit)
+what_a_child_is :
+    (parent c : Prefix) (upper : Bool) → IsChildByBit parent upper c
+    ↔ ((parent.len < c.len) × IsTrue (contains parent c) × ((c.base / (size_of parent.len / 2)) % 2 ≡ (if upper then 1 else 0)))
+what_a_child_is parent c upper = (
+  λ h. (h.longer, h.contained, h.next_bit),
+  λ (longer, contained, next_bit). record { longer = longer; contained = contained; next_bit = next_bit },
+)
 
 -- IsLawfulAt
 two_children_without_a_value : IsLawfulAt ten_8 false (leaf ten_1_16) (leaf ten_128_9)

@@ -1,6 +1,6 @@
 -- One process: each step comes nearer to its end, and costs what was counted.
 use Rattle.std.proofs.Common.{◌≡◌, ℕ, ◌+◌, ◌-◌, ◌*◌, ◌<◌, ◌≤◌, ◌==◌, Bool, true, false, nat_lt, refl, arith, ◌⊎◌, inl}
-use Rattle.std.proofs.Common.{inr, IsTrue, Option, Some, None, List, [], ◌∷◌, ap, sym, subst}
+use Rattle.std.proofs.Common.{inr, IsTrue, Option, Some, None, sym, subst}
 use Rattle.std.proofs.lemmas.Bool.Decides.{nat_tests}
 use Rattle.ya_core.specs.declared.word.Word.{Word}
 use Rattle.ya_core.specs.declared.word.Word.TheVariants.{C, T, P}
@@ -15,7 +15,7 @@ use Rattle.ya_core.specs.Steps.{access_of, entry_access, exit_access, next_of, e
 use Rattle.ya_core.specs.Soundness.{IsProper}
 use Rattle.ya_core.proofs.Properness.{either, proper_next, within_access}
 use Rattle.ya_core.proofs.DueAccess.{due_is}
-use Rattle.ya_core.specs.WalkerModel.{MayFind, WalkLeadsTo, AccessIsWithin, Walk, IsWalk, walk, walk_after, MovesOn, due, due_of}
+use Rattle.ya_core.specs.WalkerModel.{MayFind, AccessIsWithin, Walk, IsWalk, walk, walk_after, MovesOn, due, due_of}
 use Rattle.ya_core.specs.WalkerModel.{MayBeTold, cost_of, cost_of_word, is_waiting, entry_behind, exit_behind, most_of, most_remote}
 use Rattle.ya_core.specs.WalkerModel.{ComesFurther}
 use Rattle.ya_core.specs.inside.Ahead.{points_of, entry_points, exit_points, ComesNearer}

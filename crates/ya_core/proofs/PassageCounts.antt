@@ -11,7 +11,7 @@ use Rattle.ya_core.specs.declared.process.Process.{Process}
 use Rattle.ya_core.specs.declared.process.Process.TheVariants.{Idle, Entering, Inside, Leaving}
 use Rattle.ya_core.specs.Steps.{State, StepsTo, access_of, next_of, value_of, entry_access, exit_access, entry_next, exit_next, after_entry, after_exit}
 use Rattle.ya_core.specs.Soundness.{IsProper}
-use Rattle.ya_core.specs.WalkerModel.{cost_of, entry_behind, exit_behind, most_of, most_remote, due_of, MayBeTold}
+use Rattle.ya_core.specs.WalkerModel.{cost_of, entry_behind, most_of, most_remote, due_of, MayBeTold}
 use Rattle.ya_core.specs.WalkerModel.{Walk, IsWalk, walk_after, WalkLeadsTo, BeginsEntry, BeginsExit}
 use Rattle.ya_core.specs.Fairness.{PickLeadsTo, IsRunOfSchedule}
 use Rattle.ya_core.specs.PassageCounts.{cost_of_pick, remote_accesses}

@@ -90,6 +90,7 @@ impl<'a, V: Kept + Drop, const L: u32> Passage<'a, V, L> {
         ensures inside { op_of result.walk ≡ Op.Inside }
     {
         let mut passage = self;
+        passage.write_begun();
         loop {
             passage.step();
             passage.step();
@@ -231,6 +232,20 @@ impl<'a, V: Kept + Drop, const L: u32> Passage<'a, V, L> {
             self.step();
             self.ring(rival);
         }
+    }
+
+    /// Writes the walker as it stands before the first access of an entry, so that this is known where that is compiled.
+    #[inline(always)]
+    fn write_begun(&mut self)
+        requires { BeginsEntry self.old.walk }
+        ensures same { self.new ≡ self.old }
+    {
+        // What holds of the lock is known once a field of it is looked at: that it has 1 to 6 levels.
+        let lock = self.lock;
+        let _ = &lock.table;
+        let mut walker = Walker::new(TreeLock::<V, L>::shape(), self.place);
+        walker.begin_entry();
+        self.walker = walker;
     }
 
     /// Writes the walker at the point where it stands, so that this is known where the next access is compiled.

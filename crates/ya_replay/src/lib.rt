@@ -11,9 +11,8 @@
 //! of the writer a beginning of the text was written. No call takes memory.
 #![tactic(auto)]
 
-ghost use Rattle.std.specs.Prelude.{◌≡◌, ℕ, List, ◌≤◌, ◌<◌, ◌++◌, ◌^◌, [], length, codes, decimal, OnOk, OnErr};
-ghost use Rattle.std.specs.Io.KnownBytes.{Appends};
-ghost use Rattle.rt_cidr.specs.Output.{AppendsBeginning};
+ghost use Rattle.std.specs.Prelude.{◌≡◌, ℕ, List, ◌≤◌, ◌<◌, ◌++◌, ◌^◌, length};
+ghost use Rattle.rt_cidr.specs.Output.{WritesText};
 ghost use Rattle.rt_cidr.specs.ShortText.{FitsInShortText};
 ghost use Rattle.ya_core.specs.Steps.{State, opening};
 ghost use Rattle.ya_core.specs.Machines.{ReplaysTo};
@@ -32,8 +31,7 @@ pub fn write_replay<W: Write>(
     inside: Option<usize>,
 ) -> Result<(), io::Error>
     requires numbered { length steps.now < 2 ^ 63 }
-    ensures ok { OnOk result (Appends (W.contents w.old) (W.contents w.new) (replay_text_of steps.now inside)) }
-    ensures err { OnErr result (AppendsBeginning (W.contents w.old) (W.contents w.new) (replay_text_of steps.now inside)) }
+    ensures { WritesText (W.contents w.old) (W.contents w.new) (replay_text_of steps.now inside) result }
 {
     write_steps(w, steps)?;
     write_inside(w, inside)
@@ -42,8 +40,7 @@ pub fn write_replay<W: Write>(
 /// Writes the last line.
 #[tactic(auto, using(crate::proofs::Replaying::inside_fits))]
 fn write_inside<W: Write>(w: &mut W, inside: Option<usize>) -> Result<(), io::Error>
-    ensures ok { OnOk result (Appends (W.contents w.old) (W.contents w.new) (inside_text inside)) }
-    ensures err { OnErr result (AppendsBeginning (W.contents w.old) (W.contents w.new) (inside_text inside)) }
+    ensures { WritesText (W.contents w.old) (W.contents w.new) (inside_text inside) result }
 {
     let mut text = ShortText::new();
     prepend_inside(&mut text, inside);
@@ -54,8 +51,7 @@ fn write_inside<W: Write>(w: &mut W, inside: Option<usize>) -> Result<(), io::Er
 #[tactic(auto, using(crate::proofs::Replaying::step_fits))]
 fn write_steps<W: Write>(w: &mut W, steps: &[Step]) -> Result<(), io::Error>
     requires numbered { length steps.now < 2 ^ 63 }
-    ensures ok { OnOk result (Appends (W.contents w.old) (W.contents w.new) (steps_text 1 steps.now)) }
-    ensures err { OnErr result (AppendsBeginning (W.contents w.old) (W.contents w.new) (steps_text 1 steps.now)) }
+    ensures { WritesText (W.contents w.old) (W.contents w.new) (steps_text 1 steps.now) result }
 {
     let mut text = ShortText::new();
     for (index, step) in steps.iter().enumerate() {

@@ -5,14 +5,15 @@ use Rattle.rt_rib.specs.declared.commands.Cmd.{Cmd}
 use Rattle.rt_rib.specs.declared.commands.Reply.{Reply}
 use Rattle.rt_rib.specs.declared.refused.Refused.{Refused}
 use Rattle.rt_rib.specs.Sequential.{table_of_journal}
-use Rattle.rt_rib.specs.Book.{TableState, TableContents, table_state, BookContents, Applies, Refuses}
+use Rattle.rt_rib.specs.Book.{TableState, table_state, BookContents, Applies, Refuses}
 use Rattle.rt_rib.proofs.Promised.{table_of_journal-push}
 use Rattle.yarib_c.specs.declared.held.Held.TheVariants.{Plain, Journaled}
+use Rattle.yarib_c.specs.Plain.{PlainContents}
 use Rattle.yarib_c.specs.Kinds.{IsNew, Applied, NotApplied}
 
 -- a new table that keeps no journal
-pub new_plain : (limit : ℕ) (t : TableContents) → table_state t ≡ record { limit = limit; routes = [] } → IsNew limit 0 (Plain t)
-new_plain limit t made = record {
+pub new_plain : (limit : ℕ) (p : PlainContents) → table_state p.table ≡ record { limit = limit; routes = [] } → IsNew limit 0 (Plain p)
+new_plain limit p made = record {
   limited = ap (λ (s : TableState). s.limit) made;
   empty = ap (λ (s : TableState). s.routes) made;
   journal = refl;

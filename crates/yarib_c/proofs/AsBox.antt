@@ -2,6 +2,7 @@
 use mir.Syntax.{impl, tnil, dnil}
 use mir.Raw.{raw as bare}
 use mathlib.Core.List.{[]}
+use Rattle.std.specs.Prelude.{false}
 use Rattle.rt_trie.specs.Tree.{Vacant}
 use seplogic.Ra.Ura.{Ura}
 use base.Fraction.{full_share}
@@ -46,4 +47,4 @@ module _ {M : Type 1} {𝓤 : Ura M} (𝓛 : Logic 𝓤) (a : Global) (p : Ptr) 
 
 -- what a handle that holds nothing shows
 abbrev pub nothing_held : Held
-nothing_held = Plain (record { limit = 0; routes = []; trie = record { pairs = []; nodes = 0; tree = Vacant } })
+nothing_held = Plain (record { table = record { limit = 0; routes = []; trie = record { pairs = []; nodes = 0; tree = Vacant } }; is_followed = false })

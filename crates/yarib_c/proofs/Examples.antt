@@ -1,11 +1,10 @@
 -- Examples by which the definitions of this crate are tested, each under a line with the definition's name.
-use Rattle.std.proofs.Common.{◌≡◌, ℕ, ◌+◌, Some, None, inl, inr, List, [], ◌∷◌, ◌++◌, refl, arith}
-use Rattle.std.specs.Prelude.{◌↔◌, ◌⊎◌, ◌≤◌, ◌<◌, Option, length, take, slice_get}
+use Rattle.std.proofs.Common.{◌≡◌, ℕ, suc, ◌+◌, ◌^◌, true, false, Some, None, List, [], ◌∷◌, ◌++◌, refl, arith}
+use Rattle.std.specs.Prelude.{◌↔◌, ◌≢◌, ◌⊎◌, ◌≤◌, ◌<◌, Option, length, map, take, slice_get}
 use Rattle.std.specs.Option.{option_map}
 use Rattle.std.specs.Ptr.{Ptr, null_ptr, block_ptr}
 use Rattle.rt_cidr.specs.declared.address.Addr.{Addr}
 use Rattle.rt_cidr.specs.declared.prefixes.Prefix.{Prefix}
-use Rattle.rt_trie.specs.Tree.{Vacant}
 use Rattle.rt_rib.specs.declared.routes.Hop.{Hop}
 use Rattle.rt_rib.specs.declared.routes.Hop.TheVariants.{Via, Discard}
 use Rattle.rt_rib.specs.declared.routes.Route.{Route}
@@ -15,28 +14,37 @@ use Rattle.rt_rib.specs.declared.commands.Reply.{Reply}
 use Rattle.rt_rib.specs.declared.commands.Reply.TheVariants.{Added, Exists, Full, Replaced, Withdrawn, Missing, Found, NoRoute, Dumped, Purged}
 use Rattle.rt_rib.specs.declared.commands.Entry.{Entry}
 use Rattle.rt_rib.specs.Sequential.{reply_of, table_after}
+use Rattle.rt_rib.specs.declared.selection.Part.TheVariants.{All, Within, Covering, Exact}
+use Rattle.rt_rib.specs.declared.selection.Selection.{Selection}
+use Rattle.rt_rib.specs.Selection.{selected}
 use Rattle.rt_rib.specs.LookUp.{look_up}
-use Rattle.rt_rib.specs.Book.{BookContents, OfferTrie, table_of, IsFeed}
+use Rattle.rt_rib.specs.Book.{BookContents, table_of, IsFeed}
 use Rattle.rt_diff.specs.declared.answers.By.TheVariants as by
 use Rattle.rt_diff.specs.declared.answers.By.{By}
 use Rattle.rt_diff.specs.declared.answers.Answer.TheVariants as answer
 use Rattle.rt_diff.specs.declared.differences.Difference.{Difference}
+use Rattle.rt_diff.specs.Answers.{by_own}
 use Rattle.rt_diff.specs.Differences.{IsFirstDifference}
 use Rattle.yarib_c.specs.declared.held.Held.{Held}
 use Rattle.yarib_c.specs.declared.held.Held.TheVariants.{Plain, Journaled, Forwarding}
 use Rattle.yarib_c.specs.declared.handle.Yarib.{Yarib}
 use Rattle.yarib_c.specs.declared.routes.YaribRoute.{YaribRoute}
+use Rattle.yarib_c.specs.Plain.{PlainContents}
+use Rattle.yarib_c.specs.declared.selections.YaribSelection.{YaribSelection}
 use Rattle.yarib_c.specs.declared.commands.YaribCommand.{YaribCommand}
 use Rattle.yarib_c.specs.declared.commands.YaribReply.{YaribReply}
 use Rattle.yarib_c.specs.declared.commands.YaribEntry.{YaribEntry}
 use Rattle.yarib_c.specs.declared.differences.YaribDifference.{YaribDifference}
 use Rattle.yarib_c.specs.Handle.{held_at}
-use Rattle.yarib_c.specs.Kinds.{limit_of, routes_in, journal_in, journal_from, IsNew, IsForwarding, IsSame, HasRoom, Applied, WantsMemory, NotApplied}
+use Rattle.yarib_c.specs.Kinds.{limit_of, routes_in, journal_in, journal_from, IsNew, IsForwarding, IsFollowed, IsPlain, IsSame, HasRoom, Applied, WantsMemory, NotApplied}
 use Rattle.yarib_c.specs.Forms.{hop_number, via_number, no_route, route_as, hop_as, answer_as, IsHop, IsAt, IsCommand, put_of, command_of, reply_as}
 use Rattle.yarib_c.specs.Forms.{unanswered, entry_as}
 use Rattle.yarib_c.specs.Calls.{held_in, IsOf, Holds, GoesOn, Goes, StaysSame, IsKept, Forwards, Answers, Refused, IsReason, IsUnanswered, HasOutcome}
 use Rattle.yarib_c.specs.Calls.{HaveOutcomes, addr, answers_in, PutsText}
 use Rattle.yarib_c.specs.Lists.{ShowsRoutes, ShowsEntries, ShowsJournal}
+use Rattle.yarib_c.specs.declared.sizes.TheConstants.{NODE_BYTES, ENTRY_BYTES}
+use Rattle.yarib_c.specs.Sizes.{bytes_of, TakesBytes}
+use Rattle.yarib_c.specs.Selections.{IsOutOfRange, IsTo, IsPart, feed_asked, best_number, IsSelection, ShowsSelected}
 use Rattle.yarib_c.specs.Differences.{by_number, told_as, difference_as, TellsDifference, IsAlikeFrom}
 
 -- 10.0.0.0/8, and a route to it through 192.0.2.1
@@ -49,21 +57,9 @@ router = Via (record { 0 = 3221225985 })
 abbrev one_route : Route
 one_route = record { prefix = ten_8; feed = 1; pref = 10; hop = router }
 
-abbrev no_offers : OfferTrie
-no_offers = record { pairs = []; nodes = 0; tree = Vacant }
-
-abbrev dumped : Entry
-dumped = record { feed = 3; cmd = Dump; reply = Dumped 0 }
-
--- what a handle may hold, of each kind
-abbrev plain : Held
-plain = Plain (record { limit = 2; routes = one_route ∷ []; trie = no_offers })
-
-abbrev journaled : Held
-journaled = Journaled (record { limit = 3; journal = dumped ∷ []; trie = no_offers; room = 4 })
-
-abbrev forwarding : Held
-forwarding = Forwarding (record { ptr = null_ptr; value = one_route ∷ [] })
+-- a forwarding table that answers by these routes, in memory wherever it lies
+abbrev forwards_by : Ptr → List Route → Held
+forwards_by p routes = Forwarding (record { ptr = p; value = routes })
 
 -- held_at
 null_leads_to_nothing : (held : Held) → held_at null_ptr held ≡ None
@@ -73,20 +69,26 @@ a_block_has_what_it_holds : (b o : ℕ) (held : Held) → held_at (block_ptr b o
 a_block_has_what_it_holds b o held = refl
 
 -- limit_of
-limits : (limit_of plain ≡ 2) × (limit_of journaled ≡ 3) × (limit_of forwarding ≡ 0)
-limits = (refl, refl, refl)
+limits :
+    (plain : PlainContents) (book : BookContents) (p : Ptr) (routes : List Route)
+    → (limit_of (Plain plain) ≡ plain.table.limit) × (limit_of (Journaled book) ≡ book.limit) × (limit_of (forwards_by p routes) ≡ 0)
+limits plain book p routes = (refl, refl, refl)
 
 -- routes_in
-routes_of_each_kind : (book : BookContents) → (routes_in plain ≡ one_route ∷ []) × (routes_in (Journaled book) ≡ table_of book) × (routes_in forwarding ≡ one_route ∷ [])
-routes_of_each_kind book = (refl, refl, refl)
+routes_of_each_kind :
+    (plain : PlainContents) (book : BookContents) (p : Ptr) (routes : List Route)
+    → (routes_in (Plain plain) ≡ plain.table.routes) × (routes_in (Journaled book) ≡ table_of book) × (routes_in (forwards_by p routes) ≡ routes)
+routes_of_each_kind plain book p routes = (refl, refl, refl)
 
 -- journal_in
-journals : (journal_in plain ≡ None) × (journal_in journaled ≡ Some (dumped ∷ [])) × (journal_in forwarding ≡ None)
-journals = (refl, refl, refl)
+journals :
+    (plain : PlainContents) (book : BookContents) (p : Ptr) (routes : List Route)
+    → (journal_in (Plain plain) ≡ None) × (journal_in (Journaled book) ≡ Some book.journal) × (journal_in (forwards_by p routes) ≡ None)
+journals plain book p routes = (refl, refl, refl)
 
 -- journal_from
-a_journal_where_one_is_asked_for : (journal_from 0 ≡ None) × (journal_from 1 ≡ Some [])
-a_journal_where_one_is_asked_for = (refl, refl)
+a_journal_where_one_is_asked_for : (n : ℕ) → (journal_from 0 ≡ None) × (journal_from (suc n) ≡ Some [])
+a_journal_where_one_is_asked_for n = (refl, refl)
 
 -- IsNew
 what_is_new : (limit kind : ℕ) (held : Held) → IsNew limit kind held
@@ -97,8 +99,71 @@ what_is_new limit kind held = (
 )
 
 -- IsForwarding
-one_kind_is_forwarding : IsForwarding forwarding × (¬ IsForwarding plain) × (¬ IsForwarding journaled)
-one_kind_is_forwarding = (tt, λ wrong. wrong, λ wrong. wrong)
+one_kind_is_forwarding :
+    (plain : PlainContents) (book : BookContents) (p : Ptr) (routes : List Route)
+    → IsForwarding (forwards_by p routes) × (¬ IsForwarding (Plain plain)) × (¬ IsForwarding (Journaled book))
+one_kind_is_forwarding plain book p routes = (tt, λ wrong. wrong, λ wrong. wrong)
+
+-- IsFollowed
+one_kind_may_be_followed :
+    (plain : PlainContents) (book : BookContents) (p : Ptr) (routes : List Route)
+    → (IsFollowed (Plain plain) ≡ (plain.is_followed ≡ true)) × (¬ IsFollowed (Journaled book)) × (¬ IsFollowed (forwards_by p routes))
+one_kind_may_be_followed plain book p routes = (refl, λ wrong. wrong, λ wrong. wrong)
+
+-- IsPlain
+what_keeps_no_journal_and_changes :
+    (plain : PlainContents) (book : BookContents) (p : Ptr) (routes : List Route)
+    → IsPlain (Plain plain) × (¬ IsPlain (Journaled book)) × (¬ IsPlain (forwards_by p routes))
+what_keeps_no_journal_and_changes plain book p routes = (tt, λ wrong. wrong, λ wrong. wrong)
+
+-- bytes_of
+bytes_of_a_few_and_of_too_many : (bytes_of 48 3 ≡ 144) × (bytes_of 1 (2 ^ 40 + 5) ≡ 2 ^ 40)
+bytes_of_a_few_and_of_too_many = (refl, refl)
+
+-- TakesBytes
+bytes_of_each_kind :
+    (plain : PlainContents) (book : BookContents) (p : Ptr) (routes : List Route) (bytes : ℕ)
+    → (TakesBytes (Plain plain) bytes
+    ≡ ((plain.is_followed ≡ false → bytes ≡ bytes_of NODE_BYTES plain.table.trie.nodes)
+    × (plain.is_followed ≡ true → bytes_of NODE_BYTES plain.table.trie.nodes + 2 ^ 26 ≤ bytes)))
+    × (TakesBytes (Journaled book) bytes ≡ (bytes ≡ bytes_of NODE_BYTES book.trie.nodes + bytes_of ENTRY_BYTES (length book.journal)))
+    × (TakesBytes (forwards_by p routes) bytes ≡ (2 ^ 26 ≤ bytes))
+bytes_of_each_kind plain book p routes bytes = (refl, refl, refl)
+
+-- IsOutOfRange
+numbers_that_there_are_not :
+    (c : YaribSelection) → IsOutOfRange c ≡ ((3 < c.part) ⊎ (((c.feed ≢ 0) × ¬ IsFeed c.feed) ⊎ (1 < c.only_best)))
+numbers_that_there_are_not c = refl
+
+-- IsTo
+numbers_of_an_asked_prefix : (c : YaribSelection) (p : Prefix) → IsTo c p ≡ ((p.base ≡ c.base) × (p.len ≡ c.len))
+numbers_of_an_asked_prefix c p = refl
+
+-- IsPart
+numbers_of_parts :
+    (c : YaribSelection) (p : Prefix) → (IsPart c All ≡ (c.part ≡ 0)) × (IsPart c (Within p) ≡ ((c.part ≡ 1) × IsTo c p))
+    × (IsPart c (Covering p) ≡ ((c.part ≡ 2) × IsTo c p)) × (IsPart c (Exact p) ≡ ((c.part ≡ 3) × IsTo c p))
+numbers_of_parts c p = (refl, refl, refl, refl)
+
+-- feed_asked
+a_feed_or_any : (n : ℕ) → (feed_asked 0 ≡ None) × (feed_asked (suc n) ≡ Some (suc n))
+a_feed_or_any n = (refl, refl)
+
+-- best_number
+whether_the_best_alone : (best_number false ≡ 0) × (best_number true ≡ 1)
+whether_the_best_alone = (refl, refl)
+
+-- IsSelection
+what_a_selection_is :
+    (c : YaribSelection) (s : Selection) → IsSelection c s ↔ (IsPart c s.part × (s.feed ≡ feed_asked c.feed) × (best_number s.only_best ≡ c.only_best))
+what_a_selection_is c s = (λ h. (h.part, h.feed, h.best), λ (part, feed, best). record { part = part; feed = feed; best = best })
+
+-- ShowsSelected
+what_is_shown_of_a_selection :
+    (c : YaribSelection) (routes : List Route) (skip : ℕ) (shown : List YaribRoute) (total : ℕ) → ShowsSelected c routes skip shown total
+    ↔ ((s : Selection) × IsSelection c s × ShowsRoutes (selected s routes) skip shown total)
+what_is_shown_of_a_selection c routes skip shown total =
+    (λ h. (h.asked, h.is, h.shows), λ (asked, is, shows). record { asked = asked; is = is; shows = shows })
 
 -- IsSame
 what_is_the_same : (old new : Held) → IsSame old new
@@ -109,8 +174,10 @@ what_is_the_same old new = (
 )
 
 -- HasRoom
-room_for_entries : HasRoom 4 journaled journaled × (¬ HasRoom 5 journaled journaled) × HasRoom 5 journaled plain × HasRoom 5 plain forwarding
-room_for_entries = (omega arith, λ h. omega (arith, h), tt, tt)
+room_for_entries :
+    (entries : ℕ) (old : Held) (plain : PlainContents) (book : BookContents) (p : Ptr) (routes : List Route)
+    → (HasRoom entries old (Journaled book) ≡ (entries ≤ book.room)) × HasRoom entries old (Plain plain) × HasRoom entries old (forwards_by p routes)
+room_for_entries entries old plain book p routes = (refl, tt, tt)
 
 -- Applied
 what_an_answer_leaves :
@@ -125,22 +192,23 @@ what_an_answer_leaves old new feed cmd reply = (
 
 -- WantsMemory
 what_wants_memory :
-    (cmd : Cmd) (book : BookContents) → (WantsMemory plain 1 cmd ≡ (reply_of 2 (one_route ∷ []) 1 cmd ≡ Added))
-    × (WantsMemory (Journaled book) 1 cmd ≡ ((book.room ≡ 0) ⊎ (reply_of book.limit (table_of book) 1 cmd ≡ Added)))
-    × (¬ WantsMemory forwarding 1 cmd)
-what_wants_memory cmd book = (refl, refl, λ wrong. wrong)
+    (feed : ℕ) (cmd : Cmd) (plain : PlainContents) (book : BookContents) (p : Ptr) (routes : List Route)
+    → (WantsMemory (Plain plain) feed cmd ≡ (reply_of plain.table.limit plain.table.routes feed cmd ≡ Added))
+    × (WantsMemory (Journaled book) feed cmd ≡ ((book.room ≡ 0) ⊎ (reply_of book.limit (table_of book) feed cmd ≡ Added)))
+    × (¬ WantsMemory (forwards_by p routes) feed cmd)
+what_wants_memory feed cmd plain book p routes = (refl, refl, λ wrong. wrong)
 
 -- NotApplied
 what_a_refusal_leaves : (old new : Held) (feed : ℕ) (cmd : Cmd) → NotApplied old new feed cmd ↔ (IsSame old new × WantsMemory old feed cmd)
 what_a_refusal_leaves old new feed cmd = (λ h. (h.same, h.wanted), λ (same, wanted). record { same = same; wanted = wanted })
 
 -- hop_number
-kinds_of_hops : (hop_number router ≡ 1) × (hop_number Discard ≡ 2)
-kinds_of_hops = (refl, refl)
+kinds_of_hops : (a : Addr) → (hop_number (Via a) ≡ 1) × (hop_number Discard ≡ 2)
+kinds_of_hops a = (refl, refl)
 
 -- via_number
-addresses_of_hops : (via_number router ≡ 3221225985) × (via_number Discard ≡ 0)
-addresses_of_hops = (refl, refl)
+addresses_of_hops : (a : Addr) → (via_number (Via a) ≡ a.0) × (via_number Discard ≡ 0)
+addresses_of_hops a = (refl, refl)
 
 -- no_route
 no_route_is_all_zeros : no_route ≡ record { base = 0; pref = 0; via = 0; feed = 0; len = 0; hop = 0 }
@@ -150,28 +218,37 @@ no_route_is_all_zeros = refl
 a_route_in_numbers : route_as one_route ≡ record { base = 167772160; pref = 10; via = 3221225985; feed = 1; len = 8; hop = 1 }
 a_route_in_numbers = refl
 
+any_route_in_numbers :
+    (r : Route) → route_as r
+    ≡ record { base = r.prefix.base; pref = r.pref; via = via_number r.hop; feed = r.feed; len = r.prefix.len; hop = hop_number r.hop }
+any_route_in_numbers r = refl
+
 -- hop_as
-a_hop_in_numbers :
-    (hop_as router ≡ record { base = 0; pref = 0; via = 3221225985; feed = 0; len = 0; hop = 1 })
-    × (hop_as Discard ≡ record { base = 0; pref = 0; via = 0; feed = 0; len = 0; hop = 2 })
-a_hop_in_numbers = (refl, refl)
+a_hop_in_numbers : (hop : Hop) → hop_as hop ≡ record { base = 0; pref = 0; via = via_number hop; feed = 0; len = 0; hop = hop_number hop }
+a_hop_in_numbers hop = refl
 
 -- answer_as
-an_answer_in_numbers : (answer_as None ≡ no_route) × (answer_as (Some one_route) ≡ route_as one_route)
-an_answer_in_numbers = (refl, refl)
+an_answer_in_numbers : (r : Route) → (answer_as None ≡ no_route) × (answer_as (Some r) ≡ route_as r)
+an_answer_in_numbers r = (refl, refl)
 
 -- put_of
 an_add_in_numbers : put_of 1 7 ten_8 10 router ≡ record { operation = 1; feed = 7; base = 167772160; pref = 10; via = 3221225985; len = 8; hop = 1 }
 an_add_in_numbers = refl
 
+any_route_of_a_command_in_numbers :
+    (operation feed : ℕ) (p : Prefix) (pref : ℕ) (hop : Hop) → put_of operation feed p pref hop
+    ≡ record { operation = operation; feed = feed; base = p.base; pref = pref; via = via_number hop; len = p.len; hop = hop_number hop }
+any_route_of_a_command_in_numbers operation feed p pref hop = refl
+
 -- command_of
 commands_in_numbers :
-    (command_of 7 (Add ten_8 10 router) ≡ put_of 1 7 ten_8 10 router) × (command_of 7 (Replace ten_8 10 Discard) ≡ put_of 2 7 ten_8 10 Discard)
-    × (command_of 7 (Withdraw ten_8) ≡ record { operation = 3; feed = 7; base = 167772160; pref = 0; via = 0; len = 8; hop = 0 })
-    × (command_of 7 (Lookup (record { 0 = 5 })) ≡ record { operation = 4; feed = 7; base = 5; pref = 0; via = 0; len = 0; hop = 0 })
-    × (command_of 7 Dump ≡ record { operation = 5; feed = 7; base = 0; pref = 0; via = 0; len = 0; hop = 0 })
-    × (command_of 7 Purge ≡ record { operation = 6; feed = 7; base = 0; pref = 0; via = 0; len = 0; hop = 0 })
-commands_in_numbers = (refl, refl, refl, refl, refl, refl)
+    (feed : ℕ) (p : Prefix) (pref : ℕ) (hop : Hop) (a : Addr)
+    → (command_of feed (Add p pref hop) ≡ put_of 1 feed p pref hop) × (command_of feed (Replace p pref hop) ≡ put_of 2 feed p pref hop)
+    × (command_of feed (Withdraw p) ≡ record { operation = 3; feed = feed; base = p.base; pref = 0; via = 0; len = p.len; hop = 0 })
+    × (command_of feed (Lookup a) ≡ record { operation = 4; feed = feed; base = a.0; pref = 0; via = 0; len = 0; hop = 0 })
+    × (command_of feed Dump ≡ record { operation = 5; feed = feed; base = 0; pref = 0; via = 0; len = 0; hop = 0 })
+    × (command_of feed Purge ≡ record { operation = 6; feed = feed; base = 0; pref = 0; via = 0; len = 0; hop = 0 })
+commands_in_numbers feed p pref hop a = (refl, refl, refl, refl, refl, refl)
 
 -- IsHop
 numbers_of_a_hop :
@@ -179,8 +256,8 @@ numbers_of_a_hop :
 numbers_of_a_hop c a = (refl, refl)
 
 -- IsAt
-numbers_of_a_prefix : (c : YaribCommand) → IsAt c ten_8 ≡ ((167772160 ≡ c.base) × (8 ≡ c.len))
-numbers_of_a_prefix c = refl
+numbers_of_a_prefix : (c : YaribCommand) (p : Prefix) → IsAt c p ≡ ((p.base ≡ c.base) × (p.len ≡ c.len))
+numbers_of_a_prefix c p = refl
 
 -- IsCommand
 numbers_of_commands :
@@ -193,29 +270,30 @@ numbers_of_commands c p pref hop a = (refl, refl, refl, refl, refl, refl)
 
 -- reply_as
 replies_in_numbers :
-    (reply_as Added ≡ record { code = 1; count = 0; route = no_route }) × (reply_as Exists ≡ record { code = 2; count = 0; route = no_route })
+    (r : Route) (n : ℕ)
+    → (reply_as Added ≡ record { code = 1; count = 0; route = no_route }) × (reply_as Exists ≡ record { code = 2; count = 0; route = no_route })
     × (reply_as Full ≡ record { code = 3; count = 0; route = no_route }) × (reply_as Replaced ≡ record { code = 4; count = 0; route = no_route })
     × (reply_as Withdrawn ≡ record { code = 5; count = 0; route = no_route }) × (reply_as Missing ≡ record { code = 6; count = 0; route = no_route })
-    × (reply_as (Found one_route) ≡ record { code = 7; count = 0; route = route_as one_route })
+    × (reply_as (Found r) ≡ record { code = 7; count = 0; route = route_as r })
     × (reply_as NoRoute ≡ record { code = 8; count = 0; route = no_route })
-    × (reply_as (Dumped 12) ≡ record { code = 9; count = 12; route = no_route }) × (reply_as (Purged 12) ≡ record { code = 10; count = 12; route = no_route })
-replies_in_numbers = (refl, refl, refl, refl, refl, refl, refl, refl, refl, refl)
+    × (reply_as (Dumped n) ≡ record { code = 9; count = n; route = no_route }) × (reply_as (Purged n) ≡ record { code = 10; count = n; route = no_route })
+replies_in_numbers r n = (refl, refl, refl, refl, refl, refl, refl, refl, refl, refl)
 
 -- unanswered
-no_reply_in_numbers : unanswered 4 ≡ record { code = 0; count = 4; route = no_route }
-no_reply_in_numbers = refl
+no_reply_in_numbers : (status : ℕ) → unanswered status ≡ record { code = 0; count = status; route = no_route }
+no_reply_in_numbers status = refl
 
 -- entry_as
-an_entry_in_numbers : entry_as dumped ≡ record { command = command_of 3 Dump; reply = reply_as (Dumped 0) }
-an_entry_in_numbers = refl
+an_entry_in_numbers : (e : Entry) → entry_as e ≡ record { command = command_of e.feed e.cmd; reply = reply_as e.reply }
+an_entry_in_numbers e = refl
 
 -- held_in
 what_a_handle_holds : (y : Yarib) → held_in y ≡ held_at y.at y.held
 what_a_handle_holds y = refl
 
 -- IsOf
-what_is_so_of_something : IsOf (Some plain) (λ held. limit_of held ≡ 2) × (¬ IsOf None (λ held. limit_of held ≡ 2))
-what_is_so_of_something = (refl, λ wrong. wrong)
+what_is_so_of_something : (held : Held) (Is : Held → Type 0) → (IsOf (Some held) Is ≡ Is held) × (¬ IsOf None Is)
+what_is_so_of_something held Is = (refl, λ wrong. wrong)
 
 -- Holds
 what_is_so_of_what_is_held : (y : Yarib) (Is : Held → Type 0) → Holds y Is ≡ IsOf (held_in y) Is
@@ -296,13 +374,13 @@ outcomes_one_after_another :
 outcomes_one_after_another old new c r cs rs = (refl, λ wrong. wrong, λ wrong. wrong, refl)
 
 -- addr
-an_address : addr 5 ≡ record { 0 = 5 }
-an_address = refl
+an_address : (a : ℕ) → addr a ≡ record { 0 = a }
+an_address a = refl
 
 -- answers_in
 an_answer_for_each_address :
-    (routes : List Route) → answers_in routes (5 ∷ 6 ∷ []) ≡ answer_as (look_up (addr 5) routes) ∷ answer_as (look_up (addr 6) routes) ∷ []
-an_answer_for_each_address routes = refl
+    (routes : List Route) (addresses : List ℕ) → answers_in routes addresses ≡ map (λ a. answer_as (look_up (addr a) routes)) addresses
+an_answer_for_each_address routes addresses = refl
 
 -- PutsText
 where_a_text_stands : (bytes text : List ℕ) (used : ℕ) → PutsText bytes text used ↔ ((used ≤ length text) × (take used text ≡ bytes))
@@ -334,19 +412,17 @@ ways_to_tell_apart = (refl, refl)
 
 -- told_as
 answers_in_numbers :
-    (told_as answer.NoRoute ≡ no_route) × (told_as (answer.Hop router) ≡ hop_as router) × (told_as (answer.Route one_route) ≡ route_as one_route)
-answers_in_numbers = (refl, refl, refl)
+    (hop : Hop) (r : Route) → (told_as answer.NoRoute ≡ no_route) × (told_as (answer.Hop hop) ≡ hop_as hop) × (told_as (answer.Route r) ≡ route_as r)
+answers_in_numbers hop r = (refl, refl, refl)
 
 -- difference_as
-a_range_in_numbers :
-    difference_as (record { first = record { 0 = 5 }; last = record { 0 = 6 }; old = answer.NoRoute; new = answer.Hop Discard })
-    ≡ record { first = 5; last = 6; before = no_route; after = hop_as Discard }
-a_range_in_numbers = refl
+a_range_in_numbers : (d : Difference) → difference_as d ≡ record { first = d.first.0; last = d.last.0; before = told_as d.old; after = told_as d.new }
+a_range_in_numbers d = refl
 
 -- TellsDifference
 what_a_told_difference_is :
     (number : ℕ) (old new : List Route) (from : ℕ) (told : YaribDifference) → TellsDifference number old new from told
-    ↔ ((way : By) × (by_number way ≡ number) × (range : Difference) × IsFirstDifference way old new (addr from) (Some range) × (told ≡ difference_as range))
+    ↔ ((way : By) × (by_number way ≡ number) × (range : Difference) × IsFirstDifference way (by_own old) (by_own new) (addr from) (Some range) × (told ≡ difference_as range))
 what_a_told_difference_is number old new from told = (
   λ h. (h.way, h.way_is, h.range, h.is_first, h.is),
   λ (way, way_is, range, is_first, is). record { way = way; way_is = way_is; range = range; is_first = is_first; is = is },
@@ -355,7 +431,7 @@ what_a_told_difference_is number old new from told = (
 -- IsAlikeFrom
 what_is_alike :
     (number : ℕ) (old new : List Route) (from : ℕ) → IsAlikeFrom number old new from
-    ↔ ((way : By) × (by_number way ≡ number) × IsFirstDifference way old new (addr from) None)
+    ↔ ((way : By) × (by_number way ≡ number) × IsFirstDifference way (by_own old) (by_own new) (addr from) None)
 what_is_alike number old new from = (
   λ h. (h.way, h.way_is, h.is_first),
   λ (way, way_is, is_first). record { way = way; way_is = way_is; is_first = is_first },

@@ -1,5 +1,6 @@
 pub mod AnsweredCommands
 pub mod AsBox
+pub mod Beside
 pub mod Crossing
 mod Examples
 pub mod Outcomes

@@ -6,6 +6,7 @@ use Rattle.rt_diff.specs.declared.answers.By.TheVariants as by
 use Rattle.rt_diff.specs.declared.answers.Answer.{Answer}
 use Rattle.rt_diff.specs.declared.answers.Answer.TheVariants as answer
 use Rattle.rt_diff.specs.declared.differences.Difference.{Difference}
+use Rattle.rt_diff.specs.Answers.{by_own}
 use Rattle.rt_diff.specs.Differences.{IsFirstDifference}
 use Rattle.yarib_c.specs.declared.routes.YaribRoute.{YaribRoute}
 use Rattle.yarib_c.specs.declared.differences.YaribDifference.{YaribDifference}
@@ -32,11 +33,11 @@ pub record TellsDifference (number : ℕ) (old new : List Route) (from : ℕ) (t
   pub way : By
   pub way_is : by_number way ≡ number
   pub range : Difference
-  pub is_first : IsFirstDifference way old new (addr from) (Some range)
+  pub is_first : IsFirstDifference way (by_own old) (by_own new) (addr from) (Some range)
   pub is : told ≡ difference_as range
 
 -- there is none
 pub record IsAlikeFrom (number : ℕ) (old new : List Route) (from : ℕ) : Type 0 where
   pub way : By
   pub way_is : by_number way ≡ number
-  pub is_first : IsFirstDifference way old new (addr from) None
+  pub is_first : IsFirstDifference way (by_own old) (by_own new) (addr from) None

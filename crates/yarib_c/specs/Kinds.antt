@@ -1,5 +1,5 @@
 -- What a handle may hold, as a table: its limit, its routes, and its journal where it keeps one.
-use Rattle.std.specs.Prelude.{◌≡◌, ℕ, zero, suc, ◌≤◌, ◌⊎◌, List, Option, Some, None, [], ◌∷◌, ◌++◌}
+use Rattle.std.specs.Prelude.{◌≡◌, ℕ, zero, suc, true, ◌≤◌, ◌⊎◌, List, Option, Some, None, [], ◌∷◌, ◌++◌}
 use Rattle.std.specs.Option.{option_map}
 use Rattle.rt_rib.specs.declared.routes.Route.{Route}
 use Rattle.rt_rib.specs.declared.commands.Cmd.{Cmd}
@@ -13,19 +13,19 @@ use Rattle.yarib_c.specs.declared.held.Held.TheVariants.{Plain, Journaled, Forwa
 
 -- how many routes a feed may have: none in a table that changes no more
 abbrev pub limit_of : Held → ℕ
-limit_of (Plain table) = table.limit
+limit_of (Plain plain) = plain.table.limit
 limit_of (Journaled book) = book.limit
 limit_of (Forwarding fib) = 0
 
 -- the routes by which it answers
 abbrev pub routes_in : Held → List Route
-routes_in (Plain table) = table.routes
+routes_in (Plain plain) = plain.table.routes
 routes_in (Journaled book) = table_of book
 routes_in (Forwarding fib) = fib.value
 
 -- the journal, where it keeps one
 abbrev pub journal_in : Held → Option (List Entry)
-journal_in (Plain table) = None
+journal_in (Plain plain) = None
 journal_in (Journaled book) = Some book.journal
 journal_in (Forwarding fib) = None
 
@@ -42,9 +42,21 @@ pub record IsNew (limit kind : ℕ) (held : Held) : Type 0 where
 
 -- it is a forwarding table, which changes no more
 abbrev pub IsForwarding : Held → Type 0
-IsForwarding (Plain table) = ⊥
+IsForwarding (Plain plain) = ⊥
 IsForwarding (Journaled book) = ⊥
 IsForwarding (Forwarding fib) = Unit {0}
+
+-- it is a table beside which a forwarding table follows its commands
+abbrev pub IsFollowed : Held → Type 0
+IsFollowed (Plain plain) = plain.is_followed ≡ true
+IsFollowed (Journaled book) = ⊥
+IsFollowed (Forwarding fib) = ⊥
+
+-- it is a table that keeps no journal
+abbrev pub IsPlain : Held → Type 0
+IsPlain (Plain plain) = Unit {0}
+IsPlain (Journaled book) = ⊥
+IsPlain (Forwarding fib) = ⊥
 
 -- limit, routes and journal are as they were
 pub record IsSame (old new : Held) : Type 0 where
@@ -54,7 +66,7 @@ pub record IsSame (old new : Held) : Type 0 where
 
 -- where it keeps a journal, that has room for so many entries
 abbrev pub HasRoom : ℕ → Held → Held → Type 0
-HasRoom entries old (Plain table) = Unit {0}
+HasRoom entries old (Plain plain) = Unit {0}
 HasRoom entries old (Journaled book) = entries ≤ book.room
 HasRoom entries old (Forwarding fib) = Unit {0}
 
@@ -68,7 +80,7 @@ pub record Applied (old new : Held) (feed : ℕ) (cmd : Cmd) (reply : Reply) : T
 
 -- the command wants memory: it puts a route in, or its entry has no room in the journal
 abbrev pub WantsMemory : Held → ℕ → Cmd → Type 0
-WantsMemory (Plain table) feed cmd = reply_of table.limit table.routes feed cmd ≡ Added
+WantsMemory (Plain plain) feed cmd = reply_of plain.table.limit plain.table.routes feed cmd ≡ Added
 WantsMemory (Journaled book) feed cmd = (book.room ≡ 0) ⊎ (reply_of book.limit (table_of book) feed cmd ≡ Added)
 WantsMemory (Forwarding fib) feed cmd = ⊥
 

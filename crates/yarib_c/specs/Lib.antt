@@ -1,7 +1,10 @@
 pub mod Handle
+pub mod Plain
 pub mod Kinds
 pub mod Forms
 pub mod Calls
 pub mod Lists
+pub mod Selections
+pub mod Sizes
 pub mod Differences
 pub mod inside

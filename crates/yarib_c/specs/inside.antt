@@ -1,4 +1,6 @@
 -- What no public clause speaks of: the words of private contracts, of invariants and of proofs.
+pub mod Beside
+pub mod Parts
 pub mod Places
 pub mod Owned
 pub mod Tables

@@ -1,7 +1,9 @@
-//! Forwarding tables: made of a table, asked like one, and held by as many handles as there are threads that ask.
-ghost use Rattle.std.specs.Prelude.{◌≡◌, ◌≢◌, ◌≤◌, ◌^◌, ◌⊎◌, None};
-ghost use Rattle.yarib_c.specs.Kinds.{routes_in, IsForwarding};
-ghost use Rattle.yarib_c.specs.Calls.{held_in, Holds, Forwards};
+//! Forwarding tables: made of a table, asked like one, and held by as many handles as there are threads that ask; or beside a
+//! table, whose commands they follow.
+ghost use Rattle.std.specs.Prelude.{◌≡◌, ◌≢◌, ◌⊎◌, None};
+ghost use Rattle.yarib_c.specs.Kinds.{routes_in, IsForwarding, IsFollowed, IsPlain, IsSame};
+ghost use Rattle.yarib_c.specs.Sizes.{TakesBytes};
+ghost use Rattle.yarib_c.specs.Calls.{held_in, Holds, Forwards, IsKept};
 
 use crate::handle::Yarib;
 use crate::held::Held;
@@ -88,35 +90,53 @@ fn share(alloc: Global, held: &Held, other: &mut Yarib) -> u32
     DONE
 }
 
-/// How many bytes a forwarding table takes, all its handles together.
+/// Makes a forwarding table beside a table that keeps no journal, where there is none yet: it follows each command from then on, and
+/// look-ups are by it. Where a command finds no memory for that, it goes again, and look-ups are by the table.
 #[unsafe(no_mangle)]
-pub extern "C" fn yarib_memory(alloc: Global, forwarding: &mut Yarib, bytes: &mut usize) -> u32
-    ensures done { result ≡ 0 → 2 ^ 26 ≤ bytes.new }
-    ensures same { held_in forwarding.new ≡ held_in forwarding.old }
-    ensures absent { result ≡ 1 → held_in forwarding.old ≡ None }
-    ensures kind { result ≡ 10 → Holds forwarding.old (λ held. ¬ IsForwarding held) }
-    ensures silent { result ≢ 0 → bytes.new ≡ bytes.old }
-    ensures known { (result ≡ 0) ⊎ ((result ≡ 1) ⊎ (result ≡ 10)) }
+pub extern "C" fn yarib_follow(alloc: Global, table: &mut Yarib) -> u32
+    ensures done { result ≡ 0 → Holds table.new IsFollowed }
+    ensures kept { IsKept table.old table.new }
+    ensures absent { result ≡ 1 → held_in table.old ≡ None }
+    ensures kind { result ≡ 10 → Holds table.old (λ held. ¬ IsPlain held) }
+    ensures known { (result ≡ 0) ⊎ ((result ≡ 1) ⊎ ((result ≡ 4) ⊎ (result ≡ 10))) }
 {
-    let Some(held) = forwarding.take(alloc) else {
+    let Some(mut held) = table.take(alloc) else {
         return NOTHING;
     };
-    let status = memory(&held, bytes);
-    *forwarding = Yarib::of(held);
+    let status = follow(alloc, &mut held);
+    *table = Yarib::of(held);
     status
 }
 
-fn memory(held: &Held, bytes: &mut usize) -> u32
-    ensures done { result ≡ 0 → 2 ^ 26 ≤ bytes.new }
-    ensures kind { result ≡ 10 → ¬ IsForwarding held.now }
-    ensures silent { result ≢ 0 → bytes.new ≡ bytes.old }
-    ensures known { (result ≡ 0) ⊎ (result ≡ 10) }
+fn follow(alloc: Global, held: &mut Held) -> u32
+    ensures done { result ≡ 0 → IsFollowed held.new }
+    ensures same { IsSame held.old held.new }
+    ensures kind { result ≡ 10 → ¬ IsPlain held.old }
+    ensures known { (result ≡ 0) ⊎ ((result ≡ 4) ⊎ (result ≡ 10)) }
 {
-    match held {
-        Held::Forwarding(fib) => {
-            *bytes = fib.memory();
-            DONE
-        }
-        Held::Plain(_) | Held::Journaled(_) => WRONG_KIND,
+    let Held::Plain(plain) = held else {
+        return WRONG_KIND;
+    };
+    match plain.follow(alloc) {
+        Ok(()) => DONE,
+        Err(_) => NO_MEMORY,
     }
+}
+
+/// How many bytes a forwarding table takes, all its handles together; of a table about how many: those of its trie's nodes, of its
+/// journal's entries, and of a forwarding table beside it.
+#[unsafe(no_mangle)]
+pub extern "C" fn yarib_memory(alloc: Global, table: &mut Yarib, bytes: &mut usize) -> u32
+    ensures done { result ≡ 0 → Holds table.old (λ held. TakesBytes held bytes.new) }
+    ensures same { held_in table.new ≡ held_in table.old }
+    ensures absent { result ≡ 1 → held_in table.old ≡ None }
+    ensures silent { result ≢ 0 → bytes.new ≡ bytes.old }
+    ensures known { (result ≡ 0) ⊎ (result ≡ 1) }
+{
+    let Some(held) = table.take(alloc) else {
+        return NOTHING;
+    };
+    *bytes = held.bytes();
+    *table = Yarib::of(held);
+    DONE
 }

@@ -2,8 +2,11 @@
 ghost use Rattle.std.specs.Prelude.{◌≡◌, ◌<◌, ◌≤◌, MatchOption, MatchResult, OnOk};
 ghost use Rattle.rt_rib.specs.Book.{IsLimit, IsFeed};
 ghost use Rattle.yarib_c.specs.Kinds.{IsForwarding, IsNew, IsSame, HasRoom, Applied, NotApplied};
+ghost use Rattle.yarib_c.specs.Sizes.{TakesBytes};
 ghost use Rattle.yarib_c.specs.inside.Tables.{IsTableOf};
 
+use crate::plain::PlainTable;
+use crate::sizes::{entry_bytes, node_bytes};
 use rt_fib::Fib;
 use rt_rib::{Book, Cmd, Refused, Reply, Table};
 use std::alloc::Global;
@@ -12,8 +15,8 @@ use std::sync::Arc;
 /// What a handle holds.
 #[derive(Drop)]
 pub enum Held {
-    /// A table that keeps no journal.
-    Plain(Table<Global>),
+    /// A table that keeps no journal, and where that is asked for a forwarding table beside it.
+    Plain(PlainTable),
     /// A table that keeps a journal of all that it answered.
     Journaled(Book<Global>),
     /// What a table answered each address when this was made. It changes no more, and several handles may hold it.
@@ -37,7 +40,7 @@ impl Held {
         requires { IsLimit limit }
         ensures { IsNew limit 0 result }
     {
-        Held::Plain(Table::new(alloc, limit))
+        Held::Plain(PlainTable::new(alloc, limit))
     }
 
     fn journaled(alloc: Global, limit: u32) -> Held
@@ -52,7 +55,7 @@ impl Held {
         ensures { MatchOption result (IsForwarding self.now) (λ table. IsTableOf self.now table.now) }
     {
         match self {
-            Held::Plain(table) => Some(table),
+            Held::Plain(plain) => Some(plain.table()),
             Held::Journaled(book) => Some(book.table()),
             Held::Forwarding(_) => None,
         }
@@ -65,7 +68,7 @@ impl Held {
             (λ reply. Applied self.old self.new feed cmd reply) (λ _. NotApplied self.old self.new feed cmd)) }
     {
         match self {
-            Held::Plain(table) => Some(table.apply(feed, cmd)),
+            Held::Plain(plain) => Some(plain.apply(feed, cmd)),
             Held::Journaled(book) => Some(book.apply(feed, cmd)),
             Held::Forwarding(_) => None,
         }
@@ -79,6 +82,19 @@ impl Held {
         match self {
             Held::Journaled(book) => book.reserve(entries),
             Held::Plain(_) | Held::Forwarding(_) => Ok(()),
+        }
+    }
+
+    /// About how many bytes it takes.
+    pub(crate) fn bytes(&self) -> usize
+        ensures { TakesBytes self.now result }
+    {
+        match self {
+            Held::Plain(plain) => plain.bytes(),
+            Held::Journaled(book) => {
+                node_bytes(book.nodes()) + entry_bytes(book.journal().len())
+            }
+            Held::Forwarding(fib) => fib.memory(),
         }
     }
 }

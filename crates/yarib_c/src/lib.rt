@@ -20,8 +20,11 @@ mod held;
 mod lists;
 mod lookups;
 mod loose;
+mod plain;
 mod questions;
 mod routes;
+mod selections;
+mod sizes;
 mod status;
 mod texts;
 
@@ -29,4 +32,5 @@ pub use commands::{YaribCommand, YaribEntry, YaribReply};
 pub use differences::YaribDifference;
 pub use handle::Yarib;
 pub use routes::YaribRoute;
+pub use selections::YaribSelection;
 pub use texts::YaribPrefix;

@@ -69,7 +69,7 @@ fn look_up(held: &Held, addresses: &[Addr], answers: &mut [Option<Route>])
     ensures { answers.new ≡ map (λ addr. look_up addr (routes_in held.now)) addresses.now }
 {
     match held {
-        Held::Plain(table) => table.look_up(addresses, answers),
+        Held::Plain(plain) => plain.look_up(addresses, answers),
         Held::Journaled(book) => book.look_up(addresses, answers),
         Held::Forwarding(fib) => fib.look_up_each(addresses, answers),
     }

@@ -67,7 +67,7 @@ pub fn run_several<R: Threads + Wait + Sync + Print>(
     println!(rt; "three feeds in batches of {batch}")?;
     match run_feeds(rt, alloc, texts.as_slice(), batch, feeds.as_mut_slice()) {
         Ok(()) => println!(rt; "all were run")?,
-        Err(fault) => println!(rt; "fault {fault}")?,
+        Err(fault) => println!(rt; "{fault}")?,
     }
     for (place, feed) in feeds.iter().enumerate() {
         tell(rt, place + 1, feed.report.as_ref(), &feed.gate)?;

@@ -5,9 +5,9 @@ use test_support::misshown;
 
 /// Each fault of a run, its text and its name.
 static RUN_FAULTS: [(RunFault, &str, &str); 3] = [
-    (RunFault::NoText, "F1", "NoText"),
-    (RunFault::FeedCount, "F2", "FeedCount"),
-    (RunFault::Memory, "F3", "Memory"),
+    (RunFault::NoText, "fault F1", "NoText"),
+    (RunFault::FeedCount, "fault F2", "FeedCount"),
+    (RunFault::Memory, "fault F3", "Memory"),
 ];
 
 /// Each fault of a line, its text and its name.
@@ -55,7 +55,7 @@ static LINE_FAULTS: [(LineFault, &str, &str); 8] = [
 ];
 
 /// Fails where `Display` or `Debug` shows another text for a `RunFault` or a `LineFault`.
-/// Fails where F2 shows `F1`, or E8 tells of 127 bytes.
+/// Fails where F2 shows `fault F1`, or E8 tells of 127 bytes.
 #[test]
 fn faults_have_their_texts(rt: HostRuntime) {
     assert!(rt; misshown(rt.alloc(), &RUN_FAULTS) == Ok(None));

@@ -1,4 +1,6 @@
-//! A reader of a forwarding table beside the writer that publishes the next ones.
+//! Readers of a forwarding table beside the writer that publishes the next ones.
+mod beside;
+
 use super::around;
 use fib_readers::{FibReader, FibReading, FibWriter};
 use rt_cidr::Addr;

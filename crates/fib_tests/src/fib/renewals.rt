@@ -2,7 +2,7 @@
 ghost use Rattle.std.specs.Prelude.{◌≡◌};
 ghost use Rattle.rt_rib.specs.Book.{table_of, IsFeed};
 
-use super::{any_cmd, assert_of_book};
+use super::{any_cmd, assert_answers, assert_of_book};
 use rt_fib::Fib;
 use rt_fib::laws::commands_keep_outside;
 use rt_rib::{Book, Cmd};
@@ -51,21 +51,41 @@ fn assert_small(rt: &impl Abort, alloc: Global, book: &Book<Global>, fib: &Fib<G
     assert!(rt; fib.memory() <= new.memory().saturating_mul(2));
 }
 
-/// Changes a book, and after each five thousand commands compares the table that followed them with the book's routes, and
-/// its memory with that of a new one.
-fn change(rt: &impl Abort, alloc: Global, count: u32) {
+/// Changes a book in so many rounds of so many commands, and after each round compares the table that followed them with the
+/// book's routes, and its memory with that of a new one.
+fn change(rt: &impl Abort, alloc: Global, rounds: u32, commands: u32) {
     let mut dice = Dice(3);
     let mut book = Book::new(alloc, 1_000_000);
     let mut fib = Fib::new(alloc, &book).expect(rt, "memory");
-    'rounds: for _round in 0..count {
-        follow_many(rt, &mut dice, &mut book, &mut fib, 5_000);
+    'rounds: for _round in 0..rounds {
+        follow_many(rt, &mut dice, &mut book, &mut fib, commands);
         assert_of_book(rt, alloc, &fib, &book);
         assert_small(rt, alloc, &book, &fib);
     }
 }
 
-/// Fails where a table that follows its book is never built anew.
 #[test]
 fn follows_a_hundred_thousand_commands(rt: HostRuntime) {
-    change(&rt, rt.alloc(), 20);
+    change(&rt, rt.alloc(), 20, 5_000);
+}
+
+/// Fails where a table that follows its book is never built anew.
+#[test]
+fn takes_little_memory_over_a_million_commands(rt: HostRuntime) {
+    change(&rt, rt.alloc(), 20, 50_000);
+}
+
+/// Fails where a copy follows with the table that it was made of, or leaves out a block.
+#[test]
+fn a_copy_stays(rt: HostRuntime) {
+    let alloc = rt.alloc();
+    let mut dice = Dice(7);
+    let mut book = Book::new(alloc, 1_000_000);
+    let mut fib = Fib::new(alloc, &book).expect(&rt, "memory");
+    follow_many(&rt, &mut dice, &mut book, &mut fib, 1_000);
+    let routes = book.routes(alloc).expect(&rt, "memory");
+    let copy = fib.copy(alloc, &book).expect(&rt, "memory");
+    follow_many(&rt, &mut dice, &mut book, &mut fib, 1_000);
+    assert_answers(&rt, &copy, &routes);
+    assert_of_book(&rt, alloc, &fib, &book);
 }

@@ -1,10 +1,12 @@
 //! `diff`: which addresses the tables of two sets of feed files answer otherwise, and what of the files was not taken.
 
 use super::showing::tell_summary;
+use super::styles::{form_of, side_labels};
 use super::{Program, Stop};
 use command_line::{Compared, DiffRequest};
 use rt_diff::By;
-use rt_run::{DiffSummary, FeedTexts, diff_texts};
+use rt_feed::SideStyles;
+use rt_run::{DiffSummary, DiffTerms, FeedTexts, diff_texts};
 use std::io::Write;
 use std::rt::Files;
 use std::sync::Wait;
@@ -19,6 +21,7 @@ where
     /// Tells which addresses the tables of the old files and of the new ones answer otherwise.
     pub(super) fn compare<'w>(&mut self, request: &DiffRequest<'w>) -> Result<u8, Stop<'w>> {
         let (old_names, new_names) = (request.run.files.as_slice(), request.new_files.as_slice());
+        let labels = side_labels(self.alloc, request.telling, old_names, new_names)?;
         let old_texts = self.read_feeds(old_names)?;
         let new_texts = self.read_feeds(new_names)?;
         let (limit, batch) = (request.run.limit, request.run.batch as usize);
@@ -28,10 +31,13 @@ where
             Compared::Hops => By::Hop,
             Compared::Routes => By::Route,
         };
+        let form = form_of(request.telling);
+        let styles = SideStyles::new(form, labels.old.as_slice(), labels.new.as_slice());
+        let terms = DiffTerms::new(by, labels.new_numbers.as_slice(), &styles);
         let feeds = old_asked.count() + new_asked.count();
         let mut out = self.screen.beside(feeds, self.out);
         let DiffSummary { status, old, new } = diff_texts(
-            self.rt, self.alloc, &old_asked, &new_asked, by, &mut out,
+            self.rt, self.alloc, &old_asked, &new_asked, &terms, &mut out,
         )?;
         tell_summary(&mut self.screen, old_names, &old);
         tell_summary(&mut self.screen, new_names, &new);

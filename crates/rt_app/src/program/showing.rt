@@ -8,8 +8,8 @@ use rt_cidr::{Addr, Prefix};
 use rt_feed::Style;
 use rt_rib::{Part, Selection};
 use rt_run::{
-    AppFault, AskedAddresses, FeedTexts, LookupSummary, RunSummary, lookup_all_texts, lookup_texts,
-    table_texts,
+    AppFault, AskedAddresses, FeedTexts, LookupSummary, RunSummary, count_texts, lookup_all_texts,
+    lookup_texts, table_texts,
 };
 use std::alloc::Global;
 use std::io::Write;
@@ -47,7 +47,7 @@ where
         Ok(told.status)
     }
 
-    /// Lists the routes that are asked for.
+    /// Lists the routes that are asked for, or tells how many these are.
     pub(super) fn show_routes<'w>(&mut self, request: &TableRequest<'w>) -> Result<u8, Stop<'w>> {
         let run = &request.run;
         let selection = selection_of(request)?;
@@ -55,8 +55,7 @@ where
         let texts = self.read_feeds(run.files.as_slice())?;
         let asked = FeedTexts::new(texts.as_slice(), run.limit, run.batch as usize);
         let style = Style::new(form_of(request.telling), labels.as_slice());
-        let mut out = self.screen.beside(asked.count(), self.out);
-        let summary = table_texts(self.rt, self.alloc, &asked, &style, &selection, &mut out)?;
+        let summary = self.list(request, &asked, &style, &selection)?;
         tell_summary(&mut self.screen, run.files.as_slice(), &summary);
         Ok(summary.status)
     }
@@ -77,6 +76,23 @@ impl<R: Threads + Wait + Sync, O: Write, E: Write> Program<'_, R, O, E> {
             lookup_all_texts(rt, alloc, asked, style, addresses, &mut out)
         } else {
             lookup_texts(rt, alloc, asked, style, addresses, &mut out)
+        }
+    }
+
+    /// Writes those routes of the table that the texts leave that are asked for, or how many these are.
+    fn list(
+        &mut self,
+        request: &TableRequest<'_>,
+        asked: &FeedTexts<'_>,
+        style: &Style<'_>,
+        selection: &Selection,
+    ) -> Result<RunSummary, AppFault> {
+        let (rt, alloc) = (self.rt, self.alloc);
+        let mut out = self.screen.beside(asked.count(), self.out);
+        if request.count {
+            count_texts(rt, alloc, asked, style, selection, &mut out)
+        } else {
+            table_texts(rt, alloc, asked, style, selection, &mut out)
         }
     }
 }

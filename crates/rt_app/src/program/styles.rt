@@ -2,9 +2,9 @@
 
 use super::Stop;
 use command_line::Telling;
-use rt_feed::{Form, Labelling, feed_name, labels_of};
+use rt_feed::{Form, Labelling, feed_name, labels_of, numbers_beside};
 use rt_run::MOST_TEXTS;
-use std::alloc::Global;
+use std::alloc::{AllocError, Global};
 
 /// In which form routes are told.
 pub(super) fn form_of(telling: Telling) -> Form {
@@ -35,6 +35,77 @@ pub(super) fn labels_for<'w>(
         (true, true) => Labelling::NamesAndFiles,
     };
     Ok(labels_of(alloc, labelling, files)?)
+}
+
+/// What stands for the feeds of two sets of files, by the numbers by which they are told, and these numbers of the new ones:
+/// none where each is told by its own.
+#[derive(Drop)]
+pub(super) struct SideLabels {
+    pub(super) old: Vec<Vec<u8>>,
+    pub(super) new: Vec<Vec<u8>>,
+    pub(super) new_numbers: Vec<u32>,
+}
+
+/// These of the old and the new files: feeds that are told by their names are paired by them. Stops as `labels_for` does.
+pub(super) fn side_labels<'w>(
+    alloc: Global,
+    telling: Telling,
+    old_files: &[&'w str],
+    new_files: &[&'w str],
+) -> Result<SideLabels, Stop<'w>> {
+    let mut labels = SideLabels {
+        old: Vec::new(alloc),
+        new: Vec::new(alloc),
+        new_numbers: Vec::new(alloc),
+    };
+    if !telling.names && !telling.json {
+        return Ok(labels);
+    }
+    if old_files.len() > MOST_TEXTS || new_files.len() > MOST_TEXTS {
+        return Err(Stop::TooMany);
+    }
+    labels.old = labels_for(alloc, telling, old_files)?;
+    labels.new = labels_for(alloc, telling, new_files)?;
+    if telling.names {
+        labels.new_numbers = numbers_beside(alloc, old_files, new_files)?;
+        let most = old_files.len() + new_files.len();
+        labels.new = placed(
+            alloc,
+            most,
+            labels.new_numbers.as_slice(),
+            labels.new.as_slice(),
+        )?;
+    }
+    Ok(labels)
+}
+
+/// The labels, each at the place of its number from 1 to the most, and nothing at the others.
+fn placed(
+    alloc: Global,
+    most: usize,
+    numbers: &[u32],
+    labels: &[Vec<u8>],
+) -> Result<Vec<Vec<u8>>, AllocError> {
+    let mut all = Vec::new(alloc);
+    for number in 1..=most {
+        all.push(label_of(alloc, number, numbers, labels)?)?;
+    }
+    Ok(all)
+}
+
+/// The label of this number, or nothing.
+fn label_of(
+    alloc: Global,
+    number: usize,
+    numbers: &[u32],
+    labels: &[Vec<u8>],
+) -> Result<Vec<u8>, AllocError> {
+    for (told_by, label) in numbers.iter().zip(labels.iter()) {
+        if *told_by as usize == number {
+            return label.as_slice().to_vec(alloc);
+        }
+    }
+    Ok(Vec::new(alloc))
 }
 
 /// Stops where a file has no name for its feed, or has that of an earlier one.

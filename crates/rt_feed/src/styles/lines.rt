@@ -101,7 +101,7 @@ fn put_other<W: Write>(
 
 /// Writes the route, with its feed's label, between two texts.
 #[tactic(auto, using(crate::proofs::LineParts::fits))]
-fn put_route<W: Write>(
+pub(super) fn put_route<W: Write>(
     w: &mut W,
     style: &Style<'_>,
     head: &[u8],

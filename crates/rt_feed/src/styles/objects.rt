@@ -121,7 +121,7 @@ fn put_other<W: Write>(
 
 /// Writes the route as an object with further members, between two texts.
 #[tactic(auto, using(crate::proofs::LineParts::fits))]
-fn put_route<W: Write>(
+pub(super) fn put_route<W: Write>(
     w: &mut W,
     style: &Style<'_>,
     head: &[u8],
@@ -190,7 +190,7 @@ fn prepend_reason(text: &mut ShortText, first: &Route, route: &Route)
 
 /// The next hop as members of an object.
 #[tactic(auto, using(rt_cidr::proofs::Promised::prepending))]
-fn prepend_hop_members(text: &mut ShortText, hop: Hop)
+pub(super) fn prepend_hop_members(text: &mut ShortText, hop: Hop)
     requires room { FitsInShortText (hop_members hop) text.old }
     ensures { text.new ≡ hop_members hop ++ text.old }
 {

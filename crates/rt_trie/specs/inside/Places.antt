@@ -5,7 +5,7 @@ use Rattle.rt_cidr.specs.declared.address.Addr.{Addr}
 use Rattle.rt_trie.specs.declared.nodes.Link.{Link}
 use Rattle.rt_trie.specs.declared.places.Place.{Place}
 use Rattle.rt_trie.specs.declared.matches.Way.{Way}
-use Rattle.rt_trie.specs.declared.matches.TheConstants.{PLACES}
+use Rattle.rt_trie.specs.declared.nodes.TheConstants.{PLACES}
 use Rattle.rt_trie.specs.Map.{Pairs, pair_copied}
 use Rattle.rt_trie.specs.inside.Lawful.{IsLawfulTrie}
 use Rattle.rt_trie.specs.inside.Links.{pairs, count, or_else, last_cover, sought, IsLawfulOn}

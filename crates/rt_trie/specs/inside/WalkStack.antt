@@ -2,6 +2,7 @@
 use Rattle.std.specs.Prelude.{◌≡◌, ℕ, zero, suc, ◌<◌, ◌≤◌, ◌++◌, List, [], Option, Some, None, IfSome, IsSomeAnd, length}
 use Rattle.std.specs.Borrow.{Bor}
 use Rattle.rt_trie.specs.declared.nodes.Link.{Link}
+use Rattle.rt_trie.specs.declared.nodes.TheConstants.{PLACES}
 use Rattle.rt_trie.specs.Map.{Pairs}
 use Rattle.rt_trie.specs.inside.References.{link_at}
 use Rattle.rt_trie.specs.inside.Links.{pairs}
@@ -23,6 +24,6 @@ IsFrom k link = IsLawfulTrie link × IfSome (root link) (λ q. k ≤ q.len)
 
 -- the links of the stack are lawful, and the node at each index has at least that length
 pub record IsWalkStack {V A : Type 0} (xs : List (Bor (Link V A))) (len : ℕ) : Type 0 where
-  pub size : length xs ≡ 34
-  pub few : len ≤ 34
+  pub size : length xs ≡ PLACES
+  pub few : len ≤ PLACES
   pub each : (k : ℕ) → k < len → IsSomeAnd (link_at xs k) (IsFrom k)

@@ -1,8 +1,8 @@
 use Rattle.std.proofs.Common.{sym, ◌∙◌}
-use Rattle.rt_fib.proofs.Equality.{routes}
+use Rattle.rt_rib.proofs.Promised.{decides_route}
 use Rattle.rt_fib.proofs.filling.is_same_route.Goals as goal
 
 pub returns : goal.returns
 returns c =
-    let decides = routes c.same_prefix.ensures c.args.one.now c.args.other.now in
+    let decides = decides_route c.same_prefix.ensures c.args.one.now c.args.other.now in
     (λ is. decides.0 (sym c.eq.ensures ∙ is), λ same. c.eq.ensures ∙ decides.1 same)

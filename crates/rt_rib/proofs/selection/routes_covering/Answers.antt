@@ -12,8 +12,8 @@ loop-stored-init g c = search rules
 
 pub loop-stored-preserved : goal.loop-stored-preserved
 loop-stored-preserved g c =
-    walked c.loop-stored.routes.items c.append.new.routes.items c.loop-stored.stored-iterator c.next.new.self (containing c.args.map.now.pairs c.args.prefix)
-    c.in-Some.stored c.in-Some.offers.now c.as_slice.result.now
+    walked c.loop-stored.routes.items c.append.new.routes.items (routes_of (containing c.args.map.now.pairs c.args.prefix)) c.loop-stored.stored-iterator
+    c.next.new.self c.in-Some.stored c.in-Some.offers.now c.as_slice.result.now
     c.loop-stored.invariant c.in-Some.ensures.steps c.as_slice.ensures.offers c.in_ok-append.ensures
 
 pub returns : goal.returns

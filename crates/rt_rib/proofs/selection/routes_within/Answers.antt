@@ -1,22 +1,10 @@
-use Rattle.std.proofs.Common.{rules, ◌++◌, ap, sym, ◌∙◌}
-use Rattle.std.proofs.lemmas.List.{append-nil}
+use Rattle.std.proofs.Common.{◌++◌, ap, sym, ◌∙◌}
 use Rattle.rt_cidr.specs.Prefix.{contains}
-use Rattle.rt_trie.specs.Map.{within}
 use Rattle.rt_rib.specs.Maps.{routes_of}
-use Rattle.rt_rib.proofs.MapRoutes.{walked}
 use Rattle.rt_rib.proofs.Selections.{filter_routes}
 use Rattle.rt_rib.proofs.selection.routes_within.Goals as goal
 
-pub loop-stored-init : goal.loop-stored-init
-loop-stored-init g c = search rules
-
-pub loop-stored-preserved : goal.loop-stored-preserved
-loop-stored-preserved g c =
-    walked c.loop-stored.routes.items c.append.new.routes.items c.loop-stored.stored-iterator c.next.new.self (within c.args.map.now.pairs c.args.prefix)
-    c.in-Some.stored c.in-Some.offers.now c.as_slice.result.now
-    c.loop-stored.invariant c.in-Some.ensures.steps c.as_slice.ensures.offers c.in_ok-append.ensures
-
 pub returns : goal.returns
 returns g c =
-    sym (append-nil c.loop-stored.routes.items) ∙ ap (λ n. c.loop-stored.routes.items ++ routes_of n) (sym c.in-None.ensures.steps.0)
-    ∙ c.loop-stored.invariant ∙ sym (filter_routes (contains c.args.prefix) c.args.map.now.pairs)
+    c.in_ok-append_walk.ensures ∙ ap (λ l. l ++ routes_of c.within.result) c.new-routes.ensures.items ∙ ap routes_of c.within.ensures.pairs
+    ∙ sym (filter_routes (contains c.args.prefix) c.args.map.now.pairs)

@@ -4,12 +4,12 @@ use Rattle.std.specs.Io.KnownBytes.{Appends}
 use Rattle.std.proofs.KnownBytes.{Appends-nil}
 use Rattle.rt_cidr.proofs.Promised.{appends_after}
 use Rattle.rt_rib.specs.Book.{table_of}
-use Rattle.rt_feed.specs.DifferenceText.{difference_text}
+use Rattle.rt_feed.specs.DifferenceText.{difference_as}
 use Rattle.rt_rib.specs.declared.routes.Route.{Route}
-use Rattle.rt_diff.specs.declared.answers.By.{By}
 use Rattle.rt_diff.specs.declared.differences.Difference.{Difference}
 use Rattle.rt_diff.specs.Differences.{IsFirstDifference}
-use Rattle.rt_run.specs.inside.Comparisons.{addresses_from}
+use Rattle.rt_run.specs.DiffText.{AskedDiff}
+use Rattle.rt_run.specs.inside.Comparisons.{IsFirstFrom, addresses_from}
 use Rattle.rt_run.proofs.output.write_differences.Given.{Over}
 use Rattle.rt_run.proofs.output.write_differences.Goals.{After-difference_behind-next}
 use Rattle.rt_run.proofs.Comparing.{none_so_far, none_left, one_more, all_so_far, stops_there}
@@ -17,25 +17,26 @@ use Rattle.rt_run.proofs.output.write_differences.Goals as goal
 
 pub loop-next-init : goal.loop-next-init
 loop-next-init g c = record {
-  tables = c.new-tables.ensures;
+  tables = c.comparison-tables.ensures;
   text = [];
   written = Appends-nil _;
-  far = none_so_far c.args.by (table_of c.args.old.now) (table_of c.args.new.now) c.args.first c.requires;
+  far = none_so_far c.args.terms.now (table_of c.args.old.now) (table_of c.args.new.now) c.args.first c.requires;
 }
 
-pub returns-in_err-write_difference : goal.returns-in_err-write_difference
-returns-in_err-write_difference g c =
+pub returns-in_err-write_difference_as : goal.returns-in_err-write_difference_as
+returns-in_err-write_difference_as g c =
     let fault = err_from_is_err_and c.from_residual.result c.from_residual.ensures.1 in
     let far = c.loop-next.invariant.far in
+    let begun = rw c.styles.ensures at c.in_err-write_difference_as.ensures.err in
     rw fault.1 (record {
       ok = tt;
-      err = stops_there c.args.by (table_of c.args.old.now) (table_of c.args.new.now) _ _ _ c.loop-next.invariant.text c.in-Some.difference
-          (rw c.in-Some.is at far) c.loop-next.invariant.written c.in_err-write_difference.ensures.err;
+      err = stops_there c.args.terms.now (table_of c.args.old.now) (table_of c.args.new.now) _ _ _ c.loop-next.invariant.text c.in-Some.difference
+          (rw c.in-Some.is at far) c.loop-next.invariant.written begun;
     })
 
 -- what comes behind a range that was written, by the two tables
 first_behind : (g : Over) (c : After-difference_behind-next g)
-    → IsFirstDifference c.args.by (table_of c.args.old.now) (table_of c.args.new.now) (record { 0 = c.in-Some.difference.last.0 + 1 })
+    → IsFirstFrom c.args.terms.now (table_of c.args.old.now) (table_of c.args.new.now) (record { 0 = c.in-Some.difference.last.0 + 1 })
     c.difference_behind-next.result
 first_behind g c =
     subst (λ t. IsFirstDifference t.by t.old_table t.new_table (record { 0 = c.in-Some.difference.last.0 + 1 }) c.difference_behind-next.result)
@@ -45,26 +46,27 @@ pub loop-next-preserved : goal.loop-next-preserved
 loop-next-preserved g c =
     let far = c.loop-next.invariant.far in
     let behind = first_behind g c in
+    let put = rw c.styles.ensures at c.in_ok-write_difference_as.ensures.ok in
     record {
       tables = c.difference_behind-next.ensures.kept ∙ c.loop-next.invariant.tables;
-      text = c.loop-next.invariant.text ++ difference_text c.in-Some.difference;
-      written = appends_after _ _ _ c.loop-next.invariant.text (difference_text c.in-Some.difference)
-          c.loop-next.invariant.written c.in_ok-write_difference.ensures.ok;
-      far = one_more c.args.by (table_of c.args.old.now) (table_of c.args.new.now) c.loop-next.invariant.text c.in-Some.difference
+      text = c.loop-next.invariant.text ++ difference_as c.args.terms.now.styles c.in-Some.difference;
+      written = appends_after _ _ _ c.loop-next.invariant.text (difference_as c.args.terms.now.styles c.in-Some.difference)
+          c.loop-next.invariant.written put;
+      far = one_more c.args.terms.now (table_of c.args.old.now) (table_of c.args.new.now) c.loop-next.invariant.text c.in-Some.difference
           c.difference_behind-next.result (rw c.in-Some.is at far) behind;
     }
 
 -- fewer addresses are left behind a range
-fewer : (by : By) (old new : List Route) (d : Difference) (next : Option Difference) → d.first.0 ≤ d.last.0 → d.last.0 < 2 ^ 32
-    → IsFirstDifference by old new (record { 0 = d.last.0 + 1 }) next → addresses_from next < addresses_from (Some d)
-fewer by old new d None some fits first = omega arith
-fewer by old new d (Some e) some fits first = omega (arith, first.onward)
+fewer : (asked : AskedDiff) (old new : List Route) (d : Difference) (next : Option Difference) → d.first.0 ≤ d.last.0 → d.last.0 < 2 ^ 32
+    → IsFirstFrom asked old new (record { 0 = d.last.0 + 1 }) next → addresses_from next < addresses_from (Some d)
+fewer asked old new d None some fits first = omega arith
+fewer asked old new d (Some e) some fits first = omega (arith, first.onward)
 
 pub loop-next-smaller : goal.loop-next-smaller
 loop-next-smaller g c =
     let far = rw c.in-Some.is at c.loop-next.invariant.far in
     let d = far.first.difference in
-    rw c.in-Some.is (fewer c.args.by (table_of c.args.old.now) (table_of c.args.new.now) c.in-Some.difference c.difference_behind-next.result
+    rw c.in-Some.is (fewer c.args.terms.now (table_of c.args.old.now) (table_of c.args.new.now) c.in-Some.difference c.difference_behind-next.result
     d.some d.fits (first_behind g c))
 
 pub returns : goal.returns
@@ -73,7 +75,7 @@ returns g c =
     let none = none_left c.loop-next.next c.in_default.not-Some in
     record {
       ok = subst (Appends (g.W.Write.contents c.args.w.now) (g.W.Write.contents c.loop-next.w))
-          (all_so_far c.args.by (table_of c.args.old.now) (table_of c.args.new.now) c.loop-next.invariant.text (rw none at far))
+          (all_so_far c.args.terms.now (table_of c.args.old.now) (table_of c.args.new.now) c.loop-next.invariant.text (rw none at far))
           c.loop-next.invariant.written;
       err = tt;
     }

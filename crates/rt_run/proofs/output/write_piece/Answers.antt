@@ -8,7 +8,7 @@ returns-in_err-write_found_as g c =
     let fault = err_from_is_err_and c.from_residual.result c.from_residual.ensures.1 in
     rw fault.1 (record {
       ok = tt;
-      err = answers_stop c.args.style.now (table_of c.args.book.now) c.args.piece.now c.look_up.new.answers c.loop-index.index
-          (record { 0 = 0 }) c.index-found-index.result c.loop-index-test.true c.index-found-index.is c.look_up.ensures
+      err = answers_stop c.args.style.now (table_of c.args.book.now) c.args.piece.now c.look_up_by.new.answers c.loop-index.index
+          (record { 0 = 0 }) c.index-found-index.result c.loop-index-test.true c.index-found-index.is c.look_up_by.ensures
           _ _ _ c.loop-index.invariant c.in_err-write_found_as.ensures.err;
     })

@@ -4,7 +4,7 @@ use Rattle.std.specs.List.{filter}
 use Rattle.rt_rib.specs.declared.routes.Route.{Route}
 use Rattle.rt_rib.specs.LookUp.{best_routes}
 use Rattle.rt_rib.specs.Maps.{routes_of}
-use Rattle.rt_rib.specs.Selection.{is_in, is_by, selected}
+use Rattle.rt_rib.specs.Selection.{is_in, is_by}
 use Rattle.rt_rib.specs.Table.{IsTable}
 use Rattle.rt_rib.proofs.BestRoutes.{IsTable-passing}
 use Rattle.rt_rib.proofs.Selections.{selected_of_part}

@@ -1,5 +1,5 @@
 use Rattle.ya_replay.proofs.Promised.{replay_text-some}
-use Rattle.rt_run.proofs.Buffered.{run_text-some, answers-none, answers-some, matches-none, matches-some, rows-none, rows-some}
+use Rattle.rt_run.proofs.Buffered.{run_text-some, answers-none, answers-some, matches-none, matches-some, rows-none, rows-some, counts-some}
 use Rattle.rt_run.proofs.Comparing.{empty_by_first}
 use Rattle.rt_run.proofs.output.Output.is_empty.Goals as goal
 
@@ -25,6 +25,9 @@ pub returns-in-Routes : goal.returns-in-Routes
 returns-in-Routes c =
     rw (c.in-Routes.is, c.is_empty-in-Routes.ensures)
     (record { none = rows-none _ c.in-Routes.routes.now; some = rows-some _ c.in-Routes.routes.now })
+
+pub returns-in-Counts : goal.returns-in-Counts
+returns-in-Counts c = rw c.in-Counts.is (record { none = λ same. absurd cc; some = λ same. counts-some _ _ _ })
 
 pub returns-in-Replay : goal.returns-in-Replay
 returns-in-Replay c = rw c.in-Replay.is (record { none = λ same. absurd cc; some = λ same. replay_text-some _ _ })

@@ -12,12 +12,12 @@ use Rattle.rt_shared.proofs.shared_rib.SharedRib.new.Goals as goal
 pub loop-pass-init : goal.loop-pass-init
 loop-pass-init g c =
     let e = c.in-Ok.ensures in let it = c.into_iter-pass-iterator.ensures.into_iter_gives in
-    let few : 2 ^ g.row.L ≡ c.new.result.feeds = sym (c.new.ensures.feeds ∙ c.feeds-feeds.ensures.value) in
+    let few : 2 ^ g.row.L ≡ c.in_ok-lent.lent.feeds = sym (c.in_ok-lent.ensures.feeds ∙ c.feeds-feeds.ensures.value) in
     record {
       next = tt;
       finite = tt;
       long = it.1 ∙ (c.in-Ok.passes.ok.0 ∙ ap length (sym it.0));
-      rest = subst (All HasFeed) (sym it.0) (in_range c.in-Ok.lock g.row.L c.new.result c.in-Ok.passes.items e.passes few);
+      rest = subst (All HasFeed) (sym it.0) (in_range c.in-Ok.lock g.row.L c.in_ok-lent.lent c.in-Ok.passes.items e.passes few);
       made = ap (λ (l : List HeldPass). l ++ map of_feed (into_iter_items c.into_iter-pass-iterator.result)) c.in_ok-feed_passes.ensures.items;
       room = omega (arith, c.in_ok-feed_passes.ensures.len, c.in_ok-feed_passes.ensures.capacity, ap length it.0, e.passes.count, c.feeds-feeds.ensures.value);
     }
@@ -45,27 +45,27 @@ loop-pass-preserved g c =
 pub returns-clause-passes : goal.returns-clause-passes
 returns-clause-passes g c =
     let i = c.loop-pass.invariant in let e = c.in-Ok.ensures in let it = c.into_iter-pass-iterator.ensures.into_iter_gives in
-    let few : 2 ^ g.row.L ≡ c.new.result.feeds = sym (c.new.ensures.feeds ∙ c.feeds-feeds.ensures.value) in
-    let few' = c.new.ensures.feeds ∙ c.feeds-feeds.ensures.value in
+    let few : 2 ^ g.row.L ≡ c.in_ok-lent.lent.feeds = sym (c.in_ok-lent.ensures.feeds ∙ c.feeds-feeds.ensures.value) in
+    let few' = c.in_ok-lent.ensures.feeds ∙ c.feeds-feeds.ensures.value in
     let empty : into_iter_items c.loop-pass.pass-iterator ≡ [] =
     nil_from_length (into_iter_items c.loop-pass.pass-iterator) (sym i.long ∙ c.in-None.ensures.steps.0) in
     let made : c.loop-pass.feed_passes.items ≡ map of_feed c.in-Ok.passes.items =
     sym (append-nil c.loop-pass.feed_passes.items)
     ∙ (ap (λ (l : List (IdlePass Lent)). c.loop-pass.feed_passes.items ++ map of_feed l) (sym empty) ∙ (i.made ∙ ap (map of_feed) it.0)) in
-    let lent : SharedId = record { lock = c.in-Ok.lock; limit = c.new.result.book.limit; feeds = c.new.result.feeds } in
+    let lent : SharedId = record { lock = c.in-Ok.lock; limit = c.in_ok-lent.lent.book.limit; feeds = c.in_ok-lent.lent.feeds } in
     let table : lent ≡ record { lock = c.in-Ok.lock; limit = c.args.limit; feeds = 2 ^ g.row.L } =
-    λ i. record { lock = c.in-Ok.lock; limit = c.new.ensures.limit i; feeds = few' i } in
+    λ i. record { lock = c.in-Ok.lock; limit = c.in_ok-lent.ensures.limit i; feeds = few' i } in
     subst (λ (t : SharedId). ArePassesOf t c.loop-pass.feed_passes.items) table (subst (ArePassesOf lent) (sym made)
-    (are_dealt c.in-Ok.lock g.row.L c.new.result c.in-Ok.passes.items e.passes few))
+    (are_dealt c.in-Ok.lock g.row.L c.in_ok-lent.lent c.in-Ok.passes.items e.passes few))
 
 pub returns-clause-seen : goal.returns-clause-seen
 returns-clause-seen g c =
     let i = c.loop-pass.invariant in let e = c.in-Ok.ensures in let it = c.into_iter-pass-iterator.ensures.into_iter_gives in
-    let few : 2 ^ g.row.L ≡ c.new.result.feeds = sym (c.new.ensures.feeds ∙ c.feeds-feeds.ensures.value) in
+    let few : 2 ^ g.row.L ≡ c.in_ok-lent.lent.feeds = sym (c.in_ok-lent.ensures.feeds ∙ c.feeds-feeds.ensures.value) in
     let empty : into_iter_items c.loop-pass.pass-iterator ≡ [] =
     nil_from_length (into_iter_items c.loop-pass.pass-iterator) (sym i.long ∙ c.in-None.ensures.steps.0) in
     let made : c.loop-pass.feed_passes.items ≡ map of_feed c.in-Ok.passes.items =
     sym (append-nil c.loop-pass.feed_passes.items)
     ∙ (ap (λ (l : List (IdlePass Lent)). c.loop-pass.feed_passes.items ++ map of_feed l) (sym empty) ∙ (i.made ∙ ap (map of_feed) it.0)) in
     subst (All (λ (p : HeldPass). p.seen ≡ [])) (sym made)
-    (have_seen c.in-Ok.lock g.row.L c.new.result c.in-Ok.passes.items e.passes few c.new.ensures.journal)
+    (have_seen c.in-Ok.lock g.row.L c.in_ok-lent.lent c.in-Ok.passes.items e.passes few c.in_ok-lent.ensures.journal)

@@ -3,12 +3,13 @@ use Rattle.std.proofs.lemmas.List.Elements.{All-cons, All-nil}
 use Rattle.rt_rib.specs.declared.commands.Entry.{Entry}
 use Rattle.std.proofs.lemmas.List.{nil_from_length}
 use Rattle.rt_rib.specs.Sequential.{IsLawfulJournal}
+use Rattle.rt_rib.specs.Book.{BookContents}
 use Rattle.ya_lock.specs.Lock.{IdlePass, OpenGuard, guard_of}
 use Rattle.rt_shared.specs.inside.PassModel.{shared_id}
 use Rattle.rt_shared.proofs.Passes.{all_amid, last_of, since_of, all_front, spaced}
 use Rattle.rt_shared.specs.declared.lent.Lent.{Lent}
 use Rattle.rt_shared.specs.Visits.{Since}
-use Rattle.rt_shared.specs.Table.{HeldPass, SharedId, HasSameBounds}
+use Rattle.rt_shared.specs.Table.{HeldPass, SharedId, HasSameBounds, Settles}
 use Rattle.rt_shared.proofs.shared_rib.SharedRib.settle.Goals as goal
 
 -- what the pass has seen begins the journal
@@ -92,7 +93,8 @@ pub returns-clause-limit : goal.returns-clause-limit
 returns-clause-limit g c =
     let i = c.loop-pass.invariant in let entered = c.enter-guard.ensures in
     let first = last_of c.args.self c.args.passes.items c.pop.new.self.items c.in-Some.last c.requires c.in-Some.ensures.items in
-    limit_is c.args.self c.into_idle.result c.enter-guard.result c.loop-pass.guard c.close-book.result
+    ap (λ (b : BookContents). b.limit) c.into_book.ensures
+    ∙ limit_is c.args.self c.into_idle.result c.enter-guard.result c.loop-pass.guard c.close-book.result
     (c.into_idle.ensures.table ∙ first) i.guard entered.guard c.close-book.ensures entered.fresh.same
 
 pub returns-clause-settled : goal.returns-clause-settled
@@ -109,7 +111,7 @@ returns-clause-settled g c =
     let all : c.args.passes.items ≡ i.confirmed =
     i.all ∙ ap (λ (l : List HeldPass). l ++ i.confirmed) (nil_from_length c.loop-pass.passes.items
     (sym c.loop-pass.passes.ok.0 ∙ c.in_default-pop.ensures.cases.0)) in
-    record {
+    subst (λ (b : BookContents). Settles c.args.self c.args.passes.items b.journal) (sym c.into_book.ensures) record {
       lawful = subst (λ (n : ℕ). IsLawfulJournal n c.close-book.result.book.journal) limit c.close-book.result.lawful;
       of_feeds = subst (λ (n : ℕ). All (λ (e : Entry). (1 ≤ e.feed) × (e.feed ≤ n)) c.close-book.result.book.journal) feeds c.close-book.result.of_feeds;
       since = subst (All (Begins c.close-book.result.book.journal)) (sym all) (subst (λ (l : Lent). All (Begins l.book.journal) i.confirmed) found i.since);

@@ -1,0 +1,3 @@
+module yarib
+
+go 1.19

@@ -1,0 +1,64 @@
+-- How long the parts of what is counted are at most, and what is told of each number.
+use Rattle.std.proofs.Common.{◌≡◌, ◌==◌, ℕ, zero, suc, ◌+◌, ◌<◌, ◌≤◌, inl, inr, false, List, [], ◌++◌, length, decimal, refl, arith, rules, length-append, append_assoc, subst, add-one, Option}
+use Rattle.std.specs.Prelude.{◌≢◌}
+use Rattle.std.proofs.lemmas.Bool.{cases_lt}
+use Rattle.std.specs.Io.KnownBytes.{Appends}
+use Rattle.rt_cidr.specs.Output.{AppendsBeginning}
+use Rattle.rt_cidr.proofs.Promised.{length-decimal, appends_after, begins_after, begins_longer}
+use Rattle.rt_feed.specs.declared.styles.Form.{Form}
+use Rattle.rt_feed.specs.declared.styles.Form.TheVariants.{Numbers, Labels, Json}
+use Rattle.rt_feed.specs.Counts.{totals_as, count_as, each_below}
+use Rattle.rt_feed.specs.inside.Styles.{count_front, count_middle, count_tail}
+
+pub totals_fits : (form : Form) (routes prefixes : ℕ) → length (totals_as form routes prefixes) ≤ 300
+unfolding totals_as
+totals_fits Numbers routes prefixes = let of_routes = length-decimal routes in let of_prefixes = length-decimal prefixes in simp length-append (omega arith)
+totals_fits Labels routes prefixes = let of_routes = length-decimal routes in let of_prefixes = length-decimal prefixes in simp length-append (omega arith)
+totals_fits Json routes prefixes = let of_routes = length-decimal routes in let of_prefixes = length-decimal prefixes in simp length-append (omega arith)
+
+pub count_tail_fits : (form : Form) (count : ℕ) → length (count_tail form count) ≤ 300
+unfolding count_tail
+count_tail_fits Numbers count = let digits = length-decimal count in simp length-append (omega arith)
+count_tail_fits Labels count = let digits = length-decimal count in simp length-append (omega arith)
+count_tail_fits Json count = let digits = length-decimal count in simp length-append (omega arith)
+
+pub number_fits : (number : ℕ) → length (decimal number) ≤ 100
+number_fits number = omega (arith, length-decimal number)
+
+parts_by : (form : Form) (kind name : List ℕ) (count : ℕ) → (count == 0) ≡ false
+    → (count_front form ++ (kind ++ count_middle form)) ++ (name ++ (count_tail form count ++ [])) ≡ count_as form kind name count
+unfolding count_tail count_as
+parts_by Numbers kind name count some = rw some (simp append_assoc)
+parts_by Labels kind name count some = rw some (simp append_assoc)
+parts_by Json kind name count some = rw some (simp append_assoc)
+
+not_zero : (count : ℕ) → count ≢ 0 → (count == 0) ≡ false
+not_zero count some = search rules
+
+-- what is told of a count is its parts
+pub count_parts : (form : Form) (kind name : List ℕ) (count : ℕ) → count ≢ 0
+    → (count_front form ++ (kind ++ count_middle form)) ++ (name ++ (count_tail form count ++ [])) ≡ count_as form kind name count
+count_parts form kind name count some = parts_by form kind name count (not_zero count some)
+
+-- nothing is told where nothing is counted
+pub count_none : (form : Form) (kind name : List ℕ) → count_as form kind name 0 ≡ []
+unfolding count_as
+count_none Numbers kind name = refl
+count_none Labels kind name = refl
+count_none Json kind name = refl
+
+-- what is told of a number is put behind what is told of those below it
+pub each_next : (a b c : Option (List ℕ)) (tell : ℕ → List ℕ) (n : ℕ) → Appends a b (each_below tell n) → Appends b c (tell n)
+    → Appends a c (each_below tell (n + 1))
+each_next a b c tell n first second = rw (add-one n) (appends_after a b c (each_below tell n) (tell n) first second)
+
+-- a fault within what is told of a number is one within what is told of all below a greater one
+pub each_begins : (a b c : Option (List ℕ)) (tell : ℕ → List ℕ) (n bound : ℕ) → n < bound → Appends a b (each_below tell n)
+    → AppendsBeginning b c (tell n) → AppendsBeginning a c (each_below tell bound)
+each_begins a b c tell n zero below first second = absurd (omega (arith, below))
+each_begins a b c tell n (suc bound) below first second = elim (cases_lt n bound) [
+  | inl before ↦ begins_longer a c (each_below tell bound) (tell bound) (each_begins a b c tell n bound before first second)
+  | inr there ↦
+      let same : n ≡ bound = omega (arith, below, there) in
+      subst (λ (m : ℕ). AppendsBeginning a c (each_below tell m ++ tell m)) same (begins_after a b c (each_below tell n) (tell n) first second)
+]

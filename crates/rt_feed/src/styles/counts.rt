@@ -1,0 +1,223 @@
+//! How many routes there are, in numbers: in all, of each feed, and to prefixes of each length.
+ghost use Rattle.std.specs.Prelude.{◌≡◌, ◌++◌, length, codes, decimal};
+ghost use Rattle.rt_cidr.specs.Output.{WritesText};
+ghost use Rattle.rt_cidr.specs.ShortText.{FitsInShortText};
+ghost use Rattle.rt_rib.specs.Table.{count_of};
+ghost use Rattle.rt_feed.specs.Counts.{prefix_count, length_count, totals_as, count_as, feed_as, each_below};
+ghost use Rattle.rt_feed.specs.Styles.{label_of};
+ghost use Rattle.rt_feed.specs.inside.Styles.{count_front, count_middle, count_tail};
+
+use super::{Form, Style};
+use crate::parts::put_three;
+use rt_cidr::{ShortText, put};
+use rt_rib::{MOST_FEEDS, Route};
+use std::io::{self, Write};
+
+/// How long a prefix may be.
+const MOST_BITS: u8 = 32;
+
+/// Writes how many routes there are, and to how many prefixes.
+#[tactic(auto, using(crate::proofs::CountParts::totals_fits))]
+pub(super) fn write_totals<W: Write>(
+    w: &mut W,
+    form: Form,
+    routes: &[Route],
+) -> Result<(), io::Error>
+    ensures { WritesText (W.contents w.old) (W.contents w.new) (totals_as form (length routes.now) (prefix_count routes.now)) result }
+{
+    let mut text = ShortText::new();
+    prepend_totals(&mut text, form, routes.len(), prefix_count(routes));
+    put(w, text.as_bytes())
+}
+
+/// Writes of each feed how many of the routes it has, where it has one.
+pub(super) fn write_feeds<W: Write>(
+    w: &mut W,
+    style: &Style<'_>,
+    routes: &[Route],
+) -> Result<(), io::Error>
+    ensures { WritesText (W.contents w.old) (W.contents w.new)
+        (each_below (λ feed. count_as style.now.form (codes "feed") (feed_as style.now.form (label_of style.now.labels) feed) (count_of feed routes.now)) 65) result }
+{
+    let mut feed = 0;
+    while feed <= MOST_FEEDS as u32 {
+        put_feed(w, style, feed, count_of(routes, feed))?;
+        feed += 1;
+    }
+    Ok(())
+}
+
+/// Writes of each length how many of the routes are to prefixes of it, where one is.
+pub(super) fn write_lengths<W: Write>(
+    w: &mut W,
+    form: Form,
+    routes: &[Route],
+) -> Result<(), io::Error>
+    ensures { WritesText (W.contents w.old) (W.contents w.new)
+        (each_below (λ len. count_as form (codes "length") (decimal len) (length_count len routes.now)) 33) result }
+{
+    let mut len = 0;
+    while len <= MOST_BITS {
+        put_length(w, form, len, length_count(routes, len))?;
+        len += 1;
+    }
+    Ok(())
+}
+
+/// Writes how many routes a feed has, where it has one.
+#[tactic(auto, using(crate::proofs::CountParts::number_fits))]
+fn put_feed<W: Write>(
+    w: &mut W,
+    style: &Style<'_>,
+    feed: u32,
+    count: usize,
+) -> Result<(), io::Error>
+    ensures { WritesText (W.contents w.old) (W.contents w.new)
+        (count_as style.now.form (codes "feed") (feed_as style.now.form (label_of style.now.labels) feed) count) result }
+{
+    let mut number = ShortText::new();
+    number.prepend_decimal(u64::from(feed));
+    match style.form() {
+        Form::Numbers => put_count(w, Form::Numbers, b"feed", number.as_bytes(), count),
+        Form::Labels => put_count(w, Form::Labels, b"feed", style.label(feed), count),
+        Form::Json => put_count(w, Form::Json, b"feed", style.label(feed), count),
+    }
+}
+
+/// Writes how many routes are to prefixes of a length, where one is.
+#[tactic(auto, using(crate::proofs::CountParts::number_fits))]
+fn put_length<W: Write>(w: &mut W, form: Form, len: u8, count: usize) -> Result<(), io::Error>
+    ensures { WritesText (W.contents w.old) (W.contents w.new) (count_as form (codes "length") (decimal len) count) result }
+{
+    let mut number = ShortText::new();
+    number.prepend_decimal(u64::from(len));
+    put_count(w, form, b"length", number.as_bytes(), count)
+}
+
+/// Writes how many routes there are of what is of this kind and name, where there is one.
+#[tactic(auto, using(crate::proofs::CountParts::count_tail_fits))]
+fn put_count<W: Write>(
+    w: &mut W,
+    form: Form,
+    kind: &[u8],
+    name: &[u8],
+    count: usize,
+) -> Result<(), io::Error>
+    ensures { WritesText (W.contents w.old) (W.contents w.new) (count_as form kind.now name.now count) result }
+{
+    if count == 0 {
+        return Ok(());
+    }
+    let mut tail = ShortText::new();
+    prepend_tail(&mut tail, form, count);
+    put_three(w, front(form), kind, middle(form))?;
+    put_three(w, name, tail.as_bytes(), b"")
+}
+
+/// What stands before what is counted.
+fn front(form: Form) -> &'static [u8]
+    ensures { result.now ≡ count_front form }
+{
+    match form {
+        Form::Numbers | Form::Labels => b"",
+        Form::Json => b"{\"",
+    }
+}
+
+/// What stands between what is counted and its name.
+fn middle(form: Form) -> &'static [u8]
+    ensures { result.now ≡ count_middle form }
+{
+    match form {
+        Form::Numbers | Form::Labels => b" ",
+        Form::Json => b"\":",
+    }
+}
+
+/// To how many prefixes the routes are, where those to one stand together.
+fn prefix_count(routes: &[Route]) -> usize
+    ensures { result ≡ prefix_count routes.now }
+{
+    let Some((first, others)) = routes.split_first() else {
+        return 0;
+    };
+    let mut kept = first;
+    let mut rest = others;
+    let mut count = 1;
+    while let [next, behind @ ..] = rest {
+        if next.prefix != kept.prefix {
+            kept = next;
+            count += 1;
+        }
+        rest = behind;
+    }
+    count
+}
+
+/// How many of the routes the feed has.
+fn count_of(routes: &[Route], feed: u32) -> usize
+    ensures { result ≡ count_of feed routes.now }
+{
+    let mut count = 0;
+    for route in routes {
+        count += usize::from(route.feed == feed);
+    }
+    count
+}
+
+/// How many of the routes are to prefixes of this length.
+fn length_count(routes: &[Route], len: u8) -> usize
+    ensures { result ≡ length_count len routes.now }
+{
+    let mut count = 0;
+    for route in routes {
+        count += usize::from(route.prefix.len() == len);
+    }
+    count
+}
+
+// Each function below puts its text in front.
+
+/// `routes ROUTES prefixes PREFIXES` and LF, or it as an object.
+#[tactic(auto, using(rt_cidr::proofs::Promised::prepending), unfolding(crate::specs::Counts::totals_as))]
+fn prepend_totals(text: &mut ShortText, form: Form, routes: usize, prefixes: usize)
+    requires room { FitsInShortText (totals_as form routes prefixes) text.old }
+    ensures { text.new ≡ totals_as form routes prefixes ++ text.old }
+{
+    match form {
+        Form::Numbers | Form::Labels => {
+            text.prepend(b"\n");
+            text.prepend_decimal(prefixes as u64);
+            text.prepend(b" prefixes ");
+            text.prepend_decimal(routes as u64);
+            text.prepend(b"routes ");
+        }
+        Form::Json => {
+            text.prepend(b"}\n");
+            text.prepend_decimal(prefixes as u64);
+            text.prepend(b",\"prefixes\":");
+            text.prepend_decimal(routes as u64);
+            text.prepend(b"{\"routes\":");
+        }
+    }
+}
+
+/// ` routes COUNT` and LF, or it as a member.
+#[tactic(auto, using(rt_cidr::proofs::Promised::prepending), unfolding(crate::specs::inside::Styles::count_tail))]
+fn prepend_tail(text: &mut ShortText, form: Form, count: usize)
+    requires room { FitsInShortText (count_tail form count) text.old }
+    ensures { text.new ≡ count_tail form count ++ text.old }
+{
+    match form {
+        Form::Numbers | Form::Labels => {
+            text.prepend(b"\n");
+            text.prepend_decimal(count as u64);
+            text.prepend(b" routes ");
+        }
+        Form::Json => {
+            text.prepend(b"}\n");
+            text.prepend_decimal(count as u64);
+            text.prepend(b",\"routes\":");
+        }
+    }
+}

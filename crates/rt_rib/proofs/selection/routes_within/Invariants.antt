@@ -1,8 +1,0 @@
-use Rattle.std.proofs.Common.{◌≡◌, ◌++◌}
-use Rattle.rt_trie.specs.Map.{within}
-use Rattle.rt_rib.specs.Maps.{routes_of}
-use Rattle.rt_rib.proofs.selection.routes_within.Given as goal
-
--- those that are there, and those still to come
-abbrev pub invariant-loop-stored : goal.invariant-loop-stored
-invariant-loop-stored g l = l.routes.items ++ routes_of l.stored-iterator ≡ routes_of (within l.map.pairs l.fn.prefix)

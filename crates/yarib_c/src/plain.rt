@@ -1,0 +1,123 @@
+//! A table that keeps no journal, and where that is asked for a forwarding table beside it.
+ghost use Rattle.std.specs.Prelude.{◌≡◌, ◌+◌, ◌≤◌, ◌^◌, true, false, [], length, map, IfOk, OnOk, OnErr};
+ghost use Rattle.rt_rib.specs.declared.commands.Reply.TheVariants.{Added};
+ghost use Rattle.rt_rib.specs.Sequential.{reply_of};
+ghost use Rattle.rt_rib.specs.LookUp.{look_up};
+ghost use Rattle.rt_rib.specs.Book.{IsLimit, IsFeed, table_state, Serves};
+ghost use Rattle.yarib_c.specs.Sizes.{bytes_of};
+ghost use Rattle.yarib_c.specs.declared.sizes.TheConstants.{NODE_BYTES};
+ghost use Rattle.yarib_c.specs.inside.Beside.{IsBeside, MayFollow};
+
+use crate::sizes::node_bytes;
+use rt_cidr::Addr;
+use rt_fib::Fib;
+use rt_fib::laws::tables_keep_outside;
+use rt_rib::{Cmd, Refused, Reply, Route, Table};
+use std::alloc::Global;
+use std::marker::Model;
+
+/// A table that keeps no journal. A forwarding table beside it answers as it does: it follows each command.
+#[derive(Drop)]
+pub struct PlainTable {
+    table: Table<Global>,
+    beside: Option<Fib<Global>>,
+}
+
+impl Model for PlainTable {
+    ghost use Rattle.std.specs.Coded.{codes};
+    ghost use Rattle.std.specs.Prelude.{is_some};
+    ghost use Rattle.rt_trie.specs.inside.TreeCode.{tree_code};
+    ghost use Rattle.yarib_c.specs.Plain.{PlainContents};
+    ghost use Rattle.yarib_c.specs.inside.Beside.{IsBeside};
+
+    ghost Value = { PlainContents };
+
+    ghost coded = { Prim.hlevel (codes, tree_code) };
+
+    ghost view = { λ p. record { table = p.table; is_followed = is_some p.beside } };
+
+    ghost invariant = { λ p. IsBeside p.beside p.table.routes };
+}
+
+impl PlainTable {
+    /// An empty table in which each feed may have so many routes, with nothing beside it.
+    pub(crate) fn new(alloc: Global, limit: u32) -> PlainTable
+        requires { IsLimit limit }
+        ensures { table_state result.table ≡ record { limit = limit; routes = [] } }
+    {
+        PlainTable {
+            table: Table::new(alloc, limit),
+            beside: None,
+        }
+    }
+
+    /// The table.
+    pub(crate) fn table(&self) -> &Table<Global>
+        ensures { result.now ≡ self.now.table }
+    {
+        &self.table
+    }
+
+    /// Makes a forwarding table beside the table, if there is none. M1: `Refused` where memory was refused.
+    pub(crate) fn follow(&mut self, alloc: Global) -> Result<(), Refused>
+        ensures ok { OnOk result (self.new.is_followed ≡ true) }
+        ensures table { self.new.table ≡ self.old.table }
+    {
+        if self.beside.is_none() {
+            self.beside = Some(Fib::of(alloc, &self.table)?);
+        }
+        Ok(())
+    }
+
+    /// Answers a command of the feed. What is beside the table follows it; where memory for that is refused, it goes, and
+    /// look-ups are by the table.
+    pub(crate) fn apply(&mut self, feed: u32, cmd: Cmd) -> Result<Reply, Refused>
+        requires { IsFeed feed }
+        ensures ok { IfOk result (λ reply. Serves (table_state self.old.table) (table_state self.new.table) feed cmd reply) }
+        ensures err { OnErr result (self.new ≡ self.old) }
+        ensures wanted { OnErr result (reply_of self.old.table.limit self.old.table.routes feed cmd ≡ Added) }
+    {
+        self.table.holds();
+        let reply = self.table.apply(feed, cmd)?;
+        self.table.holds();
+        tables_keep_outside();
+        self.beside = followed(self.beside.take(), &self.table, &cmd);
+        Ok(reply)
+    }
+
+    /// For each address, in order, the best route of the longest prefix that covers it, as `Table::look_up` has them.
+    pub(crate) fn look_up(&self, addresses: &[Addr], answers: &mut [Option<Route>])
+        requires { length answers.old ≡ length addresses.now }
+        ensures { answers.new ≡ map (λ addr. look_up addr self.now.table.routes) addresses.now }
+    {
+        match &self.beside {
+            None => self.table.look_up(addresses, answers),
+            Some(fib) => fib.look_up_each(addresses, answers),
+        }
+    }
+
+    /// About how many bytes it takes.
+    pub(crate) fn bytes(&self) -> usize
+        ensures alone { self.now.is_followed ≡ false → result ≡ bytes_of NODE_BYTES self.now.table.trie.nodes }
+        ensures followed { self.now.is_followed ≡ true → bytes_of NODE_BYTES self.now.table.trie.nodes + 2 ^ 26 ≤ result }
+    {
+        let nodes = node_bytes(self.table.nodes());
+        match &self.beside {
+            None => nodes,
+            Some(fib) => nodes.saturating_add(fib.memory()),
+        }
+    }
+}
+
+/// What was beside a table, if anything, once it has followed the command that the table was answered, or nothing where memory was
+/// refused.
+fn followed(beside: Option<Fib<Global>>, table: &Table<Global>, cmd: &Cmd) -> Option<Fib<Global>>
+    requires { MayFollow cmd.now beside table.now.routes }
+    ensures { IsBeside result table.now.routes }
+{
+    let mut fib = beside?;
+    match fib.follow_to(table, cmd) {
+        Ok(()) => Some(fib),
+        Err(_) => None,
+    }
+}

@@ -1,0 +1,126 @@
+//! Parts of a table: the routes that are asked for.
+ghost use Rattle.std.specs.Prelude.{◌≡◌, ◌≢◌, ◌<◌, ◌≤◌, ◌⊎◌, ◌↔◌, IsTrue, None};
+ghost use Rattle.rt_cidr.specs.Cidr.{IsPrefix};
+ghost use Rattle.yarib_c.specs.Kinds.{routes_in, IsForwarding};
+ghost use Rattle.yarib_c.specs.Calls.{held_in, Holds};
+ghost use Rattle.yarib_c.specs.Selections.{IsOutOfRange, ShowsSelected};
+ghost use Rattle.yarib_c.specs.inside.Parts.{AnswersPart};
+
+use crate::handle::Yarib;
+use crate::held::Held;
+use crate::lists::put_routes;
+use crate::routes::YaribRoute;
+use crate::status::{BAD_BITS, BAD_LENGTH, BAD_NUMBER, DONE, NO_MEMORY, NOTHING, WRONG_KIND};
+use rt_cidr::{Prefix, TextFault};
+use rt_rib::{Part, Selection, feed_ok};
+use std::alloc::Global;
+
+/// Which routes are asked for. `part` is 0 for those to any prefix; with the prefix of `base` and `len` it is 1 for those to it and
+/// the longer ones in it, 2 for it and the shorter ones that it lies in, and 3 for it alone. `feed` is 0 for any feed, and with 1
+/// for `only_best` only the best route of each prefix is asked for.
+#[repr(C)]
+#[derive(Clone, Copy, PartialEq, Eq, Debug)]
+pub struct YaribSelection {
+    pub part: u32,
+    pub feed: u32,
+    pub base: u32,
+    pub len: u8,
+    pub only_best: u8,
+}
+
+impl YaribSelection {
+    /// Whether a number stands for nothing.
+    fn is_out_of_range(&self) -> bool
+        ensures { IsTrue result ↔ IsOutOfRange self.now }
+    {
+        self.part > 3 || (self.feed != 0 && !feed_ok(self.feed)) || self.only_best > 1
+    }
+
+    /// The part of the prefixes for which the numbers stand.
+    fn read_part(&self) -> Result<Part, TextFault>
+        requires { self.now.part ≤ 3 }
+        ensures { AnswersPart self.now result }
+    {
+        if self.part == 0 {
+            return Ok(Part::All);
+        }
+        let prefix = Prefix::new(self.base, self.len)?;
+        Ok(match self.part {
+            1 => Part::Within(prefix),
+            2 => Part::Covering(prefix),
+            _ => Part::Exact(prefix),
+        })
+    }
+}
+
+/// The routes that are asked for, in dump order, from the index `skip` on, and how many there are in all. It takes memory for them
+/// alone.
+#[unsafe(no_mangle)]
+pub extern "C" fn yarib_select(
+    alloc: Global,
+    table: &mut Yarib,
+    asked: &YaribSelection,
+    skip: usize,
+    routes: &mut [YaribRoute],
+    total: &mut usize,
+) -> u32
+    ensures done { result ≡ 0 → Holds table.old (λ held. ShowsSelected asked.now (routes_in held) skip routes.new total.new) }
+    ensures same { held_in table.new ≡ held_in table.old }
+    ensures absent { result ≡ 1 → held_in table.old ≡ None }
+    ensures number { result ≡ 2 → IsOutOfRange asked.now }
+    ensures length { result ≡ 8 → 32 < asked.now.len }
+    ensures bits { result ≡ 9 → (asked.now.len ≤ 32) × ¬ IsPrefix asked.now.base asked.now.len }
+    ensures kind { result ≡ 10 → Holds table.old IsForwarding }
+    ensures silent { result ≢ 0 → (routes.new ≡ routes.old) × (total.new ≡ total.old) }
+    ensures known { (result ≡ 0) ⊎ ((result ≡ 1) ⊎ ((result ≡ 2) ⊎ ((result ≡ 4) ⊎ ((8 ≤ result) × (result ≤ 10))))) }
+{
+    let Some(held) = table.take(alloc) else {
+        return NOTHING;
+    };
+    let status = show_selected(alloc, &held, asked, skip, routes, total);
+    *table = Yarib::of(held);
+    status
+}
+
+fn show_selected(
+    alloc: Global,
+    held: &Held,
+    asked: &YaribSelection,
+    skip: usize,
+    routes: &mut [YaribRoute],
+    total: &mut usize,
+) -> u32
+    ensures done { result ≡ 0 → ShowsSelected asked.now (routes_in held.now) skip routes.new total.new }
+    ensures number { result ≡ 2 → IsOutOfRange asked.now }
+    ensures length { result ≡ 8 → 32 < asked.now.len }
+    ensures bits { result ≡ 9 → (asked.now.len ≤ 32) × ¬ IsPrefix asked.now.base asked.now.len }
+    ensures kind { result ≡ 10 → IsForwarding held.now }
+    ensures silent { result ≢ 0 → (routes.new ≡ routes.old) × (total.new ≡ total.old) }
+    ensures known { (result ≡ 0) ⊎ ((result ≡ 2) ⊎ ((result ≡ 4) ⊎ ((8 ≤ result) × (result ≤ 10)))) }
+{
+    if asked.is_out_of_range() {
+        return BAD_NUMBER;
+    }
+    let part = match asked.read_part() {
+        Ok(part) => part,
+        Err(TextFault::Bits) => return BAD_BITS,
+        Err(_) => return BAD_LENGTH,
+    };
+    let Some(table) = held.table() else {
+        return WRONG_KIND;
+    };
+    let wanted = Selection {
+        part,
+        only_best: asked.only_best == 1,
+        feed: if asked.feed == 0 {
+            None
+        } else {
+            Some(asked.feed)
+        },
+    };
+    let Ok(found) = table.select(alloc, &wanted) else {
+        return NO_MEMORY;
+    };
+    *total = put_routes(found.as_slice(), skip, routes);
+    DONE
+}
