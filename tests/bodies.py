@@ -43,7 +43,7 @@ BODIES = {
     "four-times-given-up": ("twice(twice(n))", "twice(n)", "four_times", "refused, as it must be: "),
     "right": ("twice(twice(n))", "twice(n) + twice(n)", "four_times", "NOT REFUSED in four_times"),
     "standing-twice": ("n + n", "n", "twice", "BAD BODY: an 'old:' text is in src/lib.rt 4 times"),
-    "unreadable": ("    n + n", "    n +", "twice", "BAD BODY: it didn't reach the prover"),
+    "unreadable": ("    n + n", "    n +", "twice", "BAD BODY: the prover gave no verdict"),
 }
 
 

@@ -90,7 +90,8 @@ def crowd(called):
 # Fails where no place ever naps, or a place looks only at one side of the root: `file 1 naps`, `file 2 naps`.
 def door(called):
     """Each of two files naps at some time where it meets the other one again and again."""
-    write_meeting(dumps=200_000, seldom=0)
+    # So many that the file of dumps hasn't ended before the other one's thread begins, however busy the machine is.
+    write_meeting(dumps=3_000_000, seldom=0)
     for file, names in ((1, ["dumps.feed", "adds.feed"]), (2, ["adds.feed", "dumps.feed"])):
         naps, rounds = 0, 0
         while naps == 0 and rounds < 30:
