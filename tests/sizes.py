@@ -248,13 +248,14 @@ def addresses(yarib):
             compare(f"{count} addresses {words}", ended, 0, answer * count)
 
 
-# From so many addresses and routes on a forwarding table answers (MANY_ADDRESSES, MANY_ROUTES of rt_run/src/forwarding.rt).
-FORWARDED = 1 << 19, 1 << 14
+# From so many addresses, routes and addresses a route on a forwarding table answers (MANY_ADDRESSES, MANY_ROUTES and
+# ADDRESSES_A_ROUTE of rt_run/src/forwarding.rt).
+FORWARDED = 1 << 19, 1 << 14, 3
 
 
 def many_routes(count):
     """A feed of so many routes, addresses in and between them, and what a look-up of each prints."""
-    lines, asked, answers = ["version 2\n", "add 10.0.0.0/8 9 discard\n"], [], []
+    lines, asked, answers = ["version 2\n", "add 8.0.0.0/5 9 discard\n"], [], []
 
     def ask(addr, answer):
         asked.append(f"{addr}\n")
@@ -270,10 +271,10 @@ def many_routes(count):
         for place in (256, 271):
             ask(dotted(base + place), f"route {part} feed 1 pref 2 via 192.0.2.2")
         ask(dotted(base + 511), f"route {host} feed 1 pref 1 via 192.0.2.3")
-        ask(dotted(base + 512), "route 10.0.0.0/8 feed 1 pref 9 via discard")
+        ask(dotted(base + 512), "route 8.0.0.0/5 feed 1 pref 9 via discard")
         ask(dotted(base + 1023), f"route {dotted(base + 768)}/24 feed 1 pref 4 via 192.0.2.4")
-    lines += [f"add 11.0.0.{place}/32 5 discard\n" for place in range((count - 1) % 4)]
-    ask("9.255.255.255", "no route")
+    lines += [f"add 15.0.0.{place}/32 5 discard\n" for place in range((count - 1) % 4)]
+    ask("7.255.255.255", "no route")
     ask("255.255.255.255", "no route")
     return "".join(lines), asked, answers
 
@@ -281,9 +282,10 @@ def many_routes(count):
 # Fails where F3 is answered to as many addresses as a forwarding table answers.
 def forwarded(yarib):
     """Look-ups on both sides of the numbers from which on a forwarding table answers them, and far beyond."""
-    addresses, routes = FORWARDED
-    far = [(2_500_000, routes), (addresses, 65_001)]
-    for count, size in [(addresses - 1, routes), (addresses, routes), (addresses + 1, routes), (addresses, routes - 1), *far]:
+    addresses, routes, a_route = FORWARDED
+    cases = [(addresses - 1, routes), (addresses, routes), (addresses + 1, routes), (addresses, routes - 1)]
+    cases += [(addresses, addresses // a_route + more) for more in (-1, 0, 1)] + [(2_500_000, routes), (addresses, 65_001)]
+    for count, size in cases:
         text, asked, answers = many_routes(size)
         times, rest = divmod(count, len(asked))
         pathlib.Path("many.feed").write_text(text)
