@@ -14,8 +14,9 @@ import sys
 import tempfile
 
 import figures
-import run
 from figures import checks
+from inputs import changing_table, deal, write
+from timed import measure
 
 FILES = (2, 4, 16, 64)
 BATCHES = (1, 256)
@@ -43,7 +44,7 @@ def compare(cases, batch, rounds):
     yarib, peer, several, one = cases
     words = [yarib, "run", "--batch", str(batch)]
     runs = [[*words, *several], [*words, *one], [peer, *one]]
-    rounds = [[run.measure(call, False)[:2] for call in runs] for _ in range(rounds)]
+    rounds = [[measure(call, False)[:2] for call in runs] for _ in range(rounds)]
     return [[[made[case][kind] for made in rounds] for case in range(3)] for kind in range(2)]
 
 
@@ -75,10 +76,10 @@ def main():
     rounds, yarib = words.rounds, checks.built()
     with tempfile.TemporaryDirectory() as made:
         folder = pathlib.Path(made)
-        table = run.changing_table(words.lines * 10 // 16)
+        table = changing_table(words.lines * 10 // 16)
         for files in (1, *FILES):
             (folder / str(files)).mkdir()
-            run.write(folder / str(files), lambda: run.deal(table, files))
+            write(folder / str(files), lambda: deal(table, files))
         programs = (yarib, figures.built_peer(folder, "peer.rs"))
         print("                      several files on the clock  one file    plain     ratios of the clock  of processors")
         print("beside files batch    middle   least    most   middle   middle to one  to plain     to one")

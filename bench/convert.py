@@ -17,7 +17,8 @@ import tempfile
 import time
 
 import figures
-import run
+from inputs import real_prefixes
+from table_model import dotted
 
 EXAMPLES = figures.TOP / "examples"
 PEERS = 20
@@ -26,7 +27,7 @@ PATHS = 100_000
 
 def prefixes(count):
     """So many prefixes in rising order, as daemons and collectors list them."""
-    return [f"{run.dotted(base)}/{length}" for base, length in sorted(run.real_prefixes(count, random.Random(1)))]
+    return [f"{dotted(base)}/{length}" for base, length in sorted(real_prefixes(count, random.Random(1)))]
 
 
 def paths():
@@ -108,7 +109,7 @@ def of_comparison(count):
     draw, hops = random.Random(3), [f"via 192.0.2.{number}" for number in range(1, 41)]
     for number in range(count):
         base, (old, new) = number * (1 << 32) // count & ~255, draw.sample(hops, 2)
-        yield f"{run.dotted(base)}-{run.dotted(base + 255)} {old} -> {new}\n"
+        yield f"{dotted(base)}-{dotted(base + 255)} {old} -> {new}\n"
 
 
 INPUTS = (

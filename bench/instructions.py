@@ -11,8 +11,8 @@ import subprocess
 import tempfile
 
 import figures
-import run
 from figures import checks
+from inputs import one_prefix, real_table
 
 # The first that is found in a function's name tells its part.
 PARTS = [
@@ -48,7 +48,7 @@ def main():
     with tempfile.TemporaryDirectory() as made:
         one, real = (
             counted(yarib, lines, pathlib.Path(made))
-            for lines in (run.one_prefix(50_000), run.real_table(70_000, False))
+            for lines in (one_prefix(50_000), real_table(70_000, False))
         )
     rows = [{"part": part, "one_prefix": one[part], "real_lengths": real[part]} for part, _ in PARTS]
     rows.append({"part": "all", "one_prefix": sum(one.values()), "real_lengths": sum(real.values())})

@@ -12,7 +12,7 @@ import time
 
 import figures
 from figures import checks
-from hostile import AGAIN
+from texts import AGAIN
 
 
 def measured(words):

@@ -15,8 +15,10 @@ import sys
 import tempfile
 
 import figures
-import run
 from figures import checks
+from inputs import add, count_lines, real_prefixes, write
+from table_model import dotted
+from timed import measure, measured, shown
 
 FILES = (1, 4, 16, 64)
 
@@ -28,11 +30,11 @@ def feed(number, count, prefixes):
     tenth = len(announced) // 10
     yield "version 2"
     for base, length in announced:
-        yield run.add(draw, base, length)
+        yield add(draw, base, length)
     for base, length in announced[:tenth]:
-        yield f"withdraw {run.dotted(base)}/{length}"
+        yield f"withdraw {dotted(base)}/{length}"
     for base, length in announced[tenth : 2 * tenth]:
-        yield f"replace {run.dotted(base)}/{length} {draw.randrange(200)} 192.0.2.2"
+        yield f"replace {dotted(base)}/{length} {draw.randrange(200)} 192.0.2.2"
     if number == count:
         yield "purge"
 
@@ -48,13 +50,13 @@ def compare(paths, processors, batch, programs, rounds):
     os.sched_setaffinity(0, processors)
     runs = []
     for _ in range(rounds):
-        ours = run.measure([yarib, "run", "--limit", "1000000", "--batch", str(batch), *paths], True)
-        runs.append((ours, run.measure([peer, *paths], True)))
+        ours = measure([yarib, "run", "--limit", "1000000", "--batch", str(batch), *paths], True)
+        runs.append((ours, measure([peer, *paths], True)))
     os.sched_setaffinity(0, every)
     if runs[0][0][3] != runs[0][1][3]:
         sys.exit(f"{len(paths)} files: the outputs differ")
-    measures = run.measured(runs)
-    print(f"{len(paths):2} files on {len(processors):2} processors, batch {batch:3}{run.shown(measures)}", flush=True)
+    measures = measured(runs)
+    print(f"{len(paths):2} files on {len(processors):2} processors, batch {batch:3}{shown(measures)}", flush=True)
     return measures
 
 
@@ -64,8 +66,8 @@ def compare_files(folder, count, batches, on_all, programs, rounds):
     rows = []
     for files in FILES:
         (folder / str(files)).mkdir()
-        paths = run.write(folder / str(files), lambda: feeds(files, run.real_prefixes(count, random.Random(1))))
-        lines = run.count_lines(paths)
+        paths = write(folder / str(files), lambda: feeds(files, real_prefixes(count, random.Random(1))))
+        lines = count_lines(paths)
         for some in (1, 2, len(every)):
             for batch in on_all if some == len(every) else batches:
                 about = {"files": files, "lines": lines, "on": some, "batch": batch}

@@ -103,6 +103,12 @@ def run(words, **how):
     return ended.returncode, text_of(ended.stdout), text_of(ended.stderr)
 
 
+def close_all():
+    """Closes standard input, output and error, in a process that is about to begin."""
+    for descriptor in (0, 1, 2):
+        os.close(descriptor)
+
+
 def text_of(written):
     """What was written, as text; bytes that are none stand as such."""
     return (written or b"").decode(errors="backslashreplace")

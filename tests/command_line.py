@@ -26,9 +26,9 @@ import time
 import tty
 
 import calls
-from checks import TOP, Program, chosen, compare, end, expect, run_each
-from hostile import ROW, ROW_OUT, close_all
+from checks import TOP, Program, chosen, close_all, compare, end, expect, run_each
 from table_model import E1, E3, E8, Table, differences_text, dotted
+from texts import ROW, ROW_OUT
 
 CANNOT_WRITE = (6, "", "yarib: cannot write\n")
 
@@ -521,7 +521,8 @@ def counted(line, path_of):
 
 # Fails where a length, a feed or the last of either is forgotten, or routes are counted as prefixes: `--count of 300`.
 def counted_tables(yarib):
-    """How many routes are in each part of random tables, beside the rows that the same command prints; and all feeds and lengths."""
+    """How many routes are in each part of random tables, beside the rows that the same command prints; and all feeds and
+    lengths."""
     choice = random.Random(62)
     for count in (0, 1, 12, 300):
         _, names = random_table(choice, f"counted{count}_", count)
@@ -535,11 +536,12 @@ def counted_tables(yarib):
                 _, lines, _ = yarib("table", "--count", *words)
                 status, out, err = yarib("table", "--count", "--json", *words)
                 wanted = [counted(line, lambda feed: names[feed - 1]) for line in lines.splitlines()]
-                expect(f"--count --json of {count} {words}", (status, [json.loads(line) for line in out.splitlines()], err), (0, wanted, ""))
-    text = "".join(f"add {dotted(cut(10 << 24, length))}/{length} 1 192.0.2.1\n" for length in range(33))
-    pathlib.Path("lengths.feed").write_text(text)
-    wanted = counts_text([f"{dotted(cut(10 << 24, length))}/{length} feed {feed:02}" for feed in range(1, 65) for length in range(33)])
+                found = [json.loads(line) for line in out.splitlines()]
+                expect(f"--count --json of {count} {words}", (status, found, err), (0, wanted, ""))
+    prefixes = [f"{dotted(cut(10 << 24, length))}/{length}" for length in range(33)]
+    wanted = counts_text([f"{prefix} feed {feed:02}" for feed in range(1, 65) for prefix in prefixes])
     wanted = re.sub("feed 0", "feed ", wanted)
+    pathlib.Path("lengths.feed").write_text("".join(f"add {prefix} 1 192.0.2.1\n" for prefix in prefixes))
     compare("64 feeds and 33 lengths", yarib("table", "--count", *["lengths.feed"] * 64), 0, wanted)
     ended = yarib("table", "--count", "--json", "--names", "--best", "a folder/lengths.feed", "lengths.feed")
     expect("--count of two files of one name", ended[0], 3)
@@ -665,7 +667,8 @@ def compared_as_json(yarib):
     compare("a range as JSON, to the byte", ended, 1, (
         '{"first":"10.0.0.0","last":"10.255.255.255","old":{"via":"192.0.2.1"},"new":null}\n'))
     compare("no range as JSON", yarib("diff", "--json", "row.feed", "--", "row.feed"), 0, "")
-    expect("65 new files, as JSON", yarib("diff", "--json", "row.feed", "--", *["row.feed"] * 65), (3, "", "yarib: more than 64 files\n"))
+    ended = yarib("diff", "--json", "row.feed", "--", *["row.feed"] * 65)
+    expect("65 new files, as JSON", ended, (3, "", "yarib: more than 64 files\n"))
 
 
 # Fails where feeds are paired by their numbers and not by their names: `a file that one side lacks`.
@@ -696,13 +699,15 @@ def compared_by_name(yarib):
     compare("a file that one side lacks, as JSON", yarib("diff", "--by", "route", "--names", "--json", *both), 1, (
         '{"first":"10.0.0.0","last":"10.255.255.255","old":{"prefix":"10.0.0.0/8","feed":1,"name":"one","file":"older/one.feed",'
         '"pref":5,"via":"192.0.2.1"},"new":null}\n'))
-    moved = yarib("diff", "--by", "route", "--names", "--json", "older/one.feed", "older/two.feed", "--", "newer/three.feed", "newer/two.feed")
+    sides = ["older/one.feed", "older/two.feed", "--", "newer/three.feed", "newer/two.feed"]
+    moved = yarib("diff", "--by", "route", "--names", "--json", *sides)
     told = [json.loads(line) for line in moved[1].splitlines()]
     expect("each side's own number and file", [(one["old"], one["new"]) for one in told], [
         ({"prefix": "10.0.0.0/8", "feed": 1, "name": "one", "file": "older/one.feed", "pref": 5, "via": "192.0.2.1"}, None),
         (None, {"prefix": "12.0.0.0/8", "feed": 1, "name": "three", "file": "newer/three.feed", "pref": 5, "via": "192.0.2.3"})])
     for side in (["older/one.feed", "newer/one.feed", "--", "row.feed"], ["row.feed", "--", "older/one.feed", "newer/one.feed"]):
-        compare(f"one name twice in {side}", yarib("diff", "--names", *side), 3, "", "yarib: one name for two feeds: older/one.feed, newer/one.feed\n")
+        err = "yarib: one name for two feeds: older/one.feed, newer/one.feed\n"
+        compare(f"one name twice in {side}", yarib("diff", "--names", *side), 3, "", err)
     pathlib.Path("a b.feed").write_text(ROW)
     compare("no name", yarib("diff", "--names", "row.feed", "--", "a b.feed"), 3, "", "yarib: no name for a feed: a b.feed\n")
 

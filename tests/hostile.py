@@ -16,17 +16,10 @@ import resource
 import signal
 import subprocess
 
-from checks import LAUNCHED, chosen, end, expect, run, run_each
-from refused_growth import Wrong, answered_addresses, check_shown, files as text_files, own_text, refuse_each, refuser
-from sizes import FORWARDED, many_routes
+from checks import LAUNCHED, chosen, close_all, end, expect, run, run_each
+from refusing import Wrong, answered_addresses, check_shown, refuse_each, refuser, run_refused
 from table_model import run_text
-
-ROW = "add 10.0.0.0/8 100 192.0.2.1\n"
-ROW_OUT = "1:1 added\ntable 1\n10.0.0.0/8 feed 1 pref 100 via 192.0.2.1\n"
-
-# Lines that leave the table as it was.
-AGAIN = "add 10.0.0.0/8 100 192.0.2.1\nlookup 10.1.2.3\nwithdraw 10.0.0.0/8\ndump\n"
-
+from texts import AGAIN, FORWARDED, ROW, ROW_OUT, many_routes, own_text, written
 
 # Little memory
 
@@ -68,10 +61,10 @@ def judge(what, ended, ample, texts, words):
 
 def little_memory(yarib):
     row, long, many = [ROW], [AGAIN * 20_000], [own_text(feed) for feed in range(1, 65)]
-    small, own = text_files("small", row), text_files("own", many)
+    small, own = written("small", row), written("own", many)
     cases = [
         ("one small file", ["run", *small], row, 4_096, 0),
-        ("one long file", ["run", "--batch", "100", *text_files("long", long)], long, 65_536, 0.005),
+        ("one long file", ["run", "--batch", "100", *written("long", long)], long, 65_536, 0.005),
         ("64 files", ["run", *own], many, 65_536, 0.02),
         ("a look-up in 64 files", ["lookup", "--address", "9.2.3.4", *own], None, 65_536, 0.1),
         ("all that covers, in 64 files", ["lookup", "--all", "--address", "9.2.3.4", *own], None, 65_536, 0.1),
@@ -108,7 +101,7 @@ def rising_limits(name, words, texts, step, part, memory):
 def refused_commands(yarib):
     """Each request for memory of a look-up and of a list is refused in turn, those for its commands among them."""
     refuse = refuser(pathlib.Path.cwd())
-    paths = text_files("refused", [AGAIN, ROW])
+    paths = written("refused", [AGAIN, ROW])
     asked = pathlib.Path("faulty.txt")
     asked.write_text("10.0.0.1\nfrob\n")
     for words in (
@@ -124,17 +117,6 @@ def refused_commands(yarib):
         expect(f"{name}: what was refused", kinds, {"lookup or table", "a command of a look-up or list"})
 
 
-def refused_at(words, refuse, at):
-    """What a call prints whose request of this number is refused, and whether it made one."""
-    heard, told = os.pipe()
-    asked = {"LD_PRELOAD": str(refuse), "REFUSE_AT": str(at), "REFUSE_TELL": str(told)}
-    ended = run(words, env=asked, pass_fds=[told])
-    os.close(told)
-    was_refused = os.read(heard, 1) != b""
-    os.close(heard)
-    return ended, was_refused
-
-
 # Fails where a look-up of many addresses ends with F3 where the memory of a forwarding table is refused.
 def refused_forwarding(yarib):
     """Look-ups of so many addresses that a forwarding table answers them, whose requests for memory are refused: of the last
@@ -148,9 +130,9 @@ def refused_forwarding(yarib):
     made, beyond = 1, 1 << 24
     while beyond - made > 1:
         middle = (made + beyond) // 2
-        made, beyond = (middle, beyond) if refused_at(words, refuse, middle)[1] else (made, middle)
+        made, beyond = (middle, beyond) if run_refused(words, refuse, middle).refused else (made, middle)
     whole = (0, "".join(answers) * times, "")
-    ends = [refused_at(words, refuse, made - back)[0] for back in (0, 1, 2, 5, 10, 20)]
+    ends = [run_refused(words, refuse, made - back)[:3] for back in (0, 1, 2, 5, 10, 20)]
     refused = (5, "", "yarib: fault F3\n")
     found = ["whole" if ended == whole else "refused" if ended == refused else "else" for ended in ends]
     expect("look-ups where a forwarding table is refused", found, ["refused"] + ["whole"] * 5)
@@ -248,11 +230,6 @@ def outputs(yarib):
     disc_fills(yarib, large, folder)
     status, _, _ = yarib("run", row, stderr=None, preexec_fn=lambda: os.close(2))
     expect("standard error closed", status, 0)
-
-
-def close_all():
-    for descriptor in (0, 1, 2):
-        os.close(descriptor)
 
 
 def reader_leaves(yarib, large):

@@ -53,7 +53,7 @@ def search(feeds, limit, batch, printed):
     while unvisited:
         unasked, table = unvisited.pop()
         if not any(unasked):
-            return table_text(table) == printed
+            return table_text(table.listed()) == printed
         for at, left in enumerate(unasked):
             first = len(feeds[at]) - left
             visit = feeds[at][first : first + batch]

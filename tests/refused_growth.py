@@ -12,32 +12,15 @@ together must have met each kind of refusal. The requests are refused before the
 changes nothing here, and all is run once.
 """
 import collections
-import os
 import pathlib
 import re
-import subprocess
 import tempfile
 
 import checks
+from refusing import Wrong, agree, check_shown, refuse_each, refuser
 from table_model import Table, dotted, run_text
+from texts import own_text, written
 
-Ending = collections.namedtuple("Ending", "status out err refused")
-
-
-def refuser(folder):
-    """The path of what refuses."""
-    return checks.compiled(folder, "tests/refuse.c", "-shared", "-fPIC")
-
-
-def run(words, refuse, at, rest):
-    """One run in which the request of this number is refused, and all later ones where `rest` says so."""
-    heard, told = os.pipe()
-    asked = {"LD_PRELOAD": str(refuse), "REFUSE_AT": str(at), "REFUSE_REST": str(int(rest)), "REFUSE_TELL": str(told)}
-    ended = subprocess.run(words, env=asked, capture_output=True, text=True, pass_fds=[told], timeout=60)
-    os.close(told)
-    refused = os.read(heard, 1) != b""
-    os.close(heard)
-    return Ending(ended.returncode, ended.stdout, ended.stderr, refused)
 
 
 def plain(text):
@@ -70,15 +53,6 @@ def routes_of(text):
     return [reply_of("Found(" + route + ")").removeprefix("route ") for route in routes]
 
 
-class Wrong(Exception):
-    """What a run printed is not what the model explains."""
-
-
-def agree(found, wanted, what):
-    if found != wanted:
-        raise Wrong(f"{what}: {found!r} in place of {wanted!r}")
-
-
 def check_lock(lines, ample, kinds):
     """Two tries at a lock that lends a value."""
     agree(len(lines), 2, "the number of lines")
@@ -89,7 +63,7 @@ def check_lock(lines, ample, kinds):
             agree(line, f"lock of 64 places lent {value}", "the lock")
 
 
-def asked_of(lines):
+def asked_in(lines):
     """What the lines of the table's case ask, without the answers."""
     asked = [re.sub(r"^(routes|left) .*| (?:Ok|Err)\(.*", r"\1", line) for line in lines]
     return [line for line in asked if not line.startswith(("journal", "table"))]
@@ -98,7 +72,7 @@ def asked_of(lines):
 def check_table(lines, ample, kinds):
     """The commands of several feeds over one table, whose journal has those that were answered."""
     table, journal, told = Table(2), [], []
-    agree(asked_of(lines), [] if lines == ["table refused"] * 2 else asked_of(ample), "what was asked")
+    agree(asked_in(lines), [] if lines == ["table refused"] * 2 else asked_in(ample), "what was asked")
 
     def answered(feed, command, reply):
         agree(reply_of(reply), table.apply(feed, words_of(command)), command)
@@ -253,26 +227,6 @@ def check_run(texts):
     return compare
 
 
-def answered_addresses(out):
-    """The addresses that a look-up has answered, in order, each once for all its lines."""
-    lines = re.findall(r"^([\d.]+) (?:route|no route|also)\b", out, re.MULTILINE)
-    return [addr for at, addr in enumerate(lines) if at == 0 or addr != lines[at - 1]]
-
-
-def check_shown(ending, ample, kinds):
-    """A look-up or list of the table: all is as it was, or nothing is printed and nothing told, or commands were refused."""
-    if (ending.status, ending.out, ending.err) == (5, "", "yarib: fault F3\n"):
-        kinds.add("lookup or table")
-        return
-    if ending.status != 5:
-        agree(ending[:3], ample[:3], "all of it")
-        return
-    agree(answered_addresses(ending.out), answered_addresses(ample.out), "the addresses that are answered")
-    told = re.search(r"^yarib: .*: commands refused for want of memory: [1-9]\d*$", ending.err, re.M)
-    agree(told is not None, True, "that refused commands are told")
-    kinds.add("a command of a look-up or list")
-
-
 def check_same(ending, ample, kinds):
     """A call of the program that has all or nothing."""
     if (ending.status, ending.out) == (5, "") and ending.err in ("yarib: fault F3\n", "yarib: fault P3\n"):
@@ -281,35 +235,13 @@ def check_same(ending, ample, kinds):
     agree(ending[:3], ample[:3], "all of it")
 
 
-ROW = """add 10.0.0.0/8 10 192.0.2.1
+SIX_COMMANDS = """add 10.0.0.0/8 10 192.0.2.1
 add 10.1.0.0/16 10 192.0.2.2
 add 10.2.0.0/16 10 192.0.2.3
 withdraw 10.1.0.0/16
 lookup 10.1.2.3
 dump
 """
-
-
-def own_text(feed):
-    """A text of prefixes that no other feed has."""
-    return f"""version 2
-add {feed}.0.0.0/8 10 192.0.2.1
-replace {feed}.0.0.0/8 9 discard
-frob
-lookup {feed}.1.2.3
-add {feed}.1.0.0/16 10 192.0.2.2
-withdraw {feed}.0.0.0/8
-purge
-add {feed}.2.0.0/16 1 192.0.2.3
-"""
-
-
-def files(name, texts):
-    """The names of files with these texts."""
-    paths = [pathlib.Path(f"{name}{place}.feed") for place in range(1, len(texts) + 1)]
-    for path, text in zip(paths, texts):
-        path.write_text(text)
-    return paths
 
 
 def check_refused_words(ending, ample, kinds):
@@ -356,14 +288,14 @@ def asked():
 
 def cases_of(name, texts):
     """The cases of runs over these texts, and of what is asked of their table."""
-    own = lambda: files("own", texts)
+    own = lambda: written("own", texts)
     for batch in ("1", "3"):
         words = lambda batch=batch: ["run", "--batch", batch, *own()]
         yield of_yarib(f"{name} in batches of {batch}", words, check_run(texts))
     yield of_yarib(f"a look-up in {name}", lambda: ["lookup", "--addresses", asked(), *own()], check_shown)
     yield of_yarib(f"all that covers in {name}", lambda: ["lookup", "--all", "--addresses", asked(), *own()], check_shown)
     yield of_yarib(f"the table of {name}", lambda: ["table", "--best", *own()], check_shown)
-    compared = lambda: ["diff", *own(), "--", *files("other", [ROW])]
+    compared = lambda: ["diff", *own(), "--", *written("other", [SIX_COMMANDS])]
     yield of_yarib(f"a comparison of {name} with one", compared, check_shown)
 
 
@@ -372,7 +304,7 @@ CASES = [
     of_benches("the shared table", "table", check_table),
     of_benches("a feed", "feed", check_feeds),
     of_benches("three feeds", "feeds", check_feeds),
-    *cases_of("one file", [ROW]),
+    *cases_of("one file", [SIX_COMMANDS]),
     *cases_of("three files", [own_text(feed) for feed in range(1, 4)]),
     *cases_of("64 files", [own_text(feed) for feed in range(1, 65)]),
     of_yarib("a replay", lambda: ["replay", "--levels", "1", "0", "0", "0", "0"], check_same),
@@ -386,20 +318,6 @@ KINDS = {
     "Book::routes", "lookup or table", "a command of a look-up or list", "run_feed", "run_feeds", "a command of a feed",
     "run_texts", "a line of a run", "fault F3", "fault P3",
 } | {"SharedRib::apply " + name for name in ("Add", "Replace", "Withdraw", "Lookup", "Dump", "Purge")}
-
-
-def refuse_each(words, compare, refuse, rest, kinds):
-    """Refuses each request of a case in turn, with all later ones where `rest` says so, and gives how many there are."""
-    ample = run(words, refuse, 0, False)
-    at = 0
-    while at == 0 or ending.refused:
-        at += 1
-        ending = run(words, refuse, at, rest)
-        try:
-            compare(ending, ample, kinds)
-        except Wrong as wrong:
-            raise Wrong(f"request {at} refused{' and all later ones' if rest else ''}: {wrong}\n{ending}") from wrong
-    return at - 1
 
 
 def main():

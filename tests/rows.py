@@ -3,7 +3,7 @@
 
 tests/rows.py [PROGRAM [CASE..]], or --list for the names of the cases. Linux, python3.
 
-Worked runs stand here line beside line, and replays whole. Hostile lines are read by a plain reader, written from
+Worked runs and replays stand in tests/worked.py. Hostile lines are read by a plain reader, written from
 docs/FORMATS.md; around each that it takes for a command are others, whose answers show all that the program has read there. Runs
 of random feeds on threads are judged by tests/judge.py: some order of the feeds' visits has to explain each.
 """
@@ -18,38 +18,8 @@ from typing import NamedTuple
 
 import judge
 from checks import chosen, compare, end, expect, run_each
-from table_model import E1, E3, E8
-
-
-class Worked(NamedTuple):
-    """A feed's lines, each with its answer, or None where it has none; and the rows of the table that they leave."""
-
-    name: str
-    lines: list
-    rows: tuple = ()
-    limit: int = 65_536
-    end: str = "\n"
-
-    @property
-    def text(self):
-        return "\n".join(line for line, _ in self.lines) + (self.end if self.lines else "")
-
-    @property
-    def output(self):
-        return report(1, [answer for _, answer in self.lines]) + table(self.rows)
-
-    @property
-    def status(self):
-        return 2 if any(answer and answer.startswith("fault") for _, answer in self.lines) else 0
-
-
-def report(feed, answers):
-    """What a run prints of a feed whose lines have these answers."""
-    return "".join(f"{feed}:{number} {answer}\n" for number, answer in enumerate(answers, 1) if answer)
-
-
-def table(rows):
-    return f"table {len(rows)}\n" + "".join(row + "\n" for row in rows)
+from table_model import E1, E3, E8, table_text
+from worked import REPLAYS, SIX, WORKED, report
 
 
 def run_texts(yarib, texts, words=()):
@@ -61,181 +31,6 @@ def run_texts(yarib, texts, words=()):
 
 
 # Worked runs
-
-# Six commands, which every batch size cuts in another way.
-SIX = Worked(
-    "six commands",
-    [
-        ("add 10.0.0.0/8 10 192.0.2.1", "added"),
-        ("add 10.1.0.0/16 10 192.0.2.2", "added"),
-        ("add 10.2.0.0/16 10 192.0.2.3", "added"),
-        ("withdraw 10.1.0.0/16", "withdrawn"),
-        ("lookup 10.1.2.3", "route 10.0.0.0/8 feed 1 pref 10 via 192.0.2.1"),
-        ("dump", "dumped 2"),
-    ],
-    ["10.0.0.0/8 feed 1 pref 10 via 192.0.2.1", "10.2.0.0/16 feed 1 pref 10 via 192.0.2.3"],
-)
-
-WORKED = [
-    SIX,
-    Worked("no line", []),
-    Worked(
-        "one route",
-        [("add 10.0.0.0/8 100 192.0.2.1", "added"), ("lookup 10.1.2.3", "route 10.0.0.0/8 feed 1 pref 100 via 192.0.2.1")],
-        ["10.0.0.0/8 feed 1 pref 100 via 192.0.2.1"],
-    ),
-    Worked(
-        "the shortest and the longest prefix",
-        [
-            ("add 0.0.0.0/0 1 192.0.2.1", "added"),
-            ("add 10.0.0.0/8 1 192.0.2.2", "added"),
-            ("add 10.255.255.255/32 1 192.0.2.3", "added"),
-            ("lookup 10.255.255.255", "route 10.255.255.255/32 feed 1 pref 1 via 192.0.2.3"),
-            ("lookup 10.255.255.254", "route 10.0.0.0/8 feed 1 pref 1 via 192.0.2.2"),
-            ("lookup 11.0.0.0", "route 0.0.0.0/0 feed 1 pref 1 via 192.0.2.1"),
-        ],
-        [
-            "0.0.0.0/0 feed 1 pref 1 via 192.0.2.1",
-            "10.0.0.0/8 feed 1 pref 1 via 192.0.2.2",
-            "10.255.255.255/32 feed 1 pref 1 via 192.0.2.3",
-        ],
-    ),
-    Worked("a bit past the length", [("add 10.0.0.1/8 1 192.0.2.1", "fault E5")]),
-    Worked(
-        "prefixes that are none",
-        [
-            ("add 10.0.0.0/33 1 192.0.2.1", "fault E4"),
-            ("add 010.0.0.0/8 1 192.0.2.1", "fault E3"),
-            ("add 10.0.0/8 1 192.0.2.1", "fault E3"),
-            ("add 10.0.0.0/08 1 192.0.2.1", "fault E3"),
-        ],
-    ),
-    Worked(
-        "a full table",
-        [
-            ("add 10.0.0.0/8 1 192.0.2.1", "added"),
-            ("add 10.0.0.0/8 1 192.0.2.1", "exists"),
-            ("add 11.0.0.0/8 1 192.0.2.1", "full"),
-        ],
-        ["10.0.0.0/8 feed 1 pref 1 via 192.0.2.1"],
-        limit=1,
-    ),
-    Worked("what is not there", [("replace 10.0.0.0/8 1 192.0.2.1", "missing"), ("withdraw 10.0.0.0/8", "missing")]),
-    Worked(
-        "both halves",
-        [
-            ("add 128.0.0.0/1 1 192.0.2.1", "added"),
-            ("add 0.0.0.0/1 1 192.0.2.2", "added"),
-            ("lookup 127.255.255.255", "route 0.0.0.0/1 feed 1 pref 1 via 192.0.2.2"),
-            ("withdraw 0.0.0.0/1", "withdrawn"),
-            ("add 0.0.0.0/2 1 192.0.2.3", "added"),
-            ("lookup 64.0.0.0", "no route"),
-        ],
-        ["0.0.0.0/2 feed 1 pref 1 via 192.0.2.3", "128.0.0.0/1 feed 1 pref 1 via 192.0.2.1"],
-    ),
-    Worked(
-        "each fault but two",
-        [
-            ("frob", "fault E1"),
-            ("dump x", "fault E2"),
-            ("add  10.0.0.0/8 1 192.0.2.1", "fault E2"),
-            ("lookup 1.2.3.4.5", "fault E3"),
-            ("add 10.0.0.0/8 4294967296 192.0.2.1", "fault E6"),
-            ("add 10.0.0.0/8 4294967295 256.0.0.1", "fault E7"),
-            ("", None),
-            ("# note", None),
-            ("dump", "dumped 0"),
-        ],
-    ),
-    Worked("a line of 129 bytes, and a last one without LF", [("#" * 129, "fault E8"), ("dump", "dumped 0")], end=""),
-    Worked("a comment of 128 bytes", [("#" * 128, None), ("dump", "dumped 0")], end=""),
-    Worked(
-        "a replaced route",
-        [
-            ("add 10.0.0.0/8 5 192.0.2.1", "added"),
-            ("replace 10.0.0.0/8 9 192.0.2.2", "replaced"),
-            ("lookup 10.255.255.255", "route 10.0.0.0/8 feed 1 pref 9 via 192.0.2.2"),
-        ],
-        ["10.0.0.0/8 feed 1 pref 9 via 192.0.2.2"],
-    ),
-    Worked(
-        "an aggregate whose addresses lead nowhere, but for one part of it; a purge takes out all that the feed has",
-        [
-            ("version 2", None),
-            ("# note", None),
-            ("add 10.0.0.0/8 5 discard", "added"),
-            ("add 10.1.0.0/16 5 192.0.2.1", "added"),
-            ("lookup 10.1.0.1", "route 10.1.0.0/16 feed 1 pref 5 via 192.0.2.1"),
-            ("lookup 10.2.0.1", "route 10.0.0.0/8 feed 1 pref 5 via discard"),
-            ("purge", "purged 2"),
-            ("lookup 10.1.0.1", "no route"),
-        ],
-    ),
-    Worked(
-        "a discard route that is replaced",
-        [
-            ("version 2", None),
-            ("add 10.0.0.0/8 5 discard", "added"),
-            ("add 10.1.0.0/16 5 192.0.2.1", "added"),
-            ("lookup 10.1.0.1", "route 10.1.0.0/16 feed 1 pref 5 via 192.0.2.1"),
-            ("lookup 10.2.0.1", "route 10.0.0.0/8 feed 1 pref 5 via discard"),
-            ("replace 10.0.0.0/8 5 192.0.2.9", "replaced"),
-            ("lookup 10.2.0.1", "route 10.0.0.0/8 feed 1 pref 5 via 192.0.2.9"),
-        ],
-        ["10.0.0.0/8 feed 1 pref 5 via 192.0.2.9", "10.1.0.0/16 feed 1 pref 5 via 192.0.2.1"],
-    ),
-    Worked(
-        "a comment before the version",
-        [("# x", None), ("version 2", "fault E1"), ("add 10.0.0.0/8 5 discard", "fault E7")],
-    ),
-    Worked("a version alone", [("version 2", None)], end=""),
-    Worked(
-        "purges",
-        [
-            ("version 2", None),
-            ("add 10.0.0.0/8 1 192.0.2.1", "added"),
-            ("add 10.1.0.0/16 1 192.0.2.1", "added"),
-            ("add 10.2.0.0/16 1 192.0.2.1", "added"),
-            ("purge", "purged 3"),
-            ("purge", "purged 0"),
-            ("dump", "dumped 0"),
-        ],
-    ),
-    Worked(
-        "a purge of a full table",
-        [
-            ("version 2", None),
-            ("add 10.0.0.0/8 1 192.0.2.1", "added"),
-            ("add 11.0.0.0/8 1 192.0.2.1", "full"),
-            ("purge", "purged 1"),
-            ("add 11.0.0.0/8 1 192.0.2.1", "added"),
-        ],
-        ["11.0.0.0/8 feed 1 pref 1 via 192.0.2.1"],
-        limit=1,
-    ),
-    Worked("a version with a carriage return", [("version 2\r", "fault E1"), ("purge", "fault E1")]),
-    Worked("a version with a space more", [("version 2 ", "fault E1"), ("purge", "fault E1")]),
-    Worked("a version on a later line", [("dump", "dumped 0"), ("version 2", "fault E1"), ("purge", "fault E1")]),
-    Worked("a version behind an empty line", [("", None), ("version 2", "fault E1"), ("purge", "fault E1")]),
-    Worked("two versions", [("version 2", None), ("version 2", "fault E1"), ("purge", "purged 0")]),
-    Worked(
-        "a version before a comment and a last line without LF",
-        [("version 2", None), ("", None), ("# note", None), ("add 10.0.0.0/8 5 discard", "added")],
-        ["10.0.0.0/8 feed 1 pref 5 via discard"],
-        end="",
-    ),
-    Worked(
-        "the least and the greatest preference",
-        [
-            ("add 10.0.0.0/8 4294967295 192.0.2.1", "added"),
-            ("lookup 10.0.0.1", "route 10.0.0.0/8 feed 1 pref 4294967295 via 192.0.2.1"),
-            ("replace 10.0.0.0/8 0 255.255.255.255", "replaced"),
-            ("lookup 10.0.0.1", "route 10.0.0.0/8 feed 1 pref 0 via 255.255.255.255"),
-            ("withdraw 10.0.0.0/8", "withdrawn"),
-        ],
-    ),
-]
-
 
 # Fails where `run_texts` always returns F3 or `Write`, or every command is reported as refused.
 # Fails where F3 is returned for one of the texts.
@@ -257,7 +52,8 @@ def hundreds_of_thousands_of_lines(yarib):
     prefixes = [f"10.{at >> 16}.{at >> 8 & 255}.{at & 255}/32" for at in range(200_000)]
     text = "".join(f"add {prefix} 7 192.0.2.1\n" for prefix in prefixes)
     rows = [f"{prefix} feed 1 pref 7 via 192.0.2.1" for prefix in prefixes]
-    compare("200,000 routes", run_texts(yarib, [text], ["--limit", "200000"]), 0, report(1, ["added"] * 200_000) + table(rows))
+    wanted = report(1, ["added"] * 200_000) + table_text(rows)
+    compare("200,000 routes", run_texts(yarib, [text], ["--limit", "200000"]), 0, wanted)
 
 
 # First lines of texts, and the version that each is of.
@@ -274,7 +70,7 @@ def versions(yarib):
         if version == 2:
             answers = [None, "purged 0"]
         ended = run_texts(yarib, ["\n".join(lines)])
-        compare(f"the first line {first!r}", ended, 2 if version == 1 else 0, report(1, answers) + table([]))
+        compare(f"the first line {first!r}", ended, 2 if version == 1 else 0, report(1, answers) + table_text([]))
 
 
 # Texts and the answers to their lines: each `frob` is a line that is seen.
@@ -288,7 +84,7 @@ TEXTS = [
 # Fails where a last line without LF is dropped.
 def texts_are_cut_into_lines(yarib):
     for text, answers in TEXTS:
-        compare(f"the text {text!r}", run_texts(yarib, [text]), 2 if any(answers) else 0, report(1, answers) + table([]))
+        compare(f"the text {text!r}", run_texts(yarib, [text]), 2 if any(answers) else 0, report(1, answers) + table_text([]))
 
 
 # Faulty lines
@@ -351,7 +147,7 @@ def faulty_lines(yarib):
 def texts_of_one_byte(yarib):
     for byte in range(256):
         status, answer = (0, "") if bytes([byte]) in b"#\n" else (2, "1:1 fault E1\n")
-        compare(f"the byte {byte}", run_texts(yarib, [bytes([byte])]), status, answer + table([]))
+        compare(f"the byte {byte}", run_texts(yarib, [bytes([byte])]), status, answer + table_text([]))
 
 
 # Texts of addresses: those that are one, lines that say nothing, and lines that are none.
@@ -643,7 +439,7 @@ def compare_lines(yarib, what, hostile):
             lines += [*before, (line, answer), *behind]
         status = 2 if any(isinstance(what_said, int) for _, what_said in said) else 0
         ended = run_texts(yarib, [b"\n".join(line for line, _ in lines)])
-        compare(f"{what} in version {version}", ended, status, report(1, [answer for _, answer in lines]) + table([]))
+        compare(f"{what} in version {version}", ended, status, report(1, [answer for _, answer in lines]) + table_text([]))
 
 
 # Lines that are commands in version 2.
@@ -739,7 +535,7 @@ FEEDS = [
 # Fails where F3 is returned for two feeds in batches of 2.
 def feeds_meet_in_one_table(yarib):
     for texts, answers, rows in FEEDS:
-        wanted = report(1, answers[0]) + report(2, answers[1]) + table(rows)
+        wanted = report(1, answers[0]) + report(2, answers[1]) + table_text(rows)
         for batch in (1, 2, 1024):
             ended = run_texts(yarib, texts, ["--batch", str(batch)])
             compare(f"{texts} in batches of {batch}", ended, 2 if "fault" in wanted else 0, wanted)
@@ -752,14 +548,14 @@ def a_place_for_each_of_64_feeds(yarib):
         feeds = range(1, count + 1)
         rows = [f"10.0.0.0/8 feed {feed} pref 5 via 192.0.2.{feed}" for feed in feeds]
         ended = run_texts(yarib, [f"add 10.0.0.0/8 5 192.0.2.{feed}\n" for feed in feeds])
-        compare(f"{count} feeds", ended, 0, "".join(report(feed, ["added"]) for feed in feeds) + table(rows))
+        compare(f"{count} feeds", ended, 0, "".join(report(feed, ["added"]) for feed in feeds) + table_text(rows))
 
 
 # Fails where `SharedRib::new` refuses a limit over 65,536, or at some number of levels, that of 16 feeds say.
 def tables_of_each_size(yarib):
     for feeds, limit in ((2, 1), (4, 65_536), (8, 65_537), (16, 100_000), (32, 999_999), (64, 1_000_000)):
         ended = run_texts(yarib, [""] * feeds, ["--limit", str(limit)])
-        compare(f"{feeds} feeds of {limit} routes", ended, 0, table([]))
+        compare(f"{feeds} feeds of {limit} routes", ended, 0, table_text([]))
 
 
 def a_thousand_routes_of_two_feeds(yarib):
@@ -770,7 +566,7 @@ def a_thousand_routes_of_two_feeds(yarib):
     reports = [report(feed, [answer for row in rows[feed] for answer in ("added", f"route {row}")]) for feed in (1, 2)]
     for batch in (1, 3, 7, 256):
         ended = run_texts(yarib, ["".join(lines(1)), "".join(lines(2))], ["--limit", "500", "--batch", str(batch)])
-        compare(f"a thousand routes in batches of {batch}", ended, 0, "".join(reports) + table(rows[1] + rows[2]))
+        compare(f"a thousand routes in batches of {batch}", ended, 0, "".join(reports) + table_text(rows[1] + rows[2]))
 
 
 # Fails where `run_texts` bypasses `run_feeds` and runs one feed after another.
@@ -927,140 +723,6 @@ def the_judge_tells_what_an_order_explains(yarib):
         output = "".join(line + "\n" for line in lines)
         expect(f"an order of {lines}", Drawn(texts, 65_536, batch).explains(output, batch), explained)
 
-
-# Replays: levels, picks, and what is written.
-
-REPLAYS = [
-    (
-        "one place alone",
-        1,
-        "0 0 0 0",
-        """1 p0 C1.0.0 := 1
-2 p0 T1.0 := 1
-3 p0 P1.0 := 0
-4 p0 C1.0.1 = 0 inside
-inside p0
-""",
-    ),
-    (
-        "the handshake",
-        1,
-        "0 1 0 1 0 1 0 1 0 1 1 1 1",
-        """1 p0 C1.0.0 := 1
-2 p1 C1.0.1 := 2
-3 p0 T1.0 := 1
-4 p1 T1.0 := 2
-5 p0 P1.0 := 0
-6 p1 P1.1 := 0
-7 p0 C1.0.1 = 2
-8 p1 C1.0.0 = 1
-9 p0 T1.0 = 2 inside
-10 p1 T1.0 = 2
-11 p1 P1.0 = 0
-12 p1 P1.0 := 1
-13 p1 P1.1 = 0
-inside p0
-""",
-    ),
-    (
-        "the late release",
-        1,
-        "0 0 0 0 1 1 0 0 1 1 1 1 1 1 1 0 0 1 1 1 1 1 1 1 0 0 0 0 0 0",
-        """1 p0 C1.0.0 := 1
-2 p0 T1.0 := 1
-3 p0 P1.0 := 0
-4 p0 C1.0.1 = 0 inside
-5 p1 C1.0.1 := 2
-6 p1 T1.0 := 2
-7 p0 C1.0.0 := 0
-8 p0 T1.0 = 2
-9 p1 P1.1 := 0
-10 p1 C1.0.0 = 0 inside
-11 p1 C1.0.1 := 0
-12 p1 T1.0 = 2 out
-13 p1 C1.0.1 := 2
-14 p1 T1.0 := 2
-15 p1 P1.1 := 0
-16 p0 P1.1 := 2 out
-17 p0 C1.0.0 := 1
-18 p1 C1.0.0 = 1
-19 p1 T1.0 = 2
-20 p1 P1.0 = 0
-21 p1 P1.0 := 1
-22 p1 P1.1 = 2
-23 p1 T1.0 = 2
-24 p1 P1.1 = 2 inside
-25 p0 T1.0 := 1
-26 p0 P1.0 := 0
-27 p0 C1.0.1 = 2
-28 p0 T1.0 = 1
-29 p0 P1.1 = 2
-30 p0 P1.0 = 0
-inside p1
-""",
-    ),
-    (
-        "the order over levels",
-        2,
-        "3 3 3 3 3 3 3 3 3 3 3 3",
-        """1 p3 C1.1.1 := 4
-2 p3 T1.1 := 4
-3 p3 P1.3 := 0
-4 p3 C1.1.0 = 0
-5 p3 C2.0.1 := 4
-6 p3 T2.0 := 4
-7 p3 P2.3 := 0
-8 p3 C2.0.0 = 0 inside
-9 p3 C2.0.1 := 0
-10 p3 T2.0 = 4
-11 p3 C1.1.1 := 0
-12 p3 T1.1 = 4 out
-inside none
-""",
-    ),
-    (
-        "a release at the root",
-        2,
-        "0 0 0 0 0 0 0 0 2 2 2 2 2 2 2 2 2 2 2 2 0 0 0 0 0 2 2 2",
-        """1 p0 C1.0.0 := 1
-2 p0 T1.0 := 1
-3 p0 P1.0 := 0
-4 p0 C1.0.1 = 0
-5 p0 C2.0.0 := 1
-6 p0 T2.0 := 1
-7 p0 P2.0 := 0
-8 p0 C2.0.1 = 0 inside
-9 p2 C1.1.0 := 3
-10 p2 T1.1 := 3
-11 p2 P1.2 := 0
-12 p2 C1.1.1 = 0
-13 p2 C2.0.1 := 3
-14 p2 T2.0 := 3
-15 p2 P2.2 := 0
-16 p2 C2.0.0 = 1
-17 p2 T2.0 = 3
-18 p2 P2.0 = 0
-19 p2 P2.0 := 1
-20 p2 P2.2 = 0
-21 p0 C2.0.0 := 0
-22 p0 T2.0 = 3
-23 p0 P2.2 := 2
-24 p0 C1.0.0 := 0
-25 p0 T1.0 = 1 out
-26 p2 P2.2 = 2
-27 p2 T2.0 = 3
-28 p2 P2.2 = 2 inside
-inside p2
-""",
-    ),
-    (
-        "no pick",
-        1,
-        "",
-        """inside none
-""",
-    ),
-]
 
 # Levels and picks that are refused, and how. Faulty levels are told before a pick that is no place.
 REFUSED = [(1, "0 1 2", "P1"), (0, "200", "P2"), (7, "200", "P2")]

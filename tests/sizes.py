@@ -17,6 +17,7 @@ import subprocess
 
 from checks import LAUNCHED, chosen, compare, end, expect, run_each
 from table_model import all_answers_text, answers_text, dotted, ran, run_text, told_text
+from texts import FORWARDED, many_routes
 
 MOST = 1_000_000
 
@@ -246,37 +247,6 @@ def addresses(yarib):
         for words in ([], ["--all"]):
             ended = yarib("lookup", *words, "--addresses", "asked.txt", "row.feed")
             compare(f"{count} addresses {words}", ended, 0, answer * count)
-
-
-# From so many addresses, routes and addresses a route on a forwarding table answers (MANY_ADDRESSES, MANY_ROUTES and
-# ADDRESSES_A_ROUTE of rt_run/src/forwarding.rt).
-FORWARDED = 1 << 19, 1 << 14, 3
-
-
-def many_routes(count):
-    """A feed of so many routes, addresses in and between them, and what a look-up of each prints."""
-    lines, asked, answers = ["version 2\n", "add 8.0.0.0/5 9 discard\n"], [], []
-
-    def ask(addr, answer):
-        asked.append(f"{addr}\n")
-        answers.append(f"{addr} {answer}\n")
-
-    for at in range((count - 1) // 4):
-        base = 0x0A00_0000 + (at << 10)
-        whole, part, host = f"{dotted(base)}/23", f"{dotted(base + 256)}/28", f"{dotted(base + 511)}/32"
-        lines += [f"add {whole} 3 192.0.2.1\n", f"add {part} 2 192.0.2.2\n", f"add {host} 1 192.0.2.3\n"]
-        lines.append(f"add {dotted(base + 768)}/24 4 192.0.2.4\n")
-        for place in (0, 255, 272, 510):
-            ask(dotted(base + place), f"route {whole} feed 1 pref 3 via 192.0.2.1")
-        for place in (256, 271):
-            ask(dotted(base + place), f"route {part} feed 1 pref 2 via 192.0.2.2")
-        ask(dotted(base + 511), f"route {host} feed 1 pref 1 via 192.0.2.3")
-        ask(dotted(base + 512), "route 8.0.0.0/5 feed 1 pref 9 via discard")
-        ask(dotted(base + 1023), f"route {dotted(base + 768)}/24 feed 1 pref 4 via 192.0.2.4")
-    lines += [f"add 15.0.0.{place}/32 5 discard\n" for place in range((count - 1) % 4)]
-    ask("7.255.255.255", "no route")
-    ask("255.255.255.255", "no route")
-    return "".join(lines), asked, answers
 
 
 # Fails where F3 is answered to as many addresses as a forwarding table answers.

@@ -132,16 +132,15 @@ def ran(texts, refused, limit=65_536):
     return printed, table
 
 
-def table_text(table):
-    """What a run prints of the table that it leaves."""
-    rows = table.listed()
+def table_text(rows):
+    """What a run prints of the table that it leaves, which has these rows."""
     return "".join(line + "\n" for line in [f"table {len(rows)}", *rows])
 
 
 def run_text(texts, refused):
     """What a run of these texts prints if these lines, by feed and number, are refused."""
     printed, table = ran(texts, refused)
-    return "".join(line + "\n" for line in printed) + table_text(table)
+    return "".join(line + "\n" for line in printed) + table_text(table.listed())
 
 
 # What standard error says of faults.

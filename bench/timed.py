@@ -1,0 +1,45 @@
+"""What one run of a program takes, and what a run of the proved program takes beside one of the plain one."""
+import hashlib
+import os
+import subprocess
+import sys
+import tempfile
+import time
+
+
+def digest(output, whole):
+    """The digest of an output, or of its table alone."""
+    text = output.read()
+    start = 0 if whole else text.rindex(b"\ntable ")
+    return hashlib.sha256(text[start:]).digest()
+
+
+def measure(words, whole):
+    """Seconds on the clock and of the processors, peak bytes and the digest of the output of one run."""
+    with tempfile.TemporaryFile() as output:
+        start = time.perf_counter()
+        child = subprocess.Popen(words, stdout=output, stderr=subprocess.PIPE)
+        _, status, usage = os.wait4(child.pid, 0)
+        seconds = time.perf_counter() - start
+        child.returncode = os.waitstatus_to_exitcode(status)
+        if child.returncode != 0:
+            sys.exit(f"{words}: status {child.returncode}: {child.stderr.read().decode()}")
+        child.stderr.close()
+        output.seek(0)
+        return seconds, usage.ru_utime + usage.ru_stime, usage.ru_maxrss * 1024, digest(output, whole)
+
+
+def measured(runs):
+    """The least of each measure of both programs: milliseconds on the clock and of the processors, and megabytes."""
+    measures = {}
+    for title, field, scale in (("clock", 0, 1e3), ("processors", 1, 1e3), ("memory", 2, 1e-6)):
+        measures[title] = [round(min(run[program][field] for run in runs) * scale, 1) for program in (0, 1)]
+    return measures
+
+
+def shown(measures):
+    """The measures as a part of a printed row."""
+    return "".join(
+        f" | {title} {ours:7.0f} / {theirs:7.0f} {'MB' if title == 'memory' else 'ms'} = {ours / theirs:4.2f}"
+        for title, (ours, theirs) in measures.items()
+    )

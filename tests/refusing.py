@@ -1,0 +1,68 @@
+"""Runs of which requests for memory are refused, one after another, and what is compared of what they print."""
+import collections
+import os
+import re
+
+from checks import compiled, run
+
+# What a run ended with, and whether a request of it was refused.
+Ending = collections.namedtuple("Ending", "status out err refused")
+
+
+def refuser(folder):
+    """The path of what refuses."""
+    return compiled(folder, "tests/refuse.c", "-shared", "-fPIC")
+
+
+def run_refused(words, refuse, at, rest=False):
+    """One run in which the request of this number is refused, and all later ones where `rest` says so."""
+    heard, told = os.pipe()
+    asked = {"LD_PRELOAD": str(refuse), "REFUSE_AT": str(at), "REFUSE_REST": str(int(rest)), "REFUSE_TELL": str(told)}
+    ended = run(words, env=asked, pass_fds=[told])
+    os.close(told)
+    refused = os.read(heard, 1) != b""
+    os.close(heard)
+    return Ending(*ended, refused)
+
+
+class Wrong(Exception):
+    """What a run printed is not what the model explains."""
+
+
+def agree(found, wanted, what):
+    if found != wanted:
+        raise Wrong(f"{what}: {found!r} in place of {wanted!r}")
+
+
+def refuse_each(words, compare, refuse, rest, kinds):
+    """Refuses each request of a case in turn, with all later ones where `rest` says so, and gives how many there are."""
+    ample = run_refused(words, refuse, 0)
+    at = 0
+    while at == 0 or ending.refused:
+        at += 1
+        ending = run_refused(words, refuse, at, rest)
+        try:
+            compare(ending, ample, kinds)
+        except Wrong as wrong:
+            raise Wrong(f"request {at} refused{' and all later ones' if rest else ''}: {wrong}\n{ending}") from wrong
+    return at - 1
+
+
+def answered_addresses(out):
+    """The addresses that a look-up has answered, in order, each once for all its lines."""
+    lines = re.findall(r"^([\d.]+) (?:route|no route|also)\b", out, re.MULTILINE)
+    return [addr for at, addr in enumerate(lines) if at == 0 or addr != lines[at - 1]]
+
+
+def check_shown(ending, ample, kinds):
+    """A look-up or list of the table: all is as it was, or nothing is printed and nothing told, or commands were refused."""
+    if (ending.status, ending.out, ending.err) == (5, "", "yarib: fault F3\n"):
+        kinds.add("lookup or table")
+        return
+    if ending.status != 5:
+        agree(ending[:3], ample[:3], "all of it")
+        return
+    agree(answered_addresses(ending.out), answered_addresses(ample.out), "the addresses that are answered")
+    told = re.search(r"^yarib: .*: commands refused for want of memory: [1-9]\d*$", ending.err, re.M)
+    agree(told is not None, True, "that refused commands are told")
+    kinds.add("a command of a look-up or list")

@@ -1,0 +1,62 @@
+"""Texts of feeds that several scripts run, and what comes of them."""
+import pathlib
+
+from table_model import dotted
+
+ROW = "add 10.0.0.0/8 100 192.0.2.1\n"
+ROW_OUT = "1:1 added\ntable 1\n10.0.0.0/8 feed 1 pref 100 via 192.0.2.1\n"
+
+# Lines that leave the table as it was.
+AGAIN = "add 10.0.0.0/8 100 192.0.2.1\nlookup 10.1.2.3\nwithdraw 10.0.0.0/8\ndump\n"
+
+# From so many addresses, routes and addresses a route on a forwarding table answers (MANY_ADDRESSES, MANY_ROUTES and
+# ADDRESSES_A_ROUTE of rt_run/src/forwarding.rt).
+FORWARDED = 1 << 19, 1 << 14, 3
+
+
+def own_text(feed):
+    """A text of prefixes that no other feed has."""
+    return f"""version 2
+add {feed}.0.0.0/8 10 192.0.2.1
+replace {feed}.0.0.0/8 9 discard
+frob
+lookup {feed}.1.2.3
+add {feed}.1.0.0/16 10 192.0.2.2
+withdraw {feed}.0.0.0/8
+purge
+add {feed}.2.0.0/16 1 192.0.2.3
+"""
+
+
+def written(name, texts):
+    """The names of files with these texts."""
+    paths = [pathlib.Path(f"{name}{place}.feed") for place in range(1, len(texts) + 1)]
+    for path, text in zip(paths, texts):
+        path.write_text(text)
+    return paths
+
+
+def many_routes(count):
+    """A feed of so many routes, addresses in and between them, and what a look-up of each prints."""
+    lines, asked, answers = ["version 2\n", "add 8.0.0.0/5 9 discard\n"], [], []
+
+    def ask(addr, answer):
+        asked.append(f"{addr}\n")
+        answers.append(f"{addr} {answer}\n")
+
+    for at in range((count - 1) // 4):
+        base = 0x0A00_0000 + (at << 10)
+        whole, part, host = f"{dotted(base)}/23", f"{dotted(base + 256)}/28", f"{dotted(base + 511)}/32"
+        lines += [f"add {whole} 3 192.0.2.1\n", f"add {part} 2 192.0.2.2\n", f"add {host} 1 192.0.2.3\n"]
+        lines.append(f"add {dotted(base + 768)}/24 4 192.0.2.4\n")
+        for place in (0, 255, 272, 510):
+            ask(dotted(base + place), f"route {whole} feed 1 pref 3 via 192.0.2.1")
+        for place in (256, 271):
+            ask(dotted(base + place), f"route {part} feed 1 pref 2 via 192.0.2.2")
+        ask(dotted(base + 511), f"route {host} feed 1 pref 1 via 192.0.2.3")
+        ask(dotted(base + 512), "route 8.0.0.0/5 feed 1 pref 9 via discard")
+        ask(dotted(base + 1023), f"route {dotted(base + 768)}/24 feed 1 pref 4 via 192.0.2.4")
+    lines += [f"add 15.0.0.{place}/32 5 discard\n" for place in range((count - 1) % 4)]
+    ask("7.255.255.255", "no route")
+    ask("255.255.255.255", "no route")
+    return "".join(lines), asked, answers
