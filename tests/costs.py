@@ -90,12 +90,11 @@ def crowd(called):
 # Fails where no place ever naps, or a place looks only at one side of the root: `file 1 naps`, `file 2 naps`.
 def door(called):
     """Each of two files naps at some time where it meets the other one again and again."""
-    # So many that the file of dumps hasn't ended before the other one's thread begins, however busy the machine is.
-    write_meeting(dumps=3_000_000, seldom=0)
+    write_meeting(dumps=1_000_000, seldom=0)
     for file, names in ((1, ["dumps.feed", "adds.feed"]), (2, ["adds.feed", "dumps.feed"])):
         naps, rounds = 0, 0
         while naps == 0 and rounds < 30:
-            naps, rounds = met(called, file, *names).naps, rounds + 1
+            naps, rounds = met(called, file, *names, HOLD_WAKES="1").naps, rounds + 1
         called.tell(f"naps of file {file}", f"{naps}, in round {rounds}")
         expect(f"file {file} naps", naps > 0, True)
 
@@ -121,9 +120,9 @@ def write_meeting(dumps, seldom):
     pathlib.Path("adds.feed").write_text("".join(adds[:20]) + "".join("#\n" * 100_000 + add for add in adds[20:]))
 
 
-def met(called, file, *names):
+def met(called, file, *names, **more):
     """The waits of one of two files, where each `add` is held up inside until the other file waits."""
-    waits = called.call("run", "--batch", "1", *names, HOLD_UP="1").waits
+    waits = called.call("run", "--batch", "1", *names, HOLD_UP="1", **more).waits
     return waits[file - 1] if len(waits) == 2 else Waits(0, 0, 0)
 
 

@@ -3,7 +3,9 @@
    often one was woken: naps at the lock's door, sleep at a bell, and its ringing. Before these it keeps the nanoseconds that
    the program's threads had worked at the first write to standard output, and at the end of the last. With HOLD_UP=1 a
    request for memory waits, once there are threads, until another thread sleeps, or 20 ms: a route that is added asks inside
-   the lock, so all others who come then meet it there. It rests on the program's calls of glibc, and on names of glibc. */
+   the lock, so all others who come then meet it there. With HOLD_WAKES=1 a thread wakes nobody before its own next wait,
+   request for memory or end: so two who wait for one another meet at each entry, on however few processors. It rests on
+   the program's calls of glibc, and on names of glibc. */
 #define _GNU_SOURCE
 #include <dlfcn.h>
 #include <linux/futex.h>
@@ -34,14 +36,26 @@ static struct counts unread, *counts = &unread;
 static long (*real_syscall)(long, ...);
 static ssize_t (*real_write)(int, const void *, size_t);
 static int (*real_create)(pthread_t *, const pthread_attr_t *, void *(*)(void *), void *);
-static int holds_up;
+static int (*real_join)(pthread_t, void **);
+static int holds_up, holds_wakes;
 static atomic_int has_threads, sleepers;
+
+/* The call by which a thread is still to wake another one; of number 0 there is none. */
+static _Thread_local long held[7];
+
+/* A thread's function with its argument. */
+struct beginning {
+  void *(*begin)(void *);
+  void *given;
+};
 
 __attribute__((constructor)) static void begin(void) {
   real_syscall = (long (*)(long, ...))dlsym(RTLD_NEXT, "syscall");
   real_write = (ssize_t (*)(int, const void *, size_t))dlsym(RTLD_NEXT, "write");
   real_create = (int (*)(pthread_t *, const pthread_attr_t *, void *(*)(void *), void *))dlsym(RTLD_NEXT, "pthread_create");
+  real_join = (int (*)(pthread_t, void **))dlsym(RTLD_NEXT, "pthread_join");
   holds_up = getenv("HOLD_UP") != NULL;
+  holds_wakes = getenv("HOLD_WAKES") != NULL;
   const char *descriptor = getenv("COUNT_IN");
   if (descriptor == NULL) return;
   void *shared = mmap(NULL, sizeof *counts, PROT_READ | PROT_WRITE, MAP_SHARED, atoi(descriptor), 0);
@@ -67,25 +81,54 @@ static int count(long place, int command, const struct timespec *limit) {
   return !naps;
 }
 
+static void let_go(void) {
+  long number = held[0];
+  held[0] = 0;
+  if (number != 0) real_syscall(number, held[1], held[2], held[3], held[4], held[5], held[6]);
+}
+
 long syscall(long number, ...) {
   va_list rest;
   long given[6];
   va_start(rest, number);
   for (int at = 0; at < 6; at++) given[at] = va_arg(rest, long);
   va_end(rest);
+  let_go();
   int sleeps = number == SYS_futex && count(given[0], given[1] & COMMANDS, (const struct timespec *)given[3]);
+  if (holds_wakes && number == SYS_futex && (given[1] & COMMANDS) == FUTEX_WAKE) {
+    held[0] = number;
+    for (int at = 0; at < 6; at++) held[at + 1] = given[at];
+    return 0;
+  }
   sleepers += sleeps;
   long result = real_syscall(number, given[0], given[1], given[2], given[3], given[4], given[5]);
   sleepers -= sleeps;
   return result;
 }
 
+static void *run_beginning(void *given) {
+  struct beginning own = *(struct beginning *)given;
+  free(given);
+  void *result = own.begin(own.given);
+  let_go();
+  return result;
+}
+
 int pthread_create(pthread_t *thread, const pthread_attr_t *attributes, void *(*begin)(void *), void *given) {
+  struct beginning *own = __libc_malloc(sizeof *own);
+  if (own == NULL) abort();
+  *own = (struct beginning){begin, given};
   has_threads = 1;
-  return real_create(thread, attributes, begin, given);
+  return real_create(thread, attributes, run_beginning, own);
+}
+
+int pthread_join(pthread_t thread, void **result) {
+  let_go();
+  return real_join(thread, result);
 }
 
 void *malloc(size_t size) {
+  let_go();
   for (int looks = 0; holds_up && has_threads && sleepers == 0 && looks < MOST_LOOKS; looks++) usleep(100);
   return __libc_malloc(size);
 }

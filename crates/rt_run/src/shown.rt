@@ -198,8 +198,8 @@ fn tell_counts<W: Write>(
         → Leaves (IsShown asked (counts_text style.now selection.now)) (W.contents w.old) (W.contents w.new) result }
     ensures ran { result ≢ Err (AppFault.Run RunFault.NoText) }
 {
-    let routes = run.book.table().select(alloc, selection)?;
-    tell_run(alloc, run, Output::Counts(style, routes.as_slice()), w)
+    let counted = run.book.table().select(alloc, selection)?;
+    tell_run(alloc, run, Output::Counts(style, counted.as_slice()), w)
 }
 
 /// Writes what tells of a run's table, and tells how much of the texts was taken.
