@@ -49,16 +49,16 @@ def draws(seed):
         yield seed >> 32
 
 
-def drawn(prefixes):
-    """Prefixes as pairs, and addresses, as crates/benches draws them."""
+def drawn(prefixes, addresses=ASKED, among=None):
+    """Prefixes as pairs, and addresses in so many of them or in all, as crates/benches draws them."""
     draw, pairs, asked = draws(1), [], []
     for _ in range(prefixes):
         lot = next(draw) % 1000
         length = next(length for below, length in LENGTHS if lot < below)
         pairs.append((next(draw) >> 32 - length << 32 - length, length))
     draw = draws(2)
-    for _ in range(ASKED):
-        base, length = pairs[next(draw) % prefixes]
+    for _ in range(addresses):
+        base, length = pairs[next(draw) % (among or prefixes) * (prefixes // (among or prefixes))]
         asked.append(base | next(draw) & 0xFFFFFFFF >> length)
     return pairs, asked
 
@@ -86,7 +86,7 @@ def radix_rows(radix, pairs, asked):
     networks = [(dotted(base), length) for base, length in pairs]
     texts = [dotted(address) for address in asked]
     yield each("apply", len(pairs), lambda: [tree.add(network=base, masklen=length) for base, length in networks])
-    yield each("look_up_text", ASKED, lambda: [tree.search_best(text) for text in texts])
+    yield each("look_up_text", len(asked), lambda: [tree.search_best(text) for text in texts])
 
 
 def printed(words):
@@ -121,11 +121,21 @@ def rattle_rows(benches, prefixes):
         sys.exit(f"bench/library.py: crates/benches ended with status {ended.returncode}\n{ended.stderr}")
     words = ended.stderr.split()
     told = {name: int(value) for name, value in zip(words[::2], words[1::2])}
-    yield "apply_journaled", told["load"]
+    yield "apply_journaled", told["load"] / prefixes
     yield "forward", told["new"] / prefixes
-    look_ups = {"single": "look_up_1", "together": "look_up_256", "random": "forwarding_1", "each": "forwarding_256"}
-    for name, call in look_ups.items():
-        yield call, told[name] / 1000
+    for which, call in (("book_look_up", "look_up_1"), ("book_look_up_each", "look_up_256"), ("look_up", "forwarding_1"),
+                        ("look_up_each", "forwarding_256")):
+        yield call, told[f"random_{which}"] / ASKED
+
+
+def built_lpm(folder):
+    """The program that asks rte_lpm, built in the folder, or none where DPDK isn't."""
+    if not shutil.which("pkg-config") or subprocess.run(["pkg-config", "--exists", "libdpdk"]).returncode != 0:
+        return None
+    flags = subprocess.run(["pkg-config", "--cflags", "--libs", "libdpdk"], check=True, capture_output=True, text=True).stdout
+    source = checks.TOP / "bench/library_lpm.c"
+    subprocess.run(["gcc", "-O2", "-o", folder / "lpm", "-march=native", source, *flags.split()], check=True)
+    return folder / "lpm"
 
 
 def built(folder):
@@ -140,11 +150,8 @@ def built(folder):
     words = ["rustc", "--edition", "2021", "-O", "--extern", crate, "-L", BINDINGS / "out", "-o", folder / "rust"]
     subprocess.run([*words, checks.TOP / "bench/library.rs"], check=True)
     found = {"C": [folder / "c", folder / "input"], "Rust": [folder / "rust", folder / "input"]}
-    if shutil.which("pkg-config") and subprocess.run(["pkg-config", "--exists", "libdpdk"]).returncode == 0:
-        flags = subprocess.run(["pkg-config", "--cflags", "--libs", "libdpdk"], check=True, capture_output=True, text=True).stdout
-        source = checks.TOP / "bench/library_lpm.c"
-        subprocess.run([*program, folder / "lpm", "-march=native", source, *flags.split()], check=True)
-        found["rte_lpm"] = [folder / "lpm", folder / "input"]
+    if lpm := built_lpm(folder):
+        found["rte_lpm"] = [lpm, folder / "input"]
     return found
 
 

@@ -1,14 +1,17 @@
-//! Times the lock, the shared table and the trie, and asks for memory that is refused. The first argument names one of
-//! them, `lock`, `shared` or `trie`, and up to four numbers behind it say what is timed (see each file); or it is
-//! `growth`, with a case of that file behind it. Without a name all are made, of the times a little each. Times go to
+//! Times the lock, the shared table, the trie and a forwarding table, and asks for memory that is refused. The first argument
+//! names one of them, `lock`, `shared`, `trie` or `fib`, and up to four numbers behind it say what is timed (see each file); or
+//! it is `growth`, with a case of that file behind it. Without a name all are made, of the times a little each. Times go to
 //! standard error.
 #![tactic(auto)]
 
 mod asking;
 mod count;
+mod draws;
+mod fib;
 mod growth;
 mod lock;
 mod shared;
+mod stopwatch;
 mod trie;
 
 use std::alloc::Global;
@@ -42,11 +45,13 @@ fn main(rt: HostRuntime) -> io::Result<()> {
         "lock" => lock::time_lock(&rt, alloc, numbers),
         "shared" => shared::time_table(&rt, alloc, numbers),
         "trie" => trie::time_trie(&rt, alloc, numbers),
+        "fib" => fib::time_fib(&rt, alloc, numbers),
         "growth" => growth::ask(&rt, alloc, word(&rt, alloc, 2)?.as_str()),
         _ => {
             lock::time_lock(&rt, alloc, numbers)?;
             shared::time_table(&rt, alloc, numbers)?;
             trie::time_trie(&rt, alloc, numbers)?;
+            fib::time_fib(&rt, alloc, numbers)?;
             growth::ask(&rt, alloc, "")
         }
     }

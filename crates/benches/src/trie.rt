@@ -5,96 +5,20 @@
 ghost use Rattle.std.specs.Prelude.{false};
 
 use crate::Numbers;
+use crate::draws::Draws;
+use crate::stopwatch::{Stopwatch, Times};
 use rt_cidr::{Addr, Prefix};
 use rt_trie::{Sieve, Trie};
 use std::alloc::Global;
 use std::io;
 use std::rt::Clock;
-use std::time::{CpuClock, Duration, Instant};
+use std::time::CpuClock;
 
 /// How many prefixes are drawn where no argument says so.
 const FEW: u32 = 2_000;
 
 /// So many addresses are looked up together.
 const BATCH: usize = 64;
-
-/// Numbers that look random, the same in each run.
-#[derive(Drop)]
-struct Draws {
-    seed: u64,
-}
-
-impl Draws {
-    fn next(&mut self) -> u32 {
-        self.seed = self
-            .seed
-            .wrapping_mul(6_364_136_223_846_793_005)
-            .wrapping_add(1_442_695_040_888_963_407);
-        (self.seed >> 32) as u32
-    }
-
-    /// A length: six of ten are 24, and the others mostly from 16 to 23.
-    fn length(&mut self) -> u8 {
-        match self.next() % 1000 {
-            0..600 => 24,
-            600..720 => 22,
-            720..820 => 23,
-            820..870 => 21,
-            870..915 => 20,
-            915..945 => 19,
-            945..970 => 16,
-            970..980 => 18,
-            980..985 => 17,
-            985..995 => 28,
-            _ => 12,
-        }
-    }
-
-    fn prefix(&mut self) -> Option<Prefix> {
-        let len = self.length();
-        let past = 32 - len % 33;
-        let base = (u64::from(self.next()) >> past) << past;
-        Prefix::new((base & 0xffff_ffff) as u32, len).ok()
-    }
-}
-
-/// Times since a start, on the clock and of the processor.
-#[derive(Drop)]
-struct Stopwatch {
-    start: Instant,
-    used: Duration,
-}
-
-/// Nanoseconds for each call.
-#[derive(Clone, Copy, Drop)]
-struct Times {
-    clock: u64,
-    cpu: u64,
-}
-
-impl Stopwatch {
-    fn start(rt: &(impl Clock + CpuClock)) -> io::Result<Stopwatch> {
-        let used = rt.process_cpu_time()?;
-        let start = Instant::now(rt)?;
-        Ok(Stopwatch { start, used })
-    }
-
-    fn per_call(&self, rt: &(impl Clock + CpuClock), calls: u32) -> io::Result<Times> {
-        let clock = self.start.elapsed(rt)?;
-        let used = rt.process_cpu_time()?;
-        let calls = u64::from(calls.max(1));
-        Ok(Times {
-            clock: nanos(clock) / calls,
-            cpu: nanos(used).wrapping_sub(nanos(self.used)) / calls,
-        })
-    }
-}
-
-fn nanos(time: Duration) -> u64 {
-    time.as_secs()
-        .wrapping_mul(1_000_000_000)
-        .wrapping_add(u64::from(time.subsec_nanos()))
-}
 
 /// A value for each prefix.
 type Values = Trie<u64, Global>;

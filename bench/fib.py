@@ -1,0 +1,135 @@
+#!/usr/bin/env python3
+"""Times a forwarding table beside the same one in plain C and Rust and the book that it is made of, and beside DPDK's rte_lpm,
+py-radix and Net::Patricia where they are, over the same prefixes and addresses.
+
+Needs rt, gcc and rustc. The program crates/benches, bench/fib_peer.c, bench/fib_peer.rs and the others run in turn, so many
+rounds over each number of prefixes (500,000 and 1,000,000 if left out) of a real table's lengths. Each is asked for a million
+addresses, random ones, each of which lies in any of the prefixes, and local ones, in a thousand of these. A row has a call, and
+for each who makes it the least of the times: nanoseconds of processor time for one prefix or address, of `renew` for one call
+on the clock, right after the book's own; and megabytes of memory. Libraries of others run in the first round alone.
+"""
+import pathlib
+import subprocess
+import sys
+import tempfile
+
+import figures
+import library
+from figures import checks
+
+ASKED = 1 << 20
+PLACES = 1000
+KINDS = ("random", "local")
+WHO = ("Rattle", "C", "Rust", "book", "rte_lpm", "py-radix", "Net::Patricia")
+
+
+def told(words):
+    """The figures that a program prints, by name."""
+    ended = subprocess.run(words, capture_output=True, text=True)
+    if ended.returncode != 0:
+        sys.exit(f"bench/fib.py: {words[0]} ended with status {ended.returncode}\n{ended.stderr}")
+    said = (ended.stdout + ended.stderr).split()
+    return {name: int(value) for name, value in zip(said[::2], said[1::2])}
+
+
+def rattle_rows(benches, prefixes):
+    """The rows of the forwarding table and of its book, by who and what, and the sums of what look-ups find."""
+    said = told([benches, "fib", str(prefixes), str(ASKED)])
+    found = {("Rattle", "new"): said["new"] / prefixes, ("book", "new"): said["load"] / prefixes}
+    found["Rattle", "memory"] = said["memory"] / 1e6
+    for length in (24, 16, 8):
+        found["Rattle", f"renew_{length}"] = said[f"renew_{length}"]
+    for kind in KINDS:
+        if not said[f"{kind}_same"]:
+            sys.exit("bench/fib.py: ways of asking find something else")
+        for call in ("look_up", "look_up_each"):
+            found["Rattle", f"{call} {kind}"] = said[f"{kind}_{call}"] / ASKED
+            found["book", f"{call} {kind}"] = said[f"{kind}_book_{call}"] / ASKED
+    return found, [said[f"{kind}_found"] for kind in KINDS]
+
+
+def peer_rows(who, program, inputs, prefixes):
+    """The same of a peer, which is run over each kind of addresses."""
+    found, sums = {}, []
+    for kind, words in inputs.items():
+        said = told([program, words])
+        found |= {(who, "new"): said["new"] / prefixes, (who, "memory"): said["memory"] / 1e6}
+        found |= {(who, f"{call} {kind}"): said[call] / ASKED for call in ("look_up", "look_up_each")}
+        sums.append(said["found"])
+    return found, sums
+
+
+def other_rows(folders, lpm, pairs, asked):
+    """The rows of libraries of others, where they are."""
+    found = {}
+    for kind, folder in folders.items():
+        rows = {"rte_lpm": library.printed([lpm, folder / "input"])} if lpm else {}
+        if library.has_patricia():
+            rows["Net::Patricia"] = library.patricia_rows(folder)
+        try:
+            import radix
+            rows["py-radix"] = library.radix_rows(radix, pairs, asked[kind])
+        except ImportError:
+            pass
+        names = {"apply": "new", "forwarding_1": f"look_up {kind}", "forwarding_256": f"look_up_each {kind}",
+                 "look_up_1": f"look_up {kind}", "look_up_text": f"look_up {kind}"}
+        for who, some in rows.items():
+            for name, value in some:
+                found.setdefault((who, names[name]), value)
+    return found
+
+
+def compare(folder, programs, prefixes, rounds):
+    """Runs all in turn over so many prefixes, and gives a row for each call, from their least times."""
+    pairs, random = library.drawn(prefixes, ASKED)
+    asked = {"random": random, "local": library.drawn(prefixes, ASKED, PLACES)[1]}
+    folders = {kind: folder / kind for kind in KINDS}
+    for kind in KINDS:
+        folders[kind].mkdir(exist_ok=True)
+        library.write_input(folders[kind], pairs, asked[kind])
+    inputs, found = {kind: folders[kind] / "input" for kind in KINDS}, []
+    for _ in range(rounds):
+        some, sums = rattle_rows(programs["Rattle"], prefixes)
+        for who in ("C", "Rust"):
+            rows, others = peer_rows(who, programs[who], inputs, prefixes)
+            if others != sums:
+                sys.exit(f"bench/fib.py: {who} finds something else")
+            some |= rows
+        found.append(some if found else some | other_rows(folders, programs["rte_lpm"], pairs, asked))
+    least = {key: min(one[key] for one in found if key in one) for key in found[0]}
+    calls = [f"{call} {kind}" for kind in KINDS for call in ("look_up", "look_up_each")]
+    calls += ["new", "renew_24", "renew_16", "renew_8", "memory"]
+    return [{"prefixes": prefixes, "call": call} | {who: round(least[who, call], 2) for who in WHO if (who, call) in least} for call in calls]
+
+
+def show(row):
+    cells = "".join(f"{row[who]:14.1f}" if who in row else " " * 14 for who in WHO)
+    print(f"{row['prefixes']:9} {row['call']:20}{cells}", flush=True)
+
+
+def built(folder):
+    """The programs, by who asks; of rte_lpm none where it isn't."""
+    subprocess.run(["gcc", "-O2", "-o", folder / "c", checks.TOP / "bench/fib_peer.c"], check=True)
+    rust = figures.built_peer(folder, "fib_peer.rs")
+    return {"Rattle": checks.built_benches("fib", "2000"), "C": folder / "c", "Rust": rust, "rte_lpm": library.built_lpm(folder)}
+
+
+def main():
+    reader = figures.reader(__doc__, rounds=5)
+    reader.add_argument("prefixes", nargs="*", type=int, default=[500_000, 1_000_000])
+    words = figures.begin(reader)
+    rows = []
+    with tempfile.TemporaryDirectory() as name:
+        folder = pathlib.Path(name)
+        programs = built(folder)
+        print(" " * 30 + "".join(f"{who:>14}" for who in WHO))
+        for prefixes in words.prefixes:
+            some = compare(folder, programs, prefixes, words.rounds)
+            for row in some:
+                show(row)
+            rows += some
+    figures.keep("fib", words.rounds, rows)
+
+
+if __name__ == "__main__":
+    main()
