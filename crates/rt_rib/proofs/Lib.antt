@@ -22,3 +22,4 @@ pub mod MapLookUps
 pub mod MapMatches
 pub mod BestRoutes
 pub mod Selections
+pub mod FromPlaces

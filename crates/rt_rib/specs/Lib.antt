@@ -3,6 +3,7 @@ pub mod LookUp
 pub mod Sequential
 pub mod Book
 pub mod Maps
+pub mod Places
 pub mod Selection
 pub mod Laws
 pub mod inside

@@ -38,7 +38,7 @@ pub(crate) fn route_by(prefix: Prefix, offer: &Offer) -> Route
 }
 
 /// What a route offers for its prefix.
-fn offer_of(route: &Route) -> Offer
+pub(crate) fn offer_of(route: &Route) -> Offer
     ensures { result ≡ offer_of route.now }
 {
     Offer {

@@ -192,7 +192,7 @@ fn offer_index(offers: &[Offer], feed: u32) -> Option<usize>
 }
 
 /// The index at which the offer belongs.
-fn insertion_index(offers: &[Offer], offer: &Offer) -> usize
+pub(crate) fn insertion_index(offers: &[Offer], offer: &Offer) -> usize
     requires { IsRanked offers.now }
     ensures { IsInsertionIndex offer.now offers.now result }
 {

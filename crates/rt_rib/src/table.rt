@@ -3,6 +3,7 @@ ghost use Rattle.std.specs.Prelude.{◌≡◌, ◌^◌, ◌<◌, ◌↔◌, IsTr
 ghost use Rattle.rt_rib.specs.declared.commands.Cmd.TheVariants.{Add, Replace, Withdraw, Purge};
 ghost use Rattle.rt_rib.specs.declared.commands.Reply.TheVariants.{Added};
 ghost use Rattle.rt_rib.specs.Sequential.{reply_of};
+ghost use Rattle.rt_rib.specs.Places.{from_place};
 ghost use Rattle.rt_rib.specs.Table.{IsTable};
 ghost use Rattle.rt_rib.specs.LookUp.{look_up, look_up_all};
 ghost use Rattle.rt_rib.specs.Book.{IsLimit, IsFeed, table_state, Serves, HoldsRoutes};
@@ -13,6 +14,7 @@ use crate::answers::Answers;
 use crate::commands::{Cmd, Reply};
 use crate::limits::MOST_FEEDS;
 use crate::map::{self, Map};
+use crate::places::RoutesFrom;
 use crate::refused::Refused;
 use crate::routes::Route;
 use crate::selection::{Selection, keep_asked, routes_in};
@@ -152,6 +154,16 @@ impl<A: Allocator + Copy> Table<A> {
         let mut routes = routes_in(&self.map, alloc, count as usize, asked.part)?;
         keep_asked(&mut routes, asked);
         Ok(routes)
+    }
+
+    /// The routes in dump order from the place of the given one on, whether or not that is there; its next hop says nothing of
+    /// its place. With preference and feed 0 these are all routes from its prefix on, and with a feed one greater than that
+    /// of a route of the table those behind that route. It takes no memory, goes down once, and then over the routes alone
+    /// that are asked of the iterator.
+    pub fn routes_from(&self, from: &Route) -> RoutesFrom<'_, A>
+        ensures { result ≡ from_place from.now self.now.routes }
+    {
+        RoutesFrom::new(&self.map, from)
     }
 
     /// The map of its routes, for what only reads them.

@@ -5,6 +5,7 @@ pub mod Blocks
 pub mod Counts
 pub mod CoveringPairs
 pub mod Descents
+pub mod FromPrefixes
 pub mod Insertions
 pub mod JoinedPairs
 pub mod Lanes

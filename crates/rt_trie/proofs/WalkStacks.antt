@@ -41,7 +41,7 @@ link_at-set_other (x ∷ xs) zero (suc k) r n = refl
 link_at-set_other (x ∷ xs) (suc j) zero r n = refl
 link_at-set_other (x ∷ xs) (suc j) (suc k) r n = link_at-set_other xs j k r (λ e. n (ap suc e))
 
-longer_root : (k : ℕ) (o : Option Prefix) (q : Prefix) → o ≡ Some q → IfSome o (λ x. k ≤ x.len) → k ≤ q.len
+pub longer_root : (k : ℕ) (o : Option Prefix) (q : Prefix) → o ≡ Some q → IfSome o (λ x. k ≤ x.len) → k ≤ q.len
 longer_root k o q e h = rw e at h
 
 -- the last link of the stack, a node, has given way to its two sides, and nothing else has changed
@@ -51,7 +51,7 @@ GivesWay xs ys m q v =
 
 module _ {V A : Type 0} where
   -- what is changed at an index and after it leaves what is before
-  rest_below : (xs ys : List (Bor (Link V A))) (k : ℕ) → ((j : ℕ) → j < k → link_at ys j ≡ link_at xs j) → stack_pairs ys k ≡ stack_pairs xs k
+  pub rest_below : (xs ys : List (Bor (Link V A))) (k : ℕ) → ((j : ℕ) → j < k → link_at ys j ≡ link_at xs j) → stack_pairs ys k ≡ stack_pairs xs k
   rest_below xs ys zero h = refl
   rest_below xs ys (suc k) h = rw (h k (omega arith)) (ap (λ m. pairs_of (link_at xs k) ++ m) (rest_below xs ys k (λ j l. h j (omega arith))))
 

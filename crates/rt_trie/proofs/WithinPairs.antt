@@ -82,16 +82,17 @@ single_within m q v p e h = rw (e, h) refl
 pub single_off : {V : Type 0} (m : Pairs V) (q : Prefix) (v : V) (p : Prefix) → m ≡ (q, v) ∷ [] → contains p q ≡ false → within m p ≡ []
 single_off m q v p e h = rw (e, h) refl
 
-module _ {V A : Type 0} (link : Link V A) (q : Prefix) (v : Option V) (left right : Link V A) (n : IsNode link q v left right) (p : Prefix) (r : Position) (s : StandsAt q p r) where
+module _ {V A : Type 0} (link : Link V A) (q : Prefix) (v : Option V) (left right : Link V A) (n : IsNode link q v left right) where
   -- the pairs of the node, of a block where its prefix lies
-  all_within : (lo hi len : ℕ) → IsInBlock lo hi len q → AllWithin lo hi len (pairs link)
+  pub all_within : (lo hi len : ℕ) → IsInBlock lo hi len q → AllWithin lo hi len (pairs link)
   all_within lo hi len w =
       let sides = sides_of link q v left right n in
       subst (AllWithin lo hi len) (sym n.pairs_are) (node_within lo hi len q v (pairs left) (pairs right) w sides.lower sides.upper)
 
+module _ {V A : Type 0} (link : Link V A) (q : Prefix) (v : Option V) (left right : Link V A) (n : IsNode link q v left right) (p : Prefix) (r : Position) (s : StandsAt q p r) where
   all_in : IsInBlock p.base (past p) p.len q → within (pairs link) p ≡ pairs link
   all_in w = within-all p (pairs link) (AllKeys-map (IsInBlock p.base (past p) p.len) (λ x. contains p x ≡ true) (pairs link) (in_block p)
-      (all_within p.base (past p) p.len w))
+      (all_within link q v left right n p.base (past p) p.len w))
 
   parts : contains p q ≡ false → within (pairs link) p ≡ within (pairs left) p ++ within (pairs right) p
   parts h =
@@ -128,4 +129,4 @@ module _ {V A : Type 0} (link : Link V A) (q : Prefix) (v : Option V) (left righ
   within-apart h =
       let off : (past q ≤ p.base) ⊎ (past p ≤ q.base) = subst (StandsAt q p) h s in
       within-off p (pairs link) q.base (past q) q.len off
-      (all_within q.base (past q) q.len (record { long = omega arith; from = omega arith; to = omega arith }))
+      (all_within link q v left right n q.base (past q) q.len (record { long = omega arith; from = omega arith; to = omega arith }))

@@ -1,6 +1,7 @@
 pub use Rattle.rt_cidr.specs.Cidr
 pub use Rattle.rt_cidr.specs.Prefix
 pub mod TrieContents
+pub mod FromPrefix
 pub mod Halves
 pub mod Lawful
 pub mod Laws

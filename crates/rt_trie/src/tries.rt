@@ -4,6 +4,7 @@ ghost use Rattle.std.specs.Prelude.{◌≡◌, ◌↔◌, IsTrue, ◌+◌, ◌-�
 ghost use Rattle.std.specs.Borrow.{sem};
 ghost use Rattle.std.specs.Option.{option_copied, option_copied_mut};
 ghost use Rattle.rt_trie.specs.Map.{get, put, erase, first, next_after, covering, within, containing, pair_copied, IsOrdered, IsLongest, AreLongest};
+ghost use Rattle.rt_trie.specs.FromPrefix.{from_prefix};
 ghost use Rattle.rt_trie.specs.Nodes.{CountsNodes};
 ghost use Rattle.rt_trie.specs.Lawful.{IsLawful};
 ghost use Rattle.rt_trie.specs.Sifted.{IsSifted};
@@ -226,6 +227,15 @@ impl<V: Drop, A: Allocator + Copy> Trie<V, A> {
         ensures ordered { IsOrdered result }
     {
         Walk::new(&self.root)
+    }
+
+    /// The pairs of the prefix and of those that come after it, each once, by base and then by length; p need not be
+    /// stored. It takes no memory, goes down once, and then to each node behind that way once.
+    pub fn walk_from(&self, p: Prefix) -> Walk<'_, V, A>
+        ensures pairs { result ≡ from_prefix self.now.pairs p }
+        ensures ordered { IsOrdered result }
+    {
+        Walk::from_prefix(&self.root, p)
     }
 
     /// The least stored prefix, by base and then by length.

@@ -2,12 +2,13 @@
 
 ghost use Rattle.std.specs.Prelude.{◌≡◌, ℕ, ◌+◌, ◌<◌, Some, length};
 ghost use Rattle.rt_trie.specs.Map.{Pairs, within};
+ghost use Rattle.rt_trie.specs.FromPrefix.{from_prefix};
 ghost use Rattle.rt_trie.specs.inside.Lawful.{IsLawfulTrie};
 ghost use Rattle.rt_trie.specs.inside.Links.{pairs};
 ghost use Rattle.rt_trie.specs.inside.References.{link_at};
-ghost use Rattle.rt_trie.specs.inside.WalkStack.{stack_pairs, IsWalkStack};
+ghost use Rattle.rt_trie.specs.inside.WalkStack.{stack_pairs, IsWalkStack, IsStepTo};
 
-use crate::nodes::{Link, NodeView, PLACES};
+use crate::nodes::{Link, NodeView, PLACES, Position, position_of};
 use crate::search::branch_within;
 use rt_cidr::Prefix;
 use std::alloc::Allocator;
@@ -53,6 +54,77 @@ impl<'a, V, A: Allocator> Walk<'a, V, A> {
                 stack: [root; PLACES],
                 len: 0,
             },
+        }
+    }
+
+    /// Over the pairs of p and of the prefixes that come after it. It goes down once, and puts on the stack what lies behind
+    /// its way.
+    pub(crate) fn from_prefix(root: &'a Link<V, A>, p: Prefix) -> Walk<'a, V, A>
+        requires { IsLawfulTrie root.now }
+        ensures { result ≡ from_prefix (pairs root.now) p }
+    {
+        let mut stack = [root; PLACES];
+        let mut len = 0;
+        let mut link = root;
+        loop {
+            match step_to(link, p) {
+                StepTo::Whole => {
+                    put(&mut stack[..], len, link);
+                    return Walk {
+                        stack,
+                        len: len + 1,
+                    };
+                }
+                StepTo::Nothing => return Walk { stack, len },
+                StepTo::Lower(left, right) => {
+                    put(&mut stack[..], len, right);
+                    len += 1;
+                    link = left;
+                }
+                StepTo::Upper(right) => link = right,
+            }
+        }
+    }
+}
+
+/// Where the pairs of a link are that come from a prefix on.
+enum StepTo<'a, V, A: Allocator> {
+    /// They are all.
+    Whole,
+    /// There are none.
+    Nothing,
+    /// On the left side, and on the right all are.
+    Lower(&'a Link<V, A>, &'a Link<V, A>),
+    /// On the right side alone.
+    Upper(&'a Link<V, A>),
+}
+
+/// Where the pairs of the link are that come from p on.
+fn step_to<V, A: Allocator>(link: &Link<V, A>, p: Prefix) -> StepTo<'_, V, A>
+    requires { IsLawfulTrie link.now }
+    ensures { IsStepTo link.now p result }
+{
+    match link.view() {
+        NodeView::Vacant => StepTo::Nothing,
+        NodeView::Single(prefix, _) => {
+            if prefix < p {
+                StepTo::Nothing
+            } else {
+                StepTo::Whole
+            }
+        }
+        NodeView::Branch(prefix, _, left, right) => {
+            match position_of(prefix.len(), prefix.base(), &p) {
+                Position::Left => StepTo::Lower(left, right),
+                Position::Right => StepTo::Upper(right),
+                Position::Here | Position::Above | Position::Apart => {
+                    if prefix < p {
+                        StepTo::Nothing
+                    } else {
+                        StepTo::Whole
+                    }
+                }
+            }
         }
     }
 }
@@ -101,6 +173,16 @@ fn link_at<'a, V, A: Allocator>(stack: &[&'a Link<V, A>], k: usize) -> &'a Link<
     ensures { link_at stack.now k ≡ Some result.now }
 {
     stack[k]
+}
+
+/// Puts a link at an index.
+fn put<'a, V, A: Allocator>(stack: &mut [&'a Link<V, A>], k: usize, link: &'a Link<V, A>)
+    requires { k < length stack.old }
+    ensures here { link_at stack.new k ≡ Some link.now }
+    ensures below { (j : ℕ) → j < k → link_at stack.new j ≡ link_at stack.old j }
+    ensures size { length stack.new ≡ length stack.old }
+{
+    stack[k] = link;
 }
 
 /// Puts two links at an index and the one after it.

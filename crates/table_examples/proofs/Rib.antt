@@ -20,6 +20,7 @@ use Rattle.rt_trie.specs.Tree.{Tree, Vacant, Node}
 use Rattle.rt_rib.specs.declared.offers.Offer.{Offer}
 use Rattle.rt_rib.specs.Maps.{outranks, is_from, IsRanked, IsOffers, Map, route_by, routes_of, IsMap}
 use Rattle.rt_rib.specs.Table.{below_then, is_of, has, count_of, is_better, precedes, put_in, take_out, purge, IsTable}
+use Rattle.rt_rib.specs.Places.{from_place}
 use Rattle.rt_rib.specs.LookUp.{matching, longest_of, best, look_up, beats, ranking, look_up_all, best_routes}
 use Rattle.rt_rib.specs.declared.selection.Selection.{Selection}
 use Rattle.rt_rib.specs.declared.selection.Part.TheVariants as part
@@ -176,6 +177,22 @@ not_the_greater_feed_nor_the_greater_base_nor_the_longer :
     (precedes (route ten_8 2 30) (route ten_8 1 30) ≡ false) × (precedes (route ten_1_16 1 0) (route ten_8 2 9) ≡ false)
     × (precedes (route ten_0_16 1 0) (route ten_8 2 9) ≡ false)
 not_the_greater_feed_nor_the_greater_base_nor_the_longer = (refl, refl, refl)
+
+-- from_place
+abbrev in_order : List Route
+in_order = route everything 2 200 ∷ route ten_8 2 30 ∷ route ten_8 1 50 ∷ route ten_1_16 1 10 ∷ []
+
+the_route_of_the_place_and_those_behind_it : from_place (route ten_8 2 30) in_order ≡ route ten_8 2 30 ∷ route ten_8 1 50 ∷ route ten_1_16 1 10 ∷ []
+the_route_of_the_place_and_those_behind_it = refl
+
+behind_a_route_they_are_those_from_the_next_feed_on : from_place (route ten_8 3 30) in_order ≡ route ten_8 1 50 ∷ route ten_1_16 1 10 ∷ []
+behind_a_route_they_are_those_from_the_next_feed_on = refl
+
+from_a_prefix_on_and_past_all : (from_place (route ten_0_16 0 0) in_order ≡ route ten_1_16 1 10 ∷ []) × (from_place (route last_32 0 0) in_order ≡ [])
+from_a_prefix_on_and_past_all = (refl, refl)
+
+those_that_do_not_precede_it : (r : Route) (table : List Route) → from_place r table ≡ filter (λ s. not (precedes s r)) table
+those_that_do_not_precede_it r table = refl
 
 -- put_in
 put_in_stands_in_dump_order :

@@ -3,15 +3,16 @@
 use Rattle.std.proofs.Common.{◌≡◌, ℕ, true, false, Some, None, [], ◌∷◌, refl, arith}
 use Rattle.rt_cidr.specs.declared.prefixes.Prefix.{Prefix}
 use Rattle.rt_cidr.specs.Cidr.{size_of}
-use Rattle.table_examples.proofs.Cidr.{ten_8, ten_0_16}
+use Rattle.table_examples.proofs.Cidr.{ten_8, ten_0_16, last_32}
 use Rattle.rt_trie.specs.Map.{Pairs, before, IsBeforeAll, IsOrdered, get, same_prefix, IsStored, put, erase, first}
 use Rattle.rt_trie.specs.Map.{next_after, IsLongest, covering, within, containing, address_at, answer_at, pair_copied, AreLongest}
+use Rattle.rt_trie.specs.FromPrefix.{from_prefix}
 use Rattle.rt_trie.specs.Tree.{Tree, Vacant, Node, top, size, stored}
 use Rattle.rt_trie.specs.Laws.{IsChildByBit, PutIsSeen, EraseIsSeen, PutKeepsOrder, EraseKeepsOrder, PairsAreFound}
 use Rattle.rt_trie.specs.Laws.{MapHasOneList, FirstIsLeast, NoneIsFirst, AfterIsNext, NoneIsAfter, ChildByNextBit}
 use Rattle.rt_trie.specs.Lawful.{IsLawfulAt, IsLawfulTree, IsLawful}
 use Rattle.std.specs.Prelude.{◌↔◌, ◌⊎◌, ◌+◌, ◌<◌, ◌≤◌, ◌++◌, ◌/◌, ◌%◌, Bool, List, Option, IsTrue, IsSome, IfSome}
-use Rattle.std.specs.Prelude.{IfNone, All, Contains, Box, is_some, length, map, filter, slice_index_or, if◌then◌else◌}
+use Rattle.std.specs.Prelude.{IfNone, All, Contains, Box, is_some, not, length, map, filter, slice_index_or, if◌then◌else◌}
 use Rattle.rt_cidr.specs.declared.address.Addr.{Addr}
 use Rattle.rt_cidr.specs.Prefix.{covers, contains}
 use Rattle.rt_trie.specs.declared.nodes.Link.{Link, Empty, Leaf, Fork', Full'}
@@ -237,6 +238,16 @@ each_that_covers_it_the_shortest_first = refl
 
 none_that_does_not_cover_it : (covering two (record { 0 = 167772160 }) ≡ []) × (covering {V = ℕ} [] (record { 0 = 0 }) ≡ [])
 none_that_does_not_cover_it = (refl, refl)
+
+-- from_prefix
+itself_and_what_comes_after_it : (from_prefix ((ten_8, 4) ∷ two) ten_8 ≡ (ten_8, 4) ∷ two) × (from_prefix ((ten_8, 4) ∷ two) ten_1_16 ≡ two)
+itself_and_what_comes_after_it = (refl, refl)
+
+also_where_it_is_not_stored : (from_prefix ((ten_8, 4) ∷ two) ten_0_16 ≡ two) × (from_prefix two last_32 ≡ [])
+also_where_it_is_not_stored = (refl, refl)
+
+those_that_do_not_come_before : {V : Type 0} (m : Pairs V) (p : Prefix) → from_prefix m p ≡ filter (λ x. not (before x.0 p)) m
+those_that_do_not_come_before m p = refl
 
 -- within
 itself_and_the_longer_ones_in_it : (within ((ten_8, 4) ∷ two) ten_8 ≡ (ten_8, 4) ∷ two) × (within ((ten_8, 4) ∷ two) ten_1_16 ≡ (ten_1_16, 5) ∷ [])

@@ -1,12 +1,16 @@
 -- What a walk has still to give: the pairs of the links on its stack, the last one first.
-use Rattle.std.specs.Prelude.{◌≡◌, ℕ, zero, suc, ◌<◌, ◌≤◌, ◌++◌, List, [], Option, Some, None, IfSome, IsSomeAnd, length}
+use Rattle.std.specs.Prelude.{◌≡◌, ℕ, zero, suc, ◌+◌, ◌<◌, ◌≤◌, ◌++◌, List, [], Option, Some, None, IfSome, IsSomeAnd, length}
 use Rattle.std.specs.Borrow.{Bor}
+use Rattle.rt_cidr.specs.declared.prefixes.Prefix.{Prefix}
 use Rattle.rt_trie.specs.declared.nodes.Link.{Link}
 use Rattle.rt_trie.specs.declared.nodes.TheConstants.{PLACES}
+use Rattle.rt_trie.specs.declared.walks.StepTo.{StepTo}
+use Rattle.rt_trie.specs.declared.walks.StepTo.TheVariants.{Whole, Nothing, Lower, Upper}
 use Rattle.rt_trie.specs.Map.{Pairs}
+use Rattle.rt_trie.specs.FromPrefix.{from_prefix}
 use Rattle.rt_trie.specs.inside.References.{link_at}
-use Rattle.rt_trie.specs.inside.Links.{pairs}
-use Rattle.rt_trie.specs.inside.Lawful.{root, IsLawfulTrie}
+use Rattle.rt_trie.specs.inside.Links.{pairs, count}
+use Rattle.rt_trie.specs.inside.Lawful.{root, IsFilled, IsLawfulTrie}
 
 -- the pairs of a link, if there is one
 abbrev pub pairs_of : {V A : Type 0} → Option (Link V A) → Pairs V
@@ -27,3 +31,17 @@ pub record IsWalkStack {V A : Type 0} (xs : List (Bor (Link V A))) (len : ℕ) :
   pub size : length xs ≡ PLACES
   pub few : len ≤ PLACES
   pub each : (k : ℕ) → k < len → IsSomeAnd (link_at xs k) (IsFrom k)
+
+-- a lawful link with fewer nodes than the other, whose node, if it has one, is longer than a node of the other
+pub record IsSideOf {V A : Type 0} (link side : Link V A) : Type 0 where
+  pub lawful : IsLawfulTrie side
+  pub fewer : count side < count link
+  pub above : (k : ℕ) → IsFrom k link → (k ≤ 32) × IsFrom (k + 1) side
+
+-- it is told where the pairs of the link are that come from p on, and what the sides are
+abbrev pub IsStepTo : {V A : Type 0} → Link V A → Prefix → StepTo V A → Type 0
+IsStepTo link p Whole = (from_prefix (pairs link) p ≡ pairs link) × IsFilled link
+IsStepTo link p Nothing = from_prefix (pairs link) p ≡ []
+IsStepTo link p (Lower left right) =
+    (from_prefix (pairs link) p ≡ from_prefix (pairs left.now) p ++ pairs right.now) × IsSideOf link left.now × IsSideOf link right.now
+IsStepTo link p (Upper right) = (from_prefix (pairs link) p ≡ from_prefix (pairs right.now) p) × IsSideOf link right.now
