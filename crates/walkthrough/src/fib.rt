@@ -1,6 +1,6 @@
 //! `rt_fib`: a forwarding table that follows a book, command by command.
 ghost use Rattle.std.specs.Prelude.{◌≡◌, IfOk};
-ghost use Rattle.rt_rib.specs.Book.{table_of};
+ghost use Rattle.rt_rib.specs.Book.{IsFeed, table_of};
 ghost use Rattle.rt_rib.specs.LookUp.{look_up};
 
 use rt_cidr::Addr;
@@ -9,14 +9,20 @@ use rt_fib::laws::commands_keep_outside;
 use rt_rib::{Book, Cmd, Refused, Route};
 use std::alloc::Global;
 
-/// Has the book answer a command of feed 1, and its forwarding table follow it. An error where memory is refused.
-pub fn follow(book: &mut Book<Global>, fib: &mut Fib<Global>, cmd: Cmd) -> Result<(), Refused>
-    requires { fib.old ≡ table_of book.old }
+/// Has the book answer a command of the feed, and its forwarding table follow it. An error where memory is refused.
+pub fn follow(
+    book: &mut Book<Global>,
+    fib: &mut Fib<Global>,
+    feed: u32,
+    cmd: Cmd,
+) -> Result<(), Refused>
+    requires feed { IsFeed feed }
+    requires fib { fib.old ≡ table_of book.old }
     ensures { IfOk result (λ _. fib.new ≡ table_of book.new) }
 {
     // What each command leaves as it was: known from here on.
     commands_keep_outside();
-    book.apply(1, cmd)?;
+    book.apply(feed, cmd)?;
     fib.follow(book, &cmd)
 }
 
@@ -32,6 +38,6 @@ pub fn routes_to(
 {
     let mut fib = Fib::new(alloc, book)?;
     let before = fib.look_up(addr);
-    follow(book, &mut fib, cmd)?;
+    follow(book, &mut fib, 1, cmd)?;
     Ok((before, fib.look_up(addr)))
 }

@@ -8,6 +8,7 @@ mod diff;
 mod fib;
 mod gate;
 mod lock;
+mod readers;
 mod replay;
 mod shared;
 mod trie;
@@ -127,6 +128,19 @@ fn tell_shared<R: Wait, W: Write>(rt: &R, alloc: Global, out: &mut W) -> Result<
     Ok(())
 }
 
+fn tell_readers<R: Threads + Wait + Sync, W: Write>(
+    rt: &R,
+    alloc: Global,
+    out: &mut W,
+) -> Result<()> {
+    let first = [add(b"10.0.0.0/8", 20, b"192.0.2.1")?];
+    let second = [add(b"10.1.0.0/16", 10, b"192.0.2.2")?];
+    let addr = Addr::parse(b"10.1.2.3")?;
+    let count = readers::count_beside(rt, alloc, &first, &second, addr)?;
+    writeln!(out, "readers that find the route of feed 2: {count}")?;
+    Ok(())
+}
+
 fn tell_gate<R: Wait, W: Write>(rt: &R, alloc: Global, out: &mut W) -> Result<()> {
     let text = b"add 10.0.0.0/8 100 192.0.2.1\nlookup 10.1.2.3\n";
     let (report, book) = gate::run_alone(rt, alloc, text)?;
@@ -149,5 +163,6 @@ fn main(rt: HostRuntime) -> Result<()> {
     tell_schedules(alloc, &mut out)?;
     tell_counts(&rt, alloc, &mut out)?;
     tell_shared(&rt, alloc, &mut out)?;
+    tell_readers(&rt, alloc, &mut out)?;
     tell_gate(&rt, alloc, &mut out)
 }

@@ -14,7 +14,7 @@ use std::sync::Wait;
 const LIMIT: u32 = 10;
 
 /// A table of two feeds, and the pass of each.
-fn table_of_two(alloc: Global) -> Result<(SharedRib<1>, FeedPass, FeedPass), Refused>
+pub(crate) fn table_of_two(alloc: Global) -> Result<(SharedRib<1>, FeedPass, FeedPass), Refused>
     ensures { IfOk result (λ made. (made.0.limit ≡ LIMIT) × AreBothUnseen made.0 made.1 made.2) }
 {
     let (table, mut passes) = SharedRib::<1>::new(alloc, LIMIT)?;
@@ -24,7 +24,7 @@ fn table_of_two(alloc: Global) -> Result<(SharedRib<1>, FeedPass, FeedPass), Ref
 }
 
 /// Asks the commands in one critical section, so that no other feed's come between, and gives the pass back.
-fn ask<R: Wait>(
+pub(crate) fn ask<R: Wait>(
     rt: &R,
     alloc: Global,
     table: &SharedRib<1>,

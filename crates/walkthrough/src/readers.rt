@@ -1,0 +1,182 @@
+//! `fib_readers`: feeds change a shared table on threads of their own, a writer follows them and shows readers each forwarding
+//! table, and readers ask on theirs.
+ghost use Rattle.std.specs.Prelude.{◌≡◌, IfOk, IfSome, OnOk};
+ghost use Rattle.rt_rib.specs.Book.{IsFeed, table_of};
+
+use crate::fib::follow;
+use crate::shared::{ask, table_of_two};
+use fib_readers::{FibReader, FibWriter};
+use rt_cidr::Addr;
+use rt_fib::Fib;
+use rt_rib::{Book, Cmd, Refused, Route};
+use rt_shared::FeedPass;
+use std::alloc::Global;
+use std::sync::Wait;
+use std::thread::{self, JoinHandle, Threads};
+
+/// How many threads read.
+const READERS: usize = 2;
+
+/// How many routes a feed may have in the writer's book.
+const LIMIT: u32 = 10;
+
+/// The first route of this feed that a reader finds to the address, or none where the writer ends before. It may ask forever.
+fn find<R: Wait>(rt: &R, reader: FibReader, addr: Addr, feed: u32) -> Option<Route>
+    ensures { IfSome result (λ route. route.feed ≡ feed) }
+{
+    let mut reader = reader;
+    for _ in rt.forever() {
+        let Ok(reading) = reader.enter() else {
+            return None;
+        };
+        let found = reading.look_up(addr);
+        reader = reading.leave();
+        match found {
+            Some(route) if route.feed == feed => return found,
+            _ => {}
+        }
+    }
+    unreachable!()
+}
+
+/// Has the book answer the commands of a feed, and its forwarding table follow each.
+fn follow_all(
+    book: &mut Book<Global>,
+    fib: &mut Fib<Global>,
+    feed: u32,
+    cmds: &[Cmd],
+) -> Result<(), Refused>
+    requires feed { IsFeed feed }
+    requires fib { fib.old ≡ table_of book.old }
+    ensures { IfOk result (λ _. fib.new ≡ table_of book.new) }
+{
+    'commands: for cmd in cmds {
+        follow(book, fib, feed, *cmd)?;
+    }
+    Ok(())
+}
+
+/// Follows the commands of a feed, and shows readers the forwarding table that they leave.
+fn show<R: Wait>(
+    rt: &R,
+    alloc: Global,
+    writer: FibWriter,
+    book: &mut Book<Global>,
+    fib: &mut Fib<Global>,
+    feed: u32,
+    cmds: &[Cmd],
+) -> (FibWriter, Result<(), Refused>)
+    requires feed { IsFeed feed }
+    requires fib { fib.old ≡ table_of book.old }
+    ensures fib { OnOk result.1 (fib.new ≡ table_of book.new) }
+    ensures shown { OnOk result.1 (result.0.table ≡ table_of book.new) }
+{
+    let Ok(()) = follow_all(book, fib, feed, cmds) else {
+        return (writer, Err(Refused));
+    };
+    match fib.copy(alloc, book) {
+        Ok(copy) => writer.publish(rt, alloc, copy),
+        Err(Refused) => (writer, Err(Refused)),
+    }
+}
+
+/// The book that two feeds leave which ask these commands, each on a thread of its own.
+fn serve_both<R: Threads + Wait + Sync>(
+    rt: &R,
+    alloc: Global,
+    first: &[Cmd],
+    second: &[Cmd],
+) -> Result<Book<Global>, Refused> {
+    let (table, one, two) = table_of_two(alloc)?;
+    let shared = &table;
+    let (one, two) = thread::join(
+        rt,
+        move || -> Option<FeedPass>
+            requires { one.table ≡ shared.now }
+            ensures { IfSome result (λ after. (after.table ≡ one.table) × (after.feed ≡ one.feed)) }
+        { ask(rt, alloc, shared, one, first).ok() },
+        move || -> Option<FeedPass>
+            requires { two.table ≡ shared.now }
+            ensures { IfSome result (λ after. (after.table ≡ two.table) × (after.feed ≡ two.feed)) }
+        { ask(rt, alloc, shared, two, second).ok() },
+    );
+    let (Some(one), Some(two)) = (one, two) else {
+        return Err(Refused);
+    };
+    let passes = vec![in alloc; one, two]?;
+    Ok(table.settle(rt, passes))
+}
+
+/// Has two feeds ask their commands, follows them in a book of the writer's own, and shows readers what the first one's leave there
+/// and then what both leave. Where the shared table has another number of routes at the end, memory was refused in one of them.
+fn show_both<R: Threads + Wait + Sync>(
+    rt: &R,
+    alloc: Global,
+    writer: FibWriter,
+    book: &mut Book<Global>,
+    fib: &mut Fib<Global>,
+    first: &[Cmd],
+    second: &[Cmd],
+) -> (FibWriter, Result<(), Refused>)
+    requires { fib.old ≡ table_of book.old }
+    ensures fib { OnOk result.1 (fib.new ≡ table_of book.new) }
+    ensures shown { OnOk result.1 (result.0.table ≡ table_of book.new) }
+{
+    let Ok(shared) = serve_both(rt, alloc, first, second) else {
+        return (writer, Err(Refused));
+    };
+    let (writer, done) = show(rt, alloc, writer, book, fib, 1, first);
+    if done.is_err() {
+        return (writer, Err(Refused));
+    }
+    let (writer, done) = show(rt, alloc, writer, book, fib, 2, second);
+    if shared.table().len() != book.table().len() {
+        return (writer, Err(Refused));
+    }
+    (writer, done)
+}
+
+/// How many of the threads have found a route.
+fn count_found<R: Threads>(rt: &R, threads: Vec<JoinHandle<Option<Route>>>) -> usize {
+    let mut count = 0usize;
+    for thread in threads {
+        if thread.join(rt).is_some() {
+            count = count.saturating_add(1);
+        }
+    }
+    count
+}
+
+/// How many of two readers find a route of feed 2 to the address. They ask on threads of their own, while each of two feeds asks its
+/// commands on one, and a writer follows these. An error where memory is refused.
+pub fn count_beside<R: Threads + Wait + Sync>(
+    rt: &R,
+    alloc: Global,
+    first: &[Cmd],
+    second: &[Cmd],
+    addr: Addr,
+) -> Result<usize, Refused> {
+    thread::scope(thread::scope_env(), rt, |scope| -> Result<usize, Refused> {
+        let mut book = Book::new(alloc, LIMIT);
+        let mut fib = Fib::new(alloc, &book)?;
+        let writer = FibWriter::new(alloc, fib.copy(alloc, &book)?, READERS)?;
+        let mut threads = Vec::new(alloc);
+        for _ in 0..READERS {
+            if let Ok(reader) = writer.reader() {
+                if let Ok(thread) = scope.spawn(move || find(rt, reader, addr, 2)) {
+                    let _ = threads.push(thread);
+                }
+            }
+        }
+        let (writer, done) = show_both(rt, alloc, writer, &mut book, &mut fib, first, second);
+        // Readers ask until they find it: where it isn't there, only the writer's end ends them.
+        let is_there = fib.look_up(addr).is_some_and(|route| route.feed == 2);
+        if done.is_err() || !is_there {
+            writer.end(rt);
+            return Ok(count_found(rt, threads));
+        }
+        let count = count_found(rt, threads);
+        writer.end(rt);
+        Ok(count)
+    })
+}
