@@ -35,7 +35,7 @@ const ROUTE: &str = "route";
 const COMPARED: &[&str] = &[HOP, ROUTE];
 
 /// What the words of a command line ask for.
-#[derive(Drop)]
+#[derive(Debug, Drop)]
 pub enum Request<'a> {
     /// To run feed files.
     Run(RunRequest<'a>),
@@ -50,7 +50,7 @@ pub enum Request<'a> {
 }
 
 /// Which feed files to run.
-#[derive(Drop)]
+#[derive(Debug, Drop)]
 pub struct RunRequest<'a> {
     /// How many routes a feed may have, 1 to [`MOST_ROUTES`].
     pub limit: u32,
@@ -64,7 +64,7 @@ pub struct RunRequest<'a> {
 }
 
 /// How routes are told.
-#[derive(Clone, Copy)]
+#[derive(Clone, Copy, Debug)]
 pub struct Telling {
     /// Whether a feed is told by its name, and not by its number.
     pub names: bool,
@@ -73,7 +73,7 @@ pub struct Telling {
 }
 
 /// Which addresses to look up, after which feed files.
-#[derive(Drop)]
+#[derive(Debug, Drop)]
 pub struct LookupRequest<'a> {
     /// The feed files.
     pub run: RunRequest<'a>,
@@ -88,7 +88,7 @@ pub struct LookupRequest<'a> {
 }
 
 /// Which routes to list, after which feed files.
-#[derive(Drop)]
+#[derive(Debug, Drop)]
 pub struct TableRequest<'a> {
     /// The feed files.
     pub run: RunRequest<'a>,
@@ -109,7 +109,7 @@ pub struct TableRequest<'a> {
 }
 
 /// Which tables to compare.
-#[derive(Drop)]
+#[derive(Debug, Drop)]
 pub struct DiffRequest<'a> {
     /// The old feed files, and the limit and the batch of both runs.
     pub run: RunRequest<'a>,
@@ -131,7 +131,7 @@ pub enum Compared {
 }
 
 /// Which schedule to show.
-#[derive(Drop)]
+#[derive(Debug, Drop)]
 pub struct ReplayRequest {
     /// How many levels the tree has.
     pub levels: u32,
@@ -140,7 +140,7 @@ pub struct ReplayRequest {
 }
 
 /// Why there is nothing to do.
-#[derive(Drop)]
+#[derive(Debug, Drop)]
 pub enum Refusal {
     /// Help or the version was asked for: its text.
     Shown(String),

@@ -2,6 +2,7 @@
 
 use itoa::Buffer;
 use rt_cidr::put;
+use std::fmt;
 use std::io::{self, Write};
 use std::sync::{Mutex, Wait};
 use std::thread::Parker;
@@ -11,7 +12,7 @@ use std::time::Duration;
 const BLANK: &[u8] = b"\r                                \r";
 
 /// How far a run has come.
-#[derive(Clone, Copy)]
+#[derive(Clone, Copy, Debug)]
 pub enum Stage {
     /// So many files were read, of so many.
     Reading(usize, usize),
@@ -87,6 +88,15 @@ pub struct ProgressLine {
     pub(crate) beside_output: bool,
     now: Mutex<LineState>,
     ended: Parker,
+}
+
+/// Shows whether standard output goes to a terminal, too, and not what the line says, which another thread may write now.
+impl fmt::Debug for ProgressLine {
+    fn fmt<W: fmt::Write>(&self, f: &mut fmt::Formatter<W>) -> fmt::Result {
+        f.debug_struct("ProgressLine")
+            .field("beside_output", &self.beside_output)
+            .finish_non_exhaustive()
+    }
 }
 
 impl ProgressLine {

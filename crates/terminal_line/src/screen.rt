@@ -1,6 +1,7 @@
 //! Both outputs of a run beside the line.
 
 use crate::line::{ProgressLine, Stage};
+use std::fmt;
 use std::io::{self, Write};
 use std::sync::Wait;
 
@@ -10,6 +11,15 @@ pub struct Screen<'a, R, E> {
     rt: &'a R,
     line: &'a ProgressLine,
     err: &'a mut E,
+}
+
+/// Shows the line, and not the writer.
+impl<'a, R, E> fmt::Debug for Screen<'a, R, E> {
+    fn fmt<W: fmt::Write>(&self, f: &mut fmt::Formatter<W>) -> fmt::Result {
+        f.debug_struct("Screen")
+            .field("line", self.line)
+            .finish_non_exhaustive()
+    }
 }
 
 impl<'a, R, E> Screen<'a, R, E> {
@@ -62,6 +72,16 @@ pub struct ScreenOutput<'a, 's, R, O, E> {
     out: &'s mut O,
     screen: &'s mut Screen<'a, R, E>,
     has_begun: bool,
+}
+
+/// Shows the line and whether the output has begun, and neither writer.
+impl<'a, 's, R, O, E> fmt::Debug for ScreenOutput<'a, 's, R, O, E> {
+    fn fmt<W: fmt::Write>(&self, f: &mut fmt::Formatter<W>) -> fmt::Result {
+        f.debug_struct("ScreenOutput")
+            .field("screen", &*self.screen)
+            .field("has_begun", &self.has_begun)
+            .finish_non_exhaustive()
+    }
 }
 
 impl<R: Wait, O: Write, E: Write> ScreenOutput<'_, '_, R, O, E> {
