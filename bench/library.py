@@ -184,6 +184,9 @@ def main():
         programs, benches = built(folder), checks.built_benches("fib", "2000") if times_it else None
         rounds = [measured(folder, programs, benches, pairs, asked) for _ in range(words.rounds)]
     least = {key: min(one[key] for one in rounds) for key in rounds[0]}
+    absent = [who for who in WHO if all(key[0] != who for key in least)]
+    if absent:
+        print(f"left out, since not here: {', '.join(absent)}", flush=True)
     rows = [{"call": call} | {who: least[who, call] for who in WHO if (who, call) in least} for call in CALLS]
     print(f"{'':16}" + "".join(f"{who:>14}" for who in WHO))
     for row in rows:

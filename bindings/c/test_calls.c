@@ -12,6 +12,8 @@ static const yarib_command add_eight = {
 /* What is to stay is filled with this byte, and compared. */
 enum { MARK = 0x5a };
 
+static const yarib_route start;
+
 static const yarib_selection all = {.part = YARIB_ALL};
 
 static int is_marked(const void *place, size_t size)
@@ -49,6 +51,7 @@ static void nothing(yarib *empty)
     CHECK(yarib_look_up(empty, &address, 1, &route, 1) == YARIB_NOTHING && is_marked(&route, sizeof route));
     CHECK(yarib_look_up_all(empty, 1, 0, &route, 1, &total) == YARIB_NOTHING && is_marked(&route, sizeof route));
     CHECK(yarib_routes(empty, 0, &route, 1, &total) == YARIB_NOTHING && is_marked(&route, sizeof route));
+    CHECK(yarib_routes_from(empty, &start, &route, 1, &total) == YARIB_NOTHING && is_marked(&route, sizeof route));
     CHECK(yarib_select(empty, &all, 0, &route, 1, &total) == YARIB_NOTHING && is_marked(&route, sizeof route));
     CHECK(yarib_count(empty, &total) == YARIB_NOTHING && yarib_follow(empty) == YARIB_NOTHING);
     CHECK(yarib_journal(empty, 0, &entry, 1, &total) == YARIB_NOTHING);
@@ -122,6 +125,7 @@ static void kinds(void)
     CHECK(yarib_apply_each(&forwarding, &add_eight, 1, &reply, 1) == YARIB_DONE);
     CHECK(reply.code == YARIB_UNANSWERED && reply.count == YARIB_WRONG_KIND && yarib_reserve(&forwarding, 1) == YARIB_DONE);
     CHECK(yarib_routes(&forwarding, 0, &route, 1, &total) == YARIB_WRONG_KIND);
+    CHECK(yarib_routes_from(&forwarding, &start, &route, 1, &total) == YARIB_WRONG_KIND);
     CHECK(yarib_select(&forwarding, &all, 0, &route, 1, &total) == YARIB_WRONG_KIND);
     CHECK(yarib_look_up_all(&forwarding, address, 0, &route, 1, &total) == YARIB_WRONG_KIND);
     CHECK(yarib_journal(&forwarding, 0, &entry, 1, &total) == YARIB_WRONG_KIND);
@@ -186,6 +190,81 @@ static void parts(void)
     CHECK(yarib_select(&table, &faulty, 0, rest, 6, &total) == YARIB_BAD_BITS);
     CHECK(total == 99 && is_marked(rest, sizeof rest));
     yarib_free(&table);
+}
+
+static int is_same(const yarib_route *one, const yarib_route *other)
+{
+    return one->base == other->base && one->len == other->len && one->pref == other->pref && one->feed == other->feed
+        && one->via == other->via && one->hop == other->hop;
+}
+
+/* Whether a route stands before a place in the order of the table. */
+static int precedes(const yarib_route *route, const yarib_route *place)
+{
+    if (route->base != place->base) return route->base < place->base;
+    if (route->len != place->len) return route->len < place->len;
+    return route->pref != place->pref ? route->pref < place->pref : route->feed < place->feed;
+}
+
+/* The page from a place on is the part of the whole list that doesn't stand before it, and what is behind the page stays. */
+static void check_page(yarib *table, const yarib_route *listed, size_t count, const yarib_route *from, size_t room)
+{
+    yarib_route page[40];
+    size_t used, first = 0;
+    while (first < count && precedes(&listed[first], from)) first++;
+    size_t wanted = count - first < room ? count - first : room;
+    memset(page, MARK, sizeof page);
+    CHECK(yarib_routes_from(table, from, page, room, &used) == YARIB_DONE && used == wanted);
+    for (size_t k = 0; k < used; k++) CHECK(is_same(&page[k], &listed[first + k]));
+    CHECK(is_marked(page + used, (40 - used) * sizeof *page));
+}
+
+/* Routes from a place on, of random tables: each size of page, and places that are and that are not those of a route. */
+static void pages(void)
+{
+    static const uint8_t lens[] = {0, 1, 2, 8, 23, 24, 25, 31, 32};
+    uint32_t draw = 7;
+    for (int seed = 0; seed < 40; seed++) {
+        yarib table = YARIB_EMPTY;
+        yarib_route listed[300], from = {0}, page[7];
+        yarib_reply reply;
+        size_t count, used = 99, passed = 0;
+        CHECK(yarib_new(&table, 1000, seed % 2 ? YARIB_JOURNALED : YARIB_PLAIN) == YARIB_DONE);
+        for (int k = 0; k < seed * 7; k++) {
+            draw = draw * 1664525u + 1013904223u;
+            uint8_t len = lens[(draw >> 8) % 9];
+            uint32_t base = (draw >> 12 & 3) * 0x55555555u + (draw >> 16 & 31);
+            yarib_command command = add(1 + (draw >> 21) % 4u, len == 0 ? 0 : base >> (32 - len) << (32 - len), len, draw >> 30);
+            CHECK(yarib_apply(&table, &command, &reply) == YARIB_DONE);
+        }
+        CHECK(yarib_routes(&table, 0, listed, 300, &count) == YARIB_DONE && count <= 300);
+        for (size_t k = 0; k < count; k++) {
+            yarib_route near = listed[k];
+            for (near.feed = 0; near.feed < 66; near.feed += 1 + near.feed / 5 * 20) {
+                check_page(&table, listed, count, &near, k % 40);
+                near.pref = (listed[k].pref + near.feed) % 4;
+            }
+            near.len = near.base & 1 || near.len == 32 ? 32 : near.len + 1;
+            check_page(&table, listed, count, &near, 40);
+        }
+        from = (yarib_route){.base = 0xffffffffu, .len = 32, .pref = 0xffffffffu, .feed = 0xffffffffu};
+        check_page(&table, listed, count, &from, 40);
+        from = (yarib_route){0};
+        do {
+            CHECK(yarib_routes_from(&table, &from, page, 7, &used) == YARIB_DONE);
+            for (size_t k = 0; k < used; k++) CHECK(is_same(&page[k], &listed[passed + k]));
+            passed += used;
+            if (used > 0) from = page[used - 1];
+            from.feed++;
+        } while (used == 7);
+        CHECK(passed == count);
+        from = (yarib_route){.base = 1, .len = 31};
+        memset(page, MARK, sizeof page);
+        CHECK(yarib_routes_from(&table, &from, page, 7, &used) == YARIB_BAD_BITS);
+        from = (yarib_route){.len = 33};
+        CHECK(yarib_routes_from(&table, &from, page, 7, &used) == YARIB_BAD_LENGTH && is_marked(page, sizeof page));
+        yarib_free(&table);
+    }
 }
 
 /* A table beside which a forwarding table follows answers as one without, after each of many commands. */
@@ -275,6 +354,7 @@ int main(void)
     faults();
     kinds();
     parts();
+    pages();
     followed();
     differences();
     texts();

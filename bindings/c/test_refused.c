@@ -61,6 +61,12 @@ static void ask(yarib *table)
         refused++;
     }
     CHECK(total == 3 && all[0].pref == 6);
+    const yarib_route first = {0};
+    long left = refused_call;
+    refused_call = 1;
+    CHECK(yarib_routes_from(table, &first, all, ROUTES, &total) == YARIB_DONE && total == ROUTES && all[3].base == 1u << 24);
+    CHECK(refused_call == 1); /* it asked for none */
+    refused_call = left;
 }
 
 /* Makes two handles on a forwarding table. */

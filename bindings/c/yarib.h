@@ -199,6 +199,12 @@ uint32_t yarib_look_up_all(yarib *table, uint32_t address, size_t skip, yarib_ro
  * YARIB_NOTHING, YARIB_NO_MEMORY, YARIB_WRONG_KIND. */
 uint32_t yarib_routes(yarib *table, size_t skip, yarib_route *routes, size_t room, size_t *total);
 
+/* The routes in the same order from the place of `from` on, as many as there is room for: `used` is how many these are. Its `base`,
+ * `len`, `pref` and `feed` name the place, whether or not there is such a route; with `pref` and `feed` 0 it is before all routes to
+ * the prefix, and the next page is from the last route of this one with 1 more for `feed`, also where the table has changed. It
+ * takes no memory, and goes to what it gives alone. YARIB_NOTHING, YARIB_BAD_LENGTH, YARIB_BAD_BITS, YARIB_WRONG_KIND. */
+uint32_t yarib_routes_from(yarib *table, const yarib_route *from, yarib_route *routes, size_t room, size_t *used);
+
 /* The routes that are asked for, in the same order, from the index `skip` on. It goes to their part of the table alone, and takes
  * memory for them. YARIB_NOTHING, YARIB_BAD_NUMBER (the part, the feed or only_best), YARIB_BAD_LENGTH, YARIB_BAD_BITS,
  * YARIB_NO_MEMORY, YARIB_WRONG_KIND. */
@@ -232,7 +238,9 @@ uint32_t yarib_share(yarib *forwarding, yarib *other);
 uint32_t yarib_follow(yarib *table);
 
 /* How many bytes a forwarding table takes, for all its handles together. Of a table about how many: 48 for each node, of which a
- * route has two at most, 56 for each entry of its journal, and those of a forwarding table beside it. YARIB_NOTHING. */
+ * prefix has two at most, 56 for each entry of its journal, and those of a forwarding table beside it. What glibc gives is no less,
+ * and beside 1 KiB at most a quarter more, with up to 96 for each route that is not the first to its prefix; a journal that was not
+ * reserved takes up to twice as much. YARIB_NOTHING. */
 uint32_t yarib_memory(yarib *table, size_t *bytes);
 
 /* Reads a prefix, as 10.0.0.0/8: no leading zeros, no bit set past the length. The text needs no end mark. YARIB_BAD_TEXT,
@@ -322,6 +330,15 @@ static inline uint32_t yarib_routes_checked(yarib *table, size_t skip, yarib_rou
     return yarib_routes(table, skip, routes, room, total);
 }
 #define yarib_routes yarib_routes_checked
+
+static inline uint32_t yarib_routes_from_checked(yarib *table, const yarib_route *from, yarib_route *routes, size_t room,
+    size_t *used)
+{
+    assert(table != NULL && from != NULL && routes != NULL && used != NULL);
+    assert(yarib_are_apart(from, sizeof *from, routes, room * sizeof *routes));
+    return yarib_routes_from(table, from, routes, room, used);
+}
+#define yarib_routes_from yarib_routes_from_checked
 
 static inline uint32_t yarib_select_checked(yarib *table, const yarib_selection *asked, size_t skip, yarib_route *routes,
     size_t room, size_t *total)

@@ -410,6 +410,34 @@ func (table *Table) Routes() ([]Route, error) {
 	return table.Select(Selection{Part: All})
 }
 
+// Place is a place in the order of a table's routes, whether or not there is such a route. No route to the prefix stands before
+// preference and feed 0.
+type Place struct {
+	Prefix netip.Prefix
+	Pref   uint32
+	Feed   uint32
+}
+
+// Behind is the place behind a route, from which the next page goes on.
+func (route Route) Behind() Place {
+	return Place{Prefix: route.Prefix, Pref: route.Pref, Feed: route.Feed + 1}
+}
+
+// RoutesFrom are the routes, by base, length, preference and feed, from a place on, so many at most. It takes memory for them
+// alone.
+func (table *Table) RoutesFrom(from Place, most int) ([]Route, error) {
+	base, isRight := number(from.Prefix.Addr())
+	if !isRight || from.Prefix.Bits() < 0 || most < 0 {
+		return nil, ErrCommand
+	}
+	raw := C.yarib_route{base: base, len: C.uint8_t(from.Prefix.Bits()), pref: C.uint32_t(from.Pref), feed: C.uint32_t(from.Feed)}
+	room, used := make([]C.yarib_route, most+1), C.size_t(0)
+	if err := failed(C.yarib_routes_from(&table.held.inside, &raw, &room[0], C.size_t(most), &used)); err != nil {
+		return nil, err
+	}
+	return routesOf(room[:used]), nil
+}
+
 // Count is how many routes there are.
 func (table *Table) Count() (int, error) {
 	total := C.size_t(0)

@@ -99,16 +99,7 @@ func (m *model) listed(isIn func(Route) bool) []Route {
 			routes = append(routes, route)
 		}
 	}
-	sort.Slice(routes, func(i, j int) bool {
-		one, other := routes[i], routes[j]
-		if one.Prefix.Addr() != other.Prefix.Addr() {
-			return one.Prefix.Addr().Less(other.Prefix.Addr())
-		}
-		if one.Prefix.Bits() != other.Prefix.Bits() {
-			return one.Prefix.Bits() < other.Prefix.Bits()
-		}
-		return isBetter(one, other)
-	})
+	sort.Slice(routes, func(i, j int) bool { return precedes(routes[i], routes[j]) })
 	return routes
 }
 
@@ -183,6 +174,7 @@ func TestRepliesAndRoutesAreTheModels(t *testing.T) {
 			}
 		}
 		checkParts(t, plain, &m, draw)
+		checkPages(t, plain, &m, draw)
 		checkLookUps(t, plain, &m, draw)
 		if ranges, err := journaled.Differences(plain, ByRoute); err != nil || len(ranges) != 0 {
 			t.Fatal(ranges, err)
@@ -212,6 +204,42 @@ func checkParts(t *testing.T, table *Table, m *model, draw *rand.Rand) {
 			}
 		}
 	}
+}
+
+// checkPages goes over the table from many places on, by pages of many sizes, beside the model's list.
+func checkPages(t *testing.T, table *Table, m *model, draw *rand.Rand) {
+	for k := 0; k < 20; k++ {
+		from, most := Place{drawnPrefix(draw), uint32(draw.Intn(4)), uint32(draw.Intn(7))}, 1+draw.Intn(9)
+		edge := Route{Prefix: from.Prefix, Pref: from.Pref, Feed: from.Feed}
+		wanted := m.listed(func(route Route) bool { return !precedes(route, edge) })
+		found := []Route{}
+		for isFull := true; isFull; {
+			page, err := table.RoutesFrom(from, most)
+			if err != nil || len(page) > most {
+				t.Fatal(from, most, page, err)
+			}
+			found = append(found, page...)
+			if isFull = len(page) == most; isFull {
+				from = page[most-1].Behind()
+			}
+		}
+		if !isSame(found, wanted) {
+			t.Fatal(edge, most, found, wanted)
+		}
+	}
+	if page, err := table.RoutesFrom(Place{Prefix: netip.MustParsePrefix("0.0.0.0/0")}, 0); err != nil || len(page) != 0 {
+		t.Fatal(page, err)
+	}
+}
+
+func precedes(one, other Route) bool {
+	if one.Prefix.Addr() != other.Prefix.Addr() {
+		return one.Prefix.Addr().Less(other.Prefix.Addr())
+	}
+	if one.Prefix.Bits() != other.Prefix.Bits() {
+		return one.Prefix.Bits() < other.Prefix.Bits()
+	}
+	return isBetter(one, other)
 }
 
 func checkLookUps(t *testing.T, table *Table, m *model, draw *rand.Rand) {

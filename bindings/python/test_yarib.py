@@ -63,6 +63,30 @@ class Tables(unittest.TestCase):
             self.assertRaises(ValueError, table.exact, "10.0.0.0/8", feed)
         self.assertRaises(ValueError, table.within, "10.0.0.1/8")
 
+    def test_routes_from_a_place_on(self):
+        table, draw = yarib.Table(), random.Random(5)
+        self.assertEqual((list(table), list(table.routes_from("255.255.255.255/32"))), ([], []))
+        for _ in range(10_000):
+            length = draw.choice((8, 16, 23, 24, 32))
+            table.apply(draw.randrange(1, 5), "add", (draw.randrange(1 << length) << 32 - length, length), draw.randrange(3), None)
+        routes = table.routes()
+        self.assertEqual(list(table), routes)
+        key = lambda one: (one.base, one.length, one.pref, one.feed)
+        for _ in range(20):
+            base, length, pref, feed = place = key(draw.choice(routes))
+            self.assertEqual(list(table.routes_from((base, length), pref, feed)), [one for one in routes if key(one) >= place])
+            behind = (base | 0x80000000, length, 0, 0)
+            self.assertEqual(list(table.routes_from(behind[:2])), [one for one in routes if key(one) >= behind])
+        for prefix in ("10.0.0.1/8", (0, 33)):
+            self.assertRaises(ValueError, lambda: list(table.routes_from(prefix)))
+        going = iter(table)
+        first = next(going)
+        table.purge(feed=first.feed)
+        rest = list(going)
+        self.assertEqual(rest[255:], [one for one in table.routes() if key(one) > key(rest[254])])
+        table.close()
+        self.assertRaises(yarib.Refused, list, table)
+
     def test_a_followed_table_answers_as_before(self):
         table = yarib.Table()
         table.add("10.0.0.0/8", via=1)

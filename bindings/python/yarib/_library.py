@@ -60,6 +60,7 @@ CALLS = {
     "yarib_look_up": (POINTER, POINTER, SIZE, POINTER, SIZE),
     "yarib_look_up_all": (POINTER, NUMBER, SIZE, POINTER, SIZE, POINTER),
     "yarib_routes": (POINTER, SIZE, POINTER, SIZE, POINTER),
+    "yarib_routes_from": (POINTER, POINTER, POINTER, SIZE, POINTER),
     "yarib_select": (POINTER, POINTER, SIZE, POINTER, SIZE, POINTER),
     "yarib_count": (POINTER, POINTER),
     "yarib_journal": (POINTER, SIZE, POINTER, SIZE, POINTER),

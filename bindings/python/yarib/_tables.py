@@ -8,7 +8,7 @@ from typing import NamedTuple, Optional
 from . import _library as c
 from ._library import Refused, check, held
 
-PAGE = 4096
+PAGE, ENTRIES = 256, 4096
 NETWORK, ADDRESS = ipaddress.IPv4Network, ipaddress.IPv4Address
 
 
@@ -337,9 +337,25 @@ class Table(Handle):
         found = self._pages(c.RawRoute, 64, lambda *place: held.yarib_select(self._at, ctypes.byref(asked), *place))
         return [route_of(raw) for raw in found]
 
+    def routes_from(self, prefix, pref=0, feed=0):
+        """An iterator over the routes, as `routes` has them, from the place of this prefix, preference and feed on: no route to the
+        prefix stands before preference and feed 0. It takes memory for a page of them alone. The table may change meanwhile: a
+        route is told, or not, by what is there when its turn comes, and none twice."""
+        base, length = prefix_of(prefix)
+        return self._pages_from(c.RawRoute(base, number(pref, "a preference"), 0, number(feed, "a feed"), length))
+
+    def _pages_from(self, place):
+        used = ctypes.c_size_t(PAGE)
+        while used.value == PAGE:
+            page = (c.RawRoute * PAGE)()
+            check(held.yarib_routes_from(self._at, ctypes.byref(place), page, PAGE, ctypes.byref(used)))
+            yield from map(route_of, page[:used.value])
+            place = c.RawRoute.from_buffer_copy(page[PAGE - 1])
+            place.feed += 1
+
     def __iter__(self):
-        """The routes that are there now."""
-        return iter(self.routes())
+        """An iterator over all routes, page by page, as `routes_from` goes."""
+        return self.routes_from((0, 0))
 
     def __contains__(self, prefix):
         """Whether some feed has a route to just this prefix."""
@@ -347,7 +363,7 @@ class Table(Handle):
 
     def journal(self):
         """Each command that was answered, with its outcome. Raises Refused where the table keeps none."""
-        raws = self._pages(c.RawEntry, PAGE, lambda *place: held.yarib_journal(self._at, *place))
+        raws = self._pages(c.RawEntry, ENTRIES, lambda *place: held.yarib_journal(self._at, *place))
         return [Entry(words_of(raw.command), outcome_of(raw.reply)) for raw in raws]
 
     def reserve(self, entries):

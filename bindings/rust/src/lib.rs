@@ -408,7 +408,9 @@ impl Selection {
         };
         raw::Selection {
             part,
-            feed: self.feed.map_or(0, |feed| if feed == 0 { u32::MAX } else { feed }),
+            feed: self
+                .feed
+                .map_or(0, |feed| if feed == 0 { u32::MAX } else { feed }),
             base: u32::from(prefix.base),
             len: prefix.len,
             only_best: u8::from(self.only_best),
@@ -486,6 +488,23 @@ impl Table {
         Ok(found.iter().filter_map(Route::of).collect())
     }
 
+    /// The routes in the order of `routes` from the place of this prefix, preference and feed on, whether or not there is such a
+    /// route; none to the prefix stands before preference and feed 0. It takes memory for a few of them at a time.
+    pub fn routes_from(&mut self, prefix: Prefix, pref: u32, feed: u32) -> RoutesFrom<'_> {
+        let place = raw::Route {
+            base: u32::from(prefix.base),
+            len: prefix.len,
+            pref,
+            feed,
+            ..raw::Route::default()
+        };
+        RoutesFrom {
+            table: self,
+            place: Some(place),
+            page: Vec::new().into_iter(),
+        }
+    }
+
     /// The routes that are asked for, in the order of `routes`.
     pub fn select(&mut self, asked: Selection) -> Result<Vec<Route>> {
         let asked = asked.numbers();
@@ -559,6 +578,44 @@ fn whole<T: Clone + Default>(
     }
     found.truncate(total);
     Ok(found)
+}
+
+/// So many routes an iterator over them asks for at once.
+const PAGE: usize = 256;
+
+/// The routes of a table from a place on.
+#[derive(Debug)]
+pub struct RoutesFrom<'a> {
+    table: &'a mut Table,
+    /// From where the next page is, if there is one.
+    place: Option<raw::Route>,
+    page: std::vec::IntoIter<raw::Route>,
+}
+
+impl RoutesFrom<'_> {
+    /// The next page. Behind one that isn't full there is none.
+    fn turn(&mut self) -> Option<()> {
+        let mut page = vec![raw::Route::default(); PAGE];
+        let used = self.table.0.routes_from(&self.place?, &mut page).ok()?;
+        page.truncate(used);
+        self.place = page.last().filter(|_| used == PAGE).copied();
+        if let Some(last) = &mut self.place {
+            last.feed += 1;
+        }
+        self.page = page.into_iter();
+        Some(())
+    }
+}
+
+impl Iterator for RoutesFrom<'_> {
+    type Item = Route;
+
+    fn next(&mut self) -> Option<Route> {
+        if self.page.len() == 0 {
+            self.turn()?;
+        }
+        self.page.next().as_ref().and_then(Route::of)
+    }
 }
 
 /// The ranges that two tables answer otherwise.

@@ -115,6 +115,13 @@ extern "C" {
         room: usize,
         total: *mut usize,
     ) -> u32;
+    fn yarib_routes_from(
+        table: *mut Handle,
+        from: *const Route,
+        routes: *mut Route,
+        room: usize,
+        used: *mut usize,
+    ) -> u32;
     fn yarib_select(
         table: *mut Handle,
         asked: *const Selection,
@@ -209,6 +216,12 @@ impl Handle {
         let (mut total, room) = (0, routes.len());
         told(unsafe { yarib_routes(self, 0, routes.as_mut_ptr(), room, &mut total) })?;
         Ok(total)
+    }
+
+    pub fn routes_from(&mut self, from: &Route, routes: &mut [Route]) -> Result<usize, u32> {
+        let (mut used, room) = (0, routes.len());
+        told(unsafe { yarib_routes_from(self, from, routes.as_mut_ptr(), room, &mut used) })?;
+        Ok(used)
     }
 
     pub fn select(&mut self, asked: &Selection, routes: &mut [Route]) -> Result<usize, u32> {

@@ -157,6 +157,7 @@ fn replies_and_routes_are_the_models() {
         assert_eq!(plain.routes().unwrap(), model.listed());
         assert_eq!(plain.count().unwrap(), model.routes.len());
         check_parts(&mut plain, &model, &mut draw);
+        check_pages(&mut plain, &model, &mut draw);
         assert_eq!(journaled.differences(&mut plain, By::Route).count(), 0);
         let addresses: Vec<u32> = (0..300)
             .map(|_| u32::from(draw.prefix().base()).wrapping_add(draw.below(2)))
@@ -214,6 +215,36 @@ fn check_parts(table: &mut Table, model: &Model, draw: &mut Draw) {
     }
 }
 
+/// The routes from a place on are those of the model's list that don't stand before it.
+fn check_pages(table: &mut Table, model: &Model, draw: &mut Draw) {
+    for _ in 0..20 {
+        let place = (draw.prefix(), draw.below(4), draw.below(7));
+        let mut wanted = model.listed();
+        wanted.retain(|route| (route.prefix, route.pref, route.feed) >= place);
+        let found: Vec<Route> = table.routes_from(place.0, place.1, place.2).collect();
+        assert_eq!(found, wanted, "{place:?}");
+    }
+}
+
+#[test]
+fn pages_follow_one_another() {
+    let mut table = Table::new(2_000).unwrap();
+    let first: Prefix = "0.0.0.0/0".parse().unwrap();
+    assert_eq!(table.routes_from(first, 0, 0).next(), None);
+    for k in 0..512_u32 {
+        let prefix = Prefix::new(Ipv4Addr::from(k << 12), 20).unwrap();
+        table.add(1 + k % 3, prefix, k, Hop::Discard).unwrap();
+        if [254, 255, 256, 511].contains(&k) {
+            let listed = table.routes().unwrap();
+            assert!(table.routes_from(first, 0, 0).eq(listed));
+        }
+    }
+    let last = table.routes().unwrap()[511];
+    let from = |table: &mut Table, feed| table.routes_from(last.prefix, last.pref, feed).count();
+    assert_eq!(from(&mut table, last.feed), 1);
+    assert_eq!(from(&mut table, last.feed + 1), 0);
+}
+
 #[test]
 fn a_followed_table_answers_as_before() {
     let (mut draw, mut model) = (
@@ -240,10 +271,7 @@ fn a_followed_table_answers_as_before() {
         }
     }
     assert!(table.memory().unwrap() >= 1 << 26);
-    assert_eq!(
-        Table::with_journal(5).unwrap().follow(),
-        Err(Error::Kind)
-    );
+    assert_eq!(Table::with_journal(5).unwrap().follow(), Err(Error::Kind));
     for feed in [0, 65] {
         let asked = Selection {
             feed: Some(feed),

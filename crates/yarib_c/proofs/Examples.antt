@@ -1,6 +1,6 @@
 -- Examples by which the definitions of this crate are tested, each under a line with the definition's name.
 use Rattle.std.proofs.Common.{◌≡◌, ℕ, suc, ◌+◌, ◌^◌, true, false, Some, None, List, [], ◌∷◌, ◌++◌, refl, arith}
-use Rattle.std.specs.Prelude.{◌↔◌, ◌≢◌, ◌⊎◌, ◌≤◌, ◌<◌, Option, length, map, take, slice_get}
+use Rattle.std.specs.Prelude.{◌↔◌, ◌≢◌, ◌⊎◌, ◌≤◌, ◌<◌, Option, length, map, take, drop, slice_get}
 use Rattle.std.specs.Option.{option_map}
 use Rattle.std.specs.Ptr.{Ptr, null_ptr, block_ptr}
 use Rattle.rt_cidr.specs.declared.address.Addr.{Addr}
@@ -17,6 +17,7 @@ use Rattle.rt_rib.specs.Sequential.{reply_of, table_after}
 use Rattle.rt_rib.specs.declared.selection.Part.TheVariants.{All, Within, Covering, Exact}
 use Rattle.rt_rib.specs.declared.selection.Selection.{Selection}
 use Rattle.rt_rib.specs.Selection.{selected}
+use Rattle.rt_rib.specs.Places.{from_place}
 use Rattle.rt_rib.specs.LookUp.{look_up}
 use Rattle.rt_rib.specs.Book.{BookContents, table_of, IsFeed}
 use Rattle.rt_diff.specs.declared.answers.By.TheVariants as by
@@ -41,7 +42,7 @@ use Rattle.yarib_c.specs.Forms.{hop_number, via_number, no_route, route_as, hop_
 use Rattle.yarib_c.specs.Forms.{unanswered, entry_as}
 use Rattle.yarib_c.specs.Calls.{held_in, IsOf, Holds, GoesOn, Goes, StaysSame, IsKept, Forwards, Answers, Refused, IsReason, IsUnanswered, HasOutcome}
 use Rattle.yarib_c.specs.Calls.{HaveOutcomes, addr, answers_in, PutsText}
-use Rattle.yarib_c.specs.Lists.{ShowsRoutes, ShowsEntries, ShowsJournal}
+use Rattle.yarib_c.specs.Lists.{ShowsRoutes, ShowsEntries, ShowsJournal, IsPlace, PutsRoutes, ShowsFrom}
 use Rattle.yarib_c.specs.declared.sizes.TheConstants.{NODE_BYTES, ENTRY_BYTES}
 use Rattle.yarib_c.specs.Sizes.{bytes_of, TakesBytes}
 use Rattle.yarib_c.specs.Selections.{IsOutOfRange, IsTo, IsPart, feed_asked, best_number, IsSelection, ShowsSelected}
@@ -405,6 +406,27 @@ a_journal_is_shown :
     (all : List Entry) (skip : ℕ) (shown : List YaribEntry) (total : ℕ)
     → (ShowsJournal (Some all) skip shown total ≡ ShowsEntries all skip shown total) × (¬ ShowsJournal None skip shown total)
 a_journal_is_shown all skip shown total = (refl, λ wrong. wrong)
+
+-- IsPlace
+what_a_place_is :
+    (c : YaribRoute) (r : Route) → IsPlace c r ↔ ((r.prefix.base ≡ c.base) × (r.prefix.len ≡ c.len) × (r.pref ≡ c.pref) × (r.feed ≡ c.feed))
+what_a_place_is c r = (λ h. (h.base, h.len, h.pref, h.feed), λ (base, len, pref, feed). record { base = base; len = len; pref = pref; feed = feed })
+
+-- PutsRoutes
+what_is_put_in_front :
+    (routes : List Route) (old new : List YaribRoute) (used : ℕ) → PutsRoutes routes old new used
+    ↔ ((used ≡ length (take (length old) routes)) × (new ≡ map route_as (take (length old) routes) ++ drop used old))
+what_is_put_in_front routes old new used = (λ h. (h.counted, h.put), λ (counted, put). record { counted = counted; put = put })
+
+one_route_where_there_is_room_for_two : PutsRoutes (one_route ∷ []) (no_route ∷ no_route ∷ []) (route_as one_route ∷ no_route ∷ []) 1
+one_route_where_there_is_room_for_two = record { counted = refl; put = refl }
+
+-- ShowsFrom
+what_is_shown_from_a_place :
+    (c : YaribRoute) (routes : List Route) (old new : List YaribRoute) (used : ℕ) → ShowsFrom c routes old new used
+    ↔ ((place : Route) × IsPlace c place × PutsRoutes (from_place place routes) old new used)
+what_is_shown_from_a_place c routes old new used =
+    (λ h. (h.place, h.is, h.puts), λ (place, is, puts). record { place = place; is = is; puts = puts })
 
 -- by_number
 ways_to_tell_apart : (by_number by.Hop ≡ 0) × (by_number by.Route ≡ 1)

@@ -3,6 +3,7 @@ pub mod AsBox
 pub mod Beside
 pub mod Crossing
 mod Examples
+pub mod FilledLists
 pub mod Outcomes
 pub mod ParsedAddresses
 pub mod TextLengths

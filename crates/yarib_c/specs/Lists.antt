@@ -1,8 +1,9 @@
 -- A part of a list, as C is shown it.
-use Rattle.std.specs.Prelude.{◌≡◌, ℕ, ◌+◌, ◌<◌, List, length, Option, None, Some, slice_get}
+use Rattle.std.specs.Prelude.{◌≡◌, ℕ, ◌+◌, ◌<◌, ◌++◌, List, length, Option, None, Some, slice_get, map, take, drop}
 use Rattle.std.specs.Option.{option_map}
 use Rattle.rt_rib.specs.declared.routes.Route.{Route}
 use Rattle.rt_rib.specs.declared.commands.Entry.{Entry}
+use Rattle.rt_rib.specs.Places.{from_place}
 use Rattle.yarib_c.specs.declared.routes.YaribRoute.{YaribRoute}
 use Rattle.yarib_c.specs.declared.commands.YaribEntry.{YaribEntry}
 use Rattle.yarib_c.specs.Forms.{route_as, entry_as}
@@ -21,3 +22,21 @@ pub record ShowsEntries (all : List Entry) (skip : ℕ) (shown : List YaribEntry
 abbrev pub ShowsJournal : Option (List Entry) → ℕ → List YaribEntry → ℕ → Type 0
 ShowsJournal None skip shown total = ⊥
 ShowsJournal (Some journal) skip shown total = ShowsEntries journal skip shown total
+
+-- the numbers stand for the place of the route in dump order
+pub record IsPlace (c : YaribRoute) (r : Route) : Type 0 where
+  pub base : r.prefix.base ≡ c.base
+  pub len : r.prefix.len ≡ c.len
+  pub pref : r.pref ≡ c.pref
+  pub feed : r.feed ≡ c.feed
+
+-- these routes stand in front of what was in the list, as many as have room there, and it is told how many they are
+pub record PutsRoutes (routes : List Route) (old new : List YaribRoute) (used : ℕ) : Type 0 where
+  pub counted : used ≡ length (take (length old) routes)
+  pub put : new ≡ map route_as (take (length old) routes) ++ drop used old
+
+-- and they are those from this place on
+pub record ShowsFrom (c : YaribRoute) (routes : List Route) (old new : List YaribRoute) (used : ℕ) : Type 0 where
+  pub place : Route
+  pub is : IsPlace c place
+  pub puts : PutsRoutes (from_place place routes) old new used

@@ -20,6 +20,7 @@ mod held;
 mod lists;
 mod lookups;
 mod loose;
+mod pages;
 mod plain;
 mod questions;
 mod routes;

@@ -1,0 +1,85 @@
+//! A table page by page: as many of its routes as there is room for, from a place on.
+ghost use Rattle.std.specs.Prelude.{◌≡◌, ◌≢◌, ◌<◌, ◌≤◌, ◌⊎◌, None};
+ghost use Rattle.rt_cidr.specs.Cidr.{IsPrefix};
+ghost use Rattle.yarib_c.specs.Kinds.{routes_in, IsForwarding};
+ghost use Rattle.yarib_c.specs.Calls.{held_in, Holds};
+ghost use Rattle.yarib_c.specs.Lists.{PutsRoutes, ShowsFrom};
+
+use crate::handle::Yarib;
+use crate::held::Held;
+use crate::routes::YaribRoute;
+use crate::status::{BAD_BITS, BAD_LENGTH, DONE, NOTHING, WRONG_KIND};
+use rt_cidr::{Prefix, TextFault};
+use rt_rib::{Hop, Route, RoutesFrom};
+use std::alloc::Global;
+
+/// The routes in dump order from the place of the given one on, as many as there is room for, and how many these are. `from` need
+/// not be in the table, and its next hop is not read. It takes no memory.
+#[unsafe(no_mangle)]
+pub extern "C" fn yarib_routes_from(
+    alloc: Global,
+    table: &mut Yarib,
+    from: &YaribRoute,
+    routes: &mut [YaribRoute],
+    used: &mut usize,
+) -> u32
+    ensures done { result ≡ 0 → Holds table.old (λ held. ShowsFrom from.now (routes_in held) routes.old routes.new used.new) }
+    ensures same { held_in table.new ≡ held_in table.old }
+    ensures absent { result ≡ 1 → held_in table.old ≡ None }
+    ensures length { result ≡ 8 → 32 < from.now.len }
+    ensures bits { result ≡ 9 → (from.now.len ≤ 32) × ¬ IsPrefix from.now.base from.now.len }
+    ensures kind { result ≡ 10 → Holds table.old IsForwarding }
+    ensures silent { result ≢ 0 → (routes.new ≡ routes.old) × (used.new ≡ used.old) }
+    ensures known { (result ≡ 0) ⊎ ((result ≡ 1) ⊎ ((8 ≤ result) × (result ≤ 10))) }
+{
+    let Some(held) = table.take(alloc) else {
+        return NOTHING;
+    };
+    let status = show_from(&held, from, routes, used);
+    *table = Yarib::of(held);
+    status
+}
+
+fn show_from(held: &Held, from: &YaribRoute, routes: &mut [YaribRoute], used: &mut usize) -> u32
+    ensures done { result ≡ 0 → ShowsFrom from.now (routes_in held.now) routes.old routes.new used.new }
+    ensures length { result ≡ 8 → 32 < from.now.len }
+    ensures bits { result ≡ 9 → (from.now.len ≤ 32) × ¬ IsPrefix from.now.base from.now.len }
+    ensures kind { result ≡ 10 → IsForwarding held.now }
+    ensures silent { result ≢ 0 → (routes.new ≡ routes.old) × (used.new ≡ used.old) }
+    ensures known { (result ≡ 0) ⊎ ((8 ≤ result) × (result ≤ 10)) }
+{
+    let prefix = match Prefix::new(from.base, from.len) {
+        Ok(prefix) => prefix,
+        Err(TextFault::Bits) => return BAD_BITS,
+        Err(_) => return BAD_LENGTH,
+    };
+    let Some(table) = held.table() else {
+        return WRONG_KIND;
+    };
+    let place = Route {
+        prefix,
+        feed: from.feed,
+        pref: from.pref,
+        hop: Hop::Discard,
+    };
+    *used = put_page(table.routes_from(&place), routes);
+    DONE
+}
+
+/// Puts as many of the routes as there is room for, and answers how many these are.
+fn put_page(from: RoutesFrom<'_, Global>, routes: &mut [YaribRoute]) -> usize
+    ensures { PutsRoutes from.entry routes.old routes.new result }
+{
+    let mut from = from;
+    let mut used = 0;
+    while used < routes.len() {
+        match from.next() {
+            None => return used,
+            Some(route) => {
+                routes[used] = YaribRoute::of(route);
+                used += 1;
+            }
+        }
+    }
+    used
+}
