@@ -1,0 +1,33 @@
+"""Makes the package's wheel for pip, of plain files: no other package and no network is wanted."""
+import base64
+import hashlib
+import pathlib
+import zipfile
+
+HERE = pathlib.Path(__file__).resolve().parent
+NAME, VERSION, ABOUT = "yarib", "0.1", "IPv4 routing tables whose answers are proved"
+INFO = f"{NAME}-{VERSION}.dist-info"
+
+
+def files_of_wheel():
+    """What the wheel holds, by name, but for the list of it."""
+    found = {f"{NAME}/{path.name}": path.read_bytes() for path in sorted((HERE / NAME).glob("*.py"))}
+    about = f"Metadata-Version: 2.1\nName: {NAME}\nVersion: {VERSION}\nSummary: {ABOUT}\nRequires-Python: >=3.9\n"
+    return found | {f"{INFO}/METADATA": about.encode(),
+                    f"{INFO}/WHEEL": b"Wheel-Version: 1.0\nGenerator: yarib\nRoot-Is-Purelib: true\nTag: py3-none-any\n"}
+
+
+def listed(name, content):
+    """A file's line of the list."""
+    digest = base64.urlsafe_b64encode(hashlib.sha256(content).digest()).rstrip(b"=").decode()
+    return f"{name},sha256={digest},{len(content)}\n"
+
+
+def build_wheel(folder, config_settings=None, metadata_directory=None):
+    """The call that pip makes: writes the wheel into the folder, and returns its name."""
+    files, name = files_of_wheel(), f"{NAME}-{VERSION}-py3-none-any.whl"
+    files[f"{INFO}/RECORD"] = ("".join(listed(*file) for file in files.items()) + f"{INFO}/RECORD,,\n").encode()
+    with zipfile.ZipFile(pathlib.Path(folder) / name, "w", zipfile.ZIP_DEFLATED) as wheel:
+        for file, content in files.items():
+            wheel.writestr(file, content)
+    return name
