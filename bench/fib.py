@@ -6,7 +6,9 @@ Needs rt, gcc and rustc. The program crates/benches, bench/fib_peer.c, bench/fib
 rounds over each number of prefixes (500,000 and 1,000,000 if left out) of a real table's lengths. Each is asked for a million
 addresses, random ones, each of which lies in any of the prefixes, and local ones, in a thousand of these. A row has a call, and
 for each who makes it the least of the times: nanoseconds of processor time for one prefix or address, of `renew` for one call
-on the clock, right after the book's own; and megabytes of memory. Libraries of others run in the first round alone.
+on the clock, right after the book's own; and megabytes of memory. `reader` is what one of two threads takes on the clock that
+ask for 256 addresses at once, alone and beside a writer that follows a thousand commands a second and publishes ten tables a
+second. Libraries of others run in the first round alone.
 """
 import pathlib
 import subprocess
@@ -20,6 +22,7 @@ from figures import checks
 ASKED = 1 << 20
 PLACES = 1000
 KINDS = ("random", "local")
+READERS, TURNS, COMMANDS = 2, 20, 100  # a turn of the writer takes a tenth of a second
 WHO = ("Rattle", "C", "Rust", "book", "rte_lpm", "py-radix", "Net::Patricia")
 
 
@@ -46,6 +49,17 @@ def rattle_rows(benches, prefixes):
             found["Rattle", f"{call} {kind}"] = said[f"{kind}_{call}"] / ASKED
             found["book", f"{call} {kind}"] = said[f"{kind}_book_{call}"] / ASKED
     return found, [said[f"{kind}_found"] for kind in KINDS]
+
+
+def reader_rows(benches, prefixes):
+    """What one of the readers takes for an address, alone and beside the writer."""
+    found = {}
+    for kind, commands in (("alone", 0), ("beside", COMMANDS)):
+        said = told([benches, "readers", *map(str, (prefixes, READERS, TURNS, commands))])
+        found["Rattle", f"reader {kind}"] = said["passed"] * READERS / said["asked"]
+        if said["passed"] > TURNS * 1.1e8:
+            print(f"{prefixes:9} the writer took {said['passed'] / TURNS / 1e9:.2f} seconds a turn", flush=True)
+    return found
 
 
 def peer_rows(who, program, inputs, prefixes):
@@ -95,10 +109,11 @@ def compare(folder, programs, prefixes, rounds):
             if others != sums:
                 sys.exit(f"bench/fib.py: {who} finds something else")
             some |= rows
+        some |= reader_rows(programs["Rattle"], prefixes)
         found.append(some if found else some | other_rows(folders, programs["rte_lpm"], pairs, asked))
     least = {key: min(one[key] for one in found if key in one) for key in found[0]}
     calls = [f"{call} {kind}" for kind in KINDS for call in ("look_up", "look_up_each")]
-    calls += ["new", "renew_24", "renew_16", "renew_8", "memory"]
+    calls += ["new", "renew_24", "renew_16", "renew_8", "reader alone", "reader beside", "memory"]
     return [{"prefixes": prefixes, "call": call} | {who: round(least[who, call], 2) for who in WHO if (who, call) in least} for call in calls]
 
 

@@ -7,6 +7,7 @@ ghost use Rattle.std.specs.Prelude.{◌≡◌};
 ghost use Rattle.rt_rib.specs.Book.{table_of};
 
 mod asking;
+pub(crate) mod readers;
 mod renewing;
 
 use crate::Numbers;
@@ -73,7 +74,7 @@ fn draw_all(alloc: Global, count: u32, asked: u32) -> Option<Drawn> {
 }
 
 /// Has feed 1 put in a route to each of the prefixes.
-fn load(book: &mut Book<Global>, prefixes: &[Prefix]) {
+fn put_in_all(book: &mut Book<Global>, prefixes: &[Prefix]) {
     let mut pref = 0u32;
     for prefix in prefixes {
         let (prefix, hop) = (*prefix, Hop::Via(Addr(pref)));
@@ -143,7 +144,7 @@ fn time_over<R: Clock + CpuClock + Eprint>(
     drawn: &Drawn,
 ) -> io::Result<()> {
     let watch = Stopwatch::start(rt)?;
-    load(book, &drawn.prefixes);
+    put_in_all(book, &drawn.prefixes);
     tell(rt, "", "load", &watch)?;
     let watch = Stopwatch::start(rt)?;
     let Ok(mut fib) = Fib::new(alloc, book) else {
@@ -156,11 +157,11 @@ fn time_over<R: Clock + CpuClock + Eprint>(
     time_following(rt, book, &mut fib, &drawn.prefixes)
 }
 
-/// The number, or few where it isn't given.
-fn count_of(number: u64) -> u32 {
+/// The number, or the other where it isn't given.
+pub(crate) fn count_or(number: u64, other: u32) -> u32 {
     match u32::try_from(number) {
         Ok(count @ 1..) => count,
-        _ => FEW,
+        _ => other,
     }
 }
 
@@ -171,7 +172,7 @@ pub(crate) fn time_fib<R: Clock + CpuClock + Eprint>(
     numbers: Numbers,
 ) -> io::Result<()> {
     let mut book = Book::new(alloc, MOST_ROUTES);
-    match draw_all(alloc, count_of(numbers[0]), count_of(numbers[1])) {
+    match draw_all(alloc, count_or(numbers[0], FEW), count_or(numbers[1], FEW)) {
         Some(drawn) => time_over(rt, alloc, &mut book, &drawn),
         None => eprintln!(rt; "no memory"),
     }

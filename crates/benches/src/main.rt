@@ -1,7 +1,7 @@
-//! Times the lock, the shared table, the trie and a forwarding table, and asks for memory that is refused. The first argument
-//! names one of them, `lock`, `shared`, `trie` or `fib`, and up to four numbers behind it say what is timed (see each file); or
-//! it is `growth`, with a case of that file behind it. Without a name all are made, of the times a little each. Times go to
-//! standard error.
+//! Times the lock, the shared table, the trie, a forwarding table and its readers, and asks for memory that is refused. The first
+//! argument names one of them, `lock`, `shared`, `trie`, `fib` or `readers`, and up to four numbers behind it say what is timed
+//! (see each file); or it is `growth`, with a case of that file behind it. Without a name all are made, of the times a little
+//! each. Times go to standard error.
 #![tactic(auto)]
 
 mod asking;
@@ -46,12 +46,14 @@ fn main(rt: HostRuntime) -> io::Result<()> {
         "shared" => shared::time_table(&rt, alloc, numbers),
         "trie" => trie::time_trie(&rt, alloc, numbers),
         "fib" => fib::time_fib(&rt, alloc, numbers),
+        "readers" => fib::readers::time_readers(&rt, alloc, numbers),
         "growth" => growth::ask(&rt, alloc, word(&rt, alloc, 2)?.as_str()),
         _ => {
             lock::time_lock(&rt, alloc, numbers)?;
             shared::time_table(&rt, alloc, numbers)?;
             trie::time_trie(&rt, alloc, numbers)?;
             fib::time_fib(&rt, alloc, numbers)?;
+            fib::readers::time_readers(&rt, alloc, numbers)?;
             growth::ask(&rt, alloc, "")
         }
     }

@@ -7,7 +7,7 @@ use rt_rib::{Book, Route};
 use std::alloc::Global;
 
 /// The sum of the preferences.
-fn sum_of(answers: &[Option<Route>]) -> u64 {
+pub(crate) fn sum_of(answers: &[Option<Route>]) -> u64 {
     let mut sum = 0u64;
     for answer in answers {
         if let Some(route) = answer {
