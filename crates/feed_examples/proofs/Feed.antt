@@ -20,9 +20,9 @@ use Rattle.rt_rib.specs.declared.commands.Cmd.TheVariants.{Add, Replace, Withdra
 use Rattle.rt_rib.specs.declared.commands.Reply.{Reply}
 use Rattle.rt_rib.specs.declared.commands.Reply.TheVariants.{Added, Exists, Full, Replaced, Withdrawn, Missing, Found, NoRoute, Dumped, Purged}
 use Rattle.rt_shared.specs.declared.outcome.Outcome.TheVariants as outcome
-use Rattle.rt_diff.specs.declared.answers.Answer.TheVariants as answered
-use Rattle.rt_diff.specs.declared.differences.Difference.{Difference}
-use Rattle.rt_diff.specs.declared.answers.Answer.{Answer as Answered}
+use Rattle.rt_diff.specs.declared.table_answers.TableAnswer.TheVariants as answered
+use Rattle.rt_diff.specs.declared.comparison.Difference.{Difference}
+use Rattle.rt_diff.specs.declared.table_answers.TableAnswer.{TableAnswer}
 use Rattle.rt_rib.specs.Table.{IsTable, count_of}
 use Rattle.rt_rib.specs.LookUp.{best_routes}
 use Rattle.rt_rib.proofs.BestRoutes.{dedup-best}
@@ -67,7 +67,7 @@ use Rattle.rt_feed.specs.declared.styles.Form.TheVariants.{Numbers, Labels, Json
 use Rattle.rt_feed.specs.Printed.{route_line, also_line}
 use Rattle.rt_feed.specs.Json.{escaped, json_string, hop_members, route_object}
 use Rattle.rt_feed.specs.Labels.{base_name, without_feed, feed_name, label_by, labelled, number_in, number_beside}
-use Rattle.rt_feed.specs.Styles.{StyleContents, label_of, row_as, rows_as, asked_of as asked_beginning, found_as, also_object, all_found_as}
+use Rattle.rt_feed.specs.Styles.{StyleContents, label_of, row_as, rows_as, address_head, found_as, also_object, all_found_as}
 
 -- the address 192.0.2.1, and the command of the first line of examples/first.feed
 abbrev pub at_192_0_2_1 : Addr
@@ -1238,7 +1238,7 @@ a_form_and_the_labels_of_both form = (refl, refl, refl)
 
 -- answered_as
 an_answer_in_each_style :
-    (label : ℕ → List ℕ) (answer : Answered) (hop : Hop) (r : Route)
+    (label : ℕ → List ℕ) (answer : TableAnswer) (hop : Hop) (r : Route)
     → (answered_as Numbers label answer ≡ answered_text answer) × (answered_as Labels label answered.NoRoute ≡ answered_text answered.NoRoute)
     × (answered_as Labels label (answered.Hop hop) ≡ answered_text (answered.Hop hop)) × (answered_as Labels label (answered.Route r) ≡ route_line (label r.feed) r)
     × (answered_as Json label answered.NoRoute ≡ codes "null") × (answered_as Json label (answered.Hop hop) ≡ codes "{" ++ (hop_members hop ++ codes "}"))
@@ -1507,13 +1507,13 @@ any_row_in_each_form label r = (refl, refl, refl)
 any_rows_in_a_form : (form : Form) (label : ℕ → List ℕ) (routes : List Route) → rows_as form label routes ≡ flat_map (row_as form label) routes
 any_rows_in_a_form form label routes = refl
 
--- asked_of
-an_address_that_was_asked : asked_beginning at_10_1_2_3 ≡ codes "{\"address\":\"10.1.2.3\",\"route\":"
-unfolding digits address_text asked_beginning
+-- address_head
+an_address_that_was_asked : address_head at_10_1_2_3 ≡ codes "{\"address\":\"10.1.2.3\",\"route\":"
+unfolding digits address_text address_head
 an_address_that_was_asked = refl
 
-any_address_that_was_asked : (addr : Addr) → asked_beginning addr ≡ codes "{\"address\":\"" ++ (address_text addr.0 ++ codes "\",\"route\":")
-unfolding asked_beginning
+any_address_that_was_asked : (addr : Addr) → address_head addr ≡ codes "{\"address\":\"" ++ (address_text addr.0 ++ codes "\",\"route\":")
+unfolding address_head
 any_address_that_was_asked addr = refl
 
 -- found_as
@@ -1522,15 +1522,15 @@ what_was_found_in_each_form :
     × (found_as Json (λ feed. decimal feed) at_10_1_2_3 (Some (route_via ten_8 1 30 (via_192_0_2 2)))
     ≡ codes "{\"address\":\"10.1.2.3\",\"route\":{\"prefix\":\"10.0.0.0/8\",\"feed\":1,\"pref\":30,\"via\":\"192.0.2.2\"}}\n")
     × (found_as Json (λ feed. decimal feed) at_10_1_2_3 None ≡ codes "{\"address\":\"10.1.2.3\",\"route\":null}\n")
-unfolding digits address_text prefix_text route_object asked_beginning found_as
+unfolding digits address_text prefix_text route_object address_head found_as
 what_was_found_in_each_form = (refl, refl, refl)
 
 whatever_was_found_in_each_form :
     (label : ℕ → List ℕ) (addr : Addr) (found : Option Route) (r : Route) → (found_as Numbers label addr found ≡ found_text addr found)
     × (found_as Labels label addr None ≡ found_text addr None)
     × (found_as Labels label addr (Some r) ≡ address_text addr.0 ++ (codes " route " ++ (route_line (label r.feed) r ++ codes "\n")))
-    × (found_as Json label addr None ≡ asked_beginning addr ++ codes "null}\n")
-    × (found_as Json label addr (Some r) ≡ asked_beginning addr ++ (route_object (label r.feed) r [] ++ codes "}\n"))
+    × (found_as Json label addr None ≡ address_head addr ++ codes "null}\n")
+    × (found_as Json label addr (Some r) ≡ address_head addr ++ (route_object (label r.feed) r [] ++ codes "}\n"))
 unfolding found_as
 whatever_was_found_in_each_form label addr found r = (refl, refl, refl, refl, refl)
 
@@ -1545,7 +1545,7 @@ all_that_was_found_as_an_object :
     ≡ codes "{\"address\":\"10.1.2.3\",\"route\":{\"prefix\":\"10.1.0.0/16\",\"feed\":1,\"pref\":10,\"via\":null,\"discard\":true},\"also\":["
     ++ codes "{\"prefix\":\"10.0.0.0/8\",\"feed\":2,\"pref\":30,\"via\":null,\"discard\":true,\"reason\":\"shorter\"},"
     ++ codes "{\"prefix\":\"10.0.0.0/8\",\"feed\":1,\"pref\":50,\"via\":null,\"discard\":true,\"reason\":\"shorter\"}]}\n"
-unfolding digits address_text prefix_text reason_text route_object asked_beginning all_found_as
+unfolding digits address_text prefix_text reason_text route_object address_head all_found_as
 all_that_was_found_as_an_object = refl
 
 whatever_number_was_found :
@@ -1553,8 +1553,8 @@ whatever_number_was_found :
     × (all_found_as Labels label addr [] ≡ found_text addr None)
     × (all_found_as Labels label addr (first ∷ others)
     ≡ found_as Labels label addr (Some first) ++ flat_map (also_line (λ r. route_line (label r.feed) r) addr first) others)
-    × (all_found_as Json label addr [] ≡ asked_beginning addr ++ codes "null,\"also\":[]}\n")
-    × (all_found_as Json label addr (first ∷ others) ≡ asked_beginning addr ++ (route_object (label first.feed) first []
+    × (all_found_as Json label addr [] ≡ address_head addr ++ codes "null,\"also\":[]}\n")
+    × (all_found_as Json label addr (first ∷ others) ≡ address_head addr ++ (route_object (label first.feed) first []
     ++ (codes ",\"also\":[" ++ (join_by (also_object label first) (codes ",") others ++ codes "]}\n"))))
 unfolding all_found_as
 whatever_number_was_found label addr found first others = (refl, refl, refl, refl, refl)

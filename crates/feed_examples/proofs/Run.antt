@@ -47,7 +47,7 @@ use Rattle.rt_feed.specs.Printed.{report_text}
 use Rattle.rt_cidr.specs.declared.address.Addr.{Addr}
 use Rattle.std.specs.Io.KnownBytes.{Appends}
 use Rattle.rt_cidr.specs.Output.{AppendsBeginning}
-use Rattle.rt_diff.specs.declared.differences.Difference.{Difference}
+use Rattle.rt_diff.specs.declared.comparison.Difference.{Difference}
 use Rattle.rt_diff.specs.Differences.{AreDifferences}
 use Rattle.rt_diff.specs.Answers.{by_own}
 use Rattle.rt_feed.specs.DifferenceText.{SideStylesContents, differences_as}
@@ -72,7 +72,7 @@ use Rattle.rt_feed.specs.declared.faulty.FaultyLines.{FaultyLines}
 use Rattle.rt_feed.specs.Addresses.{faulty_lines, SaysAddresses}
 use Rattle.rt_run.specs.SameTable.{table_alone, LeavesAlone, IsUnion, IsAnsweredAlone, AskTheSame, SayTheSame}
 use Rattle.rt_run.specs.SameTable.{LeavesUnion, AnswersAlone, HaveSameTallies, HaveOneUnion, EndsInUnion, EndInOneTable, ShowsUnion, ShowOneTable, LookUpOnce}
-use Rattle.rt_diff.specs.declared.answers.By.{By}
+use Rattle.rt_diff.specs.declared.table_answers.By.{By}
 use Rattle.rt_rib.specs.declared.selection.Selection.{Selection}
 use Rattle.rt_rib.specs.declared.selection.Part.TheVariants as part
 use Rattle.rt_rib.specs.Selection.{selected}

@@ -3,8 +3,8 @@ use Rattle.std.proofs.Common.{◌≡◌, ◌⊎◌, inl, inr, refl, ap}
 use Rattle.std.proofs.lemmas.Bool.{cases_eq}
 use Rattle.std.specs.Coded.{Coded}
 use base.Stored.{Gv, gnil, gnum, gcons}
-use Rattle.rt_diff.specs.declared.answers.Answer.{Answer}
-use Rattle.rt_diff.specs.contracts.answers.Answer as answer
+use Rattle.rt_diff.specs.declared.table_answers.TableAnswer.{TableAnswer}
+use Rattle.rt_diff.specs.contracts.table_answers.TableAnswer as answer
 
 -- two codes are equal or not
 code_cases : (a b : Gv) → (a ≡ b) ⊎ (a ≡ b → ⊥)
@@ -35,5 +35,5 @@ coded_cases c x y = elim (code_cases (c.code x) (c.code y)) [
 ]
 
 -- and two answers
-pub answer_cases : (x y : Answer) → (x ≡ y) ⊎ (x ≡ y → ⊥)
+pub answer_cases : (x y : TableAnswer) → (x ≡ y) ⊎ (x ≡ y → ⊥)
 answer_cases = coded_cases answer.the_row.coded

@@ -3,11 +3,11 @@ use Rattle.std.proofs.Common.{◌≡◌, ap, refl, Decides}
 use Rattle.std.proofs.lemmas.Bool.Decides.{Decides-like}
 use Rattle.rt_cidr.specs.Laws.{SamePrefix}
 use Rattle.rt_rib.proofs.Promised.{decides_hop, decides_route}
-use Rattle.rt_diff.specs.declared.answers.Answer.{Answer}
-use Rattle.rt_diff.specs.declared.answers.Answer.TheVariants as answer
-use Rattle.rt_diff.specs.contracts.answers.AnswerPartialEq.TheImpl as of_answer
+use Rattle.rt_diff.specs.declared.table_answers.TableAnswer.{TableAnswer}
+use Rattle.rt_diff.specs.declared.table_answers.TableAnswer.TheVariants as answer
+use Rattle.rt_diff.specs.contracts.table_answers.TableAnswerPartialEq.TheImpl as of_answer
 
-pub answers : SamePrefix → (x y : Answer) → Decides ((of_answer.ghosts).eq x y) (x ≡ y)
+pub answers : SamePrefix → (x y : TableAnswer) → Decides ((of_answer.ghosts).eq x y) (x ≡ y)
 answers law answer.NoRoute answer.NoRoute = (λ e. refl, λ e. refl)
 answers law answer.NoRoute (answer.Hop k) = (λ e. cc, λ e. cc)
 answers law answer.NoRoute (answer.Route s) = (λ e. cc, λ e. cc)

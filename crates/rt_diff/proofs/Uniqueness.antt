@@ -2,8 +2,8 @@
 use Rattle.std.proofs.Common.{◌≡◌, ℕ, ◌+◌, ◌^◌, ◌<◌, ◌≤◌, inl, inr, List, [], ◌∷◌, sym, refl, ap, ◌∙◌, subst, arith}
 use Rattle.std.proofs.lemmas.Bool.{cases_lt}
 use Rattle.rt_cidr.specs.declared.address.Addr.{Addr}
-use Rattle.rt_diff.specs.declared.answers.By.{By}
-use Rattle.rt_diff.specs.declared.differences.Difference.{Difference}
+use Rattle.rt_diff.specs.declared.table_answers.By.{By}
+use Rattle.rt_diff.specs.declared.comparison.Difference.{Difference}
 use Rattle.rt_diff.specs.Answers.{ToldTable}
 use Rattle.rt_diff.specs.Differences.{HasAnswers, IsAlike, IsDifference, IsNextDifference, HaveSameAnswers, AreDifferences}
 use Rattle.rt_diff.specs.Laws.{HaveOneList}

@@ -1,7 +1,7 @@
 -- The list of all differences of two tables, by a name.
 use Rattle.std.proofs.Common.{◌≡◌, List}
-use Rattle.rt_diff.specs.declared.answers.By.{By}
-use Rattle.rt_diff.specs.declared.differences.Difference.{Difference}
+use Rattle.rt_diff.specs.declared.table_answers.By.{By}
+use Rattle.rt_diff.specs.declared.comparison.Difference.{Difference}
 use Rattle.rt_diff.specs.Answers.{ToldTable}
 use Rattle.rt_diff.specs.Differences.{AreDifferences}
 use Rattle.rt_diff.proofs.Existence.{have_differences}

@@ -2,13 +2,13 @@
 use Rattle.std.specs.Prelude.{◌≡◌, ◌≢◌, ◌+◌, ◌^◌, ◌<◌, ◌≤◌, List, All, Any, Option, None, Some}
 use Rattle.std.specs.List.{AllPairs}
 use Rattle.rt_cidr.specs.declared.address.Addr.{Addr}
-use Rattle.rt_diff.specs.declared.answers.By.{By}
-use Rattle.rt_diff.specs.declared.answers.Answer.{Answer}
-use Rattle.rt_diff.specs.declared.differences.Difference.{Difference}
+use Rattle.rt_diff.specs.declared.table_answers.By.{By}
+use Rattle.rt_diff.specs.declared.table_answers.TableAnswer.{TableAnswer}
+use Rattle.rt_diff.specs.declared.comparison.Difference.{Difference}
 use Rattle.rt_diff.specs.Answers.{ToldTable, answer_of}
 
 -- the tables answer the address so
-abbrev pub HasAnswers : By → ToldTable → ToldTable → Addr → Answer → Answer → Type 0
+abbrev pub HasAnswers : By → ToldTable → ToldTable → Addr → TableAnswer → TableAnswer → Type 0
 HasAnswers by old new addr of_old of_new = (answer_of by addr old ≡ of_old) × (answer_of by addr new ≡ of_new)
 
 -- the tables answer the address alike

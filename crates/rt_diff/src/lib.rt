@@ -10,15 +10,16 @@
 //! ```
 //!
 //! Contracts see of a book the routes that its journal leaves, and an answer is what a look-up finds there
-//! (`specs/Answers.antt`). Where the two tables number their feeds otherwise, [`Comparison::tell_new_by`] pairs them. These ranges are the one list in which the tables differ (`specs/Differences.antt`, [`laws`]). No call
-//! takes memory, and each takes time as the tables have borders in what it goes over, and no step for each address.
+//! (`specs/Answers.antt`). Where the two tables number their feeds otherwise, [`Comparison::tell_new_by`] pairs them. These
+//! ranges are the one list in which the tables differ (`specs/Differences.antt`, [`laws`]). No call takes memory, and each
+//! takes time as the tables have borders in what it goes over, and no step for each address.
 #![tactic(auto)]
 
-mod answers;
-mod differences;
+mod comparison;
 pub mod laws;
 mod pieces;
+mod table_answers;
 mod told;
 
-pub use answers::{Answer, By};
-pub use differences::{Comparison, Difference, difference_behind, first_difference};
+pub use comparison::{Comparison, Difference};
+pub use table_answers::{By, TableAnswer};

@@ -2,7 +2,7 @@
 ghost use Rattle.std.specs.Prelude.{◌≡◌, ◌≤◌, ◌↔◌, IsTrue};
 ghost use Rattle.rt_diff.specs.inside.Pieces.{IsPieceFrom, IsPieceAt, ArePieces, reach, AreBehind, FindsUnlike, IsEnd};
 
-use crate::answers::{Answer, By, answer_by, is_same};
+use crate::table_answers::{By, TableAnswer, answer_by, is_same};
 use crate::told::ToldAnswers;
 use rt_cidr::Addr;
 use std::alloc::Allocator;
@@ -10,7 +10,7 @@ use std::alloc::Allocator;
 /// What one table answers from some address on, up to a last one.
 #[derive(Clone, Copy)]
 pub(crate) struct Piece {
-    pub(crate) answer: Answer,
+    pub(crate) answer: TableAnswer,
     pub(crate) last: Addr,
 }
 

@@ -7,9 +7,9 @@ use Rattle.rt_cidr.proofs.Promised.{length-decimal, length-address_text}
 use Rattle.rt_rib.specs.declared.routes.Hop.{Hop}
 use Rattle.rt_rib.specs.declared.routes.Hop.TheVariants.{Via, Discard}
 use Rattle.rt_rib.specs.declared.routes.Route.{Route}
-use Rattle.rt_diff.specs.declared.answers.Answer.{Answer}
-use Rattle.rt_diff.specs.declared.answers.Answer.TheVariants as answered
-use Rattle.rt_diff.specs.declared.differences.Difference.{Difference}
+use Rattle.rt_diff.specs.declared.table_answers.TableAnswer.{TableAnswer}
+use Rattle.rt_diff.specs.declared.table_answers.TableAnswer.TheVariants as answered
+use Rattle.rt_diff.specs.declared.comparison.Difference.{Difference}
 use Rattle.rt_feed.specs.Printed.{route_text}
 use Rattle.rt_feed.specs.DifferenceText.{way_text, answered_text, difference_text}
 use Rattle.rt_feed.proofs.Printing.{hop_fits}
@@ -36,7 +36,7 @@ way_fits : (hop : Hop) → length (way_text hop) ≤ 20
 way_fits (Via address) = let text = length-address_text address.0 in simp length-append (omega arith)
 way_fits Discard = omega arith
 
-pub answered_fits : (answer : Answer) → length (answered_text answer) ≤ 180
+pub answered_fits : (answer : TableAnswer) → length (answered_text answer) ≤ 180
 unfolding answered_text
 answered_fits answered.NoRoute = omega arith
 answered_fits (answered.Hop hop) = omega (arith, way_fits hop)

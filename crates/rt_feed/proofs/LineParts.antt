@@ -9,16 +9,16 @@ use Rattle.rt_cidr.proofs.Promised.{appends_after, begins_after, begins_longer, 
 use Rattle.rt_rib.specs.declared.routes.Hop.{Hop}
 use Rattle.rt_rib.specs.declared.routes.Hop.TheVariants.{Via, Discard}
 use Rattle.rt_rib.specs.declared.routes.Route.{Route}
-use Rattle.rt_diff.specs.declared.answers.Answer.{Answer}
-use Rattle.rt_diff.specs.declared.answers.Answer.TheVariants as answered
-use Rattle.rt_diff.specs.declared.differences.Difference.{Difference}
+use Rattle.rt_diff.specs.declared.table_answers.TableAnswer.{TableAnswer}
+use Rattle.rt_diff.specs.declared.table_answers.TableAnswer.TheVariants as answered
+use Rattle.rt_diff.specs.declared.comparison.Difference.{Difference}
 use Rattle.rt_feed.specs.declared.styles.Form.{Form}
 use Rattle.rt_feed.specs.declared.styles.Form.TheVariants.{Numbers, Labels, Json}
 use Rattle.rt_feed.specs.DifferenceText.{answered_text, difference_text, answered_as, range_as}
-use Rattle.rt_feed.specs.Printed.{route_line, rows_text, found_text, also_line, all_found_text}
+use Rattle.rt_feed.specs.Printed.{route_line, found_text, also_line, all_found_text}
 use Rattle.rt_feed.specs.Json.{hop_members, route_object}
-use Rattle.rt_feed.specs.Styles.{asked_of, row_as, rows_as, found_as, also_object, all_found_as}
-use Rattle.rt_feed.specs.inside.Styles.{line_front, line_back, found_head, also_head, also_tail, object_front, object_back, reason_member}
+use Rattle.rt_feed.specs.Styles.{address_head, found_as, also_object, all_found_as}
+use Rattle.rt_feed.specs.inside.Styles.{line_front, line_back, line_head, also_tail, object_front, object_back, reason_member}
 use Rattle.rt_feed.specs.inside.Styles.{range_front, range_middle, range_end, hop_object}
 use Rattle.rt_feed.proofs.Printing.{hop_fits, reason_fits, begins_all}
 
@@ -59,8 +59,8 @@ line_of label r = simp append_assoc
 
 -- and that of a route that was left behind
 pub also_of : (label : ℕ → List ℕ) (addr : Addr) (first r : Route)
-    → also_head addr ++ (route_line (label r.feed) r ++ also_tail first r) ≡ also_line (λ s. route_line (label s.feed) s) addr first r
-unfolding also_head also_tail
+    → line_head addr (codes " also ") ++ (route_line (label r.feed) r ++ also_tail first r) ≡ also_line (λ s. route_line (label s.feed) s) addr first r
+unfolding line_head also_tail
 also_of label addr first r = simp append_assoc
 
 -- and as an object
@@ -69,10 +69,6 @@ unfolding reason_member
 also_object_of label first r = append-nil (route_object (label r.feed) r (reason_member first r))
 
 -- where feeds are told by their numbers, each text is the plain one
-pub rows_by_number : (label : ℕ → List ℕ) (routes : List Route) → rows_as Numbers label routes ≡ rows_text routes
-unfolding row_as
-rows_by_number label routes = refl
-
 pub found_by_number : (label : ℕ → List ℕ) (addr : Addr) (found : Option Route) → found_as Numbers label addr found ≡ found_text addr found
 unfolding found_as
 found_by_number label addr found = refl
@@ -95,21 +91,17 @@ pub line_back_fits : (r : Route) → length (line_back r) ≤ 300
 unfolding line_back
 line_back_fits r = let pref = length-decimal r.pref in let hop = hop_fits r.hop in simp length-append (omega arith)
 
-pub found_head_fits : (addr : Addr) → length (found_head addr) ≤ 300
-unfolding found_head
-found_head_fits addr = let address = length-address_text addr.0 in simp length-append (omega arith)
-
-pub also_head_fits : (addr : Addr) → length (also_head addr) ≤ 300
-unfolding also_head
-also_head_fits addr = let address = length-address_text addr.0 in simp length-append (omega arith)
+pub line_head_fits : (addr : Addr) (word : List ℕ) → length word ≤ 200 → length (line_head addr word) ≤ 300
+unfolding line_head
+line_head_fits addr word short = let address = length-address_text addr.0 in simp length-append (omega (arith, short))
 
 pub also_tail_fits : (first r : Route) → length (also_tail first r) ≤ 300
 unfolding also_tail
 also_tail_fits first r = let reason = reason_fits first r in simp length-append (omega arith)
 
-pub asked_of_fits : (addr : Addr) → length (asked_of addr) ≤ 300
-unfolding asked_of
-asked_of_fits addr = let address = length-address_text addr.0 in simp length-append (omega arith)
+pub address_head_fits : (addr : Addr) → length (address_head addr) ≤ 300
+unfolding address_head
+address_head_fits addr = let address = length-address_text addr.0 in simp length-append (omega arith)
 
 pub object_front_fits : (r : Route) → length (object_front r) ≤ 300
 unfolding object_front
@@ -146,7 +138,7 @@ range_of Labels d old new = simp append_assoc
 range_of Json d old new = simp append_assoc
 
 -- where feeds are told by their numbers, an answer is the plain one
-pub answered_by_number : (label : ℕ → List ℕ) (answer : Answer) → answered_as Numbers label answer ≡ answered_text answer
+pub answered_by_number : (label : ℕ → List ℕ) (answer : TableAnswer) → answered_as Numbers label answer ≡ answered_text answer
 unfolding answered_as
 answered_by_number label answer = refl
 
@@ -161,4 +153,4 @@ unfolding range_as answered_as difference_text
 difference_by_number d old new = refl
 
 -- each part has room in a short text
-pub ruleset fits = (range_front_fits, hop_object_fits, line_front_fits, line_back_fits, found_head_fits, also_head_fits, also_tail_fits, asked_of_fits, object_front_fits, object_back_fits, reason_member_fits)
+pub ruleset fits = (range_front_fits, hop_object_fits, line_front_fits, line_back_fits, line_head_fits, also_tail_fits, address_head_fits, object_front_fits, object_back_fits, reason_member_fits)

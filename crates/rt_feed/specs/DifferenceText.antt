@@ -4,9 +4,9 @@ use Rattle.std.specs.List.{flat_map}
 use Rattle.rt_cidr.specs.Text.{address_text}
 use Rattle.rt_rib.specs.declared.routes.Hop.{Hop}
 use Rattle.rt_rib.specs.declared.routes.Hop.TheVariants.{Via, Discard}
-use Rattle.rt_diff.specs.declared.answers.Answer.{Answer}
-use Rattle.rt_diff.specs.declared.answers.Answer.TheVariants as answered
-use Rattle.rt_diff.specs.declared.differences.Difference.{Difference}
+use Rattle.rt_diff.specs.declared.table_answers.TableAnswer.{TableAnswer}
+use Rattle.rt_diff.specs.declared.table_answers.TableAnswer.TheVariants as answered
+use Rattle.rt_diff.specs.declared.comparison.Difference.{Difference}
 use Rattle.rt_feed.specs.declared.styles.Form.{Form}
 use Rattle.rt_feed.specs.declared.styles.Form.TheVariants.{Labels, Json}
 use Rattle.rt_feed.specs.Printed.{route_text, route_line}
@@ -19,7 +19,7 @@ way_text (Via address) = codes "via " ++ address_text address.0
 way_text Discard = codes "discard"
 
 -- what an address is answered
-unfoldable pub answered_text : Answer → List ℕ
+unfoldable pub answered_text : TableAnswer → List ℕ
 answered_text answered.NoRoute = codes "no route"
 answered_text (answered.Hop hop) = way_text hop
 answered_text (answered.Route route) = route_text route
@@ -37,7 +37,7 @@ pub record SideStylesContents : Type 0 where
   pub new_labels : List (List ℕ)
 
 -- what an address is answered, where `label` is that of each feed of its table
-unfoldable pub answered_as : Form → (ℕ → List ℕ) → Answer → List ℕ
+unfoldable pub answered_as : Form → (ℕ → List ℕ) → TableAnswer → List ℕ
 answered_as Labels label (answered.Route r) = route_line (label r.feed) r
 answered_as Json label answered.NoRoute = codes "null"
 answered_as Json label (answered.Hop hop) = codes "{" ++ (hop_members hop ++ codes "}")

@@ -31,16 +31,16 @@ abbrev pub rows_as : Form → (ℕ → List ℕ) → List Route → List ℕ
 rows_as form label routes = flat_map (row_as form label) routes
 
 -- the address that was looked up, as the beginning of an object
-unfoldable pub asked_of : Addr → List ℕ
-asked_of addr = codes "{\"address\":\"" ++ (address_text addr.0 ++ codes "\",\"route\":")
+unfoldable pub address_head : Addr → List ℕ
+address_head addr = codes "{\"address\":\"" ++ (address_text addr.0 ++ codes "\",\"route\":")
 
 -- what a look-up of the address found
 unfoldable pub found_as : Form → (ℕ → List ℕ) → Addr → Option Route → List ℕ
 found_as Numbers label addr found = found_text addr found
 found_as Labels label addr None = found_text addr None
 found_as Labels label addr (Some r) = address_text addr.0 ++ (codes " route " ++ (route_line (label r.feed) r ++ codes "\n"))
-found_as Json label addr None = asked_of addr ++ codes "null}\n"
-found_as Json label addr (Some r) = asked_of addr ++ (route_object (label r.feed) r [] ++ codes "}\n")
+found_as Json label addr None = address_head addr ++ codes "null}\n"
+found_as Json label addr (Some r) = address_head addr ++ (route_object (label r.feed) r [] ++ codes "}\n")
 
 -- a route that was left behind the first one, as an object with the reason
 abbrev pub also_object : (ℕ → List ℕ) → Route → Route → List ℕ
@@ -53,7 +53,7 @@ all_found_as Numbers label addr found = all_found_text addr found
 all_found_as Labels label addr [] = found_text addr None
 all_found_as Labels label addr (first ∷ others) =
     found_as Labels label addr (Some first) ++ flat_map (also_line (λ r. route_line (label r.feed) r) addr first) others
-all_found_as Json label addr [] = asked_of addr ++ codes "null,\"also\":[]}\n"
+all_found_as Json label addr [] = address_head addr ++ codes "null,\"also\":[]}\n"
 all_found_as Json label addr (first ∷ others) =
-    asked_of addr ++ (route_object (label first.feed) first []
+    address_head addr ++ (route_object (label first.feed) first []
     ++ (codes ",\"also\":[" ++ (join_by (also_object label first) (codes ",") others ++ codes "]}\n")))

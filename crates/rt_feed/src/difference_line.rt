@@ -6,7 +6,7 @@ ghost use Rattle.rt_feed.specs.DifferenceText.{answered_text, difference_text};
 
 use crate::print::prepend_route;
 use rt_cidr::{ShortText, put};
-use rt_diff::{Answer, Difference};
+use rt_diff::{Difference, TableAnswer};
 use rt_rib::Hop;
 use std::io::{self, Write};
 
@@ -42,17 +42,17 @@ fn prepend_difference(text: &mut ShortText, difference: &Difference)
 
 /// What an address is answered.
 #[tactic(auto, using(rt_cidr::proofs::Promised::prepending), unfolding(crate::specs::DifferenceText::answered_text))]
-pub(crate) fn prepend_answered(text: &mut ShortText, answer: &Answer)
+pub(crate) fn prepend_answered(text: &mut ShortText, answer: &TableAnswer)
     requires room { FitsInShortText (answered_text answer.now) text.old }
     ensures { text.new ≡ answered_text answer.now ++ text.old }
 {
     match answer {
-        Answer::NoRoute => text.prepend(b"no route"),
-        Answer::Hop(Hop::Via(address)) => {
+        TableAnswer::NoRoute => text.prepend(b"no route"),
+        TableAnswer::Hop(Hop::Via(address)) => {
             address.prepend_to(text);
             text.prepend(b"via ");
         }
-        Answer::Hop(Hop::Discard) => text.prepend(b"discard"),
-        Answer::Route(route) => prepend_route(text, route),
+        TableAnswer::Hop(Hop::Discard) => text.prepend(b"discard"),
+        TableAnswer::Route(route) => prepend_route(text, route),
     }
 }

@@ -68,7 +68,11 @@ pub fn write_rows<W: Write>(w: &mut W, routes: &[Route]) -> Result<(), io::Error
 
 /// Writes one route of the table. `text` is where it is rendered.
 #[tactic(auto, using(crate::proofs::Printing::row_fits))]
-fn put_row<W: Write>(w: &mut W, text: &mut ShortText, route: &Route) -> Result<(), io::Error>
+pub(crate) fn put_row<W: Write>(
+    w: &mut W,
+    text: &mut ShortText,
+    route: &Route,
+) -> Result<(), io::Error>
     ensures { WritesText (W.contents w.old) (W.contents w.new) (row_text route.now) result }
 {
     text.clear();

@@ -4,7 +4,7 @@ ghost use Rattle.std.specs.Prelude.{◌≡◌, map};
 ghost use Rattle.rt_cidr.specs.Output.{WritesText};
 ghost use Rattle.rt_feed.specs.Counts.{counts_as};
 ghost use Rattle.rt_feed.specs.DifferenceText.{difference_as};
-ghost use Rattle.rt_feed.specs.Styles.{label_of, rows_as, found_as, all_found_as};
+ghost use Rattle.rt_feed.specs.Styles.{label_of, row_as, rows_as, found_as, all_found_as};
 
 mod counts;
 mod lines;
@@ -12,8 +12,8 @@ mod objects;
 mod ranges;
 
 use crate::difference_line::write_difference;
-use crate::print::{write_all_found, write_found, write_rows};
-use rt_cidr::Addr;
+use crate::print::{put_row, write_all_found, write_found};
+use rt_cidr::{Addr, ShortText};
 use rt_diff::Difference;
 use rt_rib::Route;
 use std::io::{self, Write};
@@ -141,10 +141,26 @@ pub fn write_rows_as<W: Write>(
 ) -> Result<(), io::Error>
     ensures { WritesText (W.contents w.old) (W.contents w.new) (rows_as style.now.form (label_of style.now.labels) routes.now) result }
 {
+    let mut text = ShortText::new();
+    for route in routes {
+        put_row_as(w, &mut text, style, route)?;
+    }
+    Ok(())
+}
+
+/// Writes one route of the table. `text` is where one that is told by numbers is rendered.
+fn put_row_as<W: Write>(
+    w: &mut W,
+    text: &mut ShortText,
+    style: &Style<'_>,
+    route: &Route,
+) -> Result<(), io::Error>
+    ensures { WritesText (W.contents w.old) (W.contents w.new) (row_as style.now.form (label_of style.now.labels) route.now) result }
+{
     match style.form {
-        Form::Numbers => write_rows(w, routes),
-        Form::Labels => lines::write_rows(w, style, routes),
-        Form::Json => objects::write_rows(w, style, routes),
+        Form::Numbers => put_row(w, text, route),
+        Form::Labels => lines::put_route(w, style, b"", route, b"\n"),
+        Form::Json => objects::put_route(w, style, b"", route, b"", b"\n"),
     }
 }
 
@@ -182,8 +198,8 @@ pub fn write_all_found_as<W: Write>(
 }
 
 /// Writes how many routes there are and to how many prefixes, and then how many of each feed and to prefixes of each length,
-/// in the style, each on a line, and where there are none no line. Those to one prefix stand together, as in a table. A fault and memory are as of
-/// `write_rows_as`.
+/// in the style, each on a line, and where there are none no line. Those to one prefix stand together, as in a table. A fault
+/// and memory are as of `write_rows_as`.
 pub fn write_counts_as<W: Write>(
     w: &mut W,
     style: &Style<'_>,

@@ -12,7 +12,7 @@ use Rattle.rt_cidr.proofs.Promised.{begins_after, begins_longer}
 use Rattle.rt_rib.specs.declared.routes.Route.{Route}
 use Rattle.rt_rib.specs.LookUp.{look_up, look_up_all}
 use Rattle.rt_feed.specs.Styles.{StyleContents, label_of, found_as, all_found_as}
-use Rattle.rt_run.specs.declared.output.Matches.{Matches}
+use Rattle.rt_run.specs.declared.output.AddressMatches.{AddressMatches}
 use Rattle.rt_run.specs.TableText.{answers_text, all_answers_text}
 use Rattle.rt_run.specs.inside.Outputs.{matches_text}
 use Rattle.ya_replay.proofs.Promised.{begins_all}
@@ -50,11 +50,11 @@ module _ (style : StyleContents) (table : List Route) (piece : List Addr) (answe
 
 -- all that was found for one address more
 pub matches_more :
-    (style : StyleContents) (table : List Route) (addresses : List Addr) (k : ℕ) (none : Addr) (all all' : List Matches) (one : Matches) → k < length addresses
+    (style : StyleContents) (table : List Route) (addresses : List Addr) (k : ℕ) (none : Addr) (all all' : List AddressMatches) (one : AddressMatches) → k < length addresses
     → all' ≡ all ++ one ∷ [] → one.addr ≡ get_or addresses k none → one.routes.items ≡ look_up_all (get_or addresses k none) table
     → matches_text style all ≡ all_answers_text style (take k addresses) table → matches_text style all' ≡ all_answers_text style (take (k + 1) addresses) table
 matches_more style table addresses k none all all' one here pushed of_it found so_far =
-    let text : Matches → List ℕ = λ m. all_found_as style.form (label_of style.labels) m.addr m.routes.items in
+    let text : AddressMatches → List ℕ = λ m. all_found_as style.form (label_of style.labels) m.addr m.routes.items in
     let answer : Addr → List ℕ = λ a. all_found_as style.form (label_of style.labels) a (look_up_all a table) in
     let addr = get_or addresses k none in
     let same : text one ≡ answer addr = ap (λ a. all_found_as style.form (label_of style.labels) a one.routes.items) of_it ∙ ap (all_found_as style.form (label_of style.labels) addr) found in

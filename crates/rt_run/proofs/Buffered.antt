@@ -12,8 +12,8 @@ use Rattle.rt_feed.specs.declared.styles.Form.{Form}
 use Rattle.rt_feed.specs.declared.styles.Form.TheVariants.{Numbers, Labels, Json}
 use Rattle.rt_feed.specs.Printed.{table_text, count_text, row_text, found_text, all_found_text}
 use Rattle.rt_feed.specs.Counts.{prefix_count, totals_as, counts_as}
-use Rattle.rt_feed.specs.Styles.{StyleContents, label_of, row_as, rows_as, asked_of, found_as, all_found_as}
-use Rattle.rt_run.specs.declared.output.Matches.{Matches}
+use Rattle.rt_feed.specs.Styles.{StyleContents, label_of, row_as, rows_as, address_head, found_as, all_found_as}
+use Rattle.rt_run.specs.declared.output.AddressMatches.{AddressMatches}
 use Rattle.rt_run.specs.TableText.{answers_text}
 use Rattle.rt_run.specs.inside.Outputs.{matches_text}
 
@@ -66,7 +66,7 @@ row_as-some Labels label route = simp length-append (omega arith)
 row_as-some Json label route = simp length-append (omega arith)
 
 found_as-some : (form : Form) (label : ℕ → List ℕ) (addr : Addr) (found : Option Route) → 0 < length (found_as form label addr found)
-unfolding found_as asked_of
+unfolding found_as address_head
 found_as-some Numbers label addr found = found-some addr found
 found_as-some Labels label addr None = found-some addr None
 found_as-some Labels label addr (Some r) = simp length-append (omega arith)
@@ -74,7 +74,7 @@ found_as-some Json label addr None = simp length-append (omega arith)
 found_as-some Json label addr (Some r) = simp length-append (omega arith)
 
 all_found_as-some : (form : Form) (label : ℕ → List ℕ) (addr : Addr) (found : List Route) → 0 < length (all_found_as form label addr found)
-unfolding all_found_as asked_of
+unfolding all_found_as address_head
 all_found_as-some Numbers label addr found = plain_all_found-some addr found
 all_found_as-some Labels label addr [] = found-some addr None
 all_found_as-some Labels label addr (first ∷ others) = let line = found_as-some Labels label addr (Some first) in simp length-append (omega arith)
@@ -98,12 +98,12 @@ module _ (style : StyleContents) where
       texts-some (λ addr. found_as style.form (label_of style.labels) addr (look_up addr table))
       (λ addr. found_as-some style.form (label_of style.labels) addr (look_up addr table)) addresses
 
-  pub matches-none : (all : List Matches) → (length all == 0) ≡ true → matches_text style all ≡ []
+  pub matches-none : (all : List AddressMatches) → (length all == 0) ≡ true → matches_text style all ≡ []
   matches-none =
       texts-none (λ one. all_found_as style.form (label_of style.labels) one.addr one.routes.items)
       (λ one. all_found_as-some style.form (label_of style.labels) one.addr one.routes.items)
 
-  pub matches-some : (all : List Matches) → (length all == 0) ≡ false → 0 < length (matches_text style all)
+  pub matches-some : (all : List AddressMatches) → (length all == 0) ≡ false → 0 < length (matches_text style all)
   matches-some =
       texts-some (λ one. all_found_as style.form (label_of style.labels) one.addr one.routes.items)
       (λ one. all_found_as-some style.form (label_of style.labels) one.addr one.routes.items)

@@ -7,7 +7,7 @@ use Rattle.rt_cidr.specs.Output.{AppendsBeginning}
 use Rattle.rt_cidr.proofs.Promised.{begins_after, begins_longer}
 use Rattle.rt_rib.specs.declared.routes.Route.{Route}
 use Rattle.rt_rib.specs.Book.{BookContents, table_of}
-use Rattle.rt_diff.specs.declared.differences.Difference.{Difference}
+use Rattle.rt_diff.specs.declared.comparison.Difference.{Difference}
 use Rattle.rt_diff.specs.Answers.{by_own}
 use Rattle.rt_diff.specs.Differences.{AreDifferences}
 use Rattle.rt_diff.proofs.Promised.{at, rest_none, rest_next, rest_there, whole, differences_of, differences_are, is_differences_of}

@@ -1,8 +1,8 @@
 -- What is written of two runs: the ranges of addresses that their finished tables answer otherwise.
 use Rattle.std.specs.Prelude.{◌≡◌, ℕ, max, List, [], ◌∷◌}
 use Rattle.rt_rib.specs.declared.routes.Route.{Route}
-use Rattle.rt_diff.specs.declared.answers.By.{By}
-use Rattle.rt_diff.specs.declared.differences.Difference.{Difference}
+use Rattle.rt_diff.specs.declared.table_answers.By.{By}
+use Rattle.rt_diff.specs.declared.comparison.Difference.{Difference}
 use Rattle.rt_diff.specs.Answers.{ToldTable, by_own}
 use Rattle.rt_diff.specs.Differences.{AreDifferences}
 use Rattle.rt_feed.specs.DifferenceText.{SideStylesContents, differences_as}

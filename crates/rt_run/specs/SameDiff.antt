@@ -1,7 +1,7 @@
 -- What of two compared runs is the same however the visits of their feeds fell: all that is written and given.
 use Rattle.std.specs.Prelude.{◌≡◌, ◌≢◌, ℕ, List}
 use Rattle.rt_rib.specs.declared.routes.Route.{Route}
-use Rattle.rt_diff.specs.declared.differences.Difference.{Difference}
+use Rattle.rt_diff.specs.declared.comparison.Difference.{Difference}
 use Rattle.rt_diff.specs.Answers.{by_own}
 use Rattle.rt_diff.specs.Differences.{AreDifferences}
 use Rattle.rt_feed.specs.DifferenceText.{differences_as}

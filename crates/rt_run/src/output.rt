@@ -31,7 +31,7 @@ const PIECE: usize = 256;
 
 /// An address, and all routes that cover it, the best first.
 #[derive(Drop)]
-pub(crate) struct Matches {
+pub(crate) struct AddressMatches {
     pub(crate) addr: Addr,
     pub(crate) routes: Vec<Route>,
 }
@@ -44,7 +44,7 @@ pub(crate) enum Output<'a> {
     /// In which style, what a look-up of each address finds in the book, by its forwarding table where there is one.
     Answers(&'a Style<'a>, &'a Book<Global>, &'a Option<Fib<Global>>, &'a [Addr]),
     /// In which style, all routes that cover each address.
-    Matches(&'a Style<'a>, &'a [Matches]),
+    Matches(&'a Style<'a>, &'a [AddressMatches]),
     /// On which terms, what the two books' tables answer otherwise, of which this is the first.
     Differences(&'a DiffTerms<'a>, &'a Book<Global>, &'a Book<Global>, Option<Difference>),
     /// In which style, the routes alone.
@@ -194,7 +194,11 @@ fn write_piece<W: Write>(
 }
 
 /// Writes for each address all routes that cover it.
-fn write_matches<W: Write>(w: &mut W, style: &Style<'_>, all: &[Matches]) -> Result<(), io::Error>
+fn write_matches<W: Write>(
+    w: &mut W,
+    style: &Style<'_>,
+    all: &[AddressMatches],
+) -> Result<(), io::Error>
     ensures { WritesText (W.contents w.old) (W.contents w.new) (matches_text style.now all.now) result }
 {
     for one in all {

@@ -13,7 +13,7 @@ use crate::asked_addresses::{AskedAddresses, read_asked};
 use crate::faults::AppFault;
 use crate::feed_texts::FeedTexts;
 use crate::forwarding::fib_for;
-use crate::output::{Matches, Output, write_output};
+use crate::output::{AddressMatches, Output, write_output};
 use crate::runs::{FinishedRun, run_all};
 use crate::tallies::{RunSummary, status_where};
 use rt_cidr::Addr;
@@ -225,13 +225,13 @@ fn matches_of(
     alloc: Global,
     book: &Book<Global>,
     addresses: &[Addr],
-) -> Result<Vec<Matches>, Refused>
+) -> Result<Vec<AddressMatches>, Refused>
     ensures { IfOk result (λ all. (style : StyleContents) → matches_text style all.items ≡ all_answers_text style addresses.now (table_of book.now)) }
 {
     let mut all = Vec::with_capacity(alloc, addresses.len())?;
     for addr in addresses {
         let routes = book.look_up_all(alloc, *addr)?;
-        all.push_reserved(Matches {
+        all.push_reserved(AddressMatches {
             addr: *addr,
             routes,
         });

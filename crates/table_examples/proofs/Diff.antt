@@ -11,12 +11,12 @@ use Rattle.rt_rib.specs.declared.routes.Route.{Route}
 use Rattle.rt_rib.specs.LookUp.{look_up}
 use Rattle.table_examples.proofs.Cidr.{ten_8}
 use Rattle.table_examples.proofs.Rib.{ten_1_16, at_10_1_2_3, at_10_9_0_1, via_192_0_2, route_via}
-use Rattle.rt_diff.specs.declared.answers.By.{By}
-use Rattle.rt_diff.specs.declared.answers.By.TheVariants as by
-use Rattle.rt_diff.specs.declared.answers.Answer.{Answer}
-use Rattle.rt_diff.specs.declared.answers.Answer.TheVariants as answer
-use Rattle.rt_diff.specs.declared.differences.Difference.{Difference}
-use Rattle.rt_diff.specs.Answers.{answer_by, ToldTable, by_own, number_of, told_route, told_look_up, answer_of}
+use Rattle.rt_diff.specs.declared.table_answers.By.{By}
+use Rattle.rt_diff.specs.declared.table_answers.By.TheVariants as by
+use Rattle.rt_diff.specs.declared.table_answers.TableAnswer.{TableAnswer}
+use Rattle.rt_diff.specs.declared.table_answers.TableAnswer.TheVariants as answer
+use Rattle.rt_diff.specs.declared.comparison.Difference.{Difference}
+use Rattle.rt_diff.specs.Answers.{answer_by, ToldTable, by_own, told_number, told_route, told_look_up, answer_of}
 use Rattle.rt_diff.specs.Differences.{HasAnswers, IsAlike, IsWithin, IsDifference, IsNextDifference, IsFirstDifference, Compared}
 use Rattle.rt_diff.specs.Differences.{HaveSameAnswers, AreDifferences}
 use Rattle.rt_diff.specs.Laws.{HaveDifferences, HaveOneList}
@@ -55,13 +55,13 @@ routes_and_numbers = (refl, refl)
 no_number_but_its_own : (routes : List Route) → ((by_own routes).routes ≡ routes) × ((by_own routes).numbers ≡ [])
 no_number_but_its_own routes = (refl, refl)
 
--- number_of
-the_kth_or_its_own : (number_of (7 ∷ 8 ∷ []) 1 ≡ 7) × (number_of (7 ∷ 8 ∷ []) 2 ≡ 8) × (number_of (7 ∷ 8 ∷ []) 3 ≡ 3) × (number_of [] 1 ≡ 1)
+-- told_number
+the_kth_or_its_own : (told_number (7 ∷ 8 ∷ []) 1 ≡ 7) × (told_number (7 ∷ 8 ∷ []) 2 ≡ 8) × (told_number (7 ∷ 8 ∷ []) 3 ≡ 3) × (told_number [] 1 ≡ 1)
 the_kth_or_its_own = (refl, refl, refl, refl)
 
 -- told_route
 its_feed_alone_is_told_so : (numbers : List ℕ) (r : Route)
-    → told_route numbers r ≡ record { prefix = r.prefix; feed = number_of numbers r.feed; pref = r.pref; hop = r.hop }
+    → told_route numbers r ≡ record { prefix = r.prefix; feed = told_number numbers r.feed; pref = r.pref; hop = r.hop }
 its_feed_alone_is_told_so numbers r = refl
 
 as_it_is_by_its_own_number : (r : Route) → told_route [] r ≡ r
@@ -105,7 +105,7 @@ unfolding look_up
 another_number_of_one_feed = refl
 
 -- the feed of an answer that tells one
-abbrev feed_told : Answer → ℕ
+abbrev feed_told : TableAnswer → ℕ
 feed_told (answer.Route route) = route.feed
 feed_told (answer.Hop hop) = 0
 feed_told answer.NoRoute = 0
@@ -127,7 +127,7 @@ unfolding look_up
 not_exchanged answers = let of_old = answers.0 in cc
 
 what_each_table_answers :
-    (by : By) (old new : ToldTable) (addr : Addr) (of_old of_new : Answer)
+    (by : By) (old new : ToldTable) (addr : Addr) (of_old of_new : TableAnswer)
     → HasAnswers by old new addr of_old of_new ↔ ((answer_of by addr old ≡ of_old) × (answer_of by addr new ≡ of_new))
 what_each_table_answers by old new addr of_old of_new = (λ h. h, λ h. h)
 

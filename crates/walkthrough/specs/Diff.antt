@@ -2,7 +2,7 @@
 use Rattle.std.specs.Prelude.{◌^◌, ◌<◌, List}
 use Rattle.rt_cidr.specs.declared.address.Addr.{Addr}
 use Rattle.rt_rib.specs.declared.routes.Route.{Route}
-use Rattle.rt_diff.specs.declared.answers.By.TheVariants as by
+use Rattle.rt_diff.specs.declared.table_answers.By.TheVariants as by
 use Rattle.rt_diff.specs.Answers.{by_own}
 use Rattle.rt_diff.specs.Differences.{IsAlike}
 

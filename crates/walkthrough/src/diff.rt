@@ -4,7 +4,7 @@ ghost use Rattle.rt_rib.specs.Book.{table_of};
 ghost use Rattle.walkthrough.specs.Diff.{GoAlike};
 
 use rt_cidr::Addr;
-use rt_diff::{By, first_difference};
+use rt_diff::{By, Comparison};
 use rt_rib::Book;
 use std::alloc::Global;
 
@@ -12,5 +12,7 @@ use std::alloc::Global;
 pub fn go_alike(old: &Book<Global>, new: &Book<Global>) -> bool
     ensures { IsTrue result ↔ GoAlike (table_of old.now) (table_of new.now) }
 {
-    first_difference(old, new, By::Hop, Addr(0)).is_none()
+    Comparison::new(old, new, By::Hop)
+        .first_difference(Addr(0))
+        .is_none()
 }

@@ -20,10 +20,10 @@ use Rattle.rt_rib.specs.Selection.{selected}
 use Rattle.rt_rib.specs.Places.{from_place}
 use Rattle.rt_rib.specs.LookUp.{look_up}
 use Rattle.rt_rib.specs.Book.{BookContents, table_of, IsFeed}
-use Rattle.rt_diff.specs.declared.answers.By.TheVariants as by
-use Rattle.rt_diff.specs.declared.answers.By.{By}
-use Rattle.rt_diff.specs.declared.answers.Answer.TheVariants as answer
-use Rattle.rt_diff.specs.declared.differences.Difference.{Difference}
+use Rattle.rt_diff.specs.declared.table_answers.By.TheVariants as by
+use Rattle.rt_diff.specs.declared.table_answers.By.{By}
+use Rattle.rt_diff.specs.declared.table_answers.TableAnswer.TheVariants as answer
+use Rattle.rt_diff.specs.declared.comparison.Difference.{Difference}
 use Rattle.rt_diff.specs.Answers.{by_own}
 use Rattle.rt_diff.specs.Differences.{IsFirstDifference}
 use Rattle.yarib_c.specs.declared.held.Held.{Held}

@@ -1,11 +1,11 @@
 -- A range that two tables answer otherwise, as C is told it.
 use Rattle.std.specs.Prelude.{◌≡◌, ℕ, List, Some, None}
 use Rattle.rt_rib.specs.declared.routes.Route.{Route}
-use Rattle.rt_diff.specs.declared.answers.By.{By}
-use Rattle.rt_diff.specs.declared.answers.By.TheVariants as by
-use Rattle.rt_diff.specs.declared.answers.Answer.{Answer}
-use Rattle.rt_diff.specs.declared.answers.Answer.TheVariants as answer
-use Rattle.rt_diff.specs.declared.differences.Difference.{Difference}
+use Rattle.rt_diff.specs.declared.table_answers.By.{By}
+use Rattle.rt_diff.specs.declared.table_answers.By.TheVariants as by
+use Rattle.rt_diff.specs.declared.table_answers.TableAnswer.{TableAnswer}
+use Rattle.rt_diff.specs.declared.table_answers.TableAnswer.TheVariants as answer
+use Rattle.rt_diff.specs.declared.comparison.Difference.{Difference}
 use Rattle.rt_diff.specs.Answers.{by_own}
 use Rattle.rt_diff.specs.Differences.{IsFirstDifference}
 use Rattle.yarib_c.specs.declared.routes.YaribRoute.{YaribRoute}
@@ -19,7 +19,7 @@ by_number by.Hop = 0
 by_number by.Route = 1
 
 -- an answer: by hops it is a hop and no more
-abbrev pub told_as : Answer → YaribRoute
+abbrev pub told_as : TableAnswer → YaribRoute
 told_as answer.NoRoute = no_route
 told_as (answer.Hop hop) = hop_as hop
 told_as (answer.Route r) = route_as r

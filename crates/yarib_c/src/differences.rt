@@ -9,7 +9,7 @@ use crate::held::Held;
 use crate::routes::YaribRoute;
 use crate::status::{BAD_NUMBER, DONE, NONE_LEFT, NOTHING, WRONG_KIND};
 use rt_cidr::Addr;
-use rt_diff::{Answer, By, Comparison};
+use rt_diff::{By, Comparison, TableAnswer};
 use std::alloc::Global;
 
 /// A range of addresses that two tables answer otherwise, and their answers. By hops each has a hop and no more.
@@ -25,13 +25,13 @@ pub struct YaribDifference {
 impl YaribRoute {
     ghost use Rattle.yarib_c.specs.Differences.{told_as};
 
-    fn told(answer: Answer) -> YaribRoute
+    fn told(answer: TableAnswer) -> YaribRoute
         ensures { result ≡ told_as answer }
     {
         match answer {
-            Answer::NoRoute => YaribRoute::NONE,
-            Answer::Hop(hop) => YaribRoute::of_hop(hop),
-            Answer::Route(route) => YaribRoute::of(route),
+            TableAnswer::NoRoute => YaribRoute::NONE,
+            TableAnswer::Hop(hop) => YaribRoute::of_hop(hop),
+            TableAnswer::Route(route) => YaribRoute::of(route),
         }
     }
 }

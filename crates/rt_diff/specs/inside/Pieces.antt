@@ -1,7 +1,7 @@
 -- What the search knows of the two tables from an address on.
 use Rattle.std.specs.Prelude.{◌≡◌, ◌≢◌, ℕ, ◌+◌, ◌^◌, ◌<◌, ◌≤◌, min, List, Option, None, Some}
 use Rattle.rt_cidr.specs.declared.address.Addr.{Addr}
-use Rattle.rt_diff.specs.declared.answers.By.{By}
+use Rattle.rt_diff.specs.declared.table_answers.By.{By}
 use Rattle.rt_diff.specs.declared.pieces.Piece.{Piece}
 use Rattle.rt_diff.specs.declared.pieces.Pieces.{Pieces}
 use Rattle.rt_diff.specs.Answers.{ToldTable, answer_of}
@@ -46,12 +46,12 @@ FindsUnlike by old new from None = AreAlike by old new from (2 ^ 32)
 FindsUnlike by old new from (Some pieces) = AreFirstUnlike by old new from pieces
 
 -- each address from the pieces' first up to this end is answered as they say
-abbrev pub GoesOn : By → ToldTable → ToldTable → Pieces → ℕ → Type 0
-GoesOn by old new pieces end =
+abbrev pub AnsweredSo : By → ToldTable → ToldTable → Pieces → ℕ → Type 0
+AnsweredSo by old new pieces end =
     (addr : Addr) → pieces.from.0 ≤ addr.0 → addr.0 < end → HasAnswers by old new addr pieces.old.answer pieces.new.answer
 
 -- the last address up to which both tables go on so
 pub record IsEnd (by : By) (old new : ToldTable) (pieces : Pieces) (last : Addr) : Type 0 where
   pub some : pieces.from.0 ≤ last.0
-  pub so_far : GoesOn by old new pieces (last.0 + 1)
+  pub so_far : AnsweredSo by old new pieces (last.0 + 1)
   pub ends : (addr : Addr) → addr.0 ≡ last.0 + 1 → addr.0 < 2 ^ 32 → ¬ HasAnswers by old new addr pieces.old.answer pieces.new.answer

@@ -4,7 +4,7 @@ use Rattle.rt_cidr.specs.declared.address.Addr.{Addr}
 use Rattle.rt_cidr.specs.Text.{address_text, prefix_text}
 use Rattle.rt_rib.specs.declared.routes.Hop.{Hop}
 use Rattle.rt_rib.specs.declared.routes.Route.{Route}
-use Rattle.rt_diff.specs.declared.differences.Difference.{Difference}
+use Rattle.rt_diff.specs.declared.comparison.Difference.{Difference}
 use Rattle.rt_feed.specs.declared.styles.Form.{Form}
 use Rattle.rt_feed.specs.declared.styles.Form.TheVariants.{Json}
 use Rattle.rt_feed.specs.Printed.{hop_text, reason_text}
@@ -18,13 +18,9 @@ line_front r = prefix_text r.prefix.base r.prefix.len ++ codes " feed "
 unfoldable pub line_back : Route → List ℕ
 line_back r = codes " pref " ++ (decimal r.pref ++ (codes " via " ++ hop_text r.hop))
 
--- the address that was looked up, and that a route was found
-unfoldable pub found_head : Addr → List ℕ
-found_head addr = address_text addr.0 ++ codes " route "
-
--- and that a route covers it too
-unfoldable pub also_head : Addr → List ℕ
-also_head addr = address_text addr.0 ++ codes " also "
+-- the address that was looked up, and a word that says what is told of it
+unfoldable pub line_head : Addr → List ℕ → List ℕ
+line_head addr word = address_text addr.0 ++ word
 
 -- why a route was left behind, at the end of its line
 unfoldable pub also_tail : Route → Route → List ℕ

@@ -5,8 +5,8 @@ ghost use Rattle.rt_cidr.specs.Output.{WritesText};
 ghost use Rattle.rt_cidr.specs.ShortText.{FitsInShortText};
 ghost use Rattle.rt_feed.specs.declared.styles.Form.TheVariants.{Labels};
 ghost use Rattle.rt_feed.specs.Printed.{route_line, also_line};
-ghost use Rattle.rt_feed.specs.Styles.{label_of, rows_as, found_as, all_found_as};
-ghost use Rattle.rt_feed.specs.inside.Styles.{line_front, line_back, found_head, also_head, also_tail};
+ghost use Rattle.rt_feed.specs.Styles.{label_of, found_as, all_found_as};
+ghost use Rattle.rt_feed.specs.inside.Styles.{line_front, line_back, line_head, also_tail};
 
 use super::Style;
 use crate::parts::put_three;
@@ -14,20 +14,6 @@ use crate::print::{self, prepend_hop, reason_word};
 use rt_cidr::{Addr, ShortText, put};
 use rt_rib::Route;
 use std::io::{self, Write};
-
-/// Writes the table's routes.
-pub(super) fn write_rows<W: Write>(
-    w: &mut W,
-    style: &Style<'_>,
-    routes: &[Route],
-) -> Result<(), io::Error>
-    ensures { WritesText (W.contents w.old) (W.contents w.new) (rows_as Labels (label_of style.now.labels) routes.now) result }
-{
-    for route in routes {
-        put_route(w, style, b"", route, b"\n")?;
-    }
-    Ok(())
-}
 
 /// Writes what a look-up of the address found.
 #[tactic(auto, using(crate::proofs::LineParts::fits))]
@@ -43,7 +29,7 @@ pub(super) fn write_found<W: Write>(
         return print::write_found(w, addr, None);
     };
     let mut head = ShortText::new();
-    prepend_found_head(&mut head, addr);
+    prepend_head(&mut head, addr, b" route ");
     put_route(w, style, head.as_bytes(), &route, b"\n")
 }
 
@@ -93,14 +79,13 @@ fn put_other<W: Write>(
         (also_line (λ r. route_line (label_of style.now.labels r.feed) r) addr first.now route.now) result }
 {
     let mut head = ShortText::new();
-    prepend_also_head(&mut head, addr);
+    prepend_head(&mut head, addr, b" also ");
     let mut tail = ShortText::new();
     prepend_also_tail(&mut tail, first, route);
     put_route(w, style, head.as_bytes(), route, tail.as_bytes())
 }
 
 /// Writes the route, with its feed's label, between two texts.
-#[tactic(auto, using(crate::proofs::LineParts::fits))]
 pub(super) fn put_route<W: Write>(
     w: &mut W,
     style: &Style<'_>,
@@ -111,18 +96,21 @@ pub(super) fn put_route<W: Write>(
     ensures { WritesText (W.contents w.old) (W.contents w.new)
         (head.now ++ (route_line (label_of style.now.labels route.now.feed) route.now ++ tail.now)) result }
 {
+    put(w, head)?;
+    put_line(w, route, style.label(route.feed))?;
+    put(w, tail)
+}
+
+/// Writes the route, its feed by this label.
+#[tactic(auto, using(crate::proofs::LineParts::fits))]
+fn put_line<W: Write>(w: &mut W, route: &Route, label: &[u8]) -> Result<(), io::Error>
+    ensures { WritesText (W.contents w.old) (W.contents w.new) (route_line label.now route.now) result }
+{
     let mut front = ShortText::new();
     prepend_front(&mut front, route);
     let mut back = ShortText::new();
     prepend_back(&mut back, route);
-    put(w, head)?;
-    put_three(
-        w,
-        front.as_bytes(),
-        style.label(route.feed),
-        back.as_bytes(),
-    )?;
-    put(w, tail)
+    put_three(w, front.as_bytes(), label, back.as_bytes())
 }
 
 // Each function below puts its text in front.
@@ -149,23 +137,13 @@ fn prepend_back(text: &mut ShortText, route: &Route)
     text.prepend(b" pref ");
 }
 
-/// `ADDR route `.
-#[tactic(auto, using(rt_cidr::proofs::Promised::prepending), unfolding(crate::specs::inside::Styles::found_head))]
-fn prepend_found_head(text: &mut ShortText, addr: Addr)
-    requires room { FitsInShortText (found_head addr) text.old }
-    ensures { text.new ≡ found_head addr ++ text.old }
+/// The address, and ` route ` or ` also `.
+#[tactic(auto, using(rt_cidr::proofs::Promised::prepending), unfolding(crate::specs::inside::Styles::line_head))]
+fn prepend_head(text: &mut ShortText, addr: Addr, word: &[u8])
+    requires room { FitsInShortText (line_head addr word.now) text.old }
+    ensures { text.new ≡ line_head addr word.now ++ text.old }
 {
-    text.prepend(b" route ");
-    addr.prepend_to(text);
-}
-
-/// `ADDR also `.
-#[tactic(auto, using(rt_cidr::proofs::Promised::prepending), unfolding(crate::specs::inside::Styles::also_head))]
-fn prepend_also_head(text: &mut ShortText, addr: Addr)
-    requires room { FitsInShortText (also_head addr) text.old }
-    ensures { text.new ≡ also_head addr ++ text.old }
-{
-    text.prepend(b" also ");
+    text.prepend(word);
     addr.prepend_to(text);
 }
 

@@ -1,11 +1,11 @@
 //! JSON objects (RFC 8259), one a line.
-ghost use Rattle.std.specs.Prelude.{◌≡◌, ◌++◌, codes};
+ghost use Rattle.std.specs.Prelude.{◌≡◌, [], ◌++◌, codes};
 ghost use Rattle.std.specs.List.{flat_map, join_by};
 ghost use Rattle.rt_cidr.specs.Output.{WritesText};
 ghost use Rattle.rt_cidr.specs.ShortText.{FitsInShortText};
 ghost use Rattle.rt_feed.specs.declared.styles.Form.TheVariants.{Json};
 ghost use Rattle.rt_feed.specs.Json.{hop_members, route_object};
-ghost use Rattle.rt_feed.specs.Styles.{label_of, rows_as, asked_of, found_as, also_object, all_found_as};
+ghost use Rattle.rt_feed.specs.Styles.{label_of, address_head, found_as, also_object, all_found_as};
 ghost use Rattle.rt_feed.specs.inside.Styles.{object_front, object_back, reason_member};
 
 use super::Style;
@@ -15,22 +15,7 @@ use rt_cidr::{Addr, ShortText, put};
 use rt_rib::{Hop, Route};
 use std::io::{self, Write};
 
-/// Writes the table's routes.
-pub(super) fn write_rows<W: Write>(
-    w: &mut W,
-    style: &Style<'_>,
-    routes: &[Route],
-) -> Result<(), io::Error>
-    ensures { WritesText (W.contents w.old) (W.contents w.new) (rows_as Json (label_of style.now.labels) routes.now) result }
-{
-    for route in routes {
-        put_route(w, style, b"", route, b"", b"\n")?;
-    }
-    Ok(())
-}
-
 /// Writes what a look-up of the address found.
-#[tactic(auto, using(crate::proofs::LineParts::fits))]
 pub(super) fn write_found<W: Write>(
     w: &mut W,
     style: &Style<'_>,
@@ -39,17 +24,13 @@ pub(super) fn write_found<W: Write>(
 ) -> Result<(), io::Error>
     ensures { WritesText (W.contents w.old) (W.contents w.new) (found_as Json (label_of style.now.labels) addr found) result }
 {
-    let mut head = ShortText::new();
-    prepend_asked(&mut head, addr);
-    let asked = head.as_bytes();
     match found {
-        None => put_three(w, asked, b"null}\n", b""),
-        Some(route) => put_route(w, style, asked, &route, b"", b"}\n"),
+        None => put_none(w, addr, b"null}\n"),
+        Some(route) => put_found(w, style, addr, &route, b"}\n"),
     }
 }
 
 /// Writes all routes that cover the address, in one object.
-#[tactic(auto, using(crate::proofs::LineParts::fits))]
 pub(super) fn write_all_found<W: Write>(
     w: &mut W,
     style: &Style<'_>,
@@ -58,15 +39,39 @@ pub(super) fn write_all_found<W: Write>(
 ) -> Result<(), io::Error>
     ensures { WritesText (W.contents w.old) (W.contents w.new) (all_found_as Json (label_of style.now.labels) addr found.now) result }
 {
-    let mut head = ShortText::new();
-    prepend_asked(&mut head, addr);
-    let asked = head.as_bytes();
     let Some((first, others)) = found.split_first() else {
-        return put_three(w, asked, b"null,\"also\":[]}\n", b"");
+        return put_none(w, addr, b"null,\"also\":[]}\n");
     };
-    put_route(w, style, asked, first, b"", b",\"also\":[")?;
+    put_found(w, style, addr, first, b",\"also\":[")?;
     write_others(w, style, first, others)?;
     put(w, b"]}\n")
+}
+
+/// Writes the address, and behind it what says that no route covers it.
+#[tactic(auto, using(crate::proofs::LineParts::fits))]
+fn put_none<W: Write>(w: &mut W, addr: Addr, none: &[u8]) -> Result<(), io::Error>
+    ensures { WritesText (W.contents w.old) (W.contents w.new) (address_head addr ++ none.now) result }
+{
+    let mut head = ShortText::new();
+    prepend_asked(&mut head, addr);
+    put_three(w, head.as_bytes(), none, b"")
+}
+
+/// Writes the address and the best route, and a text behind them.
+#[tactic(auto, using(crate::proofs::LineParts::fits))]
+fn put_found<W: Write>(
+    w: &mut W,
+    style: &Style<'_>,
+    addr: Addr,
+    route: &Route,
+    tail: &[u8],
+) -> Result<(), io::Error>
+    ensures { WritesText (W.contents w.old) (W.contents w.new)
+        (address_head addr ++ (route_object (label_of style.now.labels route.now.feed) route.now [] ++ tail.now)) result }
+{
+    let mut head = ShortText::new();
+    prepend_asked(&mut head, addr);
+    put_route(w, style, head.as_bytes(), route, b"", tail)
 }
 
 /// Writes the routes that were left behind the first one, each with the reason, with commas between them.
@@ -144,10 +149,10 @@ pub(super) fn put_route<W: Write>(
 // Each function below puts its text in front.
 
 /// `{"address":"ADDR","route":`.
-#[tactic(auto, using(rt_cidr::proofs::Promised::prepending), unfolding(crate::specs::Styles::asked_of))]
+#[tactic(auto, using(rt_cidr::proofs::Promised::prepending), unfolding(crate::specs::Styles::address_head))]
 fn prepend_asked(text: &mut ShortText, addr: Addr)
-    requires room { FitsInShortText (asked_of addr) text.old }
-    ensures { text.new ≡ asked_of addr ++ text.old }
+    requires room { FitsInShortText (address_head addr) text.old }
+    ensures { text.new ≡ address_head addr ++ text.old }
 {
     text.prepend(b"\",\"route\":");
     addr.prepend_to(text);

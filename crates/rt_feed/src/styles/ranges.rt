@@ -12,12 +12,11 @@ use super::{Form, SideStyles, Style, lines, objects};
 use crate::difference_line::prepend_answered;
 use crate::parts::put_three;
 use rt_cidr::ShortText;
-use rt_diff::{Answer, Difference};
+use rt_diff::{Difference, TableAnswer};
 use rt_rib::Hop;
 use std::io::{self, Write};
 
 /// Writes the range and its two answers.
-#[tactic(auto, using(crate::proofs::LineParts::fits))]
 pub(super) fn write_difference<W: Write>(
     w: &mut W,
     styles: &SideStyles<'_>,
@@ -25,12 +24,21 @@ pub(super) fn write_difference<W: Write>(
 ) -> Result<(), io::Error>
     ensures { WritesText (W.contents w.old) (W.contents w.new) (difference_as styles.now difference.now) result }
 {
-    let form = styles.form();
+    put_old(w, &styles.of_old(), difference)?;
+    let new = styles.of_new();
+    put_answered(w, &new, b"", &difference.new, end(styles.form()))
+}
+
+/// Writes the range and its old answer, as far as the new one.
+#[tactic(auto, using(crate::proofs::LineParts::fits))]
+fn put_old<W: Write>(w: &mut W, style: &Style<'_>, difference: &Difference) -> Result<(), io::Error>
+    ensures { WritesText (W.contents w.old) (W.contents w.new) (range_front style.now.form difference.now
+        ++ (answered_as style.now.form (label_of style.now.labels) difference.now.old ++ range_middle style.now.form)) result }
+{
+    let form = style.form();
     let mut head = ShortText::new();
     prepend_front(&mut head, form, difference);
-    let (old, new) = (styles.of_old(), styles.of_new());
-    put_answered(w, &old, head.as_bytes(), &difference.old, middle(form))?;
-    put_answered(w, &new, b"", &difference.new, end(form))
+    put_answered(w, style, head.as_bytes(), &difference.old, middle(form))
 }
 
 /// Writes what an address is answered, between two texts.
@@ -38,7 +46,7 @@ fn put_answered<W: Write>(
     w: &mut W,
     style: &Style<'_>,
     head: &[u8],
-    answer: &Answer,
+    answer: &TableAnswer,
     tail: &[u8],
 ) -> Result<(), io::Error>
     ensures { WritesText (W.contents w.old) (W.contents w.new)
@@ -56,7 +64,7 @@ fn put_answered<W: Write>(
 fn put_plain<W: Write>(
     w: &mut W,
     head: &[u8],
-    answer: &Answer,
+    answer: &TableAnswer,
     tail: &[u8],
 ) -> Result<(), io::Error>
     ensures { WritesText (W.contents w.old) (W.contents w.new) (head.now ++ (answered_text answer.now ++ tail.now)) result }
@@ -71,16 +79,16 @@ fn put_labelled<W: Write>(
     w: &mut W,
     style: &Style<'_>,
     head: &[u8],
-    answer: &Answer,
+    answer: &TableAnswer,
     tail: &[u8],
 ) -> Result<(), io::Error>
     ensures { WritesText (W.contents w.old) (W.contents w.new)
         (head.now ++ (answered_as Labels (label_of style.now.labels) answer.now ++ tail.now)) result }
 {
     match answer {
-        Answer::NoRoute => put_plain(w, head, answer, tail),
-        Answer::Hop(_) => put_plain(w, head, answer, tail),
-        Answer::Route(route) => lines::put_route(w, style, head, route, tail),
+        TableAnswer::NoRoute => put_plain(w, head, answer, tail),
+        TableAnswer::Hop(_) => put_plain(w, head, answer, tail),
+        TableAnswer::Route(route) => lines::put_route(w, style, head, route, tail),
     }
 }
 
@@ -90,20 +98,20 @@ fn put_value<W: Write>(
     w: &mut W,
     style: &Style<'_>,
     head: &[u8],
-    answer: &Answer,
+    answer: &TableAnswer,
     tail: &[u8],
 ) -> Result<(), io::Error>
     ensures { WritesText (W.contents w.old) (W.contents w.new)
         (head.now ++ (answered_as Json (label_of style.now.labels) answer.now ++ tail.now)) result }
 {
     match answer {
-        Answer::NoRoute => put_three(w, head, b"null", tail),
-        Answer::Hop(hop) => {
+        TableAnswer::NoRoute => put_three(w, head, b"null", tail),
+        TableAnswer::Hop(hop) => {
             let mut object = ShortText::new();
             prepend_hop_object(&mut object, *hop);
             put_three(w, head, object.as_bytes(), tail)
         }
-        Answer::Route(route) => objects::put_route(w, style, head, route, b"", tail),
+        TableAnswer::Route(route) => objects::put_route(w, style, head, route, b"", tail),
     }
 }
 

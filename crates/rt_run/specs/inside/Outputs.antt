@@ -11,7 +11,7 @@ use Rattle.rt_feed.specs.Counts.{counts_as}
 use Rattle.rt_feed.specs.Styles.{StyleContents, label_of, rows_as, all_found_as}
 use Rattle.rt_run.specs.declared.faults.AppFault.{AppFault}
 use Rattle.rt_run.specs.declared.faults.AppFault.TheVariants.{Run, Replay, Write}
-use Rattle.rt_run.specs.declared.output.Matches.{Matches}
+use Rattle.rt_run.specs.declared.output.AddressMatches.{AddressMatches}
 use Rattle.rt_run.specs.declared.output.Output.{Output}
 use Rattle.rt_run.specs.declared.output.Output.TheVariants as output
 use Rattle.ya_replay.specs.ReplayText.{replay_text_of}
@@ -20,7 +20,7 @@ use Rattle.rt_run.specs.RunText.{reports_text}
 use Rattle.rt_run.specs.TableText.{answers_text}
 
 -- for each address, in order, all that was found for it
-abbrev pub matches_text : StyleContents → List Matches → List ℕ
+abbrev pub matches_text : StyleContents → List AddressMatches → List ℕ
 matches_text style all = flat_map (λ one. all_found_as style.form (label_of style.labels) one.addr one.routes.items) all
 
 -- the text of the reports and the table, of the answers, of all that was found, of the differences, of the routes or how many there are, or of a replay

@@ -8,15 +8,16 @@ use std::process::Abort;
 
 /// Compares the ranges, in order, with those of the two books.
 fn assert_ranges(rt: &impl Abort, old: &Book<Global>, new: &Book<Global>, ranges: &[Difference]) {
-    let mut next = first_difference(old, new, By::Hop, Addr(0));
+    let mut tables = Comparison::new(old, new, By::Hop);
+    let mut next = tables.first_difference(Addr(0));
     for range in ranges {
         assert_eq!(rt; next, Some(*range));
-        next = difference_behind(old, new, By::Hop, range.last);
+        next = tables.difference_behind(range.last);
     }
     assert_eq!(rt; next, None);
 }
 
-fn range(first: Addr, last: Addr, old: Answer, new: Answer) -> Difference {
+fn range(first: Addr, last: Addr, old: TableAnswer, new: TableAnswer) -> Difference {
     Difference {
         first,
         last,
@@ -48,14 +49,14 @@ fn a_longer_prefix_and_a_new_one(rt: HostRuntime) {
     let longer = range(
         addr(10, 1, 0, 0),
         addr(10, 1, 255, 255),
-        Answer::Hop(via(1)),
-        Answer::Hop(via(2)),
+        TableAnswer::Hop(via(1)),
+        TableAnswer::Hop(via(2)),
     );
     let discarded = range(
         addr(11, 0, 0, 0),
         addr(11, 255, 255, 255),
-        Answer::NoRoute,
-        Answer::Hop(Hop::Discard),
+        TableAnswer::NoRoute,
+        TableAnswer::Hop(Hop::Discard),
     );
     assert_ranges(&rt, &old, &new, &[longer, discarded]);
     assert_ranges(&rt, &new, &new, &[]);
@@ -71,15 +72,15 @@ fn the_first_address_and_the_last(rt: HostRuntime) {
     let lower = range(
         Addr(0),
         addr(63, 255, 255, 255),
-        Answer::NoRoute,
-        Answer::Hop(via(2)),
+        TableAnswer::NoRoute,
+        TableAnswer::Hop(via(2)),
     );
     let upper = range(
         addr(128, 0, 0, 0),
         Addr(u32::MAX - 1),
-        Answer::NoRoute,
-        Answer::Hop(via(2)),
+        TableAnswer::NoRoute,
+        TableAnswer::Hop(via(2)),
     );
-    let alone = range(last, last, Answer::NoRoute, Answer::Hop(via(3)));
+    let alone = range(last, last, TableAnswer::NoRoute, TableAnswer::Hop(via(3)));
     assert_ranges(&rt, &old, &new, &[lower, upper, alone]);
 }

@@ -31,15 +31,15 @@ fn book_of(rt: &impl Abort, alloc: Global, round: usize, seed: u64, count: usize
 }
 
 /// What the book answers to a look-up by itself.
-fn answer(rt: &impl Abort, book: &mut Book<Global>, by: By, addr: Addr) -> Answer {
+fn answer(rt: &impl Abort, book: &mut Book<Global>, by: By, addr: Addr) -> TableAnswer {
     let route: Route = match book.apply(64, Cmd::Lookup { addr }) {
         Ok(Reply::Found(route)) => route,
-        Ok(Reply::NoRoute) => return Answer::NoRoute,
+        Ok(Reply::NoRoute) => return TableAnswer::NoRoute,
         other => panic!(rt; "{other:?}"),
     };
     match by {
-        By::Hop => Answer::Hop(route.hop),
-        By::Route => Answer::Route(route),
+        By::Hop => TableAnswer::Hop(route.hop),
+        By::Route => TableAnswer::Route(route),
     }
 }
 
@@ -52,13 +52,15 @@ fn reached(
     addr: Addr,
 ) -> Option<Difference> {
     match range {
-        Some(range) if range.last < addr => difference_behind(old, new, by, range.last),
+        Some(range) if range.last < addr => {
+            Comparison::new(old, new, by).difference_behind(range.last)
+        }
         _ => range,
     }
 }
 
 /// The answers of the range, if the address lies in it.
-fn answers_in(range: Option<Difference>, addr: Addr) -> Option<(Answer, Answer)> {
+fn answers_in(range: Option<Difference>, addr: Addr) -> Option<(TableAnswer, TableAnswer)> {
     match range {
         Some(range) if range.first <= addr && addr <= range.last => Some((range.old, range.new)),
         _ => None,
@@ -67,7 +69,7 @@ fn answers_in(range: Option<Difference>, addr: Addr) -> Option<(Answer, Answer)>
 
 /// Each address lies in a range exactly where its answers differ, the range has them, and begins where others end.
 fn compare(rt: &impl Abort, old: &mut Book<Global>, new: &mut Book<Global>, by: By) {
-    let mut range = first_difference(old, new, by, Addr(0));
+    let mut range = Comparison::new(old, new, by).first_difference(Addr(0));
     let mut before = None;
     for host in 0..256u32 {
         let addr = Addr(BASE + host);

@@ -6,7 +6,7 @@ use Rattle.rt_cidr.proofs.Promised.{appends_after}
 use Rattle.rt_rib.specs.Book.{table_of}
 use Rattle.rt_feed.specs.DifferenceText.{difference_as}
 use Rattle.rt_rib.specs.declared.routes.Route.{Route}
-use Rattle.rt_diff.specs.declared.differences.Difference.{Difference}
+use Rattle.rt_diff.specs.declared.comparison.Difference.{Difference}
 use Rattle.rt_diff.specs.Differences.{IsFirstDifference}
 use Rattle.rt_run.specs.DiffText.{AskedDiff}
 use Rattle.rt_run.specs.inside.Comparisons.{IsFirstFrom, addresses_from}

@@ -1,6 +1,6 @@
-use Rattle.std.proofs.Common.{append-nil}
+use Rattle.std.proofs.Common.{codes, append-nil}
 use Rattle.rt_feed.specs.Styles.{label_of}
-use Rattle.rt_feed.specs.inside.Styles.{also_head, also_tail}
+use Rattle.rt_feed.specs.inside.Styles.{line_head, also_tail}
 use Rattle.rt_feed.proofs.LineParts.{also_of}
 use Rattle.rt_feed.proofs.styles.lines.put_other.Goals as goal
 
@@ -11,9 +11,9 @@ returns g c =
     rw (← also_of (label_of c.args.style.now.labels) c.args.addr first r)
     (rw (
       c.as_bytes.ensures,
-      c.prepend_also_head.ensures,
+      c.prepend_head.ensures,
       c.new-head.ensures,
-      append-nil (also_head c.args.addr),
+      append-nil (line_head c.args.addr (codes " also ")),
       c.as_bytes-2.ensures,
       c.prepend_also_tail.ensures,
       c.new-tail.ensures,

@@ -1,8 +1,8 @@
-use Rattle.std.proofs.Common.{◌≡◌, [], ◌∷◌, ◌++◌, codes, append-nil, rules}
+use Rattle.std.proofs.Common.{◌≡◌, [], ◌∷◌, ◌++◌, codes, rules}
 use Rattle.std.specs.List.{join_by}
 use Rattle.std.proofs.lemmas.Result.{err_from_is_err_and}
 use Rattle.rt_feed.specs.Json.{route_object}
-use Rattle.rt_feed.specs.Styles.{label_of, asked_of, also_object, all_found_as}
+use Rattle.rt_feed.specs.Styles.{label_of, address_head, also_object, all_found_as}
 use Rattle.rt_feed.proofs.LineParts.{none_in, regroup, stops_within, stops_after, writes_after}
 use Rattle.rt_feed.proofs.styles.objects.write_all_found.Goals as goal
 
@@ -10,20 +10,19 @@ pub returns-in_default : goal.returns-in_default
 unfolding all_found_as
 returns-in_default g c =
     let none : c.args.found.now ≡ [] = none_in c.args.found.now c.in_default.ensures.cases in
-    rw none (rw (c.as_bytes-asked.ensures, c.prepend_asked.ensures, c.new-head.ensures, append-nil (asked_of c.args.addr)) at c.put_three.ensures)
+    rw none c.put_none.ensures
 
-pub returns-in_err-put_route : goal.returns-in_err-put_route
+pub returns-in_err-put_found : goal.returns-in_err-put_found
 unfolding all_found_as
-returns-in_err-put_route g c =
+returns-in_err-put_found g c =
     let fault = err_from_is_err_and c.from_residual.result c.from_residual.ensures.1 in
     let cut : c.args.found.now ≡ c.in-Some.first.now ∷ c.in-Some.others.now = search rules in
     let label = label_of c.args.style.now.labels in
     let first = c.in-Some.first.now in
-    let asked = asked_of c.args.addr in
+    let asked = address_head c.args.addr in
     let others = join_by (also_object label first) (codes ",") c.in-Some.others.now ++ codes "]}\n" in
-    let begun = rw (c.as_bytes-asked.ensures, c.prepend_asked.ensures, c.new-head.ensures, append-nil asked) at c.in_err-put_route.ensures.err in
     rw (fault.1, cut, ← regroup asked (route_object (label first.feed) first []) (codes ",\"also\":[") others)
-    (stops_within _ _ (asked ++ (route_object (label first.feed) first [] ++ codes ",\"also\":[")) others _ begun)
+    (stops_within _ _ (asked ++ (route_object (label first.feed) first [] ++ codes ",\"also\":[")) others _ c.in_err-put_found.ensures.err)
 
 pub returns-in_err-write_others : goal.returns-in_err-write_others
 unfolding all_found_as
@@ -32,11 +31,10 @@ returns-in_err-write_others g c =
     let cut : c.args.found.now ≡ c.in-Some.first.now ∷ c.in-Some.others.now = search rules in
     let label = label_of c.args.style.now.labels in
     let first = c.in-Some.first.now in
-    let asked = asked_of c.args.addr in
+    let asked = address_head c.args.addr in
     let others = join_by (also_object label first) (codes ",") c.in-Some.others.now in
-    let written = rw (c.as_bytes-asked.ensures, c.prepend_asked.ensures, c.new-head.ensures, append-nil asked) at c.in_ok-put_route.ensures.ok in
     rw (fault.1, cut, ← regroup asked (route_object (label first.feed) first []) (codes ",\"also\":[") (others ++ codes "]}\n"))
-    (stops_after _ _ _ (asked ++ (route_object (label first.feed) first [] ++ codes ",\"also\":[")) others (codes "]}\n") _ written c.in_err-write_others.ensures.err)
+    (stops_after _ _ _ (asked ++ (route_object (label first.feed) first [] ++ codes ",\"also\":[")) others (codes "]}\n") _ c.in_ok-put_found.ensures.ok c.in_err-write_others.ensures.err)
 
 pub returns : goal.returns
 unfolding all_found_as
@@ -44,9 +42,8 @@ returns g c =
     let cut : c.args.found.now ≡ c.in-Some.first.now ∷ c.in-Some.others.now = search rules in
     let label = label_of c.args.style.now.labels in
     let first = c.in-Some.first.now in
-    let asked = asked_of c.args.addr in
+    let asked = address_head c.args.addr in
     let others = join_by (also_object label first) (codes ",") c.in-Some.others.now in
-    let written = rw (c.as_bytes-asked.ensures, c.prepend_asked.ensures, c.new-head.ensures, append-nil asked) at c.in_ok-put_route.ensures.ok in
     rw (cut, ← regroup asked (route_object (label first.feed) first []) (codes ",\"also\":[") (others ++ codes "]}\n"))
-    (writes_after _ _ _ (asked ++ (route_object (label first.feed) first [] ++ codes ",\"also\":[")) (others ++ codes "]}\n") _ written
+    (writes_after _ _ _ (asked ++ (route_object (label first.feed) first [] ++ codes ",\"also\":[")) (others ++ codes "]}\n") _ c.in_ok-put_found.ensures.ok
     (writes_after _ _ _ others (codes "]}\n") _ c.in_ok-write_others.ensures.ok c.put.ensures))

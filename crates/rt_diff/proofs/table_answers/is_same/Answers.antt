@@ -1,6 +1,6 @@
 use Rattle.std.proofs.Common.{sym, ◌∙◌}
 use Rattle.rt_diff.proofs.Equality.{answers}
-use Rattle.rt_diff.proofs.answers.is_same.Goals as goal
+use Rattle.rt_diff.proofs.table_answers.is_same.Goals as goal
 
 pub returns : goal.returns
 returns c =

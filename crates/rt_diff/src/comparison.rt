@@ -4,12 +4,13 @@ ghost use Rattle.rt_rib.specs.Book.{table_of};
 ghost use Rattle.rt_diff.specs.Answers.{by_own};
 ghost use Rattle.rt_diff.specs.Differences.{IsFirstDifference};
 
-use crate::answers::{Answer, By};
 use crate::pieces::{first_unlike, last_of};
+use crate::table_answers::{By, TableAnswer};
 use crate::told::ToldAnswers;
 use rt_cidr::Addr;
 use rt_rib::{Answers, Book};
 use std::alloc::Allocator;
+use std::fmt;
 use std::marker::Model;
 
 /// A range of addresses that two tables answer otherwise.
@@ -20,14 +21,14 @@ pub struct Difference {
     /// Its last one, which is no lesser.
     pub last: Addr,
     /// What the old table answers each of them.
-    pub old: Answer,
+    pub old: TableAnswer,
     /// What the new table answers each of them, which differs.
-    pub new: Answer,
+    pub new: TableAnswer,
 }
 
 /// Two tables that are compared. It keeps the way down of the last look-up in each of them, so going over them in rising
-/// order takes less time than by the functions below, each of which begins anew. Contracts see by what the answers are told
-/// apart, and of both the routes, and the numbers by which feeds are told.
+/// order takes less time than with a new one for each range. Contracts see by what the answers are told apart, and of both
+/// the routes, and the numbers by which feeds are told.
 #[derive(Drop)]
 pub struct Comparison<'a, A: Allocator + Copy> {
     by: By,
@@ -41,6 +42,15 @@ impl<'a, A: Allocator + Copy> Model for Comparison<'a, A> {
     ghost Value = { Compared };
 
     ghost view = { λ c. record { by = c.by; old_table = c.old_table; new_table = c.new_table } };
+}
+
+/// Shows by what the answers are told apart, and neither table.
+impl<'a, A: Allocator + Copy> fmt::Debug for Comparison<'a, A> {
+    fn fmt<W: fmt::Write>(&self, f: &mut fmt::Formatter<W>) -> fmt::Result {
+        f.debug_struct("Comparison")
+            .field("by", &self.by)
+            .finish_non_exhaustive()
+    }
 }
 
 impl<'a, A: Allocator + Copy> Comparison<'a, A> {
@@ -99,28 +109,4 @@ impl<'a, A: Allocator + Copy> Comparison<'a, A> {
         let from = last.0.checked_add(1)?;
         self.first_difference(Addr(from))
     }
-}
-
-/// `Comparison::first_difference` of the two tables.
-pub fn first_difference<A: Allocator + Copy>(
-    old: &Book<A>,
-    new: &Book<A>,
-    by: By,
-    from: Addr,
-) -> Option<Difference>
-    ensures { IsFirstDifference by (by_own (table_of old.now)) (by_own (table_of new.now)) from result }
-{
-    Comparison::new(old, new, by).first_difference(from)
-}
-
-/// `Comparison::difference_behind` of the two tables.
-pub fn difference_behind<A: Allocator + Copy>(
-    old: &Book<A>,
-    new: &Book<A>,
-    by: By,
-    last: Addr,
-) -> Option<Difference>
-    ensures { IsFirstDifference by (by_own (table_of old.now)) (by_own (table_of new.now)) (record { 0 = last.0 + 1 }) result }
-{
-    Comparison::new(old, new, by).difference_behind(last)
 }

@@ -16,7 +16,7 @@ pub enum By {
 
 /// What a table answers an address.
 #[derive(Clone, Copy, PartialEq, Eq, Debug)]
-pub enum Answer {
+pub enum TableAnswer {
     /// No route covers it.
     NoRoute,
     /// Its packets go there.
@@ -26,18 +26,18 @@ pub enum Answer {
 }
 
 /// The answer that what was found makes.
-pub(crate) fn answer_by(by: By, found: Option<Route>) -> Answer
+pub(crate) fn answer_by(by: By, found: Option<Route>) -> TableAnswer
     ensures { result ≡ answer_by by found }
 {
     match (by, found) {
-        (_, None) => Answer::NoRoute,
-        (By::Hop, Some(route)) => Answer::Hop(route.hop),
-        (By::Route, Some(route)) => Answer::Route(route),
+        (_, None) => TableAnswer::NoRoute,
+        (By::Hop, Some(route)) => TableAnswer::Hop(route.hop),
+        (By::Route, Some(route)) => TableAnswer::Route(route),
     }
 }
 
 /// Whether two answers are the same.
-pub(crate) fn is_same(one: &Answer, other: &Answer) -> bool
+pub(crate) fn is_same(one: &TableAnswer, other: &TableAnswer) -> bool
     ensures { IsTrue result ↔ (one.now ≡ other.now) }
 {
     same_prefix();
