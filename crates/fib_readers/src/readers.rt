@@ -13,6 +13,7 @@ use rt_cidr::Addr;
 use rt_fib::Fib;
 use rt_rib::{Refused, Route};
 use std::alloc::{AllocError, Global};
+use std::fmt;
 use std::marker::Model;
 use std::sync::{Arc, Wait};
 
@@ -97,6 +98,13 @@ impl Model for FibReading {
     ghost view = { λ r. record { table = arc_value r.reading.part.value.fib; published = r.reading.place.me.0.client } };
 }
 
+/// Shows no table: one may be read now.
+impl fmt::Debug for FibWriter {
+    fn fmt<W: fmt::Write>(&self, f: &mut fmt::Formatter<W>) -> fmt::Result {
+        f.debug_struct("FibWriter").finish_non_exhaustive()
+    }
+}
+
 impl FibWriter {
     /// The writer of this forwarding table, with room for so many readers at once. M1: `Refused` where memory was refused.
     pub fn new(alloc: Global, fib: Fib<Global>, readers: usize) -> Result<FibWriter, Refused>
@@ -156,6 +164,13 @@ impl FibWriter {
     }
 }
 
+/// Shows no table: it has none now.
+impl fmt::Debug for FibReader {
+    fn fmt<W: fmt::Write>(&self, f: &mut fmt::Formatter<W>) -> fmt::Result {
+        f.debug_struct("FibReader").finish_non_exhaustive()
+    }
+}
+
 impl FibReader {
     /// Takes the table that was published last, without waiting for anybody: it is the last of those that were published, and
     /// these begin with those that this reader has seen. The reader comes back where the writer has ended.
@@ -169,6 +184,13 @@ impl FibReader {
             Ok(reading) => Ok(FibReading { reading }),
             Err(reader) => Err(FibReader { reader }),
         }
+    }
+}
+
+/// Shows nothing of its table.
+impl fmt::Debug for FibReading {
+    fn fmt<W: fmt::Write>(&self, f: &mut fmt::Formatter<W>) -> fmt::Result {
+        f.debug_struct("FibReading").finish_non_exhaustive()
     }
 }
 

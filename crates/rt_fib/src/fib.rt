@@ -11,6 +11,7 @@ use crate::spans::span_of;
 use rt_cidr::{Addr, Prefix};
 use rt_rib::{Book, Cmd, Refused, Route, Table};
 use std::alloc::Allocator;
+use std::fmt;
 use std::marker::Model;
 use std::snapshot::Snapshot;
 
@@ -32,6 +33,16 @@ impl<A: Allocator + Copy, B: Allocator + Copy> Model for Fib<A, B> {
     ghost view = { λ f. f.cells.table.value.routes };
 
     ghost invariant = { λ f. AreAll f.cells.entries.items f.cells.blocks.items f.cells.answers.items f.cells.table.value.routes };
+}
+
+/// Shows how many blocks and answers there are, and none of them.
+impl<A: Allocator + Copy, B: Allocator + Copy> fmt::Debug for Fib<A, B> {
+    fn fmt<W: fmt::Write>(&self, f: &mut fmt::Formatter<W>) -> fmt::Result {
+        f.debug_struct("Fib")
+            .field("blocks", &self.cells.blocks.len())
+            .field("answers", &self.cells.answers.len())
+            .finish_non_exhaustive()
+    }
 }
 
 impl<A: Allocator + Copy, B: Allocator + Copy> Fib<A, B> {

@@ -176,7 +176,7 @@ fn run_of<A: Allocator + Copy, B: Allocator + Copy>(
 }
 
 /// The span's entries.
-fn entries_of<A: Allocator + Copy, B: Allocator + Copy>(
+fn span_entries<A: Allocator + Copy, B: Allocator + Copy>(
     alloc: A,
     table: &mut Answers<'_, B>,
     blocks: &mut Vec<[u32; 256], A>,
@@ -217,7 +217,7 @@ pub(crate) fn all_cells<A: Allocator + Copy, B: Allocator + Copy>(
         first: 0,
         end: ENTRIES,
     };
-    let entries = entries_of(alloc, &mut table.answers(), &mut blocks, &mut answers, all)?;
+    let entries = span_entries(alloc, &mut table.answers(), &mut blocks, &mut answers, all)?;
     let needed = bytes_of(blocks.len(), answers.len());
     Ok(Cells {
         entries,
@@ -256,7 +256,7 @@ fn fresh_entries<A: Allocator + Copy, B: Allocator + Copy>(
     ensures stay { OnErr result ((blocks.new.items ≡ blocks.old.items) × (answers.new.items ≡ answers.old.items)) }
 {
     let (block_count, answer_count) = (blocks.len(), answers.len());
-    match entries_of(alloc, table, blocks, answers, span) {
+    match span_entries(alloc, table, blocks, answers, span) {
         Ok(entries) => Ok(entries),
         Err(refused) => {
             blocks.truncate(block_count);

@@ -4,6 +4,6 @@ use Rattle.rt_fib.proofs.filling.fresh_entries.Goals as goal
 
 pub returns-in-Err-clause-stay : goal.returns-in-Err-clause-stay
 returns-in-Err-clause-stay g c = (
-  c.truncate.ensures.items ∙ cut_back _ _ _ (omega arith) c.entries_of.ensures.blocks,
-  c.truncate-in-Err.ensures.items ∙ cut_back _ _ _ (omega arith) c.entries_of.ensures.grows,
+  c.truncate.ensures.items ∙ cut_back _ _ _ (omega arith) c.span_entries.ensures.blocks,
+  c.truncate-in-Err.ensures.items ∙ cut_back _ _ _ (omega arith) c.span_entries.ensures.grows,
 )

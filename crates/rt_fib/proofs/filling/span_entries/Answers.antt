@@ -1,6 +1,6 @@
 use Rattle.std.proofs.Common.{arith, refl, ◌-◌, ◌∙◌}
 use Rattle.rt_fib.proofs.Growing.{from_run, grows_twice}
-use Rattle.rt_fib.proofs.filling.entries_of.Goals as goal
+use Rattle.rt_fib.proofs.filling.span_entries.Goals as goal
 
 pub entries-preserved : goal.entries-preserved
 entries-preserved g c =

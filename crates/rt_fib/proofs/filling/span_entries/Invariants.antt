@@ -1,7 +1,7 @@
 use Rattle.std.proofs.Common.{◌≡◌, ◌-◌, ◌*◌, ◌≤◌}
 use Rattle.rt_fib.specs.inside.Entries.{AreFrom, Grows}
 use Rattle.rt_fib.specs.inside.Pieces.{IsPieceFrom}
-use Rattle.rt_fib.proofs.filling.entries_of.Given as goal
+use Rattle.rt_fib.proofs.filling.span_entries.Given as goal
 
 -- the entries so far, and the piece that goes on from there
 abbrev pub invariant-entries : goal.invariant-entries
