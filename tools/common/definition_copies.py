@@ -8,11 +8,10 @@ import os
 import pathlib
 import re
 import shutil
-import subprocess
 import sys
 
 from .definition_reader import CRATES, TOP, constructors, crate_of, example_files, parse_module, uncommented
-from .prover import below, needs, said_of
+from .prover import below, needs, said_by, said_of
 
 DECLARED = re.compile(r" *(?:(?:pub|abbrev|unfoldable|record|data) )*([^\s:(){}\[\],;]+)")
 WORD = re.compile(r"(?<![\w.'])[^\W\d][\w']*(?:-[\w']+)*")
@@ -246,15 +245,16 @@ class Scratch:
         (self.folder / "src/lib.rt").write_text(ROOT)
 
     def tried(self, copies, check):
-        """Of each copy the blocks that the prover refuses, None for an error at another place. check: what has the crate of
-        copies proved, and gives what that printed."""
+        """Of each copy the blocks that the prover refuses, None for an error at another place; None in place of all where the check
+        doesn't end. check: what has the crate of copies proved, and gives what that printed, or None."""
         written = {}
         for copy in copies:
             for name, text, blocks in copy.files():
                 written[name] = (copy, blocks)
                 self.file(name).write_text(text)
         self.list_files()
-        refused = self.refused_in(check(self), written)
+        printed = check(self)
+        refused = None if printed is None else self.refused_in(printed, written)
         for file in self.files():
             file.unlink()
         return refused
@@ -278,27 +278,30 @@ class Scratch:
         (self.folder / "proofs/Lib.antt").write_text("".join(f"pub mod {file.stem}\n" for file in sorted(self.files())))
 
 
-def by_check(jobs):
-    """The check of one who works on a crate, over what earlier checks kept in out/."""
+def by_check(jobs, seconds=None):
+    """The check of one who works on a crate, over what earlier checks kept in out/. Where it is given so many seconds of
+    processor time and has no verdict by then, it gives None."""
     def check(scratch):
         for crate in scratch.crates.iterdir():
             kept = CRATES / crate.name / "out/rlib"
             if kept.is_dir() and not (crate / "out").exists():
                 shutil.copytree(kept, crate / "out/rlib", copy_function=linked)
         words = ["rt", "check", "--jobs", str(jobs), "--allow-holes"]
-        printed = said_by(words, scratch.folder)
-        if not re.search(r"^(?:logic|holes)=", printed, re.M):
-            sys.exit(f"the prover gave no verdict\n{printed[-3000:]}")
-        return printed
+        return with_verdict(said_by(words, scratch.folder, seconds), seconds)
     return check
 
 
-def by_gate(scratch):
+def by_gate(seconds=None):
     """The check of the gate: of the crate of copies alone, over the libraries that `rt ci` has just built."""
-    printed = said_of(COPIES, scratch.named, scratch.folder)
-    if not re.search(r"^(?:logic|holes)=", printed, re.M):
+    return lambda scratch: with_verdict(said_of(COPIES, scratch.named, scratch.folder, seconds=seconds), seconds)
+
+
+def with_verdict(printed, seconds):
+    if re.search(r"^(?:logic|holes)=", printed, re.M):
+        return printed
+    if not seconds:
         sys.exit(f"the prover gave no verdict\n{printed[-3000:]}")
-    return printed
+    return None
 
 
 def linked(one, other):
@@ -307,8 +310,3 @@ def linked(one, other):
         os.link(one, other)
     except OSError:
         shutil.copy2(one, other)
-
-
-def said_by(words, folder):
-    return subprocess.run(words, cwd=folder, stdin=subprocess.DEVNULL, stdout=subprocess.PIPE, stderr=subprocess.STDOUT,
-                          text=True, errors="replace").stdout

@@ -65,7 +65,11 @@ def said_of(name, named, folder, more=(), seconds=None):
     """What the prover prints of the crate in this folder, past open goals, over what it keeps there of earlier runs. Where it
     is given so many seconds of processor time, it is ended after these, with its last lines unsaid."""
     words = [kit() / "bin/rattle", "check", *words_for(name, named, folder), "--jobs", "1", "--allow-holes", *more]
-    words += ["--incremental", "out/incremental"]
+    return said_by([*words, "--incremental", "out/incremental"], folder, seconds)
+
+
+def said_by(words, folder, seconds=None):
+    """What a command prints, which is ended after so many seconds of processor time, if it is given any."""
     if seconds:
         words = ["sh", "-c", f'ulimit -t {seconds} && exec "$@"', "sh", *words]
     return subprocess.run(words, cwd=folder, stdin=subprocess.DEVNULL, stdout=subprocess.PIPE, stderr=subprocess.STDOUT,

@@ -3,6 +3,7 @@
 use Rattle.std.proofs.Common.{◌≡◌, ℕ, ◌+◌, ◌<◌, ◌≤◌, Some, None, List, [], ◌∷◌, refl, ap, arith}
 use Rattle.std.specs.Prelude.{◌≢◌, ◌↔◌, ◌^◌, All, Any}
 use Rattle.std.specs.List.{AllPairs}
+use Rattle.std.specs.Option.{option_map}
 use Rattle.std.proofs.lemmas.List.Elements.{All-nil}
 use Rattle.rt_cidr.specs.declared.address.Addr.{Addr}
 use Rattle.rt_rib.specs.declared.routes.Hop.{Hop}
@@ -77,6 +78,10 @@ the_best_is_so_by_the_own_numbers :
     ≡ Some (route_via ten_8 9 5 (via_192_0_2 1))
 unfolding look_up
 the_best_is_so_by_the_own_numbers = refl
+
+whatever_is_found_is_told_so : (addr : Addr) (table : ToldTable)
+    → told_look_up addr table ≡ option_map (told_route table.numbers) (look_up addr table.routes)
+whatever_is_found_is_told_so addr table = refl
 
 -- answer_of
 the_longer_prefix_answers : answer_of by.Hop at_10_1_2_3 (by_own (by_1 ∷ longer_by (via_192_0_2 2) ∷ [])) ≡ answer.Hop (via_192_0_2 2)
