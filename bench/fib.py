@@ -16,8 +16,8 @@ import sys
 import tempfile
 
 import figures
-import library
 from figures import checks
+from others import built_lpm, drawn, has_patricia, patricia_rows, printed, radix_rows, write_input
 
 ASKED = 1 << 20
 PLACES = 1000
@@ -77,12 +77,12 @@ def other_rows(folders, lpm, pairs, asked):
     """The rows of libraries of others, where they are."""
     found = {}
     for kind, folder in folders.items():
-        rows = {"rte_lpm": library.printed([lpm, folder / "input"])} if lpm else {}
-        if library.has_patricia():
-            rows["Net::Patricia"] = library.patricia_rows(folder)
+        rows = {"rte_lpm": printed([lpm, folder / "input"])} if lpm else {}
+        if has_patricia():
+            rows["Net::Patricia"] = patricia_rows(folder)
         try:
             import radix
-            rows["py-radix"] = library.radix_rows(radix, pairs, asked[kind])
+            rows["py-radix"] = radix_rows(radix, pairs, asked[kind])
         except ImportError:
             pass
         names = {"apply": "new", "forwarding_1": f"look_up {kind}", "forwarding_256": f"look_up_each {kind}",
@@ -95,12 +95,12 @@ def other_rows(folders, lpm, pairs, asked):
 
 def compare(folder, programs, prefixes, rounds):
     """Runs all in turn over so many prefixes, and gives a row for each call, from their least times."""
-    pairs, random = library.drawn(prefixes, ASKED)
-    asked = {"random": random, "local": library.drawn(prefixes, ASKED, PLACES)[1]}
+    pairs, random = drawn(prefixes, ASKED)
+    asked = {"random": random, "local": drawn(prefixes, ASKED, PLACES)[1]}
     folders = {kind: folder / kind for kind in KINDS}
     for kind in KINDS:
         folders[kind].mkdir(exist_ok=True)
-        library.write_input(folders[kind], pairs, asked[kind])
+        write_input(folders[kind], pairs, asked[kind])
     inputs, found = {kind: folders[kind] / "input" for kind in KINDS}, []
     for _ in range(rounds):
         some, sums = rattle_rows(programs["Rattle"], prefixes)
@@ -126,7 +126,7 @@ def built(folder):
     """The programs, by who asks; of rte_lpm none where it isn't."""
     subprocess.run(["gcc", "-O2", "-o", folder / "c", checks.TOP / "bench/fib_peer.c"], check=True)
     rust = figures.built_peer(folder, "fib_peer.rs")
-    return {"Rattle": checks.built_benches("fib", "2000"), "C": folder / "c", "Rust": rust, "rte_lpm": library.built_lpm(folder)}
+    return {"Rattle": checks.built_benches("fib", "2000"), "C": folder / "c", "Rust": rust, "rte_lpm": built_lpm(folder)}
 
 
 def main():

@@ -11,63 +11,19 @@ number behind a look-up says how many one call asks for.
 import array
 import os
 import pathlib
-import shutil
 import subprocess
 import sys
 import tempfile
-import time
 
 import figures
 from figures import checks
-from table_model import dotted
+from others import built_lpm, drawn, each, has_patricia, patricia_rows, printed, radix_rows, write_input
 
-# What the benches in Rattle draw: a length by a number below 1000.
-LENGTHS = ((600, 24), (720, 22), (820, 23), (870, 21), (915, 20), (945, 19), (970, 16), (980, 18), (985, 17), (995, 28),
-           (1000, 12))
 ASKED = 1 << 17
 BINDINGS = checks.TOP / "bindings"
 WHO = ("Rattle", "C", "Rust", "Python", "py-radix", "Net::Patricia", "rte_lpm")
 CALLS = ("apply", "apply_each", "apply_journaled", "look_up_1", "look_up_text", "look_up_256", "look_up_4096", "look_up_array",
          "forward", "forwarding_1", "forwarding_256", "forwarding_4096", "forwarding_array")
-PATRICIA = """
-use strict; use warnings; use Net::Patricia; use Time::HiRes qw(clock);
-open(my $file, '<:raw', $ARGV[0]); local $/; my ($n, $m, @rest) = unpack('L*', <$file>);
-sub text { join '.', map { $_[0] >> $_ & 255 } 24, 16, 8, 0 }
-my $tree = Net::Patricia->new; my $at = clock();
-$tree->add_string(text($rest[2 * $_]) . '/' . $rest[2 * $_ + 1], $_) for 0 .. $n - 1;
-printf "apply %.0f\\n", (clock() - $at) / $n * 1e9;
-my @asked = @rest[2 * $n .. 2 * $n + $m - 1]; my @texts = map { text($_) } @asked;
-$at = clock(); $tree->match_integer($_) for @asked; printf "look_up_1 %.0f\\n", (clock() - $at) / $m * 1e9;
-$at = clock(); $tree->match_string($_) for @texts; printf "look_up_text %.0f\\n", (clock() - $at) / $m * 1e9;
-"""
-
-
-def draws(seed):
-    """The numbers that crates/benches draws."""
-    while True:
-        seed = (seed * 6364136223846793005 + 1442695040888963407) % (1 << 64)
-        yield seed >> 32
-
-
-def drawn(prefixes, addresses=ASKED, among=None):
-    """Prefixes as pairs, and addresses in so many of them or in all, as crates/benches draws them."""
-    draw, pairs, asked = draws(1), [], []
-    for _ in range(prefixes):
-        lot = next(draw) % 1000
-        length = next(length for below, length in LENGTHS if lot < below)
-        pairs.append((next(draw) >> 32 - length << 32 - length, length))
-    draw = draws(2)
-    for _ in range(addresses):
-        base, length = pairs[next(draw) % (among or prefixes) * (prefixes // (among or prefixes))]
-        asked.append(base | next(draw) & 0xFFFFFFFF >> length)
-    return pairs, asked
-
-
-def each(name, count, call):
-    """A row of what one call took."""
-    began = time.process_time()
-    call()
-    return name, (time.process_time() - began) / count * 1e9
 
 
 def python_rows(yarib, pairs, asked):
@@ -79,39 +35,6 @@ def python_rows(yarib, pairs, asked):
     forwarding = table.forward()
     yield each("forwarding_1", ASKED, lambda: [forwarding.look_up(address) for address in asked])
     yield each("forwarding_array", ASKED, lambda: forwarding.look_up_each(block))
-
-
-def radix_rows(radix, pairs, asked):
-    tree = radix.Radix()
-    networks = [(dotted(base), length) for base, length in pairs]
-    texts = [dotted(address) for address in asked]
-    yield each("apply", len(pairs), lambda: [tree.add(network=base, masklen=length) for base, length in networks])
-    yield each("look_up_text", len(asked), lambda: [tree.search_best(text) for text in texts])
-
-
-def printed(words):
-    """The rows that a program prints."""
-    ended = subprocess.run(words, capture_output=True, text=True)
-    if ended.returncode != 0:
-        sys.exit(f"bench/library.py: {words[0]} ended with status {ended.returncode}\n{ended.stderr}")
-    return [(name, float(value)) for name, value in map(str.split, ended.stdout.splitlines()) if name != "sum"]
-
-
-def has_patricia():
-    """Whether perl has Net::Patricia."""
-    words = ["perl", "-MNet::Patricia", "-e", "1"]
-    return shutil.which("perl") and subprocess.run(words, stderr=subprocess.DEVNULL).returncode == 0
-
-
-def patricia_rows(folder):
-    """Its rows, by the input that was written into the folder."""
-    return printed(["perl", "-e", PATRICIA, folder / "input"])
-
-
-def write_input(folder, pairs, asked):
-    """Writes what the programs read: how many there are, the prefixes and the addresses."""
-    block = array.array("I", [len(pairs), len(asked), *(part for pair in pairs for part in pair), *asked])
-    (folder / "input").write_bytes(block.tobytes())
 
 
 def rattle_rows(benches, prefixes):
@@ -126,16 +49,6 @@ def rattle_rows(benches, prefixes):
     for which, call in (("book_look_up", "look_up_1"), ("book_look_up_each", "look_up_256"), ("look_up", "forwarding_1"),
                         ("look_up_each", "forwarding_256")):
         yield call, told[f"random_{which}"] / ASKED
-
-
-def built_lpm(folder):
-    """The program that asks rte_lpm, built in the folder, or none where DPDK isn't."""
-    if not shutil.which("pkg-config") or subprocess.run(["pkg-config", "--exists", "libdpdk"]).returncode != 0:
-        return None
-    flags = subprocess.run(["pkg-config", "--cflags", "--libs", "libdpdk"], check=True, capture_output=True, text=True).stdout
-    source = checks.TOP / "bench/library_lpm.c"
-    subprocess.run(["gcc", "-O2", "-o", folder / "lpm", "-march=native", source, *flags.split()], check=True)
-    return folder / "lpm"
 
 
 def built(folder):
@@ -176,7 +89,7 @@ def main():
     words = figures.begin(figures.reader(__doc__, rounds=3, prefixes=500_000))
     os.environ["YARIB_LIBRARY"] = str(BINDINGS / "out/libyarib.so.0")
     sys.path.insert(0, str(BINDINGS / "python"))
-    pairs, asked = drawn(words.prefixes)
+    pairs, asked = drawn(words.prefixes, ASKED)
     with tempfile.TemporaryDirectory() as name:
         folder = pathlib.Path(name)
         write_input(folder, pairs, asked)
