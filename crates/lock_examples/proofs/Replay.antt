@@ -13,6 +13,11 @@ a_letter_a_level_and_a_place : level_text (codes "P") 1 0 ≡ codes "P1.0"
 unfolding digits level_text
 a_letter_a_level_and_a_place = refl
 
+any_letter_level_and_place :
+    (letter : List ℕ) (level index : ℕ) → level_text letter level index ≡ letter ++ (decimal level ++ (codes "." ++ decimal index))
+unfolding level_text
+any_letter_level_and_place letter level index = refl
+
 -- word_text
 a_claim_has_a_side : word_text (C 1 0 1) ≡ codes "C1.0.1"
 unfolding digits word_text level_text
