@@ -134,18 +134,15 @@ static FAULTS: [(ReplayFault, &str, &str); 3] = [
     (ReplayFault::Memory, "fault P3", "Memory"),
 ];
 
-/// Fails where `Display` or `Debug` shows another text for a `ReplayFault`.
-#[test]
-fn faults_have_their_texts(rt: HostRuntime) {
-    assert_same(&rt, "misshown", misshown(rt.alloc(), &FAULTS), Ok(None));
-}
+/// Want of memory, its text and its name.
+static NO_MEMORY: [(NoMemory, &str, &str); 1] = [(NoMemory, "out of memory", "NoMemory")];
 
-/// Fails where `Display` or `Debug` shows another text for `NoMemory`.
+/// Fails where `Display` or `Debug` shows another text for a `ReplayFault` or for `NoMemory`.
 /// Fails where `Display` shows `memory was refused`.
 #[test]
-fn want_of_memory_has_its_text(rt: HostRuntime) {
-    let fault = [(NoMemory, "out of memory", "NoMemory")];
-    assert_same(&rt, "misshown", misshown(rt.alloc(), &fault), Ok(None));
+fn faults_have_their_texts(rt: HostRuntime) {
+    assert_same(&rt, "fault", misshown(rt.alloc(), &FAULTS), Ok(None));
+    assert_same(&rt, "memory", misshown(rt.alloc(), &NO_MEMORY), Ok(None));
 }
 
 /// Entries that may follow in any order.

@@ -66,7 +66,6 @@ fn a_thread_that_waits_leaves_the_processor_to_others(rt: HostRuntime) {
 /// Fails where a place never sleeps, or only at the first level.
 #[test]
 fn a_place_that_waits_at_the_root_leaves_the_processor_to_others(rt: HostRuntime) {
-    assert_sleeps_at_the_root::<_, 1>(&rt, rt.alloc());
     assert_sleeps_at_the_root::<_, 2>(&rt, rt.alloc());
     assert_sleeps_at_the_root::<_, 3>(&rt, rt.alloc());
     assert_sleeps_at_the_root::<_, 6>(&rt, rt.alloc());
