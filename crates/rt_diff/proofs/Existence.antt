@@ -1,12 +1,12 @@
 -- That two tables have a list of their differences: it grows from the last address to the first.
-use Rattle.std.proofs.Common.{◌≡◌, ℕ, zero, suc, ◌+◌, ◌-◌, ◌^◌, ◌<◌, ◌≤◌, ◌⊎◌, inl, inr, List, [], ◌∷◌, sym, refl, ap, ◌∙◌, subst, arith}
+use Rattle.std.proofs.Common.{◌≡◌, ℕ, zero, suc, ◌+◌, ◌-◌, ◌^◌, ◌<◌, ◌≤◌, ◌⊎◌, inl, inr, List, [], ◌∷◌, sym, refl, ◌∙◌, subst, arith}
 use Rattle.std.proofs.lemmas.Bool.{cases_lt, cases_eq}
 use Rattle.std.proofs.lemmas.List.Elements.{All-weaker}
 use Rattle.rt_cidr.specs.declared.address.Addr.{Addr}
 use Rattle.rt_diff.specs.declared.table_answers.By.{By}
 use Rattle.rt_diff.specs.declared.comparison.Difference.{Difference}
 use Rattle.rt_diff.specs.Answers.{ToldTable, answer_of}
-use Rattle.rt_diff.specs.Differences.{HasAnswers, IsAlike, IsDifference, IsNextDifference, HaveSameAnswers, AreDifferences}
+use Rattle.rt_diff.specs.Differences.{HasAnswers, IsAlike, IsNextDifference, HaveSameAnswers}
 use Rattle.rt_diff.specs.Laws.{HaveDifferences}
 use Rattle.rt_diff.specs.inside.Rest.{AreRest}
 use Rattle.rt_diff.proofs.Deciding.{answer_cases}

@@ -1,13 +1,13 @@
 -- How the list of all differences is made: of the first one from an address on, and of the list behind it.
-use Rattle.std.proofs.Common.{◌≡◌, ℕ, ◌+◌, ◌^◌, ◌<◌, ◌≤◌, inl, inr, List, [], ◌∷◌, sym, refl, ◌∙◌, arith}
+use Rattle.std.proofs.Common.{◌≡◌, ℕ, ◌+◌, ◌^◌, ◌<◌, ◌≤◌, inl, inr, List, [], ◌∷◌, sym, ◌∙◌, arith}
 use Rattle.std.proofs.lemmas.Bool.{cases_lt}
 use Rattle.std.proofs.lemmas.List.Elements.{All-nil, All-cons, All-head, All-tail, All-weaker}
 use Rattle.std.proofs.lemmas.List.Kept.{AllPairs-cons}
-use Rattle.std.specs.List.{All, Any, AllPairs}
+use Rattle.std.specs.List.{All}
 use Rattle.rt_cidr.specs.declared.address.Addr.{Addr}
 use Rattle.rt_diff.specs.declared.table_answers.By.{By}
 use Rattle.rt_diff.specs.declared.comparison.Difference.{Difference}
-use Rattle.rt_diff.specs.Differences.{HasAnswers, IsAlike, IsWithin, IsDifference, IsNextDifference, HaveSameAnswers, AreDifferences}
+use Rattle.rt_diff.specs.Differences.{IsAlike, IsWithin, IsDifference, IsNextDifference, HaveSameAnswers, AreDifferences}
 use Rattle.rt_diff.specs.inside.Rest.{AreRest}
 use Rattle.rt_diff.specs.Answers.{ToldTable, answer_of}
 use Rattle.rt_diff.proofs.Deciding.{answer_cases}

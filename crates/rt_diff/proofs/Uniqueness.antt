@@ -1,11 +1,11 @@
 -- That two tables have no other list of their differences.
-use Rattle.std.proofs.Common.{◌≡◌, ℕ, ◌+◌, ◌^◌, ◌<◌, ◌≤◌, inl, inr, List, [], ◌∷◌, sym, refl, ap, ◌∙◌, subst, arith}
+use Rattle.std.proofs.Common.{◌≡◌, ◌+◌, ◌≤◌, inl, inr, List, [], ◌∷◌, sym, refl, ◌∙◌, subst, arith}
 use Rattle.std.proofs.lemmas.Bool.{cases_lt}
 use Rattle.rt_cidr.specs.declared.address.Addr.{Addr}
 use Rattle.rt_diff.specs.declared.table_answers.By.{By}
 use Rattle.rt_diff.specs.declared.comparison.Difference.{Difference}
 use Rattle.rt_diff.specs.Answers.{ToldTable}
-use Rattle.rt_diff.specs.Differences.{HasAnswers, IsAlike, IsDifference, IsNextDifference, HaveSameAnswers, AreDifferences}
+use Rattle.rt_diff.specs.Differences.{IsNextDifference, HaveSameAnswers}
 use Rattle.rt_diff.specs.Laws.{HaveOneList}
 use Rattle.rt_diff.specs.inside.Rest.{AreRest}
 use Rattle.rt_diff.proofs.Rest.{at, rest_behind, rest_first, rest_alike_all, from_whole}

@@ -1,6 +1,5 @@
 -- What holds of any two tables.
-use Rattle.std.specs.Prelude.{◌≡◌, ◌↔◌, ℕ, List, [], ◌∷◌}
-use Rattle.rt_cidr.specs.declared.address.Addr.{Addr}
+use Rattle.std.specs.Prelude.{◌≡◌, List}
 use Rattle.rt_diff.specs.declared.table_answers.By.{By}
 use Rattle.rt_diff.specs.declared.comparison.Difference.{Difference}
 use Rattle.rt_diff.specs.Answers.{ToldTable}

@@ -1,6 +1,6 @@
 -- The routes from a place in dump order on: of a map those of the pairs from its prefix on, and of its prefix's own those of the
 -- offers that don't outrank what stands there.
-use Rattle.std.proofs.Common.{◌≡◌, ℕ, zero, suc, ◌+◌, ◌<◌, ◌≤◌, Bool, true, false, not, List, [], ◌∷◌, ◌++◌, length, map, drop, refl, ap, sym, subst, ◌∙◌, arith}
+use Rattle.std.proofs.Common.{◌≡◌, ℕ, zero, suc, ◌+◌, ◌≤◌, Bool, true, false, not, List, [], ◌∷◌, ◌++◌, length, map, drop, refl, ap, sym, subst, ◌∙◌, arith}
 use Rattle.std.proofs.Common.{inl, inr}
 use Rattle.std.specs.List.{filter, AllWithin, Contains}
 use Rattle.std.proofs.lemmas.Bool.{cases_Bool, both_ways, false_from_ne_true, not_from_false, not-true}
@@ -8,11 +8,11 @@ use Rattle.std.proofs.lemmas.List.Elements.{filter-append}
 use Rattle.rt_cidr.specs.declared.prefixes.Prefix.{Prefix}
 use Rattle.rt_trie.specs.Map.{before, IsBeforeAll, IsOrdered}
 use Rattle.rt_trie.specs.FromPrefix.{from_prefix}
-use Rattle.rt_trie.proofs.PrefixOrder.{rank, lower_rank, rank_of_before, rank_of_not_before}
+use Rattle.rt_trie.proofs.PrefixOrder.{lower_rank, rank_of_before, rank_of_not_before}
 use Rattle.rt_rib.specs.declared.routes.Route.{Route}
 use Rattle.rt_rib.specs.declared.offers.Offer.{Offer}
 use Rattle.rt_rib.specs.Maps.{Map, outranks, route_by, routes_of}
-use Rattle.rt_rib.specs.Table.{below_then, precedes, is_better}
+use Rattle.rt_rib.specs.Table.{below_then, precedes}
 use Rattle.rt_rib.specs.Places.{from_place}
 use Rattle.rt_rib.specs.inside.Maps.{offer_of}
 use Rattle.rt_rib.specs.inside.Offers.{IsInsertionIndex}

@@ -10,7 +10,7 @@ use Rattle.rt_cidr.specs.Prefix.{covers}
 use Rattle.rt_rib.specs.declared.routes.Route.{Route}
 use Rattle.rt_rib.specs.Table.{is_better, is_of, IsTable}
 use Rattle.rt_rib.specs.LookUp.{matching, look_up, beats, ranking, look_up_all}
-use Rattle.rt_rib.specs.Laws.{IsBestMatch, AreMatches, LookUpAllFindsMatches}
+use Rattle.rt_rib.specs.Laws.{IsBestMatch, AreAllMatches, LookUpAllFindsMatches}
 use Rattle.rt_rib.proofs.Lists.{AllPairs-head, AllPairs-tail, AllPairs-put}
 use Rattle.rt_rib.proofs.Order.{below_then-true, below_then-false, below_then-less, below_then-same, by_preference-other, is_better-trans}
 use Rattle.rt_rib.proofs.Order.{is_better-itself, is_of-from}
@@ -64,7 +64,7 @@ module _ (addr : Addr) where
       (ranking-ordered others (λ s c. match s (Contains-tail r others s c)) (AllPairs-tail Apart r others apart))
 
   -- what a look-up of all finds are the matches
-  look_up_all_are : (t : List Route) → IsTable t → AreMatches addr t (look_up_all addr t)
+  look_up_all_are : (t : List Route) → IsTable t → AreAllMatches addr t (look_up_all addr t)
   unfolding look_up_all
   look_up_all_are t table =
       let covering : Route → Bool = λ s. covers s.prefix addr in
@@ -79,13 +79,13 @@ module _ (addr : Addr) where
       }
 
   -- and there is one list of them
-  matches_once : (t m n : List Route) → AreMatches addr t m → AreMatches addr t n → m ≡ n
+  matches_once : (t m n : List Route) → AreAllMatches addr t m → AreAllMatches addr t n → m ≡ n
   matches_once t m n h k =
       ordered_once beats beats-itself beats-trans m n h.ordered k.ordered
       (λ x c. (k.exactly x).1 ((h.exactly x).0 c)) (λ x c. (h.exactly x).1 ((k.exactly x).0 c))
 
   -- what covers the address is the first match, or beaten by it
-  first_or_beaten : (t : List Route) (r : Route) (rest : List Route) → AreMatches addr t (r ∷ rest) → (s : Route) → Contains t s → covers s.prefix addr ≡ true
+  first_or_beaten : (t : List Route) (r : Route) (rest : List Route) → AreAllMatches addr t (r ∷ rest) → (s : Route) → Contains t s → covers s.prefix addr ≡ true
       → (r ≡ s) ⊎ Beats r s
   first_or_beaten t r rest h s c e =
       elim (Contains-cases r rest s ((h.exactly s).1 (c, e))) [
@@ -94,7 +94,7 @@ module _ (addr : Addr) where
       ]
 
   -- so the first match is the best
-  first_is_best : (t : List Route) (r : Route) (rest : List Route) → AreMatches addr t (r ∷ rest) → IsBestMatch addr t r
+  first_is_best : (t : List Route) (r : Route) (rest : List Route) → AreAllMatches addr t (r ∷ rest) → IsBestMatch addr t r
   first_is_best t r rest h = record {
     contained = ((h.exactly r).0 (Contains-head r rest)).0;
     covering = ((h.exactly r).0 (Contains-head r rest)).1;
@@ -115,7 +115,7 @@ module _ (addr : Addr) where
   }
 
   -- and what a look-up finds
-  first_match : (t matches : List Route) → IsTable t → AreMatches addr t matches → slice_get matches 0 ≡ look_up addr t
+  first_match : (t matches : List Route) → IsTable t → AreAllMatches addr t matches → slice_get matches 0 ≡ look_up addr t
   first_match t [] table h =
       sym ((look_up_finds_best addr t table).1.1 (λ s c.
       false_from_ne_true (covers s.prefix addr) (λ e. Contains-none s ((h.exactly s).1 (c, e)))))
@@ -124,6 +124,6 @@ module _ (addr : Addr) where
 pub look_up_all_finds_matches : LookUpAllFindsMatches
 look_up_all_finds_matches addr t table =
     let are = look_up_all_are addr t table in (
-      (λ matches. ((λ e. subst (AreMatches addr t) e are), (λ h. matches_once addr t (look_up_all addr t) matches are h))),
+      (λ matches. ((λ e. subst (AreAllMatches addr t) e are), (λ h. matches_once addr t (look_up_all addr t) matches are h))),
       first_match addr t (look_up_all addr t) table are,
     )

@@ -40,7 +40,7 @@ LookUpFindsBest =
 
 -- the list contains just the routes of the set whose prefix covers the address, and each beats those behind it, so none stands
 -- there twice
-pub record AreMatches (addr : Addr) (table matches : List Route) : Type 0 where
+pub record AreAllMatches (addr : Addr) (table matches : List Route) : Type 0 where
   pub exactly : (r : Route) → Contains matches r ↔ (Contains table r × (covers r.prefix addr ≡ true))
   pub ordered : AllPairs (λ r s. beats r s ≡ true) matches
 
@@ -48,7 +48,7 @@ pub record AreMatches (addr : Addr) (table matches : List Route) : Type 0 where
 abbrev pub LookUpAllFindsMatches : Type 0
 LookUpAllFindsMatches =
     (addr : Addr) (table : List Route) → IsTable table
-    → ((matches : List Route) → (look_up_all addr table ≡ matches) ↔ AreMatches addr table matches)
+    → ((matches : List Route) → (look_up_all addr table ≡ matches) ↔ AreAllMatches addr table matches)
     × (slice_get (look_up_all addr table) 0 ≡ look_up addr table)
 
 -- the best route of each prefix: no two are to one prefix, and a look-up in them finds what it finds in the whole table

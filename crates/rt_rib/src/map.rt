@@ -158,15 +158,15 @@ pub(crate) fn append_walk<A: Allocator + Copy>(
     Ok(())
 }
 
-/// The routes by base, then length, then preference, then feed, of which there are so many.
+/// The routes of the pairs that the walk has still to give, in its order. Memory is taken for so many at once.
 pub(crate) fn routes<A: Allocator + Copy>(
-    map: &Map<A>,
+    walk: Walk<'_, Offers<A>, A>,
     alloc: A,
     count: usize,
 ) -> Result<Vec<Route, A>, Refused>
-    ensures { IfOk result (λ routes. routes.items ≡ routes_of map.now.pairs) }
+    ensures { IfOk result (λ routes. routes.items ≡ routes_of walk.entry) }
 {
     let mut routes = Vec::with_capacity(alloc, count)?;
-    append_walk(&mut routes, map.walk())?;
+    append_walk(&mut routes, walk)?;
     Ok(routes)
 }

@@ -6,7 +6,7 @@ ghost use Rattle.rt_rib.specs.Selection.{is_in, is_by};
 ghost use Rattle.rt_rib.specs.Table.{IsTable};
 ghost use Rattle.rt_cidr.specs.Prefix.{contains, same_prefix};
 
-use crate::map::{self, Map, append, append_walk, map_laws};
+use crate::map::{self, Map, append, map_laws};
 use crate::refused::Refused;
 use crate::routes::{Route, keep_best};
 use rt_cidr::Prefix;
@@ -47,24 +47,11 @@ pub(crate) fn routes_in<A: Allocator + Copy>(
     ensures { IfOk result (λ routes. routes.items ≡ filter (λ r. is_in part r.prefix) (routes_of map.now.pairs)) }
 {
     match part {
-        Part::All => map::routes(map, alloc, count),
-        Part::Within(prefix) => routes_within(map, alloc, prefix),
+        Part::All => map::routes(map.walk(), alloc, count),
+        Part::Within(prefix) => map::routes(map.within(prefix), alloc, 0),
         Part::Covering(prefix) => routes_covering(map, alloc, prefix),
         Part::Exact(prefix) => routes_to(map, alloc, prefix),
     }
-}
-
-/// The routes to the prefix and to the longer ones in it.
-fn routes_within<A: Allocator + Copy>(
-    map: &Map<A>,
-    alloc: A,
-    prefix: Prefix,
-) -> Result<Vec<Route, A>, Refused>
-    ensures { IfOk result (λ routes. routes.items ≡ filter (λ r. contains prefix r.prefix) (routes_of map.now.pairs)) }
-{
-    let mut routes = Vec::new(alloc);
-    append_walk(&mut routes, map.within(prefix))?;
-    Ok(routes)
 }
 
 /// The routes to the prefix and to the shorter ones that it lies in.

@@ -108,7 +108,7 @@ impl<A: Allocator + Copy> Table<A> {
         ensures table { IsTable self.now.routes }
     {
         let count = self.len();
-        map::routes(&self.map, alloc, count as usize)
+        map::routes(self.map.walk(), alloc, count as usize)
     }
 
     /// For each address, in order, the best route of the longest prefix that covers it, or `None` where no prefix covers it:

@@ -27,7 +27,7 @@ use Rattle.rt_rib.specs.declared.selection.Part.TheVariants as part
 use Rattle.rt_rib.specs.Selection.{is_in, is_by, selected}
 use Rattle.rt_rib.specs.Sequential.{reply_of, table_after, table_of_journal, IsAnswered, IsLawfulJournal}
 use Rattle.rt_rib.specs.Book.{IsLimit, TableState, TableContents, table_state, Serves, BookContents, OfferTrie, table_of, HoldsRoutes, HoldsTable, IsFeed, Applies, Refuses, Reserves}
-use Rattle.rt_rib.specs.Laws.{IsBestMatch, is_own, feed_entries, PutInAdds, TakeOutLeavesOthers, OneTableOfSet, LookUpFindsBest, AreMatches}
+use Rattle.rt_rib.specs.Laws.{IsBestMatch, is_own, feed_entries, PutInAdds, TakeOutLeavesOthers, OneTableOfSet, LookUpFindsBest, AreAllMatches}
 use Rattle.rt_rib.specs.Laws.{LookUpAllFindsMatches, BestRoutesSuffice, TableByEntry, LawfulByEntry, LawfulIsDetermined, asked, feed_routes, FeedsStandAlone}
 use Rattle.rt_rib.proofs.Tables.{IsTable-nil, IsTable-put_in}
 use Rattle.rt_rib.proofs.Sets.{Contains-cases, Contains-none}
@@ -843,34 +843,34 @@ a_look_up_finds_the_best_match :
     LookUpFindsBest → (addr : Addr) (table : List Route) → IsTable table → ((r : Route) → (look_up addr table ≡ Some r) ↔ IsBestMatch addr table r) × ((look_up addr table ≡ None) ↔ ((s : Route) → Contains table s → covers s.prefix addr ≡ false))
 a_look_up_finds_the_best_match law = law
 
--- AreMatches
-what_covers_in_order_are_the_matches : AreMatches at_10_2_3_4 (route ten_8 2 30 ∷ []) (route ten_8 2 30 ∷ [])
+-- AreAllMatches
+what_covers_in_order_are_the_matches : AreAllMatches at_10_2_3_4 (route ten_8 2 30 ∷ []) (route ten_8 2 30 ∷ [])
 unfolding look_up_all
 what_covers_in_order_are_the_matches =
     let both = (look_up_all_finds_matches at_10_2_3_4 (put_in (route ten_8 2 30) []) (IsTable-put_in (route ten_8 2 30) [] refl IsTable-nil)).0
     (route ten_8 2 30 ∷ []) in both.0 refl
 
-matches_leave_nothing_out : ¬ AreMatches at_10_2_3_4 nested (route ten_8 1 100 ∷ [])
+matches_leave_nothing_out : ¬ AreAllMatches at_10_2_3_4 nested (route ten_8 1 100 ∷ [])
 matches_leave_nothing_out h =
     elim (Contains-cases (route ten_8 1 100) [] (route everything 1 200) ((h.exactly (route everything 1 200)).1 ((0, omega arith, refl), refl))) [
       | inl same ↦ let beaten = ap (λ r. beats r (route everything 1 200)) same in cc
       | inr none ↦ Contains-none (route everything 1 200) none
     ]
 
-matches_cover_the_address : ¬ AreMatches at_198_51_100_7 (route ten_8 1 5 ∷ []) (route ten_8 1 5 ∷ [])
+matches_cover_the_address : ¬ AreAllMatches at_198_51_100_7 (route ten_8 1 5 ∷ []) (route ten_8 1 5 ∷ [])
 matches_cover_the_address h = let covered = ((h.exactly (route ten_8 1 5)).0 (0, omega arith, refl)).1 in cc
 
-matches_begin_with_the_longest : ¬ AreMatches at_10_2_3_4 nested (route everything 1 200 ∷ route ten_8 1 100 ∷ [])
+matches_begin_with_the_longest : ¬ AreAllMatches at_10_2_3_4 nested (route everything 1 200 ∷ route ten_8 1 100 ∷ [])
 matches_begin_with_the_longest h = let order = h.ordered 0 1 (route ten_8 1 100) (omega arith) (omega arith) in cc
 
 what_matches_are :
-    (addr : Addr) (table matches : List Route) → AreMatches addr table matches
+    (addr : Addr) (table matches : List Route) → AreAllMatches addr table matches
     ↔ (((r : Route) → Contains matches r ↔ (Contains table r × (covers r.prefix addr ≡ true))) × AllPairs (λ r s. beats r s ≡ true) matches)
 what_matches_are addr table matches = (λ h. (h.exactly, h.ordered), λ (exactly, ordered). record { exactly = exactly; ordered = ordered })
 
 -- LookUpAllFindsMatches
 a_look_up_of_all_finds_the_matches :
-    LookUpAllFindsMatches → (addr : Addr) (table : List Route) → IsTable table → ((matches : List Route) → (look_up_all addr table ≡ matches) ↔ AreMatches addr table matches) × (slice_get (look_up_all addr table) 0 ≡ look_up addr table)
+    LookUpAllFindsMatches → (addr : Addr) (table : List Route) → IsTable table → ((matches : List Route) → (look_up_all addr table ≡ matches) ↔ AreAllMatches addr table matches) × (slice_get (look_up_all addr table) 0 ≡ look_up addr table)
 a_look_up_of_all_finds_the_matches law = law
 
 -- BestRoutesSuffice

@@ -1,5 +1,5 @@
 -- What the search knows of the two tables from an address on.
-use Rattle.std.specs.Prelude.{◌≡◌, ◌≢◌, ℕ, ◌+◌, ◌^◌, ◌<◌, ◌≤◌, min, List, Option, None, Some}
+use Rattle.std.specs.Prelude.{◌≡◌, ◌≢◌, ℕ, ◌+◌, ◌^◌, ◌<◌, ◌≤◌, min, Option, None, Some}
 use Rattle.rt_cidr.specs.declared.address.Addr.{Addr}
 use Rattle.rt_diff.specs.declared.table_answers.By.{By}
 use Rattle.rt_diff.specs.declared.pieces.Piece.{Piece}
