@@ -22,6 +22,8 @@ import checks  # noqa: E402
 
 TOP = checks.TOP
 FOLDER = TOP / "bench" / "figures"
+# What tables and pictures say of the memory that was measured; of counts, and where only one thread uses any, nothing is kept.
+MEMORY = {"launcher": "; launcher's memory", "default": "; default memory", None: ""}
 # What the command line says, and the machine's clock and the time that its host kept from it when the measuring began.
 asked, began = argparse.Namespace(store=False, default_memory=False), None
 

@@ -77,7 +77,8 @@ def charts(title, unit, below, kinds, panels, kept):
         picture.path([(x, TOP + HEIGHT + 62), (x + 28, TOP + HEIGHT + 62)], colour, dash)
         picture.text(x + 36, TOP + HEIGHT + 66, name, "start", 12)
         x += 60 + 7 * len(name)
-    picture.text(LEFT, TOP + HEIGHT + 90, f"{kept['machine']}; {kept['made']}", "start", 11, QUIET)
+    said = f"{kept['machine']}{figures.MEMORY[kept.get('memory')]}; {kept['made']}"
+    picture.text(LEFT, TOP + HEIGHT + 90, said, "start", 11, QUIET)
     return picture
 
 
