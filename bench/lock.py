@@ -2,8 +2,8 @@
 """Times passages of the lock, of the same algorithm in C and of std's mutex, in turn.
 
 Needs rt, gcc and pthreads. Each case runs the program crates/benches, bench/lock.c and the mutex one after another, so
-many rounds, each with so many passages. For each case the least time of a passage is printed, in nanoseconds, and its
-ratio to C: time on the clock, and time of the processors (user and system).
+many rounds, each with so many passages. For each case the time of a passage is printed, in nanoseconds, and its ratio to
+C: on the clock, and of the processors (user and system). It is the least of one thread, and of several the middle one.
 """
 import os
 import pathlib
