@@ -1,10 +1,10 @@
 """The wrong bodies that crates list in must-fail/bodies.md, each with the function in which the prover refuses it."""
-import pathlib
 import re
 
-CRATES = pathlib.Path(__file__).resolve().parent.parent.parent / "crates"
+from .crates import CRATES
+from .rust_sources import Source
+
 FORM = re.compile(r"([\w-]+)\n\n```\nfile: (src/\S+\.rt)\n((?:old: .+\nnew:.*\n)+)refused in: ([\w:]+?)(?:: ([\w-]+))?\n```\n+")
-FUNCTION = re.compile(r"( *)(?:pub(?:\([^)]*\))? )?(?:const )?(?:unsafe )?(?:extern \"C\" )?fn (\w+)")
 
 
 class BadBody(Exception):
@@ -30,11 +30,14 @@ class Body:
         return text
 
     def places(self, text):
-        """The lines at which the functions begin whose text it changes, each with the function's name."""
+        """The lines at which the functions begin whose text it changes, each with the function's name, or with None at text that
+        is in no function."""
         found = set()
         for old, new in self.pairs:
             if text.count(old) == 1:
-                found.add(function_at(text.split("\n"), text[: text.index(old)].count("\n")))
+                line = text[: text.index(old)].count("\n")
+                function = Source(None, text).function_at(line)
+                found.add((function.start, function.name) if function else (line, None))
                 text = text.replace(old, new)
         return found
 
@@ -52,16 +55,6 @@ class Body:
         if {name for _, name in self.places(text)} != {self.function.rpartition("::")[2]}:
             return f"it changes more than the text of {self.function}, or other text"
         return None
-
-
-def function_at(lines, at):
-    """Where the function begins within whose text a line stands, and its name, or the line itself where it is in none."""
-    for start in range(at, -1, -1):
-        head = FUNCTION.match(lines[start])
-        if head:
-            ends = [line for line in range(start, at) if lines[line] == head[1] + "}" and lines[line + 1].strip() in ("", "}")]
-            return (at, None) if ends else (start, head[2])
-    return at, None
 
 
 def listing_crates(crates=CRATES):

@@ -10,8 +10,9 @@ import re
 import shutil
 import sys
 
-from .definition_reader import CRATES, TOP, constructors, crate_of, example_files, parse_module, uncommented
-from .prover import below, needs, said_by, said_of
+from .crates import CRATES, TOP, below, crate_of, needs
+from .definition_reader import constructors, example_files, parse_module, uncommented
+from .prover import said_by, said_of
 
 DECLARED = re.compile(r" *(?:(?:pub|abbrev|unfoldable|record|data) )*([^\s:(){}\[\],;]+)")
 WORD = re.compile(r"(?<![\w.'])[^\W\d][\w']*(?:-[\w']+)*")

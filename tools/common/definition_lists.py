@@ -1,8 +1,8 @@
 """The changes of definitions that crates list in must-fail/definitions.md, each with the example that refuses it."""
-import pathlib
 import re
 
-CRATES = pathlib.Path(__file__).resolve().parent.parent.parent / "crates"
+from .crates import CRATES
+
 LISTS = "*/must-fail/definitions.md"
 FORM = re.compile(r"([\w-]+)\n\n```\nfile: (specs/\S+)\n((?:old: .+\nnew:.*\n)+)refused by: (\S+)\n```\n+")
 

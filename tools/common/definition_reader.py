@@ -1,21 +1,19 @@
 """Definitions of specs/ and types of src/: where each stands, its lines, and what it speaks of. tools/statement, tools/reach,
 tools/lemmas, tools/hollow and tools/definitions are written over it."""
 import functools
-import pathlib
 import re
 import sys
 
-TOP = pathlib.Path(__file__).resolve().parent.parent.parent
-CRATES = TOP / "crates"
+from .crates import CRATES, crate_of, needs
+from .rust_sources import source, sources
 
 # The libraries that have definitions, in the order of crates.txt: each behind those that it stands on.
 LIBRARY_CRATES = tuple(
-    crate for crate in re.findall(r"^([a-z]\w*)(?: staticlib)?:", (TOP / "crates.txt").read_text(), re.M)
-    if (CRATES / crate / "specs").is_dir() and (CRATES / crate / "src/lib.rt").exists() and not crate.endswith("_tests"))
+    crate for crate in needs() if (CRATES / crate / "specs").is_dir() and (CRATES / crate / "src/lib.rt").exists() and not crate.endswith("_tests"))
 
 WORD = re.compile(r"(\.?)([^\W\d][\w'?]*(?:-[^\W\d][\w']*)*|\d+)|(\"(?:[^\"\\]|\\.)*\")|([^\s\w(){}\[\],;.\"'\\]+)")
 DECLARED = re.compile(r"(?:abbrev |unfoldable )?(?:pub )?(?:abbrev |unfoldable )?(?:(record|data|ruleset) )?([^\s:(){}]+)")
-RUST_ITEM = r"^(?:pub(?:\([^)]*\))? )?(?:struct|enum|trait|type|const) {name}\b"
+RUST_TYPES = ("struct", "enum", "trait", "type", "const")
 
 
 class Definition:
@@ -29,14 +27,6 @@ class Definition:
     def count(self):
         """How many lines it has, without those that are comments alone."""
         return sum(not line.strip().startswith(("--", "//")) for line in self.lines)
-
-
-def all_crates():
-    return sorted(path.parent.name for path in CRATES.glob("*/src"))
-
-
-def crate_of(file):
-    return file.relative_to(CRATES).parts[0]
 
 
 def uncommented(text):
@@ -148,61 +138,28 @@ def all_definitions(crate):
         yield from spec_module(module)[0].values()
 
 
-@functools.cache
-def rust_file(file):
-    text = file.read_text()
-    found = {}
-    for path in re.findall(r"(?m)^\s*(?:pub )?use ([^;]+);", re.sub(r"(?m)^\s*ghost use .*$", "", text)):
-        head, brace, inner = path.partition("{")
-        head = head.rstrip(":") if brace else head.rpartition("::")[0]
-        for item in (inner.rstrip("} \n").split(",") if brace else [path.rpartition("::")[2]]):
-            name, _, other = item.strip().partition(" as ")
-            if name:
-                found[(other or name).rpartition("::")[2]] = "::".join(part for part in (head, name) if part)
-    return text, found
-
-
-def sources(crate):
-    return sorted(file for file in (CRATES / crate / "src").rglob("*.rt") if "tests" not in file.parts[-2:])
+def is_type(item, name):
+    return item.name == name and item.kind in RUST_TYPES
 
 
 @functools.cache
 def rust_type(crate, name):
     """A struct, enum, trait, type or constant of the crate, as its source has it."""
-    for file in sources(crate):
-        lines = file.read_text().split("\n")
-        for number, line in enumerate(lines):
-            if re.match(RUST_ITEM.format(name=re.escape(name)), line):
-                return parse_rust_item(f"{crate}::{file.stem}.{name}", file, number, lines)
-    return None
+    return next((type_of(crate, item) for one in sources(crate) for item in one.items if is_type(item, name)), None)
 
 
-def parse_rust_item(key, file, number, lines):
-    start = number
-    while start and re.match(r"\s*(///|#\[)", lines[start - 1]):
-        start -= 1
-    comment = [line.strip()[3:].strip() for line in lines[start:number] if line.strip().startswith("///")]
-    body, depth = [], 0
-    for line in lines[number:]:
-        code = re.sub(r"//.*", "", line)
-        if line.strip() and not line.strip().startswith("#["):
-            body.append(line)
-        depth += code.count("{") + code.count("(") - code.count("}") - code.count(")")
-        if depth == 0 and re.search(r"[;}]\s*$", code):
-            break
-    name = key.rpartition(".")[2]
-    text = file.read_text()
-    model = re.search(r"(?ms)^impl(?:<[^{]*?>)? Model for " + name + r"\b.*?^}", text)
-    value = model and re.search(r"ghost Value = (\{.*?\});", model[0])
+def type_of(crate, item):
+    body = [line for line in item.written() if line.strip() and not line.strip().startswith("#[")]
+    model = next((other for other in item.source.items if other.kind == "impl" and other.of_impl() == ("Model", item.name)), None)
+    value = model and re.search(r"ghost Value = (\{.*?\});", "\n".join(model.written()))
     if value:
         body = [re.sub(r"\s*[{;].*", "", body[0]) + f" // contracts see it as {value[1]}"]
-    return Definition(key, file, number + 1, comment, body)
+    return Definition(f"{crate}::{item.file.stem}.{item.name}", item.file, item.start + 1, item.comment(), body)
 
 
 def rust_words(definition):
     """The words of a Rust type that are types of ours, and those of its ghost parts, but for what proves or stores a field."""
-    text, used = rust_file(definition.file)
-    ghosts = imports(text)
+    ghosts = imports(source(definition.file).text)
     code = "\n".join(re.sub(r"//(?! contracts see it as).*", "", line) for line in definition.lines)
     for word in re.findall(r"[A-Za-z_]\w*", re.sub(r"\} by \{[^}]*\}", "}", code)):
         if word in ghosts:
@@ -211,16 +168,16 @@ def rust_words(definition):
             yield from rust_named(definition.file, word)
 
 
+@functools.cache
 def rust_named(file, word):
     """The type that a word of a source file names, if it is one of ours."""
-    text, used = rust_file(file)
-    if re.search(RUST_ITEM.format(name=re.escape(word)), text, re.M):
-        yield rust_type(crate_of(file), word)
-    elif word in used:
-        crate, _, rest = used[word].partition("::")
+    if any(is_type(item, word) for item in source(file).items):
+        found = rust_type(crate_of(file), word)
+    else:
+        crate, _, rest = source(file).uses.get(word, "").partition("::")
         crate = crate_of(file) if crate == "crate" else crate
-        if (CRATES / crate).is_dir() and (found := rust_type(crate, rest.rpartition("::")[2])):
-            yield found
+        found = crate in needs() and rust_type(crate, rest.rpartition("::")[2])
+    return [found] if found else []
 
 
 def resolved(module, name):

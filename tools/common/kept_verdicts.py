@@ -8,10 +8,11 @@ import os
 import pathlib
 import tempfile
 
-from .definition_reader import CRATES, TOP
-from .prover import below, heads, kit, library
+from .crates import CRATES, TOP, below, heads
+from .prover import kit, library
 
-SCRIPTS = ("tools/bodies", *(f"tools/common/{name}.py" for name in ("body_lists", "definition_reader", "kept_verdicts", "prover")))
+READERS = ("body_lists", "crates", "kept_verdicts", "prover", "rust_sources")
+SCRIPTS = ("tools/bodies", *(f"tools/common/{name}.py" for name in READERS))
 
 
 def folder():

@@ -5,39 +5,13 @@ import functools
 import pathlib
 import subprocess
 
-from .definition_reader import CRATES, TOP
+from .crates import CRATES, below, is_static, needs
 
 
 @functools.cache
 def kit():
     """The folder of the toolchain whose `rt` is on PATH, where the page lies that it names."""
     return pathlib.Path(subprocess.run(["rt", "doc"], stdout=subprocess.PIPE, text=True, check=True).stdout.strip()).parent
-
-
-def heads():
-    """What stands before the colon of each line of crates.txt, a crate's name and perhaps its kind, and the words behind."""
-    lines = [line.partition("#")[0].partition(":") for line in (TOP / "crates.txt").read_text().splitlines()]
-    return [(head.split(), rest.split()) for head, _, rest in lines if head.strip()]
-
-
-def needs():
-    """The crates of crates.txt, each with what its line names."""
-    return {name: rest for (name, *_), rest in heads()}
-
-
-def is_static(crate):
-    return any(name == crate and "staticlib" in kind for (name, *kind), _ in heads())
-
-
-def below(crates):
-    """These crates and all on which they rest."""
-    known, found, waiting = needs(), set(), list(crates)
-    while waiting:
-        crate = waiting.pop()
-        if crate in known and crate not in found:
-            found.add(crate)
-            waiting += known[crate]
-    return found
 
 
 def library(crate):

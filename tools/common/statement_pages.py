@@ -4,11 +4,13 @@ import re
 import sys
 import textwrap
 
+from .crates import CRATES, TOP, all_crates
 from .definition_reader import (
-    CRATES, LIBRARY_CRATES, TOP, Definition, all_definitions, example_files, imports, parse_module, resolved, rests_on,
-    rust_file, rust_named, sources, uncommented, unique, words_of,
+    LIBRARY_CRATES, Definition, all_definitions, example_files, imports, parse_module, resolved, rests_on, rust_named,
+    uncommented, unique, words_of,
 )
 from .public_clauses import judged_crates, public_clauses, words
+from .rust_sources import source, sources
 
 
 class Chapter:
@@ -250,7 +252,7 @@ class Tie:
         self.comment = []
 
     def rests_on(self):
-        ghosts = imports(rust_file(self.file)[0])
+        ghosts = imports(source(self.file).text)
         return [one for one in unique(words_of("\n".join(self.lines[1:-1]), {}, ghosts)) if isinstance(one, Definition)]
 
 
@@ -260,56 +262,32 @@ class Clause:
     def __init__(self, said):
         path, _, label = said.partition(".")
         parts = path.split("::")
-        self.said, self.crate, self.function = said, parts[0], parts[-1]
-        if len(parts) < 3 or not (CRATES / self.crate).is_dir():
+        if len(parts) < 3 or parts[0] not in all_crates():
             sys.exit(f"tools/statement: {said}: not CRATE::MODULE::FUNCTION or CRATE::TYPE::FUNCTION")
-        self.owner = owner = parts[-2]
-        for file in sources(self.crate):
-            text = file.read_text()
-            lines = text.split("\n")
-            within = None
-            for number, line in enumerate(lines):
-                if (match := re.match(r"impl(?:<.*>)? (\w+)", line)) and " for " not in line:
-                    within = match[1]
-                elif line.startswith("}"):
-                    within = None
-                named = re.match(r"\s*pub (?:const |extern \"C\" )?fn " + self.function + r"\b", line)
-                if named and owner in (within, None if within else file.stem):
-                    self.read(file, number, lines, label)
-                    return
-        sys.exit(f"tools/statement: no public function {said}")
-
-    def read(self, file, number, lines, label):
-        self.file, self.line = file, number + 1
-        start = number
-        while start and re.match(r"\s*(///|#\[)", lines[start - 1]):
-            start -= 1
-        self.comment = [line.strip()[3:].strip() for line in lines[start:number] if line.strip().startswith("///")]
-        margin = len(lines[number]) - len(lines[number].lstrip())
-        head, clauses = [], []
-        for line in lines[number:]:
-            if re.match(r"\s*\{(\s*\}?\s*$)", line) and len(line) - len(line.lstrip()) == margin:
-                break
-            line = line[margin:]
+        self.said, self.owner = said, parts[-2]
+        function = public_function(parts[0], *parts[-2:])
+        if not function:
+            sys.exit(f"tools/statement: no public function {said}")
+        self.file, self.line, self.comment = function.file, function.start + 1, function.comment()
+        self.head, self.clauses = [], []
+        for line in function.written()[:function.clauses_end()]:
+            line = line[function.margin:]
             if re.match(r"\s*(requires|ensures)\b", line):
-                clauses.append([line])
-            elif clauses:
-                clauses[-1].append(line)
+                self.clauses.append([line])
             else:
-                head.append(line)
+                (self.clauses[-1] if self.clauses else self.head).append(line)
         if label:
-            clauses = [clause for clause in clauses if re.match(rf"\s*(requires\b|ensures\*? {label}\b)", clause[0])]
-            if not any("ensures" in clause[0] for clause in clauses):
-                sys.exit(f"tools/statement: {self.said}: no such label")
-        self.lines = head + [line for clause in clauses for line in clause]
-        self.head, self.clauses = head, clauses
+            self.clauses = [one for one in self.clauses if re.match(rf"\s*(requires\b|ensures\*? {label}\b)", one[0])]
+            if not any("ensures" in clause[0] for clause in self.clauses):
+                sys.exit(f"tools/statement: {said}: no such label")
+        self.lines = self.head + [line for clause in self.clauses for line in clause]
 
     def rests_on(self):
-        text, used = rust_file(self.file)
-        ghosts = imports(text)
+        ghosts = imports(source(self.file).text)
         terms = "\n".join(re.sub(r"^\s*(requires|ensures)\*?( \w+)? \{", "{", "\n".join(clause)) for clause in self.clauses)
         found = list(words_of(terms, {}, ghosts))
-        rust = re.findall(r"[A-Z]\w*", "\n".join(self.head)) + [self.owner] * bool(re.search(r"\bself\b", "\n".join(self.head)))
+        head = "\n".join(self.head)
+        rust = re.findall(r"[A-Z]\w*", head) + [self.owner] * bool(re.search(r"\bself\b", head))
         for term in re.findall(r"⟦(.*?)⟧", terms, re.S):
             rust += re.findall(r"[A-Z]\w*", term)
         rust += [word for word in re.findall(r"(?<![\w.])[A-Z]\w*", terms) if word not in ghosts]
@@ -318,9 +296,10 @@ class Clause:
         return unique(found)
 
 
-def has_function(said):
-    crate, *_, function = said.split("::")
-    return any(re.search(rf"\bpub (?:extern \"C\" )?fn {function}\b", file.read_text()) for file in sources(crate))
+def public_function(crate, owner, name):
+    """The function of this name that is of this type, or of no type in a file of this name."""
+    return next((one for source in sources(crate) for one in source.functions
+                 if one.is_pub and one.name == name and owner == (one.owner or source.file.stem)), None)
 
 
 def in_order(speakers, known, brief=()):
@@ -559,27 +538,11 @@ def page_text(lines):
 class Speaker:
     """A public clause of a library, as public_clauses finds it."""
 
-    def __init__(self, file, name, found):
-        self.file, self.name, self.found = file, name, list(found)
-        self.line = line_of(file, name)
+    def __init__(self, item, name, text):
+        self.file, self.line, self.name, self.found = item.file, item.start + 1, name, words(item.file, text)
 
     def rests_on(self):
         return self.found
-
-
-def line_of(file, name):
-    """Where an item stands: a function of an owner behind the head of an `impl` of it."""
-    owner, _, item = name.rpartition("::")
-    inside = not owner
-    for number, line in enumerate(file.read_text().split("\n"), 1):
-        if owner and re.match(rf"impl\b.*\b{owner}\b", line):
-            inside = True
-        elif line.startswith("}"):
-            inside = not owner
-        words = r"(?:const|ghost|extern \"C\"|fn|struct|enum|trait|type)"
-        if inside and re.match(rf"\s*(?:pub(?:\([^)]*\))? )?(?:{words} )*{item}\b", line):
-            return number
-    return 1
 
 
 def sentence_of(crate):
@@ -594,7 +557,7 @@ def sentence_of(crate):
 
 def library_chapter(crate, written):
     """A library's definitions that stand on no page yet, below a list of the clauses that speak of them."""
-    speakers = [Speaker(file, name, words(file, text)) for file, name, text in public_clauses(crate)]
+    speakers = [Speaker(*clause) for clause in public_clauses(crate)]
     ties = [Tie(*tie) for tie in VIEWS.get(crate, ())]
     out, new = definitions_of(speakers + ties, written, (), "../")
     keys = {one.key for one in new if one.file.suffix == ".antt"}

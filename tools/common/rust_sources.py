@@ -1,0 +1,196 @@
+"""Sources in Rust: their code without comments, what they use, and their items and functions, each with its comment, its
+attributes and its place. An item is read by how `rt fmt` lays it out."""
+import functools
+import re
+
+from .crates import CRATES
+
+COMMENT_OR_LITERAL = re.compile(r' *//.*|"(?:[^"\\]|\\(?s:.))*"|\'(?:[^\'\\]|\\.)\'')
+HEAD = re.compile(r"(pub(?:\([^)]*\))? )?(?:unsafe |const |async |extern \"C\" )*"
+                  r"(fn|struct|enum|trait|impl|type|const|static|mod|use|ghost(?! use))\b[ <]*(\w*)")
+# How a line begins that goes on with the item above it: it is indented further, or ends its brackets, or begins its body.
+GOES_ON = re.compile(r"[\s{}()\]]|where\b|$")
+
+
+def code_of(text, emptied=False):
+    """The text without its comments. Each literal, which may contain anything, is emptied, or has all its lines indented."""
+    def kept(found):
+        if found[0].lstrip().startswith("//"):
+            return ""
+        return found[0][0] * 2 if emptied else found[0].replace("\n", "\n" + " " * 16)
+    return COMMENT_OR_LITERAL.sub(kept, text)
+
+
+def indent_of(line):
+    return len(line) - len(line.lstrip())
+
+
+class Item:
+    """An item of a source, or a member of one: its lines of code, and the type or trait around it."""
+
+    def __init__(self, source, head, start, margin, owner):
+        self.source, self.file, self.start, self.margin, self.owner = source, source.file, start, margin, owner
+        self.kind, self.name = head[2], head[3]
+        self.is_pub = self.kind == "ghost" or head[1] == "pub "
+
+    def end_at(self, end):
+        """Gives it the lines above this one, but for empty ones at the end."""
+        while not self.source.code[end - 1].strip():
+            end -= 1
+        self.end, self.lines = end, self.source.code[self.start:end]
+        return self
+
+    def written(self):
+        """Its lines with their comments."""
+        return self.source.lines[self.start:self.end]
+
+    def above(self):
+        """The lines of its comment and its attributes, which stand right above it."""
+        start = self.start
+        while start and re.match(r" *(///|#\[)", self.source.lines[start - 1]):
+            start -= 1
+        return [line.strip() for line in self.source.lines[start:self.start]]
+
+    def comment(self):
+        return [line[3:].strip() for line in self.above() if line.startswith("///")]
+
+    def attributes(self):
+        return [line for line in self.above() if line.startswith("#[")]
+
+    def is_for_tests(self):
+        return "#[cfg(test)]" in self.attributes()
+
+    def clauses_end(self):
+        """At which of its lines a function's body begins: behind its head and its clauses."""
+        for number, line in enumerate(self.lines):
+            is_own = line.lstrip().startswith("{")
+            if indent_of(line) == self.margin and (is_own or line.rstrip().endswith("{")):
+                return number if is_own else number + 1
+        return len(self.lines)
+
+    def of_impl(self):
+        """The trait of an impl, if it is of one, and its type."""
+        head = " ".join(line.strip() for line in self.lines).partition("{")[0]
+        head = re.sub(r"^(unsafe )?impl\s*", "", head)
+        if head.startswith("<"):
+            head = head[closing(head, 0, "<>"):].strip()
+        trait, parted, owner = head.rpartition(" for ")
+        owner = re.match(r"&?(?:mut )?(\w+)", owner.strip())[1]
+        return (re.match(r"(?:\w+::)*(\w+)", trait.strip())[1] if parted else None), owner
+
+    def members(self):
+        """What stands in an impl, a trait or a module."""
+        owner = self.of_impl()[1] if self.kind == "impl" else self.name if self.kind == "trait" else None
+        return list(self.source.items_at(self.margin + 4, self.start + 1, self.end, owner))
+
+
+class Source:
+    """A source file, or another text of it: its lines, and the same without comments."""
+
+    def __init__(self, file, text=None):
+        self.file, self.text = file, file.read_text() if text is None else text
+        self.lines, self.code = self.text.split("\n"), code_of(self.text).split("\n")
+
+    def items_at(self, margin, start, end, owner=None):
+        """The items that begin at this margin between these lines."""
+        current = None
+        for number in range(start, end):
+            line = self.code[number]
+            is_within = not line[:margin].strip()
+            head = is_within and HEAD.match(line, margin)
+            if current and (head or not (is_within and GOES_ON.match(line, margin))):
+                yield current.end_at(number)
+                current = None
+            if head:
+                current = Item(self, head, number, margin, owner)
+        if current:
+            yield current.end_at(end)
+
+    @functools.cached_property
+    def items(self):
+        return list(self.items_at(0, 0, len(self.code)))
+
+    @functools.cached_property
+    def functions(self):
+        """All functions, also those in impls, traits and modules."""
+        found, waiting = [], list(self.items)
+        while waiting:
+            item = waiting.pop(0)
+            if item.kind == "fn":
+                found.append(item)
+            elif item.kind in ("impl", "trait", "mod"):
+                waiting = item.members() + waiting
+        return found
+
+    def function_at(self, line):
+        """The function in which this line stands, from 0."""
+        return next((one for one in self.functions if one.start <= line < one.end), None)
+
+    @functools.cached_property
+    def uses(self):
+        """What each word stands for that a `use` takes."""
+        text = re.sub(r"(?m)^\s*ghost use .*$", "", self.text)
+        return {other.rpartition("::")[2]: "::".join(part for part in (path, name) if part)
+                for use in re.findall(r"(?m)^\s*(?:pub )?use ([^;]+);", text) for path, name, other in taken_by(use)}
+
+    def code_but_tests(self):
+        """The lines of code that aren't for tests alone."""
+        tests = [item for item in self.items if item.is_for_tests()]
+        return [line for number, line in enumerate(self.code) if not any(one.start <= number < one.end for one in tests)]
+
+
+def closing(text, start, pair):
+    """The index behind the bracket that closes the one at the start."""
+    depth = 0
+    for index in range(start, len(text)):
+        depth += (text[index] == pair[0]) - (text[index] == pair[1] and text[index - 1] != "-")
+        if not depth:
+            return index + 1
+    return len(text)
+
+
+def taken_by(use):
+    """What a `use` takes: each path, the name in it, and its name here."""
+    head, brace, inner = use.partition("{")
+    path = head.rstrip(":") if brace else head.rpartition("::")[0]
+    for item in inner.rstrip("} \n").split(",") if brace else [use.rpartition("::")[2]]:
+        name, _, other = item.strip().partition(" as ")
+        if name:
+            yield path, name, other or name
+
+
+@functools.cache
+def source(file):
+    return Source(file)
+
+
+def sources(crate):
+    """The sources of a crate that aren't in a folder of tests."""
+    return [source(file) for file in sorted((CRATES / crate / "src").rglob("*.rt")) if "tests" not in file.parts[-2:]]
+
+
+def modules_below(file, folder, is_test=False):
+    """A source and those of its modules, which lie in the folder, each with whether it is for tests alone."""
+    yield source(file), is_test
+    for item in source(file).items:
+        if item.kind == "mod" and item.lines[0].endswith(";"):
+            for path in (folder / f"{item.name}.rt", folder / item.name / "mod.rt"):
+                if path.exists():
+                    yield from modules_below(path, folder / item.name, is_test or item.is_for_tests())
+
+
+def root_of(crate):
+    src = CRATES / crate / "src"
+    return src / "lib.rt" if (src / "lib.rt").exists() else src / "main.rt"
+
+
+@functools.cache
+def modules(crate):
+    """The sources of a crate, each with whether it is for tests alone."""
+    return list(modules_below(root_of(crate), CRATES / crate / "src"))
+
+
+@functools.cache
+def items_of(crate):
+    """The items of a crate that are no tests'."""
+    return [item for one, is_test in modules(crate) if not is_test for item in one.items if not item.is_for_tests()]
