@@ -1,3 +1,3 @@
 -- What no public clause speaks of.
-pub mod HeldVisits
+pub mod JournalTold
 pub mod TallyLaws

@@ -1,7 +1,10 @@
 //! `rt_feed`: a feed's text through a gate of one's own, here to a book that no other feed shares.
-ghost use Rattle.std.specs.Prelude.{◌≡◌, ◌++◌, IfOk, All};
-ghost use Rattle.rt_shared.specs.Visits.{entries, reply_to};
+ghost use Rattle.std.specs.Prelude.{◌≡◌, [], ◌∷◌, ◌++◌, IfOk, All};
+ghost use Rattle.std.proofs.Common.{sym, ◌∙◌, append-nil};
+ghost use Rattle.rt_shared.specs.Visits.{reply_to};
+ghost use Rattle.rt_feed.specs.Visits.{concatenated};
 ghost use Rattle.walkthrough.specs.Gate.{IsRunOf};
+ghost use Rattle.walkthrough.specs.inside.JournalTold.{told};
 
 use rt_feed::{Gate, Outcome, Report, run_feed};
 use rt_rib::{Book, Cmd, Refused, Reply};
@@ -11,7 +14,7 @@ use std::sync::Wait;
 /// How many routes the feed may have here.
 const LIMIT: u32 = 10;
 
-/// Answers feed 1 by a book of its own. It holds the visits whose commands and replies its journal has.
+/// Answers feed 1 by a book of its own. It holds the visits whose commands and replies its journal tells.
 #[derive(Drop)]
 pub struct OwnBook {
     /// The book.
@@ -22,7 +25,7 @@ pub struct OwnBook {
 impl OwnBook {
     /// Answers a command, or tells that it was refused.
     fn serve(&mut self, cmd: Cmd) -> Outcome
-        ensures { self.new.book.journal ≡ self.old.book.journal ++ entries 1 (reply_to cmd result) }
+        ensures { told self.new.book.journal ≡ told self.old.book.journal ++ reply_to cmd result }
     {
         match self.book.apply(1, cmd) {
             Ok(reply) => Outcome::Did(reply),
@@ -32,18 +35,15 @@ impl OwnBook {
 }
 
 impl Gate for OwnBook {
-    ghost use Rattle.walkthrough.specs.Gate.{HasVisits};
-    ghost use Rattle.walkthrough.specs.inside.HeldVisits.{all_in_one, one_list};
-
     ghost Name = { Unit {0} };
 
     ghost name = { λ _. tt };
 
-    ghost holds = { λ gate visits. HasVisits gate.book.journal visits };
+    ghost holds = { λ gate visits. told gate.book.journal ≡ concatenated visits };
 
-    ghost holds_some = { λ gate. all_in_one gate.book.journal gate.by_feed_1 };
+    ghost holds_some = { λ gate. (told gate.book.journal ∷ [], sym (append-nil (told gate.book.journal))) };
 
-    ghost holds_one = { λ gate one two. one_list gate.book.journal one two };
+    ghost holds_one = { λ _ _ _ a b. sym a ∙ b };
 
     fn apply<R: Wait>(&mut self, _rt: &R, cmd: Cmd) -> Result<Reply, Refused> {
         self.book.apply(1, cmd)

@@ -14,6 +14,7 @@ mod shared;
 mod trie;
 
 use anyhow::Result;
+use lock::Tally;
 use rt_cidr::{Addr, Prefix};
 use rt_feed::{write_report, write_table};
 use rt_rib::{Book, Cmd, Hop, Reply};
@@ -109,12 +110,7 @@ fn tell_schedules<W: Write>(alloc: Global, out: &mut W) -> Result<()> {
     Ok(())
 }
 
-fn tell_counts<R: Threads + Wait + Sync, W: Write>(
-    rt: &R,
-    alloc: Global,
-    out: &mut W,
-) -> Result<()> {
-    let tally = lock::count_both(rt, alloc, 1_000)?;
+fn tell_counts<W: Write>(tally: &Tally, out: &mut W) -> Result<()> {
     let (first, second) = (tally.first, tally.second);
     writeln!(out, "place 0 counted {first}, place 1 {second}")?;
     Ok(())
@@ -161,7 +157,7 @@ fn main(rt: HostRuntime) -> Result<()> {
     tell_difference(alloc, &mut out)?;
     tell_forwarding(alloc, &mut out)?;
     tell_schedules(alloc, &mut out)?;
-    tell_counts(&rt, alloc, &mut out)?;
+    tell_counts(&lock::count_both(&rt, alloc, 1_000)?, &mut out)?;
     tell_shared(&rt, alloc, &mut out)?;
     tell_readers(&rt, alloc, &mut out)?;
     tell_gate(&rt, alloc, &mut out)

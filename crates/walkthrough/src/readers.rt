@@ -4,7 +4,7 @@ ghost use Rattle.std.specs.Prelude.{◌≡◌, IfOk, IfSome, OnOk};
 ghost use Rattle.rt_rib.specs.Book.{IsFeed, table_of};
 
 use crate::fib::follow;
-use crate::shared::{ask, table_of_two};
+use crate::shared::{LIMIT, ask, table_of_two};
 use fib_readers::{FibReader, FibWriter};
 use rt_cidr::Addr;
 use rt_fib::Fib;
@@ -16,9 +16,6 @@ use std::thread::{self, JoinHandle, Threads};
 
 /// How many threads read.
 const READERS: usize = 2;
-
-/// How many routes a feed may have in the writer's book.
-const LIMIT: u32 = 10;
 
 /// The first route of this feed that a reader finds to the address, or none where the writer ends before. It may ask forever.
 fn find<R: Wait>(rt: &R, reader: FibReader, addr: Addr, feed: u32) -> Option<Route>

@@ -11,7 +11,7 @@ use std::alloc::Global;
 use std::sync::Wait;
 
 /// How many routes a feed may have here.
-const LIMIT: u32 = 10;
+pub(crate) const LIMIT: u32 = 10;
 
 /// A table of two feeds, and the pass of each.
 pub(crate) fn table_of_two(alloc: Global) -> Result<(SharedRib<1>, FeedPass, FeedPass), Refused>
