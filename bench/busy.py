@@ -14,7 +14,7 @@ import sys
 import tempfile
 
 import figures
-from figures import checks
+import checks
 from inputs import changing_table, deal, write
 from timed import measure
 

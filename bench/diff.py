@@ -16,7 +16,7 @@ import tempfile
 import time
 
 import figures
-from figures import checks
+import checks
 from table_model import dotted
 
 # How many of a hundred prefixes are of this length.

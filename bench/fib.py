@@ -16,7 +16,7 @@ import sys
 import tempfile
 
 import figures
-from figures import checks
+import checks
 from others import built_lpm, drawn, has_patricia, patricia_rows, printed, radix_rows, write_input
 
 ASKED = 1 << 20

@@ -16,11 +16,11 @@ import subprocess
 import sys
 import time
 
+sys.path.append(str(pathlib.Path(__file__).resolve().parents[1] / "tools"))
+from common.crates import TOP
 # What judges the program knows how it is built and how the launchers start it.
-sys.path.append(str(pathlib.Path(__file__).resolve().parent.parent / "tests"))
-import checks  # noqa: E402
+import checks
 
-TOP = checks.TOP
 FOLDER = TOP / "bench" / "figures"
 # What tables and pictures say of the memory that was measured; of counts, and where only one thread uses any, nothing is kept.
 MEMORY = {"launcher": "; launcher's memory", "default": "; default memory", None: ""}
@@ -39,10 +39,14 @@ def reader(about, **numbers):
 
 
 def begin(reader):
-    """Reads the command line. All programs that are started from then on have the memory that is measured, and the bench says
-    which."""
+    """Begins with what the command line says."""
+    return begun(reader.parse_args())
+
+
+def begun(words):
+    """All programs that are started from now on have the memory that is measured, and the bench says which."""
     global asked, began
-    asked = reader.parse_args()
+    asked = words
     if asked.store and (others := working_processors()) > 0.5:
         sys.exit(f"{sys.argv[0]}: {others:.1f} processors work for others; figures are kept of a quiet machine alone")
     for name, value in checks.LAUNCHED.items():

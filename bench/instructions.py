@@ -11,7 +11,7 @@ import subprocess
 import tempfile
 
 import figures
-from figures import checks
+import checks
 from inputs import one_prefix, real_table
 
 # The first that is found in a function's name tells its part.

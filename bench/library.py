@@ -16,7 +16,7 @@ import sys
 import tempfile
 
 import figures
-from figures import checks
+import checks
 from others import built_lpm, drawn, each, has_patricia, patricia_rows, printed, radix_rows, write_input
 
 ASKED = 1 << 17
@@ -88,7 +88,6 @@ def measured(folder, programs, benches, pairs, asked):
 def main():
     words = figures.begin(figures.reader(__doc__, rounds=3, prefixes=500_000))
     os.environ["YARIB_LIBRARY"] = str(BINDINGS / "out/libyarib.so.0")
-    sys.path.insert(0, str(BINDINGS / "python"))
     pairs, asked = drawn(words.prefixes, ASKED)
     with tempfile.TemporaryDirectory() as name:
         folder = pathlib.Path(name)

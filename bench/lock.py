@@ -13,7 +13,7 @@ import sys
 import tempfile
 
 import figures
-from figures import checks
+import checks
 
 ALONE = [(levels, 1) for levels in range(1, 7)]
 TOGETHER = [(1, 2), *((levels, threads) for levels in range(2, 7) for threads in (2, 4)), (6, 16), (6, 64)]

@@ -6,7 +6,7 @@ import subprocess
 import sys
 import time
 
-from figures import checks
+import checks
 from table_model import dotted
 
 # What the benches in Rattle draw: a length by a number below 1000.

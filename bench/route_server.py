@@ -15,7 +15,7 @@ import sys
 import tempfile
 
 import figures
-from figures import checks
+import checks
 from inputs import add, count_lines, real_prefixes, write
 from table_model import dotted
 from timed import measure, measured, shown

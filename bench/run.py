@@ -12,7 +12,7 @@ import sys
 import tempfile
 
 import figures
-from figures import checks
+import checks
 from inputs import changing_table, count_lines, deal, one_prefix, real_table, write
 from timed import measure, measured, shown
 

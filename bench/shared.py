@@ -12,7 +12,7 @@ import subprocess
 import sys
 
 import figures
-from figures import checks
+import checks
 
 CASES = [(threads, batch) for threads in (1, 4, 16, 64) for batch in (1, 16, 256)]
 ON_TWO = [(threads, batch) for threads in (2, 64) for batch in (1, 256)]

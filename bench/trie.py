@@ -14,7 +14,7 @@ import sys
 import tempfile
 
 import figures
-from figures import checks
+import checks
 
 
 def timed(program, prefixes):

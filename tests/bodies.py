@@ -53,8 +53,6 @@ def listed(name, old, new, function):
 
 # Tells what is kept of two bodies of a crate, and keeps that the first was refused.
 KEEPS = """
-import sys
-sys.path.insert(0, "tools")
 from common.body_lists import bodies_of
 from common.kept_verdicts import Kept
 kept, (one, other, *_) = Kept("rt_cidr"), bodies_of("rt_cidr")
@@ -71,8 +69,8 @@ def wrongly_kept():
         shutil.copytree(TOP / "tools", top / "tools")
         shutil.copytree(TOP / "crates/rt_cidr", top / "crates/rt_cidr", ignore=shutil.ignore_patterns("out"))
         shutil.copy(TOP / "crates.txt", top)
-        call = lambda: subprocess.run([sys.executable, "-c", KEEPS], cwd=top, env=os.environ | {"XDG_CACHE_HOME": room},
-                                      stdout=subprocess.PIPE, text=True).stdout.strip()
+        how = {"cwd": top, "env": os.environ | {"XDG_CACHE_HOME": room, "PYTHONPATH": "tools"}}
+        call = lambda: subprocess.run([sys.executable, "-c", KEEPS], **how, stdout=subprocess.PIPE, text=True).stdout.strip()
         if (call(), call()) != ("None None", "kept None"):
             wrong.append("what is kept")
         cidr = top / "crates/rt_cidr"

@@ -11,7 +11,9 @@ import tempfile
 import threading
 import traceback
 
-TOP = pathlib.Path(__file__).resolve().parent.parent
+sys.path.append(str(pathlib.Path(__file__).resolve().parents[1] / "tools"))
+from common.crates import TOP
+
 # What the launchers set before the program starts, as ./yarib's own line says it: one arena of large pages for all threads.
 LAUNCHED = {"GLIBC_TUNABLES": re.search(r'^export GLIBC_TUNABLES="(.*?)\$', (TOP / "yarib").read_text(), re.M)[1]}
 

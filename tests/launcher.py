@@ -15,6 +15,7 @@ import tempfile
 import time
 
 from checks import TOP, chosen, compiled, end, expect, run, run_case, text_of
+from common.crates import all_crates, below
 
 # Notes the beginning and the end of each call in $NOTES, in whose order they happened.
 STANDIN = """#!/bin/sh
@@ -29,12 +30,6 @@ echo "end $crate" >>"$NOTES"
 """
 # What the launcher sets of glibc's memory.
 TUNABLES = "glibc.malloc.arena_max=1:glibc.malloc.hugetlb=1"
-NEEDS = dict(re.findall(r"^([a-z]\w*):(.*)$", (TOP / "crates.txt").read_text(), re.M))
-
-
-def needed(crate):
-    """The crates of the repository that a crate stands on, itself too."""
-    return {crate}.union(*(needed(need) for need in NEEDS[crate].split() if need in NEEDS))
 
 
 class Copy:
@@ -42,7 +37,7 @@ class Copy:
 
     def __init__(self, made, tools, name):
         self.top, self.notes, self.tools = made / name, made / f"{name}.notes", tools
-        for crate in NEEDS:
+        for crate in all_crates():
             root = "src/main.rt" if crate == "rt_app" else "src/lib.rt"
             for file in (root, "specs/S.antt", "proofs/P.antt", "must-fail/m.edit"):
                 path = self.top / "crates" / crate / file
@@ -126,7 +121,7 @@ def what_is_built_anew(copy):
         copy.touch(name)
         expect(f"built where {name} is newer", len(copy.built_by_call()), whole)
         expect(f"not built again where {name} was newer", copy.built_by_call(), [])
-    others = [f"crates/{crate}/src/lib.rt" for crate in sorted(set(NEEDS) - needed("rt_app"))]
+    others = [f"crates/{crate}/src/lib.rt" for crate in sorted(set(all_crates()) - below(["rt_app"]))]
     for name in ("crates/rt_trie/must-fail/m.edit", *others, "crates/rt_trie/out/rlib", "README.md", "tests/rows.py"):
         copy.touch(name)
         expect(f"not built where {name} is newer", copy.built_by_call(), [])
@@ -139,9 +134,9 @@ def what_is_built_anew(copy):
 def in_order(copy):
     status, _, err = copy.start("x")
     noted = copy.built()
-    expect("what is proved", ({note.split()[1] for note in noted}, status), (needed("rt_app"), 0))
-    for crate in sorted(needed("rt_app")):
-        for need in sorted(needed(crate) - {crate}):
+    expect("what is proved", ({note.split()[1] for note in noted}, status), (below(["rt_app"]), 0))
+    for crate in sorted(below(["rt_app"])):
+        for need in sorted(below([crate]) - {crate}):
             is_after = f"end {need}" in noted and noted.index(f"begin {crate}") > noted.index(f"end {need}")
             expect(f"{crate} begins when {need} has ended", is_after, True)
         expect(f"{crate} is told of", bool(re.search(rf"\b{crate}\b", err)), True)

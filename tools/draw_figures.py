@@ -5,14 +5,10 @@ Usage: tools/draw_figures.py [--check]. Writes time_by_prefixes.svg, time_by_fee
 lock_by_threads.svg and trie_by_size.svg into docs/pictures/, or with --check compares them with what it would write. Each axis
 begins at zero, but for the lower ones, which have one place for each number that was measured.
 """
-import pathlib
 import statistics
-import sys
 
 from common.picture import BLUE, GREEN, QUIET, Picture, settle
-
-sys.path.insert(0, str(pathlib.Path(__file__).resolve().parent.parent / "bench"))
-import figures  # noqa: E402
+import figures
 
 ORANGE = "#b3541e"
 # Of a panel, in a picture of so many.

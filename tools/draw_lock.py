@@ -6,15 +6,13 @@
 
 It writes tree.svg (the arbitration tree with the words of one passage) and handshake.svg (two places at one node) into
 docs/pictures/, or with --check compares them with what it would write."""
-import pathlib
 import re
 import subprocess
 import sys
 
-TOP = pathlib.Path(__file__).resolve().parent.parent
-FOLDER = TOP / "docs/pictures"
+from common.picture import FOLDER, PROGRAM
+
 CHECK = "--check" in sys.argv
-PROGRAM = next((word for word in sys.argv[1:] if word != "--check"), str(TOP / "yarib"))
 STEP = re.compile(r"(\d+) p(\d+) (([CTP])(\d+)\.(\d+)(?:\.(\d+))?) (:=|=) (\d+)(?: (inside|out))?$")
 STYLE = "font-family='Helvetica, Arial, sans-serif' font-size='13' fill='#222'"
 COLOURS = ["#1f5fa8", "#b3541e"]

@@ -5,18 +5,13 @@ Usage: tools/draw_map.py [--check] [PROGRAM]. Without a program it runs ./yarib 
 Writes map.svg into docs/pictures/, or with --check compares it with what it would write.
 """
 import io
-import pathlib
 import subprocess
-import sys
 
-TOP = pathlib.Path(__file__).resolve().parent.parent
-sys.path.insert(0, str(TOP / "examples/map"))
-sys.dont_write_bytecode = True
+from common.crates import TOP
+from common.picture import INK, PROGRAM, QUIET, Picture, settle
 import chart
 import reading
-from common.picture import INK, QUIET, Picture, settle
 
-PROGRAM = next((word for word in sys.argv[1:] if word != "--check"), TOP / "yarib")
 COLOURS = dict(chart.named(chart.SCHEMES["light"]))
 # the blocks of a map have 16 in a row
 BLOCK, ACROSS = 18, 16

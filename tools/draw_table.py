@@ -4,16 +4,13 @@
 Usage: tools/draw_table.py [--check] [PROGRAM]. Without a program it runs ./yarib at the top of the repository.
 Writes trie.svg and way.svg into docs/pictures/, or with --check compares them with what it would write.
 """
-import pathlib
-import re
 import subprocess
 import sys
 import tempfile
 
-from common.picture import BLUE, GREEN, INK, PALE_GREEN, QUIET, Picture, settle
-
-TOP = pathlib.Path(__file__).resolve().parent.parent
-PROGRAM = next((word for word in sys.argv[1:] if word != "--check"), TOP / "yarib")
+from common.picture import BLUE, GREEN, INK, PALE_GREEN, PROGRAM, QUIET, Picture, settle
+from common.rust_sources import sources
+from table_model import block, dotted
 
 
 def yarib(*words):
@@ -28,13 +25,7 @@ def prefixes(commands):
         feed.flush()
         printed = yarib("run", feed.name).split("table ", 1)[1].splitlines()[1:]
     for route in printed:
-        base, length = route.split()[0].split("/")
-        octets = [int(octet) for octet in base.split(".")]
-        yield sum(octet << 24 - 8 * place for place, octet in enumerate(octets)), int(length)
-
-
-def name(base, length):
-    return ".".join(str(base >> shift & 255) for shift in (24, 16, 8, 0)) + f"/{length}"
+        yield block(route.split()[0])
 
 
 def trie_of(stored):
@@ -77,7 +68,7 @@ def trie():
                 picture.line(at[parent][0], at[parent][1] + 22, at[node][0], at[node][1] - 22)
         for node, (node_x, node_y) in at.items():
             picture.box(node_x - 66, node_y - 22, 132, 44, "#ffffff" if node in stored else "#f6f8fa", INK, node not in stored)
-            picture.text(node_x, node_y - 2, name(*node), size=12, weight="bold")
+            picture.text(node_x, node_y - 2, f"{dotted(node[0])}/{node[1]}", size=12, weight="bold")
             picture.text(node_x, node_y + 14, "stored" if node in stored else "two branches part", size=11, fill=QUIET)
     return picture
 
@@ -102,9 +93,7 @@ def way():
     picture = Picture(640, 40 + 62 * len(WAY), "The way of a look-up through the crates, where each command is asked by itself")
     for stop, (what, function, crate) in enumerate(WAY):
         y = 20 + 62 * stop
-        if function and not any(
-            re.search(rf"\bfn {function}\b", path.read_text()) for path in (TOP / "crates" / crate / "src").rglob("*.rt")
-        ):
+        if function and all(one.name != function for source in sources(crate) for one in source.functions):
             sys.exit(f"draw_table.py: {crate} has no function {function}")
         locked = crate in ("ya_lock", "rt_rib", "rt_trie")
         picture.box(60, y, 250, 40, PALE_GREEN if locked else "#f6f8fa", GREEN if locked else INK)

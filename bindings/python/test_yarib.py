@@ -1,18 +1,14 @@
 """What Python's binding does beside the library's own calls: its types, exceptions, buffers and threads.
 
-    YARIB_LIBRARY=bindings/out/libyarib.so.0 python3 bindings/python/test_yarib.py
+    PYTHONPATH=tests YARIB_LIBRARY=bindings/out/libyarib.so.0 python3 bindings/python/test_yarib.py
 """
 import array
 import gc
 import ipaddress
-import pathlib
 import random
-import sys
 import threading
 import unittest
 
-sys.path.insert(0, str(pathlib.Path(__file__).resolve().parent))
-sys.path.insert(0, str(pathlib.Path(__file__).resolve().parents[2] / "tests"))
 import table_model
 import yarib
 

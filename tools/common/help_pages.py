@@ -1,10 +1,11 @@
 """The pages of help in tests/help/, read in parts: tools/manual and tools/completions are made of them. The gate compares the
 pages with what the program prints."""
-import pathlib
 import re
 import typing
 
-HELP = pathlib.Path(__file__).resolve().parent.parent.parent / "tests/help"
+from .crates import TOP
+
+HELP = TOP / "tests/help"
 OPTION = re.compile(r"^ +(?:(-\w), )?(--[\w-]+)(?: <(\w+)>)?  +(.*)$", re.M)
 VALUES = re.compile(r" \[possible values: (.*)\]$")
 

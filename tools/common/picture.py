@@ -1,10 +1,13 @@
 """Shapes on a white ground, and what becomes of a picture: it is written into docs/pictures/, or compared with what stands
 there."""
 import html
-import pathlib
 import sys
 
-FOLDER = pathlib.Path(__file__).resolve().parent.parent.parent / "docs/pictures"
+from .crates import TOP
+
+FOLDER = TOP / "docs/pictures"
+# What a picture of runs is drawn with.
+PROGRAM = next((word for word in sys.argv[1:] if word != "--check"), TOP / "yarib")
 INK, QUIET, BLUE, GREEN, PALE_GREEN = "#222", "#777", "#1f5fa8", "#1a7f37", "#dafbe1"
 
 
