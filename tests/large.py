@@ -1,18 +1,19 @@
 #!/usr/bin/env python3
-"""Times `yarib run` on very long texts, and fails where it doesn't run them to their end.
+"""Has `yarib run` run very long texts to their end, and prints what a line or a byte of each takes.
 
-Takes some minutes, and up to 8 GB of memory. Texts of 1 to 10 million lines and lines of 100 MB to 1 GB are run, and
-time and memory for a line or a byte are printed.
+tests/large.py [PROGRAM [CASE..]], or --list for the names of the cases. Takes some minutes, and up to 8 GB of memory: texts of
+1 to 10 million lines, and lines of 100 MB to 1 GB. It is called as the benches are, with --store and --default-memory.
 """
 import os
-import pathlib
 import subprocess
 import tempfile
 import time
 
+import checks
 import figures
-from figures import checks
 from texts import AGAIN
+
+ROWS = []
 
 
 def measured(words):
@@ -39,36 +40,36 @@ def fill(path, piece, times):
     os.waitpid(child, 0)
 
 
-def large_texts(yarib, folder):
-    """Prints a row for each text: what a unit of it takes, a line or a byte."""
-    path = folder / "long.feed"
-    rows = []
+def add_row(text, unit, units, seconds, peak):
+    """Prints what a unit of a text took, a line or a byte."""
+    row = {"text": text, "unit": unit, "seconds": round(seconds, 2), "time": seconds / units * 1e9, "peak": peak / units}
+    ROWS.append(row)
+    print(f"{text:20} {seconds:6.2f} s, {row['time']:6.1f} ns and {row['peak']:6.2f} bytes a {unit}", flush=True)
 
-    def add_row(text, unit, units, seconds, peak):
-        row = {"text": text, "unit": unit, "seconds": round(seconds, 2), "time": seconds / units * 1e9, "peak": peak / units}
-        rows.append(row)
-        print(f"{text:20} {seconds:6.2f} s, {row['time']:6.1f} ns and {row['peak']:6.2f} bytes a {unit}", flush=True)
 
-    lines = AGAIN * 25_000
+def many_lines(program):
     for millions in (1, 2, 5, 10):
-        fill(path, lines, 10 * millions)
-        seconds, peak, status, end = measured([yarib, "run", "--batch", "256", path])
+        fill("long.feed", AGAIN * 25_000, 10 * millions)
+        seconds, peak, status, end = measured([program, "run", "--batch", "256", "long.feed"])
         checks.expect(f"{millions} million lines", (status, end[-8:]), (0, "table 0\n"))
         add_row(f"{millions} million lines", "line", millions * 1_000_000, seconds, peak)
+
+
+def long_lines(program):
     for megabytes in (100, 200, 500, 1_000):
-        fill(path, "x" * 1_000_000, megabytes)
-        seconds, peak, status, end = measured([yarib, "run", path])
+        fill("long.feed", "x" * 1_000_000, megabytes)
+        seconds, peak, status, end = measured([program, "run", "long.feed"])
         checks.expect(f"a line of {megabytes} MB", (status, end), (2, "1:1 fault E8\ntable 0\n"))
         add_row(f"a line of {megabytes} MB", "byte", megabytes * 1_000_000, seconds, peak)
-    figures.keep("large", 1, rows)
+
+
+CASES = [many_lines, long_lines]
 
 
 def main():
-    reader = figures.reader(__doc__)
-    reader.add_argument("program", nargs="?", type=checks.program, help="a built program, which is else built first")
-    words = figures.begin(reader)
-    with tempfile.TemporaryDirectory() as made:
-        large_texts(words.program or checks.built(), pathlib.Path(made))
+    words = figures.begun(checks.chosen(__doc__, CASES, flags=("--store", "--default-memory")))
+    checks.run_each(words.cases, words.program)
+    figures.keep("large", 1, ROWS)
     checks.end()
 
 
