@@ -1,5 +1,5 @@
 -- How long the parts of what is counted are at most, and what is told of each number.
-use Rattle.std.proofs.Common.{◌≡◌, ◌==◌, ℕ, zero, suc, ◌+◌, ◌<◌, ◌≤◌, inl, inr, false, List, [], ◌++◌, length, decimal, refl, arith, rules, length-append, append_assoc, subst, add-one, Option}
+use Rattle.std.proofs.Common.{◌≡◌, ◌==◌, ℕ, zero, suc, ◌+◌, ◌<◌, ◌≤◌, inl, inr, false, List, [], ◌++◌, length, codes, decimal, refl, arith, rules, length-append, subst, add-one, Option}
 use Rattle.std.specs.Prelude.{◌≢◌}
 use Rattle.std.proofs.lemmas.Bool.{cases_lt}
 use Rattle.std.specs.Io.KnownBytes.{Appends}
@@ -8,36 +8,50 @@ use Rattle.rt_cidr.proofs.Promised.{length-decimal, appends_after, begins_after,
 use Rattle.rt_feed.specs.declared.styles.Form.{Form}
 use Rattle.rt_feed.specs.declared.styles.Form.TheVariants.{Numbers, Labels, Json}
 use Rattle.rt_feed.specs.Counts.{totals_as, count_as, each_below}
-use Rattle.rt_feed.specs.inside.Styles.{count_front, count_middle, count_tail}
+use Rattle.rt_feed.specs.inside.Styles.{either, totals_line, count_tail}
+use Rattle.rt_feed.proofs.LineParts.{either_fits}
 
-pub totals_fits : (form : Form) (routes prefixes : ℕ) → length (totals_as form routes prefixes) ≤ 300
-unfolding totals_as
-totals_fits Numbers routes prefixes = let of_routes = length-decimal routes in let of_prefixes = length-decimal prefixes in simp length-append (omega arith)
-totals_fits Labels routes prefixes = let of_routes = length-decimal routes in let of_prefixes = length-decimal prefixes in simp length-append (omega arith)
-totals_fits Json routes prefixes = let of_routes = length-decimal routes in let of_prefixes = length-decimal prefixes in simp length-append (omega arith)
+pub totals_line_fits : (form : Form) (routes prefixes : ℕ) → length (totals_line form routes prefixes) ≤ 300
+unfolding totals_line
+totals_line_fits form routes prefixes =
+    let of_routes = length-decimal routes in
+    let of_prefixes = length-decimal prefixes in
+    let front = either_fits form (codes "routes ") (codes "{\"routes\":") in
+    let middle = either_fits form (codes " prefixes ") (codes ",\"prefixes\":") in
+    let back = either_fits form (codes "\n") (codes "}\n") in
+    simp length-append (omega arith)
+
+-- the totals are their parts
+pub totals_parts : (form : Form) (routes prefixes : ℕ) → totals_line form routes prefixes ≡ totals_as form routes prefixes
+unfolding totals_line totals_as
+totals_parts Numbers routes prefixes = refl
+totals_parts Labels routes prefixes = refl
+totals_parts Json routes prefixes = refl
 
 pub count_tail_fits : (form : Form) (count : ℕ) → length (count_tail form count) ≤ 300
 unfolding count_tail
-count_tail_fits Numbers count = let digits = length-decimal count in simp length-append (omega arith)
-count_tail_fits Labels count = let digits = length-decimal count in simp length-append (omega arith)
-count_tail_fits Json count = let digits = length-decimal count in simp length-append (omega arith)
+count_tail_fits form count =
+    let digits = length-decimal count in
+    let front = either_fits form (codes " routes ") (codes ",\"routes\":") in
+    let back = either_fits form (codes "\n") (codes "}\n") in
+    simp length-append (omega arith)
 
 pub number_fits : (number : ℕ) → length (decimal number) ≤ 100
 number_fits number = omega (arith, length-decimal number)
 
 parts_by : (form : Form) (kind name : List ℕ) (count : ℕ) → (count == 0) ≡ false
-    → (count_front form ++ (kind ++ count_middle form)) ++ (name ++ (count_tail form count ++ [])) ≡ count_as form kind name count
+    → either form [] (codes "{\"") ++ (kind ++ (either form (codes " ") (codes "\":") ++ (name ++ count_tail form count))) ≡ count_as form kind name count
 unfolding count_tail count_as
-parts_by Numbers kind name count some = rw some (simp append_assoc)
-parts_by Labels kind name count some = rw some (simp append_assoc)
-parts_by Json kind name count some = rw some (simp append_assoc)
+parts_by Numbers kind name count some = rw some refl
+parts_by Labels kind name count some = rw some refl
+parts_by Json kind name count some = rw some refl
 
 not_zero : (count : ℕ) → count ≢ 0 → (count == 0) ≡ false
 not_zero count some = search rules
 
 -- what is told of a count is its parts
 pub count_parts : (form : Form) (kind name : List ℕ) (count : ℕ) → count ≢ 0
-    → (count_front form ++ (kind ++ count_middle form)) ++ (name ++ (count_tail form count ++ [])) ≡ count_as form kind name count
+    → either form [] (codes "{\"") ++ (kind ++ (either form (codes " ") (codes "\":") ++ (name ++ count_tail form count))) ≡ count_as form kind name count
 count_parts form kind name count some = parts_by form kind name count (not_zero count some)
 
 -- nothing is told where nothing is counted

@@ -32,11 +32,11 @@ route_fits route =
     let hop = hop_fits route.hop in
     simp length-append (omega arith)
 
-way_fits : (hop : Hop) → length (way_text hop) ≤ 20
+pub way_fits : (hop : Hop) → length (way_text hop) ≤ 20
 way_fits (Via address) = let text = length-address_text address.0 in simp length-append (omega arith)
 way_fits Discard = omega arith
 
-pub answered_fits : (answer : TableAnswer) → length (answered_text answer) ≤ 180
+answered_fits : (answer : TableAnswer) → length (answered_text answer) ≤ 180
 unfolding answered_text
 answered_fits answered.NoRoute = omega arith
 answered_fits (answered.Hop hop) = omega (arith, way_fits hop)

@@ -1,5 +1,5 @@
 -- How long a printed line is at most, and what is in a writer after several texts.
-use Rattle.std.proofs.Common.{◌≡◌, ℕ, suc, ◌+◌, ◌<◌, ◌≤◌, List, ◌∷◌, ◌++◌, length, take, drop, get_or, codes, [], Option, arith, length-append}
+use Rattle.std.proofs.Common.{◌≡◌, ℕ, suc, ◌+◌, ◌<◌, ◌≤◌, List, ◌∷◌, ◌++◌, length, take, drop, get_or, codes, [], Option, Result, Err, arith, length-append}
 use Rattle.std.proofs.Common.{append_assoc, sym, ap, ◌∙◌, append-nil, add-one}
 use Rattle.std.proofs.Math.Seq.{split_at, take-suc}
 use Rattle.std.specs.List.{flat_map}
@@ -8,7 +8,7 @@ use Rattle.std.proofs.lemmas.Grind.{flat_map-append}
 use Rattle.std.proofs.lemmas.Bool.Decides.{nat_tests}
 use Rattle.std.specs.Io.KnownBytes.{Appends}
 use Rattle.rt_cidr.specs.declared.address.Addr.{Addr}
-use Rattle.rt_cidr.specs.Output.{AppendsBeginning}
+use Rattle.rt_cidr.specs.Output.{AppendsBeginning, WritesText}
 use Rattle.rt_cidr.proofs.Promised.{appends_after, begins_after, begins_longer}
 use Rattle.rt_cidr.proofs.Promised.{length-decimal, length-address_text, length-prefix_text}
 use Rattle.rt_rib.specs.declared.routes.Route.{Route}
@@ -102,24 +102,22 @@ also_fits addr first r =
     let reason = reason_fits first r in
     simp length-append (omega arith)
 
--- a fault within one of several texts after a first one leaves a beginning of them all
-pub begins_all : {X : Type 0} (a b c : Option (List ℕ)) (head : List ℕ) (text : X → List ℕ) (xs : List X) (i : ℕ) (x : X) →
-    i < length xs → x ≡ get_or xs i x → Appends a b (head ++ flat_map text (take i xs)) →
-    AppendsBeginning b c (text x) → AppendsBeginning a c (head ++ flat_map text xs)
-begins_all {X} a b c head text xs i x here is first second =
-    let rest = flat_map text (drop (suc i) xs) in
-    let whole : head ++ flat_map text xs ≡ ((head ++ flat_map text (take i xs)) ++ text x) ++ rest =
-    ap (λ (ys : List X). head ++ flat_map text ys) (split_at xs i x here ∙ ap (λ y. take i xs ++ y ∷ drop (suc i) xs) (sym is)) ∙
-    (ap (λ ys. head ++ ys) (flat_map-append text (take i xs) (x ∷ drop (suc i) xs)) ∙ simp append_assoc) in
-    rw whole (begins_longer a c _ rest (begins_after a b c _ (text x) first second))
+-- of texts of which those before this one stand in a writer, behind a first text
+module _ {X : Type 0} (head : List ℕ) (text : X → List ℕ) (xs : List X) (i : ℕ) (default x : X) (here : i < length xs) (is : x ≡ get_or xs i default)
+    (a b c : Option (List ℕ)) (before : Appends a b (head ++ flat_map text (take i xs))) where
+  -- a fault within this one leaves a beginning of them all
+  pub stops_in_one : {T E : Type 0} (result : Result T E) (fault : E) → result ≡ Err fault → AppendsBeginning b c (text x) → WritesText a c (head ++ flat_map text xs) result
+  stops_in_one result fault failed begun =
+      let rest = flat_map text (drop (suc i) xs) in
+      let whole : head ++ flat_map text xs ≡ ((head ++ flat_map text (take i xs)) ++ text x) ++ rest =
+      ap (λ (ys : List X). head ++ flat_map text ys) (split_at xs i default here ∙ ap (λ y. take i xs ++ y ∷ drop (suc i) xs) (sym is)) ∙
+      (ap (λ ys. head ++ ys) (flat_map-append text (take i xs) (x ∷ drop (suc i) xs)) ∙ simp append_assoc) in
+      rw failed (record { ok = tt; err = rw whole (begins_longer a c _ rest (begins_after a b c _ (text x) before begun)) })
 
--- one of several texts after a first one is put behind those before it
-pub appends_next : {X : Type 0} (a b c : Option (List ℕ)) (head : List ℕ) (text : X → List ℕ) (xs : List X) (i : ℕ) (x : X) →
-    i < length xs → x ≡ get_or xs i x → Appends a b (head ++ flat_map text (take i xs)) →
-    Appends b c (text x) → Appends a c (head ++ flat_map text (take (i + 1) xs))
-appends_next {X} a b c head text xs i x here is first second =
-    let next : flat_map text (take (i + 1) xs) ≡ flat_map text (take i xs) ++ text x =
-    ap (flat_map text) (ap (λ n. take n xs) (add-one i) ∙ take-suc xs i x here ∙ ap (λ y. take i xs ++ y ∷ []) (sym is)) ∙
-    (flat_map-append text (take i xs) (x ∷ []) ∙ ap (λ ys. flat_map text (take i xs) ++ ys) (append-nil (text x))) in
-    rw (next, ← append_assoc head (flat_map text (take i xs)) (text x))
-    (appends_after a b c (head ++ flat_map text (take i xs)) (text x) first second)
+  -- this one is put behind them
+  pub appends_next : Appends b c (text x) → Appends a c (head ++ flat_map text (take (i + 1) xs))
+  appends_next written =
+      let next : flat_map text (take (i + 1) xs) ≡ flat_map text (take i xs) ++ text x =
+      ap (flat_map text) (ap (λ n. take n xs) (add-one i) ∙ take-suc xs i default here ∙ ap (λ y. take i xs ++ y ∷ []) (sym is)) ∙
+      (flat_map-append text (take i xs) (x ∷ []) ∙ ap (λ ys. flat_map text (take i xs) ++ ys) (append-nil (text x))) in
+      rw (next, ← append_assoc head (flat_map text (take i xs)) (text x)) (appends_after a b c (head ++ flat_map text (take i xs)) (text x) before written)

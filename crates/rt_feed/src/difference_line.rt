@@ -14,7 +14,7 @@ use std::io::{self, Write};
 /// the whole route. A fault is the writer's, as `put` hands it on; what was written is then a beginning of that line. Takes no
 /// memory, and calls the writer as `write_report` does.
 #[tactic(auto, using(crate::proofs::DifferenceLines::difference_fits))]
-pub fn write_difference<W: Write>(w: &mut W, difference: &Difference) -> Result<(), io::Error>
+pub fn write_difference<W: Write>(w: &mut W, difference: &Difference) -> io::Result<()>
     ensures { WritesText (W.contents w.old) (W.contents w.new) (difference_text difference.now) result }
 {
     let mut text = ShortText::new();

@@ -1,20 +1,16 @@
-//! A text in three parts.
-ghost use Rattle.std.specs.Prelude.{◌++◌};
+//! A text in parts.
+ghost use Rattle.std.specs.List.{flat_map};
 ghost use Rattle.rt_cidr.specs.Output.{WritesText};
 
 use rt_cidr::put;
 use std::io::{self, Write};
 
-/// Writes the three parts, one after another.
-pub(crate) fn put_three<W: Write>(
-    w: &mut W,
-    first: &[u8],
-    second: &[u8],
-    third: &[u8],
-) -> Result<(), io::Error>
-    ensures { WritesText (W.contents w.old) (W.contents w.new) (first.now ++ (second.now ++ third.now)) result }
+/// Writes the parts, one after another.
+pub(crate) fn put_parts<W: Write>(w: &mut W, parts: &[&[u8]]) -> io::Result<()>
+    ensures { WritesText (W.contents w.old) (W.contents w.new) (flat_map (λ part. part.now) parts.now) result }
 {
-    put(w, first)?;
-    put(w, second)?;
-    put(w, third)
+    for part in parts {
+        put(w, part)?;
+    }
+    Ok(())
 }

@@ -16,7 +16,7 @@ use std::io::{self, Write};
 /// `put` hands it on; what was written is then a beginning of the report and never all of it, so where there is no line
 /// nothing fails. Takes no memory, and makes one `write` for each line, more where the writer takes less of it, and no
 /// other call: a writer whose calls are dear goes into an `OutputBuffer`.
-pub fn write_report<W: Write>(w: &mut W, feed: u32, report: &Report) -> Result<(), io::Error>
+pub fn write_report<W: Write>(w: &mut W, feed: u32, report: &Report) -> io::Result<()>
     ensures { WritesText (W.contents w.old) (W.contents w.new) (report_text feed report.now) result }
 {
     let mut text = ShortText::new();
@@ -28,12 +28,7 @@ pub fn write_report<W: Write>(w: &mut W, feed: u32, report: &Report) -> Result<(
 
 /// Writes one line of a report. `text` is where it is rendered.
 #[tactic(auto, using(crate::proofs::Printing::line_fits))]
-fn put_line<W: Write>(
-    w: &mut W,
-    text: &mut ShortText,
-    feed: u32,
-    line: &Line,
-) -> Result<(), io::Error>
+fn put_line<W: Write>(w: &mut W, text: &mut ShortText, feed: u32, line: &Line) -> io::Result<()>
     ensures { WritesText (W.contents w.old) (W.contents w.new) (line_text feed line.now) result }
 {
     text.clear();
@@ -44,7 +39,7 @@ fn put_line<W: Write>(
 /// Writes the table: `table COUNT` and LF, and then each route of the list and LF. A fault is the writer's, as `put` hands
 /// it on; what was written is then a beginning of the table. Takes no memory, and calls the writer as `write_report` does.
 #[tactic(auto, using(crate::proofs::Printing::count_fits))]
-pub fn write_table<W: Write>(w: &mut W, routes: &[Route]) -> Result<(), io::Error>
+pub fn write_table<W: Write>(w: &mut W, routes: &[Route]) -> io::Result<()>
     ensures { WritesText (W.contents w.old) (W.contents w.new) (table_text routes.now) result }
 {
     let mut text = ShortText::new();
@@ -56,7 +51,7 @@ pub fn write_table<W: Write>(w: &mut W, routes: &[Route]) -> Result<(), io::Erro
 /// Writes the table's routes alone, without its first line: each route of the list and LF. A fault is the writer's, as `put`
 /// hands it on; what was written is then a beginning of the routes and never all of them, so where there is no route nothing
 /// fails. Takes no memory, and calls the writer as `write_report` does.
-pub fn write_rows<W: Write>(w: &mut W, routes: &[Route]) -> Result<(), io::Error>
+pub fn write_rows<W: Write>(w: &mut W, routes: &[Route]) -> io::Result<()>
     ensures { WritesText (W.contents w.old) (W.contents w.new) (rows_text routes.now) result }
 {
     let mut text = ShortText::new();
@@ -68,11 +63,7 @@ pub fn write_rows<W: Write>(w: &mut W, routes: &[Route]) -> Result<(), io::Error
 
 /// Writes one route of the table. `text` is where it is rendered.
 #[tactic(auto, using(crate::proofs::Printing::row_fits))]
-pub(crate) fn put_row<W: Write>(
-    w: &mut W,
-    text: &mut ShortText,
-    route: &Route,
-) -> Result<(), io::Error>
+pub(crate) fn put_row<W: Write>(w: &mut W, text: &mut ShortText, route: &Route) -> io::Result<()>
     ensures { WritesText (W.contents w.old) (W.contents w.new) (row_text route.now) result }
 {
     text.clear();
@@ -84,7 +75,7 @@ pub(crate) fn put_row<W: Write>(
 /// is the writer's, as `put` hands it on; what was written is then a beginning of that line. Takes no memory, and calls the
 /// writer as `write_report` does.
 #[tactic(auto, using(crate::proofs::Printing::found_fits))]
-pub fn write_found<W: Write>(w: &mut W, addr: Addr, found: Option<Route>) -> Result<(), io::Error>
+pub fn write_found<W: Write>(w: &mut W, addr: Addr, found: Option<Route>) -> io::Result<()>
     ensures { WritesText (W.contents w.old) (W.contents w.new) (found_text addr found) result }
 {
     let mut text = ShortText::new();
@@ -98,7 +89,7 @@ pub fn write_found<W: Write>(w: &mut W, addr: Addr, found: Option<Route>) -> Res
 /// greater one; and of those equal in both `feed`. Of no route it writes `ADDR no route` and LF. A fault is the writer's, as
 /// `put` hands it on; what was written is then a beginning of that text. Takes no memory, and calls the writer as
 /// `write_report` does.
-pub fn write_all_found<W: Write>(w: &mut W, addr: Addr, found: &[Route]) -> Result<(), io::Error>
+pub fn write_all_found<W: Write>(w: &mut W, addr: Addr, found: &[Route]) -> io::Result<()>
     ensures { WritesText (W.contents w.old) (W.contents w.new) (all_found_text addr found.now) result }
 {
     let Some((first, others)) = found.split_first() else {
@@ -109,12 +100,7 @@ pub fn write_all_found<W: Write>(w: &mut W, addr: Addr, found: &[Route]) -> Resu
 }
 
 /// Writes the routes that were left behind the first one, each on a line with the reason.
-fn write_others<W: Write>(
-    w: &mut W,
-    addr: Addr,
-    first: &Route,
-    others: &[Route],
-) -> Result<(), io::Error>
+fn write_others<W: Write>(w: &mut W, addr: Addr, first: &Route, others: &[Route]) -> io::Result<()>
     ensures { WritesText (W.contents w.old) (W.contents w.new) (flat_map (also_text addr first.now) others.now) result }
 {
     let mut text = ShortText::new();
@@ -132,7 +118,7 @@ fn put_other<W: Write>(
     addr: Addr,
     first: &Route,
     route: &Route,
-) -> Result<(), io::Error>
+) -> io::Result<()>
     ensures { WritesText (W.contents w.old) (W.contents w.new) (also_text addr first.now route.now) result }
 {
     text.clear();

@@ -5,11 +5,12 @@ ghost use Rattle.rt_cidr.specs.Output.{WritesText};
 ghost use Rattle.rt_feed.specs.Counts.{counts_as};
 ghost use Rattle.rt_feed.specs.DifferenceText.{difference_as};
 ghost use Rattle.rt_feed.specs.Styles.{label_of, row_as, rows_as, found_as, all_found_as};
+ghost use Rattle.rt_feed.specs.inside.Styles.{either};
 
 mod counts;
-mod lines;
-mod objects;
+mod found;
 mod ranges;
+mod routes;
 
 use crate::difference_line::write_difference;
 use crate::print::{put_row, write_all_found, write_found};
@@ -28,6 +29,18 @@ pub enum Form {
     Labels,
     /// As JSON objects, one a line, in which what follows `"feed":` is the feed's label.
     Json,
+}
+
+impl Form {
+    /// Of two texts that of the form: the first stands in lines, the second in objects.
+    fn either<'t>(self, line: &'t [u8], object: &'t [u8]) -> &'t [u8]
+        ensures { result.now ≡ either self line.now object.now }
+    {
+        match self {
+            Form::Numbers | Form::Labels => line,
+            Form::Json => object,
+        }
+    }
 }
 
 /// How routes are told: in which form, and with which labels of the feeds. Contracts see both.
@@ -134,11 +147,7 @@ impl<'a> SideStyles<'a> {
 
 /// Writes the table's routes in the style, each on a line. A fault is the writer's, as `put` hands it on; what was written is
 /// then a beginning of that text. Takes no memory; a writer whose calls are dear goes into an `OutputBuffer`.
-pub fn write_rows_as<W: Write>(
-    w: &mut W,
-    style: &Style<'_>,
-    routes: &[Route],
-) -> Result<(), io::Error>
+pub fn write_rows_as<W: Write>(w: &mut W, style: &Style<'_>, routes: &[Route]) -> io::Result<()>
     ensures { WritesText (W.contents w.old) (W.contents w.new) (rows_as style.now.form (label_of style.now.labels) routes.now) result }
 {
     let mut text = ShortText::new();
@@ -154,13 +163,13 @@ fn put_row_as<W: Write>(
     text: &mut ShortText,
     style: &Style<'_>,
     route: &Route,
-) -> Result<(), io::Error>
+) -> io::Result<()>
     ensures { WritesText (W.contents w.old) (W.contents w.new) (row_as style.now.form (label_of style.now.labels) route.now) result }
 {
     match style.form {
         Form::Numbers => put_row(w, text, route),
-        Form::Labels => lines::put_route(w, style, b"", route, b"\n"),
-        Form::Json => objects::put_route(w, style, b"", route, b"", b"\n"),
+        Form::Labels => routes::put_route(w, style, b"", route, b"\n"),
+        Form::Json => routes::put_route(w, style, b"", route, b"}\n"),
     }
 }
 
@@ -170,13 +179,12 @@ pub fn write_found_as<W: Write>(
     style: &Style<'_>,
     addr: Addr,
     found: Option<Route>,
-) -> Result<(), io::Error>
+) -> io::Result<()>
     ensures { WritesText (W.contents w.old) (W.contents w.new) (found_as style.now.form (label_of style.now.labels) addr found) result }
 {
     match style.form {
         Form::Numbers => write_found(w, addr, found),
-        Form::Labels => lines::write_found(w, style, addr, found),
-        Form::Json => objects::write_found(w, style, addr, found),
+        Form::Labels | Form::Json => found::write_found(w, style, addr, found),
     }
 }
 
@@ -187,24 +195,19 @@ pub fn write_all_found_as<W: Write>(
     style: &Style<'_>,
     addr: Addr,
     found: &[Route],
-) -> Result<(), io::Error>
+) -> io::Result<()>
     ensures { WritesText (W.contents w.old) (W.contents w.new) (all_found_as style.now.form (label_of style.now.labels) addr found.now) result }
 {
     match style.form {
         Form::Numbers => write_all_found(w, addr, found),
-        Form::Labels => lines::write_all_found(w, style, addr, found),
-        Form::Json => objects::write_all_found(w, style, addr, found),
+        Form::Labels | Form::Json => found::write_all_found(w, style, addr, found),
     }
 }
 
 /// Writes how many routes there are and to how many prefixes, and then how many of each feed and to prefixes of each length,
 /// in the style, each on a line, and where there are none no line. Those to one prefix stand together, as in a table. A fault
 /// and memory are as of `write_rows_as`.
-pub fn write_counts_as<W: Write>(
-    w: &mut W,
-    style: &Style<'_>,
-    routes: &[Route],
-) -> Result<(), io::Error>
+pub fn write_counts_as<W: Write>(w: &mut W, style: &Style<'_>, routes: &[Route]) -> io::Result<()>
     ensures { WritesText (W.contents w.old) (W.contents w.new) (counts_as style.now.form (label_of style.now.labels) routes.now) result }
 {
     let form = style.form();
@@ -218,7 +221,7 @@ pub fn write_difference_as<W: Write>(
     w: &mut W,
     styles: &SideStyles<'_>,
     difference: &Difference,
-) -> Result<(), io::Error>
+) -> io::Result<()>
     ensures { WritesText (W.contents w.old) (W.contents w.new) (difference_as styles.now difference.now) result }
 {
     match styles.form {

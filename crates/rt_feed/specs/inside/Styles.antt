@@ -1,74 +1,86 @@
 -- The parts of what is told in a style, on both sides of a feed's label.
-use Rattle.std.specs.Prelude.{ℕ, List, [], ◌++◌, codes, decimal}
+use Rattle.std.specs.Prelude.{ℕ, List, [], ◌∷◌, ◌++◌, codes, decimal}
+use Rattle.std.specs.List.{flat_map}
 use Rattle.rt_cidr.specs.declared.address.Addr.{Addr}
 use Rattle.rt_cidr.specs.Text.{address_text, prefix_text}
 use Rattle.rt_rib.specs.declared.routes.Hop.{Hop}
 use Rattle.rt_rib.specs.declared.routes.Route.{Route}
 use Rattle.rt_diff.specs.declared.comparison.Difference.{Difference}
 use Rattle.rt_feed.specs.declared.styles.Form.{Form}
-use Rattle.rt_feed.specs.declared.styles.Form.TheVariants.{Json}
-use Rattle.rt_feed.specs.Printed.{hop_text, reason_text}
+use Rattle.rt_feed.specs.declared.styles.Form.TheVariants.{Labels, Json}
+use Rattle.rt_feed.specs.Printed.{hop_text, route_line, reason_text, also_line}
 use Rattle.rt_feed.specs.Json.{hop_members}
+use Rattle.rt_feed.specs.DifferenceText.{SideStylesContents, way_text}
+use Rattle.rt_feed.specs.Styles.{also_object}
 
--- a line's route before the label
-unfoldable pub line_front : Route → List ℕ
-line_front r = prefix_text r.prefix.base r.prefix.len ++ codes " feed "
+-- a form in which feeds are told by labels: this one, or that of lines with labels in place of that with numbers
+abbrev pub by_label : Form → Form
+by_label Json = Json
+by_label form = Labels
 
--- and behind it
-unfoldable pub line_back : Route → List ℕ
-line_back r = codes " pref " ++ (decimal r.pref ++ (codes " via " ++ hop_text r.hop))
+-- the same for two tables
+abbrev pub both_by_label : SideStylesContents → SideStylesContents
+both_by_label styles = record { form = by_label styles.form; old_labels = styles.old_labels; new_labels = styles.new_labels }
 
--- the address that was looked up, and a word that says what is told of it
-unfoldable pub line_head : Addr → List ℕ → List ℕ
-line_head addr word = address_text addr.0 ++ word
+-- of two texts that of the form: the first stands in lines, the second in objects
+abbrev pub either : Form → List ℕ → List ℕ → List ℕ
+either Json line object = object
+either form line object = line
 
--- why a route was left behind, at the end of its line
-unfoldable pub also_tail : Route → Route → List ℕ
-also_tail first r = codes " " ++ (reason_text first r ++ codes "\n")
+-- a next hop
+abbrev pub hop_as : Form → Hop → List ℕ
+hop_as Json hop = hop_members hop
+hop_as form hop = hop_text hop
 
--- an object's route before the label
-unfoldable pub object_front : Route → List ℕ
-object_front r = codes "{\"prefix\":\"" ++ (prefix_text r.prefix.base r.prefix.len ++ codes "\",\"feed\":")
+-- a route before its feed's label
+unfoldable pub route_front : Form → Route → List ℕ
+route_front form r =
+    either form [] (codes "{\"prefix\":\"") ++ (prefix_text r.prefix.base r.prefix.len ++ either form (codes " feed ") (codes "\",\"feed\":"))
 
--- and behind it, as far as its next hop
-unfoldable pub object_back : Route → List ℕ
-object_back r = codes ",\"pref\":" ++ (decimal r.pref ++ (codes "," ++ hop_members r.hop))
+-- and behind it, without an object's end
+unfoldable pub route_back : Form → Route → List ℕ
+route_back form r =
+    either form (codes " pref ") (codes ",\"pref\":") ++ (decimal r.pref ++ (either form (codes " via ") (codes ",") ++ hop_as form r.hop))
 
--- why a route was left behind, as a member
-unfoldable pub reason_member : Route → Route → List ℕ
-reason_member first r = codes ",\"reason\":\"" ++ (reason_text first r ++ codes "\"")
+-- a route, without an object's end; here and below `label` is that of each feed
+unfoldable pub route_open : Form → (ℕ → List ℕ) → Route → List ℕ
+route_open form label r = route_front form r ++ (label r.feed ++ route_back form r)
+
+-- the address that was looked up and this word, or it as the beginning of an object
+unfoldable pub asked_head : Form → Addr → List ℕ → List ℕ
+asked_head form addr word = either form [] (codes "{\"address\":\"") ++ (address_text addr.0 ++ either form word (codes "\",\"route\":"))
+
+-- why a route was left behind the best one, and the end of its line or object
+unfoldable pub reason_end : Form → Route → Route → List ℕ
+reason_end form best r = either form (codes " ") (codes ",\"reason\":\"") ++ (reason_text best r ++ either form (codes "\n") (codes "\"}"))
+
+-- a route that was left behind the best one, an object behind this text
+unfoldable pub other_as : Form → (ℕ → List ℕ) → Addr → Route → List ℕ → Route → List ℕ
+other_as Json label addr best comma r = comma ++ also_object label best r
+other_as form label addr best comma r = also_line (λ s. route_line (label s.feed) s) addr best r
+
+-- all that were left behind it, objects with commas between them
+unfoldable pub others_as : Form → (ℕ → List ℕ) → Addr → Route → List Route → List ℕ
+others_as form label addr best [] = []
+others_as form label addr best (r ∷ rs) = other_as form label addr best [] r ++ flat_map (other_as form label addr best (codes ",")) rs
 
 -- a range before its old answer
 unfoldable pub range_front : Form → Difference → List ℕ
-range_front Json d =
-    codes "{\"first\":\"" ++ (address_text d.first.0 ++ (codes "\",\"last\":\"" ++ (address_text d.last.0 ++ codes "\",\"old\":")))
-range_front form d = address_text d.first.0 ++ (codes "-" ++ (address_text d.last.0 ++ codes " "))
+range_front form d =
+    either form [] (codes "{\"first\":\"") ++ (address_text d.first.0 ++ (either form (codes "-") (codes "\",\"last\":\"")
+    ++ (address_text d.last.0 ++ either form (codes " ") (codes "\",\"old\":"))))
 
--- between its two answers
-abbrev pub range_middle : Form → List ℕ
-range_middle Json = codes ",\"new\":"
-range_middle form = codes " -> "
+-- where packets go
+unfoldable pub way_as : Form → Hop → List ℕ
+way_as Json hop = codes "{" ++ (hop_members hop ++ codes "}")
+way_as form hop = way_text hop
 
--- and behind them
-abbrev pub range_end : Form → List ℕ
-range_end Json = codes "}\n"
-range_end form = codes "\n"
+-- how many routes there are, and to how many prefixes
+unfoldable pub totals_line : Form → ℕ → ℕ → List ℕ
+totals_line form routes prefixes =
+    either form (codes "routes ") (codes "{\"routes\":") ++ (decimal routes ++ (either form (codes " prefixes ") (codes ",\"prefixes\":")
+    ++ (decimal prefixes ++ either form (codes "\n") (codes "}\n"))))
 
--- a next hop as an object
-unfoldable pub hop_object : Hop → List ℕ
-hop_object hop = codes "{" ++ (hop_members hop ++ codes "}")
-
--- what stands before what is counted
-abbrev pub count_front : Form → List ℕ
-count_front Json = codes "{\""
-count_front form = []
-
--- between it and its name
-abbrev pub count_middle : Form → List ℕ
-count_middle Json = codes "\":"
-count_middle form = codes " "
-
--- and behind that, with how many routes there are
+-- how many routes there are of what was named
 unfoldable pub count_tail : Form → ℕ → List ℕ
-count_tail Json count = codes ",\"routes\":" ++ (decimal count ++ codes "}\n")
-count_tail form count = codes " routes " ++ (decimal count ++ codes "\n")
+count_tail form count = either form (codes " routes ") (codes ",\"routes\":") ++ (decimal count ++ either form (codes "\n") (codes "}\n"))

@@ -5,10 +5,10 @@ ghost use Rattle.rt_cidr.specs.ShortText.{FitsInShortText};
 ghost use Rattle.rt_rib.specs.Table.{count_of};
 ghost use Rattle.rt_feed.specs.Counts.{prefix_count, length_count, totals_as, count_as, feed_as, each_below};
 ghost use Rattle.rt_feed.specs.Styles.{label_of};
-ghost use Rattle.rt_feed.specs.inside.Styles.{count_front, count_middle, count_tail};
+ghost use Rattle.rt_feed.specs.inside.Styles.{totals_line, count_tail};
 
 use super::{Form, Style};
-use crate::parts::put_three;
+use crate::parts::put_parts;
 use rt_cidr::{ShortText, put};
 use rt_rib::{MOST_FEEDS, Route};
 use std::io::{self, Write};
@@ -17,12 +17,8 @@ use std::io::{self, Write};
 const MOST_BITS: u8 = 32;
 
 /// Writes how many routes there are, and to how many prefixes.
-#[tactic(auto, using(crate::proofs::CountParts::totals_fits))]
-pub(super) fn write_totals<W: Write>(
-    w: &mut W,
-    form: Form,
-    routes: &[Route],
-) -> Result<(), io::Error>
+#[tactic(auto, using(crate::proofs::CountParts::totals_line_fits))]
+pub(super) fn write_totals<W: Write>(w: &mut W, form: Form, routes: &[Route]) -> io::Result<()>
     ensures { WritesText (W.contents w.old) (W.contents w.new) (totals_as form (length routes.now) (prefix_count routes.now)) result }
 {
     let mut text = ShortText::new();
@@ -35,7 +31,7 @@ pub(super) fn write_feeds<W: Write>(
     w: &mut W,
     style: &Style<'_>,
     routes: &[Route],
-) -> Result<(), io::Error>
+) -> io::Result<()>
     ensures { WritesText (W.contents w.old) (W.contents w.new)
         (each_below (λ feed. count_as style.now.form (codes "feed") (feed_as style.now.form (label_of style.now.labels) feed) (count_of feed routes.now)) 65) result }
 {
@@ -48,11 +44,7 @@ pub(super) fn write_feeds<W: Write>(
 }
 
 /// Writes of each length how many of the routes are to prefixes of it, where one is.
-pub(super) fn write_lengths<W: Write>(
-    w: &mut W,
-    form: Form,
-    routes: &[Route],
-) -> Result<(), io::Error>
+pub(super) fn write_lengths<W: Write>(w: &mut W, form: Form, routes: &[Route]) -> io::Result<()>
     ensures { WritesText (W.contents w.old) (W.contents w.new)
         (each_below (λ len. count_as form (codes "length") (decimal len) (length_count len routes.now)) 33) result }
 {
@@ -66,12 +58,7 @@ pub(super) fn write_lengths<W: Write>(
 
 /// Writes how many routes a feed has, where it has one.
 #[tactic(auto, using(crate::proofs::CountParts::number_fits))]
-fn put_feed<W: Write>(
-    w: &mut W,
-    style: &Style<'_>,
-    feed: u32,
-    count: usize,
-) -> Result<(), io::Error>
+fn put_feed<W: Write>(w: &mut W, style: &Style<'_>, feed: u32, count: usize) -> io::Result<()>
     ensures { WritesText (W.contents w.old) (W.contents w.new)
         (count_as style.now.form (codes "feed") (feed_as style.now.form (label_of style.now.labels) feed) count) result }
 {
@@ -86,7 +73,7 @@ fn put_feed<W: Write>(
 
 /// Writes how many routes are to prefixes of a length, where one is.
 #[tactic(auto, using(crate::proofs::CountParts::number_fits))]
-fn put_length<W: Write>(w: &mut W, form: Form, len: u8, count: usize) -> Result<(), io::Error>
+fn put_length<W: Write>(w: &mut W, form: Form, len: u8, count: usize) -> io::Result<()>
     ensures { WritesText (W.contents w.old) (W.contents w.new) (count_as form (codes "length") (decimal len) count) result }
 {
     let mut number = ShortText::new();
@@ -102,7 +89,7 @@ fn put_count<W: Write>(
     kind: &[u8],
     name: &[u8],
     count: usize,
-) -> Result<(), io::Error>
+) -> io::Result<()>
     ensures { WritesText (W.contents w.old) (W.contents w.new) (count_as form kind.now name.now count) result }
 {
     if count == 0 {
@@ -110,28 +97,8 @@ fn put_count<W: Write>(
     }
     let mut tail = ShortText::new();
     prepend_tail(&mut tail, form, count);
-    put_three(w, front(form), kind, middle(form))?;
-    put_three(w, name, tail.as_bytes(), b"")
-}
-
-/// What stands before what is counted.
-fn front(form: Form) -> &'static [u8]
-    ensures { result.now ≡ count_front form }
-{
-    match form {
-        Form::Numbers | Form::Labels => b"",
-        Form::Json => b"{\"",
-    }
-}
-
-/// What stands between what is counted and its name.
-fn middle(form: Form) -> &'static [u8]
-    ensures { result.now ≡ count_middle form }
-{
-    match form {
-        Form::Numbers | Form::Labels => b" ",
-        Form::Json => b"\":",
-    }
+    let (front, middle) = (form.either(b"", b"{\""), form.either(b" ", b"\":"));
+    put_parts(w, &[front, kind, middle, name, tail.as_bytes()])
 }
 
 /// To how many prefixes the routes are, where those to one stand together.
@@ -179,27 +146,16 @@ fn length_count(routes: &[Route], len: u8) -> usize
 // Each function below puts its text in front.
 
 /// `routes ROUTES prefixes PREFIXES` and LF, or it as an object.
-#[tactic(auto, using(rt_cidr::proofs::Promised::prepending), unfolding(crate::specs::Counts::totals_as))]
+#[tactic(auto, using(rt_cidr::proofs::Promised::prepending), unfolding(crate::specs::inside::Styles::totals_line))]
 fn prepend_totals(text: &mut ShortText, form: Form, routes: usize, prefixes: usize)
-    requires room { FitsInShortText (totals_as form routes prefixes) text.old }
-    ensures { text.new ≡ totals_as form routes prefixes ++ text.old }
+    requires room { FitsInShortText (totals_line form routes prefixes) text.old }
+    ensures { text.new ≡ totals_line form routes prefixes ++ text.old }
 {
-    match form {
-        Form::Numbers | Form::Labels => {
-            text.prepend(b"\n");
-            text.prepend_decimal(prefixes as u64);
-            text.prepend(b" prefixes ");
-            text.prepend_decimal(routes as u64);
-            text.prepend(b"routes ");
-        }
-        Form::Json => {
-            text.prepend(b"}\n");
-            text.prepend_decimal(prefixes as u64);
-            text.prepend(b",\"prefixes\":");
-            text.prepend_decimal(routes as u64);
-            text.prepend(b"{\"routes\":");
-        }
-    }
+    text.prepend(form.either(b"\n", b"}\n"));
+    text.prepend_decimal(prefixes as u64);
+    text.prepend(form.either(b" prefixes ", b",\"prefixes\":"));
+    text.prepend_decimal(routes as u64);
+    text.prepend(form.either(b"routes ", b"{\"routes\":"));
 }
 
 /// ` routes COUNT` and LF, or it as a member.
@@ -208,16 +164,7 @@ fn prepend_tail(text: &mut ShortText, form: Form, count: usize)
     requires room { FitsInShortText (count_tail form count) text.old }
     ensures { text.new ≡ count_tail form count ++ text.old }
 {
-    match form {
-        Form::Numbers | Form::Labels => {
-            text.prepend(b"\n");
-            text.prepend_decimal(count as u64);
-            text.prepend(b" routes ");
-        }
-        Form::Json => {
-            text.prepend(b"}\n");
-            text.prepend_decimal(count as u64);
-            text.prepend(b",\"routes\":");
-        }
-    }
+    text.prepend(form.either(b"\n", b"}\n"));
+    text.prepend_decimal(count as u64);
+    text.prepend(form.either(b" routes ", b",\"routes\":"));
 }

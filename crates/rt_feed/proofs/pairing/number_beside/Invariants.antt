@@ -1,5 +1,5 @@
 use Rattle.std.proofs.Common.{◌≡◌, ◌+◌, length, map}
-use Rattle.rt_feed.specs.Labels.{feed_name, number_in}
+use Rattle.rt_feed.specs.Labels.{number_in}
 use Rattle.rt_feed.proofs.pairing.number_beside.Given as goal
 
 -- none of the paths so far has the name

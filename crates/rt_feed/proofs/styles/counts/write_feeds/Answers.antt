@@ -1,4 +1,4 @@
-use Rattle.std.proofs.Common.{◌≡◌, ℕ, codes, decimal, subst, arith}
+use Rattle.std.proofs.Common.{◌≡◌, ℕ, codes, subst, arith}
 use Rattle.std.proofs.lemmas.Result.{err_from_is_err_and}
 use Rattle.std.specs.Io.KnownBytes.{Appends}
 use Rattle.rt_rib.specs.Table.{count_of}

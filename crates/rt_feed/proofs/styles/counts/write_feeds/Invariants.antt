@@ -1,4 +1,4 @@
-use Rattle.std.proofs.Common.{◌≤◌, ◌-◌, codes, decimal}
+use Rattle.std.proofs.Common.{◌≤◌, ◌-◌, codes}
 use Rattle.std.specs.Io.KnownBytes.{Appends}
 use Rattle.rt_rib.specs.Table.{count_of}
 use Rattle.rt_feed.specs.Counts.{count_as, feed_as, each_below}

@@ -1,10 +1,24 @@
-use Rattle.std.proofs.Common.{◌≡◌, rules}
-use Rattle.rt_feed.specs.declared.styles.Form.TheVariants.{Numbers}
+use Rattle.std.proofs.Common.{codes, append-nil}
 use Rattle.rt_feed.specs.Styles.{label_of}
-use Rattle.rt_feed.proofs.LineParts.{answered_by_number}
+use Rattle.rt_feed.specs.inside.Styles.{either, way_as}
+use Rattle.rt_feed.proofs.LineParts.{alone, no_answer_parts, way_parts, route_parts}
 use Rattle.rt_feed.proofs.styles.ranges.put_answered.Goals as goal
 
-pub returns-in-Numbers : goal.returns-in-Numbers
-returns-in-Numbers g c =
-    let numbers : c.args.style.now.form ≡ Numbers = search rules in
-    rw (numbers, answered_by_number (label_of c.args.style.now.labels) c.args.answer.now) (record { ok = c.put_plain.ensures.ok; err = c.put_plain.ensures.err })
+pub returns-in-NoRoute : goal.returns-in-NoRoute
+returns-in-NoRoute g c =
+    let style = c.args.style.now in
+    rw (c.in-NoRoute.is, ← no_answer_parts style.form (label_of style.labels))
+    (rw (c.either.ensures, append-nil (either c.form-form.result (codes "no route") (codes "null")), c.form-form.ensures) at c.put_parts.ensures)
+
+pub returns-in-Hop : goal.returns-in-Hop
+returns-in-Hop g c =
+    let style = c.args.style.now in
+    let told = way_as c.form-form.result c.in-Hop.hop in
+    let way = alone told c.prepend_way_as.ensures c.new-way.ensures in
+    rw (c.in-Hop.is, ← way_parts style.form (label_of style.labels) c.in-Hop.hop)
+    (rw (c.as_bytes.ensures, way, append-nil told, c.form-form.ensures) at c.put_parts-in-Hop.ensures)
+
+pub returns-in-Route : goal.returns-in-Route
+returns-in-Route g c =
+    let style = c.args.style.now in
+    rw (c.in-Route.is, ← route_parts style.form (label_of style.labels) c.in-Route.route) (rw (c.either-in-Route.ensures, c.form-form.ensures) at c.put_route.ensures)
