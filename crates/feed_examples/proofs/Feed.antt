@@ -423,13 +423,19 @@ one_byte_more_is_E8_whatever_it_says : AnswersLine One
     (Err fault.LineLength)
 one_byte_more_is_E8_whatever_it_says = inl (omega arith, refl)
 
-what_an_answer_says :
-    (version : Version) (line : List ℕ) (cmd : Cmd) (answer : LineFault)
-    → (AnswersLine version line (Ok (Some cmd)) ↔ (HasCommand version cmd × (line ≡ command_text cmd)))
-    × (AnswersLine version line (Ok None) ↔ ((length line ≤ 128) × (is_skipped line ≡ true)))
-    × (AnswersLine version line (Err answer) ↔ (((128 < length line) × (answer ≡ fault.LineLength))
-    ⊎ ((length line ≤ 128) × (is_skipped line ≡ false) × IsFaultOfFields version (fields line) answer)))
-what_an_answer_says version line cmd answer = ((λ h. h, λ h. h), (λ h. h, λ h. h), (λ h. h, λ h. h))
+any_line_of_a_command :
+    (version : Version) (line : List ℕ) (cmd : Cmd) → AnswersLine version line (Ok (Some cmd)) ↔ (HasCommand version cmd × (line ≡ command_text cmd))
+any_line_of_a_command version line cmd = (λ h. h, λ h. h)
+
+any_line_that_asks_nothing :
+    (version : Version) (line : List ℕ) → AnswersLine version line (Ok None) ↔ ((length line ≤ 128) × (is_skipped line ≡ true))
+any_line_that_asks_nothing version line = (λ h. h, λ h. h)
+
+any_line_with_a_fault :
+    (version : Version) (line : List ℕ) (answer : LineFault)
+    → AnswersLine version line (Err answer) ↔ (((128 < length line) × (answer ≡ fault.LineLength))
+    ⊎ ((length line ≤ 128) × (is_skipped line ≡ false) × IsFaultOfFields version (fields line) answer))
+any_line_with_a_fault version line answer = (λ h. h, λ h. h)
 
 -- AnswersAddressLine
 an_address_alone : AnswersAddressLine (codes "192.0.2.1") (Ok (Some at_192_0_2_1))
@@ -1339,13 +1345,14 @@ any_each_below tell n = refl
 -- counts_as
 all_counts : counts_as Numbers (λ feed. []) counted_routes
     ≡ codes "routes 3 prefixes 2\nfeed 1 routes 2\nfeed 2 routes 1\nlength 8 routes 2\nlength 16 routes 1\n"
-unfolding totals_as count_as digits
+unfolding counts_as totals_as count_as digits
 all_counts = refl
 
 any_counts : (form : Form) (label : ℕ → List ℕ) (routes : List Route) → counts_as form label routes
     ≡ totals_as form (length routes) (prefix_count routes)
     ++ (each_below (λ feed. count_as form (codes "feed") (feed_as form label feed) (count_of feed routes)) 65
     ++ each_below (λ len. count_as form (codes "length") (decimal len) (length_count len routes)) 33)
+unfolding counts_as
 any_counts form label routes = refl
 
 -- escaped

@@ -227,7 +227,7 @@ any_of_them style selection table = refl
 -- counts_text
 all_in_numbers : counts_text plain (record { part = part.All; only_best = true; feed = None }) two_to_ten_8
     ≡ codes "routes 1 prefixes 1\nfeed 2 routes 1\nlength 8 routes 1\n"
-unfolding totals_as count_as digits
+unfolding counts_as totals_as count_as digits
 all_in_numbers = refl
 
 any_of_them_in_numbers : (style : StyleContents) (selection : Selection) (table : List Route) → counts_text style selection table

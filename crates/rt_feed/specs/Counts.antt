@@ -38,7 +38,7 @@ each_below tell zero = []
 each_below tell (suc n) = each_below tell n ++ tell n
 
 -- all these numbers of routes; here `label` is that of each feed
-abbrev pub counts_as : Form → (ℕ → List ℕ) → List Route → List ℕ
+unfoldable pub counts_as : Form → (ℕ → List ℕ) → List Route → List ℕ
 counts_as form label routes =
     totals_as form (length routes) (prefix_count routes)
     ++ (each_below (λ feed. count_as form (codes "feed") (feed_as form label feed) (count_of feed routes)) (MOST_FEEDS + 1)

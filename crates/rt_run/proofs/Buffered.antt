@@ -116,4 +116,5 @@ totals-some Labels routes prefixes rest = simp length-append (omega arith)
 totals-some Json routes prefixes rest = simp length-append (omega arith)
 
 pub counts-some : (form : Form) (label : ℕ → List ℕ) (routes : List Route) → 0 < length (counts_as form label routes)
+unfolding counts_as
 counts-some form label routes = totals-some form (length routes) (prefix_count routes) _

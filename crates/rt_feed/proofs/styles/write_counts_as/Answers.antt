@@ -1,12 +1,13 @@
 use Rattle.std.proofs.Common.{◌++◌, length, codes, decimal}
 use Rattle.std.proofs.lemmas.Result.{err_from_is_err_and}
 use Rattle.rt_rib.specs.Table.{count_of}
-use Rattle.rt_feed.specs.Counts.{prefix_count, length_count, totals_as, count_as, feed_as, each_below}
+use Rattle.rt_feed.specs.Counts.{prefix_count, length_count, totals_as, count_as, feed_as, each_below, counts_as}
 use Rattle.rt_feed.specs.Styles.{label_of}
 use Rattle.rt_feed.proofs.LineParts.{stops_within, stops_after, writes_after}
 use Rattle.rt_feed.proofs.styles.write_counts_as.Goals as goal
 
 pub returns-in_err-write_totals : goal.returns-in_err-write_totals
+unfolding counts_as
 returns-in_err-write_totals g c =
     let fault = err_from_is_err_and c.from_residual.result c.from_residual.ensures.1 in
     let routes = c.args.routes.now in
@@ -14,6 +15,7 @@ returns-in_err-write_totals g c =
     rw fault.1 (stops_within _ _ (totals_as c.args.style.now.form (length routes) (prefix_count routes)) _ _ begun)
 
 pub returns-in_err-write_feeds : goal.returns-in_err-write_feeds
+unfolding counts_as
 returns-in_err-write_feeds g c =
     let fault = err_from_is_err_and c.from_residual-in_err-write_feeds.result c.from_residual-in_err-write_feeds.ensures.1 in
     let form = c.args.style.now.form in
@@ -25,6 +27,7 @@ returns-in_err-write_feeds g c =
     c.in_err-write_feeds.ensures.err)
 
 pub returns : goal.returns
+unfolding counts_as
 returns g c =
     let form = c.args.style.now.form in
     let routes = c.args.routes.now in
