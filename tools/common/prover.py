@@ -18,8 +18,9 @@ def library(crate):
     return CRATES / crate / f"out/rlib/{crate}.rlib"
 
 
-def words_for(name, named, folder):
-    """What the prover is told of a crate in this folder: its name, and what its line of crates.txt names."""
+def words_for(name, named, folder, is_archive=None):
+    """What the prover is told of a crate in this folder: its name, what its line of crates.txt names, and whether it becomes an
+    archive for C, as a static library does."""
     own = [one for one in named if one in needs()]
     root = "src/main.rt" if (folder / "src/main.rt").exists() else "src/lib.rt"
     words = ["--crate-name", name, root]
@@ -30,7 +31,7 @@ def words_for(name, named, folder):
         words += ["--extern", f"{one}={library(one)}"]
     for one in sorted(below(own)):
         words += ["-L", f"dependency={library(one).parent}"]
-    words += ["--crate-type", "staticlib"] * is_static(name)
+    words += ["--crate-type", "staticlib"] * (is_static(name) if is_archive is None else is_archive)
     return [*words, "--antt-project", f"{kit()}/rattle/logic/antt-project.json", "--logic-built", f"{kit()}/logic_built",
             "--links", f"{name}="]
 
@@ -50,9 +51,18 @@ def said_by(words, folder, seconds=None):
                           text=True, errors="replace").stdout
 
 
-def library_built(name):
+def archive_built(name):
     """Proves a static library and builds its archive; the status of the prover's command, which keeps what it proves."""
-    words = [kit() / "bin/rattle", "build", *words_for(name, needs()[name], CRATES / name), "--jobs", "1"]
-    words += ["--toolchain", kit() / "toolchain", "--backend", "llvm", "--incremental", "out/incremental"]
-    words += ["-o", f"out/lib{name}.a"]
-    return subprocess.run(words, cwd=CRATES / name, stdin=subprocess.DEVNULL, stderr=subprocess.STDOUT).returncode
+    return built(name, True, ["--toolchain", kit() / "toolchain", "--backend", "llvm", "-o", f"out/lib{name}.a"])
+
+
+def library_built(name):
+    """Proves a static library and builds it as one that a crate can stand on, which `rt ci` doesn't; the status as above."""
+    library(name).parent.mkdir(parents=True, exist_ok=True)
+    return built(name, False, ["-o", library(name)])
+
+
+def built(name, is_archive, more):
+    words = [kit() / "bin/rattle", "build", *words_for(name, needs()[name], CRATES / name, is_archive), "--jobs", "1", *more]
+    return subprocess.run([*words, "--incremental", "out/incremental"], cwd=CRATES / name, stdin=subprocess.DEVNULL,
+                          stderr=subprocess.STDOUT).returncode
