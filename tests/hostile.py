@@ -141,27 +141,40 @@ def refused_forwarding(yarib):
 # Files
 
 
-# Fails where `lookup` or `table` answers F3 to more than 6 texts, or the seventh file of `table` can't be read: `the table
-# of 7 files`.
-# Fails where F3 is answered to more than 33 texts, or 64 files are too many for `lookup`: `addresses from a pipe and 64
-# files`.
+def unreadable(path):
+    return 4, "", f"yarib: cannot read {path}\n"
+
+
 def files(yarib):
     folder = pathlib.Path.cwd()
     row, empty, missing = folder / "row.feed", folder / "empty.feed", folder / "missing.feed"
     row.write_text(ROW)
     empty.write_text("")
     sixty = [row] * 61
-    unreadable = lambda path: (4, "", f"yarib: cannot read {path}\n")
     ended = yarib("run", *sixty, empty, missing, folder)
     expect("64 files, one missing, one a folder, one empty", ended, unreadable(missing))
     expect("the folder before the missing one", yarib("run", *sixty, folder, empty, missing), unreadable(folder))
     expect("the missing one first", yarib("run", missing, *sixty, folder, empty), unreadable(missing))
     status, out, err = yarib("run", *sixty, empty, row, row)
     expect("one empty file of 64", (status, out.count(" added\n"), "table 63\n" in out, err), (0, 63, True, ""))
-    both = "1:1 added\n2:1 added\ntable 2\n" + "".join(f"10.0.0.0/8 feed {k} pref 100 via 192.0.2.1\n" for k in (1, 2))
-    expect("the same file twice", yarib("run", row, row), (0, both, ""))
     ended = yarib("lookup", "--address", "10.0.0.1", *sixty, empty, missing, folder)
     expect("look-ups in one of 64 files that is missing", ended, unreadable(missing))
+    locked = folder / "locked.feed"
+    locked.write_text(ROW)
+    locked.chmod(0)
+    if os.geteuid() != 0:
+        expect("a file without leave", yarib("run", locked), unreadable(locked))
+
+
+# Fails where `lookup` or `table` answers F3 to more than 6 texts, or the seventh file of `table` can't be read: `the table
+# of 7 files`.
+# Fails where F3 is answered to more than 33 texts, or 64 files are too many for `lookup`: `addresses from a pipe and 64
+# files`.
+def one_file_over_and_over(yarib):
+    row = pathlib.Path("row.feed").resolve()
+    row.write_text(ROW)
+    both = "1:1 added\n2:1 added\ntable 2\n" + "".join(f"10.0.0.0/8 feed {k} pref 100 via 192.0.2.1\n" for k in (1, 2))
+    expect("the same file twice", yarib("run", row, row), (0, both, ""))
     for count in (1, 7, 64):
         listed = "".join(f"10.0.0.0/8 feed {k} pref 100 via 192.0.2.1\n" for k in range(1, count + 1))
         expect(f"the table of {count} files", yarib("table", *[row] * count), (0, listed, ""))
@@ -171,24 +184,26 @@ def files(yarib):
         every = f"10.0.0.1 route {first}\n" + "".join(f"10.0.0.1 also {line} feed\n" for line in others)
         found = yarib("lookup", "--all", "--address", "10.0.0.1", *[row] * count)
         expect(f"all that covers, in {count} files", found, (0, every, ""))
+
+
+def pipes(yarib):
+    row, pipe = pathlib.Path("row.feed"), pathlib.Path("pipe")
+    row.write_text(ROW)
     expect("a pipe as /dev/stdin", yarib("run", "/dev/stdin", input=ROW.encode()), (0, ROW_OUT, ""))
     with open(row) as text:
         expect("a file as /dev/stdin", yarib("run", "/dev/stdin", stdin=text), (0, ROW_OUT, ""))
     with open("/dev/zero") as text:
         expect("standard input is not read unasked", yarib("run", row, stdin=text), (0, ROW_OUT, ""))
     expect("/dev/null", yarib("run", "/dev/null"), (0, "table 0\n", ""))
-    pipe = folder / "pipe"
     os.mkfifo(pipe)
-    feeder = subprocess.Popen(["sh", "-c", f'printf "{ROW[:10]}" > "$0"; ', str(pipe)])
+    feeder = subprocess.Popen(["sh", "-c", f'printf "{ROW[:10]}" > "$0"; ', pipe])
     expect("a named pipe that ends in a line", yarib("run", pipe), (2, "1:1 fault E2\ntable 0\n", ""))
     feeder.terminate()
     feeder.wait()
-    locked = folder / "locked.feed"
-    locked.write_text(ROW)
-    locked.chmod(0)
-    if os.geteuid() != 0:
-        expect("a file without leave", yarib("run", locked), unreadable(locked))
-    odd = folder / "a name\nof two lines"
+
+
+def odd_names(yarib):
+    odd = pathlib.Path.cwd() / "a name\nof two lines"
     odd.write_text(ROW)
     expect("a name with a space and an LF", yarib("run", odd), (0, ROW_OUT, ""))
     expect("a name that is missing, with an LF", yarib("run", str(odd) + "x"), unreadable(str(odd) + "x"))
@@ -257,7 +272,7 @@ def disc_fills(yarib, large, folder):
         expect(f"what stands in {size} bytes", target.read_text() == whole[:size], True)
 
 
-CASES = (files, outputs, little_memory, refused_commands, refused_forwarding)
+CASES = (files, one_file_over_and_over, pipes, odd_names, outputs, little_memory, refused_commands, refused_forwarding)
 
 
 def main():

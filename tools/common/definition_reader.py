@@ -5,7 +5,7 @@ import re
 import sys
 
 from .crates import CRATES, crate_of, needs
-from .rust_sources import source, sources
+from .rust_sources import indent_of, source, sources
 
 # The libraries that have definitions, in the order of crates.txt: each behind those that it stands on.
 LIBRARY_CRATES = tuple(
@@ -63,67 +63,77 @@ def spec_module(module):
 
 def parse_module(module, file, text=None):
     """The definitions of a file, or of another text of it, by name."""
-    definitions, comment, current, levels = {}, [], None, [(0, None)]
-    lines = (file.read_text() if text is None else text).split("\n")
-    number = 0
-    while number < len(lines):
-        line = lines[number]
-        number += 1
-        indent = len(line) - len(line.lstrip())
-        stripped = line.strip()
-        if not stripped:
-            if comment and current is None:
-                comment = []
-            if current and (number >= len(lines) or not lines[number].startswith(" " * (levels[-1][0] + 1))):
-                current = None
-            continue
-        if current and indent > levels[-1][0]:
-            current.lines.append(line)
-            continue
-        while indent < levels[-1][0]:
-            levels.pop()
-        if stripped.startswith("--"):
-            if not comment or current:
-                comment = []
-            current = None
-            comment.append(stripped[2:].strip())
-            continue
-        if re.match(r"(pub )?(use|mod|open)\b", stripped):
-            comment, current = [], None
-            continue
-        if re.match(r"module _|mutual\b", stripped):
-            head = stripped
-            while not re.search(r"\bwhere$|^mutual$", head):
-                head += " " + lines[number].strip()
-                number += 1
-            said = re.fullmatch(r"module _ ?(.*?) ?where", head)
-            levels.append((indent + 2, said[1] if said else None))
-            comment, current = [], None
-            continue
-        declared = DECLARED.match(stripped)
-        if not declared or stripped[0] in "]})":
-            if current:
-                current.lines.append(line)
-            continue
-        name = declared[2]
-        if name == "unfolding" or current and name == current.name:
-            if current:
-                current.lines.append(line)
-            continue
-        if name in definitions and not re.match(r"(abbrev|unfoldable|pub|record|data) ", stripped):
-            current = definitions[name]
-            current.lines.append(line)
-            continue
-        context = [params for _, params in levels if params]
-        current = Definition(f"{module}.{name}", file, number, comment, [line], context=context)
-        definitions[name] = current
-        comment = []
-    for definition in definitions.values():
+    reader = ModuleReader(module, file, (file.read_text() if text is None else text).split("\n"))
+    while reader.number < len(reader.lines):
+        reader.read_line()
+    for definition in reader.found.values():
         while not definition.lines[-1].strip():
             definition.lines.pop()
-        margin = len(definition.lines[0]) - len(definition.lines[0].lstrip())
+        margin = indent_of(definition.lines[0])
         definition.lines = [line[margin:] for line in definition.lines]
-    return definitions
+    return reader.found
+
+
+class ModuleReader:
+    """What reads a file line by line: the definitions that it has found, the comment above the next one, the one that goes on, and
+    the margins of the sections around, each with its parameters."""
+
+    def __init__(self, module, file, lines):
+        self.module, self.file, self.lines, self.number = module, file, lines, 0
+        self.found, self.comment, self.current, self.levels = {}, [], None, [(0, None)]
+
+    def read_line(self):
+        line = self.lines[self.number]
+        self.number += 1
+        if not line.strip():
+            self.read_blank()
+        elif self.current and indent_of(line) > self.levels[-1][0]:
+            self.current.lines.append(line)
+        else:
+            while indent_of(line) < self.levels[-1][0]:
+                self.levels.pop()
+            self.read_at_margin(line, line.strip())
+
+    def read_blank(self):
+        """A definition goes on below an empty line where the next line is indented."""
+        more = self.lines[self.number] if self.number < len(self.lines) else ""
+        if not self.current:
+            self.comment = []
+        elif indent_of(more) <= self.levels[-1][0]:
+            self.current = None
+
+    def read_at_margin(self, line, text):
+        if text.startswith("--"):
+            self.comment, self.current = [] if self.current else self.comment, None
+            self.comment.append(text[2:].strip())
+        elif re.match(r"(pub )?(use|mod|open)\b", text):
+            self.comment, self.current = [], None
+        elif re.match(r"module _|mutual\b", text):
+            self.read_section(text)
+        else:
+            self.read_declaration(line, text)
+
+    def read_section(self, head):
+        margin = indent_of(self.lines[self.number - 1]) + 2
+        while not re.search(r"\bwhere$|^mutual$", head):
+            head += " " + self.lines[self.number].strip()
+            self.number += 1
+        said = re.fullmatch(r"module _ ?(.*?) ?where", head)
+        self.levels.append((margin, said[1] if said else None))
+        self.comment, self.current = [], None
+
+    def read_declaration(self, line, text):
+        declared = DECLARED.match(text)
+        name = declared[2] if declared and text[0] not in "]})" else "unfolding"
+        if name in self.found and not re.match(r"(abbrev|unfoldable|pub|record|data) ", text):
+            self.current = self.found[name]
+        if name == "unfolding" or self.current and name == self.current.name:
+            if self.current:
+                self.current.lines.append(line)
+        else:
+            context = [params for _, params in self.levels if params]
+            self.current = Definition(f"{self.module}.{name}", self.file, self.number, self.comment, [line], context)
+            self.found[name], self.comment = self.current, []
 
 
 def constructors(definition):
