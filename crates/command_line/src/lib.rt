@@ -94,18 +94,27 @@ pub struct TableRequest<'a> {
     pub run: RunRequest<'a>,
     /// Whether only the best route of each prefix is listed.
     pub only_best: bool,
-    /// The text of the prefix in which all are that are listed.
-    pub within: Option<&'a str>,
-    /// The text of the prefix that lies in all that are listed.
-    pub covering: Option<&'a str>,
-    /// The text of the only prefix that is listed.
-    pub exact: Option<&'a str>,
+    /// To which prefixes the routes are that are listed.
+    pub part: AskedPart<'a>,
     /// The number of the feed whose routes are listed, where not all are.
     pub feed: Option<u32>,
     /// Whether it is told how many there are, in place of each.
     pub count: bool,
     /// How the routes are told.
     pub telling: Telling,
+}
+
+/// A part of a table, each by the text of its prefix.
+#[derive(Clone, Copy, Debug)]
+pub enum AskedPart<'a> {
+    /// The whole table.
+    All,
+    /// What lies in this prefix.
+    Within(&'a str),
+    /// What covers this prefix.
+    Covering(&'a str),
+    /// This prefix alone.
+    Exact(&'a str),
 }
 
 /// Which tables to compare.
@@ -116,18 +125,18 @@ pub struct DiffRequest<'a> {
     /// The names of the new feed files.
     pub new_files: Vec<&'a str>,
     /// What of their answers is compared.
-    pub compared: Compared,
+    pub by: ComparedBy,
     /// How the ranges are told. Feeds that are told by name are compared by it.
     pub telling: Telling,
 }
 
 /// What `diff` compares of two answers.
 #[derive(Clone, Copy, PartialEq, Eq, Debug)]
-pub enum Compared {
+pub enum ComparedBy {
     /// Where packets go.
-    Hops,
+    Hop,
     /// The whole routes.
-    Routes,
+    Route,
 }
 
 /// Which schedule to show.
@@ -146,6 +155,8 @@ pub enum Refusal {
     Shown(String),
     /// The words are no command line: the fault's text.
     Misused(String),
+    /// More than one part of a table is asked for.
+    TwoParts,
     /// `clap` took the words for something that is not known here. That is a fault of this crate, and no words are known
     /// for which it is so.
     Unknown,
@@ -498,13 +509,23 @@ fn table_request<'a>(alloc: Global, matches: &ArgMatches<'a>) -> Result<Request<
     Ok(Request::Table(TableRequest {
         run: run_request(alloc, matches)?,
         only_best: matches.get_flag("best"),
-        within: matches.get_str("within"),
-        covering: matches.get_str("covering"),
-        exact: matches.get_str("exact"),
+        part: part_of(matches)?,
         feed: matches.get_one::<u32>("feed"),
         count: matches.get_flag("count"),
         telling: telling_of(matches),
     }))
+}
+
+fn part_of<'a>(matches: &ArgMatches<'a>) -> Result<AskedPart<'a>, Refusal> {
+    let within = matches.get_str("within");
+    let covering = matches.get_str("covering");
+    match (within, covering, matches.get_str("exact")) {
+        (None, None, None) => Ok(AskedPart::All),
+        (Some(prefix), None, None) => Ok(AskedPart::Within(prefix)),
+        (None, Some(prefix), None) => Ok(AskedPart::Covering(prefix)),
+        (None, None, Some(prefix)) => Ok(AskedPart::Exact(prefix)),
+        _ => Err(Refusal::TwoParts),
+    }
 }
 
 fn telling_of(matches: &ArgMatches<'_>) -> Telling {
@@ -515,19 +536,19 @@ fn telling_of(matches: &ArgMatches<'_>) -> Telling {
 }
 
 fn diff_request<'a>(alloc: Global, matches: &ArgMatches<'a>) -> Result<Request<'a>, Refusal> {
-    let compared = compared_by(matches)?;
+    let by = compared_by(matches)?;
     Ok(Request::Diff(DiffRequest {
         run: run_request(alloc, matches)?,
         new_files: texts_of(alloc, matches, "new")?,
-        compared,
+        by,
         telling: telling_of(matches),
     }))
 }
 
-fn compared_by(matches: &ArgMatches<'_>) -> Result<Compared, Refusal> {
+fn compared_by(matches: &ArgMatches<'_>) -> Result<ComparedBy, Refusal> {
     match matches.get_str("by") {
-        Some(HOP) => Ok(Compared::Hops),
-        Some(ROUTE) => Ok(Compared::Routes),
+        Some(HOP) => Ok(ComparedBy::Hop),
+        Some(ROUTE) => Ok(ComparedBy::Route),
         Some(_) | None => Err(Refusal::Unknown),
     }
 }

@@ -22,6 +22,11 @@ use stops::NO_MEMORY;
 pub(crate) use stops::Stop;
 use terminal_line::{ProgressLine, Screen, Stage};
 
+// The command line takes as many files, and of each as many routes, as a table does.
+const _: () = prove!(command_line::MOST_FILES == MOST_TEXTS);
+
+const _: () = prove!(command_line::MOST_ROUTES == rt_rib::MOST_ROUTES);
+
 /// The program over its words, its name first: does what they ask, writes results to `out` and the text of a fault
 /// to `err`, and gives the exit status. A fault of `err` itself is dropped.
 pub fn run_words<R: Files + Threads + Wait + Sync + AllocGlobal, O: Write, E: Write>(
@@ -99,6 +104,7 @@ where
             Ok(Request::Replay(request)) => show_replay(self.alloc, &request, self.out),
             Err(Refusal::Shown(text)) => show_text(text.as_bytes(), self.out),
             Err(Refusal::Misused(text)) => Err(Stop::Misused(text)),
+            Err(Refusal::TwoParts) => Err(Stop::TwoParts),
             Err(Refusal::Unknown) => Err(Stop::Unknown),
             Err(Refusal::Memory) => Err(NO_MEMORY),
         }

@@ -3,7 +3,7 @@
 use super::showing::tell_summary;
 use super::styles::{form_of, side_labels};
 use super::{Program, Stop};
-use command_line::{Compared, DiffRequest};
+use command_line::{ComparedBy, DiffRequest};
 use rt_diff::By;
 use rt_feed::SideStyles;
 use rt_run::{DiffSummary, DiffTerms, FeedTexts, diff_texts};
@@ -27,9 +27,9 @@ where
         let (limit, batch) = (request.run.limit, request.run.batch as usize);
         let old_asked = FeedTexts::new(old_texts.as_slice(), limit, batch);
         let new_asked = FeedTexts::new(new_texts.as_slice(), limit, batch);
-        let by = match request.compared {
-            Compared::Hops => By::Hop,
-            Compared::Routes => By::Route,
+        let by = match request.by {
+            ComparedBy::Hop => By::Hop,
+            ComparedBy::Route => By::Route,
         };
         let form = form_of(request.telling);
         let styles = SideStyles::new(form, labels.old.as_slice(), labels.new.as_slice());

@@ -3,7 +3,7 @@
 use super::styles::{form_of, labels_for};
 use super::telling::{tell_faulty, tell_tally};
 use super::{Program, Stop};
-use command_line::{LookupRequest, TableRequest};
+use command_line::{AskedPart, LookupRequest, TableRequest};
 use rt_cidr::{Addr, Prefix};
 use rt_feed::Style;
 use rt_rib::{Part, Selection};
@@ -104,14 +104,13 @@ pub(super) fn tell_summary<E: Write>(err: &mut E, names: &[&str], summary: &RunS
     }
 }
 
-/// Which routes the command line asks for. Stops where a word is no prefix, or two parts are asked for.
+/// Which routes the command line asks for. Stops where a word is no prefix.
 fn selection_of<'a>(request: &TableRequest<'a>) -> Result<Selection, Stop<'a>> {
-    let part = match (request.within, request.covering, request.exact) {
-        (None, None, None) => Part::All,
-        (Some(word), None, None) => Part::Within(prefix_of(word)?),
-        (None, Some(word), None) => Part::Covering(prefix_of(word)?),
-        (None, None, Some(word)) => Part::Exact(prefix_of(word)?),
-        _ => return Err(Stop::TwoParts),
+    let part = match request.part {
+        AskedPart::All => Part::All,
+        AskedPart::Within(word) => Part::Within(prefix_of(word)?),
+        AskedPart::Covering(word) => Part::Covering(prefix_of(word)?),
+        AskedPart::Exact(word) => Part::Exact(prefix_of(word)?),
     };
     Ok(Selection {
         part,

@@ -8,10 +8,10 @@ use std::alloc::{AllocError, Global};
 
 /// In which form routes are told.
 pub(super) fn form_of(telling: Telling) -> Form {
-    match telling {
-        Telling { json: true, .. } => Form::Json,
-        Telling { names: true, .. } => Form::Labels,
-        _ => Form::Numbers,
+    match (telling.json, telling.names) {
+        (true, _) => Form::Json,
+        (false, true) => Form::Labels,
+        (false, false) => Form::Numbers,
     }
 }
 
