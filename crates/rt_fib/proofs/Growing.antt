@@ -7,7 +7,7 @@ use Rattle.rt_rib.specs.declared.routes.Route.{Route}
 use Rattle.rt_rib.specs.LookUp.{look_up}
 use Rattle.rt_fib.specs.declared.filling.Piece.{Piece}
 use Rattle.rt_fib.specs.inside.Entries.{at, Grows, IsNumber, HasNumber, Leads, IsEntry, AreFrom, AreAll}
-use Rattle.rt_fib.specs.inside.Pieces.{IsPieceFrom, AreNumbers}
+use Rattle.rt_fib.specs.inside.Pieces.{IsNumberedFrom, AreNumbers}
 
 module _ {T : Type 0} where
   -- a list grows into itself
@@ -31,7 +31,7 @@ number_grows old new number answer grows is = record {
 
 -- a piece stays one, from each later address too
 pub piece_grows : (table : List Route) (old new : List (Option Route)) (from later : ℕ) (piece : Piece)
-    → Grows old new → from ≤ later → IsPieceFrom table old from piece → IsPieceFrom table new later piece
+    → Grows old new → from ≤ later → IsNumberedFrom table old from piece → IsNumberedFrom table new later piece
 piece_grows table old new from later piece grows onward is = record {
   short = is.short;
   each = λ n here there. number_grows old new piece.number (look_up (at n) table) grows (is.each n (omega (arith, onward, here)) there);

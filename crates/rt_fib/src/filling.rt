@@ -2,7 +2,7 @@
 //! addresses with one answer, as far as the book's `answers` tell it.
 ghost use Rattle.std.specs.Prelude.{◌≡◌, ◌↔◌, ℕ, IsTrue, ◌≤◌, ◌<◌, ◌+◌, ◌*◌, ◌-◌, ◌^◌, IfOk, OnOk, OnErr, length};
 ghost use Rattle.rt_fib.specs.inside.Entries.{AreAll, AreFrom, Grows, IsEntry, IsNumber};
-ghost use Rattle.rt_fib.specs.inside.Pieces.{IsPieceFrom, IsPieceAt, AreNumbers};
+ghost use Rattle.rt_fib.specs.inside.Pieces.{IsNumberedFrom, IsNumberedAt, AreNumbers};
 ghost use Rattle.rt_fib.specs.inside.Spans.{ArePut, AreRenewed};
 
 use crate::cells::{Cells, LONG, bytes_of};
@@ -67,7 +67,7 @@ fn piece_at<A: Allocator + Copy, B: Allocator + Copy>(
 ) -> Result<Piece, Refused>
     ensures kept { table.new ≡ table.old }
     ensures grows { Grows answers.old.items answers.new.items }
-    ensures piece { IfOk result (λ piece. IsPieceAt table.old answers.new.items addr.0 piece) }
+    ensures piece { IfOk result (λ piece. IsNumberedAt table.old answers.new.items addr.0 piece) }
 {
     let (found, last) = table.until(addr);
     let number = number_of(answers, found)?;
@@ -81,10 +81,10 @@ fn piece_on<A: Allocator + Copy, B: Allocator + Copy>(
     piece: Piece,
     addr: Addr,
 ) -> Result<Piece, Refused>
-    requires { IsPieceFrom table.old answers.old.items addr.0 piece }
+    requires { IsNumberedFrom table.old answers.old.items addr.0 piece }
     ensures kept { table.new ≡ table.old }
     ensures grows { Grows answers.old.items answers.new.items }
-    ensures piece { IfOk result (λ piece. IsPieceAt table.old answers.new.items addr.0 piece) }
+    ensures piece { IfOk result (λ piece. IsNumberedAt table.old answers.new.items addr.0 piece) }
 {
     if addr.0 <= piece.last.0 {
         return Ok(piece);
@@ -107,11 +107,11 @@ fn numbers_from<A: Allocator + Copy, B: Allocator + Copy>(
     first: u32,
 ) -> Result<Numbered, Refused>
     requires fits { first + 256 ≤ 2 ^ 32 }
-    requires piece { IsPieceFrom table.old answers.old.items first piece }
+    requires piece { IsNumberedFrom table.old answers.old.items first piece }
     ensures kept { table.new ≡ table.old }
     ensures grows { Grows answers.old.items answers.new.items }
     ensures numbers { IfOk result (λ b. AreNumbers table.old b.numbers answers.new.items first 256) }
-    ensures piece { IfOk result (λ b. IsPieceFrom table.old answers.new.items (first + 256) b.piece) }
+    ensures piece { IfOk result (λ b. IsNumberedFrom table.old answers.new.items (first + 256) b.piece) }
 {
     let mut piece = piece;
     let mut numbers = [0u32; 256];
@@ -142,7 +142,7 @@ fn run_of<A: Allocator + Copy, B: Allocator + Copy>(
 ) -> Result<Run, Refused>
     requires before { i < end }
     requires fits { end ≤ 2 ^ 24 }
-    requires piece { IsPieceFrom table.old answers.old.items (i * 256) piece }
+    requires piece { IsNumberedFrom table.old answers.old.items (i * 256) piece }
     ensures kept { table.new ≡ table.old }
     ensures blocks { Grows blocks.old.items blocks.new.items }
     ensures grows { Grows answers.old.items answers.new.items }
@@ -150,7 +150,7 @@ fn run_of<A: Allocator + Copy, B: Allocator + Copy>(
     ensures within { IfOk result (λ run. run.end ≤ end) }
     ensures entry { IfOk result (λ run. (j : ℕ) → i ≤ j → j < run.end
         → IsEntry table.old blocks.new.items answers.new.items j run.entry) }
-    ensures piece { IfOk result (λ run. IsPieceFrom table.old answers.new.items (run.end * 256) run.piece) }
+    ensures piece { IfOk result (λ run. IsNumberedFrom table.old answers.new.items (run.end * 256) run.piece) }
 {
     let first = i * 256;
     let piece = piece_on(table, answers, piece, Addr(first))?;
@@ -238,36 +238,8 @@ fn put_entries(entries: &mut [u32], fresh: &[u32], first: usize)
     }
 }
 
-/// The span's entries. Where memory is refused, no block and no answer is left behind those that were there.
-fn fresh_entries<A: Allocator + Copy, B: Allocator + Copy>(
-    alloc: A,
-    table: &mut Answers<'_, B>,
-    blocks: &mut Vec<[u32; 256], A>,
-    answers: &mut Vec<Option<Route>, A>,
-    span: Span,
-) -> Result<Vec<u32, A>, Refused>
-    requires ordered { span.first < span.end }
-    requires fits { span.end ≤ 2 ^ 24 }
-    ensures kept { table.new ≡ table.old }
-    ensures blocks { Grows blocks.old.items blocks.new.items }
-    ensures grows { Grows answers.old.items answers.new.items }
-    ensures entries { IfOk result (λ fresh.
-        AreFrom span.first fresh.items blocks.new.items answers.new.items table.old (span.end - span.first)) }
-    ensures stay { OnErr result ((blocks.new.items ≡ blocks.old.items) × (answers.new.items ≡ answers.old.items)) }
-{
-    let (block_count, answer_count) = (blocks.len(), answers.len());
-    match span_entries(alloc, table, blocks, answers, span) {
-        Ok(entries) => Ok(entries),
-        Err(refused) => {
-            blocks.truncate(block_count);
-            answers.truncate(answer_count);
-            Err(refused)
-        }
-    }
-}
-
-/// Puts what the table answers the span's addresses into the cells. Blocks and answers are made before an entry changes, so
-/// all stays where memory is refused.
+/// Puts what the table answers the span's addresses into the cells. Blocks and answers are made before an entry changes, and
+/// where memory is refused none is left behind those that were there, so all stays then.
 pub(crate) fn renew_cells<A: Allocator + Copy, B: Allocator + Copy>(
     table: &mut Answers<'_, B>,
     cells: &mut Cells<A, B>,
@@ -287,11 +259,20 @@ pub(crate) fn renew_cells<A: Allocator + Copy, B: Allocator + Copy>(
     ensures table { cells.new.table.value ≡ cells.old.table.value }
 {
     let alloc = *cells.entries.allocator();
-    let fresh = fresh_entries(alloc, table, &mut cells.blocks, &mut cells.answers, span)?;
-    put_entries(
-        cells.entries.as_mut_slice(),
-        fresh.as_slice(),
-        span.first as usize,
-    );
-    Ok(())
+    let (block_count, answer_count) = (cells.blocks.len(), cells.answers.len());
+    match span_entries(alloc, table, &mut cells.blocks, &mut cells.answers, span) {
+        Ok(fresh) => {
+            put_entries(
+                cells.entries.as_mut_slice(),
+                fresh.as_slice(),
+                span.first as usize,
+            );
+            Ok(())
+        }
+        Err(refused) => {
+            cells.blocks.truncate(block_count);
+            cells.answers.truncate(answer_count);
+            Err(refused)
+        }
+    }
 }

@@ -33,7 +33,7 @@ pub record HasNumber (block : List ℕ) (answers : List (Option Route)) (k : ℕ
   pub number : IsNumber answers (get_or block k 0) answer
 
 -- the entry names a block that has the number of the answer at this place
-pub record IsInBlock (blocks : List (List ℕ)) (answers : List (Option Route)) (entry k : ℕ) (answer : Option Route) : Type 0 where
+pub record NamesBlock (blocks : List (List ℕ)) (answers : List (Option Route)) (entry k : ℕ) (answer : Option Route) : Type 0 where
   pub block : ℕ
   pub long : entry ≡ 2 ^ 31 + block
   pub within : block < length blocks
@@ -41,7 +41,7 @@ pub record IsInBlock (blocks : List (List ℕ)) (answers : List (Option Route)) 
 
 -- the entry leads to the answer at this place
 abbrev pub Leads : List (List ℕ) → List (Option Route) → ℕ → ℕ → Option Route → Type 0
-Leads blocks answers entry k answer = IsWhole answers entry answer ⊎ IsInBlock blocks answers entry k answer
+Leads blocks answers entry k answer = IsWhole answers entry answer ⊎ NamesBlock blocks answers entry k answer
 
 -- the entry leads to what the table answers each of the 256 addresses whose first 24 bits are i
 abbrev pub IsEntry : List Route → List (List ℕ) → List (Option Route) → ℕ → ℕ → Type 0

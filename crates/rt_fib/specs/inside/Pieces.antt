@@ -6,14 +6,14 @@ use Rattle.rt_fib.specs.declared.filling.Piece.{Piece}
 use Rattle.rt_fib.specs.inside.Entries.{at, IsNumber}
 
 -- each address from this number to the piece's last has the answer of the piece's number
-pub record IsPieceFrom (table : List Route) (answers : List (Option Route)) (from : ℕ) (piece : Piece) : Type 0 where
+pub record IsNumberedFrom (table : List Route) (answers : List (Option Route)) (from : ℕ) (piece : Piece) : Type 0 where
   pub short : piece.number < 2 ^ 31
   pub each : (n : ℕ) → from ≤ n → n ≤ piece.last.0 → IsNumber answers piece.number (look_up (at n) table)
 
 -- and this address is one of them
-pub record IsPieceAt (table : List Route) (answers : List (Option Route)) (from : ℕ) (piece : Piece) : Type 0 where
+pub record IsNumberedAt (table : List Route) (answers : List (Option Route)) (from : ℕ) (piece : Piece) : Type 0 where
   pub onward : from ≤ piece.last.0
-  pub there : IsPieceFrom table answers from piece
+  pub there : IsNumberedFrom table answers from piece
 
 -- the first so many numbers are those of what the table answers the addresses from this one on
 pub record AreNumbers (table : List Route) (numbers : List ℕ) (answers : List (Option Route)) (first count : ℕ) : Type 0 where

@@ -1,6 +1,6 @@
 use Rattle.std.proofs.Common.{◌≡◌, ◌+◌, length}
 use Rattle.rt_fib.specs.inside.Entries.{Grows}
-use Rattle.rt_fib.specs.inside.Pieces.{IsPieceFrom, AreNumbers}
+use Rattle.rt_fib.specs.inside.Pieces.{IsNumberedFrom, AreNumbers}
 use Rattle.rt_fib.proofs.filling.numbers_from.Given as goal
 
 -- the numbers so far, and the piece that goes on from there
@@ -10,5 +10,5 @@ invariant-numbers g l = record {
   grows : Grows l.fn.answers.items l.answers.items;
   full : length l.numbers ≡ 256;
   made : AreNumbers l.fn.table l.numbers l.answers.items l.first l.k;
-  piece : IsPieceFrom l.fn.table l.answers.items (l.first + l.k) l.piece;
+  piece : IsNumberedFrom l.fn.table l.answers.items (l.first + l.k) l.piece;
 }

@@ -1,6 +1,6 @@
 use Rattle.std.proofs.Common.{◌≡◌, ◌-◌, ◌*◌, ◌≤◌}
 use Rattle.rt_fib.specs.inside.Entries.{AreFrom, Grows}
-use Rattle.rt_fib.specs.inside.Pieces.{IsPieceFrom}
+use Rattle.rt_fib.specs.inside.Pieces.{IsNumberedFrom}
 use Rattle.rt_fib.proofs.filling.span_entries.Given as goal
 
 -- the entries so far, and the piece that goes on from there
@@ -12,7 +12,7 @@ invariant-entries g l = record {
   blocks : Grows l.fn.blocks.items l.blocks.items;
   grows : Grows l.fn.answers.items l.answers.items;
   made : AreFrom l.fn.span.first l.entries.items l.blocks.items l.answers.items l.fn.table (l.i - l.fn.span.first);
-  piece : IsPieceFrom l.fn.table l.answers.items (l.i * 256) l.piece;
+  piece : IsNumberedFrom l.fn.table l.answers.items (l.i * 256) l.piece;
 }
 
 abbrev pub decreases-entries : goal.decreases-entries
